@@ -1,0 +1,177 @@
+//! Readers and writers that fail, and inputs that are too long.
+use std::alloc::Global;
+use std::io;
+use std::io::{ErrorKind, Read, Write};
+use std::test::Fail;
+use vbr_run::{RunError, play_plain};
+
+const SCRIPT: &[u8] = b"0 insert 5\n0 insert 5\n0 has 5\n0 remove 5\n0 has 5\n";
+
+const OUTPUT: &[u8] = b"yes\nno\nyes\nyes\nno\ninserted 1\nremoved 1\nfound 1\nrefused 0\nkeys\n";
+
+/// A reader that gives its bytes one at a time, and then an error.
+#[derive(Drop)]
+struct BrittleReader {
+    bytes: &'static [u8],
+}
+
+impl Read for BrittleReader {
+    fn read(&mut self, buf: &mut [u8]) -> io::Result<usize> {
+        let Some((first, rest)) = self.bytes.split_first() else {
+            return Err(io::Error::from(ErrorKind::Other));
+        };
+        if buf.is_empty() {
+            return Ok(0);
+        }
+        buf[0] = *first;
+        self.bytes = rest;
+        Ok(1)
+    }
+}
+
+/// A reader of so many spaces.
+#[derive(Drop)]
+struct Spaces {
+    left: usize,
+}
+
+impl Read for Spaces {
+    fn read(&mut self, buf: &mut [u8]) -> io::Result<usize> {
+        let n = buf.len().min(self.left);
+        buf[..n].fill(b' ');
+        self.left -= n;
+        Ok(n)
+    }
+}
+
+/// What a writer does when its room is used up.
+#[derive(Clone, Copy, PartialEq, Eq)]
+enum AtEnd {
+    Fails,
+    TakesNone,
+}
+
+/// A writer that takes so many bytes, one at a time.
+#[derive(Drop)]
+struct SmallWriter {
+    taken: Vec<u8>,
+    room: usize,
+    at_end: AtEnd,
+    can_flush: bool,
+}
+
+impl SmallWriter {
+    fn new(alloc: Global, room: usize, at_end: AtEnd) -> Self {
+        SmallWriter {
+            taken: Vec::new(alloc),
+            room,
+            at_end,
+            can_flush: true,
+        }
+    }
+}
+
+impl Write for SmallWriter {
+    fn write(&mut self, buf: &[u8]) -> io::Result<usize> {
+        let Some(first) = buf.first() else {
+            return Ok(0);
+        };
+        if self.room == 0 {
+            return match self.at_end {
+                AtEnd::Fails => Err(io::Error::from(ErrorKind::Other)),
+                AtEnd::TakesNone => Ok(0),
+            };
+        }
+        self.taken.push(*first)?;
+        self.room -= 1;
+        Ok(1)
+    }
+
+    fn flush(&mut self) -> io::Result<()> {
+        if self.can_flush {
+            Ok(())
+        } else {
+            Err(io::Error::from(ErrorKind::Other))
+        }
+    }
+}
+
+#[test]
+fn a_failing_reader_is_a_read_fault(rt: HostRuntime) {
+    for n in 0..=SCRIPT.len() {
+        let mut reader = BrittleReader {
+            bytes: &SCRIPT[..n],
+        };
+        let mut output = Vec::new(rt.alloc());
+        let played = play_plain(rt.alloc(), &mut reader, &mut output);
+        assert_eq!(rt; played.err(), Some(RunError::Read), "after {n} bytes");
+        assert!(rt; output.is_empty());
+    }
+}
+
+#[test]
+fn an_input_that_is_too_long_is_a_read_fault(rt: HostRuntime) {
+    let mut output = Vec::new(rt.alloc());
+    let mut longest = Spaces { left: 67_108_864 };
+    assert!(rt; play_plain(rt.alloc(), &mut longest, &mut output).is_ok());
+
+    let mut output = Vec::new(rt.alloc());
+    let mut longer = Spaces { left: 67_108_865 };
+    let played = play_plain(rt.alloc(), &mut longer, &mut output);
+    assert_eq!(rt; played.err(), Some(RunError::Read));
+    assert!(rt; output.is_empty());
+}
+
+#[test]
+fn a_failing_writer_is_a_write_fault(rt: HostRuntime) {
+    for at_end in [AtEnd::Fails, AtEnd::TakesNone] {
+        for n in 0..OUTPUT.len() {
+            let mut reader = SCRIPT;
+            let mut writer = SmallWriter::new(rt.alloc(), n, at_end);
+            let played = play_plain(rt.alloc(), &mut reader, &mut writer);
+            assert_eq!(rt; played.err(), Some(RunError::Write), "after {n} bytes");
+            assert_eq!(rt; writer.taken.as_slice(), &OUTPUT[..n]);
+        }
+    }
+}
+
+#[test]
+fn a_slow_writer_gets_the_whole_text(rt: HostRuntime) -> Result<(), Fail> {
+    let mut reader = SCRIPT;
+    let mut writer = SmallWriter::new(rt.alloc(), OUTPUT.len(), AtEnd::Fails);
+    let totals = play_plain(rt.alloc(), &mut reader, &mut writer)?;
+    assert_eq!(rt; writer.taken.as_slice(), OUTPUT);
+    assert_eq!(rt; (totals.inserted, totals.removed, totals.found), (1, 1, 1));
+    assert_eq!(rt; (totals.refused, totals.epoch), (0, 1));
+    assert!(rt; totals.keys.is_empty());
+    Ok(())
+}
+
+#[test]
+fn a_flush_that_fails_is_a_write_fault(rt: HostRuntime) {
+    let mut reader = SCRIPT;
+    let mut writer = SmallWriter::new(rt.alloc(), OUTPUT.len(), AtEnd::Fails);
+    writer.can_flush = false;
+    let played = play_plain(rt.alloc(), &mut reader, &mut writer);
+    assert_eq!(rt; played.err(), Some(RunError::Write));
+    assert_eq!(rt; writer.taken.as_slice(), OUTPUT);
+}
+
+/// A writer of standard error that fails is ignored.
+#[test]
+fn failing_errors_are_ignored(rt: HostRuntime) {
+    let words = ["vbr_run"];
+    let mut reader = b"0 insert".as_slice();
+    let mut output = Vec::new(rt.alloc());
+    let mut errors = SmallWriter::new(rt.alloc(), 9, AtEnd::Fails);
+    let status = vbr_run::run(
+        rt.alloc(),
+        words.as_slice(),
+        &mut reader,
+        &mut output,
+        &mut errors,
+    );
+    assert_eq!(rt; status, 3);
+    assert!(rt; output.is_empty());
+    assert_eq!(rt; errors.taken.as_slice(), b"vbr_run: ".as_slice());
+}

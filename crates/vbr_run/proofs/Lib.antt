@@ -1,0 +1,4 @@
+mod PlainRuns
+mod KnownBytes
+mod Numerals
+mod Splitting

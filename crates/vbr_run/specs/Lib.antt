@@ -1,0 +1,10 @@
+pub mod Text
+pub mod Number
+pub mod Grammar
+pub mod Scripts
+pub mod Calls
+pub mod Runs
+pub mod Layout
+pub mod Playing
+pub mod Options
+pub mod Program

@@ -1,0 +1,91 @@
+// The parser: line by line, each line word by word.
+ghost use Rattle.std.specs.Prelude.{◌≡◌, ◌<◌, ℕ, Some, None, length, IfOk, OnOk, IsErrOf};
+ghost use Rattle.vbr_run.specs.Text.{words_of};
+ghost use Rattle.vbr_run.specs.Number.{number_below};
+ghost use Rattle.vbr_run.specs.Grammar.{meaning_of};
+ghost use Rattle.vbr_run.specs.Scripts.{script_of, first_fault};
+ghost use Rattle.vbr_run.specs.declared.script.ScriptFault.{ScriptFault};
+
+use super::number::number;
+use super::operation::operation;
+use super::text::{first_line, first_word};
+use super::{Line, Meaning, Script, ScriptError, ScriptFault};
+use std::alloc::Global;
+
+/// Reads a script for so many workers. A text that is none gives its first faulty line and what is
+/// wrong with it; memory is the one other error, and it is answered at the line whose growth was
+/// refused.
+pub fn parse_script(alloc: Global, text: &[u8], workers: u32) -> Result<Script, ScriptError>
+    ensures lines { IfOk result (λ script. script.lines.items ≡ script_of workers text.now) }
+    ensures phases { IfOk result (λ script. script.phases ≡ 1) }
+    ensures faultless { OnOk result (first_fault workers text.now ≡ None) }
+    ensures fault { (line : ℕ) (kind : ScriptFault) → IsErrOf result (ScriptError.Fault line kind) →
+        first_fault workers text.now ≡ Some (line, kind) }
+    ensures memory_only_for_an_operation { IsErrOf result ScriptError.Memory → 0 < length (script_of workers text.now) }
+{
+    let mut lines = Vec::new(alloc);
+    let mut number: u64 = 1;
+    let mut rest = text;
+    loop {
+        let (line, after) = first_line(rest);
+        match meaning(line, workers) {
+            Meaning::Blank => {}
+            Meaning::Asks(worker, op, key) => {
+                let phase = 0;
+                let line = Line {
+                    phase,
+                    worker,
+                    op,
+                    key,
+                };
+                lines.push(line).map_err(|_| ScriptError::Memory)?;
+            }
+            Meaning::Faulty(kind) => return Err(ScriptError::Fault { line: number, kind }),
+        }
+        match after {
+            Some(text) => rest = text,
+            None => return Ok(Script { lines, phases: 1 }),
+        }
+        number += 1;
+    }
+}
+
+// What a line means to a script for so many workers.
+fn meaning(line: &[u8], workers: u32) -> Meaning
+    ensures { result ≡ meaning_of workers (words_of line.now) }
+{
+    let Some((worker, rest)) = first_word(line) else {
+        return Meaning::Blank;
+    };
+    let Some((name, rest)) = first_word(rest) else {
+        return Meaning::Faulty(ScriptFault::Words);
+    };
+    let Some((key, rest)) = first_word(rest) else {
+        return Meaning::Faulty(ScriptFault::Words);
+    };
+    if first_word(rest).is_some() {
+        return Meaning::Faulty(ScriptFault::Words);
+    }
+    let Some(worker) = worker_number(worker, workers) else {
+        return Meaning::Faulty(ScriptFault::Worker);
+    };
+    let Some(op) = operation(name) else {
+        return Meaning::Faulty(ScriptFault::Operation);
+    };
+    let Some(key) = number(key) else {
+        return Meaning::Faulty(ScriptFault::Key);
+    };
+    Meaning::Asks(worker, op, key)
+}
+
+// The worker that a word names, if there is one of that number.
+fn worker_number(word: &[u8], workers: u32) -> Option<u32>
+    ensures { result ≡ number_below workers word.now }
+{
+    let worker = number(word)?;
+    if worker < u64::from(workers) {
+        Some(worker as u32)
+    } else {
+        None
+    }
+}
