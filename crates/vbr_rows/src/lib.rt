@@ -9,3 +9,5 @@ mod plain_set;
 mod player;
 #[cfg(test)]
 mod scripts;
+#[cfg(test)]
+mod words;

@@ -1,0 +1,3 @@
+pub mod Indices
+pub mod LinkWords
+mod Powers

@@ -1,0 +1,19 @@
+-- The shape of a set, as contracts see it.
+use Rattle.std.specs.Prelude.{ℕ, ◌<◌, ◌≤◌}
+use Rattle.vbr_words.specs.declared.link.TheConstants.{MAX_SLOTS}
+use Rattle.vbr_words.specs.declared.shape.TheConstants.{MAX_BUCKETS, MAX_EPOCH}
+
+-- the number of slots, the number of buckets, and the last epoch
+pub record Dimensions : Type 0 where
+  pub slots : ℕ
+  pub buckets : ℕ
+  pub last_epoch : ℕ
+
+-- none of them is 0, and none is above the greatest that words have room for
+pub record IsShape (shape : Dimensions) : Type 0 where
+  pub some_slot : 0 < shape.slots
+  pub slots : shape.slots ≤ MAX_SLOTS
+  pub some_bucket : 0 < shape.buckets
+  pub buckets : shape.buckets ≤ MAX_BUCKETS
+  pub some_epoch : 0 < shape.last_epoch
+  pub last_epoch : shape.last_epoch ≤ MAX_EPOCH

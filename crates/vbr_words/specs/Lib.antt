@@ -1,0 +1,4 @@
+pub mod Dimensions
+pub mod Shapes
+pub mod Words
+pub mod Places
