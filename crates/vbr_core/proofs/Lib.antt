@@ -1,2 +1,5 @@
 pub mod Histories
 mod PlainSets
+mod WorkedLists
+mod WorkedChronicles
+mod WorkedRefusals

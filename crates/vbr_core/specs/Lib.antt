@@ -1,3 +1,14 @@
 pub mod Put
 pub mod Keys
 pub mod History
+pub mod Links
+pub mod Knowledge
+pub mod Acceptance
+pub mod Learning
+pub mod Machine
+pub mod Runs
+pub mod Incarnations
+pub mod Images
+pub mod Chronicles
+pub mod Notes
+pub mod Accounts

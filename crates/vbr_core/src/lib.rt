@@ -1,10 +1,14 @@
-//! What a set promises its callers: calls, histories of calls, and which of them are legal.
+//! What a set promises its callers, and the pure machine that the concurrent set is a run of.
 //!
 //! [`PlainSet`] is the plain, exact set of one caller that the other crates are measured against.
 #![tactic(auto)]
 
+pub mod event;
 pub mod history;
+pub mod knowledge;
 pub mod plain_set;
 
+pub use event::{CoreRefusal, Effect, Event, Step};
 pub use history::{Call, Op};
+pub use knowledge::{Holding, Read, SlotPlace};
 pub use plain_set::PlainSet;

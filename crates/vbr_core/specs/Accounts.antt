@@ -1,0 +1,102 @@
+-- The account of a run: its chronicle, the incarnations that this makes, and the notes of each pass.
+use Rattle.std.specs.Prelude.{ℕ, List, [], ◌∷◌, ◌++◌, Option, Some, None, ◌==◌, if◌then◌else◌}
+use Rattle.vbr_words.specs.Dimensions.{Dimensions}
+use Rattle.vbr_core.specs.Put.{put}
+use Rattle.vbr_core.specs.Keys.{no_keys}
+use Rattle.vbr_core.specs.Learning.{link_written, call_of}
+use Rattle.vbr_core.specs.Machine.{World, opening, found, after}
+use Rattle.vbr_core.specs.Incarnations.{Incarnations, nothing_yet, last_in}
+use Rattle.vbr_core.specs.Chronicles.{Happening, Advances, Gains, Probes, Raises, GivesUp, Bears, Keyed, Aims, Inserts, Removes, Unlinks, Stamps, Answers, Entry, IsLawful, incarnations_from, entries_by}
+use Rattle.vbr_core.specs.Notes.{Notes, no_notes, before_at, notes_with, NamesLast}
+use Rattle.vbr_core.specs.declared.history.Call.{Call}
+use Rattle.vbr_core.specs.declared.event.Event.{Event}
+use Rattle.vbr_core.specs.declared.event.Step.{Step}
+use Rattle.vbr_core.specs.declared.event.Step.TheVariants.{Advance, StoreStamp, Raise, TakeFlag, StoreBirth, StoreKey, StoreLink, Publish, Mark, Unlink, ConfirmPresent, ConfirmAbsent}
+use Rattle.vbr_core.specs.declared.knowledge.Holding.{Holding}
+use Rattle.vbr_core.specs.declared.knowledge.Holding.TheVariants.{InHand}
+
+-- one event of a pass
+abbrev pub just : ℕ → Happening → List Entry
+just pass what = record { pass = pass; what = what } ∷ []
+
+-- a birth in a slot that is in hand gives up the incarnation there first
+abbrev pub born_in : Incarnations → ℕ → ℕ → ℕ → Option Holding → List Entry
+born_in a pass s birth (Some (InHand stamp before key link)) = just pass (GivesUp (last_in a s)) ++ just pass (Bears s birth)
+born_in a pass s birth _ = just pass (Bears s birth)
+
+-- an answer, if a call is made
+abbrev pub answered : ℕ → Option Call → List Entry
+answered pass None = []
+answered pass (Some call) = just pass (Answers call)
+
+-- what a step that found its word adds to the chronicle
+abbrev pub happens_if_found : World → Incarnations → ℕ → Step → List Entry
+happens_if_found w a pass (Advance from) = just pass Advances
+happens_if_found w a pass (TakeFlag s) = just pass (Gains s)
+happens_if_found w a pass (Publish pred expected s) = just pass (Inserts (last_in a s) (before_at a pred))
+happens_if_found w a pass (Mark s expected) = just pass (Removes (last_in a s))
+happens_if_found w a pass (Unlink pred expected s) = just pass (Unlinks (last_in a s) (before_at a pred))
+happens_if_found w a pass step = answered pass (call_of pass (w.know pass) step)
+
+-- what an accepted step adds to the chronicle: an exchange or a confirming load that doesn't find its word adds nothing, but a flag that isn't taken was probed; loads add nothing
+abbrev pub happens : Dimensions → World → Incarnations → ℕ → Step → List Entry
+happens shape w a pass (Advance from) = if found shape w (Advance from) == from then happens_if_found w a pass (Advance from) else []
+happens shape w a pass (StoreStamp s stamp) = just pass (Stamps (last_in a s) stamp)
+happens shape w a pass (Raise s) = just pass (Raises s)
+happens shape w a pass (TakeFlag s) = if found shape w (TakeFlag s) == 1 then happens_if_found w a pass (TakeFlag s) else just pass (Probes s)
+happens shape w a pass (StoreBirth s birth) = born_in a pass s birth ((w.know pass).own s)
+happens shape w a pass (StoreKey s key) = just pass (Keyed (last_in a s) key)
+happens shape w a pass (StoreLink s next) = just pass (Aims (last_in a s) (link_written (w.know pass) (StoreLink s next)))
+happens shape w a pass (Publish pred expected s) =
+    let step = Publish pred expected s in if found shape w step == expected then happens_if_found w a pass step else []
+happens shape w a pass (Mark s expected) =
+    let step = Mark s expected in if found shape w step == expected then happens_if_found w a pass step else []
+happens shape w a pass (Unlink pred expected s) =
+    let step = Unlink pred expected s in if found shape w step == expected then happens_if_found w a pass step else []
+happens shape w a pass (ConfirmPresent op s expected) =
+    let step = ConfirmPresent op s expected in if found shape w step == expected then happens_if_found w a pass step else []
+happens shape w a pass (ConfirmAbsent op key at expected) =
+    let step = ConfirmAbsent op key at expected in if found shape w step == expected then happens_if_found w a pass step else []
+happens shape w a pass step = []
+
+-- ---- along a run
+
+-- the incarnations after one more accepted event
+abbrev pub incarnations_with : Dimensions → World → Incarnations → Event → Incarnations
+incarnations_with shape w a event = incarnations_from shape a (happens shape w a event.pass event.step)
+
+-- the chronicle of events from a world
+abbrev pub chronicle_from : Dimensions → World → Incarnations → List Event → List Entry
+chronicle_from shape w a [] = []
+chronicle_from shape w a (event ∷ events) =
+    happens shape w a event.pass event.step ++ chronicle_from shape (after shape w event.pass event.step) (incarnations_with shape w a event) events
+
+-- the notes of each pass after events from a world
+abbrev pub notes_from : Dimensions → World → Incarnations → (ℕ → Notes) → List Event → ℕ → Notes
+notes_from shape w a notes [] = notes
+notes_from shape w a notes (event ∷ events) =
+    let noted = put notes event.pass (notes_with shape w (incarnations_with shape w a event) event.pass event.step (notes event.pass)) in
+    notes_from shape (after shape w event.pass event.step) (incarnations_with shape w a event) noted events
+
+-- the chronicle of a run
+abbrev pub chronicle : Dimensions → List Event → List Entry
+chronicle shape run = chronicle_from shape opening nothing_yet run
+
+-- the incarnations after a run
+abbrev pub incarnations_after : Dimensions → List Event → Incarnations
+incarnations_after shape run = incarnations_from shape nothing_yet (chronicle shape run)
+
+-- the notes of a pass after a run
+abbrev pub notes_after : Dimensions → List Event → ℕ → Notes
+notes_after shape run pass = notes_from shape opening nothing_yet (λ p. no_notes) run pass
+
+-- the events of a pass in the chronicle of a run
+abbrev pub own_entries : Dimensions → List Event → ℕ → List Entry
+own_entries shape run pass = entries_by pass (chronicle shape run)
+
+-- ---- what is to hold along a run
+
+-- an exchange that finds its word is right: the incarnations that it names are the last of their slots, and what it adds to the chronicle is lawful for them
+pub record IsRightExchange (shape : Dimensions) (w : World) (a : Incarnations) (notes : Notes) (pass : ℕ) (step : Step) : Type 0 where
+  pub names : NamesLast a notes.checked step
+  pub lawful : IsLawful shape no_keys a (happens_if_found w a pass step)

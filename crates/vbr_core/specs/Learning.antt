@@ -1,0 +1,160 @@
+-- What a step's load or exchange answers, what its pass learns from it, and which call it makes.
+use Rattle.std.specs.Prelude.{ℕ, Bool, true, false, ◌==◌, List, [], ◌∷◌, ◌++◌, Option, Some, None, if◌then◌else◌, unwrap_or}
+use Rattle.vbr_words.specs.Words.{link_of}
+use Rattle.vbr_words.specs.declared.link.Link.{Link}
+use Rattle.vbr_words.specs.declared.place.At.TheVariants.{Slot}
+use Rattle.vbr_core.specs.Put.{put}
+use Rattle.vbr_core.specs.Links.{opening_link, link_to, marked}
+use Rattle.vbr_core.specs.Knowledge.{Know, key_in, marked_in, birth_at, birth_of}
+use Rattle.vbr_core.specs.Acceptance.{stamp_in, next_of_marked}
+use Rattle.vbr_core.specs.declared.history.Call.{Call}
+use Rattle.vbr_core.specs.declared.history.Op.{Op}
+use Rattle.vbr_core.specs.declared.history.Op.TheVariants.{Insert, Remove, Has}
+use Rattle.vbr_core.specs.declared.event.Step.{Step}
+use Rattle.vbr_core.specs.declared.event.Step.TheVariants.{ReadEpoch, Advance, StoreStamp, Raise, TakeFlag, StoreBirth, StoreKey, StoreLink, LoadLink, LoadBirth, LoadKey, Publish, Mark, Unlink, ConfirmPresent, ConfirmAbsent}
+use Rattle.vbr_core.specs.declared.event.Effect.{Effect}
+use Rattle.vbr_core.specs.declared.event.Effect.TheVariants.{Value, Done, Won, Lost, Answered}
+use Rattle.vbr_core.specs.declared.knowledge.Read.{Read}
+use Rattle.vbr_core.specs.declared.knowledge.Read.TheVariants.{LinkAt, BirthOf, KeyOf}
+use Rattle.vbr_core.specs.declared.knowledge.Holding.{Holding}
+use Rattle.vbr_core.specs.declared.knowledge.Holding.TheVariants.{Free, Unlinked, InHand}
+
+-- ---- answers
+
+-- the answer of an exchange that expected one word and found another or the same
+abbrev pub exchanged : ℕ → ℕ → Effect
+exchanged expected found = if found == expected then Won else Lost found
+
+-- the answer of a confirming load
+abbrev pub confirmed : Bool → ℕ → ℕ → Effect
+confirmed reply expected found = if found == expected then Answered reply else Lost found
+
+-- the reply that the presence of the key gives to an operation: yes to a look-up, no to an insert
+abbrev pub present_reply : Op → Bool
+present_reply Has = true
+present_reply _ = false
+
+-- the effect of a step, from the word that its load or exchange found
+abbrev pub effect_of : Step → ℕ → Effect
+effect_of (Advance from) found = exchanged from found
+effect_of (StoreStamp s stamp) found = Done
+effect_of (Raise s) found = Done
+effect_of (TakeFlag s) found = exchanged 1 found
+effect_of (StoreBirth s birth) found = Done
+effect_of (StoreKey s key) found = Done
+effect_of (StoreLink s next) found = Done
+effect_of (Publish pred expected s) found = exchanged expected found
+effect_of (Mark s expected) found = exchanged expected found
+effect_of (Unlink pred expected s) found = exchanged expected found
+effect_of (ConfirmPresent op s expected) found = confirmed (present_reply op) expected found
+effect_of (ConfirmAbsent op key at expected) found = confirmed false expected found
+effect_of _ found = Value found
+
+-- ---- what is in hand
+
+-- the birth of a slot in hand
+abbrev pub birth_in_hand : Option Holding → ℕ
+birth_in_hand (Some (InHand stamp birth key link)) = birth
+birth_in_hand _ = 0
+
+-- the key of a slot in hand
+abbrev pub key_in_hand : Option Holding → ℕ
+key_in_hand (Some (InHand stamp birth key link)) = unwrap_or key 0
+key_in_hand _ = 0
+
+-- the link of a slot in hand
+abbrev pub link_in_hand : Option Holding → Link
+link_in_hand (Some (InHand stamp birth key link)) = unwrap_or link opening_link
+link_in_hand _ = opening_link
+
+-- a slot in hand once its key is stored
+abbrev pub with_key : Option Holding → ℕ → Option Holding
+with_key (Some (InHand stamp birth key link)) new = Some (InHand stamp birth (Some new) link)
+with_key holding new = holding
+
+-- a slot in hand once its link is stored
+abbrev pub with_link : Option Holding → Link → Option Holding
+with_link (Some (InHand stamp birth key link)) new = Some (InHand stamp birth key (Some new))
+with_link holding new = holding
+
+-- ---- what is written
+
+-- the link that a step writes, from what its pass knows
+abbrev pub link_written : Know → Step → Link
+link_written know (StoreLink s next) = link_to next (birth_in_hand (know.own s)) (unwrap_or (birth_of know.checked next) 0)
+link_written know (Publish pred expected s) = link_to (Some s) (unwrap_or (birth_at know.checked pred) 0) (birth_in_hand (know.own s))
+link_written know (Mark s expected) = marked (link_of expected)
+link_written know (Unlink pred expected s) =
+    let next = next_of_marked (marked_in know.checked s) in
+    link_to next (unwrap_or (birth_at know.checked pred) 0) (unwrap_or (birth_of know.checked next) 0)
+link_written know _ = opening_link
+
+-- ---- what is learned
+
+-- a slot that the pass unlinked, once it has read the epoch
+abbrev pub reread : Option Holding → Option Holding
+reread (Some (Unlinked seen)) = Some (Unlinked true)
+reread holding = holding
+
+-- what a pass knows once it has read the epoch: an unmoved epoch confirms what is pending, and one that has moved leaves nothing
+abbrev pub read_epoch : Know → ℕ → Know
+read_epoch know epoch =
+    if epoch == know.epoch
+    then record { epoch = know.epoch; pending = []; checked = know.checked ++ know.pending; own = λ s. reread (know.own s) }
+    else record { epoch = epoch; pending = []; checked = []; own = λ s. reread (know.own s) }
+
+-- one more read is pending
+abbrev pub with_pending : Know → Read → Know
+with_pending know read = record know { pending = know.pending ++ read ∷ [] }
+
+-- more reads are checked
+abbrev pub with_checked : Know → List Read → Know
+with_checked know reads = record know { checked = know.checked ++ reads }
+
+-- the pass owns a slot in another way, or no longer
+abbrev pub with_own : Know → ℕ → Option Holding → Know
+with_own know s holding = record know { own = put know.own s holding }
+
+-- what a load reads of the set
+abbrev pub read_loaded : Step → ℕ → Option Read
+read_loaded (LoadLink at) found = Some (LinkAt at (link_of found))
+read_loaded (LoadBirth s) found = Some (BirthOf s found)
+read_loaded (LoadKey s) found = Some (KeyOf s found)
+read_loaded _ found = None
+
+-- what a pass has checked by winning an exchange, in this order
+abbrev pub reads_won : Know → Step → List Read
+reads_won know (Publish pred expected s) =
+    LinkAt pred (link_written know (Publish pred expected s)) ∷ BirthOf s (birth_in_hand (know.own s)) ∷ KeyOf s (key_in_hand (know.own s)) ∷ LinkAt (Slot s) (link_in_hand (know.own s)) ∷ []
+reads_won know (Mark s expected) = LinkAt (Slot s) (link_written know (Mark s expected)) ∷ []
+reads_won know (Unlink pred expected s) = LinkAt pred (link_written know (Unlink pred expected s)) ∷ []
+reads_won know _ = []
+
+-- what a pass knows after a step, from the word that the step found, and from the stamp of the slot if it took one
+abbrev pub learn : Step → ℕ → ℕ → Know → Know
+learn ReadEpoch found stamp know = read_epoch know found
+learn (StoreStamp s new) found stamp know = with_own know s (Some (Free new))
+learn (Raise s) found stamp know = with_own know s None
+learn (TakeFlag s) found stamp know = if found == 1 then with_own know s (Some (Free stamp)) else know
+learn (StoreBirth s birth) found stamp know = with_own know s (Some (InHand (stamp_in (know.own s)) birth None None))
+learn (StoreKey s key) found stamp know = with_own know s (with_key (know.own s) key)
+learn (StoreLink s next) found stamp know = with_own know s (with_link (know.own s) (link_written know (StoreLink s next)))
+learn (LoadLink at) found stamp know = with_pending know (LinkAt at (link_of found))
+learn (LoadBirth s) found stamp know = with_pending know (BirthOf s found)
+learn (LoadKey s) found stamp know = with_pending know (KeyOf s found)
+learn (Publish pred expected s) found stamp know =
+    if found == expected then with_own (with_checked know (reads_won know (Publish pred expected s))) s None else know
+learn (Mark s expected) found stamp know = if found == expected then with_checked know (reads_won know (Mark s expected)) else know
+learn (Unlink pred expected s) found stamp know =
+    if found == expected then with_own (with_checked know (reads_won know (Unlink pred expected s))) s (Some (Unlinked false)) else know
+learn _ found stamp know = know
+
+-- ---- the call that is made
+
+-- the call of a step that succeeds, if it is one that makes a call
+abbrev pub call_of : ℕ → Know → Step → Option Call
+call_of pass know (Publish pred expected s) = Some (record { who = pass; op = Insert; key = key_in_hand (know.own s); reply = true })
+call_of pass know (Mark s expected) = Some (record { who = pass; op = Remove; key = unwrap_or (key_in know.checked s) 0; reply = true })
+call_of pass know (ConfirmPresent op s expected) = Some (record { who = pass; op = op; key = unwrap_or (key_in know.checked s) 0; reply = present_reply op })
+call_of pass know (ConfirmAbsent op key at expected) = Some (record { who = pass; op = op; key = key; reply = false })
+call_of pass know _ = None

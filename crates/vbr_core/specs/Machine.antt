@@ -1,0 +1,190 @@
+-- The core: its world, and what an accepted step does to it.
+use Rattle.std.specs.Prelude.{ℕ, ◌+◌, ◌-◌, ◌*◌, ◌^◌, min, ◌==◌, List, [], ◌∷◌, ◌++◌, Option, Some, None, if◌then◌else◌}
+use Rattle.vbr_words.specs.Dimensions.{Dimensions}
+use Rattle.vbr_words.specs.Words.{word_of}
+use Rattle.vbr_words.specs.Places as places
+use Rattle.vbr_words.specs.declared.link.TheConstants.{MARK}
+use Rattle.vbr_words.specs.declared.link.Link.{Link}
+use Rattle.vbr_words.specs.declared.place.At.{At}
+use Rattle.vbr_words.specs.declared.place.At.TheVariants.{Head, Slot}
+use Rattle.vbr_words.specs.declared.place.Place.{Place}
+use Rattle.vbr_words.specs.declared.place.Place.TheVariants as place
+use Rattle.vbr_core.specs.Put.{put}
+use Rattle.vbr_core.specs.Links.{opening_link, empty_head}
+use Rattle.vbr_core.specs.Knowledge.{Know}
+use Rattle.vbr_core.specs.Acceptance.{bucket_of}
+use Rattle.vbr_core.specs.Learning.{key_in_hand, link_written, learn, call_of}
+use Rattle.vbr_core.specs.declared.history.Call.{Call}
+use Rattle.vbr_core.specs.declared.event.Step.{Step}
+use Rattle.vbr_core.specs.declared.event.Step.TheVariants.{ReadEpoch, Advance, LoadStamp, StoreStamp, Raise, TakeFlag, StoreBirth, StoreKey, StoreLink, LoadLink, LoadBirth, LoadKey, Publish, Mark, Unlink, ConfirmPresent, ConfirmAbsent}
+use Rattle.vbr_core.specs.declared.knowledge.SlotPlace.{SlotPlace}
+use Rattle.vbr_core.specs.declared.knowledge.SlotPlace.TheVariants.{Shared, Own, Hand, Listed}
+
+-- the words, the place of each slot, what each pass knows, the number of births, and the calls so far
+pub record World : Type 0 where
+  pub epoch : ℕ
+  pub head : ℕ → Link
+  pub link : ℕ → Link
+  pub birth : ℕ → ℕ
+  pub stamp : ℕ → ℕ
+  pub key : ℕ → ℕ
+  pub place : ℕ → SlotPlace
+  pub know : ℕ → Know
+  pub births : ℕ
+  pub calls : List Call
+
+-- what a pass knows at opening
+abbrev pub knows_nothing : Know
+knows_nothing = record { epoch = 1; pending = []; checked = []; own = λ s. None }
+
+-- the world at opening
+abbrev pub opening : World
+opening =
+    record {
+      epoch = 1;
+      head = λ b. empty_head;
+      link = λ s. opening_link;
+      birth = λ s. 0;
+      stamp = λ s. 0;
+      key = λ s. 0;
+      place = λ s. Shared;
+      know = λ p. knows_nothing;
+      births = 0;
+      calls = [];
+    }
+
+-- ---- words
+
+-- the link at a place
+abbrev pub link_at : World → At → Link
+link_at w (Head b) = w.head b
+link_at w (Slot s) = w.link s
+
+-- the flag of a slot: 1 where it is in the shared pool
+abbrev pub flag_of : SlotPlace → ℕ
+flag_of Shared = 1
+flag_of _ = 0
+
+-- the word that says what the shape is
+abbrev pub shape_word : Dimensions → ℕ
+shape_word shape = shape.slots + MARK * shape.last_epoch
+
+-- the word at a place
+abbrev pub word_at : Dimensions → World → Place → ℕ
+word_at shape w place.Epoch = w.epoch
+word_at shape w place.ShapeWord = shape_word shape
+word_at shape w (place.Head b) = word_of (w.head b)
+word_at shape w (place.LinkOf s) = word_of (w.link s)
+word_at shape w (place.Birth s) = w.birth s
+word_at shape w (place.Stamp s) = w.stamp s
+word_at shape w (place.Key s) = w.key s
+word_at shape w (place.Flag s) = flag_of (w.place s)
+
+-- ---- how a step reaches its word
+
+-- the place of the one word that a step loads, stores or exchanges
+abbrev pub place_of : Step → Place
+place_of ReadEpoch = place.Epoch
+place_of (Advance from) = place.Epoch
+place_of (LoadStamp s) = place.Stamp s
+place_of (StoreStamp s stamp) = place.Stamp s
+place_of (Raise s) = place.Flag s
+place_of (TakeFlag s) = place.Flag s
+place_of (StoreBirth s birth) = place.Birth s
+place_of (StoreKey s key) = place.Key s
+place_of (StoreLink s next) = place.LinkOf s
+place_of (LoadLink at) = places.place_of at
+place_of (LoadBirth s) = place.Birth s
+place_of (LoadKey s) = place.Key s
+place_of (Publish pred expected s) = places.place_of pred
+place_of (Mark s expected) = place.LinkOf s
+place_of (Unlink pred expected s) = places.place_of pred
+place_of (ConfirmPresent op s expected) = place.LinkOf s
+place_of (ConfirmAbsent op key at expected) = places.place_of at
+
+-- an atomic operation on one word: a load, a store of a word, or an exchange of an expected word for a new one
+pub data Access : Type 0 where
+  Load : Access
+  Store : ℕ → Access
+  Exchange : ℕ → ℕ → Access
+
+-- the atomic operation that a step is, from what its pass knows
+abbrev pub access_of : Know → Step → Access
+access_of know (Advance from) = Exchange from (from + 1)
+access_of know (StoreStamp s stamp) = Store stamp
+access_of know (Raise s) = Store 1
+access_of know (TakeFlag s) = Exchange 1 0
+access_of know (StoreBirth s birth) = Store birth
+access_of know (StoreKey s key) = Store key
+access_of know (StoreLink s next) = Store (word_of (link_written know (StoreLink s next)))
+access_of know (Publish pred expected s) = Exchange expected (word_of (link_written know (Publish pred expected s)))
+access_of know (Mark s expected) = Exchange expected (word_of (link_written know (Mark s expected)))
+access_of know (Unlink pred expected s) = Exchange expected (word_of (link_written know (Unlink pred expected s)))
+access_of know _ = Load
+
+-- ---- what a step does
+
+-- one more birth, counted up to the greatest number
+abbrev pub counted : ℕ → ℕ
+counted births = min (births + 1) (2 ^ 64 - 1)
+
+-- the word that a step's load or exchange finds, or that its store replaces
+abbrev pub found : Dimensions → World → Step → ℕ
+found shape w step = word_at shape w (place_of step)
+
+-- the stamp of the slot that a step takes
+abbrev pub stamp_shown : World → Step → ℕ
+stamp_shown w (TakeFlag s) = w.stamp s
+stamp_shown w _ = 0
+
+-- its pass learns from a step
+abbrev pub with_learning : Dimensions → World → ℕ → Step → World
+with_learning shape w p step = record w { know = put w.know p (learn step (found shape w step) (stamp_shown w step) (w.know p)) }
+
+-- a link is written at a place
+abbrev pub with_link_at : World → At → Link → World
+with_link_at w (Head b) link = record w { head = put w.head b link }
+with_link_at w (Slot s) link = record w { link = put w.link s link }
+
+-- a call is made
+abbrev pub with_call : World → Option Call → World
+with_call w None = w
+with_call w (Some call) = record w { calls = w.calls ++ call ∷ [] }
+
+-- an exchange or a confirming load makes its change only where it finds the expected word
+abbrev pub where_found : ℕ → ℕ → World → World → World
+where_found expected found changed w = if found == expected then changed else w
+
+-- the world after an accepted step of a pass
+abbrev pub after : Dimensions → World → ℕ → Step → World
+after shape w p ReadEpoch = with_learning shape w p ReadEpoch
+after shape w p (Advance from) = where_found from w.epoch (record w { epoch = w.epoch + 1 }) w
+after shape w p (LoadStamp s) = w
+after shape w p (StoreStamp s stamp) = record (with_learning shape w p (StoreStamp s stamp)) { stamp = put w.stamp s stamp }
+after shape w p (Raise s) = record (with_learning shape w p (Raise s)) { place = put w.place s Shared }
+after shape w p (TakeFlag s) = where_found 1 (flag_of (w.place s)) (record (with_learning shape w p (TakeFlag s)) { place = put w.place s (Own p) }) w
+after shape w p (StoreBirth s birth) =
+    record (with_learning shape w p (StoreBirth s birth)) { birth = put w.birth s birth; place = put w.place s (Hand p); births = counted w.births }
+after shape w p (StoreKey s key) = record (with_learning shape w p (StoreKey s key)) { key = put w.key s key }
+after shape w p (StoreLink s next) =
+    record (with_learning shape w p (StoreLink s next)) { link = put w.link s (link_written (w.know p) (StoreLink s next)) }
+after shape w p (LoadLink at) = with_learning shape w p (LoadLink at)
+after shape w p (LoadBirth s) = with_learning shape w p (LoadBirth s)
+after shape w p (LoadKey s) = with_learning shape w p (LoadKey s)
+after shape w p (Publish pred expected s) =
+    let step = Publish pred expected s in
+    let linked = with_link_at (with_learning shape w p step) pred (link_written (w.know p) step) in
+    where_found expected (word_of (link_at w pred))
+    (with_call (record linked { place = put w.place s (Listed (bucket_of shape (key_in_hand ((w.know p).own s)))) }) (call_of p (w.know p) step)) w
+after shape w p (Mark s expected) =
+    let step = Mark s expected in
+    where_found expected (word_of (w.link s))
+    (with_call (with_link_at (with_learning shape w p step) (Slot s) (link_written (w.know p) step)) (call_of p (w.know p) step)) w
+after shape w p (Unlink pred expected s) =
+    let step = Unlink pred expected s in
+    let unlinked = with_link_at (with_learning shape w p step) pred (link_written (w.know p) step) in
+    where_found expected (word_of (link_at w pred)) (record unlinked { place = put w.place s (Own p) }) w
+after shape w p (ConfirmPresent op s expected) =
+    where_found expected (word_of (w.link s)) (with_call w (call_of p (w.know p) (ConfirmPresent op s expected))) w
+after shape w p (ConfirmAbsent op key at expected) =
+    where_found expected (word_of (link_at w at)) (with_call w (call_of p (w.know p) (ConfirmAbsent op key at expected))) w

@@ -1,0 +1,38 @@
+//! What a pass knows: what it has read, and what it knows of the slots that it owns.
+use vbr_words::{At, Link};
+
+/// A read of a word of the set.
+#[derive(Clone, Copy, Debug, PartialEq, Eq, Hash)]
+pub enum Read {
+    /// The link at a place.
+    LinkAt(At, Link),
+    /// The birth of a slot, an epoch.
+    BirthOf(u32, u64),
+    /// The key of a slot.
+    KeyOf(u32, u64),
+}
+
+/// What a pass knows of a slot that it owns.
+#[derive(Clone, Copy, Debug, PartialEq, Eq, Hash)]
+pub enum Holding {
+    /// Free to be born in or to be raised, with its stamp, an epoch.
+    Free(u64),
+    /// Unlinked by the pass and not stamped since; whether the pass read the epoch since.
+    Unlinked(bool),
+    /// In hand, born by the pass and not published: its stamp and its birth, as epochs, and the key
+    /// and the link that were stored since the birth, if they were.
+    InHand(u64, u64, Option<u64>, Option<Link>),
+}
+
+/// Where a slot is.
+#[derive(Clone, Copy, Debug, PartialEq, Eq, Hash)]
+pub enum SlotPlace {
+    /// In the shared pool.
+    Shared,
+    /// In the pool of this pass.
+    Own(u32),
+    /// Born by this pass and not published.
+    Hand(u32),
+    /// In the list of this bucket, marked or not.
+    Listed(u32),
+}
