@@ -10,5 +10,8 @@ pub mod Runs
 pub mod Incarnations
 pub mod Images
 pub mod Chronicles
+pub mod Sound
 pub mod Notes
 pub mod Accounts
+pub mod Kept
+pub mod Making

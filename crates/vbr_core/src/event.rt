@@ -1,5 +1,7 @@
 //! The events of the core: which pass makes which step, and what a step answers.
 use crate::history::Op;
+use std::error::Error;
+use std::fmt;
 use vbr_words::At;
 
 /// One step of one pass.
@@ -129,3 +131,21 @@ pub enum CoreRefusal {
     /// There is no memory for what the step leaves.
     NoMemory,
 }
+
+impl fmt::Display for CoreRefusal {
+    fn fmt<W: fmt::Write>(&self, f: &mut fmt::Formatter<W>) -> fmt::Result {
+        match self {
+            CoreRefusal::NoSuchPass => write!(f, "there is no pass of that number"),
+            CoreRefusal::NotOwned => write!(f, "the pass doesn't own the slot so"),
+            CoreRefusal::NotHeld => write!(
+                f,
+                "the pass hasn't checked a read that the step asks for"
+            ),
+            CoreRefusal::OutOfRange => write!(f, "a number of the step is out of range"),
+            CoreRefusal::EpochLast => write!(f, "the epoch is the last one"),
+            CoreRefusal::NoMemory => write!(f, "there is no memory for the step"),
+        }
+    }
+}
+
+impl Error for CoreRefusal {}

@@ -4,6 +4,8 @@
 #[cfg(test)]
 mod devices;
 #[cfg(test)]
+mod event_lists;
+#[cfg(test)]
 mod plain_set;
 #[cfg(test)]
 mod player;
@@ -11,3 +13,5 @@ mod player;
 mod scripts;
 #[cfg(test)]
 mod words;
+#[cfg(test)]
+mod world;

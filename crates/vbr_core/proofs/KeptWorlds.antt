@@ -1,0 +1,62 @@
+-- What the lists that a program keeps stand for, at opening and after one entry is set.
+use Rattle.std.proofs.Common.{◌≡◌, ℕ, ◌<◌, ◌≤◌, List, [], length, get_or, set, replicate, ◌⊎◌, inl, inr, refl, sym, ap, ◌∙◌, arith}
+use Rattle.std.proofs.lemmas.Bool.{cases_lt}
+use Rattle.std.proofs.lemmas.List.{get_or_read, get_or_past}
+use Rattle.std.specs.List.{AllByRecursion}
+use Rattle.vbr_words.specs.Words.{word_of, link_of}
+use Rattle.vbr_words.specs.declared.link.TheConstants.{MARK}
+use Rattle.vbr_words.proofs.LinkWords.{word_of-link_of}
+use Rattle.vbr_words.specs.declared.link.Link.{Link}
+use Rattle.vbr_words.specs.declared.place.At.{At}
+use Rattle.vbr_words.specs.declared.place.At.TheVariants.{Head, Slot}
+use Rattle.vbr_core.specs.Put.{put}
+use Rattle.vbr_core.specs.Knowledge.{Know}
+use Rattle.vbr_core.specs.Links.{empty_head, opening_link}
+use Rattle.vbr_core.specs.Machine.{World, knows_nothing, opening, with_link_at}
+use Rattle.vbr_core.specs.Kept.{KeptPass, KeptWorld, IsWhole, know_of, new_pass, world_of}
+use Rattle.vbr_core.specs.declared.knowledge.SlotPlace.{SlotPlace}
+use Rattle.vbr_core.specs.declared.knowledge.SlotPlace.TheVariants.{Shared}
+use Rattle.vbr_core.proofs.KeptLists.{read_replicate, read_set, all_at}
+
+-- the word that is kept at a head is that of its link
+pub head_word : (kept : KeptWorld) (b word : ℕ) → IsWhole kept → b < kept.shape.buckets → word ≡ get_or kept.heads b word → word ≡ word_of ((world_of kept).head b)
+head_word kept b word whole lt is = get_or_read kept.heads b word (omega (arith, whole.heads)) is 0 ∙ sym (word_of-link_of (get_or kept.heads b 0))
+
+-- the word that is kept at a slot's link is that of its link
+pub link_word : (kept : KeptWorld) (s word : ℕ) → IsWhole kept → s < kept.shape.slots → word ≡ get_or kept.links s word → word ≡ word_of ((world_of kept).link s)
+link_word kept s word whole lt is = get_or_read kept.links s word (omega (arith, whole.links)) is MARK ∙ sym (word_of-link_of (get_or kept.links s MARK))
+
+-- passes that know nothing
+know_opened : (slots : ℕ) (passes : List KeptPass) → AllByRecursion (λ pass. (know_of pass ≡ knows_nothing) × (length pass.own ≡ slots)) passes → ◌≡◌ {A = ℕ → Know} (λ p. know_of (get_or passes p new_pass)) (λ p. knows_nothing)
+know_opened slots passes new = λ k p. at p (cases_lt p (length passes)) k
+  where
+    at : (p : ℕ) → (p < length passes) ⊎ (length passes ≤ p) → know_of (get_or passes p new_pass) ≡ knows_nothing
+    at p (inl lt) = (all_at (λ pass. (know_of pass ≡ knows_nothing) × (length pass.own ≡ slots)) passes p new_pass new lt).0
+    at p (inr ge) = rw (get_or_past passes p new_pass ge) refl
+
+-- the lists of an empty set stand for the world at opening
+pub opened : (kept : KeptWorld) (buckets slots own : ℕ) → kept.epoch ≡ 1 → kept.heads ≡ replicate buckets 0 → kept.links ≡ replicate slots MARK → kept.birth ≡ replicate slots 0 → kept.stamps ≡ replicate slots 0 → kept.keys ≡ replicate slots 0 → kept.places ≡ replicate slots Shared → AllByRecursion (λ pass. (know_of pass ≡ knows_nothing) × (length pass.own ≡ own)) kept.passes → kept.births ≡ 0 → kept.calls ≡ [] → world_of kept ≡ opening
+unfolding link_of
+opened kept buckets slots own epoch heads links birth stamps keys places new births calls =
+    ap world_of (λ i. record kept { epoch = epoch i; heads = heads i; links = links i; birth = birth i; stamps = stamps i; keys = keys i; places = places i; births = births i; calls = calls i })
+    ∙ (λ i. record {
+      epoch = 1;
+      head = read_replicate link_of buckets 0 0 empty_head refl refl i;
+      link = read_replicate link_of slots MARK MARK opening_link refl refl i;
+      birth = read_replicate (λ n. n) slots 0 0 0 refl refl i;
+      stamp = read_replicate (λ n. n) slots 0 0 0 refl refl i;
+      key = read_replicate (λ n. n) slots 0 0 0 refl refl i;
+      place = read_replicate (λ (place : SlotPlace). place) slots Shared Shared Shared refl refl i;
+      know = know_opened own kept.passes new i;
+      births = 0;
+      calls = [];
+    })
+
+-- a slot is put where it now is
+pub slot_put : (kept : KeptWorld) (s : ℕ) (place : SlotPlace) → IsWhole kept → s < kept.shape.slots → world_of (record kept { places = set kept.places s place }) ≡ record (world_of kept) { place = put (world_of kept).place s place }
+slot_put kept s place whole lt = λ i. record (world_of kept) { place = read_set (λ (place : SlotPlace). place) kept.places s place Shared place (omega (arith, whole.places)) refl i }
+
+-- a slot is put where it now is, after a link was written
+pub put_after_link : (linked w : World) (at : At) (link : Link) (s : ℕ) (place : SlotPlace) → linked ≡ with_link_at w at link → record linked { place = put linked.place s place } ≡ record (with_link_at w at link) { place = put w.place s place }
+put_after_link linked w (Head b) link s place e = ap (λ (v : World). record v { place = put v.place s place }) e
+put_after_link linked w (Slot t) link s place e = ap (λ (v : World). record v { place = put v.place s place }) e

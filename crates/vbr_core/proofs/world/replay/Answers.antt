@@ -1,0 +1,23 @@
+-- One more event is accepted, or it is the first that is refused.
+use Rattle.std.proofs.Common.{◌<◌, ◌∙◌, length, arith}
+use Rattle.vbr_core.specs.Kept.{world_of}
+use Rattle.vbr_core.proofs.Replayed.{run_push, run_stops}
+use Rattle.vbr_core.proofs.world.replay.Goals as goal
+
+pub returns-in-Err-clause-stops : goal.returns-in-Err-clause-stops
+returns-in-Err-clause-stops c =
+    let world = c.loop-index.world in
+    let inside : c.loop-index.index < length c.args.events.now = omega arith in
+    run_stops c.args.shape world.shape c.args.passes (length world.passes) c.args.events.now c.loop-index.index _ (world_of world) c.in-Err.refusal c.loop-index.invariant.shape c.loop-index.invariant.passes c.loop-index.invariant.world inside c.loop-index.invariant.run c.in-Err.ensures.refused
+
+pub loop-index-preserved : goal.loop-index-preserved
+loop-index-preserved c =
+    let world = c.loop-index.world in
+    let inside : c.loop-index.index < length c.args.events.now = omega arith in
+    let more = run_push c.args.shape world.shape c.args.passes (length world.passes) c.args.events.now c.loop-index.index _ (world_of world) (world_of c.step.new.self) c.loop-index.invariant.shape c.loop-index.invariant.passes c.loop-index.invariant.world inside c.loop-index.invariant.run c.in_default.ensures.accepted c.in_default.ensures.after in
+    record {
+      run = more.0;
+      world = more.1;
+      shape = c.in_default.ensures.stays.0 ∙ c.loop-index.invariant.shape;
+      passes = c.in_default.ensures.stays.1 ∙ c.loop-index.invariant.passes;
+    }

@@ -1,0 +1,92 @@
+-- The world as a program keeps it, in lists and words, and the world that it stands for.
+use Rattle.std.specs.Prelude.{◌≡◌, ℕ, ◌≤◌, List, [], length, Option, Some, None, slice_index_or}
+use Rattle.std.specs.List.{AllByRecursion}
+use Rattle.vbr_words.specs.Dimensions.{Dimensions, IsShape}
+use Rattle.vbr_words.specs.Words.{IsLink, link_of}
+use Rattle.vbr_words.specs.declared.link.TheConstants.{MARK}
+use Rattle.vbr_words.specs.declared.shape.TheConstants.{MAX_EPOCH}
+use Rattle.vbr_core.specs.Knowledge.{Know}
+use Rattle.vbr_core.specs.Machine.{World}
+use Rattle.vbr_core.specs.declared.history.Call.{Call}
+use Rattle.vbr_core.specs.declared.knowledge.Read.{Read}
+use Rattle.vbr_core.specs.declared.knowledge.Read.TheVariants.{LinkAt, BirthOf, KeyOf}
+use Rattle.vbr_core.specs.declared.knowledge.Holding.{Holding}
+use Rattle.vbr_core.specs.declared.knowledge.Holding.TheVariants.{InHand}
+use Rattle.vbr_core.specs.declared.knowledge.SlotPlace.{SlotPlace}
+use Rattle.vbr_core.specs.declared.knowledge.SlotPlace.TheVariants.{Shared}
+
+-- what a pass knows, with its slots in a list
+pub record KeptPass : Type 0 where
+  pub epoch : ℕ
+  pub pending : List Read
+  pub checked : List Read
+  pub own : List (Option Holding)
+
+-- what a pass knows
+abbrev pub know_of : KeptPass → Know
+know_of kept = record { epoch = kept.epoch; pending = kept.pending; checked = kept.checked; own = λ s. slice_index_or kept.own s None }
+
+-- a pass that was just opened
+abbrev pub new_pass : KeptPass
+new_pass = record { epoch = 1; pending = []; checked = []; own = [] }
+
+-- a read whose link or birth has room in a word
+abbrev pub FitsRead : Read → Type 0
+FitsRead (LinkAt at link) = IsLink link
+FitsRead (BirthOf s birth) = birth ≤ MAX_EPOCH
+FitsRead (KeyOf s key) = Unit {0}
+
+-- what is known of an own slot has room in words
+abbrev pub FitsHolding : Option Holding → Type 0
+FitsHolding (Some (InHand stamp birth key link)) = birth ≤ MAX_EPOCH
+FitsHolding _ = Unit {0}
+
+-- all that a pass knows has room in words
+pub record FitsPass (kept : KeptPass) : Type 0 where
+  pub epoch : kept.epoch ≤ MAX_EPOCH
+  pub pending : AllByRecursion FitsRead kept.pending
+  pub checked : AllByRecursion FitsRead kept.checked
+  pub own : AllByRecursion FitsHolding kept.own
+
+-- the words, places, passes and calls in lists
+pub record KeptWorld : Type 0 where
+  pub shape : Dimensions
+  pub epoch : ℕ
+  pub heads : List ℕ
+  pub links : List ℕ
+  pub birth : List ℕ
+  pub stamps : List ℕ
+  pub keys : List ℕ
+  pub places : List SlotPlace
+  pub passes : List KeptPass
+  pub births : ℕ
+  pub calls : List Call
+
+-- the world that lists stand for
+abbrev pub world_of : KeptWorld → World
+world_of kept =
+    record {
+      epoch = kept.epoch;
+      head = λ b. link_of (slice_index_or kept.heads b 0);
+      link = λ s. link_of (slice_index_or kept.links s MARK);
+      birth = λ s. slice_index_or kept.birth s 0;
+      stamp = λ s. slice_index_or kept.stamps s 0;
+      key = λ s. slice_index_or kept.keys s 0;
+      place = λ s. slice_index_or kept.places s Shared;
+      know = λ p. know_of (slice_index_or kept.passes p new_pass);
+      births = kept.births;
+      calls = kept.calls;
+    }
+
+-- the lists are as long as the shape says, and all numbers have room in words
+pub record IsWhole (kept : KeptWorld) : Type 0 where
+  pub shape : IsShape kept.shape
+  pub epoch : kept.epoch ≤ kept.shape.last_epoch
+  pub heads : length kept.heads ≡ kept.shape.buckets
+  pub links : length kept.links ≡ kept.shape.slots
+  pub birth : length kept.birth ≡ kept.shape.slots
+  pub stamps : length kept.stamps ≡ kept.shape.slots
+  pub keys : length kept.keys ≡ kept.shape.slots
+  pub places : length kept.places ≡ kept.shape.slots
+  pub owns : AllByRecursion (λ pass. length pass.own ≡ kept.shape.slots) kept.passes
+  pub fits : AllByRecursion (λ birth. birth ≤ MAX_EPOCH) kept.birth

@@ -1,0 +1,195 @@
+//! The core as a program: a world that makes steps one at a time, plain and exact.
+ghost use Rattle.std.specs.Prelude.{◌≡◌, ◌<◌, ◌↔◌, length, ◌⊎◌, IfOk, IfErr, OnOk, OnErr, IsErrOf, Err};
+ghost use Rattle.vbr_words.specs.Places.{IsIn};
+ghost use Rattle.vbr_core.specs.Learning as learning;
+ghost use Rattle.vbr_core.specs.Machine as machine;
+ghost use Rattle.vbr_core.specs.Runs.{IsAccepted, Refuses, IsRun, world_after, StopsAt};
+ghost use Rattle.vbr_core.specs.Kept.{world_of};
+
+mod checking;
+mod holdings;
+mod learning;
+mod opening;
+mod passes;
+mod reads;
+mod steps;
+mod writing;
+
+use crate::event::{CoreRefusal, Effect, Event};
+use crate::history::Call;
+use crate::knowledge::SlotPlace;
+use crate::world::passes::PassState;
+use crate::world::steps::{effect_of, place_of, succeeds};
+use std::alloc::Global;
+use std::error::Error;
+use std::fmt;
+use std::marker::Model;
+use vbr_words::link::MARK;
+use vbr_words::{Place, Shape};
+
+/// The words and places of a set, what each of its passes knows, and the calls that were answered.
+#[derive(Debug, Drop)]
+pub struct World {
+    shape: Shape,
+    epoch: u64,
+    heads: Vec<u64>,
+    links: Vec<u64>,
+    birth: Vec<u64>,
+    stamps: Vec<u64>,
+    keys: Vec<u64>,
+    places: Vec<SlotPlace>,
+    passes: Vec<PassState>,
+    births: u64,
+    calls: Vec<Call>,
+}
+
+impl Model for World {
+    ghost use Rattle.vbr_core.specs.Kept.{KeptWorld, IsWhole};
+
+    ghost Value = { KeptWorld };
+
+    ghost view = { λ w. record { shape = w.shape; epoch = w.epoch; heads = w.heads.items; links = w.links.items; birth = w.birth.items; stamps = w.stamps.items; keys = w.keys.items; places = w.places.items; passes = w.passes.items; births = w.births; calls = w.calls.items } };
+
+    ghost invariant = { λ w. IsWhole (record { shape = w.shape; epoch = w.epoch; heads = w.heads.items; links = w.links.items; birth = w.birth.items; stamps = w.stamps.items; keys = w.keys.items; places = w.places.items; passes = w.passes.items; births = w.births; calls = w.calls.items }) };
+}
+
+/// Why a world isn't opened. The tests are made in this order.
+#[derive(Clone, Copy, Debug, PartialEq, Eq, Hash)]
+pub enum WorldRefusal {
+    /// The number of passes is 0 or above 64.
+    Passes,
+    /// There is no memory for the world.
+    NoMemory,
+}
+
+impl fmt::Display for WorldRefusal {
+    fn fmt<W: fmt::Write>(&self, f: &mut fmt::Formatter<W>) -> fmt::Result {
+        match self {
+            WorldRefusal::Passes => write!(f, "the number of passes is not from 1 to 64"),
+            WorldRefusal::NoMemory => write!(f, "there is no memory for the world"),
+        }
+    }
+}
+
+impl Error for WorldRefusal {}
+
+impl World {
+    /// The world at opening: the epoch is 1, the buckets are empty, every slot is in the shared pool,
+    /// and so many passes, from 1 to 64, know nothing. The refusals are tested in the order of
+    /// [`WorldRefusal`].
+    pub fn open(alloc: Global, shape: Shape, passes: u32) -> Result<World, WorldRefusal>
+        ensures opening { IfOk result (λ world. world_of world ≡ machine.opening) }
+        ensures shape { IfOk result (λ world. (world.shape ≡ shape) × (length world.passes ≡ passes)) }
+        ensures passes { IsErrOf result WorldRefusal.Passes ↔ ((passes ≡ 0) ⊎ (64 < passes)) }
+    {
+        if passes == 0 || passes > 64 {
+            return Err(WorldRefusal::Passes);
+        }
+        match World::empty(alloc, shape, passes) {
+            Ok(world) => Ok(world),
+            Err(_) => Err(WorldRefusal::NoMemory),
+        }
+    }
+
+    /// One step. It tests whether the pass is there, whether the step is in the shape, what the
+    /// pass owns, what it has checked, the step's numbers, and the last epoch, in that order. Then
+    /// the pass learns, and a step that isn't lost writes. Where a step is refused, nothing
+    /// changes.
+    pub fn step(&mut self, event: Event) -> Result<Effect, CoreRefusal>
+        ensures accepted { OnOk result (IsAccepted self.old.shape (length self.old.passes) (world_of self.old) event) }
+        ensures effect { IfOk result (λ effect. effect ≡ learning.effect_of event.step (machine.found self.old.shape (world_of self.old) event.step)) }
+        ensures after { OnOk result (world_of self.new ≡ machine.after self.old.shape (world_of self.old) event.pass event.step) }
+        ensures refused { IfErr result (λ refusal. Refuses self.old.shape (length self.old.passes) (world_of self.old) event refusal) }
+        ensures unchanged { OnErr result (self.new ≡ self.old) }
+        ensures stays { (self.new.shape ≡ self.old.shape) × (length self.new.passes ≡ length self.old.passes) }
+    {
+        self.check(event)?;
+        let found = self.word(place_of(event.step));
+        let link = self.link_written(event);
+        let key = self.key_written(event);
+        self.law_of_room(event);
+        let Ok(()) = self.learn(event, found) else {
+            return Err(CoreRefusal::NoMemory);
+        };
+        if succeeds(event.step, found) {
+            self.write(event, link, key);
+        }
+        Ok(effect_of(event.step, found))
+    }
+
+    /// The calls that were answered so far.
+    pub fn calls(&self) -> &[Call]
+        ensures { result.now ≡ (world_of self.now).calls }
+    {
+        &self.calls
+    }
+
+    /// How many incarnations were born so far, counted up to the greatest number.
+    pub fn incarnations(&self) -> u64
+        ensures { result ≡ (world_of self.now).births }
+    {
+        self.births
+    }
+
+    /// The word at a place of the shape.
+    pub fn word(&self, place: Place) -> u64
+        requires { IsIn self.now.shape place }
+        ensures { result ≡ machine.word_at self.now.shape (world_of self.now) place }
+    {
+        match place {
+            Place::Epoch => self.epoch,
+            Place::ShapeWord => u64::from(self.shape.slots()) + MARK * self.shape.last_epoch(),
+            Place::Head(bucket) => self.heads[bucket as usize],
+            Place::LinkOf(slot) => self.links[slot as usize],
+            Place::Birth(slot) => self.birth[slot as usize],
+            Place::Stamp(slot) => self.stamps[slot as usize],
+            Place::Key(slot) => self.keys[slot as usize],
+            Place::Flag(slot) => flag_of(self.place_of_slot(slot)),
+        }
+    }
+
+    /// Where a slot of the shape is.
+    pub fn place_of_slot(&self, slot: u32) -> SlotPlace
+        requires { slot < self.now.shape.slots }
+        ensures { result ≡ (world_of self.now).place slot }
+    {
+        self.places[slot as usize]
+    }
+}
+
+// The flag of a slot: 1 where it is in the shared pool.
+fn flag_of(place: SlotPlace) -> u64
+    ensures { result ≡ machine.flag_of place }
+{
+    match place {
+        SlotPlace::Shared => 1,
+        _ => 0,
+    }
+}
+
+/// The world that events lead to, one after another from the opening on; or the index, from 0, of
+/// the first that is refused, and why. A number of passes that is 0 or above 64 is refused as
+/// `(0, NoSuchPass)`, and want of memory at the opening as `(0, NoMemory)`.
+pub fn replay(
+    alloc: Global,
+    shape: Shape,
+    passes: u32,
+    events: &[Event],
+) -> Result<World, (usize, CoreRefusal)>
+    ensures run { OnOk result (IsRun shape passes events.now) }
+    ensures world { IfOk result (λ world. (world_of world ≡ world_after shape events.now) × (world.shape ≡ shape) × (length world.passes ≡ passes)) }
+    ensures passes { ((passes ≡ 0) ⊎ (64 < passes)) → result ≡ Err (0, CoreRefusal.NoSuchPass) }
+    ensures stops { IfErr result (λ e. StopsAt shape passes events.now e.0 e.1) }
+{
+    let mut world = match World::open(alloc, shape, passes) {
+        Ok(world) => world,
+        Err(WorldRefusal::Passes) => return Err((0, CoreRefusal::NoSuchPass)),
+        Err(WorldRefusal::NoMemory) => return Err((0, CoreRefusal::NoMemory)),
+    };
+    for (index, event) in events.iter().enumerate() {
+        if let Err(refusal) = world.step(*event) {
+            return Err((index, refusal));
+        }
+    }
+    Ok(world)
+}

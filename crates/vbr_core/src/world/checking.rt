@@ -1,0 +1,104 @@
+// Whether an event is accepted, and what its pass has for it.
+ghost use Rattle.std.specs.Prelude.{◌≡◌, ◌<◌, true, length, OnOk, IfErr};
+ghost use Rattle.vbr_words.specs.Words.{link_of};
+ghost use Rattle.vbr_core.specs.Acceptance.{IsInShape};
+ghost use Rattle.vbr_core.specs.Learning.{link_written};
+ghost use Rattle.vbr_core.specs.Machine as machine;
+ghost use Rattle.vbr_core.specs.Runs.{IsAccepted, Refuses};
+ghost use Rattle.vbr_core.specs.Kept.{world_of};
+ghost use Rattle.vbr_core.specs.Making.{succeeds, call_made, key_written, HasRoom};
+
+use crate::event::{CoreRefusal, Event, Step};
+use crate::history::Call;
+use crate::world::World;
+use crate::world::steps::{is_below_last, is_in_shape, succeeds};
+
+impl World {
+    // Accepts an event, or says why not.
+    pub(super) fn check(&self, event: Event) -> Result<(), CoreRefusal>
+        ensures accepted { OnOk result (IsAccepted self.now.shape (length self.now.passes) (world_of self.now) event) }
+        ensures refused { IfErr result (λ refusal. Refuses self.now.shape (length self.now.passes) (world_of self.now) event refusal) }
+    {
+        if event.pass as usize >= self.passes.len() {
+            return Err(CoreRefusal::NoSuchPass);
+        }
+        if !is_in_shape(&self.shape, event.step) {
+            return Err(CoreRefusal::OutOfRange);
+        }
+        let pass = &self.passes[event.pass as usize];
+        if !pass.owns(&self.shape, event.step) {
+            return Err(CoreRefusal::NotOwned);
+        }
+        if !pass.holds(event.step) {
+            return Err(CoreRefusal::NotHeld);
+        }
+        if !pass.is_in_range(&self.shape, event.step) {
+            return Err(CoreRefusal::OutOfRange);
+        }
+        if !is_below_last(&self.shape, event.step) {
+            return Err(CoreRefusal::EpochLast);
+        }
+        Ok(())
+    }
+
+    // A law: the words have room for what an accepted step writes where it succeeds. A birth is an
+    // epoch that the pass has read.
+    pub(super) fn law_of_room(&self, event: Event)
+        requires { IsAccepted self.now.shape (length self.now.passes) (world_of self.now) event }
+        ensures { succeeds event.step (machine.found self.now.shape (world_of self.now) event.step) ≡ true →
+            HasRoom self.now.shape self.now.epoch event.step }
+    {
+        let pass = &self.passes[event.pass as usize];
+        let _ = pass.epoch();
+    }
+
+    // The word of the link that an accepted step writes.
+    pub(super) fn link_written(&self, event: Event) -> u64
+        requires { IsAccepted self.now.shape (length self.now.passes) (world_of self.now) event }
+        ensures { link_of result ≡ link_written ((world_of self.now).know event.pass) event.step }
+    {
+        let pass = &self.passes[event.pass as usize];
+        pass.link_written(&self.shape, event.step)
+    }
+
+    // The key of the slot that a step publishes.
+    pub(super) fn key_written(&self, event: Event) -> u64
+        requires pass { event.pass < length self.now.passes }
+        requires in_shape { IsInShape self.now.shape event.step }
+        ensures { result ≡ key_written ((world_of self.now).know event.pass) event.step }
+    {
+        match event.step {
+            Step::Publish { slot, .. } => {
+                let pass = &self.passes[event.pass as usize];
+                pass.key_in_hand(slot)
+            }
+            _ => 0,
+        }
+    }
+
+    // The call that a pass makes with a step, if it makes one.
+    pub(super) fn call_made(&self, event: Event, found: u64) -> Option<Call>
+        requires pass { event.pass < length self.now.passes }
+        requires in_shape { IsInShape self.now.shape event.step }
+        requires found { found ≡ machine.found self.now.shape (world_of self.now) event.step }
+        ensures { result ≡ call_made self.now.shape (world_of self.now) event.pass event.step }
+    {
+        if succeeds(event.step, found) {
+            let pass = &self.passes[event.pass as usize];
+            pass.call(event.pass, &self.shape, event.step)
+        } else {
+            None
+        }
+    }
+
+    // The stamp of the slot that a step takes.
+    pub(super) fn stamp_shown(&self, step: Step) -> u64
+        requires { IsInShape self.now.shape step }
+        ensures { result ≡ machine.stamp_shown (world_of self.now) step }
+    {
+        match step {
+            Step::TakeFlag { slot } => self.stamps[slot as usize],
+            _ => 0,
+        }
+    }
+}

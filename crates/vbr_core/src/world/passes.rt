@@ -1,0 +1,339 @@
+// What the world keeps of a pass, the tests that a step asks for, and what a pass writes.
+ghost use Rattle.std.specs.Prelude.{◌≡◌, ◌<◌, ◌≤◌, ◌↔◌, length, slice_index_or, unwrap_or, Some, None, IsSome, IsTrue, IfOk, IfSome};
+ghost use Rattle.vbr_words.specs.Words.{IsLink, word_of, link_of};
+ghost use Rattle.vbr_words.specs.declared.link.TheConstants.{MAX_SLOTS};
+ghost use Rattle.vbr_words.specs.declared.shape.TheConstants.{MAX_EPOCH};
+ghost use Rattle.vbr_core.specs.Links.{link_to, marked};
+ghost use Rattle.vbr_core.specs.Knowledge.{knows_link, marked_in, birth_at, birth_of, key_in};
+ghost use Rattle.vbr_core.specs.Acceptance.{IsInShape, IsOwned, IsHeld, IsInRange, Accepts, KnowsKeyAt, KnowsKeyOf, stamp_in, IsReady, IsBehind, IsBefore, next_of_marked};
+ghost use Rattle.vbr_core.specs.Learning.{key_in_hand, link_written, call_of};
+ghost use Rattle.vbr_core.specs.Machine.{knows_nothing};
+ghost use Rattle.vbr_core.specs.Kept.{know_of, FitsHolding};
+
+mod learning;
+
+use crate::event::Step;
+use crate::history::{Call, Op};
+use crate::knowledge::{Holding, Read};
+use crate::world::{holdings, reads};
+use std::alloc::{AllocError, Global};
+use std::marker::Model;
+use vbr_words::link::MAX_SLOTS;
+use vbr_words::{At, Link, Shape, decode, encode, version_of};
+
+/// What the world keeps of a pass.
+#[derive(Debug, Drop)]
+pub struct PassState {
+    epoch: u64,
+    pending: Vec<Read>,
+    checked: Vec<Read>,
+    own: Vec<Option<Holding>>,
+}
+
+impl Model for PassState {
+    ghost use Rattle.vbr_core.specs.Kept.{KeptPass, FitsPass};
+
+    ghost Value = { KeptPass };
+
+    ghost view = { λ p. record { epoch = p.epoch; pending = p.pending.items; checked = p.checked.items; own = p.own.items } };
+
+    ghost invariant = { λ p. FitsPass (record { epoch = p.epoch; pending = p.pending.items; checked = p.checked.items; own = p.own.items }) };
+}
+
+// The unmarked link to a slot or to none.
+fn link_to(next: Option<u32>, holder_birth: u64, named_birth: u64) -> Link
+    requires next { IfSome next (λ slot. slot < MAX_SLOTS) }
+    requires holder { holder_birth ≤ MAX_EPOCH }
+    requires named { named_birth ≤ MAX_EPOCH }
+    ensures link { result ≡ link_to next holder_birth named_birth }
+    ensures fits { IsLink result }
+{
+    Link {
+        slot: next,
+        mark: false,
+        version: version_of(holder_birth, named_birth),
+    }
+}
+
+// The link once its node is removed.
+fn marked(link: Link) -> Link
+    requires { IsLink link }
+    ensures link { result ≡ marked link }
+    ensures fits { IsLink result }
+{
+    Link { mark: true, ..link }
+}
+
+impl PassState {
+    // A pass that has seen nothing, for so many slots.
+    pub fn new(alloc: Global, slots: u32) -> Result<Self, AllocError>
+        ensures knows { IfOk result (λ pass. know_of pass ≡ knows_nothing) }
+        ensures slots { IfOk result (λ pass. length pass.own ≡ slots) }
+    {
+        Ok(PassState {
+            epoch: 1,
+            pending: Vec::new(alloc),
+            checked: Vec::new(alloc),
+            own: vec![in alloc; None; slots as usize]?,
+        })
+    }
+
+    // The epoch that the pass read last.
+    pub fn epoch(&self) -> u64
+        ensures epoch { result ≡ self.now.epoch }
+        ensures fits { result ≤ MAX_EPOCH }
+    {
+        self.epoch
+    }
+
+    // What the pass knows of a slot.
+    fn holding(&self, slot: u32) -> Option<Holding>
+        requires { slot < length self.now.own }
+        ensures holding { result ≡ slice_index_or self.now.own slot None }
+        ensures fits { FitsHolding result }
+    {
+        self.own[slot as usize]
+    }
+
+    // The birth at a place, if it is checked; otherwise 0.
+    fn birth_at(&self, at: At) -> u64
+        ensures birth { result ≡ unwrap_or (birth_at self.now.checked at) 0 }
+        ensures fits { result ≤ MAX_EPOCH }
+    {
+        reads::birth_at(&self.checked, at).unwrap_or(0)
+    }
+
+    // The birth of what a link names, if it is checked; otherwise 0.
+    fn birth_of(&self, next: Option<u32>) -> u64
+        ensures birth { result ≡ unwrap_or (birth_of self.now.checked next) 0 }
+        ensures fits { result ≤ MAX_EPOCH }
+    {
+        reads::birth_of(&self.checked, next).unwrap_or(0)
+    }
+
+    // What the first marked link of a slot names, if one is checked.
+    fn next_of_marked(&self, slot: u32) -> Option<u32>
+        ensures next { result ≡ next_of_marked (marked_in self.now.checked slot) }
+        ensures fits { IfSome result (λ slot. slot < MAX_SLOTS) }
+    {
+        reads::next_of_marked(&self.checked, slot)
+    }
+
+    // Whether the pass owns the slot in the way that the step asks.
+    pub fn owns(&self, shape: &Shape, step: Step) -> bool
+        requires slots { length self.now.own ≡ shape.now.slots }
+        requires in_shape { IsInShape shape.now step }
+        ensures { IsTrue result ↔ IsOwned (know_of self.now) step }
+    {
+        match step {
+            Step::LoadStamp { slot } => self.holding(slot).is_some(),
+            Step::StoreStamp { slot, .. } => holdings::is_unlinked(self.holding(slot)),
+            Step::Raise { slot } => holdings::is_free(self.holding(slot)),
+            Step::StoreBirth { slot, .. } => holdings::may_bear(self.holding(slot)),
+            Step::StoreKey { slot, .. }
+            | Step::StoreLink { slot, .. }
+            | Step::Publish { slot, .. } => holdings::is_in_hand(self.holding(slot)),
+            _ => true,
+        }
+    }
+
+    // Whether the link that a node was read with and its key are checked.
+    fn holds_node(&self, slot: u32, expected: u64) -> bool
+        ensures { IsTrue result ↔ (IsTrue (knows_link self.now.checked (At.Slot slot) (link_of expected)) × IsSome (key_in self.now.checked slot)) }
+    {
+        reads::knows_link(&self.checked, At::Slot(slot), decode(expected))
+            && reads::key_in(&self.checked, slot).is_some()
+    }
+
+    // Whether the link that a place was read with, and the keys on both sides, are checked.
+    fn holds_gap(&self, at: At, expected: u64) -> bool
+        ensures { IsTrue result ↔ (IsTrue (knows_link self.now.checked at (link_of expected)) × KnowsKeyAt self.now.checked at × KnowsKeyOf self.now.checked (link_of expected).slot) }
+    {
+        let link = decode(expected);
+        reads::knows_link(&self.checked, at, link)
+            && reads::knows_key_at(&self.checked, at)
+            && reads::knows_key_of(&self.checked, link.slot)
+    }
+
+    // Whether the births on both sides of a link are checked.
+    fn holds_births(&self, at: At, next: Option<u32>) -> bool
+        ensures { IsTrue result ↔ (IsSome (birth_at self.now.checked at) × IsSome (birth_of self.now.checked next)) }
+    {
+        reads::birth_at(&self.checked, at).is_some()
+            && reads::birth_of(&self.checked, next).is_some()
+    }
+
+    // Whether the link that a place was read with, and a marked link of a slot, are checked.
+    fn holds_removed(&self, pred: At, expected: u64, slot: u32) -> bool
+        ensures { IsTrue result ↔ (IsTrue (knows_link self.now.checked pred (link_of expected)) × IsSome (marked_in self.now.checked slot)) }
+    {
+        reads::knows_link(&self.checked, pred, decode(expected))
+            && reads::marked_in(&self.checked, slot).is_some()
+    }
+
+    // Whether the reads that the step asks for are checked.
+    pub fn holds(&self, step: Step) -> bool
+        ensures { IsTrue result ↔ IsHeld (know_of self.now) step }
+    {
+        match step {
+            Step::StoreLink { next, .. } => reads::is_next_held(&self.checked, next),
+            Step::LoadLink { at } => reads::holds_at(&self.checked, at),
+            Step::LoadBirth { slot } | Step::LoadKey { slot } => reads::holds(&self.checked, slot),
+            Step::Publish { pred, expected, .. } => {
+                self.holds_gap(pred, expected) && self.holds_births(pred, decode(expected).slot)
+            }
+            Step::Mark { slot, expected } => self.holds_node(slot, expected),
+            Step::Unlink {
+                pred,
+                expected,
+                slot,
+            } => {
+                self.holds_removed(pred, expected, slot)
+                    && self.holds_births(pred, self.next_of_marked(slot))
+            }
+            Step::ConfirmPresent { slot, expected, .. } => self.holds_node(slot, expected),
+            Step::ConfirmAbsent { at, expected, .. } => self.holds_gap(at, expected),
+            _ => true,
+        }
+    }
+
+    // Whether a slot is in hand and ready to stand behind a place, before what the link there names.
+    fn is_ready(&self, shape: &Shape, pred: At, expected: Link, slot: u32) -> bool
+        requires { slot < length self.now.own }
+        ensures { IsTrue result ↔ IsReady shape.now self.now.checked pred expected (slice_index_or self.now.own slot None) }
+    {
+        match self.own[slot as usize] {
+            Some(Holding::InHand(_, birth, Some(key), Some(link))) => {
+                let named_birth = reads::birth_of(&self.checked, expected.slot).unwrap_or(0);
+                link.slot == expected.slot
+                    && !link.mark
+                    && link.version == version_of(birth, named_birth)
+                    && self.is_between(shape, pred, key, expected.slot)
+            }
+            _ => false,
+        }
+    }
+
+    // Whether a key stands behind a place and before what a link names.
+    fn is_between(&self, shape: &Shape, at: At, key: u64, next: Option<u32>) -> bool
+        ensures { IsTrue result ↔ (IsBehind shape.now self.now.checked at key × IsBefore self.now.checked key next) }
+    {
+        reads::is_behind(shape, &self.checked, at, key)
+            && reads::is_before(&self.checked, key, next)
+    }
+
+    // Whether the step's numbers are in range.
+    pub fn is_in_range(&self, shape: &Shape, step: Step) -> bool
+        requires slots { length self.now.own ≡ shape.now.slots }
+        requires in_shape { IsInShape shape.now step }
+        ensures { IsTrue result ↔ IsInRange shape.now (know_of self.now) step }
+    {
+        match step {
+            Step::Advance { from } => from >= 1,
+            Step::StoreStamp { slot, stamp } => {
+                holdings::is_reread(self.holding(slot)) && stamp == self.epoch
+            }
+            Step::StoreBirth { slot, birth } => {
+                birth == self.epoch && holdings::stamp_in(self.holding(slot)) < birth
+            }
+            Step::Publish {
+                pred,
+                expected,
+                slot,
+            } => {
+                let link = decode(expected);
+                !link.mark && self.is_ready(shape, pred, link, slot)
+            }
+            Step::Mark { expected, .. } => !decode(expected).mark,
+            Step::Unlink { expected, slot, .. } => {
+                let link = decode(expected);
+                !link.mark && link.slot == Some(slot)
+            }
+            Step::ConfirmPresent { op, expected, .. } => {
+                !decode(expected).mark && op != Op::Remove
+            }
+            Step::ConfirmAbsent {
+                op,
+                key,
+                at,
+                expected,
+            } => {
+                let link = decode(expected);
+                !link.mark && op != Op::Insert && self.is_between(shape, at, key, link.slot)
+            }
+            _ => true,
+        }
+    }
+
+    // The link that the step writes.
+    fn new_link(&self, shape: &Shape, step: Step) -> Link
+        requires slots { length self.now.own ≡ shape.now.slots }
+        requires accepted { Accepts shape.now (know_of self.now) step }
+        ensures link { result ≡ link_written (know_of self.now) step }
+        ensures fits { IsLink result }
+    {
+        prove!(shape.slots() <= MAX_SLOTS);
+        match step {
+            Step::StoreLink { slot, next } => {
+                let birth = holdings::birth_in_hand(self.holding(slot));
+                link_to(next, birth, self.birth_of(next))
+            }
+            Step::Publish { pred, slot, .. } => {
+                let birth = holdings::birth_in_hand(self.holding(slot));
+                link_to(Some(slot), self.birth_at(pred), birth)
+            }
+            Step::Mark { expected, .. } => marked(decode(expected)),
+            Step::Unlink { pred, slot, .. } => {
+                let next = self.next_of_marked(slot);
+                link_to(next, self.birth_at(pred), self.birth_of(next))
+            }
+            _ => holdings::opening_link(),
+        }
+    }
+
+    // The word of the link that the step writes.
+    pub fn link_written(&self, shape: &Shape, step: Step) -> u64
+        requires slots { length self.now.own ≡ shape.now.slots }
+        requires accepted { Accepts shape.now (know_of self.now) step }
+        ensures word { result ≡ word_of (link_written (know_of self.now) step) }
+        ensures fits { IsLink (link_written (know_of self.now) step) }
+    {
+        encode(self.new_link(shape, step))
+    }
+
+    // The key of a slot in hand; 0 where there is none.
+    pub fn key_in_hand(&self, slot: u32) -> u64
+        requires { slot < length self.now.own }
+        ensures { result ≡ key_in_hand ((know_of self.now).own slot) }
+    {
+        holdings::key_in_hand(self.holding(slot))
+    }
+
+    // The key of a node, if it is checked; otherwise 0.
+    fn key_in(&self, slot: u32) -> u64
+        ensures { result ≡ unwrap_or (key_in self.now.checked slot) 0 }
+    {
+        reads::key_in(&self.checked, slot).unwrap_or(0)
+    }
+
+    // The call of the step, if it makes one where it succeeds.
+    pub fn call(&self, who: u32, shape: &Shape, step: Step) -> Option<Call>
+        requires slots { length self.now.own ≡ shape.now.slots }
+        requires in_shape { IsInShape shape.now step }
+        ensures { result ≡ call_of who (know_of self.now) step }
+    {
+        let (op, key, reply) = match step {
+            Step::Publish { slot, .. } => (Op::Insert, self.key_in_hand(slot), true),
+            Step::Mark { slot, .. } => (Op::Remove, self.key_in(slot), true),
+            Step::ConfirmPresent { op, slot, .. } => (op, self.key_in(slot), op == Op::Has),
+            Step::ConfirmAbsent { op, key, .. } => (op, key, false),
+            _ => return None,
+        };
+        Some(Call {
+            who,
+            op,
+            key,
+            reply,
+        })
+    }
+}

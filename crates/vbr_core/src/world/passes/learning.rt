@@ -1,0 +1,315 @@
+// What a pass learns from its steps.
+ghost use Rattle.std.specs.Prelude.{◌≡◌, ◌<◌, ◌≤◌, ℕ, [], ◌++◌, length, slice_index_or, Some, None, OnOk, OnErr};
+ghost use Rattle.std.specs.List.{AllByRecursion};
+ghost use Rattle.vbr_words.specs.Words.{IsLink, link_of};
+ghost use Rattle.vbr_words.specs.declared.shape.TheConstants.{MAX_EPOCH};
+ghost use Rattle.vbr_core.specs.Acceptance.{Accepts, stamp_in, IsReady};
+ghost use Rattle.vbr_core.specs.Learning.{with_key, with_link, key_in_hand, link_in_hand, learn, with_own, with_checked, with_pending, reread, read_epoch};
+ghost use Rattle.vbr_core.specs.Kept.{know_of, FitsRead, FitsHolding};
+
+use crate::event::Step;
+use crate::knowledge::{Holding, Read};
+use crate::world::holdings;
+use crate::world::passes::PassState;
+use std::alloc::AllocError;
+use vbr_words::{At, Link, Shape, decode};
+
+impl PassState {
+    // What the pass knows of a slot is changed.
+    fn put(&mut self, slot: u32, holding: Option<Holding>)
+        requires slot { slot < length self.old.own }
+        requires fits { FitsHolding holding }
+        ensures knows { know_of self.new ≡ with_own (know_of self.old) slot holding }
+        ensures slots { length self.new.own ≡ length self.old.own }
+    {
+        self.own[slot as usize] = holding;
+    }
+
+    // One more read is pending.
+    fn add_pending(&mut self, read: Read) -> Result<(), AllocError>
+        requires { FitsRead read }
+        ensures knows { OnOk result (know_of self.new ≡ with_pending (know_of self.old) read) }
+        ensures slots { length self.new.own ≡ length self.old.own }
+        ensures err { OnErr result (self.new ≡ self.old) }
+    {
+        Ok(self.pending.push(read)?)
+    }
+
+    // More reads are checked.
+    fn add_checked(&mut self, reads: &[Read]) -> Result<(), AllocError>
+        requires { AllByRecursion FitsRead reads.now }
+        ensures knows { OnOk result (know_of self.new ≡ with_checked (know_of self.old) reads.now) }
+        ensures slots { length self.new.own ≡ length self.old.own }
+        ensures err { OnErr result (self.new ≡ self.old) }
+    {
+        self.checked.extend_from_slice(reads)
+    }
+
+    // The epoch hasn't moved: the pending reads are checked.
+    fn confirm(&mut self) -> Result<(), AllocError>
+        ensures knows { OnOk result (know_of self.new ≡ record (know_of self.old) { pending = []; checked = self.old.checked ++ self.old.pending }) }
+        ensures slots { length self.new.own ≡ length self.old.own }
+        ensures err { OnErr result (self.new ≡ self.old) }
+    {
+        self.checked.extend_from_slice(&self.pending)?;
+        self.pending.clear();
+        Ok(())
+    }
+
+    // The epoch has moved: nothing that was read counts any more.
+    fn forget(&mut self, epoch: u64)
+        requires { epoch ≤ MAX_EPOCH }
+        ensures knows { know_of self.new ≡ record (know_of self.old) { epoch = epoch; pending = []; checked = [] } }
+        ensures slots { length self.new.own ≡ length self.old.own }
+    {
+        self.epoch = epoch;
+        self.pending.clear();
+        self.checked.clear();
+    }
+
+    // An epoch is read: the slots that the pass unlinked may be stamped with it.
+    fn reread(&mut self)
+        ensures knows { know_of self.new ≡ record (know_of self.old) { own = λ s. reread ((know_of self.old).own s) } }
+        ensures slots { length self.new.own ≡ length self.old.own }
+    {
+        holdings::reread_all(&mut self.own);
+    }
+
+    // The pass has read this epoch.
+    fn read_epoch(&mut self, epoch: u64) -> Result<(), AllocError>
+        requires { epoch ≤ MAX_EPOCH }
+        ensures knows { OnOk result (know_of self.new ≡ read_epoch (know_of self.old) epoch) }
+        ensures slots { length self.new.own ≡ length self.old.own }
+        ensures err { OnErr result (self.new ≡ self.old) }
+    {
+        if epoch == self.epoch {
+            self.confirm()?;
+        } else {
+            self.forget(epoch);
+        }
+        self.reread();
+        Ok(())
+    }
+
+    // A link was loaded.
+    fn load_link(&mut self, at: At, word: u64) -> Result<(), AllocError>
+        ensures knows { OnOk result (know_of self.new ≡ with_pending (know_of self.old) (Read.LinkAt at (link_of word))) }
+        ensures slots { length self.new.own ≡ length self.old.own }
+        ensures err { OnErr result (self.new ≡ self.old) }
+    {
+        self.add_pending(Read::LinkAt(at, decode(word)))
+    }
+
+    // The birth of a slot was loaded.
+    fn load_birth(&mut self, slot: u32, birth: u64) -> Result<(), AllocError>
+        requires { birth ≤ MAX_EPOCH }
+        ensures knows { OnOk result (know_of self.new ≡ with_pending (know_of self.old) (Read.BirthOf slot birth)) }
+        ensures slots { length self.new.own ≡ length self.old.own }
+        ensures err { OnErr result (self.new ≡ self.old) }
+    {
+        self.add_pending(Read::BirthOf(slot, birth))
+    }
+
+    // The key of a slot was loaded.
+    fn load_key(&mut self, slot: u32, key: u64) -> Result<(), AllocError>
+        ensures knows { OnOk result (know_of self.new ≡ with_pending (know_of self.old) (Read.KeyOf slot key)) }
+        ensures slots { length self.new.own ≡ length self.old.own }
+        ensures err { OnErr result (self.new ≡ self.old) }
+    {
+        self.add_pending(Read::KeyOf(slot, key))
+    }
+
+    // The slot that the pass unlinked is stamped, and free.
+    fn store_stamp(&mut self, slot: u32, stamp: u64)
+        requires { slot < length self.old.own }
+        ensures knows { know_of self.new ≡ with_own (know_of self.old) slot (Some (Holding.Free stamp)) }
+        ensures slots { length self.new.own ≡ length self.old.own }
+    {
+        self.put(slot, Some(Holding::Free(stamp)));
+    }
+
+    // A slot is put back into the shared pool.
+    fn raise(&mut self, slot: u32)
+        requires { slot < length self.old.own }
+        ensures knows { know_of self.new ≡ with_own (know_of self.old) slot None }
+        ensures slots { length self.new.own ≡ length self.old.own }
+    {
+        self.put(slot, None);
+    }
+
+    // A slot was taken out of the shared pool, with its stamp.
+    fn take_flag(&mut self, slot: u32, stamp: u64)
+        requires { slot < length self.old.own }
+        ensures knows { know_of self.new ≡ with_own (know_of self.old) slot (Some (Holding.Free stamp)) }
+        ensures slots { length self.new.own ≡ length self.old.own }
+    {
+        self.put(slot, Some(Holding::Free(stamp)));
+    }
+
+    // A new incarnation is born in a slot: it is in hand.
+    fn bear(&mut self, slot: u32, birth: u64)
+        requires slot { slot < length self.old.own }
+        requires birth { birth ≡ self.old.epoch }
+        ensures knows { know_of self.new ≡ with_own (know_of self.old) slot (Some (Holding.InHand (stamp_in ((know_of self.old).own slot)) birth None None)) }
+        ensures slots { length self.new.own ≡ length self.old.own }
+    {
+        let stamp = holdings::stamp_in(self.own[slot as usize]);
+        self.put(slot, Some(Holding::InHand(stamp, birth, None, None)));
+    }
+
+    // The key of a slot in hand is stored.
+    fn store_key(&mut self, slot: u32, key: u64)
+        requires slot { slot < length self.old.own }
+        ensures knows { know_of self.new ≡ with_own (know_of self.old) slot (with_key ((know_of self.old).own slot) key) }
+        ensures slots { length self.new.own ≡ length self.old.own }
+    {
+        let holding = self.holding(slot);
+        self.put(slot, holdings::with_key(holding, key));
+    }
+
+    // The link of a slot in hand is stored.
+    fn store_link(&mut self, slot: u32, link: Link)
+        requires slot { slot < length self.old.own }
+        ensures knows { know_of self.new ≡ with_own (know_of self.old) slot (with_link ((know_of self.old).own slot) link) }
+        ensures slots { length self.new.own ≡ length self.old.own }
+    {
+        let holding = self.holding(slot);
+        self.put(slot, holdings::with_link(holding, link));
+    }
+
+    // The link of a slot in hand that is ready to be published.
+    fn link_in_hand(&self, shape: &Shape, pred: At, expected: u64, slot: u32) -> Link
+        requires slot { slot < length self.now.own }
+        requires ready { IsReady shape.now self.now.checked pred (link_of expected) (slice_index_or self.now.own slot None) }
+        ensures link { result ≡ link_in_hand (slice_index_or self.now.own slot None) }
+        ensures fits { IsLink result }
+    {
+        holdings::link_in_hand(self.own[slot as usize])
+    }
+
+    // The publication of a slot in hand has succeeded.
+    fn learn_publish(
+        &mut self,
+        shape: &Shape,
+        pred: At,
+        expected: u64,
+        slot: u32,
+    ) -> Result<(), AllocError>
+        requires slots { length self.old.own ≡ shape.now.slots }
+        requires accepted { Accepts shape.now (know_of self.old) (Step.Publish pred expected slot) }
+        ensures learned { OnOk result (know_of self.new ≡ learn (Step.Publish pred expected slot) expected 0 (know_of self.old)) }
+        ensures slots { length self.new.own ≡ length self.old.own }
+        ensures err { OnErr result (self.new ≡ self.old) }
+    {
+        let link = self.new_link(
+            shape,
+            Step::Publish {
+                pred,
+                expected,
+                slot,
+            },
+        );
+        let holding = self.holding(slot);
+        let link_in_hand = self.link_in_hand(shape, pred, expected, slot);
+        self.add_checked(&[
+            Read::LinkAt(pred, link),
+            Read::BirthOf(slot, holdings::birth_in_hand(holding)),
+            Read::KeyOf(slot, holdings::key_in_hand(holding)),
+            Read::LinkAt(At::Slot(slot), link_in_hand),
+        ])?;
+        self.put(slot, None);
+        Ok(())
+    }
+
+    // The removal of a node has succeeded.
+    fn learn_mark(&mut self, shape: &Shape, slot: u32, expected: u64) -> Result<(), AllocError>
+        requires slots { length self.old.own ≡ shape.now.slots }
+        requires accepted { Accepts shape.now (know_of self.old) (Step.Mark slot expected) }
+        ensures learned { OnOk result (know_of self.new ≡ learn (Step.Mark slot expected) expected 0 (know_of self.old)) }
+        ensures slots { length self.new.own ≡ length self.old.own }
+        ensures err { OnErr result (self.new ≡ self.old) }
+    {
+        let link = self.new_link(shape, Step::Mark { slot, expected });
+        self.add_checked(&[Read::LinkAt(At::Slot(slot), link)])
+    }
+
+    // The unlinking of a node has succeeded.
+    fn learn_unlink(
+        &mut self,
+        shape: &Shape,
+        pred: At,
+        expected: u64,
+        slot: u32,
+    ) -> Result<(), AllocError>
+        requires slots { length self.old.own ≡ shape.now.slots }
+        requires accepted { Accepts shape.now (know_of self.old) (Step.Unlink pred expected slot) }
+        ensures learned { OnOk result (know_of self.new ≡ learn (Step.Unlink pred expected slot) expected 0 (know_of self.old)) }
+        ensures slots { length self.new.own ≡ length self.old.own }
+        ensures err { OnErr result (self.new ≡ self.old) }
+    {
+        let link = self.new_link(
+            shape,
+            Step::Unlink {
+                pred,
+                expected,
+                slot,
+            },
+        );
+        self.add_checked(&[Read::LinkAt(pred, link)])?;
+        self.put(slot, Some(Holding::Unlinked(false)));
+        Ok(())
+    }
+
+    // Learns what the step teaches, from the word that it found and the stamp that was shown.
+    // Where memory is refused nothing is learned.
+    pub fn learn(
+        &mut self,
+        shape: &Shape,
+        step: Step,
+        found: u64,
+        stamp: u64,
+    ) -> Result<(), AllocError>
+        requires slots { length self.old.own ≡ shape.now.slots }
+        requires accepted { Accepts shape.now (know_of self.old) step }
+        requires epoch { step ≡ Step.ReadEpoch → found ≤ MAX_EPOCH }
+        requires birth { (s : ℕ) → step ≡ Step.LoadBirth s → found ≤ MAX_EPOCH }
+        ensures learned { OnOk result (know_of self.new ≡ learn step found stamp (know_of self.old)) }
+        ensures slots { length self.new.own ≡ length self.old.own }
+        ensures err { OnErr result (self.new ≡ self.old) }
+    {
+        match step {
+            Step::ReadEpoch => self.read_epoch(found)?,
+            Step::LoadLink { at } => self.load_link(at, found)?,
+            Step::LoadBirth { slot } => self.load_birth(slot, found)?,
+            Step::LoadKey { slot } => self.load_key(slot, found)?,
+            Step::StoreStamp { slot, stamp } => self.store_stamp(slot, stamp),
+            Step::Raise { slot } => self.raise(slot),
+            Step::TakeFlag { slot } if found == 1 => self.take_flag(slot, stamp),
+            Step::StoreBirth { slot, birth } => self.bear(slot, birth),
+            Step::StoreKey { slot, key } => self.store_key(slot, key),
+            Step::StoreLink { slot, .. } => {
+                let link = self.new_link(shape, step);
+                self.store_link(slot, link);
+            }
+            Step::Publish {
+                pred,
+                expected,
+                slot,
+            } if found == expected => {
+                self.learn_publish(shape, pred, expected, slot)?;
+            }
+            Step::Mark { slot, expected } if found == expected => {
+                self.learn_mark(shape, slot, expected)?;
+            }
+            Step::Unlink {
+                pred,
+                expected,
+                slot,
+            } if found == expected => {
+                self.learn_unlink(shape, pred, expected, slot)?;
+            }
+            _ => {}
+        }
+        Ok(())
+    }
+}

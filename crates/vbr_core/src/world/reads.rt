@@ -1,0 +1,171 @@
+// Looking through reads.
+ghost use Rattle.std.specs.Prelude.{◌≡◌, ◌↔◌, IsTrue};
+ghost use Rattle.vbr_core.specs.Knowledge.{knows_link, birth_in, key_in, marked_in, holds, holds_at, birth_at, birth_of};
+ghost use Rattle.vbr_core.specs.Acceptance.{IsNextHeld, KnowsKeyAt, KnowsKeyOf, IsBehind, IsBefore, next_of_marked};
+
+use crate::knowledge::Read;
+use vbr_words::{At, Link, Shape};
+
+// Whether a link is among the reads at a place.
+pub fn knows_link(reads: &[Read], at: At, link: Link) -> bool
+    ensures { result ≡ knows_link reads.now at link }
+{
+    for read in reads {
+        if let Read::LinkAt(here, found) = read {
+            if *here == at && *found == link {
+                return true;
+            }
+        }
+    }
+    false
+}
+
+// The first birth of a slot among the reads.
+pub fn birth_in(reads: &[Read], slot: u32) -> Option<u64>
+    ensures { result ≡ birth_in reads.now slot }
+{
+    for read in reads {
+        if let Read::BirthOf(of, birth) = read {
+            if *of == slot {
+                return Some(*birth);
+            }
+        }
+    }
+    None
+}
+
+// The first key of a slot among the reads.
+pub fn key_in(reads: &[Read], slot: u32) -> Option<u64>
+    ensures { result ≡ key_in reads.now slot }
+{
+    for read in reads {
+        if let Read::KeyOf(of, key) = read {
+            if *of == slot {
+                return Some(*key);
+            }
+        }
+    }
+    None
+}
+
+// The first marked link of a slot among the reads.
+pub fn marked_in(reads: &[Read], slot: u32) -> Option<Link>
+    ensures { result ≡ marked_in reads.now slot }
+{
+    for read in reads {
+        if let Read::LinkAt(at, link) = read {
+            if *at == At::Slot(slot) && link.mark {
+                return Some(*link);
+            }
+        }
+    }
+    None
+}
+
+// Whether a slot is held: a link among the reads names it.
+pub fn holds(reads: &[Read], slot: u32) -> bool
+    ensures { result ≡ holds reads.now slot }
+{
+    for read in reads {
+        if let Read::LinkAt(_, link) = read {
+            if link.slot == Some(slot) {
+                return true;
+            }
+        }
+    }
+    false
+}
+
+// Whether a place is held: a head always is.
+pub fn holds_at(reads: &[Read], at: At) -> bool
+    ensures { result ≡ holds_at reads.now at }
+{
+    match at {
+        At::Head(_) => true,
+        At::Slot(slot) => holds(reads, slot),
+    }
+}
+
+// The birth at a place, if it is known: 0 for a head.
+pub fn birth_at(reads: &[Read], at: At) -> Option<u64>
+    ensures { result ≡ birth_at reads.now at }
+{
+    match at {
+        At::Head(_) => Some(0),
+        At::Slot(slot) => birth_in(reads, slot),
+    }
+}
+
+// The birth of what a link names, if it is known: 0 for none.
+pub fn birth_of(reads: &[Read], next: Option<u32>) -> Option<u64>
+    ensures { result ≡ birth_of reads.now next }
+{
+    match next {
+        None => Some(0),
+        Some(slot) => birth_in(reads, slot),
+    }
+}
+
+// Whether what a link names, if anything, is held with a checked birth.
+pub fn is_next_held(reads: &[Read], next: Option<u32>) -> bool
+    ensures { IsTrue result ↔ IsNextHeld reads.now next }
+{
+    match next {
+        None => true,
+        Some(slot) => holds(reads, slot) && birth_in(reads, slot).is_some(),
+    }
+}
+
+// Whether the key at a place is among the reads, if the place is a slot.
+pub fn knows_key_at(reads: &[Read], at: At) -> bool
+    ensures { IsTrue result ↔ KnowsKeyAt reads.now at }
+{
+    match at {
+        At::Head(_) => true,
+        At::Slot(slot) => key_in(reads, slot).is_some(),
+    }
+}
+
+// Whether the key of what a link names is among the reads, if it names a slot.
+pub fn knows_key_of(reads: &[Read], next: Option<u32>) -> bool
+    ensures { IsTrue result ↔ KnowsKeyOf reads.now next }
+{
+    match next {
+        None => true,
+        Some(slot) => key_in(reads, slot).is_some(),
+    }
+}
+
+// The slot that the first marked link of a slot names, if one is among the reads.
+pub fn next_of_marked(reads: &[Read], slot: u32) -> Option<u32>
+    ensures { result ≡ next_of_marked (marked_in reads.now slot) }
+{
+    match marked_in(reads, slot) {
+        None => None,
+        Some(link) => link.slot,
+    }
+}
+
+// Whether the key stands behind a place: in its bucket, and above its key if it is a slot.
+#[tactic(auto, unfolding(crate::specs::Acceptance::bucket_of))]
+pub fn is_behind(shape: &Shape, reads: &[Read], at: At, key: u64) -> bool
+    ensures { IsTrue result ↔ IsBehind shape.now reads.now at key }
+{
+    match at {
+        At::Head(bucket) => shape.bucket_of(key) == bucket,
+        At::Slot(slot) => {
+            let before = key_in(reads, slot).unwrap_or(0);
+            shape.bucket_of(key) == shape.bucket_of(before) && before < key
+        }
+    }
+}
+
+// Whether the key stands before what a link names, if it names a slot.
+pub fn is_before(reads: &[Read], key: u64, next: Option<u32>) -> bool
+    ensures { IsTrue result ↔ IsBefore reads.now key next }
+{
+    match next {
+        None => true,
+        Some(slot) => key < key_in(reads, slot).unwrap_or(0),
+    }
+}

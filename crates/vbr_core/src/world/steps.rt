@@ -1,0 +1,159 @@
+// What can be told of a step alone, and of the word that it found.
+ghost use Rattle.std.specs.Prelude.{◌≡◌, ◌↔◌, IsTrue};
+ghost use Rattle.vbr_words.specs.Places as places;
+ghost use Rattle.vbr_core.specs.Acceptance.{IsAtIn, IsNextIn, IsInShape, IsBelowLast};
+ghost use Rattle.vbr_core.specs.Learning.{exchanged, confirmed, present_reply, effect_of};
+ghost use Rattle.vbr_core.specs.Machine.{place_of};
+ghost use Rattle.vbr_core.specs.Making.{succeeds};
+
+use crate::event::{Effect, Step};
+use crate::history::Op;
+use vbr_words::{At, Place, Shape};
+
+// Whether a place of a link word is one of the shape.
+fn is_at_in(shape: &Shape, at: At) -> bool
+    ensures { IsTrue result ↔ IsAtIn shape.now at }
+{
+    match at {
+        At::Head(bucket) => bucket < shape.buckets(),
+        At::Slot(slot) => slot < shape.slots(),
+    }
+}
+
+// Whether what a link names, if anything, is a slot of the shape.
+fn is_next_in(shape: &Shape, next: Option<u32>) -> bool
+    ensures { IsTrue result ↔ IsNextIn shape.now next }
+{
+    match next {
+        None => true,
+        Some(slot) => slot < shape.slots(),
+    }
+}
+
+// Whether the slots and places that the step's fields name are those of the shape.
+pub fn is_in_shape(shape: &Shape, step: Step) -> bool
+    ensures { IsTrue result ↔ IsInShape shape.now step }
+{
+    match step {
+        Step::ReadEpoch | Step::Advance { .. } => true,
+        Step::LoadStamp { slot } => slot < shape.slots(),
+        Step::StoreStamp { slot, .. } => slot < shape.slots(),
+        Step::Raise { slot } => slot < shape.slots(),
+        Step::TakeFlag { slot } => slot < shape.slots(),
+        Step::StoreBirth { slot, .. } => slot < shape.slots(),
+        Step::StoreKey { slot, .. } => slot < shape.slots(),
+        Step::StoreLink { slot, next } => slot < shape.slots() && is_next_in(shape, next),
+        Step::LoadLink { at } => is_at_in(shape, at),
+        Step::LoadBirth { slot } => slot < shape.slots(),
+        Step::LoadKey { slot } => slot < shape.slots(),
+        Step::Publish { pred, slot, .. } => is_at_in(shape, pred) && slot < shape.slots(),
+        Step::Mark { slot, .. } => slot < shape.slots(),
+        Step::Unlink { pred, slot, .. } => is_at_in(shape, pred) && slot < shape.slots(),
+        Step::ConfirmPresent { slot, .. } => slot < shape.slots(),
+        Step::ConfirmAbsent { at, .. } => is_at_in(shape, at),
+    }
+}
+
+// Whether the epoch that the step would raise is below the last.
+pub fn is_below_last(shape: &Shape, step: Step) -> bool
+    ensures { IsTrue result ↔ IsBelowLast shape.now step }
+{
+    match step {
+        Step::Advance { from } => from < shape.last_epoch(),
+        _ => true,
+    }
+}
+
+// The place of a link word.
+fn place_of_at(at: At) -> Place
+    ensures { result ≡ places.place_of at }
+{
+    match at {
+        At::Head(bucket) => Place::Head(bucket),
+        At::Slot(slot) => Place::LinkOf(slot),
+    }
+}
+
+// The place of the one word that a step loads, stores or exchanges.
+pub fn place_of(step: Step) -> Place
+    ensures { result ≡ place_of step }
+{
+    match step {
+        Step::ReadEpoch | Step::Advance { .. } => Place::Epoch,
+        Step::LoadStamp { slot } | Step::StoreStamp { slot, .. } => Place::Stamp(slot),
+        Step::Raise { slot } | Step::TakeFlag { slot } => Place::Flag(slot),
+        Step::StoreBirth { slot, .. } | Step::LoadBirth { slot } => Place::Birth(slot),
+        Step::StoreKey { slot, .. } | Step::LoadKey { slot } => Place::Key(slot),
+        Step::StoreLink { slot, .. } | Step::Mark { slot, .. } => Place::LinkOf(slot),
+        Step::ConfirmPresent { slot, .. } => Place::LinkOf(slot),
+        Step::LoadLink { at } | Step::ConfirmAbsent { at, .. } => place_of_at(at),
+        Step::Publish { pred, .. } | Step::Unlink { pred, .. } => place_of_at(pred),
+    }
+}
+
+// Whether a step succeeds that found this word.
+pub fn succeeds(step: Step, found: u64) -> bool
+    ensures { result ≡ succeeds step found }
+{
+    match step {
+        Step::Advance { from } => found == from,
+        Step::TakeFlag { .. } => found == 1,
+        Step::Publish { expected, .. } => found == expected,
+        Step::Mark { expected, .. } => found == expected,
+        Step::Unlink { expected, .. } => found == expected,
+        Step::ConfirmPresent { expected, .. } => found == expected,
+        Step::ConfirmAbsent { expected, .. } => found == expected,
+        _ => true,
+    }
+}
+
+// The answer of an exchange.
+fn exchanged(expected: u64, found: u64) -> Effect
+    ensures { result ≡ exchanged expected found }
+{
+    if found == expected {
+        Effect::Won
+    } else {
+        Effect::Lost(found)
+    }
+}
+
+// The answer of a confirming load.
+fn confirmed(reply: bool, expected: u64, found: u64) -> Effect
+    ensures { result ≡ confirmed reply expected found }
+{
+    if found == expected {
+        Effect::Answered(reply)
+    } else {
+        Effect::Lost(found)
+    }
+}
+
+// The reply that the presence of the key gives to an operation.
+fn present_reply(op: Op) -> bool
+    ensures { result ≡ present_reply op }
+{
+    match op {
+        Op::Has => true,
+        Op::Insert | Op::Remove => false,
+    }
+}
+
+// The effect of a step, from the word that its load or exchange found.
+pub fn effect_of(step: Step, found: u64) -> Effect
+    ensures { result ≡ effect_of step found }
+{
+    match step {
+        Step::Advance { from } => exchanged(from, found),
+        Step::StoreStamp { .. } | Step::Raise { .. } | Step::StoreBirth { .. } => Effect::Done,
+        Step::StoreKey { .. } | Step::StoreLink { .. } => Effect::Done,
+        Step::TakeFlag { .. } => exchanged(1, found),
+        Step::Publish { expected, .. } => exchanged(expected, found),
+        Step::Mark { expected, .. } => exchanged(expected, found),
+        Step::Unlink { expected, .. } => exchanged(expected, found),
+        Step::ConfirmPresent { op, expected, .. } => confirmed(present_reply(op), expected, found),
+        Step::ConfirmAbsent { expected, .. } => confirmed(false, expected, found),
+        Step::ReadEpoch | Step::LoadStamp { .. } | Step::LoadLink { .. } => Effect::Value(found),
+        Step::LoadBirth { .. } | Step::LoadKey { .. } => Effect::Value(found),
+    }
+}

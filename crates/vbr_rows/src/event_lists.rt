@@ -1,0 +1,318 @@
+//! Worked lists of events, each with its effect.
+use vbr_core::{Effect, Step};
+use vbr_words::At;
+
+/// An event and the effect that it has.
+pub type Row = (u32, Step, Effect);
+
+/// A slot is unlinked, retired and born again while pass 1 stands in it, whose exchange is then lost.
+pub const REBORN_SLOT: [Row; 44] = [
+    (0, Step::ReadEpoch, Effect::Value(1)),
+    (0, Step::TakeFlag { slot: 0 }, Effect::Won),
+    (0, Step::LoadStamp { slot: 0 }, Effect::Value(0)),
+    (0, Step::StoreBirth { slot: 0, birth: 1 }, Effect::Done),
+    (0, Step::StoreKey { slot: 0, key: 30 }, Effect::Done),
+    (0, Step::LoadLink { at: At::Head(0) }, Effect::Value(0)),
+    (0, Step::ReadEpoch, Effect::Value(1)),
+    (
+        0,
+        Step::StoreLink {
+            slot: 0,
+            next: None,
+        },
+        Effect::Done,
+    ),
+    (
+        0,
+        Step::Publish {
+            pred: At::Head(0),
+            expected: 0,
+            slot: 0,
+        },
+        Effect::Won,
+    ),
+    (0, Step::TakeFlag { slot: 1 }, Effect::Won),
+    (0, Step::StoreBirth { slot: 1, birth: 1 }, Effect::Done),
+    (0, Step::StoreKey { slot: 1, key: 20 }, Effect::Done),
+    (
+        0,
+        Step::StoreLink {
+            slot: 1,
+            next: Some(0),
+        },
+        Effect::Done,
+    ),
+    (
+        0,
+        Step::Publish {
+            pred: At::Head(0),
+            expected: 2_097_153,
+            slot: 1,
+        },
+        Effect::Won,
+    ),
+    (1, Step::ReadEpoch, Effect::Value(1)),
+    (
+        1,
+        Step::LoadLink { at: At::Head(0) },
+        Effect::Value(2_097_154),
+    ),
+    (1, Step::ReadEpoch, Effect::Value(1)),
+    (1, Step::LoadKey { slot: 1 }, Effect::Value(20)),
+    (1, Step::LoadBirth { slot: 1 }, Effect::Value(1)),
+    (
+        1,
+        Step::LoadLink { at: At::Slot(1) },
+        Effect::Value(2_097_153),
+    ),
+    (1, Step::ReadEpoch, Effect::Value(1)),
+    (1, Step::LoadKey { slot: 0 }, Effect::Value(30)),
+    (1, Step::LoadBirth { slot: 0 }, Effect::Value(1)),
+    (1, Step::ReadEpoch, Effect::Value(1)),
+    (1, Step::TakeFlag { slot: 2 }, Effect::Won),
+    (1, Step::StoreBirth { slot: 2, birth: 1 }, Effect::Done),
+    (1, Step::StoreKey { slot: 2, key: 25 }, Effect::Done),
+    (
+        1,
+        Step::StoreLink {
+            slot: 2,
+            next: Some(0),
+        },
+        Effect::Done,
+    ),
+    (
+        0,
+        Step::Mark {
+            slot: 1,
+            expected: 2_097_153,
+        },
+        Effect::Won,
+    ),
+    (
+        0,
+        Step::Unlink {
+            pred: At::Head(0),
+            expected: 2_097_154,
+            slot: 1,
+        },
+        Effect::Won,
+    ),
+    (0, Step::ReadEpoch, Effect::Value(1)),
+    (0, Step::StoreStamp { slot: 1, stamp: 1 }, Effect::Done),
+    (0, Step::Advance { from: 1 }, Effect::Won),
+    (0, Step::ReadEpoch, Effect::Value(2)),
+    (0, Step::StoreBirth { slot: 1, birth: 2 }, Effect::Done),
+    (0, Step::StoreKey { slot: 1, key: 10 }, Effect::Done),
+    (
+        0,
+        Step::LoadLink { at: At::Head(0) },
+        Effect::Value(2_097_153),
+    ),
+    (0, Step::ReadEpoch, Effect::Value(2)),
+    (0, Step::LoadKey { slot: 0 }, Effect::Value(30)),
+    (0, Step::LoadBirth { slot: 0 }, Effect::Value(1)),
+    (0, Step::ReadEpoch, Effect::Value(2)),
+    (
+        0,
+        Step::StoreLink {
+            slot: 1,
+            next: Some(0),
+        },
+        Effect::Done,
+    ),
+    (
+        0,
+        Step::Publish {
+            pred: At::Head(0),
+            expected: 2_097_153,
+            slot: 1,
+        },
+        Effect::Won,
+    ),
+    (
+        1,
+        Step::Publish {
+            pred: At::Slot(1),
+            expected: 2_097_153,
+            slot: 2,
+        },
+        Effect::Lost(4_194_305),
+    ),
+];
+
+/// A head shows a word, another, and the first again, for the same nodes; the exchange on it is won.
+pub const SAME_WORD: [Row; 37] = [
+    (0, Step::ReadEpoch, Effect::Value(1)),
+    (0, Step::Advance { from: 1 }, Effect::Won),
+    (0, Step::ReadEpoch, Effect::Value(2)),
+    (0, Step::TakeFlag { slot: 0 }, Effect::Won),
+    (0, Step::StoreBirth { slot: 0, birth: 2 }, Effect::Done),
+    (0, Step::StoreKey { slot: 0, key: 30 }, Effect::Done),
+    (0, Step::LoadLink { at: At::Head(0) }, Effect::Value(0)),
+    (0, Step::ReadEpoch, Effect::Value(2)),
+    (
+        0,
+        Step::StoreLink {
+            slot: 0,
+            next: None,
+        },
+        Effect::Done,
+    ),
+    (
+        0,
+        Step::Publish {
+            pred: At::Head(0),
+            expected: 0,
+            slot: 0,
+        },
+        Effect::Won,
+    ),
+    (1, Step::ReadEpoch, Effect::Value(2)),
+    (
+        1,
+        Step::LoadLink { at: At::Head(0) },
+        Effect::Value(4_194_305),
+    ),
+    (1, Step::ReadEpoch, Effect::Value(2)),
+    (1, Step::LoadKey { slot: 0 }, Effect::Value(30)),
+    (1, Step::LoadBirth { slot: 0 }, Effect::Value(2)),
+    (1, Step::ReadEpoch, Effect::Value(2)),
+    (1, Step::TakeFlag { slot: 1 }, Effect::Won),
+    (1, Step::StoreBirth { slot: 1, birth: 2 }, Effect::Done),
+    (1, Step::StoreKey { slot: 1, key: 20 }, Effect::Done),
+    (
+        1,
+        Step::StoreLink {
+            slot: 1,
+            next: Some(0),
+        },
+        Effect::Done,
+    ),
+    (0, Step::Advance { from: 2 }, Effect::Won),
+    (0, Step::Advance { from: 3 }, Effect::Won),
+    (0, Step::Advance { from: 4 }, Effect::Won),
+    (0, Step::ReadEpoch, Effect::Value(5)),
+    (0, Step::TakeFlag { slot: 2 }, Effect::Won),
+    (0, Step::StoreBirth { slot: 2, birth: 5 }, Effect::Done),
+    (0, Step::StoreKey { slot: 2, key: 10 }, Effect::Done),
+    (
+        0,
+        Step::LoadLink { at: At::Head(0) },
+        Effect::Value(4_194_305),
+    ),
+    (0, Step::ReadEpoch, Effect::Value(5)),
+    (0, Step::LoadKey { slot: 0 }, Effect::Value(30)),
+    (0, Step::LoadBirth { slot: 0 }, Effect::Value(2)),
+    (0, Step::ReadEpoch, Effect::Value(5)),
+    (
+        0,
+        Step::StoreLink {
+            slot: 2,
+            next: Some(0),
+        },
+        Effect::Done,
+    ),
+    (
+        0,
+        Step::Publish {
+            pred: At::Head(0),
+            expected: 4_194_305,
+            slot: 2,
+        },
+        Effect::Won,
+    ),
+    (
+        0,
+        Step::Mark {
+            slot: 2,
+            expected: 10_485_761,
+        },
+        Effect::Won,
+    ),
+    (
+        0,
+        Step::Unlink {
+            pred: At::Head(0),
+            expected: 10_485_763,
+            slot: 2,
+        },
+        Effect::Won,
+    ),
+    (
+        1,
+        Step::Publish {
+            pred: At::Head(0),
+            expected: 4_194_305,
+            slot: 1,
+        },
+        Effect::Won,
+    ),
+];
+
+/// Two passes unlink one node, and one of them wins.
+pub const TWO_HELPERS: [Row; 18] = [
+    (0, Step::ReadEpoch, Effect::Value(1)),
+    (0, Step::TakeFlag { slot: 0 }, Effect::Won),
+    (0, Step::StoreBirth { slot: 0, birth: 1 }, Effect::Done),
+    (0, Step::StoreKey { slot: 0, key: 7 }, Effect::Done),
+    (0, Step::LoadLink { at: At::Head(0) }, Effect::Value(0)),
+    (0, Step::ReadEpoch, Effect::Value(1)),
+    (
+        0,
+        Step::StoreLink {
+            slot: 0,
+            next: None,
+        },
+        Effect::Done,
+    ),
+    (
+        0,
+        Step::Publish {
+            pred: At::Head(0),
+            expected: 0,
+            slot: 0,
+        },
+        Effect::Won,
+    ),
+    (1, Step::ReadEpoch, Effect::Value(1)),
+    (
+        1,
+        Step::LoadLink { at: At::Head(0) },
+        Effect::Value(2_097_153),
+    ),
+    (1, Step::ReadEpoch, Effect::Value(1)),
+    (
+        0,
+        Step::Mark {
+            slot: 0,
+            expected: 2_097_152,
+        },
+        Effect::Won,
+    ),
+    (1, Step::LoadKey { slot: 0 }, Effect::Value(7)),
+    (1, Step::LoadBirth { slot: 0 }, Effect::Value(1)),
+    (
+        1,
+        Step::LoadLink { at: At::Slot(0) },
+        Effect::Value(3_145_728),
+    ),
+    (1, Step::ReadEpoch, Effect::Value(1)),
+    (
+        1,
+        Step::Unlink {
+            pred: At::Head(0),
+            expected: 2_097_153,
+            slot: 0,
+        },
+        Effect::Won,
+    ),
+    (
+        0,
+        Step::Unlink {
+            pred: At::Head(0),
+            expected: 2_097_153,
+            slot: 0,
+        },
+        Effect::Lost(0),
+    ),
+];
