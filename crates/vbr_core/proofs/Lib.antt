@@ -1,6 +1,6 @@
 pub mod Histories
 mod PlainSets
-mod Puts
+pub mod Puts
 mod Slots
 mod SlotsAfter
 mod Lists
@@ -10,9 +10,45 @@ mod UnlinkedLists
 mod SoundAfter
 mod ToldCalls
 mod Growth
+mod HeldReads
+mod Noted
+mod OwnSlots
+mod Shown
+mod Steps
+mod Lookups
+mod EpochSteps
+mod OwnerSteps
+mod BirthSteps
+mod LoadSteps
+mod Meetings
+pub mod ConfirmSteps
+mod MarkSteps
+mod Exchanges
+mod PublishSteps
+mod PublishedNotes
+mod Publishing
+mod UnlinkSteps
+mod Unlinking
+pub mod EveryRun
+pub mod RunsGoOn
+pub mod WordsAfter
+pub mod OwnedSlots
+mod HeldSlots
+mod RightReads
+mod RightExchanges
+pub mod SafeRuns
+mod FoundReads
+pub mod KnownReads
+pub mod KnownAcceptance
+pub mod HeldBuckets
+pub mod AtLoads
+pub mod MarkedChains
+pub mod RunForms
+mod ReachedWorlds
 mod WorkedLists
 mod WorkedChronicles
 mod WorkedRefusals
+mod WorkedSafety
 mod KeptLists
 pub mod KeptPasses
 mod KeptWorlds

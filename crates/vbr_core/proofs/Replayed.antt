@@ -1,30 +1,21 @@
 -- One more event of a run.
-use Rattle.std.proofs.Common.{◌≡◌, ℕ, ◌+◌, ◌<◌, List, [], ◌∷◌, ◌++◌, length, take, get_or, inr, refl, sym, subst, ◌∙◌}
+use Rattle.std.proofs.Common.{◌≡◌, ℕ, ◌+◌, ◌<◌, List, length, take, get_or, inr, sym, subst, ◌∙◌}
 use Rattle.std.proofs.lemmas.List.{take_more}
 use Rattle.std.proofs.lemmas.Option.{slice_get-get_or}
 use Rattle.vbr_words.specs.Dimensions.{Dimensions}
-use Rattle.vbr_core.specs.Machine.{World, opening, after}
-use Rattle.vbr_core.specs.Runs.{IsAccepted, Refuses, world_from, AreAccepted, IsRun, world_after, StopsAt}
+use Rattle.vbr_core.specs.Machine.{World, after}
+use Rattle.vbr_core.specs.Runs.{IsAccepted, Refuses, IsRun, world_after, StopsAt}
 use Rattle.vbr_core.specs.declared.event.Event.{Event}
 use Rattle.vbr_core.specs.declared.event.CoreRefusal.{CoreRefusal}
-
--- the world after one more event
-world_from-push : (shape : Dimensions) (w : World) (events : List Event) (event : Event) → world_from shape w (events ++ event ∷ []) ≡ after shape (world_from shape w events) event.pass event.step
-world_from-push shape w [] event = refl
-world_from-push shape w (first ∷ events) event = world_from-push shape (after shape w first.pass first.step) events event
-
--- one more event is accepted
-AreAccepted-push : (shape : Dimensions) (passes : ℕ) (w : World) (events : List Event) (event : Event) → AreAccepted shape passes w events → IsAccepted shape passes (world_from shape w events) event → AreAccepted shape passes w (events ++ event ∷ [])
-AreAccepted-push shape passes w [] event all here = (here, tt)
-AreAccepted-push shape passes w (first ∷ events) event all here = (all.0, AreAccepted-push shape passes (after shape w first.pass first.step) events event all.1 here)
+use Rattle.vbr_core.proofs.RunsGoOn.{world_after-snoc, is_run_snoc}
 
 -- one more accepted event of a run
 pub run_push : (shape same : Dimensions) (passes count : ℕ) (events : List Event) (i : ℕ) (d : Event) (w next : World) → same ≡ shape → count ≡ passes → w ≡ world_after shape (take i events) → i < length events → IsRun shape passes (take i events) → IsAccepted same count w (get_or events i d) → next ≡ after same w (get_or events i d).pass (get_or events i d).step → IsRun shape passes (take (i + 1) events) × (next ≡ world_after shape (take (i + 1) events))
 run_push shape same passes count events i d w next same_is count_is w_is lt run accepted next_is =
     let here : IsAccepted shape passes (world_after shape (take i events)) (get_or events i d) = subst (λ (at : Dimensions × ℕ × World). IsAccepted at.0 at.1 at.2 (get_or events i d)) (λ k. (same_is k, count_is k, w_is k)) accepted in
     rw (take_more events i d lt) (
-      AreAccepted-push shape passes opening (take i events) (get_or events i d) run here,
-      next_is ∙ (λ k. after (same_is k) (w_is k) (get_or events i d).pass (get_or events i d).step) ∙ sym (world_from-push shape opening (take i events) (get_or events i d)),
+      is_run_snoc shape passes (take i events) (get_or events i d) run here,
+      next_is ∙ (λ k. after (same_is k) (w_is k) (get_or events i d).pass (get_or events i d).step) ∙ sym (world_after-snoc shape (take i events) (get_or events i d)),
     )
 
 -- the first event that is refused

@@ -122,6 +122,12 @@ access_of know (Mark s expected) = Exchange expected (word_of (link_written know
 access_of know (Unlink pred expected s) = Exchange expected (word_of (link_written know (Unlink pred expected s)))
 access_of know _ = Load
 
+-- the word that an operation leaves where it found this one
+abbrev pub word_made : Access → ℕ → ℕ
+word_made Load found = found
+word_made (Store new) found = new
+word_made (Exchange expected new) found = if found == expected then new else found
+
 -- ---- what a step does
 
 -- one more birth, counted up to the greatest number

@@ -1,4 +1,4 @@
--- How a program makes a step: first its pass learns and its call is kept, and then the words are written. Only contracts of private functions cite this.
+-- How a program makes a step: first its pass learns and its call is kept, and then the words are written. Only contracts of private functions cite this, but for `succeeds` and `call_made`.
 use Rattle.std.specs.Prelude.{ℕ, ◌+◌, ◌<◌, ◌≤◌, ◌==◌, Bool, true, Option, None, if◌then◌else◌}
 use Rattle.vbr_words.specs.Dimensions.{Dimensions}
 use Rattle.vbr_words.specs.declared.link.Link.{Link}

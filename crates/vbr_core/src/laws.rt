@@ -1,11 +1,29 @@
 //! The laws of chronicles and runs, in the order of the argument. Each function says its law in
 //! its contract, and does nothing.
-ghost use Rattle.std.specs.Prelude.{ℕ, ◌≡◌, ◌≤◌, List, Some};
-ghost use Rattle.vbr_words.specs.Dimensions.{Dimensions};
+ghost use Rattle.std.specs.Prelude.{ℕ, ◌≡◌, ◌≤◌, ◌↔◌, true, false, List, ◌++◌, Option, Some};
+ghost use Rattle.vbr_words.specs.Dimensions.{Dimensions, IsShape};
+ghost use Rattle.vbr_words.specs.declared.link.Link.{Link};
+ghost use Rattle.vbr_words.specs.declared.place.At.{At};
+ghost use Rattle.vbr_words.specs.declared.place.At.TheVariants.{Slot};
 ghost use Rattle.vbr_core.specs.Keys.{Keys, no_keys};
+ghost use Rattle.vbr_core.specs.History.{set_after};
+ghost use Rattle.vbr_core.specs.Acceptance.{Accepts, bucket_of};
+ghost use Rattle.vbr_core.specs.Machine.{found};
+ghost use Rattle.vbr_core.specs.Machine as machine;
+ghost use Rattle.vbr_core.specs.Membership.{Knows, HeldIn, LeadsTo, KeyAt, StandsBehind, StandsBefore, AcceptsKnown};
+ghost use Rattle.vbr_core.specs.Moments.{WasShown};
 ghost use Rattle.vbr_core.specs.Incarnations.{Incarnations, IsLate, nothing_yet};
 ghost use Rattle.vbr_core.specs.Chronicles.{Entry, IsLawful, incarnations_from};
 ghost use Rattle.vbr_core.specs.Sound.{Grows, Sound, Tells};
+ghost use Rattle.vbr_core.specs.Images.{link_at};
+ghost use Rattle.vbr_core.specs.Agreement.{IsGoodLink, IsLastOf, IsPair};
+ghost use Rattle.vbr_core.specs.Runs.{IsAccepted, IsRun, NoneOf, know_after, world_after};
+ghost use Rattle.vbr_core.specs.Safety.{IsSafe};
+ghost use Rattle.vbr_core.specs.declared.event.Event.{Event};
+ghost use Rattle.vbr_core.specs.declared.event.Step.{Step};
+ghost use Rattle.vbr_core.specs.declared.event.Step.TheVariants.{ConfirmPresent, ConfirmAbsent};
+ghost use Rattle.vbr_core.specs.declared.history.Op.{Op};
+ghost use Rattle.vbr_core.specs.declared.knowledge.Read.TheVariants.{LinkAt, KeyOf};
 
 /// A law: a lawful chronicle is sound.
 pub fn lawful_is_sound()
@@ -42,4 +60,76 @@ pub fn unmoved_is_last()
 pub fn late_is_handed_on()
     ensures { (shape : Dimensions) (a : Incarnations) (c n e : ℕ) → Sound shape a → a.next c ≡ Some n →
         IsLate (a.state c) e → IsLate (a.state n) e }
+{}
+
+/// A law: a checked unmarked link that stands at its place again stands for the two incarnations
+/// that it was checked with: each is still the last of its slot, the first is linked, and the
+/// second is its successor.
+pub fn same_link_same_pair()
+    ensures { (shape : Dimensions) (a : Incarnations) (epoch : ℕ) (at : At) (link : Link) (of names : Option ℕ) → Sound shape a →
+        IsGoodLink a epoch at link of names → link.mark ≡ false → link_at a at ≡ link → IsPair a at of names × IsLastOf a names }
+{}
+
+/// A law: every run is safe.
+pub fn every_run_is_safe()
+    ensures { (shape : Dimensions) (passes : ℕ) (run : List Event) → IsShape shape → IsRun shape passes run → IsSafe shape run }
+{}
+
+/// A law: the events of others leave what a pass knows as it was, so a step that the pass may make
+/// stays accepted.
+pub fn others_leave_it_accepted()
+    ensures { (shape : Dimensions) (passes : ℕ) (seen rest : List Event) (pass : ℕ) (step : Step) → NoneOf pass rest →
+        (know_after shape (seen ++ rest) pass ≡ know_after shape seen pass)
+        × (IsAccepted shape passes (world_after shape seen) (record { pass = pass; step = step }) →
+        IsAccepted shape passes (world_after shape (seen ++ rest)) (record { pass = pass; step = step })) }
+{}
+
+/// A law: after a run, acceptance may be told by any reads that a pass knows, and not only by those
+/// that a look-up finds first.
+pub fn known_reads_agree()
+    ensures { (shape : Dimensions) (passes : ℕ) (run : List Event) (pass : ℕ) (step : Step) → IsShape shape → IsRun shape passes run →
+        AcceptsKnown shape (know_after shape run pass) step ↔ Accepts shape (know_after shape run pass) step }
+{}
+
+/// A law: a key that a pass knows of a slot that it holds in a bucket is one of the bucket.
+pub fn held_in_bucket()
+    ensures { (shape : Dimensions) (passes : ℕ) (run : List Event) (pass s bucket key : ℕ) → IsShape shape → IsRun shape passes run →
+        HeldIn (know_after shape run pass) (Slot s) bucket → Knows (know_after shape run pass) (KeyOf s key) → bucket_of shape key ≡ bucket }
+{}
+
+/// A law: let an unmarked link that a pass knows have been shown at its place at an earlier moment,
+/// when the pass held the place, in the epoch that it still has. Then a key that it knows of the
+/// place was in the set at that moment.
+pub fn present_at_load()
+    ensures { (shape : Dimensions) (passes : ℕ) (moment run : List Event) (pass : ℕ) (at : At) (link : Link) (key : ℕ) → IsShape shape → IsRun shape passes run →
+        WasShown shape moment run pass at link → KeyAt (know_after shape run pass) at key →
+        set_after no_keys (world_after shape moment).calls key ≡ true }
+{}
+
+/// A law: in the same case, a key that stands behind the place, and before what the link names,
+/// wasn't in the set at that moment.
+pub fn absent_at_load()
+    ensures { (shape : Dimensions) (passes : ℕ) (moment run : List Event) (pass : ℕ) (at : At) (link : Link) (key : ℕ) → IsShape shape → IsRun shape passes run →
+        WasShown shape moment run pass at link → StandsBehind shape (know_after shape run pass) at key → StandsBefore (know_after shape run pass) key link.slot →
+        set_after no_keys (world_after shape moment).calls key ≡ false }
+{}
+
+/// A law: where a confirming load finds the word that it expects, the set at that moment has each
+/// key that its pass knows of the slot, or hasn't the key that was asked for.
+pub fn confirmed_at_load()
+    ensures { (shape : Dimensions) (passes : ℕ) (run : List Event) (pass : ℕ) (op : Op) (s key : ℕ) (at : At) (expected : ℕ) → IsShape shape → IsRun shape passes run →
+        (Accepts shape (know_after shape run pass) (ConfirmPresent op s expected) → found shape (world_after shape run) (ConfirmPresent op s expected) ≡ expected →
+        Knows (know_after shape run pass) (KeyOf s key) → set_after no_keys (world_after shape run).calls key ≡ true)
+        × (Accepts shape (know_after shape run pass) (ConfirmAbsent op key at expected) → found shape (world_after shape run) (ConfirmAbsent op key at expected) ≡ expected →
+        set_after no_keys (world_after shape run).calls key ≡ false) }
+{}
+
+/// A law: let an unmarked link that a pass knows stand at its place, and known marked links lead on
+/// from it. Then a key that stands behind the place, and before what the last of them names, isn't
+/// in the set: the nodes between are still marked.
+pub fn absent_behind_marked()
+    ensures { (shape : Dimensions) (passes : ℕ) (run : List Event) (pass : ℕ) (at : At) (link last : Link) (key : ℕ) → IsShape shape → IsRun shape passes run →
+        Knows (know_after shape run pass) (LinkAt at link) → link.mark ≡ false → machine.link_at (world_after shape run) at ≡ link → LeadsTo (know_after shape run pass) link last →
+        StandsBehind shape (know_after shape run pass) at key → StandsBefore (know_after shape run pass) key last.slot →
+        set_after no_keys (world_after shape run).calls key ≡ false }
 {}

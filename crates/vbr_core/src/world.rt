@@ -1,14 +1,19 @@
 //! The core as a program: a world that makes steps one at a time, plain and exact.
-ghost use Rattle.std.specs.Prelude.{◌≡◌, ◌<◌, ◌↔◌, length, ◌⊎◌, IfOk, IfErr, OnOk, OnErr, IsErrOf, Err};
+ghost use Rattle.std.specs.Prelude.{List, ◌≡◌, ◌<◌, ◌↔◌, length, ◌⊎◌, IfOk, IfErr, OnOk, OnErr, IsErrOf, Err};
 ghost use Rattle.vbr_words.specs.Places.{IsIn};
+ghost use Rattle.vbr_core.specs.Keys.{no_keys};
+ghost use Rattle.vbr_core.specs.History.{IsLegal};
 ghost use Rattle.vbr_core.specs.Learning as learning;
 ghost use Rattle.vbr_core.specs.Machine as machine;
 ghost use Rattle.vbr_core.specs.Runs.{IsAccepted, Refuses, IsRun, world_after, StopsAt};
+ghost use Rattle.vbr_core.specs.Safety.{IsSafe};
 ghost use Rattle.vbr_core.specs.Kept.{world_of};
+ghost use Rattle.vbr_core.specs.declared.event.Event.{Event};
 
 mod checking;
 mod holdings;
 mod learning;
+mod lists;
 mod opening;
 mod passes;
 mod reads;
@@ -18,39 +23,29 @@ mod writing;
 use crate::event::{CoreRefusal, Effect, Event};
 use crate::history::Call;
 use crate::knowledge::SlotPlace;
-use crate::world::passes::PassState;
-use crate::world::steps::{effect_of, place_of, succeeds};
+use crate::world::lists::Lists;
 use std::alloc::Global;
 use std::error::Error;
 use std::fmt;
 use std::marker::Model;
-use vbr_words::link::MARK;
 use vbr_words::{Place, Shape};
 
-/// The words and places of a set, what each of its passes knows, and the calls that were answered.
+/// The words and places of a set, what each of its passes knows, and the calls that were answered,
+/// after a run: only steps that are accepted change it.
 #[derive(Debug, Drop)]
 pub struct World {
-    shape: Shape,
-    epoch: u64,
-    heads: Vec<u64>,
-    links: Vec<u64>,
-    birth: Vec<u64>,
-    stamps: Vec<u64>,
-    keys: Vec<u64>,
-    places: Vec<SlotPlace>,
-    passes: Vec<PassState>,
-    births: u64,
-    calls: Vec<Call>,
+    lists: Lists,
 }
 
 impl Model for World {
-    ghost use Rattle.vbr_core.specs.Kept.{KeptWorld, IsWhole};
+    ghost use Rattle.vbr_core.specs.Kept.{KeptWorld};
+    ghost use Rattle.vbr_core.specs.Reached.{IsReached};
 
     ghost Value = { KeptWorld };
 
-    ghost view = { λ w. record { shape = w.shape; epoch = w.epoch; heads = w.heads.items; links = w.links.items; birth = w.birth.items; stamps = w.stamps.items; keys = w.keys.items; places = w.places.items; passes = w.passes.items; births = w.births; calls = w.calls.items } };
+    ghost view = { λ w. w.lists };
 
-    ghost invariant = { λ w. IsWhole (record { shape = w.shape; epoch = w.epoch; heads = w.heads.items; links = w.links.items; birth = w.birth.items; stamps = w.stamps.items; keys = w.keys.items; places = w.places.items; passes = w.passes.items; births = w.births; calls = w.calls.items }) };
+    ghost invariant = { λ w. IsReached w.lists };
 }
 
 /// Why a world isn't opened. The tests are made in this order.
@@ -85,8 +80,8 @@ impl World {
         if passes == 0 || passes > 64 {
             return Err(WorldRefusal::Passes);
         }
-        match World::empty(alloc, shape, passes) {
-            Ok(world) => Ok(world),
+        match Lists::empty(alloc, shape, passes) {
+            Ok(lists) => Ok(World { lists }),
             Err(_) => Err(WorldRefusal::NoMemory),
         }
     }
@@ -103,32 +98,29 @@ impl World {
         ensures unchanged { OnErr result (self.new ≡ self.old) }
         ensures stays { (self.new.shape ≡ self.old.shape) × (length self.new.passes ≡ length self.old.passes) }
     {
-        self.check(event)?;
-        let found = self.word(place_of(event.step));
-        let link = self.link_written(event);
-        let key = self.key_written(event);
-        self.law_of_room(event);
-        let Ok(()) = self.learn(event, found) else {
-            return Err(CoreRefusal::NoMemory);
-        };
-        if succeeds(event.step, found) {
-            self.write(event, link, key);
-        }
-        Ok(effect_of(event.step, found))
+        self.lists.step(event)
     }
 
-    /// The calls that were answered so far.
-    pub fn calls(&self) -> &[Call]
-        ensures { result.now ≡ (world_of self.now).calls }
+    // A law: each run of as many passes is safe.
+    fn law_of_safety(&self)
+        ensures { (run : List Event) → IsRun self.now.shape (length self.now.passes) run → IsSafe self.now.shape run }
     {
-        &self.calls
+        let _ = self.lists.calls();
+    }
+
+    /// The calls that were answered so far. They are a legal history of a set that opened empty.
+    pub fn calls(&self) -> &[Call]
+        ensures calls { result.now ≡ (world_of self.now).calls }
+        ensures legal { IsLegal no_keys result.now }
+    {
+        self.lists.calls()
     }
 
     /// How many incarnations were born so far, counted up to the greatest number.
     pub fn incarnations(&self) -> u64
         ensures { result ≡ (world_of self.now).births }
     {
-        self.births
+        self.lists.births
     }
 
     /// The word at a place of the shape.
@@ -136,16 +128,7 @@ impl World {
         requires { IsIn self.now.shape place }
         ensures { result ≡ machine.word_at self.now.shape (world_of self.now) place }
     {
-        match place {
-            Place::Epoch => self.epoch,
-            Place::ShapeWord => u64::from(self.shape.slots()) + MARK * self.shape.last_epoch(),
-            Place::Head(bucket) => self.heads[bucket as usize],
-            Place::LinkOf(slot) => self.links[slot as usize],
-            Place::Birth(slot) => self.birth[slot as usize],
-            Place::Stamp(slot) => self.stamps[slot as usize],
-            Place::Key(slot) => self.keys[slot as usize],
-            Place::Flag(slot) => flag_of(self.place_of_slot(slot)),
-        }
+        self.lists.word(place)
     }
 
     /// Where a slot of the shape is.
@@ -153,17 +136,7 @@ impl World {
         requires { slot < self.now.shape.slots }
         ensures { result ≡ (world_of self.now).place slot }
     {
-        self.places[slot as usize]
-    }
-}
-
-// The flag of a slot: 1 where it is in the shared pool.
-fn flag_of(place: SlotPlace) -> u64
-    ensures { result ≡ machine.flag_of place }
-{
-    match place {
-        SlotPlace::Shared => 1,
-        _ => 0,
+        self.lists.place_of_slot(slot)
     }
 }
 
@@ -177,6 +150,7 @@ pub fn replay(
     events: &[Event],
 ) -> Result<World, (usize, CoreRefusal)>
     ensures run { OnOk result (IsRun shape passes events.now) }
+    ensures safe { OnOk result (IsSafe shape events.now) }
     ensures world { IfOk result (λ world. (world_of world ≡ world_after shape events.now) × (world.shape ≡ shape) × (length world.passes ≡ passes)) }
     ensures passes { ((passes ≡ 0) ⊎ (64 < passes)) → result ≡ Err (0, CoreRefusal.NoSuchPass) }
     ensures stops { IfErr result (λ e. StopsAt shape passes events.now e.0 e.1) }
@@ -191,5 +165,6 @@ pub fn replay(
             return Err((index, refusal));
         }
     }
+    world.law_of_safety();
     Ok(world)
 }

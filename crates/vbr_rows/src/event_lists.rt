@@ -316,3 +316,18 @@ pub const TWO_HELPERS: [Row; 18] = [
         Effect::Lost(0),
     ),
 ];
+
+/// The link words that the callers of the first list name, in order: those of its steps that store,
+/// publish or unlink.
+pub const REBORN_SLOT_WORDS: [u64; 9] = [
+    2_097_152, 2_097_153, 2_097_153, 2_097_154, 2_097_153, 2_097_153, 4_194_305, 4_194_306,
+    2_097_155,
+];
+
+/// Those of the second list.
+pub const SAME_WORD_WORDS: [u64; 7] = [
+    4_194_304, 4_194_305, 4_194_305, 10_485_761, 10_485_763, 4_194_305, 4_194_306,
+];
+
+/// Those of the third list.
+pub const TWO_HELPERS_WORDS: [u64; 4] = [2_097_152, 2_097_153, 0, 0];

@@ -2,13 +2,22 @@
 #![tactic(auto)]
 
 #[cfg(test)]
-mod devices;
+mod access;
 #[cfg(test)]
-mod event_lists;
+mod devices;
+pub mod event_lists;
+#[cfg(test)]
+mod listed_calls;
 #[cfg(test)]
 mod plain_set;
 #[cfg(test)]
 mod player;
+#[cfg(test)]
+mod pools;
+#[cfg(test)]
+mod retiring;
+#[cfg(test)]
+mod running_table;
 #[cfg(test)]
 mod scripts;
 #[cfg(test)]

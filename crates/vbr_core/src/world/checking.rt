@@ -10,10 +10,10 @@ ghost use Rattle.vbr_core.specs.Making.{succeeds, call_made, key_written, HasRoo
 
 use crate::event::{CoreRefusal, Event, Step};
 use crate::history::Call;
-use crate::world::World;
+use crate::world::lists::Lists;
 use crate::world::steps::{is_below_last, is_in_shape, succeeds};
 
-impl World {
+impl Lists {
     // Accepts an event, or says why not.
     pub(super) fn check(&self, event: Event) -> Result<(), CoreRefusal>
         ensures accepted { OnOk result (IsAccepted self.now.shape (length self.now.passes) (world_of self.now) event) }

@@ -11,12 +11,12 @@ ghost use Rattle.vbr_core.specs.Kept.{know_of, new_pass, world_of};
 ghost use Rattle.vbr_core.specs.Making.{with_answer};
 
 use crate::event::{Event, Step};
-use crate::world::World;
+use crate::world::lists::Lists;
 use crate::world::passes::PassState;
 use std::alloc::AllocError;
 use vbr_words::Shape;
 
-impl World {
+impl Lists {
     // The pass learns from an accepted step, and the call of a step that succeeds is kept. All
     // memory is taken before anything changes.
     pub(super) fn learn(&mut self, event: Event, found: u64) -> Result<(), AllocError>

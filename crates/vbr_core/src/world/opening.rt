@@ -5,17 +5,17 @@ ghost use Rattle.vbr_core.specs.Machine.{knows_nothing, opening};
 ghost use Rattle.vbr_core.specs.Kept.{know_of, world_of};
 
 use crate::knowledge::SlotPlace;
-use crate::world::World;
+use crate::world::lists::Lists;
 use crate::world::passes::PassState;
 use std::alloc::{AllocError, Global};
 use vbr_words::Shape;
 use vbr_words::link::MARK;
 
-impl World {
+impl Lists {
     // Every slot in the shared pool, and passes that know nothing.
-    pub(super) fn empty(alloc: Global, shape: Shape, passes: u32) -> Result<World, AllocError>
-        ensures opening { IfOk result (λ world. world_of world ≡ opening) }
-        ensures shape { IfOk result (λ world. (world.shape ≡ shape) × (length world.passes ≡ passes)) }
+    pub(super) fn empty(alloc: Global, shape: Shape, passes: u32) -> Result<Lists, AllocError>
+        ensures opening { IfOk result (λ lists. world_of lists ≡ opening) }
+        ensures shape { IfOk result (λ lists. (lists.shape ≡ shape) × (length lists.passes ≡ passes)) }
     {
         let buckets = shape.buckets() as usize;
         let slots = shape.slots() as usize;
@@ -26,7 +26,7 @@ impl World {
         let keys = vec![in alloc; 0; slots]?;
         let places = vec![in alloc; SlotPlace::Shared; slots]?;
         let passes = new_passes(alloc, shape.slots(), passes)?;
-        Ok(World {
+        Ok(Lists {
             shape,
             epoch: 1,
             heads,

@@ -10,10 +10,10 @@ ghost use Rattle.vbr_core.specs.Making.{HasRoom, written};
 
 use crate::event::{Event, Step};
 use crate::knowledge::SlotPlace;
-use crate::world::World;
+use crate::world::lists::Lists;
 use vbr_words::At;
 
-impl World {
+impl Lists {
     // Raises the epoch by one.
     fn advance(&mut self)
         requires { self.old.epoch < self.old.shape.last_epoch }

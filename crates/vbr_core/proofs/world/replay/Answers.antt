@@ -1,5 +1,7 @@
 -- One more event is accepted, or it is the first that is refused.
-use Rattle.std.proofs.Common.{◌<◌, ◌∙◌, length, arith}
+use Rattle.std.proofs.Common.{◌≡◌, ◌<◌, ◌∙◌, length, take, arith}
+use Rattle.std.proofs.lemmas.List.{take_all}
+use Rattle.vbr_core.specs.Runs.{IsRun}
 use Rattle.vbr_core.specs.Kept.{world_of}
 use Rattle.vbr_core.proofs.Replayed.{run_push, run_stops}
 use Rattle.vbr_core.proofs.world.replay.Goals as goal
@@ -21,3 +23,9 @@ loop-index-preserved c =
       shape = c.in_default.ensures.stays.0 ∙ c.loop-index.invariant.shape;
       passes = c.in_default.ensures.stays.1 ∙ c.loop-index.invariant.passes;
     }
+
+pub returns-clause-safe : goal.returns-clause-safe
+returns-clause-safe c =
+    let all : take c.loop-index.index c.args.events.now ≡ c.args.events.now = take_all c.loop-index.index c.args.events.now c.loop-index-test.false in
+    let run : IsRun c.args.shape c.args.passes c.args.events.now = rw all at c.loop-index.invariant.run in
+    rw (c.loop-index.invariant.shape, c.loop-index.invariant.passes) at (c.law_of_safety.ensures c.args.events.now) run

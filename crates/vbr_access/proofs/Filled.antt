@@ -1,0 +1,148 @@
+-- A slot in hand whose key and link are stored, and its publication.
+use Rattle.std.proofs.Common.{◌≡◌, ℕ, ◌<◌, true, false, Option, Some, None, refl, sym, ap, ◌∙◌, subst}
+use Rattle.vbr_words.specs.Words.{link_of}
+use Rattle.vbr_words.specs.declared.link.Link.{Link}
+use Rattle.vbr_core.specs.Acceptance.{IsNextIn, IsInHand, Accepts}
+use Rattle.vbr_core.specs.Knowledge.{Know}
+use Rattle.vbr_core.specs.Learning.{with_key, with_link, with_own, link_written, birth_in_hand, key_in_hand}
+use Rattle.vbr_core.specs.Links.{link_to}
+use Rattle.vbr_core.specs.Membership.{IsHeldSlot, IsNextKnown, BirthNamed, StandsBehind, StandsBefore, IsReadyKnown}
+use Rattle.vbr_core.specs.declared.event.Step.TheVariants.{StoreKey, StoreLink, Publish}
+use Rattle.vbr_core.specs.declared.history.Op.TheVariants.{Insert}
+use Rattle.vbr_core.specs.declared.knowledge.Holding.{Holding}
+use Rattle.vbr_core.specs.declared.knowledge.Holding.TheVariants.{Free, Unlinked, InHand}
+use Rattle.vbr_core.proofs.Puts.{put_here}
+use Rattle.vbr_core.proofs.RunForms.{known_accepts, written_is}
+use Rattle.vbr_pools.specs.Hands.{HandView, IsHandOf}
+use Rattle.vbr_slots.specs.Calls.{Quiet, Made}
+use Rattle.vbr_slots.specs.Pools as pools
+use Rattle.vbr_slots.specs.Views.{Trace, PassView, Did, knows}
+use Rattle.vbr_slots.proofs.Calls.{did_quiet}
+use Rattle.vbr_access.specs.Held.{IsHeld, IsFilled}
+use Rattle.vbr_access.specs.Keeping.{Keeps}
+use Rattle.vbr_access.specs.Soundness.{IsSound}
+use Rattle.vbr_access.specs.declared.held.Held.{Held}
+use Rattle.vbr_access.proofs.MadeCalls.{published}
+use Rattle.vbr_access.proofs.Accepted.{place_in, slot_in, named_slot}
+
+-- ---- what is in hand
+
+in_hand_is : (holding : Option Holding) → IsInHand holding → (stamp birth : ℕ) × (key : Option ℕ) × (link : Option Link) × (holding ≡ Some (InHand stamp birth key link))
+in_hand_is None is = absurd is
+in_hand_is (Some (Free stamp)) is = absurd is
+in_hand_is (Some (Unlinked reread)) is = absurd is
+in_hand_is (Some (InHand stamp birth key link)) is = (stamp, birth, key, link, refl)
+
+-- the slot of a hand is one of the shape, and in hand
+hand_in_hand : (p : PassView) → IsSound p → (hand : HandView) → IsHandOf p hand → (hand.slot < p.trace.shape.slots) × IsInHand ((knows p.trace).own hand.slot)
+hand_in_hand p sound hand h =
+    let P : Option ℕ → Type 0 = pools.IsHandOf p.trace.shape (knows p.trace) p.pool in
+    let o = subst P h.slot sound.own.in_hand in
+    (o.0, o.1)
+
+pub hand_at : (p : PassView) → IsSound p → (hand : HandView) → IsHandOf p hand → (s : ℕ) → s ≡ hand.slot → (s < p.trace.shape.slots) × IsInHand ((knows p.trace).own s) × (birth_in_hand ((knows p.trace).own s) ≡ hand.birth)
+hand_at p sound hand h s is =
+    let P : ℕ → Type 0 = λ s. (s < p.trace.shape.slots) × IsInHand ((knows p.trace).own s) × (birth_in_hand ((knows p.trace).own s) ≡ hand.birth) in
+    let o = hand_in_hand p sound hand h in
+    subst P (sym is) (o.0, o.1, h.birth)
+
+keyed : (holding : Option Holding) (key birth : ℕ) → IsInHand holding → birth_in_hand holding ≡ birth → IsInHand (with_key holding key) × (birth_in_hand (with_key holding key) ≡ birth)
+keyed holding key birth is same = let i = in_hand_is holding is in rw i.4 (tt, ap birth_in_hand (sym i.4) ∙ same)
+
+filled_is : (holding : Option Holding) (key birth : ℕ) (link : Link) → IsInHand holding → birth_in_hand holding ≡ birth → IsFilled (with_link (with_key holding key) link) birth key link
+filled_is holding key birth link is same =
+    let i = in_hand_is holding is in
+    let b : i.1 ≡ birth = ap birth_in_hand (sym i.4) ∙ same in
+    (i.0, ap (λ (o : Option Holding). with_link (with_key o key) link) i.4 ∙ ap (λ (b : ℕ). Some (InHand i.0 b (Some key) (Some link))) b)
+
+-- ---- the two stores
+
+pub key_stored_quiet : {p q : Trace} {s key r : ℕ} → Did (StoreKey s key) p q r → Quiet p q
+key_stored_quiet d = did_quiet d (λ know. refl)
+
+pub link_stored_quiet : {p q : Trace} {s r : ℕ} {next : Option ℕ} → Did (StoreLink s next) p q r → Quiet p q
+link_stored_quiet d = did_quiet d (λ know. refl)
+
+keeps_owned : (know later : Know) (s : ℕ) (holding : Option Holding) → later ≡ with_own know s holding → Keeps know later
+keeps_owned know later s holding is = rw is (record { epoch = refl; reads = λ r k. record { among = k.among } })
+
+pub key_stored_keeps : {p q : Trace} {s key r : ℕ} → Did (StoreKey s key) p q r → Keeps (knows p) (knows q)
+key_stored_keeps d = keeps_owned _ _ _ _ d.know
+
+pub link_stored_keeps : {p q : Trace} {s r : ℕ} {next : Option ℕ} → Did (StoreLink s next) p q r → Keeps (knows p) (knows q)
+link_stored_keeps d = keeps_owned _ _ _ _ d.know
+
+-- the birth in hand once the key is stored
+pub keyed_hand : {p q : Trace} {s key r birth : ℕ} → Did (StoreKey s key) p q r → IsInHand ((knows p).own s) → birth_in_hand ((knows p).own s) ≡ birth → IsInHand ((knows q).own s) × (birth_in_hand ((knows q).own s) ≡ birth)
+keyed_hand {p} {q} {s} {key} {r} {birth} d is same =
+    let now : (knows q).own s ≡ with_key ((knows p).own s) key = ap (λ (k : Know). k.own s) d.know ∙ put_here (knows p).own s _ in
+    let k = keyed ((knows p).own s) key birth is same in
+    rw now k
+
+-- the link that is stored, by any birth that is known of what it names
+module _ (p : PassView) (sound : IsSound p) (pred : Held) (s birth next : ℕ) (h : IsHeld (knows p.trace) pred) (low : s < p.trace.shape.slots) (is : IsInHand ((knows p.trace).own s)) (known : BirthNamed (knows p.trace) (link_of pred.word).slot next) where
+  named_in : (slot : Option ℕ) → ((n : ℕ) → slot ≡ Some n → IsHeldSlot (knows p.trace) n) → IsNextIn p.trace.shape slot
+  named_in None held = tt
+  named_in (Some n) held = slot_in p sound n (held n refl)
+
+  named_known : (slot : Option ℕ) → ((n : ℕ) → slot ≡ Some n → IsHeldSlot (knows p.trace) n) → BirthNamed (knows p.trace) slot next → IsNextKnown (knows p.trace) slot
+  named_known None held k = tt
+  named_known (Some n) held k = (held n refl, (next, k))
+
+  held : (n : ℕ) → (link_of pred.word).slot ≡ Some n → IsHeldSlot (knows p.trace) n
+  held n names = named_slot pred n h names
+
+  pub link_accepted : Accepts p.trace.shape (knows p.trace) (StoreLink s (link_of pred.word).slot)
+  link_accepted = known_accepts p.trace.shape p.trace.passes p.trace.seen sound.shape sound.is_run p.trace.who (StoreLink s (link_of pred.word).slot) (record {
+    in_shape = (low, named_in (link_of pred.word).slot held);
+    owned = is;
+    known = named_known (link_of pred.word).slot held known;
+    in_range = tt;
+    below_last = tt;
+  })
+
+  link_stored_is : birth_in_hand ((knows p.trace).own s) ≡ birth → link_written (knows p.trace) (StoreLink s (link_of pred.word).slot) ≡ link_to (link_of pred.word).slot birth next
+  link_stored_is same =
+      written_is p.trace.shape p.trace.passes p.trace.seen sound.shape sound.is_run p.trace.who (StoreLink s (link_of pred.word).slot) (link_to (link_of pred.word).slot (birth_in_hand ((knows p.trace).own s)) next) (next, known, refl)
+      ∙ ap (λ (b : ℕ). link_to (link_of pred.word).slot b next) same
+
+  pub link_now : birth_in_hand ((knows p.trace).own s) ≡ birth → (slot : Option ℕ) → slot ≡ (link_of pred.word).slot → link_written (knows p.trace) (StoreLink s slot) ≡ link_to (link_of pred.word).slot birth next
+  link_now same slot e = ap (λ (o : Option ℕ). link_written (knows p.trace) (StoreLink s o)) e ∙ link_stored_is same
+
+-- the slot in hand once both are stored
+pub filled : {p q r : Trace} {s key birth one two : ℕ} {next : Option ℕ} {link : Link} → Did (StoreKey s key) p q one → Did (StoreLink s next) q r two → IsInHand ((knows p).own s) → birth_in_hand ((knows p).own s) ≡ birth → link_written (knows q) (StoreLink s next) ≡ link → IsFilled ((knows r).own s) birth key link
+filled {p} {q} {r} {s} {key} {birth} {one} {two} {next} {link} d e is same written =
+    let first : (knows q).own s ≡ with_key ((knows p).own s) key = ap (λ (k : Know). k.own s) d.know ∙ put_here (knows p).own s _ in
+    let second : (knows r).own s ≡ with_link ((knows q).own s) (link_written (knows q) (StoreLink s next)) = ap (λ (k : Know). k.own s) e.know ∙ put_here (knows q).own s _ in
+    let now : (knows r).own s ≡ with_link (with_key ((knows p).own s) key) link = second ∙ (λ i. with_link (first i) (written i)) in
+    let f = filled_is ((knows p).own s) key birth link is same in
+    (f.0, now ∙ f.1)
+
+-- a slot that is filled is still in the hand
+pub hand_filled : (p : PassView) (hand : HandView) (key : ℕ) (link : Link) → p.hand ≡ Some hand.slot → IsFilled ((knows p.trace).own hand.slot) hand.birth key link → IsHandOf p hand
+hand_filled p hand key link is f = record { slot = is; birth = ap birth_in_hand f.1 }
+
+-- ---- the publication
+
+module _ (p : PassView) (sound : IsSound p) (pred : Held) (s key birth next : ℕ) (h : IsHeld (knows p.trace) pred) (f : IsFilled ((knows p.trace).own s) birth key (link_to (link_of pred.word).slot birth next)) where
+  filled_hand : IsInHand ((knows p.trace).own s)
+  filled_hand = let P : Option Holding → Type 0 = IsInHand in subst P (sym f.1) tt
+
+  pub publish_accepted : (link_of pred.word).mark ≡ false → s < p.trace.shape.slots → BirthNamed (knows p.trace) (link_of pred.word).slot next → StandsBehind p.trace.shape (knows p.trace) pred.at key → StandsBefore (knows p.trace) key (link_of pred.word).slot → Accepts p.trace.shape (knows p.trace) (Publish pred.at pred.word s)
+  publish_accepted unmarked low k i j =
+      let P : Option Holding → Type 0 = IsReadyKnown p.trace.shape (knows p.trace) pred.at (link_of pred.word) in
+      known_accepts p.trace.shape p.trace.passes p.trace.seen sound.shape sound.is_run p.trace.who (Publish pred.at pred.word s) (record {
+        in_shape = (place_in p sound pred h, low);
+        owned = filled_hand;
+        known = (h.link, (pred.birth, h.birth));
+        in_range = (unmarked, subst P (sym f.1) ((next, k, refl), i, j));
+        below_last = tt;
+      })
+
+  pub publish_writes : link_written (knows p.trace) (Publish pred.at pred.word s) ≡ link_to (Some s) pred.birth birth
+  publish_writes =
+      written_is p.trace.shape p.trace.passes p.trace.seen sound.shape sound.is_run p.trace.who (Publish pred.at pred.word s) (link_to (Some s) pred.birth (birth_in_hand ((knows p.trace).own s))) (pred.birth, h.birth, refl)
+      ∙ ap (λ (o : Option Holding). link_to (Some s) pred.birth (birth_in_hand o)) f.1
+
+  pub publish_made : {q : Trace} → Did (Publish pred.at pred.word s) p.trace q pred.word → Made (record { who = p.trace.who; op = Insert; key = key; reply = true }) p.trace q
+  publish_made d = published d _ (ap (λ (o : Option Holding). Some (record { who = p.trace.who; op = Insert; key = key_in_hand o; reply = true })) f.1)

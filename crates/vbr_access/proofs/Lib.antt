@@ -1,0 +1,14 @@
+pub mod PlacesInShape
+pub mod Keeping
+mod ReadSteps
+pub mod Moments
+mod Accepted
+mod MadeCalls
+mod CheckedReads
+pub mod HeldPlaces
+mod SafeCalls
+mod WonExchanges
+mod WrittenLinks
+mod UnlinkedLinks
+mod Unlinks
+mod Filled

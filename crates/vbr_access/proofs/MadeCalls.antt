@@ -1,0 +1,82 @@
+-- Which calls a step makes that answers one.
+use Rattle.std.proofs.Common.{◌≡◌, ◌≢◌, ℕ, Bool, true, false, ◌++◌, Some, None, refl, sym, ap, ◌∙◌, cond, append-nil, option_to_list, eq-eqb}
+use Rattle.std.specs.Prelude.{◌==◌}
+use Rattle.std.proofs.lemmas.Bool.{ne_eqb}
+use Rattle.vbr_words.specs.Dimensions.{IsShape}
+use Rattle.vbr_words.specs.declared.place.At.{At}
+use Rattle.vbr_core.specs.Knowledge.{Know}
+use Rattle.vbr_core.specs.Learning.{call_of, present_reply}
+use Rattle.vbr_core.specs.Machine.{found}
+use Rattle.vbr_core.specs.Making.{succeeds}
+use Rattle.vbr_core.specs.Membership.{Knows}
+use Rattle.vbr_core.specs.Runs.{IsRun, world_after}
+use Rattle.vbr_core.specs.declared.event.Step.{Step}
+use Rattle.vbr_core.specs.declared.event.Step.TheVariants.{Mark, ConfirmPresent, ConfirmAbsent, Publish}
+use Rattle.vbr_core.specs.declared.history.Call.{Call}
+use Rattle.vbr_core.specs.declared.history.Op.{Op}
+use Rattle.vbr_core.specs.declared.history.Op.TheVariants.{Remove}
+use Rattle.vbr_core.specs.declared.knowledge.Read.TheVariants.{KeyOf}
+use Rattle.vbr_core.proofs.RunForms.{marked_call_is, confirmed_call_is}
+use Rattle.vbr_core.proofs.RunsGoOn.{others_leave_know}
+use Rattle.vbr_slots.specs.Calls.{Quiet, Made, made_by}
+use Rattle.vbr_slots.specs.Views.{Trace, Did, knows}
+use Rattle.vbr_slots.proofs.Calls.{did_same, did_seen, did_run, did_calls}
+use Rattle.vbr_access.proofs.Moments.{won, lost, answered, unanswered}
+
+-- a step that succeeds makes its call
+succeeded : {step : Step} {p q : Trace} {r : ℕ} (d : Did step p q r) (call : Call) → succeeds step (found p.shape (world_after p.shape (p.seen ++ d.rest)) step) ≡ true → call_of p.who (knows p) step ≡ Some call → Made call p q
+succeeded {step} {p} {q} d call t c =
+    let w = world_after p.shape (p.seen ++ d.rest) in
+    let one : call_of p.who (w.know p.who) step ≡ Some call = ap (λ (k : Know). call_of p.who k step) (others_leave_know p.shape p.seen d.rest p.who d.none) ∙ c in
+    record {
+      same = did_same d;
+      seen = did_seen d;
+      is_run = did_run d;
+      calls = did_calls d ∙ ap (λ l. made_by p ++ l) (ap (λ (b : Bool). option_to_list (cond b (call_of p.who (w.know p.who) step) None)) t ∙ ap option_to_list one);
+    }
+
+-- and one that fails makes none
+failed : {step : Step} {p q : Trace} {r : ℕ} (d : Did step p q r) → succeeds step (found p.shape (world_after p.shape (p.seen ++ d.rest)) step) ≡ false → Quiet p q
+failed {step} {p} {q} d f =
+    let w = world_after p.shape (p.seen ++ d.rest) in
+    record {
+      same = did_same d;
+      seen = did_seen d;
+      is_run = λ h. did_run d;
+      calls = did_calls d ∙ ap (λ l. made_by p ++ l) (ap (λ (b : Bool). option_to_list (cond b (call_of p.who (w.know p.who) step) None)) f) ∙ append-nil (made_by p);
+    }
+
+other : (expected r n : ℕ) → r ≢ expected → n ≡ r → (n == expected) ≡ false
+other expected r n ne e = ne_eqb n expected (λ x. ne (sym e ∙ x))
+
+-- ---- a mark
+
+pub mark_made : {s expected : ℕ} {p q : Trace} → IsShape p.shape → IsRun p.shape p.passes p.seen → Did (Mark s expected) p q expected → (key : ℕ) → Knows (knows p) (KeyOf s key) → Made (record { who = p.who; op = Remove; key = key; reply = true }) p q
+mark_made {s} {expected} {p} {q} is run d key k =
+    succeeded d (record { who = p.who; op = Remove; key = key; reply = true }) (eq-eqb _ expected (won expected _ d.shows.answers)) (marked_call_is p.shape p.passes p.seen is run p.who s expected key k)
+
+pub mark_failed : {s expected found : ℕ} {p q : Trace} → Did (Mark s expected) p q found → found ≢ expected → Quiet p q
+mark_failed {s} {expected} {found} d ne = failed d (other expected found _ ne (lost expected found _ ne d.shows.answers))
+
+-- ---- confirming loads
+
+pub present_made : {op : Op} {s expected : ℕ} {p q : Trace} → IsShape p.shape → IsRun p.shape p.passes p.seen → Did (ConfirmPresent op s expected) p q expected → (key : ℕ) → Knows (knows p) (KeyOf s key) → Made (record { who = p.who; op = op; key = key; reply = present_reply op }) p q
+present_made {op} {s} {expected} {p} {q} is run d key k =
+    succeeded d (record { who = p.who; op = op; key = key; reply = present_reply op }) (eq-eqb _ expected (answered (present_reply op) expected _ d.shows.answers)) (confirmed_call_is p.shape p.passes p.seen is run p.who op s expected key k)
+
+pub present_failed : {op : Op} {s expected found : ℕ} {p q : Trace} → Did (ConfirmPresent op s expected) p q found → found ≢ expected → Quiet p q
+present_failed {op} {s} {expected} {found} d ne = failed d (other expected found _ ne (unanswered (present_reply op) expected found _ ne d.shows.answers))
+
+pub absent_made : {op : Op} {key : ℕ} {at : At} {expected : ℕ} {p q : Trace} → Did (ConfirmAbsent op key at expected) p q expected → Made (record { who = p.who; op = op; key = key; reply = false }) p q
+absent_made {op} {key} {at} {expected} {p} d = succeeded d (record { who = p.who; op = op; key = key; reply = false }) (eq-eqb _ expected (answered false expected _ d.shows.answers)) refl
+
+pub absent_failed : {op : Op} {key : ℕ} {at : At} {expected found : ℕ} {p q : Trace} → Did (ConfirmAbsent op key at expected) p q found → found ≢ expected → Quiet p q
+absent_failed {op} {key} {at} {expected} {found} d ne = failed d (other expected found _ ne (unanswered false expected found _ ne d.shows.answers))
+
+-- ---- a publication
+
+pub published : {pred : At} {expected s : ℕ} {p q : Trace} → Did (Publish pred expected s) p q expected → (call : Call) → call_of p.who (knows p) (Publish pred expected s) ≡ Some call → Made call p q
+published {pred} {expected} {s} d call c = succeeded d call (eq-eqb _ expected (won expected _ d.shows.answers)) c
+
+pub publish_failed : {pred : At} {expected s found : ℕ} {p q : Trace} → Did (Publish pred expected s) p q found → found ≢ expected → Quiet p q
+publish_failed {pred} {expected} {s} {found} d ne = failed d (other expected found _ ne (lost expected found _ ne d.shows.answers))

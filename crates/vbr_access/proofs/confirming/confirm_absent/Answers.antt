@@ -1,0 +1,31 @@
+use Rattle.std.proofs.Common.{subst}
+use Rattle.vbr_words.specs.Dimensions.{Dimensions}
+use Rattle.vbr_core.specs.Acceptance.{IsAtIn, IsInRange}
+use Rattle.vbr_core.specs.declared.event.Step.TheVariants.{ConfirmAbsent}
+use Rattle.vbr_slots.specs.Views.{knows}
+use Rattle.vbr_access.proofs.Accepted.{place_in, absent_accepted}
+use Rattle.vbr_access.proofs.MadeCalls.{absent_made, absent_failed}
+use Rattle.vbr_access.proofs.SafeCalls.{made_safe}
+use Rattle.vbr_access.proofs.confirming.confirm_absent.Goals as goal
+
+pub confirm_absent-requires-clause-at : goal.confirm_absent-requires-clause-at
+confirm_absent-requires-clause-at c =
+    let P : Dimensions → Type 0 = λ shape. IsAtIn shape c.args.pred.now.at in
+    subst P c.requires.own.1 (place_in c.args.pass.now c.soundness.ensures c.args.pred.now c.requires.held)
+
+pub confirm_absent-requires-clause-held : goal.confirm_absent-requires-clause-held
+confirm_absent-requires-clause-held c = (absent_accepted c.args.pass.now c.soundness.ensures c.args.op c.args.key c.args.pred.now c.requires.held c.requires.behind c.requires.before c.requires.unmarked c.requires.op).held
+
+pub confirm_absent-requires-clause-in_range : goal.confirm_absent-requires-clause-in_range
+confirm_absent-requires-clause-in_range c =
+    let P : Dimensions → Type 0 = λ shape. IsInRange shape (knows c.args.pass.now.trace) (ConfirmAbsent c.args.op c.args.key c.args.pred.now.at c.args.pred.now.word) in
+    subst P c.requires.own.1 (absent_accepted c.args.pass.now c.soundness.ensures c.args.op c.args.key c.args.pred.now c.requires.held c.requires.behind c.requires.before c.requires.unmarked c.requires.op).in_range
+
+pub returns-in-Ok-clause-made : goal.returns-in-Ok-clause-made
+returns-in-Ok-clause-made c = absent_made c.in-Ok.ensures.step
+
+pub returns-in-Err-clause-quiet : goal.returns-in-Err-clause-quiet
+returns-in-Err-clause-quiet c = absent_failed c.in-Err.ensures.step.0 c.in-Err.ensures.step.1
+
+pub returns-in-Ok-clause-right : goal.returns-in-Ok-clause-right
+returns-in-Ok-clause-right c = made_safe c.args.pass.now c.soundness.ensures (absent_made c.in-Ok.ensures.step)

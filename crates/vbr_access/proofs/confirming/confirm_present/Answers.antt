@@ -1,0 +1,30 @@
+use Rattle.std.proofs.Common.{◌<◌, subst}
+use Rattle.vbr_words.specs.Dimensions.{Dimensions}
+use Rattle.vbr_words.specs.declared.place.At.{At}
+use Rattle.vbr_core.specs.Membership.{KeyAt}
+use Rattle.vbr_slots.specs.Views.{knows}
+use Rattle.vbr_access.proofs.Accepted.{present_accepted}
+use Rattle.vbr_access.proofs.MadeCalls.{present_made, present_failed}
+use Rattle.vbr_access.proofs.SafeCalls.{made_safe}
+use Rattle.vbr_access.proofs.confirming.confirm_present.Goals as goal
+
+pub confirm_present-requires-clause-slot : goal.confirm_present-requires-clause-slot
+confirm_present-requires-clause-slot c =
+    let P : Dimensions → Type 0 = λ shape. c.in-Slot.slot < shape.slots in
+    subst P c.requires.own.1 (present_accepted c.args.pass.now c.soundness.ensures c.args.op c.args.held.now c.in-Slot.slot c.requires.held c.in-Slot.is c.requires.key c.requires.unmarked c.requires.op).in_shape
+
+pub confirm_present-requires-clause-held : goal.confirm_present-requires-clause-held
+confirm_present-requires-clause-held c = (present_accepted c.args.pass.now c.soundness.ensures c.args.op c.args.held.now c.in-Slot.slot c.requires.held c.in-Slot.is c.requires.key c.requires.unmarked c.requires.op).held
+
+pub returns-in-Ok-clause-made : goal.returns-in-Ok-clause-made
+returns-in-Ok-clause-made c = λ key k.
+    let P : At → Type 0 = λ at. KeyAt (knows c.args.pass.now.trace) at key in
+    present_made c.soundness.ensures.shape c.soundness.ensures.is_run c.in-Ok.ensures.step key (subst P c.in-Slot.is k)
+
+pub returns-in-Err-clause-quiet : goal.returns-in-Err-clause-quiet
+returns-in-Err-clause-quiet c = present_failed c.in-Err.ensures.step.0 c.in-Err.ensures.step.1
+
+pub returns-in-Ok-clause-right : goal.returns-in-Ok-clause-right
+returns-in-Ok-clause-right c =
+    let P : At → Type 0 = λ at. KeyAt (knows c.args.pass.now.trace) at c.requires.key.0 in
+    made_safe c.args.pass.now c.soundness.ensures (present_made c.soundness.ensures.shape c.soundness.ensures.is_run c.in-Ok.ensures.step c.requires.key.0 (subst P c.in-Slot.is c.requires.key.1))

@@ -1,0 +1,44 @@
+use Rattle.std.proofs.Common.{sym, ◌∙◌, subst, ◌<◌}
+use Rattle.vbr_words.specs.declared.place.At.{At}
+use Rattle.vbr_words.specs.Dimensions.{Dimensions}
+use Rattle.vbr_core.specs.Acceptance.{IsAtIn}
+use Rattle.vbr_core.specs.Membership.{HeldIn, KeyAt, IsHeldPlace}
+use Rattle.vbr_slots.specs.Views.{knows}
+use Rattle.vbr_slots.proofs.Calls.{quiet_on}
+use Rattle.vbr_access.proofs.Accepted.{place_in, place_held, slot_found}
+use Rattle.vbr_access.proofs.CheckedReads.{key_quiet, epoch_quiet, key_keeps, key_read, key_of_bucket}
+use Rattle.vbr_access.proofs.SafeCalls.{quiet_safe}
+use Rattle.vbr_access.proofs.reading.key_of.Goals as goal
+
+pub load_key-key-requires-clause-slot : goal.load_key-key-requires-clause-slot
+load_key-key-requires-clause-slot c =
+    let P : Dimensions → Type 0 = λ shape. c.in-Slot.slot < shape.slots in
+    let Q : At → Type 0 = IsAtIn c.args.pass.now.trace.shape in
+    subst P c.requires.own.1 (subst Q c.in-Slot.is (place_in c.args.pass.now c.soundness.ensures c.args.node.now c.requires.held))
+
+pub load_key-key-requires-clause-held : goal.load_key-key-requires-clause-held
+load_key-key-requires-clause-held c =
+    let Q : At → Type 0 = IsHeldPlace (knows c.args.pass.now.trace) in
+    slot_found c.args.pass.now c.soundness.ensures c.in-Slot.slot (subst Q c.in-Slot.is (place_held c.args.pass.now c.soundness.ensures c.args.node.now c.requires.held))
+
+pub returns-then-now-node-clause-quiet : goal.returns-then-now-node-clause-quiet
+returns-then-now-node-clause-quiet c = quiet_on (key_quiet c.load_key-key.ensures.step) (epoch_quiet c.read_epoch-now.ensures.step)
+
+pub returns-clause-quiet : goal.returns-clause-quiet
+returns-clause-quiet c = quiet_on (key_quiet c.load_key-key.ensures.step) (epoch_quiet c.read_epoch-now.ensures.step)
+
+pub returns-clause-keeps : goal.returns-clause-keeps
+returns-clause-keeps c = key_keeps c.load_key-key.ensures.step c.read_epoch-now.ensures.step (c.if-now-node.false ∙ c.requires.held.epoch)
+
+pub returns-clause-key : goal.returns-clause-key
+returns-clause-key c =
+    let P : At → Type 0 = λ at. KeyAt (knows c.read_epoch-now.new.pass.trace) at c.load_key-key.result in
+    subst P (sym c.in-Slot.is) (key_read c.load_key-key.ensures.step c.read_epoch-now.ensures.step (c.if-now-node.false ∙ c.requires.held.epoch))
+
+pub returns-clause-bucket : goal.returns-clause-bucket
+returns-clause-bucket c = λ b h.
+    let P : At → Type 0 = λ at. HeldIn (knows c.args.pass.now.trace) at b in
+    key_of_bucket c.load_key-key.ensures.step c.read_epoch-now.ensures.step (c.if-now-node.false ∙ c.requires.held.epoch) c.soundness.ensures.shape b (subst P c.in-Slot.is h)
+
+pub returns-clause-right : goal.returns-clause-right
+returns-clause-right c = quiet_safe c.args.pass.now c.soundness.ensures (quiet_on (key_quiet c.load_key-key.ensures.step) (epoch_quiet c.read_epoch-now.ensures.step))

@@ -1,0 +1,32 @@
+use Rattle.std.proofs.Common.{ℕ, ◌<◌, sym, ap, ◌∙◌, subst, Option}
+use Rattle.vbr_words.specs.Dimensions.{Dimensions}
+use Rattle.vbr_words.specs.declared.link.Link.{Link}
+use Rattle.vbr_core.specs.Membership.{BirthNamed}
+use Rattle.vbr_slots.specs.Views.{knows}
+use Rattle.vbr_slots.proofs.Calls.{quiet_on}
+use Rattle.vbr_access.specs.Held.{held_of}
+use Rattle.vbr_access.proofs.Accepted.{named_slot, slot_in, slot_found}
+use Rattle.vbr_access.proofs.CheckedReads.{birth_quiet, epoch_quiet, birth_keeps, birth_read}
+use Rattle.vbr_access.proofs.unlinking.birth_behind.Goals as goal
+
+pub load_birth-birth-requires-clause-slot : goal.load_birth-birth-requires-clause-slot
+load_birth-birth-requires-clause-slot c =
+    let P : Dimensions → Type 0 = λ shape. c.in-Some.slot < shape.slots in
+    subst P c.requires.own.1 (slot_in c.args.pass.now c.soundness.ensures c.in-Some.slot (named_slot (held_of c.args.marked.now) c.in-Some.slot c.requires.marked.held (ap (λ (l : Link). l.slot) (sym c.decode.ensures.link) ∙ c.in-Some.is)))
+
+pub load_birth-birth-requires-clause-held : goal.load_birth-birth-requires-clause-held
+load_birth-birth-requires-clause-held c = slot_found c.args.pass.now c.soundness.ensures c.in-Some.slot (named_slot (held_of c.args.marked.now) c.in-Some.slot c.requires.marked.held (ap (λ (l : Link). l.slot) (sym c.decode.ensures.link) ∙ c.in-Some.is))
+
+pub returns-then-now-marked-clause-quiet : goal.returns-then-now-marked-clause-quiet
+returns-then-now-marked-clause-quiet c = quiet_on (birth_quiet c.load_birth-birth.ensures.step) (epoch_quiet c.read_epoch-now.ensures.step)
+
+pub returns-clause-quiet : goal.returns-clause-quiet
+returns-clause-quiet c = quiet_on (birth_quiet c.load_birth-birth.ensures.step) (epoch_quiet c.read_epoch-now.ensures.step)
+
+pub returns-clause-keeps : goal.returns-clause-keeps
+returns-clause-keeps c = birth_keeps c.load_birth-birth.ensures.step c.read_epoch-now.ensures.step (c.if-now-marked.false ∙ c.requires.marked.held.epoch)
+
+pub returns-clause-birth : goal.returns-clause-birth
+returns-clause-birth c =
+    let P : Option ℕ → Type 0 = λ o. BirthNamed (knows c.read_epoch-now.new.pass.trace) o c.load_birth-birth.result in
+    subst P (sym (ap (λ (l : Link). l.slot) (sym c.decode.ensures.link) ∙ c.in-Some.is)) (birth_read c.load_birth-birth.ensures.step c.read_epoch-now.ensures.step (c.if-now-marked.false ∙ c.requires.marked.held.epoch))

@@ -1,0 +1,56 @@
+use Rattle.std.proofs.Common.{◌<◌, sym, ap, ◌∙◌, subst}
+use Rattle.vbr_words.specs.Dimensions.{Dimensions}
+use Rattle.vbr_words.specs.Words.{word_of}
+use Rattle.vbr_core.specs.Acceptance.{IsAtIn}
+use Rattle.vbr_access.proofs.Keeping.{keeps_on, held_kept, marked_kept}
+use Rattle.vbr_access.proofs.Unlinks.{unlink_quiet, accepted, written, written_fits, new_read, read_after}
+use Rattle.vbr_access.proofs.WonExchanges.{unlink_keeps}
+use Rattle.vbr_slots.proofs.Calls.{quiet_on}
+use Rattle.vbr_access.proofs.SafeCalls.{quiet_safe}
+use Rattle.vbr_access.proofs.unlinking.unlink.Goals as goal
+
+pub link_to-new-requires : goal.link_to-new-requires
+link_to-new-requires c =
+    let b = c.in_ok-next_birth.ensures in
+    written_fits c.birth_behind.new.pass c.soundness.ensures c.args.pred.now c.args.marked c.decode.result c.in_ok-next_birth.next_birth (held_kept c.args.pred.now b.keeps c.requires.pred) (marked_kept c.args.marked b.keeps c.requires.marked) c.decode.ensures.link b.birth c.decode.ensures.fits
+
+pub unlink-requires-clause-pred : goal.unlink-requires-clause-pred
+unlink-requires-clause-pred c =
+    let b = c.in_ok-next_birth.ensures in
+    let P : Dimensions → Type 0 = λ shape. IsAtIn shape c.args.pred.now.at in
+    subst P (b.quiet.same.shape ∙ c.requires.own.1)
+    (accepted c.birth_behind.new.pass c.soundness.ensures c.args.pred.now c.args.marked c.decode.result c.in_ok-next_birth.next_birth (held_kept c.args.pred.now b.keeps c.requires.pred) (marked_kept c.args.marked b.keeps c.requires.marked) c.decode.ensures.link b.birth c.requires.unmarked c.requires.names).in_shape.0
+
+pub unlink-requires-clause-slot : goal.unlink-requires-clause-slot
+unlink-requires-clause-slot c =
+    let b = c.in_ok-next_birth.ensures in
+    let P : Dimensions → Type 0 = λ shape. c.args.marked.slot < shape.slots in
+    subst P (b.quiet.same.shape ∙ c.requires.own.1)
+    (accepted c.birth_behind.new.pass c.soundness.ensures c.args.pred.now c.args.marked c.decode.result c.in_ok-next_birth.next_birth (held_kept c.args.pred.now b.keeps c.requires.pred) (marked_kept c.args.marked b.keeps c.requires.marked) c.decode.ensures.link b.birth c.requires.unmarked c.requires.names).in_shape.1
+
+pub unlink-requires-clause-held : goal.unlink-requires-clause-held
+unlink-requires-clause-held c =
+    let b = c.in_ok-next_birth.ensures in
+    (accepted c.birth_behind.new.pass c.soundness.ensures c.args.pred.now c.args.marked c.decode.result c.in_ok-next_birth.next_birth (held_kept c.args.pred.now b.keeps c.requires.pred) (marked_kept c.args.marked b.keeps c.requires.marked) c.decode.ensures.link b.birth c.requires.unmarked c.requires.names).held
+
+pub unlink-requires-clause-new : goal.unlink-requires-clause-new
+unlink-requires-clause-new c =
+    let b = c.in_ok-next_birth.ensures in
+    c.link_to-new.ensures.word ∙ ap word_of (sym (written c.birth_behind.new.pass c.soundness.ensures c.args.pred.now c.args.marked c.decode.result c.in_ok-next_birth.next_birth (held_kept c.args.pred.now b.keeps c.requires.pred) (marked_kept c.args.marked b.keeps c.requires.marked) c.decode.ensures.link b.birth))
+
+pub returns-in-Ok-clause-quiet : goal.returns-in-Ok-clause-quiet
+returns-in-Ok-clause-quiet c = quiet_on c.birth_behind.ensures.quiet (unlink_quiet c.in-Ok.ensures.step)
+
+pub returns-in-Ok-clause-keeps : goal.returns-in-Ok-clause-keeps
+returns-in-Ok-clause-keeps c = keeps_on c.in_ok-next_birth.ensures.keeps (unlink_keeps c.in-Ok.ensures.step)
+
+pub returns-in-Ok-clause-read : goal.returns-in-Ok-clause-read
+returns-in-Ok-clause-read c =
+    let b = c.in_ok-next_birth.ensures in
+    read_after b.quiet (new_read c.birth_behind.new.pass c.soundness.ensures c.args.pred.now c.args.marked c.decode.result c.in_ok-next_birth.next_birth (held_kept c.args.pred.now b.keeps c.requires.pred) (marked_kept c.args.marked b.keeps c.requires.marked) c.decode.ensures.link b.birth c.link_to-new.result c.link_to-new.ensures.link c.in-Ok.ensures.step)
+
+pub returns-in-Err-clause-quiet : goal.returns-in-Err-clause-quiet
+returns-in-Err-clause-quiet c = quiet_on c.birth_behind.ensures.quiet (unlink_quiet c.in-Err.ensures.step.0)
+
+pub returns-in-Ok-clause-right : goal.returns-in-Ok-clause-right
+returns-in-Ok-clause-right c = quiet_safe c.birth_behind.new.pass c.soundness.ensures (unlink_quiet c.in-Ok.ensures.step)

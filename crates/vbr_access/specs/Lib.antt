@@ -1,0 +1,6 @@
+pub mod Soundness
+pub mod Keeping
+pub mod Held
+pub mod Moments
+pub mod Rollbacks
+pub mod Steps

@@ -1,0 +1,46 @@
+-- What was so at a moment of a call.
+use Rattle.std.specs.Prelude.{◌≡◌, ℕ, Bool, List, Option, Some, None}
+use Rattle.vbr_words.specs.Words.{link_of}
+use Rattle.vbr_words.specs.declared.place.At.{At}
+use Rattle.vbr_words.specs.declared.place.At.TheVariants.{Slot}
+use Rattle.vbr_core.specs.Keys.{no_keys}
+use Rattle.vbr_core.specs.History.{set_after}
+use Rattle.vbr_core.specs.Machine.{link_at, found}
+use Rattle.vbr_core.specs.Membership.{IsHeldPlace}
+use Rattle.vbr_core.specs.Runs.{world_after, know_after}
+use Rattle.vbr_core.specs.declared.event.Event.{Event}
+use Rattle.vbr_core.specs.declared.event.Step.TheVariants.{LoadLink}
+use Rattle.vbr_slots.specs.Calls.{Moment}
+use Rattle.vbr_slots.specs.Views.{Trace, knows}
+use Rattle.vbr_access.specs.Held.{IsHeld, Names}
+use Rattle.vbr_access.specs.declared.held.Held.{Held}
+
+-- at a moment of what the pass did, it held the place, in the epoch of what is held, and the link stood there
+pub record Stood (p q : Trace) (held : Held) : Type 0 where
+  pub moment : List Event
+  pub within : Moment p q moment
+  pub epoch : (know_after p.shape moment p.who).epoch ≡ held.epoch
+  pub place : IsHeldPlace (know_after p.shape moment p.who) held.at
+  pub shown : link_at (world_after p.shape moment) held.at ≡ link_of held.word
+
+-- it was read by what the pass did: it is held, and its link stood there at a moment
+pub record IsRead (p q : Trace) (held : Held) : Type 0 where
+  pub known : IsHeld (knows q) held
+  pub stood : Stood p q held
+
+-- what a link names was read, if it names a slot
+abbrev pub IsNext : Trace → Trace → Held → Option Held → Type 0
+IsNext p q held None = (link_of held.word).slot ≡ None
+IsNext p q held (Some next) = (s : ℕ) × Names held s × (next.at ≡ Slot s) × IsRead p q next
+
+-- at a moment of what the pass did, this link word stood at the place
+pub record WasFound (p q : Trace) (at : At) (word : ℕ) : Type 0 where
+  pub moment : List Event
+  pub within : Moment p q moment
+  pub found : found p.shape (world_after p.shape moment) (LoadLink at) ≡ word
+
+-- at a moment of what the pass did, the key was in the set, or wasn't
+pub record WasSo (p q : Trace) (key : ℕ) (present : Bool) : Type 0 where
+  pub moment : List Event
+  pub within : Moment p q moment
+  pub was : set_after no_keys (world_after p.shape moment).calls key ≡ present

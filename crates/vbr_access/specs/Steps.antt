@@ -1,0 +1,22 @@
+-- How many steps a call makes.
+use Rattle.std.specs.Prelude.{ℕ, ◌+◌, Option, Some, None, Result, Ok, Err}
+use Rattle.vbr_pools.specs.Hands.{UnlinkedView}
+use Rattle.vbr_access.specs.declared.held.Held.{Held}
+use Rattle.vbr_access.specs.declared.rollback.Rollback.{Rollback}
+use Rattle.vbr_access.specs.declared.rollback.Rollback.TheVariants.{EpochMoved, LostExchange}
+
+-- the steps of reading what a link names: none if it names none, else a birth, a link and the epoch
+abbrev pub next_steps : Option ℕ → ℕ
+next_steps None = 0
+next_steps (Some s) = 3
+
+-- the steps of reading the birth of what a link names: none if it names none, else the birth and the epoch
+abbrev pub birth_steps : Option ℕ → ℕ
+birth_steps None = 0
+birth_steps (Some s) = 2
+
+-- the steps of an unlinking: those of reading the birth of what the marked link names, and one more unless the epoch has moved
+abbrev pub unlink_steps : Option ℕ → Result (UnlinkedView × Held) Rollback → ℕ
+unlink_steps next (Err (EpochMoved now)) = birth_steps next
+unlink_steps next (Err (LostExchange found)) = birth_steps next + 1
+unlink_steps next (Ok r) = birth_steps next + 1

@@ -1,0 +1,79 @@
+//! Answers by one more load of a link word.
+ghost use Rattle.std.specs.Prelude.{◌≡◌, ◌≢◌, ℕ, false, IfOk, IfErr};
+ghost use Rattle.vbr_words.specs.Words.{link_of};
+ghost use Rattle.vbr_core.specs.Learning.{present_reply};
+ghost use Rattle.vbr_core.specs.Membership.{KeyAt, StandsBehind, StandsBefore};
+ghost use Rattle.vbr_core.specs.declared.history.Op.TheVariants.{Insert, Remove};
+ghost use Rattle.vbr_core.specs.Safety.{IsSafe};
+ghost use Rattle.vbr_slots.specs.Calls.{Quiet, Made, Took};
+ghost use Rattle.vbr_slots.specs.Views.{IsOf, knows};
+ghost use Rattle.vbr_access.specs.Held.{IsHeld};
+ghost use Rattle.vbr_access.specs.Keeping.{Keeps, KeepsOwn};
+ghost use Rattle.vbr_access.specs.Rollbacks.{IsLost};
+
+use crate::held::Held;
+use crate::rollback::Rollback;
+use crate::soundness::soundness;
+use vbr_core::Op;
+use vbr_slots::{Pass, Slots};
+use vbr_words::At;
+
+/// Answers, in one step, that the key of a node is present: a look-up with yes, an insert with no.
+/// It does so only where the node's link is still the unmarked one that is held.
+#[inline]
+pub fn confirm_present(slots: &Slots, pass: &mut Pass, op: Op, held: &Held) -> Result<(), Rollback>
+    requires own { IsOf pass.old.trace slots.now }
+    requires held { IsHeld (knows pass.old.trace) held.now }
+    requires key { (key : ℕ) × KeyAt (knows pass.old.trace) held.now.at key }
+    requires unmarked { (link_of held.now.word).mark ≡ false }
+    requires op { op ≢ Remove }
+    ensures took { Took pass.old.trace pass.new.trace 1 }
+    ensures own { KeepsOwn pass.old pass.new }
+    ensures keeps { Keeps (knows pass.old.trace) (knows pass.new.trace) }
+    ensures made { IfOk result (λ _. (key : ℕ) → KeyAt (knows pass.old.trace) held.now.at key →
+        Made (record { who = pass.old.trace.who; op = op; key = key; reply = present_reply op }) pass.old.trace pass.new.trace) }
+    ensures quiet { IfErr result (λ r. Quiet pass.old.trace pass.new.trace) }
+    ensures lost { IfErr result (λ r. IsLost pass.old.trace pass.new.trace held.now r) }
+    ensures right { IfOk result (λ _. IsSafe pass.new.trace.shape pass.new.trace.seen) }
+{
+    soundness(slots, pass);
+    let At::Slot(slot) = held.at else {
+        unreachable!()
+    };
+    match slots.confirm_present(pass, op, slot, held.word) {
+        Ok(()) => Ok(()),
+        Err(found) => Err(Rollback::LostExchange { found }),
+    }
+}
+
+/// Answers, in one step, that a key is absent: a look-up or a remove with no. It would stand behind
+/// `pred` and before what its link names. It does so only where that link is still the unmarked one
+/// that is held.
+#[inline]
+pub fn confirm_absent(
+    slots: &Slots,
+    pass: &mut Pass,
+    op: Op,
+    key: u64,
+    pred: &Held,
+) -> Result<(), Rollback>
+    requires own { IsOf pass.old.trace slots.now }
+    requires held { IsHeld (knows pass.old.trace) pred.now }
+    requires behind { StandsBehind pass.old.trace.shape (knows pass.old.trace) pred.now.at key }
+    requires before { StandsBefore (knows pass.old.trace) key (link_of pred.now.word).slot }
+    requires unmarked { (link_of pred.now.word).mark ≡ false }
+    requires op { op ≢ Insert }
+    ensures took { Took pass.old.trace pass.new.trace 1 }
+    ensures own { KeepsOwn pass.old pass.new }
+    ensures keeps { Keeps (knows pass.old.trace) (knows pass.new.trace) }
+    ensures made { IfOk result (λ _. Made (record { who = pass.old.trace.who; op = op; key = key; reply = false }) pass.old.trace pass.new.trace) }
+    ensures quiet { IfErr result (λ r. Quiet pass.old.trace pass.new.trace) }
+    ensures lost { IfErr result (λ r. IsLost pass.old.trace pass.new.trace pred.now r) }
+    ensures right { IfOk result (λ _. IsSafe pass.new.trace.shape pass.new.trace.seen) }
+{
+    soundness(slots, pass);
+    match slots.confirm_absent(pass, op, key, pred.at, pred.word) {
+        Ok(()) => Ok(()),
+        Err(found) => Err(Rollback::LostExchange { found }),
+    }
+}

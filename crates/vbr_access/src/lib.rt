@@ -1,0 +1,25 @@
+//! Checked access to the lists of a set: checkpoints, reads that an unmoved epoch has confirmed, and
+//! the exchanges that stand on them (Michael 2002; Sheffi, Herlihy and Petrank 2021).
+//!
+//! A call that reads checks the epoch after it has read. Where the epoch has moved it answers
+//! [`Rollback::EpochMoved`], and the caller begins again at a [`checkpoint`]. A call that exchanges
+//! answers [`Rollback::LostExchange`] where another word stood there.
+#![tactic(auto)]
+
+pub mod confirming;
+pub mod held;
+mod links;
+pub mod marking;
+pub mod reading;
+pub mod rollback;
+mod soundness;
+pub mod unlinking;
+pub mod updating;
+
+pub use confirming::{confirm_absent, confirm_present};
+pub use held::{Checkpoint, Held, Marked};
+pub use marking::mark;
+pub use reading::{checkpoint, first, key_of, next};
+pub use rollback::Rollback;
+pub use unlinking::unlink;
+pub use updating::update;

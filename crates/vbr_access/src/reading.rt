@@ -1,0 +1,130 @@
+//! Checkpoints and checked reads.
+ghost use Rattle.std.specs.Prelude.{◌≡◌, ◌<◌, ℕ, false, IfOk, IfErr};
+ghost use Rattle.vbr_words.specs.Words.{link_of};
+ghost use Rattle.vbr_words.specs.declared.place.At.TheVariants.{Head};
+ghost use Rattle.vbr_core.specs.Acceptance.{bucket_of};
+ghost use Rattle.vbr_core.specs.Membership.{KeyAt, HeldIn};
+ghost use Rattle.vbr_core.specs.Safety.{IsSafe};
+ghost use Rattle.vbr_slots.specs.Calls.{Quiet, Took};
+ghost use Rattle.vbr_slots.specs.Views.{IsOf, knows};
+ghost use Rattle.vbr_access.specs.Held.{IsSlot, IsHeld};
+ghost use Rattle.vbr_access.specs.Keeping.{Keeps, KeepsOwn};
+ghost use Rattle.vbr_access.specs.Moments.{IsRead, IsNext};
+ghost use Rattle.vbr_access.specs.Rollbacks.{IsMoved};
+ghost use Rattle.vbr_access.specs.Steps.{next_steps};
+
+use crate::held::{Checkpoint, Held};
+use crate::rollback::Rollback;
+use crate::soundness::soundness;
+use vbr_slots::{Pass, Slots};
+use vbr_words::{At, decode};
+
+/// Reads the epoch, in one step: a checkpoint to roll back to.
+#[inline]
+pub fn checkpoint(slots: &Slots, pass: &mut Pass) -> Checkpoint
+    requires { IsOf pass.old.trace slots.now }
+    ensures epoch { result.epoch ≡ (knows pass.new.trace).epoch }
+    ensures quiet { Quiet pass.old.trace pass.new.trace }
+    ensures took { Took pass.old.trace pass.new.trace 1 }
+    ensures own { KeepsOwn pass.old pass.new }
+{
+    soundness(slots, pass);
+    Checkpoint {
+        epoch: slots.read_epoch(pass),
+    }
+}
+
+/// Reads the head of a bucket, in two steps.
+#[inline]
+pub fn first(
+    slots: &Slots,
+    pass: &mut Pass,
+    point: &Checkpoint,
+    bucket: u32,
+) -> Result<Held, Rollback>
+    requires own { IsOf pass.old.trace slots.now }
+    requires point { point.now.epoch ≡ (knows pass.old.trace).epoch }
+    requires bucket { bucket < slots.now.shape.buckets }
+    ensures quiet { Quiet pass.old.trace pass.new.trace }
+    ensures took { Took pass.old.trace pass.new.trace 2 }
+    ensures own { KeepsOwn pass.old pass.new }
+    ensures keeps { IfOk result (λ head. Keeps (knows pass.old.trace) (knows pass.new.trace)) }
+    ensures at { IfOk result (λ head. head.at ≡ Head bucket) }
+    ensures read { IfOk result (λ head. IsRead pass.old.trace pass.new.trace head) }
+    ensures unmarked { IfOk result (λ head. (link_of head.word).mark ≡ false) }
+    ensures moved { IfErr result (λ r. IsMoved pass.old.trace pass.new.trace r) }
+    ensures right { IfOk result (λ _. IsSafe pass.new.trace.shape pass.new.trace.seen) }
+{
+    soundness(slots, pass);
+    let at = At::Head(bucket);
+    let word = slots.load_link(pass, at);
+    let now = slots.read_epoch(pass);
+    if now != point.epoch {
+        return Err(Rollback::EpochMoved { now });
+    }
+    Ok(Held {
+        at,
+        birth: 0,
+        word,
+        epoch: now,
+    })
+}
+
+/// Reads the node that a link names, in three steps; a link to none needs no step.
+#[inline]
+pub fn next(slots: &Slots, pass: &mut Pass, held: &Held) -> Result<Option<Held>, Rollback>
+    requires own { IsOf pass.old.trace slots.now }
+    requires held { IsHeld (knows pass.old.trace) held.now }
+    ensures quiet { Quiet pass.old.trace pass.new.trace }
+    ensures took { Took pass.old.trace pass.new.trace (next_steps (link_of held.now.word).slot) }
+    ensures own { KeepsOwn pass.old pass.new }
+    ensures keeps { IfOk result (λ next. Keeps (knows pass.old.trace) (knows pass.new.trace)) }
+    ensures read { IfOk result (λ next. IsNext pass.old.trace pass.new.trace held.now next) }
+    ensures moved { IfErr result (λ r. IsMoved pass.old.trace pass.new.trace r) }
+    ensures right { IfOk result (λ _. IsSafe pass.new.trace.shape pass.new.trace.seen) }
+{
+    soundness(slots, pass);
+    let Some(slot) = decode(held.word).slot else {
+        return Ok(None);
+    };
+    let birth = slots.load_birth(pass, slot);
+    let at = At::Slot(slot);
+    let word = slots.load_link(pass, at);
+    let now = slots.read_epoch(pass);
+    if now != held.epoch {
+        return Err(Rollback::EpochMoved { now });
+    }
+    Ok(Some(Held {
+        at,
+        birth,
+        word,
+        epoch: now,
+    }))
+}
+
+/// Reads the key of a node, in two steps.
+#[inline]
+pub fn key_of(slots: &Slots, pass: &mut Pass, node: &Held) -> Result<u64, Rollback>
+    requires own { IsOf pass.old.trace slots.now }
+    requires held { IsHeld (knows pass.old.trace) node.now }
+    requires slot { IsSlot node.now.at }
+    ensures quiet { Quiet pass.old.trace pass.new.trace }
+    ensures took { Took pass.old.trace pass.new.trace 2 }
+    ensures own { KeepsOwn pass.old pass.new }
+    ensures keeps { IfOk result (λ key. Keeps (knows pass.old.trace) (knows pass.new.trace)) }
+    ensures key { IfOk result (λ key. KeyAt (knows pass.new.trace) node.now.at key) }
+    ensures bucket { IfOk result (λ key. (b : ℕ) → HeldIn (knows pass.old.trace) node.now.at b → bucket_of pass.old.trace.shape key ≡ b) }
+    ensures moved { IfErr result (λ r. IsMoved pass.old.trace pass.new.trace r) }
+    ensures right { IfOk result (λ _. IsSafe pass.new.trace.shape pass.new.trace.seen) }
+{
+    soundness(slots, pass);
+    let At::Slot(slot) = node.at else {
+        unreachable!()
+    };
+    let key = slots.load_key(pass, slot);
+    let now = slots.read_epoch(pass);
+    if now != node.epoch {
+        return Err(Rollback::EpochMoved { now });
+    }
+    Ok(key)
+}

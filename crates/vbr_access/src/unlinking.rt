@@ -1,0 +1,89 @@
+//! Unlinking a marked node.
+ghost use Rattle.std.specs.Prelude.{◌≡◌, ℕ, false, IsSome, IfOk, IfErr};
+ghost use Rattle.vbr_words.specs.Words.{IsLink, link_of};
+ghost use Rattle.vbr_core.specs.Acceptance.{IsUnlinked};
+ghost use Rattle.vbr_core.specs.Membership.{BirthNamed};
+ghost use Rattle.vbr_core.specs.Safety.{IsSafe};
+ghost use Rattle.vbr_slots.specs.Calls.{Quiet, Took};
+ghost use Rattle.vbr_slots.specs.Views.{IsOf, knows};
+ghost use Rattle.vbr_access.specs.Held.{IsHeld, IsMarked, Names};
+ghost use Rattle.vbr_access.specs.Keeping.{Keeps, KeepsOwn};
+ghost use Rattle.vbr_access.specs.Moments.{IsRead};
+ghost use Rattle.vbr_access.specs.Rollbacks.{IsMoved, IsMovedOrLost};
+ghost use Rattle.vbr_access.specs.Steps.{birth_steps, unlink_steps};
+
+use crate::held::{Held, Marked};
+use crate::links::link_to;
+use crate::rollback::Rollback;
+use crate::soundness::soundness;
+use vbr_pools::Unlinked;
+use vbr_slots::{Pass, Slots};
+use vbr_words::decode;
+
+// The birth of what a marked link names, in two steps; 0 of none, without a step.
+#[inline]
+fn birth_behind(slots: &Slots, pass: &mut Pass, marked: &Marked) -> Result<u64, Rollback>
+    requires own { IsOf pass.old.trace slots.now }
+    requires marked { IsMarked (knows pass.old.trace) marked.now }
+    ensures quiet { Quiet pass.old.trace pass.new.trace }
+    ensures took { Took pass.old.trace pass.new.trace (birth_steps (link_of marked.now.word).slot) }
+    ensures own { KeepsOwn pass.old pass.new }
+    ensures keeps { IfOk result (λ birth. Keeps (knows pass.old.trace) (knows pass.new.trace)) }
+    ensures birth { IfOk result (λ birth. BirthNamed (knows pass.new.trace) (link_of marked.now.word).slot birth) }
+    ensures some { IfErr result (λ r. IsSome (link_of marked.now.word).slot) }
+    ensures moved { IfErr result (λ r. IsMoved pass.old.trace pass.new.trace r) }
+{
+    soundness(slots, pass);
+    let Some(slot) = decode(marked.word).slot else {
+        return Ok(0);
+    };
+    let birth = slots.load_birth(pass, slot);
+    let now = slots.read_epoch(pass);
+    if now != marked.epoch {
+        return Err(Rollback::EpochMoved { now });
+    }
+    Ok(birth)
+}
+
+/// Unlinks a marked node behind `pred`, whose link names it: the slot is the pass's, to be retired,
+/// and `pred` comes back with its new link, which names what the marked link named. It does so only
+/// where the link of `pred` is still the unmarked one that is held.
+///
+/// It makes one step, and two before that if the marked link names a node.
+#[inline]
+pub fn unlink(
+    slots: &Slots,
+    pass: &mut Pass,
+    pred: &Held,
+    marked: Marked,
+) -> Result<(Unlinked, Held), Rollback>
+    requires own { IsOf pass.old.trace slots.now }
+    requires pred { IsHeld (knows pass.old.trace) pred.now }
+    requires unmarked { (link_of pred.now.word).mark ≡ false }
+    requires marked { IsMarked (knows pass.old.trace) marked }
+    requires names { Names pred.now marked.slot }
+    ensures quiet { Quiet pass.old.trace pass.new.trace }
+    ensures took { Took pass.old.trace pass.new.trace (unlink_steps (link_of marked.word).slot result) }
+    ensures own { KeepsOwn pass.old pass.new }
+    ensures keeps { IfOk result (λ r. Keeps (knows pass.old.trace) (knows pass.new.trace)) }
+    ensures slot { IfOk result (λ r. r.0.slot ≡ marked.slot) }
+    ensures owned { IfOk result (λ r. IsUnlinked ((knows pass.new.trace).own marked.slot)) }
+    ensures at { IfOk result (λ r. r.1.at ≡ pred.now.at) }
+    ensures read { IfOk result (λ r. IsRead pass.old.trace pass.new.trace r.1) }
+    ensures still { IfOk result (λ r. (link_of r.1.word).mark ≡ false) }
+    ensures next { IfOk result (λ r. (link_of r.1.word).slot ≡ (link_of marked.word).slot) }
+    ensures rolled { IfErr result (λ r. IsMovedOrLost pass.old.trace pass.new.trace pred.now r) }
+    ensures right { IfOk result (λ _. IsSafe pass.new.trace.shape pass.new.trace.seen) }
+{
+    let next_birth = birth_behind(slots, pass, &marked)?;
+    soundness(slots, pass);
+    let new = link_to(decode(marked.word).slot, pred.birth, next_birth);
+    match slots.unlink(pass, pred.at, pred.word, marked.slot, new) {
+        Ok(()) => {
+            soundness(slots, pass);
+            let node = Unlinked::of(pass, marked.slot);
+            Ok((node, Held { word: new, ..*pred }))
+        }
+        Err(found) => Err(Rollback::LostExchange { found }),
+    }
+}

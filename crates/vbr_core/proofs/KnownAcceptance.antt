@@ -1,0 +1,235 @@
+-- Acceptance by membership and acceptance by look-ups say the same of what a pass knows along a run, and both write the same link.
+use Rattle.std.proofs.Common.{◌≡◌, ℕ, true, Option, Some, None, refl, arith, sym, ap, ◌∙◌}
+use Rattle.std.specs.Prelude.{IsSome, unwrap_or}
+use Rattle.vbr_words.specs.Dimensions.{Dimensions}
+use Rattle.vbr_words.specs.Words.{link_of}
+use Rattle.vbr_words.specs.declared.link.Link.{Link}
+use Rattle.vbr_words.specs.declared.place.At.{At}
+use Rattle.vbr_words.specs.declared.place.At.TheVariants.{Head, Slot}
+use Rattle.vbr_core.specs.Links.{link_to}
+use Rattle.vbr_core.specs.Knowledge.{Know, knows_link, birth_in, key_in, marked_in, holds, holds_at, birth_at, birth_of}
+use Rattle.vbr_core.specs.Acceptance.{bucket_of, KnowsKeyAt, KnowsKeyOf, next_of_marked, IsHeld, IsBehind, IsBefore, IsReady, IsInRange, Accepts}
+use Rattle.vbr_core.specs.Learning.{link_written, call_of, present_reply, birth_in_hand}
+use Rattle.vbr_core.specs.Membership.{Knows, IsHeldSlot, IsHeldPlace, BirthAt, BirthNamed, StandsBehind, StandsBefore, IsUnlinkLink, Writes, IsKnown, IsReadyKnown, IsInRangeKnown, AcceptsKnown}
+use Rattle.vbr_core.specs.Incarnations.{Incarnations}
+use Rattle.vbr_core.specs.Sound.{Sound}
+use Rattle.vbr_core.specs.Notes.{Notes}
+use Rattle.vbr_core.specs.Agreement.{IsNoted}
+use Rattle.vbr_core.specs.declared.history.Op.{Op}
+use Rattle.vbr_core.specs.declared.history.Op.TheVariants.{Remove}
+use Rattle.vbr_core.specs.declared.event.Step.{Step}
+use Rattle.vbr_core.specs.declared.event.Step.TheVariants.{StoreLink, LoadLink, LoadBirth, LoadKey, Publish, Mark, Unlink, ConfirmPresent, ConfirmAbsent}
+use Rattle.vbr_core.specs.declared.knowledge.Read.TheVariants.{LinkAt, BirthOf, KeyOf}
+use Rattle.vbr_core.specs.declared.knowledge.Holding.{Holding}
+use Rattle.vbr_core.specs.declared.knowledge.Holding.TheVariants.{Free, Unlinked, InHand}
+use Rattle.vbr_core.proofs.Lookups.{birth_is, key_is}
+use Rattle.vbr_core.proofs.FoundReads.{link_among, birth_among, marked_among, holds_among, link_there, birth_there, key_there, marked_there, holds_there}
+use Rattle.vbr_core.proofs.KnownReads.{key_known, behind_known, before_known, birth_held, key_held, one_mark}
+
+-- ---- what is looked up is known
+
+some_is : {X : Type 0} (o : Option X) → IsSome o → (x : X) × (o ≡ Some x)
+some_is None h = absurd (cc)
+some_is (Some x) h = (x, refl)
+
+link_known : (know : Know) (at : At) (link : Link) → knows_link know.checked at link ≡ true → Knows know (LinkAt at link)
+link_known know at link q = record { among = link_among know.checked at link q }
+
+pub slot_known : (know : Know) (s : ℕ) → holds know.checked s ≡ true → IsHeldSlot know s
+slot_known know s q = let x = holds_among know.checked s q in record { at = x.0; link = x.1; known = record { among = x.2 }; names = x.3 }
+
+pub place_known : (know : Know) (at : At) → holds_at know.checked at ≡ true → IsHeldPlace know at
+place_known know (Head b) q = tt
+place_known know (Slot s) q = slot_known know s q
+
+birth_known : (know : Know) (s : ℕ) → IsSome (birth_in know.checked s) → Knows know (BirthOf s (unwrap_or (birth_in know.checked s) 0))
+birth_known know s h = go (birth_in know.checked s) refl h
+  where
+    go : (o : Option ℕ) → birth_in know.checked s ≡ o → IsSome o → Knows know (BirthOf s (unwrap_or o 0))
+    go None q h = absurd (cc)
+    go (Some birth) q h = record { among = birth_among know.checked s birth q }
+
+birth_at_known : (know : Know) (at : At) → IsSome (birth_at know.checked at) → BirthAt know at (unwrap_or (birth_at know.checked at) 0)
+birth_at_known know (Head b) h = refl
+birth_at_known know (Slot s) h = birth_known know s h
+
+birth_named_known : (know : Know) (v : Option ℕ) → IsSome (birth_of know.checked v) → BirthNamed know v (unwrap_or (birth_of know.checked v) 0)
+birth_named_known know None h = refl
+birth_named_known know (Some s) h = birth_known know s h
+
+-- the link that an unlinking writes by look-ups is one that it writes by what is known
+unlink_known : (know : Know) (pred : At) (expected s : ℕ) → IsSome (marked_in know.checked s) → IsSome (birth_at know.checked pred) → IsSome (birth_of know.checked (next_of_marked (marked_in know.checked s))) → IsUnlinkLink know pred s (link_written know (Unlink pred expected s))
+unlink_known know pred expected s m b n =
+    let x = some_is (marked_in know.checked s) m in
+    let y = marked_among know.checked s x.0 x.1 in
+    let e : next_of_marked (marked_in know.checked s) ≡ x.0.slot = ap next_of_marked x.1 in
+    record {
+      frozen = x.0;
+      known = record { among = y.0 };
+      is_marked = y.1;
+      birth = unwrap_or (birth_at know.checked pred) 0;
+      birth_known = birth_at_known know pred b;
+      next_birth = unwrap_or (birth_of know.checked x.0.slot) 0;
+      next_known = birth_named_known know x.0.slot (rw e at n);
+      is = ap (λ v. link_to v (unwrap_or (birth_at know.checked pred) 0) (unwrap_or (birth_of know.checked v) 0)) e;
+    }
+
+held_known : (know : Know) (step : Step) → IsHeld know step → IsKnown know step
+held_known know (StoreLink s None) h = tt
+held_known know (StoreLink s (Some n)) h = (slot_known know n h.0, (unwrap_or (birth_in know.checked n) 0, birth_known know n h.1))
+held_known know (LoadLink at) h = place_known know at h
+held_known know (LoadBirth s) h = slot_known know s h
+held_known know (LoadKey s) h = slot_known know s h
+held_known know (Publish pred expected s) h = (link_known know pred (link_of expected) h.0, (unwrap_or (birth_at know.checked pred) 0, birth_at_known know pred h.1.0))
+held_known know (Mark s expected) h = (link_known know (Slot s) (link_of expected) h.0, (unwrap_or (key_in know.checked s) 0, key_known know s h.1))
+held_known know (Unlink pred expected s) h = (link_known know pred (link_of expected) h.0, (link_written know (Unlink pred expected s), unlink_known know pred expected s h.1 h.2 h.3))
+held_known know (ConfirmPresent op s expected) h = (link_known know (Slot s) (link_of expected) h.0, (unwrap_or (key_in know.checked s) 0, key_known know s h.1))
+held_known know (ConfirmAbsent op key at expected) h = link_known know at (link_of expected) h.0
+held_known know step h = tt
+
+ready_known : (shape : Dimensions) (know : Know) (pred : At) (expected : Link) (own : Option Holding) → KnowsKeyAt know.checked pred → KnowsKeyOf know.checked expected.slot → IsSome (birth_of know.checked expected.slot) → IsReady shape know.checked pred expected own → IsReadyKnown shape know pred expected own
+ready_known shape know pred expected None k n b r = absurd r
+ready_known shape know pred expected (Some (Free stamp)) k n b r = absurd r
+ready_known shape know pred expected (Some (Unlinked reread)) k n b r = absurd r
+ready_known shape know pred expected (Some (InHand stamp birth None link)) k n b r = absurd r
+ready_known shape know pred expected (Some (InHand stamp birth (Some key) None)) k n b r = absurd r
+ready_known shape know pred expected (Some (InHand stamp birth (Some key) (Some link))) k n b r = (
+  (unwrap_or (birth_of know.checked expected.slot) 0, birth_named_known know expected.slot b, r.0),
+  behind_known know shape pred key k r.1,
+  before_known know key expected.slot n r.2,
+)
+
+range_known : (shape : Dimensions) (know : Know) (step : Step) → IsHeld know step → IsInRange shape know step → IsInRangeKnown shape know step
+range_known shape know (Publish pred expected s) h r = (r.0, ready_known shape know pred (link_of expected) (know.own s) h.1.1 h.2.1 h.2.0 r.1)
+range_known shape know (ConfirmAbsent op key at expected) h r = (r.0, r.1, behind_known know shape at key h.1 r.2, before_known know key (link_of expected).slot h.2 r.3)
+range_known shape know step h r = r
+
+-- what is accepted by look-ups is accepted by membership
+pub accepts_known : {shape : Dimensions} {know : Know} {step : Step} → Accepts shape know step → AcceptsKnown shape know step
+accepts_known {shape} {know} {step} ok = record { in_shape = ok.in_shape; owned = ok.owned; known = held_known know step ok.held; in_range = range_known shape know step ok.held ok.in_range; below_last = ok.below_last }
+
+-- ---- what is known is looked up
+
+module _ {shape : Dimensions} {a : Incarnations} {know : Know} {notes : Notes} (sound : Sound shape a) (noted : IsNoted a know notes) where
+  -- a look-up of a key finds any known key
+  pub key_looked_up : (s key : ℕ) → Knows know (KeyOf s key) → unwrap_or (key_in know.checked s) 0 ≡ key
+  key_looked_up s key k =
+      let x = key_held noted s key k in
+      key_is sound.slots know.epoch notes.checked know.checked s x.0 noted.checked_reads noted.checked x.1 (key_there know.checked s key k.among) ∙ x.2
+
+  pub birth_looked_up : (s birth : ℕ) → Knows know (BirthOf s birth) → unwrap_or (birth_in know.checked s) 0 ≡ birth
+  birth_looked_up s birth k =
+      let x = birth_held noted s birth k in
+      birth_is sound.slots know.epoch notes.checked know.checked s x.0 noted.checked_reads noted.checked x.1 (birth_there know.checked s birth k.among) ∙ x.2
+
+  birth_at_is : (at : At) (birth : ℕ) → BirthAt know at birth → unwrap_or (birth_at know.checked at) 0 ≡ birth
+  birth_at_is (Head b) birth k = sym k
+  birth_at_is (Slot s) birth k = birth_looked_up s birth k
+
+  birth_named_is : (v : Option ℕ) (birth : ℕ) → BirthNamed know v birth → unwrap_or (birth_of know.checked v) 0 ≡ birth
+  birth_named_is None birth k = sym k
+  birth_named_is (Some s) birth k = birth_looked_up s birth k
+
+  birth_at_there : (at : At) (birth : ℕ) → BirthAt know at birth → IsSome (birth_at know.checked at)
+  birth_at_there (Head b) birth k = refl
+  birth_at_there (Slot s) birth k = birth_there know.checked s birth k.among
+
+  birth_named_there : (v : Option ℕ) (birth : ℕ) → BirthNamed know v birth → IsSome (birth_of know.checked v)
+  birth_named_there None birth k = refl
+  birth_named_there (Some s) birth k = birth_there know.checked s birth k.among
+
+  -- a look-up of a marked link finds one that names what any known marked link names
+  mark_is : (s : ℕ) (link : Link) → Knows know (LinkAt (Slot s) link) → link.mark ≡ true → next_of_marked (marked_in know.checked s) ≡ link.slot
+  mark_is s link k m =
+      let x = some_is (marked_in know.checked s) (marked_there know.checked s link k.among m) in
+      let y = marked_among know.checked s x.0 x.1 in
+      ap next_of_marked x.1 ∙ one_mark sound noted s x.0 link (record { among = y.0 }) k y.1 m
+
+  -- the link that a step writes by look-ups is the one that it writes by any known births and marked link
+  pub written_is : (step : Step) (new : Link) → Writes know step new → link_written know step ≡ new
+  written_is (StoreLink s next) new h = ap (λ n. link_to next (birth_in_hand (know.own s)) n) (birth_named_is next h.0 h.1) ∙ sym h.2
+  written_is (Publish pred expected s) new h = ap (λ n. link_to (Some s) n (birth_in_hand (know.own s))) (birth_at_is pred h.0 h.1) ∙ sym h.2
+  written_is (Mark s expected) new h = sym h
+  written_is (Unlink pred expected s) new h =
+      let e : next_of_marked (marked_in know.checked s) ≡ h.frozen.slot = mark_is s h.frozen h.known h.is_marked in
+      let n : unwrap_or (birth_of know.checked (next_of_marked (marked_in know.checked s))) 0 ≡ h.next_birth = ap (λ v. unwrap_or (birth_of know.checked v) 0) e ∙ birth_named_is h.frozen.slot h.next_birth h.next_known in
+      (λ i. link_to (e i) (birth_at_is pred h.birth h.birth_known i) (n i)) ∙ sym h.is
+  written_is step new h = absurd h
+
+  -- the calls of a mark and of a confirming load of a slot are of any known key
+  pub marked_call_is : (p s expected key : ℕ) → Knows know (KeyOf s key) → call_of p know (Mark s expected) ≡ Some (record { who = p; op = Remove; key = key; reply = true })
+  marked_call_is p s expected key k = ap (λ key. Some (record { who = p; op = Remove; key = key; reply = true })) (key_looked_up s key k)
+
+  pub confirmed_call_is : (p : ℕ) (op : Op) (s expected key : ℕ) → Knows know (KeyOf s key) → call_of p know (ConfirmPresent op s expected) ≡ Some (record { who = p; op = op; key = key; reply = present_reply op })
+  confirmed_call_is p op s expected key k = ap (λ key. Some (record { who = p; op = op; key = key; reply = present_reply op })) (key_looked_up s key k)
+
+  -- ---- acceptance
+
+  behind_there : (at : At) (key : ℕ) → StandsBehind shape know at key → KnowsKeyAt know.checked at
+  behind_there (Head b) key h = tt
+  behind_there (Slot s) key h = key_there know.checked s h.0 h.1.among
+
+  before_there : (key : ℕ) (v : Option ℕ) → StandsBefore know key v → KnowsKeyOf know.checked v
+  before_there key None h = tt
+  before_there key (Some s) h = key_there know.checked s h.0 h.1.among
+
+  behind_is : (at : At) (key : ℕ) → StandsBehind shape know at key → IsBehind shape know.checked at key
+  behind_is (Head b) key h = h
+  behind_is (Slot s) key h = let e = key_looked_up s h.0 h.1 in (h.2 ∙ ap (bucket_of shape) (sym e), (let u = h.3 in omega arith))
+
+  before_is : (key : ℕ) (v : Option ℕ) → StandsBefore know key v → IsBefore know.checked key v
+  before_is key None h = tt
+  before_is key (Some s) h = let e = key_looked_up s h.0 h.1 in (let u = h.2 in omega arith)
+
+  held_of_slot : (s : ℕ) → IsHeldSlot know s → holds know.checked s ≡ true
+  held_of_slot s h = holds_there know.checked s h.at h.link h.known.among h.names
+
+  held_of_place : (at : At) → IsHeldPlace know at → holds_at know.checked at ≡ true
+  held_of_place (Head b) h = refl
+  held_of_place (Slot s) h = held_of_slot s h
+
+  link_held : (at : At) (link : Link) → Knows know (LinkAt at link) → knows_link know.checked at link ≡ true
+  link_held at link k = link_there know.checked at link k.among
+
+  -- a slot in hand that is ready by what is known is so by look-ups, and the reads that it asks for are checked
+  ready_is : (pred : At) (expected : Link) (own : Option Holding) → IsReadyKnown shape know pred expected own →
+      IsReady shape know.checked pred expected own × KnowsKeyAt know.checked pred × KnowsKeyOf know.checked expected.slot × IsSome (birth_of know.checked expected.slot)
+  ready_is pred expected None r = absurd r
+  ready_is pred expected (Some (Free stamp)) r = absurd r
+  ready_is pred expected (Some (Unlinked reread)) r = absurd r
+  ready_is pred expected (Some (InHand stamp birth None link)) r = absurd r
+  ready_is pred expected (Some (InHand stamp birth (Some key) None)) r = absurd r
+  ready_is pred expected (Some (InHand stamp birth (Some key) (Some link))) r = (
+    (r.0.2 ∙ ap (link_to expected.slot birth) (sym (birth_named_is expected.slot r.0.0 r.0.1)), behind_is pred key r.1, before_is key expected.slot r.2),
+    behind_there pred key r.1,
+    before_there key expected.slot r.2,
+    birth_named_there expected.slot r.0.0 r.0.1,
+  )
+
+  held_is : (step : Step) → IsKnown know step → IsInRangeKnown shape know step → IsHeld know step
+  held_is (StoreLink s None) k r = tt
+  held_is (StoreLink s (Some n)) k r = (held_of_slot n k.0, birth_there know.checked n k.1.0 k.1.1.among)
+  held_is (LoadLink at) k r = held_of_place at k
+  held_is (LoadBirth s) k r = held_of_slot s k
+  held_is (LoadKey s) k r = held_of_slot s k
+  held_is (Publish pred expected s) k r = let x = ready_is pred (link_of expected) (know.own s) r.1 in (link_held pred (link_of expected) k.0, (birth_at_there pred k.1.0 k.1.1, x.1), (x.3, x.2))
+  held_is (Mark s expected) k r = (link_held (Slot s) (link_of expected) k.0, key_there know.checked s k.1.0 k.1.1.among)
+  held_is (Unlink pred expected s) k r =
+      let u = k.1.1 in (
+        link_held pred (link_of expected) k.0,
+        marked_there know.checked s u.frozen u.known.among u.is_marked,
+        birth_at_there pred u.birth u.birth_known,
+        rw (mark_is s u.frozen u.known u.is_marked) (birth_named_there u.frozen.slot u.next_birth u.next_known),
+      )
+  held_is (ConfirmPresent op s expected) k r = (link_held (Slot s) (link_of expected) k.0, key_there know.checked s k.1.0 k.1.1.among)
+  held_is (ConfirmAbsent op key at expected) k r = (link_held at (link_of expected) k, behind_there at key r.2, before_there key (link_of expected).slot r.3)
+  held_is step k r = tt
+
+  range_is : (step : Step) → IsInRangeKnown shape know step → IsInRange shape know step
+  range_is (Publish pred expected s) r = (r.0, (ready_is pred (link_of expected) (know.own s) r.1).0)
+  range_is (ConfirmAbsent op key at expected) r = (r.0, r.1, behind_is at key r.2, before_is key (link_of expected).slot r.3)
+  range_is step r = r
+
+  -- what is accepted by membership is accepted by look-ups
+  pub known_accepts : {step : Step} → AcceptsKnown shape know step → Accepts shape know step
+  known_accepts {step} ok = record { in_shape = ok.in_shape; owned = ok.owned; held = held_is step ok.known ok.in_range; in_range = range_is step ok.in_range; below_last = ok.below_last }

@@ -1,0 +1,36 @@
+-- A world stays one that a run led to, and so its calls are legal.
+use Rattle.std.proofs.Common.{◌≡◌, ℕ, List, [], ◌∷◌, ◌++◌, length, Result, Ok, Err, OnOk, OnErr, sym, subst, ap, ◌∙◌}
+use Rattle.vbr_words.specs.Dimensions.{Dimensions}
+use Rattle.vbr_core.specs.Keys.{no_keys}
+use Rattle.vbr_core.specs.History.{IsLegal}
+use Rattle.vbr_core.specs.Machine.{World, after}
+use Rattle.vbr_core.specs.Runs.{IsAccepted, IsRun, world_after}
+use Rattle.vbr_core.specs.Kept.{KeptWorld, world_of}
+use Rattle.vbr_core.specs.Reached.{IsReached}
+use Rattle.vbr_core.specs.declared.event.Event.{Event}
+use Rattle.vbr_core.specs.declared.history.Call.{Call}
+use Rattle.vbr_core.proofs.RunsGoOn.{world_after-snoc, is_run_snoc}
+use Rattle.vbr_core.proofs.SafeRuns.{every_run}
+
+-- after one more accepted event
+reached_next : (kept next : KeptWorld) (event : Event) → IsReached kept → IsAccepted kept.shape (length kept.passes) (world_of kept) event → world_of next ≡ after kept.shape (world_of kept) event.pass event.step → next.shape ≡ kept.shape → length next.passes ≡ length kept.passes → IsReached next
+reached_next kept next event r ok is shape passes = record {
+  shape = rw shape r.shape;
+  run = r.run ++ event ∷ [];
+  is_run = (
+      let accepted : IsAccepted kept.shape (length kept.passes) (world_after kept.shape r.run) event = (let P : World → Type 0 = λ w. IsAccepted kept.shape (length kept.passes) w event in subst P r.world ok) in
+      let P : Dimensions × ℕ → Type 0 = λ at. IsRun at.0 at.1 (r.run ++ event ∷ []) in
+      subst P (λ i. (sym shape i, sym passes i)) (is_run_snoc kept.shape (length kept.passes) r.run event r.is_run accepted));
+  world = is ∙ ap (λ w. after kept.shape w event.pass event.step) r.world ∙ sym (world_after-snoc kept.shape r.run event) ∙ ap (λ (same : Dimensions). world_after same (r.run ++ event ∷ [])) (sym shape);
+}
+
+-- a step that is accepted goes on with the run, and one that is refused leaves it
+pub reached_step : {A B : Type 0} (result : Result A B) (kept next : KeptWorld) (event : Event) → IsReached kept → OnOk result (IsAccepted kept.shape (length kept.passes) (world_of kept) event) → OnOk result (world_of next ≡ after kept.shape (world_of kept) event.pass event.step) → OnErr result (next ≡ kept) → next.shape ≡ kept.shape → length next.passes ≡ length kept.passes → IsReached next
+reached_step (Ok x) kept next event r ok is same shape passes = reached_next kept next event r ok is shape passes
+reached_step (Err x) kept next event r ok is same shape passes = rw same r
+
+-- the calls of a world that a run led to are legal
+pub reached_legal : (kept : KeptWorld) → IsReached kept → IsLegal no_keys kept.calls
+reached_legal kept r =
+    let safe = every_run kept.shape (length kept.passes) r.run r.shape r.is_run in
+    let P : List Call → Type 0 = IsLegal no_keys in subst P (sym (ap (λ w. w.calls) r.world)) safe.legal

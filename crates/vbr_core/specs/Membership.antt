@@ -1,0 +1,136 @@
+-- What a pass knows by membership: whatever is among its checked reads, and not only the first that a look-up finds.
+use Rattle.std.specs.Prelude.{◌≡◌, ◌≢◌, ℕ, ◌<◌, true, false, Option, Some, None}
+use Rattle.std.specs.List.{Contains}
+use Rattle.vbr_words.specs.Dimensions.{Dimensions}
+use Rattle.vbr_words.specs.Words.{link_of}
+use Rattle.vbr_words.specs.declared.link.Link.{Link}
+use Rattle.vbr_words.specs.declared.place.At.{At}
+use Rattle.vbr_words.specs.declared.place.At.TheVariants.{Head, Slot}
+use Rattle.vbr_core.specs.Links.{link_to, marked}
+use Rattle.vbr_core.specs.Knowledge.{Know}
+use Rattle.vbr_core.specs.Acceptance.{bucket_of, IsInShape, IsOwned, IsInRange, IsBelowLast}
+use Rattle.vbr_core.specs.Learning.{birth_in_hand}
+use Rattle.vbr_core.specs.declared.history.Op.TheVariants.{Insert}
+use Rattle.vbr_core.specs.declared.event.Step.{Step}
+use Rattle.vbr_core.specs.declared.event.Step.TheVariants.{StoreLink, LoadLink, LoadBirth, LoadKey, Publish, Mark, Unlink, ConfirmPresent, ConfirmAbsent}
+use Rattle.vbr_core.specs.declared.knowledge.Read.{Read}
+use Rattle.vbr_core.specs.declared.knowledge.Read.TheVariants.{LinkAt, BirthOf, KeyOf}
+use Rattle.vbr_core.specs.declared.knowledge.Holding.{Holding}
+use Rattle.vbr_core.specs.declared.knowledge.Holding.TheVariants.{InHand}
+
+-- a read is known: it is among the checked reads
+pub record Knows (know : Know) (read : Read) : Type 0 where
+  pub among : Contains know.checked read
+
+-- ---- held
+
+-- a slot is held: a known link names it
+pub record IsHeldSlot (know : Know) (s : ℕ) : Type 0 where
+  pub at : At
+  pub link : Link
+  pub known : Knows know (LinkAt at link)
+  pub names : link.slot ≡ Some s
+
+-- a place is held: a head always is
+abbrev pub IsHeldPlace : Know → At → Type 0
+IsHeldPlace know (Head b) = Unit {0}
+IsHeldPlace know (Slot s) = IsHeldSlot know s
+
+-- a place is held in a bucket: the head of the bucket is, and so is a slot that is named by a known link at a place that is held in the bucket
+pub data HeldIn (know : Know) : At → ℕ → Type 0 where
+  at_head : (b : ℕ) → HeldIn know (Head b) b
+  behind : (at : At) → (link : Link) → (s : ℕ) → (b : ℕ) → HeldIn know at b → Knows know (LinkAt at link) → link.slot ≡ Some s → HeldIn know (Slot s) b
+
+-- known marked links lead from a link to another: to itself, and to a known marked link of the slot that is named by one to which they lead
+pub data LeadsTo (know : Know) (link : Link) : Link → Type 0 where
+  itself : LeadsTo know link link
+  onward : (last : Link) → (s : ℕ) → (next : Link) → LeadsTo know link last → last.slot ≡ Some s → Knows know (LinkAt (Slot s) next) → next.mark ≡ true → LeadsTo know link next
+
+-- ---- births and keys
+
+-- this birth is known at a place: 0 at a head
+abbrev pub BirthAt : Know → At → ℕ → Type 0
+BirthAt know (Head b) birth = birth ≡ 0
+BirthAt know (Slot s) birth = Knows know (BirthOf s birth)
+
+-- this birth is known of what a link names: 0 of none
+abbrev pub BirthNamed : Know → Option ℕ → ℕ → Type 0
+BirthNamed know None birth = birth ≡ 0
+BirthNamed know (Some s) birth = Knows know (BirthOf s birth)
+
+-- this key is known at a place: none is at a head
+abbrev pub KeyAt : Know → At → ℕ → Type 0
+KeyAt know (Head b) key = ⊥
+KeyAt know (Slot s) key = Knows know (KeyOf s key)
+
+-- a key stands behind a place: in its bucket, and above a key that is known there if it is a slot
+abbrev pub StandsBehind : Dimensions → Know → At → ℕ → Type 0
+StandsBehind shape know (Head b) key = bucket_of shape key ≡ b
+StandsBehind shape know (Slot s) key = (here : ℕ) × Knows know (KeyOf s here) × (bucket_of shape key ≡ bucket_of shape here) × (here < key)
+
+-- a key stands before what a link names: below a key that is known of it, if it names a slot
+abbrev pub StandsBefore : Know → ℕ → Option ℕ → Type 0
+StandsBefore know key None = Unit {0}
+StandsBefore know key (Some s) = (there : ℕ) × Knows know (KeyOf s there) × (key < there)
+
+-- ---- what is written
+
+-- an unlinking behind a place writes this link: to what a known marked link of the slot names, by births that are known there and of that
+pub record IsUnlinkLink (know : Know) (pred : At) (s : ℕ) (new : Link) : Type 0 where
+  pub frozen : Link
+  pub known : Knows know (LinkAt (Slot s) frozen)
+  pub is_marked : frozen.mark ≡ true
+  pub birth : ℕ
+  pub birth_known : BirthAt know pred birth
+  pub next_birth : ℕ
+  pub next_known : BirthNamed know frozen.slot next_birth
+  pub is : new ≡ link_to frozen.slot birth next_birth
+
+-- the step writes this link, by births and a marked link that are known; other steps write none
+abbrev pub Writes : Know → Step → Link → Type 0
+Writes know (StoreLink s next) new = (birth : ℕ) × BirthNamed know next birth × (new ≡ link_to next (birth_in_hand (know.own s)) birth)
+Writes know (Publish pred expected s) new = (birth : ℕ) × BirthAt know pred birth × (new ≡ link_to (Some s) birth (birth_in_hand (know.own s)))
+Writes know (Mark s expected) new = new ≡ marked (link_of expected)
+Writes know (Unlink pred expected s) new = IsUnlinkLink know pred s new
+Writes know _ new = ⊥
+
+-- ---- acceptance
+
+-- what a link names, if anything, is held, and a birth of it is known
+abbrev pub IsNextKnown : Know → Option ℕ → Type 0
+IsNextKnown know None = Unit {0}
+IsNextKnown know (Some s) = IsHeldSlot know s × ((birth : ℕ) × Knows know (BirthOf s birth))
+
+-- the reads that the step asks for are known
+abbrev pub IsKnown : Know → Step → Type 0
+IsKnown know (StoreLink s next) = IsNextKnown know next
+IsKnown know (LoadLink at) = IsHeldPlace know at
+IsKnown know (LoadBirth s) = IsHeldSlot know s
+IsKnown know (LoadKey s) = IsHeldSlot know s
+IsKnown know (Publish pred expected s) = Knows know (LinkAt pred (link_of expected)) × ((birth : ℕ) × BirthAt know pred birth)
+IsKnown know (Mark s expected) = Knows know (LinkAt (Slot s) (link_of expected)) × ((key : ℕ) × Knows know (KeyOf s key))
+IsKnown know (Unlink pred expected s) = Knows know (LinkAt pred (link_of expected)) × ((new : Link) × IsUnlinkLink know pred s new)
+IsKnown know (ConfirmPresent op s expected) = Knows know (LinkAt (Slot s) (link_of expected)) × ((key : ℕ) × Knows know (KeyOf s key))
+IsKnown know (ConfirmAbsent op key at expected) = Knows know (LinkAt at (link_of expected))
+IsKnown know _ = Unit {0}
+
+-- a slot in hand whose key and link were stored since its birth: the link names what the expected link names, by a birth that is known of that, and the key stands between
+abbrev pub IsReadyKnown : Dimensions → Know → At → Link → Option Holding → Type 0
+IsReadyKnown shape know pred expected (Some (InHand stamp birth (Some key) (Some link))) =
+    ((named : ℕ) × BirthNamed know expected.slot named × (link ≡ link_to expected.slot birth named)) × StandsBehind shape know pred key × StandsBefore know key expected.slot
+IsReadyKnown shape know pred expected _ = ⊥
+
+-- the step's numbers are in range
+abbrev pub IsInRangeKnown : Dimensions → Know → Step → Type 0
+IsInRangeKnown shape know (Publish pred expected s) = ((link_of expected).mark ≡ false) × IsReadyKnown shape know pred (link_of expected) (know.own s)
+IsInRangeKnown shape know (ConfirmAbsent op key at expected) =
+    ((link_of expected).mark ≡ false) × (op ≢ Insert) × StandsBehind shape know at key × StandsBefore know key (link_of expected).slot
+IsInRangeKnown shape know step = IsInRange shape know step
+
+-- the core accepts the step of a pass that knows this: as acceptance by look-ups, but any known key, birth or marked link serves
+pub record AcceptsKnown (shape : Dimensions) (know : Know) (step : Step) : Type 0 where
+  pub in_shape : IsInShape shape step
+  pub owned : IsOwned know step
+  pub known : IsKnown know step
+  pub in_range : IsInRangeKnown shape know step
+  pub below_last : IsBelowLast shape step

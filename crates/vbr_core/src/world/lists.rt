@@ -1,0 +1,110 @@
+// The world in lists of words, as the program keeps it.
+ghost use Rattle.std.specs.Prelude.{◌≡◌, ◌<◌, length, IfOk, IfErr, OnOk, OnErr};
+ghost use Rattle.vbr_words.specs.Places.{IsIn};
+ghost use Rattle.vbr_core.specs.Learning as learning;
+ghost use Rattle.vbr_core.specs.Machine as machine;
+ghost use Rattle.vbr_core.specs.Runs.{IsAccepted, Refuses};
+ghost use Rattle.vbr_core.specs.Kept.{world_of};
+
+use crate::event::{CoreRefusal, Effect, Event};
+use crate::history::Call;
+use crate::knowledge::SlotPlace;
+use crate::world::passes::PassState;
+use crate::world::steps::{effect_of, place_of, succeeds};
+use std::marker::Model;
+use vbr_words::link::MARK;
+use vbr_words::{Place, Shape};
+
+// The words and places of a set, what each of its passes knows, and the calls that were answered.
+#[derive(Debug, Drop)]
+pub struct Lists {
+    pub(super) shape: Shape,
+    pub(super) epoch: u64,
+    pub(super) heads: Vec<u64>,
+    pub(super) links: Vec<u64>,
+    pub(super) birth: Vec<u64>,
+    pub(super) stamps: Vec<u64>,
+    pub(super) keys: Vec<u64>,
+    pub(super) places: Vec<SlotPlace>,
+    pub(super) passes: Vec<PassState>,
+    pub(super) births: u64,
+    pub(super) calls: Vec<Call>,
+}
+
+impl Model for Lists {
+    ghost use Rattle.vbr_core.specs.Kept.{KeptWorld, IsWhole};
+
+    ghost Value = { KeptWorld };
+
+    ghost view = { λ w. record { shape = w.shape; epoch = w.epoch; heads = w.heads.items; links = w.links.items; birth = w.birth.items; stamps = w.stamps.items; keys = w.keys.items; places = w.places.items; passes = w.passes.items; births = w.births; calls = w.calls.items } };
+
+    ghost invariant = { λ w. IsWhole (record { shape = w.shape; epoch = w.epoch; heads = w.heads.items; links = w.links.items; birth = w.birth.items; stamps = w.stamps.items; keys = w.keys.items; places = w.places.items; passes = w.passes.items; births = w.births; calls = w.calls.items }) };
+}
+
+impl Lists {
+    // One step: the tests, then the pass learns, and a step that isn't lost writes. Where a step is
+    // refused, nothing changes.
+    pub(super) fn step(&mut self, event: Event) -> Result<Effect, CoreRefusal>
+        ensures accepted { OnOk result (IsAccepted self.old.shape (length self.old.passes) (world_of self.old) event) }
+        ensures effect { IfOk result (λ effect. effect ≡ learning.effect_of event.step (machine.found self.old.shape (world_of self.old) event.step)) }
+        ensures after { OnOk result (world_of self.new ≡ machine.after self.old.shape (world_of self.old) event.pass event.step) }
+        ensures refused { IfErr result (λ refusal. Refuses self.old.shape (length self.old.passes) (world_of self.old) event refusal) }
+        ensures unchanged { OnErr result (self.new ≡ self.old) }
+        ensures stays { (self.new.shape ≡ self.old.shape) × (length self.new.passes ≡ length self.old.passes) }
+    {
+        self.check(event)?;
+        let found = self.word(place_of(event.step));
+        let link = self.link_written(event);
+        let key = self.key_written(event);
+        self.law_of_room(event);
+        let Ok(()) = self.learn(event, found) else {
+            return Err(CoreRefusal::NoMemory);
+        };
+        if succeeds(event.step, found) {
+            self.write(event, link, key);
+        }
+        Ok(effect_of(event.step, found))
+    }
+
+    // The calls that were answered so far.
+    pub(super) fn calls(&self) -> &[Call]
+        ensures { result.now ≡ self.now.calls }
+    {
+        &self.calls
+    }
+
+    // The word at a place of the shape.
+    pub(super) fn word(&self, place: Place) -> u64
+        requires { IsIn self.now.shape place }
+        ensures { result ≡ machine.word_at self.now.shape (world_of self.now) place }
+    {
+        match place {
+            Place::Epoch => self.epoch,
+            Place::ShapeWord => u64::from(self.shape.slots()) + MARK * self.shape.last_epoch(),
+            Place::Head(bucket) => self.heads[bucket as usize],
+            Place::LinkOf(slot) => self.links[slot as usize],
+            Place::Birth(slot) => self.birth[slot as usize],
+            Place::Stamp(slot) => self.stamps[slot as usize],
+            Place::Key(slot) => self.keys[slot as usize],
+            Place::Flag(slot) => flag_of(self.place_of_slot(slot)),
+        }
+    }
+
+    // Where a slot of the shape is.
+    pub(super) fn place_of_slot(&self, slot: u32) -> SlotPlace
+        requires { slot < self.now.shape.slots }
+        ensures { result ≡ (world_of self.now).place slot }
+    {
+        self.places[slot as usize]
+    }
+}
+
+// The flag of a slot: 1 where it is in the shared pool.
+fn flag_of(place: SlotPlace) -> u64
+    ensures { result ≡ machine.flag_of place }
+{
+    match place {
+        SlotPlace::Shared => 1,
+        _ => 0,
+    }
+}

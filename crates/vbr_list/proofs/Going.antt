@@ -1,0 +1,48 @@
+-- Pieces one after another: they make no call, their steps add up, and the slot in hand stays.
+use Rattle.std.proofs.Common.{◌≡◌, ℕ, ◌+◌, ◌%◌, ◌≤◌, refl, sym, ap, ◌∙◌, subst, arith}
+use Rattle.vbr_words.specs.Dimensions.{Dimensions}
+use Rattle.vbr_core.specs.Acceptance.{bucket_of}
+use Rattle.vbr_slots.specs.Calls.{IsSame, Quiet, Took}
+use Rattle.vbr_slots.specs.Views.{Trace, TableView, PassView, IsOf}
+use Rattle.vbr_slots.proofs.Calls.{quiet_refl, quiet_on, took_on}
+use Rattle.vbr_pools.specs.Steps.{Counts, TookWithin}
+use Rattle.vbr_pools.proofs.Counting.{counts_none, counts_on, took_all}
+use Rattle.vbr_access.specs.Keeping.{KeepsOwn}
+use Rattle.vbr_list.specs.Traversal.{Goes, Tries}
+use Rattle.vbr_list.proofs.KeptHands.{hand_refl, hand_on, own_kept}
+
+-- the pass stays one of the table
+pub of_on : {p q : Trace} {t : TableView} → IsSame p q → IsOf p t → IsOf q t
+of_on s x = (s.table ∙ x.0, s.shape ∙ x.1, s.passes ∙ x.2)
+
+pub counts_step : {p q : Trace} (a n : ℕ) → Took p q n → Counts p q a (a + n)
+counts_step a n took = record { steps = n; sum = refl; took = took }
+
+pub goes_refl : (p : PassView) (a : ℕ) → Goes p p a a
+goes_refl p a = record { quiet = quiet_refl p.trace; counts = counts_none p.trace a; hand = hand_refl p }
+
+pub goes_on : {p q r : PassView} {a b c : ℕ} → Goes p q a b → Goes q r b c → Goes p r a c
+goes_on x y = record { quiet = quiet_on x.quiet y.quiet; counts = counts_on x.counts y.counts; hand = hand_on x.hand y.hand }
+
+pub goes_step : {p q : PassView} (a n : ℕ) → Quiet p.trace q.trace → Took p.trace q.trace n → KeepsOwn p q → Goes p q a (a + n)
+goes_step a n quiet took own = record { quiet = quiet; counts = counts_step a n took; hand = own_kept own }
+
+pub goes_two : {p q r : PassView} (a m n : ℕ) → Quiet p.trace q.trace → Took p.trace q.trace m → KeepsOwn p q → Quiet q.trace r.trace → Took q.trace r.trace n → KeepsOwn q r → Goes p r a (a + (m + n))
+goes_two a m n x t k y u l = record { quiet = quiet_on x y; counts = counts_step a (m + n) (took_on m n t u); hand = hand_on (own_kept k) (own_kept l) }
+
+pub tries_refl : (p : PassView) (a budget : ℕ) → a ≤ budget → Tries p p a a budget
+tries_refl p a budget h = record { goes = goes_refl p a; within = (omega arith, h) }
+
+pub tries_on : {p q r : PassView} {a b c budget : ℕ} → Tries p q a b budget → Goes q r b c → b ≤ c → c ≤ budget → Tries p r a c budget
+tries_on x y le high = record { goes = goes_on x.goes y; within = (let u = x.within.0 in omega arith, high) }
+
+pub took_same : {p q : Trace} (m n : ℕ) → m ≡ n → Took p q n → Took p q m
+took_same {p} {q} m n e took = subst (Took p q) (sym e) took
+
+pub within_of : {p q : Trace} (used budget : ℕ) → used ≤ budget → Counts p q 0 used → TookWithin p q budget
+within_of used budget le counts = record { steps = used; within = le; took = took_all counts }
+
+-- the bucket of a key is that of the table's shape
+pub bucket_is : (a b : Dimensions) (bucket key : ℕ) → a ≡ b → bucket ≡ key % b.buckets → bucket ≡ bucket_of a key
+unfolding bucket_of
+bucket_is a b bucket key e f = f ∙ ap (λ (shape : Dimensions). key % shape.buckets) (sym e)

@@ -1,0 +1,86 @@
+-- The slot in hand stays while others are read and retired.
+use Rattle.std.proofs.Common.{◌≡◌, ◌≢◌, ℕ, suc, ◌-◌, ◌<◌, Bool, true, false, cond, List, [], ◌∷◌, ◌++◌, length, Option, Some, None, refl, sym, ap, ◌∙◌, subst, arith, inl, inr}
+use Rattle.std.specs.Prelude.{◌⊎◌, ◌==◌}
+use Rattle.std.proofs.lemmas.Bool.{cases_Bool}
+use Rattle.std.proofs.lemmas.Bool.Decides.{nat_tests}
+use Rattle.vbr_core.specs.Acceptance.{IsInHand, IsUnlinked}
+use Rattle.vbr_core.specs.Knowledge.{Know}
+use Rattle.vbr_core.specs.Learning.{birth_in_hand, read_epoch, reread}
+use Rattle.vbr_core.specs.declared.knowledge.Holding.{Holding}
+use Rattle.vbr_core.specs.declared.knowledge.Holding.TheVariants.{Free, Unlinked, InHand}
+use Rattle.vbr_core.proofs.Puts.{put_other}
+use Rattle.vbr_slots.specs.declared.pass.TheConstants.{POOL}
+use Rattle.vbr_slots.specs.Pools.{OwnPool}
+use Rattle.vbr_slots.specs.Pools as pools
+use Rattle.vbr_slots.specs.Views.{PassView, knows}
+use Rattle.vbr_pools.specs.Hands.{HandView, IsHandOf}
+use Rattle.vbr_pools.specs.Retiring.{is_kept, know_retired, pool_retired}
+use Rattle.vbr_access.specs.Keeping.{KeepsOwn}
+use Rattle.vbr_list.specs.Traversal.{KeepsHand}
+
+pub hand_refl : (p : PassView) → KeepsHand p p
+hand_refl p = record { hand = refl; in_hand = λ s e. refl; room = λ h. h }
+
+pub hand_on : {p q r : PassView} → KeepsHand p q → KeepsHand q r → KeepsHand p r
+hand_on {p} {q} {r} x y = record {
+  hand = y.hand ∙ x.hand;
+  in_hand = λ s e. y.in_hand s (x.hand ∙ e) ∙ x.in_hand s e;
+  room = λ h. y.room (x.room h);
+}
+
+pub own_kept : {p q : PassView} → KeepsOwn p q → KeepsHand p q
+own_kept {p} {q} x = record {
+  hand = x.hand;
+  in_hand = x.in_hand;
+  room = let P : List ℕ → Type 0 = λ l. length l < POOL in subst P (sym x.pool);
+}
+
+-- ---- a slot is retired
+
+-- what is known of the slots of a pass stays when it reads the epoch, but for those that it unlinked
+own_read : (know : Know) (epoch s : ℕ) → (read_epoch know epoch).own s ≡ reread (know.own s)
+own_read know epoch s = go (epoch == know.epoch)
+  where
+    go : (b : Bool) → (cond {A = Know} b (record { epoch = know.epoch; pending = []; checked = know.checked ++ know.pending; own = λ t. reread (know.own t) }) (record { epoch = epoch; pending = []; checked = []; own = λ t. reread (know.own t) })).own s ≡ reread (know.own s)
+    go true = refl
+    go false = refl
+
+hand_reread : (holding : Option Holding) → IsInHand holding → reread holding ≡ holding
+hand_reread None h = absurd h
+hand_reread (Some (Free stamp)) h = absurd h
+hand_reread (Some (Unlinked seen)) h = absurd h
+hand_reread (Some (InHand stamp birth key link)) h = refl
+
+not_both : (holding : Option Holding) → IsInHand holding → IsUnlinked holding → ⊥
+not_both None h u = h
+not_both (Some (Free stamp)) h u = h
+not_both (Some (Unlinked seen)) h u = h
+not_both (Some (InHand stamp birth key link)) h u = u
+
+-- a pool with a free place keeps one
+place_kept : (pool : List ℕ) (slot : ℕ) → length pool < POOL → length (pool_retired pool slot) < POOL
+place_kept pool slot h = go (cases_Bool (is_kept pool))
+  where
+    one : (xs : List ℕ) → length (xs ++ slot ∷ []) ≡ suc (length xs)
+    one [] = refl
+    one (x ∷ xs) = ap suc (one xs)
+
+    go : (is_kept pool ≡ true) ⊎ (is_kept pool ≡ false) → length (pool_retired pool slot) < POOL
+    go (inl t) = let e = one pool in let u : length pool < POOL - 1 = grind (arith, nat_tests) in rw (t, e) (omega arith)
+    go (inr f) = rw f h
+
+pub retired_hand : {p q : PassView} (slot : ℕ) → OwnPool p.trace.shape (knows p.trace) p.pool p.hand → IsUnlinked ((knows p.trace).own slot) → knows q.trace ≡ know_retired (knows p.trace) (knows q.trace).epoch slot (is_kept p.pool) → q.pool ≡ pool_retired p.pool slot → q.hand ≡ p.hand → KeepsHand p q
+retired_hand {p} {q} slot own unlinked known pool hand = record { hand = hand; in_hand = same; room = λ h. let P : List ℕ → Type 0 = λ l. length l < POOL in subst P (sym pool) (place_kept p.pool slot h) }
+  where
+    same : (s : ℕ) → p.hand ≡ Some s → (knows q.trace).own s ≡ (knows p.trace).own s
+    same s e =
+        let P : Option ℕ → Type 0 = pools.IsHandOf p.trace.shape (knows p.trace) p.pool in
+        let in_hand = (subst P e own.in_hand).1 in
+        let other : s ≢ slot = λ x. not_both ((knows p.trace).own s) in_hand (let Q : ℕ → Type 0 = λ t. IsUnlinked ((knows p.trace).own t) in subst Q (sym x) unlinked) in
+        ap (λ (k : Know). k.own s) known ∙ put_other (read_epoch (knows p.trace) (knows q.trace).epoch).own slot (cond (is_kept p.pool) (Some (Free (knows q.trace).epoch)) None) s other ∙ own_read (knows p.trace) (knows q.trace).epoch s ∙ hand_reread ((knows p.trace).own s) in_hand
+
+-- ---- the hand itself
+
+-- the hand of a pass stays its hand
+pub hand_of_on : {p q : PassView} {hand : HandView} → IsHandOf p hand → KeepsHand p q → IsHandOf q hand
+hand_of_on {p} {q} {hand} x k = record { slot = k.hand ∙ x.slot; birth = ap birth_in_hand (k.in_hand hand.slot x.slot) ∙ x.birth }

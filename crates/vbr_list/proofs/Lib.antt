@@ -1,0 +1,6 @@
+mod Going
+mod KeptHands
+mod Reaching
+mod Moments
+mod Preparing
+mod LonePasses

@@ -1,0 +1,52 @@
+-- A pass that is its table's only one made all the calls of its run, and those are legal.
+use Rattle.std.proofs.Common.{◌≡◌, ℕ, ◌<◌, Bool, List, [], ◌∷◌, ◌++◌, Result, Ok, Err, refl, sym, ap, ◌∙◌, subst, arith}
+use Rattle.std.specs.Prelude.{IfOk}
+use Rattle.vbr_words.specs.Dimensions.{Dimensions, IsShape}
+use Rattle.vbr_core.specs.Calls.{calls_added}
+use Rattle.vbr_core.specs.History.{IsLegal, calls_by, keys_after, reply_of, set_after}
+use Rattle.vbr_core.specs.Keys.{Keys, no_keys}
+use Rattle.vbr_core.specs.Machine.{World, opening, after}
+use Rattle.vbr_core.specs.Runs.{AreAccepted, IsRun, world_from}
+use Rattle.vbr_core.specs.declared.event.Event.{Event}
+use Rattle.vbr_core.specs.declared.history.Call.{Call}
+use Rattle.vbr_core.specs.declared.history.Op.{Op}
+use Rattle.vbr_core.proofs.RunsGoOn.{added_own, calls_after, calls_by-append}
+use Rattle.vbr_core.proofs.SafeRuns.{every_run}
+use Rattle.vbr_slots.specs.Calls.{Made, made_by}
+use Rattle.vbr_slots.specs.Views.{Trace}
+use Rattle.vbr_list.specs.Alone.{AnswersAlone}
+
+-- the last call of a legal history has the reply of the set before it
+legal_last : (keys : Keys) (calls : List Call) (x : Call) → IsLegal keys (calls ++ x ∷ []) → x.reply ≡ reply_of (set_after keys calls) x.op x.key
+legal_last keys [] x legal = legal.0
+legal_last keys (c ∷ cs) x legal = legal_last (keys_after keys c.op c.key c.reply) cs x legal.1
+
+-- where all events are of one pass, so are all calls
+lone_from : (shape : Dimensions) (passes who : ℕ) (w : World) (events : List Event) → passes ≡ 1 → who < passes → AreAccepted shape passes w events → calls_by who w.calls ≡ w.calls → calls_by who (world_from shape w events).calls ≡ (world_from shape w events).calls
+lone_from shape passes who w [] one low ok same = same
+lone_from shape passes who w (x ∷ xs) one low ok same =
+    let mine : x.pass ≡ who = let u = ok.0.0 in omega arith in
+    let P : ℕ → Type 0 = λ p. calls_by p (calls_added shape w x.pass x.step) ≡ calls_added shape w x.pass x.step in
+    lone_from shape passes who (after shape w x.pass x.step) xs one low ok.1
+    (ap (calls_by who) (calls_after shape w x.pass x.step)
+    ∙ calls_by-append who w.calls (calls_added shape w x.pass x.step)
+    ∙ (λ i. same i ++ subst P mine (added_own shape w x.pass x.step) i)
+    ∙ sym (calls_after shape w x.pass x.step))
+
+-- so the calls of a lone pass are legal
+lone_legal : (p : Trace) → IsShape p.shape → p.who < p.passes → IsRun p.shape p.passes p.seen → p.passes ≡ 1 → IsLegal no_keys (made_by p)
+lone_legal p shape low run one =
+    let all = lone_from p.shape p.passes p.who opening p.seen one low run refl in
+    subst (IsLegal no_keys) (sym all) (every_run p.shape p.passes p.seen shape run).legal
+
+pub alone : {p q : Trace} {op : Op} {key : ℕ} {reply : Bool} → IsShape p.shape → p.who < p.passes → Made (record { who = p.who; op = op; key = key; reply = reply }) p q → AnswersAlone p op key reply
+alone {p} {q} {op} {key} {reply} shape low made one =
+    let call : Call = record { who = p.who; op = op; key = key; reply = reply } in
+    let low_now : q.who < q.passes = rw (made.same.who, made.same.passes) low in
+    let legal = lone_legal q (let P : Dimensions → Type 0 = IsShape in subst P (sym made.same.shape) shape) low_now made.is_run (made.same.passes ∙ one) in
+    legal_last no_keys (made_by p) call (subst (IsLegal no_keys) made.calls legal)
+
+-- an answer, if there is one
+pub each_alone : {E : Type 0} (p q : Trace) (op : Op) (key : ℕ) (answer : Result Bool E) → IsShape p.shape → p.who < p.passes → IfOk answer (λ reply. Made (record { who = p.who; op = op; key = key; reply = reply }) p q) → IfOk answer (λ reply. AnswersAlone p op key reply)
+each_alone p q op key (Ok reply) shape low made = alone shape low made
+each_alone p q op key (Err refusal) shape low made = tt

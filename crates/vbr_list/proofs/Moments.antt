@@ -1,0 +1,82 @@
+-- What was found was so at a moment.
+use Rattle.std.proofs.Common.{◌≡◌, ℕ, ◌<◌, Bool, true, false, Option, Some, None, refl, subst, arith}
+use Rattle.std.proofs.lemmas.Bool.Decides.{nat_tests}
+use Rattle.vbr_words.specs.Dimensions.{IsShape}
+use Rattle.vbr_words.specs.Words.{link_of}
+use Rattle.vbr_words.specs.declared.place.At.{At}
+use Rattle.vbr_core.specs.Knowledge.{Know}
+use Rattle.vbr_core.specs.Membership.{KeyAt, StandsBefore}
+use Rattle.vbr_slots.specs.Calls.{IsSame, Quiet}
+use Rattle.vbr_slots.specs.Views.{Trace, knows}
+use Rattle.vbr_slots.proofs.Calls.{moment_before}
+use Rattle.vbr_access.specs.Keeping.{Keeps}
+use Rattle.vbr_access.specs.Moments.{Stood, WasSo}
+use Rattle.vbr_access.specs.declared.held.Held.{Held}
+use Rattle.vbr_access.proofs.Moments.{stood_before, was_present, was_absent}
+use Rattle.vbr_list.specs.Places.{IsCur, IsEnd}
+use Rattle.vbr_list.specs.Found.{CurStood, IsFound}
+use Rattle.vbr_list.specs.Traversal.{IsReached}
+use Rattle.vbr_list.specs.declared.found.Found.{Found}
+use Rattle.vbr_list.proofs.Reaching.{stood_since, pred_on}
+
+-- ---- what was found
+
+pub end_found : {p r : Trace} (key used : ℕ) (pred : Held) → IsReached p r key pred → (link_of pred.word).slot ≡ None → IsFound p r key (record { pred = pred; cur = None; present = false; used = used })
+end_found key used pred x none = record { locates = record { pred = x.is; end = (none, refl) }; stood = x.stood; cur_stood = tt }
+
+pub cur_found : {p q r : Trace} (key used : ℕ) (pred cur : Held) (present : Bool) → IsReached p q key pred → Quiet p q → Quiet q r → Keeps (knows q) (knows r) → IsCur (knows r) key pred cur present → Stood q r cur →
+    IsFound p r key (record { pred = pred; cur = Some cur; present = present; used = used })
+cur_found key used pred cur present x a b keeps y z = record {
+  locates = record { pred = pred_on key pred b.same keeps x.is; end = y };
+  stood = stood_before x.stood b;
+  cur_stood = stood_since a z;
+}
+
+pub found_since : {p q r : Trace} (key : ℕ) (found : Found) → Quiet p q → IsFound q r key found → IsFound p r key found
+found_since {p} {q} {r} key found a x = record { locates = x.locates; stood = stood_since a x.stood; cur_stood = go found.cur x.cur_stood }
+  where
+    go : (cur : Option Held) → CurStood q r cur → CurStood p r cur
+    go None y = y
+    go (Some cur) y = stood_since a y
+
+-- ---- the key was there, or wasn't
+
+-- a key that isn't the one of the node behind stands before it
+before_cur : (know : Know) (key : ℕ) (pred cur : Held) → IsCur know key pred cur false → StandsBefore know key (link_of pred.word).slot
+before_cur know key pred cur y =
+    let l : key < y.here = let u = y.says in let v = y.not_smaller in grind (arith, nat_tests) in
+    let P : At → Type 0 = λ at. KeyAt know at y.here in
+    rw y.named (y.here, subst P y.at y.read, l)
+
+-- an absent key stands before what the place names
+pub stands_before : (know : Know) (key : ℕ) (pred : Held) (cur : Option Held) → IsEnd know key pred cur false → StandsBefore know key (link_of pred.word).slot
+stands_before know key pred None y = rw y.0 tt
+stands_before know key pred (Some cur) y = before_cur know key pred cur y
+
+-- a present key is known at the node
+pub key_known : (know : Know) (key : ℕ) (pred cur : Held) → IsCur know key pred cur true → KeyAt know cur.at key
+key_known know key pred cur y = let e : y.here ≡ key = let u = y.says in grind (arith, nat_tests) in rw e at y.read
+
+pub was_so : {p q : Trace} (key : ℕ) (found : Found) → IsShape p.shape → IsSame p q → IsFound p q key found → WasSo p q key found.present
+was_so {p} {q} key found shape same x = go found.cur found.present x.locates.end x.cur_stood
+  where
+    pred : Held
+    pred = found.pred
+
+    absent : (cur : Option Held) → IsEnd (knows q) key pred cur false → WasSo p q key false
+    absent cur y = was_absent pred shape same (record { known = x.locates.pred.held; stood = x.stood }) x.locates.pred.unmarked key x.locates.pred.behind (stands_before (knows q) key pred cur y)
+
+    go : (cur : Option Held) (present : Bool) → IsEnd (knows q) key pred cur present → CurStood p q cur → WasSo p q key present
+    go None present y z = rw y.1 (absent None (y.0, refl))
+    go (Some cur) true y z = was_present cur shape same (record { known = y.held; stood = z }) y.unmarked key (key_known (knows q) key pred cur y)
+    go (Some cur) false y z = absent (Some cur) y
+
+pub so_before : {p q r : Trace} {key : ℕ} {present : Bool} → WasSo p q key present → Quiet q r → WasSo p r key present
+so_before x b = record { moment = x.moment; within = moment_before x.within b; was = x.was }
+
+-- a key that was found present is known at the node
+pub key_found : (know : Know) (key : ℕ) (pred cur : Held) (o : Option Held) (present : Bool) → IsEnd know key pred o present → o ≡ Some cur → present ≡ true → KeyAt know cur.at key
+key_found know key pred cur o present y e f =
+    let P : Option Held → Type 0 = λ o. IsEnd know key pred o present in
+    let Q : Bool → Type 0 = λ b. IsCur know key pred cur b in
+    key_known know key pred cur (subst Q f (subst P e y))

@@ -1,0 +1,79 @@
+-- The steps of an insert, and what its refusals say.
+use Rattle.std.proofs.Common.{◌≡◌, ℕ, ◌+◌, ◌-◌, ◌<◌, ◌≤◌, Bool, true, false, Result, Ok, Err, sym, subst, arith}
+use Rattle.std.specs.Prelude.{IfOk, IfErr}
+use Rattle.std.specs.Result.{is_ok}
+use Rattle.vbr_words.specs.Dimensions.{Dimensions}
+use Rattle.vbr_core.specs.declared.history.Op.{Op}
+use Rattle.vbr_slots.specs.Calls.{IsSame, Quiet, Made}
+use Rattle.vbr_slots.specs.Views.{Trace, PassView}
+use Rattle.vbr_slots.proofs.Calls.{made_on}
+use Rattle.vbr_pools.specs.Steps.{Counts, TookWithin}
+use Rattle.vbr_pools.proofs.Counting.{counts_on, took_all}
+use Rattle.vbr_pools.proofs.Moments.{missed_after}
+use Rattle.vbr_access.specs.Moments.{WasSo}
+use Rattle.vbr_list.specs.Inserting.{CountsWithin, TakesNone, Refuses, IsShort}
+use Rattle.vbr_list.specs.Traversal.{Tries}
+use Rattle.vbr_list.specs.declared.refusal.Refusal.{Refusal}
+use Rattle.vbr_list.specs.declared.refusal.Refusal.TheVariants.{OutOfSteps, NoSlot, EpochSpent}
+use Rattle.vbr_list.proofs.Going.{counts_step}
+use Rattle.vbr_list.proofs.Moments.{so_before}
+
+pub within_tries : {p q : PassView} {a b budget : ℕ} → Tries p q a b budget → CountsWithin p.trace q.trace a b budget
+within_tries x = record { counts = x.goes.counts; within = x.within }
+
+pub within_on : {p q r : Trace} {a b c budget : ℕ} → CountsWithin p q a b budget → Counts q r b c → b ≤ c → c ≤ budget → CountsWithin p r a c budget
+within_on x y low high = record { counts = counts_on x.counts y; within = (let u = x.within.0 in omega arith, high) }
+
+-- they are those of a pass with the same trace
+pub within_same : {p q r : Trace} {a b budget : ℕ} → r ≡ q → CountsWithin p q a b budget → CountsWithin p r a b budget
+within_same {p} {q} {r} {a} {b} e x = record { counts = subst (λ (t : Trace). Counts p t a b) (sym e) x.counts; within = x.within }
+
+-- a call with what is left of the budget
+pub within_rest : {p q : Trace} (used budget : ℕ) → used ≤ budget → TookWithin p q (budget - used) → (since : ℕ) × CountsWithin p q used since budget
+within_rest used budget le x = let h = x.within in (used + x.steps, record { counts = counts_step used x.steps x.took; within = (omega arith, omega arith) })
+
+pub within_after : {p q r : Trace} {a b budget : ℕ} → CountsWithin p q a b budget → (since : ℕ) × CountsWithin q r b since budget → (since : ℕ) × CountsWithin p r a since budget
+within_after x y = (y.0, within_on x y.1.counts y.1.within.0 y.1.within.1)
+
+-- ---- refusals
+
+-- a refusal to take a slot, where the key was found absent before
+pub refuses_after : (p q r : PassView) {key a b budget : ℕ} → Quiet p.trace q.trace → CountsWithin p.trace q.trace a b budget → WasSo p.trace q.trace key false → Quiet q.trace r.trace → (refusal : Refusal) → TakesNone q r b budget refusal → Refuses p r key a budget refusal
+refuses_after p q r quiet x absent more (OutOfSteps used) y = record { counts = within_on x y.counts.counts y.counts.within.0 y.counts.within.1; short = y.short }
+refuses_after p q r quiet x absent more NoSlot y = record {
+  absent = so_before absent more;
+  empty = y.still;
+  outside = λ slot low. missed_after quiet (y.outside slot (let P : Dimensions → Type 0 = λ shape. slot < shape.slots in subst P (sym quiet.same.shape) low));
+}
+refuses_after p q r quiet x absent more (EpochSpent epoch) y = record { absent = so_before absent more; spent = y }
+
+-- the second part of an insert makes so many steps
+pub within_second : (q r : PassView) {b budget : ℕ} (c : ℕ) (answer : Result Bool Refusal) → IfOk answer (λ _. CountsWithin q.trace r.trace b c budget) → IfErr answer (λ refusal. IsShort q r b budget refusal) → (since : ℕ) × CountsWithin q.trace r.trace b since budget
+within_second q r c (Ok reply) x y = (c, x)
+within_second q r c (Err (OutOfSteps used)) x y = (used, y.counts)
+within_second q r c (Err NoSlot) x y = absurd y
+within_second q r c (Err (EpochSpent epoch)) x y = absurd y
+
+pub within_all : {p q : Trace} {budget : ℕ} → (since : ℕ) × CountsWithin p q 0 since budget → TookWithin p q budget
+within_all x = record { steps = x.0; within = x.1.within.1; took = took_all x.1.counts }
+
+-- ---- an answer
+
+pub made_since : {p q r : Trace} {op : Op} {key : ℕ} {reply : Bool} → Quiet p q → Made (record { who = q.who; op = op; key = key; reply = reply }) q r → Made (record { who = p.who; op = op; key = key; reply = reply }) p r
+made_since {p} {q} {r} {op} {key} {reply} quiet made = let P : ℕ → Type 0 = λ who. Made (record { who = who; op = op; key = key; reply = reply }) p r in subst P quiet.same.who (made_on quiet made)
+
+pub if_ok : {T E : Type 0} {P : Type 0} (x : Result T E) → is_ok x ≡ true → IfOk x (λ _. P) → P
+if_ok (Ok value) e p = p
+if_ok (Err error) e p = absurd (cc)
+
+pub if_err : {T E : Type 0} {P : Type 0} (x : Result T E) → is_ok x ≡ false → IfErr x (λ _. P) → P
+if_err (Ok value) e p = absurd (cc)
+if_err (Err error) e p = p
+
+pub each_since : {E : Type 0} (p q r : Trace) (op : Op) (key : ℕ) (answer : Result Bool E) → Quiet p q → IfOk answer (λ reply. Made (record { who = q.who; op = op; key = key; reply = reply }) q r) → IfOk answer (λ reply. Made (record { who = p.who; op = op; key = key; reply = reply }) p r)
+each_since p q r op key (Ok reply) quiet made = made_since quiet made
+each_since p q r op key (Err error) quiet made = tt
+
+pub each_same : {E : Type 0} (p q : Trace) (op : Op) (key : ℕ) (answer : Result Bool E) → IfOk answer (λ reply. Made (record { who = p.who; op = op; key = key; reply = reply }) p q) → IfErr answer (λ _. Quiet p q) → IsSame p q
+each_same p q op key (Ok reply) made quiet = made.same
+each_same p q op key (Err error) made quiet = quiet.same

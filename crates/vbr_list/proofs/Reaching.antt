@@ -1,0 +1,135 @@
+-- A traversal goes on from place to place.
+use Rattle.std.proofs.Common.{◌≡◌, ℕ, ◌<◌, ◌≤◌, Bool, true, false, ◌++◌, refl, sym, ap, ◌∙◌, subst, arith, eq-eqb, Some}
+use Rattle.std.specs.Prelude.{◌==◌}
+use Rattle.std.proofs.lemmas.List.Elements.{Contains-append_left}
+use Rattle.vbr_words.specs.Dimensions.{Dimensions}
+use Rattle.vbr_words.specs.Words.{link_of}
+use Rattle.vbr_words.specs.declared.place.At.{At}
+use Rattle.vbr_words.specs.declared.place.At.TheVariants.{Head, Slot}
+use Rattle.vbr_core.specs.Acceptance.{bucket_of}
+use Rattle.vbr_core.specs.Knowledge.{Know}
+use Rattle.vbr_core.specs.Membership.{HeldIn, at_head, KeyAt, StandsBehind}
+use Rattle.vbr_slots.specs.Calls.{IsSame, Quiet}
+use Rattle.vbr_slots.specs.Views.{Trace, TableView, PassView, IsOf, knows}
+use Rattle.vbr_slots.proofs.Calls.{quiet_on}
+use Rattle.vbr_pools.specs.Retiring.{know_retired}
+use Rattle.vbr_access.specs.Held.{IsSlot, IsHeld, IsMarked, Names, held_of}
+use Rattle.vbr_access.specs.Keeping.{Keeps}
+use Rattle.vbr_access.specs.Moments.{Stood, IsRead, IsNext}
+use Rattle.vbr_access.specs.Soundness.{IsSound}
+use Rattle.vbr_access.specs.declared.held.Held.{Held}
+use Rattle.vbr_access.specs.declared.held.Marked.{Marked}
+use Rattle.vbr_access.proofs.Keeping.{held_kept, held_in_kept, held_in_next, behind_kept}
+use Rattle.vbr_access.proofs.Moments.{stood_before, stood_after}
+use Rattle.vbr_access.proofs.PlacesInShape.{link_in}
+use Rattle.vbr_list.specs.Places.{IsPred, IsCur}
+use Rattle.vbr_list.specs.Traversal.{Goes, IsReached, Traverses}
+use Rattle.vbr_list.proofs.Going.{tries_on}
+
+pub stood_since : {p q r : Trace} {held : Held} → Quiet p q → Stood q r held → Stood p r held
+stood_since a x = stood_after a.same a.seen x
+
+-- ---- the head
+
+place_at_head : (shape : Dimensions) (know : Know) (at : At) (bucket key : ℕ) → at ≡ Head bucket → bucket ≡ bucket_of shape key → HeldIn know at (bucket_of shape key) × StandsBehind shape know at key
+place_at_head shape know at bucket key e f =
+    let P : At → Type 0 = λ x. HeldIn know x (bucket_of shape key) × StandsBehind shape know x key in
+    subst P (sym (e ∙ ap Head f)) (at_head (bucket_of shape key), refl)
+
+pub head_reached : {p q r : Trace} (bucket key : ℕ) (head : Held) → Quiet p q → Quiet q r → bucket ≡ bucket_of p.shape key → head.at ≡ Head bucket → IsRead q r head → (link_of head.word).mark ≡ false → IsReached p r key head
+head_reached {p} {q} {r} bucket key head x y e at read unmarked =
+    let z = quiet_on x y in
+    let place = place_at_head r.shape (knows r) head.at bucket key at (e ∙ ap (λ (shape : Dimensions). bucket_of shape key) (sym z.same.shape)) in
+    record { is = record { held = read.known; unmarked = unmarked; inside = place.0; behind = place.1 }; stood = stood_since x read.stood }
+
+-- ---- what is known stays
+
+-- a place before the key stays one
+pub pred_on : {p q : Trace} (key : ℕ) (held : Held) → IsSame p q → Keeps (knows p) (knows q) → IsPred p.shape (knows p) key held → IsPred q.shape (knows q) key held
+pred_on {p} {q} key held s keeps x =
+    let P : Dimensions → Type 0 = λ shape. HeldIn (knows q) held.at (bucket_of shape key) in
+    let Q : Dimensions → Type 0 = λ shape. StandsBehind shape (knows q) held.at key in
+    record {
+      held = held_kept held keeps x.held;
+      unmarked = x.unmarked;
+      inside = subst P (sym s.shape) (held_in_kept held.at (bucket_of p.shape key) keeps x.inside);
+      behind = subst Q (sym s.shape) (behind_kept p.shape held.at key keeps x.behind);
+    }
+
+-- ---- a node
+
+node_behind : (shape : Dimensions) (know : Know) (at : At) (s here key : ℕ) → at ≡ Slot s → KeyAt know at here → bucket_of shape key ≡ bucket_of shape here → here < key → StandsBehind shape know at key
+node_behind shape know at s here key e x b l =
+    let P : At → Type 0 = λ y. KeyAt know y here → StandsBehind shape know y key in
+    subst P (sym e) (λ h. (here, h, b, l)) x
+
+-- a node with a smaller key
+pub node_reached : {p q r : Trace} (key here : ℕ) (pred node : Held) → IsPred p.shape (knows p) key pred → Keeps (knows p) (knows q) → IsNext p q pred (Some node) → Keeps (knows q) (knows r) → KeyAt (knows r) node.at here →
+    ((b : ℕ) → HeldIn (knows q) node.at b → bucket_of q.shape here ≡ b) → (link_of node.word).mark ≡ false → here < key → Quiet p q → Quiet q r → IsReached p r key node
+node_reached {p} {q} {r} key here pred node x keep n keep2 k bucket unmarked l a b =
+    let P : At → Type 0 = λ at. HeldIn (knows q) at (bucket_of p.shape key) in
+    let i : HeldIn (knows q) node.at (bucket_of p.shape key) = subst P (sym n.2) (held_in_next pred n.0 (bucket_of p.shape key) (held_kept pred keep x.held) n.1 (held_in_kept pred.at (bucket_of p.shape key) keep x.inside)) in
+    let s = quiet_on a b in
+    let e : bucket_of p.shape key ≡ bucket_of r.shape key = ap (λ (shape : Dimensions). bucket_of shape key) (sym s.same.shape) in
+    let f : bucket_of r.shape here ≡ bucket_of r.shape key = ap (λ (shape : Dimensions). bucket_of shape here) b.same.shape ∙ bucket (bucket_of p.shape key) i ∙ e in
+    record {
+      is = record {
+        held = held_kept node keep2 n.3.known;
+        unmarked = unmarked;
+        inside = held_in_kept node.at (bucket_of r.shape key) keep2 (let Q : ℕ → Type 0 = λ v. HeldIn (knows q) node.at v in subst Q e i);
+        behind = node_behind r.shape (knows r) node.at n.0 here key n.2 k (sym f) l;
+      };
+      stood = stood_before n.3.stood b;
+    }
+
+-- a node with the key or a greater one
+pub node_found : {p q r : Trace} (key here : ℕ) (pred node : Held) → IsNext p q pred (Some node) → Keeps (knows q) (knows r) → KeyAt (knows r) node.at here → (link_of node.word).mark ≡ false → key ≤ here → Quiet q r → IsCur (knows r) key pred node (key == here) × Stood p r node
+node_found key here pred node n keep k unmarked high b =
+    (record { held = held_kept node keep n.3.known; unmarked = unmarked; slot = n.0; named = n.1; at = n.2; here = here; read = k; not_smaller = high; says = refl }, stood_before n.3.stood b)
+
+-- what isn't marked is unmarked, if it is a node
+pub node_unmarked : {p q : Trace} (pred node : Held) → IsNext p q pred (Some node) → (IsSlot node.at → (link_of node.word).mark ≡ false) → (link_of node.word).mark ≡ false
+node_unmarked pred node n f = f (let P : At → Type 0 = IsSlot in subst P (sym n.2) tt)
+
+slot_same : (s t : ℕ) → Slot s ≡ Slot t → t ≡ s
+slot_same s t e = cc
+
+-- a marked node
+pub marked_met : {p q : Trace} (pred node : Held) (marked : Marked) → IsNext p q pred (Some node) → held_of marked ≡ node → (link_of marked.word).mark ≡ true → IsMarked (knows q) marked × Names pred marked.slot
+marked_met {p} {q} pred node marked n e m =
+    let P : Held → Type 0 = IsHeld (knows q) in
+    let s : n.0 ≡ marked.slot = slot_same marked.slot n.0 (ap (λ (h : Held). h.at) e ∙ n.2) in
+    (record { held = subst P (sym e) n.3.known; mark = m }, n.1 ∙ ap Some s)
+
+-- ---- a place whose marked node was unlinked
+
+-- what is known stays while a slot is retired in the same epoch
+pub retired_keeps : (know later : Know) (slot : ℕ) (kept : Bool) → later ≡ know_retired know later.epoch slot kept → later.epoch ≡ know.epoch → Keeps know later
+retired_keeps know later slot kept is same = record { epoch = same; reads = λ r k. record { among = rw all (Contains-append_left know.checked know.pending r k.among) } }
+  where
+    all : later.checked ≡ know.checked ++ know.pending
+    all = let t : (later.epoch == know.epoch) ≡ true = eq-eqb later.epoch know.epoch same in ap (λ (k : Know). k.checked) is ∙ rw t refl
+
+pub helped : {p q r : Trace} (key : ℕ) (pred place : Held) → IsPred p.shape (knows p) key pred → Keeps (knows p) (knows q) → place.at ≡ pred.at → (link_of place.word).mark ≡ false → IsRead p q place → Quiet p q → Quiet q r → Keeps (knows q) (knows r) → IsReached p r key place
+helped {p} {q} {r} key pred place x keeps at unmarked read a b keeps2 =
+    let z = pred_on key pred a.same keeps x in
+    let P : At → Type 0 = λ t. HeldIn (knows q) t (bucket_of q.shape key) in
+    let Q : At → Type 0 = λ t. StandsBehind q.shape (knows q) t key in
+    let w : IsPred q.shape (knows q) key place = record { held = read.known; unmarked = unmarked; inside = subst P (sym at) z.inside; behind = subst Q (sym at) z.behind } in
+    record { is = pred_on key place b.same keeps2 w; stood = stood_before read.stood b }
+
+-- ---- from place to place
+
+pub traverses_on : {p q r : PassView} {key a b c budget : ℕ} {pred next : Held} → Traverses p q key a b budget pred → Goes q r b c → b ≤ c → c ≤ budget → IsReached q.trace r.trace key next → Traverses p r key a c budget next
+traverses_on x y le high reached = record {
+  tries = tries_on x.tries y le high;
+  some = let u = x.some in omega arith;
+  reached = record { is = reached.is; stood = stood_since x.tries.goes.quiet reached.stood };
+}
+
+-- the slot of a marked node is one of the shape
+pub marked_in : (p : PassView) → IsSound p → (t : TableView) → IsOf p.trace t → (marked : Marked) → IsMarked (knows p.trace) marked → (s : ℕ) → s ≡ marked.slot → s < t.shape.slots
+marked_in p sound t own marked x s e =
+    let P : Dimensions → Type 0 = λ shape. marked.slot < shape.slots in
+    let Q : ℕ → Type 0 = λ i. i < t.shape.slots in
+    subst Q (sym e) (subst P own.1 (link_in p.trace.shape p.trace.passes p.trace.seen sound.shape sound.is_run p.trace.who (Slot marked.slot) (link_of marked.word) x.held.link))

@@ -1,0 +1,10 @@
+use Rattle.std.proofs.Common.{sym, ◌∙◌}
+use Rattle.vbr_list.proofs.Going.{bucket_is}
+use Rattle.vbr_list.proofs.Moments.{was_so}
+use Rattle.vbr_list.proofs.finding.find.Goals as goal
+
+pub search-requires-clause-bucket : goal.search-requires-clause-bucket
+search-requires-clause-bucket c = bucket_is c.args.pass.now.trace.shape c.shape.result c.bucket_of-bucket.result c.args.key (c.requires.own.1 ∙ sym c.shape.ensures) c.bucket_of-bucket.ensures.bucket
+
+pub returns-in-Some-clause-was_so : goal.returns-in-Some-clause-was_so
+returns-in-Some-clause-was_so c = was_so c.args.key c.in-Some.found c.soundness.ensures.sound.shape c.search.ensures.goes.quiet.same c.in-Some.ensures.found

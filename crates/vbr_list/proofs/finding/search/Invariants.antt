@@ -1,0 +1,9 @@
+use Rattle.std.proofs.Common.{◌-◌}
+use Rattle.vbr_list.specs.Traversal.{Tries}
+use Rattle.vbr_list.proofs.finding.search.Given as goal
+
+abbrev pub invariant-loop-found : goal.invariant-loop-found
+invariant-loop-found l = Tries l.fn.pass l.pass l.fn.used l.used l.budget
+
+abbrev pub decreases-loop-found : goal.decreases-loop-found
+decreases-loop-found l = l.budget - l.used

@@ -1,0 +1,30 @@
+use Rattle.std.proofs.Common.{arith}
+use Rattle.vbr_slots.proofs.Calls.{quiet_on}
+use Rattle.vbr_pools.proofs.Counting.{no_room}
+use Rattle.vbr_list.proofs.Preparing.{within_on, within_same}
+use Rattle.vbr_list.proofs.inserting.link.Goals as goal
+
+pub returns-in_default-clause-refused : goal.returns-in_default-clause-refused
+returns-in_default-clause-refused c =
+    let s = c.search.ensures in
+    record { counts = within_same c.give_back.ensures.trace (within_on c.loop-found.invariant.1 s.goes.counts s.within.0 s.within.1); short = c.in_default.ensures.tired }
+
+pub returns-then-not-affords-clause-refused : goal.returns-then-not-affords-clause-refused
+returns-then-not-affords-clause-refused c =
+    let s = c.search.ensures in
+    let short = no_room c.search.new.used c.args.budget c.affords.result c.if-not-affords.true c.affords.ensures.1 in
+    record { counts = within_same c.give_back-then-not-affords.ensures.trace (within_on c.loop-found.invariant.1 s.goes.counts s.within.0 s.within.1); short = short }
+
+pub returns-in-Ok-clause-counts : goal.returns-in-Ok-clause-counts
+returns-in-Ok-clause-counts c =
+    let s = c.search.ensures in
+    let fits = c.if-not-affords.ensures in
+    let used = c.settle.ensures.used in
+    within_on (within_on c.loop-found.invariant.1 s.goes.counts s.within.0 s.within.1) c.settle.ensures.counts (omega arith) (omega arith)
+
+pub loop-found-preserved : goal.loop-found-preserved
+loop-found-preserved c =
+    let s = c.search.ensures in
+    let fits = c.if-not-affords.ensures in
+    let used = c.settle.ensures.used in
+    (quiet_on c.loop-found.invariant.0 (quiet_on s.goes.quiet c.in-Err.ensures.quiet), within_on (within_on c.loop-found.invariant.1 s.goes.counts s.within.0 s.within.1) c.settle.ensures.counts (omega arith) (omega arith), c.in-Err.ensures.hand)

@@ -1,0 +1,64 @@
+use Rattle.std.proofs.Common.{Bool, sym, ◌∙◌, subst, arith}
+use Rattle.std.proofs.lemmas.Result.{err_from_is_err_and}
+use Rattle.vbr_slots.proofs.Calls.{quiet_on}
+use Rattle.vbr_access.specs.Moments.{WasSo}
+use Rattle.vbr_list.proofs.Going.{counts_step, goes_step, tries_on}
+use Rattle.vbr_list.proofs.Moments.{found_since, was_so}
+use Rattle.vbr_pools.proofs.Counting.{no_room}
+use Rattle.vbr_list.proofs.Preparing.{if_err, if_ok, made_since, refuses_after, within_after, within_on, within_tries}
+use Rattle.vbr_list.proofs.inserting.prepare.Goals as goal
+
+pub returns-in_default-clause-steps : goal.returns-in_default-clause-steps
+returns-in_default-clause-steps c = let s = c.search.ensures in (c.search.new.used, within_on (within_tries c.loop-found.invariant) s.goes.counts s.within.0 s.within.1)
+
+pub returns-in_default-clause-refused : goal.returns-in_default-clause-refused
+returns-in_default-clause-refused c = let s = c.search.ensures in record { counts = within_on (within_tries c.loop-found.invariant) s.goes.counts s.within.0 s.within.1; short = c.in_default.ensures.tired }
+
+pub returns-then-not-affords-clause-steps : goal.returns-then-not-affords-clause-steps
+returns-then-not-affords-clause-steps c = let s = c.search.ensures in (c.search.new.used, within_on (within_tries c.loop-found.invariant) s.goes.counts s.within.0 s.within.1)
+
+pub returns-then-not-affords-clause-refused : goal.returns-then-not-affords-clause-refused
+returns-then-not-affords-clause-refused c =
+    let s = c.search.ensures in
+    let short = no_room c.search.new.used c.args.budget c.affords.result c.if-not-affords.true c.affords.ensures.1 in
+    record { counts = within_on (within_tries c.loop-found.invariant) s.goes.counts s.within.0 s.within.1; short = short }
+
+pub returns-in_err-hand-clause-steps : goal.returns-in_err-hand-clause-steps
+returns-in_err-hand-clause-steps c =
+    let s = c.search.ensures in
+    let p = err_from_is_err_and c.from_residual.result c.from_residual.ensures.1 in
+    rw p.1 (within_after (within_on (within_tries c.loop-found.invariant) s.goes.counts s.within.0 s.within.1) c.in_err-hand.ensures.steps)
+
+pub returns-in_err-hand-clause-refused : goal.returns-in_err-hand-clause-refused
+returns-in_err-hand-clause-refused c =
+    let s = c.search.ensures in
+    let p = err_from_is_err_and c.from_residual.result c.from_residual.ensures.1 in
+    let quiet = quiet_on c.loop-found.invariant.goes.quiet s.goes.quiet in
+    let counts = within_on (within_tries c.loop-found.invariant) s.goes.counts s.within.0 s.within.1 in
+    let so = was_so c.args.key c.in-Some.found c.soundness.ensures.sound.shape quiet.same (found_since c.args.key c.in-Some.found c.loop-found.invariant.goes.quiet c.in-Some.ensures.found) in
+    let P : Bool → Type 0 = WasSo c.args.pass.now.trace c.search.new.pass.trace c.args.key in
+    rw (p.1, p.2) (refuses_after c.args.pass.now c.search.new.pass c.provide.new.pass quiet counts (subst P c.if-not-found.true so) c.provide.ensures.quiet c.in_err-hand.field-0.0 c.in_err-hand.ensures.refused)
+
+pub returns-then-not-found-clause-counts : goal.returns-then-not-found-clause-counts
+returns-then-not-found-clause-counts c =
+    let s = c.search.ensures in
+    let x = c.in_ok-hand.ensures.counts in
+    within_on (within_on (within_tries c.loop-found.invariant) s.goes.counts s.within.0 s.within.1) x.counts x.within.0 x.within.1
+
+pub returns-then-is_ok-clause-prepared : goal.returns-then-is_ok-clause-prepared
+returns-then-is_ok-clause-prepared c =
+    let quiet = quiet_on c.loop-found.invariant.goes.quiet c.search.ensures.goes.quiet in
+    (made_since quiet (if_ok c.deny-denied.result (sym c.is_ok.ensures.value ∙ c.if-is_ok.true) c.deny-denied.ensures.made), c.deny-denied.ensures.own.hand ∙ c.search.ensures.goes.hand.hand ∙ c.loop-found.invariant.goes.hand.hand ∙ c.requires.empty_hand)
+
+pub returns-then-is_ok-clause-counts : goal.returns-then-is_ok-clause-counts
+returns-then-is_ok-clause-counts c =
+    let s = c.search.ensures in
+    let fits = c.if-not-affords.ensures in
+    within_on (within_on (within_tries c.loop-found.invariant) s.goes.counts s.within.0 s.within.1) (counts_step c.search.new.used 1 c.deny-denied.ensures.took) (omega arith) (omega arith)
+
+pub loop-found-preserved : goal.loop-found-preserved
+loop-found-preserved c =
+    let fits = c.if-not-affords.ensures in
+    let found = tries_on c.loop-found.invariant c.search.ensures.goes c.search.ensures.within.0 c.search.ensures.within.1 in
+    let quiet = if_err c.deny-denied.result (sym c.is_ok.ensures.value ∙ c.if-is_ok.false) c.deny-denied.ensures.quiet in
+    tries_on found (goes_step c.search.new.used 1 quiet c.deny-denied.ensures.took c.deny-denied.ensures.own) (omega arith) (omega arith)

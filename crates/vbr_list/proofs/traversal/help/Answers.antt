@@ -1,0 +1,49 @@
+use Rattle.std.proofs.Common.{◌≡◌, ◌+◌, ℕ, sym, ap, ◌∙◌, subst}
+use Rattle.vbr_words.specs.declared.link.Link.{Link}
+use Rattle.vbr_core.specs.Acceptance.{IsUnlinked}
+use Rattle.vbr_slots.specs.Views.{knows}
+use Rattle.vbr_pools.specs.Retiring.{is_kept}
+use Rattle.vbr_access.specs.Steps.{unlink_steps}
+use Rattle.vbr_list.proofs.Going.{counts_step, goes_on, goes_step, took_same}
+use Rattle.vbr_list.proofs.KeptHands.{retired_hand}
+use Rattle.vbr_list.proofs.Reaching.{helped, retired_keeps}
+use Rattle.vbr_list.proofs.traversal.help.Goals as goal
+
+pub returns-then-now-place-clause-goes : goal.returns-then-now-place-clause-goes
+returns-then-now-place-clause-goes c =
+    let q = c.unlink-outcome.new.pass in
+    let e = rw c.in_ok-unlinked.was at c.unlink-outcome.ensures.slot in
+    let o = rw c.in_ok-unlinked.was at c.unlink-outcome.ensures.owned in
+    let P : ℕ → Type 0 = λ s. IsUnlinked ((knows q.trace).own s) in
+    let n = c.steps_of.ensures.is ∙ ap (λ (l : Link). unlink_steps l.slot c.unlink-outcome.result) c.decode-next.ensures.link in
+    let one = goes_step c.args.used.now c.steps_of.result c.unlink-outcome.ensures.quiet (took_same c.steps_of.result _ n c.unlink-outcome.ensures.took) c.unlink-outcome.ensures.own in
+    goes_on one (record {
+      quiet = c.retire.ensures.quiet;
+      counts = counts_step (c.args.used.now + c.steps_of.result) c.retire.result c.retire.ensures.steps;
+      hand = retired_hand c.in_ok-unlinked.unlinked.slot c.soundness-2.ensures.sound.own (subst P (sym e) o) c.retire.ensures.known c.retire.ensures.pool c.retire.ensures.hand;
+    })
+
+pub returns-clause-goes : goal.returns-clause-goes
+returns-clause-goes c =
+    let q = c.unlink-outcome.new.pass in
+    let e = rw c.in_ok-unlinked.was at c.unlink-outcome.ensures.slot in
+    let o = rw c.in_ok-unlinked.was at c.unlink-outcome.ensures.owned in
+    let P : ℕ → Type 0 = λ s. IsUnlinked ((knows q.trace).own s) in
+    let n = c.steps_of.ensures.is ∙ ap (λ (l : Link). unlink_steps l.slot c.unlink-outcome.result) c.decode-next.ensures.link in
+    let one = goes_step c.args.used.now c.steps_of.result c.unlink-outcome.ensures.quiet (took_same c.steps_of.result _ n c.unlink-outcome.ensures.took) c.unlink-outcome.ensures.own in
+    goes_on one (record {
+      quiet = c.retire.ensures.quiet;
+      counts = counts_step (c.args.used.now + c.steps_of.result) c.retire.result c.retire.ensures.steps;
+      hand = retired_hand c.in_ok-unlinked.unlinked.slot c.soundness-2.ensures.sound.own (subst P (sym e) o) c.retire.ensures.known c.retire.ensures.pool c.retire.ensures.hand;
+    })
+
+pub returns-clause-pred : goal.returns-clause-pred
+returns-clause-pred c =
+    let q = c.unlink-outcome.new.pass in
+    let r = c.retire.new.pass in
+    let keeps = rw c.in_ok-unlinked.was at c.unlink-outcome.ensures.keeps in
+    let at = rw c.in_ok-unlinked.was at c.unlink-outcome.ensures.at in
+    let read = rw c.in_ok-unlinked.was at c.unlink-outcome.ensures.read in
+    let still = rw c.in_ok-unlinked.was at c.unlink-outcome.ensures.still in
+    let e : (knows r.trace).epoch ≡ (knows q.trace).epoch = sym c.epoch-now.ensures ∙ c.if-now-place.false ∙ read.known.epoch in
+    helped c.args.key c.args.pred.now c.in_ok-unlinked.place c.requires.pred keeps at still read c.unlink-outcome.ensures.quiet c.retire.ensures.quiet (retired_keeps (knows q.trace) (knows r.trace) c.in_ok-unlinked.unlinked.slot (is_kept q.pool) c.retire.ensures.known e)

@@ -1,0 +1,20 @@
+use Rattle.std.proofs.Common.{◌≡◌, ℕ, Ok, Err, false}
+use Rattle.std.specs.Prelude.{IfOk, Result}
+use Rattle.vbr_words.specs.Words.{link_of}
+use Rattle.vbr_words.specs.declared.place.At.TheVariants.{Head}
+use Rattle.vbr_core.specs.Acceptance.{bucket_of}
+use Rattle.vbr_slots.specs.Calls.{Quiet}
+use Rattle.vbr_slots.specs.Views.{Trace}
+use Rattle.vbr_access.specs.Moments.{IsRead}
+use Rattle.vbr_access.specs.declared.held.Held.{Held}
+use Rattle.vbr_access.specs.declared.rollback.Rollback.{Rollback}
+use Rattle.vbr_list.specs.Traversal.{IsReached}
+use Rattle.vbr_list.proofs.Reaching.{head_reached}
+use Rattle.vbr_list.proofs.traversal.start.Goals as goal
+
+reached : {p q r : Trace} (bucket key : ℕ) (head : Result Held Rollback) → Quiet p q → Quiet q r → bucket ≡ bucket_of p.shape key → IfOk head (λ h. h.at ≡ Head bucket) → IfOk head (λ h. IsRead q r h) → IfOk head (λ h. (link_of h.word).mark ≡ false) → IfOk head (λ h. IsReached p r key h)
+reached bucket key (Ok h) x y e at read unmarked = head_reached bucket key h x y e at read unmarked
+reached bucket key (Err r) x y e at read unmarked = tt
+
+pub returns-clause-pred : goal.returns-clause-pred
+returns-clause-pred c = reached c.args.bucket c.args.key c.first-head.result c.checkpoint-point.ensures.quiet c.first-head.ensures.quiet c.requires.bucket c.first-head.ensures.at c.first-head.ensures.read c.first-head.ensures.unmarked

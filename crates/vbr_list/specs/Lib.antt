@@ -1,0 +1,6 @@
+pub mod Places
+pub mod Found
+pub mod Traversal
+pub mod Refusals
+pub mod Alone
+pub mod Inserting

@@ -1,0 +1,40 @@
+-- Where a key stands in the list of its bucket: behind which place, and before which node.
+use Rattle.std.specs.Prelude.{◌≡◌, ℕ, ◌≤◌, ◌==◌, Bool, false, Option, Some, None}
+use Rattle.vbr_words.specs.Dimensions.{Dimensions}
+use Rattle.vbr_words.specs.Words.{link_of}
+use Rattle.vbr_words.specs.declared.place.At.TheVariants.{Slot}
+use Rattle.vbr_core.specs.Acceptance.{bucket_of}
+use Rattle.vbr_core.specs.Knowledge.{Know}
+use Rattle.vbr_core.specs.Membership.{KeyAt, HeldIn, StandsBehind}
+use Rattle.vbr_access.specs.Held.{IsHeld, Names}
+use Rattle.vbr_access.specs.declared.held.Held.{Held}
+use Rattle.vbr_list.specs.declared.found.Found.{Found}
+
+-- a place before the key: it is held in the key's bucket, its link is unmarked, and the key stands behind it
+pub record IsPred (shape : Dimensions) (know : Know) (key : ℕ) (pred : Held) : Type 0 where
+  pub held : IsHeld know pred
+  pub unmarked : (link_of pred.word).mark ≡ false
+  pub inside : HeldIn know pred.at (bucket_of shape key)
+  pub behind : StandsBehind shape know pred.at key
+
+-- the node that the link of the place names: its link is unmarked, its key was read and isn't below the key, and whether it is the key
+pub record IsCur (know : Know) (key : ℕ) (pred cur : Held) (present : Bool) : Type 0 where
+  pub held : IsHeld know cur
+  pub unmarked : (link_of cur.word).mark ≡ false
+  pub slot : ℕ
+  pub named : Names pred slot
+  pub at : cur.at ≡ Slot slot
+  pub here : ℕ
+  pub read : KeyAt know cur.at here
+  pub not_smaller : key ≤ here
+  pub says : present ≡ (key == here)
+
+-- what stands behind the place: that node, or the end of the list
+abbrev pub IsEnd : Know → ℕ → Held → Option Held → Bool → Type 0
+IsEnd know key pred None present = ((link_of pred.word).slot ≡ None) × (present ≡ false)
+IsEnd know key pred (Some cur) present = IsCur know key pred cur present
+
+-- what was found tells where the key stands, by what the pass knows
+pub record Locates (shape : Dimensions) (know : Know) (key : ℕ) (found : Found) : Type 0 where
+  pub pred : IsPred shape know key found.pred
+  pub end : IsEnd know key found.pred found.cur found.present

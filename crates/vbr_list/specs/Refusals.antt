@@ -1,0 +1,31 @@
+-- What a refusal says of a call.
+use Rattle.std.specs.Prelude.{◌≡◌, ℕ, ◌<◌, false, []}
+use Rattle.vbr_slots.specs.Views.{PassView}
+use Rattle.vbr_pools.specs.Refusals.{IsOutOfSteps, IsSpent}
+use Rattle.vbr_pools.specs.SharedPool.{WasOutside}
+use Rattle.vbr_access.specs.Moments.{WasSo}
+use Rattle.vbr_list.specs.declared.refusal.Refusal.{Refusal}
+use Rattle.vbr_list.specs.declared.refusal.Refusal.TheVariants.{OutOfSteps, NoSlot, EpochSpent}
+
+-- the steps leave no room in the budget, and there is no other refusal
+abbrev pub IsTired : PassView → PassView → ℕ → Refusal → Type 0
+IsTired p q budget (OutOfSteps used) = IsOutOfSteps p q budget used
+IsTired p q budget NoSlot = ⊥
+IsTired p q budget (EpochSpent epoch) = ⊥
+
+-- the key was absent at a moment, the own pool is empty, and each slot was outside the shared pool at a moment
+pub record FoundNoSlot (p q : PassView) (key : ℕ) : Type 0 where
+  pub absent : WasSo p.trace q.trace key false
+  pub empty : q.pool ≡ []
+  pub outside : (slot : ℕ) → slot < p.trace.shape.slots → WasOutside p.trace q.trace slot
+
+-- the key was absent at a moment, and the epoch is spent
+pub record FoundSpent (p q : PassView) (key epoch : ℕ) : Type 0 where
+  pub absent : WasSo p.trace q.trace key false
+  pub spent : IsSpent q epoch
+
+-- what a refusal of an insert says
+abbrev pub IsRefused : PassView → PassView → ℕ → ℕ → Refusal → Type 0
+IsRefused p q key budget (OutOfSteps used) = IsOutOfSteps p q budget used
+IsRefused p q key budget NoSlot = FoundNoSlot p q key
+IsRefused p q key budget (EpochSpent epoch) = FoundSpent p q key epoch

@@ -1,0 +1,46 @@
+-- How a traversal goes on. Only contracts of private functions cite this.
+use Rattle.std.specs.Prelude.{◌≡◌, ℕ, ◌<◌, ◌≤◌, length, Some}
+use Rattle.vbr_slots.specs.declared.pass.TheConstants.{POOL}
+use Rattle.vbr_slots.specs.Calls.{Quiet}
+use Rattle.vbr_slots.specs.Views.{Trace, PassView, knows}
+use Rattle.vbr_pools.specs.Steps.{Counts}
+use Rattle.vbr_access.specs.Held.{IsMarked, Names}
+use Rattle.vbr_access.specs.Moments.{Stood}
+use Rattle.vbr_access.specs.declared.held.Held.{Held}
+use Rattle.vbr_list.specs.Places.{IsPred, IsCur}
+use Rattle.vbr_list.specs.declared.traversal.Met.{Met}
+use Rattle.vbr_list.specs.declared.traversal.Met.TheVariants.{Smaller, Beyond, Marked}
+
+-- the slot in hand stays, with what is known of it, and so does a free place in the own pool
+pub record KeepsHand (p q : PassView) : Type 0 where
+  pub hand : q.hand ≡ p.hand
+  pub in_hand : (s : ℕ) → p.hand ≡ Some s → (knows q.trace).own s ≡ (knows p.trace).own s
+  pub room : length p.pool < POOL → length q.pool < POOL
+
+-- what was done made no call, its steps are counted, and the slot in hand stays
+pub record Goes (p q : PassView) (before since : ℕ) : Type 0 where
+  pub quiet : Quiet p.trace q.trace
+  pub counts : Counts p.trace q.trace before since
+  pub hand : KeepsHand p q
+
+-- the same, within the budget
+pub record Tries (p q : PassView) (before since budget : ℕ) : Type 0 where
+  pub goes : Goes p q before since
+  pub within : (before ≤ since) × (since ≤ budget)
+
+-- the pass has come to a place before the key, which stood so at a moment
+pub record IsReached (p q : Trace) (key : ℕ) (pred : Held) : Type 0 where
+  pub is : IsPred q.shape (knows q) key pred
+  pub stood : Stood p q pred
+
+-- a traversal that began with so many steps stands at this place
+pub record Traverses (p q : PassView) (key before since budget : ℕ) (pred : Held) : Type 0 where
+  pub tries : Tries p q before since budget
+  pub some : before < since
+  pub reached : IsReached p.trace q.trace key pred
+
+-- what a visit met behind a place
+abbrev pub Visits : Trace → Trace → ℕ → Held → Met → Type 0
+Visits p q key pred (Smaller node) = IsReached p q key node
+Visits p q key pred (Beyond node present) = IsCur (knows q) key pred node present × Stood p q node
+Visits p q key pred (Marked marked) = IsMarked (knows q) marked × Names pred marked.slot

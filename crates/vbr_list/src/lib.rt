@@ -1,0 +1,24 @@
+//! Michael's list in one bucket of a set (Michael 2002), over slots that are used again (Sheffi,
+//! Herlihy and Petrank 2021): where a key stands, and look-ups, inserts and removes of it.
+//!
+//! A call goes in pieces. A traversal starts at the head of the bucket and visits node after node,
+//! and helps to unlink the marked ones that it meets. Whatever rolls back before the answer leads
+//! back to the head. The answer is one step of the call: a won publication, a won mark, or a load
+//! that finds the link still as it was read. Nothing rolls back past it.
+#![tactic(auto)]
+
+pub mod finding;
+pub mod found;
+pub mod inserting;
+pub mod looking_up;
+pub mod refusal;
+pub mod removing;
+mod soundness;
+mod traversal;
+
+pub use finding::find;
+pub use found::Found;
+pub use inserting::insert;
+pub use looking_up::has;
+pub use refusal::Refusal;
+pub use removing::remove;

@@ -1,0 +1,34 @@
+//! Why a call gave no answer.
+use std::error::Error;
+use std::fmt;
+
+/// Why a call gave no answer. It made no call then, and the pass has no slot in hand.
+#[derive(Clone, Copy, Debug, PartialEq, Eq, Hash)]
+pub enum Refusal {
+    /// The steps that were made leave no room in the budget for one more piece.
+    OutOfSteps {
+        /// The steps of the whole call.
+        used: u32,
+    },
+    /// The key was absent, the own pool empty, and each slot outside the shared pool.
+    NoSlot,
+    /// The key was absent, the epoch is the last, and each slot of the own pool is stamped with it.
+    EpochSpent {
+        /// The last epoch.
+        epoch: u64,
+    },
+}
+
+impl fmt::Display for Refusal {
+    fn fmt<W: fmt::Write>(&self, f: &mut fmt::Formatter<W>) -> fmt::Result {
+        match self {
+            Refusal::OutOfSteps { used } => {
+                write!(f, "the budget has no room after {used} steps")
+            }
+            Refusal::NoSlot => write!(f, "there is no slot in the pools"),
+            Refusal::EpochSpent { epoch } => write!(f, "the last epoch, {epoch}, is spent"),
+        }
+    }
+}
+
+impl Error for Refusal {}

@@ -1,0 +1,115 @@
+//! Removes.
+ghost use Rattle.std.specs.Prelude.{◌≡◌, ◌+◌, ◌<◌, ◌≤◌, ◌^◌, true, None, IfOk, IfErr};
+ghost use Rattle.vbr_core.specs.declared.history.Op.TheVariants.{Remove};
+ghost use Rattle.vbr_pools.specs.Steps.{Counts, TookWithin};
+ghost use Rattle.vbr_slots.specs.Calls.{IsSame, Quiet, Made};
+ghost use Rattle.vbr_slots.specs.Views.{IsOf, knows};
+ghost use Rattle.vbr_list.specs.Alone.{AnswersAlone};
+ghost use Rattle.vbr_list.specs.Places.{Locates};
+ghost use Rattle.vbr_list.specs.Refusals.{IsTired};
+ghost use Rattle.vbr_list.specs.Traversal.{KeepsHand};
+
+use crate::finding::search;
+use crate::found::Found;
+use crate::refusal::Refusal;
+use crate::soundness::soundness;
+use crate::traversal::help;
+use vbr_access::{Rollback, confirm_absent, mark};
+use vbr_core::Op;
+use vbr_pools::budget::affords;
+use vbr_slots::{Pass, Slots};
+
+// Marks the node that was found: the key is removed. Then unlinks and retires the node, if the budget
+// has room for that; else, or where that rolls back, the node is left to helpers.
+#[inline]
+fn take_out(
+    slots: &Slots,
+    pass: &mut Pass,
+    key: u64,
+    found: &Found,
+    budget: u32,
+    used: &mut u32,
+) -> Result<bool, Rollback>
+    requires own { IsOf pass.old.trace slots.now }
+    requires locates { Locates pass.old.trace.shape (knows pass.old.trace) key found.now }
+    requires present { found.now.present ≡ true }
+    requires room { used.old + 8 ≤ budget }
+    ensures made { IfOk result (λ reply. Made (record { who = pass.old.trace.who; op = Remove; key = key; reply = reply }) pass.old.trace pass.new.trace) }
+    ensures quiet { IfErr result (λ r. Quiet pass.old.trace pass.new.trace) }
+    ensures counts { Counts pass.old.trace pass.new.trace used.old used.new }
+    ensures hand { KeepsHand pass.old pass.new }
+    ensures used { (used.old < used.new) × (used.new ≤ budget) }
+{
+    let Some(cur) = &found.cur else {
+        unreachable!()
+    };
+    let outcome = mark(slots, pass, cur);
+    *used += 1;
+    let marked = outcome?;
+    if affords(budget, *used) {
+        let _ = help(slots, pass, key, &found.pred, marked, used);
+    }
+    Ok(true)
+}
+
+// Answers a remove by what was found.
+#[inline]
+fn settle(
+    slots: &Slots,
+    pass: &mut Pass,
+    key: u64,
+    found: &Found,
+    budget: u32,
+    used: &mut u32,
+) -> Result<bool, Rollback>
+    requires own { IsOf pass.old.trace slots.now }
+    requires locates { Locates pass.old.trace.shape (knows pass.old.trace) key found.now }
+    requires room { used.old + 8 ≤ budget }
+    ensures made { IfOk result (λ reply. Made (record { who = pass.old.trace.who; op = Remove; key = key; reply = reply }) pass.old.trace pass.new.trace) }
+    ensures quiet { IfErr result (λ r. Quiet pass.old.trace pass.new.trace) }
+    ensures counts { Counts pass.old.trace pass.new.trace used.old used.new }
+    ensures hand { KeepsHand pass.old pass.new }
+    ensures used { (used.old < used.new) × (used.new ≤ budget) }
+{
+    if found.present {
+        return take_out(slots, pass, key, found, budget, used);
+    }
+    let outcome = confirm_absent(slots, pass, Op::Remove, key, &found.pred);
+    *used += 1;
+    outcome?;
+    Ok(false)
+}
+
+/// Takes a key out of the set, in at most `budget` steps, and says whether it was there. The answer's
+/// point is one step: the mark of the node, or a load that finds the link of the last place before
+/// the key as it was read. A node that was marked and can't be unlinked within the budget is left
+/// to others.
+///
+/// OutOfSteps is its one refusal.
+pub fn remove(slots: &Slots, pass: &mut Pass, key: u64, budget: u32) -> Result<bool, Refusal>
+    requires own { IsOf pass.old.trace slots.now }
+    requires empty_hand { pass.old.hand ≡ None }
+    ensures same { IsSame pass.old.trace pass.new.trace }
+    ensures made { IfOk result (λ reply. Made (record { who = pass.old.trace.who; op = Remove; key = key; reply = reply }) pass.old.trace pass.new.trace) }
+    ensures alone { IfOk result (λ reply. AnswersAlone pass.old.trace Remove key reply) }
+    ensures quiet { IfErr result (λ refusal. Quiet pass.old.trace pass.new.trace) }
+    ensures hand { pass.new.hand ≡ None }
+    ensures steps { TookWithin pass.old.trace pass.new.trace budget }
+    ensures refused { IfErr result (λ refusal. IsTired pass.old pass.new budget refusal) }
+{
+    soundness(slots, pass);
+    let bucket = slots.shape().bucket_of(key);
+    let mut used = 0;
+    loop {
+        let Some(found) = search(slots, pass, key, bucket, budget, &mut used) else {
+            return Err(Refusal::OutOfSteps { used });
+        };
+        if !affords(budget, used) {
+            return Err(Refusal::OutOfSteps { used });
+        }
+        let reply = settle(slots, pass, key, &found, budget, &mut used);
+        if let Ok(reply) = reply {
+            return Ok(reply);
+        }
+    }
+}

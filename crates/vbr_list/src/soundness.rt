@@ -1,0 +1,18 @@
+//! What is always so of a pass of a table.
+ghost use Rattle.std.specs.Prelude.{◌<◌};
+ghost use Rattle.vbr_slots.specs.Views.{IsOf};
+ghost use Rattle.vbr_access.specs.Soundness.{IsSound};
+
+use vbr_slots::{Pass, Slots};
+
+// Says what is always so of a pass, for the proofs of its callers. It does nothing.
+#[inline]
+pub(crate) fn soundness(slots: &Slots, pass: &Pass)
+    requires { IsOf pass.now.trace slots.now }
+    ensures sound { IsSound pass.now }
+    ensures low { pass.now.trace.who < pass.now.trace.passes }
+{
+    let _slots = slots.shape().slots();
+    let _who = pass.who();
+    let _pool = pass.pool();
+}

@@ -1,0 +1,203 @@
+//! A traversal of the list of one bucket, piece by piece.
+ghost use Rattle.std.specs.Prelude.{◌≡◌, ◌≢◌, ◌+◌, ◌<◌, ◌≤◌, ◌^◌, false, IsSome, IfOk, IfErr};
+ghost use Rattle.vbr_words.specs.Words.{link_of};
+ghost use Rattle.vbr_core.specs.Acceptance.{bucket_of};
+ghost use Rattle.vbr_slots.specs.Views.{IsOf, knows};
+ghost use Rattle.vbr_access.specs.Held.{IsMarked, Names};
+ghost use Rattle.vbr_access.specs.Keeping.{Keeps};
+ghost use Rattle.vbr_access.specs.Steps.{unlink_steps};
+ghost use Rattle.vbr_list.specs.Places.{IsPred};
+ghost use Rattle.vbr_list.specs.Found.{IsFound};
+ghost use Rattle.vbr_list.specs.Traversal.{Goes, IsReached, Visits};
+
+use crate::found::Found;
+use crate::soundness::soundness;
+use vbr_access::{Held, Marked, Rollback, checkpoint, first, key_of, next, unlink};
+use vbr_pools::budget::affords;
+use vbr_pools::{Unlinked, retire};
+use vbr_slots::{Pass, Slots};
+use vbr_words::decode;
+
+/// What a visit meets behind a place.
+#[derive(Clone, Copy)]
+pub(crate) enum Met {
+    /// An unmarked node with a smaller key.
+    Smaller(Held),
+    /// An unmarked node with a key that isn't smaller, and whether it is the key.
+    Beyond(Held, bool),
+    /// A marked node.
+    Marked(Marked),
+}
+
+/// Why a traversal ended before it came to the key.
+#[derive(Clone, Copy)]
+pub(crate) enum Stop {
+    /// It rolled back.
+    Again,
+    /// The budget has no room for one more piece.
+    Tired,
+}
+
+// Starts at the head of the bucket, in three steps.
+#[inline]
+fn start(
+    slots: &Slots,
+    pass: &mut Pass,
+    key: u64,
+    bucket: u32,
+    used: &mut u32,
+) -> Result<Held, Rollback>
+    requires own { IsOf pass.old.trace slots.now }
+    requires bucket { bucket ≡ bucket_of pass.old.trace.shape key }
+    requires in_shape { bucket < slots.now.shape.buckets }
+    requires room { used.old + 8 < 2 ^ 32 }
+    ensures goes { Goes pass.old pass.new used.old used.new }
+    ensures used { used.new ≡ used.old + 3 }
+    ensures pred { IfOk result (λ head. IsReached pass.old.trace pass.new.trace key head) }
+{
+    let point = checkpoint(slots, pass);
+    let head = first(slots, pass, &point, bucket);
+    *used += 3;
+    head
+}
+
+// Visits the node that the link of a place names, in three steps if it is marked, else in five.
+#[inline]
+fn visit(
+    slots: &Slots,
+    pass: &mut Pass,
+    key: u64,
+    pred: &Held,
+    used: &mut u32,
+) -> Result<Met, Rollback>
+    requires own { IsOf pass.old.trace slots.now }
+    requires pred { IsPred pass.old.trace.shape (knows pass.old.trace) key pred.now }
+    requires some { IsSome (link_of pred.now.word).slot }
+    requires room { used.old + 8 < 2 ^ 32 }
+    ensures goes { Goes pass.old pass.new used.old used.new }
+    ensures used { (used.old < used.new) × (used.new ≤ used.old + 8) }
+    ensures keeps { IfOk result (λ met. Keeps (knows pass.old.trace) (knows pass.new.trace)) }
+    ensures met { IfOk result (λ met. Visits pass.old.trace pass.new.trace key pred.now met) }
+{
+    let node = next(slots, pass, pred);
+    *used += 3;
+    let Some(node) = node? else { unreachable!() };
+    if let Some(marked) = Marked::of(&node) {
+        return Ok(Met::Marked(marked));
+    }
+    let read = key_of(slots, pass, &node);
+    *used += 2;
+    let here = read?;
+    Ok(if here < key {
+        Met::Smaller(node)
+    } else {
+        Met::Beyond(node, key == here)
+    })
+}
+
+// How many steps an unlinking made, behind which the marked link named this.
+#[inline]
+fn steps_of(next: Option<u32>, outcome: &Result<(Unlinked, Held), Rollback>) -> u32
+    ensures is { result ≡ unlink_steps next outcome.now }
+    ensures few { result ≤ 3 }
+{
+    let loads = if next.is_some() { 2 } else { 0 };
+    match outcome {
+        Err(Rollback::EpochMoved { now: _ }) => loads,
+        _ => loads + 1,
+    }
+}
+
+// Unlinks a marked node behind a place and retires it, in one step to six: gives the place with its
+// new link, if the epoch stayed.
+#[inline]
+pub(crate) fn help(
+    slots: &Slots,
+    pass: &mut Pass,
+    key: u64,
+    pred: &Held,
+    marked: Marked,
+    used: &mut u32,
+) -> Result<Held, Rollback>
+    requires own { IsOf pass.old.trace slots.now }
+    requires pred { IsPred pass.old.trace.shape (knows pass.old.trace) key pred.now }
+    requires marked { IsMarked (knows pass.old.trace) marked }
+    requires names { Names pred.now marked.slot }
+    requires room { used.old + 8 < 2 ^ 32 }
+    ensures goes { Goes pass.old pass.new used.old used.new }
+    ensures used { (used.old ≤ used.new) × (used.new ≤ used.old + 8) }
+    ensures pred { IfOk result (λ place. IsReached pass.old.trace pass.new.trace key place) }
+{
+    soundness(slots, pass);
+    let next = decode(marked.word).slot;
+    let outcome = unlink(slots, pass, pred, marked);
+    *used += steps_of(next, &outcome);
+    let (unlinked, place) = outcome?;
+    soundness(slots, pass);
+    *used += retire(slots, pass, unlinked);
+    let now = pass.epoch();
+    if now != place.epoch {
+        return Err(Rollback::EpochMoved { now });
+    }
+    Ok(place)
+}
+
+/// One traversal from the head to the key.
+pub(crate) fn traverse(
+    slots: &Slots,
+    pass: &mut Pass,
+    key: u64,
+    bucket: u32,
+    budget: u32,
+    used: &mut u32,
+) -> Result<Found, Stop>
+    requires own { IsOf pass.old.trace slots.now }
+    requires bucket { bucket ≡ bucket_of pass.old.trace.shape key }
+    requires in_shape { bucket < slots.now.shape.buckets }
+    requires within { used.old ≤ budget }
+    ensures goes { Goes pass.old pass.new used.old used.new }
+    ensures within { (used.old ≤ used.new) × (used.new ≤ budget) }
+    ensures again { IfErr result (λ stop. stop ≡ Stop.Again → used.old < used.new) }
+    ensures tired { IfErr result (λ stop. stop ≡ Stop.Tired → budget < used.new + 8) }
+    ensures found { IfOk result (λ found. IsFound pass.old.trace pass.new.trace key found) }
+    ensures used { IfOk result (λ found. found.used ≡ used.new) }
+{
+    if !affords(budget, *used) {
+        return Err(Stop::Tired);
+    }
+    let Ok(mut pred) = start(slots, pass, key, bucket, used) else {
+        return Err(Stop::Again);
+    };
+    while decode(pred.word).slot.is_some() {
+        if !affords(budget, *used) {
+            return Err(Stop::Tired);
+        }
+        match visit(slots, pass, key, &pred, used) {
+            Err(_) => return Err(Stop::Again),
+            Ok(Met::Marked(marked)) => {
+                if !affords(budget, *used) {
+                    return Err(Stop::Tired);
+                }
+                match help(slots, pass, key, &pred, marked, used) {
+                    Ok(place) => pred = place,
+                    Err(_) => return Err(Stop::Again),
+                }
+            }
+            Ok(Met::Smaller(node)) => pred = node,
+            Ok(Met::Beyond(node, present)) => {
+                return Ok(Found {
+                    pred,
+                    cur: Some(node),
+                    present,
+                    used: *used,
+                });
+            }
+        }
+    }
+    Ok(Found {
+        pred,
+        cur: None,
+        present: false,
+        used: *used,
+    })
+}

@@ -1,0 +1,48 @@
+-- A birth in a slot of the own pool.
+use Rattle.std.proofs.Common.{◌≡◌, ◌≢◌, ℕ, ◌+◌, ◌≤◌, length, Option, Some, None, refl, sym, ap, ◌∙◌, subst, ⊎_elim, arith}
+use Rattle.std.proofs.lemmas.Bool.{cases_eq}
+use Rattle.vbr_core.specs.Acceptance.{stamp_in}
+use Rattle.vbr_core.specs.Knowledge.{Know}
+use Rattle.vbr_core.specs.Learning.{birth_in_hand}
+use Rattle.vbr_core.specs.declared.event.Step.TheVariants.{StoreBirth}
+use Rattle.vbr_core.specs.declared.knowledge.Holding.{Holding}
+use Rattle.vbr_core.specs.declared.knowledge.Holding.TheVariants.{InHand}
+use Rattle.vbr_core.proofs.Puts.{put_here, put_other}
+use Rattle.vbr_slots.specs.Pools.{without}
+use Rattle.vbr_slots.specs.Views.{PassView, Did, knows}
+use Rattle.vbr_slots.proofs.Calls.{did_quiet}
+use Rattle.vbr_pools.specs.Hands.{HandView}
+use Rattle.vbr_pools.specs.Pieces.{IsBelow, IsBorn}
+use Rattle.vbr_pools.proofs.Advancing.{same_advances}
+use Rattle.vbr_pools.proofs.Counting.{counts_one}
+use Rattle.vbr_pools.proofs.PoolLists.{without_shorter}
+
+module _ (p q : PassView) (slot : ℕ) (d : Did (StoreBirth slot (knows p.trace).epoch) p.trace q.trace (knows p.trace).epoch) where
+  abbrev born : Option Holding
+  born = Some (InHand (stamp_in ((knows p.trace).own slot)) (knows p.trace).epoch None None)
+
+  own_here : (knows q.trace).own slot ≡ born
+  own_here = ap (λ (k : Know). k.own slot) d.know ∙ put_here (knows p.trace).own slot born
+
+  same_epoch : (knows q.trace).epoch ≡ (knows p.trace).epoch
+  same_epoch = ap (λ (k : Know). k.epoch) d.know
+
+  -- the stamps that the pass knows stay
+  stamps_stay : (s : ℕ) → stamp_in ((knows q.trace).own s) ≡ stamp_in ((knows p.trace).own s)
+  stamps_stay s =
+      ⊎_elim (λ (is : s ≡ slot). ap (λ (i : ℕ). stamp_in ((knows q.trace).own i)) is ∙ ap stamp_in own_here ∙ ap (λ (i : ℕ). stamp_in ((knows p.trace).own i)) (sym is))
+      (λ (other : s ≢ slot). ap (λ (k : Know). stamp_in (k.own s)) d.know ∙ ap stamp_in (put_other (knows p.trace).own slot born s other)) (cases_eq s slot)
+
+  pub is_born : (budget used : ℕ) (hand : HandView) → IsBelow p (knows p.trace).epoch (Some slot) → used + 8 ≤ budget → length p.pool ≤ 64 → q.pool ≡ without slot p.pool → q.hand ≡ Some slot → hand ≡ record { slot = slot; birth = (knows q.trace).epoch } → IsBorn p q slot budget used hand
+  is_born budget used hand below room most pool in_hand is = subst (IsBorn p q slot budget used) (sym is) (record {
+    quiet = did_quiet d (λ know. refl);
+    uses = record { counts = counts_one used d; within = omega arith; at_most = omega arith };
+    slot = refl;
+    in_hand = record { slot = in_hand; birth = ap birth_in_hand own_here ∙ sym same_epoch };
+    birth = refl;
+    above = (let s = stamps_stay slot in let e = same_epoch in let b = below.1 in omega arith);
+    rest = pool;
+    room = (let less = without_shorter slot p.pool below.0 in let e = ap length pool in omega arith);
+    advances = same_advances d refl;
+    stamps = stamps_stay;
+  })

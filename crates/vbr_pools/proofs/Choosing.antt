@@ -1,0 +1,121 @@
+-- A slot of the own pool is chosen: the epoch is read, the pool is looked through, and the epoch is raised if no slot is stamped below it.
+use Rattle.std.proofs.Common.{◌≡◌, ◌≢◌, ℕ, ◌+◌, ◌<◌, ◌≤◌, List, [], ◌∷◌, length, get_or, Option, Some, None, refl, sym, ap, ◌∙◌, subst, inl, inr, arith}
+use Rattle.std.specs.Prelude.{Contains}
+use Rattle.std.proofs.lemmas.List.Elements.{All-contains, Contains-get_or}
+use Rattle.vbr_words.specs.Dimensions.{IsShape}
+use Rattle.vbr_core.specs.Acceptance.{MayBear, stamp_in}
+use Rattle.vbr_core.specs.Knowledge.{Know}
+use Rattle.vbr_core.specs.declared.event.Step.TheVariants.{ReadEpoch, Advance}
+use Rattle.vbr_slots.specs.declared.pass.TheConstants.{POOL}
+use Rattle.vbr_slots.specs.Calls.{Quiet}
+use Rattle.vbr_slots.specs.Pools.{IsPooled, OwnPool}
+use Rattle.vbr_slots.specs.Views.{PassView, KeepsPool, Did, knows}
+use Rattle.vbr_slots.proofs.Calls.{quiet_on, did_quiet}
+use Rattle.vbr_pools.specs.Advances.{advances, Has, AdvancesOnce}
+use Rattle.vbr_pools.specs.Pieces.{Uses, NoRoom, IsShort, Stops, ShowsSpent, IsBelow, IsScanned, IsChosen}
+use Rattle.vbr_pools.specs.Refusals.{AllStamped}
+use Rattle.vbr_pools.specs.Steps.{Counts}
+use Rattle.vbr_pools.specs.declared.refusal.TakeRefusal.{TakeRefusal}
+use Rattle.vbr_pools.specs.declared.refusal.TakeRefusal.TheVariants.{OutOfSteps, NoSlot, EpochSpent}
+use Rattle.vbr_pools.proofs.Advancing.{same_advances, once, once_after, once_before}
+use Rattle.vbr_pools.proofs.Counting.{counts_one, counts_on, uses_on, uses_more}
+use Rattle.vbr_pools.proofs.Moments.{epoch_told}
+use Rattle.vbr_pools.proofs.Raising.{stamps_reread, stamps_low, read_above}
+
+-- a pool with no slot is empty
+some_slot : (pool : List ℕ) → pool ≢ [] → 0 < length pool
+some_slot [] some = absurd (some refl)
+some_slot (x ∷ xs) some = omega arith
+
+-- a hand that is empty has no slot
+nobody : {A : Type 0} (hand : Option ℕ) (slot : ℕ) → hand ≡ None → hand ≡ Some slot → A
+nobody hand slot e f = absurd (cc)
+
+-- the epoch was read, and then the pool was looked through
+module _ (p q r : PassView) (e budget used : ℕ) (read : Did ReadEpoch p.trace q.trace e) (room : used + 8 ≤ budget) (quiet : Quiet q.trace r.trace) (known : knows r.trace ≡ knows q.trace) where
+  quiet_then : Quiet p.trace r.trace
+  quiet_then = quiet_on (did_quiet read (λ know. refl)) quiet
+
+  first : Uses p q budget used (used + 1) 1
+  first = record { counts = counts_one used read; within = omega arith; at_most = omega arith }
+
+  last_read : (knows r.trace).epoch ≡ e
+  last_read = ap (λ (k : Know). k.epoch) known ∙ epoch_told read
+
+  pub short_then : (refusal : TakeRefusal) → IsShort q r budget (used + 1) POOL refusal → Stops p r budget used (POOL + 1) refusal
+  short_then (OutOfSteps n) s = record { uses = uses_on first s.uses; short = s.short }
+  short_then NoSlot s = s
+  short_then (EpochSpent n) s = absurd s
+
+  module _ (found : Option ℕ) (since : ℕ) (scanned : IsScanned q r e budget (used + 1) found since) where
+    uses : Uses p r budget used since (POOL + 1)
+    uses = uses_on first scanned.uses
+
+    pub chosen_then : (slot : ℕ) → found ≡ Some slot → IsChosen p r budget used slot since
+    chosen_then slot is = record {
+      uses = uses_more (POOL + 3) (omega arith) uses;
+      below = subst (λ (x : ℕ × Option ℕ). IsBelow r x.0 x.1) (λ i. (sym last_read i, is i)) scanned.below;
+    }
+
+    pub full_then : budget < since + 8 → NoRoom p r budget used (POOL + 1) since
+    full_then short = record { uses = uses; short = short }
+
+    module _ (none : found ≡ None) (own : OwnPool r.trace.shape (knows r.trace) r.pool r.hand) (is : IsShape r.trace.shape) where
+      may : (slot : ℕ) → Contains r.pool slot → MayBear ((knows r.trace).own slot)
+      may slot has = (All-contains (IsPooled r.trace.shape (knows r.trace)) r.pool slot own.pooled has).1
+
+      high : (slot : ℕ) → Contains r.pool slot → e ≤ stamp_in ((knows r.trace).own slot)
+      high slot has = All-contains (λ (s : ℕ). e ≤ stamp_in ((knows r.trace).own s)) r.pool slot (subst (IsBelow r e) none scanned.below) has
+
+      low : (slot : ℕ) → Contains r.pool slot → stamp_in ((knows r.trace).own slot) ≤ e
+      low slot has =
+          subst (λ (k : Know). MayBear (k.own slot) → stamp_in (k.own slot) ≤ e) (sym known) (stamps_low read (subst IsShape quiet.same.shape is) slot) (may slot has)
+
+      stamped : AllStamped r e
+      stamped k d less = let has = Contains-get_or r.pool k d less in let h = high (get_or r.pool k d) has in let l = low (get_or r.pool k d) has in omega arith
+
+      pub spent_then : r.pool ≢ [] → e ≡ r.trace.shape.last_epoch → ShowsSpent p r budget used (POOL + 1) e
+      spent_then some last = record { spent = record { last = last; last_read = last_read; some = some; stamped = stamped }; since = since; uses = uses }
+
+      -- and the epoch was raised, and read again
+      module _ (s t : PassView) (n f : ℕ) (advance : Did (Advance e) r.trace s.trace n) (again : Did ReadEpoch s.trace t.trace f) (keeps : KeepsPool r s) (still : KeepsPool s t) (empty : r.hand ≡ None) where
+        rises : e < f
+        rises = read_above is advance again last_read
+
+        stamps_since : (slot : ℕ) → stamp_in ((knows t.trace).own slot) ≡ stamp_in ((knows s.trace).own slot)
+        stamps_since slot = stamps_reread again slot
+
+        stamps_first : (slot : ℕ) → stamp_in ((knows s.trace).own slot) ≡ stamp_in ((knows r.trace).own slot)
+        stamps_first slot = ap (λ (k : Know). stamp_in (k.own slot)) advance.know
+
+        pub raised_quiet : Quiet p.trace t.trace
+        raised_quiet = quiet_on quiet_then (quiet_on (did_quiet advance (λ know. refl)) (did_quiet again (λ know. refl)))
+
+        pub raised_chosen : (pool : List ℕ) → pool ≡ t.pool → r.pool ≢ [] → since + 8 ≤ budget → IsChosen p t budget used (get_or pool 0 0) (since + 2)
+        raised_chosen pool shown some left =
+            let there : pool ≡ r.pool = shown ∙ still.0 ∙ keeps.0 in
+            let slot : ℕ = get_or pool 0 0 in
+            let has : Contains pool slot = Contains-get_or pool 0 0 (some_slot pool (λ none. some (sym there ∙ none))) in
+            let l = low slot (subst (λ (l : List ℕ). Contains l slot) there has) in
+            let x = stamps_since slot in
+            let y = stamps_first slot in
+            let told = epoch_told again in
+            let up = rises in
+            let m = uses.at_most in
+            record {
+              uses = record { counts = counts_on uses.counts (subst (λ (k : ℕ). Counts r.trace t.trace since k) (omega arith) (counts_on (counts_one since advance) (counts_one (since + 1) again))); within = omega arith; at_most = omega arith };
+              below = (subst (λ (l : List ℕ). Contains l slot) shown has, omega arith);
+            }
+
+        pub raised_once : advances r.trace ≡ advances q.trace → AdvancesOnce p t
+        raised_once same =
+            once_after {p = p} {q = r} {r = t} quiet_then (same ∙ same_advances read refl)
+            (once_before {p = r} {q = s} {r = t} (once {p = r} {q = s} advance last_read (λ slot has. let y = stamps_first slot in let h = high slot (held slot has) in omega arith)) (did_quiet again (λ know. refl)) (same_advances again refl) (λ slot has. back slot has) stamps_since)
+          where
+            held : (slot : ℕ) → Has s slot → Contains r.pool slot
+            held slot (inl c) = subst (λ (l : List ℕ). Contains l slot) keeps.0 c
+            held slot (inr h) = nobody s.hand slot (keeps.1 ∙ empty) h
+
+            back : (slot : ℕ) → Has t slot → Has s slot
+            back slot (inl c) = inl (subst (λ (l : List ℕ). Contains l slot) still.0 c)
+            back slot (inr h) = inr (sym still.1 ∙ h)

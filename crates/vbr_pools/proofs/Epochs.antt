@@ -1,0 +1,153 @@
+-- Epochs and stamps along a run: the epoch only rises, no stamp is above it, and each epoch that a pass has read is at least 1 and no greater than the last.
+use Rattle.std.proofs.Common.{◌≡◌, ◌≢◌, ℕ, ◌≤◌, ◌==◌, Bool, true, false, List, [], ◌∷◌, ◌++◌, cond, refl, sym, ap, ◌∙◌, subst, ⊎_elim, arith}
+use Rattle.std.proofs.lemmas.Bool.{cases_Bool, cases_eq}
+use Rattle.vbr_words.specs.Dimensions.{Dimensions, IsShape}
+use Rattle.vbr_words.specs.Words.{word_of}
+use Rattle.vbr_words.specs.declared.place.At.TheVariants.{Head, Slot}
+use Rattle.vbr_core.specs.Acceptance.{Accepts, MayBear, stamp_in}
+use Rattle.vbr_core.specs.Accounts.{incarnations_after, notes_after, incarnations_with}
+use Rattle.vbr_core.specs.Agreement.{Agrees}
+use Rattle.vbr_core.specs.Incarnations.{Incarnations, nothing_yet}
+use Rattle.vbr_core.specs.Knowledge.{Know}
+use Rattle.vbr_core.specs.Machine.{World, opening, found, stamp_shown, flag_of, link_at, after}
+use Rattle.vbr_core.specs.Notes.{Notes, no_notes, notes_with}
+use Rattle.vbr_core.specs.Put.{put}
+use Rattle.vbr_core.specs.Runs.{world_from, AreAccepted, IsRun, world_after, know_after}
+use Rattle.vbr_core.specs.declared.event.Event.{Event}
+use Rattle.vbr_core.specs.declared.event.Step.{Step}
+use Rattle.vbr_core.specs.declared.event.Step.TheVariants.{ReadEpoch, Advance, LoadStamp, StoreStamp, Raise, TakeFlag, StoreBirth, StoreKey, StoreLink, LoadLink, LoadBirth, LoadKey, Publish, Mark, Unlink, ConfirmPresent, ConfirmAbsent}
+use Rattle.vbr_core.proofs.EveryRun.{step_agrees, run_agrees}
+use Rattle.vbr_core.proofs.OwnedSlots.{stamp_known}
+use Rattle.vbr_core.proofs.Puts.{put_here, put_other}
+use Rattle.vbr_core.proofs.RunsGoOn.{world_after-append, is_run_first, is_run_before, is_run_after, know_own, know_other}
+use Rattle.vbr_slots.specs.Views.{epoch_after}
+use Rattle.vbr_slots.proofs.Learning.{epoch_learned}
+
+-- ---- worlds
+
+-- no stamp is above the epoch, and no epoch that was read is 0
+record IsTimely (w : World) : Type 0 where
+  stamps : (s : ℕ) → w.stamp s ≤ w.epoch
+  some : 1 ≤ w.epoch
+  read : (p : ℕ) → 1 ≤ (w.know p).epoch
+
+-- the epoch and the stamps
+abbrev times : World → ℕ × (ℕ → ℕ)
+times w = (w.epoch, w.stamp)
+
+-- the epoch is no smaller, and no stamp is above it
+abbrev Later : World → World → Type 0
+Later w v = (w.epoch ≤ v.epoch) × ((s : ℕ) → v.stamp s ≤ v.epoch)
+
+same_times : (w v : World) → times v ≡ times w → IsTimely w → Later w v
+same_times w v e t = subst (λ (x : ℕ × (ℕ → ℕ)). (w.epoch ≤ x.0) × ((s : ℕ) → x.1 s ≤ x.0)) (sym e) (omega arith, t.stamps)
+
+by_both : {A : Type 0} (b : Bool) (f : World → A) (x y : World) (z : A) → f x ≡ z → f y ≡ z → f (cond b x y) ≡ z
+by_both true f x y z p q = p
+by_both false f x y z p q = q
+
+-- one step raises the epoch by 1 or leaves it, and stamps with no greater one
+later : (shape : Dimensions) (w : World) (p : ℕ) (step : Step) → IsTimely w → (w.know p).epoch ≤ w.epoch → Accepts shape (w.know p) step → Later w (after shape w p step)
+later shape w p ReadEpoch t low ok = same_times w (after shape w p ReadEpoch) refl t
+later shape w p (Advance from) t low ok =
+    ⊎_elim (λ (x : (w.epoch == from) ≡ true). rw x (omega arith, λ s. let y = t.stamps s in omega arith)) (λ (x : (w.epoch == from) ≡ false). rw x (omega arith, t.stamps)) (cases_Bool (w.epoch == from))
+later shape w p (LoadStamp s) t low ok = same_times w w refl t
+later shape w p (StoreStamp s stamp) t low ok = (
+  omega arith,
+  λ v. ⊎_elim (λ (x : v ≡ s). subst (λ (n : ℕ). n ≤ w.epoch) (sym (ap (put w.stamp s stamp) x ∙ put_here w.stamp s stamp)) (let e = ok.in_range.1 in omega arith)) (λ (x : v ≢ s). subst (λ (n : ℕ). n ≤ w.epoch) (sym (put_other w.stamp s stamp v x)) (t.stamps v)) (cases_eq v s),
+)
+later shape w p (Raise s) t low ok = same_times w (after shape w p (Raise s)) refl t
+later shape w p (TakeFlag s) t low ok = same_times w (after shape w p (TakeFlag s)) (by_both (flag_of (w.place s) == 1) times _ w (times w) refl refl) t
+later shape w p (StoreBirth s birth) t low ok = same_times w (after shape w p (StoreBirth s birth)) refl t
+later shape w p (StoreKey s key) t low ok = same_times w (after shape w p (StoreKey s key)) refl t
+later shape w p (StoreLink s next) t low ok = same_times w (after shape w p (StoreLink s next)) refl t
+later shape w p (LoadLink at) t low ok = same_times w (after shape w p (LoadLink at)) refl t
+later shape w p (LoadBirth s) t low ok = same_times w (after shape w p (LoadBirth s)) refl t
+later shape w p (LoadKey s) t low ok = same_times w (after shape w p (LoadKey s)) refl t
+later shape w p (Publish (Head b) expected s) t low ok = same_times w (after shape w p (Publish (Head b) expected s)) (by_both (word_of (w.head b) == expected) times _ w (times w) refl refl) t
+later shape w p (Publish (Slot v) expected s) t low ok = same_times w (after shape w p (Publish (Slot v) expected s)) (by_both (word_of (w.link v) == expected) times _ w (times w) refl refl) t
+later shape w p (Mark s expected) t low ok = same_times w (after shape w p (Mark s expected)) (by_both (word_of (w.link s) == expected) times _ w (times w) refl refl) t
+later shape w p (Unlink (Head b) expected s) t low ok = same_times w (after shape w p (Unlink (Head b) expected s)) (by_both (word_of (w.head b) == expected) times _ w (times w) refl refl) t
+later shape w p (Unlink (Slot v) expected s) t low ok = same_times w (after shape w p (Unlink (Slot v) expected s)) (by_both (word_of (w.link v) == expected) times _ w (times w) refl refl) t
+later shape w p (ConfirmPresent op s expected) t low ok = same_times w (after shape w p (ConfirmPresent op s expected)) (by_both (word_of (w.link s) == expected) times _ w (times w) refl refl) t
+later shape w p (ConfirmAbsent op key at expected) t low ok = same_times w (after shape w p (ConfirmAbsent op key at expected)) (by_both (word_of (link_at w at) == expected) times _ w (times w) refl refl) t
+
+-- the epoch that is read in a timely world is at least 1
+some_read : (shape : Dimensions) (w : World) (step : Step) (e : ℕ) → IsTimely w → 1 ≤ e → 1 ≤ epoch_after step (found shape w step) e
+some_read shape w ReadEpoch e t some = t.some
+some_read shape w (Advance from) e t some = some
+some_read shape w (LoadStamp s) e t some = some
+some_read shape w (StoreStamp s stamp) e t some = some
+some_read shape w (Raise s) e t some = some
+some_read shape w (TakeFlag s) e t some = some
+some_read shape w (StoreBirth s birth) e t some = some
+some_read shape w (StoreKey s key) e t some = some
+some_read shape w (StoreLink s next) e t some = some
+some_read shape w (LoadLink at) e t some = some
+some_read shape w (LoadBirth s) e t some = some
+some_read shape w (LoadKey s) e t some = some
+some_read shape w (Publish pred expected s) e t some = some
+some_read shape w (Mark s expected) e t some = some
+some_read shape w (Unlink pred expected s) e t some = some
+some_read shape w (ConfirmPresent op s expected) e t some = some
+some_read shape w (ConfirmAbsent op key at expected) e t some = some
+
+read_after : (shape : Dimensions) (w : World) (p : ℕ) (step : Step) → IsTimely w → (q : ℕ) → 1 ≤ ((after shape w p step).know q).epoch
+read_after shape w p step t q =
+    ⊎_elim
+    (λ (x : q ≡ p). subst (λ (e : ℕ). 1 ≤ e) (sym (ap (λ (i : ℕ). ((after shape w p step).know i).epoch) x ∙ ap (λ (k : Know). k.epoch) (know_own shape w p step) ∙ epoch_learned step (found shape w step) (stamp_shown w step) (w.know p))) (some_read shape w step (w.know p).epoch t (t.read p)))
+    (λ (x : q ≢ p). subst (λ (k : Know). 1 ≤ k.epoch) (sym (know_other shape w q p step x)) (t.read q)) (cases_eq q p)
+
+timely_after : (shape : Dimensions) (w : World) (p : ℕ) (step : Step) → IsTimely w → (w.know p).epoch ≤ w.epoch → Accepts shape (w.know p) step → IsTimely (after shape w p step)
+timely_after shape w p step t low ok = let l = later shape w p step t low ok in record { stamps = l.1; some = let s = t.some in let g = l.0 in omega arith; read = read_after shape w p step t }
+
+-- ---- runs
+
+epoch_known : (shape : Dimensions) (w : World) (a : Incarnations) (notes : ℕ → Notes) → Agrees shape w a notes → (p : ℕ) → (w.know p).epoch ≤ w.epoch
+epoch_known shape w a notes g p = let e = (g.knows p).epoch in let i = g.image.epoch in omega arith
+
+-- events from a timely world leave it timely, and its epoch rises or stays
+timely_from : (shape : Dimensions) (passes : ℕ) (w : World) (a : Incarnations) (notes : ℕ → Notes) (events : List Event) → Agrees shape w a notes → AreAccepted shape passes w events → IsTimely w →
+    IsTimely (world_from shape w events) × (w.epoch ≤ (world_from shape w events).epoch)
+timely_from shape passes w a notes [] g ok t = (t, omega arith)
+timely_from shape passes w a notes (event ∷ events) g ok t =
+    let p = event.pass in
+    let v = after shape w p event.step in
+    let b = incarnations_with shape w a event in
+    let new = put notes p (notes_with shape w b p event.step (notes p)) in
+    let low = epoch_known shape w a notes g p in
+    let one = step_agrees shape w a notes p event.step g ok.0.1 in
+    let rest = timely_from shape passes v b new events one.1 ok.1 (timely_after shape w p event.step t low ok.0.1) in
+    let here : w.epoch ≤ v.epoch = (later shape w p event.step t low ok.0.1).0 in
+    let there = rest.1 in
+    (rest.0, omega arith)
+
+timely_first : IsTimely opening
+timely_first = record { stamps = λ s. omega arith; some = omega arith; read = λ p. omega arith }
+
+timely : (shape : Dimensions) (passes : ℕ) (run : List Event) → IsShape shape → IsRun shape passes run → IsTimely (world_after shape run)
+timely shape passes run is ok = (timely_from shape passes opening nothing_yet (λ p. no_notes) run (run_agrees shape passes [] is (is_run_first shape passes)) ok timely_first).0
+
+-- the epoch only rises
+pub epoch_rises : (shape : Dimensions) (passes : ℕ) (xs ys : List Event) → IsShape shape → IsRun shape passes (xs ++ ys) → (world_after shape xs).epoch ≤ (world_after shape (xs ++ ys)).epoch
+epoch_rises shape passes xs ys is ok =
+    let before = is_run_before shape passes xs ys ok in
+    let more = timely_from shape passes (world_after shape xs) (incarnations_after shape xs) (notes_after shape xs) ys (run_agrees shape passes xs is before) (is_run_after shape passes xs ys ok) (timely shape passes xs is before) in
+    subst (λ (w : World). (world_after shape xs).epoch ≤ w.epoch) (sym (world_after-append shape xs ys)) more.1
+
+-- what a pass knows after a run, against the epoch: the one that it has read is at least 1, and not above the one that stands
+pub read_some : (shape : Dimensions) (passes : ℕ) (run : List Event) (who : ℕ) → IsShape shape → IsRun shape passes run → 1 ≤ (know_after shape run who).epoch
+read_some shape passes run who is ok = (timely shape passes run is ok).read who
+
+pub read_before : (shape : Dimensions) (passes : ℕ) (run : List Event) (who : ℕ) → IsShape shape → IsRun shape passes run → (know_after shape run who).epoch ≤ (world_after shape run).epoch
+read_before shape passes run who is ok = epoch_known shape (world_after shape run) (incarnations_after shape run) (notes_after shape run) (run_agrees shape passes run is ok) who
+
+pub read_in_shape : (shape : Dimensions) (passes : ℕ) (run : List Event) (who : ℕ) → IsShape shape → IsRun shape passes run → (know_after shape run who).epoch ≤ shape.last_epoch
+read_in_shape shape passes run who is ok = let g = run_agrees shape passes run is ok in let e = (g.knows who).epoch in let f = g.fits.epoch in omega arith
+
+-- and no stamp that it knows is above that
+pub stamp_before : (shape : Dimensions) (passes : ℕ) (run : List Event) (who s : ℕ) → IsShape shape → IsRun shape passes run → MayBear ((know_after shape run who).own s) → stamp_in ((know_after shape run who).own s) ≤ (world_after shape run).epoch
+stamp_before shape passes run who s is ok may =
+    let t = (timely shape passes run is ok).stamps s in
+    let e = stamp_known shape (world_after shape run) (incarnations_after shape run) (notes_after shape run) who s (run_agrees shape passes run is ok) may in
+    omega arith

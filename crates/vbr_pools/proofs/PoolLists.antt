@@ -1,0 +1,25 @@
+-- Lists of slots, without one of them.
+use Rattle.std.proofs.Common.{◌≡◌, ℕ, zero, suc, ◌<◌, ◌≤◌, ◌==◌, Bool, true, false, not, List, [], ◌∷◌, length, cond, refl, sym, ap, ◌∙◌, subst, eq-eqb, arith}
+use Rattle.std.specs.Prelude.{Contains}
+use Rattle.std.proofs.lemmas.Bool.{ne_eqb}
+use Rattle.std.proofs.lemmas.List.Sums.{length-filter, count_by-le-length}
+use Rattle.vbr_slots.specs.Pools.{without}
+
+-- a pool that hasn't the slot stays
+pub without_other : (slot : ℕ) (pool : List ℕ) → ¬ (Contains pool slot) → without slot pool ≡ pool
+without_other slot [] out = refl
+without_other slot (x ∷ xs) out =
+    ap (λ (b : Bool). cond (not b) (x ∷ without slot xs) (without slot xs)) (ne_eqb x slot (λ e. out (0, omega arith, e)))
+    ∙ ap (λ (l : List ℕ). x ∷ l) (without_other slot xs (λ c. out (suc c.0, (let l = c.1 in omega arith), c.2)))
+
+-- a pool that has it gets shorter
+pub without_shorter : (slot : ℕ) (pool : List ℕ) → Contains pool slot → length (without slot pool) < length pool
+without_shorter slot [] (k, low, is) = absurd (omega arith)
+without_shorter slot (x ∷ xs) (zero, low, is) =
+    let most : length (without slot xs) ≤ length xs = rw (length-filter (λ (y : ℕ). not (y == slot)) xs) (count_by-le-length (λ (y : ℕ). not (y == slot)) xs) in
+    subst (λ (b : Bool). length (cond (not b) (x ∷ without slot xs) (without slot xs)) < suc (length xs)) (sym (eq-eqb x slot is)) (omega arith)
+without_shorter slot (x ∷ xs) (suc k, low, is) = let less = without_shorter slot xs (k, omega arith, is) in either (x == slot) less
+  where
+    either : (b : Bool) → length (without slot xs) < length xs → length (cond (not b) (x ∷ without slot xs) (without slot xs)) < suc (length xs)
+    either true less = omega arith
+    either false less = omega arith

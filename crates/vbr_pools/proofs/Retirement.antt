@@ -1,0 +1,87 @@
+-- An unlinked slot that returns: it is stamped with an epoch that was read before.
+use Rattle.std.proofs.Common.{◌≡◌, ℕ, ◌-◌, ◌<◌, ◌≤◌, Bool, true, false, cond, Option, Some, None, List, [], ◌∷◌, ◌++◌, length, arith, refl, sym, ap, ◌∙◌, append_assoc, append-nil, subst}
+use Rattle.std.specs.Prelude.{Contains}
+use Rattle.std.proofs.lemmas.Bool.Decides.{nat_tests}
+use Rattle.std.proofs.lemmas.List.Elements.{All-contains}
+use Rattle.vbr_words.specs.Dimensions.{Dimensions, IsShape}
+use Rattle.vbr_core.specs.Accounts.{incarnations_after}
+use Rattle.vbr_core.specs.Agreement.{OwnFits}
+use Rattle.vbr_core.specs.Incarnations.{Incarnations}
+use Rattle.vbr_core.specs.Sound.{SlotsSound}
+use Rattle.vbr_core.specs.Runs.{IsRun, know_after}
+use Rattle.vbr_core.proofs.EveryRun.{run_agrees}
+use Rattle.vbr_core.specs.Acceptance.{MayBear, IsUnlinked}
+use Rattle.vbr_core.specs.Knowledge.{Know}
+use Rattle.vbr_core.specs.declared.knowledge.Holding.{Holding}
+use Rattle.vbr_core.specs.declared.knowledge.Holding.TheVariants.{Free, Unlinked, InHand}
+use Rattle.vbr_slots.specs.declared.pass.TheConstants.{POOL}
+use Rattle.vbr_slots.specs.Pools.{IsPooled, OwnPool}
+use Rattle.vbr_core.specs.declared.event.Event.{Event}
+use Rattle.vbr_core.specs.declared.event.Step.TheVariants.{ReadEpoch, StoreStamp}
+use Rattle.vbr_core.proofs.RunsGoOn.{begins_trans}
+use Rattle.vbr_slots.specs.Calls.{Quiet}
+use Rattle.vbr_slots.specs.Views.{Trace, Did, knows, event_of}
+use Rattle.vbr_slots.proofs.Calls.{quiet_on, did_quiet, did_moment, moment_before}
+use Rattle.vbr_pools.specs.Retiring.{Stamps, is_kept, pool_retired}
+use Rattle.vbr_pools.proofs.Moments.{epoch_told, epoch_stood}
+
+module _ {p q r : Trace} {slot e n : ℕ} (read : Did ReadEpoch p q e) (stamp : Did (StoreStamp slot (knows q).epoch) q r n) where
+  pub retired_quiet : Quiet p r
+  retired_quiet = quiet_on (did_quiet read (λ know. refl)) (did_quiet stamp (λ know. refl))
+
+  -- it was stamped with the epoch that was read
+  pub stamped : Stamps p r slot (knows r).epoch
+  stamped =
+      let told : (knows r).epoch ≡ (knows q).epoch = epoch_told stamp in
+      let mark = λ (who epoch : ℕ). event_of who (StoreStamp slot epoch) in
+      record {
+        reading = p.seen ++ read.rest;
+        is = moment_before (did_moment read) (did_quiet stamp (λ know. refl));
+        was_epoch = epoch_stood read ∙ sym (epoch_told read) ∙ sym told;
+        stamping = q.seen ++ stamp.rest;
+        later = (event_of p.who ReadEpoch ∷ stamp.rest, ap (λ (l : List Event). l ++ stamp.rest) read.seen ∙ append_assoc (p.seen ++ read.rest) (event_of p.who ReadEpoch ∷ []) stamp.rest);
+        stamped = ([], stamp.seen ∙ (λ i. (q.seen ++ stamp.rest) ++ mark (read.same.3 i) (sym told i) ∷ []) ∙ sym (append-nil ((q.seen ++ stamp.rest) ++ mark p.who (knows r).epoch ∷ [])));
+      }
+
+-- and more steps leave that
+pub stamped_before : {p q r : Trace} {slot epoch : ℕ} → Stamps p q slot epoch → Quiet q r → Stamps p r slot epoch
+stamped_before {p} {q} {r} a b = record {
+  reading = a.reading;
+  is = moment_before a.is b;
+  was_epoch = a.was_epoch;
+  stamping = a.stamping;
+  later = a.later;
+  stamped = begins_trans _ q.seen r.seen a.stamped b.seen;
+}
+
+-- ---- pools
+
+not_both : (holding : Option Holding) → IsUnlinked holding → MayBear holding → ⊥
+not_both None a b = a
+not_both (Some (Free stamp)) a b = a
+not_both (Some (Unlinked reread)) a b = b
+not_both (Some (InHand stamp birth key link)) a b = a
+
+-- an unlinked slot isn't in the own pool
+pub unlinked_outside : (shape : Dimensions) (know : Know) (slot : ℕ) (pool : List ℕ) (hand : Option ℕ) → OwnPool shape know pool hand → IsUnlinked (know.own slot) → ¬ (Contains pool slot)
+unlinked_outside shape know slot pool hand o unlinked c = not_both (know.own slot) unlinked (All-contains (IsPooled shape know) pool slot o.pooled c).1
+
+-- and it is one of the shape
+pub unlinked_in_shape : (shape : Dimensions) (passes : ℕ) (run : List Event) (who slot : ℕ) → IsShape shape → IsRun shape passes run → IsUnlinked ((know_after shape run who).own slot) → slot < shape.slots
+unlinked_in_shape shape passes run who slot is ok unlinked =
+    let g = run_agrees shape passes run is ok in
+    go (incarnations_after shape run) ((know_after shape run who).own slot) unlinked g.sound.slots (g.owns who slot) g.fits.slot
+  where
+    go : (a : Incarnations) (holding : Option Holding) → IsUnlinked holding → SlotsSound shape a → OwnFits a who (know_after shape run who).epoch holding (a.place slot) (a.last slot) (a.stamp slot) → ((c : ℕ) → c < a.count → a.slot c < shape.slots) → slot < shape.slots
+    go a None u sound fits low = absurd u
+    go a (Some (Free stamp)) u sound fits low = absurd u
+    go a (Some (InHand stamp birth key link)) u sound fits low = absurd u
+    go a (Some (Unlinked reread)) u sound fits low = let by = fits.1 in let born = sound.last_born slot by.node by.last_is in subst (λ (s : ℕ). s < shape.slots) born.1 (low by.node born.0)
+
+-- a pool with no room stays
+pub pool_left : (pool : List ℕ) (slot : ℕ) → POOL - 1 ≤ length pool → pool_retired pool slot ≡ pool
+pool_left pool slot full = go (is_kept pool) (grind (arith, nat_tests))
+  where
+    go : (b : Bool) → b ≡ false → cond b (pool ++ slot ∷ []) pool ≡ pool
+    go true e = absurd (cc)
+    go false e = refl

@@ -1,0 +1,37 @@
+use Rattle.std.proofs.Common.{ℕ, ◌≡◌, ◌≤◌, List, length, sym, ap, ◌∙◌, subst, refl}
+use Rattle.std.specs.Prelude.{Contains}
+use Rattle.vbr_slots.specs.Calls.{Quiet}
+use Rattle.vbr_slots.specs.Pools.{without}
+use Rattle.vbr_slots.specs.Views.{Trace, knows}
+use Rattle.vbr_slots.proofs.Calls.{quiet_on, did_quiet}
+use Rattle.vbr_pools.specs.Retiring.{Stamps}
+use Rattle.vbr_pools.proofs.Moments.{epoch_told}
+use Rattle.vbr_pools.proofs.Retirement.{retired_quiet, stamped, stamped_before, unlinked_outside, pool_left}
+use Rattle.vbr_pools.proofs.PoolLists.{without_other}
+use Rattle.vbr_pools.proofs.retiring.retire.Goals as goal
+
+pub returns-then-kept-clause-quiet : goal.returns-then-kept-clause-quiet
+returns-then-kept-clause-quiet c = subst (Quiet c.args.pass.now.trace) (sym c.keep.ensures.trace) (retired_quiet c.read_epoch.ensures.step c.store_stamp.ensures.step)
+
+pub returns-then-kept-clause-stamped : goal.returns-then-kept-clause-stamped
+returns-then-kept-clause-stamped c =
+    subst (λ (x : Trace × ℕ). Stamps c.args.pass.now.trace x.0 x.1 (knows x.0).epoch) (λ i. (sym c.keep.ensures.trace i, c.into_slot-slot.ensures i)) (stamped c.read_epoch.ensures.step c.store_stamp.ensures.step)
+
+pub returns-else-kept-clause-quiet : goal.returns-else-kept-clause-quiet
+returns-else-kept-clause-quiet c = quiet_on (retired_quiet c.read_epoch.ensures.step c.store_stamp.ensures.step) (did_quiet c.raise.ensures.step (λ know. refl))
+
+pub returns-else-kept-clause-stamped : goal.returns-else-kept-clause-stamped
+returns-else-kept-clause-stamped c =
+    let told : (knows c.raise.new.pass.trace).epoch ≡ (knows c.store_stamp.new.pass.trace).epoch = epoch_told c.raise.ensures.step in
+    subst (λ (x : ℕ × ℕ). Stamps c.args.pass.now.trace c.raise.new.pass.trace x.0 x.1) (λ i. (c.into_slot-slot.ensures i, sym told i))
+    (stamped_before (stamped c.read_epoch.ensures.step c.store_stamp.ensures.step) (did_quiet c.raise.ensures.step (λ know. refl)))
+
+pub returns-else-kept-clause-pool : goal.returns-else-kept-clause-pool
+returns-else-kept-clause-pool c =
+    let slot : ℕ = c.into_slot-slot.result in
+    let pool : List ℕ = c.args.pass.now.pool in
+    let stays : c.store_stamp.new.pass.pool ≡ pool = c.store_stamp.ensures.pool.0 ∙ c.read_epoch.ensures.pool.0 in
+    let shown = c.pool.ensures.pool in
+    let full = c.if-kept.false in
+    let out : ¬ (Contains pool slot) = subst (λ (s : ℕ). ¬ (Contains pool s)) (sym c.into_slot-slot.ensures) (unlinked_outside _ _ _ pool _ c.pool.ensures.own c.requires.unlinked) in
+    c.raise.ensures.pool ∙ ap (without slot) stays ∙ without_other slot pool out ∙ sym (pool_left pool c.args.unlinked.slot (subst (λ (l : List ℕ). 63 ≤ length l) shown full))

@@ -1,0 +1,26 @@
+use Rattle.std.proofs.Common.{◌≡◌, length, refl, ap, ◌∙◌, arith}
+use Rattle.vbr_slots.proofs.Calls.{quiet_on, did_quiet}
+use Rattle.vbr_pools.proofs.Advancing.{same_advances}
+use Rattle.vbr_pools.proofs.Scanning.{scan_next, scan_found}
+use Rattle.vbr_pools.proofs.taking.scan.Goals as goal
+
+pub returns-then-stamp-epoch-clause-quiet : goal.returns-then-stamp-epoch-clause-quiet
+returns-then-stamp-epoch-clause-quiet c = quiet_on c.loop-i.invariant.quiet (did_quiet c.load_stamp-stamp.ensures.step (λ know. refl))
+
+pub returns-then-stamp-epoch-clause-advances : goal.returns-then-stamp-epoch-clause-advances
+returns-then-stamp-epoch-clause-advances c = same_advances c.load_stamp-stamp.ensures.step refl ∙ c.loop-i.invariant.advances
+
+pub returns-then-stamp-epoch-clause-ok : goal.returns-then-stamp-epoch-clause-ok
+returns-then-stamp-epoch-clause-ok c =
+    let now : length c.pool.result.now ≡ length c.args.pass.now.pool = ap length (c.pool.ensures.pool ∙ c.loop-i.invariant.pool.0) in
+    let then : length c.pool-i-end.result.now ≡ length c.args.pass.now.pool = ap length c.pool-i-end.ensures.pool in
+    let most = c.pool-i-end.ensures.room in
+    let low = c.loop-i-test.true in
+    scan_found c.loop-i.invariant c.pool.result.now c.pool.ensures.pool c.pool.ensures.own (omega arith) (c.affords.ensures.0 c.if-not-affords.false) c.load_stamp-stamp.ensures.step c.load_stamp-stamp.ensures.known c.load_stamp-stamp.ensures.pool (omega arith) c.if-stamp-epoch.true
+
+pub loop-i-preserved : goal.loop-i-preserved
+loop-i-preserved c =
+    let now : length c.pool.result.now ≡ length c.args.pass.now.pool = ap length (c.pool.ensures.pool ∙ c.loop-i.invariant.pool.0) in
+    let then : length c.pool-i-end.result.now ≡ length c.args.pass.now.pool = ap length c.pool-i-end.ensures.pool in
+    let low = c.loop-i-test.true in
+    scan_next c.loop-i.invariant c.pool.result.now c.pool.ensures.pool c.pool.ensures.own (omega arith) (c.affords.ensures.0 c.if-not-affords.false) c.load_stamp-stamp.ensures.step c.load_stamp-stamp.ensures.known c.load_stamp-stamp.ensures.pool c.if-stamp-epoch.false

@@ -1,0 +1,10 @@
+pub mod Hands
+pub mod HandView
+pub mod UnlinkedView
+pub mod Steps
+pub mod SharedPool
+pub mod Advances
+pub mod Taking
+pub mod Refusals
+pub mod Retiring
+pub mod Pieces

@@ -1,0 +1,48 @@
+-- When a call takes no slot, and what it leaves.
+use Rattle.std.specs.Prelude.{◌≡◌, ◌≢◌, ℕ, ◌+◌, ◌<◌, ◌≤◌, [], ◌∷◌, All, Result, Ok, Err, ◌⊎◌}
+use Rattle.vbr_core.specs.Acceptance.{stamp_in}
+use Rattle.vbr_slots.specs.Calls.{Took}
+use Rattle.vbr_slots.specs.Views.{PassView, knows}
+use Rattle.vbr_pools.specs.Hands.{HandView}
+use Rattle.vbr_pools.specs.SharedPool.{WasOutside, CameByFlag}
+use Rattle.vbr_pools.specs.declared.refusal.TakeRefusal.{TakeRefusal}
+use Rattle.vbr_pools.specs.declared.refusal.TakeRefusal.TheVariants.{OutOfSteps, NoSlot, EpochSpent}
+
+-- the own pool was empty and is, and each slot was outside the shared pool at some moment of the call
+pub record HasNoSlot (p q : PassView) : Type 0 where
+  pub empty : p.pool ≡ []
+  pub still : q.pool ≡ []
+  pub outside : (slot : ℕ) → slot < p.trace.shape.slots → WasOutside p.trace q.trace slot
+
+-- each slot of the own pool has this epoch as its stamp
+abbrev pub AllStamped : PassView → ℕ → Type 0
+AllStamped q epoch = All (λ slot. stamp_in ((knows q.trace).own slot) ≡ epoch) q.pool
+
+-- the epoch that the pass read last is the last one, and the own pool isn't empty, but each slot of it is stamped with that
+pub record IsSpent (q : PassView) (epoch : ℕ) : Type 0 where
+  pub last : epoch ≡ q.trace.shape.last_epoch
+  pub last_read : (knows q.trace).epoch ≡ epoch
+  pub some : q.pool ≢ []
+  pub stamped : AllStamped q epoch
+
+-- the steps that were made are within the budget, and leave no room in it for one more piece
+pub record IsOutOfSteps (p q : PassView) (budget used : ℕ) : Type 0 where
+  pub took : Took p.trace q.trace used
+  pub within : used ≤ budget
+  pub short : budget < used + 8
+
+-- what a refusal says of a call
+abbrev pub IsRefused : PassView → PassView → ℕ → TakeRefusal → Type 0
+IsRefused p q budget (OutOfSteps used) = IsOutOfSteps p q budget used
+IsRefused p q budget NoSlot = HasNoSlot p q
+IsRefused p q budget (EpochSpent epoch) = IsSpent q epoch
+
+-- after a refusal the own pool is as before, or was empty and holds the one slot whose flag was won
+abbrev pub LeavesPool : PassView → PassView → Type 0
+LeavesPool p q = (q.pool ≡ p.pool) ⊎ ((p.pool ≡ []) × (slot : ℕ) × (q.pool ≡ slot ∷ []) × CameByFlag p.trace q.trace slot)
+
+-- a slot was taken, or the epoch is spent
+abbrev pub IsTakenOrSpent : Result HandView TakeRefusal → Type 0
+IsTakenOrSpent (Ok hand) = Unit {0}
+IsTakenOrSpent (Err (EpochSpent epoch)) = Unit {0}
+IsTakenOrSpent _ = ⊥

@@ -1,0 +1,36 @@
+-- What the return of an unlinked slot leaves.
+use Rattle.std.specs.Prelude.{◌≡◌, ℕ, ◌-◌, nat_lt, Bool, List, [], ◌∷◌, ◌++◌, length, Some, None, if◌then◌else◌}
+use Rattle.vbr_core.specs.Knowledge.{Know}
+use Rattle.vbr_core.specs.Learning.{read_epoch, with_own}
+use Rattle.vbr_core.specs.Runs.{Begins, world_after}
+use Rattle.vbr_core.specs.declared.event.Event.{Event}
+use Rattle.vbr_core.specs.declared.event.Step.TheVariants.{StoreStamp}
+use Rattle.vbr_core.specs.declared.knowledge.Holding.TheVariants.{Free}
+use Rattle.vbr_slots.specs.declared.pass.TheConstants.{POOL}
+use Rattle.vbr_slots.specs.Calls.{Moment}
+use Rattle.vbr_slots.specs.Views.{Trace, event_of}
+
+-- the pass read the epoch during the call, and stamped the slot with it after that
+pub record Stamps (p q : Trace) (slot epoch : ℕ) : Type 0 where
+  pub reading : List Event
+  pub is : Moment p q reading
+  pub was_epoch : (world_after p.shape reading).epoch ≡ epoch
+  pub stamping : List Event
+  pub later : Begins reading stamping
+  pub stamped : Begins (stamping ++ event_of p.who (StoreStamp slot epoch) ∷ []) q.seen
+
+-- whether a slot that is retired stays in the own pool, which leaves one place free for a hand
+abbrev pub is_kept : List ℕ → Bool
+is_kept pool = nat_lt (length pool) (POOL - 1)
+
+-- the own pool after a slot was retired
+abbrev pub pool_retired : List ℕ → ℕ → List ℕ
+pool_retired pool slot = if is_kept pool then pool ++ slot ∷ [] else pool
+
+-- how many steps it takes to retire a slot
+abbrev pub steps_to_retire : List ℕ → ℕ
+steps_to_retire pool = if is_kept pool then 2 else 3
+
+-- what a pass knows once it has read the epoch and retired a slot: a slot that it keeps is free, and one that it doesn't is no more its own
+abbrev pub know_retired : Know → ℕ → ℕ → Bool → Know
+know_retired know epoch slot kept = with_own (read_epoch know epoch) slot (if kept then Some (Free epoch) else None)

@@ -1,0 +1,21 @@
+-- Slots in the shared pool and outside it, during a call.
+use Rattle.std.specs.Prelude.{◌≡◌, ◌≢◌, ℕ, List, [], ◌∷◌, ◌++◌}
+use Rattle.vbr_core.specs.Runs.{Begins, world_after}
+use Rattle.vbr_core.specs.declared.event.Event.{Event}
+use Rattle.vbr_core.specs.declared.event.Step.TheVariants.{TakeFlag}
+use Rattle.vbr_core.specs.declared.knowledge.SlotPlace.TheVariants.{Shared}
+use Rattle.vbr_slots.specs.Calls.{Moment}
+use Rattle.vbr_slots.specs.Views.{Trace, event_of}
+
+-- at a moment of what the pass did the slot was outside the shared pool
+pub record WasOutside (p q : Trace) (slot : ℕ) : Type 0 where
+  pub moment : List Event
+  pub is : Moment p q moment
+  pub outside : (world_after p.shape moment).place slot ≢ Shared
+
+-- the pass took the slot out of the shared pool
+pub record CameByFlag (p q : Trace) (slot : ℕ) : Type 0 where
+  pub moment : List Event
+  pub is : Moment p q moment
+  pub shared : (world_after p.shape moment).place slot ≡ Shared
+  pub taken : Begins (moment ++ event_of p.who (TakeFlag slot) ∷ []) q.seen

@@ -1,0 +1,164 @@
+//! Taking a slot for a new incarnation.
+ghost use Rattle.std.specs.Prelude.{◌≡◌, ◌≢◌, ◌+◌, ◌≤◌, [], IfOk, IfErr, OnErr, Some, None};
+ghost use Rattle.vbr_slots.specs.declared.pass.TheConstants.{POOL};
+ghost use Rattle.vbr_slots.specs.Calls.{Quiet};
+ghost use Rattle.vbr_slots.specs.Pools.{OwnPool};
+ghost use Rattle.vbr_slots.specs.Views.{IsOf, KeepsPool, knows};
+ghost use Rattle.vbr_pools.specs.Advances.{advances, AdvancesWhereNeeded};
+ghost use Rattle.vbr_pools.specs.Pieces.{HasSlots, IsBelow, IsBorn, IsChosen, IsScanned, IsShort, Stops};
+ghost use Rattle.vbr_pools.specs.Refusals.{IsRefused, LeavesPool, IsTakenOrSpent};
+ghost use Rattle.vbr_pools.specs.Steps.{TookWithin};
+ghost use Rattle.vbr_pools.specs.Taking.{IsTaken};
+
+use crate::budget::affords;
+use crate::hand::Hand;
+use crate::refusal::TakeRefusal;
+use vbr_slots::{Pass, Slots};
+
+/// Takes a slot, and gives birth to a new incarnation there, above the slot's stamp: a slot of the
+/// own pool, the oldest that may be born in; or, where that pool is empty, the first of the shared
+/// pool. It waits for nobody.
+///
+/// The call makes at most `budget` steps. It goes in pieces, and tests before each whether the budget
+/// has room for it; if not, it answers OutOfSteps. It looks in the shared pool only where the own
+/// pool is empty: NoSlot, if nothing is there. It raises the epoch only where no slot of the own pool
+/// is stamped below the epoch that it read: EpochSpent, if that is the last. A flag that it won
+/// stays in the own pool after a refusal.
+pub fn take(slots: &Slots, pass: &mut Pass, budget: u32) -> Result<Hand, TakeRefusal>
+    requires own { IsOf pass.old.trace slots.now }
+    requires empty_hand { pass.old.hand ≡ None }
+    ensures quiet { Quiet pass.old.trace pass.new.trace }
+    ensures steps { TookWithin pass.old.trace pass.new.trace budget }
+    ensures ok { IfOk result (λ hand. IsTaken pass.old pass.new hand) }
+    ensures refused { IfErr result (λ refusal. IsRefused pass.old pass.new budget refusal) }
+    ensures pool { IfErr result (λ refusal. LeavesPool pass.old pass.new) }
+    ensures hand { IfErr result (λ refusal. pass.new.hand ≡ None) }
+    ensures advances { AdvancesWhereNeeded pass.old pass.new }
+    // No condition speaks of another pass: none can hold it up.
+    ensures ready { pass.old.pool ≢ [] → 80 ≤ budget → IsTakenOrSpent result }
+{
+    let used = claim(slots, pass, budget)?;
+    let (slot, used) = choose(slots, pass, budget, used)?;
+    bear(slots, pass, slot, budget, used)
+}
+
+// Sees to it that the own pool has a slot: if it is empty, takes the first one out of the shared pool.
+// Returns how many steps were used.
+fn claim(slots: &Slots, pass: &mut Pass, budget: u32) -> Result<u32, TakeRefusal>
+    requires own { IsOf pass.old.trace slots.now }
+    requires empty_hand { pass.old.hand ≡ None }
+    ensures quiet { Quiet pass.old.trace pass.new.trace }
+    ensures advances { advances pass.new.trace ≡ advances pass.old.trace }
+    ensures ok { IfOk result (λ used. HasSlots pass.old pass.new budget used) }
+    ensures empty { IfErr result (λ refusal. pass.old.pool ≡ []) }
+    ensures refused { IfErr result (λ refusal. IsRefused pass.old pass.new budget refusal) }
+    ensures steps { IfErr result (λ refusal. TookWithin pass.old.trace pass.new.trace budget) }
+    ensures pool { IfErr result (λ refusal. KeepsPool pass.old pass.new) }
+{
+    if !pass.pool().is_empty() {
+        return Ok(0);
+    }
+    // Each flag is a step: `slot` of them were made.
+    for slot in 0..slots.shape().slots() {
+        if !affords(budget, slot) {
+            return Err(TakeRefusal::OutOfSteps { used: slot });
+        }
+        if slots.take_flag(pass, slot) {
+            let _pool = pass.pool();
+            pass.keep(slot);
+            return Ok(slot + 1);
+        }
+    }
+    Err(TakeRefusal::NoSlot)
+}
+
+// Reads the epoch and chooses the oldest slot of the own pool that is stamped below it. If there is none,
+// raises the epoch, where it is still that one and not the last, and chooses the oldest slot. Returns
+// the slot, and how many steps were used.
+fn choose(slots: &Slots, pass: &mut Pass, budget: u32, used: u32) -> Result<(u32, u32), TakeRefusal>
+    requires own { IsOf pass.old.trace slots.now }
+    requires some { pass.old.pool ≢ [] }
+    requires empty_hand { pass.old.hand ≡ None }
+    requires within { used ≤ budget }
+    ensures quiet { Quiet pass.old.trace pass.new.trace }
+    ensures pool { KeepsPool pass.old pass.new }
+    ensures ok { IfOk result (λ r. IsChosen pass.old pass.new budget used r.0 r.1) }
+    ensures refused { IfErr result (λ refusal. Stops pass.old pass.new budget used (POOL + 1) refusal) }
+    ensures advances { AdvancesWhereNeeded pass.old pass.new }
+{
+    if !affords(budget, used) {
+        return Err(TakeRefusal::OutOfSteps { used });
+    }
+    let epoch = slots.read_epoch(pass);
+    let (found, used) = scan(slots, pass, epoch, budget, used + 1)?;
+    if let Some(slot) = found {
+        return Ok((slot, used));
+    }
+    if !affords(budget, used) {
+        return Err(TakeRefusal::OutOfSteps { used });
+    }
+    if epoch == slots.shape().last_epoch() {
+        return Err(TakeRefusal::EpochSpent { epoch });
+    }
+    slots.advance(pass, epoch);
+    slots.read_epoch(pass);
+    Ok((pass.pool()[0], used + 2))
+}
+
+// The oldest slot of the own pool that is stamped below an epoch, if there is one, and how many steps
+// were used.
+fn scan(
+    slots: &Slots,
+    pass: &mut Pass,
+    epoch: u64,
+    budget: u32,
+    mut used: u32,
+) -> Result<(Option<u32>, u32), TakeRefusal>
+    requires own { IsOf pass.old.trace slots.now }
+    requires within { used ≤ budget }
+    ensures quiet { Quiet pass.old.trace pass.new.trace }
+    ensures pool { KeepsPool pass.old pass.new }
+    ensures own { OwnPool pass.new.trace.shape (knows pass.new.trace) pass.new.pool pass.new.hand }
+    ensures known { knows pass.new.trace ≡ knows pass.old.trace }
+    ensures advances { advances pass.new.trace ≡ advances pass.old.trace }
+    ensures ok { IfOk result (λ r. IsScanned pass.old pass.new epoch budget used r.0 r.1) }
+    ensures refused { IfErr result (λ refusal. IsShort pass.old pass.new budget used POOL refusal) }
+{
+    for i in 0..pass.pool().len() {
+        if !affords(budget, used) {
+            return Err(TakeRefusal::OutOfSteps { used });
+        }
+        let slot = pass.pool()[i];
+        let stamp = slots.load_stamp(pass, slot);
+        used += 1;
+        if stamp < epoch {
+            return Ok((Some(slot), used));
+        }
+    }
+    Ok((None, used))
+}
+
+// Gives birth to an incarnation in a slot of the own pool that is stamped below the epoch.
+fn bear(
+    slots: &Slots,
+    pass: &mut Pass,
+    slot: u32,
+    budget: u32,
+    used: u32,
+) -> Result<Hand, TakeRefusal>
+    requires own { IsOf pass.old.trace slots.now }
+    requires within { used ≤ budget }
+    requires below { IsBelow pass.old (knows pass.old.trace).epoch (Some slot) }
+    requires empty_hand { pass.old.hand ≡ None }
+    ensures ok { IfOk result (λ hand. IsBorn pass.old pass.new slot budget used hand) }
+    ensures refused { IfErr result (λ refusal. IsShort pass.old pass.new budget used 0 refusal) }
+    ensures same { OnErr result (pass.new ≡ pass.old) }
+{
+    if !affords(budget, used) {
+        return Err(TakeRefusal::OutOfSteps { used });
+    }
+    // What is known of the slots of the pool is told with it.
+    let _pool = pass.pool();
+    slots.store_birth(pass, slot);
+    Ok(Hand::of(slot, pass.epoch()))
+}

@@ -1,0 +1,51 @@
+//! A slot that its pass unlinked.
+ghost use Rattle.std.specs.Prelude.{◌≡◌};
+ghost use Rattle.vbr_core.specs.Acceptance.{IsUnlinked};
+ghost use Rattle.vbr_slots.specs.Views.{knows};
+
+use std::marker::Model;
+use vbr_slots::Pass;
+
+/// A slot that a pass unlinked and has not stamped since. It must be spent, by [`crate::retire`].
+pub struct Unlinked {
+    slot: u32,
+}
+
+impl Model for Unlinked {
+    ghost use Rattle.vbr_pools.specs.Hands.{UnlinkedView};
+
+    ghost Value = { UnlinkedView };
+
+    ghost use Rattle.vbr_pools.specs.UnlinkedView.{unlinked_of};
+
+    ghost view = { unlinked_of };
+}
+
+impl Unlinked {
+    /// A slot that the pass unlinked and has not stamped since.
+    #[inline]
+    pub fn of(pass: &Pass, slot: u32) -> Unlinked
+        requires { IsUnlinked ((knows pass.now.trace).own slot) }
+        ensures { result ≡ record { slot = slot } }
+    {
+        let _pass = pass;
+        Unlinked { slot }
+    }
+
+    /// Its slot.
+    #[inline]
+    pub fn slot(&self) -> u32
+        ensures { result ≡ self.now.slot }
+    {
+        self.slot
+    }
+
+    // Its slot, for good.
+    #[inline]
+    pub(crate) fn into_slot(self) -> u32
+        ensures { result ≡ self.slot }
+    {
+        let Unlinked { slot } = self;
+        slot
+    }
+}

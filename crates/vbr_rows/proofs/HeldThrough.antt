@@ -1,0 +1,34 @@
+-- What is held stays held through the calls of a test that answered, and a key stands behind the head of the one bucket.
+use Rattle.std.proofs.Common.{◌≡◌, ℕ, ◌%◌, refl, ap, ◌∙◌, sym, subst}
+use Rattle.std.specs.Prelude.{false, Result, Ok, IfOk}
+use Rattle.std.proofs.Math.Nat.{mod-one}
+use Rattle.vbr_words.specs.Dimensions.{Dimensions}
+use Rattle.vbr_words.specs.Words.{link_of}
+use Rattle.vbr_words.specs.declared.place.At.{At}
+use Rattle.vbr_words.specs.declared.place.At.TheVariants.{Head}
+use Rattle.vbr_core.specs.Acceptance.{bucket_of}
+use Rattle.vbr_core.specs.Knowledge.{Know}
+use Rattle.vbr_core.specs.Membership.{StandsBehind}
+use Rattle.vbr_access.specs.Held.{IsHeld}
+use Rattle.vbr_access.specs.Keeping.{Keeps}
+use Rattle.vbr_access.specs.declared.held.Held.{Held}
+use Rattle.vbr_access.proofs.Keeping.{held_kept}
+
+-- what was held before a call that answered is held after it
+pub held_through : {T E : Type 0} {know later : Know} (held : Held) (r : Result T E) (x : T) → r ≡ Ok x → IfOk r (λ _. Keeps know later) → IsHeld know held → IsHeld later held
+held_through {T} {E} {know} {later} held r x is keeps h =
+    let P : Result T E → Type 0 = λ r. IfOk r (λ _. Keeps know later) in
+    held_kept held (subst P is keeps) h
+
+-- where there is one bucket, each key stands behind its head
+in_bucket : (shape : Dimensions) (key : ℕ) → shape.buckets ≡ 1 → bucket_of shape key ≡ 0
+unfolding bucket_of
+in_bucket shape key one = ap (λ (n : ℕ). key % n) one ∙ mod-one key
+
+pub behind_head : (shape : Dimensions) (know : Know) (at : At) (key : ℕ) → at ≡ Head 0 → shape.buckets ≡ 1 → StandsBehind shape know at key
+behind_head shape know at key head one = let P : At → Type 0 = λ at. StandsBehind shape know at key in subst P (sym head) (in_bucket shape key one)
+
+-- the link word 2097152 isn't marked
+pub is_unmarked : (word : ℕ) → word ≡ 2097152 → (link_of word).mark ≡ false
+unfolding link_of
+is_unmarked word is = rw is refl

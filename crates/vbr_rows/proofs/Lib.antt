@@ -1,0 +1,7 @@
+mod Following
+mod HeldThrough
+mod OneBucket
+mod OnePass
+mod OwnedSlots
+mod Taking
+mod WorkedRows

@@ -1,0 +1,62 @@
+-- The end of a table: its passes joined, and its words.
+use Rattle.std.proofs.Common.{◌≡◌, ℕ, zero, suc, ◌+◌, List, [], ◌∷◌, ◌++◌, length, take, refl, sym, ap, ◌∙◌, subst, append-nil, arith}
+use mathlib.Core.Option.{some, some-ne-none, some-injective}
+use lib.ListN.{get_elem?}
+use Rattle.atomic_table.specs.Table.{Final, Seen}
+use Rattle.vbr_words.specs.Dimensions.{IsShape}
+use Rattle.vbr_core.specs.Runs.{IsRun, world_after}
+use Rattle.vbr_core.specs.declared.event.Event.{Event}
+use Rattle.vbr_core.proofs.SafeRuns.{every_run}
+use Rattle.vbr_slots.specs.declared.rule.Member.{Member}
+use Rattle.vbr_slots.specs.declared.rule.Opening.{Opening}
+use Rattle.vbr_slots.specs.declared.slots.Slots.TheInside.{Inside as SlotsInside}
+use Rattle.vbr_slots.specs.Rule.{Kept, member, EachBegins}
+use Rattle.vbr_slots.specs.Views.{PassView, TableView, IsOf}
+use Rattle.vbr_slots.specs.Closing.{AllOf, EachSeen, Ends}
+use Rattle.vbr_slots.specs.SlotsView.{table_of, IsBuilt}
+use Rattle.vbr_slots.specs.Words.{AreWordsOf}
+use Rattle.vbr_slots.proofs.Steps.{Sat, opening_of}
+
+-- the members of the seats of passes
+abbrev pub members_of : List PassView → List Member
+members_of [] = []
+members_of (p ∷ ps) = member p.trace.who p.trace.seen ∷ members_of ps
+
+pub take_at : (l : List ℕ) (i x : ℕ) → get_elem? l i ≡ some x → take (i + 1) l ≡ take i l ++ x ∷ []
+take_at l i x at = ap (λ (n : ℕ). take n l) (let e : i + 1 ≡ suc i = omega arith in e) ∙ go l i at
+  where
+    go : (l : List ℕ) (i : ℕ) → get_elem? l i ≡ some x → take (suc i) l ≡ take i l ++ x ∷ []
+    go [] i at = absurd (some-ne-none x (sym at))
+    go (y ∷ ys) zero at = ap (λ (z : ℕ). z ∷ []) (some-injective y x at)
+    go (y ∷ ys) (suc i) at = ap (λ zs. y ∷ zs) (go ys i at)
+
+pub one_of : (t : TableView) (ys : List PassView) (p : PassView) (zs : List PassView) → AllOf t (ys ++ (p ∷ zs)) → IsOf p.trace t
+one_of t [] p zs all = all.0
+one_of t (y ∷ ys) p zs all = one_of t ys p zs all.1
+
+pub members_of-snoc : (ys : List PassView) (p : PassView) → members_of (ys ++ p ∷ []) ≡ members_of ys ++ member p.trace.who p.trace.seen ∷ []
+members_of-snoc [] p = refl
+members_of-snoc (y ∷ ys) p = ap (λ ms. member y.trace.who y.trace.seen ∷ ms) (members_of-snoc ys p)
+
+each_seen : (run : List Event) (ps : List PassView) → EachBegins run (members_of ps) → EachSeen run ps
+each_seen run [] b = tt
+each_seen run (p ∷ ps) b = (b.0, each_seen run ps b.1)
+
+pub none_left : (xs ys : List PassView) (zs : List PassView) → length ys ≡ 0 → xs ++ ys ≡ zs → xs ≡ zs
+none_left xs [] zs none is = sym (append-nil xs) ∙ is
+none_left xs (y ∷ ys) zs none is = absurd (omega arith)
+
+pub ends : (t : SlotsInside) (table : TableView) → IsBuilt t → table_of t ≡ table → (id : ℕ) (me : Sat) (ps : List PassView) → me ≡ (members_of ps, []) → (words : List ℕ) (xs : List (Unit {0}))
+    → Final (Seen (Kept t.table.shared.key) id me.0) words xs → Ends table ps words
+ends t table built t_is id me ps is words xs last =
+    let key : t.table.shared.key ≡ opening_of table = built.key ∙ ap opening_of t_is in
+    let shape : IsShape table.shape = subst (λ (q : TableView). IsShape q.shape) t_is built.shape in
+    let kept = last.1.0 in
+    let is_run : IsRun table.shape table.passes kept.run = subst (λ (o : Opening). IsRun o.shape o.passes kept.run) key kept.is_run in
+    record {
+      run = kept.run;
+      is_run = is_run;
+      safe = every_run table.shape table.passes kept.run shape is_run;
+      are = subst (λ (x : Opening × List ℕ). AreWordsOf x.0.shape (world_after x.0.shape kept.run) x.1) (λ i. (key i, last.2 i)) kept.words;
+      begins = each_seen kept.run ps (subst (λ (m : Sat). EachBegins kept.run m.0) is (kept.begins id me.0 last.1.1));
+    }

@@ -1,0 +1,80 @@
+-- What a step teaches, from how it reaches its word.
+use Rattle.std.proofs.Common.{◌≡◌, ℕ, Bool, true, false, refl, sym, cond, subst, ⊎_elim, arith}
+use Rattle.std.proofs.lemmas.Bool.{cases_Bool}
+use Rattle.std.proofs.lemmas.Bool.Decides.{nat_tests}
+use prog.Atomic.{either}
+use Rattle.std.specs.Prelude.{◌==◌}
+use Rattle.vbr_core.specs.Knowledge.{Know}
+use Rattle.vbr_core.specs.Learning.{learn, read_epoch}
+use Rattle.vbr_core.specs.Machine.{Access, Load, Store, Exchange, access_of}
+use Rattle.vbr_core.specs.declared.event.Step.{Step}
+use Rattle.vbr_core.specs.declared.event.Step.TheVariants.{ReadEpoch, Advance, LoadStamp, StoreStamp, Raise, TakeFlag, StoreBirth, StoreKey, StoreLink, LoadLink, LoadBirth, LoadKey, Publish, Mark, Unlink, ConfirmPresent, ConfirmAbsent}
+use Rattle.vbr_slots.specs.Rule.{Shows}
+use Rattle.vbr_slots.specs.Views.{epoch_after}
+
+-- the base's choice is a test
+pub by_either : (b : Bool) (x y : ℕ) → either b x y ≡ cond b x y
+by_either true x y = refl
+by_either false x y = refl
+
+pub shows_itself : (step : Step) (n : ℕ) → Shows step n n
+shows_itself step n = record { answers = refl; teaches = λ stamp know. refl }
+
+-- whether an access is a store
+abbrev IsStore : Access → Type 0
+IsStore Load = ⊥
+IsStore (Store new) = Unit {0}
+IsStore (Exchange old new) = ⊥
+
+store_is : (access : Access) (new : ℕ) → access ≡ Store new → IsStore access
+store_is access new is = subst IsStore (sym is) tt
+
+blind_if : (know : Know) (step : Step) (r n : ℕ) → IsStore (access_of know step) → Shows step r n
+blind_if know ReadEpoch r n is = absurd is
+blind_if know (Advance from) r n is = absurd is
+blind_if know (LoadStamp s) r n is = absurd is
+blind_if know (StoreStamp s stamp) r n is = record { answers = refl; teaches = λ stamp know. refl }
+blind_if know (Raise s) r n is = record { answers = refl; teaches = λ stamp know. refl }
+blind_if know (TakeFlag s) r n is = absurd is
+blind_if know (StoreBirth s birth) r n is = record { answers = refl; teaches = λ stamp know. refl }
+blind_if know (StoreKey s key) r n is = record { answers = refl; teaches = λ stamp know. refl }
+blind_if know (StoreLink s next) r n is = record { answers = refl; teaches = λ stamp know. refl }
+blind_if know (LoadLink at) r n is = absurd is
+blind_if know (LoadBirth s) r n is = absurd is
+blind_if know (LoadKey s) r n is = absurd is
+blind_if know (Publish pred expected s) r n is = absurd is
+blind_if know (Mark s expected) r n is = absurd is
+blind_if know (Unlink pred expected s) r n is = absurd is
+blind_if know (ConfirmPresent op s expected) r n is = absurd is
+blind_if know (ConfirmAbsent op key at expected) r n is = absurd is
+
+-- a store answers and teaches the same, whatever it replaces
+pub blind : (know : Know) (step : Step) (new : ℕ) → access_of know step ≡ Store new → (r n : ℕ) → Shows step r n
+blind know step new is r n = blind_if know step r n (store_is (access_of know step) new is)
+
+either_way : {A : Type 0} (b : Bool) (f : A → ℕ) (x y : A) (n : ℕ) → f x ≡ n → f y ≡ n → f (cond b x y) ≡ n
+either_way true f x y n p q = p
+either_way false f x y n p q = q
+
+epoch_read : (found : ℕ) (know : Know) → (read_epoch know found).epoch ≡ found
+epoch_read found know = ⊎_elim (λ (t : (found == know.epoch) ≡ true). rw t (grind (arith, nat_tests))) (λ (t : (found == know.epoch) ≡ false). rw t refl) (cases_Bool (found == know.epoch))
+
+-- the epoch that a pass knows after a step
+pub epoch_learned : (step : Step) (r stamp : ℕ) (know : Know) → (learn step r stamp know).epoch ≡ epoch_after step r know.epoch
+epoch_learned ReadEpoch r stamp know = epoch_read r know
+epoch_learned (Advance from) r stamp know = refl
+epoch_learned (LoadStamp s) r stamp know = refl
+epoch_learned (StoreStamp s new) r stamp know = refl
+epoch_learned (Raise s) r stamp know = refl
+epoch_learned (TakeFlag s) r stamp know = either_way (r == 1) (λ (k : Know). k.epoch) _ know know.epoch refl refl
+epoch_learned (StoreBirth s birth) r stamp know = refl
+epoch_learned (StoreKey s key) r stamp know = refl
+epoch_learned (StoreLink s next) r stamp know = refl
+epoch_learned (LoadLink at) r stamp know = refl
+epoch_learned (LoadBirth s) r stamp know = refl
+epoch_learned (LoadKey s) r stamp know = refl
+epoch_learned (Publish pred expected s) r stamp know = either_way (r == expected) (λ (k : Know). k.epoch) _ know know.epoch refl refl
+epoch_learned (Mark s expected) r stamp know = either_way (r == expected) (λ (k : Know). k.epoch) _ know know.epoch refl refl
+epoch_learned (Unlink pred expected s) r stamp know = either_way (r == expected) (λ (k : Know). k.epoch) _ know know.epoch refl refl
+epoch_learned (ConfirmPresent op s expected) r stamp know = refl
+epoch_learned (ConfirmAbsent op key at expected) r stamp know = refl

@@ -1,0 +1,120 @@
+-- The own pool and the hand of a pass, through its steps.
+use Rattle.std.proofs.Common.{◌≡◌, ◌≢◌, ℕ, ◌<◌, ◌==◌, nat_eq, Bool, true, false, not, List, [], ◌∷◌, ◌++◌, get_or, Option, Some, None, cond, refl, sym, ap, ◌∙◌, subst, ⊎_elim, eq-eqb, arith}
+use Rattle.std.specs.Prelude.{Contains, filter}
+use Rattle.std.specs.Option.{option_eq}
+use Rattle.std.proofs.lemmas.Bool.Decides.{nat_tests}
+use Rattle.std.proofs.lemmas.List.Elements.{All-filter, All-contains, All-contains_itself, Contains-get_or, Contains-push_cases, filter_passes, All-push}
+use Rattle.std.proofs.lemmas.List.Kept.{AllPairs-filter}
+use Rattle.std.proofs.lemmas.List.Quantifiers.{all_pairs_push}
+use mathlib.Core.Logic.{dite}
+use native.Mathlib.Decide.{ℕ_discrete}
+use Rattle.vbr_words.specs.Dimensions.{Dimensions}
+use Rattle.vbr_core.specs.Acceptance.{MayBear, IsInHand, IsFree}
+use Rattle.vbr_core.specs.Knowledge.{Know}
+use Rattle.vbr_core.specs.Put.{put}
+use Rattle.vbr_core.specs.declared.knowledge.Holding.{Holding}
+use Rattle.vbr_core.specs.declared.knowledge.Holding.TheVariants.{Free, Unlinked, InHand}
+use Rattle.vbr_core.proofs.Puts.{put_here, put_other}
+use Rattle.vbr_slots.specs.Pools.{IsPooled, IsHandOf, OwnPool, without, hand_without}
+
+-- ---- slots that leave and come
+
+contains_before : (p : ℕ → Bool) (pool : List ℕ) (s : ℕ) → Contains (filter p pool) s → Contains pool s
+contains_before p pool s c = All-contains (Contains pool) (filter p pool) s (All-filter p (Contains pool) pool (All-contains_itself pool)) c
+
+-- a slot that left a pool isn't there
+pub outside : (slot : ℕ) (pool : List ℕ) → ¬ (Contains (without slot pool) slot)
+outside slot pool c = let t = All-contains (λ (x : ℕ). not (x == slot) ≡ true) (without slot pool) slot (filter_passes (λ (x : ℕ). not (x == slot)) pool) c in absurd (grind (arith, nat_tests))
+
+hand_left : (shape : Dimensions) (know : Know) (slot : ℕ) (pool : List ℕ) (hand : Option ℕ) → IsHandOf shape know pool hand → IsHandOf shape know (without slot pool) hand
+hand_left shape know slot pool None h = tt
+hand_left shape know slot pool (Some s) h = (h.0, h.1, (λ c. h.2 (contains_before (λ (x : ℕ). not (x == slot)) pool s c)))
+
+-- a slot leaves a pool
+pub leaves : (shape : Dimensions) (know : Know) (slot : ℕ) (pool : List ℕ) (hand : Option ℕ) → OwnPool shape know pool hand → OwnPool shape know (without slot pool) hand
+leaves shape know slot pool hand o = record {
+  pooled = All-filter (λ (x : ℕ). not (x == slot)) (IsPooled shape know) pool o.pooled;
+  apart = AllPairs-filter ◌≢◌ (λ (x : ℕ). not (x == slot)) pool o.apart;
+  in_hand = hand_left shape know slot pool hand o.in_hand;
+}
+
+-- ---- slots that become others
+
+hand_changed : (shape : Dimensions) (know know' : Know) (slot : ℕ) (holding : Option Holding) (pool : List ℕ) (hand : Option ℕ) → know'.own ≡ put know.own slot holding → (hand ≡ Some slot → IsInHand holding) → IsHandOf shape know pool hand → IsHandOf shape know' pool hand
+hand_changed shape know know' slot holding pool None is in_hand h = tt
+hand_changed shape know know' slot holding pool (Some s) is in_hand h = (
+  h.0,
+  dite (ℕ_discrete s slot)
+      (λ same. subst IsInHand (sym (ap (λ (f : ℕ → Option Holding). f s) is ∙ ap (put know.own slot holding) same ∙ put_here know.own slot holding)) (in_hand (ap Some same)))
+      (λ other. subst IsInHand (sym (ap (λ (f : ℕ → Option Holding). f s) is ∙ put_other know.own slot holding s other)) h.1),
+  h.2,
+)
+
+-- what the pass knows of one slot changes
+pub changes : (shape : Dimensions) (know know' : Know) (slot : ℕ) (holding : Option Holding) (pool : List ℕ) (hand : Option ℕ) → know'.own ≡ put know.own slot holding → (Contains pool slot → MayBear holding) → (hand ≡ Some slot → IsInHand holding)
+    → OwnPool shape know pool hand → OwnPool shape know' pool hand
+changes shape know know' slot holding pool hand is may in_hand o = record {
+  pooled = λ k d low.
+      let at = o.pooled k d low in
+      let s : ℕ = get_or pool k d in (
+        at.0,
+        dite (ℕ_discrete s slot)
+            (λ same.
+            subst MayBear (sym (ap (λ (f : ℕ → Option Holding). f s) is ∙ ap (put know.own slot holding) same ∙ put_here know.own slot holding)) (may (subst (Contains pool) same (Contains-get_or pool k d low))))
+            (λ other. subst MayBear (sym (ap (λ (f : ℕ → Option Holding). f s) is ∙ put_other know.own slot holding s other)) at.1),
+      );
+  apart = o.apart;
+  in_hand = hand_changed shape know know' slot holding pool hand is in_hand o.in_hand;
+}
+
+-- ---- the hand
+
+-- a slot comes into the hand
+pub takes_in_hand : (shape : Dimensions) (know : Know) (slot : ℕ) (pool : List ℕ) (hand : Option ℕ) → slot < shape.slots → IsInHand (know.own slot) → ¬ (Contains pool slot) → OwnPool shape know pool hand → OwnPool shape know pool (Some slot)
+takes_in_hand shape know slot pool hand low in_hand not o = record { pooled = o.pooled; apart = o.apart; in_hand = (low, in_hand, not) }
+
+-- nothing is in hand any more
+pub empties : (shape : Dimensions) (know : Know) (pool : List ℕ) (hand : Option ℕ) → OwnPool shape know pool hand → OwnPool shape know pool None
+empties shape know pool hand o = record { pooled = o.pooled; apart = o.apart; in_hand = tt }
+
+hand_joined : (shape : Dimensions) (know : Know) (slot : ℕ) (pool : List ℕ) (hand : Option ℕ) → IsHandOf shape know pool hand → IsHandOf shape know (pool ++ slot ∷ []) (hand_without slot hand)
+hand_joined shape know slot pool None h = tt
+hand_joined shape know slot pool (Some t) h = go (t == slot) refl
+  where
+    go : (b : Bool) → (t == slot) ≡ b → IsHandOf shape know (pool ++ slot ∷ []) (cond b None (Some t))
+    go true e = tt
+    go false e = (h.0, h.1, (λ c. ⊎_elim h.2 (λ (same : slot ≡ t). let same' : (t == slot) ≡ true = eq-eqb t slot (sym same) in absurd (cc)) (Contains-push_cases pool slot t c)))
+
+-- a slot that the pass may bear in comes to a pool; if it was in hand, nothing is in hand any more
+pub joins : (shape : Dimensions) (know : Know) (slot : ℕ) (pool : List ℕ) (hand : Option ℕ) → slot < shape.slots → MayBear (know.own slot) → ¬ (Contains pool slot) → OwnPool shape know pool hand → OwnPool shape know (pool ++ slot ∷ []) (hand_without slot hand)
+joins shape know slot pool hand low may not o = record {
+  pooled = All-push (IsPooled shape know) pool slot o.pooled (low, may);
+  apart = all_pairs_push ◌≢◌ pool slot o.apart (λ k d at same. not (subst (Contains pool) same (Contains-get_or pool k d at)));
+  in_hand = hand_joined shape know slot pool hand o.in_hand;
+}
+
+-- ---- what a pool says of its slots
+
+pub pooled_may : (shape : Dimensions) (know : Know) (slot : ℕ) (pool : List ℕ) (hand : Option ℕ) → OwnPool shape know pool hand → Contains pool slot → MayBear (know.own slot)
+pooled_may shape know slot pool hand o c = (All-contains (IsPooled shape know) pool slot o.pooled c).1
+
+pub held_in_hand : (shape : Dimensions) (know : Know) (slot : ℕ) (pool : List ℕ) (hand : Option ℕ) → OwnPool shape know pool hand → hand ≡ Some slot → IsInHand (know.own slot)
+held_in_hand shape know slot pool hand o is = (subst (IsHandOf shape know pool) is o.in_hand).1
+
+-- a free slot may be born in, and so may one in hand
+pub free_may : (holding : Option Holding) → IsFree holding → MayBear holding
+free_may None is = is
+free_may (Some (Free stamp)) is = tt
+free_may (Some (Unlinked reread)) is = is
+free_may (Some (InHand stamp birth key link)) is = tt
+
+pub in_hand_may : (holding : Option Holding) → IsInHand holding → MayBear holding
+in_hand_may None is = is
+in_hand_may (Some (Free stamp)) is = tt
+in_hand_may (Some (Unlinked reread)) is = is
+in_hand_may (Some (InHand stamp birth key link)) is = tt
+
+-- the hand that is left once it was compared with a slot
+pub hand_kept : (slot : ℕ) (hand : Option ℕ) → cond (option_eq nat_eq hand (Some slot)) None hand ≡ hand_without slot hand
+hand_kept slot None = refl
+hand_kept slot (Some t) = refl

@@ -1,0 +1,151 @@
+-- Seats that are opened, split and joined keep the rule.
+use Rattle.std.proofs.Common.{◌≡◌, ◌≢◌, ℕ, zero, suc, ◌+◌, ◌-◌, ◌<◌, List, [], ◌∷◌, ◌++◌, set, refl, sym, ap, ◌∙◌, subst, ⊎_elim, arith}
+use mathlib.Core.Option.{some, some-ne-none, some-injective}
+use lib.ListN.{get_elem?}
+use Rattle.atomic_table.specs.Table.{State as Standing, opening as table_opening, Splits, Joins, Enters, Me}
+use Rattle.atomic_table.proofs.Lists.{at_set, at_snoc}
+use Rattle.vbr_core.specs.Machine as machine
+use Rattle.vbr_core.specs.declared.event.Event.{Event}
+use Rattle.vbr_core.proofs.RunsGoOn.{is_run_first}
+use Rattle.vbr_slots.specs.declared.rule.Member.{Member}
+use Rattle.vbr_slots.specs.declared.rule.Opening.{Opening}
+use Rattle.vbr_slots.specs.Rule.{member, members, first_members, head_of, tail_of, first_seen, EachBegins, times, times_in, Kept}
+use Rattle.vbr_slots.specs.Views.{TableView, new_pass, new_passes}
+use Rattle.vbr_slots.specs.Words.{AreWordsOf}
+use Rattle.vbr_slots.proofs.Members.{times-set}
+
+abbrev V : Type 0
+V = List Member
+
+abbrev St : Type 0
+St = Standing (Unit {0}) V
+
+begin_all : (k n : ℕ) → EachBegins [] (members k n)
+begin_all k zero = tt
+begin_all k (suc n) = (([], refl, tt), begin_all (suc k) n)
+
+pub opens : (opening : Opening) (words : List ℕ) → AreWordsOf opening.shape machine.opening words → Kept opening (table_opening words [] (first_members opening))
+opens opening words are = record {
+  run = [];
+  is_run = is_run_first opening.shape opening.passes;
+  words = are;
+  begins = each;
+  counted = λ who. omega arith;
+}
+  where
+    each : (j : ℕ) (v : V) → get_elem? (first_members opening ∷ []) j ≡ some v → EachBegins [] v
+    each zero v at = subst (EachBegins []) (some-injective _ _ at) (begin_all 0 opening.passes)
+    each (suc j) v at = absurd (some-ne-none v (sym at))
+
+times_in-snoc : (who : ℕ) (vs : List V) (v : V) → times_in who (vs ++ v ∷ []) ≡ times_in who vs + times who v
+times_in-snoc who [] v = omega arith
+times_in-snoc who (u ∷ vs) v = let more = times_in-snoc who vs v in omega arith
+
+times-append : (who : ℕ) (v w : V) → times who (v ++ w) ≡ times who v + times who w
+times-append who [] w = omega arith
+times-append who (m ∷ ms) w = let more = times-append who ms w in omega arith
+
+begins-append : (run : List Event) (v w : V) → EachBegins run v → EachBegins run w → EachBegins run (v ++ w)
+begins-append run [] w a b = b
+begins-append run (m ∷ ms) w a b = (a.0, begins-append run ms w a.1 b)
+
+pub splits : (opening : Opening) (id : ℕ) (v left right : V) → ((who : ℕ) → times who left + times who right ≡ times who v) → ((run : List Event) → EachBegins run v → EachBegins run left × EachBegins run right)
+    → Splits (Kept opening) id v left right
+splits opening id v left right count part s h at = record {
+  run = h.run;
+  is_run = h.is_run;
+  words = h.words;
+  begins = λ j u bt.
+      ⊎_elim
+      (λ was. ⊎_elim (λ (x : (j ≡ id) × (left ≡ u)). subst (EachBegins h.run) x.1 (part h.run (h.begins id v at)).0) (λ (x : (j ≢ id) × (get_elem? s.views j ≡ some u)). h.begins j u x.1) (at_set s.views id j left u was))
+      (λ (is : right ≡ u). subst (EachBegins h.run) is (part h.run (h.begins id v at)).1)
+      (at_snoc (set s.views id left) right u j bt);
+  counted = λ who.
+      let a = times_in-snoc who (set s.views id left) right in
+      let b = times-set who s.views id left v at in
+      let c = count who in
+      let most = h.counted who in
+      omega arith;
+}
+
+pub joins : (opening : Opening) (id : ℕ) (v : V) (other : ℕ) (w : V) → Joins (Kept opening) id v other w (v ++ w) []
+joins opening id v other w s h at two there =
+    let was = ⊎_elim (λ (x : (other ≡ id) × ((v ++ w) ≡ w)). absurd (two x.0)) (λ (x : (other ≢ id) × (get_elem? s.views other ≡ some w)). x.1) (at_set s.views id other (v ++ w) w there) in record {
+      run = h.run;
+      is_run = h.is_run;
+      words = h.words;
+      begins = λ j u bt.
+          ⊎_elim
+          (λ (x : (j ≡ other) × ([] ≡ u)). subst (EachBegins h.run) x.1 tt)
+          (λ (x : (j ≢ other) × (get_elem? (set s.views id (v ++ w)) j ≡ some u)).
+          ⊎_elim
+          (λ (y : (j ≡ id) × ((v ++ w) ≡ u)). subst (EachBegins h.run) y.1 (begins-append h.run v w (h.begins id v at) (h.begins other w was)))
+          (λ (y : (j ≢ id) × (get_elem? s.views j ≡ some u)). h.begins j u y.1)
+          (at_set s.views id j (v ++ w) u x.1))
+          (at_set (set s.views id (v ++ w)) other j [] u bt);
+      counted = λ who.
+          let a = times-set who s.views id (v ++ w) v at in
+          let b = times-set who (set s.views id (v ++ w)) other [] w there in
+          let c = times-append who v w in
+          let most = h.counted who in
+          omega arith;
+    }
+
+pub enters : (opening : Opening) (slots i : ℕ) → Enters (Kept opening) slots i (λ r w. w ≡ [])
+enters opening slots i s h _ _ = (
+  [],
+  record {
+    run = h.run;
+    is_run = h.is_run;
+    words = h.words;
+    begins = λ j u bt. ⊎_elim (h.begins j u) (λ (is : [] ≡ u). subst (EachBegins h.run) is tt) (at_snoc s.views [] u j bt);
+    counted = λ who. let a = times_in-snoc who s.views [] in let most = h.counted who in omega arith;
+  },
+  refl,
+)
+
+pub splits_first : (opening : Opening) (id : ℕ) (v : V) → Splits (Kept opening) id v (head_of v) (tail_of v)
+splits_first opening id v = splits opening id v (head_of v) (tail_of v) (λ who. count who v) (λ run. part run v)
+  where
+    count : (who : ℕ) (u : V) → times who (head_of u) + times who (tail_of u) ≡ times who u
+    count who [] = refl
+    count who (m ∷ ms) = omega arith
+
+    part : (run : List Event) (u : V) → EachBegins run u → EachBegins run (head_of u) × EachBegins run (tail_of u)
+    part run [] b = (tt, tt)
+    part run (m ∷ ms) b = ((b.0, tt), b.1)
+
+pub splits_whole : (opening : Opening) (id : ℕ) (v : V) → Splits (Kept opening) id v [] v
+splits_whole opening id v = splits opening id v [] v (λ who. omega arith) (λ run b. (tt, b))
+
+-- the loop at the opening: the next seat goes to the pass of the number k
+module _ (k n : ℕ) (old new next : Me (Unit {0}) V) (low : k < n) (is : old ≡ (members k (n - k), [])) (left : new ≡ (head_of old.0, old.1)) (right : next ≡ (tail_of old.0, [])) where
+  known : old ≡ (member k [] ∷ members (k + 1) (n - (k + 1)), [])
+  known =
+      let e : n - k ≡ suc (n - suc k) = omega arith in
+      let one : suc k ≡ k + 1 = omega arith in
+      is ∙ ap (λ (i : ℕ). (members k i, [])) e ∙ ap (λ (i : ℕ). (member k [] ∷ members i (n - i), [])) one
+
+  pub first_alone : new ≡ (member k [] ∷ [], [])
+  first_alone = left ∙ ap (λ (m : Me (Unit {0}) V). (head_of m.0, m.1)) known
+
+  pub first_is : new ≡ (member k (first_seen new.0) ∷ [], [])
+  first_is = first_alone ∙ ap (λ (es : List Event). (member k es ∷ [], [])) (sym (ap (λ (m : Me (Unit {0}) V). first_seen m.0) first_alone))
+
+  pub first_empty : first_seen new.0 ≡ []
+  first_empty = ap (λ (m : Me (Unit {0}) V). first_seen m.0) first_alone
+
+  pub others_next : next ≡ (members (k + 1) (n - (k + 1)), [])
+  others_next = right ∙ ap (λ (m : Me (Unit {0}) V). (tail_of m.0, [])) known
+
+new_passes-snoc : (t : TableView) (j k : ℕ) → new_passes t j (suc k) ≡ new_passes t j k ++ new_pass t (j + k) ∷ []
+new_passes-snoc t j zero = ap (λ (i : ℕ). new_pass t i ∷ []) (let e : j ≡ j + 0 = omega arith in e)
+new_passes-snoc t j (suc k) =
+    let e : suc j + k ≡ j + suc k = omega arith in
+    ap (λ ws. new_pass t j ∷ ws) (new_passes-snoc t (suc j) k ∙ ap (λ (i : ℕ). new_passes t (suc j) k ++ new_pass t i ∷ []) e)
+
+pub new_passes-next : (t : TableView) (k : ℕ) → new_passes t 0 (k + 1) ≡ new_passes t 0 k ++ new_pass t k ∷ []
+new_passes-next t k =
+    let e : k + 1 ≡ suc k = omega arith in
+    let f : 0 + k ≡ k = omega arith in
+    ap (new_passes t 0) e ∙ new_passes-snoc t 0 k ∙ ap (λ (i : ℕ). new_passes t 0 k ++ new_pass t i ∷ []) f

@@ -1,0 +1,174 @@
+-- A step of a runner at its table: what the table asks, and what the runner then knows.
+use Rattle.std.proofs.Common.{◌≡◌, ℕ, ◌<◌, List, [], ◌∷◌, ◌++◌, refl, sym, ap, ◌∙◌, subst, arith}
+use Rattle.atomic_table.specs.Table.{Me, Allows}
+use Rattle.atomic_table.specs.Seated.{TableId}
+use Rattle.vbr_words.specs.Dimensions.{Dimensions, IsShape}
+use Rattle.vbr_words.specs.Places.{index_of, words_in}
+use Rattle.vbr_words.specs.declared.place.Place.{Place}
+use Rattle.vbr_words.proofs.Indices.{index_of-lt}
+use Rattle.vbr_core.specs.Acceptance.{Accepts}
+use Rattle.vbr_core.specs.Knowledge.{Know}
+use Rattle.vbr_core.specs.Learning.{learn}
+use Rattle.vbr_core.specs.Machine.{word_made, access_of, found, place_of, stamp_shown}
+use Rattle.vbr_core.specs.Runs.{IsRun, world_after, know_after, NoneOf}
+use Rattle.vbr_core.specs.declared.event.Event.{Event}
+use Rattle.vbr_core.specs.declared.event.Step.{Step}
+use Rattle.vbr_core.proofs.RunsGoOn.{know_after-snoc}
+use Rattle.vbr_slots.specs.declared.rule.Member.{Member}
+use Rattle.vbr_slots.specs.declared.rule.Opening.{Opening}
+use Rattle.vbr_slots.specs.declared.runner.Runner.TheInside.{Inside as RunnerInside}
+use Rattle.vbr_slots.specs.declared.slots.Slots.TheInside.{Inside as SlotsInside}
+use Rattle.vbr_slots.specs.Rule.{Kept, Told, Shows, member, first_seen, head_of, tail_of, EachBegins}
+use Rattle.vbr_slots.specs.Views.{Trace, TableView, IsOf, Did, knows, event_of, epoch_after, counted}
+use Rattle.vbr_slots.specs.RunnerView.{trace_of, seen_of, IsSound}
+use Rattle.vbr_slots.specs.SlotsView.{table_of, IsBuilt}
+use Rattle.vbr_slots.proofs.Keeps.{plays_as}
+use Rattle.vbr_slots.proofs.Learning.{epoch_learned}
+use Rattle.vbr_core.proofs.WordsAfter.{place_in}
+
+-- a seat's view, and the slots of the table that it has taken
+abbrev pub Sat : Type 0
+Sat = Me (Unit {0}) (List Member)
+
+-- the seat of a runner
+pub known : (p : RunnerInside) (w : Trace) → IsSound p → trace_of p ≡ w → p.seat.me ≡ (member w.who w.seen ∷ [], [])
+known p w sound is = sound.alone ∙ ap (λ (v : Trace). (member v.who v.seen ∷ [], [])) is
+
+pub low_of : (p : RunnerInside) (w : Trace) → IsSound p → trace_of p ≡ w → w.who < w.passes
+low_of p w sound is = subst (λ (v : Trace). v.who < v.passes) is sound.low
+
+pub seen_in : (me : Sat) (who : ℕ) (seen : List Event) (others : List Member) → me ≡ (member who seen ∷ others, []) → first_seen me.0 ≡ seen
+seen_in me who seen others is = ap (λ (m : Sat). first_seen m.0) is
+
+-- what a table was opened with
+abbrev pub opening_of : TableView → Opening
+opening_of t = record { shape = t.shape; passes = t.passes }
+
+-- what a step on the word asks
+pub asks : (t : SlotsInside) (table : TableView) → IsBuilt t → table_of t ≡ table → (w : Trace) → w.who < w.passes → IsOf w table → (z : TableId) → z ≡ w.table → (id : ℕ) (me : Sat) (others : List Member)
+    → me ≡ (member w.who w.seen ∷ others, []) → (step : Step) (e : Event) (opening : Opening) → (e ≡ event_of w.who step) × (opening ≡ opening_of table) → (place : Place) (word : ℕ) (f g : ℕ → ℕ) → word ≡ index_of t.opening.shape place → place ≡ place_of step
+    → ((n : ℕ) → f n ≡ word_made (access_of (knows w) step) n) → ((n : ℕ) → Shows step (g n) n) → Accepts table.shape (knows w) step
+    → (z ≡ t.table.shared.table_id) × (word < t.table.shared.table_id.words) × Allows (Kept t.table.shared.key) t.table.shared.table_id.slots id me word f (λ r. Told opening e me (g r))
+asks t table built t_is w low own z z_is id me others is step e opening named place word f g at_place place_is does same ok =
+    let d : Event = event_of w.who step in
+    let o : Opening = record { shape = w.shape; passes = w.passes } in
+    let mine : o ≡ opening_of table = λ i. record { shape = own.1 i; passes = own.2 i } in
+    let here : o ≡ t.table.shared.key = mine ∙ sym (ap opening_of t_is) ∙ sym built.key in
+    let shape : w.shape ≡ t.opening.shape = own.1 ∙ sym (ap (λ (q : TableView). q.shape) t_is) in
+    let accepted : Accepts w.shape (knows w) step = subst (λ (x : Dimensions). Accepts x (knows w) step) (sym own.1) ok in
+    let at : word ≡ index_of w.shape (place_of step) = at_place ∙ (λ i. index_of (sym shape i) (place_is i)) in
+    let size : words_in w.shape ≡ t.table.shared.table_id.words = ap words_in shape ∙ sym built.words in
+    let in_table : index_of w.shape (place_of step) < words_in w.shape = index_of-lt w.shape (place_of step) (place_in w.shape step accepted.in_shape) in
+    let is_shape : IsShape w.shape = subst IsShape (sym shape) built.shape in
+    let plain : Allows (Kept o) t.table.shared.table_id.slots id me word f (λ r. Told o d me (g r)) = plays_as o is_shape t.table.shared.table_id.slots id d w.seen others [] me word f g is low at does same accepted in (
+      z_is ∙ (own.0 ∙ sym (ap (λ (q : TableView). q.table) t_is)),
+      omega (arith, at, size, in_table),
+      subst (λ (x : Opening × Event × Opening). Allows (Kept x.0) t.table.shared.table_id.slots id me word f (λ r. Told x.2 x.1 me (g r))) (λ i. (here i, sym named.0 i, (mine ∙ sym named.1) i)) plain,
+    )
+
+-- what is known after the step
+pub record Done (w : Trace) (step : Step) (r : ℕ) (others : List Member) (n : Sat) : Type 0 where
+  pub rest : List Event
+  pub none : NoneOf w.who rest
+  pub run : List Event
+  pub run_is : run ≡ (w.seen ++ rest) ++ event_of w.who step ∷ []
+  pub now : n ≡ (member w.who run ∷ others, [])
+  pub is_run : IsRun w.shape w.passes run
+  pub shows : Shows step r (found w.shape (world_after w.shape (w.seen ++ rest)) step)
+  pub know : know_after w.shape run w.who ≡ learn step r (stamp_shown (world_after w.shape (w.seen ++ rest)) step) (knows w)
+  pub mates : EachBegins run others
+
+pub done : (w : Trace) (table : TableView) → IsOf w table → (me n : Sat) (others : List Member) → me ≡ (member w.who w.seen ∷ others, []) → (step : Step) (e : Event) (opening : Opening) → (e ≡ event_of w.who step) × (opening ≡ opening_of table)
+    → (r : ℕ) → Told opening e me r n → Done w step r others n
+done w table own me n others is step e opening named r told =
+    let d : Event = event_of w.who step in
+    let o : Opening = record { shape = w.shape; passes = w.passes } in
+    let mine : opening_of table ≡ o = λ i. record { shape = sym own.1 i; passes = sym own.2 i } in
+    let here : Told o d (member w.who w.seen ∷ others, []) r n = subst (λ (x : Opening × Event × Sat). Told x.0 x.1 x.2 r n) (λ i. ((named.1 ∙ mine) i, named.0 i, is i)) told in record {
+      rest = here.rest;
+      none = here.none;
+      run = (w.seen ++ here.rest) ++ d ∷ [];
+      run_is = refl;
+      now = here.now;
+      is_run = here.is_run;
+      shows = here.shows;
+      know = know_after-snoc w.shape w.seen here.rest d here.none ∙ sym (here.shows.teaches (stamp_shown (world_after w.shape (w.seen ++ here.rest)) step) (knows w));
+      mates = here.others;
+    }
+
+-- the runner after the step, in a seat of its own
+module _ (p : RunnerInside) (w : Trace) (sound : IsSound p) (p_is : trace_of p ≡ w) (step : Step) (r : ℕ) (others : List Member) (n : Sat) (end : Done w step r others n) (q : RunnerInside) (is : q.seat.me ≡ (member w.who end.run ∷ [], []))
+    (fields : (q.who ≡ p.who) × (q.opening ≡ p.opening) × (q.epoch ≡ epoch_after step r p.epoch)) where
+  seen_now : seen_of q ≡ end.run
+  seen_now = seen_in q.seat.me w.who end.run [] is
+
+  who_is : q.who ≡ w.who
+  who_is = fields.0 ∙ ap (λ (v : Trace). v.who) p_is
+
+  shape_is : q.opening.shape ≡ w.shape
+  shape_is = ap (λ (o : Opening). o.shape) fields.1 ∙ ap (λ (v : Trace). v.shape) p_is
+
+  passes_is : q.opening.passes ≡ w.passes
+  passes_is = ap (λ (o : Opening). o.passes) fields.1 ∙ ap (λ (v : Trace). v.passes) p_is
+
+  abbrev know : Know
+  know = learn step r (stamp_shown (world_after w.shape (w.seen ++ end.rest)) step) (knows w)
+
+  know_is : know_after q.opening.shape (seen_of q) q.who ≡ know
+  know_is = (λ i. know_after (shape_is i) (seen_now i) (who_is i)) ∙ end.know
+
+  pub stays_sound : IsSound q
+  stays_sound = record {
+    alone = is ∙ (λ i. (member (sym who_is i) (sym seen_now i) ∷ [], []));
+    low = subst (λ (x : ℕ × Opening). x.0 < x.1.passes) (λ i. (sym fields.0 i, sym fields.1 i)) sound.low;
+    shape = subst (λ (o : Opening). IsShape o.shape) (sym fields.1) sound.shape;
+    is_run = subst (λ (x : Dimensions × ℕ × List Event). IsRun x.0 x.1 x.2) (λ i. (sym shape_is i, sym passes_is i, sym seen_now i)) end.is_run;
+    epoch = fields.2 ∙ ap (epoch_after step r) (sound.epoch ∙ ap (λ (v : Trace). (knows v).epoch) p_is) ∙ sym (epoch_learned step r _ (knows w)) ∙ sym (ap (λ (k : Know). k.epoch) know_is);
+  }
+
+  pub did : q.seat.table_id ≡ p.seat.table_id → q.steps ≡ counted p.steps → Did step w (trace_of q) r
+  did table more = record {
+    rest = end.rest;
+    none = end.none;
+    seen = seen_now ∙ end.run_is;
+    is_run = subst (IsRun w.shape w.passes) (sym seen_now) end.is_run;
+    shows = end.shows;
+    know = know_is;
+    same = (table ∙ ap (λ (v : Trace). v.table) p_is, shape_is, passes_is, who_is);
+    counted = more ∙ ap (λ (v : Trace). counted v.steps) p_is;
+  }
+
+-- two seats made one
+pub together : (p : ℕ) (seen : List Event) (o : ℕ) (theirs : List Event) (pm om given pm' : Sat) → pm ≡ (member p seen ∷ [], []) → om ≡ (member o theirs ∷ [], []) → given ≡ (om.0, []) → pm' ≡ (pm.0 ++ given.0, pm.1)
+    → pm' ≡ (member p seen ∷ member o theirs ∷ [], [])
+together p seen o theirs pm om given pm' is_p is_o from into =
+    into ∙ (λ i. ((is_p i).0 ++ (from i).0, (is_p i).1)) ∙ ap (λ (m : Sat). (member p seen ∷ m.0, [])) is_o
+
+-- a seat of two cut in two
+pub left_alone : (m m' : Sat) (v : Member) (vs : List Member) → m ≡ (v ∷ vs, []) → m' ≡ (head_of m.0, m.1) → m' ≡ (v ∷ [], [])
+left_alone m m' v vs is left = left ∙ ap (λ (x : Sat). (head_of x.0, x.1)) is
+
+pub right_rest : (m m' : Sat) (v : Member) (vs : List Member) → m ≡ (v ∷ vs, []) → m' ≡ (tail_of m.0, []) → m' ≡ (vs, [])
+right_rest m m' v vs is right = right ∙ ap (λ (x : Sat). (tail_of x.0, [])) is
+
+-- a runner that has its seat back is what it was
+pub same_again : (p : RunnerInside) (w : Trace) (sound : IsSound p) (p_is : trace_of p ≡ w) (q : RunnerInside) (is : q.seat.me ≡ (member w.who w.seen ∷ [], [])) → (q.who ≡ p.who) × (q.opening ≡ p.opening) × (q.epoch ≡ p.epoch) × (q.steps ≡ p.steps)
+    → q.seat.table_id ≡ w.table → IsSound q × (trace_of q ≡ w)
+same_again p w sound p_is q is fields table =
+    let seen : seen_of q ≡ w.seen = seen_in q.seat.me w.who w.seen [] is in
+    let was : seen_of q ≡ seen_of p = seen ∙ sym (ap (λ (v : Trace). v.seen) p_is) in
+    let who : q.who ≡ w.who = fields.0 ∙ ap (λ (v : Trace). v.who) p_is in
+    let shape : q.opening.shape ≡ w.shape = ap (λ (o : Opening). o.shape) fields.1 ∙ ap (λ (v : Trace). v.shape) p_is in
+    let passes : q.opening.passes ≡ w.passes = ap (λ (o : Opening). o.passes) fields.1 ∙ ap (λ (v : Trace). v.passes) p_is in (
+      record {
+        alone = is ∙ (λ i. (member (sym who i) (sym seen i) ∷ [], []));
+        low = subst (λ (x : ℕ × Opening). x.0 < x.1.passes) (λ i. (sym fields.0 i, sym fields.1 i)) sound.low;
+        shape = subst (λ (o : Opening). IsShape o.shape) (sym fields.1) sound.shape;
+        is_run = subst (λ (x : Opening × List Event). IsRun x.0.shape x.0.passes x.1) (λ i. (sym fields.1 i, sym was i)) sound.is_run;
+        epoch = fields.2 ∙ sound.epoch ∙ sym (λ i. (know_after (fields.1 i).shape (was i) (fields.0 i)).epoch);
+      },
+      (λ i. record { table = table i; shape = shape i; passes = passes i; who = who i; seen = seen i; steps = (fields.3 ∙ ap (λ (v : Trace). v.steps) p_is) i }),
+    )
+
+pub wide : (t : SlotsInside) → IsBuilt t → 0 < t.table.shared.table_id.words
+wide t built = let w = built.words in omega arith

@@ -1,0 +1,10 @@
+pub mod Words
+pub mod Rule
+pub mod Running
+pub mod Views
+pub mod Pools
+pub mod RunnerView
+pub mod PassView
+pub mod SlotsView
+pub mod Closing
+pub mod Calls

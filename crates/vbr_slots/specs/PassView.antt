@@ -1,0 +1,13 @@
+-- What contracts see of a pass, and its invariant.
+use Rattle.vbr_words.specs.Dimensions.{IsShape}
+use Rattle.vbr_slots.specs.declared.pass.Pass.TheInside.{Inside}
+use Rattle.vbr_slots.specs.Pools.{OwnPool}
+use Rattle.vbr_slots.specs.Views.{PassView, knows}
+
+abbrev pub view_of : Inside → PassView
+view_of p = record { trace = p.runner; pool = p.pool.items; hand = p.hand }
+
+-- its shape is a shape, and its pool and its hand are as it knows its slots
+pub record IsWell (p : Inside) : Type 0 where
+  pub shape : IsShape p.runner.shape
+  pub pool : OwnPool p.runner.shape (knows p.runner) p.pool.items p.hand

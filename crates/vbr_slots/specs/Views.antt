@@ -1,0 +1,80 @@
+-- What contracts see of a pass and of a table, and what a step does.
+use Rattle.std.specs.Prelude.{◌≡◌, ℕ, zero, suc, ◌+◌, ◌-◌, ◌^◌, min, List, [], ◌∷◌, ◌++◌, Option, None}
+use Rattle.atomic_table.specs.Seated.{TableId}
+use Rattle.vbr_words.specs.Dimensions.{Dimensions}
+use Rattle.vbr_core.specs.Knowledge.{Know}
+use Rattle.vbr_core.specs.Learning.{learn}
+use Rattle.vbr_core.specs.Machine.{found, stamp_shown}
+use Rattle.vbr_core.specs.Runs.{IsRun, world_after, know_after, NoneOf}
+use Rattle.vbr_core.specs.declared.event.Event.{Event}
+use Rattle.vbr_core.specs.declared.event.Step.{Step}
+use Rattle.vbr_core.specs.declared.event.Step.TheVariants.{ReadEpoch}
+use Rattle.vbr_slots.specs.Rule.{Shows}
+
+-- which pass of which table, the events of the run that it has seen, and how many steps it has made
+pub record Trace : Type 0 where
+  pub table : TableId
+  pub shape : Dimensions
+  pub passes : ℕ
+  pub who : ℕ
+  pub seen : List Event
+  pub steps : ℕ
+
+-- a pass: its trace, its own pool with the oldest slot first, and the slot in its hand
+pub record PassView : Type 0 where
+  pub trace : Trace
+  pub pool : List ℕ
+  pub hand : Option ℕ
+
+-- a table: which one it is, its shape, and how many passes it was opened with
+pub record TableView : Type 0 where
+  pub table : TableId
+  pub shape : Dimensions
+  pub passes : ℕ
+
+-- a pass that has seen nothing
+abbrev pub new_trace : TableView → ℕ → Trace
+new_trace t who = record { table = t.table; shape = t.shape; passes = t.passes; who = who; seen = []; steps = 0 }
+
+abbrev pub new_pass : TableView → ℕ → PassView
+new_pass t who = record { trace = new_trace t who; pool = []; hand = None }
+
+-- so many passes from a number on, which have seen nothing
+abbrev pub new_passes : TableView → ℕ → ℕ → List PassView
+new_passes t who zero = []
+new_passes t who (suc n) = new_pass t who ∷ new_passes t (suc who) n
+
+-- the pass came from the opening of the table
+abbrev pub IsOf : Trace → TableView → Type 0
+IsOf p t = (p.table ≡ t.table) × (p.shape ≡ t.shape) × (p.passes ≡ t.passes)
+
+-- what the core has the pass know after all that it has seen
+abbrev pub knows : Trace → Know
+knows p = know_after p.shape p.seen p.who
+
+-- the last epoch read, after a step that found this word
+abbrev pub epoch_after : Step → ℕ → ℕ → ℕ
+epoch_after ReadEpoch found epoch = found
+epoch_after _ found epoch = epoch
+
+-- the pool and the hand of a pass stay
+abbrev pub KeepsPool : PassView → PassView → Type 0
+KeepsPool p q = (q.pool ≡ p.pool) × (q.hand ≡ p.hand)
+
+abbrev pub event_of : ℕ → Step → Event
+event_of who step = record { pass = who; step = step }
+
+-- one more step, counted up to the greatest number
+abbrev pub counted : ℕ → ℕ
+counted steps = min (steps + 1) (2 ^ 64 - 1)
+
+-- the pass made the step: after all that it had seen and what others did since, which the core accepted as a run; it was shown r; and it knows what the core has it learn from that
+pub record Did (step : Step) (p q : Trace) (r : ℕ) : Type 0 where
+  pub rest : List Event
+  pub none : NoneOf p.who rest
+  pub seen : q.seen ≡ (p.seen ++ rest) ++ event_of p.who step ∷ []
+  pub is_run : IsRun p.shape p.passes q.seen
+  pub shows : Shows step r (found p.shape (world_after p.shape (p.seen ++ rest)) step)
+  pub know : knows q ≡ learn step r (stamp_shown (world_after p.shape (p.seen ++ rest)) step) (knows p)
+  pub same : (q.table ≡ p.table) × (q.shape ≡ p.shape) × (q.passes ≡ p.passes) × (q.who ≡ p.who)
+  pub counted : q.steps ≡ counted p.steps

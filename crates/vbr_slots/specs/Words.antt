@@ -1,0 +1,11 @@
+-- The words of a world, in the order of their places.
+use Rattle.std.specs.Prelude.{◌≡◌, ℕ, List, length, slice_index}
+use Rattle.vbr_words.specs.Dimensions.{Dimensions}
+use Rattle.vbr_words.specs.Places.{IsIn, index_of, words_in}
+use Rattle.vbr_words.specs.declared.place.Place.{Place}
+use Rattle.vbr_core.specs.Machine.{World, word_at}
+
+-- the list is the words of the world: at the index of each place stands the word at that place
+pub record AreWordsOf (shape : Dimensions) (w : World) (words : List ℕ) : Type 0 where
+  pub count : length words ≡ words_in shape
+  pub each : (place : Place) → IsIn shape place → slice_index words (index_of shape place) ≡ word_at shape w place

@@ -1,0 +1,64 @@
+//! The steps that make a new incarnation in a slot of the pass.
+ghost use Rattle.std.specs.Prelude.{◌≡◌, ◌<◌, Some};
+ghost use Rattle.vbr_words.specs.Words.{link_of, word_of};
+ghost use Rattle.vbr_core.specs.Acceptance.{MayBear, IsNextIn, IsNextHeld, stamp_in};
+ghost use Rattle.vbr_core.specs.Learning.{link_written};
+ghost use Rattle.vbr_core.specs.declared.event.Step.TheVariants.{StoreBirth, StoreKey, StoreLink};
+ghost use Rattle.vbr_slots.specs.Pools.{HasRoomFor, without};
+ghost use Rattle.vbr_slots.specs.Views.{IsOf, Did, KeepsPool, knows};
+
+use crate::pass::Pass;
+use crate::slots::Slots;
+use vbr_core::Step;
+use vbr_words::{Place, decode};
+
+impl Slots {
+    /// Gives birth to a new incarnation in a slot of the pass that was stamped before the last epoch
+    /// that the pass read, which is the birth. The slot leaves the own pool and is in hand.
+    #[inline]
+    pub fn store_birth(&self, pass: &mut Pass, slot: u32)
+        requires own { IsOf pass.old.trace self.now }
+        requires slot { slot < self.now.shape.slots }
+        requires may_bear { MayBear ((knows pass.old.trace).own slot) }
+        requires above_stamp { stamp_in ((knows pass.old.trace).own slot) < (knows pass.old.trace).epoch }
+        requires hand { HasRoomFor pass.old.hand slot }
+        ensures step { let epoch = (knows pass.old.trace).epoch in Did (StoreBirth slot epoch) pass.old.trace pass.new.trace epoch }
+        ensures pool { pass.new.pool ≡ without slot pass.old.pool }
+        ensures hand { pass.new.hand ≡ Some slot }
+    {
+        pass.leave_pool(slot);
+        let birth = pass.epoch();
+        let step = Step::StoreBirth { slot, birth };
+        self.store(&mut pass.runner, step, Place::Birth(slot), birth);
+        pass.hand = Some(slot);
+    }
+
+    /// Stores the key of the incarnation in hand.
+    #[inline]
+    pub fn store_key(&self, pass: &mut Pass, slot: u32, key: u64)
+        requires own { IsOf pass.old.trace self.now }
+        requires in_hand { pass.old.hand ≡ Some slot }
+        ensures step { Did (StoreKey slot key) pass.old.trace pass.new.trace key }
+        ensures pool { KeepsPool pass.old pass.new }
+    {
+        let step = Step::StoreKey { slot, key };
+        self.store(&mut pass.runner, step, Place::Key(slot), key);
+    }
+
+    /// Stores the link word of the incarnation in hand: unmarked, to none or to a held slot whose
+    /// birth the pass has checked, with the greater of the two births as its version.
+    #[inline]
+    pub fn store_link(&self, pass: &mut Pass, slot: u32, word: u64)
+        requires own { IsOf pass.old.trace self.now }
+        requires in_hand { pass.old.hand ≡ Some slot }
+        requires next_in { IsNextIn self.now.shape (link_of word).slot }
+        requires next_held { IsNextHeld (knows pass.old.trace).checked (link_of word).slot }
+        requires word { word ≡ word_of (link_written (knows pass.old.trace) (StoreLink slot (link_of word).slot)) }
+        ensures step { Did (StoreLink slot (link_of word).slot) pass.old.trace pass.new.trace word }
+        ensures pool { KeepsPool pass.old pass.new }
+    {
+        let next = decode(word).slot;
+        let step = Step::StoreLink { slot, next };
+        self.store(&mut pass.runner, step, Place::LinkOf(slot), word);
+    }
+}

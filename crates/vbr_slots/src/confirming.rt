@@ -1,0 +1,75 @@
+//! The steps that answer a call by one more load of a link word.
+ghost use Rattle.std.specs.Prelude.{◌≡◌, ◌≢◌, ◌<◌, false, MatchResult};
+ghost use Rattle.vbr_words.specs.Words.{link_of};
+ghost use Rattle.vbr_core.specs.Acceptance.{IsAtIn, IsHeld, IsInRange};
+ghost use Rattle.vbr_core.specs.declared.event.Step.TheVariants.{ConfirmPresent, ConfirmAbsent};
+ghost use Rattle.vbr_core.specs.declared.history.Op.TheVariants.{Remove};
+ghost use Rattle.vbr_slots.specs.Views.{IsOf, Did, KeepsPool, knows};
+
+use crate::pass::Pass;
+use crate::slots::Slots;
+use crate::stepping::place_of_link;
+use vbr_core::{Op, Step};
+use vbr_words::{At, Place};
+
+impl Slots {
+    /// Answers a look-up or an insert: if the link word of a node is still `expected`, unmarked, the
+    /// node's key is present. Else the word that was found comes back, and no call is answered.
+    #[inline]
+    pub fn confirm_present(
+        &self,
+        pass: &mut Pass,
+        op: Op,
+        slot: u32,
+        expected: u64,
+    ) -> Result<(), u64>
+        requires own { IsOf pass.old.trace self.now }
+        requires slot { slot < self.now.shape.slots }
+        requires op { op ≢ Remove }
+        requires held { IsHeld (knows pass.old.trace) (ConfirmPresent op slot expected) }
+        requires unmarked { (link_of expected).mark ≡ false }
+        ensures step { MatchResult result
+            (λ _. Did (ConfirmPresent op slot expected) pass.old.trace pass.new.trace expected)
+            (λ found. Did (ConfirmPresent op slot expected) pass.old.trace pass.new.trace found × (found ≢ expected)) }
+        ensures pool { KeepsPool pass.old pass.new }
+    {
+        let step = Step::ConfirmPresent { op, slot, expected };
+        match self.load(&mut pass.runner, step, Place::LinkOf(slot)) {
+            found if found == expected => Ok(()),
+            found => Err(found),
+        }
+    }
+
+    /// Answers a look-up or a remove: if the link word at a place is still `expected`, unmarked, then
+    /// the key, which would stand behind that place and before what the word names, is absent. Else
+    /// the word that was found comes back, and no call is answered.
+    #[inline]
+    pub fn confirm_absent(
+        &self,
+        pass: &mut Pass,
+        op: Op,
+        key: u64,
+        at: At,
+        expected: u64,
+    ) -> Result<(), u64>
+        requires own { IsOf pass.old.trace self.now }
+        requires at { IsAtIn self.now.shape at }
+        requires held { IsHeld (knows pass.old.trace) (ConfirmAbsent op key at expected) }
+        requires in_range { IsInRange self.now.shape (knows pass.old.trace) (ConfirmAbsent op key at expected) }
+        ensures step { MatchResult result
+            (λ _. Did (ConfirmAbsent op key at expected) pass.old.trace pass.new.trace expected)
+            (λ found. Did (ConfirmAbsent op key at expected) pass.old.trace pass.new.trace found × (found ≢ expected)) }
+        ensures pool { KeepsPool pass.old pass.new }
+    {
+        let step = Step::ConfirmAbsent {
+            op,
+            key,
+            at,
+            expected,
+        };
+        match self.load(&mut pass.runner, step, place_of_link(at)) {
+            found if found == expected => Ok(()),
+            found => Err(found),
+        }
+    }
+}

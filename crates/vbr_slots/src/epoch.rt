@@ -1,0 +1,37 @@
+//! The steps on the epoch.
+ghost use Rattle.std.specs.Prelude.{◌≡◌, ◌≢◌, ℕ, ◌<◌, ◌≤◌, MatchBool};
+ghost use Rattle.vbr_core.specs.declared.event.Step.TheVariants.{ReadEpoch, Advance};
+ghost use Rattle.vbr_slots.specs.Views.{IsOf, Did, KeepsPool};
+
+use crate::pass::Pass;
+use crate::slots::Slots;
+use vbr_core::Step;
+use vbr_words::Place;
+
+impl Slots {
+    /// Reads the epoch. Where it is the one that the pass read last, its pending reads are checked;
+    /// where it has moved, the pass knows nothing any more.
+    #[inline]
+    pub fn read_epoch(&self, pass: &mut Pass) -> u64
+        requires own { IsOf pass.old.trace self.now }
+        ensures step { Did ReadEpoch pass.old.trace pass.new.trace result }
+        ensures pool { KeepsPool pass.old pass.new }
+    {
+        self.load(&mut pass.runner, Step::ReadEpoch, Place::Epoch)
+    }
+
+    /// Raises the epoch by 1, if it is `from`, and says whether it was.
+    #[inline]
+    pub fn advance(&self, pass: &mut Pass, from: u64) -> bool
+        requires own { IsOf pass.old.trace self.now }
+        requires some { 1 ≤ from }
+        requires below_last { from < self.now.shape.last_epoch }
+        ensures step { MatchBool result
+            (Did (Advance from) pass.old.trace pass.new.trace from)
+            ((found : ℕ) × Did (Advance from) pass.old.trace pass.new.trace found × (found ≢ from)) }
+        ensures pool { KeepsPool pass.old pass.new }
+    {
+        let step = Step::Advance { from };
+        self.exchange(&mut pass.runner, step, Place::Epoch, from, from + 1) == from
+    }
+}

@@ -1,0 +1,29 @@
+//! The running table: the words of a set, shared by threads, under one rule. The table is the state
+//! of a run of the core, and what each pass has seen is a beginning of that run that has all its own
+//! events.
+//!
+//! [`Slots`] is the table. A [`Pass`] is the right to make steps under one number, in one thread at a
+//! time. Each step is one atomic load, store or exchange of one word.
+#![tactic(auto)]
+
+pub mod bearing;
+pub mod close_error;
+pub mod closing;
+pub mod confirming;
+pub mod epoch;
+pub mod exchanging;
+pub mod laws;
+pub mod loading;
+pub mod meeting;
+pub mod opening;
+pub mod owning;
+pub mod pass;
+mod rule;
+mod runner;
+pub mod slots;
+mod stepping;
+
+pub use close_error::CloseError;
+pub use opening::OpenError;
+pub use pass::Pass;
+pub use slots::Slots;

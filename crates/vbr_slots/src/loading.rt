@@ -1,0 +1,54 @@
+//! The steps that load what a traversal reads. Each read is pending until the epoch is read again.
+ghost use Rattle.std.specs.Prelude.{◌≡◌, ◌<◌, IsTrue};
+ghost use Rattle.vbr_core.specs.Acceptance.{IsAtIn};
+ghost use Rattle.vbr_core.specs.Knowledge.{holds, holds_at};
+ghost use Rattle.vbr_core.specs.declared.event.Step.TheVariants.{LoadLink, LoadBirth, LoadKey};
+ghost use Rattle.vbr_slots.specs.Views.{IsOf, Did, KeepsPool, knows};
+
+use crate::pass::Pass;
+use crate::slots::Slots;
+use crate::stepping::place_of_link;
+use vbr_core::Step;
+use vbr_words::{At, Place};
+
+impl Slots {
+    /// Loads the link word of a head or of a held slot.
+    #[inline]
+    pub fn load_link(&self, pass: &mut Pass, at: At) -> u64
+        requires own { IsOf pass.old.trace self.now }
+        requires at { IsAtIn self.now.shape at }
+        requires held { IsTrue (holds_at (knows pass.old.trace).checked at) }
+        ensures step { Did (LoadLink at) pass.old.trace pass.new.trace result }
+        ensures pool { KeepsPool pass.old pass.new }
+    {
+        self.load(&mut pass.runner, Step::LoadLink { at }, place_of_link(at))
+    }
+
+    /// Loads the birth of a held slot, an epoch.
+    #[inline]
+    pub fn load_birth(&self, pass: &mut Pass, slot: u32) -> u64
+        requires own { IsOf pass.old.trace self.now }
+        requires slot { slot < self.now.shape.slots }
+        requires held { IsTrue (holds (knows pass.old.trace).checked slot) }
+        ensures step { Did (LoadBirth slot) pass.old.trace pass.new.trace result }
+        ensures pool { KeepsPool pass.old pass.new }
+    {
+        self.load(
+            &mut pass.runner,
+            Step::LoadBirth { slot },
+            Place::Birth(slot),
+        )
+    }
+
+    /// Loads the key of a held slot.
+    #[inline]
+    pub fn load_key(&self, pass: &mut Pass, slot: u32) -> u64
+        requires own { IsOf pass.old.trace self.now }
+        requires slot { slot < self.now.shape.slots }
+        requires held { IsTrue (holds (knows pass.old.trace).checked slot) }
+        ensures step { Did (LoadKey slot) pass.old.trace pass.new.trace result }
+        ensures pool { KeepsPool pass.old pass.new }
+    {
+        self.load(&mut pass.runner, Step::LoadKey { slot }, Place::Key(slot))
+    }
+}

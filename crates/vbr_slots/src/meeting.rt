@@ -1,0 +1,25 @@
+//! The meeting of two passes.
+ghost use Rattle.std.specs.Prelude.{◌≡◌, ℕ};
+ghost use Rattle.vbr_core.specs.Runs.{BeginsFor};
+ghost use Rattle.vbr_core.specs.declared.event.Step.TheVariants.{ReadEpoch};
+ghost use Rattle.vbr_slots.specs.Views.{IsOf, Did, KeepsPool};
+
+use crate::pass::Pass;
+use crate::slots::Slots;
+
+impl Slots {
+    /// Lets the pass see all that the other has seen. It is one read of the epoch, counted for the
+    /// pass; the other stays as it was. What the other has seen then begins what the pass has seen,
+    /// which has no other event of it.
+    #[inline]
+    pub fn meet(&self, pass: &mut Pass, other: &mut Pass)
+        requires own { IsOf pass.old.trace self.now }
+        requires other { IsOf other.old.trace self.now }
+        ensures step { (epoch : ℕ) × Did ReadEpoch pass.old.trace pass.new.trace epoch }
+        ensures pool { KeepsPool pass.old pass.new }
+        ensures same { other.new ≡ other.old }
+        ensures met { BeginsFor other.old.trace.who other.old.trace.seen pass.new.trace.seen }
+    {
+        self.meet_runner(&mut pass.runner, &mut other.runner);
+    }
+}

@@ -1,0 +1,77 @@
+//! The steps that take a slot out of the shared pool, put it back, and read and store its stamp.
+ghost use Rattle.std.specs.Prelude.{◌≡◌, ◌≢◌, ℕ, ◌<◌, MatchBool, IsSome, Contains};
+ghost use Rattle.std.specs.Bool.{OnTrue};
+ghost use Rattle.vbr_core.specs.Acceptance.{IsFree, IsReread, MayBear, stamp_in};
+ghost use Rattle.vbr_core.specs.declared.event.Step.TheVariants.{LoadStamp, StoreStamp, Raise, TakeFlag};
+ghost use Rattle.vbr_slots.specs.Pools.{without};
+ghost use Rattle.vbr_slots.specs.Views.{IsOf, Did, KeepsPool, knows};
+
+use crate::pass::Pass;
+use crate::slots::Slots;
+use vbr_core::Step;
+use vbr_words::Place;
+
+impl Slots {
+    /// Loads the stamp of a slot that the pass owns, an epoch.
+    #[inline]
+    pub fn load_stamp(&self, pass: &mut Pass, slot: u32) -> u64
+        requires own { IsOf pass.old.trace self.now }
+        requires slot { slot < self.now.shape.slots }
+        requires owned { IsSome ((knows pass.old.trace).own slot) }
+        ensures step { Did (LoadStamp slot) pass.old.trace pass.new.trace result }
+        ensures known { MayBear ((knows pass.old.trace).own slot) → result ≡ stamp_in ((knows pass.old.trace).own slot) }
+        ensures pool { KeepsPool pass.old pass.new }
+    {
+        self.load(
+            &mut pass.runner,
+            Step::LoadStamp { slot },
+            Place::Stamp(slot),
+        )
+    }
+
+    /// Stamps a slot that the pass unlinked, with the last epoch that it read, which it read since
+    /// the unlinking: the slot is retired.
+    #[inline]
+    pub fn store_stamp(&self, pass: &mut Pass, slot: u32)
+        requires own { IsOf pass.old.trace self.now }
+        requires slot { slot < self.now.shape.slots }
+        requires reread { IsReread ((knows pass.old.trace).own slot) }
+        ensures step { let epoch = (knows pass.old.trace).epoch in Did (StoreStamp slot epoch) pass.old.trace pass.new.trace epoch }
+        ensures pool { KeepsPool pass.old pass.new }
+    {
+        let stamp = pass.epoch();
+        let step = Step::StoreStamp { slot, stamp };
+        self.store(&mut pass.runner, step, Place::Stamp(slot), stamp);
+    }
+
+    /// Puts a free slot of the pass into the shared pool, and takes it out of the pass's own pool if
+    /// it is there.
+    #[inline]
+    pub fn raise(&self, pass: &mut Pass, slot: u32)
+        requires own { IsOf pass.old.trace self.now }
+        requires slot { slot < self.now.shape.slots }
+        requires free { IsFree ((knows pass.old.trace).own slot) }
+        ensures step { Did (Raise slot) pass.old.trace pass.new.trace 1 }
+        ensures pool { pass.new.pool ≡ without slot pass.old.pool }
+        ensures hand { pass.new.hand ≡ pass.old.hand }
+    {
+        pass.leave_pool(slot);
+        self.store(&mut pass.runner, Step::Raise { slot }, Place::Flag(slot), 1);
+    }
+
+    /// Takes a slot out of the shared pool, if it is there, and says whether it was. A slot that is
+    /// taken is the pass's own, and outside its own pool.
+    #[inline]
+    pub fn take_flag(&self, pass: &mut Pass, slot: u32) -> bool
+        requires own { IsOf pass.old.trace self.now }
+        requires slot { slot < self.now.shape.slots }
+        ensures step { MatchBool result
+            (Did (TakeFlag slot) pass.old.trace pass.new.trace 1)
+            ((found : ℕ) × Did (TakeFlag slot) pass.old.trace pass.new.trace found × (found ≢ 1)) }
+        ensures outside { OnTrue result (¬ (Contains pass.new.pool slot)) }
+        ensures pool { KeepsPool pass.old pass.new }
+    {
+        let step = Step::TakeFlag { slot };
+        self.exchange(&mut pass.runner, step, Place::Flag(slot), 1, 0) == 1
+    }
+}

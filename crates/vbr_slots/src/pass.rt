@@ -1,0 +1,110 @@
+//! A pass: the right to make steps under one number.
+ghost use Rattle.std.specs.Prelude.{◌≡◌, ◌<◌, ◌≤◌, ◌⊎◌, [], ◌∷◌, ◌++◌, length, Some, Contains};
+ghost use Rattle.vbr_core.specs.Acceptance.{IsFree};
+ghost use Rattle.vbr_core.specs.Runs.{IsRun};
+ghost use Rattle.vbr_slots.specs.Pools.{OwnPool, hand_without, without};
+ghost use Rattle.vbr_slots.specs.Views.{knows};
+
+use crate::runner::Runner;
+use arrayvec::ArrayVec;
+use std::marker::Model;
+
+/// How many slots the own pool of a pass has room for.
+pub const POOL: usize = 64;
+
+/// The right to make steps at a table under one number, in one thread at a time. It has a pool of
+/// slots of its own, and at most one slot in hand.
+///
+/// A pass that is dropped takes its own slots out for good, and its table can't be closed any more.
+#[derive(Drop)]
+pub struct Pass {
+    pub(crate) runner: Runner,
+    pub(crate) pool: ArrayVec<u32, POOL>,
+    pub(crate) hand: Option<u32>,
+}
+
+impl Model for Pass {
+    ghost use Rattle.vbr_slots.specs.Views.{PassView};
+
+    ghost Value = { PassView };
+
+    ghost use Rattle.vbr_slots.specs.PassView.{view_of, IsWell};
+
+    ghost view = { view_of };
+
+    ghost invariant = { IsWell };
+}
+
+impl Pass {
+    /// Its number, from 0.
+    #[inline]
+    pub fn who(&self) -> u32
+        ensures who { result ≡ self.now.trace.who }
+        ensures low { result < self.now.trace.passes }
+        ensures is_run { IsRun self.now.trace.shape self.now.trace.passes self.now.trace.seen }
+    {
+        self.runner.who
+    }
+
+    /// How many steps it has made since the opening, counted up to the greatest number.
+    #[inline]
+    pub fn steps(&self) -> u64
+        ensures { result ≡ self.now.trace.steps }
+    {
+        self.runner.steps
+    }
+
+    /// The last epoch that it read; 1 at the opening.
+    #[inline]
+    pub fn epoch(&self) -> u64
+        ensures { result ≡ (knows self.now.trace).epoch }
+    {
+        self.runner.epoch
+    }
+
+    /// Its own pool, the oldest slot first.
+    #[inline]
+    pub fn pool(&self) -> &[u32]
+        ensures pool { result.now ≡ self.now.pool }
+        ensures own { OwnPool self.now.trace.shape (knows self.now.trace) self.now.pool self.now.hand }
+        ensures room { length self.now.pool ≤ POOL }
+    {
+        self.pool.as_slice()
+    }
+
+    /// The slot in its hand: born by it, and neither published nor given back.
+    #[inline]
+    pub fn in_hand(&self) -> Option<u32>
+        ensures { result ≡ self.now.hand }
+    {
+        self.hand
+    }
+
+    /// Puts a slot at the end of its own pool: one that it owns and that is free, or the one in its
+    /// hand, which is then given back. It is no step.
+    #[inline]
+    pub fn keep(&mut self, slot: u32)
+        requires slot { slot < self.old.trace.shape.slots }
+        requires kept { IsFree ((knows self.old.trace).own slot) ⊎ (self.old.hand ≡ Some slot) }
+        requires outside { ¬ (Contains self.old.pool slot) }
+        requires room { length self.old.pool < POOL }
+        ensures trace { self.new.trace ≡ self.old.trace }
+        ensures pool { self.new.pool ≡ self.old.pool ++ slot ∷ [] }
+        ensures hand { self.new.hand ≡ hand_without slot self.old.hand }
+    {
+        if self.hand == Some(slot) {
+            self.hand = None;
+        }
+        self.pool.push(slot);
+    }
+
+    // Takes a slot out of its own pool, if it is there.
+    #[inline]
+    pub(crate) fn leave_pool(&mut self, slot: u32)
+        ensures trace { self.new.trace ≡ self.old.trace }
+        ensures pool { self.new.pool ≡ without slot self.old.pool }
+        ensures hand { self.new.hand ≡ self.old.hand }
+    {
+        self.pool.retain(|pooled| *pooled != slot);
+    }
+}

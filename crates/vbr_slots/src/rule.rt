@@ -1,0 +1,101 @@
+//! The rule of the table, and what its steps tell. No value of these types is made but `Opening`.
+use atomic_table::{Join, Play, Split, TableRule};
+use std::collections::LinkedList;
+use std::marker::{Brand, PhantomData};
+use vbr_core::Event;
+use vbr_words::Shape;
+
+/// What a table is opened with: its shape, and how many passes it has.
+#[derive(Clone, Copy)]
+pub struct Opening {
+    pub shape: Shape,
+    pub passes: u32,
+}
+
+/// What a seat knows of one pass: its number, and the events of the run that it has seen.
+pub struct Member {
+    pub who: u32,
+    pub seen: LinkedList<Event>,
+}
+
+/// The rule: the table is the state of a run of the core.
+pub struct IsRun;
+
+impl TableRule<(), LinkedList<Member>, Opening> for IsRun {
+    ghost use Rattle.vbr_slots.specs.Rule.{Kept, first_members};
+
+    ghost holds = { Kept };
+
+    ghost first = { first_members };
+}
+
+/// Which event a step is, at which table. Each call picks it.
+pub trait Naming {
+    ghost use Rattle.vbr_core.specs.declared.event.Event.{Event};
+    ghost use Rattle.vbr_slots.specs.declared.rule.Opening.{Opening};
+
+    ghost event: { Event };
+
+    ghost opening: { Opening };
+}
+
+impl Naming for Brand {
+    ghost use Rattle.vbr_slots.specs.Rule.{no_event, no_opening};
+
+    ghost event = { no_event };
+
+    ghost opening = { no_opening };
+}
+
+/// The step is the event that `E` names.
+pub struct Does<E> {
+    event: PhantomData<E>,
+}
+
+impl<E: Naming> Play<(), LinkedList<Member>> for Does<E> {
+    ghost use Rattle.vbr_slots.specs.Rule.{Told};
+
+    ghost then = { λ _. Told E.opening E.event };
+}
+
+/// A new seat, which has no member.
+pub struct Nobody;
+
+impl Play<(), LinkedList<Member>> for Nobody {
+    ghost use Rattle.std.specs.Prelude.{◌≡◌, []};
+
+    ghost then = { λ _ _ _ n. n.0 ≡ [] };
+}
+
+/// The first member stays, and the others go.
+pub struct First;
+
+impl Split<LinkedList<Member>> for First {
+    ghost use Rattle.vbr_slots.specs.Rule.{head_of, tail_of};
+
+    ghost left = { head_of };
+
+    ghost right = { tail_of };
+}
+
+/// All members go.
+pub struct Whole;
+
+impl Split<LinkedList<Member>> for Whole {
+    ghost use Rattle.std.specs.Prelude.{[]};
+
+    ghost left = { λ _. [] };
+
+    ghost right = { λ v. v };
+}
+
+/// The members of both seats.
+pub struct Both;
+
+impl Join<LinkedList<Member>> for Both {
+    ghost use Rattle.std.specs.Prelude.{[], ◌++◌};
+
+    ghost both = { λ v w. v ++ w };
+
+    ghost spent = { [] };
+}

@@ -1,0 +1,170 @@
+// The four ways in which a step reaches its word: a load, a store, an exchange, and a load while the
+// seat of another pass is joined.
+//
+// A step is told to the table as an event. A function that ends in `_as` takes the event as its type
+// argument, and the function without that ending picks it.
+ghost use Rattle.std.specs.Prelude.{◌≡◌};
+ghost use Rattle.vbr_core.specs.Acceptance.{Accepts};
+ghost use Rattle.vbr_core.specs.Machine.{Load, Store, Exchange, access_of, place_of};
+ghost use Rattle.vbr_core.specs.Runs.{BeginsFor};
+ghost use Rattle.vbr_core.specs.declared.event.Step.TheVariants.{ReadEpoch};
+ghost use Rattle.vbr_words.specs.Places as places;
+ghost use Rattle.vbr_words.specs.declared.place.Place.TheVariants.{Epoch};
+ghost use Rattle.vbr_slots.specs.Views.{IsOf, Did, knows, event_of};
+
+use crate::rule::{Both, Does, First, Naming, Whole};
+use crate::runner::{Runner, counted, epoch_after};
+use crate::slots::Slots;
+use std::marker::Brand;
+use vbr_core::Step;
+use vbr_words::{At, Place, place_index};
+
+// The place of a link word.
+#[inline]
+pub(crate) fn place_of_link(at: At) -> Place
+    ensures { result ≡ places.place_of at }
+{
+    match at {
+        At::Head(bucket) => Place::Head(bucket),
+        At::Slot(slot) => Place::LinkOf(slot),
+    }
+}
+
+impl Slots {
+    // One load, which is the step.
+    #[inline]
+    fn load_as<E: Naming>(&self, runner: &mut Runner, step: Step, place: Place) -> u64
+        requires named { (E.event ≡ event_of runner.old.who step) × (E.opening ≡ record { shape = self.now.shape; passes = self.now.passes }) }
+        requires own { IsOf runner.old self.now }
+        requires accepted { Accepts self.now.shape (knows runner.old) step }
+        requires place { place ≡ place_of step }
+        requires access { access_of (knows runner.old) step ≡ Load }
+        ensures { Did step runner.old runner.new result }
+    {
+        let word = place_index(&self.opening.shape, place);
+        runner.steps = counted(runner.steps);
+        let found = self.table.shared.load::<Does<E>>(&mut runner.seat, word);
+        runner.epoch = epoch_after(step, found, runner.epoch);
+        found
+    }
+
+    #[inline]
+    pub(crate) fn load(&self, runner: &mut Runner, step: Step, place: Place) -> u64
+        requires own { IsOf runner.old self.now }
+        requires accepted { Accepts self.now.shape (knows runner.old) step }
+        requires place { place ≡ place_of step }
+        requires access { access_of (knows runner.old) step ≡ Load }
+        ensures { Did step runner.old runner.new result }
+    {
+        self.load_as::<Brand>(runner, step, place)
+    }
+
+    // One store of a word, which is the step.
+    #[inline]
+    fn store_as<E: Naming>(&self, runner: &mut Runner, step: Step, place: Place, new: u64)
+        requires named { (E.event ≡ event_of runner.old.who step) × (E.opening ≡ record { shape = self.now.shape; passes = self.now.passes }) }
+        requires own { IsOf runner.old self.now }
+        requires accepted { Accepts self.now.shape (knows runner.old) step }
+        requires place { place ≡ place_of step }
+        requires access { access_of (knows runner.old) step ≡ Store new }
+        ensures { Did step runner.old runner.new new }
+    {
+        let word = place_index(&self.opening.shape, place);
+        runner.steps = counted(runner.steps);
+        self.table
+            .shared
+            .store::<Does<E>>(&mut runner.seat, word, new);
+        runner.epoch = epoch_after(step, new, runner.epoch);
+    }
+
+    #[inline]
+    pub(crate) fn store(&self, runner: &mut Runner, step: Step, place: Place, new: u64)
+        requires own { IsOf runner.old self.now }
+        requires accepted { Accepts self.now.shape (knows runner.old) step }
+        requires place { place ≡ place_of step }
+        requires access { access_of (knows runner.old) step ≡ Store new }
+        ensures { Did step runner.old runner.new new }
+    {
+        self.store_as::<Brand>(runner, step, place, new);
+    }
+
+    // One exchange of an expected word for a new one, which is the step. Returns what it found.
+    #[inline]
+    fn exchange_as<E: Naming>(
+        &self,
+        runner: &mut Runner,
+        step: Step,
+        place: Place,
+        expected: u64,
+        new: u64,
+    ) -> u64
+        requires named { (E.event ≡ event_of runner.old.who step) × (E.opening ≡ record { shape = self.now.shape; passes = self.now.passes }) }
+        requires own { IsOf runner.old self.now }
+        requires accepted { Accepts self.now.shape (knows runner.old) step }
+        requires place { place ≡ place_of step }
+        requires access { access_of (knows runner.old) step ≡ Exchange expected new }
+        ensures { Did step runner.old runner.new result }
+    {
+        let word = place_index(&self.opening.shape, place);
+        runner.steps = counted(runner.steps);
+        let found = self
+            .table
+            .shared
+            .compare_exchange::<Does<E>>(&mut runner.seat, word, expected, new);
+        runner.epoch = epoch_after(step, found, runner.epoch);
+        found
+    }
+
+    #[inline]
+    pub(crate) fn exchange(
+        &self,
+        runner: &mut Runner,
+        step: Step,
+        place: Place,
+        expected: u64,
+        new: u64,
+    ) -> u64
+        requires own { IsOf runner.old self.now }
+        requires accepted { Accepts self.now.shape (knows runner.old) step }
+        requires place { place ≡ place_of step }
+        requires access { access_of (knows runner.old) step ≡ Exchange expected new }
+        ensures { Did step runner.old runner.new result }
+    {
+        self.exchange_as::<Brand>(runner, step, place, expected, new)
+    }
+
+    // One load of the epoch, which is the step, while the other's seat is joined to the runner's.
+    #[inline]
+    fn meet_as<E: Naming>(&self, runner: &mut Runner, other: &mut Runner, step: Step) -> u64
+        requires named { (E.event ≡ event_of runner.old.who step) × (E.opening ≡ record { shape = self.now.shape; passes = self.now.passes }) }
+        requires own { IsOf runner.old self.now }
+        requires accepted { Accepts self.now.shape (knows runner.old) step }
+        requires place { Epoch ≡ place_of step }
+        requires access { access_of (knows runner.old) step ≡ Load }
+        requires other { IsOf other.old self.now }
+        ensures step { Did step runner.old runner.new result }
+        ensures same { other.new ≡ other.old }
+        ensures met { BeginsFor other.old.who other.old.seen runner.new.seen }
+    {
+        let shared = &self.table.shared;
+        let word = place_index(&self.opening.shape, Place::Epoch);
+        let theirs = shared.split_seat::<Whole>(&mut other.seat);
+        shared.join_seat::<Both>(&mut runner.seat, theirs);
+        runner.steps = counted(runner.steps);
+        let found = shared.load::<Does<E>>(&mut runner.seat, word);
+        runner.epoch = epoch_after(step, found, runner.epoch);
+        other.seat = shared.split_seat::<First>(&mut runner.seat);
+        found
+    }
+
+    #[inline]
+    pub(crate) fn meet_runner(&self, runner: &mut Runner, other: &mut Runner) -> u64
+        requires own { IsOf runner.old self.now }
+        requires other { IsOf other.old self.now }
+        ensures step { Did ReadEpoch runner.old runner.new result }
+        ensures same { other.new ≡ other.old }
+        ensures met { BeginsFor other.old.who other.old.seen runner.new.seen }
+    {
+        self.meet_as::<Brand>(runner, other, Step::ReadEpoch)
+    }
+}
