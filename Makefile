@@ -5,13 +5,14 @@ PROGRAM := target/vbr_run
 CRATE := crates/vbr_main
 
 .DEFAULT_GOAL := help
-.PHONY: help kit run build install test clean
+.PHONY: help kit run build install test bench clean
 
 help:
 	@echo 'make run                 play examples/first.script (before its proof; takes seconds)'
 	@echo 'make build               prove and build the program: $(PROGRAM)'
 	@echo 'make install PREFIX=DIR  build it, and put it into DIR/bin (default: $(PREFIX))'
 	@echo 'make test                the whole gate: every proof from nothing, must-fail edits, tests, the program'
+	@echo 'make bench               prove and run the measurements: nanoseconds per call, on one thread'
 	@echo 'make clean               remove what was built and what checks keep'
 
 kit:
@@ -34,6 +35,9 @@ install: build
 
 test: kit
 	@$(RT) ci
+
+bench: kit
+	@cd crates/vbr_bench && $(RT) run -- time
 
 clean:
 	@rm -rf target crates/*/out

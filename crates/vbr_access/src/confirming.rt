@@ -7,6 +7,7 @@ ghost use Rattle.vbr_core.specs.declared.history.Op.TheVariants.{Insert, Remove}
 ghost use Rattle.vbr_core.specs.Safety.{IsSafe};
 ghost use Rattle.vbr_slots.specs.Calls.{Quiet, Made, Took};
 ghost use Rattle.vbr_slots.specs.Views.{IsOf, knows};
+ghost use Rattle.vbr_pools.specs.Advances.{RaisesNone};
 ghost use Rattle.vbr_access.specs.Held.{IsHeld};
 ghost use Rattle.vbr_access.specs.Keeping.{Keeps, KeepsOwn};
 ghost use Rattle.vbr_access.specs.Rollbacks.{IsLost};
@@ -29,6 +30,7 @@ pub fn confirm_present(slots: &Slots, pass: &mut Pass, op: Op, held: &Held) -> R
     requires op { op ≢ Remove }
     ensures took { Took pass.old.trace pass.new.trace 1 }
     ensures own { KeepsOwn pass.old pass.new }
+    ensures raises_none { RaisesNone pass.old pass.new }
     ensures keeps { Keeps (knows pass.old.trace) (knows pass.new.trace) }
     ensures made { IfOk result (λ _. (key : ℕ) → KeyAt (knows pass.old.trace) held.now.at key →
         Made (record { who = pass.old.trace.who; op = op; key = key; reply = present_reply op }) pass.old.trace pass.new.trace) }
@@ -65,6 +67,7 @@ pub fn confirm_absent(
     requires op { op ≢ Insert }
     ensures took { Took pass.old.trace pass.new.trace 1 }
     ensures own { KeepsOwn pass.old pass.new }
+    ensures raises_none { RaisesNone pass.old pass.new }
     ensures keeps { Keeps (knows pass.old.trace) (knows pass.new.trace) }
     ensures made { IfOk result (λ _. Made (record { who = pass.old.trace.who; op = op; key = key; reply = false }) pass.old.trace pass.new.trace) }
     ensures quiet { IfErr result (λ r. Quiet pass.old.trace pass.new.trace) }

@@ -7,6 +7,7 @@ ghost use Rattle.vbr_core.specs.declared.history.Op.TheVariants.{Remove};
 ghost use Rattle.vbr_core.specs.Safety.{IsSafe};
 ghost use Rattle.vbr_slots.specs.Calls.{Quiet, Made, Took};
 ghost use Rattle.vbr_slots.specs.Views.{IsOf, knows};
+ghost use Rattle.vbr_pools.specs.Advances.{RaisesNone};
 ghost use Rattle.vbr_access.specs.Held.{IsHeld, IsMarked, held_of};
 ghost use Rattle.vbr_access.specs.Keeping.{Keeps, KeepsOwn};
 ghost use Rattle.vbr_access.specs.Rollbacks.{IsLost};
@@ -27,6 +28,7 @@ pub fn mark(slots: &Slots, pass: &mut Pass, held: &Held) -> Result<Marked, Rollb
     requires unmarked { (link_of held.now.word).mark ≡ false }
     ensures took { Took pass.old.trace pass.new.trace 1 }
     ensures own { KeepsOwn pass.old pass.new }
+    ensures raises_none { RaisesNone pass.old pass.new }
     ensures keeps { Keeps (knows pass.old.trace) (knows pass.new.trace) }
     ensures made { IfOk result (λ _. (key : ℕ) → KeyAt (knows pass.old.trace) held.now.at key →
         Made (record { who = pass.old.trace.who; op = Remove; key = key; reply = true }) pass.old.trace pass.new.trace) }

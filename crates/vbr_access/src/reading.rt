@@ -7,6 +7,7 @@ ghost use Rattle.vbr_core.specs.Membership.{KeyAt, HeldIn};
 ghost use Rattle.vbr_core.specs.Safety.{IsSafe};
 ghost use Rattle.vbr_slots.specs.Calls.{Quiet, Took};
 ghost use Rattle.vbr_slots.specs.Views.{IsOf, knows};
+ghost use Rattle.vbr_pools.specs.Advances.{RaisesNone};
 ghost use Rattle.vbr_access.specs.Held.{IsSlot, IsHeld};
 ghost use Rattle.vbr_access.specs.Keeping.{Keeps, KeepsOwn};
 ghost use Rattle.vbr_access.specs.Moments.{IsRead, IsNext};
@@ -27,6 +28,7 @@ pub fn checkpoint(slots: &Slots, pass: &mut Pass) -> Checkpoint
     ensures quiet { Quiet pass.old.trace pass.new.trace }
     ensures took { Took pass.old.trace pass.new.trace 1 }
     ensures own { KeepsOwn pass.old pass.new }
+    ensures raises_none { RaisesNone pass.old pass.new }
 {
     soundness(slots, pass);
     Checkpoint {
@@ -48,6 +50,7 @@ pub fn first(
     ensures quiet { Quiet pass.old.trace pass.new.trace }
     ensures took { Took pass.old.trace pass.new.trace 2 }
     ensures own { KeepsOwn pass.old pass.new }
+    ensures raises_none { RaisesNone pass.old pass.new }
     ensures keeps { IfOk result (λ head. Keeps (knows pass.old.trace) (knows pass.new.trace)) }
     ensures at { IfOk result (λ head. head.at ≡ Head bucket) }
     ensures read { IfOk result (λ head. IsRead pass.old.trace pass.new.trace head) }
@@ -78,6 +81,7 @@ pub fn next(slots: &Slots, pass: &mut Pass, held: &Held) -> Result<Option<Held>,
     ensures quiet { Quiet pass.old.trace pass.new.trace }
     ensures took { Took pass.old.trace pass.new.trace (next_steps (link_of held.now.word).slot) }
     ensures own { KeepsOwn pass.old pass.new }
+    ensures raises_none { RaisesNone pass.old pass.new }
     ensures keeps { IfOk result (λ next. Keeps (knows pass.old.trace) (knows pass.new.trace)) }
     ensures read { IfOk result (λ next. IsNext pass.old.trace pass.new.trace held.now next) }
     ensures moved { IfErr result (λ r. IsMoved pass.old.trace pass.new.trace r) }
@@ -111,6 +115,7 @@ pub fn key_of(slots: &Slots, pass: &mut Pass, node: &Held) -> Result<u64, Rollba
     ensures quiet { Quiet pass.old.trace pass.new.trace }
     ensures took { Took pass.old.trace pass.new.trace 2 }
     ensures own { KeepsOwn pass.old pass.new }
+    ensures raises_none { RaisesNone pass.old pass.new }
     ensures keeps { IfOk result (λ key. Keeps (knows pass.old.trace) (knows pass.new.trace)) }
     ensures key { IfOk result (λ key. KeyAt (knows pass.new.trace) node.now.at key) }
     ensures bucket { IfOk result (λ key. (b : ℕ) → HeldIn (knows pass.old.trace) node.now.at b → bucket_of pass.old.trace.shape key ≡ b) }

@@ -6,6 +6,7 @@ ghost use Rattle.vbr_core.specs.Membership.{BirthNamed};
 ghost use Rattle.vbr_core.specs.Safety.{IsSafe};
 ghost use Rattle.vbr_slots.specs.Calls.{Quiet, Took};
 ghost use Rattle.vbr_slots.specs.Views.{IsOf, knows};
+ghost use Rattle.vbr_pools.specs.Advances.{RaisesNone};
 ghost use Rattle.vbr_access.specs.Held.{IsHeld, IsMarked, Names};
 ghost use Rattle.vbr_access.specs.Keeping.{Keeps, KeepsOwn};
 ghost use Rattle.vbr_access.specs.Moments.{IsRead};
@@ -28,6 +29,7 @@ fn birth_behind(slots: &Slots, pass: &mut Pass, marked: &Marked) -> Result<u64, 
     ensures quiet { Quiet pass.old.trace pass.new.trace }
     ensures took { Took pass.old.trace pass.new.trace (birth_steps (link_of marked.now.word).slot) }
     ensures own { KeepsOwn pass.old pass.new }
+    ensures raises_none { RaisesNone pass.old pass.new }
     ensures keeps { IfOk result (λ birth. Keeps (knows pass.old.trace) (knows pass.new.trace)) }
     ensures birth { IfOk result (λ birth. BirthNamed (knows pass.new.trace) (link_of marked.now.word).slot birth) }
     ensures some { IfErr result (λ r. IsSome (link_of marked.now.word).slot) }
@@ -65,6 +67,7 @@ pub fn unlink(
     ensures quiet { Quiet pass.old.trace pass.new.trace }
     ensures took { Took pass.old.trace pass.new.trace (unlink_steps (link_of marked.word).slot result) }
     ensures own { KeepsOwn pass.old pass.new }
+    ensures raises_none { RaisesNone pass.old pass.new }
     ensures keeps { IfOk result (λ r. Keeps (knows pass.old.trace) (knows pass.new.trace)) }
     ensures slot { IfOk result (λ r. r.0.slot ≡ marked.slot) }
     ensures owned { IfOk result (λ r. IsUnlinked ((knows pass.new.trace).own marked.slot)) }

@@ -4,6 +4,7 @@ ghost use Rattle.vbr_words.specs.Words.{link_of};
 ghost use Rattle.vbr_core.specs.Links.{link_to};
 ghost use Rattle.vbr_core.specs.Membership.{BirthNamed, StandsBehind, StandsBefore};
 ghost use Rattle.vbr_core.specs.declared.history.Op.TheVariants.{Insert};
+ghost use Rattle.vbr_pools.specs.Advances.{advances};
 ghost use Rattle.vbr_pools.specs.Hands.{IsHandOf};
 ghost use Rattle.vbr_core.specs.Safety.{IsSafe};
 ghost use Rattle.vbr_slots.specs.Calls.{Quiet, Made, Took};
@@ -44,6 +45,7 @@ fn fill(slots: &Slots, pass: &mut Pass, hand: &Hand, key: u64, pred: &Held, birt
     ensures took { Took pass.old.trace pass.new.trace 2 }
     ensures keeps { Keeps (knows pass.old.trace) (knows pass.new.trace) }
     ensures pool { KeepsPool pass.old pass.new }
+    ensures advances { advances pass.new.trace ≡ advances pass.old.trace }
     ensures filled { let link = link_to (link_of pred.now.word).slot hand.now.birth birth in
         IsFilled ((knows pass.new.trace).own hand.now.slot) hand.now.birth key link }
 {
@@ -77,6 +79,7 @@ pub fn update(
     ensures took { Took pass.old.trace pass.new.trace 3 }
     ensures keeps { Keeps (knows pass.old.trace) (knows pass.new.trace) }
     ensures pool { pass.new.pool ≡ pass.old.pool }
+    ensures advances { advances pass.new.trace ≡ advances pass.old.trace }
     ensures made { IfOk result (λ _. Made (record { who = pass.old.trace.who; op = Insert; key = key; reply = true }) pass.old.trace pass.new.trace) }
     ensures spent { OnOk result (pass.new.hand ≡ None) }
     ensures quiet { IfErr result (λ r. Quiet pass.old.trace pass.new.trace) }

@@ -1,9 +1,9 @@
 pub mod Histories
 mod PlainSets
 pub mod Puts
-mod Slots
+pub mod Slots
 mod SlotsAfter
-mod Lists
+pub mod Lists
 mod ListsAfter
 mod InsertedLists
 mod UnlinkedLists

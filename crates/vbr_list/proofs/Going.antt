@@ -4,7 +4,8 @@ use Rattle.vbr_words.specs.Dimensions.{Dimensions}
 use Rattle.vbr_core.specs.Acceptance.{bucket_of}
 use Rattle.vbr_slots.specs.Calls.{IsSame, Quiet, Took}
 use Rattle.vbr_slots.specs.Views.{Trace, TableView, PassView, IsOf}
-use Rattle.vbr_slots.proofs.Calls.{quiet_refl, quiet_on, took_on}
+use Rattle.vbr_slots.proofs.Calls.{quiet_refl, quiet_on}
+use Rattle.vbr_pools.specs.Advances.{RaisesNone}
 use Rattle.vbr_pools.specs.Steps.{Counts, TookWithin}
 use Rattle.vbr_pools.proofs.Counting.{counts_none, counts_on, took_all}
 use Rattle.vbr_access.specs.Keeping.{KeepsOwn}
@@ -24,11 +25,8 @@ goes_refl p a = record { quiet = quiet_refl p.trace; counts = counts_none p.trac
 pub goes_on : {p q r : PassView} {a b c : ℕ} → Goes p q a b → Goes q r b c → Goes p r a c
 goes_on x y = record { quiet = quiet_on x.quiet y.quiet; counts = counts_on x.counts y.counts; hand = hand_on x.hand y.hand }
 
-pub goes_step : {p q : PassView} (a n : ℕ) → Quiet p.trace q.trace → Took p.trace q.trace n → KeepsOwn p q → Goes p q a (a + n)
-goes_step a n quiet took own = record { quiet = quiet; counts = counts_step a n took; hand = own_kept own }
-
-pub goes_two : {p q r : PassView} (a m n : ℕ) → Quiet p.trace q.trace → Took p.trace q.trace m → KeepsOwn p q → Quiet q.trace r.trace → Took q.trace r.trace n → KeepsOwn q r → Goes p r a (a + (m + n))
-goes_two a m n x t k y u l = record { quiet = quiet_on x y; counts = counts_step a (m + n) (took_on m n t u); hand = hand_on (own_kept k) (own_kept l) }
+pub goes_step : {p q : PassView} (a n : ℕ) → Quiet p.trace q.trace → Took p.trace q.trace n → KeepsOwn p q → RaisesNone p q → Goes p q a (a + n)
+goes_step a n quiet took own none = record { quiet = quiet; counts = counts_step a n took; hand = own_kept own none }
 
 pub tries_refl : (p : PassView) (a budget : ℕ) → a ≤ budget → Tries p p a a budget
 tries_refl p a budget h = record { goes = goes_refl p a; within = (omega arith, h) }

@@ -3,6 +3,7 @@ use Rattle.std.proofs.Common.{◌≡◌, ℕ, ◌+◌, ◌-◌, ◌<◌, ◌≤�
 use Rattle.std.specs.Prelude.{IfOk, IfErr}
 use Rattle.std.specs.Result.{is_ok}
 use Rattle.vbr_words.specs.Dimensions.{Dimensions}
+use Rattle.vbr_core.specs.Runs.{Begins, IsRun}
 use Rattle.vbr_core.specs.declared.history.Op.{Op}
 use Rattle.vbr_slots.specs.Calls.{IsSame, Quiet, Made}
 use Rattle.vbr_slots.specs.Views.{Trace, PassView}
@@ -77,3 +78,8 @@ each_since p q r op key (Err error) quiet made = tt
 pub each_same : {E : Type 0} (p q : Trace) (op : Op) (key : ℕ) (answer : Result Bool E) → IfOk answer (λ reply. Made (record { who = p.who; op = op; key = key; reply = reply }) p q) → IfErr answer (λ _. Quiet p q) → IsSame p q
 each_same p q op key (Ok reply) made quiet = made.same
 each_same p q op key (Err error) made quiet = quiet.same
+
+-- the pass has seen more, answer or not
+pub each_seen : {E : Type 0} (p q : Trace) (op : Op) (key : ℕ) (answer : Result Bool E) → IfOk answer (λ reply. Made (record { who = p.who; op = op; key = key; reply = reply }) p q) → IfErr answer (λ _. Quiet p q) → Begins p.seen q.seen × (IsRun p.shape p.passes p.seen → IsRun q.shape q.passes q.seen)
+each_seen p q op key (Ok reply) made quiet = (made.seen, λ _. made.is_run)
+each_seen p q op key (Err error) made quiet = (quiet.seen, quiet.is_run)

@@ -3,6 +3,7 @@ use Rattle.std.specs.Prelude.{◌≡◌, ℕ, ◌<◌, ◌≤◌, length, Some}
 use Rattle.vbr_slots.specs.declared.pass.TheConstants.{POOL}
 use Rattle.vbr_slots.specs.Calls.{Quiet}
 use Rattle.vbr_slots.specs.Views.{Trace, PassView, knows}
+use Rattle.vbr_pools.specs.Advances.{RaisesNone}
 use Rattle.vbr_pools.specs.Steps.{Counts}
 use Rattle.vbr_access.specs.Held.{IsMarked, Names}
 use Rattle.vbr_access.specs.Moments.{Stood}
@@ -11,11 +12,12 @@ use Rattle.vbr_list.specs.Places.{IsPred, IsCur}
 use Rattle.vbr_list.specs.declared.traversal.Met.{Met}
 use Rattle.vbr_list.specs.declared.traversal.Met.TheVariants.{Smaller, Beyond, Marked}
 
--- the slot in hand stays, with what is known of it, and so does a free place in the own pool
+-- the slot in hand stays, with what is known of it, and so does a free place in the own pool; and no step would raise the epoch
 pub record KeepsHand (p q : PassView) : Type 0 where
   pub hand : q.hand ≡ p.hand
   pub in_hand : (s : ℕ) → p.hand ≡ Some s → (knows q.trace).own s ≡ (knows p.trace).own s
   pub room : length p.pool < POOL → length q.pool < POOL
+  pub raises_none : RaisesNone p q
 
 -- what was done made no call, its steps are counted, and the slot in hand stays
 pub record Goes (p q : PassView) (before since : ℕ) : Type 0 where

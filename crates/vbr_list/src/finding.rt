@@ -3,6 +3,7 @@ ghost use Rattle.std.specs.Prelude.{◌≡◌, ◌+◌, ◌<◌, ◌≤◌, None
 ghost use Rattle.vbr_core.specs.Acceptance.{bucket_of};
 ghost use Rattle.vbr_slots.specs.Calls.{Quiet, Took};
 ghost use Rattle.vbr_slots.specs.Views.{IsOf};
+ghost use Rattle.vbr_pools.specs.Advances.{advances};
 ghost use Rattle.vbr_access.specs.Moments.{WasSo};
 ghost use Rattle.vbr_list.specs.Found.{IsFound};
 ghost use Rattle.vbr_list.specs.Refusals.{IsTired};
@@ -55,6 +56,7 @@ pub fn find(slots: &Slots, pass: &mut Pass, key: u64, budget: u32) -> Result<Fou
     ensures found { IfOk result (λ found. IsFound pass.old.trace pass.new.trace key found) }
     ensures was_so { IfOk result (λ found. WasSo pass.old.trace pass.new.trace key found.present) }
     ensures steps { IfOk result (λ found. (found.used ≤ budget) × Took pass.old.trace pass.new.trace found.used) }
+    ensures advances { advances pass.new.trace ≡ advances pass.old.trace }
     ensures refused { IfErr result (λ refusal. IsTired pass.old pass.new budget refusal) }
 {
     soundness(slots, pass);

@@ -2,6 +2,7 @@
 ghost use Rattle.std.specs.Prelude.{◌≡◌, ℕ, ◌+◌, ◌<◌, ◌≤◌, ◌^◌, true, false, None, IfOk, IfErr};
 ghost use Rattle.vbr_core.specs.Acceptance.{bucket_of};
 ghost use Rattle.vbr_core.specs.declared.history.Op.TheVariants.{Insert};
+ghost use Rattle.vbr_pools.specs.Advances.{advances, AdvancesWhereNeeded, RaisesNone};
 ghost use Rattle.vbr_pools.specs.Steps.{Counts, TookWithin};
 ghost use Rattle.vbr_slots.specs.Calls.{IsSame, Quiet, Made, Took};
 ghost use Rattle.vbr_slots.specs.Views.{IsOf, knows};
@@ -18,7 +19,7 @@ use crate::soundness::soundness;
 use vbr_access::{Rollback, confirm_present, update};
 use vbr_core::Op;
 use vbr_pools::budget::affords;
-use vbr_pools::{Hand, TakeRefusal, give_back, take};
+use vbr_pools::{Hand, TakeRefusal, give_back, take_counted};
 use vbr_slots::{Pass, Slots};
 
 // Answers an insert with no, in one step, if the link of the node that was found is as it was read.
@@ -29,6 +30,7 @@ fn deny(slots: &Slots, pass: &mut Pass, key: u64, found: &Found) -> Result<(), R
     requires present { found.now.present ≡ true }
     ensures took { Took pass.old.trace pass.new.trace 1 }
     ensures own { KeepsOwn pass.old pass.new }
+    ensures raises_none { RaisesNone pass.old pass.new }
     ensures made { IfOk result (λ _. Made (record { who = pass.old.trace.who; op = Insert; key = key; reply = false }) pass.old.trace pass.new.trace) }
     ensures quiet { IfErr result (λ r. Quiet pass.old.trace pass.new.trace) }
 {
@@ -50,11 +52,11 @@ fn provide(slots: &Slots, pass: &mut Pass, budget: u32, used: &mut u32) -> Resul
     ensures empty_hand { IfErr result (λ refusal. pass.new.hand ≡ None) }
     ensures steps { IfErr result (λ refusal. (since : ℕ) × CountsWithin pass.old.trace pass.new.trace used.old since budget) }
     ensures refused { IfErr result (λ refusal. TakesNone pass.old pass.new used.old budget refusal) }
+    ensures advances { AdvancesWhereNeeded pass.old pass.new }
 {
-    let before = pass.steps();
-    match take(slots, pass, budget - *used) {
-        Ok(hand) => {
-            *used += (pass.steps() - before) as u32;
+    match take_counted(slots, pass, budget - *used) {
+        Ok((hand, more)) => {
+            *used += more;
             Ok(hand)
         }
         Err(TakeRefusal::OutOfSteps { used: more }) => Err(Refusal::OutOfSteps {
@@ -86,6 +88,7 @@ fn prepare(
     ensures empty_hand { IfErr result (λ refusal. pass.new.hand ≡ None) }
     ensures steps { IfErr result (λ refusal. (since : ℕ) × CountsWithin pass.old.trace pass.new.trace used.old since budget) }
     ensures refused { IfErr result (λ refusal. Refuses pass.old pass.new key used.old budget refusal) }
+    ensures advances { AdvancesWhereNeeded pass.old pass.new }
 {
     soundness(slots, pass);
     loop {
@@ -127,6 +130,7 @@ fn settle(
     ensures spent { IfOk result (λ reply. pass.new.hand ≡ None) }
     ensures quiet { IfErr result (λ back. Quiet pass.old.trace pass.new.trace) }
     ensures hand { IfErr result (λ back. IsReady pass.new back) }
+    ensures advances { advances pass.new.trace ≡ advances pass.old.trace }
 {
     if found.present {
         let denied = deny(slots, pass, key, found);
@@ -164,6 +168,7 @@ fn link(
     ensures spent { pass.new.hand ≡ None }
     ensures quiet { IfErr result (λ refusal. Quiet pass.old.trace pass.new.trace) }
     ensures refused { IfErr result (λ refusal. IsShort pass.old pass.new used.old budget refusal) }
+    ensures advances { advances pass.new.trace ≡ advances pass.old.trace }
 {
     loop {
         let Some(found) = search(slots, pass, key, bucket, budget, used) else {
@@ -184,7 +189,8 @@ fn link(
 /// Adds a key to the set, in at most `budget` steps, and says whether it was absent. It takes a slot
 /// only once it has found the key absent, and traverses anew with it. The answer's point is one step:
 /// the publication of the new node, or a load that finds the link of the key's node as it was read.
-/// A slot that is left over goes back to the own pool.
+/// A slot that is left over goes back to the own pool. It raises the epoch at most once, and only
+/// where no slot that it could take is stamped below the epoch that it read.
 ///
 /// Its refusals are OutOfSteps, and, where the key was absent, NoSlot and EpochSpent.
 pub fn insert(slots: &Slots, pass: &mut Pass, key: u64, budget: u32) -> Result<bool, Refusal>
@@ -196,6 +202,7 @@ pub fn insert(slots: &Slots, pass: &mut Pass, key: u64, budget: u32) -> Result<b
     ensures quiet { IfErr result (λ refusal. Quiet pass.old.trace pass.new.trace) }
     ensures hand { pass.new.hand ≡ None }
     ensures steps { TookWithin pass.old.trace pass.new.trace budget }
+    ensures advances { AdvancesWhereNeeded pass.old pass.new }
     ensures refused { IfErr result (λ refusal. IsRefused pass.old pass.new key budget refusal) }
 {
     soundness(slots, pass);

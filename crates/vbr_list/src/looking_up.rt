@@ -1,6 +1,7 @@
 //! Look-ups.
 ghost use Rattle.std.specs.Prelude.{◌≡◌, None, IfOk, IfErr};
 ghost use Rattle.vbr_core.specs.declared.history.Op.TheVariants.{Has};
+ghost use Rattle.vbr_pools.specs.Advances.{advances, RaisesNone};
 ghost use Rattle.vbr_pools.specs.Steps.{TookWithin};
 ghost use Rattle.vbr_slots.specs.Calls.{IsSame, Quiet, Made, Took};
 ghost use Rattle.vbr_slots.specs.Views.{IsOf, knows};
@@ -25,6 +26,7 @@ fn answer(slots: &Slots, pass: &mut Pass, key: u64, found: &Found) -> Result<boo
     requires locates { Locates pass.old.trace.shape (knows pass.old.trace) key found.now }
     ensures took { Took pass.old.trace pass.new.trace 1 }
     ensures own { KeepsOwn pass.old pass.new }
+    ensures raises_none { RaisesNone pass.old pass.new }
     ensures made { IfOk result (λ reply. Made (record { who = pass.old.trace.who; op = Has; key = key; reply = reply }) pass.old.trace pass.new.trace) }
     ensures quiet { IfErr result (λ r. Quiet pass.old.trace pass.new.trace) }
 {
@@ -52,6 +54,7 @@ pub fn has(slots: &Slots, pass: &mut Pass, key: u64, budget: u32) -> Result<bool
     ensures quiet { IfErr result (λ refusal. Quiet pass.old.trace pass.new.trace) }
     ensures hand { pass.new.hand ≡ None }
     ensures steps { TookWithin pass.old.trace pass.new.trace budget }
+    ensures advances { advances pass.new.trace ≡ advances pass.old.trace }
     ensures refused { IfErr result (λ refusal. IsTired pass.old pass.new budget refusal) }
 {
     soundness(slots, pass);

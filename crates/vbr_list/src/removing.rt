@@ -1,6 +1,7 @@
 //! Removes.
 ghost use Rattle.std.specs.Prelude.{◌≡◌, ◌+◌, ◌<◌, ◌≤◌, ◌^◌, true, None, IfOk, IfErr};
 ghost use Rattle.vbr_core.specs.declared.history.Op.TheVariants.{Remove};
+ghost use Rattle.vbr_pools.specs.Advances.{advances};
 ghost use Rattle.vbr_pools.specs.Steps.{Counts, TookWithin};
 ghost use Rattle.vbr_slots.specs.Calls.{IsSame, Quiet, Made};
 ghost use Rattle.vbr_slots.specs.Views.{IsOf, knows};
@@ -95,6 +96,7 @@ pub fn remove(slots: &Slots, pass: &mut Pass, key: u64, budget: u32) -> Result<b
     ensures quiet { IfErr result (λ refusal. Quiet pass.old.trace pass.new.trace) }
     ensures hand { pass.new.hand ≡ None }
     ensures steps { TookWithin pass.old.trace pass.new.trace budget }
+    ensures advances { advances pass.new.trace ≡ advances pass.old.trace }
     ensures refused { IfErr result (λ refusal. IsTired pass.old pass.new budget refusal) }
 {
     soundness(slots, pass);

@@ -1,36 +1,47 @@
 //! The program `vbr_run`: plays the script on standard input.
 #![tactic(auto)]
 
+use std::alloc::{AllocError, Global};
 use std::io::ErrorKind;
 use std::process::ExitCode;
 use std::{env, io};
 
 fn main(rt: HostRuntime) -> ExitCode {
-    match status(&rt) {
-        Ok(status) => ExitCode::from(status),
-        Err(error) => refused(&rt, &error),
-    }
-}
-
-// Runs the program on its arguments and the standard streams.
-fn status(rt: &HostRuntime) -> io::Result<u8> {
     let alloc = rt.alloc();
-    let arguments: Vec<String> = env::args(rt)?.collect(alloc)?;
-    let words: Vec<&str> = arguments.iter().map(|word| word.as_str()).collect(alloc)?;
-    Ok(vbr_run::run(
+    let arguments = match arguments(&rt) {
+        Ok(arguments) => arguments,
+        Err(error) => return refused(&rt, &error),
+    };
+    let words = match words_of(alloc, &arguments) {
+        Ok(words) => words,
+        Err(error) => return refused(&rt, &io::Error::from(error)),
+    };
+    let status = vbr_run::run(
+        &rt,
         alloc,
         &words,
         &mut rt.stdin(),
         &mut rt.stdout(),
         &mut rt.stderr(),
-    ))
+    );
+    ExitCode::from(status)
+}
+
+// The arguments, of which the first is the program's name.
+fn arguments(rt: &HostRuntime) -> io::Result<Vec<String>> {
+    let arguments = env::args(rt)?.collect(rt.alloc())?;
+    Ok(arguments)
+}
+
+fn words_of<'a>(alloc: Global, arguments: &'a [String]) -> Result<Vec<&'a str>, AllocError> {
+    arguments.iter().map(|word| word.as_str()).collect(alloc)
 }
 
 // The arguments couldn't be read: for want of memory, or since one is no text.
 fn refused(rt: &HostRuntime, error: &io::Error) -> ExitCode {
     if error.kind() == ErrorKind::OutOfMemory {
         let _ = eprintln!(rt; "vbr_run: no memory");
-        ExitCode::from(vbr_run::program::NO_MEMORY)
+        ExitCode::from(vbr_run::program::NO_RESOURCES)
     } else {
         let _ = eprintln!(rt; "error: an argument is no UTF-8 text");
         ExitCode::from(vbr_run::program::USAGE)

@@ -44,5 +44,4 @@ module _ (p q : PassView) (slot : ℕ) (d : Did (StoreBirth slot (knows p.trace)
     rest = pool;
     room = (let less = without_shorter slot p.pool below.0 in let e = ap length pool in omega arith);
     advances = same_advances d refl;
-    stamps = stamps_stay;
   })

@@ -17,7 +17,7 @@ use Rattle.vbr_pools.specs.Refusals.{AllStamped}
 use Rattle.vbr_pools.specs.Steps.{Counts}
 use Rattle.vbr_pools.specs.declared.refusal.TakeRefusal.{TakeRefusal}
 use Rattle.vbr_pools.specs.declared.refusal.TakeRefusal.TheVariants.{OutOfSteps, NoSlot, EpochSpent}
-use Rattle.vbr_pools.proofs.Advancing.{same_advances, once, once_after, once_before}
+use Rattle.vbr_pools.proofs.Advancing.{same_advances, nobody, none_known, none_on, did_none, once, once_after, once_before}
 use Rattle.vbr_pools.proofs.Counting.{counts_one, counts_on, uses_on, uses_more}
 use Rattle.vbr_pools.proofs.Moments.{epoch_told}
 use Rattle.vbr_pools.proofs.Raising.{stamps_reread, stamps_low, read_above}
@@ -26,10 +26,6 @@ use Rattle.vbr_pools.proofs.Raising.{stamps_reread, stamps_low, read_above}
 some_slot : (pool : List ℕ) → pool ≢ [] → 0 < length pool
 some_slot [] some = absurd (some refl)
 some_slot (x ∷ xs) some = omega arith
-
--- a hand that is empty has no slot
-nobody : {A : Type 0} (hand : Option ℕ) (slot : ℕ) → hand ≡ None → hand ≡ Some slot → A
-nobody hand slot e f = absurd (cc)
 
 -- the epoch was read, and then the pool was looked through
 module _ (p q r : PassView) (e budget used : ℕ) (read : Did ReadEpoch p.trace q.trace e) (room : used + 8 ≤ budget) (quiet : Quiet q.trace r.trace) (known : knows r.trace ≡ knows q.trace) where
@@ -107,15 +103,11 @@ module _ (p q r : PassView) (e budget used : ℕ) (read : Did ReadEpoch p.trace 
               below = (subst (λ (l : List ℕ). Contains l slot) shown has, omega arith);
             }
 
-        pub raised_once : advances r.trace ≡ advances q.trace → AdvancesOnce p t
-        raised_once same =
-            once_after {p = p} {q = r} {r = t} quiet_then (same ∙ same_advances read refl)
-            (once_before {p = r} {q = s} {r = t} (once {p = r} {q = s} advance last_read (λ slot has. let y = stamps_first slot in let h = high slot (held slot has) in omega arith)) (did_quiet again (λ know. refl)) (same_advances again refl) (λ slot has. back slot has) stamps_since)
+        pub raised_once : KeepsPool p q → KeepsPool q r → advances r.trace ≡ advances q.trace → AdvancesOnce p t
+        raised_once pool stays same =
+            once_after {p = p} {q = r} {r = t} quiet_then (none_on {p = p} {q = q} {r = r} (did_none read refl pool) (none_known same stays known))
+            (once_before {p = r} {q = s} {r = t} (once {p = r} {q = s} advance last_read (λ slot has. high slot (held slot has))) (did_quiet again (λ know. refl)).seen (did_quiet again (λ know. refl)).is_run (same_advances again refl))
           where
-            held : (slot : ℕ) → Has s slot → Contains r.pool slot
-            held slot (inl c) = subst (λ (l : List ℕ). Contains l slot) keeps.0 c
-            held slot (inr h) = nobody s.hand slot (keeps.1 ∙ empty) h
-
-            back : (slot : ℕ) → Has t slot → Has s slot
-            back slot (inl c) = inl (subst (λ (l : List ℕ). Contains l slot) still.0 c)
-            back slot (inr h) = inr (sym still.1 ∙ h)
+            held : (slot : ℕ) → Has r slot → Contains r.pool slot
+            held slot (inl c) = c
+            held slot (inr h) = nobody r.hand slot empty h

@@ -1,17 +1,20 @@
 -- The shared pool, probed slot by slot.
-use Rattle.std.proofs.Common.{◌≡◌, ◌≢◌, ℕ, ◌+◌, ◌<◌, ◌≤◌, ◌==◌, true, List, [], ◌∷◌, ◌++◌, length, None, refl, sym, ap, ◌∙◌, subst, inr, ⊎_elim, arith}
-use Rattle.std.proofs.lemmas.Bool.{eqb-true}
+use Rattle.std.proofs.Common.{◌≡◌, ◌≢◌, ℕ, ◌+◌, ◌<◌, ◌≤◌, ◌==◌, Bool, true, cond, List, [], ◌∷◌, ◌++◌, length, None, refl, sym, ap, ◌∙◌, subst, inr, ⊎_elim, arith}
+use Rattle.std.proofs.lemmas.Bool.{eqb-true, ne_eqb}
 use Rattle.std.specs.Prelude.{◌⊎◌}
+use Rattle.vbr_core.specs.Acceptance.{MayBear}
+use Rattle.vbr_core.specs.Knowledge.{Know}
 use Rattle.vbr_core.specs.declared.event.Step.TheVariants.{TakeFlag}
+use Rattle.vbr_core.proofs.Puts.{put_other}
 use Rattle.vbr_slots.specs.Calls.{Quiet}
 use Rattle.vbr_slots.specs.Pools.{hand_without}
-use Rattle.vbr_slots.specs.Views.{Trace, PassView, KeepsPool, Did}
+use Rattle.vbr_slots.specs.Views.{Trace, PassView, KeepsPool, Did, knows}
 use Rattle.vbr_slots.proofs.Calls.{quiet_on, did_quiet}
-use Rattle.vbr_pools.specs.Advances.{advances}
+use Rattle.vbr_pools.specs.Advances.{RaisesNone}
 use Rattle.vbr_pools.specs.Pieces.{HasSlots}
 use Rattle.vbr_pools.specs.SharedPool.{WasOutside, CameByFlag}
 use Rattle.vbr_pools.specs.Steps.{Counts}
-use Rattle.vbr_pools.proofs.Advancing.{same_advances}
+use Rattle.vbr_pools.proofs.Advancing.{same_advances, none_given, none_known, none_on}
 use Rattle.vbr_pools.proofs.Counting.{counts_one, counts_on}
 use Rattle.vbr_pools.proofs.Moments.{came, missed, came_after, missed_before, missed_after}
 
@@ -19,19 +22,19 @@ use Rattle.vbr_pools.proofs.Moments.{came, missed, came_after, missed_before, mi
 pub record Claiming (p q : PassView) (budget probed : ℕ) : Type 0 where
   pub quiet : Quiet p.trace q.trace
   pub pool : KeepsPool p q
-  pub advances : advances q.trace ≡ advances p.trace
+  pub none : RaisesNone p q
   pub counts : Counts p.trace q.trace 0 probed
   pub within : probed ≤ budget
   pub outside : (slot : ℕ) → slot < probed → WasOutside p.trace q.trace slot
 
 -- one more flag was lost
 pub claim_next : {p q r : PassView} {budget slot n : ℕ} → Claiming p q budget slot → slot + 8 ≤ budget → Did (TakeFlag slot) q.trace r.trace n → n ≢ 1 → KeepsPool q r → Claiming p r budget (slot + 1)
-claim_next {p} {q} {r} {budget} {slot} at room d lost stays =
+claim_next {p} {q} {r} {budget} {slot} {n} at room d lost stays =
     let more : Quiet q.trace r.trace = did_quiet d (λ know. refl) in
     record {
       quiet = quiet_on at.quiet more;
       pool = (stays.0 ∙ at.pool.0, stays.1 ∙ at.pool.1);
-      advances = same_advances d refl ∙ at.advances;
+      none = none_on at.none (none_known (same_advances d refl) stays (d.know ∙ lost_flag _ (knows q.trace)));
       counts = counts_on at.counts (counts_one slot d);
       within = omega arith;
       outside = λ s less.
@@ -39,6 +42,9 @@ claim_next {p} {q} {r} {budget} {slot} at room d lost stays =
           (either s less);
     }
   where
+    lost_flag : (a b : Know) → cond (n == 1) a b ≡ b
+    lost_flag a b = ap (λ (t : Bool). cond t a b) (ne_eqb n 1 lost)
+
     either : (s : ℕ) → s < slot + 1 → (s ≡ slot) ⊎ (s < slot)
     either s less = grind arith
 
@@ -56,6 +62,10 @@ claim_won {p} {q} {r} {t} {budget} {slot} at empty no_hand room d stays same poo
   where
     not_empty : (s : ℕ) → s ∷ [] ≡ [] → ⊥
     not_empty s e = absurd (cc)
+
+-- and the slot is all that the pass could take
+pub claim_none : {p q r t : PassView} {budget slot : ℕ} → Claiming p q budget slot → Did (TakeFlag slot) q.trace r.trace 1 → KeepsPool q r → t.trace ≡ r.trace → t.pool ≡ r.pool ++ slot ∷ [] → t.hand ≡ hand_without slot r.hand → RaisesNone p t
+claim_none {q = q} at d stays same pool hand = none_on at.none (none_given d refl (λ s other m. subst MayBear (ap (λ (k : Know). k.own s) d.know ∙ put_other (knows q.trace).own _ _ s other) m) stays same pool hand)
 
 -- a list that has no length is empty
 pub none_in : (pool : List ℕ) → (length pool == 0) ≡ true → pool ≡ []

@@ -1,6 +1,7 @@
 -- An unlinked slot that returns: it is stamped with an epoch that was read before.
-use Rattle.std.proofs.Common.{◌≡◌, ℕ, ◌-◌, ◌<◌, ◌≤◌, Bool, true, false, cond, Option, Some, None, List, [], ◌∷◌, ◌++◌, length, arith, refl, sym, ap, ◌∙◌, append_assoc, append-nil, subst}
+use Rattle.std.proofs.Common.{◌≡◌, ℕ, ◌-◌, ◌<◌, ◌≤◌, Bool, true, false, cond, Option, Some, None, List, [], ◌∷◌, ◌++◌, length, arith, refl, sym, ap, ◌∙◌, append_assoc, append-nil, subst, ⊎_elim, ◌≢◌}
 use Rattle.std.specs.Prelude.{Contains}
+use Rattle.std.proofs.lemmas.Bool.{cases_eq}
 use Rattle.std.proofs.lemmas.Bool.Decides.{nat_tests}
 use Rattle.std.proofs.lemmas.List.Elements.{All-contains}
 use Rattle.vbr_words.specs.Dimensions.{Dimensions, IsShape}
@@ -15,14 +16,17 @@ use Rattle.vbr_core.specs.Knowledge.{Know}
 use Rattle.vbr_core.specs.declared.knowledge.Holding.{Holding}
 use Rattle.vbr_core.specs.declared.knowledge.Holding.TheVariants.{Free, Unlinked, InHand}
 use Rattle.vbr_slots.specs.declared.pass.TheConstants.{POOL}
-use Rattle.vbr_slots.specs.Pools.{IsPooled, OwnPool}
+use Rattle.vbr_slots.specs.Pools.{IsPooled, OwnPool, hand_without}
 use Rattle.vbr_core.specs.declared.event.Event.{Event}
-use Rattle.vbr_core.specs.declared.event.Step.TheVariants.{ReadEpoch, StoreStamp}
+use Rattle.vbr_core.specs.declared.event.Step.TheVariants.{ReadEpoch, StoreStamp, Raise}
+use Rattle.vbr_core.proofs.Puts.{put_here, put_other}
 use Rattle.vbr_core.proofs.RunsGoOn.{begins_trans}
 use Rattle.vbr_slots.specs.Calls.{Quiet}
-use Rattle.vbr_slots.specs.Views.{Trace, Did, knows, event_of}
+use Rattle.vbr_slots.specs.Views.{Trace, PassView, KeepsPool, Did, knows, event_of}
 use Rattle.vbr_slots.proofs.Calls.{quiet_on, did_quiet, did_moment, moment_before}
+use Rattle.vbr_pools.specs.Advances.{RaisesNone}
 use Rattle.vbr_pools.specs.Retiring.{Stamps, is_kept, pool_retired}
+use Rattle.vbr_pools.proofs.Advancing.{same_advances, none_on, none_kept, did_none, none_given}
 use Rattle.vbr_pools.proofs.Moments.{epoch_told, epoch_stood}
 
 module _ {p q r : Trace} {slot e n : ℕ} (read : Did ReadEpoch p q e) (stamp : Did (StoreStamp slot (knows q).epoch) q r n) where
@@ -53,6 +57,25 @@ stamped_before {p} {q} {r} a b = record {
   later = a.later;
   stamped = begins_trans _ q.seen r.seen a.stamped b.seen;
 }
+
+-- ---- what the pass could take
+
+module _ {p q r : PassView} {slot e n : ℕ} (read : Did ReadEpoch p.trace q.trace e) (stamp : Did (StoreStamp slot (knows q.trace).epoch) q.trace r.trace n) (stays : KeepsPool p q) (still : KeepsPool q r) where
+  others : (s : ℕ) → s ≢ slot → MayBear ((knows r.trace).own s) → MayBear ((knows q.trace).own s)
+  others s other m = subst MayBear (ap (λ (k : Know). k.own s) stamp.know ∙ put_other (knows q.trace).own _ _ s other) m
+
+  -- a slot that is kept is in the pool
+  pub kept_none : {t : PassView} → t.trace ≡ r.trace → t.pool ≡ r.pool ++ slot ∷ [] → t.hand ≡ hand_without slot r.hand → RaisesNone p t
+  kept_none same pool hand = none_on (did_none read refl stays) (none_given stamp refl others still same pool hand)
+
+  -- and one that isn't is no more the pass's own
+  pub raised_none : {t : PassView} {m : ℕ} → Did (Raise slot) r.trace t.trace m → t.pool ≡ p.pool → t.hand ≡ r.hand → RaisesNone p t
+  raised_none {t} raise pool hand =
+      none_on (did_none read refl stays) (none_kept {p = q} {q = t} (same_advances raise refl ∙ same_advances stamp refl) (pool ∙ sym stays.0, hand ∙ still.1)
+      (λ s m. ⊎_elim (λ (is : s ≡ slot). gone s is m) (λ (other : s ≢ slot). others s other (subst MayBear (ap (λ (k : Know). k.own s) raise.know ∙ put_other (knows r.trace).own _ _ s other) m)) (cases_eq s slot)))
+    where
+      gone : (s : ℕ) → s ≡ slot → MayBear ((knows t.trace).own s) → MayBear ((knows q.trace).own s)
+      gone s is m = absurd (subst MayBear (ap (λ (i : ℕ). (knows t.trace).own i) is ∙ ap (λ (k : Know). k.own slot) raise.know ∙ put_here (knows r.trace).own slot None) m)
 
 -- ---- pools
 

@@ -79,4 +79,3 @@ pub record IsBorn (p q : PassView) (chosen budget before : ℕ) (hand : HandView
   pub rest : q.pool ≡ without chosen p.pool
   pub room : length q.pool < POOL
   pub advances : advances q.trace ≡ advances p.trace
-  pub stamps : (s : ℕ) → stamp_in ((knows q.trace).own s) ≡ stamp_in ((knows p.trace).own s)

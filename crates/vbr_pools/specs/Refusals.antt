@@ -3,7 +3,6 @@ use Rattle.std.specs.Prelude.{◌≡◌, ◌≢◌, ℕ, ◌+◌, ◌<◌, ◌�
 use Rattle.vbr_core.specs.Acceptance.{stamp_in}
 use Rattle.vbr_slots.specs.Calls.{Took}
 use Rattle.vbr_slots.specs.Views.{PassView, knows}
-use Rattle.vbr_pools.specs.Hands.{HandView}
 use Rattle.vbr_pools.specs.SharedPool.{WasOutside, CameByFlag}
 use Rattle.vbr_pools.specs.declared.refusal.TakeRefusal.{TakeRefusal}
 use Rattle.vbr_pools.specs.declared.refusal.TakeRefusal.TheVariants.{OutOfSteps, NoSlot, EpochSpent}
@@ -42,7 +41,7 @@ abbrev pub LeavesPool : PassView → PassView → Type 0
 LeavesPool p q = (q.pool ≡ p.pool) ⊎ ((p.pool ≡ []) × (slot : ℕ) × (q.pool ≡ slot ∷ []) × CameByFlag p.trace q.trace slot)
 
 -- a slot was taken, or the epoch is spent
-abbrev pub IsTakenOrSpent : Result HandView TakeRefusal → Type 0
-IsTakenOrSpent (Ok hand) = Unit {0}
+abbrev pub IsTakenOrSpent : {A : Type 0} → Result A TakeRefusal → Type 0
+IsTakenOrSpent (Ok taken) = Unit {0}
 IsTakenOrSpent (Err (EpochSpent epoch)) = Unit {0}
 IsTakenOrSpent _ = ⊥

@@ -18,5 +18,5 @@ pub use giving_back::give_back;
 pub use hand::Hand;
 pub use refusal::TakeRefusal;
 pub use retiring::retire;
-pub use taking::take;
+pub use taking::{take, take_counted};
 pub use unlinked::Unlinked;

@@ -3,6 +3,7 @@ ghost use Rattle.std.specs.Prelude.{◌≡◌, ◌<◌};
 ghost use Rattle.vbr_core.specs.Acceptance.{IsUnlinked};
 ghost use Rattle.vbr_slots.specs.Calls.{Quiet, Took};
 ghost use Rattle.vbr_slots.specs.Views.{IsOf, knows};
+ghost use Rattle.vbr_pools.specs.Advances.{RaisesNone};
 ghost use Rattle.vbr_pools.specs.Retiring.{Stamps, is_kept, know_retired, pool_retired, steps_to_retire};
 
 use crate::unlinked::Unlinked;
@@ -17,6 +18,7 @@ pub fn retire(slots: &Slots, pass: &mut Pass, unlinked: Unlinked) -> u32
     requires own { IsOf pass.old.trace slots.now }
     requires unlinked { IsUnlinked ((knows pass.old.trace).own unlinked.slot) }
     ensures quiet { Quiet pass.old.trace pass.new.trace }
+    ensures raises_none { RaisesNone pass.old pass.new }
     ensures steps { Took pass.old.trace pass.new.trace result }
     ensures count { result ≡ steps_to_retire pass.old.pool }
     ensures stamped { Stamps pass.old.trace pass.new.trace unlinked.slot (knows pass.new.trace).epoch }

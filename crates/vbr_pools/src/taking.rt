@@ -1,10 +1,10 @@
 //! Taking a slot for a new incarnation.
 ghost use Rattle.std.specs.Prelude.{◌≡◌, ◌≢◌, ◌+◌, ◌≤◌, [], IfOk, IfErr, OnErr, Some, None};
 ghost use Rattle.vbr_slots.specs.declared.pass.TheConstants.{POOL};
-ghost use Rattle.vbr_slots.specs.Calls.{Quiet};
+ghost use Rattle.vbr_slots.specs.Calls.{Quiet, Took};
 ghost use Rattle.vbr_slots.specs.Pools.{OwnPool};
 ghost use Rattle.vbr_slots.specs.Views.{IsOf, KeepsPool, knows};
-ghost use Rattle.vbr_pools.specs.Advances.{advances, AdvancesWhereNeeded};
+ghost use Rattle.vbr_pools.specs.Advances.{advances, AdvancesWhereNeeded, RaisesNone};
 ghost use Rattle.vbr_pools.specs.Pieces.{HasSlots, IsBelow, IsBorn, IsChosen, IsScanned, IsShort, Stops};
 ghost use Rattle.vbr_pools.specs.Refusals.{IsRefused, LeavesPool, IsTakenOrSpent};
 ghost use Rattle.vbr_pools.specs.Steps.{TookWithin};
@@ -37,6 +37,25 @@ pub fn take(slots: &Slots, pass: &mut Pass, budget: u32) -> Result<Hand, TakeRef
     // No condition speaks of another pass: none can hold it up.
     ensures ready { pass.old.pool ≢ [] → 80 ≤ budget → IsTakenOrSpent result }
 {
+    let (hand, _) = take_counted(slots, pass, budget)?;
+    Ok(hand)
+}
+
+/// As [`take`], and tells how many steps it made.
+pub fn take_counted(slots: &Slots, pass: &mut Pass, budget: u32) -> Result<(Hand, u32), TakeRefusal>
+    requires own { IsOf pass.old.trace slots.now }
+    requires empty_hand { pass.old.hand ≡ None }
+    ensures quiet { Quiet pass.old.trace pass.new.trace }
+    ensures steps { TookWithin pass.old.trace pass.new.trace budget }
+    ensures counted { IfOk result (λ r. (r.1 ≤ budget) × Took pass.old.trace pass.new.trace r.1) }
+    ensures ok { IfOk result (λ r. IsTaken pass.old pass.new r.0) }
+    ensures refused { IfErr result (λ refusal. IsRefused pass.old pass.new budget refusal) }
+    ensures pool { IfErr result (λ refusal. LeavesPool pass.old pass.new) }
+    ensures hand { IfErr result (λ refusal. pass.new.hand ≡ None) }
+    ensures advances { AdvancesWhereNeeded pass.old pass.new }
+    // No condition speaks of another pass: none can hold it up.
+    ensures ready { pass.old.pool ≢ [] → 80 ≤ budget → IsTakenOrSpent result }
+{
     let used = claim(slots, pass, budget)?;
     let (slot, used) = choose(slots, pass, budget, used)?;
     bear(slots, pass, slot, budget, used)
@@ -48,7 +67,7 @@ fn claim(slots: &Slots, pass: &mut Pass, budget: u32) -> Result<u32, TakeRefusal
     requires own { IsOf pass.old.trace slots.now }
     requires empty_hand { pass.old.hand ≡ None }
     ensures quiet { Quiet pass.old.trace pass.new.trace }
-    ensures advances { advances pass.new.trace ≡ advances pass.old.trace }
+    ensures raises_none { RaisesNone pass.old pass.new }
     ensures ok { IfOk result (λ used. HasSlots pass.old pass.new budget used) }
     ensures empty { IfErr result (λ refusal. pass.old.pool ≡ []) }
     ensures refused { IfErr result (λ refusal. IsRefused pass.old pass.new budget refusal) }
@@ -138,19 +157,21 @@ fn scan(
     Ok((None, used))
 }
 
-// Gives birth to an incarnation in a slot of the own pool that is stamped below the epoch.
+// Gives birth to an incarnation in a slot of the own pool that is stamped below the epoch. Returns the
+// hand, and how many steps were used.
 fn bear(
     slots: &Slots,
     pass: &mut Pass,
     slot: u32,
     budget: u32,
     used: u32,
-) -> Result<Hand, TakeRefusal>
+) -> Result<(Hand, u32), TakeRefusal>
     requires own { IsOf pass.old.trace slots.now }
     requires within { used ≤ budget }
     requires below { IsBelow pass.old (knows pass.old.trace).epoch (Some slot) }
     requires empty_hand { pass.old.hand ≡ None }
-    ensures ok { IfOk result (λ hand. IsBorn pass.old pass.new slot budget used hand) }
+    ensures ok { IfOk result (λ r. IsBorn pass.old pass.new slot budget used r.0) }
+    ensures used { IfOk result (λ r. r.1 ≡ used + 1) }
     ensures refused { IfErr result (λ refusal. IsShort pass.old pass.new budget used 0 refusal) }
     ensures same { OnErr result (pass.new ≡ pass.old) }
 {
@@ -160,5 +181,5 @@ fn bear(
     // What is known of the slots of the pool is told with it.
     let _pool = pass.pool();
     slots.store_birth(pass, slot);
-    Ok(Hand::of(slot, pass.epoch()))
+    Ok((Hand::of(slot, pass.epoch()), used + 1))
 }

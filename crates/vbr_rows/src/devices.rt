@@ -2,12 +2,31 @@
 use std::alloc::Global;
 use std::io;
 use std::io::{ErrorKind, Read, Write};
+use std::sync::Wait;
 use std::test::Fail;
-use vbr_run::{RunError, play_plain};
+use std::thread::Threads;
+use vbr_run::{Config, NoGate, RunError, Totals, play};
+use vbr_words::Shape;
 
 const SCRIPT: &[u8] = b"0 insert 5\n0 insert 5\n0 has 5\n0 remove 5\n0 has 5\n";
 
 const OUTPUT: &[u8] = b"yes\nno\nyes\nyes\nno\ninserted 1\nremoved 1\nfound 1\nrefused 0\nkeys\n";
+
+/// Plays a script for one worker on a small set.
+fn play_small<T: Threads + Wait, R: Read, W: Write>(
+    rt: &T,
+    alloc: Global,
+    reader: &mut R,
+    writer: &mut W,
+) -> Result<Totals, RunError> {
+    let Ok(shape) = Shape::new(4, 2, 10) else {
+        unreachable!()
+    };
+    let Ok(config) = Config::new(shape, 1, 1_000, false) else {
+        unreachable!()
+    };
+    play(rt, alloc, config, reader, writer, &NoGate)
+}
 
 /// A reader that gives its bytes one at a time, and then an error.
 #[derive(Drop)]
@@ -103,7 +122,7 @@ fn a_failing_reader_is_a_read_fault(rt: HostRuntime) {
             bytes: &SCRIPT[..n],
         };
         let mut output = Vec::new(rt.alloc());
-        let played = play_plain(rt.alloc(), &mut reader, &mut output);
+        let played = play_small(&rt, rt.alloc(), &mut reader, &mut output);
         assert_eq!(rt; played.err(), Some(RunError::Read), "after {n} bytes");
         assert!(rt; output.is_empty());
     }
@@ -113,11 +132,11 @@ fn a_failing_reader_is_a_read_fault(rt: HostRuntime) {
 fn an_input_that_is_too_long_is_a_read_fault(rt: HostRuntime) {
     let mut output = Vec::new(rt.alloc());
     let mut longest = Spaces { left: 67_108_864 };
-    assert!(rt; play_plain(rt.alloc(), &mut longest, &mut output).is_ok());
+    assert!(rt; play_small(&rt, rt.alloc(), &mut longest, &mut output).is_ok());
 
     let mut output = Vec::new(rt.alloc());
     let mut longer = Spaces { left: 67_108_865 };
-    let played = play_plain(rt.alloc(), &mut longer, &mut output);
+    let played = play_small(&rt, rt.alloc(), &mut longer, &mut output);
     assert_eq!(rt; played.err(), Some(RunError::Read));
     assert!(rt; output.is_empty());
 }
@@ -128,7 +147,7 @@ fn a_failing_writer_is_a_write_fault(rt: HostRuntime) {
         for n in 0..OUTPUT.len() {
             let mut reader = SCRIPT;
             let mut writer = SmallWriter::new(rt.alloc(), n, at_end);
-            let played = play_plain(rt.alloc(), &mut reader, &mut writer);
+            let played = play_small(&rt, rt.alloc(), &mut reader, &mut writer);
             assert_eq!(rt; played.err(), Some(RunError::Write), "after {n} bytes");
             assert_eq!(rt; writer.taken.as_slice(), &OUTPUT[..n]);
         }
@@ -139,7 +158,7 @@ fn a_failing_writer_is_a_write_fault(rt: HostRuntime) {
 fn a_slow_writer_gets_the_whole_text(rt: HostRuntime) -> Result<(), Fail> {
     let mut reader = SCRIPT;
     let mut writer = SmallWriter::new(rt.alloc(), OUTPUT.len(), AtEnd::Fails);
-    let totals = play_plain(rt.alloc(), &mut reader, &mut writer)?;
+    let totals = play_small(&rt, rt.alloc(), &mut reader, &mut writer)?;
     assert_eq!(rt; writer.taken.as_slice(), OUTPUT);
     assert_eq!(rt; (totals.inserted, totals.removed, totals.found), (1, 1, 1));
     assert_eq!(rt; (totals.refused, totals.epoch), (0, 1));
@@ -152,7 +171,7 @@ fn a_flush_that_fails_is_a_write_fault(rt: HostRuntime) {
     let mut reader = SCRIPT;
     let mut writer = SmallWriter::new(rt.alloc(), OUTPUT.len(), AtEnd::Fails);
     writer.can_flush = false;
-    let played = play_plain(rt.alloc(), &mut reader, &mut writer);
+    let played = play_small(&rt, rt.alloc(), &mut reader, &mut writer);
     assert_eq!(rt; played.err(), Some(RunError::Write));
     assert_eq!(rt; writer.taken.as_slice(), OUTPUT);
 }
@@ -165,6 +184,7 @@ fn failing_errors_are_ignored(rt: HostRuntime) {
     let mut output = Vec::new(rt.alloc());
     let mut errors = SmallWriter::new(rt.alloc(), 9, AtEnd::Fails);
     let status = vbr_run::run(
+        &rt,
         rt.alloc(),
         words.as_slice(),
         &mut reader,

@@ -7,6 +7,8 @@ mod access;
 mod devices;
 pub mod event_lists;
 #[cfg(test)]
+mod list;
+#[cfg(test)]
 mod listed_calls;
 #[cfg(test)]
 mod plain_set;
@@ -21,6 +23,12 @@ mod running_table;
 #[cfg(test)]
 mod scripts;
 #[cfg(test)]
+mod set;
+#[cfg(test)]
+mod sized_runs;
+#[cfg(test)]
 mod words;
+#[cfg(test)]
+mod worker;
 #[cfg(test)]
 mod world;

@@ -1,6 +1,8 @@
 //! The program on worked scripts.
 use std::alloc::{AllocError, Global};
+use std::sync::Wait;
 use std::test::Fail;
+use std::thread::Threads;
 
 /// What a run of the program gave.
 #[derive(Drop)]
@@ -10,12 +12,17 @@ pub struct Outcome {
     pub errors: Vec<u8>,
 }
 
-/// Runs the program with these words after its name.
-pub fn outcome_of(alloc: Global, words: &[&str], script: &[u8]) -> Outcome {
+/// Runs the program with these words, of which the first is its name.
+pub fn outcome_of<T: Threads + Wait>(
+    rt: &T,
+    alloc: Global,
+    words: &[&str],
+    script: &[u8],
+) -> Outcome {
     let mut reader = script;
     let mut output = Vec::new(alloc);
     let mut errors = Vec::new(alloc);
-    let status = vbr_run::run(alloc, words, &mut reader, &mut output, &mut errors);
+    let status = vbr_run::run(rt, alloc, words, &mut reader, &mut output, &mut errors);
     Outcome {
         status,
         output,
@@ -30,26 +37,21 @@ fn plays_scripts(rt: HostRuntime) -> Result<(), Fail> {
     let empty = b"inserted 0\nremoved 0\nfound 0\nrefused 0\nkeys\n".as_slice();
     let first =
         b"yes\nno\nyes\nyes\nno\ninserted 1\nremoved 1\nfound 1\nrefused 0\nkeys\n".as_slice();
-    let extremes =
-        b"yes\nyes\nyes\nyes\ninserted 2\nremoved 0\nfound 2\nrefused 0\nkeys 0 18446744073709551615\n".as_slice();
     let rows = [
         (b"".as_slice(), empty),
         (b"\n \n\t\r\n\n".as_slice(), empty),
+        (b"sync\n\nsync".as_slice(), empty),
         (
             b"0 insert 5\n0 insert 5\n0 has 5\n0 remove 5\n0 has 5\n".as_slice(),
             first,
         ),
         (
-            b"0 insert 5\n0 insert 5\n0 has 5\n0 remove 5\n0 has 5".as_slice(),
+            b"0 insert 5\n0 insert 5\nsync\n0 has 5\n0 remove 5\nsync\nsync\n0 has 5".as_slice(),
             first,
-        ),
-        (
-            b"0 insert 18446744073709551615\n0 insert 0\n0 has 0\n0 has 18446744073709551615\n".as_slice(),
-            extremes,
         ),
     ];
     for (script, output) in rows {
-        let outcome = outcome_of(rt.alloc(), PROGRAM.as_slice(), script);
+        let outcome = outcome_of(&rt, rt.alloc(), PROGRAM.as_slice(), script);
         assert_eq!(rt; outcome.status, 0);
         assert_eq!(rt; outcome.output.as_slice(), output);
         assert!(rt; outcome.errors.is_empty());
@@ -69,7 +71,7 @@ fn tells_the_first_fault(rt: HostRuntime) -> Result<(), Fail> {
         (b"0 drop 5".as_slice(), b"3 at line 1".as_slice()),
         (b"0 insert +5".as_slice(), b"4 at line 1".as_slice()),
         (b"0 insert 5 6".as_slice(), b"1 at line 1".as_slice()),
-        (b"sync".as_slice(), b"1 at line 1".as_slice()),
+        (b"sync\nsink".as_slice(), b"1 at line 2".as_slice()),
         (b"sync 0".as_slice(), b"1 at line 1".as_slice()),
         (b"x insert 5".as_slice(), b"2 at line 1".as_slice()),
         (b"9 drop x".as_slice(), b"2 at line 1".as_slice()),
@@ -81,7 +83,7 @@ fn tells_the_first_fault(rt: HostRuntime) -> Result<(), Fail> {
         ),
     ];
     for (script, told) in rows {
-        let outcome = outcome_of(rt.alloc(), PROGRAM.as_slice(), script);
+        let outcome = outcome_of(&rt, rt.alloc(), PROGRAM.as_slice(), script);
         assert_eq!(rt; outcome.status, 3);
         assert!(rt; outcome.output.is_empty());
         let mut line = Vec::from_slice(rt.alloc(), b"vbr_run: script fault ")?;
@@ -93,33 +95,57 @@ fn tells_the_first_fault(rt: HostRuntime) -> Result<(), Fail> {
 }
 
 #[test]
-fn reads_its_options(rt: HostRuntime) {
+fn refuses_faulty_options(rt: HostRuntime) {
     let script = b"0 insert 5\n".as_slice();
-    let one = ["vbr_run", "--workers", "1"];
-    let outcome = outcome_of(rt.alloc(), one.as_slice(), script);
-    assert_eq!(rt; outcome.status, 0);
-    assert_eq!(rt;
-        outcome.output.as_slice(),
-        b"yes\ninserted 1\nremoved 0\nfound 0\nrefused 0\nkeys 5\n".as_slice()
-    );
-
     let faulty = [
         ["vbr_run", "--workers=0"].as_slice(),
-        ["vbr_run", "--workers=2"].as_slice(),
+        ["vbr_run", "--workers=17"].as_slice(),
         ["vbr_run", "--workers", "one"].as_slice(),
-        ["vbr_run", "--slots", "1"].as_slice(),
+        ["vbr_run", "--slots", "4294967296"].as_slice(),
+        ["vbr_run", "--slots=0", "--workers=17"].as_slice(),
+        ["vbr_run", "--last-epoch", "18446744073709551616"].as_slice(),
+        ["vbr_run", "--epoch=1"].as_slice(),
         ["vbr_run", "script"].as_slice(),
     ];
     for words in faulty {
-        let outcome = outcome_of(rt.alloc(), words, script);
+        let outcome = outcome_of(&rt, rt.alloc(), words, script);
         assert_eq!(rt; outcome.status, 2);
         assert!(rt; outcome.output.is_empty());
         assert!(rt; !outcome.errors.is_empty());
+        assert!(rt; !outcome.errors.starts_with(b"vbr_run:"));
     }
 
     let help = ["vbr_run", "--help"];
-    let outcome = outcome_of(rt.alloc(), help.as_slice(), script);
+    let outcome = outcome_of(&rt, rt.alloc(), help.as_slice(), script);
     assert_eq!(rt; outcome.status, 0);
     assert!(rt; !outcome.output.is_empty());
     assert!(rt; outcome.errors.is_empty());
+}
+
+#[test]
+fn tells_what_is_wrong_with_a_shape(rt: HostRuntime) {
+    let rows = [
+        (
+            ["vbr_run", "--slots=0", "--buckets=0"].as_slice(),
+            b"vbr_run: shape fault 1\n".as_slice(),
+        ),
+        (
+            ["vbr_run", "--slots=1048576"].as_slice(),
+            b"vbr_run: shape fault 1\n".as_slice(),
+        ),
+        (
+            ["vbr_run", "--buckets=65537", "--last-epoch=0"].as_slice(),
+            b"vbr_run: shape fault 2\n".as_slice(),
+        ),
+        (
+            ["vbr_run", "--last-epoch=8796093022208"].as_slice(),
+            b"vbr_run: shape fault 3\n".as_slice(),
+        ),
+    ];
+    for (words, told) in rows {
+        let outcome = outcome_of(&rt, rt.alloc(), words, b"0 drop 5\n");
+        assert_eq!(rt; outcome.status, 2);
+        assert!(rt; outcome.output.is_empty());
+        assert_eq!(rt; outcome.errors.as_slice(), told);
+    }
 }

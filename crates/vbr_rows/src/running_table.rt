@@ -12,7 +12,7 @@ use vbr_slots::{CloseError, OpenError, Pass, Slots};
 use vbr_words::Shape;
 
 // Opens a table. What found no memory left nothing, so it is tried again.
-fn open(alloc: Global, shape: Shape, passes: u32) -> Result<(Slots, Vec<Pass>), OpenError>
+pub fn open(alloc: Global, shape: Shape, passes: u32) -> Result<(Slots, Vec<Pass>), OpenError>
     ensures table { IfOk result (λ r. (r.0.shape ≡ shape) × (r.0.passes ≡ passes)) }
     ensures passes { IfOk result (λ r. r.1.items ≡ new_passes r.0 0 passes) }
 {

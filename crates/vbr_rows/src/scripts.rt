@@ -1,4 +1,5 @@
 //! The parser on its own.
+use std::alloc::{AllocError, Global};
 use std::test::Fail;
 use vbr_core::Op;
 use vbr_run::{Line, ScriptError, ScriptFault, parse_script};
@@ -39,5 +40,98 @@ fn reads_a_long_blank_line(rt: HostRuntime) -> Result<(), Fail> {
     let text = vec![in rt.alloc(); b' '; 100_000]?;
     let script = parse_script(rt.alloc(), &text, 1)?;
     assert!(rt; script.lines.is_empty());
+    Ok(())
+}
+
+/// What is wrong with a text, as the line's number and the fault's.
+fn fault_of(alloc: Global, text: &[u8], workers: u32) -> Option<(u64, u8)> {
+    match parse_script(alloc, text, workers) {
+        Err(ScriptError::Fault { line, kind }) => Some((line, kind.number())),
+        _ => None,
+    }
+}
+
+/// A text of so many lines that are all the same.
+fn lines_of(alloc: Global, line: &[u8], count: usize) -> Result<Vec<u8>, AllocError> {
+    let mut text = Vec::new(alloc);
+    for _ in 0..count {
+        text.extend_from_slice(line)?;
+    }
+    Ok(text)
+}
+
+#[test]
+fn counts_phases_by_sync_lines(rt: HostRuntime) -> Result<(), Fail> {
+    let script = parse_script(rt.alloc(), b"0 insert 5\nsync\n1 has 5", 2)?;
+    let lines = [
+        Line {
+            phase: 0,
+            worker: 0,
+            op: Op::Insert,
+            key: 5,
+        },
+        Line {
+            phase: 1,
+            worker: 1,
+            op: Op::Has,
+            key: 5,
+        },
+    ];
+    assert_eq!(rt; script.lines.as_slice(), lines.as_slice());
+    assert_eq!(rt; script.phases, 2);
+
+    let syncs = parse_script(rt.alloc(), b"sync\n\n \tsync \r\nsync", 1)?;
+    assert!(rt; syncs.lines.is_empty());
+    assert_eq!(rt; syncs.phases, 4);
+    Ok(())
+}
+
+#[test]
+fn tells_the_first_test_that_fails(rt: HostRuntime) {
+    let rows = [
+        (b"0 insert +5".as_slice(), 4),
+        (b"0 insert 5 6".as_slice(), 1),
+        (b"sync 0".as_slice(), 1),
+        (b"Sync".as_slice(), 1),
+        (b"x insert 5".as_slice(), 2),
+        (b"9 drop x".as_slice(), 2),
+        (b"sync sync sync".as_slice(), 2),
+        (b"0 Insert 5".as_slice(), 3),
+        (b"0 has 5\r\r\n".as_slice(), 4),
+    ];
+    for (text, number) in rows {
+        assert_eq!(rt; fault_of(rt.alloc(), text, 1), Some((1, number)));
+    }
+}
+
+#[test]
+fn has_a_greatest_number_of_operations(rt: HostRuntime) -> Result<(), Fail> {
+    let mut text = lines_of(rt.alloc(), b"0 has 5\n", 1_000_000)?;
+    let script = parse_script(rt.alloc(), &text, 1)?;
+    assert_eq!(rt; script.lines.len(), 1_000_000);
+
+    text.extend_from_slice(b"0 has 5\n")?;
+    assert_eq!(rt; fault_of(rt.alloc(), &text, 1), Some((1_000_001, 5)));
+    Ok(())
+}
+
+#[test]
+fn has_a_greatest_number_of_sync_lines(rt: HostRuntime) -> Result<(), Fail> {
+    let mut text = lines_of(rt.alloc(), b"sync\n", 10_000)?;
+    let script = parse_script(rt.alloc(), &text, 1)?;
+    assert_eq!(rt; script.phases, 10_001);
+
+    text.extend_from_slice(b"\n0 has 5\nsync")?;
+    assert_eq!(rt; fault_of(rt.alloc(), &text, 1), Some((10_003, 5)));
+    let more = lines_of(rt.alloc(), b"sync\n", 10_001)?;
+    assert_eq!(rt; fault_of(rt.alloc(), &more, 1), Some((10_001, 5)));
+    Ok(())
+}
+
+#[test]
+fn tells_words_before_too_many(rt: HostRuntime) -> Result<(), Fail> {
+    let mut text = lines_of(rt.alloc(), b"sync\n", 10_000)?;
+    text.extend_from_slice(b"sync 0")?;
+    assert_eq!(rt; fault_of(rt.alloc(), &text, 1), Some((10_001, 1)));
     Ok(())
 }

@@ -6,7 +6,7 @@ use Rattle.vbr_core.specs.declared.history.Op.TheVariants.{Insert, Remove, Has}
 use Rattle.vbr_run.specs.declared.script.ScriptFault.{ScriptFault}
 use Rattle.vbr_run.specs.declared.script.ScriptFault.TheVariants as fault
 use Rattle.vbr_run.specs.declared.script.Meaning.{Meaning}
-use Rattle.vbr_run.specs.declared.script.Meaning.TheVariants.{Blank, Asks, Faulty}
+use Rattle.vbr_run.specs.declared.script.Meaning.TheVariants.{Blank, Sync, Asks, Faulty}
 use Rattle.vbr_run.specs.Number.{number_below}
 
 -- the operation that a word names
@@ -24,9 +24,14 @@ request_of (Some worker) None key = Faulty fault.Operation
 request_of (Some worker) (Some operation) None = Faulty fault.Key
 request_of (Some worker) (Some operation) (Some key) = Asks worker operation key
 
+-- what a word alone on its line means
+unfoldable pub lone_word : List ℕ → Meaning
+lone_word word = if bytes_eq word (codes "sync") then Sync else Faulty fault.Words
+
 -- what the words of a line mean to a script for so many workers
 abbrev pub meaning_of : ℕ → List (List ℕ) → Meaning
 meaning_of workers [] = Blank
+meaning_of workers (word ∷ []) = lone_word word
 meaning_of workers (worker ∷ operation ∷ key ∷ []) = request_of (number_below workers worker) (operation_of operation) (number_below (2 ^ 64) key)
 meaning_of workers _ = Faulty fault.Words
 
@@ -36,3 +41,4 @@ fault_number fault.Words = 1
 fault_number fault.Worker = 2
 fault_number fault.Operation = 3
 fault_number fault.Key = 4
+fault_number fault.TooMany = 5

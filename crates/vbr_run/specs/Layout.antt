@@ -1,8 +1,8 @@
 -- The text that a run prints.
-use Rattle.std.specs.Prelude.{ℕ, List, [], ◌∷◌, ◌++◌, codes, decimal}
+use Rattle.std.specs.Prelude.{ℕ, Bool, List, [], ◌∷◌, ◌++◌, codes, decimal, if◌then◌else◌}
 use Rattle.std.specs.List.{flat_map}
 use Rattle.vbr_run.specs.declared.player.Reply.{Reply}
-use Rattle.vbr_run.specs.declared.player.Reply.TheVariants.{Yes, No}
+use Rattle.vbr_run.specs.declared.player.Reply.TheVariants.{Yes, No, Full, Spent, Tired}
 use Rattle.vbr_run.specs.declared.player.Totals.{Totals}
 
 -- a line of text, with its line feed
@@ -13,6 +13,9 @@ line text = text ++ 10 ∷ []
 abbrev pub reply_text : Reply → List ℕ
 reply_text Yes = codes "yes"
 reply_text No = codes "no"
+reply_text Full = codes "full"
+reply_text Spent = codes "spent"
+reply_text Tired = codes "tired"
 
 -- a space, and a number in decimal
 abbrev pub spaced : ℕ → List ℕ
@@ -35,6 +38,10 @@ totals_text totals =
     ++ line (codes "refused" ++ spaced totals.refused)
     ++ keys_text totals.keys.items
 
--- the whole text
-abbrev pub layout_of : List Reply → Totals → List ℕ
-layout_of replies totals = replies_text replies ++ totals_text totals
+-- the line of the epoch, where it is asked for
+abbrev pub epoch_text : Bool → ℕ → List ℕ
+epoch_text asked epoch = if asked then line (codes "epoch" ++ spaced epoch) else []
+
+-- the whole text: the replies, the totals, and the epoch where it is asked for
+abbrev pub layout_of : Bool → List Reply → Totals → List ℕ
+layout_of asked replies totals = replies_text replies ++ totals_text totals ++ epoch_text asked totals.epoch

@@ -2,9 +2,17 @@ pub mod Text
 pub mod Number
 pub mod Grammar
 pub mod Scripts
+pub mod Settings
 pub mod Calls
 pub mod Runs
+pub mod Merging
+pub mod Phases
 pub mod Layout
+pub mod Working
+pub mod Starting
+pub mod Meeting
+pub mod Standing
+pub mod Ending
 pub mod Playing
 pub mod Options
 pub mod Program

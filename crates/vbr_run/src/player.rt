@@ -1,13 +1,21 @@
 //! The player: plays a script over a set and prints its replies and totals.
-mod calls;
 mod counts;
+mod ending;
+mod gate;
 mod layout;
-mod plain;
+mod meeting;
+mod merging;
+mod opening;
+mod phase;
+mod phases;
+mod playing;
 mod reading;
+mod worker;
 pub(crate) mod writing;
 
 use crate::script::{ScriptError, ScriptFault};
-pub use plain::play_plain;
+pub use gate::{Gate, NoGate};
+pub use playing::play;
 use std::alloc::AllocError;
 use thiserror::Error;
 
@@ -21,6 +29,12 @@ pub enum Reply {
     Yes,
     /// The set's answer is no.
     No,
+    /// An insert found no slot: the set is full.
+    Full,
+    /// An insert found the last epoch spent.
+    Spent,
+    /// The budget of steps was used up.
+    Tired,
 }
 
 /// The totals of a run.
@@ -55,6 +69,9 @@ pub enum RunError {
     /// There was no memory for the run.
     #[error("no memory for the run")]
     Memory,
+    /// A thread for a worker couldn't be started.
+    #[error("a worker can't be started")]
+    Worker,
 }
 
 impl From<AllocError> for RunError {

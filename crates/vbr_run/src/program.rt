@@ -2,24 +2,28 @@
 mod options;
 mod report;
 
-ghost use Rattle.std.specs.Prelude.{◌≡◌, ◌⊎◌, ℕ, List, [], ◌∷◌, map, codes};
+ghost use Rattle.std.specs.Prelude.{◌≡◌, ◌⊎◌, ℕ, List, Some, None, [], ◌∷◌, true, false, map, codes};
 ghost use Rattle.clap.specs.Words.{kind_of};
-ghost use Rattle.vbr_run.specs.Options.{AreOptions};
-ghost use Rattle.vbr_run.specs.Program.{IsPlayed, Helps, Refuses, LacksMemory};
+ghost use Rattle.vbr_words.specs.declared.shape.ShapeError.{ShapeError};
+ghost use Rattle.vbr_run.specs.Options.{AreOptions, settings_of, shape_fault};
+ghost use Rattle.vbr_run.specs.declared.program.TheConstants.{USAGE};
+ghost use Rattle.vbr_run.specs.Program.{IsPlayed, IsUnshaped, Helps, Refuses, LacksMemory};
 
 use crate::player::writing::{WriteFault, write_pieces, write_whole};
-use crate::player::{RunError, play_plain};
+use crate::player::{NoGate, RunError, play};
 use clap::error::ErrorKind;
-use options::read_options;
-use report::report;
+use options::{Refusal, read_options};
+use report::{report, report_shape};
 use std::alloc::Global;
 use std::fmt::Display;
 use std::io::{Read, Write};
+use std::sync::Wait;
+use std::thread::Threads;
 
 /// The exit status of a run that was done.
 pub const DONE: u8 = 0;
 
-/// The exit status where the options are at fault.
+/// The exit status where the options are at fault, or give no shape.
 pub const USAGE: u8 = 2;
 
 /// The exit status where the script is at fault.
@@ -28,39 +32,48 @@ pub const SCRIPT_FAULT: u8 = 3;
 /// The exit status where the script couldn't be read or the output couldn't be written.
 pub const DEVICE_FAULT: u8 = 4;
 
-/// The exit status where there was no memory.
-pub const NO_MEMORY: u8 = 5;
+/// The exit status where there was no memory, or no thread for a worker.
+pub const NO_RESOURCES: u8 = 5;
 
 /// The program's body: reads the options from the words, of which the first is the program's name,
 /// plays the script that the reader gives, and answers the exit status. A fault is told in one line
-/// on `errors`; an error of `errors` itself is ignored. For a fault in the options `clap`'s text is
-/// written there, and nothing is read; with `--help` the help is written to the writer.
-pub fn run<R: Read, W: Write, E: Write>(
+/// on `errors`; an error of `errors` itself is ignored. A fault in the options comes before a shape
+/// that is none, and both before anything is read; for a fault in the options `clap`'s text is
+/// written to `errors`, and with `--help` the help is written to the writer.
+pub fn run<T: Threads + Wait, R: Read, W: Write, E: Write>(
+    rt: &T,
     alloc: Global,
     words: &[&str],
     reader: &mut R,
     writer: &mut W,
     errors: &mut E,
 ) -> u8
-    ensures options { AreOptions (map (λ word. word.now) words.now) →
-        IsPlayed (R.remaining reader.old) (W.contents writer.old) (W.contents writer.new) (E.contents errors.old) (E.contents errors.new) result }
-    ensures others { IsPlayed (R.remaining reader.old) (W.contents writer.old) (W.contents writer.new) (E.contents errors.old) (E.contents errors.new) result
+    ensures played { AreOptions (map (λ word. word.now) words.now) → shape_fault (settings_of (map (λ word. word.now) words.now)) ≡ None →
+        IsPlayed (settings_of (map (λ word. word.now) words.now)) (R.remaining reader.old) (W.contents writer.old) (W.contents writer.new) (E.contents errors.old) (E.contents errors.new) result }
+    ensures unshaped { (error : ShapeError) → AreOptions (map (λ word. word.now) words.now) → shape_fault (settings_of (map (λ word. word.now) words.now)) ≡ Some error →
+        IsUnshaped error (W.contents writer.old) (W.contents writer.new) (E.contents errors.old) (E.contents errors.new) result
+        ⊎ LacksMemory (W.contents writer.old) (W.contents writer.new) (E.contents errors.old) (E.contents errors.new) result }
+    ensures others { IsPlayed (settings_of (map (λ word. word.now) words.now)) (R.remaining reader.old) (W.contents writer.old) (W.contents writer.new) (E.contents errors.old) (E.contents errors.new) result
         ⊎ (Helps (W.contents writer.old) (W.contents writer.new) result ⊎ Refuses (W.contents writer.old) (W.contents writer.new) result) }
+    ensures unread { result ≡ USAGE → reader.new ≡ reader.old }
 {
     match read_options(alloc, words) {
-        Ok(_options) => match play_plain(alloc, reader, writer) {
+        Ok(config) => match play(rt, alloc, config, reader, writer, &NoGate) {
             Ok(_totals) => DONE,
             Err(error) => report(errors, error),
         },
-        Err(refusal) => show(alloc, &refusal, writer, errors),
+        Err(Refusal::Unshaped(error)) => report_shape(errors, error),
+        Err(Refusal::Usage(refusal)) => show(alloc, &refusal, writer, errors),
     }
 }
 
-/// A law: the command line that is the program's name alone is accepted, and so is the name with
-/// `--workers 1`.
-pub fn accepts_one_worker()
-    ensures name_alone { (name : List ℕ) → AreOptions (name ∷ []) }
-    ensures one_worker { (name : List ℕ) → AreOptions (name ∷ codes "--workers" ∷ codes "1" ∷ []) }
+/// A law: command lines that are accepted, and what they give. The program's name alone gives each
+/// option its own value, and each option may be given.
+pub fn knows_its_options()
+    ensures name_alone { (name : List ℕ) → AreOptions (name ∷ [])
+        × (settings_of (name ∷ []) ≡ record { shape = record { slots = 1024; buckets = 16; last_epoch = 8796093022207 }; workers = 1; budget = 100000; epoch = false }) }
+    ensures all_given { (name : List ℕ) → AreOptions (name ∷ codes "--workers" ∷ codes "4" ∷ codes "--slots" ∷ codes "512" ∷ codes "--buckets=8" ∷ codes "--last-epoch" ∷ codes "7" ∷ codes "--budget" ∷ codes "1000000" ∷ codes "--epoch" ∷ [])
+        × (settings_of (name ∷ codes "--workers" ∷ codes "4" ∷ codes "--slots" ∷ codes "512" ∷ codes "--buckets=8" ∷ codes "--last-epoch" ∷ codes "7" ∷ codes "--budget" ∷ codes "1000000" ∷ codes "--epoch" ∷ []) ≡ record { shape = record { slots = 512; buckets = 8; last_epoch = 7 }; workers = 4; budget = 1000000; epoch = true }) }
 {}
 
 // Shows what `clap` answers in place of the options: the help, or what is wrong with the words.

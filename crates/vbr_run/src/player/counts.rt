@@ -1,18 +1,60 @@
-// The totals of answered calls.
-ghost use Rattle.std.specs.Prelude.{◌≡◌, count_by};
-ghost use Rattle.vbr_run.specs.Runs.{is_yes_to};
+// The totals of a run.
+ghost use Rattle.std.specs.Prelude.{◌≡◌, zip, count_by};
+ghost use Rattle.vbr_run.specs.Runs.{is_yes_to, is_refused, is_yes, is_refusal, Counts};
 
-use vbr_core::{Call, Op};
+use super::{Reply, Totals};
+use crate::script::Line;
+use vbr_core::Op;
 
-// How many calls of an operation were answered yes.
-pub fn yes_count(calls: &[Call], op: Op) -> u64
-    ensures { result ≡ count_by (is_yes_to op) calls.now }
+// The totals of lines with their replies, and of a set that has these keys and this epoch in the end.
+pub fn totals_of(lines: &[Line], replies: &[Reply], keys: Vec<u64>, epoch: u64) -> Totals
+    ensures counts { Counts result (zip lines.now replies.now) }
+    ensures keys { result.keys.items ≡ keys.items }
+    ensures epoch { result.epoch ≡ epoch }
 {
-    calls.iter().filter(|call| is_yes_to(call, op)).count() as u64
+    Totals {
+        inserted: yes_count(lines, replies, Op::Insert),
+        removed: yes_count(lines, replies, Op::Remove),
+        found: yes_count(lines, replies, Op::Has),
+        refused: refused_count(lines, replies),
+        keys,
+        epoch,
+    }
 }
 
-fn is_yes_to(call: &Call, op: Op) -> bool
-    ensures { result ≡ is_yes_to op call.now }
+// How many lines with this operation were answered yes.
+fn yes_count(lines: &[Line], replies: &[Reply], op: Op) -> u64
+    ensures { result ≡ count_by (is_yes_to op) (zip lines.now replies.now) }
 {
-    call.reply && call.op == op
+    lines
+        .iter()
+        .zip(replies)
+        .filter(|(line, reply)| is_yes(**reply) && line.op == op)
+        .count() as u64
+}
+
+// How many lines were refused.
+fn refused_count(lines: &[Line], replies: &[Reply]) -> u64
+    ensures { result ≡ count_by is_refused (zip lines.now replies.now) }
+{
+    lines
+        .iter()
+        .zip(replies)
+        .filter(|(_line, reply)| is_refusal(**reply))
+        .count() as u64
+}
+
+fn is_yes(reply: Reply) -> bool
+    ensures { result ≡ is_yes reply }
+{
+    reply == Reply::Yes
+}
+
+fn is_refusal(reply: Reply) -> bool
+    ensures { result ≡ is_refusal reply }
+{
+    match reply {
+        Reply::Yes | Reply::No => false,
+        Reply::Full | Reply::Spent | Reply::Tired => true,
+    }
 }

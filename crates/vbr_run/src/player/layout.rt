@@ -1,18 +1,24 @@
 // The text of a run.
 ghost use Rattle.std.specs.Prelude.{◌≡◌, ◌++◌, OnOk, IfOk};
 ghost use Rattle.std.specs.List.{flat_map};
-ghost use Rattle.vbr_run.specs.Layout.{line, spaced, reply_text, replies_text, keys_text, totals_text, layout_of};
+ghost use Rattle.vbr_run.specs.Layout.{line, spaced, reply_text, replies_text, keys_text, totals_text, epoch_text, layout_of};
 
 use super::{Reply, Totals};
 use std::alloc::{AllocError, Global};
 
-/// The text of a run: a line for each reply, and then the totals.
-pub fn layout(alloc: Global, replies: &[Reply], totals: &Totals) -> Result<Vec<u8>, AllocError>
-    ensures { IfOk result (λ text. text.items ≡ layout_of replies.now totals.now) }
+// The text of a run: a line for each reply, then the totals, and the epoch if it is asked for.
+pub fn layout(
+    alloc: Global,
+    epoch: bool,
+    replies: &[Reply],
+    totals: &Totals,
+) -> Result<Vec<u8>, AllocError>
+    ensures { IfOk result (λ text. text.items ≡ layout_of epoch replies.now totals.now) }
 {
     let mut text = Vec::new(alloc);
     push_replies(&mut text, replies)?;
     push_totals(&mut text, totals)?;
+    push_epoch(&mut text, epoch, totals.epoch)?;
     Ok(text)
 }
 
@@ -31,6 +37,9 @@ fn reply_word(reply: Reply) -> &'static [u8]
     match reply {
         Reply::Yes => b"yes",
         Reply::No => b"no",
+        Reply::Full => b"full",
+        Reply::Spent => b"spent",
+        Reply::Tired => b"tired",
     }
 }
 
@@ -42,6 +51,16 @@ fn push_totals(text: &mut Vec<u8>, totals: &Totals) -> Result<(), AllocError>
     push_count(text, b"found", totals.found)?;
     push_count(text, b"refused", totals.refused)?;
     push_keys(text, &totals.keys)
+}
+
+// The line of the epoch, if it is asked for.
+fn push_epoch(text: &mut Vec<u8>, asked: bool, epoch: u64) -> Result<(), AllocError>
+    ensures { OnOk result (text.new.items ≡ text.old.items ++ epoch_text asked epoch) }
+{
+    if asked {
+        push_count(text, b"epoch", epoch)?;
+    }
+    Ok(())
 }
 
 // A line with a word and a number.

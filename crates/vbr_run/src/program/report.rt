@@ -1,14 +1,16 @@
 // The line on standard error, and the exit status, of a run that wasn't done.
 ghost use Rattle.std.specs.Prelude.{◌≡◌};
 ghost use Rattle.vbr_run.specs.Playing.{AppendsSome};
-ghost use Rattle.vbr_run.specs.Program.{error_status, error_line};
+ghost use Rattle.vbr_run.specs.Program.{error_status, error_line, shape_line, shape_fault_number};
+ghost use Rattle.vbr_run.specs.declared.program.TheConstants.{USAGE};
 ghost use Rattle.vbr_run.specs.declared.player.RunError.TheVariants.{Script};
 
-use super::{DEVICE_FAULT, NO_MEMORY, SCRIPT_FAULT};
+use super::{DEVICE_FAULT, NO_RESOURCES, SCRIPT_FAULT, USAGE};
 use crate::player::RunError;
 use crate::player::writing::write_pieces;
 use crate::script::ScriptFault;
 use std::io::Write;
+use vbr_words::ShapeError;
 
 // Tells an error in a line, and answers the exit status.
 pub fn report<E: Write>(errors: &mut E, error: RunError) -> u8
@@ -30,7 +32,11 @@ pub fn report<E: Write>(errors: &mut E, error: RunError) -> u8
         }
         RunError::Memory => {
             write_pieces(errors, &[b"vbr_run: no memory\n".as_slice()]);
-            NO_MEMORY
+            NO_RESOURCES
+        }
+        RunError::Worker => {
+            write_pieces(errors, &[b"vbr_run: no worker\n".as_slice()]);
+            NO_RESOURCES
         }
     }
 }
@@ -48,4 +54,30 @@ fn report_script<E: Write>(errors: &mut E, line: u64, kind: ScriptFault)
         b"\n".as_slice(),
     ];
     write_pieces(errors, &pieces);
+}
+
+// Tells what is wrong with a shape in a line, and answers the exit status.
+pub fn report_shape<E: Write>(errors: &mut E, error: ShapeError) -> u8
+    ensures status { result ≡ USAGE }
+    ensures told { AppendsSome (E.contents errors.old) (E.contents errors.new) (shape_line error) }
+{
+    let mut number = itoa::Buffer::new();
+    let pieces = [
+        b"vbr_run: shape fault ".as_slice(),
+        number.format(shape_fault_number(error)).as_bytes(),
+        b"\n".as_slice(),
+    ];
+    write_pieces(errors, &pieces);
+    USAGE
+}
+
+// The number of what is wrong with a shape: from 1, in the order of the tests.
+fn shape_fault_number(error: ShapeError) -> u8
+    ensures { result ≡ shape_fault_number error }
+{
+    match error {
+        ShapeError::Slots => 1,
+        ShapeError::Buckets => 2,
+        ShapeError::LastEpoch => 3,
+    }
 }

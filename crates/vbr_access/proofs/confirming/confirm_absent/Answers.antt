@@ -1,8 +1,9 @@
-use Rattle.std.proofs.Common.{subst}
+use Rattle.std.proofs.Common.{subst, refl}
 use Rattle.vbr_words.specs.Dimensions.{Dimensions}
 use Rattle.vbr_core.specs.Acceptance.{IsAtIn, IsInRange}
 use Rattle.vbr_core.specs.declared.event.Step.TheVariants.{ConfirmAbsent}
 use Rattle.vbr_slots.specs.Views.{knows}
+use Rattle.vbr_pools.proofs.Advancing.{did_none}
 use Rattle.vbr_access.proofs.Accepted.{place_in, absent_accepted}
 use Rattle.vbr_access.proofs.MadeCalls.{absent_made, absent_failed}
 use Rattle.vbr_access.proofs.SafeCalls.{made_safe}
@@ -29,3 +30,9 @@ returns-in-Err-clause-quiet c = absent_failed c.in-Err.ensures.step.0 c.in-Err.e
 
 pub returns-in-Ok-clause-right : goal.returns-in-Ok-clause-right
 returns-in-Ok-clause-right c = made_safe c.args.pass.now c.soundness.ensures (absent_made c.in-Ok.ensures.step)
+
+pub returns-in-Ok-clause-raises_none : goal.returns-in-Ok-clause-raises_none
+returns-in-Ok-clause-raises_none c = did_none c.in-Ok.ensures.step refl c.confirm_absent.ensures.pool
+
+pub returns-in-Err-clause-raises_none : goal.returns-in-Err-clause-raises_none
+returns-in-Err-clause-raises_none c = did_none c.in-Err.ensures.step.0 refl c.confirm_absent.ensures.pool

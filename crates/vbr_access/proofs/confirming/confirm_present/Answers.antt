@@ -1,8 +1,9 @@
-use Rattle.std.proofs.Common.{◌<◌, subst}
+use Rattle.std.proofs.Common.{◌<◌, subst, refl}
 use Rattle.vbr_words.specs.Dimensions.{Dimensions}
 use Rattle.vbr_words.specs.declared.place.At.{At}
 use Rattle.vbr_core.specs.Membership.{KeyAt}
 use Rattle.vbr_slots.specs.Views.{knows}
+use Rattle.vbr_pools.proofs.Advancing.{did_none}
 use Rattle.vbr_access.proofs.Accepted.{present_accepted}
 use Rattle.vbr_access.proofs.MadeCalls.{present_made, present_failed}
 use Rattle.vbr_access.proofs.SafeCalls.{made_safe}
@@ -28,3 +29,9 @@ pub returns-in-Ok-clause-right : goal.returns-in-Ok-clause-right
 returns-in-Ok-clause-right c =
     let P : At → Type 0 = λ at. KeyAt (knows c.args.pass.now.trace) at c.requires.key.0 in
     made_safe c.args.pass.now c.soundness.ensures (present_made c.soundness.ensures.shape c.soundness.ensures.is_run c.in-Ok.ensures.step c.requires.key.0 (subst P c.in-Slot.is c.requires.key.1))
+
+pub returns-in-Ok-clause-raises_none : goal.returns-in-Ok-clause-raises_none
+returns-in-Ok-clause-raises_none c = did_none c.in-Ok.ensures.step refl c.confirm_present.ensures.pool
+
+pub returns-in-Err-clause-raises_none : goal.returns-in-Err-clause-raises_none
+returns-in-Err-clause-raises_none c = did_none c.in-Err.ensures.step.0 refl c.confirm_present.ensures.pool

@@ -1,9 +1,10 @@
-use Rattle.std.proofs.Common.{◌<◌, ap, subst}
+use Rattle.std.proofs.Common.{◌<◌, ap, subst, refl}
 use Rattle.vbr_words.specs.Dimensions.{Dimensions}
 use Rattle.vbr_words.specs.declared.place.At.{At}
 use Rattle.vbr_words.specs.declared.link.Link.{Link}
 use Rattle.vbr_core.specs.Membership.{KeyAt, BirthAt}
 use Rattle.vbr_slots.specs.Views.{knows}
+use Rattle.vbr_pools.proofs.Advancing.{did_none}
 use Rattle.vbr_access.proofs.Accepted.{mark_accepted}
 use Rattle.vbr_access.proofs.Keeping.{held_kept}
 use Rattle.vbr_access.proofs.WonExchanges.{mark_keeps, mark_known}
@@ -43,3 +44,9 @@ pub returns-in-Ok-clause-right : goal.returns-in-Ok-clause-right
 returns-in-Ok-clause-right c =
     let P : At → Type 0 = λ at. KeyAt (knows c.args.pass.now.trace) at c.requires.key.0 in
     made_safe c.args.pass.now c.soundness.ensures (mark_made c.soundness.ensures.shape c.soundness.ensures.is_run c.in-Ok.ensures.step c.requires.key.0 (subst P c.in-Slot.is c.requires.key.1))
+
+pub returns-in-Ok-clause-raises_none : goal.returns-in-Ok-clause-raises_none
+returns-in-Ok-clause-raises_none c = did_none c.in-Ok.ensures.step refl c.mark.ensures.pool
+
+pub returns-in-Err-clause-raises_none : goal.returns-in-Err-clause-raises_none
+returns-in-Err-clause-raises_none c = did_none c.in-Err.ensures.step.0 refl c.mark.ensures.pool

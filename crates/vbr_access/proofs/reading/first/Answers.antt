@@ -1,5 +1,6 @@
-use Rattle.std.proofs.Common.{◌∙◌}
+use Rattle.std.proofs.Common.{◌∙◌, refl}
 use Rattle.vbr_slots.proofs.Calls.{quiet_on}
+use Rattle.vbr_pools.proofs.Advancing.{none_on, did_none}
 use Rattle.vbr_access.proofs.CheckedReads.{link_quiet, epoch_quiet, head_read, head_is_unmarked}
 use Rattle.vbr_access.proofs.SafeCalls.{quiet_safe}
 use Rattle.vbr_access.proofs.reading.first.Goals as goal
@@ -18,3 +19,9 @@ returns-clause-unmarked c = head_is_unmarked c.load_link-word.ensures.step c.rea
 
 pub returns-clause-right : goal.returns-clause-right
 returns-clause-right c = quiet_safe c.args.pass.now c.soundness.ensures (quiet_on (link_quiet c.load_link-word.ensures.step) (epoch_quiet c.read_epoch-now.ensures.step))
+
+pub returns-then-now-point-clause-raises_none : goal.returns-then-now-point-clause-raises_none
+returns-then-now-point-clause-raises_none c = none_on (did_none c.load_link-word.ensures.step refl c.load_link-word.ensures.pool) (did_none c.read_epoch-now.ensures.step refl c.read_epoch-now.ensures.pool)
+
+pub returns-clause-raises_none : goal.returns-clause-raises_none
+returns-clause-raises_none c = none_on (did_none c.load_link-word.ensures.step refl c.load_link-word.ensures.pool) (did_none c.read_epoch-now.ensures.step refl c.read_epoch-now.ensures.pool)

@@ -1,10 +1,11 @@
-use Rattle.std.proofs.Common.{sym, ◌∙◌, subst, ◌<◌}
+use Rattle.std.proofs.Common.{sym, ◌∙◌, subst, ◌<◌, refl}
 use Rattle.vbr_words.specs.declared.place.At.{At}
 use Rattle.vbr_words.specs.Dimensions.{Dimensions}
 use Rattle.vbr_core.specs.Acceptance.{IsAtIn}
 use Rattle.vbr_core.specs.Membership.{HeldIn, KeyAt, IsHeldPlace}
 use Rattle.vbr_slots.specs.Views.{knows}
 use Rattle.vbr_slots.proofs.Calls.{quiet_on}
+use Rattle.vbr_pools.proofs.Advancing.{none_on, did_none}
 use Rattle.vbr_access.proofs.Accepted.{place_in, place_held, slot_found}
 use Rattle.vbr_access.proofs.CheckedReads.{key_quiet, epoch_quiet, key_keeps, key_read, key_of_bucket}
 use Rattle.vbr_access.proofs.SafeCalls.{quiet_safe}
@@ -42,3 +43,9 @@ returns-clause-bucket c = λ b h.
 
 pub returns-clause-right : goal.returns-clause-right
 returns-clause-right c = quiet_safe c.args.pass.now c.soundness.ensures (quiet_on (key_quiet c.load_key-key.ensures.step) (epoch_quiet c.read_epoch-now.ensures.step))
+
+pub returns-then-now-node-clause-raises_none : goal.returns-then-now-node-clause-raises_none
+returns-then-now-node-clause-raises_none c = none_on (did_none c.load_key-key.ensures.step refl c.load_key-key.ensures.pool) (did_none c.read_epoch-now.ensures.step refl c.read_epoch-now.ensures.pool)
+
+pub returns-clause-raises_none : goal.returns-clause-raises_none
+returns-clause-raises_none c = none_on (did_none c.load_key-key.ensures.step refl c.load_key-key.ensures.pool) (did_none c.read_epoch-now.ensures.step refl c.read_epoch-now.ensures.pool)

@@ -6,6 +6,7 @@ use Rattle.vbr_core.specs.Knowledge.{holds}
 use Rattle.vbr_core.specs.declared.knowledge.Read.{Read}
 use Rattle.std.proofs.Common.{List}
 use Rattle.vbr_slots.proofs.Calls.{quiet_on}
+use Rattle.vbr_pools.proofs.Advancing.{none_on, did_none}
 use Rattle.vbr_access.proofs.Accepted.{named_slot, slot_in, slot_found}
 use Rattle.vbr_access.proofs.ReadSteps.{birth_loaded_checked}
 use Rattle.vbr_access.proofs.CheckedReads.{link_quiet, birth_quiet, epoch_quiet, node_keeps, node_read}
@@ -49,3 +50,9 @@ returns-clause-right c = quiet_safe c.args.pass.now c.soundness.ensures (quiet_o
 
 pub returns-in_default-clause-right : goal.returns-in_default-clause-right
 returns-in_default-clause-right c = safe_now c.args.pass.now c.soundness.ensures
+
+pub returns-then-now-held-clause-raises_none : goal.returns-then-now-held-clause-raises_none
+returns-then-now-held-clause-raises_none c = none_on (did_none c.load_birth-birth.ensures.step refl c.load_birth-birth.ensures.pool) (none_on (did_none c.load_link-word.ensures.step refl c.load_link-word.ensures.pool) (did_none c.read_epoch-now.ensures.step refl c.read_epoch-now.ensures.pool))
+
+pub returns-clause-raises_none : goal.returns-clause-raises_none
+returns-clause-raises_none c = none_on (did_none c.load_birth-birth.ensures.step refl c.load_birth-birth.ensures.pool) (none_on (did_none c.load_link-word.ensures.step refl c.load_link-word.ensures.pool) (did_none c.read_epoch-now.ensures.step refl c.read_epoch-now.ensures.pool))

@@ -1,9 +1,10 @@
-use Rattle.std.proofs.Common.{ℕ, ◌<◌, sym, ap, ◌∙◌, subst, Option}
+use Rattle.std.proofs.Common.{ℕ, ◌<◌, sym, ap, ◌∙◌, subst, Option, refl}
 use Rattle.vbr_words.specs.Dimensions.{Dimensions}
 use Rattle.vbr_words.specs.declared.link.Link.{Link}
 use Rattle.vbr_core.specs.Membership.{BirthNamed}
 use Rattle.vbr_slots.specs.Views.{knows}
 use Rattle.vbr_slots.proofs.Calls.{quiet_on}
+use Rattle.vbr_pools.proofs.Advancing.{none_on, did_none}
 use Rattle.vbr_access.specs.Held.{held_of}
 use Rattle.vbr_access.proofs.Accepted.{named_slot, slot_in, slot_found}
 use Rattle.vbr_access.proofs.CheckedReads.{birth_quiet, epoch_quiet, birth_keeps, birth_read}
@@ -30,3 +31,9 @@ pub returns-clause-birth : goal.returns-clause-birth
 returns-clause-birth c =
     let P : Option ℕ → Type 0 = λ o. BirthNamed (knows c.read_epoch-now.new.pass.trace) o c.load_birth-birth.result in
     subst P (sym (ap (λ (l : Link). l.slot) (sym c.decode.ensures.link) ∙ c.in-Some.is)) (birth_read c.load_birth-birth.ensures.step c.read_epoch-now.ensures.step (c.if-now-marked.false ∙ c.requires.marked.held.epoch))
+
+pub returns-then-now-marked-clause-raises_none : goal.returns-then-now-marked-clause-raises_none
+returns-then-now-marked-clause-raises_none c = none_on (did_none c.load_birth-birth.ensures.step refl c.load_birth-birth.ensures.pool) (did_none c.read_epoch-now.ensures.step refl c.read_epoch-now.ensures.pool)
+
+pub returns-clause-raises_none : goal.returns-clause-raises_none
+returns-clause-raises_none c = none_on (did_none c.load_birth-birth.ensures.step refl c.load_birth-birth.ensures.pool) (did_none c.read_epoch-now.ensures.step refl c.read_epoch-now.ensures.pool)

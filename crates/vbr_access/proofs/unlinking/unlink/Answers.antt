@@ -1,7 +1,8 @@
-use Rattle.std.proofs.Common.{◌<◌, sym, ap, ◌∙◌, subst}
+use Rattle.std.proofs.Common.{◌<◌, sym, ap, ◌∙◌, subst, refl}
 use Rattle.vbr_words.specs.Dimensions.{Dimensions}
 use Rattle.vbr_words.specs.Words.{word_of}
 use Rattle.vbr_core.specs.Acceptance.{IsAtIn}
+use Rattle.vbr_pools.proofs.Advancing.{none_on, did_none}
 use Rattle.vbr_access.proofs.Keeping.{keeps_on, held_kept, marked_kept}
 use Rattle.vbr_access.proofs.Unlinks.{unlink_quiet, accepted, written, written_fits, new_read, read_after}
 use Rattle.vbr_access.proofs.WonExchanges.{unlink_keeps}
@@ -54,3 +55,9 @@ returns-in-Err-clause-quiet c = quiet_on c.birth_behind.ensures.quiet (unlink_qu
 
 pub returns-in-Ok-clause-right : goal.returns-in-Ok-clause-right
 returns-in-Ok-clause-right c = quiet_safe c.birth_behind.new.pass c.soundness.ensures (unlink_quiet c.in-Ok.ensures.step)
+
+pub returns-in-Ok-clause-raises_none : goal.returns-in-Ok-clause-raises_none
+returns-in-Ok-clause-raises_none c = none_on c.birth_behind.ensures.raises_none (did_none c.in-Ok.ensures.step refl c.unlink.ensures.pool)
+
+pub returns-in-Err-clause-raises_none : goal.returns-in-Err-clause-raises_none
+returns-in-Err-clause-raises_none c = none_on c.birth_behind.ensures.raises_none (did_none c.in-Err.ensures.step.0 refl c.unlink.ensures.pool)

@@ -1,4 +1,4 @@
-use Rattle.std.proofs.Common.{◌≡◌, ℕ, ◌<◌, Option, sym, ap, ◌∙◌, subst}
+use Rattle.std.proofs.Common.{◌≡◌, ℕ, ◌<◌, Option, sym, ap, ◌∙◌, subst, refl}
 use Rattle.vbr_words.specs.Dimensions.{Dimensions}
 use Rattle.vbr_words.specs.Words.{link_of, word_of}
 use Rattle.vbr_words.specs.declared.link.Link.{Link}
@@ -6,6 +6,7 @@ use Rattle.vbr_core.specs.Acceptance.{IsNextIn, IsNextHeld}
 use Rattle.vbr_core.specs.Links.{link_to}
 use Rattle.vbr_slots.specs.Views.{knows}
 use Rattle.vbr_slots.proofs.Calls.{quiet_on}
+use Rattle.vbr_pools.proofs.Advancing.{same_advances}
 use Rattle.vbr_access.specs.Held.{IsFilled}
 use Rattle.vbr_access.proofs.Keeping.{held_kept, birth_named_kept}
 use Rattle.vbr_access.proofs.WrittenLinks.{fits, birth_in_hand_low, birth_named_low}
@@ -75,3 +76,6 @@ returns-clause-filled c =
     (link_of c.link_to-link.result).slot (ap (λ (l : Link). l.slot) (c.link_to-link.ensures.link) ∙ ap (λ (l : Link). l.slot) c.decode.ensures.link) in
     let P : ℕ → Type 0 = λ s. IsFilled ((knows c.store_link.new.pass.trace).own s) c.args.hand.now.birth c.args.key (link_to (link_of c.args.pred.now.word).slot c.args.hand.now.birth c.args.birth) in
     subst P c.slot-slot.ensures (filled key c.store_link.ensures.step at.1 at.2 written)
+
+pub returns-clause-advances : goal.returns-clause-advances
+returns-clause-advances c = same_advances c.store_link.ensures.step refl ∙ same_advances c.store_key.ensures.step refl

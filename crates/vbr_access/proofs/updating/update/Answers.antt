@@ -1,4 +1,4 @@
-use Rattle.std.proofs.Common.{ℕ, Some, true, arith, sym, ap, ◌∙◌, subst}
+use Rattle.std.proofs.Common.{ℕ, Some, true, arith, sym, ap, ◌∙◌, subst, refl}
 use Rattle.vbr_words.specs.Dimensions.{Dimensions}
 use Rattle.vbr_words.specs.Words.{link_of, word_of}
 use Rattle.vbr_core.specs.Acceptance.{IsAtIn, IsInRange}
@@ -9,6 +9,7 @@ use Rattle.vbr_core.specs.declared.history.Op.TheVariants.{Insert}
 use Rattle.vbr_slots.specs.Calls.{Made}
 use Rattle.vbr_slots.specs.Views.{knows}
 use Rattle.vbr_slots.proofs.Calls.{quiet_on, made_on}
+use Rattle.vbr_pools.proofs.Advancing.{same_advances}
 use Rattle.vbr_access.specs.Held.{IsFilled}
 use Rattle.vbr_access.proofs.Keeping.{keeps_on, held_kept, birth_named_kept, behind_kept, before_kept}
 use Rattle.vbr_access.proofs.WrittenLinks.{fits, birth_in_hand_low, birth_at_low}
@@ -93,3 +94,9 @@ returns-in-Ok-clause-right c =
     let p = c.fill.new.pass in
     let Q : ℕ → Type 0 = λ s. IsFilled ((knows p.trace).own s) c.args.hand.birth c.args.key (link_to (link_of c.args.pred.now.word).slot c.args.hand.birth c.birth_named-birth.result) in
     made_safe p c.soundness.ensures (publish_made p c.soundness.ensures c.args.pred.now c.slot-slot.result c.args.key c.args.hand.birth c.birth_named-birth.result (held_kept c.args.pred.now c.fill.ensures.keeps c.requires.pred) (subst Q (sym c.slot-slot.ensures) c.fill.ensures.filled) c.in-Ok.ensures.step)
+
+pub returns-in-Ok-clause-advances : goal.returns-in-Ok-clause-advances
+returns-in-Ok-clause-advances c = same_advances c.in-Ok.ensures.step refl ∙ c.fill.ensures.advances
+
+pub returns-in-Err-clause-advances : goal.returns-in-Err-clause-advances
+returns-in-Err-clause-advances c = same_advances c.in-Err.ensures.step.0 refl ∙ c.fill.ensures.advances

@@ -1,9 +1,10 @@
 use Rattle.std.proofs.Common.{sym, ◌∙◌}
 use Rattle.vbr_core.specs.declared.history.Op.TheVariants.{Insert}
 use Rattle.vbr_slots.proofs.Calls.{same_on}
+use Rattle.vbr_pools.proofs.Advancing.{needed_before}
 use Rattle.vbr_list.proofs.Going.{bucket_is}
 use Rattle.vbr_list.proofs.LonePasses.{alone, each_alone}
-use Rattle.vbr_list.proofs.Preparing.{each_same, each_since, within_after, within_all, within_second}
+use Rattle.vbr_list.proofs.Preparing.{each_same, each_seen, each_since, within_after, within_all, within_second}
 use Rattle.vbr_list.proofs.inserting.insert.Goals as goal
 
 pub prepare-requires-clause-bucket : goal.prepare-requires-clause-bucket
@@ -31,3 +32,8 @@ pub returns-in-Some-clause-same : goal.returns-in-Some-clause-same
 returns-in-Some-clause-same c =
     let x = rw c.in-Some.is at c.in_ok-prepare.ensures.prepared in
     same_on x.0.same (each_same c.prepare.new.pass.trace c.link.new.pass.trace Insert c.args.key c.link.result c.link.ensures.made c.link.ensures.quiet)
+
+pub returns-in-Some-clause-advances : goal.returns-in-Some-clause-advances
+returns-in-Some-clause-advances c =
+    let more = each_seen c.prepare.new.pass.trace c.link.new.pass.trace Insert c.args.key c.link.result c.link.ensures.made c.link.ensures.quiet in
+    needed_before {p = c.args.pass.now} {q = c.prepare.new.pass} {r = c.link.new.pass} c.prepare.ensures.advances more.0 more.1 c.link.ensures.advances

@@ -1,5 +1,7 @@
-use Rattle.std.proofs.Common.{arith}
+use Rattle.std.proofs.Common.{ap, ◌∙◌, arith}
+use Rattle.vbr_slots.specs.Views.{Trace}
 use Rattle.vbr_slots.proofs.Calls.{quiet_on}
+use Rattle.vbr_pools.specs.Advances.{advances}
 use Rattle.vbr_pools.proofs.Counting.{no_room}
 use Rattle.vbr_list.proofs.Preparing.{within_on, within_same}
 use Rattle.vbr_list.proofs.inserting.link.Goals as goal
@@ -22,9 +24,18 @@ returns-in-Ok-clause-counts c =
     let used = c.settle.ensures.used in
     within_on (within_on c.loop-found.invariant.1 s.goes.counts s.within.0 s.within.1) c.settle.ensures.counts (omega arith) (omega arith)
 
+pub returns-in_default-clause-advances : goal.returns-in_default-clause-advances
+returns-in_default-clause-advances c = ap (λ (t : Trace). advances t) c.give_back.ensures.trace ∙ c.search.ensures.goes.hand.raises_none.count ∙ c.loop-found.invariant.2
+
+pub returns-then-not-affords-clause-advances : goal.returns-then-not-affords-clause-advances
+returns-then-not-affords-clause-advances c = ap (λ (t : Trace). advances t) c.give_back-then-not-affords.ensures.trace ∙ c.search.ensures.goes.hand.raises_none.count ∙ c.loop-found.invariant.2
+
+pub returns-in-Ok-clause-advances : goal.returns-in-Ok-clause-advances
+returns-in-Ok-clause-advances c = c.settle.ensures.advances ∙ c.search.ensures.goes.hand.raises_none.count ∙ c.loop-found.invariant.2
+
 pub loop-found-preserved : goal.loop-found-preserved
 loop-found-preserved c =
     let s = c.search.ensures in
     let fits = c.if-not-affords.ensures in
     let used = c.settle.ensures.used in
-    (quiet_on c.loop-found.invariant.0 (quiet_on s.goes.quiet c.in-Err.ensures.quiet), within_on (within_on c.loop-found.invariant.1 s.goes.counts s.within.0 s.within.1) c.settle.ensures.counts (omega arith) (omega arith), c.in-Err.ensures.hand)
+    (quiet_on c.loop-found.invariant.0 (quiet_on s.goes.quiet c.in-Err.ensures.quiet), within_on (within_on c.loop-found.invariant.1 s.goes.counts s.within.0 s.within.1) c.settle.ensures.counts (omega arith) (omega arith), c.settle.ensures.advances ∙ s.goes.hand.raises_none.count ∙ c.loop-found.invariant.2, c.in-Err.ensures.hand)

@@ -2,8 +2,9 @@ use Rattle.std.proofs.Common.{Bool, sym, ◌∙◌, subst, arith}
 use Rattle.std.proofs.lemmas.Result.{err_from_is_err_and}
 use Rattle.vbr_slots.proofs.Calls.{quiet_on}
 use Rattle.vbr_access.specs.Moments.{WasSo}
-use Rattle.vbr_list.proofs.Going.{counts_step, goes_step, tries_on}
+use Rattle.vbr_list.proofs.Going.{counts_step, goes_on, goes_step, tries_on}
 use Rattle.vbr_list.proofs.Moments.{found_since, was_so}
+use Rattle.vbr_pools.proofs.Advancing.{needed_after}
 use Rattle.vbr_pools.proofs.Counting.{no_room}
 use Rattle.vbr_list.proofs.Preparing.{if_err, if_ok, made_since, refuses_after, within_after, within_on, within_tries}
 use Rattle.vbr_list.proofs.inserting.prepare.Goals as goal
@@ -61,4 +62,10 @@ loop-found-preserved c =
     let fits = c.if-not-affords.ensures in
     let found = tries_on c.loop-found.invariant c.search.ensures.goes c.search.ensures.within.0 c.search.ensures.within.1 in
     let quiet = if_err c.deny-denied.result (sym c.is_ok.ensures.value ∙ c.if-is_ok.false) c.deny-denied.ensures.quiet in
-    tries_on found (goes_step c.search.new.used 1 quiet c.deny-denied.ensures.took c.deny-denied.ensures.own) (omega arith) (omega arith)
+    tries_on found (goes_step c.search.new.used 1 quiet c.deny-denied.ensures.took c.deny-denied.ensures.own c.deny-denied.ensures.raises_none) (omega arith) (omega arith)
+
+pub returns-in_err-hand-clause-advances : goal.returns-in_err-hand-clause-advances
+returns-in_err-hand-clause-advances c = let begun = goes_on c.loop-found.invariant.goes c.search.ensures.goes in needed_after {p = c.args.pass.now} {q = c.search.new.pass} {r = c.provide.new.pass} begun.quiet begun.hand.raises_none c.provide.ensures.advances
+
+pub returns-then-not-found-clause-advances : goal.returns-then-not-found-clause-advances
+returns-then-not-found-clause-advances c = let begun = goes_on c.loop-found.invariant.goes c.search.ensures.goes in needed_after {p = c.args.pass.now} {q = c.search.new.pass} {r = c.provide.new.pass} begun.quiet begun.hand.raises_none c.provide.ensures.advances

@@ -27,7 +27,7 @@ pub loop-found-preserved : goal.loop-found-preserved
 loop-found-preserved c =
     let fits = c.if-not-affords.ensures in
     let found = tries_on c.loop-found.invariant c.search.ensures.goes c.search.ensures.within.0 c.search.ensures.within.1 in
-    tries_on found (goes_step c.search.new.used 1 c.in_default-reply.ensures.quiet c.answer-reply.ensures.took c.answer-reply.ensures.own) (omega arith) (omega arith)
+    tries_on found (goes_step c.search.new.used 1 c.in_default-reply.ensures.quiet c.answer-reply.ensures.took c.answer-reply.ensures.own c.answer-reply.ensures.raises_none) (omega arith) (omega arith)
 
 pub returns-in-Ok-clause-alone : goal.returns-in-Ok-clause-alone
 returns-in-Ok-clause-alone c = alone c.soundness.ensures.sound.shape c.soundness.ensures.low (made_since (quiet_on c.loop-found.invariant.goes.quiet c.search.ensures.goes.quiet) c.in-Ok.ensures.made)

@@ -16,11 +16,11 @@ returns-then-now-place-clause-goes c =
     let o = rw c.in_ok-unlinked.was at c.unlink-outcome.ensures.owned in
     let P : ℕ → Type 0 = λ s. IsUnlinked ((knows q.trace).own s) in
     let n = c.steps_of.ensures.is ∙ ap (λ (l : Link). unlink_steps l.slot c.unlink-outcome.result) c.decode-next.ensures.link in
-    let one = goes_step c.args.used.now c.steps_of.result c.unlink-outcome.ensures.quiet (took_same c.steps_of.result _ n c.unlink-outcome.ensures.took) c.unlink-outcome.ensures.own in
+    let one = goes_step c.args.used.now c.steps_of.result c.unlink-outcome.ensures.quiet (took_same c.steps_of.result _ n c.unlink-outcome.ensures.took) c.unlink-outcome.ensures.own c.unlink-outcome.ensures.raises_none in
     goes_on one (record {
       quiet = c.retire.ensures.quiet;
       counts = counts_step (c.args.used.now + c.steps_of.result) c.retire.result c.retire.ensures.steps;
-      hand = retired_hand c.in_ok-unlinked.unlinked.slot c.soundness-2.ensures.sound.own (subst P (sym e) o) c.retire.ensures.known c.retire.ensures.pool c.retire.ensures.hand;
+      hand = retired_hand c.in_ok-unlinked.unlinked.slot c.soundness-2.ensures.sound.own (subst P (sym e) o) c.retire.ensures.known c.retire.ensures.pool c.retire.ensures.hand c.retire.ensures.raises_none;
     })
 
 pub returns-clause-goes : goal.returns-clause-goes
@@ -30,11 +30,11 @@ returns-clause-goes c =
     let o = rw c.in_ok-unlinked.was at c.unlink-outcome.ensures.owned in
     let P : ℕ → Type 0 = λ s. IsUnlinked ((knows q.trace).own s) in
     let n = c.steps_of.ensures.is ∙ ap (λ (l : Link). unlink_steps l.slot c.unlink-outcome.result) c.decode-next.ensures.link in
-    let one = goes_step c.args.used.now c.steps_of.result c.unlink-outcome.ensures.quiet (took_same c.steps_of.result _ n c.unlink-outcome.ensures.took) c.unlink-outcome.ensures.own in
+    let one = goes_step c.args.used.now c.steps_of.result c.unlink-outcome.ensures.quiet (took_same c.steps_of.result _ n c.unlink-outcome.ensures.took) c.unlink-outcome.ensures.own c.unlink-outcome.ensures.raises_none in
     goes_on one (record {
       quiet = c.retire.ensures.quiet;
       counts = counts_step (c.args.used.now + c.steps_of.result) c.retire.result c.retire.ensures.steps;
-      hand = retired_hand c.in_ok-unlinked.unlinked.slot c.soundness-2.ensures.sound.own (subst P (sym e) o) c.retire.ensures.known c.retire.ensures.pool c.retire.ensures.hand;
+      hand = retired_hand c.in_ok-unlinked.unlinked.slot c.soundness-2.ensures.sound.own (subst P (sym e) o) c.retire.ensures.known c.retire.ensures.pool c.retire.ensures.hand c.retire.ensures.raises_none;
     })
 
 pub returns-clause-pred : goal.returns-clause-pred

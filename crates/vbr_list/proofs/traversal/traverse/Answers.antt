@@ -23,16 +23,16 @@ pub loop-pred-preserved : goal.loop-pred-preserved
 loop-pred-preserved c =
     let met = rw c.in-Ok-Smaller.field-0-is at c.in-Ok-Smaller.ensures.met in
     let x = c.visit.ensures.used in
-    let y = c.if-not-affords-2.ensures in
-    traverses_on c.loop-pred.invariant c.visit.ensures.goes (omega arith) (omega arith) met
+    let y = c.affords-in-loop-pred.ensures.0 c.if-not-affords-2.false in
+    traverses_on c.loop-pred.invariant c.visit.ensures.goes (omega (arith, x)) (omega (arith, x, y)) met
 
 pub loop-pred-preserved-in-Ok-help : goal.loop-pred-preserved-in-Ok-help
 loop-pred-preserved-in-Ok-help c =
     let s = c.in-Ok-help.ensures.pred in
     let x = c.visit.ensures.used in
     let y = c.help.ensures.used in
-    let z = c.if-not-affords-3.ensures in
-    traverses_on c.loop-pred.invariant (goes_on c.visit.ensures.goes c.help.ensures.goes) (omega arith) (omega arith) (record { is = s.is; stood = stood_since c.visit.ensures.goes.quiet s.stood })
+    let z = c.affords-in-Ok-Marked.ensures.0 c.if-not-affords-3.false in
+    traverses_on c.loop-pred.invariant (goes_on c.visit.ensures.goes c.help.ensures.goes) (omega (arith, x, y)) (omega (arith, y, z)) (record { is = s.is; stood = stood_since c.visit.ensures.goes.quiet s.stood })
 
 pub returns-in-Ok-Beyond-clause-found : goal.returns-in-Ok-Beyond-clause-found
 returns-in-Ok-Beyond-clause-found c =

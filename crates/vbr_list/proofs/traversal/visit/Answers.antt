@@ -14,17 +14,17 @@ steps_some (Some s) h = refl
 pub returns-in_err-here-clause-goes : goal.returns-in_err-here-clause-goes
 returns-in_err-here-clause-goes c =
     let three = took_same 3 (next_steps (link_of c.args.pred.now.word).slot) (steps_some (link_of c.args.pred.now.word).slot c.requires.some) c.next-node.ensures.took in
-    goes_on (goes_step c.args.used.now 3 c.next-node.ensures.quiet three c.next-node.ensures.own) (goes_step (c.args.used.now + 3) 2 c.key_of-read.ensures.quiet c.key_of-read.ensures.took c.key_of-read.ensures.own)
+    goes_on (goes_step c.args.used.now 3 c.next-node.ensures.quiet three c.next-node.ensures.own c.next-node.ensures.raises_none) (goes_step (c.args.used.now + 3) 2 c.key_of-read.ensures.quiet c.key_of-read.ensures.took c.key_of-read.ensures.own c.key_of-read.ensures.raises_none)
 
 pub returns-then-here-key-clause-goes : goal.returns-then-here-key-clause-goes
 returns-then-here-key-clause-goes c =
     let three = took_same 3 (next_steps (link_of c.args.pred.now.word).slot) (steps_some (link_of c.args.pred.now.word).slot c.requires.some) c.next-node.ensures.took in
-    goes_on (goes_step c.args.used.now 3 c.next-node.ensures.quiet three c.next-node.ensures.own) (goes_step (c.args.used.now + 3) 2 c.key_of-read.ensures.quiet c.key_of-read.ensures.took c.key_of-read.ensures.own)
+    goes_on (goes_step c.args.used.now 3 c.next-node.ensures.quiet three c.next-node.ensures.own c.next-node.ensures.raises_none) (goes_step (c.args.used.now + 3) 2 c.key_of-read.ensures.quiet c.key_of-read.ensures.took c.key_of-read.ensures.own c.key_of-read.ensures.raises_none)
 
 pub returns-else-here-key-clause-goes : goal.returns-else-here-key-clause-goes
 returns-else-here-key-clause-goes c =
     let three = took_same 3 (next_steps (link_of c.args.pred.now.word).slot) (steps_some (link_of c.args.pred.now.word).slot c.requires.some) c.next-node.ensures.took in
-    goes_on (goes_step c.args.used.now 3 c.next-node.ensures.quiet three c.next-node.ensures.own) (goes_step (c.args.used.now + 3) 2 c.key_of-read.ensures.quiet c.key_of-read.ensures.took c.key_of-read.ensures.own)
+    goes_on (goes_step c.args.used.now 3 c.next-node.ensures.quiet three c.next-node.ensures.own c.next-node.ensures.raises_none) (goes_step (c.args.used.now + 3) 2 c.key_of-read.ensures.quiet c.key_of-read.ensures.took c.key_of-read.ensures.own c.key_of-read.ensures.raises_none)
 
 pub returns-then-here-key-clause-keeps : goal.returns-then-here-key-clause-keeps
 returns-then-here-key-clause-keeps c = keeps_on c.in_ok-node.ensures.keeps c.in_ok-here.ensures.keeps

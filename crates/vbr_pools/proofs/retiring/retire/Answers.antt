@@ -6,7 +6,7 @@ use Rattle.vbr_slots.specs.Views.{Trace, knows}
 use Rattle.vbr_slots.proofs.Calls.{quiet_on, did_quiet}
 use Rattle.vbr_pools.specs.Retiring.{Stamps}
 use Rattle.vbr_pools.proofs.Moments.{epoch_told}
-use Rattle.vbr_pools.proofs.Retirement.{retired_quiet, stamped, stamped_before, unlinked_outside, pool_left}
+use Rattle.vbr_pools.proofs.Retirement.{retired_quiet, stamped, stamped_before, kept_none, raised_none, unlinked_outside, pool_left}
 use Rattle.vbr_pools.proofs.PoolLists.{without_other}
 use Rattle.vbr_pools.proofs.retiring.retire.Goals as goal
 
@@ -25,6 +25,16 @@ returns-else-kept-clause-stamped c =
     let told : (knows c.raise.new.pass.trace).epoch ≡ (knows c.store_stamp.new.pass.trace).epoch = epoch_told c.raise.ensures.step in
     subst (λ (x : ℕ × ℕ). Stamps c.args.pass.now.trace c.raise.new.pass.trace x.0 x.1) (λ i. (c.into_slot-slot.ensures i, sym told i))
     (stamped_before (stamped c.read_epoch.ensures.step c.store_stamp.ensures.step) (did_quiet c.raise.ensures.step (λ know. refl)))
+
+pub returns-then-kept-clause-raises_none : goal.returns-then-kept-clause-raises_none
+returns-then-kept-clause-raises_none c = kept_none c.read_epoch.ensures.step c.store_stamp.ensures.step c.read_epoch.ensures.pool c.store_stamp.ensures.pool c.keep.ensures.trace c.keep.ensures.pool c.keep.ensures.hand
+
+pub returns-else-kept-clause-raises_none : goal.returns-else-kept-clause-raises_none
+returns-else-kept-clause-raises_none c =
+    let slot : ℕ = c.into_slot-slot.result in
+    let pool : List ℕ = c.args.pass.now.pool in
+    let out : ¬ (Contains pool slot) = subst (λ (s : ℕ). ¬ (Contains pool s)) (sym c.into_slot-slot.ensures) (unlinked_outside _ _ _ pool _ c.pool.ensures.own c.requires.unlinked) in
+    raised_none c.read_epoch.ensures.step c.store_stamp.ensures.step c.read_epoch.ensures.pool c.store_stamp.ensures.pool c.raise.ensures.step (c.raise.ensures.pool ∙ ap (without slot) (c.store_stamp.ensures.pool.0 ∙ c.read_epoch.ensures.pool.0) ∙ without_other slot pool out) c.raise.ensures.hand
 
 pub returns-else-kept-clause-pool : goal.returns-else-kept-clause-pool
 returns-else-kept-clause-pool c =

@@ -101,4 +101,4 @@ returns-clause-advances c =
     let is : IsShape c.scan.new.pass.trace.shape = subst IsShape shapes c.last_epoch.ensures.shape in
     let some : c.scan.new.pass.pool ≢ [] = λ none. c.requires.some (sym (c.scan.ensures.pool.0 ∙ c.read_epoch-epoch.ensures.pool.0) ∙ none) in
     let raise = tried c.advance.result c.advance.ensures.step in
-    inr (raised_once c.args.pass.now c.read_epoch-epoch.new.pass c.scan.new.pass c.read_epoch-epoch.result c.args.budget c.args.used c.read_epoch-epoch.ensures.step (c.affords.ensures.0 c.if-not-affords.false) c.scan.ensures.quiet c.scan.ensures.known c.in_ok-found.found c.in_ok-found.used c.in_ok-found.ensures.ok (none_left c.in_ok-found.found c.in_default.not-Some) c.scan.ensures.own is c.advance.new.pass c.read_epoch.new.pass raise.0 c.read_epoch.result raise.1 c.read_epoch.ensures.step c.advance.ensures.pool c.read_epoch.ensures.pool (c.scan.ensures.pool.1 ∙ c.read_epoch-epoch.ensures.pool.1 ∙ c.requires.empty_hand) c.scan.ensures.advances)
+    inr (raised_once c.args.pass.now c.read_epoch-epoch.new.pass c.scan.new.pass c.read_epoch-epoch.result c.args.budget c.args.used c.read_epoch-epoch.ensures.step (c.affords.ensures.0 c.if-not-affords.false) c.scan.ensures.quiet c.scan.ensures.known c.in_ok-found.found c.in_ok-found.used c.in_ok-found.ensures.ok (none_left c.in_ok-found.found c.in_default.not-Some) c.scan.ensures.own is c.advance.new.pass c.read_epoch.new.pass raise.0 c.read_epoch.result raise.1 c.read_epoch.ensures.step c.advance.ensures.pool c.read_epoch.ensures.pool (c.scan.ensures.pool.1 ∙ c.read_epoch-epoch.ensures.pool.1 ∙ c.requires.empty_hand) c.read_epoch-epoch.ensures.pool c.scan.ensures.pool c.scan.ensures.advances)

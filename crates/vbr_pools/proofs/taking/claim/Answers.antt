@@ -1,18 +1,15 @@
-use Rattle.std.proofs.Common.{refl, sym, ap, ◌∙◌, subst}
+use Rattle.std.proofs.Common.{refl, sym, ◌∙◌, subst}
 use Rattle.vbr_slots.specs.Calls.{Quiet}
-use Rattle.vbr_slots.specs.Views.{Trace}
 use Rattle.vbr_slots.proofs.Calls.{quiet_on, did_quiet}
-use Rattle.vbr_pools.specs.Advances.{advances}
-use Rattle.vbr_pools.proofs.Advancing.{same_advances}
-use Rattle.vbr_pools.proofs.Claiming.{claim_next, claim_won, none_in}
+use Rattle.vbr_pools.proofs.Claiming.{claim_next, claim_none, claim_won, none_in}
 use Rattle.vbr_pools.proofs.taking.claim.Goals as goal
 
 pub returns-then-take_flag-clause-quiet : goal.returns-then-take_flag-clause-quiet
 returns-then-take_flag-clause-quiet c =
     subst (Quiet c.args.pass.now.trace) (sym c.keep.ensures.trace) (quiet_on c.loop-slot.invariant.quiet (did_quiet c.if-take_flag.ensures.step (λ know. refl)))
 
-pub returns-then-take_flag-clause-advances : goal.returns-then-take_flag-clause-advances
-returns-then-take_flag-clause-advances c = ap (λ (t : Trace). advances t) c.keep.ensures.trace ∙ same_advances c.if-take_flag.ensures.step refl ∙ c.loop-slot.invariant.advances
+pub returns-then-take_flag-clause-raises_none : goal.returns-then-take_flag-clause-raises_none
+returns-then-take_flag-clause-raises_none c = claim_none c.loop-slot.invariant c.if-take_flag.ensures.step c.take_flag.ensures.pool c.keep.ensures.trace c.keep.ensures.pool c.keep.ensures.hand
 
 pub returns-then-take_flag-clause-ok : goal.returns-then-take_flag-clause-ok
 returns-then-take_flag-clause-ok c =

@@ -1,0 +1,29 @@
+use Rattle.vbr_pools.proofs.Takings.{stops_within, leaves, advances_all, on_each, ends_quiet, ends_within, ends_counted, ends_taken, ends_left, ends_advances}
+use Rattle.vbr_pools.proofs.taking.take_counted.Goals as goal
+
+pub returns-in_err-slot-clause-steps : goal.returns-in_err-slot-clause-steps
+returns-in_err-slot-clause-steps c = stops_within c.args.pass.now c.claim.new.pass c.choose.new.pass c.args.budget c.in_ok-used.used c.claim.ensures.quiet c.claim.ensures.raises_none c.in_ok-used.ensures.ok c.choose.ensures.quiet c.choose.ensures.pool _ _ c.in_err-slot.ensures.refused
+
+pub returns-in_err-slot-clause-pool : goal.returns-in_err-slot-clause-pool
+returns-in_err-slot-clause-pool c = on_each c.from_residual-in_err-slot.result (leaves c.args.pass.now c.claim.new.pass c.choose.new.pass c.args.budget c.in_ok-used.used c.claim.ensures.quiet c.claim.ensures.raises_none c.in_ok-used.ensures.ok c.choose.ensures.quiet c.choose.ensures.pool)
+
+pub returns-in_err-slot-clause-advances : goal.returns-in_err-slot-clause-advances
+returns-in_err-slot-clause-advances c = advances_all c.args.pass.now c.claim.new.pass c.choose.new.pass c.args.budget c.in_ok-used.used c.claim.ensures.quiet c.claim.ensures.raises_none c.in_ok-used.ensures.ok c.choose.ensures.quiet c.choose.ensures.pool c.choose.ensures.advances
+
+pub returns-clause-quiet : goal.returns-clause-quiet
+returns-clause-quiet c = ends_quiet c.args.pass.now c.claim.new.pass c.choose.new.pass c.args.budget c.in_ok-used.used c.claim.ensures.quiet c.claim.ensures.raises_none c.in_ok-used.ensures.ok c.choose.ensures.quiet c.choose.ensures.pool c.bear.new.pass c.in_ok-slot.slot c.in_ok-slot.used c.in_ok-slot.ensures.ok c.bear.result c.bear.ensures.ok c.bear.ensures.refused c.bear.ensures.same
+
+pub returns-clause-steps : goal.returns-clause-steps
+returns-clause-steps c = ends_within c.args.pass.now c.claim.new.pass c.choose.new.pass c.args.budget c.in_ok-used.used c.claim.ensures.quiet c.claim.ensures.raises_none c.in_ok-used.ensures.ok c.choose.ensures.quiet c.choose.ensures.pool c.bear.new.pass c.in_ok-slot.slot c.in_ok-slot.used c.in_ok-slot.ensures.ok c.bear.result c.bear.ensures.ok c.bear.ensures.refused c.bear.ensures.same
+
+pub returns-clause-ok : goal.returns-clause-ok
+returns-clause-ok c = ends_taken c.args.pass.now c.claim.new.pass c.choose.new.pass c.args.budget c.in_ok-used.used c.claim.ensures.quiet c.claim.ensures.raises_none c.in_ok-used.ensures.ok c.choose.ensures.quiet c.choose.ensures.pool c.bear.new.pass c.in_ok-slot.slot c.in_ok-slot.used c.in_ok-slot.ensures.ok c.bear.result c.bear.ensures.ok c.bear.ensures.refused c.bear.ensures.same
+
+pub returns-clause-pool : goal.returns-clause-pool
+returns-clause-pool c = ends_left c.args.pass.now c.claim.new.pass c.choose.new.pass c.args.budget c.in_ok-used.used c.claim.ensures.quiet c.claim.ensures.raises_none c.in_ok-used.ensures.ok c.choose.ensures.quiet c.choose.ensures.pool c.bear.new.pass c.in_ok-slot.slot c.in_ok-slot.used c.in_ok-slot.ensures.ok c.bear.result c.bear.ensures.ok c.bear.ensures.refused c.bear.ensures.same
+
+pub returns-clause-advances : goal.returns-clause-advances
+returns-clause-advances c = ends_advances c.args.pass.now c.claim.new.pass c.choose.new.pass c.args.budget c.in_ok-used.used c.claim.ensures.quiet c.claim.ensures.raises_none c.in_ok-used.ensures.ok c.choose.ensures.quiet c.choose.ensures.pool c.bear.new.pass c.in_ok-slot.slot c.in_ok-slot.used c.in_ok-slot.ensures.ok c.bear.result c.bear.ensures.ok c.bear.ensures.refused c.bear.ensures.same c.choose.ensures.advances
+
+pub returns-clause-counted : goal.returns-clause-counted
+returns-clause-counted c = ends_counted c.args.pass.now c.claim.new.pass c.choose.new.pass c.args.budget c.in_ok-used.used c.claim.ensures.quiet c.claim.ensures.raises_none c.in_ok-used.ensures.ok c.choose.ensures.quiet c.choose.ensures.pool c.bear.new.pass c.in_ok-slot.slot c.in_ok-slot.used c.in_ok-slot.ensures.ok c.bear.result c.bear.ensures.ok c.bear.ensures.refused c.bear.ensures.same c.bear.ensures.used

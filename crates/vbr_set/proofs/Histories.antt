@@ -1,0 +1,77 @@
+-- What a pass has seen is a safe run, so its calls are one legal history.
+use Rattle.std.proofs.Common.{◌≡◌, ℕ, Bool, List, Result, Ok, Err, refl, sym, ap, ◌∙◌, subst}
+use Rattle.std.specs.Prelude.{IfOk}
+use Rattle.vbr_words.specs.Dimensions.{Dimensions, IsShape}
+use Rattle.vbr_core.specs.Calls.{own_calls}
+use Rattle.vbr_core.specs.Runs.{IsRun, BeginsFor}
+use Rattle.vbr_core.specs.declared.event.Event.{Event}
+use Rattle.vbr_core.specs.declared.event.Step.TheVariants.{ReadEpoch}
+use Rattle.vbr_core.specs.declared.history.Call.{Call}
+use Rattle.vbr_core.specs.declared.history.Op.{Op}
+use Rattle.vbr_core.proofs.RunsGoOn.{is_run_before, others_leave_calls}
+use Rattle.vbr_core.proofs.SafeRuns.{every_run}
+use Rattle.vbr_slots.specs.Calls.{Made}
+use Rattle.vbr_slots.specs.Views.{TableView, Trace, IsOf, Did}
+use Rattle.vbr_slots.proofs.Calls.{did_quiet, did_run}
+use Rattle.vbr_set.specs.Answers.{Answers}
+use Rattle.vbr_set.specs.Histories.{ReadsAreRight}
+use Rattle.vbr_set.specs.Meetings.{Shares}
+
+shape_of : (p q : Dimensions) → q ≡ p → IsShape p → IsShape q
+shape_of p q is shape = let P : Dimensions → Type 0 = IsShape in subst P (sym is) shape
+
+-- a pass of a table has its shape
+pub shape_known : {inside table : TableView} (p : Trace) → inside ≡ table → IsOf p table → IsShape inside.shape → IsShape p.shape
+shape_known {inside} {table} p is of shape = shape_of inside.shape p.shape (of.1 ∙ sym (ap (λ (t : TableView). t.shape) is)) shape
+
+-- each beginning of a run is a run, so its reads are right
+pub reads_right : (shape : Dimensions) (passes : ℕ) (run : List Event) → IsShape shape → IsRun shape passes run → ReadsAreRight shape run
+reads_right shape passes run is ok before later pass e =
+    let first : IsRun shape passes before = is_run_before shape passes before later (subst (λ (l : List Event). IsRun shape passes l) e ok) in
+    ((every_run shape passes before is first).knows pass).reads
+
+-- the calls of a pass in a run that begins with what it has seen, and has no other event of it, are those that it has made
+pub calls_made : (shape : Dimensions) (who : ℕ) (seen run : List Event) → BeginsFor who seen run → own_calls shape run who ≡ own_calls shape seen who
+calls_made shape who seen run b = ap (λ l. own_calls shape l who) b.1 ∙ others_leave_calls shape seen b.0 who b.2
+
+-- a call that was made stands in one legal history
+pub answers : {call : Call} {p q : Trace} → IsShape p.shape → Made call p q → Answers call p q
+answers {call} {p} {q} is made =
+    let shape = shape_of p.shape q.shape made.same.shape is in
+    let safe = every_run q.shape q.passes q.seen shape made.is_run in
+    record {
+      same = made.same;
+      begins = made.seen;
+      is_run = made.is_run;
+      legal = safe.legal;
+      once = made.calls;
+      exchanges = safe.exchanges;
+      reads = reads_right q.shape q.passes q.seen shape made.is_run;
+      safe = safe;
+    }
+
+-- an answer, if there is one
+pub each_answers : {E : Type 0} (p q : Trace) (op : Op) (key : ℕ) (answer : Result Bool E) → IsShape p.shape → IfOk answer (λ reply. Made (record { who = p.who; op = op; key = key; reply = reply }) p q)
+    → IfOk answer (λ reply. Answers (record { who = p.who; op = op; key = key; reply = reply }) p q)
+each_answers p q op key (Ok reply) is made = answers is made
+each_answers p q op key (Err refusal) is made = tt
+
+-- and what stands there was made
+pub made_of : {call : Call} {p q : Trace} → Answers call p q → Made call p q
+made_of a = record { same = a.same; seen = a.begins; is_run = a.is_run; calls = a.once }
+
+-- passes that met share one legal history
+pub shares : {p other q : Trace} {epoch : ℕ} → IsShape p.shape → other.shape ≡ p.shape → Did ReadEpoch p q epoch → BeginsFor other.who other.seen q.seen → Shares p other q
+shares {p} {other} {q} is same did begins =
+    let quiet = did_quiet did (λ know. refl) in
+    let shape = shape_of p.shape q.shape quiet.same.shape is in
+    let run = did_run did in
+    let safe = every_run q.shape q.passes q.seen shape run in
+    record {
+      quiet = quiet;
+      begins = begins;
+      legal = safe.legal;
+      theirs = calls_made q.shape other.who other.seen q.seen begins ∙ ap (λ (s : Dimensions). own_calls s other.seen other.who) (quiet.same.shape ∙ sym same);
+      exchanges = safe.exchanges;
+      reads = reads_right q.shape q.passes q.seen shape run;
+    }

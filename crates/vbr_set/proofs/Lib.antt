@@ -1,0 +1,6 @@
+pub mod Histories
+mod ShownNodes
+mod Walks
+mod Gathering
+mod LinkedKeys
+mod Closings

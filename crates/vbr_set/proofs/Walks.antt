@@ -1,0 +1,248 @@
+-- A walk along the list of a bucket: the slots noted so far are those whose nodes stand before the one that is reached.
+use Rattle.std.proofs.Common.{◌≡◌, ◌≢◌, ℕ, ◌+◌, ◌-◌, ◌^◌, ◌<◌, Bool, true, false, List, length, set, Option, Some, None, refl, sym, ap, ◌∙◌, subst, inl, inr, arith, get_or-set_other, get_or-set_same}
+use Rattle.std.specs.Prelude.{slice_index, nat_lt, nat_eq, ◌&&◌, ◌||◌, ◌⊎◌}
+use Rattle.std.proofs.lemmas.Bool.{and_parts, and_from, and_left, cases_Bool, cases_eq, eq-eqb, eqb-true, le-ltb, lt-ltb}
+use Rattle.std.proofs.lemmas.Bool.Decides.{nat_tests}
+use Rattle.vbr_words.specs.Dimensions.{Dimensions}
+use Rattle.vbr_words.specs.Places.{index_of}
+use Rattle.vbr_words.specs.Words.{link_of}
+use Rattle.vbr_words.specs.declared.link.Link.{Link}
+use Rattle.vbr_words.specs.declared.place.At.TheVariants.{Head, Slot}
+use Rattle.vbr_words.specs.declared.place.Place.TheVariants as place
+use Rattle.vbr_core.specs.Acceptance.{bucket_of}
+use Rattle.vbr_core.specs.Accounts.{incarnations_after}
+use Rattle.vbr_core.specs.Agreement.{Fits}
+use Rattle.vbr_core.specs.Images.{slot_shown}
+use Rattle.vbr_core.specs.Incarnations.{Incarnations}
+use Rattle.vbr_core.specs.Sound.{IsApart, IsFrom, IsListed, Sound}
+use Rattle.vbr_core.specs.declared.event.Event.{Event}
+use Rattle.vbr_core.proofs.Lists.{next_listed}
+use Rattle.vbr_set.specs.Nodes.{state_in}
+use Rattle.vbr_set.specs.Walking.{AreAfter, NotesList, NotesLists, is_in_list, is_listed, key_in, noted}
+use Rattle.vbr_set.proofs.ShownNodes.{Stands, agrees, key_read, link_read, next_of_node, stands_in, stands_key, stands_listed, stands_there}
+
+-- whether the node of a slot stands before the node that is reached, or there is none any more
+abbrev pub is_before : Incarnations → ℕ → Option ℕ → Bool
+is_before a s None = true
+is_before a s (Some t) = nat_lt (key_in a s) (key_in a t)
+
+-- the slot that is reached has a node of the list
+abbrev pub IsReached : Dimensions → Incarnations → ℕ → Option ℕ → Type 0
+IsReached shape a bucket None = Unit {0}
+IsReached shape a bucket (Some t) = (t < shape.slots) × (is_in_list shape a bucket t ≡ true)
+
+-- the walk has come to this slot, or to the end of the list
+pub record Walked (shape : Dimensions) (a : Incarnations) (bucket : ℕ) (before now : List Bool) (next : Option ℕ) : Type 0 where
+  pub reached : IsReached shape a bucket next
+  pub notes : (s : ℕ) → s < shape.slots → noted now s ≡ (noted before s || (is_in_list shape a bucket s && is_before a s next))
+
+-- the slot is named otherwise
+pub walked_as : {shape : Dimensions} {a : Incarnations} {bucket : ℕ} {before now : List Bool} {m n : Option ℕ} → m ≡ n → Walked shape a bucket before now m → Walked shape a bucket before now n
+walked_as {shape} {a} {bucket} {before} {now} is walked = subst (λ (next : Option ℕ). Walked shape a bucket before now next) is walked
+
+-- how far the walk still goes: keys ascend along it
+abbrev pub left : Dimensions → List ℕ → Option ℕ → ℕ
+left shape words None = 0
+left shape words (Some t) = 2 ^ 64 - slice_index words (index_of shape (place.Key t))
+
+-- ---- nodes of one list
+
+-- the node of a slot is in the list of a bucket
+pub record InList (shape : Dimensions) (a : Incarnations) (bucket s c : ℕ) : Type 0 where
+  pub stands : Stands a s c
+  pub of_bucket : bucket_of shape (a.key c) ≡ bucket
+
+in_list_from : (shape : Dimensions) (a : Incarnations) (bucket s : ℕ) → is_in_list shape a bucket s ≡ true → (c : ℕ) × InList shape a bucket s c
+in_list_from shape a bucket s e =
+    let parts = and_parts _ _ e in
+    let node = stands_in a s parts.0 in
+    (node.0, record { stands = node.1; of_bucket = ap (bucket_of shape) (sym (stands_key node.1)) ∙ eqb-true _ _ parts.1 })
+
+in_list_is : {shape : Dimensions} {a : Incarnations} {bucket s c : ℕ} → InList shape a bucket s c → is_in_list shape a bucket s ≡ true
+in_list_is {shape} n = and_from _ _ (stands_listed n.stands) (eq-eqb _ _ (ap (bucket_of shape) (stands_key n.stands) ∙ n.of_bucket))
+
+-- a node in a list is there, in its slot
+in_list_there : {shape : Dimensions} {a : Incarnations} → Sound shape a → Fits shape a → (bucket n : ℕ) → IsListed (a.state n) → bucket_of shape (a.key n) ≡ bucket → IsReached shape a bucket (Some (a.slot n))
+in_list_there sound fits bucket n l is =
+    let there = stands_there sound fits n l in
+    (there.0, in_list_is (record { stands = there.1; of_bucket = is }))
+
+-- two nodes of one slot are one
+one_slot : {shape : Dimensions} {a : Incarnations} → Sound shape a → (s t c : ℕ) → Stands a s c → Stands a t c → s ≡ t
+one_slot sound s t c here there = sym ((sound.slots.last_born s c here.last).1) ∙ (sound.slots.last_born t c there.last).1
+
+-- ---- keys along a list
+
+-- whether a key is below that of a successor, or there is none
+abbrev below_next : Incarnations → ℕ → Option ℕ → Bool
+below_next a key None = true
+below_next a key (Some n) = nat_lt key (a.key n)
+
+-- the same of the slot of the successor
+before_next : {shape : Dimensions} {a : Incarnations} → Sound shape a → Fits shape a → (s d : ℕ) (next : Option ℕ) → Stands a s d → ((n : ℕ) → next ≡ Some n → IsListed (a.state n)) → is_before a s (slot_shown a next) ≡ below_next a (a.key d) next
+before_next sound fits s d None stands l = refl
+before_next {shape} {a} sound fits s d (Some n) stands l =
+    let there = stands_there sound fits n (l n refl) in
+    (λ i. nat_lt (stands_key stands i) (stands_key there.1 i))
+
+-- no other node of the list stands between a node and its successor
+apart_keys : (a : Incarnations) (c d : ℕ) (next : Option ℕ) → d ≢ c → IsApart a.key c next d → ((n : ℕ) → next ≡ Some n → a.key c < a.key n) → nat_lt (a.key d) (a.key c) ≡ below_next a (a.key d) next
+apart_keys a c d None ne apart up = grind (arith, nat_tests)
+apart_keys a c d (Some m) ne apart up = let u = up m refl in grind (arith, nat_tests)
+
+below_own : (a : Incarnations) (c : ℕ) (next : Option ℕ) → ((n : ℕ) → next ≡ Some n → a.key c < a.key n) → below_next a (a.key c) next ≡ true
+below_own a c None up = refl
+below_own a c (Some n) up = lt-ltb (a.key c) (a.key n) (up n refl)
+
+-- the first of a list has no greater key than any of its nodes
+none_before_first : (a : Incarnations) (key : ℕ) (first : Option ℕ) → IsFrom a.key first key → below_next a key first ≡ false
+none_before_first a key None from = grind arith
+none_before_first a key (Some m) from = grind (arith, nat_tests)
+
+-- ---- tests
+
+or_none : (b c : Bool) → c ≡ false → b ≡ (b || c)
+or_none true c e = refl
+or_none false c e = sym e
+
+or_some : (b c : Bool) → c ≡ true → true ≡ (b || c)
+or_some true c e = refl
+or_some false c e = sym e
+
+and_true : (b : Bool) → (b && true) ≡ b
+and_true true = refl
+and_true false = refl
+
+-- ---- the walk
+
+-- the slots whose nodes stand before the first: none
+first_notes : {shape : Dimensions} {a : Incarnations} → Sound shape a → Fits shape a → (bucket s : ℕ) (first : Option ℕ) → a.first bucket ≡ first → (is_in_list shape a bucket s && is_before a s (slot_shown a first)) ≡ false
+first_notes {shape} {a} sound fits bucket s first is = go (cases_Bool (is_in_list shape a bucket s))
+  where
+    go : (is_in_list shape a bucket s ≡ true) ⊎ (is_in_list shape a bucket s ≡ false) → (is_in_list shape a bucket s && is_before a s (slot_shown a first)) ≡ false
+    go (inr outside) = and_left _ _ outside
+    go (inl inside) =
+        let node = in_list_from shape a bucket s inside in
+        let from = subst (λ (f : Option ℕ). IsFrom a.key f (a.key node.0)) (ap a.first node.1.of_bucket ∙ is) (sound.lists.behind_head node.0 node.1.stands.listed) in
+        ap (λ b. b && is_before a s (slot_shown a first)) inside
+        ∙ before_next sound fits s node.0 first node.1.stands (λ n q. (sound.lists.first_in bucket n (is ∙ q)).0)
+        ∙ none_before_first a (a.key node.0) first from
+
+first_reached : {shape : Dimensions} {a : Incarnations} → Sound shape a → Fits shape a → (bucket : ℕ) (first : Option ℕ) → a.first bucket ≡ first → IsReached shape a bucket (slot_shown a first)
+first_reached sound fits bucket None is = tt
+first_reached sound fits bucket (Some n) is = let f = sound.lists.first_in bucket n is in in_list_there sound fits bucket n f.0 f.1
+
+pub walk_first : {shape : Dimensions} {words : List ℕ} {run : List Event} → AreAfter shape words run → (bucket : ℕ) (notes : List Bool) → bucket < shape.buckets
+    → Walked shape (incarnations_after shape run) bucket notes notes (link_of (slice_index words (index_of shape (place.Head bucket)))).slot
+walk_first {shape} {words} {run} x bucket notes low =
+    let a = incarnations_after shape run in
+    let g = agrees x in
+    let first : Walked shape a bucket notes notes (slot_shown a (a.first bucket)) = record {
+      reached = first_reached g.sound g.fits bucket (a.first bucket) refl;
+      notes = λ s is_in. or_none (noted notes s) _ (first_notes g.sound g.fits bucket s (a.first bucket) refl);
+    } in
+    subst (λ (l : Link). Walked shape a bucket notes notes l.slot) (sym (link_read x (Head bucket) low)) first
+
+-- what follows a node of a list
+module _ {shape : Dimensions} {a : Incarnations} (sound : Sound shape a) (fits : Fits shape a) (bucket t c : ℕ) (here : InList shape a bucket t c) where
+  up : (n : ℕ) → a.next c ≡ Some n → a.key c < a.key n
+  up n q = (sound.lists.ordered c n q).1
+
+  follows : (n : ℕ) → a.next c ≡ Some n → IsListed (a.state n)
+  follows n q = next_listed sound c n q here.stands.listed
+
+  next_reached : (next : Option ℕ) → a.next c ≡ next → IsReached shape a bucket (slot_shown a next)
+  next_reached None q = tt
+  next_reached (Some n) q = in_list_there sound fits bucket n (follows n q) (sym ((sound.lists.ordered c n q).0) ∙ here.of_bucket)
+
+  own_before : is_before a t (slot_shown a (a.next c)) ≡ true
+  own_before = before_next sound fits t c (a.next c) here.stands follows ∙ below_own a c (a.next c) up
+
+  others_before : (s : ℕ) → s ≢ t → (is_in_list shape a bucket s && is_before a s (Some t)) ≡ (is_in_list shape a bucket s && is_before a s (slot_shown a (a.next c)))
+  others_before s ne = go (cases_Bool (is_in_list shape a bucket s))
+    where
+      go : (is_in_list shape a bucket s ≡ true) ⊎ (is_in_list shape a bucket s ≡ false) → (is_in_list shape a bucket s && is_before a s (Some t)) ≡ (is_in_list shape a bucket s && is_before a s (slot_shown a (a.next c)))
+      go (inr outside) = and_left _ _ outside ∙ sym (and_left _ _ outside)
+      go (inl inside) =
+          let node = in_list_from shape a bucket s inside in
+          let other : node.0 ≢ c = λ e. ne (one_slot sound s t c (subst (λ (d : ℕ). Stands a s d) e node.1.stands) here.stands) in
+          ap (λ b. is_in_list shape a bucket s && b)
+          ((λ i. nat_lt (stands_key node.1.stands i) (stands_key here.stands i))
+          ∙ apart_keys a c node.0 (a.next c) other (sound.lists.apart c node.0 here.stands.listed node.1.stands.listed (here.of_bucket ∙ sym node.1.of_bucket)) up
+          ∙ sym (before_next sound fits s node.0 (a.next c) node.1.stands follows))
+
+  next_walked : (before now : List Bool) → length now ≡ shape.slots → Walked shape a bucket before now (Some t) → Walked shape a bucket before (set now t true) (slot_shown a (a.next c))
+  next_walked before now room walked = record { reached = next_reached (a.next c) refl; notes = λ s low. go s low (cases_eq s t) }
+    where
+      go : (s : ℕ) → s < shape.slots → (s ≡ t) ⊎ (s ≡ t → ⊥) → noted (set now t true) s ≡ (noted before s || (is_in_list shape a bucket s && is_before a s (slot_shown a (a.next c))))
+      go s low (inl e) =
+          let low_t : t < length now = (let r = walked.reached.0 in omega arith) in
+          let both : (is_in_list shape a bucket s && is_before a s (slot_shown a (a.next c))) ≡ true = and_from _ _ (ap (is_in_list shape a bucket) e ∙ walked.reached.1) (ap (λ (i : ℕ). is_before a i (slot_shown a (a.next c))) e ∙ own_before) in
+          ap (noted (set now t true)) e ∙ get_or-set_same now t true false low_t ∙ or_some (noted before s) _ both
+      go s low (inr ne) = get_or-set_other now t s true false ne ∙ walked.notes s low ∙ ap (λ b. noted before s || b) (others_before s ne)
+
+pub walk_next : {shape : Dimensions} {words : List ℕ} {run : List Event} → AreAfter shape words run → (bucket : ℕ) (before now : List Bool) (t : ℕ) → length now ≡ shape.slots → Walked shape (incarnations_after shape run) bucket before now (Some t)
+    → Walked shape (incarnations_after shape run) bucket before (set now t true) (link_of (slice_index words (index_of shape (place.LinkOf t)))).slot
+walk_next {shape} {words} {run} x bucket before now t room walked =
+    let a = incarnations_after shape run in
+    let g = agrees x in
+    let node = in_list_from shape a bucket t walked.reached.1 in
+    subst (λ (next : Option ℕ). Walked shape a bucket before (set now t true) next) (sym (ap (λ (l : Link). l.slot) (link_read x (Slot t) walked.reached.0) ∙ next_of_node node.1.stands))
+    (next_walked g.sound g.fits bucket t node.0 node.1 before now room walked)
+
+pub walk_ends : (shape : Dimensions) (a : Incarnations) (bucket : ℕ) (before now : List Bool) → Walked shape a bucket before now None → NotesList shape a bucket before now
+walk_ends shape a bucket before now walked s low = walked.notes s low ∙ ap (λ b. noted before s || b) (and_true (is_in_list shape a bucket s))
+
+pub walk_nearer : {shape : Dimensions} {words : List ℕ} {run : List Event} → AreAfter shape words run → (bucket : ℕ) (before now : List Bool) (t : ℕ) → ((i : ℕ) → slice_index words i < 2 ^ 64) → Walked shape (incarnations_after shape run) bucket before now (Some t)
+    → left shape words (link_of (slice_index words (index_of shape (place.LinkOf t)))).slot < left shape words (Some t)
+walk_nearer {shape} {words} {run} x bucket before now t fit walked =
+    let a = incarnations_after shape run in
+    let node = in_list_from shape a bucket t walked.reached.1 in
+    subst (λ (next : Option ℕ). left shape words next < left shape words (Some t)) (sym (ap (λ (l : Link). l.slot) (link_read x (Slot t) walked.reached.0) ∙ next_of_node node.1.stands)) (go node.0 node.1 (a.next node.0) refl)
+  where
+    go : (c : ℕ) → InList shape (incarnations_after shape run) bucket t c → (next : Option ℕ) → (incarnations_after shape run).next c ≡ next → left shape words (slot_shown (incarnations_after shape run) next) < left shape words (Some t)
+    go c here None q = let f = fit (index_of shape (place.Key t)) in omega arith
+    go c here (Some n) q =
+        let a = incarnations_after shape run in
+        let g = agrees x in
+        let order = (g.sound.lists.ordered c n q).1 in
+        let there = stands_there g.sound g.fits n (next_listed g.sound c n q here.stands.listed) in
+        let key_here = key_read x t walked.reached.0 ∙ stands_key here.stands in
+        let key_there = key_read x (a.slot n) there.0 ∙ stands_key there.1 in
+        let f = fit (index_of shape (place.Key t)) in
+        omega arith
+
+-- ---- all lists
+
+-- whether the node of a slot is in a list of a bucket below this one
+abbrev pub is_below : Dimensions → Incarnations → ℕ → ℕ → Bool
+is_below shape a bucket s = is_listed (state_in a s) && nat_lt (bucket_of shape (key_in a s)) bucket
+
+-- the slots whose nodes are in the lists of the buckets below this one are noted
+pub record NotedBelow (shape : Dimensions) (a : Incarnations) (bucket : ℕ) (notes : List Bool) : Type 0 where
+  pub notes_are : (s : ℕ) → s < shape.slots → noted notes s ≡ is_below shape a bucket s
+
+pub lists_first : (shape : Dimensions) (a : Incarnations) (notes : List Bool) → ((s : ℕ) → noted notes s ≡ false) → NotedBelow shape a 0 notes
+lists_first shape a notes none = record { notes_are = λ s low. none s ∙ sym (no (is_listed (state_in a s)) (bucket_of shape (key_in a s))) }
+  where
+    no : (b : Bool) (k : ℕ) → (b && nat_lt k 0) ≡ false
+    no true k = le-ltb k 0 (omega arith)
+    no false k = refl
+
+pub lists_next : (shape : Dimensions) (a : Incarnations) (bucket : ℕ) (before now : List Bool) → NotedBelow shape a bucket before → NotesList shape a bucket before now → NotedBelow shape a (bucket + 1) now
+lists_next shape a bucket before now below list = record { notes_are = λ s low. list s low ∙ ap (λ b. b || is_in_list shape a bucket s) (below.notes_are s low) ∙ both (is_listed (state_in a s)) (bucket_of shape (key_in a s)) }
+  where
+    both : (b : Bool) (k : ℕ) → ((b && nat_lt k bucket) || (b && nat_eq k bucket)) ≡ (b && nat_lt k (bucket + 1))
+    both true k = grind (arith, nat_tests)
+    both false k = refl
+
+bucket_in_shape : (shape : Dimensions) (key : ℕ) → 0 < shape.buckets → bucket_of shape key < shape.buckets
+unfolding bucket_of
+bucket_in_shape shape key some = omega arith
+
+pub lists_end : (shape : Dimensions) (a : Incarnations) (notes : List Bool) → NotedBelow shape a shape.buckets notes → 0 < shape.buckets → NotesLists shape a notes
+lists_end shape a notes below some s low = below.notes_are s low ∙ all (is_listed (state_in a s)) (bucket_in_shape shape (key_in a s) some)
+  where
+    all : (b : Bool) → bucket_of shape (key_in a s) < shape.buckets → (b && nat_lt (bucket_of shape (key_in a s)) shape.buckets) ≡ b
+    all true lt = lt-ltb _ _ lt
+    all false lt = refl

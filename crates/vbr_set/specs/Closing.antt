@@ -1,0 +1,38 @@
+-- How a set ends, and what the report tells of that.
+use Rattle.std.specs.Prelude.{◌≡◌, ◌+◌, List, [], ◌∷◌}
+use Rattle.vbr_words.specs.Dimensions.{Dimensions}
+use Rattle.vbr_core.specs.Keys.{Lists, no_keys}
+use Rattle.vbr_core.specs.History.{IsLegal, set_after}
+use Rattle.vbr_core.specs.Runs.{IsRun, world_after}
+use Rattle.vbr_core.specs.Calls.{own_calls}
+use Rattle.vbr_core.specs.Safety.{IsSafe}
+use Rattle.vbr_core.specs.declared.event.Event.{Event}
+use Rattle.vbr_slots.specs.Calls.{made_by}
+use Rattle.vbr_slots.specs.Closing.{EachSeen}
+use Rattle.vbr_slots.specs.Views.{PassView, TableView}
+use Rattle.vbr_set.specs.Histories.{calls_of}
+use Rattle.vbr_set.specs.Nodes.{linked_after, marked_after}
+use Rattle.vbr_set.specs.declared.report.Report.{Report}
+
+-- the report tells the keys that the calls of a run leave in a set that opened empty, ascending; the epoch; how many nodes are linked; how many are marked and still in a list; and how many slots have neither
+pub record Reports (shape : Dimensions) (run : List Event) (report : Report) : Type 0 where
+  pub keys : Lists report.keys.items (set_after no_keys (calls_of shape run))
+  pub epoch : report.epoch ≡ (world_after shape run).epoch
+  pub live : report.live ≡ linked_after shape run
+  pub marked : report.marked ≡ marked_after shape run
+  pub free : report.live + report.marked + report.free ≡ shape.slots
+
+-- the calls of each pass in a run are just those that it has made
+abbrev pub EachMade : Dimensions → List Event → List PassView → Type 0
+EachMade shape run [] = Unit {0}
+EachMade shape run (p ∷ ps) = (own_calls shape run p.trace.who ≡ made_by p.trace) × EachMade shape run ps
+
+-- the report tells the end of a run that begins with what each pass has seen, and has no other event of it, so of each pass just the calls that it has made; the calls are legal from the empty set, and the run is safe
+pub record Closes (t : TableView) (passes : List PassView) (report : Report) : Type 0 where
+  pub run : List Event
+  pub is_run : IsRun t.shape t.passes run
+  pub begins : EachSeen run passes
+  pub made : EachMade t.shape run passes
+  pub legal : IsLegal no_keys (calls_of t.shape run)
+  pub safe : IsSafe t.shape run
+  pub reports : Reports t.shape run report

@@ -1,0 +1,21 @@
+-- The history that a run has, and what is right along it.
+use Rattle.std.specs.Prelude.{◌≡◌, ℕ, List, ◌∷◌, ◌++◌}
+use Rattle.vbr_words.specs.Dimensions.{Dimensions}
+use Rattle.vbr_core.specs.Runs.{world_after}
+use Rattle.vbr_core.specs.Notes.{AreRightReads}
+use Rattle.vbr_core.specs.Accounts.{notes_after}
+use Rattle.vbr_core.specs.Safety.{IsRightAfter}
+use Rattle.vbr_core.specs.declared.event.Event.{Event}
+use Rattle.vbr_core.specs.declared.history.Call.{Call}
+
+-- the answered calls of all passes, in their order
+abbrev pub calls_of : Dimensions → List Event → List Call
+calls_of shape run = (world_after shape run).calls
+
+-- each exchange of a link that was won named the last incarnations of their slots, and was lawful for them: none succeeded through a link to an earlier incarnation
+abbrev pub ExchangesAreRight : Dimensions → List Event → Type 0
+ExchangesAreRight shape run = (before after : List Event) (event : Event) → run ≡ before ++ event ∷ after → IsRightAfter shape before event
+
+-- at each moment, each checked read of each pass was of the incarnation that the pass holds there, with its link, birth or key: none returned those of an earlier incarnation
+abbrev pub ReadsAreRight : Dimensions → List Event → Type 0
+ReadsAreRight shape run = (before after : List Event) (pass : ℕ) → run ≡ before ++ after → AreRightReads (notes_after shape before pass).checked

@@ -1,0 +1,6 @@
+pub mod Histories
+pub mod Answers
+pub mod Meetings
+pub mod Nodes
+pub mod Closing
+pub mod Walking

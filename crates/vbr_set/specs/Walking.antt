@@ -1,0 +1,48 @@
+-- Walking the lists of a closed table by its words. Only contracts of private functions cite this.
+use Rattle.std.specs.Prelude.{◌≡◌, ℕ, zero, suc, ◌<◌, ◌==◌, ◌&&◌, ◌||◌, Bool, true, false, List, [], ◌∷◌, ◌++◌, slice_index_or, if◌then◌else◌}
+use Rattle.vbr_words.specs.Dimensions.{Dimensions, IsShape}
+use Rattle.vbr_core.specs.Acceptance.{bucket_of}
+use Rattle.vbr_core.specs.Images.{key_shown}
+use Rattle.vbr_core.specs.Incarnations.{State, Linked, Marked, Incarnations}
+use Rattle.vbr_core.specs.Runs.{IsRun, world_after}
+use Rattle.vbr_core.specs.declared.event.Event.{Event}
+use Rattle.vbr_slots.specs.Words.{AreWordsOf}
+use Rattle.vbr_set.specs.Nodes.{state_in, is_linked}
+
+-- the words are those of the world after a run of a shape
+pub record AreAfter (shape : Dimensions) (words : List ℕ) (run : List Event) : Type 0 where
+  pub passes : ℕ
+  pub is_shape : IsShape shape
+  pub is_run : IsRun shape passes run
+  pub are : AreWordsOf shape (world_after shape run) words
+
+-- whether an incarnation is in a list
+abbrev pub is_listed : State → Bool
+is_listed Linked = true
+is_listed Marked = true
+is_listed _ = false
+
+-- the key of the last incarnation of a slot
+abbrev pub key_in : Incarnations → ℕ → ℕ
+key_in a s = key_shown a (a.last s)
+
+-- whether the node of a slot is in the list of a bucket
+abbrev pub is_in_list : Dimensions → Incarnations → ℕ → ℕ → Bool
+is_in_list shape a bucket s = is_listed (state_in a s) && (bucket_of shape (key_in a s) == bucket)
+
+-- whether a slot was noted
+abbrev pub noted : List Bool → ℕ → Bool
+noted notes s = slice_index_or notes s false
+
+-- the slots whose nodes are in the list of a bucket were noted, and no others
+abbrev pub NotesList : Dimensions → Incarnations → ℕ → List Bool → List Bool → Type 0
+NotesList shape a bucket before now = (s : ℕ) → s < shape.slots → noted now s ≡ (noted before s || is_in_list shape a bucket s)
+
+-- the slots whose nodes are in lists are noted, and no others
+abbrev pub NotesLists : Dimensions → Incarnations → List Bool → Type 0
+NotesLists shape a notes = (s : ℕ) → s < shape.slots → noted notes s ≡ is_listed (state_in a s)
+
+-- the keys of the linked nodes in the slots below a number
+abbrev pub linked_keys : Incarnations → ℕ → List ℕ
+linked_keys a zero = []
+linked_keys a (suc s) = if is_linked (state_in a s) then linked_keys a s ++ key_in a s ∷ [] else linked_keys a s

@@ -1,0 +1,29 @@
+//! The meeting of two passes.
+ghost use Rattle.std.specs.Prelude.{◌≡◌, ℕ};
+ghost use Rattle.vbr_core.specs.Runs.{BeginsFor};
+ghost use Rattle.vbr_core.specs.declared.event.Step.TheVariants.{ReadEpoch};
+ghost use Rattle.vbr_slots.specs.Views.{IsOf, Did, KeepsPool};
+ghost use Rattle.vbr_set.specs.Meetings.{Shares};
+
+use crate::calls::known_shape;
+use crate::set::VbrSet;
+use vbr_slots::Pass;
+
+impl VbrSet {
+    /// Lets the pass see all that the other has seen: the two then share one legal history, in which
+    /// the other has just the calls that it has made. It is one step, counted for the pass; the other
+    /// stays as it was.
+    #[inline]
+    pub fn meet(&self, pass: &mut Pass, other: &mut Pass)
+        requires own { IsOf pass.old.trace self.now }
+        requires other { IsOf other.old.trace self.now }
+        ensures step { (epoch : ℕ) × Did ReadEpoch pass.old.trace pass.new.trace epoch }
+        ensures pool { KeepsPool pass.old pass.new }
+        ensures same { other.new ≡ other.old }
+        ensures met { BeginsFor other.old.trace.who other.old.trace.seen pass.new.trace.seen }
+        ensures shares { Shares pass.old.trace other.old.trace pass.new.trace }
+    {
+        known_shape(&self.slots);
+        self.slots.meet(pass, other);
+    }
+}

@@ -1,0 +1,28 @@
+//! Opening a set.
+ghost use Rattle.std.specs.Prelude.{◌≡◌, ◌<◌, ◌↔◌, ◌⊎◌, IfOk, IsErrOf};
+ghost use Rattle.vbr_slots.specs.Views.{new_passes};
+
+use crate::set::VbrSet;
+use std::alloc::Global;
+use vbr_slots::{OpenError, Pass, Slots};
+use vbr_words::Shape;
+
+impl VbrSet {
+    /// Opens an empty set, with so many passes, from 1 to 64. They stand in the order of their
+    /// numbers, which begin with 0, and have seen nothing. No call takes memory later, but for
+    /// [`VbrSet::close`].
+    ///
+    /// The refusals are tested in the order of [`OpenError`].
+    pub fn open(alloc: Global, shape: Shape, passes: u32) -> Result<(VbrSet, Vec<Pass>), OpenError>
+        ensures table { IfOk result (λ r. (r.0.shape ≡ shape) × (r.0.passes ≡ passes)) }
+        ensures passes { IfOk result (λ r. r.1.items ≡ new_passes r.0 0 passes) }
+        ensures refused { IsErrOf result OpenError.Passes ↔ ((passes ≡ 0) ⊎ (64 < passes)) }
+    {
+        let (slots, opened) = Slots::open(alloc, shape, passes)?;
+        let set = VbrSet {
+            slots,
+            count: passes,
+        };
+        Ok((set, opened))
+    }
+}

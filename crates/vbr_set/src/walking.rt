@@ -1,0 +1,46 @@
+//! Walking the lists of a closed table.
+ghost use Rattle.std.specs.Prelude.{◌≡◌, ℕ, ◌<◌, List, false, length, slice_index};
+ghost use Rattle.vbr_words.specs.Places.{IsIn, index_of, words_in};
+ghost use Rattle.vbr_words.specs.Words.{link_of};
+ghost use Rattle.vbr_core.specs.Accounts.{incarnations_after};
+ghost use Rattle.vbr_core.specs.declared.event.Event.{Event};
+ghost use Rattle.vbr_set.specs.Walking.{AreAfter, NotesList, NotesLists, noted};
+
+use vbr_words::{Place, Shape, decode, place_index};
+
+// The slot that the link at a place names, if any.
+fn next_at(shape: &Shape, words: &[u64], place: Place) -> Option<u32>
+    requires place { IsIn shape.now place }
+    requires words { length words.now ≡ words_in shape.now }
+    ensures { result ≡ (link_of (slice_index words.now (index_of shape.now place))).slot }
+{
+    decode(words[place_index(shape, place)]).slot
+}
+
+// Notes the slots whose nodes are in the list of a bucket.
+fn note_list(shape: &Shape, words: &[u64], bucket: u32, notes: &mut [bool])
+    requires bucket { bucket < shape.now.buckets }
+    requires run { (run : List Event) × AreAfter shape.now words.now run }
+    requires room { length notes.old ≡ shape.now.slots }
+    ensures { (run : List Event) → AreAfter shape.now words.now run →
+        NotesList shape.now (incarnations_after shape.now run) bucket notes.old notes.new }
+{
+    let mut next = next_at(shape, words, Place::Head(bucket));
+    while let Some(slot) = next {
+        notes[slot as usize] = true;
+        next = next_at(shape, words, Place::LinkOf(slot));
+    }
+}
+
+/// Notes the slots whose nodes are in lists.
+pub(crate) fn note_lists(shape: &Shape, words: &[u64], notes: &mut [bool])
+    requires run { (run : List Event) × AreAfter shape.now words.now run }
+    requires room { length notes.old ≡ shape.now.slots }
+    requires none { (s : ℕ) → noted notes.old s ≡ false }
+    ensures { (run : List Event) → AreAfter shape.now words.now run →
+        NotesLists shape.now (incarnations_after shape.now run) notes.new }
+{
+    for bucket in 0..shape.buckets() {
+        note_list(shape, words, bucket, notes);
+    }
+}
