@@ -3,24 +3,27 @@ RT ?= rt
 PREFIX ?= /usr/local
 PROGRAM := target/vbr_run
 CRATE := crates/vbr_main
+SCRIPT := crates/vbr_example/data/phases.script
+BENCH ?= --short
 
 .DEFAULT_GOAL := help
 .PHONY: help kit run build install test bench clean
 
 help:
-	@echo 'make run                 play examples/first.script (before its proof; takes seconds)'
+	@echo 'make run                 play a script with three workers (before its proof; a minute or two)'
 	@echo 'make build               prove and build the program: $(PROGRAM)'
 	@echo 'make install PREFIX=DIR  build it, and put it into DIR/bin (default: $(PREFIX))'
 	@echo 'make test                the whole gate: every proof from nothing, must-fail edits, tests, the program'
-	@echo 'make bench               prove and run the measurements: nanoseconds per call, on one thread'
+	@echo 'make bench               prove and run the measurements, in their short form, and print a CSV table'
+	@echo 'make bench BENCH=        the same in their full form; BENCH has the options of crates/vbr_bench'
 	@echo 'make clean               remove what was built and what checks keep'
 
 kit:
 	@command -v $(RT) > /dev/null 2>&1 || { echo 'Rattle is missing: put the directory of its command `rt` on the PATH' >&2; exit 1; }
 
 run: kit
-	@echo 'playing examples/first.script; this run is not proved, `make build` proves the program'
-	@cd $(CRATE) && $(RT) try < ../../examples/first.script
+	@echo 'playing $(SCRIPT); this run is not proved, `make build` proves the program'
+	@cd $(CRATE) && $(RT) try -- --workers 3 < ../../$(SCRIPT)
 
 build: kit
 	@cd $(CRATE) && $(RT) run -- --help > /dev/null
@@ -37,7 +40,7 @@ test: kit
 	@$(RT) ci
 
 bench: kit
-	@cd crates/vbr_bench && $(RT) run -- time
+	@cd crates/vbr_bench && $(RT) run -- $(BENCH)
 
 clean:
 	@rm -rf target crates/*/out

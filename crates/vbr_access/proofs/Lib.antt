@@ -11,4 +11,5 @@ mod WonExchanges
 mod WrittenLinks
 mod UnlinkedLinks
 mod Unlinks
+mod NoneUnlinked
 mod Filled

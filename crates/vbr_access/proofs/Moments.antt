@@ -1,5 +1,5 @@
 -- What was so at the moment of a step.
-use Rattle.std.proofs.Common.{◌≡◌, ◌≢◌, ℕ, Bool, true, false, List, [], ◌∷◌, ◌++◌, refl, sym, ap, ◌∙◌, subst, inl, inr, cond, eqb-true}
+use Rattle.std.proofs.Common.{◌≡◌, ◌≢◌, ℕ, Bool, true, false, List, [], ◌∷◌, ◌++◌, refl, sym, ap, ◌∙◌, subst, append-nil, inl, inr, cond, eqb-true}
 use Rattle.std.specs.Prelude.{◌⊎◌, ◌==◌}
 use Rattle.std.proofs.lemmas.Bool.{cases_Bool, ne_eqb, eq-eqb}
 use Rattle.vbr_words.specs.Dimensions.{Dimensions, IsShape}
@@ -16,14 +16,15 @@ use Rattle.vbr_core.specs.Runs.{IsRun, Begins, world_after, know_after}
 use Rattle.vbr_core.specs.declared.event.Event.{Event}
 use Rattle.vbr_core.specs.declared.event.Effect.TheVariants.{Value, Won, Lost, Answered}
 use Rattle.vbr_core.specs.declared.event.Step.{Step}
-use Rattle.vbr_core.specs.declared.event.Step.TheVariants.{LoadLink, Publish}
+use Rattle.vbr_core.specs.declared.event.Step.TheVariants.{ReadEpoch, LoadLink, Publish}
 use Rattle.vbr_core.proofs.RunForms.{present_at_load, absent_at_load}
 use Rattle.vbr_core.proofs.RunForms as forms
 use Rattle.vbr_core.proofs.RunsGoOn.{is_run_before, others_leave_know}
 use Rattle.vbr_slots.specs.Calls.{IsSame, Quiet}
 use Rattle.vbr_slots.specs.Views.{Trace, Did, knows, event_of}
 use Rattle.vbr_slots.proofs.Calls.{moment_before, moment_after, did_moment}
-use Rattle.vbr_access.specs.Moments.{Stood, IsRead, WasFound, WasSo}
+use Rattle.vbr_pools.proofs.Moments.{epoch_stood}
+use Rattle.vbr_access.specs.Moments.{IsEpochRead, Stood, IsRead, WasFound, WasSo}
 use Rattle.vbr_access.specs.declared.held.Held.{Held}
 
 -- ---- what a step found
@@ -72,6 +73,16 @@ unanswered reply expected r n other e = go (cases_Bool (n == expected))
     go : ((n == expected) ≡ true) ⊎ ((n == expected) ≡ false) → n ≡ r
     go (inl t) = let z : Lost r ≡ Answered reply = sym left ∙ e ∙ ap (λ (b : Bool). cond b (Answered reply) (Lost n)) t in absurd (cc)
     go (inr f) = let z : Lost r ≡ Lost n = sym left ∙ e ∙ ap (λ (b : Bool). cond b (Answered reply) (Lost n)) f in cc
+
+-- ---- when the epoch was read
+
+pub epoch_read : {p q : Trace} {epoch : ℕ} → Did ReadEpoch p q epoch → IsEpochRead p q epoch
+epoch_read {p} {q} d = record {
+  moment = p.seen ++ d.rest;
+  within = did_moment d;
+  was = epoch_stood d;
+  read = ([], d.seen ∙ sym (append-nil ((p.seen ++ d.rest) ++ event_of p.who ReadEpoch ∷ [])));
+}
 
 -- ---- where a link stood
 

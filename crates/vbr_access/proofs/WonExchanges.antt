@@ -75,3 +75,7 @@ module _ {p q : Trace} {pred : At} {expected s : ℕ} (d : Did (Publish pred exp
 -- a lost one teaches nothing
 pub publish_lost_keeps : {p q : Trace} {pred : At} {expected s found : ℕ} → Did (Publish pred expected s) p q found → found ≢ expected → Keeps (knows p) (knows q)
 publish_lost_keeps {p} {q} {pred} {expected} {s} {found} d other = rw (d.know ∙ lost_test found expected _ (knows p) other) (keeps_refl (knows p))
+
+-- and so does a lost unlinking
+pub unlink_lost_same : {p q : Trace} {pred : At} {expected s found : ℕ} → Did (Unlink pred expected s) p q found → found ≢ expected → knows q ≡ knows p
+unlink_lost_same {p} {q} {pred} {expected} {s} {found} d other = d.know ∙ lost_test found expected _ (knows p) other

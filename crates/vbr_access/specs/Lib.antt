@@ -4,3 +4,4 @@ pub mod Held
 pub mod Moments
 pub mod Rollbacks
 pub mod Steps
+pub mod Messages

@@ -1,5 +1,5 @@
 -- What was so at a moment of a call.
-use Rattle.std.specs.Prelude.{◌≡◌, ℕ, Bool, List, Option, Some, None}
+use Rattle.std.specs.Prelude.{◌≡◌, ℕ, Bool, List, [], ◌∷◌, ◌++◌, Option, Some, None}
 use Rattle.vbr_words.specs.Words.{link_of}
 use Rattle.vbr_words.specs.declared.place.At.{At}
 use Rattle.vbr_words.specs.declared.place.At.TheVariants.{Slot}
@@ -7,11 +7,11 @@ use Rattle.vbr_core.specs.Keys.{no_keys}
 use Rattle.vbr_core.specs.History.{set_after}
 use Rattle.vbr_core.specs.Machine.{link_at, found}
 use Rattle.vbr_core.specs.Membership.{IsHeldPlace}
-use Rattle.vbr_core.specs.Runs.{world_after, know_after}
+use Rattle.vbr_core.specs.Runs.{Begins, world_after, know_after}
 use Rattle.vbr_core.specs.declared.event.Event.{Event}
-use Rattle.vbr_core.specs.declared.event.Step.TheVariants.{LoadLink}
+use Rattle.vbr_core.specs.declared.event.Step.TheVariants.{ReadEpoch, LoadLink}
 use Rattle.vbr_slots.specs.Calls.{Moment}
-use Rattle.vbr_slots.specs.Views.{Trace, knows}
+use Rattle.vbr_slots.specs.Views.{Trace, knows, event_of}
 use Rattle.vbr_access.specs.Held.{IsHeld, Names}
 use Rattle.vbr_access.specs.declared.held.Held.{Held}
 
@@ -32,6 +32,13 @@ pub record IsRead (p q : Trace) (held : Held) : Type 0 where
 abbrev pub IsNext : Trace → Trace → Held → Option Held → Type 0
 IsNext p q held None = (link_of held.word).slot ≡ None
 IsNext p q held (Some next) = (s : ℕ) × Names held s × (next.at ≡ Slot s) × IsRead p q next
+
+-- at a moment of what the pass did, this was the epoch, and the pass read it there
+pub record IsEpochRead (p q : Trace) (epoch : ℕ) : Type 0 where
+  pub moment : List Event
+  pub within : Moment p q moment
+  pub was : (world_after p.shape moment).epoch ≡ epoch
+  pub read : Begins (moment ++ event_of p.who ReadEpoch ∷ []) q.seen
 
 -- at a moment of what the pass did, this link word stood at the place
 pub record WasFound (p q : Trace) (at : At) (word : ℕ) : Type 0 where

@@ -10,7 +10,7 @@ ghost use Rattle.vbr_slots.specs.Views.{IsOf, knows};
 ghost use Rattle.vbr_pools.specs.Advances.{RaisesNone};
 ghost use Rattle.vbr_access.specs.Held.{IsSlot, IsHeld};
 ghost use Rattle.vbr_access.specs.Keeping.{Keeps, KeepsOwn};
-ghost use Rattle.vbr_access.specs.Moments.{IsRead, IsNext};
+ghost use Rattle.vbr_access.specs.Moments.{IsEpochRead, IsRead, IsNext};
 ghost use Rattle.vbr_access.specs.Rollbacks.{IsMoved};
 ghost use Rattle.vbr_access.specs.Steps.{next_steps};
 
@@ -25,6 +25,7 @@ use vbr_words::{At, decode};
 pub fn checkpoint(slots: &Slots, pass: &mut Pass) -> Checkpoint
     requires { IsOf pass.old.trace slots.now }
     ensures epoch { result.epoch ≡ (knows pass.new.trace).epoch }
+    ensures read { IsEpochRead pass.old.trace pass.new.trace result.epoch }
     ensures quiet { Quiet pass.old.trace pass.new.trace }
     ensures took { Took pass.old.trace pass.new.trace 1 }
     ensures own { KeepsOwn pass.old pass.new }

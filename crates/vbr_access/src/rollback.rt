@@ -18,6 +18,11 @@ pub enum Rollback {
 }
 
 impl fmt::Display for Rollback {
+    ghost use Rattle.std.specs.Prelude.{Some};
+    ghost use Rattle.vbr_access.specs.Messages.{error_text};
+
+    ghost output = { λ e. Some (error_text e) };
+
     fn fmt<W: fmt::Write>(&self, f: &mut fmt::Formatter<W>) -> fmt::Result {
         match self {
             Rollback::EpochMoved { now } => write!(f, "the epoch has moved to {now}"),

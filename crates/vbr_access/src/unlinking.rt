@@ -8,7 +8,7 @@ ghost use Rattle.vbr_slots.specs.Calls.{Quiet, Took};
 ghost use Rattle.vbr_slots.specs.Views.{IsOf, knows};
 ghost use Rattle.vbr_pools.specs.Advances.{RaisesNone};
 ghost use Rattle.vbr_access.specs.Held.{IsHeld, IsMarked, Names};
-ghost use Rattle.vbr_access.specs.Keeping.{Keeps, KeepsOwn};
+ghost use Rattle.vbr_access.specs.Keeping.{Keeps, KeepsOwn, UnlinksNone};
 ghost use Rattle.vbr_access.specs.Moments.{IsRead};
 ghost use Rattle.vbr_access.specs.Rollbacks.{IsMoved, IsMovedOrLost};
 ghost use Rattle.vbr_access.specs.Steps.{birth_steps, unlink_steps};
@@ -33,6 +33,7 @@ fn birth_behind(slots: &Slots, pass: &mut Pass, marked: &Marked) -> Result<u64, 
     ensures keeps { IfOk result (λ birth. Keeps (knows pass.old.trace) (knows pass.new.trace)) }
     ensures birth { IfOk result (λ birth. BirthNamed (knows pass.new.trace) (link_of marked.now.word).slot birth) }
     ensures some { IfErr result (λ r. IsSome (link_of marked.now.word).slot) }
+    ensures unlinks_none { UnlinksNone (knows pass.old.trace) (knows pass.new.trace) }
     ensures moved { IfErr result (λ r. IsMoved pass.old.trace pass.new.trace r) }
 {
     soundness(slots, pass);
@@ -49,7 +50,7 @@ fn birth_behind(slots: &Slots, pass: &mut Pass, marked: &Marked) -> Result<u64, 
 
 /// Unlinks a marked node behind `pred`, whose link names it: the slot is the pass's, to be retired,
 /// and `pred` comes back with its new link, which names what the marked link named. It does so only
-/// where the link of `pred` is still the unmarked one that is held.
+/// where the link of `pred` is still the unmarked one that is held; else no slot is unlinked.
 ///
 /// It makes one step, and two before that if the marked link names a node.
 #[inline]
@@ -75,6 +76,7 @@ pub fn unlink(
     ensures read { IfOk result (λ r. IsRead pass.old.trace pass.new.trace r.1) }
     ensures still { IfOk result (λ r. (link_of r.1.word).mark ≡ false) }
     ensures next { IfOk result (λ r. (link_of r.1.word).slot ≡ (link_of marked.word).slot) }
+    ensures unlinks_none { IfErr result (λ r. UnlinksNone (knows pass.old.trace) (knows pass.new.trace)) }
     ensures rolled { IfErr result (λ r. IsMovedOrLost pass.old.trace pass.new.trace pred.now r) }
     ensures right { IfOk result (λ _. IsSafe pass.new.trace.shape pass.new.trace.seen) }
 {

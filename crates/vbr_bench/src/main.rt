@@ -1,55 +1,54 @@
-//! The program `vbr_bench`: plays rounds of calls with one pass on one thread, and prints how many of
-//! them there were and how many were answered yes. With the argument `time` it prints nanoseconds per
-//! call as well.
+//! The program `vbr_bench`: measures how long threads take for calls of one set, and prints a table
+//! in CSV. Each measured run is checked as well: no call may be refused, and the keys that are left
+//! have to be as many as the answers say.
 #![tactic(auto)]
 
-mod player;
+mod gate;
+mod measure;
+mod options;
+mod random;
+mod table;
 mod tally;
+mod threads;
+mod times;
+mod worker;
+mod workload;
 
-use player::Player;
+use measure::measure;
+use options::{Options, read_options};
+use std::alloc::Global;
 use std::env;
+use std::process::ExitCode;
 use std::rt::Clock;
-use tally::Tally;
-use vbr_core::Op;
+use std::sync::Wait;
+use std::thread::Threads;
+use table::{print_header, print_row};
+use workload::workloads;
 
-/// How many keys are in the set, from 0 on; as many others are looked up.
-const KEYS: u32 = 1024;
-/// How many keys are removed before they are inserted again: fewer than a pass keeps slots.
-const BATCH: u32 = 32;
-/// How often each key is removed and inserted again.
-const ROUNDS: u32 = 100;
-
-fn main(rt: HostRuntime) -> anyhow::Result<()> {
-    let timed = env::args(&rt)?.any(|word| word.as_str() == "time");
-    let mut player = Player::open(rt.alloc())?;
-    player.make(Op::Insert, 0, KEYS)?;
-    let mut removes = Tally::new("remove");
-    let mut inserts = Tally::new("insert");
-    let mut looks = Tally::new("has");
-    for _ in 0..ROUNDS {
-        play_round(&rt, &mut player, &mut removes, &mut inserts)?;
-        looks.add(&rt, &mut player, Op::Has, 0, 2 * KEYS)?;
-    }
-    for tally in [&removes, &inserts, &looks] {
-        if timed {
-            println!(rt; "{tally}, {} ns each", tally.nanoseconds())?;
-        } else {
-            println!(rt; "{tally}")?;
+fn main(rt: HostRuntime) -> anyhow::Result<ExitCode> {
+    let words = env::args(&rt)?.collect::<Vec<String>>(rt.alloc())?;
+    match read_options(rt.alloc(), &words) {
+        Ok(options) => {
+            run(&rt, rt.alloc(), &options)?;
+            Ok(ExitCode::SUCCESS)
+        }
+        Err(error) => {
+            error.print(&rt)?;
+            Ok(ExitCode::from(error.exit_code() as u8))
         }
     }
-    Ok(())
 }
 
-// Removes each key and inserts it again, batch after batch.
-fn play_round(
-    clock: &impl Clock,
-    player: &mut Player,
-    removes: &mut Tally,
-    inserts: &mut Tally,
+// Measures each workload, and prints the table.
+fn run<R: Threads + Wait + Clock + Print + Sync>(
+    rt: &R,
+    alloc: Global,
+    options: &Options,
 ) -> anyhow::Result<()> {
-    for batch in 0..KEYS / BATCH {
-        removes.add(clock, player, Op::Remove, batch * BATCH, BATCH)?;
-        inserts.add(clock, player, Op::Insert, batch * BATCH, BATCH)?;
+    print_header(rt, options.untimed)?;
+    for workload in workloads(alloc, options.short)? {
+        let times = measure(rt, alloc, workload, options)?;
+        print_row(rt, workload, options, times)?;
     }
     Ok(())
 }

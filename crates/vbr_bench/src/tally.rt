@@ -1,58 +1,59 @@
-//! What calls of one kind came to.
-use crate::player::Player;
-use std::fmt;
-use std::rt::Clock;
-use std::time::{Duration, Instant};
-use vbr_core::Op;
+//! What calls were answered.
+ghost use Rattle.std.specs.Prelude.{◌≡◌, ◌+◌, ◌↔◌, IsTrue};
+ghost use Rattle.vbr_bench.specs.Tally.{noted, both};
 
-/// How many calls of one kind were made, how many were answered yes, and the time that they took.
-#[derive(Drop)]
+use vbr_core::Op;
+use vbr_set::Refusal;
+
+/// How many calls of each kind were answered yes, and how many were refused.
+#[derive(Clone, Copy)]
 pub struct Tally {
-    name: &'static str,
-    calls: u64,
-    yes: u64,
-    time: Duration,
+    pub inserted: u64,
+    pub removed: u64,
+    pub found: u64,
+    pub refused: u64,
 }
 
 impl Tally {
     /// No calls yet.
-    pub fn new(name: &'static str) -> Tally {
-        Tally {
-            name,
-            calls: 0,
-            yes: 0,
-            time: Duration::ZERO,
+    pub const NONE: Tally = Tally {
+        inserted: 0,
+        removed: 0,
+        found: 0,
+        refused: 0,
+    };
+
+    /// Counts a call.
+    #[inline]
+    pub fn note(&mut self, op: Op, answer: Result<bool, Refusal>)
+        ensures { self.new ≡ noted op answer self.old }
+    {
+        match (answer, op) {
+            (Ok(false), _) => {}
+            (Ok(true), Op::Insert) => self.inserted = self.inserted.saturating_add(1),
+            (Ok(true), Op::Remove) => self.removed = self.removed.saturating_add(1),
+            (Ok(true), Op::Has) => self.found = self.found.saturating_add(1),
+            (Err(_), _) => self.refused = self.refused.saturating_add(1),
         }
     }
 
-    /// Has a player make a call for so many keys from one on, and adds that up.
-    pub fn add(
-        &mut self,
-        clock: &impl Clock,
-        player: &mut Player,
-        op: Op,
-        first: u32,
-        count: u32,
-    ) -> anyhow::Result<()> {
-        let start = Instant::now(clock)?;
-        let yes = player.make(op, first, count)?;
-        self.time = self.time.saturating_add(start.elapsed(clock)?);
-        self.calls = self.calls.saturating_add(u64::from(count));
-        self.yes = self.yes.saturating_add(u64::from(yes));
-        Ok(())
+    /// Both tallies together.
+    pub fn and(self, other: Tally) -> Tally
+        ensures { result ≡ both self other }
+    {
+        Tally {
+            inserted: self.inserted.saturating_add(other.inserted),
+            removed: self.removed.saturating_add(other.removed),
+            found: self.found.saturating_add(other.found),
+            refused: self.refused.saturating_add(other.refused),
+        }
     }
 
-    /// The nanoseconds that a call took, rounded down; 0 if there was none.
-    pub fn nanoseconds(&self) -> u128 {
-        self.time
-            .as_nanos()
-            .checked_div(u128::from(self.calls))
-            .unwrap_or(0)
-    }
-}
-
-impl fmt::Display for Tally {
-    fn fmt<W: fmt::Write>(&self, f: &mut fmt::Formatter<W>) -> fmt::Result {
-        write!(f, "{}: {} calls, {} yes", self.name, self.calls, self.yes)
+    /// Whether these answers lead from so many keys to so many.
+    pub fn leads(self, before: u64, after: u64) -> bool
+        ensures { IsTrue result ↔ (before + self.inserted ≡ after + self.removed) }
+    {
+        u128::from(before) + u128::from(self.inserted)
+            == u128::from(after) + u128::from(self.removed)
     }
 }

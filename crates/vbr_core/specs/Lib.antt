@@ -21,3 +21,4 @@ pub mod Kept
 pub mod Reached
 pub mod Making
 pub mod Calls
+pub mod Messages

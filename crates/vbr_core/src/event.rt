@@ -133,6 +133,11 @@ pub enum CoreRefusal {
 }
 
 impl fmt::Display for CoreRefusal {
+    ghost use Rattle.std.specs.Prelude.{Some};
+    ghost use Rattle.vbr_core.specs.Messages.{step_text};
+
+    ghost output = { λ e. Some (step_text e) };
+
     fn fmt<W: fmt::Write>(&self, f: &mut fmt::Formatter<W>) -> fmt::Result {
         match self {
             CoreRefusal::NoSuchPass => write!(f, "there is no pass of that number"),

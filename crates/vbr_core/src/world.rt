@@ -58,6 +58,11 @@ pub enum WorldRefusal {
 }
 
 impl fmt::Display for WorldRefusal {
+    ghost use Rattle.std.specs.Prelude.{Some};
+    ghost use Rattle.vbr_core.specs.Messages.{opening_text};
+
+    ghost output = { λ e. Some (opening_text e) };
+
     fn fmt<W: fmt::Write>(&self, f: &mut fmt::Formatter<W>) -> fmt::Result {
         match self {
             WorldRefusal::Passes => write!(f, "the number of passes is not from 1 to 64"),

@@ -4,3 +4,4 @@ pub mod Traversal
 pub mod Refusals
 pub mod Alone
 pub mod Inserting
+pub mod Messages

@@ -3,7 +3,7 @@ ghost use Rattle.std.specs.Prelude.{◌≡◌, ◌+◌, ◌<◌, ◌≤◌, None
 ghost use Rattle.vbr_core.specs.Acceptance.{bucket_of};
 ghost use Rattle.vbr_slots.specs.Calls.{Quiet, Took};
 ghost use Rattle.vbr_slots.specs.Views.{IsOf};
-ghost use Rattle.vbr_pools.specs.Advances.{advances};
+ghost use Rattle.vbr_pools.specs.Advances.{RaisesNone};
 ghost use Rattle.vbr_access.specs.Moments.{WasSo};
 ghost use Rattle.vbr_list.specs.Found.{IsFound};
 ghost use Rattle.vbr_list.specs.Refusals.{IsTired};
@@ -45,7 +45,8 @@ pub(crate) fn search(
 
 /// Finds where a key stands, or would stand, in the list of its bucket, in at most `budget` steps:
 /// the last unmarked place before it, and the node behind that, which both stood so at moments of
-/// the call. It unlinks and retires the marked nodes that it meets, and makes no call.
+/// the call. It unlinks and retires the marked nodes that it meets, and makes no call. Each slot that
+/// the pass could take is in its own pool then.
 ///
 /// OutOfSteps is its one refusal.
 pub fn find(slots: &Slots, pass: &mut Pass, key: u64, budget: u32) -> Result<Found, Refusal>
@@ -56,7 +57,7 @@ pub fn find(slots: &Slots, pass: &mut Pass, key: u64, budget: u32) -> Result<Fou
     ensures found { IfOk result (λ found. IsFound pass.old.trace pass.new.trace key found) }
     ensures was_so { IfOk result (λ found. WasSo pass.old.trace pass.new.trace key found.present) }
     ensures steps { IfOk result (λ found. (found.used ≤ budget) × Took pass.old.trace pass.new.trace found.used) }
-    ensures advances { advances pass.new.trace ≡ advances pass.old.trace }
+    ensures raises_none { RaisesNone pass.old pass.new }
     ensures refused { IfErr result (λ refusal. IsTired pass.old pass.new budget refusal) }
 {
     soundness(slots, pass);

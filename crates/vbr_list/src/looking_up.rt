@@ -1,7 +1,7 @@
 //! Look-ups.
 ghost use Rattle.std.specs.Prelude.{◌≡◌, None, IfOk, IfErr};
 ghost use Rattle.vbr_core.specs.declared.history.Op.TheVariants.{Has};
-ghost use Rattle.vbr_pools.specs.Advances.{advances, RaisesNone};
+ghost use Rattle.vbr_pools.specs.Advances.{RaisesNone};
 ghost use Rattle.vbr_pools.specs.Steps.{TookWithin};
 ghost use Rattle.vbr_slots.specs.Calls.{IsSame, Quiet, Made, Took};
 ghost use Rattle.vbr_slots.specs.Views.{IsOf, knows};
@@ -42,7 +42,8 @@ fn answer(slots: &Slots, pass: &mut Pass, key: u64, found: &Found) -> Result<boo
 }
 
 /// Whether a key is in the set, in at most `budget` steps. The answer's point is one load, which
-/// finds the link of the node, or of the last place before the key, as it was read.
+/// finds the link of the node, or of the last place before the key, as it was read. Each slot that
+/// the pass could take is in its own pool then.
 ///
 /// OutOfSteps is its one refusal.
 pub fn has(slots: &Slots, pass: &mut Pass, key: u64, budget: u32) -> Result<bool, Refusal>
@@ -54,7 +55,7 @@ pub fn has(slots: &Slots, pass: &mut Pass, key: u64, budget: u32) -> Result<bool
     ensures quiet { IfErr result (λ refusal. Quiet pass.old.trace pass.new.trace) }
     ensures hand { pass.new.hand ≡ None }
     ensures steps { TookWithin pass.old.trace pass.new.trace budget }
-    ensures advances { advances pass.new.trace ≡ advances pass.old.trace }
+    ensures raises_none { RaisesNone pass.old pass.new }
     ensures refused { IfErr result (λ refusal. IsTired pass.old pass.new budget refusal) }
 {
     soundness(slots, pass);

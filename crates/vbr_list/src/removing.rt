@@ -1,7 +1,7 @@
 //! Removes.
 ghost use Rattle.std.specs.Prelude.{◌≡◌, ◌+◌, ◌<◌, ◌≤◌, ◌^◌, true, None, IfOk, IfErr};
 ghost use Rattle.vbr_core.specs.declared.history.Op.TheVariants.{Remove};
-ghost use Rattle.vbr_pools.specs.Advances.{advances};
+ghost use Rattle.vbr_pools.specs.Advances.{RaisesNone};
 ghost use Rattle.vbr_pools.specs.Steps.{Counts, TookWithin};
 ghost use Rattle.vbr_slots.specs.Calls.{IsSame, Quiet, Made};
 ghost use Rattle.vbr_slots.specs.Views.{IsOf, knows};
@@ -84,7 +84,7 @@ fn settle(
 /// Takes a key out of the set, in at most `budget` steps, and says whether it was there. The answer's
 /// point is one step: the mark of the node, or a load that finds the link of the last place before
 /// the key as it was read. A node that was marked and can't be unlinked within the budget is left
-/// to others.
+/// to others. Each slot that the pass could take is in its own pool then.
 ///
 /// OutOfSteps is its one refusal.
 pub fn remove(slots: &Slots, pass: &mut Pass, key: u64, budget: u32) -> Result<bool, Refusal>
@@ -96,7 +96,7 @@ pub fn remove(slots: &Slots, pass: &mut Pass, key: u64, budget: u32) -> Result<b
     ensures quiet { IfErr result (λ refusal. Quiet pass.old.trace pass.new.trace) }
     ensures hand { pass.new.hand ≡ None }
     ensures steps { TookWithin pass.old.trace pass.new.trace budget }
-    ensures advances { advances pass.new.trace ≡ advances pass.old.trace }
+    ensures raises_none { RaisesNone pass.old pass.new }
     ensures refused { IfErr result (λ refusal. IsTired pass.old pass.new budget refusal) }
 {
     soundness(slots, pass);

@@ -1,5 +1,5 @@
 -- A birth in a slot of the own pool.
-use Rattle.std.proofs.Common.{◌≡◌, ◌≢◌, ℕ, ◌+◌, ◌≤◌, length, Option, Some, None, refl, sym, ap, ◌∙◌, subst, ⊎_elim, arith}
+use Rattle.std.proofs.Common.{◌≡◌, ◌≢◌, ℕ, ◌+◌, ◌≤◌, length, get_or, Option, Some, None, refl, sym, ap, ◌∙◌, subst, ⊎_elim, arith}
 use Rattle.std.proofs.lemmas.Bool.{cases_eq}
 use Rattle.vbr_core.specs.Acceptance.{stamp_in}
 use Rattle.vbr_core.specs.Knowledge.{Know}
@@ -41,6 +41,12 @@ module _ (p q : PassView) (slot : ℕ) (d : Did (StoreBirth slot (knows p.trace)
     in_hand = record { slot = in_hand; birth = ap birth_in_hand own_here ∙ sym same_epoch };
     birth = refl;
     above = (let s = stamps_stay slot in let e = same_epoch in let b = below.1 in omega arith);
+    oldest = record {
+      place = below.2.place;
+      low = below.2.low;
+      is = below.2.is;
+      before = λ k less. (let s = stamps_stay (get_or p.pool k 0) in let e = same_epoch in let b = below.2.before k less in omega arith);
+    };
     rest = pool;
     room = (let less = without_shorter slot p.pool below.0 in let e = ap length pool in omega arith);
     advances = same_advances d refl;

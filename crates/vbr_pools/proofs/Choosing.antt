@@ -15,6 +15,7 @@ use Rattle.vbr_pools.specs.Advances.{advances, Has, AdvancesOnce}
 use Rattle.vbr_pools.specs.Pieces.{Uses, NoRoom, IsShort, Stops, ShowsSpent, IsBelow, IsScanned, IsChosen}
 use Rattle.vbr_pools.specs.Refusals.{AllStamped}
 use Rattle.vbr_pools.specs.Steps.{Counts}
+use Rattle.vbr_pools.specs.Taking.{IsOldest}
 use Rattle.vbr_pools.specs.declared.refusal.TakeRefusal.{TakeRefusal}
 use Rattle.vbr_pools.specs.declared.refusal.TakeRefusal.TheVariants.{OutOfSteps, NoSlot, EpochSpent}
 use Rattle.vbr_pools.proofs.Advancing.{same_advances, nobody, none_known, none_on, did_none, once, once_after, once_before}
@@ -98,9 +99,10 @@ module _ (p q r : PassView) (e budget used : ℕ) (read : Did ReadEpoch p.trace 
             let told = epoch_told again in
             let up = rises in
             let m = uses.at_most in
+            let first_one : IsOldest (knows t.trace) t.pool slot (knows t.trace).epoch = subst (λ (l : List ℕ). IsOldest (knows t.trace) l slot (knows t.trace).epoch) shown (record { place = 0; low = some_slot pool (λ none. some (sym there ∙ none)); is = refl; before = λ k less. absurd (omega arith) }) in
             record {
               uses = record { counts = counts_on uses.counts (subst (λ (k : ℕ). Counts r.trace t.trace since k) (omega arith) (counts_on (counts_one since advance) (counts_one (since + 1) again))); within = omega arith; at_most = omega arith };
-              below = (subst (λ (l : List ℕ). Contains l slot) shown has, omega arith);
+              below = (subst (λ (l : List ℕ). Contains l slot) shown has, omega arith, first_one);
             }
 
         pub raised_once : KeepsPool p q → KeepsPool q r → advances r.trace ≡ advances q.trace → AdvancesOnce p t

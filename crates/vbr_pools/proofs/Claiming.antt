@@ -16,7 +16,7 @@ use Rattle.vbr_pools.specs.SharedPool.{WasOutside, CameByFlag}
 use Rattle.vbr_pools.specs.Steps.{Counts}
 use Rattle.vbr_pools.proofs.Advancing.{same_advances, none_given, none_known, none_on}
 use Rattle.vbr_pools.proofs.Counting.{counts_one, counts_on}
-use Rattle.vbr_pools.proofs.Moments.{came, missed, came_after, missed_before, missed_after}
+use Rattle.vbr_pools.proofs.Moments.{came, missed, missed_before, missed_after}
 
 -- so many slots were probed, and each was outside the shared pool
 pub record Claiming (p q : PassView) (budget probed : ℕ) : Type 0 where
@@ -56,7 +56,7 @@ claim_won {p} {q} {r} {t} {budget} {slot} at empty no_hand room d stays same poo
     record {
       uses = record { counts = subst (λ (x : Trace). Counts p.trace x 0 (slot + 1)) (sym same) (counts_on at.counts (counts_one slot d)); within = omega arith; at_most = omega arith };
       hand = hand ∙ ap (hand_without slot) (stays.1 ∙ at.pool.1 ∙ no_hand);
-      claimed = inr (empty, slot, one, subst (λ (x : Trace). CameByFlag p.trace x slot) (sym same) (came_after at.quiet (came d)));
+      claimed = inr (empty, slot, one, subst (λ (x : Trace). CameByFlag p.trace x slot) (sym same) (came at.quiet d (λ s less. missed_before (at.outside s less) (did_quiet d (λ know. refl)))));
       some = λ none. not_empty slot (sym one ∙ none);
     }
   where

@@ -1,5 +1,5 @@
 -- What the steps of a pass show: the epoch that it reads, and the flags that it takes.
-use Rattle.std.proofs.Common.{◌≡◌, ◌≢◌, ℕ, ◌==◌, Bool, true, false, [], ◌∷◌, ◌++◌, cond, refl, sym, ap, ◌∙◌, subst, append-nil, arith}
+use Rattle.std.proofs.Common.{◌≡◌, ◌≢◌, ℕ, ◌<◌, ◌==◌, Bool, true, false, [], ◌∷◌, ◌++◌, cond, refl, sym, ap, ◌∙◌, subst, append-nil, arith}
 use Rattle.std.proofs.lemmas.Bool.{eqb-true}
 use Rattle.vbr_words.specs.Dimensions.{Dimensions}
 use Rattle.vbr_core.specs.Knowledge.{Know}
@@ -45,14 +45,6 @@ won n e = eqb-true n 1 (won_if (n == 1) n e)
 flag_shown : {p q : Trace} {s r : ℕ} (d : Did (TakeFlag s) p q r) → exchanged 1 r ≡ exchanged 1 (flag_of ((world_after p.shape (p.seen ++ d.rest)).place s))
 flag_shown d = d.shows.answers
 
-pub came : {p q : Trace} {s : ℕ} → Did (TakeFlag s) p q 1 → CameByFlag p q s
-came {p} {q} {s} d = record {
-  moment = p.seen ++ d.rest;
-  is = did_moment d;
-  shared = is_shared _ (won (flag_of ((world_after p.shape (p.seen ++ d.rest)).place s)) (flag_shown d));
-  taken = ([], d.seen ∙ sym (append-nil ((p.seen ++ d.rest) ++ event_of p.who (TakeFlag s) ∷ [])));
-}
-
 pub missed : {p q : Trace} {s r : ℕ} → Did (TakeFlag s) p q r → r ≢ 1 → WasOutside p q s
 missed {p} {q} {s} {r} d lost = record {
   moment = p.seen ++ d.rest;
@@ -62,19 +54,25 @@ missed {p} {q} {s} {r} d lost = record {
 
 -- ---- parts of a call
 
-pub came_before : {p q r : Trace} {s : ℕ} → CameByFlag p q s → Quiet q r → CameByFlag p r s
-came_before {p} {q} {r} {s} a b = record { moment = a.moment; is = moment_before a.is b; shared = a.shared; taken = begins_trans _ q.seen r.seen a.taken b.seen }
-
 pub missed_before : {p q r : Trace} {s : ℕ} → WasOutside p q s → Quiet q r → WasOutside p r s
 missed_before a b = record { moment = a.moment; is = moment_before a.is b; outside = a.outside }
 
 pub missed_after : {p q r : Trace} {s : ℕ} → Quiet p q → WasOutside q r s → WasOutside p r s
 missed_after {p} {q} {r} {s} a b = record { moment = b.moment; is = moment_after a.seen b.is; outside = subst (λ (shape : Dimensions). (world_after shape b.moment).place s ≢ Shared) a.same.shape b.outside }
 
-pub came_after : {p q r : Trace} {s : ℕ} → Quiet p q → CameByFlag q r s → CameByFlag p r s
-came_after {p} {q} {r} {s} a b = record {
-  moment = b.moment;
-  is = moment_after a.seen b.is;
-  shared = subst (λ (shape : Dimensions). (world_after shape b.moment).place s ≡ Shared) a.same.shape b.shared;
-  taken = subst (λ (who : ℕ). Begins (b.moment ++ event_of who (TakeFlag s) ∷ []) r.seen) a.same.who b.taken;
-}
+pub came_before : {p q r : Trace} {s : ℕ} → CameByFlag p q s → Quiet q r → CameByFlag p r s
+came_before {p} {q} {r} {s} a b = record { moment = a.moment; is = moment_before a.is b; shared = a.shared; taken = begins_trans _ q.seen r.seen a.taken b.seen; first = λ t less. missed_before (a.first t less) b }
+
+-- the flag of a slot was taken, once those of the slots before it were lost
+pub came : {p q r : Trace} {s : ℕ} → Quiet p q → Did (TakeFlag s) q r 1 → ((t : ℕ) → t < s → WasOutside p r t) → CameByFlag p r s
+came {p} {q} {r} {s} a d before =
+    let moment = q.seen ++ d.rest in
+    let here : (world_after q.shape moment).place s ≡ Shared = is_shared _ (won (flag_of ((world_after q.shape moment).place s)) (flag_shown d)) in
+    let taken : Begins (moment ++ event_of q.who (TakeFlag s) ∷ []) r.seen = ([], d.seen ∙ sym (append-nil (moment ++ event_of q.who (TakeFlag s) ∷ []))) in
+    record {
+      moment = moment;
+      is = moment_after a.seen (did_moment d);
+      shared = subst (λ (shape : Dimensions). (world_after shape moment).place s ≡ Shared) a.same.shape here;
+      taken = subst (λ (who : ℕ). Begins (moment ++ event_of who (TakeFlag s) ∷ []) r.seen) a.same.who taken;
+      first = before;
+    }

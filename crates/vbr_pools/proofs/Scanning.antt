@@ -13,6 +13,7 @@ use Rattle.vbr_slots.proofs.Calls.{quiet_on, did_quiet}
 use Rattle.vbr_pools.specs.Advances.{advances}
 use Rattle.vbr_pools.specs.Pieces.{IsScanned}
 use Rattle.vbr_pools.specs.Steps.{Counts}
+use Rattle.vbr_pools.specs.Taking.{IsOldest}
 use Rattle.vbr_pools.proofs.Advancing.{same_advances}
 use Rattle.vbr_pools.proofs.Counting.{counts_one, counts_on}
 
@@ -59,11 +60,20 @@ module _ {p q r : PassView} {epoch budget before looked used n : ℕ} (at : Scan
       here : (k x : ℕ) → k ≡ looked → get_or pool looked 0 ≡ get_or p.pool k x
       here k x is = get_or_default pool looked 0 x low ∙ (λ i. get_or ((shown ∙ at.pool.0) i) (sym is i) x)
 
+  oldest : IsOldest (knows p.trace) p.pool slot epoch
+  oldest = record {
+    place = looked;
+    low = subst (λ (l : List ℕ). looked < length l) (shown ∙ at.pool.0) low;
+    is = sym (ap (λ (l : List ℕ). get_or l looked 0) (shown ∙ at.pool.0));
+    before = λ k less. at.above k 0 less;
+  }
+
   pub scan_found : length pool ≤ 64 → n < epoch → IsScanned p r epoch budget before (Some slot) (used + 1)
   scan_found most below = record {
     uses = record { counts = counts_on at.counts (counts_one used d); within = omega arith; at_most = (let s = at.sum in omega arith) };
     below = (
       subst (λ (l : List ℕ). Contains l slot) (sym stays.0) there,
       subst (λ (m : ℕ). m < epoch) (loaded ∙ sym (ap (λ (k : Know). stamp_in (k.own slot)) (d.know ∙ at.known))) below,
+      subst (λ (x : Know × List ℕ). IsOldest x.0 x.1 slot epoch) (λ i. (sym (d.know ∙ at.known) i, sym (stays.0 ∙ at.pool.0) i)) oldest,
     );
   }

@@ -13,7 +13,7 @@ use Rattle.vbr_pools.specs.Pieces.{Uses, IsShort, Stops, HasSlots, IsChosen, IsB
 use Rattle.vbr_pools.specs.Refusals.{LeavesPool}
 use Rattle.vbr_pools.specs.SharedPool.{CameByFlag}
 use Rattle.vbr_pools.specs.Steps.{TookWithin}
-use Rattle.vbr_pools.specs.Taking.{IsTaken}
+use Rattle.vbr_pools.specs.Taking.{IsOldest, IsTaken}
 use Rattle.vbr_pools.specs.declared.refusal.TakeRefusal.{TakeRefusal}
 use Rattle.vbr_pools.specs.declared.refusal.TakeRefusal.TheVariants.{OutOfSteps, NoSlot, EpochSpent}
 use Rattle.vbr_pools.proofs.Advancing.{needed_after, needed_before}
@@ -51,9 +51,9 @@ module _ (p q r : PassView) (budget used : ℕ) (first : Quiet p.trace q.trace) 
     gone s is = ap (λ (b : Bool). cond (not b) (s ∷ []) []) (eq-eqb s slot is)
 
     -- the slot that was chosen was in the pool, or came
-    from : Quiet r.trace t.trace → Contains p.pool slot ⊎ ((p.pool ≡ []) × CameByFlag p.trace t.trace slot)
-    from more =
-        ⊎_elim (λ (x : (q.pool ≡ p.pool) × (p.pool ≢ []) × (used ≡ 0)). inl (subst (λ (l : List ℕ). Contains l slot) (keeps.0 ∙ x.0) chosen.below.0))
+    from : (birth : ℕ) → Quiet r.trace t.trace → IsOldest (knows t.trace) r.pool slot birth → IsOldest (knows t.trace) p.pool slot birth ⊎ ((p.pool ≡ []) × CameByFlag p.trace t.trace slot)
+    from birth more oldest =
+        ⊎_elim (λ (x : (q.pool ≡ p.pool) × (p.pool ≢ []) × (used ≡ 0)). inl (subst (λ (l : List ℕ). IsOldest (knows t.trace) l slot birth) (keeps.0 ∙ x.0) oldest))
         (λ (x : (p.pool ≡ []) × (s : ℕ) × (q.pool ≡ s ∷ []) × CameByFlag p.trace q.trace s).
         inr (x.0, subst (CameByFlag p.trace t.trace) (one x.1 (subst (λ (l : List ℕ). Contains l slot) (keeps.0 ∙ x.2) chosen.below.0)) (came_before x.3 (quiet_on quiet more)))) begun.claimed
 
@@ -64,9 +64,9 @@ module _ (p q r : PassView) (budget used : ℕ) (first : Quiet p.trace q.trace) 
         is ∙ ap (without slot) (keeps.0 ∙ x.2) ∙ gone x.1 (one x.1 (subst (λ (l : List ℕ). Contains l slot) (keeps.0 ∙ x.2) chosen.below.0)) ∙ sym (ap (without slot) x.0)) begun.claimed
 
     pub taken : (hand : HandView) → IsBorn r t slot budget since hand → IsTaken p t hand
-    taken hand born = subst (λ (s : ℕ). (Contains p.pool s ⊎ ((p.pool ≡ []) × CameByFlag p.trace t.trace s)) → (stamp_in ((knows t.trace).own s) < hand.birth) → (t.pool ≡ without s p.pool) → IsTaken p t hand) born.slot
+    taken hand born = subst (λ (s : ℕ). (IsOldest (knows t.trace) p.pool s hand.birth ⊎ ((p.pool ≡ []) × CameByFlag p.trace t.trace s)) → (stamp_in ((knows t.trace).own s) < hand.birth) → (t.pool ≡ without s p.pool) → IsTaken p t hand) born.slot
         (λ come above left. record { from = come; in_hand = born.in_hand; birth = born.birth; above = above; rest = left; room = born.room })
-        (from born.quiet) born.above (rest born.rest)
+        (from hand.birth born.quiet born.oldest) born.above (rest born.rest)
 
     module _ (result : Result (HandView × ℕ) TakeRefusal) (ok : IfOk result (λ b. IsBorn r t slot budget since b.0)) (refused : IfErr result (λ refusal. IsShort r t budget since 0 refusal)) (still : OnErr result (t ≡ r)) where
       quiet_last : Quiet r.trace t.trace

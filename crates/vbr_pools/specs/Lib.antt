@@ -8,3 +8,4 @@ pub mod Taking
 pub mod Refusals
 pub mod Retiring
 pub mod Pieces
+pub mod Messages

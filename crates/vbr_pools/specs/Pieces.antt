@@ -10,6 +10,7 @@ use Rattle.vbr_pools.specs.Hands.{HandView, IsHandOf}
 use Rattle.vbr_pools.specs.Refusals.{IsSpent}
 use Rattle.vbr_pools.specs.SharedPool.{CameByFlag}
 use Rattle.vbr_pools.specs.Steps.{Counts}
+use Rattle.vbr_pools.specs.Taking.{IsOldest}
 use Rattle.vbr_pools.specs.declared.refusal.TakeRefusal.{TakeRefusal}
 use Rattle.vbr_pools.specs.declared.refusal.TakeRefusal.TheVariants.{OutOfSteps, NoSlot, EpochSpent}
 
@@ -53,17 +54,17 @@ pub record HasSlots (p q : PassView) (budget used : ℕ) : Type 0 where
   pub claimed : IsClaimed p q used
   pub some : q.pool ≢ []
 
--- a slot of the own pool that is stamped below an epoch, or that there is none
+-- the oldest slot of the own pool that is stamped below an epoch, or that there is none
 abbrev pub IsBelow : PassView → ℕ → Option ℕ → Type 0
 IsBelow q epoch None = All (λ slot. epoch ≤ stamp_in ((knows q.trace).own slot)) q.pool
-IsBelow q epoch (Some slot) = Contains q.pool slot × (stamp_in ((knows q.trace).own slot) < epoch)
+IsBelow q epoch (Some slot) = Contains q.pool slot × (stamp_in ((knows q.trace).own slot) < epoch) × IsOldest (knows q.trace) q.pool slot epoch
 
 -- the own pool was looked through for a slot that is stamped below an epoch
 pub record IsScanned (p q : PassView) (epoch budget before : ℕ) (found : Option ℕ) (since : ℕ) : Type 0 where
   pub uses : Uses p q budget before since POOL
   pub below : IsBelow q epoch found
 
--- the slot is one of the own pool, and stamped below the epoch that the pass read last
+-- the slot is the oldest one of the own pool that is stamped below the epoch that the pass read last
 pub record IsChosen (p q : PassView) (budget before slot since : ℕ) : Type 0 where
   pub uses : Uses p q budget before since (POOL + 3)
   pub below : IsBelow q (knows q.trace).epoch (Some slot)
@@ -76,6 +77,7 @@ pub record IsBorn (p q : PassView) (chosen budget before : ℕ) (hand : HandView
   pub in_hand : IsHandOf q hand
   pub birth : hand.birth ≡ (knows q.trace).epoch
   pub above : stamp_in ((knows q.trace).own chosen) < hand.birth
+  pub oldest : IsOldest (knows q.trace) p.pool chosen hand.birth
   pub rest : q.pool ≡ without chosen p.pool
   pub room : length q.pool < POOL
   pub advances : advances q.trace ≡ advances p.trace

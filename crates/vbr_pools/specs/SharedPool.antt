@@ -1,5 +1,5 @@
 -- Slots in the shared pool and outside it, during a call.
-use Rattle.std.specs.Prelude.{◌≡◌, ◌≢◌, ℕ, List, [], ◌∷◌, ◌++◌}
+use Rattle.std.specs.Prelude.{◌≡◌, ◌≢◌, ℕ, ◌<◌, List, [], ◌∷◌, ◌++◌}
 use Rattle.vbr_core.specs.Runs.{Begins, world_after}
 use Rattle.vbr_core.specs.declared.event.Event.{Event}
 use Rattle.vbr_core.specs.declared.event.Step.TheVariants.{TakeFlag}
@@ -13,9 +13,10 @@ pub record WasOutside (p q : Trace) (slot : ℕ) : Type 0 where
   pub is : Moment p q moment
   pub outside : (world_after p.shape moment).place slot ≢ Shared
 
--- the pass took the slot out of the shared pool
+-- the pass took the slot out of the shared pool, and each slot before it was outside at some moment
 pub record CameByFlag (p q : Trace) (slot : ℕ) : Type 0 where
   pub moment : List Event
   pub is : Moment p q moment
   pub shared : (world_after p.shape moment).place slot ≡ Shared
   pub taken : Begins (moment ++ event_of p.who (TakeFlag slot) ∷ []) q.seen
+  pub first : (other : ℕ) → other < slot → WasOutside p q other

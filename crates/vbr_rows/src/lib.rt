@@ -7,6 +7,8 @@ mod access;
 mod devices;
 pub mod event_lists;
 #[cfg(test)]
+mod gates;
+#[cfg(test)]
 mod list;
 #[cfg(test)]
 mod listed_calls;
@@ -16,6 +18,8 @@ mod plain_set;
 mod player;
 #[cfg(test)]
 mod pools;
+#[cfg(test)]
+mod random_runs;
 #[cfg(test)]
 mod retiring;
 #[cfg(test)]

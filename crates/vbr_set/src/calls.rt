@@ -2,7 +2,7 @@
 ghost use Rattle.std.specs.Prelude.{◌≡◌, None, IfOk, IfErr};
 ghost use Rattle.vbr_words.specs.Dimensions.{IsShape};
 ghost use Rattle.vbr_core.specs.declared.history.Op.TheVariants.{Insert, Remove, Has};
-ghost use Rattle.vbr_pools.specs.Advances.{AdvancesWhereNeeded, advances};
+ghost use Rattle.vbr_pools.specs.Advances.{AdvancesWhereNeeded, RaisesNone};
 ghost use Rattle.vbr_pools.specs.Steps.{TookWithin};
 ghost use Rattle.vbr_slots.specs.Calls.{IsSame, Quiet};
 ghost use Rattle.vbr_slots.specs.Views.{IsOf};
@@ -60,7 +60,7 @@ impl VbrSet {
         ensures quiet { IfErr result (λ refusal. Quiet pass.old.trace pass.new.trace) }
         ensures hand { pass.new.hand ≡ None }
         ensures steps { TookWithin pass.old.trace pass.new.trace budget }
-        ensures advances { advances pass.new.trace ≡ advances pass.old.trace }
+        ensures raises_none { RaisesNone pass.old pass.new }
         ensures refused { IfErr result (λ refusal. IsTired pass.old pass.new budget refusal) }
     {
         known_shape(&self.slots);
@@ -81,7 +81,7 @@ impl VbrSet {
         ensures quiet { IfErr result (λ refusal. Quiet pass.old.trace pass.new.trace) }
         ensures hand { pass.new.hand ≡ None }
         ensures steps { TookWithin pass.old.trace pass.new.trace budget }
-        ensures advances { advances pass.new.trace ≡ advances pass.old.trace }
+        ensures raises_none { RaisesNone pass.old pass.new }
         ensures refused { IfErr result (λ refusal. IsTired pass.old pass.new budget refusal) }
     {
         known_shape(&self.slots);

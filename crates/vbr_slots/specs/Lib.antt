@@ -8,3 +8,4 @@ pub mod PassView
 pub mod SlotsView
 pub mod Closing
 pub mod Calls
+pub mod Messages

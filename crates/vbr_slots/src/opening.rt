@@ -27,6 +27,11 @@ pub enum OpenError {
 }
 
 impl fmt::Display for OpenError {
+    ghost use Rattle.std.specs.Prelude.{Some};
+    ghost use Rattle.vbr_slots.specs.Messages.{error_text};
+
+    ghost output = { λ e. Some (error_text e) };
+
     fn fmt<W: fmt::Write>(&self, f: &mut fmt::Formatter<W>) -> fmt::Result {
         match self {
             OpenError::Passes => write!(f, "the number of passes is not from 1 to 64"),

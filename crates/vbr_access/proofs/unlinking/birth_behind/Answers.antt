@@ -8,6 +8,7 @@ use Rattle.vbr_pools.proofs.Advancing.{none_on, did_none}
 use Rattle.vbr_access.specs.Held.{held_of}
 use Rattle.vbr_access.proofs.Accepted.{named_slot, slot_in, slot_found}
 use Rattle.vbr_access.proofs.CheckedReads.{birth_quiet, epoch_quiet, birth_keeps, birth_read}
+use Rattle.vbr_access.proofs.NoneUnlinked.{birth_unlinks_none, epoch_unlinks_none}
 use Rattle.vbr_access.proofs.unlinking.birth_behind.Goals as goal
 
 pub load_birth-birth-requires-clause-slot : goal.load_birth-birth-requires-clause-slot
@@ -37,3 +38,9 @@ returns-then-now-marked-clause-raises_none c = none_on (did_none c.load_birth-bi
 
 pub returns-clause-raises_none : goal.returns-clause-raises_none
 returns-clause-raises_none c = none_on (did_none c.load_birth-birth.ensures.step refl c.load_birth-birth.ensures.pool) (did_none c.read_epoch-now.ensures.step refl c.read_epoch-now.ensures.pool)
+
+pub returns-then-now-marked-clause-unlinks_none : goal.returns-then-now-marked-clause-unlinks_none
+returns-then-now-marked-clause-unlinks_none c = λ s u. birth_unlinks_none c.load_birth-birth.ensures.step s (epoch_unlinks_none c.read_epoch-now.ensures.step s u)
+
+pub returns-clause-unlinks_none : goal.returns-clause-unlinks_none
+returns-clause-unlinks_none c = λ s u. birth_unlinks_none c.load_birth-birth.ensures.step s (epoch_unlinks_none c.read_epoch-now.ensures.step s u)

@@ -8,6 +8,7 @@ use Rattle.vbr_access.proofs.Unlinks.{unlink_quiet, accepted, written, written_f
 use Rattle.vbr_access.proofs.WonExchanges.{unlink_keeps}
 use Rattle.vbr_slots.proofs.Calls.{quiet_on}
 use Rattle.vbr_access.proofs.SafeCalls.{quiet_safe}
+use Rattle.vbr_access.proofs.NoneUnlinked.{lost_unlinks_none}
 use Rattle.vbr_access.proofs.unlinking.unlink.Goals as goal
 
 pub link_to-new-requires : goal.link_to-new-requires
@@ -61,3 +62,6 @@ returns-in-Ok-clause-raises_none c = none_on c.birth_behind.ensures.raises_none 
 
 pub returns-in-Err-clause-raises_none : goal.returns-in-Err-clause-raises_none
 returns-in-Err-clause-raises_none c = none_on c.birth_behind.ensures.raises_none (did_none c.in-Err.ensures.step.0 refl c.unlink.ensures.pool)
+
+pub returns-in-Err-clause-unlinks_none : goal.returns-in-Err-clause-unlinks_none
+returns-in-Err-clause-unlinks_none c = λ s u. c.birth_behind.ensures.unlinks_none s (lost_unlinks_none c.in-Err.ensures.step.0 c.in-Err.ensures.step.1 s u)

@@ -1,5 +1,6 @@
 use Rattle.std.proofs.Common.{◌+◌, sym, ◌∙◌, arith}
 use Rattle.vbr_slots.proofs.Calls.{quiet_on, same_on}
+use Rattle.vbr_pools.proofs.Advancing.{none_on}
 use Rattle.vbr_pools.proofs.Counting.{counts_on}
 use Rattle.vbr_list.proofs.Going.{bucket_is, counts_step, goes_on, goes_step, tries_on, within_of}
 use Rattle.vbr_list.proofs.LonePasses.{alone}
@@ -40,3 +41,12 @@ returns-then-not-affords-clause-same c = (quiet_on c.loop-found.invariant.goes.q
 
 pub returns-in-Ok-clause-same : goal.returns-in-Ok-clause-same
 returns-in-Ok-clause-same c = same_on (quiet_on c.loop-found.invariant.goes.quiet c.search.ensures.goes.quiet).same c.in-Ok.ensures.made.same
+
+pub returns-in_default-clause-raises_none : goal.returns-in_default-clause-raises_none
+returns-in_default-clause-raises_none c = (goes_on c.loop-found.invariant.goes c.search.ensures.goes).hand.raises_none
+
+pub returns-then-not-affords-clause-raises_none : goal.returns-then-not-affords-clause-raises_none
+returns-then-not-affords-clause-raises_none c = (goes_on c.loop-found.invariant.goes c.search.ensures.goes).hand.raises_none
+
+pub returns-in-Ok-clause-raises_none : goal.returns-in-Ok-clause-raises_none
+returns-in-Ok-clause-raises_none c = none_on (goes_on c.loop-found.invariant.goes c.search.ensures.goes).hand.raises_none c.answer-reply.ensures.raises_none

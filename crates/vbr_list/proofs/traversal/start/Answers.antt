@@ -1,4 +1,4 @@
-use Rattle.std.proofs.Common.{◌≡◌, ℕ, Ok, Err, false}
+use Rattle.std.proofs.Common.{◌≡◌, ◌+◌, ℕ, Ok, Err, false, subst, arith}
 use Rattle.std.specs.Prelude.{IfOk, Result}
 use Rattle.vbr_words.specs.Words.{link_of}
 use Rattle.vbr_words.specs.declared.place.At.TheVariants.{Head}
@@ -8,7 +8,8 @@ use Rattle.vbr_slots.specs.Views.{Trace}
 use Rattle.vbr_access.specs.Moments.{IsRead}
 use Rattle.vbr_access.specs.declared.held.Held.{Held}
 use Rattle.vbr_access.specs.declared.rollback.Rollback.{Rollback}
-use Rattle.vbr_list.specs.Traversal.{IsReached}
+use Rattle.vbr_list.specs.Traversal.{Goes, IsReached}
+use Rattle.vbr_list.proofs.Going.{goes_on, goes_step}
 use Rattle.vbr_list.proofs.Reaching.{head_reached}
 use Rattle.vbr_list.proofs.traversal.start.Goals as goal
 
@@ -18,3 +19,11 @@ reached bucket key (Err r) x y e at read unmarked = tt
 
 pub returns-clause-pred : goal.returns-clause-pred
 returns-clause-pred c = reached c.args.bucket c.args.key c.first-head.result c.checkpoint-point.ensures.quiet c.first-head.ensures.quiet c.requires.bucket c.first-head.ensures.at c.first-head.ensures.read c.first-head.ensures.unmarked
+
+pub returns-clause-goes : goal.returns-clause-goes
+returns-clause-goes c =
+    let point = c.checkpoint-point.ensures in
+    let head = c.first-head.ensures in
+    let sum : c.args.used.now + 1 + 2 ≡ c.args.used.now + 3 = omega arith in
+    subst (λ (n : ℕ). Goes c.args.pass.now c.first-head.new.pass c.args.used.now n) sum
+    (goes_on (goes_step c.args.used.now 1 point.quiet point.took point.own point.raises_none) (goes_step (c.args.used.now + 1) 2 head.quiet head.took head.own head.raises_none))

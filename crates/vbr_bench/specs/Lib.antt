@@ -1,0 +1,4 @@
+pub mod Passes
+pub mod Tally
+pub mod Threads
+pub mod Times

@@ -1,0 +1,25 @@
+//! The program `vbr_example`: two ways to use the set. Workers in threads of their own share one and
+//! claim pages by it; and workers play a script that stands in a file.
+#![tactic(auto)]
+
+mod claiming;
+mod worker;
+
+use std::fs::File;
+use vbr_run::{Config, NoGate, play};
+use vbr_words::Shape;
+use vbr_words::shape::MAX_EPOCH;
+
+fn main(rt: HostRuntime) -> anyhow::Result<()> {
+    let (claimed, report) = claiming::claim_pages(&rt, rt.alloc())?;
+    println!(rt; "{claimed} pages were claimed. In the set are:")?;
+    for page in &report.keys {
+        println!(rt; "{page}")?;
+    }
+
+    let config = Config::new(Shape::new(64, 16, MAX_EPOCH)?, 3, 100_000, false)?;
+    let mut script = File::open(&rt, "phases.script")?;
+    let mut output = rt.stdout();
+    play(&rt, rt.alloc(), config, &mut script, &mut output, &NoGate)?;
+    Ok(())
+}

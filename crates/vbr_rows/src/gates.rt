@@ -1,0 +1,157 @@
+//! The gate of the player: that the workers of a phase run at the same time, and that each is told of
+//! its own calls.
+use std::hint::spin_loop;
+use std::sync::atomic::{AtomicBool, AtomicU32, Ordering};
+use std::test::Fail;
+use vbr_run::{Config, Gate, Reply, play};
+use vbr_words::Shape;
+
+// How often a wait looks at its flag before it gives up.
+const LOOKS: u32 = 1_000_000_000;
+
+/// A gate at which worker 0 waits before line 0 until worker 1 has its reply to line 1, and worker 1 waits
+/// before line 1 until worker 0 has come. Where one of them plays its line to the end before the other
+/// begins, the first of the two waits in vain, and gives up.
+#[derive(Drop)]
+struct Crossing {
+    first_came: AtomicBool,
+    second_answered: AtomicBool,
+    gave_up: AtomicBool,
+}
+
+impl Crossing {
+    fn new() -> Self {
+        Crossing {
+            first_came: AtomicBool::new(false),
+            second_answered: AtomicBool::new(false),
+            gave_up: AtomicBool::new(false),
+        }
+    }
+
+    // Waits until a flag is set. Where it isn't set for too long, that is noted.
+    fn wait_for(&self, flag: &AtomicBool) {
+        for _ in 0..LOOKS {
+            if flag.load(Ordering::SeqCst) {
+                return;
+            }
+            spin_loop();
+        }
+        self.gave_up.store(true, Ordering::SeqCst);
+    }
+}
+
+impl Gate for Crossing {
+    fn before(&self, worker: u32, line: u64) {
+        match (worker, line) {
+            (0, 0) => {
+                self.first_came.store(true, Ordering::SeqCst);
+                self.wait_for(&self.second_answered);
+            }
+            (1, 1) => self.wait_for(&self.first_came),
+            _ => {}
+        }
+    }
+
+    fn after(&self, worker: u32, line: u64, _reply: Reply) {
+        if (worker, line) == (1, 1) {
+            self.second_answered.store(true, Ordering::SeqCst);
+        }
+    }
+}
+
+/// With a player that has one worker play at a time, a wait gives up.
+#[test]
+fn workers_run_at_the_same_time(rt: HostRuntime) -> Result<(), Fail> {
+    let shape = Shape::new(1024, 16, 8_796_093_022_207)?;
+    let config = Config::new(shape, 2, 100_000, false)?;
+    let mut script = b"0 insert 1\n1 insert 2\n".as_slice();
+    let mut output = Vec::new(rt.alloc());
+    let gate = Crossing::new();
+    let totals = play(&rt, rt.alloc(), config, &mut script, &mut output, &gate)?;
+    assert!(rt; !gate.gave_up.load(Ordering::SeqCst));
+    assert_eq!(rt;
+        output.as_slice(),
+        b"yes\nyes\ninserted 2\nremoved 0\nfound 0\nrefused 0\nkeys 1 2\n".as_slice()
+    );
+    assert_eq!(rt; (totals.inserted, totals.removed, totals.found), (2, 0, 0));
+    assert_eq!(rt; (totals.refused, totals.epoch), (0, 1));
+    assert_eq!(rt; totals.keys.as_slice(), [1, 2].as_slice());
+    Ok(())
+}
+
+// A script of two phases; of each of its operations the worker, and what it is answered.
+const SCRIPT: &[u8] = b"0 insert 1\n1 insert 2\nsync\n1 has 1\n0 remove 5\n";
+
+const CALLS: [(u32, Reply); 4] = [
+    (0, Reply::Yes),
+    (1, Reply::Yes),
+    (1, Reply::Yes),
+    (0, Reply::No),
+];
+
+/// A gate that counts how often it is rightly told of each line of the script, before its call and
+/// behind it.
+#[derive(Drop)]
+struct Witness {
+    begun: [AtomicU32; 4],
+    answered: [AtomicU32; 4],
+    was_misled: AtomicBool,
+}
+
+impl Witness {
+    fn new() -> Self {
+        Witness {
+            begun: counts(),
+            answered: counts(),
+            was_misled: AtomicBool::new(false),
+        }
+    }
+
+    // Counts one more of a line, if it is right.
+    fn count(&self, counts: &[AtomicU32], line: u64, is_right: bool) {
+        match counts.get(line as usize) {
+            Some(count) if is_right => {
+                count.fetch_add(1, Ordering::SeqCst);
+            }
+            _ => self.was_misled.store(true, Ordering::SeqCst),
+        }
+    }
+}
+
+fn counts() -> [AtomicU32; 4] {
+    [
+        AtomicU32::new(0),
+        AtomicU32::new(0),
+        AtomicU32::new(0),
+        AtomicU32::new(0),
+    ]
+}
+
+impl Gate for Witness {
+    fn before(&self, worker: u32, line: u64) {
+        let call = CALLS.get(line as usize);
+        let is_right = matches!(call, Some((who, _)) if *who == worker);
+        self.count(&self.begun, line, is_right);
+    }
+
+    fn after(&self, worker: u32, line: u64, reply: Reply) {
+        let call = CALLS.get(line as usize);
+        let is_right = call == Some(&(worker, reply));
+        self.count(&self.answered, line, is_right);
+    }
+}
+
+/// Each worker tells of each of its lines once before the call and once behind it, with its reply.
+#[test]
+fn a_gate_is_told_of_each_call(rt: HostRuntime) -> Result<(), Fail> {
+    let config = Config::new(Shape::new(4, 2, 10)?, 2, 1_000, false)?;
+    let mut script = SCRIPT;
+    let mut output = Vec::new(rt.alloc());
+    let gate = Witness::new();
+    play(&rt, rt.alloc(), config, &mut script, &mut output, &gate)?;
+    assert!(rt; !gate.was_misled.load(Ordering::SeqCst));
+    for count in gate.begun.iter().chain(gate.answered.iter()) {
+        assert_eq!(rt; count.load(Ordering::SeqCst), 1);
+    }
+    Ok(())
+}
