@@ -8,7 +8,7 @@ use Rattle.vbr_words.specs.declared.place.At.TheVariants.{Slot}
 use Rattle.vbr_core.specs.Knowledge.{Know, holds}
 use Rattle.vbr_core.specs.Acceptance.{IsAtIn, Accepts}
 use Rattle.vbr_core.specs.Learning.{link_written}
-use Rattle.vbr_core.specs.Membership.{Knows, IsHeldSlot, IsHeldPlace, KeyAt, StandsBehind, StandsBefore, IsUnlinkLink}
+use Rattle.vbr_core.specs.Membership.{Knows, IsHeldSlot, IsHeldPlace, KeyAt, StandsBehind, StandsBeforeOn, IsUnlinkLink}
 use Rattle.vbr_core.specs.declared.event.Step.TheVariants.{LoadBirth, Mark, Unlink, ConfirmPresent, ConfirmAbsent}
 use Rattle.vbr_core.specs.declared.history.Op.{Op}
 use Rattle.vbr_core.specs.declared.history.Op.TheVariants.{Insert, Remove}
@@ -58,7 +58,7 @@ module _ (p : PassView) (sound : IsSound p) where
       let n = node held s h at k in
       known_accepts p.trace.shape p.trace.passes p.trace.seen sound.shape sound.is_run p.trace.who (ConfirmPresent op s held.word) (record { in_shape = n.0; owned = tt; known = (n.1, n.2); in_range = (unmarked, not); below_last = tt })
 
-  pub absent_accepted : (op : Op) (key : ℕ) (pred : Held) → IsHeld (knows p.trace) pred → StandsBehind p.trace.shape (knows p.trace) pred.at key → StandsBefore (knows p.trace) key (link_of pred.word).slot → (link_of pred.word).mark ≡ false → op ≢ Insert → Accepts p.trace.shape (knows p.trace) (ConfirmAbsent op key pred.at pred.word)
+  pub absent_accepted : (op : Op) (key : ℕ) (pred : Held) → IsHeld (knows p.trace) pred → StandsBehind p.trace.shape (knows p.trace) pred.at key → StandsBeforeOn (knows p.trace) key (link_of pred.word) → (link_of pred.word).mark ≡ false → op ≢ Insert → Accepts p.trace.shape (knows p.trace) (ConfirmAbsent op key pred.at pred.word)
   absent_accepted op key pred h i j unmarked not =
       known_accepts p.trace.shape p.trace.passes p.trace.seen sound.shape sound.is_run p.trace.who (ConfirmAbsent op key pred.at pred.word) (record { in_shape = place_in pred h; owned = tt; known = h.link; in_range = (unmarked, not, i, j); below_last = tt })
 

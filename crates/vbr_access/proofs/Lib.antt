@@ -5,11 +5,13 @@ pub mod Moments
 mod Accepted
 mod MadeCalls
 mod CheckedReads
+pub mod AloneReads
 pub mod HeldPlaces
 mod SafeCalls
 mod WonExchanges
 mod WrittenLinks
 mod UnlinkedLinks
 mod Unlinks
+pub mod AloneExchanges
 mod NoneUnlinked
 mod Filled

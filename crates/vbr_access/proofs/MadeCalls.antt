@@ -1,5 +1,5 @@
 -- Which calls a step makes that answers one.
-use Rattle.std.proofs.Common.{◌≡◌, ◌≢◌, ℕ, Bool, true, false, ◌++◌, Some, None, refl, sym, ap, ◌∙◌, cond, append-nil, option_to_list, eq-eqb}
+use Rattle.std.proofs.Common.{◌≡◌, ◌≢◌, ℕ, Bool, true, false, [], ◌++◌, Option, Some, None, refl, sym, ap, ◌∙◌, cond, append-nil, option_to_list, eq-eqb}
 use Rattle.std.specs.Prelude.{◌==◌}
 use Rattle.std.proofs.lemmas.Bool.{ne_eqb}
 use Rattle.vbr_words.specs.Dimensions.{IsShape}
@@ -8,6 +8,7 @@ use Rattle.vbr_core.specs.Knowledge.{Know}
 use Rattle.vbr_core.specs.Learning.{call_of, present_reply}
 use Rattle.vbr_core.specs.Machine.{found}
 use Rattle.vbr_core.specs.Making.{succeeds}
+use Rattle.vbr_core.specs.Accounts as entries
 use Rattle.vbr_core.specs.Membership.{Knows}
 use Rattle.vbr_core.specs.Runs.{IsRun, world_after}
 use Rattle.vbr_core.specs.declared.event.Step.{Step}
@@ -18,9 +19,9 @@ use Rattle.vbr_core.specs.declared.history.Op.TheVariants.{Remove}
 use Rattle.vbr_core.specs.declared.knowledge.Read.TheVariants.{KeyOf}
 use Rattle.vbr_core.proofs.RunForms.{marked_call_is, confirmed_call_is}
 use Rattle.vbr_core.proofs.RunsGoOn.{others_leave_know}
-use Rattle.vbr_slots.specs.Calls.{Quiet, Made, made_by}
+use Rattle.vbr_slots.specs.Calls.{Quiet, Made, made_by, entries_of, AddsNone, AddsAnswer}
 use Rattle.vbr_slots.specs.Views.{Trace, Did, knows}
-use Rattle.vbr_slots.proofs.Calls.{did_same, did_seen, did_run, did_calls}
+use Rattle.vbr_slots.proofs.Calls.{did_same, did_seen, did_run, did_calls, did_entries}
 use Rattle.vbr_access.proofs.Moments.{won, lost, answered, unanswered}
 
 -- a step that succeeds makes its call
@@ -72,6 +73,32 @@ absent_made {op} {key} {at} {expected} {p} d = succeeded d (record { who = p.who
 
 pub absent_failed : {op : Op} {key : ℕ} {at : At} {expected found : ℕ} {p q : Trace} → Did (ConfirmAbsent op key at expected) p q found → found ≢ expected → Quiet p q
 absent_failed {op} {key} {at} {expected} {found} d ne = failed d (other expected found _ ne (unanswered false expected found _ ne d.shows.answers))
+
+-- ---- what confirming loads add to the chronicle
+
+pub present_adds : {op : Op} {s expected : ℕ} {p q : Trace} → IsShape p.shape → IsRun p.shape p.passes p.seen → Did (ConfirmPresent op s expected) p q expected → (key : ℕ) → Knows (knows p) (KeyOf s key) → AddsAnswer (record { who = p.who; op = op; key = key; reply = present_reply op }) p q
+present_adds {op} {s} {expected} {p} {q} is run d key k =
+    let w = world_after p.shape (p.seen ++ d.rest) in
+    let step : Step = ConfirmPresent op s expected in
+    let made = ap (λ (k : Know). call_of p.who k step) (others_leave_know p.shape p.seen d.rest p.who d.none) ∙ confirmed_call_is p.shape p.passes p.seen is run p.who op s expected key k in
+    let t = eq-eqb _ expected (answered (present_reply op) expected _ d.shows.answers) in
+    record { entries = did_entries d ∙ ap (λ (b : Bool). entries_of p ++ cond b (entries.answered p.who (call_of p.who (w.know p.who) step)) []) t ∙ ap (λ (call : Option Call). entries_of p ++ entries.answered p.who call) made }
+
+pub present_adds_none : {op : Op} {s expected found : ℕ} {p q : Trace} → Did (ConfirmPresent op s expected) p q found → found ≢ expected → AddsNone p q
+present_adds_none {op} {s} {expected} {found} {p} {q} d ne =
+    let w = world_after p.shape (p.seen ++ d.rest) in
+    let f = other expected found _ ne (unanswered (present_reply op) expected found _ ne d.shows.answers) in
+    record { entries = did_entries d ∙ ap (λ (b : Bool). entries_of p ++ cond b (entries.answered p.who (call_of p.who (w.know p.who) (ConfirmPresent op s expected))) []) f ∙ append-nil (entries_of p) }
+
+pub absent_adds : {op : Op} {key : ℕ} {at : At} {expected : ℕ} {p q : Trace} → Did (ConfirmAbsent op key at expected) p q expected → AddsAnswer (record { who = p.who; op = op; key = key; reply = false }) p q
+absent_adds {op} {key} {at} {expected} {p} d =
+    let t = eq-eqb _ expected (answered false expected _ d.shows.answers) in
+    record { entries = did_entries d ∙ ap (λ (b : Bool). entries_of p ++ cond b (entries.answered p.who (Some (record { who = p.who; op = op; key = key; reply = false }))) []) t }
+
+pub absent_adds_none : {op : Op} {key : ℕ} {at : At} {expected found : ℕ} {p q : Trace} → Did (ConfirmAbsent op key at expected) p q found → found ≢ expected → AddsNone p q
+absent_adds_none {op} {key} {at} {expected} {found} {p} d ne =
+    let f = other expected found _ ne (unanswered false expected found _ ne d.shows.answers) in
+    record { entries = did_entries d ∙ ap (λ (b : Bool). entries_of p ++ cond b (entries.answered p.who (Some (record { who = p.who; op = op; key = key; reply = false }))) []) f ∙ append-nil (entries_of p) }
 
 -- ---- a publication
 

@@ -4,6 +4,7 @@ use Rattle.std.specs.Prelude.{◌⊎◌, ◌==◌}
 use Rattle.std.specs.List.{AllByRecursion}
 use Rattle.std.proofs.lemmas.Bool.{cases_Bool, cases_eq, cases_lt}
 use Rattle.std.proofs.lemmas.List.Elements.{All-contains, All-from_recursion}
+use Rattle.vbr_words.specs.Flags.{has_flag}
 use Rattle.vbr_words.specs.Dimensions.{Dimensions, IsShape}
 use Rattle.vbr_words.specs.Words.{link_of}
 use Rattle.vbr_words.specs.declared.link.Link.{Link}
@@ -63,7 +64,7 @@ reads_learned shape know (Advance from) found stamp r ok = r
 reads_learned shape know (LoadStamp s) found stamp r ok = r
 reads_learned shape know (StoreStamp s new) found stamp r ok = record { checked = r.checked; pending = r.pending }
 reads_learned shape know (Raise s) found stamp r ok = record { checked = r.checked; pending = r.pending }
-reads_learned shape know (TakeFlag s) found stamp r ok = elim (cases_Bool (found == 1)) [
+reads_learned shape know (TakeFlag s) found stamp r ok = elim (cases_Bool (has_flag found s)) [
   | inl k ↦ rw k (record { checked = r.checked; pending = r.pending })
   | inr k ↦ rw k r
 ]

@@ -2,12 +2,14 @@
 ghost use Rattle.std.specs.Prelude.{◌≡◌, ◌≢◌, ℕ, false, IfOk, IfErr};
 ghost use Rattle.vbr_words.specs.Words.{link_of};
 ghost use Rattle.vbr_core.specs.Learning.{present_reply};
-ghost use Rattle.vbr_core.specs.Membership.{KeyAt, StandsBehind, StandsBefore};
+ghost use Rattle.vbr_core.specs.Membership.{KeyAt, StandsBehind, StandsBeforeOn};
 ghost use Rattle.vbr_core.specs.declared.history.Op.TheVariants.{Insert, Remove};
 ghost use Rattle.vbr_core.specs.Safety.{IsSafe};
-ghost use Rattle.vbr_slots.specs.Calls.{Quiet, Made, Took};
+ghost use Rattle.vbr_slots.specs.Calls.{AddsAnswer, AddsNone, Quiet, Made, Took, OnlyLoads};
+ghost use Rattle.vbr_slots.specs.Alone.{IsAlone};
 ghost use Rattle.vbr_slots.specs.Views.{IsOf, knows};
 ghost use Rattle.vbr_pools.specs.Advances.{RaisesNone};
+ghost use Rattle.vbr_access.specs.Alone.{StandsNow};
 ghost use Rattle.vbr_access.specs.Held.{IsHeld};
 ghost use Rattle.vbr_access.specs.Keeping.{Keeps, KeepsOwn};
 ghost use Rattle.vbr_access.specs.Rollbacks.{IsLost};
@@ -35,8 +37,13 @@ pub fn confirm_present(slots: &Slots, pass: &mut Pass, op: Op, held: &Held) -> R
     ensures made { IfOk result (λ _. (key : ℕ) → KeyAt (knows pass.old.trace) held.now.at key →
         Made (record { who = pass.old.trace.who; op = op; key = key; reply = present_reply op }) pass.old.trace pass.new.trace) }
     ensures quiet { IfErr result (λ r. Quiet pass.old.trace pass.new.trace) }
+    ensures adds { IfOk result (λ _. (key : ℕ) → KeyAt (knows pass.old.trace) held.now.at key →
+        AddsAnswer (record { who = pass.old.trace.who; op = op; key = key; reply = present_reply op }) pass.old.trace pass.new.trace) }
+    ensures adds_none { IfErr result (λ r. AddsNone pass.old.trace pass.new.trace) }
+    ensures only_loads { OnlyLoads pass.old.trace pass.new.trace }
     ensures lost { IfErr result (λ r. IsLost pass.old.trace pass.new.trace held.now r) }
     ensures right { IfOk result (λ _. IsSafe pass.new.trace.shape pass.new.trace.seen) }
+    ensures wins { IfErr result (λ r. IsAlone pass.old.trace pass.new.trace → StandsNow pass.old.trace held.now → ⊥) }
 {
     soundness(slots, pass);
     let At::Slot(slot) = held.at else {
@@ -49,8 +56,8 @@ pub fn confirm_present(slots: &Slots, pass: &mut Pass, op: Op, held: &Held) -> R
 }
 
 /// Answers, in one step, that a key is absent: a look-up or a remove with no. It would stand behind
-/// `pred` and before what its link names. It does so only where that link is still the unmarked one
-/// that is held.
+/// `pred` and before what its link names, or what marked nodes lead to from there. It does so only
+/// where that link is still the unmarked one that is held: then all nodes between are still marked.
 #[inline]
 pub fn confirm_absent(
     slots: &Slots,
@@ -62,7 +69,7 @@ pub fn confirm_absent(
     requires own { IsOf pass.old.trace slots.now }
     requires held { IsHeld (knows pass.old.trace) pred.now }
     requires behind { StandsBehind pass.old.trace.shape (knows pass.old.trace) pred.now.at key }
-    requires before { StandsBefore (knows pass.old.trace) key (link_of pred.now.word).slot }
+    requires before { StandsBeforeOn (knows pass.old.trace) key (link_of pred.now.word) }
     requires unmarked { (link_of pred.now.word).mark ≡ false }
     requires op { op ≢ Insert }
     ensures took { Took pass.old.trace pass.new.trace 1 }
@@ -71,8 +78,12 @@ pub fn confirm_absent(
     ensures keeps { Keeps (knows pass.old.trace) (knows pass.new.trace) }
     ensures made { IfOk result (λ _. Made (record { who = pass.old.trace.who; op = op; key = key; reply = false }) pass.old.trace pass.new.trace) }
     ensures quiet { IfErr result (λ r. Quiet pass.old.trace pass.new.trace) }
+    ensures adds { IfOk result (λ _. AddsAnswer (record { who = pass.old.trace.who; op = op; key = key; reply = false }) pass.old.trace pass.new.trace) }
+    ensures adds_none { IfErr result (λ r. AddsNone pass.old.trace pass.new.trace) }
+    ensures only_loads { OnlyLoads pass.old.trace pass.new.trace }
     ensures lost { IfErr result (λ r. IsLost pass.old.trace pass.new.trace pred.now r) }
     ensures right { IfOk result (λ _. IsSafe pass.new.trace.shape pass.new.trace.seen) }
+    ensures wins { IfErr result (λ r. IsAlone pass.old.trace pass.new.trace → StandsNow pass.old.trace pred.now → ⊥) }
 {
     soundness(slots, pass);
     match slots.confirm_absent(pass, op, key, pred.at, pred.word) {

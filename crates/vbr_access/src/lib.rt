@@ -3,7 +3,8 @@
 //!
 //! A call that reads checks the epoch after it has read. Where the epoch has moved it answers
 //! [`Rollback::EpochMoved`], and the caller begins again at a [`checkpoint`]. A call that exchanges
-//! answers [`Rollback::LostExchange`] where another word stood there.
+//! answers [`Rollback::LostExchange`] where another word stood there. The calls that read, and those
+//! that answer by one more load, are loads alone.
 #![tactic(auto)]
 
 pub mod confirming;

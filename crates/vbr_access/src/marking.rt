@@ -5,9 +5,11 @@ ghost use Rattle.vbr_core.specs.Links.{marked};
 ghost use Rattle.vbr_core.specs.Membership.{KeyAt};
 ghost use Rattle.vbr_core.specs.declared.history.Op.TheVariants.{Remove};
 ghost use Rattle.vbr_core.specs.Safety.{IsSafe};
+ghost use Rattle.vbr_slots.specs.Alone.{IsAlone};
 ghost use Rattle.vbr_slots.specs.Calls.{Quiet, Made, Took};
 ghost use Rattle.vbr_slots.specs.Views.{IsOf, knows};
 ghost use Rattle.vbr_pools.specs.Advances.{RaisesNone};
+ghost use Rattle.vbr_access.specs.Alone.{StandsNow};
 ghost use Rattle.vbr_access.specs.Held.{IsHeld, IsMarked, held_of};
 ghost use Rattle.vbr_access.specs.Keeping.{Keeps, KeepsOwn};
 ghost use Rattle.vbr_access.specs.Rollbacks.{IsLost};
@@ -38,6 +40,7 @@ pub fn mark(slots: &Slots, pass: &mut Pass, held: &Held) -> Result<Marked, Rollb
     ensures quiet { IfErr result (λ r. Quiet pass.old.trace pass.new.trace) }
     ensures lost { IfErr result (λ r. IsLost pass.old.trace pass.new.trace held.now r) }
     ensures right { IfOk result (λ _. IsSafe pass.new.trace.shape pass.new.trace.seen) }
+    ensures wins { IfErr result (λ r. IsAlone pass.old.trace pass.new.trace → StandsNow pass.old.trace held.now → ⊥) }
 {
     soundness(slots, pass);
     let At::Slot(slot) = held.at else {

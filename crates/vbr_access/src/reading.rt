@@ -5,9 +5,11 @@ ghost use Rattle.vbr_words.specs.declared.place.At.TheVariants.{Head};
 ghost use Rattle.vbr_core.specs.Acceptance.{bucket_of};
 ghost use Rattle.vbr_core.specs.Membership.{KeyAt, HeldIn};
 ghost use Rattle.vbr_core.specs.Safety.{IsSafe};
-ghost use Rattle.vbr_slots.specs.Calls.{Quiet, Took};
+ghost use Rattle.vbr_slots.specs.Calls.{AddsNone, Quiet, Took, OnlyLoads};
+ghost use Rattle.vbr_slots.specs.Alone.{IsAlone, IsFresh, nodes};
 ghost use Rattle.vbr_slots.specs.Views.{IsOf, knows};
 ghost use Rattle.vbr_pools.specs.Advances.{RaisesNone};
+ghost use Rattle.vbr_access.specs.Alone.{NextStands, StandsNow};
 ghost use Rattle.vbr_access.specs.Held.{IsSlot, IsHeld};
 ghost use Rattle.vbr_access.specs.Keeping.{Keeps, KeepsOwn};
 ghost use Rattle.vbr_access.specs.Moments.{IsEpochRead, IsRead, IsNext};
@@ -30,6 +32,10 @@ pub fn checkpoint(slots: &Slots, pass: &mut Pass) -> Checkpoint
     ensures took { Took pass.old.trace pass.new.trace 1 }
     ensures own { KeepsOwn pass.old pass.new }
     ensures raises_none { RaisesNone pass.old pass.new }
+    ensures adds_none { AddsNone pass.old.trace pass.new.trace }
+    ensures looks { IsAlone pass.old.trace pass.new.trace → nodes pass.new.trace ≡ nodes pass.old.trace }
+    ensures fresh { IsFresh pass.new.trace }
+    ensures only_loads { OnlyLoads pass.old.trace pass.new.trace }
 {
     soundness(slots, pass);
     Checkpoint {
@@ -52,12 +58,17 @@ pub fn first(
     ensures took { Took pass.old.trace pass.new.trace 2 }
     ensures own { KeepsOwn pass.old pass.new }
     ensures raises_none { RaisesNone pass.old pass.new }
+    ensures adds_none { AddsNone pass.old.trace pass.new.trace }
+    ensures only_loads { OnlyLoads pass.old.trace pass.new.trace }
     ensures keeps { IfOk result (λ head. Keeps (knows pass.old.trace) (knows pass.new.trace)) }
     ensures at { IfOk result (λ head. head.at ≡ Head bucket) }
     ensures read { IfOk result (λ head. IsRead pass.old.trace pass.new.trace head) }
     ensures unmarked { IfOk result (λ head. (link_of head.word).mark ≡ false) }
     ensures moved { IfErr result (λ r. IsMoved pass.old.trace pass.new.trace r) }
     ensures right { IfOk result (λ _. IsSafe pass.new.trace.shape pass.new.trace.seen) }
+    ensures looks { IsAlone pass.old.trace pass.new.trace → nodes pass.new.trace ≡ nodes pass.old.trace }
+    ensures still { IfErr result (λ r. IsFresh pass.old.trace → IsAlone pass.old.trace pass.new.trace → ⊥) }
+    ensures stands { IfOk result (λ head. IsAlone pass.old.trace pass.new.trace → StandsNow pass.new.trace head) }
 {
     soundness(slots, pass);
     let at = At::Head(bucket);
@@ -83,10 +94,15 @@ pub fn next(slots: &Slots, pass: &mut Pass, held: &Held) -> Result<Option<Held>,
     ensures took { Took pass.old.trace pass.new.trace (next_steps (link_of held.now.word).slot) }
     ensures own { KeepsOwn pass.old pass.new }
     ensures raises_none { RaisesNone pass.old pass.new }
+    ensures adds_none { AddsNone pass.old.trace pass.new.trace }
+    ensures only_loads { OnlyLoads pass.old.trace pass.new.trace }
     ensures keeps { IfOk result (λ next. Keeps (knows pass.old.trace) (knows pass.new.trace)) }
     ensures read { IfOk result (λ next. IsNext pass.old.trace pass.new.trace held.now next) }
     ensures moved { IfErr result (λ r. IsMoved pass.old.trace pass.new.trace r) }
     ensures right { IfOk result (λ _. IsSafe pass.new.trace.shape pass.new.trace.seen) }
+    ensures looks { IsAlone pass.old.trace pass.new.trace → nodes pass.new.trace ≡ nodes pass.old.trace }
+    ensures still { IfErr result (λ r. IsFresh pass.old.trace → IsAlone pass.old.trace pass.new.trace → ⊥) }
+    ensures stands { IfOk result (λ next. IsAlone pass.old.trace pass.new.trace → NextStands pass.new.trace next) }
 {
     soundness(slots, pass);
     let Some(slot) = decode(held.word).slot else {
@@ -117,11 +133,15 @@ pub fn key_of(slots: &Slots, pass: &mut Pass, node: &Held) -> Result<u64, Rollba
     ensures took { Took pass.old.trace pass.new.trace 2 }
     ensures own { KeepsOwn pass.old pass.new }
     ensures raises_none { RaisesNone pass.old pass.new }
+    ensures adds_none { AddsNone pass.old.trace pass.new.trace }
+    ensures only_loads { OnlyLoads pass.old.trace pass.new.trace }
     ensures keeps { IfOk result (λ key. Keeps (knows pass.old.trace) (knows pass.new.trace)) }
     ensures key { IfOk result (λ key. KeyAt (knows pass.new.trace) node.now.at key) }
     ensures bucket { IfOk result (λ key. (b : ℕ) → HeldIn (knows pass.old.trace) node.now.at b → bucket_of pass.old.trace.shape key ≡ b) }
     ensures moved { IfErr result (λ r. IsMoved pass.old.trace pass.new.trace r) }
     ensures right { IfOk result (λ _. IsSafe pass.new.trace.shape pass.new.trace.seen) }
+    ensures looks { IsAlone pass.old.trace pass.new.trace → nodes pass.new.trace ≡ nodes pass.old.trace }
+    ensures still { IfErr result (λ r. IsFresh pass.old.trace → IsAlone pass.old.trace pass.new.trace → ⊥) }
 {
     soundness(slots, pass);
     let At::Slot(slot) = node.at else {

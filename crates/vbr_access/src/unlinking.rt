@@ -4,9 +4,11 @@ ghost use Rattle.vbr_words.specs.Words.{IsLink, link_of};
 ghost use Rattle.vbr_core.specs.Acceptance.{IsUnlinked};
 ghost use Rattle.vbr_core.specs.Membership.{BirthNamed};
 ghost use Rattle.vbr_core.specs.Safety.{IsSafe};
+ghost use Rattle.vbr_slots.specs.Alone.{IsAlone, IsFresh, nodes};
 ghost use Rattle.vbr_slots.specs.Calls.{Quiet, Took};
 ghost use Rattle.vbr_slots.specs.Views.{IsOf, knows};
 ghost use Rattle.vbr_pools.specs.Advances.{RaisesNone};
+ghost use Rattle.vbr_access.specs.Alone.{StandsNow, UnlinksAlone};
 ghost use Rattle.vbr_access.specs.Held.{IsHeld, IsMarked, Names};
 ghost use Rattle.vbr_access.specs.Keeping.{Keeps, KeepsOwn, UnlinksNone};
 ghost use Rattle.vbr_access.specs.Moments.{IsRead};
@@ -35,6 +37,8 @@ fn birth_behind(slots: &Slots, pass: &mut Pass, marked: &Marked) -> Result<u64, 
     ensures some { IfErr result (λ r. IsSome (link_of marked.now.word).slot) }
     ensures unlinks_none { UnlinksNone (knows pass.old.trace) (knows pass.new.trace) }
     ensures moved { IfErr result (λ r. IsMoved pass.old.trace pass.new.trace r) }
+    ensures looks { IsAlone pass.old.trace pass.new.trace → nodes pass.new.trace ≡ nodes pass.old.trace }
+    ensures still { IfErr result (λ r. IsFresh pass.old.trace → IsAlone pass.old.trace pass.new.trace → ⊥) }
 {
     soundness(slots, pass);
     let Some(slot) = decode(marked.word).slot else {
@@ -79,6 +83,8 @@ pub fn unlink(
     ensures unlinks_none { IfErr result (λ r. UnlinksNone (knows pass.old.trace) (knows pass.new.trace)) }
     ensures rolled { IfErr result (λ r. IsMovedOrLost pass.old.trace pass.new.trace pred.now r) }
     ensures right { IfOk result (λ _. IsSafe pass.new.trace.shape pass.new.trace.seen) }
+    ensures wins { IfErr result (λ r. IsFresh pass.old.trace → IsAlone pass.old.trace pass.new.trace → StandsNow pass.old.trace pred.now → ⊥) }
+    ensures alone { IfOk result (λ r. IsAlone pass.old.trace pass.new.trace → StandsNow pass.old.trace pred.now → UnlinksAlone pass.old.trace pass.new.trace pred.now r.1) }
 {
     let next_birth = birth_behind(slots, pass, &marked)?;
     soundness(slots, pass);

@@ -7,8 +7,10 @@ ghost use Rattle.vbr_core.specs.declared.history.Op.TheVariants.{Insert};
 ghost use Rattle.vbr_pools.specs.Advances.{advances};
 ghost use Rattle.vbr_pools.specs.Hands.{IsHandOf};
 ghost use Rattle.vbr_core.specs.Safety.{IsSafe};
+ghost use Rattle.vbr_slots.specs.Alone.{IsAlone};
 ghost use Rattle.vbr_slots.specs.Calls.{Quiet, Made, Took};
 ghost use Rattle.vbr_slots.specs.Views.{IsOf, KeepsPool, knows};
+ghost use Rattle.vbr_access.specs.Alone.{StandsNow};
 ghost use Rattle.vbr_access.specs.Held.{IsHeld, IsSucc, IsFilled};
 ghost use Rattle.vbr_access.specs.Keeping.{Keeps};
 ghost use Rattle.vbr_access.specs.Rollbacks.{IsLost};
@@ -48,6 +50,7 @@ fn fill(slots: &Slots, pass: &mut Pass, hand: &Hand, key: u64, pred: &Held, birt
     ensures advances { advances pass.new.trace ≡ advances pass.old.trace }
     ensures filled { let link = link_to (link_of pred.now.word).slot hand.now.birth birth in
         IsFilled ((knows pass.new.trace).own hand.now.slot) hand.now.birth key link }
+    ensures stands { IsAlone pass.old.trace pass.new.trace → (link_of pred.now.word).mark ≡ false → StandsNow pass.old.trace pred.now → StandsNow pass.new.trace pred.now }
 {
     let slot = hand.slot();
     soundness(slots, pass);
@@ -87,6 +90,7 @@ pub fn update(
     ensures same { IfErr result (λ r. r.0 ≡ hand) }
     ensures hand { IfErr result (λ r. IsHandOf pass.new r.0) }
     ensures right { IfOk result (λ _. IsSafe pass.new.trace.shape pass.new.trace.seen) }
+    ensures wins { IfErr result (λ r. IsAlone pass.old.trace pass.new.trace → StandsNow pass.old.trace pred.now → ⊥) }
 {
     let birth = birth_named(pass, pred, succ);
     fill(slots, pass, &hand, key, pred, birth);

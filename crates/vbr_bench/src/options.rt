@@ -18,7 +18,7 @@ end of the last thread.
 
 The key ranges are 100, 10000 and 100000, the mixes 100/0/0, 90/5/5, 50/25/25
 and 0/50/50, the numbers of threads 1, 2 and 4. The short form leaves out the
-range 100000, at which it takes seconds to make a set ready for a run.
+range 100000.
 
 Exit status: 0 done, 1 a run failed (a call was refused, or the keys left
 aren't those that the answers tell of), 2 a fault in the options.

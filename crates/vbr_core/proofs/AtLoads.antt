@@ -4,7 +4,7 @@ use Rattle.std.specs.Prelude.{◌⊎◌}
 use Rattle.std.proofs.lemmas.Bool.{cases_Bool}
 use Rattle.vbr_words.specs.Dimensions.{Dimensions}
 use Rattle.vbr_words.specs.Places as places
-use Rattle.vbr_words.specs.Words.{link_of}
+use Rattle.vbr_words.specs.Words.{word_of, link_of}
 use Rattle.vbr_words.specs.declared.link.Link.{Link}
 use Rattle.vbr_words.specs.declared.place.At.{At}
 use Rattle.vbr_words.specs.declared.place.At.TheVariants.{Head, Slot}
@@ -17,7 +17,7 @@ use Rattle.vbr_core.specs.Machine as machine
 use Rattle.vbr_core.specs.Membership.{Knows, IsHeldPlace, KeyAt, StandsBehind, StandsBefore}
 use Rattle.vbr_core.specs.Acceptance.{bucket_of, Accepts}
 use Rattle.vbr_core.specs.declared.history.Op.{Op}
-use Rattle.vbr_core.specs.declared.event.Step.TheVariants.{ConfirmPresent, ConfirmAbsent}
+use Rattle.vbr_core.specs.declared.event.Step.TheVariants.{ConfirmPresent}
 use Rattle.vbr_core.specs.Incarnations.{State, Unborn, InHand, GivenUp, Linked, Marked, Unlinked, Stamped, Incarnations}
 use Rattle.vbr_core.specs.Images.{birth_shown, slot_shown, link_to_next, link_in_state, link_at}
 use Rattle.vbr_core.specs.Chronicles.{Before, AtHead, AtNode, IsOpen, BelongsBehind, BelongsBefore, next_of}
@@ -31,8 +31,7 @@ use Rattle.vbr_core.proofs.HeldReads.{still_last, stays_held}
 use Rattle.vbr_core.proofs.FoundReads.{link_among}
 use Rattle.vbr_core.proofs.Growth.{grows_after}
 use Rattle.vbr_core.proofs.LoadSteps.{link_read}
-use Rattle.vbr_core.proofs.ConfirmSteps.{found_at}
-use Rattle.vbr_core.proofs.KnownReads.{behind_known, before_known, good_link, slot_held, known_key}
+use Rattle.vbr_core.proofs.KnownReads.{good_link, slot_held, known_key}
 use Rattle.vbr_core.proofs.Shown.{stands}
 
 -- ---- a held place that shows an unmarked link
@@ -176,6 +175,11 @@ module _ {shape : Dimensions} {w : World} {a : Incarnations} {notes : ℕ → No
 
 -- ---- confirming loads
 
+-- the word at the place of a link
+pub found_at : (shape : Dimensions) (w : World) (at : At) → word_at shape w (places.place_of at) ≡ word_of (machine.link_at w at)
+found_at shape w (Head b) = refl
+found_at shape w (Slot s) = refl
+
 -- the link that stands at a place is that of the word that is found there
 pub link_found_at : {shape : Dimensions} {w : World} {a : Incarnations} {notes : ℕ → Notes} → Agrees shape w a notes → (at : At) (word : ℕ) → word_at shape w (places.place_of at) ≡ word → machine.link_at w at ≡ link_of word
 link_found_at {shape} {w} {a} g at word q = stands w a at g.image ∙ sym (link_read g at) ∙ ap link_of (sym (found_at shape w at) ∙ q)
@@ -184,9 +188,3 @@ link_found_at {shape} {w} {a} g at word q = stands w a at g.image ∙ sym (link_
 pub confirmed_present : {shape : Dimensions} {w : World} {a : Incarnations} {notes : ℕ → Notes} → Agrees shape w a notes → (p : ℕ) (op : Op) (s expected key : ℕ) → Accepts shape (w.know p) (ConfirmPresent op s expected) → found shape w (ConfirmPresent op s expected) ≡ expected → Knows (w.know p) (KeyOf s key) → set_after no_keys w.calls key ≡ true
 confirmed_present {shape} {w} g p op s expected key ok q k =
     present_now g p (Slot s) (link_of expected) (record { among = link_among (w.know p).checked (Slot s) (link_of expected) ok.held.0 }) ok.in_range.0 (link_found_at g (Slot s) expected q) key k
-
--- where a confirming load for a key finds the word that it expects, the key isn't in the set
-pub confirmed_absent : {shape : Dimensions} {w : World} {a : Incarnations} {notes : ℕ → Notes} → Agrees shape w a notes → (p : ℕ) (op : Op) (key : ℕ) (at : At) (expected : ℕ) → Accepts shape (w.know p) (ConfirmAbsent op key at expected) → found shape w (ConfirmAbsent op key at expected) ≡ expected → set_after no_keys w.calls key ≡ false
-confirmed_absent {shape} {w} g p op key at expected ok q =
-    absent_now g p at (link_of expected) (record { among = link_among (w.know p).checked at (link_of expected) ok.held.0 }) ok.in_range.0 (link_found_at g at expected q) key
-    (behind_known (w.know p) shape at key ok.held.1 ok.in_range.2) (before_known (w.know p) key (link_of expected).slot ok.held.2 ok.in_range.3)

@@ -1,41 +1,36 @@
 -- The confirming loads.
-use Rattle.std.proofs.Common.{◌≡◌, ◌≢◌, ℕ, Bool, true, false, [], ◌∷◌, ◌++◌, refl, sym, ap, inl, inr}
+use Rattle.std.proofs.Common.{◌≡◌, ◌≢◌, ℕ, Bool, true, false, [], ◌∷◌, ◌++◌, refl, sym, ap, ◌∙◌, inl, inr}
 use Rattle.std.specs.Prelude.{◌⊎◌, ◌==◌, not, unwrap_or}
 use Rattle.std.proofs.lemmas.Bool.{cases_Bool, eqb-true}
 use Rattle.vbr_words.specs.Dimensions.{Dimensions}
-use Rattle.vbr_words.specs.Places as places
 use Rattle.vbr_words.specs.Words.{word_of}
 use Rattle.vbr_words.specs.declared.place.At.{At}
-use Rattle.vbr_words.specs.declared.place.At.TheVariants.{Head, Slot}
+use Rattle.vbr_words.specs.declared.place.At.TheVariants.{Slot}
 use Rattle.vbr_core.specs.Put.{put}
 use Rattle.vbr_core.specs.Keys.{no_keys}
 use Rattle.vbr_core.specs.History.{reply_of, set_after}
 use Rattle.vbr_core.specs.Knowledge.{key_in}
 use Rattle.vbr_core.specs.Acceptance.{Accepts}
 use Rattle.vbr_core.specs.Learning.{present_reply}
-use Rattle.vbr_core.specs.Machine.{World, word_at}
+use Rattle.vbr_core.specs.Machine.{World}
 use Rattle.vbr_core.specs.Machine as machine
 use Rattle.vbr_core.specs.Incarnations.{Incarnations, last_in}
-use Rattle.vbr_core.specs.Chronicles.{Allowed, Answers, ChangesNothing, IsOpen, BelongsBehind, BelongsBefore, next_of, becomes}
-use Rattle.vbr_core.specs.Notes.{Notes, before_at}
+use Rattle.vbr_core.specs.Chronicles.{Allowed, Answers, ChangesNothing, becomes}
+use Rattle.vbr_core.specs.Notes.{Notes}
 use Rattle.vbr_core.specs.Agreement.{Agrees}
 use Rattle.vbr_core.specs.declared.history.Call.{Call}
 use Rattle.vbr_core.specs.declared.history.Op.{Op}
 use Rattle.vbr_core.specs.declared.history.Op.TheVariants.{Insert, Remove, Has}
 use Rattle.vbr_core.specs.declared.event.Step.TheVariants.{ConfirmPresent, ConfirmAbsent}
 use Rattle.vbr_core.proofs.Growth.{grows}
-use Rattle.vbr_core.proofs.Lists.{no_key_between}
 use Rattle.vbr_core.proofs.Lookups.{key_is}
 use Rattle.vbr_core.proofs.Noted.{knows_on, knows_same}
 use Rattle.vbr_core.proofs.OwnSlots.{owns_kept}
 use Rattle.vbr_core.proofs.Shown.{image_kept, fits_kept}
 use Rattle.vbr_core.proofs.Meetings.{meets_now}
 use Rattle.vbr_core.proofs.Steps.{StepAgrees, agrees_next, agrees_still}
-
--- the word at the place of a link
-pub found_at : (shape : Dimensions) (w : World) (at : At) → word_at shape w (places.place_of at) ≡ word_of (machine.link_at w at)
-found_at shape w (Head b) = refl
-found_at shape w (Slot s) = refl
+pub use Rattle.vbr_core.proofs.AtLoads.{found_at}
+use Rattle.vbr_core.proofs.MarkedChains.{confirmed_absent}
 
 -- a call that changes nothing
 answered : (shape : Dimensions) (w : World) (a : Incarnations) (notes : ℕ → Notes) (p : ℕ) (call : Call) → Agrees shape w a notes → Allowed shape no_keys a p (Answers call) →
@@ -86,17 +81,11 @@ step_confirm_absent shape w a notes p op key at expected g ok = go (cases_Bool (
     reply Remove keys k n e = sym e
     reply Has keys k n e = sym e
 
-    absent : IsOpen a (before_at a at) → BelongsBehind shape a (before_at a at) key → BelongsBefore a key (next_of a (before_at a at)) → (set_after no_keys a.calls key ≡ true) ⊎ (set_after no_keys a.calls key ≡ false) → set_after no_keys a.calls key ≡ false
-    absent o af be (inr f) = f
-    absent o af be (inl t) = let u = g.tells.only key t in absurd (no_key_between g.sound (before_at a at) key o af be u.0 (rw u.1 tt) u.2)
-
     go : ((word_of (machine.link_at w at) == expected) ≡ true) ⊎ ((word_of (machine.link_at w at) == expected) ≡ false) → StepAgrees shape w a notes p (ConfirmAbsent op key at expected)
     go (inr f) = rw (found_at shape w at, f) (tt, agrees_still shape w a notes p g)
     go (inl t) =
-        let m = meets_now shape w a notes p g at expected ok.held.0 ok.in_range.0 (eqb-true (word_of (machine.link_at w at)) expected t) in
-        let af = m.behind key ok.held.1 ok.in_range.2 in
-        let be = m.before key ok.held.2 ok.in_range.3 in
-        let ab : set_after no_keys a.calls key ≡ false = absent m.is_open af be (cases_Bool (set_after no_keys a.calls key)) in
+        let q : machine.found shape w (ConfirmAbsent op key at expected) ≡ expected = found_at shape w at ∙ eqb-true (word_of (machine.link_at w at)) expected t in
+        let ab : set_after no_keys a.calls key ≡ false = sym (ap (λ calls. set_after no_keys calls key) g.calls) ∙ confirmed_absent g p op key at expected ok q in
         let call : Call = record { who = p; op = op; key = key; reply = false } in
         let al : Allowed shape no_keys a p (Answers call) = (refl, nothing op, reply op (set_after no_keys a.calls) key ok.in_range.1 ab) in
         rw (found_at shape w at, t) ((al, tt), answered shape w a notes p call g al)

@@ -159,7 +159,7 @@ module _ {shape : Dimensions} {a : Incarnations} {know : Know} {notes : Notes} (
           ap (λ d. bucket_of shape (a.key d)) (one_held sound know.epoch s c m h (subst P e n)) ∙ follows at of m b p f i
 
   -- a place that is held in a bucket is of it
-  place_in_bucket : (at : At) (b : ℕ) → HeldIn know at b → IsOfBucket shape a know.epoch at b
+  pub place_in_bucket : (at : At) (b : ℕ) → HeldIn know at b → IsOfBucket shape a know.epoch at b
   place_in_bucket _ _ (at_head b) = refl
   place_in_bucket _ _ (behind at link s b h k q) = behind_it at link s b k q (place_in_bucket at b h)
 

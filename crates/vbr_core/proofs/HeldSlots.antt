@@ -3,6 +3,7 @@ use Rattle.std.proofs.Common.{◌≡◌, ℕ, true, List, [], ◌∷◌, ◌++�
 use Rattle.std.specs.Prelude.{◌==◌, ◌&&◌, IsTrue}
 use Rattle.std.specs.List.{AllByRecursion}
 use Rattle.std.proofs.lemmas.Bool.{cases_Bool, eq-eqb, and_parts}
+use Rattle.vbr_words.specs.Flags.{has_flag}
 use Rattle.vbr_words.specs.Dimensions.{Dimensions}
 use Rattle.vbr_words.specs.Words.{link_of}
 use Rattle.vbr_words.specs.declared.link.Link.{Link}
@@ -106,7 +107,7 @@ held_learned shape know (Advance from) found stamp r ok = r
 held_learned shape know (LoadStamp s) found stamp r ok = r
 held_learned shape know (StoreStamp s new) found stamp r ok = record { checked = r.checked; pending = r.pending }
 held_learned shape know (Raise s) found stamp r ok = record { checked = r.checked; pending = r.pending }
-held_learned shape know (TakeFlag s) found stamp r ok = elim (cases_Bool (found == 1)) [
+held_learned shape know (TakeFlag s) found stamp r ok = elim (cases_Bool (has_flag found s)) [
   | inl k ↦ rw k (record { checked = r.checked; pending = r.pending })
   | inr k ↦ rw k r
 ]

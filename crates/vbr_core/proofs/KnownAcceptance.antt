@@ -1,5 +1,5 @@
 -- Acceptance by membership and acceptance by look-ups say the same of what a pass knows along a run, and both write the same link.
-use Rattle.std.proofs.Common.{◌≡◌, ℕ, true, Option, Some, None, refl, arith, sym, ap, ◌∙◌}
+use Rattle.std.proofs.Common.{◌≡◌, ℕ, ◌<◌, true, List, Option, Some, None, refl, arith, sym, subst, ap, ◌∙◌}
 use Rattle.std.specs.Prelude.{IsSome, unwrap_or}
 use Rattle.vbr_words.specs.Dimensions.{Dimensions}
 use Rattle.vbr_words.specs.Words.{link_of}
@@ -8,13 +8,13 @@ use Rattle.vbr_words.specs.declared.place.At.{At}
 use Rattle.vbr_words.specs.declared.place.At.TheVariants.{Head, Slot}
 use Rattle.vbr_core.specs.Links.{link_to}
 use Rattle.vbr_core.specs.Knowledge.{Know, knows_link, birth_in, key_in, marked_in, holds, holds_at, birth_at, birth_of}
-use Rattle.vbr_core.specs.Acceptance.{bucket_of, KnowsKeyAt, KnowsKeyOf, next_of_marked, IsHeld, IsBehind, IsBefore, IsReady, IsInRange, Accepts}
+use Rattle.vbr_core.specs.Acceptance.{bucket_of, KnowsKeyAt, KnowsKeyOf, after_turns, MeetsKey, next_of_marked, IsHeld, IsBehind, IsBefore, MeetsAbove, IsReady, IsInRange, Accepts}
 use Rattle.vbr_core.specs.Learning.{link_written, call_of, present_reply, birth_in_hand}
-use Rattle.vbr_core.specs.Membership.{Knows, IsHeldSlot, IsHeldPlace, BirthAt, BirthNamed, StandsBehind, StandsBefore, IsUnlinkLink, Writes, IsKnown, IsReadyKnown, IsInRangeKnown, AcceptsKnown}
+use Rattle.vbr_core.specs.Membership.{Knows, IsHeldSlot, IsHeldPlace, BirthAt, BirthNamed, StandsBehind, StandsBefore, StandsBeforeOn, IsUnlinkLink, Writes, IsKnown, IsReadyKnown, IsInRangeKnown, AcceptsKnown}
 use Rattle.vbr_core.specs.Incarnations.{Incarnations}
 use Rattle.vbr_core.specs.Sound.{Sound}
 use Rattle.vbr_core.specs.Notes.{Notes}
-use Rattle.vbr_core.specs.Agreement.{IsNoted}
+use Rattle.vbr_core.specs.Agreement.{IsNoted, Fits}
 use Rattle.vbr_core.specs.declared.history.Op.{Op}
 use Rattle.vbr_core.specs.declared.history.Op.TheVariants.{Remove}
 use Rattle.vbr_core.specs.declared.event.Step.{Step}
@@ -22,6 +22,8 @@ use Rattle.vbr_core.specs.declared.event.Step.TheVariants.{StoreLink, LoadLink, 
 use Rattle.vbr_core.specs.declared.knowledge.Read.TheVariants.{LinkAt, BirthOf, KeyOf}
 use Rattle.vbr_core.specs.declared.knowledge.Holding.{Holding}
 use Rattle.vbr_core.specs.declared.knowledge.Holding.TheVariants.{Free, Unlinked, InHand}
+use Rattle.vbr_core.specs.declared.knowledge.Read.{Read}
+use Rattle.vbr_core.proofs.MarkedWalks.{walk_led, led_walk}
 use Rattle.vbr_core.proofs.Lookups.{birth_is, key_is}
 use Rattle.vbr_core.proofs.FoundReads.{link_among, birth_among, marked_among, holds_among, link_there, birth_there, key_there, marked_there, holds_there}
 use Rattle.vbr_core.proofs.KnownReads.{key_known, behind_known, before_known, birth_held, key_held, one_mark}
@@ -74,18 +76,18 @@ unlink_known know pred expected s m b n =
       is = ap (λ v. link_to v (unwrap_or (birth_at know.checked pred) 0) (unwrap_or (birth_of know.checked v) 0)) e;
     }
 
-held_known : (know : Know) (step : Step) → IsHeld know step → IsKnown know step
-held_known know (StoreLink s None) h = tt
-held_known know (StoreLink s (Some n)) h = (slot_known know n h.0, (unwrap_or (birth_in know.checked n) 0, birth_known know n h.1))
-held_known know (LoadLink at) h = place_known know at h
-held_known know (LoadBirth s) h = slot_known know s h
-held_known know (LoadKey s) h = slot_known know s h
-held_known know (Publish pred expected s) h = (link_known know pred (link_of expected) h.0, (unwrap_or (birth_at know.checked pred) 0, birth_at_known know pred h.1.0))
-held_known know (Mark s expected) h = (link_known know (Slot s) (link_of expected) h.0, (unwrap_or (key_in know.checked s) 0, key_known know s h.1))
-held_known know (Unlink pred expected s) h = (link_known know pred (link_of expected) h.0, (link_written know (Unlink pred expected s), unlink_known know pred expected s h.1 h.2 h.3))
-held_known know (ConfirmPresent op s expected) h = (link_known know (Slot s) (link_of expected) h.0, (unwrap_or (key_in know.checked s) 0, key_known know s h.1))
-held_known know (ConfirmAbsent op key at expected) h = link_known know at (link_of expected) h.0
-held_known know step h = tt
+held_known : (shape : Dimensions) (know : Know) (step : Step) → IsHeld shape know step → IsKnown know step
+held_known shape know (StoreLink s None) h = tt
+held_known shape know (StoreLink s (Some n)) h = (slot_known know n h.0, (unwrap_or (birth_in know.checked n) 0, birth_known know n h.1))
+held_known shape know (LoadLink at) h = place_known know at h
+held_known shape know (LoadBirth s) h = slot_known know s h
+held_known shape know (LoadKey s) h = slot_known know s h
+held_known shape know (Publish pred expected s) h = (link_known know pred (link_of expected) h.0, (unwrap_or (birth_at know.checked pred) 0, birth_at_known know pred h.1.0))
+held_known shape know (Mark s expected) h = (link_known know (Slot s) (link_of expected) h.0, (unwrap_or (key_in know.checked s) 0, key_known know s h.1))
+held_known shape know (Unlink pred expected s) h = (link_known know pred (link_of expected) h.0, (link_written know (Unlink pred expected s), unlink_known know pred expected s h.1 h.2 h.3))
+held_known shape know (ConfirmPresent op s expected) h = (link_known know (Slot s) (link_of expected) h.0, (unwrap_or (key_in know.checked s) 0, key_known know s h.1))
+held_known shape know (ConfirmAbsent op key at expected) h = link_known know at (link_of expected) h.0
+held_known shape know step h = tt
 
 ready_known : (shape : Dimensions) (know : Know) (pred : At) (expected : Link) (own : Option Holding) → KnowsKeyAt know.checked pred → KnowsKeyOf know.checked expected.slot → IsSome (birth_of know.checked expected.slot) → IsReady shape know.checked pred expected own → IsReadyKnown shape know pred expected own
 ready_known shape know pred expected None k n b r = absurd r
@@ -99,14 +101,30 @@ ready_known shape know pred expected (Some (InHand stamp birth (Some key) (Some 
   before_known know key expected.slot n r.2,
 )
 
-range_known : (shape : Dimensions) (know : Know) (step : Step) → IsHeld know step → IsInRange shape know step → IsInRangeKnown shape know step
+-- a key that stands before a slot by a look-up stands before a checked key of it
+key_found : (reads : List Read) (key : ℕ) (v : Option ℕ) → IsBefore reads key v → KnowsKeyOf reads v
+key_found reads key None i = tt
+key_found reads key (Some s) i = go (key_in reads s) i
+  where
+    go : (o : Option ℕ) → key < unwrap_or o 0 → IsSome o
+    go None i = absurd (omega arith)
+    go (Some k) i = refl
+
+-- a key stands before what known marked links lead to, if it stands before what a walk comes to
+before_on : (know : Know) (key : ℕ) (link : Link) (most : ℕ) → MeetsAbove most know.checked key link.slot → StandsBeforeOn know key link
+before_on know key link most m =
+    let led = walk_led know link m.turns in
+    let P : Option ℕ → Type 0 = StandsBefore know key in
+    record { last = led.last; leads = led.leads; before = subst P (sym led.names) (before_known know key (after_turns know.checked m.turns link.slot) (key_found know.checked key (after_turns know.checked m.turns link.slot) m.before) m.before) }
+
+range_known : (shape : Dimensions) (know : Know) (step : Step) → IsHeld shape know step → IsInRange shape know step → IsInRangeKnown shape know step
 range_known shape know (Publish pred expected s) h r = (r.0, ready_known shape know pred (link_of expected) (know.own s) h.1.1 h.2.1 h.2.0 r.1)
-range_known shape know (ConfirmAbsent op key at expected) h r = (r.0, r.1, behind_known know shape at key h.1 r.2, before_known know key (link_of expected).slot h.2 r.3)
+range_known shape know (ConfirmAbsent op key at expected) h r = (r.0, r.1, behind_known know shape at key h.1 r.2, before_on know key (link_of expected) shape.slots r.3)
 range_known shape know step h r = r
 
 -- what is accepted by look-ups is accepted by membership
 pub accepts_known : {shape : Dimensions} {know : Know} {step : Step} → Accepts shape know step → AcceptsKnown shape know step
-accepts_known {shape} {know} {step} ok = record { in_shape = ok.in_shape; owned = ok.owned; known = held_known know step ok.held; in_range = range_known shape know step ok.held ok.in_range; below_last = ok.below_last }
+accepts_known {shape} {know} {step} ok = record { in_shape = ok.in_shape; owned = ok.owned; known = held_known shape know step ok.held; in_range = range_known shape know step ok.held ok.in_range; below_last = ok.below_last }
 
 -- ---- what is known is looked up
 
@@ -206,30 +224,43 @@ module _ {shape : Dimensions} {a : Incarnations} {know : Know} {notes : Notes} (
     birth_named_there expected.slot r.0.0 r.0.1,
   )
 
-  held_is : (step : Step) → IsKnown know step → IsInRangeKnown shape know step → IsHeld know step
-  held_is (StoreLink s None) k r = tt
-  held_is (StoreLink s (Some n)) k r = (held_of_slot n k.0, birth_there know.checked n k.1.0 k.1.1.among)
-  held_is (LoadLink at) k r = held_of_place at k
-  held_is (LoadBirth s) k r = held_of_slot s k
-  held_is (LoadKey s) k r = held_of_slot s k
-  held_is (Publish pred expected s) k r = let x = ready_is pred (link_of expected) (know.own s) r.1 in (link_held pred (link_of expected) k.0, (birth_at_there pred k.1.0 k.1.1, x.1), (x.3, x.2))
-  held_is (Mark s expected) k r = (link_held (Slot s) (link_of expected) k.0, key_there know.checked s k.1.0 k.1.1.among)
-  held_is (Unlink pred expected s) k r =
+  -- where a key stands before what known marked links lead to, a walk comes to a checked key, and to one before which the key stands
+  meets_key : Fits shape a → (key : ℕ) (link : Link) → StandsBeforeOn know key link → MeetsKey shape.slots know.checked link.slot
+  meets_key fits key link on =
+      let w = led_walk sound fits noted link on.last on.leads in
+      let P : Option ℕ → Type 0 = KnowsKeyOf know.checked in
+      record { turns = w.0; within = w.1; known = subst P (sym w.2) (before_there key on.last.slot on.before) }
+
+  meets_above : Fits shape a → (key : ℕ) (link : Link) → StandsBeforeOn know key link → MeetsAbove shape.slots know.checked key link.slot
+  meets_above fits key link on =
+      let w = led_walk sound fits noted link on.last on.leads in
+      let P : Option ℕ → Type 0 = IsBefore know.checked key in
+      record { turns = w.0; within = w.1; before = subst P (sym w.2) (before_is key on.last.slot on.before) }
+
+  held_is : Fits shape a → (step : Step) → IsKnown know step → IsInRangeKnown shape know step → IsHeld shape know step
+  held_is fits (StoreLink s None) k r = tt
+  held_is fits (StoreLink s (Some n)) k r = (held_of_slot n k.0, birth_there know.checked n k.1.0 k.1.1.among)
+  held_is fits (LoadLink at) k r = held_of_place at k
+  held_is fits (LoadBirth s) k r = held_of_slot s k
+  held_is fits (LoadKey s) k r = held_of_slot s k
+  held_is fits (Publish pred expected s) k r = let x = ready_is pred (link_of expected) (know.own s) r.1 in (link_held pred (link_of expected) k.0, (birth_at_there pred k.1.0 k.1.1, x.1), (x.3, x.2))
+  held_is fits (Mark s expected) k r = (link_held (Slot s) (link_of expected) k.0, key_there know.checked s k.1.0 k.1.1.among)
+  held_is fits (Unlink pred expected s) k r =
       let u = k.1.1 in (
         link_held pred (link_of expected) k.0,
         marked_there know.checked s u.frozen u.known.among u.is_marked,
         birth_at_there pred u.birth u.birth_known,
         rw (mark_is s u.frozen u.known u.is_marked) (birth_named_there u.frozen.slot u.next_birth u.next_known),
       )
-  held_is (ConfirmPresent op s expected) k r = (link_held (Slot s) (link_of expected) k.0, key_there know.checked s k.1.0 k.1.1.among)
-  held_is (ConfirmAbsent op key at expected) k r = (link_held at (link_of expected) k, behind_there at key r.2, before_there key (link_of expected).slot r.3)
-  held_is step k r = tt
+  held_is fits (ConfirmPresent op s expected) k r = (link_held (Slot s) (link_of expected) k.0, key_there know.checked s k.1.0 k.1.1.among)
+  held_is fits (ConfirmAbsent op key at expected) k r = (link_held at (link_of expected) k, behind_there at key r.2, meets_key fits key (link_of expected) r.3)
+  held_is fits step k r = tt
 
-  range_is : (step : Step) → IsInRangeKnown shape know step → IsInRange shape know step
-  range_is (Publish pred expected s) r = (r.0, (ready_is pred (link_of expected) (know.own s) r.1).0)
-  range_is (ConfirmAbsent op key at expected) r = (r.0, r.1, behind_is at key r.2, before_is key (link_of expected).slot r.3)
-  range_is step r = r
+  range_is : Fits shape a → (step : Step) → IsInRangeKnown shape know step → IsInRange shape know step
+  range_is fits (Publish pred expected s) r = (r.0, (ready_is pred (link_of expected) (know.own s) r.1).0)
+  range_is fits (ConfirmAbsent op key at expected) r = (r.0, r.1, behind_is at key r.2, meets_above fits key (link_of expected) r.3)
+  range_is fits step r = r
 
   -- what is accepted by membership is accepted by look-ups
-  pub known_accepts : {step : Step} → AcceptsKnown shape know step → Accepts shape know step
-  known_accepts {step} ok = record { in_shape = ok.in_shape; owned = ok.owned; held = held_is step ok.known ok.in_range; in_range = range_is step ok.in_range; below_last = ok.below_last }
+  pub known_accepts : Fits shape a → {step : Step} → AcceptsKnown shape know step → Accepts shape know step
+  known_accepts fits {step} ok = record { in_shape = ok.in_shape; owned = ok.owned; held = held_is fits step ok.known ok.in_range; in_range = range_is fits step ok.in_range; below_last = ok.below_last }

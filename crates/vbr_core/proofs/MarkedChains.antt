@@ -3,13 +3,14 @@ use Rattle.std.proofs.Common.{◌≡◌, ℕ, ◌≤◌, true, false, [], Option
 use Rattle.std.specs.Prelude.{◌⊎◌}
 use Rattle.std.proofs.lemmas.Bool.{cases_Bool}
 use Rattle.vbr_words.specs.Dimensions.{Dimensions}
+use Rattle.vbr_words.specs.Words.{link_of}
 use Rattle.vbr_words.specs.declared.link.Link.{Link}
 use Rattle.vbr_words.specs.declared.place.At.{At}
 use Rattle.vbr_words.specs.declared.place.At.TheVariants.{Head, Slot}
 use Rattle.vbr_core.specs.Keys.{no_keys}
 use Rattle.vbr_core.specs.History.{set_after}
 use Rattle.vbr_core.specs.Knowledge.{Know}
-use Rattle.vbr_core.specs.Acceptance.{bucket_of}
+use Rattle.vbr_core.specs.Acceptance.{bucket_of, Accepts}
 use Rattle.vbr_core.specs.Machine.{World}
 use Rattle.vbr_core.specs.Machine as machine
 use Rattle.vbr_core.specs.Membership.{Knows, LeadsTo, itself, onward, StandsBehind, StandsBefore}
@@ -18,13 +19,16 @@ use Rattle.vbr_core.specs.Chronicles.{Before, AtHead, AtNode, IsOpen, BelongsBeh
 use Rattle.vbr_core.specs.Sound.{IsListed, IsRemoved, IsApart, Sound, Grows}
 use Rattle.vbr_core.specs.Notes.{Notes, before_at}
 use Rattle.vbr_core.specs.Agreement.{Held, IsHeldNext, IsGoodLink, IsPair, IsNoted, Agrees}
+use Rattle.vbr_core.specs.declared.history.Op.{Op}
+use Rattle.vbr_core.specs.declared.event.Step.TheVariants.{ConfirmAbsent}
 use Rattle.vbr_core.specs.declared.knowledge.Read.TheVariants.{LinkAt}
 use Rattle.vbr_core.proofs.Lists.{next_listed}
 use Rattle.vbr_core.proofs.Growth.{grows_after}
 use Rattle.vbr_core.proofs.HeldReads.{same_pair}
 use Rattle.vbr_core.proofs.Shown.{stands}
 use Rattle.vbr_core.proofs.KnownReads.{good_link, one_held}
-use Rattle.vbr_core.proofs.AtLoads.{before_of, pair_open, behind_then, before_then}
+use Rattle.vbr_core.proofs.AtLoads.{before_of, pair_open, behind_then, before_then, link_found_at}
+use Rattle.vbr_core.proofs.KnownAcceptance.{accepts_known}
 
 -- from what stands first to another through marked nodes only: no step, or one more on from a marked node to its successor
 pub data ThroughMarked (a : Incarnations) (first : Option ℕ) : Option ℕ → Type 0 where
@@ -173,3 +177,10 @@ module _ {shape : Dimensions} {w : World} {a : Incarnations} {notes : ℕ → No
       go : (set_after no_keys a.calls key ≡ true) ⊎ (set_after no_keys a.calls key ≡ false) → set_after no_keys a.calls key ≡ false
       go (inr f) = f
       go (inl t) = let u = now.tells.only key t in absurd (none_through_marked now.sound (before_of at good.0) key reaches.node opened.0 behind reaches.through before u.0 u.1 u.2)
+
+-- where a confirming load for a key finds the word that it expects, the key isn't in the set
+pub confirmed_absent : {shape : Dimensions} {w : World} {a : Incarnations} {notes : ℕ → Notes} → Agrees shape w a notes → (p : ℕ) (op : Op) (key : ℕ) (at : At) (expected : ℕ) → Accepts shape (w.know p) (ConfirmAbsent op key at expected) → machine.found shape w (ConfirmAbsent op key at expected) ≡ expected → set_after no_keys w.calls key ≡ false
+confirmed_absent g p op key at expected ok q =
+    let k = accepts_known ok in
+    let on = k.in_range.3 in
+    absent_behind_marked g p at (link_of expected) on.last k.known k.in_range.0 (link_found_at g at expected q) on.leads key k.in_range.2 on.before

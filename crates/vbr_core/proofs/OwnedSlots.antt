@@ -1,10 +1,10 @@
 -- What a pass knows of its slots, against the words: a slot that it takes or unlinks was not its own, and a stamp that it knows is the stamp that stands there.
-use Rattle.std.proofs.Common.{◌≡◌, ℕ, Option, Some, None, sym, ap, ◌∙◌, arith}
+use Rattle.std.proofs.Common.{◌≡◌, ℕ, Option, Some, None, sym, ap, ◌∙◌, true}
 use Rattle.vbr_words.specs.Dimensions.{Dimensions}
 use Rattle.vbr_words.specs.Words.{word_of}
 use Rattle.vbr_words.specs.declared.place.At.{At}
 use Rattle.vbr_core.specs.Acceptance.{Accepts, MayBear, stamp_in}
-use Rattle.vbr_core.specs.Machine.{World, flag_of, link_at}
+use Rattle.vbr_core.specs.Machine.{World, is_shared, link_at}
 use Rattle.vbr_core.specs.Incarnations.{Incarnations, last_in}
 use Rattle.vbr_core.specs.Notes.{Notes}
 use Rattle.vbr_core.specs.Agreement.{Agrees, OwnFits, IsNotOf}
@@ -18,16 +18,16 @@ use Rattle.vbr_core.proofs.Meetings.{meets_now}
 use Rattle.vbr_core.proofs.MarkSteps.{listed_not_of}
 use Rattle.vbr_core.proofs.UnlinkSteps.{facts}
 
-raised : (pass : ℕ) (place : SlotPlace) → flag_of place ≡ 1 → IsNotOf pass place
+raised : (pass : ℕ) (place : SlotPlace) → is_shared place ≡ true → IsNotOf pass place
 raised pass Shared flag = tt
-raised pass (Own q) flag = absurd (omega arith)
-raised pass (Hand q) flag = absurd (omega arith)
+raised pass (Own q) flag = absurd (cc)
+raised pass (Hand q) flag = absurd (cc)
 raised pass (Listed b) flag = tt
 
--- a slot whose flag is raised is no pass's own
-pub taken_unowned : (shape : Dimensions) (w : World) (a : Incarnations) (notes : ℕ → Notes) (p s : ℕ) → Agrees shape w a notes → flag_of (w.place s) ≡ 1 → (w.know p).own s ≡ None
+-- a slot in the shared pool is no pass's own
+pub taken_unowned : (shape : Dimensions) (w : World) (a : Incarnations) (notes : ℕ → Notes) (p s : ℕ) → Agrees shape w a notes → is_shared (w.place s) ≡ true → (w.know p).own s ≡ None
 taken_unowned shape w a notes p s g flag =
-    not_owned a p (w.know p).epoch ((w.know p).own s) (a.place s) (a.last s) (a.stamp s) (g.owns p s) (raised p (a.place s) (ap flag_of (sym (g.image.place s)) ∙ flag))
+    not_owned a p (w.know p).epoch ((w.know p).own s) (a.place s) (a.last s) (a.stamp s) (g.owns p s) (raised p (a.place s) (ap is_shared (sym (g.image.place s)) ∙ flag))
 
 -- nor is one that a pass unlinks
 pub unlinked_unowned : (shape : Dimensions) (w : World) (a : Incarnations) (notes : ℕ → Notes) (p : ℕ) (pred : At) (expected s : ℕ) → Agrees shape w a notes → Accepts shape (w.know p) (Unlink pred expected s) → word_of (link_at w pred) ≡ expected → (w.know p).own s ≡ None

@@ -1,5 +1,5 @@
 -- The steps on a slot that its pass owns, and the taking of a flag, but for stamps and births.
-use Rattle.std.proofs.Common.{◌≡◌, ◌≢◌, ℕ, ◌≤◌, true, Option, Some, None, refl, arith, sym, ap, ◌∙◌}
+use Rattle.std.proofs.Common.{◌≡◌, ◌≢◌, ℕ, ◌<◌, ◌≤◌, true, Option, Some, None, refl, arith, sym, ap, ◌∙◌}
 use Rattle.std.specs.Prelude.{unwrap_or}
 use Rattle.vbr_words.specs.Dimensions.{Dimensions}
 use Rattle.vbr_words.specs.Words.{IsLink}
@@ -23,6 +23,7 @@ use Rattle.vbr_core.specs.declared.knowledge.SlotPlace.{SlotPlace}
 use Rattle.vbr_core.specs.declared.knowledge.SlotPlace.TheVariants.{Shared, Own, Hand, Listed}
 use Rattle.vbr_core.proofs.Puts.{put_here, put_other}
 use Rattle.vbr_core.proofs.Growth.{grows}
+use Rattle.vbr_core.proofs.SlotFlags.{flag_told}
 use Rattle.vbr_core.proofs.Lookups.{birth_low}
 use Rattle.vbr_core.proofs.Noted.{knows_on, knows_own}
 use Rattle.vbr_core.proofs.OwnSlots.{IsSlotKept, owns_changed, lasts_differ}
@@ -75,8 +76,8 @@ retired_beside : (a : Incarnations) (s : ℕ) (place : SlotPlace) (l : Option �
 retired_beside a s place None h = h
 retired_beside a s place (Some c) h = h
 
-pub step_take_flag : (shape : Dimensions) (w : World) (a : Incarnations) (notes : ℕ → Notes) (p s : ℕ) → Agrees shape w a notes → StepAgrees shape w a notes p (TakeFlag s)
-step_take_flag shape w a notes p s g = go (w.place s) refl
+pub step_take_flag : (shape : Dimensions) (w : World) (a : Incarnations) (notes : ℕ → Notes) (p s : ℕ) → Agrees shape w a notes → s < shape.slots → StepAgrees shape w a notes p (TakeFlag s)
+step_take_flag shape w a notes p s g low = go (w.place s) refl
   where
     won : (al : a.place s ≡ Shared) → Agrees shape (record w { know = put w.know p (with_own (w.know p) s (Some (Free (w.stamp s)))); place = put w.place s (Own p) }) (becomes shape a p (Gains s)) (put notes p (notes p))
     won al =
@@ -99,10 +100,10 @@ step_take_flag shape w a notes p s g = go (w.place s) refl
     at place e = sym (g.image.place s) ∙ e
 
     go : (place : SlotPlace) → w.place s ≡ place → StepAgrees shape w a notes p (TakeFlag s)
-    go Shared e = rw e ((at Shared e, tt), won (at Shared e))
-    go (Own q) e = rw e ((λ z. let y = at (Own q) e in cc, tt), agrees_still shape w a notes p g)
-    go (Hand q) e = rw e ((λ z. let y = at (Hand q) e in cc, tt), agrees_still shape w a notes p g)
-    go (Listed q) e = rw e ((λ z. let y = at (Listed q) e in cc, tt), agrees_still shape w a notes p g)
+    go Shared e = rw (flag_told shape w s Shared low e) ((at Shared e, tt), won (at Shared e))
+    go (Own q) e = rw (flag_told shape w s (Own q) low e) ((λ z. let y = at (Own q) e in cc, tt), agrees_still shape w a notes p g)
+    go (Hand q) e = rw (flag_told shape w s (Hand q) low e) ((λ z. let y = at (Hand q) e in cc, tt), agrees_still shape w a notes p g)
+    go (Listed q) e = rw (flag_told shape w s (Listed q) low e) ((λ z. let y = at (Listed q) e in cc, tt), agrees_still shape w a notes p g)
 
 pub step_store_key : (shape : Dimensions) (w : World) (a : Incarnations) (notes : ℕ → Notes) (p s key : ℕ) → Agrees shape w a notes → Accepts shape (w.know p) (StoreKey s key) → StepAgrees shape w a notes p (StoreKey s key)
 step_store_key shape w a notes p s key g ok =

@@ -1,5 +1,5 @@
--- An exchange of a link that is won is right: it names the last incarnations of their slots, and what it adds is lawful.
-use Rattle.std.proofs.Common.{◌≡◌, ℕ, Bool, true, false, cond, List, [], ◌∷◌, Option, Some, None, refl, sym, ap, ◌∙◌, inl, inr}
+-- An exchange of a link that is won is right: it names the last incarnations of their slots, what it adds is lawful, and a publication's successor is the one held.
+use Rattle.std.proofs.Common.{◌≡◌, ◌≢◌, ℕ, Bool, true, false, cond, List, [], ◌∷◌, Option, Some, None, refl, sym, ap, ◌∙◌, inl, inr}
 use Rattle.std.specs.Prelude.{◌==◌, ◌&&◌}
 use Rattle.std.proofs.lemmas.Bool.{cases_Bool, eq-eqb, eqb-true, and_parts}
 use Rattle.vbr_words.specs.Dimensions.{Dimensions}
@@ -7,15 +7,17 @@ use Rattle.vbr_words.specs.Words.{word_of, link_of}
 use Rattle.vbr_words.specs.declared.link.Link.{Link}
 use Rattle.vbr_words.specs.declared.place.At.{At}
 use Rattle.vbr_words.specs.declared.place.At.TheVariants.{Head, Slot}
+use Rattle.vbr_core.specs.Put.{put}
 use Rattle.vbr_core.specs.Links.{same_link}
 use Rattle.vbr_core.specs.Knowledge.{same_at, knows_link, names, holds}
 use Rattle.vbr_core.specs.Acceptance.{Accepts}
 use Rattle.vbr_core.specs.Learning.{effect_of}
 use Rattle.vbr_core.specs.Machine.{World, found}
 use Rattle.vbr_core.specs.Incarnations.{Incarnations, last_in}
+use Rattle.vbr_core.specs.Incarnations as state
 use Rattle.vbr_core.specs.Chronicles.{next_of}
-use Rattle.vbr_core.specs.Notes.{Notes, before_at, HoldsLast, HoldsLastAt, HoldsLastNext}
-use Rattle.vbr_core.specs.Accounts.{IsRightExchange}
+use Rattle.vbr_core.specs.Notes.{Notes, before_at, HoldsLast, HoldsLastAt, HoldsLastNext, HoldsNext}
+use Rattle.vbr_core.specs.Accounts.{TakesHeldNext, IsRightExchange}
 use Rattle.vbr_core.specs.Agreement.{Held, IsHeldNext, Agrees}
 use Rattle.vbr_core.specs.Safety.{ExchangesLink}
 use Rattle.vbr_core.specs.declared.event.Effect.TheVariants.{Won, Lost}
@@ -23,6 +25,7 @@ use Rattle.vbr_core.specs.declared.event.Step.{Step}
 use Rattle.vbr_core.specs.declared.event.Step.TheVariants.{Publish, Mark, Unlink}
 use Rattle.vbr_core.specs.declared.knowledge.Read.{Read}
 use Rattle.vbr_core.specs.declared.knowledge.Read.TheVariants.{LinkAt, BirthOf, KeyOf}
+use Rattle.vbr_core.proofs.Puts.{put_here, put_other}
 use Rattle.vbr_core.proofs.Slots.{listed_last}
 use Rattle.vbr_core.proofs.Lookups.{same_link_true}
 use Rattle.vbr_core.proofs.Meetings.{Meets, meets_now}
@@ -72,30 +75,49 @@ module _ (shape : Dimensions) (w : World) (a : Incarnations) (notes : ℕ → No
           let d : last_in a t ≡ c = rw l refl in
           holds_last t (link_names (w.know p).checked at link t k e) (rw d h) (l ∙ ap Some (sym d))
 
+  -- what the link names is the successor
+  next_held : (at : At) (link : Link) → knows_link (w.know p).checked at link ≡ true → Meets shape a (w.know p).epoch (w.know p).checked at link → HoldsNext (notes p).checked link.slot (next_of a (before_at a at))
+  next_held at link k m = go link.slot refl (next_of a (before_at a at)) m.next
+    where
+      go : (o : Option ℕ) → link.slot ≡ o → (n : Option ℕ) → IsHeldNext a (w.know p).epoch o n → HoldsNext (notes p).checked o n
+      go None e None h = refl
+      go None e (Some c) h = absurd h
+      go (Some t) e None h = absurd h
+      go (Some t) e (Some c) h = (c, holds_just g.sound (w.know p).epoch (notes p).checked (g.knows p).checked t c (rw (g.knows p).checked_reads at (link_names (w.know p).checked at link t k e)) h, refl)
+
+  -- which a publication gives its incarnation
+  publication_next : (pred : At) (expected s : ℕ) → knows_link (w.know p).checked pred (link_of expected) ≡ true → Meets shape a (w.know p).epoch (w.know p).checked pred (link_of expected) → a.state (last_in a s) ≡ state.InHand p → TakesHeldNext shape w a (notes p) p (Publish pred expected s)
+  publication_next (Head b) expected s k m i = rw (put_here a.next (last_in a s) (a.first b)) (next_held (Head b) (link_of expected) k m)
+  publication_next (Slot q) expected s k m i =
+      let ne : last_in a s ≢ last_in a q = λ e. (let x : state.InHand p ≡ state.Linked = sym i ∙ ap a.state e ∙ m.is_open in cc) in
+      rw (put_other (put a.next (last_in a s) (a.next (last_in a q))) (last_in a q) (Some (last_in a s)) (last_in a s) ne ∙ put_here a.next (last_in a s) (a.next (last_in a q))) (next_held (Slot q) (link_of expected) k m)
+
   pub right_exchange : (step : Step) → Accepts shape (w.know p) step → ExchangesLink step → effect_of step (found shape w step) ≡ Won → IsRightExchange shape w a (notes p) p step
   right_exchange (Publish (Head b) expected s) ok x e =
       let t = won (word_of (w.head b) == expected) _ e in
       let m = meets_now shape w a notes p g (Head b) expected ok.held.0 ok.in_range.0 (eqb-true (word_of (w.head b)) expected t) in
       let l = (step_agrees shape w a notes p (Publish (Head b) expected s) g ok).0 in
-      record { names = (tt, last_named (Head b) (link_of expected) ok.held.0 m); lawful = rw t at l }
+      let lawful = (rw t at l) in
+      record { names = (tt, last_named (Head b) (link_of expected) ok.held.0 m); lawful = lawful; successor = publication_next (Head b) expected s ok.held.0 m lawful.0.in_hand }
   right_exchange (Publish (Slot q) expected s) ok x e =
       let t = won (word_of (w.link q) == expected) _ e in
       let m = meets_now shape w a notes p g (Slot q) expected ok.held.0 ok.in_range.0 (eqb-true (word_of (w.link q)) expected t) in
       let l = (step_agrees shape w a notes p (Publish (Slot q) expected s) g ok).0 in
-      record { names = (last_behind (Slot q) (link_of expected) ok.held.0 m, last_named (Slot q) (link_of expected) ok.held.0 m); lawful = rw t at l }
+      let lawful = (rw t at l) in
+      record { names = (last_behind (Slot q) (link_of expected) ok.held.0 m, last_named (Slot q) (link_of expected) ok.held.0 m); lawful = lawful; successor = publication_next (Slot q) expected s ok.held.0 m lawful.0.in_hand }
   right_exchange (Mark s expected) ok x e =
       let t = won (word_of (w.link s) == expected) _ e in
       let m = meets_now shape w a notes p g (Slot s) expected ok.held.0 ok.in_range (eqb-true (word_of (w.link s)) expected t) in
       let l = (step_agrees shape w a notes p (Mark s expected) g ok).0 in
-      record { names = last_behind (Slot s) (link_of expected) ok.held.0 m; lawful = rw t at l }
+      record { names = last_behind (Slot s) (link_of expected) ok.held.0 m; lawful = rw t at l; successor = tt }
   right_exchange (Unlink (Head b) expected s) ok x e =
       let t = won (word_of (w.head b) == expected) _ e in
       let m = meets_now shape w a notes p g (Head b) expected ok.held.0 ok.in_range.0 (eqb-true (word_of (w.head b)) expected t) in
       let l = (step_agrees shape w a notes p (Unlink (Head b) expected s) g ok).0 in
-      record { names = (tt, last_named (Head b) (link_of expected) ok.held.0 m); lawful = rw t at l }
+      record { names = (tt, last_named (Head b) (link_of expected) ok.held.0 m); lawful = rw t at l; successor = tt }
   right_exchange (Unlink (Slot q) expected s) ok x e =
       let t = won (word_of (w.link q) == expected) _ e in
       let m = meets_now shape w a notes p g (Slot q) expected ok.held.0 ok.in_range.0 (eqb-true (word_of (w.link q)) expected t) in
       let l = (step_agrees shape w a notes p (Unlink (Slot q) expected s) g ok).0 in
-      record { names = (last_behind (Slot q) (link_of expected) ok.held.0 m, last_named (Slot q) (link_of expected) ok.held.0 m); lawful = rw t at l }
+      record { names = (last_behind (Slot q) (link_of expected) ok.held.0 m, last_named (Slot q) (link_of expected) ok.held.0 m); lawful = rw t at l; successor = tt }
   right_exchange step ok x e = absurd x

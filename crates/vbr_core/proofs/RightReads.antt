@@ -78,6 +78,12 @@ holds_just {shape} {a} snd e notes al s c q h =
     let same : x.0 ≡ c = one_late snd.slots x.0 c e (y.slot ∙ sym h.slot) y.late h.late y.birth h.birth in
     record { held = (let P : ℕ → Type 0 = λ i. Holds notes s i in subst P same x.1); only = λ d hd. holds_one snd e notes al s d x.0 hd x.1 ∙ same }
 
+-- a slot that is held has one incarnation that the pass holds there
+pub holds_only : {shape : Dimensions} {a : Incarnations} → Sound shape a → (e : ℕ) (notes : List Note) → AllByRecursion (IsGood a e) notes → (s : ℕ) → holds (reads_of notes) s ≡ true → (c : ℕ) × HoldsJust notes s c
+holds_only {shape} {a} snd e notes al s q =
+    let x = holds_some a e notes s q al in
+    (x.0, record { held = x.1; only = λ d hd. holds_one snd e notes al s d x.0 hd x.1 })
+
 of_held : {shape : Dimensions} {a : Incarnations} → Sound shape a → (e : ℕ) (notes : List Note) → AllByRecursion (IsGood a e) notes → (s c : ℕ) → holds (reads_of notes) s ≡ true → Held a e s c → IsOfHeld notes s (Some c)
 of_held snd e notes al s c q h = (c, holds_just snd e notes al s c q h, refl)
 

@@ -64,10 +64,10 @@ ordered_from shape passes w a notes (event ∷ events) g o ok q =
 -- ---- after a run
 
 module _ (shape : Dimensions) (passes : ℕ) (run : List Event) (is : IsShape shape) (ok : IsRun shape passes run) (p : ℕ) where
-  agrees : Agrees shape (world_after shape run) (incarnations_after shape run) (notes_after shape run)
+  pub agrees : Agrees shape (world_after shape run) (incarnations_after shape run) (notes_after shape run)
   agrees = run_agrees shape passes run is ok
 
-  ordered : AreOrdered shape (incarnations_after shape run) (notes_after shape run p)
+  pub ordered : AreOrdered shape (incarnations_after shape run) (notes_after shape run p)
   ordered = ordered_from shape passes opening nothing_yet (λ q. no_notes) run (agrees_at_first shape is) (λ q. record { pending = tt; checked = tt }) ok p
 
   -- a known read is of a held place, by look-ups
@@ -114,7 +114,7 @@ module _ (shape : Dimensions) (passes : ℕ) (run : List Event) (is : IsShape sh
 
   -- what is accepted by membership is accepted, and the other way round
   pub known_accepts : (step : Step) → AcceptsKnown shape (know_after shape run p) step → Accepts shape (know_after shape run p) step
-  known_accepts step accepts = acceptance.known_accepts agrees.sound (agrees.knows p) accepts
+  known_accepts step accepts = acceptance.known_accepts agrees.sound (agrees.knows p) agrees.fits accepts
 
   pub accepts_known : (step : Step) → Accepts shape (know_after shape run p) step → AcceptsKnown shape (know_after shape run p) step
   accepts_known step accepts = acceptance.accepts_known accepts
@@ -140,7 +140,7 @@ module _ (shape : Dimensions) (passes : ℕ) (run : List Event) (is : IsShape sh
 
   -- where a confirming load for a key finds the word that it expects, the key isn't in the set
   pub confirmed_absent : (op : Op) (key : ℕ) (at : At) (expected : ℕ) → Accepts shape (know_after shape run p) (ConfirmAbsent op key at expected) → found shape (world_after shape run) (ConfirmAbsent op key at expected) ≡ expected → set_after no_keys (world_after shape run).calls key ≡ false
-  confirmed_absent op key at expected accepts q = loads.confirmed_absent agrees p op key at expected accepts q
+  confirmed_absent op key at expected accepts q = chains.confirmed_absent agrees p op key at expected accepts q
 
   -- a known unmarked link stands at its place, and known marked links lead on from it: a key that stands behind the place and before what the last of these links names isn't in the set
   pub absent_behind_marked : (at : At) (link last : Link) → Knows (know_after shape run p) (LinkAt at link) → link.mark ≡ false → link_at (world_after shape run) at ≡ link → LeadsTo (know_after shape run p) link last →

@@ -5,13 +5,14 @@ use Rattle.std.proofs.lemmas.Bool.{ne_eqb}
 use Rattle.std.proofs.lemmas.List.Elements.{filter-append}
 use Rattle.vbr_words.specs.Dimensions.{Dimensions}
 use Rattle.vbr_words.specs.Words.{word_of}
+use Rattle.vbr_words.specs.Flags.{has_flag}
 use Rattle.vbr_words.specs.declared.place.At.TheVariants.{Head, Slot}
 use Rattle.vbr_core.specs.Put.{put}
 use Rattle.vbr_core.specs.History.{calls_by}
 use Rattle.vbr_core.specs.Knowledge.{Know}
 use Rattle.vbr_core.specs.Acceptance.{Accepts}
 use Rattle.vbr_core.specs.Learning.{learn, call_of}
-use Rattle.vbr_core.specs.Machine.{World, opening, found, stamp_shown, flag_of, link_at, after}
+use Rattle.vbr_core.specs.Machine.{World, opening, found, stamp_shown, link_at, after}
 use Rattle.vbr_core.specs.Making.{succeeds, call_made}
 use Rattle.vbr_core.specs.Runs.{IsAccepted, world_from, AreAccepted, IsRun, world_after, know_after, NoneOf, Begins, BeginsFor}
 use Rattle.vbr_core.specs.Calls.{calls_added, own_calls}
@@ -118,7 +119,7 @@ know_other shape w p q (Advance from) ne = by_both (w.epoch == from) (λ v. v.kn
 know_other shape w p q (LoadStamp s) ne = refl
 know_other shape w p q (StoreStamp s stamp) ne = put_other w.know q _ p ne
 know_other shape w p q (Raise s) ne = put_other w.know q _ p ne
-know_other shape w p q (TakeFlag s) ne = by_both (flag_of (w.place s) == 1) (λ v. v.know p) _ w (w.know p) (put_other w.know q _ p ne) refl
+know_other shape w p q (TakeFlag s) ne = by_both (has_flag (found shape w (TakeFlag s)) s) (λ v. v.know p) _ w (w.know p) (put_other w.know q _ p ne) refl
 know_other shape w p q (StoreBirth s birth) ne = put_other w.know q _ p ne
 know_other shape w p q (StoreKey s key) ne = put_other w.know q _ p ne
 know_other shape w p q (StoreLink s next) ne = put_other w.know q _ p ne
@@ -145,7 +146,7 @@ know_own shape w p (Advance from) = by_both (w.epoch == from) (λ v. v.know p) _
 know_own shape w p (LoadStamp s) = refl
 know_own shape w p (StoreStamp s stamp) = put_here w.know p _
 know_own shape w p (Raise s) = put_here w.know p _
-know_own shape w p (TakeFlag s) = taught (flag_of (w.place s) == 1) _ w p _ refl
+know_own shape w p (TakeFlag s) = taught (has_flag (found shape w (TakeFlag s)) s) _ w p _ refl
 know_own shape w p (StoreBirth s birth) = put_here w.know p _
 know_own shape w p (StoreKey s key) = put_here w.know p _
 know_own shape w p (StoreLink s next) = put_here w.know p _
@@ -210,7 +211,7 @@ calls_after shape w p (Advance from) = silent (w.epoch == from) _ w refl
 calls_after shape w p (LoadStamp s) = sym (append-nil w.calls)
 calls_after shape w p (StoreStamp s stamp) = sym (append-nil w.calls)
 calls_after shape w p (Raise s) = sym (append-nil w.calls)
-calls_after shape w p (TakeFlag s) = silent (flag_of (w.place s) == 1) _ w refl
+calls_after shape w p (TakeFlag s) = silent (has_flag (found shape w (TakeFlag s)) s) _ w refl
 calls_after shape w p (StoreBirth s birth) = sym (append-nil w.calls)
 calls_after shape w p (StoreKey s key) = sym (append-nil w.calls)
 calls_after shape w p (StoreLink s next) = sym (append-nil w.calls)

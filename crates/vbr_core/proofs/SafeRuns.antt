@@ -25,7 +25,8 @@ use Rattle.vbr_core.proofs.Shown.{image_fits, stands}
 use Rattle.vbr_core.proofs.RunsGoOn.{know_own, know_other, is_run_before, is_run_after}
 use Rattle.vbr_core.proofs.EveryRun.{run_agrees, run_lawful}
 use Rattle.vbr_core.proofs.HeldSlots.{ReadsHeldPlaces, held_learned}
-use Rattle.vbr_core.proofs.RightReads.{holds_held, holds_one, right_reads}
+use Rattle.vbr_core.proofs.RightReads.{holds_held, holds_one, holds_only, right_reads}
+use Rattle.vbr_core.proofs.PlacedSlots.{are_placed}
 use Rattle.vbr_core.proofs.RightExchanges.{right_exchange}
 
 -- ---- reads are of held places
@@ -135,9 +136,12 @@ every_run shape passes run is ok =
         checked = (g.knows p).checked_reads;
         late = holds_held a (w.know p).epoch (notes_after shape run p).checked (g.knows p).checked;
         one = holds_one g.sound (w.know p).epoch (notes_after shape run p).checked (g.knows p).checked;
+        some = λ s h. holds_only g.sound (w.know p).epoch (notes_after shape run p).checked (g.knows p).checked s (rw (g.knows p).checked_reads at h);
         reads = right_reads g.sound (w.know p) (notes_after shape run p) (g.knows p) (run_reads shape passes run ok p);
         own = λ s. owner_right w a p (w.know p).epoch s ((w.know p).own s) g.image (g.owns p s);
+        last = g.owns p;
       };
+      slots = λ some ok_too. are_placed shape some run is ok_too;
       exchanges = λ before later event e.
           let at = accepted_there shape passes run before later event ok e in
           right_exchange shape (world_after shape before) (incarnations_after shape before) (notes_after shape before) event.pass (run_agrees shape passes before is at.0) (run_reads shape passes before at.0 event.pass) event.step at.1.1;

@@ -1,9 +1,10 @@
 -- The words after a step: the word at its place is that of its operation, and no other word changes.
 use Rattle.std.proofs.Common.{◌≡◌, ◌≢◌, ℕ, ◌+◌, Bool, true, false, List, [], ◌∷◌, ◌++◌, Option, Some, None, cond, refl, sym, ap, ◌∙◌, inl, inr, arith}
-use Rattle.std.specs.Prelude.{◌⊎◌, ◌==◌}
+use Rattle.std.specs.Prelude.{◌⊎◌, ◌==◌, bit_and}
 use Rattle.std.proofs.lemmas.Bool.{cases_eq, eqb-true}
 use Rattle.vbr_words.specs.Dimensions.{Dimensions}
 use Rattle.vbr_words.specs.Words.{word_of, link_of}
+use Rattle.vbr_words.specs.Flags.{word_of_flag, all_but, has_flag}
 use Rattle.vbr_words.specs.Places.{IsIn}
 use Rattle.vbr_words.specs.Places as places
 use Rattle.vbr_words.specs.declared.place.At.{At}
@@ -13,7 +14,7 @@ use Rattle.vbr_words.specs.declared.place.Place.TheVariants as place
 use Rattle.vbr_core.specs.Put.{put}
 use Rattle.vbr_core.specs.Acceptance.{IsAtIn, IsInShape, MayBear, IsInHand, Accepts}
 use Rattle.vbr_core.specs.Learning.{link_written}
-use Rattle.vbr_core.specs.Machine.{World, link_at, flag_of, word_at, place_of, access_of, word_made, found, after}
+use Rattle.vbr_core.specs.Machine.{World, link_at, is_shared, word_at, place_of, access_of, word_made, found, with_learning, after}
 use Rattle.vbr_core.specs.Runs.{IsAccepted, world_after, know_after}
 use Rattle.vbr_core.specs.Incarnations.{State, Incarnations}
 use Rattle.vbr_core.specs.Chronicles.{next_of}
@@ -31,6 +32,7 @@ use Rattle.vbr_core.proofs.Puts.{put_here, put_other}
 use Rattle.vbr_core.proofs.Slots.{listed_last}
 use Rattle.vbr_core.proofs.RunsGoOn.{world_after-snoc}
 use Rattle.vbr_core.proofs.Meetings.{Meets, meets_now}
+use Rattle.vbr_core.proofs.SlotFlags.{flag_in, raised_word, taken_word, missed_word, same_word}
 
 -- ---- the place of a step
 
@@ -44,8 +46,8 @@ place_in shape ReadEpoch here = tt
 place_in shape (Advance from) here = tt
 place_in shape (LoadStamp s) here = here
 place_in shape (StoreStamp s stamp) here = here
-place_in shape (Raise s) here = here
-place_in shape (TakeFlag s) here = here
+place_in shape (Raise s) here = flag_in shape s here
+place_in shape (TakeFlag s) here = flag_in shape s here
 place_in shape (StoreBirth s birth) here = here
 place_in shape (StoreKey s key) here = here
 place_in shape (StoreLink s next) here = here.0
@@ -70,37 +72,43 @@ kept : (b : Bool) (f : World → ℕ) (x y : World) (old : ℕ) → (b ≡ true 
 kept true f x y old won lost = won refl
 kept false f x y old won lost = lost
 
+-- and where each leaves it for a reason of its own
+either : (b : Bool) (f : World → ℕ) (x y : World) (new : ℕ) → (b ≡ true → f x ≡ new) → (b ≡ false → f y ≡ new) → f (cond b x y) ≡ new
+either true f x y new won lost = won refl
+either false f x y new won lost = lost refl
+
 -- the word at the place of a step is what its operation leaves there
-pub word_here : (shape : Dimensions) (w : World) (p : ℕ) (step : Step) → word_at shape (after shape w p step) (place_of step) ≡ word_made (access_of (w.know p) step) (found shape w step)
-word_here shape w p ReadEpoch = refl
-word_here shape w p (Advance from) = left (w.epoch == from) (λ v. v.epoch) _ w (from + 1) w.epoch (λ t. ap (λ n. n + 1) (eqb-true w.epoch from t)) refl
-word_here shape w p (LoadStamp s) = refl
-word_here shape w p (StoreStamp s stamp) = put_here w.stamp s stamp
-word_here shape w p (Raise s) = ap flag_of (put_here w.place s Shared)
-word_here shape w p (TakeFlag s) = left (flag_of (w.place s) == 1) (λ v. flag_of (v.place s)) _ w 0 (flag_of (w.place s)) (λ t. ap flag_of (put_here w.place s (Own p))) refl
-word_here shape w p (StoreBirth s birth) = put_here w.birth s birth
-word_here shape w p (StoreKey s key) = put_here w.key s key
-word_here shape w p (StoreLink s next) = ap word_of (put_here w.link s (link_written (w.know p) (StoreLink s next)))
-word_here shape w p (LoadLink (Head b)) = refl
-word_here shape w p (LoadLink (Slot t)) = refl
-word_here shape w p (LoadBirth s) = refl
-word_here shape w p (LoadKey s) = refl
-word_here shape w p (Publish (Head b) expected s) = left (word_of (w.head b) == expected) (λ v. word_of (v.head b)) _ w _ (word_of (w.head b)) (λ t. ap word_of (put_here w.head b (link_written (w.know p) (Publish (Head b) expected s)))) refl
-word_here shape w p (Publish (Slot t) expected s) = left (word_of (w.link t) == expected) (λ v. word_of (v.link t)) _ w _ (word_of (w.link t)) (λ _. ap word_of (put_here w.link t (link_written (w.know p) (Publish (Slot t) expected s)))) refl
-word_here shape w p (Mark s expected) = left (word_of (w.link s) == expected) (λ v. word_of (v.link s)) _ w _ (word_of (w.link s)) (λ t. ap word_of (put_here w.link s (link_written (w.know p) (Mark s expected)))) refl
-word_here shape w p (Unlink (Head b) expected s) = left (word_of (w.head b) == expected) (λ v. word_of (v.head b)) _ w _ (word_of (w.head b)) (λ t. ap word_of (put_here w.head b (link_written (w.know p) (Unlink (Head b) expected s)))) refl
-word_here shape w p (Unlink (Slot t) expected s) = left (word_of (w.link t) == expected) (λ v. word_of (v.link t)) _ w _ (word_of (w.link t)) (λ _. ap word_of (put_here w.link t (link_written (w.know p) (Unlink (Slot t) expected s)))) refl
-word_here shape w p (ConfirmPresent op s expected) = kept (word_of (w.link s) == expected) (λ v. word_of (v.link s)) _ w (word_of (w.link s)) (λ t. refl) refl
-word_here shape w p (ConfirmAbsent op key (Head b) expected) = kept (word_of (w.head b) == expected) (λ v. word_of (v.head b)) _ w (word_of (w.head b)) (λ t. refl) refl
-word_here shape w p (ConfirmAbsent op key (Slot s) expected) = kept (word_of (w.link s) == expected) (λ v. word_of (v.link s)) _ w (word_of (w.link s)) (λ t. refl) refl
+pub word_here : (shape : Dimensions) (w : World) (p : ℕ) (step : Step) → IsInShape shape step → word_at shape (after shape w p step) (place_of step) ≡ word_made (access_of (w.know p) step) (found shape w step)
+word_here shape w p ReadEpoch here = refl
+word_here shape w p (Advance from) here = left (w.epoch == from) (λ v. v.epoch) _ w (from + 1) w.epoch (λ t. ap (λ n. n + 1) (eqb-true w.epoch from t)) refl
+word_here shape w p (LoadStamp s) here = refl
+word_here shape w p (StoreStamp s stamp) here = put_here w.stamp s stamp
+word_here shape w p (Raise s) here = raised_word shape w (after shape w p (Raise s)) s Shared refl here refl
+word_here shape w p (TakeFlag s) here =
+    either (has_flag (found shape w (TakeFlag s)) s) (λ v. word_at shape v (place.Flags (word_of_flag s))) _ w (bit_and (found shape w (TakeFlag s)) (all_but s)) (λ t. taken_word shape w (record (with_learning shape w p (TakeFlag s)) { place = put w.place s (Own p) }) s (Own p) refl refl) (λ f. missed_word shape w s f)
+word_here shape w p (StoreBirth s birth) here = put_here w.birth s birth
+word_here shape w p (StoreKey s key) here = put_here w.key s key
+word_here shape w p (StoreLink s next) here = ap word_of (put_here w.link s (link_written (w.know p) (StoreLink s next)))
+word_here shape w p (LoadLink (Head b)) here = refl
+word_here shape w p (LoadLink (Slot t)) here = refl
+word_here shape w p (LoadBirth s) here = refl
+word_here shape w p (LoadKey s) here = refl
+word_here shape w p (Publish (Head b) expected s) here = left (word_of (w.head b) == expected) (λ v. word_of (v.head b)) _ w _ (word_of (w.head b)) (λ t. ap word_of (put_here w.head b (link_written (w.know p) (Publish (Head b) expected s)))) refl
+word_here shape w p (Publish (Slot t) expected s) here = left (word_of (w.link t) == expected) (λ v. word_of (v.link t)) _ w _ (word_of (w.link t)) (λ _. ap word_of (put_here w.link t (link_written (w.know p) (Publish (Slot t) expected s)))) refl
+word_here shape w p (Mark s expected) here = left (word_of (w.link s) == expected) (λ v. word_of (v.link s)) _ w _ (word_of (w.link s)) (λ t. ap word_of (put_here w.link s (link_written (w.know p) (Mark s expected)))) refl
+word_here shape w p (Unlink (Head b) expected s) here = left (word_of (w.head b) == expected) (λ v. word_of (v.head b)) _ w _ (word_of (w.head b)) (λ t. ap word_of (put_here w.head b (link_written (w.know p) (Unlink (Head b) expected s)))) refl
+word_here shape w p (Unlink (Slot t) expected s) here = left (word_of (w.link t) == expected) (λ v. word_of (v.link t)) _ w _ (word_of (w.link t)) (λ _. ap word_of (put_here w.link t (link_written (w.know p) (Unlink (Slot t) expected s)))) refl
+word_here shape w p (ConfirmPresent op s expected) here = kept (word_of (w.link s) == expected) (λ v. word_of (v.link s)) _ w (word_of (w.link s)) (λ t. refl) refl
+word_here shape w p (ConfirmAbsent op key (Head b) expected) here = kept (word_of (w.head b) == expected) (λ v. word_of (v.head b)) _ w (word_of (w.head b)) (λ t. refl) refl
+word_here shape w p (ConfirmAbsent op key (Slot s) expected) here = kept (word_of (w.link s) == expected) (λ v. word_of (v.link s)) _ w (word_of (w.link s)) (λ t. refl) refl
 
 -- ---- the words elsewhere
 
--- the slot that a step moves with no exchange or store of its flag isn't in the shared pool
+-- the slot that a step moves without its flag isn't in the shared pool
 abbrev pub MovesUnshared : World → Step → Type 0
-MovesUnshared w (StoreBirth s birth) = flag_of (w.place s) ≡ 0
-MovesUnshared w (Publish pred expected s) = flag_of (w.place s) ≡ 0
-MovesUnshared w (Unlink pred expected s) = word_of (link_at w pred) ≡ expected → flag_of (w.place s) ≡ 0
+MovesUnshared w (StoreBirth s birth) = is_shared (w.place s) ≡ false
+MovesUnshared w (Publish pred expected s) = is_shared (w.place s) ≡ false
+MovesUnshared w (Unlink pred expected s) = word_of (link_at w pred) ≡ expected → is_shared (w.place s) ≡ false
 MovesUnshared w _ = Unit {0}
 
 -- two worlds have the same words but at one place
@@ -111,7 +119,7 @@ record SameBut (here : Place) (v w : World) : Type 0 where
   birth : (s : ℕ) → place.Birth s ≢ here → v.birth s ≡ w.birth s
   stamp : (s : ℕ) → place.Stamp s ≢ here → v.stamp s ≡ w.stamp s
   key : (s : ℕ) → place.Key s ≢ here → v.key s ≡ w.key s
-  flag : (s : ℕ) → place.Flag s ≢ here → flag_of (v.place s) ≡ flag_of (w.place s)
+  flag : (s : ℕ) → place.Flags (word_of_flag s) ≢ here → is_shared (v.place s) ≡ is_shared (w.place s)
 
 word_but : (shape : Dimensions) (v w : World) (here q : Place) → SameBut here v w → q ≢ here → word_at shape v q ≡ word_at shape w q
 word_but shape v w here place.Epoch same ne = same.epoch ne
@@ -121,7 +129,7 @@ word_but shape v w here (place.LinkOf s) same ne = ap word_of (same.link s ne)
 word_but shape v w here (place.Birth s) same ne = same.birth s ne
 word_but shape v w here (place.Stamp s) same ne = same.stamp s ne
 word_but shape v w here (place.Key s) same ne = same.key s ne
-word_but shape v w here (place.Flag s) same ne = same.flag s ne
+word_but shape v w here (place.Flags number) same ne = same_word shape v w number (λ s is. same.flag s (λ e. ne (sym (ap place.Flags is) ∙ e)))
 
 unchanged : (here : Place) (v w : World) → v.epoch ≡ w.epoch → v.head ≡ w.head → v.link ≡ w.link → v.birth ≡ w.birth → v.stamp ≡ w.stamp → v.key ≡ w.key → v.place ≡ w.place → SameBut here v w
 unchanged here v w epoch head link birth stamp key at = record {
@@ -131,7 +139,7 @@ unchanged here v w epoch head link birth stamp key at = record {
   birth = λ s _. ap (λ f. f s) birth;
   stamp = λ s _. ap (λ f. f s) stamp;
   key = λ s _. ap (λ f. f s) key;
-  flag = λ s _. ap (λ f. flag_of (f s)) at;
+  flag = λ s _. ap (λ f. is_shared (f s)) at;
 }
 
 -- an exchange that is lost changes nothing
@@ -140,12 +148,12 @@ if_won true here x w won = won refl
 if_won false here x w won = unchanged here w w refl refl refl refl refl refl refl
 
 -- a slot that was not in the shared pool and isn't now keeps its flag
-flag_kept : (f : ℕ → SlotPlace) (s : ℕ) (new : SlotPlace) → flag_of (f s) ≡ flag_of new → (i : ℕ) → flag_of (put f s new i) ≡ flag_of (f i)
+flag_kept : (f : ℕ → SlotPlace) (s : ℕ) (new : SlotPlace) → is_shared (f s) ≡ is_shared new → (i : ℕ) → is_shared (put f s new i) ≡ is_shared (f i)
 flag_kept f s new e i = go (cases_eq i s)
   where
-    go : (i ≡ s) ⊎ (i ≢ s) → flag_of (put f s new i) ≡ flag_of (f i)
+    go : (i ≡ s) ⊎ (i ≢ s) → is_shared (put f s new i) ≡ is_shared (f i)
     go (inl q) = rw (q, put_here f s new) (sym e)
-    go (inr ne) = ap flag_of (put_other f s new i ne)
+    go (inr ne) = ap is_shared (put_other f s new i ne)
 
 -- a step changes no word but that at its place
 same_but : (shape : Dimensions) (w : World) (p : ℕ) (step : Step) → MovesUnshared w step → SameBut (place_of step) (after shape w p step) w
@@ -153,8 +161,8 @@ same_but shape w p ReadEpoch moves = unchanged _ _ w refl refl refl refl refl re
 same_but shape w p (Advance from) moves = if_won (w.epoch == from) place.Epoch _ w (λ _. record { epoch = λ ne. absurd (ne refl); head = λ _ _. refl; link = λ _ _. refl; birth = λ _ _. refl; stamp = λ _ _. refl; key = λ _ _. refl; flag = λ _ _. refl })
 same_but shape w p (LoadStamp s) moves = unchanged _ _ w refl refl refl refl refl refl refl
 same_but shape w p (StoreStamp s stamp) moves = record { epoch = λ _. refl; head = λ _ _. refl; link = λ _ _. refl; birth = λ _ _. refl; stamp = λ i ne. put_other w.stamp s stamp i (λ e. ne (ap place.Stamp e)); key = λ _ _. refl; flag = λ _ _. refl }
-same_but shape w p (Raise s) moves = record { epoch = λ _. refl; head = λ _ _. refl; link = λ _ _. refl; birth = λ _ _. refl; stamp = λ _ _. refl; key = λ _ _. refl; flag = λ i ne. ap flag_of (put_other w.place s Shared i (λ e. ne (ap place.Flag e))) }
-same_but shape w p (TakeFlag s) moves = if_won (flag_of (w.place s) == 1) (place.Flag s) _ w (λ _. record { epoch = λ _. refl; head = λ _ _. refl; link = λ _ _. refl; birth = λ _ _. refl; stamp = λ _ _. refl; key = λ _ _. refl; flag = λ i ne. ap flag_of (put_other w.place s (Own p) i (λ e. ne (ap place.Flag e))) })
+same_but shape w p (Raise s) moves = record { epoch = λ _. refl; head = λ _ _. refl; link = λ _ _. refl; birth = λ _ _. refl; stamp = λ _ _. refl; key = λ _ _. refl; flag = λ i ne. ap is_shared (put_other w.place s Shared i (λ e. ne (ap (λ t. place.Flags (word_of_flag t)) e))) }
+same_but shape w p (TakeFlag s) moves = if_won (has_flag (found shape w (TakeFlag s)) s) (place.Flags (word_of_flag s)) _ w (λ _. record { epoch = λ _. refl; head = λ _ _. refl; link = λ _ _. refl; birth = λ _ _. refl; stamp = λ _ _. refl; key = λ _ _. refl; flag = λ i ne. ap is_shared (put_other w.place s (Own p) i (λ e. ne (ap (λ t. place.Flags (word_of_flag t)) e))) })
 same_but shape w p (StoreBirth s birth) moves = record { epoch = λ _. refl; head = λ _ _. refl; link = λ _ _. refl; birth = λ i ne. put_other w.birth s birth i (λ e. ne (ap place.Birth e)); stamp = λ _ _. refl; key = λ _ _. refl; flag = λ i _. flag_kept w.place s (Hand p) moves i }
 same_but shape w p (StoreKey s key) moves = record { epoch = λ _. refl; head = λ _ _. refl; link = λ _ _. refl; birth = λ _ _. refl; stamp = λ _ _. refl; key = λ i ne. put_other w.key s key i (λ e. ne (ap place.Key e)); flag = λ _ _. refl }
 same_but shape w p (StoreLink s next) moves = record { epoch = λ _. refl; head = λ _ _. refl; link = λ i ne. put_other w.link s _ i (λ e. ne (ap place.LinkOf e)); birth = λ _ _. refl; stamp = λ _ _. refl; key = λ _ _. refl; flag = λ _ _. refl }
@@ -176,11 +184,11 @@ word_elsewhere_if shape w p step q moves ne = word_but shape (after shape w p st
 -- ---- what a step moves
 
 -- a slot that a pass may bear in is its own or in its hand
-bear_unshared : (a : Incarnations) (p epoch : ℕ) (holding : Option Holding) (at : SlotPlace) (last : Option ℕ) (stamp : ℕ) → OwnFits a p epoch holding at last stamp → MayBear holding → flag_of at ≡ 0
+bear_unshared : (a : Incarnations) (p epoch : ℕ) (holding : Option Holding) (at : SlotPlace) (last : Option ℕ) (stamp : ℕ) → OwnFits a p epoch holding at last stamp → MayBear holding → is_shared at ≡ false
 bear_unshared a p epoch None at last stamp h o = absurd o
-bear_unshared a p epoch (Some (Free known)) at last stamp h o = ap flag_of h.0
+bear_unshared a p epoch (Some (Free known)) at last stamp h o = ap is_shared h.0
 bear_unshared a p epoch (Some (Unlinked reread)) at last stamp h o = absurd o
-bear_unshared a p epoch (Some (InHand known birth key link)) at last stamp h o = ap flag_of h.0
+bear_unshared a p epoch (Some (InHand known birth key link)) at last stamp h o = ap is_shared h.0
 
 may_bear : (holding : Option Holding) → IsInHand holding → MayBear holding
 may_bear None o = absurd o
@@ -189,20 +197,20 @@ may_bear (Some (Unlinked reread)) o = absurd o
 may_bear (Some (InHand known birth key link)) o = tt
 
 -- the slot of a listed incarnation is in no pool
-listed_unshared : (shape : Dimensions) (at : SlotPlace) (st : State) (key : ℕ) → PlaceFits shape at st key → IsListed st → flag_of at ≡ 0
+listed_unshared : (shape : Dimensions) (at : SlotPlace) (st : State) (key : ℕ) → PlaceFits shape at st key → IsListed st → is_shared at ≡ false
 listed_unshared shape Shared st key f l = absurd (grind arith)
 listed_unshared shape (Own p) st key f l = refl
 listed_unshared shape (Hand p) st key f l = refl
 listed_unshared shape (Listed b) st key f l = refl
 
 -- a slot that is named by a checked link that stands there now is in no pool
-next_unshared : (shape : Dimensions) (w : World) (a : Incarnations) (notes : ℕ → Notes) (p : ℕ) (pred : At) (expected s : ℕ) → Agrees shape w a notes → Accepts shape (w.know p) (Unlink pred expected s) → word_of (link_at w pred) ≡ expected → flag_of (w.place s) ≡ 0
-next_unshared shape w a notes p pred expected s g ok e = ap flag_of (g.image.place s) ∙ go (next_of a (before_at a pred)) refl (rw ok.in_range.1 at m.next)
+next_unshared : (shape : Dimensions) (w : World) (a : Incarnations) (notes : ℕ → Notes) (p : ℕ) (pred : At) (expected s : ℕ) → Agrees shape w a notes → Accepts shape (w.know p) (Unlink pred expected s) → word_of (link_at w pred) ≡ expected → is_shared (w.place s) ≡ false
+next_unshared shape w a notes p pred expected s g ok e = ap is_shared (g.image.place s) ∙ go (next_of a (before_at a pred)) refl (rw ok.in_range.1 at m.next)
   where
     m : Meets shape a (w.know p).epoch (w.know p).checked pred (link_of expected)
     m = meets_now shape w a notes p g pred expected ok.held.0 ok.in_range.0 e
 
-    go : (n : Option ℕ) → next_of a (before_at a pred) ≡ n → IsHeldNext a (w.know p).epoch (Some s) n → flag_of (a.place s) ≡ 0
+    go : (n : Option ℕ) → next_of a (before_at a pred) ≡ n → IsHeldNext a (w.know p).epoch (Some s) n → is_shared (a.place s) ≡ false
     go None r h = absurd h
     go (Some c) r h =
         let li = m.listed c r in
@@ -211,8 +219,8 @@ next_unshared shape w a notes p pred expected s g ok e = ap flag_of (g.image.pla
 
 -- an accepted step moves no slot out of the shared pool but by its flag
 pub moves_unshared : (shape : Dimensions) (w : World) (a : Incarnations) (notes : ℕ → Notes) (p : ℕ) (step : Step) → Agrees shape w a notes → Accepts shape (w.know p) step → MovesUnshared w step
-moves_unshared shape w a notes p (StoreBirth s birth) g ok = ap flag_of (g.image.place s) ∙ bear_unshared a p (w.know p).epoch ((w.know p).own s) (a.place s) (a.last s) (a.stamp s) (g.owns p s) ok.owned
-moves_unshared shape w a notes p (Publish pred expected s) g ok = ap flag_of (g.image.place s) ∙ bear_unshared a p (w.know p).epoch ((w.know p).own s) (a.place s) (a.last s) (a.stamp s) (g.owns p s) (may_bear ((w.know p).own s) ok.owned)
+moves_unshared shape w a notes p (StoreBirth s birth) g ok = ap is_shared (g.image.place s) ∙ bear_unshared a p (w.know p).epoch ((w.know p).own s) (a.place s) (a.last s) (a.stamp s) (g.owns p s) ok.owned
+moves_unshared shape w a notes p (Publish pred expected s) g ok = ap is_shared (g.image.place s) ∙ bear_unshared a p (w.know p).epoch ((w.know p).own s) (a.place s) (a.last s) (a.stamp s) (g.owns p s) (may_bear ((w.know p).own s) ok.owned)
 moves_unshared shape w a notes p (Unlink pred expected s) g ok = next_unshared shape w a notes p pred expected s g ok
 moves_unshared shape w a notes p _ g ok = tt
 
@@ -223,8 +231,8 @@ word_elsewhere shape w a notes p step q g ok ne = word_elsewhere_if shape w p st
 -- ---- along a run
 
 -- the word at the place of one more event, from what its pass knows
-pub word_here-snoc : (shape : Dimensions) (run : List Event) (event : Event) → word_at shape (world_after shape (run ++ event ∷ [])) (place_of event.step) ≡ word_made (access_of (know_after shape run event.pass) event.step) (found shape (world_after shape run) event.step)
-word_here-snoc shape run event = ap (λ v. word_at shape v (place_of event.step)) (world_after-snoc shape run event) ∙ word_here shape (world_after shape run) event.pass event.step
+pub word_here-snoc : (shape : Dimensions) (run : List Event) (event : Event) → IsInShape shape event.step → word_at shape (world_after shape (run ++ event ∷ [])) (place_of event.step) ≡ word_made (access_of (know_after shape run event.pass) event.step) (found shape (world_after shape run) event.step)
+word_here-snoc shape run event here = ap (λ v. word_at shape v (place_of event.step)) (world_after-snoc shape run event) ∙ word_here shape (world_after shape run) event.pass event.step here
 
 -- and the words elsewhere
 pub word_elsewhere-snoc : (shape : Dimensions) (passes : ℕ) (a : Incarnations) (notes : ℕ → Notes) (run : List Event) (event : Event) (q : Place) → Agrees shape (world_after shape run) a notes → IsAccepted shape passes (world_after shape run) event → q ≢ place_of event.step → word_at shape (world_after shape (run ++ event ∷ [])) q ≡ word_at shape (world_after shape run) q

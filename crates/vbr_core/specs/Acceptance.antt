@@ -1,5 +1,5 @@
 -- What each kind of step asks: of the shape, of what its pass knows, and of the step alone.
-use Rattle.std.specs.Prelude.{◌≡◌, ◌≢◌, ℕ, ◌%◌, ◌<◌, ◌≤◌, true, false, List, Option, Some, None, IsSome, IsTrue, unwrap_or}
+use Rattle.std.specs.Prelude.{◌≡◌, ◌≢◌, ℕ, zero, suc, ◌%◌, ◌<◌, ◌≤◌, true, false, List, Option, Some, None, IsSome, IsTrue, unwrap_or}
 use Rattle.vbr_words.specs.Dimensions.{Dimensions}
 use Rattle.vbr_words.specs.Words.{link_of}
 use Rattle.vbr_words.specs.declared.link.Link.{Link}
@@ -101,31 +101,51 @@ abbrev pub KnowsKeyOf : List Read → Option ℕ → Type 0
 KnowsKeyOf reads None = Unit {0}
 KnowsKeyOf reads (Some s) = IsSome (key_in reads s)
 
+-- past a slot whose marked link is checked to what that link names; another slot isn't passed
+abbrev pub past_slot : ℕ → Option Link → Option ℕ
+past_slot s None = Some s
+past_slot s (Some link) = link.slot
+
+abbrev pub past_marked : List Read → Option ℕ → Option ℕ
+past_marked reads None = None
+past_marked reads (Some s) = past_slot s (marked_in reads s)
+
+-- where checked marked links lead in so many turns from what a link names
+abbrev pub after_turns : List Read → ℕ → Option ℕ → Option ℕ
+after_turns reads zero next = next
+after_turns reads (suc turns) next = past_marked reads (after_turns reads turns next)
+
+-- in at most so many turns they lead to none, or to a slot whose key is checked
+pub record MeetsKey (most : ℕ) (reads : List Read) (next : Option ℕ) : Type 0 where
+  pub turns : ℕ
+  pub within : turns ≤ most
+  pub known : KnowsKeyOf reads (after_turns reads turns next)
+
 -- the slot that a marked link of a slot names, if one is checked
 abbrev pub next_of_marked : Option Link → Option ℕ
 next_of_marked None = None
 next_of_marked (Some link) = link.slot
 
 -- the reads that the step asks for are checked
-abbrev pub IsHeld : Know → Step → Type 0
-IsHeld know (StoreLink s next) = IsNextHeld know.checked next
-IsHeld know (LoadLink at) = IsTrue (holds_at know.checked at)
-IsHeld know (LoadBirth s) = IsTrue (holds know.checked s)
-IsHeld know (LoadKey s) = IsTrue (holds know.checked s)
-IsHeld know (Publish pred expected s) =
+abbrev pub IsHeld : Dimensions → Know → Step → Type 0
+IsHeld shape know (StoreLink s next) = IsNextHeld know.checked next
+IsHeld shape know (LoadLink at) = IsTrue (holds_at know.checked at)
+IsHeld shape know (LoadBirth s) = IsTrue (holds know.checked s)
+IsHeld shape know (LoadKey s) = IsTrue (holds know.checked s)
+IsHeld shape know (Publish pred expected s) =
     IsTrue (knows_link know.checked pred (link_of expected))
     × (IsSome (birth_at know.checked pred) × KnowsKeyAt know.checked pred)
     × (IsSome (birth_of know.checked (link_of expected).slot) × KnowsKeyOf know.checked (link_of expected).slot)
-IsHeld know (Mark s expected) = IsTrue (knows_link know.checked (Slot s) (link_of expected)) × IsSome (key_in know.checked s)
-IsHeld know (Unlink pred expected s) =
+IsHeld shape know (Mark s expected) = IsTrue (knows_link know.checked (Slot s) (link_of expected)) × IsSome (key_in know.checked s)
+IsHeld shape know (Unlink pred expected s) =
     IsTrue (knows_link know.checked pred (link_of expected))
     × IsSome (marked_in know.checked s)
     × IsSome (birth_at know.checked pred)
     × IsSome (birth_of know.checked (next_of_marked (marked_in know.checked s)))
-IsHeld know (ConfirmPresent op s expected) = IsTrue (knows_link know.checked (Slot s) (link_of expected)) × IsSome (key_in know.checked s)
-IsHeld know (ConfirmAbsent op key at expected) =
-    IsTrue (knows_link know.checked at (link_of expected)) × KnowsKeyAt know.checked at × KnowsKeyOf know.checked (link_of expected).slot
-IsHeld know _ = Unit {0}
+IsHeld shape know (ConfirmPresent op s expected) = IsTrue (knows_link know.checked (Slot s) (link_of expected)) × IsSome (key_in know.checked s)
+IsHeld shape know (ConfirmAbsent op key at expected) =
+    IsTrue (knows_link know.checked at (link_of expected)) × KnowsKeyAt know.checked at × MeetsKey shape.slots know.checked (link_of expected).slot
+IsHeld shape know _ = Unit {0}
 
 -- ---- the numbers
 
@@ -138,6 +158,12 @@ IsBehind shape reads (Slot s) key = (bucket_of shape key ≡ bucket_of shape (un
 abbrev pub IsBefore : List Read → ℕ → Option ℕ → Type 0
 IsBefore reads key None = Unit {0}
 IsBefore reads key (Some s) = key < unwrap_or (key_in reads s) 0
+
+-- in at most so many turns checked marked links lead from what a link names to none, or to a slot before which the key stands
+pub record MeetsAbove (most : ℕ) (reads : List Read) (key : ℕ) (next : Option ℕ) : Type 0 where
+  pub turns : ℕ
+  pub within : turns ≤ most
+  pub before : IsBefore reads key (after_turns reads turns next)
 
 -- the slot was unlinked, and the pass has read the epoch since
 abbrev pub IsReread : Option Holding → Type 0
@@ -166,7 +192,7 @@ IsInRange shape know (Mark s expected) = (link_of expected).mark ≡ false
 IsInRange shape know (Unlink pred expected s) = ((link_of expected).mark ≡ false) × ((link_of expected).slot ≡ Some s)
 IsInRange shape know (ConfirmPresent op s expected) = ((link_of expected).mark ≡ false) × (op ≢ Remove)
 IsInRange shape know (ConfirmAbsent op key at expected) =
-    ((link_of expected).mark ≡ false) × (op ≢ Insert) × IsBehind shape know.checked at key × IsBefore know.checked key (link_of expected).slot
+    ((link_of expected).mark ≡ false) × (op ≢ Insert) × IsBehind shape know.checked at key × MeetsAbove shape.slots know.checked key (link_of expected).slot
 IsInRange shape know _ = Unit {0}
 
 -- the epoch that the step would raise is below the last
@@ -180,6 +206,15 @@ IsBelowLast shape _ = Unit {0}
 pub record Accepts (shape : Dimensions) (know : Know) (step : Step) : Type 0 where
   pub in_shape : IsInShape shape step
   pub owned : IsOwned know step
-  pub held : IsHeld know step
+  pub held : IsHeld shape know step
   pub in_range : IsInRange shape know step
   pub below_last : IsBelowLast shape step
+
+-- the key stands between a place and the very slot that its link names, if it names one, by a checked link and checked keys
+pub record IsBetween (shape : Dimensions) (reads : List Read) (key : ℕ) (at : At) (link : Link) : Type 0 where
+  pub known : IsTrue (knows_link reads at link)
+  pub here : KnowsKeyAt reads at
+  pub there : KnowsKeyOf reads link.slot
+  pub unmarked : link.mark ≡ false
+  pub behind : IsBehind shape reads at key
+  pub before : IsBefore reads key link.slot

@@ -1,13 +1,15 @@
 -- The account of a run: its chronicle, the incarnations that this makes, and the notes of each pass.
 use Rattle.std.specs.Prelude.{ℕ, List, [], ◌∷◌, ◌++◌, Option, Some, None, ◌==◌, if◌then◌else◌}
 use Rattle.vbr_words.specs.Dimensions.{Dimensions}
+use Rattle.vbr_words.specs.Flags.{has_flag}
+use Rattle.vbr_words.specs.Words.{link_of}
 use Rattle.vbr_core.specs.Put.{put}
 use Rattle.vbr_core.specs.Keys.{no_keys}
 use Rattle.vbr_core.specs.Learning.{link_written, call_of}
 use Rattle.vbr_core.specs.Machine.{World, opening, found, after}
 use Rattle.vbr_core.specs.Incarnations.{Incarnations, nothing_yet, last_in}
 use Rattle.vbr_core.specs.Chronicles.{Happening, Advances, Gains, Probes, Raises, GivesUp, Bears, Keyed, Aims, Inserts, Removes, Unlinks, Stamps, Answers, Entry, IsLawful, incarnations_from, entries_by}
-use Rattle.vbr_core.specs.Notes.{Notes, no_notes, before_at, notes_with, NamesLast}
+use Rattle.vbr_core.specs.Notes.{Notes, no_notes, before_at, notes_with, NamesLast, HoldsNext}
 use Rattle.vbr_core.specs.declared.history.Call.{Call}
 use Rattle.vbr_core.specs.declared.event.Event.{Event}
 use Rattle.vbr_core.specs.declared.event.Step.{Step}
@@ -43,7 +45,7 @@ abbrev pub happens : Dimensions → World → Incarnations → ℕ → Step → 
 happens shape w a pass (Advance from) = if found shape w (Advance from) == from then happens_if_found w a pass (Advance from) else []
 happens shape w a pass (StoreStamp s stamp) = just pass (Stamps (last_in a s) stamp)
 happens shape w a pass (Raise s) = just pass (Raises s)
-happens shape w a pass (TakeFlag s) = if found shape w (TakeFlag s) == 1 then happens_if_found w a pass (TakeFlag s) else just pass (Probes s)
+happens shape w a pass (TakeFlag s) = if has_flag (found shape w (TakeFlag s)) s then happens_if_found w a pass (TakeFlag s) else just pass (Probes s)
 happens shape w a pass (StoreBirth s birth) = born_in a pass s birth ((w.know pass).own s)
 happens shape w a pass (StoreKey s key) = just pass (Keyed (last_in a s) key)
 happens shape w a pass (StoreLink s next) = just pass (Aims (last_in a s) (link_written (w.know pass) (StoreLink s next)))
@@ -96,7 +98,15 @@ own_entries shape run pass = entries_by pass (chronicle shape run)
 
 -- ---- what is to hold along a run
 
--- an exchange that finds its word is right: the incarnations that it names are the last of their slots, and what it adds to the chronicle is lawful for them
+-- a publication gives its incarnation the successor that the pass holds: the one at the slot that the expected link names
+abbrev pub TakesHeldNext : Dimensions → World → Incarnations → Notes → ℕ → Step → Type 0
+TakesHeldNext shape w a notes pass (Publish pred expected s) =
+    let published = incarnations_from shape a (happens_if_found w a pass (Publish pred expected s)) in
+    HoldsNext notes.checked (link_of expected).slot (published.next (last_in a s))
+TakesHeldNext shape w a notes pass step = Unit {0}
+
+-- an exchange that finds its word is right: the incarnations that it names are the last of their slots, what it adds to the chronicle is lawful for them, and a publication's successor is the one held
 pub record IsRightExchange (shape : Dimensions) (w : World) (a : Incarnations) (notes : Notes) (pass : ℕ) (step : Step) : Type 0 where
   pub names : NamesLast a notes.checked step
   pub lawful : IsLawful shape no_keys a (happens_if_found w a pass step)
+  pub successor : TakesHeldNext shape w a notes pass step

@@ -44,7 +44,7 @@ abbrev pub link_at : Incarnations → At → Link
 link_at a (Head b) = link_to_next a 0 (a.first b)
 link_at a (Slot s) = link_shown a (a.last s)
 
--- the words of a world are the image of the incarnations, and each slot has the same place in both; so a flag is set exactly where its slot is in the shared pool
+-- the words of a world are the image of the incarnations, and each slot has the same place in both; so the flag of a slot is set exactly where the slot is in the shared pool
 pub record IsImage (w : World) (a : Incarnations) : Type 0 where
   pub epoch : w.epoch ≡ a.epoch
   pub head : (b : ℕ) → w.head b ≡ link_at a (Head b)

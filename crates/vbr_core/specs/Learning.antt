@@ -1,6 +1,7 @@
 -- What a step's load or exchange answers, what its pass learns from it, and which call it makes.
 use Rattle.std.specs.Prelude.{ℕ, Bool, true, false, ◌==◌, List, [], ◌∷◌, ◌++◌, Option, Some, None, if◌then◌else◌, unwrap_or}
 use Rattle.vbr_words.specs.Words.{link_of}
+use Rattle.vbr_words.specs.Flags.{has_flag}
 use Rattle.vbr_words.specs.declared.link.Link.{Link}
 use Rattle.vbr_words.specs.declared.place.At.TheVariants.{Slot}
 use Rattle.vbr_core.specs.Put.{put}
@@ -25,6 +26,10 @@ use Rattle.vbr_core.specs.declared.knowledge.Holding.TheVariants.{Free, Unlinked
 abbrev pub exchanged : ℕ → ℕ → Effect
 exchanged expected found = if found == expected then Won else Lost found
 
+-- the answer of a step that takes the flag of a slot: it was won where the word that was found has it
+abbrev pub taken : ℕ → ℕ → Effect
+taken s found = if has_flag found s then Won else Lost found
+
 -- the answer of a confirming load
 abbrev pub confirmed : Bool → ℕ → ℕ → Effect
 confirmed reply expected found = if found == expected then Answered reply else Lost found
@@ -34,12 +39,12 @@ abbrev pub present_reply : Op → Bool
 present_reply Has = true
 present_reply _ = false
 
--- the effect of a step, from the word that its load or exchange found
+-- the effect of a step, from the word that it found
 abbrev pub effect_of : Step → ℕ → Effect
 effect_of (Advance from) found = exchanged from found
 effect_of (StoreStamp s stamp) found = Done
 effect_of (Raise s) found = Done
-effect_of (TakeFlag s) found = exchanged 1 found
+effect_of (TakeFlag s) found = taken s found
 effect_of (StoreBirth s birth) found = Done
 effect_of (StoreKey s key) found = Done
 effect_of (StoreLink s next) found = Done
@@ -135,7 +140,7 @@ abbrev pub learn : Step → ℕ → ℕ → Know → Know
 learn ReadEpoch found stamp know = read_epoch know found
 learn (StoreStamp s new) found stamp know = with_own know s (Some (Free new))
 learn (Raise s) found stamp know = with_own know s None
-learn (TakeFlag s) found stamp know = if found == 1 then with_own know s (Some (Free stamp)) else know
+learn (TakeFlag s) found stamp know = if has_flag found s then with_own know s (Some (Free stamp)) else know
 learn (StoreBirth s birth) found stamp know = with_own know s (Some (InHand (stamp_in (know.own s)) birth None None))
 learn (StoreKey s key) found stamp know = with_own know s (with_key (know.own s) key)
 learn (StoreLink s next) found stamp know = with_own know s (with_link (know.own s) (link_written know (StoreLink s next)))

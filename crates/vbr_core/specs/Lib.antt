@@ -7,6 +7,7 @@ pub mod Acceptance
 pub mod Learning
 pub mod Membership
 pub mod Machine
+pub mod Loads
 pub mod Runs
 pub mod Moments
 pub mod Incarnations
@@ -15,7 +16,9 @@ pub mod Chronicles
 pub mod Sound
 pub mod Notes
 pub mod Accounts
+pub mod Nodes
 pub mod Agreement
+pub mod SlotPlaces
 pub mod Safety
 pub mod Kept
 pub mod Reached

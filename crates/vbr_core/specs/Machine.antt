@@ -1,7 +1,8 @@
 -- The core: its world, and what an accepted step does to it.
-use Rattle.std.specs.Prelude.{ℕ, ◌+◌, ◌-◌, ◌*◌, ◌^◌, min, ◌==◌, List, [], ◌∷◌, ◌++◌, Option, Some, None, if◌then◌else◌}
+use Rattle.std.specs.Prelude.{ℕ, ◌+◌, ◌-◌, ◌*◌, ◌^◌, min, ◌==◌, nat_lt, Bool, true, false, ◌&&◌, bit_and, bit_or, List, [], ◌∷◌, ◌++◌, Option, Some, None, if◌then◌else◌}
 use Rattle.vbr_words.specs.Dimensions.{Dimensions}
 use Rattle.vbr_words.specs.Words.{word_of}
+use Rattle.vbr_words.specs.Flags.{word_of_flag, flag_of, all_but, has_flag, flag_word}
 use Rattle.vbr_words.specs.Places as places
 use Rattle.vbr_words.specs.declared.link.TheConstants.{MARK}
 use Rattle.vbr_words.specs.declared.link.Link.{Link}
@@ -60,10 +61,14 @@ abbrev pub link_at : World → At → Link
 link_at w (Head b) = w.head b
 link_at w (Slot s) = w.link s
 
--- the flag of a slot: 1 where it is in the shared pool
-abbrev pub flag_of : SlotPlace → ℕ
-flag_of Shared = 1
-flag_of _ = 0
+-- whether a place is the shared pool
+abbrev pub is_shared : SlotPlace → Bool
+is_shared Shared = true
+is_shared _ = false
+
+-- whether the flag of a slot is set: it is one of the shape, and in the shared pool
+abbrev pub is_flagged : Dimensions → World → ℕ → Bool
+is_flagged shape w s = nat_lt s shape.slots && is_shared (w.place s)
 
 -- the word that says what the shape is
 abbrev pub shape_word : Dimensions → ℕ
@@ -78,7 +83,7 @@ word_at shape w (place.LinkOf s) = word_of (w.link s)
 word_at shape w (place.Birth s) = w.birth s
 word_at shape w (place.Stamp s) = w.stamp s
 word_at shape w (place.Key s) = w.key s
-word_at shape w (place.Flag s) = flag_of (w.place s)
+word_at shape w (place.Flags number) = flag_word (is_flagged shape w) number
 
 -- ---- how a step reaches its word
 
@@ -88,8 +93,8 @@ place_of ReadEpoch = place.Epoch
 place_of (Advance from) = place.Epoch
 place_of (LoadStamp s) = place.Stamp s
 place_of (StoreStamp s stamp) = place.Stamp s
-place_of (Raise s) = place.Flag s
-place_of (TakeFlag s) = place.Flag s
+place_of (Raise s) = place.Flags (word_of_flag s)
+place_of (TakeFlag s) = place.Flags (word_of_flag s)
 place_of (StoreBirth s birth) = place.Birth s
 place_of (StoreKey s key) = place.Key s
 place_of (StoreLink s next) = place.LinkOf s
@@ -102,18 +107,20 @@ place_of (Unlink pred expected s) = places.place_of pred
 place_of (ConfirmPresent op s expected) = place.LinkOf s
 place_of (ConfirmAbsent op key at expected) = places.place_of at
 
--- an atomic operation on one word: a load, a store of a word, or an exchange of an expected word for a new one
+-- an atomic operation on one word: a load, a store of a word, an exchange of an expected word for a new one, or one that sets bits or keeps them alone
 pub data Access : Type 0 where
   Load : Access
   Store : ℕ → Access
   Exchange : ℕ → ℕ → Access
+  FetchOr : ℕ → Access
+  FetchAnd : ℕ → Access
 
 -- the atomic operation that a step is, from what its pass knows
 abbrev pub access_of : Know → Step → Access
 access_of know (Advance from) = Exchange from (from + 1)
 access_of know (StoreStamp s stamp) = Store stamp
-access_of know (Raise s) = Store 1
-access_of know (TakeFlag s) = Exchange 1 0
+access_of know (Raise s) = FetchOr (flag_of s)
+access_of know (TakeFlag s) = FetchAnd (all_but s)
 access_of know (StoreBirth s birth) = Store birth
 access_of know (StoreKey s key) = Store key
 access_of know (StoreLink s next) = Store (word_of (link_written know (StoreLink s next)))
@@ -127,6 +134,8 @@ abbrev pub word_made : Access → ℕ → ℕ
 word_made Load found = found
 word_made (Store new) found = new
 word_made (Exchange expected new) found = if found == expected then new else found
+word_made (FetchOr bits) found = bit_or found bits
+word_made (FetchAnd bits) found = bit_and found bits
 
 -- ---- what a step does
 
@@ -134,7 +143,7 @@ word_made (Exchange expected new) found = if found == expected then new else fou
 abbrev pub counted : ℕ → ℕ
 counted births = min (births + 1) (2 ^ 64 - 1)
 
--- the word that a step's load or exchange finds, or that its store replaces
+-- the word that a step finds, or that its store replaces
 abbrev pub found : Dimensions → World → Step → ℕ
 found shape w step = word_at shape w (place_of step)
 
@@ -168,7 +177,7 @@ after shape w p (Advance from) = where_found from w.epoch (record w { epoch = w.
 after shape w p (LoadStamp s) = w
 after shape w p (StoreStamp s stamp) = record (with_learning shape w p (StoreStamp s stamp)) { stamp = put w.stamp s stamp }
 after shape w p (Raise s) = record (with_learning shape w p (Raise s)) { place = put w.place s Shared }
-after shape w p (TakeFlag s) = where_found 1 (flag_of (w.place s)) (record (with_learning shape w p (TakeFlag s)) { place = put w.place s (Own p) }) w
+after shape w p (TakeFlag s) = if has_flag (found shape w (TakeFlag s)) s then record (with_learning shape w p (TakeFlag s)) { place = put w.place s (Own p) } else w
 after shape w p (StoreBirth s birth) =
     record (with_learning shape w p (StoreBirth s birth)) { birth = put w.birth s birth; place = put w.place s (Hand p); births = counted w.births }
 after shape w p (StoreKey s key) = record (with_learning shape w p (StoreKey s key)) { key = put w.key s key }

@@ -1,6 +1,7 @@
 -- How a program makes a step: first its pass learns and its call is kept, and then the words are written. Only contracts of private functions cite this, but for `succeeds` and `call_made`.
 use Rattle.std.specs.Prelude.{ℕ, ◌+◌, ◌<◌, ◌≤◌, ◌==◌, Bool, true, Option, None, if◌then◌else◌}
 use Rattle.vbr_words.specs.Dimensions.{Dimensions}
+use Rattle.vbr_words.specs.Flags.{has_flag}
 use Rattle.vbr_words.specs.declared.link.Link.{Link}
 use Rattle.vbr_words.specs.declared.place.At.TheVariants.{Slot}
 use Rattle.vbr_words.specs.declared.shape.TheConstants.{MAX_EPOCH}
@@ -14,10 +15,10 @@ use Rattle.vbr_core.specs.declared.event.Step.TheVariants.{Advance, StoreStamp, 
 use Rattle.vbr_core.specs.declared.knowledge.SlotPlace.TheVariants.{Shared, Own, Hand, Listed}
 use Rattle.vbr_core.specs.declared.history.Call.{Call}
 
--- whether a step succeeds that found this word: an exchange or a confirming load does only where it found the expected one
+-- whether a step succeeds that found this word: an exchange or a confirming load does only where it found the expected one, and a flag is taken only where it is set
 abbrev pub succeeds : Step → ℕ → Bool
 succeeds (Advance from) found = found == from
-succeeds (TakeFlag s) found = found == 1
+succeeds (TakeFlag s) found = has_flag found s
 succeeds (Publish pred expected s) found = found == expected
 succeeds (Mark s expected) found = found == expected
 succeeds (Unlink pred expected s) found = found == expected

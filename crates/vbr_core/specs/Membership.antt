@@ -73,6 +73,12 @@ abbrev pub StandsBefore : Know → ℕ → Option ℕ → Type 0
 StandsBefore know key None = Unit {0}
 StandsBefore know key (Some s) = (there : ℕ) × Knows know (KeyOf s there) × (key < there)
 
+-- a key stands before what known marked links lead to from a link
+pub record StandsBeforeOn (know : Know) (key : ℕ) (link : Link) : Type 0 where
+  pub last : Link
+  pub leads : LeadsTo know link last
+  pub before : StandsBefore know key last.slot
+
 -- ---- what is written
 
 -- an unlinking behind a place writes this link: to what a known marked link of the slot names, by births that are known there and of that
@@ -124,7 +130,7 @@ IsReadyKnown shape know pred expected _ = ⊥
 abbrev pub IsInRangeKnown : Dimensions → Know → Step → Type 0
 IsInRangeKnown shape know (Publish pred expected s) = ((link_of expected).mark ≡ false) × IsReadyKnown shape know pred (link_of expected) (know.own s)
 IsInRangeKnown shape know (ConfirmAbsent op key at expected) =
-    ((link_of expected).mark ≡ false) × (op ≢ Insert) × StandsBehind shape know at key × StandsBefore know key (link_of expected).slot
+    ((link_of expected).mark ≡ false) × (op ≢ Insert) × StandsBehind shape know at key × StandsBeforeOn know key (link_of expected)
 IsInRangeKnown shape know step = IsInRange shape know step
 
 -- the core accepts the step of a pass that knows this: as acceptance by look-ups, but any known key, birth or marked link serves

@@ -160,3 +160,8 @@ NamesLast a checked (Publish pred expected s) = HoldsLastAt a checked pred × Ho
 NamesLast a checked (Mark s expected) = HoldsLast a checked s
 NamesLast a checked (Unlink pred expected s) = HoldsLastAt a checked pred × HoldsLastNext a checked (link_of expected).slot
 NamesLast a checked step = Unit {0}
+
+-- what the pass holds at the slot that a link names is this successor; there is none where the link names no slot
+abbrev pub HoldsNext : List Note → Option ℕ → Option ℕ → Type 0
+HoldsNext checked None next = next ≡ None
+HoldsNext checked (Some s) next = (c : ℕ) × HoldsJust checked s c × (next ≡ Some c)

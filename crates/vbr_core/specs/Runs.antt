@@ -20,13 +20,13 @@ Refuses shape passes w event NoSuchPass = passes ≤ event.pass
 Refuses shape passes w event NotOwned =
     (event.pass < passes) × IsInShape shape event.step × ¬ (IsOwned (w.know event.pass) event.step)
 Refuses shape passes w event NotHeld =
-    (event.pass < passes) × IsInShape shape event.step × IsOwned (w.know event.pass) event.step × ¬ (IsHeld (w.know event.pass) event.step)
+    (event.pass < passes) × IsInShape shape event.step × IsOwned (w.know event.pass) event.step × ¬ (IsHeld shape (w.know event.pass) event.step)
 Refuses shape passes w event OutOfRange =
     (event.pass < passes)
     × (¬ (IsInShape shape event.step)
-    ⊎ (IsInShape shape event.step × IsOwned (w.know event.pass) event.step × IsHeld (w.know event.pass) event.step × ¬ (IsInRange shape (w.know event.pass) event.step)))
+    ⊎ (IsInShape shape event.step × IsOwned (w.know event.pass) event.step × IsHeld shape (w.know event.pass) event.step × ¬ (IsInRange shape (w.know event.pass) event.step)))
 Refuses shape passes w event EpochLast =
-    (event.pass < passes) × IsInShape shape event.step × IsOwned (w.know event.pass) event.step × IsHeld (w.know event.pass) event.step
+    (event.pass < passes) × IsInShape shape event.step × IsOwned (w.know event.pass) event.step × IsHeld shape (w.know event.pass) event.step
     × IsInRange shape (w.know event.pass) event.step × ¬ (IsBelowLast shape event.step)
 Refuses shape passes w event NoMemory = IsAccepted shape passes w event
 

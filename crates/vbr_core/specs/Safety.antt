@@ -1,20 +1,22 @@
 -- What is true of every run.
-use Rattle.std.specs.Prelude.{◌≡◌, ℕ, ◌-◌, ◌^◌, ◌≤◌, min, List, ◌∷◌, ◌++◌, Option, Some, None}
+use Rattle.std.specs.Prelude.{◌≡◌, ℕ, ◌-◌, ◌^◌, ◌≤◌, min, List, ◌∷◌, ◌++◌, Option, Some, None, IsTrue}
 use Rattle.vbr_words.specs.Dimensions.{Dimensions}
 use Rattle.vbr_words.specs.Words.{IsLink}
 use Rattle.vbr_words.specs.declared.place.At.{At}
 use Rattle.vbr_core.specs.Keys.{no_keys}
 use Rattle.vbr_core.specs.History.{IsLegal}
+use Rattle.vbr_core.specs.Knowledge.{Know, holds}
 use Rattle.vbr_core.specs.Learning.{effect_of}
 use Rattle.vbr_core.specs.Machine.{World, link_at, found}
-use Rattle.vbr_core.specs.Runs.{world_after}
+use Rattle.vbr_core.specs.Runs.{IsRun, world_after}
 use Rattle.vbr_core.specs.Incarnations.{State, Incarnations, nothing_yet}
 use Rattle.vbr_core.specs.Incarnations as state
 use Rattle.vbr_core.specs.Images.{IsImage}
 use Rattle.vbr_core.specs.Chronicles.{IsLawful}
-use Rattle.vbr_core.specs.Notes.{Holds, AreRightReads}
+use Rattle.vbr_core.specs.Notes.{Holds, HoldsJust, AreRightReads}
 use Rattle.vbr_core.specs.Accounts.{chronicle, incarnations_after, notes_after, IsRightExchange}
-use Rattle.vbr_core.specs.Agreement.{Held, IsNotOf, reads_of}
+use Rattle.vbr_core.specs.Agreement.{Held, IsNotOf, OwnFits, reads_of}
+use Rattle.vbr_core.specs.SlotPlaces.{ArePlaced}
 use Rattle.vbr_core.specs.declared.event.Event.{Event}
 use Rattle.vbr_core.specs.declared.event.Effect.TheVariants.{Won}
 use Rattle.vbr_core.specs.declared.event.Step.{Step}
@@ -71,17 +73,23 @@ BearsAfter shape run pass _ = Unit {0}
 
 -- ---- the theorem
 
--- what a pass knows after a run is right: it is what its notes say; each incarnation that it holds is late for its epoch, and it holds one at a slot; its checked reads are right; and so is what it knows of its slots
+-- what a pass knows of a slot fits the slot's place, stamp and last incarnation: free is stamped or never born in, unlinked is unlinked by this pass, in hand is in its hand
+abbrev pub KnowsLast : Incarnations → ℕ → Know → ℕ → Type 0
+KnowsLast a pass know s = OwnFits a pass know.epoch (know.own s) (a.place s) (a.last s) (a.stamp s)
+
+-- what a pass knows after a run is right: it is what its notes say; each incarnation that it holds is late for its epoch, and it holds one at a slot; each slot that it holds has such an incarnation, and only one; its checked reads are right; and so is what it knows of its slots, and of what was born in them last
 pub record KnowsRight (shape : Dimensions) (run : List Event) (pass : ℕ) : Type 0 where
   pub epoch : ((world_after shape run).know pass).epoch ≤ (world_after shape run).epoch
   pub pending : ((world_after shape run).know pass).pending ≡ reads_of (notes_after shape run pass).pending
   pub checked : ((world_after shape run).know pass).checked ≡ reads_of (notes_after shape run pass).checked
   pub late : (s c : ℕ) → Holds (notes_after shape run pass).checked s c → Held (incarnations_after shape run) ((world_after shape run).know pass).epoch s c
   pub one : (s c d : ℕ) → Holds (notes_after shape run pass).checked s c → Holds (notes_after shape run pass).checked s d → c ≡ d
+  pub some : (s : ℕ) → IsTrue (holds ((world_after shape run).know pass).checked s) → (c : ℕ) × HoldsJust (notes_after shape run pass).checked s c
   pub reads : AreRightReads (notes_after shape run pass).checked
   pub own : (s : ℕ) → IsOwnerRight (world_after shape run) pass s (((world_after shape run).know pass).own s)
+  pub last : (s : ℕ) → KnowsLast (incarnations_after shape run) pass ((world_after shape run).know pass) s
 
--- a run is safe: its chronicle is lawful, and the words are its image; its calls are those of the chronicle, and legal; births are counted; the epoch is at most the last one, and each link fits into a word; what each pass knows is right; each exchange of a link that an event wins is right; and no event bears in a slot whose last incarnation isn't over
+-- a run is safe: its chronicle is lawful, and the words are its image; its calls are those of the chronicle, and legal; births are counted; the epoch is at most the last one, and each link fits into a word; what each pass knows is right; each slot is in exactly one place; each exchange of a link that an event wins is right; and no event bears in a slot whose last incarnation isn't over
 pub record IsSafe (shape : Dimensions) (run : List Event) : Type 0 where
   pub lawful : IsLawful shape no_keys nothing_yet (chronicle shape run)
   pub image : IsImage (world_after shape run) (incarnations_after shape run)
@@ -91,5 +99,6 @@ pub record IsSafe (shape : Dimensions) (run : List Event) : Type 0 where
   pub epoch : (world_after shape run).epoch ≤ shape.last_epoch
   pub links : (at : At) → IsLink (link_at (world_after shape run) at)
   pub knows : (pass : ℕ) → KnowsRight shape run pass
+  pub slots : (passes : ℕ) → IsRun shape passes run → ArePlaced shape passes (world_after shape run) (incarnations_after shape run)
   pub exchanges : (before after : List Event) (event : Event) → run ≡ before ++ event ∷ after → IsRightAfter shape before event
   pub births_over : (before after : List Event) (event : Event) → run ≡ before ++ event ∷ after → BearsAfter shape before event.pass event.step

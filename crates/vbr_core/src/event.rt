@@ -13,7 +13,7 @@ pub struct Event {
     pub step: Step,
 }
 
-/// A step of the core: one atomic load, store or exchange on one word.
+/// A step of the core: one atomic operation on one word.
 #[derive(Clone, Copy, Debug, PartialEq, Eq, Hash)]
 pub enum Step {
     /// Loads the epoch. Where it is the one that the pass read last, its pending reads are checked;
@@ -90,7 +90,8 @@ pub enum Step {
         slot: u32,
         expected: u64,
     },
-    /// Loads a link word; if it is `expected`, the key, which would stand behind it, is absent.
+    /// Loads a link word; if it is `expected`, the key, which would stand behind it, is absent. Marked
+    /// nodes may stand between.
     ConfirmAbsent {
         op: Op,
         key: u64,

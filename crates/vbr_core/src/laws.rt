@@ -1,14 +1,18 @@
 //! The laws of chronicles and runs, in the order of the argument. Each function says its law in
 //! its contract, and does nothing.
-ghost use Rattle.std.specs.Prelude.{ℕ, ◌≡◌, ◌≤◌, ◌↔◌, true, false, List, ◌++◌, Option, Some};
+ghost use Rattle.std.specs.Prelude.{ℕ, ◌≡◌, ◌≢◌, ◌≤◌, ◌↔◌, true, false, List, ◌++◌, Option, Some};
 ghost use Rattle.vbr_words.specs.Dimensions.{Dimensions, IsShape};
+ghost use Rattle.vbr_words.specs.Words.{link_of};
 ghost use Rattle.vbr_words.specs.declared.link.Link.{Link};
 ghost use Rattle.vbr_words.specs.declared.place.At.{At};
 ghost use Rattle.vbr_words.specs.declared.place.At.TheVariants.{Slot};
+ghost use Rattle.vbr_words.specs.declared.place.Place.{Place};
 ghost use Rattle.vbr_core.specs.Keys.{Keys, no_keys};
 ghost use Rattle.vbr_core.specs.History.{set_after};
-ghost use Rattle.vbr_core.specs.Acceptance.{Accepts, bucket_of};
-ghost use Rattle.vbr_core.specs.Machine.{found};
+ghost use Rattle.vbr_core.specs.Knowledge.{Know};
+ghost use Rattle.vbr_core.specs.Acceptance.{Accepts, IsAtIn, IsBetween, bucket_of};
+ghost use Rattle.vbr_core.specs.Loads.{IsLoad};
+ghost use Rattle.vbr_core.specs.Machine.{World, after, found, word_at};
 ghost use Rattle.vbr_core.specs.Machine as machine;
 ghost use Rattle.vbr_core.specs.Membership.{Knows, HeldIn, LeadsTo, KeyAt, StandsBehind, StandsBefore, AcceptsKnown};
 ghost use Rattle.vbr_core.specs.Moments.{WasShown};
@@ -16,13 +20,16 @@ ghost use Rattle.vbr_core.specs.Incarnations.{Incarnations, IsLate, nothing_yet}
 ghost use Rattle.vbr_core.specs.Chronicles.{Entry, IsLawful, incarnations_from};
 ghost use Rattle.vbr_core.specs.Sound.{Grows, Sound, Tells};
 ghost use Rattle.vbr_core.specs.Images.{link_at};
+ghost use Rattle.vbr_core.specs.Notes.{Note, Holds, IsAmong};
+ghost use Rattle.vbr_core.specs.Accounts.{incarnations_after, notes_after};
 ghost use Rattle.vbr_core.specs.Agreement.{IsGoodLink, IsLastOf, IsPair};
-ghost use Rattle.vbr_core.specs.Runs.{IsAccepted, IsRun, NoneOf, know_after, world_after};
+ghost use Rattle.vbr_core.specs.Runs.{Begins, IsAccepted, IsRun, NoneOf, know_after, world_after};
 ghost use Rattle.vbr_core.specs.Safety.{IsSafe};
 ghost use Rattle.vbr_core.specs.declared.event.Event.{Event};
 ghost use Rattle.vbr_core.specs.declared.event.Step.{Step};
 ghost use Rattle.vbr_core.specs.declared.event.Step.TheVariants.{ConfirmPresent, ConfirmAbsent};
 ghost use Rattle.vbr_core.specs.declared.history.Op.{Op};
+ghost use Rattle.vbr_core.specs.declared.history.Op.TheVariants.{Insert};
 ghost use Rattle.vbr_core.specs.declared.knowledge.Read.TheVariants.{LinkAt, KeyOf};
 
 /// A law: a lawful chronicle is sound.
@@ -73,6 +80,43 @@ pub fn same_link_same_pair()
 /// A law: every run is safe.
 pub fn every_run_is_safe()
     ensures { (shape : Dimensions) (passes : ℕ) (run : List Event) → IsShape shape → IsRun shape passes run → IsSafe shape run }
+{}
+
+/// A law: a beginning of a run is a run.
+pub fn a_beginning_is_a_run()
+    ensures { (shape : Dimensions) (passes : ℕ) (moment run : List Event) → IsRun shape passes run → Begins moment run → IsRun shape passes moment }
+{}
+
+/// A law: a run is safe at each of its moments. So every checked read that there ever was, was
+/// right, and the words were the image of the chronicle all along.
+pub fn every_moment_is_safe()
+    ensures { (shape : Dimensions) (passes : ℕ) (moment run : List Event) → IsShape shape → IsRun shape passes run → Begins moment run → IsSafe shape moment }
+{}
+
+/// A law: what is late at a moment of a run, for an epoch that has come by then, is late for it at
+/// the end, and so is the successor that it has there.
+pub fn late_is_handed_on_in_runs()
+    ensures { (shape : Dimensions) (passes : ℕ) (moment run : List Event) (c e : ℕ) → IsShape shape → IsRun shape passes run → Begins moment run →
+        e ≤ (incarnations_after shape moment).epoch → IsLate ((incarnations_after shape moment).state c) e →
+        IsLate ((incarnations_after shape run).state c) e
+        × ((n : ℕ) → (incarnations_after shape run).next c ≡ Some n → IsLate ((incarnations_after shape run).state n) e) }
+{}
+
+/// A law: while the epoch is the one that a pass read last, each incarnation that it holds is the
+/// last of its slot.
+pub fn unmoved_is_last_in_runs()
+    ensures { (shape : Dimensions) (passes : ℕ) (run : List Event) (pass s c : ℕ) → IsShape shape → IsRun shape passes run →
+        Holds (notes_after shape run pass).checked s c → (know_after shape run pass).epoch ≡ (world_after shape run).epoch →
+        (incarnations_after shape run).last s ≡ Some c }
+{}
+
+/// A law: let a pass have checked an unmarked link at a moment of a run, and let this link stand at
+/// its place at the end. Then it stands for the same two incarnations: each is the last of its slot,
+/// the first is linked, and the second is its successor.
+pub fn same_link_same_pair_in_runs()
+    ensures { (shape : Dimensions) (passes : ℕ) (moment run : List Event) (pass : ℕ) (note : Note) (at : At) (link : Link) → IsShape shape → IsRun shape passes run → Begins moment run →
+        IsAmong note (notes_after shape moment pass).checked → note.read ≡ LinkAt at link → link.mark ≡ false → machine.link_at (world_after shape run) at ≡ link →
+        IsPair (incarnations_after shape run) at note.of note.names × IsLastOf (incarnations_after shape run) note.names }
 {}
 
 /// A law: the events of others leave what a pass knows as it was, so a step that the pass may make
@@ -132,4 +176,17 @@ pub fn absent_behind_marked()
         Knows (know_after shape run pass) (LinkAt at link) → link.mark ≡ false → machine.link_at (world_after shape run) at ≡ link → LeadsTo (know_after shape run pass) link last →
         StandsBehind shape (know_after shape run pass) at key → StandsBefore (know_after shape run pass) key last.slot →
         set_after no_keys (world_after shape run).calls key ≡ false }
+{}
+
+/// A law: where a key stands between a place and the very node that its link names, if it names
+/// one, a confirming load for the key is accepted there. No marked node need be passed.
+pub fn between_is_accepted()
+    ensures { (shape : Dimensions) (know : Know) (op : Op) (key : ℕ) (at : At) (expected : ℕ) → IsAtIn shape at → op ≢ Insert →
+        IsBetween shape know.checked key at (link_of expected) → Accepts shape know (ConfirmAbsent op key at expected) }
+{}
+
+/// A law: a step that is a load leaves each word as it was.
+pub fn loads_leave_the_words()
+    ensures { (shape : Dimensions) (w : World) (pass : ℕ) (step : Step) (place : Place) → IsLoad step →
+        word_at shape (after shape w pass step) place ≡ word_at shape w place }
 {}

@@ -7,8 +7,7 @@ mod worker;
 
 use std::fs::File;
 use vbr_run::{Config, NoGate, play};
-use vbr_words::Shape;
-use vbr_words::shape::MAX_EPOCH;
+use vbr_set::{MAX_EPOCH, Shape};
 
 fn main(rt: HostRuntime) -> anyhow::Result<()> {
     let (claimed, report) = claiming::claim_pages(&rt, rt.alloc())?;

@@ -21,13 +21,14 @@ use Rattle.vbr_access.specs.Keeping.{KeepsOwn}
 use Rattle.vbr_list.specs.Traversal.{KeepsHand}
 
 pub hand_refl : (p : PassView) → KeepsHand p p
-hand_refl p = record { hand = refl; in_hand = λ s e. refl; room = λ h. h; raises_none = none_refl p }
+hand_refl p = record { hand = refl; in_hand = λ s e. refl; room = λ h. h; some = λ h. h; raises_none = none_refl p }
 
 pub hand_on : {p q r : PassView} → KeepsHand p q → KeepsHand q r → KeepsHand p r
 hand_on {p} {q} {r} x y = record {
   hand = y.hand ∙ x.hand;
   in_hand = λ s e. y.in_hand s (x.hand ∙ e) ∙ x.in_hand s e;
   room = λ h. y.room (x.room h);
+  some = λ h. y.some (x.some h);
   raises_none = none_on x.raises_none y.raises_none;
 }
 
@@ -36,6 +37,7 @@ own_kept {p} {q} x none = record {
   hand = x.hand;
   in_hand = x.in_hand;
   room = let P : List ℕ → Type 0 = λ l. length l < POOL in subst P (sym x.pool);
+  some = λ h none. h (sym x.pool ∙ none);
   raises_none = none;
 }
 
@@ -73,8 +75,20 @@ place_kept pool slot h = go (cases_Bool (is_kept pool))
     go (inl t) = let e = one pool in let u : length pool < POOL - 1 = grind (arith, nat_tests) in rw (t, e) (omega arith)
     go (inr f) = rw f h
 
+-- a pool with slots keeps some
+some_kept : (pool : List ℕ) (slot : ℕ) → pool ≢ [] → pool_retired pool slot ≢ []
+some_kept pool slot some = go (is_kept pool)
+  where
+    added : (xs : List ℕ) → xs ++ slot ∷ [] ≢ []
+    added [] = λ e. absurd (cc)
+    added (x ∷ xs) = λ e. absurd (cc)
+
+    go : (kept : Bool) → cond kept (pool ++ slot ∷ []) pool ≢ []
+    go true = added pool
+    go false = some
+
 pub retired_hand : {p q : PassView} (slot : ℕ) → OwnPool p.trace.shape (knows p.trace) p.pool p.hand → IsUnlinked ((knows p.trace).own slot) → knows q.trace ≡ know_retired (knows p.trace) (knows q.trace).epoch slot (is_kept p.pool) → q.pool ≡ pool_retired p.pool slot → q.hand ≡ p.hand → RaisesNone p q → KeepsHand p q
-retired_hand {p} {q} slot own unlinked known pool hand none = record { hand = hand; in_hand = same; room = λ h. let P : List ℕ → Type 0 = λ l. length l < POOL in subst P (sym pool) (place_kept p.pool slot h); raises_none = none }
+retired_hand {p} {q} slot own unlinked known pool hand none = record { hand = hand; in_hand = same; room = λ h. let P : List ℕ → Type 0 = λ l. length l < POOL in subst P (sym pool) (place_kept p.pool slot h); some = λ h empty. some_kept p.pool slot h (sym pool ∙ empty); raises_none = none }
   where
     same : (s : ℕ) → p.hand ≡ Some s → (knows q.trace).own s ≡ (knows p.trace).own s
     same s e =

@@ -1,6 +1,10 @@
 mod Going
 mod KeptHands
 mod Reaching
+mod Nearing
 mod Moments
+mod Observing
+mod Passing
 mod Preparing
+mod Sufficing
 mod LonePasses

@@ -42,7 +42,7 @@ found_since {p} {q} {r} key found a x = record { locates = x.locates; stood = st
 -- ---- the key was there, or wasn't
 
 -- a key that isn't the one of the node behind stands before it
-before_cur : (know : Know) (key : ℕ) (pred cur : Held) → IsCur know key pred cur false → StandsBefore know key (link_of pred.word).slot
+pub before_cur : (know : Know) (key : ℕ) (pred cur : Held) → IsCur know key pred cur false → StandsBefore know key (link_of pred.word).slot
 before_cur know key pred cur y =
     let l : key < y.here = let u = y.says in let v = y.not_smaller in grind (arith, nat_tests) in
     let P : At → Type 0 = λ at. KeyAt know at y.here in

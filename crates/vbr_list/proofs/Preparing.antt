@@ -1,5 +1,5 @@
 -- The steps of an insert, and what its refusals say.
-use Rattle.std.proofs.Common.{◌≡◌, ℕ, ◌+◌, ◌-◌, ◌<◌, ◌≤◌, Bool, true, false, Result, Ok, Err, sym, subst, arith}
+use Rattle.std.proofs.Common.{◌≡◌, ◌≢◌, ℕ, ◌+◌, ◌-◌, ◌<◌, ◌≤◌, Bool, true, false, List, [], ◌∷◌, Result, Ok, Err, refl, sym, subst, arith}
 use Rattle.std.specs.Prelude.{IfOk, IfErr}
 use Rattle.std.specs.Result.{is_ok}
 use Rattle.vbr_words.specs.Dimensions.{Dimensions}
@@ -38,15 +38,21 @@ within_after x y = (y.0, within_on x y.1.counts y.1.within.0 y.1.within.1)
 
 -- ---- refusals
 
+-- an own pool that is empty was so before, if one with slots keeps some
+was_empty : (before now : List ℕ) → (before ≢ [] → now ≢ []) → now ≡ [] → before ≡ []
+was_empty [] now some empty = refl
+was_empty (s ∷ before) now some empty = absurd (some (λ e. absurd (cc)) empty)
+
 -- a refusal to take a slot, where the key was found absent before
-pub refuses_after : (p q r : PassView) {key a b budget : ℕ} → Quiet p.trace q.trace → CountsWithin p.trace q.trace a b budget → WasSo p.trace q.trace key false → Quiet q.trace r.trace → (refusal : Refusal) → TakesNone q r b budget refusal → Refuses p r key a budget refusal
-refuses_after p q r quiet x absent more (OutOfSteps used) y = record { counts = within_on x y.counts.counts y.counts.within.0 y.counts.within.1; short = y.short }
-refuses_after p q r quiet x absent more NoSlot y = record {
+pub refuses_after : (p q r : PassView) {key a b budget : ℕ} → Quiet p.trace q.trace → (p.pool ≢ [] → q.pool ≢ []) → CountsWithin p.trace q.trace a b budget → WasSo p.trace q.trace key false → Quiet q.trace r.trace → (refusal : Refusal) → TakesNone q r b budget refusal → Refuses p r key a budget refusal
+refuses_after p q r quiet some x absent more (OutOfSteps used) y = record { counts = within_on x y.counts.counts y.counts.within.0 y.counts.within.1; short = y.short }
+refuses_after p q r quiet some x absent more NoSlot y = record {
   absent = so_before absent more;
-  empty = y.still;
+  empty = was_empty p.pool q.pool some y.empty;
+  still = y.still;
   outside = λ slot low. missed_after quiet (y.outside slot (let P : Dimensions → Type 0 = λ shape. slot < shape.slots in subst P (sym quiet.same.shape) low));
 }
-refuses_after p q r quiet x absent more (EpochSpent epoch) y = record { absent = so_before absent more; spent = y }
+refuses_after p q r quiet some x absent more (EpochSpent epoch) y = record { absent = so_before absent more; spent = y }
 
 -- the second part of an insert makes so many steps
 pub within_second : (q r : PassView) {b budget : ℕ} (c : ℕ) (answer : Result Bool Refusal) → IfOk answer (λ _. CountsWithin q.trace r.trace b c budget) → IfErr answer (λ refusal. IsShort q r b budget refusal) → (since : ℕ) × CountsWithin q.trace r.trace b since budget

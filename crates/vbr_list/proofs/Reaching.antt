@@ -9,6 +9,7 @@ use Rattle.vbr_words.specs.declared.place.At.TheVariants.{Head, Slot}
 use Rattle.vbr_core.specs.Acceptance.{bucket_of}
 use Rattle.vbr_core.specs.Knowledge.{Know}
 use Rattle.vbr_core.specs.Membership.{HeldIn, at_head, KeyAt, StandsBehind}
+use Rattle.vbr_slots.specs.Alone.{IsAlone}
 use Rattle.vbr_slots.specs.Calls.{IsSame, Quiet}
 use Rattle.vbr_slots.specs.Views.{Trace, TableView, PassView, IsOf, knows}
 use Rattle.vbr_slots.proofs.Calls.{quiet_on}
@@ -22,7 +23,8 @@ use Rattle.vbr_access.specs.declared.held.Marked.{Marked}
 use Rattle.vbr_access.proofs.Keeping.{held_kept, held_in_kept, held_in_next, behind_kept}
 use Rattle.vbr_access.proofs.Moments.{stood_before, stood_after}
 use Rattle.vbr_access.proofs.PlacesInShape.{link_in}
-use Rattle.vbr_list.specs.Places.{IsPred, IsCur}
+use Rattle.vbr_list.specs.Places.{IsInside, IsPred, IsCur}
+use Rattle.vbr_list.specs.Nearing.{Nears}
 use Rattle.vbr_list.specs.Traversal.{Goes, IsReached, Traverses}
 use Rattle.vbr_list.proofs.Going.{tries_on}
 
@@ -56,6 +58,10 @@ pred_on {p} {q} key held s keeps x =
       behind = subst Q (sym s.shape) (behind_kept p.shape held.at key keeps x.behind);
     }
 
+-- a place before the key is one of the list
+pub pred_inside : {shape : Dimensions} {know : Know} {key : ℕ} {pred : Held} → IsPred shape know key pred → IsInside shape know key pred
+pred_inside x = record { held = x.held; inside = x.inside }
+
 -- ---- a node
 
 node_behind : (shape : Dimensions) (know : Know) (at : At) (s here key : ℕ) → at ≡ Slot s → KeyAt know at here → bucket_of shape key ≡ bucket_of shape here → here < key → StandsBehind shape know at key
@@ -64,7 +70,7 @@ node_behind shape know at s here key e x b l =
     subst P (sym e) (λ h. (here, h, b, l)) x
 
 -- a node with a smaller key
-pub node_reached : {p q r : Trace} (key here : ℕ) (pred node : Held) → IsPred p.shape (knows p) key pred → Keeps (knows p) (knows q) → IsNext p q pred (Some node) → Keeps (knows q) (knows r) → KeyAt (knows r) node.at here →
+pub node_reached : {p q r : Trace} (key here : ℕ) (pred node : Held) → IsInside p.shape (knows p) key pred → Keeps (knows p) (knows q) → IsNext p q pred (Some node) → Keeps (knows q) (knows r) → KeyAt (knows r) node.at here →
     ((b : ℕ) → HeldIn (knows q) node.at b → bucket_of q.shape here ≡ b) → (link_of node.word).mark ≡ false → here < key → Quiet p q → Quiet q r → IsReached p r key node
 node_reached {p} {q} {r} key here pred node x keep n keep2 k bucket unmarked l a b =
     let P : At → Type 0 = λ at. HeldIn (knows q) at (bucket_of p.shape key) in
@@ -91,7 +97,7 @@ node_found key here pred node n keep k unmarked high b =
 pub node_unmarked : {p q : Trace} (pred node : Held) → IsNext p q pred (Some node) → (IsSlot node.at → (link_of node.word).mark ≡ false) → (link_of node.word).mark ≡ false
 node_unmarked pred node n f = f (let P : At → Type 0 = IsSlot in subst P (sym n.2) tt)
 
-slot_same : (s t : ℕ) → Slot s ≡ Slot t → t ≡ s
+pub slot_same : (s t : ℕ) → Slot s ≡ Slot t → t ≡ s
 slot_same s t e = cc
 
 -- a marked node
@@ -120,8 +126,9 @@ helped {p} {q} {r} key pred place x keeps at unmarked read a b keeps2 =
 
 -- ---- from place to place
 
-pub traverses_on : {p q r : PassView} {key a b c budget : ℕ} {pred next : Held} → Traverses p q key a b budget pred → Goes q r b c → b ≤ c → c ≤ budget → IsReached q.trace r.trace key next → Traverses p r key a c budget next
-traverses_on x y le high reached = record {
+pub traverses_on : {p q r : PassView} {key a b c budget : ℕ} {pred next : Held} → Traverses p q key a b budget pred → Goes q r b c → b ≤ c → c ≤ budget → IsReached q.trace r.trace key next → (IsAlone p.trace r.trace → Nears p.trace r.trace key a c next) → Traverses p r key a c budget next
+traverses_on x y le high reached nears = record {
+  nears = nears;
   tries = tries_on x.tries y le high;
   some = let u = x.some in omega arith;
   reached = record { is = reached.is; stood = stood_since x.tries.goes.quiet reached.stood };

@@ -1,5 +1,7 @@
 pub mod Places
 pub mod Found
+pub mod Budgets
+pub mod Nearing
 pub mod Traversal
 pub mod Refusals
 pub mod Alone

@@ -13,10 +13,11 @@ IsTired p q budget (OutOfSteps used) = IsOutOfSteps p q budget used
 IsTired p q budget NoSlot = ⊥
 IsTired p q budget (EpochSpent epoch) = ⊥
 
--- the key was absent at a moment, the own pool is empty, and each slot was outside the shared pool at a moment
+-- the key was absent at a moment, the own pool was empty and is, and each slot was outside the shared pool at a moment
 pub record FoundNoSlot (p q : PassView) (key : ℕ) : Type 0 where
   pub absent : WasSo p.trace q.trace key false
-  pub empty : q.pool ≡ []
+  pub empty : p.pool ≡ []
+  pub still : q.pool ≡ []
   pub outside : (slot : ℕ) → slot < p.trace.shape.slots → WasOutside p.trace q.trace slot
 
 -- the key was absent at a moment, and the epoch is spent

@@ -1,11 +1,14 @@
 //! Finding where a key stands.
-ghost use Rattle.std.specs.Prelude.{◌≡◌, ◌+◌, ◌<◌, ◌≤◌, None, IfOk, IfErr, IfSome, IfNone};
+ghost use Rattle.std.specs.Prelude.{◌≡◌, ◌+◌, ◌*◌, ◌<◌, ◌≤◌, None, IfOk, IfErr, IfSome, IfNone};
 ghost use Rattle.vbr_core.specs.Acceptance.{bucket_of};
+ghost use Rattle.vbr_slots.specs.Alone.{IsAlone};
 ghost use Rattle.vbr_slots.specs.Calls.{Quiet, Took};
 ghost use Rattle.vbr_slots.specs.Views.{IsOf};
 ghost use Rattle.vbr_pools.specs.Advances.{RaisesNone};
 ghost use Rattle.vbr_access.specs.Moments.{WasSo};
 ghost use Rattle.vbr_list.specs.Found.{IsFound};
+ghost use Rattle.vbr_list.specs.Budgets.{listed_for};
+ghost use Rattle.vbr_list.specs.Nearing.{FoundAlone};
 ghost use Rattle.vbr_list.specs.Refusals.{IsTired};
 ghost use Rattle.vbr_list.specs.Traversal.{Goes};
 
@@ -33,6 +36,8 @@ pub(crate) fn search(
     ensures found { IfSome result (λ found. IsFound pass.old.trace pass.new.trace key found) }
     ensures used { IfSome result (λ found. found.used ≡ used.new) }
     ensures tired { IfNone result (budget < used.new + 8) }
+    ensures short { IfNone result (IsAlone pass.old.trace pass.new.trace → budget < used.old + 9 * listed_for pass.old.trace key + 11) }
+    ensures alone { IfSome result (λ found. IsAlone pass.old.trace pass.new.trace → FoundAlone pass.old.trace pass.new.trace key used.old used.new found) }
 {
     loop {
         match traverse(slots, pass, key, bucket, budget, used) {
@@ -48,7 +53,8 @@ pub(crate) fn search(
 /// the call. It unlinks and retires the marked nodes that it meets, and makes no call. Each slot that
 /// the pass could take is in its own pool then.
 ///
-/// OutOfSteps is its one refusal.
+/// OutOfSteps is its one refusal. While the other passes stand still, a budget of 9n + 11 is enough,
+/// with n nodes in the key's bucket.
 pub fn find(slots: &Slots, pass: &mut Pass, key: u64, budget: u32) -> Result<Found, Refusal>
     requires own { IsOf pass.old.trace slots.now }
     requires empty_hand { pass.old.hand ≡ None }
@@ -59,6 +65,8 @@ pub fn find(slots: &Slots, pass: &mut Pass, key: u64, budget: u32) -> Result<Fou
     ensures steps { IfOk result (λ found. (found.used ≤ budget) × Took pass.old.trace pass.new.trace found.used) }
     ensures raises_none { RaisesNone pass.old pass.new }
     ensures refused { IfErr result (λ refusal. IsTired pass.old pass.new budget refusal) }
+    // Alone, it finds the key in so many steps.
+    ensures within { IfErr result (λ refusal. IsAlone pass.old.trace pass.new.trace → budget < 9 * listed_for pass.old.trace key + 11) }
 {
     soundness(slots, pass);
     let bucket = slots.shape().bucket_of(key);

@@ -1,13 +1,17 @@
 //! Inserts.
-ghost use Rattle.std.specs.Prelude.{◌≡◌, ℕ, ◌+◌, ◌<◌, ◌≤◌, ◌^◌, true, false, None, IfOk, IfErr};
+ghost use Rattle.std.specs.Prelude.{◌≡◌, ◌≢◌, ℕ, ◌+◌, ◌*◌, ◌<◌, ◌≤◌, ◌^◌, true, false, [], None, IfOk, IfErr};
 ghost use Rattle.vbr_core.specs.Acceptance.{bucket_of};
 ghost use Rattle.vbr_core.specs.declared.history.Op.TheVariants.{Insert};
 ghost use Rattle.vbr_pools.specs.Advances.{advances, AdvancesWhereNeeded, RaisesNone};
+ghost use Rattle.vbr_pools.specs.Budgets.{most_to_take, steps_to_take};
 ghost use Rattle.vbr_pools.specs.Steps.{Counts, TookWithin};
+ghost use Rattle.vbr_slots.specs.Alone.{IsAlone};
 ghost use Rattle.vbr_slots.specs.Calls.{IsSame, Quiet, Made, Took};
 ghost use Rattle.vbr_slots.specs.Views.{IsOf, knows};
+ghost use Rattle.vbr_access.specs.Alone.{NextStands, StandsNow};
 ghost use Rattle.vbr_access.specs.Keeping.{KeepsOwn};
 ghost use Rattle.vbr_list.specs.Alone.{AnswersAlone};
+ghost use Rattle.vbr_list.specs.Budgets.{IsAnsweredOrSpent, LacksSteps, listed_for};
 ghost use Rattle.vbr_list.specs.Inserting.{CountsWithin, IsPrepared, IsReady, IsShort, Refuses, TakesNone};
 ghost use Rattle.vbr_list.specs.Places.{Locates};
 ghost use Rattle.vbr_list.specs.Refusals.{IsRefused};
@@ -33,6 +37,7 @@ fn deny(slots: &Slots, pass: &mut Pass, key: u64, found: &Found) -> Result<(), R
     ensures raises_none { RaisesNone pass.old pass.new }
     ensures made { IfOk result (λ _. Made (record { who = pass.old.trace.who; op = Insert; key = key; reply = false }) pass.old.trace pass.new.trace) }
     ensures quiet { IfErr result (λ r. Quiet pass.old.trace pass.new.trace) }
+    ensures wins { IfErr result (λ r. NextStands pass.old.trace found.now.cur → IsAlone pass.old.trace pass.new.trace → ⊥) }
 {
     let _key = key;
     let Some(cur) = &found.cur else {
@@ -53,6 +58,8 @@ fn provide(slots: &Slots, pass: &mut Pass, budget: u32, used: &mut u32) -> Resul
     ensures steps { IfErr result (λ refusal. (since : ℕ) × CountsWithin pass.old.trace pass.new.trace used.old since budget) }
     ensures refused { IfErr result (λ refusal. TakesNone pass.old pass.new used.old budget refusal) }
     ensures advances { AdvancesWhereNeeded pass.old pass.new }
+    ensures few { IfOk result (λ hand. IsAlone pass.old.trace pass.new.trace → used.new ≤ used.old + steps_to_take pass.old.trace.shape pass.old.pool) }
+    ensures enough { IfErr result (λ refusal. IsAlone pass.old.trace pass.new.trace → LacksSteps (used.old + steps_to_take pass.old.trace.shape pass.old.pool + 7) budget refusal) }
 {
     match take_counted(slots, pass, budget - *used) {
         Ok((hand, more)) => {
@@ -89,6 +96,8 @@ fn prepare(
     ensures steps { IfErr result (λ refusal. (since : ℕ) × CountsWithin pass.old.trace pass.new.trace used.old since budget) }
     ensures refused { IfErr result (λ refusal. Refuses pass.old pass.new key used.old budget refusal) }
     ensures advances { AdvancesWhereNeeded pass.old pass.new }
+    ensures few { IfOk result (λ hand. IsAlone pass.old.trace pass.new.trace → used.new ≤ used.old + 9 * listed_for pass.old.trace key + most_to_take pass.old.trace.shape pass.old.pool + 3) }
+    ensures enough { IfErr result (λ refusal. IsAlone pass.old.trace pass.new.trace → LacksSteps (used.old + 9 * listed_for pass.old.trace key + most_to_take pass.old.trace.shape pass.old.pool + 10) budget refusal) }
 {
     soundness(slots, pass);
     loop {
@@ -131,6 +140,7 @@ fn settle(
     ensures quiet { IfErr result (λ back. Quiet pass.old.trace pass.new.trace) }
     ensures hand { IfErr result (λ back. IsReady pass.new back) }
     ensures advances { advances pass.new.trace ≡ advances pass.old.trace }
+    ensures wins { IfErr result (λ back. StandsNow pass.old.trace found.now.pred → NextStands pass.old.trace found.now.cur → IsAlone pass.old.trace pass.new.trace → ⊥) }
 {
     if found.present {
         let denied = deny(slots, pass, key, found);
@@ -169,6 +179,7 @@ fn link(
     ensures quiet { IfErr result (λ refusal. Quiet pass.old.trace pass.new.trace) }
     ensures refused { IfErr result (λ refusal. IsShort pass.old pass.new used.old budget refusal) }
     ensures advances { advances pass.new.trace ≡ advances pass.old.trace }
+    ensures short { IfErr result (λ refusal. IsAlone pass.old.trace pass.new.trace → budget < used.old + 9 * listed_for pass.old.trace key + 11) }
 {
     loop {
         let Some(found) = search(slots, pass, key, bucket, budget, used) else {
@@ -192,7 +203,9 @@ fn link(
 /// A slot that is left over goes back to the own pool. It raises the epoch at most once, and only
 /// where no slot that it could take is stamped below the epoch that it read.
 ///
-/// Its refusals are OutOfSteps, and, where the key was absent, NoSlot and EpochSpent.
+/// Its refusals are OutOfSteps, and, where the key was absent, NoSlot and EpochSpent. While the other
+/// passes stand still, a budget of 18n + slots + 82 is enough, with n nodes in the key's bucket; and
+/// with a slot in the pass's own pool and 18n + 82 steps it is answered, unless the epoch is spent.
 pub fn insert(slots: &Slots, pass: &mut Pass, key: u64, budget: u32) -> Result<bool, Refusal>
     requires own { IsOf pass.old.trace slots.now }
     requires empty_hand { pass.old.hand ≡ None }
@@ -204,6 +217,10 @@ pub fn insert(slots: &Slots, pass: &mut Pass, key: u64, budget: u32) -> Result<b
     ensures steps { TookWithin pass.old.trace pass.new.trace budget }
     ensures advances { AdvancesWhereNeeded pass.old pass.new }
     ensures refused { IfErr result (λ refusal. IsRefused pass.old pass.new key budget refusal) }
+    // Alone, it answers in so many steps, or finds no slot or the epoch spent.
+    ensures within { IfErr result (λ refusal. IsAlone pass.old.trace pass.new.trace → LacksSteps (18 * listed_for pass.old.trace key + most_to_take pass.old.trace.shape pass.old.pool + 14) budget refusal) }
+    // With a slot in the own pool, whatever others hold while they stand still.
+    ensures ready { pass.old.pool ≢ [] → IsAlone pass.old.trace pass.new.trace → 18 * listed_for pass.old.trace key + 82 ≤ budget → IsAnsweredOrSpent result }
 {
     soundness(slots, pass);
     let bucket = slots.shape().bucket_of(key);

@@ -10,6 +10,7 @@
 pub mod finding;
 pub mod found;
 pub mod inserting;
+mod looking;
 pub mod looking_up;
 pub mod refusal;
 pub mod removing;

@@ -1,11 +1,14 @@
 //! Removes.
-ghost use Rattle.std.specs.Prelude.{◌≡◌, ◌+◌, ◌<◌, ◌≤◌, ◌^◌, true, None, IfOk, IfErr};
+ghost use Rattle.std.specs.Prelude.{◌≡◌, ◌+◌, ◌*◌, ◌<◌, ◌≤◌, ◌^◌, true, None, IfOk, IfErr};
 ghost use Rattle.vbr_core.specs.declared.history.Op.TheVariants.{Remove};
 ghost use Rattle.vbr_pools.specs.Advances.{RaisesNone};
 ghost use Rattle.vbr_pools.specs.Steps.{Counts, TookWithin};
+ghost use Rattle.vbr_slots.specs.Alone.{IsAlone};
 ghost use Rattle.vbr_slots.specs.Calls.{IsSame, Quiet, Made};
 ghost use Rattle.vbr_slots.specs.Views.{IsOf, knows};
 ghost use Rattle.vbr_list.specs.Alone.{AnswersAlone};
+ghost use Rattle.vbr_access.specs.Alone.{NextStands, StandsNow};
+ghost use Rattle.vbr_list.specs.Budgets.{listed_for};
 ghost use Rattle.vbr_list.specs.Places.{Locates};
 ghost use Rattle.vbr_list.specs.Refusals.{IsTired};
 ghost use Rattle.vbr_list.specs.Traversal.{KeepsHand};
@@ -40,6 +43,7 @@ fn take_out(
     ensures counts { Counts pass.old.trace pass.new.trace used.old used.new }
     ensures hand { KeepsHand pass.old pass.new }
     ensures used { (used.old < used.new) × (used.new ≤ budget) }
+    ensures wins { IfErr result (λ r. StandsNow pass.old.trace found.now.pred → NextStands pass.old.trace found.now.cur → IsAlone pass.old.trace pass.new.trace → ⊥) }
 {
     let Some(cur) = &found.cur else {
         unreachable!()
@@ -71,6 +75,7 @@ fn settle(
     ensures counts { Counts pass.old.trace pass.new.trace used.old used.new }
     ensures hand { KeepsHand pass.old pass.new }
     ensures used { (used.old < used.new) × (used.new ≤ budget) }
+    ensures wins { IfErr result (λ r. StandsNow pass.old.trace found.now.pred → NextStands pass.old.trace found.now.cur → IsAlone pass.old.trace pass.new.trace → ⊥) }
 {
     if found.present {
         return take_out(slots, pass, key, found, budget, used);
@@ -86,7 +91,8 @@ fn settle(
 /// the key as it was read. A node that was marked and can't be unlinked within the budget is left
 /// to others. Each slot that the pass could take is in its own pool then.
 ///
-/// OutOfSteps is its one refusal.
+/// OutOfSteps is its one refusal. While the other passes stand still, a budget of 9n + 11 is enough,
+/// with n nodes in the key's bucket.
 pub fn remove(slots: &Slots, pass: &mut Pass, key: u64, budget: u32) -> Result<bool, Refusal>
     requires own { IsOf pass.old.trace slots.now }
     requires empty_hand { pass.old.hand ≡ None }
@@ -98,6 +104,8 @@ pub fn remove(slots: &Slots, pass: &mut Pass, key: u64, budget: u32) -> Result<b
     ensures steps { TookWithin pass.old.trace pass.new.trace budget }
     ensures raises_none { RaisesNone pass.old pass.new }
     ensures refused { IfErr result (λ refusal. IsTired pass.old pass.new budget refusal) }
+    // Alone, it answers in so many steps.
+    ensures within { IfErr result (λ refusal. IsAlone pass.old.trace pass.new.trace → budget < 9 * listed_for pass.old.trace key + 11) }
 {
     soundness(slots, pass);
     let bucket = slots.shape().bucket_of(key);

@@ -1,14 +1,20 @@
 //! A traversal of the list of one bucket, piece by piece.
-ghost use Rattle.std.specs.Prelude.{◌≡◌, ◌≢◌, ◌+◌, ◌<◌, ◌≤◌, ◌^◌, false, IsSome, IfOk, IfErr};
+ghost use Rattle.std.specs.Prelude.{◌≡◌, ◌≢◌, ◌+◌, ◌*◌, ◌<◌, ◌≤◌, ◌^◌, false, IsSome, IfOk, IfErr};
 ghost use Rattle.vbr_words.specs.Words.{link_of};
 ghost use Rattle.vbr_core.specs.Acceptance.{bucket_of};
+ghost use Rattle.vbr_slots.specs.Calls.{AddsNone};
+ghost use Rattle.vbr_words.specs.declared.place.At.TheVariants.{Head};
+ghost use Rattle.vbr_slots.specs.Alone.{IsAlone, IsFresh, LeavesLists};
 ghost use Rattle.vbr_slots.specs.Views.{IsOf, knows};
+ghost use Rattle.vbr_access.specs.Alone.{StandsNow};
 ghost use Rattle.vbr_access.specs.Held.{IsMarked, Names};
 ghost use Rattle.vbr_access.specs.Keeping.{Keeps};
 ghost use Rattle.vbr_access.specs.Steps.{unlink_steps};
-ghost use Rattle.vbr_list.specs.Places.{IsPred};
+ghost use Rattle.vbr_list.specs.Places.{IsInside, IsPred};
 ghost use Rattle.vbr_list.specs.Found.{IsFound};
-ghost use Rattle.vbr_list.specs.Traversal.{Goes, IsReached, Visits};
+ghost use Rattle.vbr_list.specs.Budgets.{listed_for};
+ghost use Rattle.vbr_list.specs.Nearing.{FoundAlone, HelpsAlone, IsThere, MeetsAlone, StillAt, steps_met};
+ghost use Rattle.vbr_list.specs.Traversal.{Goes, IsReached, Visits, Observes};
 
 use crate::found::Found;
 use crate::soundness::soundness;
@@ -40,7 +46,7 @@ pub(crate) enum Stop {
 
 // Starts at the head of the bucket, in three steps.
 #[inline]
-fn start(
+pub(crate) fn start(
     slots: &Slots,
     pass: &mut Pass,
     key: u64,
@@ -52,8 +58,12 @@ fn start(
     requires in_shape { bucket < slots.now.shape.buckets }
     requires room { used.old + 8 < 2 ^ 32 }
     ensures goes { Goes pass.old pass.new used.old used.new }
+    ensures observes { Observes pass.old.trace pass.new.trace }
     ensures used { used.new ≡ used.old + 3 }
     ensures pred { IfOk result (λ head. IsReached pass.old.trace pass.new.trace key head) }
+    ensures looks { IsAlone pass.old.trace pass.new.trace → LeavesLists pass.old.trace pass.new.trace }
+    ensures still { IfErr result (λ r. IsAlone pass.old.trace pass.new.trace → ⊥) }
+    ensures stands { IfOk result (λ head. IsAlone pass.old.trace pass.new.trace → StillAt pass.new.trace head × (head.at ≡ Head bucket)) }
 {
     let point = checkpoint(slots, pass);
     let head = first(slots, pass, &point, bucket);
@@ -63,7 +73,7 @@ fn start(
 
 // Visits the node that the link of a place names, in three steps if it is marked, else in five.
 #[inline]
-fn visit(
+pub(crate) fn visit(
     slots: &Slots,
     pass: &mut Pass,
     key: u64,
@@ -71,14 +81,20 @@ fn visit(
     used: &mut u32,
 ) -> Result<Met, Rollback>
     requires own { IsOf pass.old.trace slots.now }
-    requires pred { IsPred pass.old.trace.shape (knows pass.old.trace) key pred.now }
+    requires pred { IsInside pass.old.trace.shape (knows pass.old.trace) key pred.now }
     requires some { IsSome (link_of pred.now.word).slot }
     requires room { used.old + 8 < 2 ^ 32 }
     ensures goes { Goes pass.old pass.new used.old used.new }
+    ensures observes { Observes pass.old.trace pass.new.trace }
     ensures used { (used.old < used.new) × (used.new ≤ used.old + 8) }
     ensures keeps { IfOk result (λ met. Keeps (knows pass.old.trace) (knows pass.new.trace)) }
     ensures met { IfOk result (λ met. Visits pass.old.trace pass.new.trace key pred.now met) }
+    ensures looks { IsAlone pass.old.trace pass.new.trace → LeavesLists pass.old.trace pass.new.trace }
+    ensures count { IfOk result (λ met. used.new ≡ used.old + steps_met met) }
+    ensures still { IfErr result (λ r. IsFresh pass.old.trace → IsAlone pass.old.trace pass.new.trace → ⊥) }
+    ensures alone { IfOk result (λ met. IsFresh pass.old.trace → IsThere pass.old.trace pred.now → StandsNow pass.old.trace pred.now → IsAlone pass.old.trace pass.new.trace → MeetsAlone pass.old.trace pass.new.trace key pred.now met) }
 {
+    soundness(slots, pass);
     let node = next(slots, pass, pred);
     *used += 3;
     let Some(node) = node? else { unreachable!() };
@@ -127,6 +143,9 @@ pub(crate) fn help(
     ensures goes { Goes pass.old pass.new used.old used.new }
     ensures used { (used.old ≤ used.new) × (used.new ≤ used.old + 8) }
     ensures pred { IfOk result (λ place. IsReached pass.old.trace pass.new.trace key place) }
+    ensures few { used.new ≤ used.old + 6 }
+    ensures still { IfErr result (λ r. IsFresh pass.old.trace → StandsNow pass.old.trace pred.now → IsAlone pass.old.trace pass.new.trace → ⊥) }
+    ensures alone { IfOk result (λ place. IsFresh pass.old.trace → StandsNow pass.old.trace pred.now → IsAlone pass.old.trace pass.new.trace → HelpsAlone pass.old.trace pass.new.trace key pred.now place) }
 {
     soundness(slots, pass);
     let next = decode(marked.word).slot;
@@ -161,6 +180,9 @@ pub(crate) fn traverse(
     ensures tired { IfErr result (λ stop. stop ≡ Stop.Tired → budget < used.new + 8) }
     ensures found { IfOk result (λ found. IsFound pass.old.trace pass.new.trace key found) }
     ensures used { IfOk result (λ found. found.used ≡ used.new) }
+    ensures still { IfErr result (λ stop. stop ≡ Stop.Again → IsAlone pass.old.trace pass.new.trace → ⊥) }
+    ensures short { IfErr result (λ stop. stop ≡ Stop.Tired → IsAlone pass.old.trace pass.new.trace → budget < used.old + 9 * listed_for pass.old.trace key + 11) }
+    ensures alone { IfOk result (λ found. IsAlone pass.old.trace pass.new.trace → FoundAlone pass.old.trace pass.new.trace key used.old used.new found) }
 {
     if !affords(budget, *used) {
         return Err(Stop::Tired);

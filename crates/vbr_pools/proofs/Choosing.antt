@@ -6,7 +6,6 @@ use Rattle.vbr_words.specs.Dimensions.{IsShape}
 use Rattle.vbr_core.specs.Acceptance.{MayBear, stamp_in}
 use Rattle.vbr_core.specs.Knowledge.{Know}
 use Rattle.vbr_core.specs.declared.event.Step.TheVariants.{ReadEpoch, Advance}
-use Rattle.vbr_slots.specs.declared.pass.TheConstants.{POOL}
 use Rattle.vbr_slots.specs.Calls.{Quiet}
 use Rattle.vbr_slots.specs.Pools.{IsPooled, OwnPool}
 use Rattle.vbr_slots.specs.Views.{PassView, KeepsPool, Did, knows}
@@ -29,7 +28,10 @@ some_slot [] some = absurd (some refl)
 some_slot (x ∷ xs) some = omega arith
 
 -- the epoch was read, and then the pool was looked through
-module _ (p q r : PassView) (e budget used : ℕ) (read : Did ReadEpoch p.trace q.trace e) (room : used + 8 ≤ budget) (quiet : Quiet q.trace r.trace) (known : knows r.trace ≡ knows q.trace) where
+module _ (p q r : PassView) (e budget used : ℕ) (read : Did ReadEpoch p.trace q.trace e) (room : used + 8 ≤ budget) (quiet : Quiet q.trace r.trace) (known : knows r.trace ≡ knows q.trace) (stayed : q.pool ≡ p.pool) where
+  long : length q.pool ≡ length p.pool
+  long = ap length stayed
+
   quiet_then : Quiet p.trace r.trace
   quiet_then = quiet_on (did_quiet read (λ know. refl)) quiet
 
@@ -39,22 +41,22 @@ module _ (p q r : PassView) (e budget used : ℕ) (read : Did ReadEpoch p.trace 
   last_read : (knows r.trace).epoch ≡ e
   last_read = ap (λ (k : Know). k.epoch) known ∙ epoch_told read
 
-  pub short_then : (refusal : TakeRefusal) → IsShort q r budget (used + 1) POOL refusal → Stops p r budget used (POOL + 1) refusal
-  short_then (OutOfSteps n) s = record { uses = uses_on first s.uses; short = s.short }
+  pub short_then : (refusal : TakeRefusal) → IsShort q r budget (used + 1) (length q.pool) refusal → Stops p r budget used (length p.pool + 1) refusal
+  short_then (OutOfSteps n) s = record { uses = uses_more (length p.pool + 1) (let e = long in omega arith) (uses_on first s.uses); short = s.short }
   short_then NoSlot s = s
   short_then (EpochSpent n) s = absurd s
 
   module _ (found : Option ℕ) (since : ℕ) (scanned : IsScanned q r e budget (used + 1) found since) where
-    uses : Uses p r budget used since (POOL + 1)
-    uses = uses_on first scanned.uses
+    uses : Uses p r budget used since (length p.pool + 1)
+    uses = uses_more (length p.pool + 1) (let e = long in omega arith) (uses_on first scanned.uses)
 
     pub chosen_then : (slot : ℕ) → found ≡ Some slot → IsChosen p r budget used slot since
     chosen_then slot is = record {
-      uses = uses_more (POOL + 3) (omega arith) uses;
+      uses = uses_more (length p.pool + 3) (omega arith) uses;
       below = subst (λ (x : ℕ × Option ℕ). IsBelow r x.0 x.1) (λ i. (sym last_read i, is i)) scanned.below;
     }
 
-    pub full_then : budget < since + 8 → NoRoom p r budget used (POOL + 1) since
+    pub full_then : budget < since + 8 → NoRoom p r budget used (length p.pool + 1) since
     full_then short = record { uses = uses; short = short }
 
     module _ (none : found ≡ None) (own : OwnPool r.trace.shape (knows r.trace) r.pool r.hand) (is : IsShape r.trace.shape) where
@@ -71,7 +73,7 @@ module _ (p q r : PassView) (e budget used : ℕ) (read : Did ReadEpoch p.trace 
       stamped : AllStamped r e
       stamped k d less = let has = Contains-get_or r.pool k d less in let h = high (get_or r.pool k d) has in let l = low (get_or r.pool k d) has in omega arith
 
-      pub spent_then : r.pool ≢ [] → e ≡ r.trace.shape.last_epoch → ShowsSpent p r budget used (POOL + 1) e
+      pub spent_then : r.pool ≢ [] → e ≡ r.trace.shape.last_epoch → ShowsSpent p r budget used (length p.pool + 1) e
       spent_then some last = record { spent = record { last = last; last_read = last_read; some = some; stamped = stamped }; since = since; uses = uses }
 
       -- and the epoch was raised, and read again

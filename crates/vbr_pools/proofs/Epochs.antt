@@ -4,12 +4,13 @@ use Rattle.std.proofs.lemmas.Bool.{cases_Bool, cases_eq}
 use Rattle.vbr_words.specs.Dimensions.{Dimensions, IsShape}
 use Rattle.vbr_words.specs.Words.{word_of}
 use Rattle.vbr_words.specs.declared.place.At.TheVariants.{Head, Slot}
+use Rattle.vbr_words.specs.Flags.{has_flag}
 use Rattle.vbr_core.specs.Acceptance.{Accepts, MayBear, stamp_in}
 use Rattle.vbr_core.specs.Accounts.{incarnations_after, notes_after, incarnations_with}
 use Rattle.vbr_core.specs.Agreement.{Agrees}
 use Rattle.vbr_core.specs.Incarnations.{Incarnations, nothing_yet}
 use Rattle.vbr_core.specs.Knowledge.{Know}
-use Rattle.vbr_core.specs.Machine.{World, opening, found, stamp_shown, flag_of, link_at, after}
+use Rattle.vbr_core.specs.Machine.{World, opening, found, stamp_shown, link_at, after}
 use Rattle.vbr_core.specs.Notes.{Notes, no_notes, notes_with}
 use Rattle.vbr_core.specs.Put.{put}
 use Rattle.vbr_core.specs.Runs.{world_from, AreAccepted, IsRun, world_after, know_after}
@@ -57,7 +58,7 @@ later shape w p (StoreStamp s stamp) t low ok = (
   λ v. ⊎_elim (λ (x : v ≡ s). subst (λ (n : ℕ). n ≤ w.epoch) (sym (ap (put w.stamp s stamp) x ∙ put_here w.stamp s stamp)) (let e = ok.in_range.1 in omega arith)) (λ (x : v ≢ s). subst (λ (n : ℕ). n ≤ w.epoch) (sym (put_other w.stamp s stamp v x)) (t.stamps v)) (cases_eq v s),
 )
 later shape w p (Raise s) t low ok = same_times w (after shape w p (Raise s)) refl t
-later shape w p (TakeFlag s) t low ok = same_times w (after shape w p (TakeFlag s)) (by_both (flag_of (w.place s) == 1) times _ w (times w) refl refl) t
+later shape w p (TakeFlag s) t low ok = same_times w (after shape w p (TakeFlag s)) (by_both (has_flag (found shape w (TakeFlag s)) s) times _ w (times w) refl refl) t
 later shape w p (StoreBirth s birth) t low ok = same_times w (after shape w p (StoreBirth s birth)) refl t
 later shape w p (StoreKey s key) t low ok = same_times w (after shape w p (StoreKey s key)) refl t
 later shape w p (StoreLink s next) t low ok = same_times w (after shape w p (StoreLink s next)) refl t

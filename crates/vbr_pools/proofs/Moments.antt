@@ -1,17 +1,18 @@
 -- What the steps of a pass show: the epoch that it reads, and the flags that it takes.
-use Rattle.std.proofs.Common.{◌≡◌, ◌≢◌, ℕ, ◌<◌, ◌==◌, Bool, true, false, [], ◌∷◌, ◌++◌, cond, refl, sym, ap, ◌∙◌, subst, append-nil, arith}
-use Rattle.std.proofs.lemmas.Bool.{eqb-true}
+use Rattle.std.proofs.Common.{◌≡◌, ◌≢◌, ℕ, ◌<◌, true, false, [], ◌∷◌, ◌++◌, refl, sym, ap, ◌∙◌, subst, append-nil}
 use Rattle.vbr_words.specs.Dimensions.{Dimensions}
+use Rattle.vbr_words.specs.Flags.{word_of_flag, has_flag}
 use Rattle.vbr_core.specs.Knowledge.{Know}
-use Rattle.vbr_core.specs.Learning.{exchanged}
-use Rattle.vbr_core.specs.Machine.{flag_of, stamp_shown}
+use Rattle.vbr_core.specs.Learning.{taken}
+use Rattle.vbr_core.specs.Machine.{is_shared, found, stamp_shown}
 use Rattle.vbr_core.specs.Runs.{world_after, Begins}
-use Rattle.vbr_core.specs.declared.event.Effect.TheVariants.{Value, Won, Lost}
+use Rattle.vbr_core.specs.declared.event.Effect.TheVariants.{Value}
 use Rattle.vbr_core.specs.declared.event.Step.{Step}
 use Rattle.vbr_core.specs.declared.event.Step.TheVariants.{ReadEpoch, TakeFlag}
 use Rattle.vbr_core.specs.declared.knowledge.SlotPlace.{SlotPlace}
 use Rattle.vbr_core.specs.declared.knowledge.SlotPlace.TheVariants.{Shared, Own, Hand, Listed}
 use Rattle.vbr_core.proofs.RunsGoOn.{begins_trans}
+use Rattle.vbr_core.proofs.SlotFlags.{flag_won, word_told, unflagged, flag_shared}
 use Rattle.vbr_slots.specs.Calls.{Quiet}
 use Rattle.vbr_slots.specs.Views.{Trace, Did, knows, event_of, epoch_after}
 use Rattle.vbr_slots.proofs.Calls.{did_moment, moment_before, moment_after}
@@ -28,29 +29,31 @@ epoch_stood {p} {q} {r} d = let e : Value r ≡ Value (world_after p.shape (p.se
 
 -- ---- flags
 
-is_shared : (place : SlotPlace) → flag_of place ≡ 1 → place ≡ Shared
-is_shared Shared e = refl
-is_shared (Own p) e = absurd (omega arith)
-is_shared (Hand p) e = absurd (omega arith)
-is_shared (Listed b) e = absurd (omega arith)
+in_pool : (place : SlotPlace) → is_shared place ≡ true → place ≡ Shared
+in_pool Shared e = refl
+in_pool (Own p) e = absurd (cc)
+in_pool (Hand p) e = absurd (cc)
+in_pool (Listed b) e = absurd (cc)
 
-won_if : (b : Bool) (n : ℕ) → Won ≡ cond b Won (Lost n) → b ≡ true
-won_if true n e = refl
-won_if false n e = absurd (cc)
+out_of_pool : (place : SlotPlace) → is_shared place ≡ false → place ≢ Shared
+out_of_pool Shared e = absurd (cc)
+out_of_pool (Own p) e = λ is. absurd (cc)
+out_of_pool (Hand p) e = λ is. absurd (cc)
+out_of_pool (Listed b) e = λ is. absurd (cc)
 
--- an exchange that took a flag found one
-won : (n : ℕ) → exchanged 1 1 ≡ exchanged 1 n → n ≡ 1
-won n e = eqb-true n 1 (won_if (n == 1) n e)
-
-flag_shown : {p q : Trace} {s r : ℕ} (d : Did (TakeFlag s) p q r) → exchanged 1 r ≡ exchanged 1 (flag_of ((world_after p.shape (p.seen ++ d.rest)).place s))
+-- what a taking answers
+pub flag_shown : {p q : Trace} {s r : ℕ} (d : Did (TakeFlag s) p q r) → taken s r ≡ taken s (found p.shape (world_after p.shape (p.seen ++ d.rest)) (TakeFlag s))
 flag_shown d = d.shows.answers
 
-pub missed : {p q : Trace} {s r : ℕ} → Did (TakeFlag s) p q r → r ≢ 1 → WasOutside p q s
-missed {p} {q} {s} {r} d lost = record {
-  moment = p.seen ++ d.rest;
-  is = did_moment d;
-  outside = λ e. lost (won r (sym (flag_shown d ∙ ap (λ (l : SlotPlace). exchanged 1 (flag_of l)) e)));
-}
+-- a flag word that was found where a flag was lost tells of each of its slots
+pub missed : {p q : Trace} {s r : ℕ} → Did (TakeFlag s) p q r → has_flag r s ≡ false → (t : ℕ) → t < p.shape.slots → word_of_flag t ≡ word_of_flag s → has_flag r t ≡ false → WasOutside p q t
+missed {p} {q} {s} {r} d lost t low same clear =
+    let w = world_after p.shape (p.seen ++ d.rest) in
+    record {
+      moment = p.seen ++ d.rest;
+      is = did_moment d;
+      outside = out_of_pool (w.place t) (unflagged p.shape w s t low same (subst (λ (n : ℕ). has_flag n t ≡ false) (word_told s r (found p.shape w (TakeFlag s)) (flag_shown d) lost) clear));
+    }
 
 -- ---- parts of a call
 
@@ -64,10 +67,10 @@ pub came_before : {p q r : Trace} {s : ℕ} → CameByFlag p q s → Quiet q r �
 came_before {p} {q} {r} {s} a b = record { moment = a.moment; is = moment_before a.is b; shared = a.shared; taken = begins_trans _ q.seen r.seen a.taken b.seen; first = λ t less. missed_before (a.first t less) b }
 
 -- the flag of a slot was taken, once those of the slots before it were lost
-pub came : {p q r : Trace} {s : ℕ} → Quiet p q → Did (TakeFlag s) q r 1 → ((t : ℕ) → t < s → WasOutside p r t) → CameByFlag p r s
-came {p} {q} {r} {s} a d before =
+pub came : {p q r : Trace} {s n : ℕ} → Quiet p q → Did (TakeFlag s) q r n → has_flag n s ≡ true → ((t : ℕ) → t < s → WasOutside p r t) → CameByFlag p r s
+came {p} {q} {r} {s} {n} a d set before =
     let moment = q.seen ++ d.rest in
-    let here : (world_after q.shape moment).place s ≡ Shared = is_shared _ (won (flag_of ((world_after q.shape moment).place s)) (flag_shown d)) in
+    let here : (world_after q.shape moment).place s ≡ Shared = in_pool _ (flag_shared q.shape (world_after q.shape moment) s (flag_won s n (found q.shape (world_after q.shape moment) (TakeFlag s)) (flag_shown d) set)) in
     let taken : Begins (moment ++ event_of q.who (TakeFlag s) ∷ []) r.seen = ([], d.seen ∙ sym (append-nil (moment ++ event_of q.who (TakeFlag s) ∷ []))) in
     record {
       moment = moment;

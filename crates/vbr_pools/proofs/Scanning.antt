@@ -68,9 +68,9 @@ module _ {p q r : PassView} {epoch budget before looked used n : ℕ} (at : Scan
     before = λ k less. at.above k 0 less;
   }
 
-  pub scan_found : length pool ≤ 64 → n < epoch → IsScanned p r epoch budget before (Some slot) (used + 1)
-  scan_found most below = record {
-    uses = record { counts = counts_on at.counts (counts_one used d); within = omega arith; at_most = (let s = at.sum in omega arith) };
+  pub scan_found : n < epoch → IsScanned p r epoch budget before (Some slot) (used + 1)
+  scan_found below = record {
+    uses = record { counts = counts_on at.counts (counts_one used d); within = omega arith; at_most = (let s = at.sum in let l : looked < length p.pool = subst (λ (l : List ℕ). looked < length l) (shown ∙ at.pool.0) low in omega (arith, s, l)) };
     below = (
       subst (λ (l : List ℕ). Contains l slot) (sym stays.0) there,
       subst (λ (m : ℕ). m < epoch) (loaded ∙ sym (ap (λ (k : Know). stamp_in (k.own slot)) (d.know ∙ at.known))) below,

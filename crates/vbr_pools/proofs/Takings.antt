@@ -1,14 +1,17 @@
 -- A call that takes a slot, from its pieces: a flag is won, or the own pool has slots; a slot is chosen; and an incarnation is born there.
-use Rattle.std.proofs.Common.{◌≡◌, ◌≢◌, ℕ, zero, suc, ◌+◌, ◌<◌, ◌≤◌, Bool, not, cond, List, [], ◌∷◌, Result, Ok, Err, sym, ap, ◌∙◌, subst, inl, inr, ⊎_elim, eq-eqb, arith}
+use Rattle.std.proofs.Common.{◌≡◌, ◌≢◌, ℕ, zero, suc, ◌+◌, ◌<◌, ◌≤◌, Bool, not, cond, List, [], ◌∷◌, length, Result, Ok, Err, refl, sym, ap, ◌∙◌, subst, inl, inr, ⊎_elim, eq-eqb, arith}
 use Rattle.std.specs.Prelude.{◌⊎◌, Contains, IfOk, IfErr, OnErr}
 use Rattle.vbr_core.specs.Acceptance.{stamp_in}
 use Rattle.vbr_slots.specs.declared.pass.TheConstants.{POOL}
+use Rattle.vbr_slots.specs.Alone.{IsAlone}
 use Rattle.vbr_slots.specs.Calls.{Quiet, Took}
 use Rattle.vbr_slots.specs.Pools.{without}
 use Rattle.vbr_slots.specs.Views.{PassView, KeepsPool, knows}
+use Rattle.vbr_slots.proofs.Alone.{alone_first}
 use Rattle.vbr_slots.proofs.Calls.{quiet_on, quiet_refl}
 use Rattle.vbr_pools.specs.Advances.{RaisesNone, AdvancesWhereNeeded}
 use Rattle.vbr_pools.specs.Hands.{HandView}
+use Rattle.vbr_pools.specs.Budgets.{NeedsMore, steps_to_claim, steps_to_take}
 use Rattle.vbr_pools.specs.Pieces.{Uses, IsShort, Stops, HasSlots, IsChosen, IsBorn}
 use Rattle.vbr_pools.specs.Refusals.{LeavesPool}
 use Rattle.vbr_pools.specs.SharedPool.{CameByFlag}
@@ -19,6 +22,36 @@ use Rattle.vbr_pools.specs.declared.refusal.TakeRefusal.TheVariants.{OutOfSteps,
 use Rattle.vbr_pools.proofs.Advancing.{needed_after, needed_before}
 use Rattle.vbr_pools.proofs.Counting.{uses_on, took_all, took_within}
 use Rattle.vbr_pools.proofs.Moments.{came_before}
+
+-- ---- how many steps
+
+-- the steps of a claim, and those that are made at most for a slot of the own pool, are at most those of a call that takes a slot
+claimed_few : (p q : PassView) (budget used : ℕ) → HasSlots p q budget used → (p.pool ≡ [] → used ≤ steps_to_claim p.trace.shape) → used + (length q.pool + 4) ≤ steps_to_take p.trace.shape p.pool
+claimed_few p q budget used begun few = ⊎_elim own shared begun.claimed
+  where
+    at_most : (pool : List ℕ) → pool ≢ [] → used ≡ 0 → length q.pool ≤ POOL → used + (length q.pool + 4) ≤ steps_to_take p.trace.shape pool
+    at_most [] some none room = absurd (some refl)
+    at_most (slot ∷ pool) some none room = omega (arith, none, room)
+
+    own : (q.pool ≡ p.pool) × (p.pool ≢ []) × (used ≡ 0) → used + (length q.pool + 4) ≤ steps_to_take p.trace.shape p.pool
+    own x = at_most p.pool x.1 x.2 begun.room
+
+    shared : (p.pool ≡ []) × (slot : ℕ) × (q.pool ≡ slot ∷ []) × CameByFlag p.trace q.trace slot → used + (length q.pool + 4) ≤ steps_to_take p.trace.shape p.pool
+    shared x =
+        let P : List ℕ → Type 0 = λ pool. used + (length q.pool + 4) ≤ steps_to_take p.trace.shape pool in
+        let one : length q.pool ≡ 1 = ap length x.2 in
+        let most = few x.0 in
+        subst P (sym x.0) (omega (arith, one, most))
+
+-- a claim that was refused for want of steps
+pub claim_enough : (p : PassView) (budget : ℕ) (refusal : TakeRefusal) → p.pool ≡ [] → NeedsMore (steps_to_claim p.trace.shape) budget refusal → NeedsMore (steps_to_take p.trace.shape p.pool) budget refusal
+claim_enough p budget (OutOfSteps used) empty short =
+    let P : List ℕ → Type 0 = λ pool. budget < steps_to_take p.trace.shape pool + 7 in
+    subst P (sym empty) (omega (arith, short))
+claim_enough p budget NoSlot empty short = tt
+claim_enough p budget (EpochSpent epoch) empty short = tt
+
+-- ---- the pieces
 
 module _ (p q r : PassView) (budget used : ℕ) (first : Quiet p.trace q.trace) (none : RaisesNone p q) (begun : HasSlots p q budget used) (quiet : Quiet q.trace r.trace) (keeps : KeepsPool q r) where
   pub quiet_all : Quiet p.trace r.trace
@@ -38,9 +71,18 @@ module _ (p q r : PassView) (budget used : ℕ) (first : Quiet p.trace q.trace) 
   stops_within most NoSlot s = absurd s
   stops_within most (EpochSpent e) s = took_within (uses_on begun.uses s.uses)
 
+  pub stops_enough : (refusal : TakeRefusal) → (p.pool ≡ [] → IsAlone p.trace q.trace → used ≤ steps_to_claim p.trace.shape) → Stops q r budget used (length q.pool + 1) refusal → IsAlone p.trace r.trace → NeedsMore (steps_to_take p.trace.shape p.pool) budget refusal
+  stops_enough (OutOfSteps n) few s alone =
+      let most = claimed_few p q budget used begun (λ empty. few empty (alone_first {p = p.trace} {q = q.trace} {r = r.trace} first.seen quiet.seen alone)) in
+      let short = s.short in
+      let made = s.uses.at_most in
+      omega (arith, most, short, made)
+  stops_enough NoSlot few s alone = tt
+  stops_enough (EpochSpent e) few s alone = tt
+
   -- a slot was chosen, and then an incarnation was to be born there
   module _ (t : PassView) (slot since : ℕ) (chosen : IsChosen q r budget used slot since) where
-    all_uses : Uses p r budget 0 since (budget + (POOL + 3))
+    all_uses : Uses p r budget 0 since (budget + (length q.pool + 3))
     all_uses = uses_on begun.uses chosen.uses
 
     one : (s : ℕ) → Contains (s ∷ []) slot → s ≡ slot
@@ -94,6 +136,33 @@ module _ (p q r : PassView) (budget used : ℕ) (first : Quiet p.trace q.trace) 
           go : (x : Result (HandView × ℕ) TakeRefusal) → IfOk x (λ b. IsBorn r t slot budget since b.0) → IfOk x (λ b. b.1 ≡ since + 1) → IfOk x (λ b. (b.1 ≤ budget) × Took p.trace t.trace b.1)
           go (Ok b) born is = subst (λ (n : ℕ). (n ≤ budget) × Took p.trace t.trace n) (sym is) (born.uses.within, took_all (uses_on all_uses born.uses).counts)
           go (Err refusal) born is = tt
+
+      -- what was used before the birth, by a pass that was alone
+      chosen_few : (p.pool ≡ [] → IsAlone p.trace q.trace → used ≤ steps_to_claim p.trace.shape) → IsAlone p.trace t.trace → since + 1 ≤ steps_to_take p.trace.shape p.pool
+      chosen_few few alone =
+          let most = claimed_few p q budget used begun (λ empty. few empty (alone_first {p = p.trace} {q = q.trace} {r = r.trace} first.seen quiet.seen (alone_first {p = p.trace} {q = r.trace} {r = t.trace} quiet_all.seen quiet_last.seen alone))) in
+          let made = chosen.uses.at_most in
+          omega (arith, most, made)
+
+      pub ends_few : (p.pool ≡ [] → IsAlone p.trace q.trace → used ≤ steps_to_claim p.trace.shape) → IfOk result (λ b. b.1 ≡ since + 1) → IfOk result (λ b. IsAlone p.trace t.trace → b.1 ≤ steps_to_take p.trace.shape p.pool)
+      ends_few few used_is = go result used_is
+        where
+          go : (x : Result (HandView × ℕ) TakeRefusal) → IfOk x (λ b. b.1 ≡ since + 1) → IfOk x (λ b. IsAlone p.trace t.trace → b.1 ≤ steps_to_take p.trace.shape p.pool)
+          go (Ok b) is = λ alone. let m = chosen_few few alone in omega (arith, m, is)
+          go (Err refusal) is = tt
+
+      pub ends_enough : (p.pool ≡ [] → IsAlone p.trace q.trace → used ≤ steps_to_claim p.trace.shape) → IfErr result (λ refusal. IsAlone p.trace t.trace → NeedsMore (steps_to_take p.trace.shape p.pool) budget refusal)
+      ends_enough few = go result refused
+        where
+          go : (x : Result (HandView × ℕ) TakeRefusal) → IfErr x (λ refusal. IsShort r t budget since 0 refusal) → IfErr x (λ refusal. IsAlone p.trace t.trace → NeedsMore (steps_to_take p.trace.shape p.pool) budget refusal)
+          go (Ok b) short = tt
+          go (Err (OutOfSteps n)) short = λ alone.
+              let m = chosen_few few alone in
+              let s = short.short in
+              let u = short.uses.at_most in
+              omega (arith, m, s, u)
+          go (Err NoSlot) short = absurd short
+          go (Err (EpochSpent e)) short = absurd short
 
       pub ends_taken : IfOk result (λ b. IsTaken p t b.0)
       ends_taken = go result ok

@@ -6,6 +6,7 @@ pub mod SharedPool
 pub mod Advances
 pub mod Taking
 pub mod Refusals
+pub mod Budgets
 pub mod Retiring
 pub mod Pieces
 pub mod Messages

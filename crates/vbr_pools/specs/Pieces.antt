@@ -53,6 +53,7 @@ pub record HasSlots (p q : PassView) (budget used : ℕ) : Type 0 where
   pub hand : q.hand ≡ None
   pub claimed : IsClaimed p q used
   pub some : q.pool ≢ []
+  pub room : length q.pool ≤ POOL
 
 -- the oldest slot of the own pool that is stamped below an epoch, or that there is none
 abbrev pub IsBelow : PassView → ℕ → Option ℕ → Type 0
@@ -61,12 +62,12 @@ IsBelow q epoch (Some slot) = Contains q.pool slot × (stamp_in ((knows q.trace)
 
 -- the own pool was looked through for a slot that is stamped below an epoch
 pub record IsScanned (p q : PassView) (epoch budget before : ℕ) (found : Option ℕ) (since : ℕ) : Type 0 where
-  pub uses : Uses p q budget before since POOL
+  pub uses : Uses p q budget before since (length p.pool)
   pub below : IsBelow q epoch found
 
 -- the slot is the oldest one of the own pool that is stamped below the epoch that the pass read last
 pub record IsChosen (p q : PassView) (budget before slot since : ℕ) : Type 0 where
-  pub uses : Uses p q budget before since (POOL + 3)
+  pub uses : Uses p q budget before since (length p.pool + 3)
   pub below : IsBelow q (knows q.trace).epoch (Some slot)
 
 -- the slot is in hand, and an incarnation was born there at the epoch that the pass read last

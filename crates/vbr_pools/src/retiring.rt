@@ -1,6 +1,8 @@
 //! Retiring an unlinked slot.
 ghost use Rattle.std.specs.Prelude.{◌≡◌, ◌<◌};
 ghost use Rattle.vbr_core.specs.Acceptance.{IsUnlinked};
+ghost use Rattle.vbr_words.specs.Dimensions.{IsShape};
+ghost use Rattle.vbr_slots.specs.Alone.{IsAlone, IsFresh, LeavesLists};
 ghost use Rattle.vbr_slots.specs.Calls.{Quiet, Took};
 ghost use Rattle.vbr_slots.specs.Views.{IsOf, knows};
 ghost use Rattle.vbr_pools.specs.Advances.{RaisesNone};
@@ -25,6 +27,7 @@ pub fn retire(slots: &Slots, pass: &mut Pass, unlinked: Unlinked) -> u32
     ensures known { knows pass.new.trace ≡ know_retired (knows pass.old.trace) (knows pass.new.trace).epoch unlinked.slot (is_kept pass.old.pool) }
     ensures pool { pass.new.pool ≡ pool_retired pass.old.pool unlinked.slot }
     ensures hand { pass.new.hand ≡ pass.old.hand }
+    ensures alone { IsAlone pass.old.trace pass.new.trace → LeavesLists pass.old.trace pass.new.trace × IsFresh pass.new.trace }
 {
     in_shape(slots, pass, unlinked.slot());
     let slot = unlinked.into_slot();
@@ -45,7 +48,8 @@ pub fn retire(slots: &Slots, pass: &mut Pass, unlinked: Unlinked) -> u32
 fn in_shape(slots: &Slots, pass: &Pass, slot: u32)
     requires own { IsOf pass.now.trace slots.now }
     requires unlinked { IsUnlinked ((knows pass.now.trace).own slot) }
-    ensures { slot < slots.now.shape.slots }
+    ensures slot { slot < slots.now.shape.slots }
+    ensures shape { IsShape pass.now.trace.shape }
 {
     let _who = pass.who();
     let _slot = slot;

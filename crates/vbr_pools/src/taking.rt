@@ -1,10 +1,11 @@
 //! Taking a slot for a new incarnation.
-ghost use Rattle.std.specs.Prelude.{◌≡◌, ◌≢◌, ◌+◌, ◌≤◌, [], IfOk, IfErr, OnErr, Some, None};
-ghost use Rattle.vbr_slots.specs.declared.pass.TheConstants.{POOL};
+ghost use Rattle.std.specs.Prelude.{◌≡◌, ◌≢◌, ◌+◌, ◌≤◌, [], length, IfOk, IfErr, OnErr, Some, None};
+ghost use Rattle.vbr_slots.specs.Alone.{IsAlone};
 ghost use Rattle.vbr_slots.specs.Calls.{Quiet, Took};
 ghost use Rattle.vbr_slots.specs.Pools.{OwnPool};
 ghost use Rattle.vbr_slots.specs.Views.{IsOf, KeepsPool, knows};
 ghost use Rattle.vbr_pools.specs.Advances.{advances, AdvancesWhereNeeded, RaisesNone};
+ghost use Rattle.vbr_pools.specs.Budgets.{NeedsMore, steps_to_claim, steps_to_take};
 ghost use Rattle.vbr_pools.specs.Pieces.{HasSlots, IsBelow, IsBorn, IsChosen, IsScanned, IsShort, Stops};
 ghost use Rattle.vbr_pools.specs.Refusals.{IsRefused, LeavesPool, IsTakenOrSpent};
 ghost use Rattle.vbr_pools.specs.Steps.{TookWithin};
@@ -14,6 +15,7 @@ use crate::budget::affords;
 use crate::hand::Hand;
 use crate::refusal::TakeRefusal;
 use vbr_slots::{Pass, Slots};
+use vbr_words::flags::next_flag;
 
 /// Takes a slot, and gives birth to a new incarnation there, above the slot's stamp: a slot of the
 /// own pool, the oldest that may be born in; or, where that pool is empty, the first of the shared
@@ -24,6 +26,9 @@ use vbr_slots::{Pass, Slots};
 /// pool is empty: NoSlot, if nothing is there. It raises the epoch only where no slot of the own pool
 /// is stamped below the epoch that it read: EpochSpent, if that is the last. A flag that it won
 /// stays in the own pool after a refusal.
+///
+/// With slots in the own pool a budget of 80 is enough, whatever others do; with none, one of w + 13
+/// is, while the other passes stand still, where w is the number of flag words.
 pub fn take(slots: &Slots, pass: &mut Pass, budget: u32) -> Result<Hand, TakeRefusal>
     requires own { IsOf pass.old.trace slots.now }
     requires empty_hand { pass.old.hand ≡ None }
@@ -36,6 +41,8 @@ pub fn take(slots: &Slots, pass: &mut Pass, budget: u32) -> Result<Hand, TakeRef
     ensures advances { AdvancesWhereNeeded pass.old pass.new }
     // No condition speaks of another pass: none can hold it up.
     ensures ready { pass.old.pool ≢ [] → 80 ≤ budget → IsTakenOrSpent result }
+    // Alone, it makes no more steps than these.
+    ensures enough { IfErr result (λ refusal. IsAlone pass.old.trace pass.new.trace → NeedsMore (steps_to_take pass.old.trace.shape pass.old.pool) budget refusal) }
 {
     let (hand, _) = take_counted(slots, pass, budget)?;
     Ok(hand)
@@ -55,6 +62,9 @@ pub fn take_counted(slots: &Slots, pass: &mut Pass, budget: u32) -> Result<(Hand
     ensures advances { AdvancesWhereNeeded pass.old pass.new }
     // No condition speaks of another pass: none can hold it up.
     ensures ready { pass.old.pool ≢ [] → 80 ≤ budget → IsTakenOrSpent result }
+    // Alone, it makes no more steps than these.
+    ensures few { IfOk result (λ r. IsAlone pass.old.trace pass.new.trace → r.1 ≤ steps_to_take pass.old.trace.shape pass.old.pool) }
+    ensures enough { IfErr result (λ refusal. IsAlone pass.old.trace pass.new.trace → NeedsMore (steps_to_take pass.old.trace.shape pass.old.pool) budget refusal) }
 {
     let used = claim(slots, pass, budget)?;
     let (slot, used) = choose(slots, pass, budget, used)?;
@@ -62,7 +72,8 @@ pub fn take_counted(slots: &Slots, pass: &mut Pass, budget: u32) -> Result<(Hand
 }
 
 // Sees to it that the own pool has a slot: if it is empty, takes the first one out of the shared pool.
-// Returns how many steps were used.
+// It probes the first slot of each flag word, and then the lowest whose flag it found there, until the
+// word has none. Returns how many steps were used.
 fn claim(slots: &Slots, pass: &mut Pass, budget: u32) -> Result<u32, TakeRefusal>
     requires own { IsOf pass.old.trace slots.now }
     requires empty_hand { pass.old.hand ≡ None }
@@ -73,19 +84,27 @@ fn claim(slots: &Slots, pass: &mut Pass, budget: u32) -> Result<u32, TakeRefusal
     ensures refused { IfErr result (λ refusal. IsRefused pass.old pass.new budget refusal) }
     ensures steps { IfErr result (λ refusal. TookWithin pass.old.trace pass.new.trace budget) }
     ensures pool { IfErr result (λ refusal. KeepsPool pass.old pass.new) }
+    ensures few { IfOk result (λ used. pass.old.pool ≡ [] → IsAlone pass.old.trace pass.new.trace → used ≤ steps_to_claim pass.old.trace.shape) }
+    ensures enough { IfErr result (λ refusal. IsAlone pass.old.trace pass.new.trace → NeedsMore (steps_to_claim pass.old.trace.shape) budget refusal) }
 {
     if !pass.pool().is_empty() {
         return Ok(0);
     }
-    // Each flag is a step: `slot` of them were made.
-    for slot in 0..slots.shape().slots() {
-        if !affords(budget, slot) {
-            return Err(TakeRefusal::OutOfSteps { used: slot });
+    // Each probe is a step, and one that is lost shows the flags of sixty-four slots.
+    let mut probes = 0;
+    let mut slot = 0;
+    while slot < slots.shape().slots() {
+        if !affords(budget, probes) {
+            return Err(TakeRefusal::OutOfSteps { used: probes });
         }
-        if slots.take_flag(pass, slot) {
-            let _pool = pass.pool();
-            pass.keep(slot);
-            return Ok(slot + 1);
+        probes += 1;
+        match slots.take_flag(pass, slot) {
+            Ok(()) => {
+                let _pool = pass.pool();
+                pass.keep(slot);
+                return Ok(probes);
+            }
+            Err(found) => slot = next_flag(found, slot),
         }
     }
     Err(TakeRefusal::NoSlot)
@@ -102,7 +121,7 @@ fn choose(slots: &Slots, pass: &mut Pass, budget: u32, used: u32) -> Result<(u32
     ensures quiet { Quiet pass.old.trace pass.new.trace }
     ensures pool { KeepsPool pass.old pass.new }
     ensures ok { IfOk result (λ r. IsChosen pass.old pass.new budget used r.0 r.1) }
-    ensures refused { IfErr result (λ refusal. Stops pass.old pass.new budget used (POOL + 1) refusal) }
+    ensures refused { IfErr result (λ refusal. Stops pass.old pass.new budget used (length pass.old.pool + 1) refusal) }
     ensures advances { AdvancesWhereNeeded pass.old pass.new }
 {
     if !affords(budget, used) {
@@ -141,7 +160,7 @@ fn scan(
     ensures known { knows pass.new.trace ≡ knows pass.old.trace }
     ensures advances { advances pass.new.trace ≡ advances pass.old.trace }
     ensures ok { IfOk result (λ r. IsScanned pass.old pass.new epoch budget used r.0 r.1) }
-    ensures refused { IfErr result (λ refusal. IsShort pass.old pass.new budget used POOL refusal) }
+    ensures refused { IfErr result (λ refusal. IsShort pass.old pass.new budget used (length pass.old.pool) refusal) }
 {
     for i in 0..pass.pool().len() {
         if !affords(budget, used) {

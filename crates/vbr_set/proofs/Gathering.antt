@@ -11,8 +11,8 @@ use Rattle.vbr_words.specs.declared.place.Place.TheVariants as place
 use Rattle.vbr_core.specs.Accounts.{incarnations_after}
 use Rattle.vbr_core.specs.Incarnations.{State, Unborn, InHand, GivenUp, Linked, Marked, Unlinked, Stamped, Incarnations}
 use Rattle.vbr_core.specs.declared.event.Event.{Event}
-use Rattle.vbr_set.specs.Nodes.{count_below, is_linked, is_marked, state_in}
-use Rattle.vbr_set.specs.Walking.{AreAfter, NotesLists, is_listed, key_in, linked_keys, noted}
+use Rattle.vbr_core.specs.Nodes.{count_below, is_linked, is_marked, state_in, is_listed, key_in}
+use Rattle.vbr_set.specs.Walking.{AreAfter, NotesLists, linked_keys, noted}
 use Rattle.vbr_set.proofs.ShownNodes.{key_read, link_read, mark_of_node, stands_in}
 
 -- what was gathered from the slots below a number

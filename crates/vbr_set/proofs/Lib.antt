@@ -4,3 +4,6 @@ mod Walks
 mod Gathering
 mod LinkedKeys
 mod Closings
+mod Places
+mod Seats
+mod Ends

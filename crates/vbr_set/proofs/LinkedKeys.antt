@@ -20,8 +20,8 @@ use Rattle.vbr_core.specs.declared.event.Event.{Event}
 use Rattle.vbr_core.specs.declared.history.Call.{Call}
 use Rattle.vbr_core.proofs.Lists.{keys_differ}
 use Rattle.vbr_set.specs.Histories.{calls_of}
-use Rattle.vbr_set.specs.Nodes.{is_linked, state_in}
-use Rattle.vbr_set.specs.Walking.{AreAfter, key_in, is_listed, linked_keys}
+use Rattle.vbr_core.specs.Nodes.{is_linked, state_in, key_in, is_listed}
+use Rattle.vbr_set.specs.Walking.{AreAfter, linked_keys}
 use Rattle.vbr_set.proofs.ShownNodes.{Stands, agrees, stands_in, stands_key, stands_state, stands_there}
 
 -- ---- linked nodes

@@ -19,8 +19,8 @@ use Rattle.vbr_core.specs.declared.event.Event.{Event}
 use Rattle.vbr_core.proofs.EveryRun.{run_agrees}
 use Rattle.vbr_core.proofs.SafeRuns.{every_run}
 use Rattle.vbr_core.proofs.Slots.{late_born, listed_late, listed_last}
-use Rattle.vbr_set.specs.Nodes.{state_shown, state_in, is_marked}
-use Rattle.vbr_set.specs.Walking.{AreAfter, is_listed, key_in}
+use Rattle.vbr_core.specs.Nodes.{state_shown, state_in, is_marked, is_listed, key_in}
+use Rattle.vbr_set.specs.Walking.{AreAfter}
 
 -- ---- words
 

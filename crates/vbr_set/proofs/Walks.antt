@@ -17,8 +17,8 @@ use Rattle.vbr_core.specs.Incarnations.{Incarnations}
 use Rattle.vbr_core.specs.Sound.{IsApart, IsFrom, IsListed, Sound}
 use Rattle.vbr_core.specs.declared.event.Event.{Event}
 use Rattle.vbr_core.proofs.Lists.{next_listed}
-use Rattle.vbr_set.specs.Nodes.{state_in}
-use Rattle.vbr_set.specs.Walking.{AreAfter, NotesList, NotesLists, is_in_list, is_listed, key_in, noted}
+use Rattle.vbr_core.specs.Nodes.{state_in, is_in_list, is_listed, key_in}
+use Rattle.vbr_set.specs.Walking.{AreAfter, NotesList, NotesLists, noted}
 use Rattle.vbr_set.proofs.ShownNodes.{Stands, agrees, key_read, link_read, next_of_node, stands_in, stands_key, stands_listed, stands_there}
 
 -- whether the node of a slot stands before the node that is reached, or there is none any more

@@ -11,7 +11,7 @@ use Rattle.vbr_slots.specs.Calls.{made_by}
 use Rattle.vbr_slots.specs.Closing.{EachSeen}
 use Rattle.vbr_slots.specs.Views.{PassView, TableView}
 use Rattle.vbr_set.specs.Histories.{calls_of}
-use Rattle.vbr_set.specs.Nodes.{linked_after, marked_after}
+use Rattle.vbr_core.specs.Nodes.{linked_after, marked_after}
 use Rattle.vbr_set.specs.declared.report.Report.{Report}
 
 -- the report tells the keys that the calls of a run leave in a set that opened empty, ascending; the epoch; how many nodes are linked; how many are marked and still in a list; and how many slots have neither

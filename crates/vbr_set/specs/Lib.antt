@@ -1,6 +1,11 @@
 pub mod Histories
 pub mod Answers
 pub mod Meetings
-pub mod Nodes
 pub mod Closing
 pub mod Walking
+pub mod Places
+pub mod Members
+pub mod Sharing
+pub mod MemberView
+pub mod Seats
+pub mod Ends

@@ -1,13 +1,11 @@
 -- Walking the lists of a closed table by its words. Only contracts of private functions cite this.
-use Rattle.std.specs.Prelude.{◌≡◌, ℕ, zero, suc, ◌<◌, ◌==◌, ◌&&◌, ◌||◌, Bool, true, false, List, [], ◌∷◌, ◌++◌, slice_index_or, if◌then◌else◌}
+use Rattle.std.specs.Prelude.{◌≡◌, ℕ, zero, suc, ◌<◌, ◌||◌, Bool, true, false, List, [], ◌∷◌, ◌++◌, slice_index_or, if◌then◌else◌}
 use Rattle.vbr_words.specs.Dimensions.{Dimensions, IsShape}
-use Rattle.vbr_core.specs.Acceptance.{bucket_of}
-use Rattle.vbr_core.specs.Images.{key_shown}
-use Rattle.vbr_core.specs.Incarnations.{State, Linked, Marked, Incarnations}
+use Rattle.vbr_core.specs.Incarnations.{Incarnations}
 use Rattle.vbr_core.specs.Runs.{IsRun, world_after}
 use Rattle.vbr_core.specs.declared.event.Event.{Event}
 use Rattle.vbr_slots.specs.Words.{AreWordsOf}
-use Rattle.vbr_set.specs.Nodes.{state_in, is_linked}
+use Rattle.vbr_core.specs.Nodes.{state_in, is_linked, is_listed, is_in_list, key_in}
 
 -- the words are those of the world after a run of a shape
 pub record AreAfter (shape : Dimensions) (words : List ℕ) (run : List Event) : Type 0 where
@@ -15,20 +13,6 @@ pub record AreAfter (shape : Dimensions) (words : List ℕ) (run : List Event) :
   pub is_shape : IsShape shape
   pub is_run : IsRun shape passes run
   pub are : AreWordsOf shape (world_after shape run) words
-
--- whether an incarnation is in a list
-abbrev pub is_listed : State → Bool
-is_listed Linked = true
-is_listed Marked = true
-is_listed _ = false
-
--- the key of the last incarnation of a slot
-abbrev pub key_in : Incarnations → ℕ → ℕ
-key_in a s = key_shown a (a.last s)
-
--- whether the node of a slot is in the list of a bucket
-abbrev pub is_in_list : Dimensions → Incarnations → ℕ → ℕ → Bool
-is_in_list shape a bucket s = is_listed (state_in a s) && (bucket_of shape (key_in a s) == bucket)
 
 -- whether a slot was noted
 abbrev pub noted : List Bool → ℕ → Bool

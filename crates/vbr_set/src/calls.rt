@@ -1,12 +1,15 @@
 //! The calls: inserts, removes and look-ups.
-ghost use Rattle.std.specs.Prelude.{◌≡◌, None, IfOk, IfErr};
+ghost use Rattle.std.specs.Prelude.{◌≡◌, ◌≢◌, ◌+◌, ◌*◌, ◌<◌, ◌≤◌, [], None, IfOk, IfErr};
 ghost use Rattle.vbr_words.specs.Dimensions.{IsShape};
 ghost use Rattle.vbr_core.specs.declared.history.Op.TheVariants.{Insert, Remove, Has};
 ghost use Rattle.vbr_pools.specs.Advances.{AdvancesWhereNeeded, RaisesNone};
+ghost use Rattle.vbr_pools.specs.Budgets.{most_to_take};
 ghost use Rattle.vbr_pools.specs.Steps.{TookWithin};
-ghost use Rattle.vbr_slots.specs.Calls.{IsSame, Quiet};
+ghost use Rattle.vbr_slots.specs.Alone.{IsAlone};
+ghost use Rattle.vbr_slots.specs.Calls.{AddsAnswer, AddsNone, IsSame, OnlyLoads, Quiet};
 ghost use Rattle.vbr_slots.specs.Views.{IsOf};
 ghost use Rattle.vbr_list.specs.Alone.{AnswersAlone};
+ghost use Rattle.vbr_list.specs.Budgets.{IsAnsweredOrSpent, LacksSteps, listed_for};
 ghost use Rattle.vbr_list.specs.Refusals.{IsRefused, IsTired};
 ghost use Rattle.vbr_set.specs.Answers.{Answers};
 
@@ -27,7 +30,9 @@ impl VbrSet {
     /// one step of the call.
     ///
     /// Its refusals are OutOfSteps, and, where the key was absent, NoSlot and EpochSpent. After a
-    /// refusal the pass has made no call and has no slot in hand.
+    /// refusal the pass has made no call and has no slot in hand. While the other passes stand still, a
+    /// budget of 18n + slots + 82 is enough, with n nodes in the key's bucket; and with a slot in the
+    /// pass's own pool and 18n + 82 steps the call is answered, unless the epoch is spent.
     #[inline]
     pub fn insert(&self, pass: &mut Pass, key: u64, budget: u32) -> Result<bool, Refusal>
         requires own { IsOf pass.old.trace self.now }
@@ -40,6 +45,10 @@ impl VbrSet {
         ensures steps { TookWithin pass.old.trace pass.new.trace budget }
         ensures advances { AdvancesWhereNeeded pass.old pass.new }
         ensures refused { IfErr result (λ refusal. IsRefused pass.old pass.new key budget refusal) }
+        // Alone, it answers in so many steps, or finds no slot or the epoch spent.
+        ensures within { IfErr result (λ refusal. IsAlone pass.old.trace pass.new.trace → LacksSteps (18 * listed_for pass.old.trace key + most_to_take pass.old.trace.shape pass.old.pool + 14) budget refusal) }
+        // With a slot in the own pool, whatever others hold while they stand still.
+        ensures ready { pass.old.pool ≢ [] → IsAlone pass.old.trace pass.new.trace → 18 * listed_for pass.old.trace key + 82 ≤ budget → IsAnsweredOrSpent result }
     {
         known_shape(&self.slots);
         insert(&self.slots, pass, key, budget)
@@ -49,7 +58,8 @@ impl VbrSet {
     /// is one step of the call. A removed node that can't be unlinked within the budget is left to
     /// later calls.
     ///
-    /// OutOfSteps is its one refusal. The pass has made no call then.
+    /// OutOfSteps is its one refusal. The pass has made no call then. While the other passes stand
+    /// still, a budget of 9n + 11 is enough, with n nodes in the key's bucket.
     #[inline]
     pub fn remove(&self, pass: &mut Pass, key: u64, budget: u32) -> Result<bool, Refusal>
         requires own { IsOf pass.old.trace self.now }
@@ -62,6 +72,8 @@ impl VbrSet {
         ensures steps { TookWithin pass.old.trace pass.new.trace budget }
         ensures raises_none { RaisesNone pass.old pass.new }
         ensures refused { IfErr result (λ refusal. IsTired pass.old pass.new budget refusal) }
+        // Alone, it answers in so many steps.
+        ensures within { IfErr result (λ refusal. IsAlone pass.old.trace pass.new.trace → budget < 9 * listed_for pass.old.trace key + 11) }
     {
         known_shape(&self.slots);
         remove(&self.slots, pass, key, budget)
@@ -70,7 +82,11 @@ impl VbrSet {
     /// Whether a key is in the set, in at most `budget` steps. The answer's point is one load of the
     /// call.
     ///
-    /// OutOfSteps is its one refusal. The pass has made no call then.
+    /// A look-up writes nothing that another thread can see: each of its steps is a load. It passes a
+    /// removed node that is still in its list in three steps, and leaves it to inserts and removes.
+    ///
+    /// OutOfSteps is its one refusal. The pass has made no call then. While the other passes stand
+    /// still, a budget of 5n + 11 is enough, with n nodes in the key's bucket.
     #[inline]
     pub fn has(&self, pass: &mut Pass, key: u64, budget: u32) -> Result<bool, Refusal>
         requires own { IsOf pass.old.trace self.now }
@@ -78,11 +94,16 @@ impl VbrSet {
         ensures same { IsSame pass.old.trace pass.new.trace }
         ensures answers { IfOk result (λ reply. Answers (record { who = pass.old.trace.who; op = Has; key = key; reply = reply }) pass.old.trace pass.new.trace) }
         ensures alone { IfOk result (λ reply. AnswersAlone pass.old.trace Has key reply) }
+        ensures adds { IfOk result (λ reply. AddsAnswer (record { who = pass.old.trace.who; op = Has; key = key; reply = reply }) pass.old.trace pass.new.trace) }
         ensures quiet { IfErr result (λ refusal. Quiet pass.old.trace pass.new.trace) }
+        ensures adds_none { IfErr result (λ refusal. AddsNone pass.old.trace pass.new.trace) }
+        ensures only_loads { OnlyLoads pass.old.trace pass.new.trace }
         ensures hand { pass.new.hand ≡ None }
         ensures steps { TookWithin pass.old.trace pass.new.trace budget }
         ensures raises_none { RaisesNone pass.old pass.new }
         ensures refused { IfErr result (λ refusal. IsTired pass.old pass.new budget refusal) }
+        // Alone, it answers in so many steps.
+        ensures within { IfErr result (λ refusal. IsAlone pass.old.trace pass.new.trace → budget < 5 * listed_for pass.old.trace key + 11) }
     {
         known_shape(&self.slots);
         has(&self.slots, pass, key, budget)

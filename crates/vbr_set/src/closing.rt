@@ -6,7 +6,7 @@ ghost use Rattle.vbr_core.specs.declared.event.Event.{Event};
 ghost use Rattle.vbr_slots.specs.Closing.{AllOf, HandsBack, IsMissing};
 ghost use Rattle.vbr_words.specs.Places.{words_in};
 ghost use Rattle.vbr_set.specs.Closing.{Closes, Reports};
-ghost use Rattle.vbr_set.specs.Nodes.{linked_after, marked_after};
+ghost use Rattle.vbr_core.specs.Nodes.{linked_after, marked_after};
 ghost use Rattle.vbr_set.specs.Walking.{AreAfter, NotesLists, linked_keys, noted};
 
 use crate::report::Report;

@@ -2,33 +2,54 @@
 //! list-based set (Michael 2002) over slots that are used again by Version Based Reclamation
 //! (Sheffi, Herlihy and Petrank 2021).
 //!
-//! [`VbrSet::open`] makes a set of a [`Shape`] and so many passes. The set is shared by reference; a
-//! [`Pass`] is moved to its thread, and makes the calls [`VbrSet::insert`], [`VbrSet::remove`] and
-//! [`VbrSet::has`]. None of them waits for another pass or takes memory, and each ends within its
-//! budget of steps. [`VbrSet::close`] takes all passes back and tells what is in the set.
+//! [`Member::open`] makes a set of a [`Shape`] and gives its members, from 1 to 64 of them. A member is
+//! moved to its thread, and makes the calls [`Member::insert`], [`Member::remove`] and
+//! [`Member::has`]. None of them waits for another or takes memory, and each ends within its budget of
+//! steps. A look-up writes nothing that another thread can see. [`Member::close`] gives a member back,
+//! and the last one is told what is in the set.
 //!
-//! What a pass has seen has one legal history of a set. A call that is answered stands in it, once,
-//! behind the calls that the pass had made before; passes that meet ([`VbrSet::meet`]) share one
+//! What a member has seen has one legal history of a set. A call that is answered stands in it, once,
+//! behind the calls that the member had made before; members that meet ([`Member::meet`]) share one
 //! history.
 //!
 //! ```text
-//! let (set, mut passes) = VbrSet::open(alloc, Shape::new(64, 8, 1_000_000)?, 2)?;
-//! set.insert(&mut passes[0], 5, 1_000)?;          // true: 5 was absent
-//! set.has(&mut passes[1], 5, 1_000)?;             // true
-//! let report = set.close(alloc, passes)?;         // report.keys is [5]
+//! let mut members = Member::open(alloc, Shape::new(64, 8, 1_000_000)?, 2)?;
+//! members[0].insert(5, 1_000)?;                   // true: 5 was absent
+//! members[1].has(5, 1_000)?;                      // true
+//! for member in members {
+//!     let report = member.close(alloc)?;          // Some at the last: its keys are [5]
+//! }
 //! ```
+//!
+//! Where the set is to be borrowed, [`VbrSet::open`] gives the set and its passes apart. The calls of
+//! [`VbrSet`] take a pass, and ask that it is one of the set with no slot in hand.
 #![tactic(auto)]
 
 pub mod calls;
 pub mod closing;
+mod common;
+pub mod end_error;
 pub mod meeting;
+pub mod member;
+pub mod member_calls;
+pub mod member_closing;
+pub mod member_meeting;
+pub mod member_opening;
 pub mod opening;
+mod place;
 pub mod report;
 pub mod set;
+mod share;
+mod sharing;
 mod walking;
 
+pub use end_error::EndError;
+pub use member::Member;
 pub use report::Report;
 pub use set::VbrSet;
+pub use vbr_core::{Call, Op};
 pub use vbr_list::Refusal;
 pub use vbr_slots::{CloseError, OpenError, Pass};
+pub use vbr_words::link::MAX_SLOTS;
+pub use vbr_words::shape::{MAX_BUCKETS, MAX_EPOCH};
 pub use vbr_words::{Shape, ShapeError};

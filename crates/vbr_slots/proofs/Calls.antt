@@ -1,18 +1,23 @@
 -- Steps one after another: what they add to what the pass has seen, to its calls, and to its count.
-use Rattle.std.proofs.Common.{◌≡◌, ℕ, ◌+◌, ◌-◌, ◌^◌, ◌≤◌, min, Bool, true, false, cond, List, [], ◌∷◌, ◌++◌, Option, None, Some, refl, sym, ap, ◌∙◌, append_assoc, append-nil, arith, option_to_list}
+use Rattle.std.proofs.Common.{◌≡◌, ℕ, ◌+◌, Bool, true, false, cond, List, [], ◌∷◌, ◌++◌, Option, None, refl, sym, ap, subst, ◌∙◌, append_assoc, append-nil, arith, option_to_list}
 use Rattle.vbr_words.specs.Dimensions.{Dimensions}
 use Rattle.vbr_core.specs.Knowledge.{Know}
 use Rattle.vbr_core.specs.Learning.{call_of}
 use Rattle.vbr_core.specs.Machine.{World, found}
 use Rattle.vbr_core.specs.Making.{succeeds}
-use Rattle.vbr_core.specs.Runs.{IsRun, Begins, world_after}
+use Rattle.vbr_core.specs.Loads.{IsLoad, OnlyLoadsOf}
+use Rattle.vbr_core.specs.Runs.{IsRun, Begins, NoneOf, world_after}
 use Rattle.vbr_core.specs.Calls.{calls_added, own_calls}
 use Rattle.vbr_core.specs.declared.event.Event.{Event}
 use Rattle.vbr_core.specs.declared.event.Step.{Step}
 use Rattle.vbr_core.specs.declared.history.Call.{Call}
+use Rattle.vbr_core.specs.Incarnations.{Incarnations}
+use Rattle.vbr_core.specs.Chronicles.{Answers}
+use Rattle.vbr_core.specs.Accounts.{just, happens, incarnations_after, own_entries}
 use Rattle.vbr_core.proofs.RunsGoOn.{begins_trans, others_leave_calls, own_calls-snoc}
+use Rattle.vbr_core.proofs.OwnEntries.{others_leave_entries, own_entries-snoc}
 use Rattle.vbr_slots.specs.Views.{Trace, Did, event_of}
-use Rattle.vbr_slots.specs.Calls.{IsSame, made_by, Quiet, Made, Moment, Took}
+use Rattle.vbr_slots.specs.Calls.{IsSame, made_by, Quiet, Made, entries_of, AddsNone, AddsAnswer, OnlyLoads, Moment, Took}
 
 -- ---- the same pass
 
@@ -89,4 +94,59 @@ did_quiet {step} {p} {q} d none = record {
   seen = did_seen d;
   is_run = λ h. did_run d;
   calls = did_calls d ∙ ap (λ l. made_by p ++ l) (adds_none p.shape (world_after p.shape (p.seen ++ d.rest)) p.who step none) ∙ append-nil (made_by p);
+}
+
+-- ---- the events of the pass
+
+pub adds_refl : (p : Trace) → AddsNone p p
+adds_refl p = record { entries = refl }
+
+pub adds_on : {p q r : Trace} → AddsNone p q → AddsNone q r → AddsNone p r
+adds_on a b = record { entries = b.entries ∙ a.entries }
+
+-- what was added by steps that add none, and then by an answer of the same pass
+pub answer_on : {p q r : Trace} (call : ℕ → Call) → IsSame p q → AddsNone p q → AddsAnswer (call q.who) q r → AddsAnswer (call p.who) p r
+answer_on call same a b = record { entries = b.entries ∙ (λ i. a.entries i ++ just (same.who i) (Answers (call (same.who i)))) }
+
+-- the events after one step
+pub did_entries : {step : Step} {p q : Trace} {r : ℕ} (d : Did step p q r) → entries_of q ≡ entries_of p ++ happens p.shape (world_after p.shape (p.seen ++ d.rest)) (incarnations_after p.shape (p.seen ++ d.rest)) p.who step
+did_entries {step} {p} {q} d =
+    (λ i. own_entries (d.same.1 i) (d.seen i) (d.same.3 i))
+    ∙ own_entries-snoc p.shape (p.seen ++ d.rest) (event_of p.who step)
+    ∙ ap (λ l. l ++ happens p.shape (world_after p.shape (p.seen ++ d.rest)) (incarnations_after p.shape (p.seen ++ d.rest)) p.who step) (others_leave_entries p.shape p.seen d.rest p.who d.none)
+
+-- a step by which nothing happens adds none
+pub did_adds_none : {step : Step} {p q : Trace} {r : ℕ} (d : Did step p q r) → ((w : World) (a : Incarnations) → happens p.shape w a p.who step ≡ []) → AddsNone p q
+did_adds_none {step} {p} d none = record { entries = did_entries d ∙ ap (λ l. entries_of p ++ l) (none (world_after p.shape (p.seen ++ d.rest)) (incarnations_after p.shape (p.seen ++ d.rest))) ∙ append-nil (entries_of p) }
+
+-- ---- loads alone
+
+both_load : (who : ℕ) (xs ys : List Event) → OnlyLoadsOf who xs → OnlyLoadsOf who ys → OnlyLoadsOf who (xs ++ ys)
+both_load who [] ys g h = h
+both_load who (x ∷ xs) ys g h = (g.0, both_load who xs ys g.1 h)
+
+others_load : (who : ℕ) (events : List Event) → NoneOf who events → OnlyLoadsOf who events
+others_load who [] none = tt
+others_load who (x ∷ xs) none = (λ e. absurd (none.0 e), others_load who xs none.1)
+
+pub loads_refl : (p : Trace) → OnlyLoads p p
+loads_refl p = record { who = refl; since = []; seen = sym (append-nil p.seen); loads = tt }
+
+pub loads_on : {p q r : Trace} → OnlyLoads p q → OnlyLoads q r → OnlyLoads p r
+loads_on {p} {q} {r} a b =
+    let P : ℕ → Type 0 = λ who. OnlyLoadsOf who b.since in
+    record {
+      who = b.who ∙ a.who;
+      since = a.since ++ b.since;
+      seen = b.seen ∙ ap (λ l. l ++ b.since) a.seen ∙ append_assoc p.seen a.since b.since;
+      loads = both_load p.who a.since b.since a.loads (subst P a.who b.loads);
+    }
+
+-- one step that is a load
+pub did_loads : {step : Step} {p q : Trace} {r : ℕ} → Did step p q r → IsLoad step → OnlyLoads p q
+did_loads {step} {p} d load = record {
+  who = d.same.3;
+  since = d.rest ++ event_of p.who step ∷ [];
+  seen = d.seen ∙ append_assoc p.seen d.rest (event_of p.who step ∷ []);
+  loads = both_load p.who d.rest (event_of p.who step ∷ []) (others_load p.who d.rest d.none) (λ _. load, tt);
 }

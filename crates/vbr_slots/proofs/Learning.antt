@@ -4,9 +4,10 @@ use Rattle.std.proofs.lemmas.Bool.{cases_Bool}
 use Rattle.std.proofs.lemmas.Bool.Decides.{nat_tests}
 use prog.Atomic.{either}
 use Rattle.std.specs.Prelude.{◌==◌}
+use Rattle.vbr_words.specs.Flags.{has_flag}
 use Rattle.vbr_core.specs.Knowledge.{Know}
 use Rattle.vbr_core.specs.Learning.{learn, read_epoch}
-use Rattle.vbr_core.specs.Machine.{Access, Load, Store, Exchange, access_of}
+use Rattle.vbr_core.specs.Machine.{Access, Load, Store, Exchange, FetchOr, FetchAnd, access_of}
 use Rattle.vbr_core.specs.declared.event.Step.{Step}
 use Rattle.vbr_core.specs.declared.event.Step.TheVariants.{ReadEpoch, Advance, LoadStamp, StoreStamp, Raise, TakeFlag, StoreBirth, StoreKey, StoreLink, LoadLink, LoadBirth, LoadKey, Publish, Mark, Unlink, ConfirmPresent, ConfirmAbsent}
 use Rattle.vbr_slots.specs.Rule.{Shows}
@@ -25,6 +26,8 @@ abbrev IsStore : Access → Type 0
 IsStore Load = ⊥
 IsStore (Store new) = Unit {0}
 IsStore (Exchange old new) = ⊥
+IsStore (FetchOr bits) = ⊥
+IsStore (FetchAnd bits) = ⊥
 
 store_is : (access : Access) (new : ℕ) → access ≡ Store new → IsStore access
 store_is access new is = subst IsStore (sym is) tt
@@ -34,7 +37,7 @@ blind_if know ReadEpoch r n is = absurd is
 blind_if know (Advance from) r n is = absurd is
 blind_if know (LoadStamp s) r n is = absurd is
 blind_if know (StoreStamp s stamp) r n is = record { answers = refl; teaches = λ stamp know. refl }
-blind_if know (Raise s) r n is = record { answers = refl; teaches = λ stamp know. refl }
+blind_if know (Raise s) r n is = absurd is
 blind_if know (TakeFlag s) r n is = absurd is
 blind_if know (StoreBirth s birth) r n is = record { answers = refl; teaches = λ stamp know. refl }
 blind_if know (StoreKey s key) r n is = record { answers = refl; teaches = λ stamp know. refl }
@@ -66,7 +69,7 @@ epoch_learned (Advance from) r stamp know = refl
 epoch_learned (LoadStamp s) r stamp know = refl
 epoch_learned (StoreStamp s new) r stamp know = refl
 epoch_learned (Raise s) r stamp know = refl
-epoch_learned (TakeFlag s) r stamp know = either_way (r == 1) (λ (k : Know). k.epoch) _ know know.epoch refl refl
+epoch_learned (TakeFlag s) r stamp know = either_way (has_flag r s) (λ (k : Know). k.epoch) _ know know.epoch refl refl
 epoch_learned (StoreBirth s birth) r stamp know = refl
 epoch_learned (StoreKey s key) r stamp know = refl
 epoch_learned (StoreLink s next) r stamp know = refl

@@ -10,3 +10,4 @@ mod Pools
 mod Passes
 mod Running
 pub mod Calls
+pub mod Alone

@@ -3,13 +3,14 @@ use Rattle.std.proofs.Common.{◌≡◌, ℕ, ◌<◌, ◌==◌, Bool, true, fal
 use Rattle.std.specs.Prelude.{Contains, ◌⊎◌}
 use Rattle.std.proofs.lemmas.Bool.{cases_Bool, eqb-true}
 use Rattle.vbr_words.specs.Dimensions.{Dimensions, IsShape}
+use Rattle.vbr_words.specs.Flags.{has_flag}
 use Rattle.vbr_words.specs.declared.place.At.{At}
 use Rattle.vbr_core.specs.Acceptance.{Accepts, MayBear, IsInHand, IsFree, stamp_in}
 use Rattle.vbr_core.specs.Accounts.{incarnations_after, notes_after}
 use Rattle.vbr_core.specs.Agreement.{Agrees}
 use Rattle.vbr_core.specs.Knowledge.{Know}
 use Rattle.vbr_core.specs.Learning.{learn, exchanged, with_own, with_checked, reads_won}
-use Rattle.vbr_core.specs.Machine.{World, stamp_shown, flag_of}
+use Rattle.vbr_core.specs.Machine.{World, stamp_shown, found}
 use Rattle.vbr_core.specs.Runs.{IsRun, world_after}
 use Rattle.vbr_core.specs.declared.event.Event.{Event}
 use Rattle.vbr_core.specs.declared.event.Effect.TheVariants.{Won, Lost}
@@ -21,6 +22,7 @@ use Rattle.vbr_core.proofs.ConfirmSteps.{found_at}
 use Rattle.vbr_core.proofs.EveryRun.{run_agrees}
 use Rattle.vbr_core.proofs.OwnedSlots.{taken_unowned, unlinked_unowned, stamp_known}
 use Rattle.vbr_core.proofs.Puts.{put_here}
+use Rattle.vbr_core.proofs.SlotFlags.{flag_won, flag_shared}
 use Rattle.vbr_core.proofs.RunsGoOn.{is_run_before, others_leave_know}
 use Rattle.vbr_slots.specs.Pools.{OwnPool}
 use Rattle.vbr_slots.specs.Views.{Trace, Did, knows, event_of}
@@ -64,11 +66,11 @@ stamp_loaded p q s r is d may =
     shown ∙ stamp_known p.shape w (incarnations_after p.shape (p.seen ++ d.rest)) (notes_after p.shape (p.seen ++ d.rest)) p.who s (agreed p q (LoadStamp s) r d is) (subst MayBear (sym own) may) ∙ ap stamp_in own
 
 -- a slot that is taken was not the pass's own
-pub taken_new : (p q : Trace) (s r : ℕ) → IsShape p.shape → (d : Did (TakeFlag s) p q r) → r ≡ 1 → (knows p).own s ≡ None
+pub taken_new : (p q : Trace) (s r : ℕ) → IsShape p.shape → (d : Did (TakeFlag s) p q r) → has_flag r s ≡ true → (knows p).own s ≡ None
 taken_new p q s r is d one =
     let w = world_after p.shape (p.seen ++ d.rest) in
     let own : (w.know p.who).own s ≡ (knows p).own s = ap (λ (k : Know). k.own s) (knew p q (TakeFlag s) r d) in
-    sym own ∙ taken_unowned p.shape w (incarnations_after p.shape (p.seen ++ d.rest)) (notes_after p.shape (p.seen ++ d.rest)) p.who s (agreed p q (TakeFlag s) r d is) (won 1 r (flag_of (w.place s)) d.shows.answers one)
+    sym own ∙ taken_unowned p.shape w (incarnations_after p.shape (p.seen ++ d.rest)) (notes_after p.shape (p.seen ++ d.rest)) p.who s (agreed p q (TakeFlag s) r d is) (flag_shared p.shape w s (flag_won s r (found p.shape w (TakeFlag s)) d.shows.answers one))
 
 -- nor was one that it unlinked
 pub unlinked_new : (p q : Trace) (pred : At) (expected s r : ℕ) → IsShape p.shape → Accepts p.shape (knows p) (Unlink pred expected s) → (d : Did (Unlink pred expected s) p q r) → r ≡ expected → (knows p).own s ≡ None
@@ -94,11 +96,11 @@ pool_raised p q s r pool hand d free out o =
     not_both None a b = a
 
 pub pool_taken : (p q : Trace) (s r : ℕ) (pool : List ℕ) (hand : Option ℕ) → IsShape p.shape → Did (TakeFlag s) p q r → OwnPool p.shape (knows p) pool hand → OwnPool q.shape (knows q) pool hand
-pool_taken p q s r pool hand is d o = pool_after p q (TakeFlag s) r d pool hand (go (r == 1) refl)
+pool_taken p q s r pool hand is d o = pool_after p q (TakeFlag s) r d pool hand (go (has_flag r s) refl)
   where
-    go : (b : Bool) → (r == 1) ≡ b → OwnPool p.shape (cond b (with_own (knows p) s (Some (Free (stamp_shown (world_after p.shape (p.seen ++ d.rest)) (TakeFlag s))))) (knows p)) pool hand
+    go : (b : Bool) → has_flag r s ≡ b → OwnPool p.shape (cond b (with_own (knows p) s (Some (Free (stamp_shown (world_after p.shape (p.seen ++ d.rest)) (TakeFlag s))))) (knows p)) pool hand
     go true t =
-        let new = taken_new p q s r is d (eqb-true r 1 t) in
+        let new = taken_new p q s r is d t in
         changes p.shape (knows p) _ s (Some (Free _)) pool hand refl (λ c. tt) (λ h. absurd (subst IsInHand new (held_in_hand p.shape (knows p) s pool hand o h))) o
     go false t = o
 

@@ -22,7 +22,7 @@ words_after shape w a notes p step agrees ok words are f does =
     let in_step : IsIn shape (place_of step) = place_in shape step ok.in_shape in
     let low : i < length words = let c = are.count in let l = index_of-lt shape (place_of step) in_step in omega arith in
     let v : ℕ = f (get_or words i 0) in
-    let now : v ≡ word_at shape (after shape w p step) (place_of step) = ap f (are.each (place_of step) in_step) ∙ does (found shape w step) ∙ sym (word_here shape w p step) in
+    let now : v ≡ word_at shape (after shape w p step) (place_of step) = ap f (are.each (place_of step) in_step) ∙ does (found shape w step) ∙ sym (word_here shape w p step ok.in_shape) in
     record {
       count = length-set words i v ∙ are.count;
       each = λ place is_in.

@@ -1,7 +1,10 @@
 -- What steps in a row add: to what the pass has seen, to its calls, and to the count of its steps.
 use Rattle.std.specs.Prelude.{◌≡◌, ℕ, ◌+◌, ◌-◌, ◌^◌, ◌≤◌, min, List, [], ◌∷◌, ◌++◌}
+use Rattle.vbr_core.specs.Loads.{OnlyLoadsOf}
 use Rattle.vbr_core.specs.Runs.{IsRun, Begins}
 use Rattle.vbr_core.specs.Calls.{own_calls}
+use Rattle.vbr_core.specs.Chronicles.{Entry, Answers}
+use Rattle.vbr_core.specs.Accounts.{just, own_entries}
 use Rattle.vbr_core.specs.declared.event.Event.{Event}
 use Rattle.vbr_core.specs.declared.history.Call.{Call}
 use Rattle.vbr_slots.specs.Views.{Trace}
@@ -30,6 +33,25 @@ pub record Made (call : Call) (p q : Trace) : Type 0 where
   pub seen : Begins p.seen q.seen
   pub is_run : IsRun q.shape q.passes q.seen
   pub calls : made_by q ≡ made_by p ++ call ∷ []
+
+-- the events of the pass in the chronicle of what it has seen
+abbrev pub entries_of : Trace → List Entry
+entries_of p = own_entries p.shape p.seen p.who
+
+-- the pass added no event to the chronicle
+pub record AddsNone (p q : Trace) : Type 0 where
+  pub entries : entries_of q ≡ entries_of p
+
+-- the pass added one event to the chronicle, the answer of this call
+pub record AddsAnswer (call : Call) (p q : Trace) : Type 0 where
+  pub entries : entries_of q ≡ entries_of p ++ just p.who (Answers call)
+
+-- since then the pass has made loads alone: of its own events in what it has seen none is an exchange, won or lost, and none a store
+pub record OnlyLoads (p q : Trace) : Type 0 where
+  pub who : q.who ≡ p.who
+  pub since : List Event
+  pub seen : q.seen ≡ p.seen ++ since
+  pub loads : OnlyLoadsOf p.who since
 
 -- a moment of what the pass did: a run that begins with what it had seen before, and begins what it has seen after
 pub record Moment (p q : Trace) (moment : List Event) : Type 0 where

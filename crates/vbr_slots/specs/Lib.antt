@@ -8,4 +8,5 @@ pub mod PassView
 pub mod SlotsView
 pub mod Closing
 pub mod Calls
+pub mod Alone
 pub mod Messages

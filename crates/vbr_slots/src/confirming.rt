@@ -26,7 +26,7 @@ impl Slots {
         requires own { IsOf pass.old.trace self.now }
         requires slot { slot < self.now.shape.slots }
         requires op { op ≢ Remove }
-        requires held { IsHeld (knows pass.old.trace) (ConfirmPresent op slot expected) }
+        requires held { IsHeld self.now.shape (knows pass.old.trace) (ConfirmPresent op slot expected) }
         requires unmarked { (link_of expected).mark ≡ false }
         ensures step { MatchResult result
             (λ _. Did (ConfirmPresent op slot expected) pass.old.trace pass.new.trace expected)
@@ -41,8 +41,9 @@ impl Slots {
     }
 
     /// Answers a look-up or a remove: if the link word at a place is still `expected`, unmarked, then
-    /// the key, which would stand behind that place and before what the word names, is absent. Else
-    /// the word that was found comes back, and no call is answered.
+    /// the key, which would stand behind that place and before what the word names, or what marked
+    /// nodes lead to from there, is absent. Else the word that was found comes back, and no call is
+    /// answered.
     #[inline]
     pub fn confirm_absent(
         &self,
@@ -54,7 +55,7 @@ impl Slots {
     ) -> Result<(), u64>
         requires own { IsOf pass.old.trace self.now }
         requires at { IsAtIn self.now.shape at }
-        requires held { IsHeld (knows pass.old.trace) (ConfirmAbsent op key at expected) }
+        requires held { IsHeld self.now.shape (knows pass.old.trace) (ConfirmAbsent op key at expected) }
         requires in_range { IsInRange self.now.shape (knows pass.old.trace) (ConfirmAbsent op key at expected) }
         ensures step { MatchResult result
             (λ _. Did (ConfirmAbsent op key at expected) pass.old.trace pass.new.trace expected)

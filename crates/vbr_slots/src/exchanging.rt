@@ -29,7 +29,7 @@ impl Slots {
         requires own { IsOf pass.old.trace self.now }
         requires in_hand { pass.old.hand ≡ Some slot }
         requires pred { IsAtIn self.now.shape pred }
-        requires held { IsHeld (knows pass.old.trace) (Publish pred expected slot) }
+        requires held { IsHeld self.now.shape (knows pass.old.trace) (Publish pred expected slot) }
         requires in_range { IsInRange self.now.shape (knows pass.old.trace) (Publish pred expected slot) }
         requires new { new ≡ word_of (link_written (knows pass.old.trace) (Publish pred expected slot)) }
         ensures step { MatchResult result
@@ -59,7 +59,7 @@ impl Slots {
     pub fn mark(&self, pass: &mut Pass, slot: u32, expected: u64) -> Result<(), u64>
         requires own { IsOf pass.old.trace self.now }
         requires slot { slot < self.now.shape.slots }
-        requires held { IsHeld (knows pass.old.trace) (Mark slot expected) }
+        requires held { IsHeld self.now.shape (knows pass.old.trace) (Mark slot expected) }
         requires unmarked { (link_of expected).mark ≡ false }
         ensures step { MatchResult result
             (λ _. Did (Mark slot expected) pass.old.trace pass.new.trace expected)
@@ -90,7 +90,7 @@ impl Slots {
         requires own { IsOf pass.old.trace self.now }
         requires pred { IsAtIn self.now.shape pred }
         requires slot { slot < self.now.shape.slots }
-        requires held { IsHeld (knows pass.old.trace) (Unlink pred expected slot) }
+        requires held { IsHeld self.now.shape (knows pass.old.trace) (Unlink pred expected slot) }
         requires in_range { IsInRange self.now.shape (knows pass.old.trace) (Unlink pred expected slot) }
         requires new { new ≡ word_of (link_written (knows pass.old.trace) (Unlink pred expected slot)) }
         ensures step { MatchResult result

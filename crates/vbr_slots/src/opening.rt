@@ -14,6 +14,7 @@ use atomic_table::Table;
 use std::alloc::{AllocError, Global};
 use std::error::Error;
 use std::fmt;
+use vbr_words::flags::{flag_words, full_flags};
 use vbr_words::link::MARK;
 use vbr_words::{Place, Shape, place_index, word_count};
 
@@ -43,7 +44,7 @@ impl fmt::Display for OpenError {
 impl Error for OpenError {}
 
 // The words at the opening: the epoch is 1, the shape's word stands, each slot has the opening link
-// and is in the shared pool, and all other words are 0.
+// and is in the shared pool, so its flag is set, and all other words are 0.
 fn opening_words(alloc: Global, shape: &Shape) -> Result<Vec<u64>, AllocError>
     ensures words { IfOk result (λ words. AreWordsOf shape.now machine.opening words.items) }
     ensures shape { OnOk result (IsShape shape.now) }
@@ -54,7 +55,9 @@ fn opening_words(alloc: Global, shape: &Shape) -> Result<Vec<u64>, AllocError>
         + MARK * shape.last_epoch();
     for slot in 0..shape.slots() {
         words[place_index(shape, Place::LinkOf(slot))] = MARK;
-        words[place_index(shape, Place::Flag(slot))] = 1;
+    }
+    for number in 0..flag_words(shape) {
+        words[place_index(shape, Place::Flags(number))] = full_flags(shape, number);
     }
     Ok(words)
 }

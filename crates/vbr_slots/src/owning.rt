@@ -1,6 +1,6 @@
 //! The steps that take a slot out of the shared pool, put it back, and read and store its stamp.
-ghost use Rattle.std.specs.Prelude.{◌≡◌, ◌≢◌, ℕ, ◌<◌, MatchBool, IsSome, Contains};
-ghost use Rattle.std.specs.Bool.{OnTrue};
+ghost use Rattle.std.specs.Prelude.{◌≡◌, ℕ, ◌<◌, true, false, MatchResult, OnOk, IsSome, Contains};
+ghost use Rattle.vbr_words.specs.Flags.{has_flag};
 ghost use Rattle.vbr_core.specs.Acceptance.{IsFree, IsReread, MayBear, stamp_in};
 ghost use Rattle.vbr_core.specs.declared.event.Step.TheVariants.{LoadStamp, StoreStamp, Raise, TakeFlag};
 ghost use Rattle.vbr_slots.specs.Pools.{without};
@@ -10,6 +10,7 @@ use crate::pass::Pass;
 use crate::slots::Slots;
 use vbr_core::Step;
 use vbr_words::Place;
+use vbr_words::flags::{all_but, flag_of, has_flag, word_of_flag};
 
 impl Slots {
     /// Loads the stamp of a slot that the pass owns, an epoch.
@@ -45,33 +46,40 @@ impl Slots {
     }
 
     /// Puts a free slot of the pass into the shared pool, and takes it out of the pass's own pool if
-    /// it is there.
+    /// it is there. One `|` sets its flag in the flag word, and leaves those of other slots.
     #[inline]
     pub fn raise(&self, pass: &mut Pass, slot: u32)
         requires own { IsOf pass.old.trace self.now }
         requires slot { slot < self.now.shape.slots }
         requires free { IsFree ((knows pass.old.trace).own slot) }
-        ensures step { Did (Raise slot) pass.old.trace pass.new.trace 1 }
+        ensures step { (found : ℕ) × Did (Raise slot) pass.old.trace pass.new.trace found }
         ensures pool { pass.new.pool ≡ without slot pass.old.pool }
         ensures hand { pass.new.hand ≡ pass.old.hand }
     {
         pass.leave_pool(slot);
-        self.store(&mut pass.runner, Step::Raise { slot }, Place::Flag(slot), 1);
+        let place = Place::Flags(word_of_flag(slot));
+        self.fetch_or(&mut pass.runner, Step::Raise { slot }, place, flag_of(slot));
     }
 
-    /// Takes a slot out of the shared pool, if it is there, and says whether it was. A slot that is
-    /// taken is the pass's own, and outside its own pool.
+    /// Takes a slot out of the shared pool, if it is there: one `&` clears its flag in the flag word,
+    /// and leaves those of other slots. A slot that is taken is the pass's own, and outside its own
+    /// pool. If it wasn't there, gives the flag word that was found.
     #[inline]
-    pub fn take_flag(&self, pass: &mut Pass, slot: u32) -> bool
+    pub fn take_flag(&self, pass: &mut Pass, slot: u32) -> Result<(), u64>
         requires own { IsOf pass.old.trace self.now }
         requires slot { slot < self.now.shape.slots }
-        ensures step { MatchBool result
-            (Did (TakeFlag slot) pass.old.trace pass.new.trace 1)
-            ((found : ℕ) × Did (TakeFlag slot) pass.old.trace pass.new.trace found × (found ≢ 1)) }
-        ensures outside { OnTrue result (¬ (Contains pass.new.pool slot)) }
+        ensures step { MatchResult result
+            (λ taken. (found : ℕ) × Did (TakeFlag slot) pass.old.trace pass.new.trace found × (has_flag found slot ≡ true))
+            (λ found. Did (TakeFlag slot) pass.old.trace pass.new.trace found × (has_flag found slot ≡ false)) }
+        ensures outside { OnOk result (¬ (Contains pass.new.pool slot)) }
         ensures pool { KeepsPool pass.old pass.new }
     {
+        let place = Place::Flags(word_of_flag(slot));
         let step = Step::TakeFlag { slot };
-        self.exchange(&mut pass.runner, step, Place::Flag(slot), 1, 0) == 1
+        let found = self.fetch_and(&mut pass.runner, step, place, all_but(slot));
+        if has_flag(found, slot) {
+            return Ok(());
+        }
+        Err(found)
     }
 }

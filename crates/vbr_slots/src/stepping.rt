@@ -1,11 +1,11 @@
-// The four ways in which a step reaches its word: a load, a store, an exchange, and a load while the
-// seat of another pass is joined.
+// The ways in which a step reaches its word: a load, a store, an exchange, an `|` or an `&` with
+// bits, and a load while the seat of another pass is joined.
 //
 // A step is told to the table as an event. A function that ends in `_as` takes the event as its type
 // argument, and the function without that ending picks it.
 ghost use Rattle.std.specs.Prelude.{◌≡◌};
 ghost use Rattle.vbr_core.specs.Acceptance.{Accepts};
-ghost use Rattle.vbr_core.specs.Machine.{Load, Store, Exchange, access_of, place_of};
+ghost use Rattle.vbr_core.specs.Machine.{Load, Store, Exchange, FetchOr, FetchAnd, access_of, place_of};
 ghost use Rattle.vbr_core.specs.Runs.{BeginsFor};
 ghost use Rattle.vbr_core.specs.declared.event.Step.TheVariants.{ReadEpoch};
 ghost use Rattle.vbr_words.specs.Places as places;
@@ -131,6 +131,80 @@ impl Slots {
         ensures { Did step runner.old runner.new result }
     {
         self.exchange_as::<Brand>(runner, step, place, expected, new)
+    }
+
+    // One `|` of the word with bits, which is the step. Returns the word that it found.
+    #[inline]
+    fn fetch_or_as<E: Naming>(
+        &self,
+        runner: &mut Runner,
+        step: Step,
+        place: Place,
+        bits: u64,
+    ) -> u64
+        requires named { (E.event ≡ event_of runner.old.who step) × (E.opening ≡ record { shape = self.now.shape; passes = self.now.passes }) }
+        requires own { IsOf runner.old self.now }
+        requires accepted { Accepts self.now.shape (knows runner.old) step }
+        requires place { place ≡ place_of step }
+        requires access { access_of (knows runner.old) step ≡ FetchOr bits }
+        ensures { Did step runner.old runner.new result }
+    {
+        let word = place_index(&self.opening.shape, place);
+        runner.steps = counted(runner.steps);
+        let found = self
+            .table
+            .shared
+            .fetch_or::<Does<E>>(&mut runner.seat, word, bits);
+        runner.epoch = epoch_after(step, found, runner.epoch);
+        found
+    }
+
+    #[inline]
+    pub(crate) fn fetch_or(&self, runner: &mut Runner, step: Step, place: Place, bits: u64) -> u64
+        requires own { IsOf runner.old self.now }
+        requires accepted { Accepts self.now.shape (knows runner.old) step }
+        requires place { place ≡ place_of step }
+        requires access { access_of (knows runner.old) step ≡ FetchOr bits }
+        ensures { Did step runner.old runner.new result }
+    {
+        self.fetch_or_as::<Brand>(runner, step, place, bits)
+    }
+
+    // One `&` of the word with bits, which is the step. Returns the word that it found.
+    #[inline]
+    fn fetch_and_as<E: Naming>(
+        &self,
+        runner: &mut Runner,
+        step: Step,
+        place: Place,
+        bits: u64,
+    ) -> u64
+        requires named { (E.event ≡ event_of runner.old.who step) × (E.opening ≡ record { shape = self.now.shape; passes = self.now.passes }) }
+        requires own { IsOf runner.old self.now }
+        requires accepted { Accepts self.now.shape (knows runner.old) step }
+        requires place { place ≡ place_of step }
+        requires access { access_of (knows runner.old) step ≡ FetchAnd bits }
+        ensures { Did step runner.old runner.new result }
+    {
+        let word = place_index(&self.opening.shape, place);
+        runner.steps = counted(runner.steps);
+        let found = self
+            .table
+            .shared
+            .fetch_and::<Does<E>>(&mut runner.seat, word, bits);
+        runner.epoch = epoch_after(step, found, runner.epoch);
+        found
+    }
+
+    #[inline]
+    pub(crate) fn fetch_and(&self, runner: &mut Runner, step: Step, place: Place, bits: u64) -> u64
+        requires own { IsOf runner.old self.now }
+        requires accepted { Accepts self.now.shape (knows runner.old) step }
+        requires place { place ≡ place_of step }
+        requires access { access_of (knows runner.old) step ≡ FetchAnd bits }
+        ensures { Did step runner.old runner.new result }
+    {
+        self.fetch_and_as::<Brand>(runner, step, place, bits)
     }
 
     // One load of the epoch, which is the step, while the other's seat is joined to the runner's.

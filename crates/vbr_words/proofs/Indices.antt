@@ -4,7 +4,7 @@ use Rattle.std.proofs.lemmas.Bool.Decides.{nat_tests}
 use Rattle.vbr_words.specs.Dimensions.{Dimensions}
 use Rattle.vbr_words.specs.Places.{IsIn, index_of, slots_index, flags_index, words_in}
 use Rattle.vbr_words.specs.declared.place.Place.{Place}
-use Rattle.vbr_words.specs.declared.place.Place.TheVariants.{Epoch, ShapeWord, Head, LinkOf, Birth, Stamp, Key, Flag}
+use Rattle.vbr_words.specs.declared.place.Place.TheVariants.{Epoch, ShapeWord, Head, LinkOf, Birth, Stamp, Key, Flags}
 
 -- the word of a slot with this number among the four
 word_at : ℕ → ℕ → Place
@@ -17,7 +17,7 @@ place_at shape index =
     else (if index == 1 then ShapeWord
     else (if nat_lt index (slots_index shape) then Head (index - 2)
     else (if nat_lt index (flags_index shape) then word_at ((index - slots_index shape) / 4) ((index - slots_index shape) % 4)
-    else Flag (index - flags_index shape))))
+    else Flags (index - flags_index shape))))
 
 -- the fourfold of a slot, and the number of a word, told apart again
 fourth : (slot field : ℕ) → field < 4 → (4 * slot + field) / 4 ≡ slot
@@ -42,7 +42,7 @@ module _ (shape : Dimensions) where
   place_at-index_of (Birth slot) is = of_slot slot 1 is (omega arith)
   place_at-index_of (Stamp slot) is = of_slot slot 2 is (omega arith)
   place_at-index_of (Key slot) is = of_slot slot 3 is (omega arith)
-  place_at-index_of (Flag slot) is = grind (arith, nat_tests)
+  place_at-index_of (Flags number) is = grind (arith, nat_tests)
 
   -- places with one index are one place
   pub same_place : (p q : Place) → IsIn shape p → IsIn shape q → index_of shape p ≡ index_of shape q → p ≡ q
@@ -57,4 +57,4 @@ module _ (shape : Dimensions) where
   index_of-lt (Birth slot) is = omega arith
   index_of-lt (Stamp slot) is = omega arith
   index_of-lt (Key slot) is = omega arith
-  index_of-lt (Flag slot) is = omega arith
+  index_of-lt (Flags number) is = omega arith

@@ -1,3 +1,4 @@
+pub mod FlagWords
 pub mod Indices
 pub mod LinkWords
 mod Powers

@@ -1,12 +1,13 @@
 -- The places of words: which there are in a shape, and the index of each.
 use Rattle.std.specs.Prelude.{ℕ, ◌+◌, ◌*◌, ◌<◌}
 use Rattle.vbr_words.specs.Dimensions.{Dimensions}
+use Rattle.vbr_words.specs.Flags.{flag_words}
 use Rattle.vbr_words.specs.declared.place.At.{At}
 use Rattle.vbr_words.specs.declared.place.At.TheVariants as at
 use Rattle.vbr_words.specs.declared.place.Place.{Place}
-use Rattle.vbr_words.specs.declared.place.Place.TheVariants.{Epoch, ShapeWord, Head, LinkOf, Birth, Stamp, Key, Flag}
+use Rattle.vbr_words.specs.declared.place.Place.TheVariants.{Epoch, ShapeWord, Head, LinkOf, Birth, Stamp, Key, Flags}
 
--- the place is there: its bucket or its slot is one of the shape
+-- the place is there: its bucket or its slot is one of the shape, or its flags are those of slots of the shape
 abbrev pub IsIn : Dimensions → Place → Type 0
 IsIn shape Epoch = Unit {0}
 IsIn shape ShapeWord = Unit {0}
@@ -15,13 +16,13 @@ IsIn shape (LinkOf slot) = slot < shape.slots
 IsIn shape (Birth slot) = slot < shape.slots
 IsIn shape (Stamp slot) = slot < shape.slots
 IsIn shape (Key slot) = slot < shape.slots
-IsIn shape (Flag slot) = slot < shape.slots
+IsIn shape (Flags number) = number < flag_words shape.slots
 
 -- where the words of slots begin: behind the epoch, the shape and the heads
 abbrev pub slots_index : Dimensions → ℕ
 slots_index shape = 2 + shape.buckets
 
--- where the flags begin: behind four words for each slot
+-- where the flag words begin: behind four words for each slot
 abbrev pub flags_index : Dimensions → ℕ
 flags_index shape = slots_index shape + 4 * shape.slots
 
@@ -34,11 +35,11 @@ index_of shape (LinkOf slot) = slots_index shape + 4 * slot
 index_of shape (Birth slot) = slots_index shape + 4 * slot + 1
 index_of shape (Stamp slot) = slots_index shape + 4 * slot + 2
 index_of shape (Key slot) = slots_index shape + 4 * slot + 3
-index_of shape (Flag slot) = flags_index shape + slot
+index_of shape (Flags number) = flags_index shape + number
 
--- the number of words: a flag for each slot comes last
+-- the number of words: the flag words come last
 abbrev pub words_in : Dimensions → ℕ
-words_in shape = flags_index shape + shape.slots
+words_in shape = flags_index shape + flag_words shape.slots
 
 -- the place of a link word
 abbrev pub place_of : At → Place

@@ -1,6 +1,8 @@
-//! The words of a set in fixed memory: its shape, its packed link words, and the places of words.
+//! The words of a set in fixed memory: its shape, its packed link words and flag words, and the
+//! places of words.
 #![tactic(auto)]
 
+pub mod flags;
 pub mod link;
 pub mod place;
 pub mod shape;

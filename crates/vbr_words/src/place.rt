@@ -4,6 +4,7 @@ ghost use Rattle.vbr_words.specs.declared.place.Place.{Place};
 ghost use Rattle.vbr_words.specs.Dimensions.{Dimensions};
 ghost use Rattle.vbr_words.specs.Places.{IsIn, index_of, words_in};
 
+use crate::flags::flag_words;
 use crate::shape::Shape;
 
 /// A link word: a bucket's head, or the link of a slot.
@@ -32,8 +33,8 @@ pub enum Place {
     Stamp(u32),
     /// The key of this slot.
     Key(u32),
-    /// Whether this slot is in the shared pool: 1 where it is.
-    Flag(u32),
+    /// The flag word with this number: which of its sixty-four slots are in the shared pool.
+    Flags(u32),
 }
 
 /// The index of a place among all words. Different places have different indices, each below
@@ -53,7 +54,7 @@ pub fn place_index(shape: &Shape, place: Place) -> usize
         Place::Birth(slot) => slots + 4 * slot as usize + 1,
         Place::Stamp(slot) => slots + 4 * slot as usize + 2,
         Place::Key(slot) => slots + 4 * slot as usize + 3,
-        Place::Flag(slot) => slots + 4 * shape.slots() as usize + slot as usize,
+        Place::Flags(number) => slots + 4 * shape.slots() as usize + number as usize,
     }
 }
 
@@ -62,7 +63,7 @@ pub fn place_index(shape: &Shape, place: Place) -> usize
 pub fn word_count(shape: &Shape) -> usize
     ensures { result ≡ words_in shape.now }
 {
-    2 + shape.buckets() as usize + 5 * shape.slots() as usize
+    2 + shape.buckets() as usize + 4 * shape.slots() as usize + flag_words(shape) as usize
 }
 
 /// A law: different places of a shape have different indices, each below the number of words.

@@ -29,7 +29,7 @@ impl Lists {
         if !pass.owns(&self.shape, event.step) {
             return Err(CoreRefusal::NotOwned);
         }
-        if !pass.holds(event.step) {
+        if !pass.holds(&self.shape, event.step) {
             return Err(CoreRefusal::NotHeld);
         }
         if !pass.is_in_range(&self.shape, event.step) {

@@ -1,5 +1,6 @@
 // The world in lists of words, as the program keeps it.
 ghost use Rattle.std.specs.Prelude.{◌≡◌, ◌<◌, length, IfOk, IfErr, OnOk, OnErr};
+ghost use Rattle.vbr_words.specs.Flags.{flag_word, flag_words};
 ghost use Rattle.vbr_words.specs.Places.{IsIn};
 ghost use Rattle.vbr_core.specs.Learning as learning;
 ghost use Rattle.vbr_core.specs.Machine as machine;
@@ -12,6 +13,7 @@ use crate::knowledge::SlotPlace;
 use crate::world::passes::PassState;
 use crate::world::steps::{effect_of, place_of, succeeds};
 use std::marker::Model;
+use vbr_words::flags::FLAGS;
 use vbr_words::link::MARK;
 use vbr_words::{Place, Shape};
 
@@ -86,8 +88,31 @@ impl Lists {
             Place::Birth(slot) => self.birth[slot as usize],
             Place::Stamp(slot) => self.stamps[slot as usize],
             Place::Key(slot) => self.keys[slot as usize],
-            Place::Flag(slot) => flag_of(self.place_of_slot(slot)),
+            Place::Flags(number) => self.flags(number),
         }
+    }
+
+    // The flag word with a number: the flag of each slot of it that is in the shared pool.
+    fn flags(&self, number: u32) -> u64
+        requires { number < flag_words self.now.shape.slots }
+        ensures { result ≡ flag_word (machine.is_flagged self.now.shape (world_of self.now)) number }
+    {
+        let _slots = self.shape.slots();
+        let first = FLAGS * number;
+        let mut flags = 0;
+        for i in 0..FLAGS {
+            if self.is_flagged(first + i) {
+                flags += 1 << i;
+            }
+        }
+        flags
+    }
+
+    // Whether a slot is one of the shape, and in the shared pool.
+    fn is_flagged(&self, slot: u32) -> bool
+        ensures { result ≡ machine.is_flagged self.now.shape (world_of self.now) slot }
+    {
+        slot < self.shape.slots() && is_shared(self.place_of_slot(slot))
     }
 
     // Where a slot of the shape is.
@@ -99,12 +124,12 @@ impl Lists {
     }
 }
 
-// The flag of a slot: 1 where it is in the shared pool.
-fn flag_of(place: SlotPlace) -> u64
-    ensures { result ≡ machine.flag_of place }
+// Whether a place is the shared pool.
+fn is_shared(place: SlotPlace) -> bool
+    ensures { result ≡ machine.is_shared place }
 {
     match place {
-        SlotPlace::Shared => 1,
-        _ => 0,
+        SlotPlace::Shared => true,
+        _ => false,
     }
 }

@@ -5,7 +5,7 @@ ghost use Rattle.vbr_words.specs.declared.link.TheConstants.{MAX_SLOTS};
 ghost use Rattle.vbr_words.specs.declared.shape.TheConstants.{MAX_EPOCH};
 ghost use Rattle.vbr_core.specs.Links.{link_to, marked};
 ghost use Rattle.vbr_core.specs.Knowledge.{knows_link, marked_in, birth_at, birth_of, key_in};
-ghost use Rattle.vbr_core.specs.Acceptance.{IsInShape, IsOwned, IsHeld, IsInRange, Accepts, KnowsKeyAt, KnowsKeyOf, stamp_in, IsReady, IsBehind, IsBefore, next_of_marked};
+ghost use Rattle.vbr_core.specs.Acceptance.{IsInShape, IsOwned, IsHeld, IsInRange, Accepts, KnowsKeyAt, KnowsKeyOf, MeetsKey, stamp_in, IsReady, IsBehind, IsBefore, MeetsAbove, next_of_marked};
 ghost use Rattle.vbr_core.specs.Learning.{key_in_hand, link_written, call_of};
 ghost use Rattle.vbr_core.specs.Machine.{knows_nothing};
 ghost use Rattle.vbr_core.specs.Kept.{know_of, FitsHolding};
@@ -155,6 +155,17 @@ impl PassState {
             && reads::knows_key_of(&self.checked, link.slot)
     }
 
+    // Whether the link that a place was read with and the key there are checked, and marked links
+    // lead on from it to a checked key, or to none.
+    fn holds_way(&self, shape: &Shape, at: At, expected: u64) -> bool
+        ensures { IsTrue result ↔ (IsTrue (knows_link self.now.checked at (link_of expected)) × KnowsKeyAt self.now.checked at × MeetsKey shape.now.slots self.now.checked (link_of expected).slot) }
+    {
+        let link = decode(expected);
+        reads::knows_link(&self.checked, at, link)
+            && reads::knows_key_at(&self.checked, at)
+            && reads::meets_key(&self.checked, shape.slots(), link.slot)
+    }
+
     // Whether the births on both sides of a link are checked.
     fn holds_births(&self, at: At, next: Option<u32>) -> bool
         ensures { IsTrue result ↔ (IsSome (birth_at self.now.checked at) × IsSome (birth_of self.now.checked next)) }
@@ -172,8 +183,8 @@ impl PassState {
     }
 
     // Whether the reads that the step asks for are checked.
-    pub fn holds(&self, step: Step) -> bool
-        ensures { IsTrue result ↔ IsHeld (know_of self.now) step }
+    pub fn holds(&self, shape: &Shape, step: Step) -> bool
+        ensures { IsTrue result ↔ IsHeld shape.now (know_of self.now) step }
     {
         match step {
             Step::StoreLink { next, .. } => reads::is_next_held(&self.checked, next),
@@ -192,7 +203,7 @@ impl PassState {
                     && self.holds_births(pred, self.next_of_marked(slot))
             }
             Step::ConfirmPresent { slot, expected, .. } => self.holds_node(slot, expected),
-            Step::ConfirmAbsent { at, expected, .. } => self.holds_gap(at, expected),
+            Step::ConfirmAbsent { at, expected, .. } => self.holds_way(shape, at, expected),
             _ => true,
         }
     }
@@ -220,6 +231,15 @@ impl PassState {
     {
         reads::is_behind(shape, &self.checked, at, key)
             && reads::is_before(&self.checked, key, next)
+    }
+
+    // Whether a key stands behind a place, and before a slot to which marked links lead from what a
+    // link names, or before none.
+    fn is_on_way(&self, shape: &Shape, at: At, key: u64, next: Option<u32>) -> bool
+        ensures { IsTrue result ↔ (IsBehind shape.now self.now.checked at key × MeetsAbove shape.now.slots self.now.checked key next) }
+    {
+        reads::is_behind(shape, &self.checked, at, key)
+            && reads::meets_above(&self.checked, shape.slots(), key, next)
     }
 
     // Whether the step's numbers are in range.
@@ -259,7 +279,7 @@ impl PassState {
                 expected,
             } => {
                 let link = decode(expected);
-                !link.mark && op != Op::Insert && self.is_between(shape, at, key, link.slot)
+                !link.mark && op != Op::Insert && self.is_on_way(shape, at, key, link.slot)
             }
             _ => true,
         }

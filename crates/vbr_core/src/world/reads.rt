@@ -1,7 +1,7 @@
 // Looking through reads.
 ghost use Rattle.std.specs.Prelude.{◌≡◌, ◌↔◌, IsTrue};
 ghost use Rattle.vbr_core.specs.Knowledge.{knows_link, birth_in, key_in, marked_in, holds, holds_at, birth_at, birth_of};
-ghost use Rattle.vbr_core.specs.Acceptance.{IsNextHeld, KnowsKeyAt, KnowsKeyOf, IsBehind, IsBefore, next_of_marked};
+ghost use Rattle.vbr_core.specs.Acceptance.{IsNextHeld, KnowsKeyAt, KnowsKeyOf, past_marked, MeetsKey, IsBehind, IsBefore, MeetsAbove, next_of_marked};
 
 use crate::knowledge::Read;
 use vbr_words::{At, Link, Shape};
@@ -168,4 +168,54 @@ pub fn is_before(reads: &[Read], key: u64, next: Option<u32>) -> bool
         None => true,
         Some(slot) => key < key_in(reads, slot).unwrap_or(0),
     }
+}
+
+// Past a slot whose marked link is among the reads, to what that link names; another slot isn't
+// passed.
+pub fn past_marked(reads: &[Read], next: Option<u32>) -> Option<u32>
+    ensures { result ≡ past_marked reads.now next }
+{
+    let slot = next?;
+    match marked_in(reads, slot) {
+        None => next,
+        Some(marked) => marked.slot,
+    }
+}
+
+// Whether in at most so many turns marked links lead from what a link names to none, or to a slot
+// whose key is among the reads. The walk ends where it stands still.
+pub fn meets_key(reads: &[Read], most: u32, next: Option<u32>) -> bool
+    ensures { IsTrue result ↔ MeetsKey most reads.now next }
+{
+    let mut here = next;
+    for _ in 0..most {
+        if knows_key_of(reads, here) {
+            return true;
+        }
+        let there = past_marked(reads, here);
+        if there == here {
+            return false;
+        }
+        here = there;
+    }
+    knows_key_of(reads, here)
+}
+
+// Whether in at most so many turns marked links lead from what a link names to none, or to a slot
+// before which the key stands. The walk ends where it stands still.
+pub fn meets_above(reads: &[Read], most: u32, key: u64, next: Option<u32>) -> bool
+    ensures { IsTrue result ↔ MeetsAbove most reads.now key next }
+{
+    let mut here = next;
+    for _ in 0..most {
+        if is_before(reads, key, here) {
+            return true;
+        }
+        let there = past_marked(reads, here);
+        if there == here {
+            return false;
+        }
+        here = there;
+    }
+    is_before(reads, key, here)
 }

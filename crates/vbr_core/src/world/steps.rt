@@ -2,12 +2,13 @@
 ghost use Rattle.std.specs.Prelude.{◌≡◌, ◌↔◌, IsTrue};
 ghost use Rattle.vbr_words.specs.Places as places;
 ghost use Rattle.vbr_core.specs.Acceptance.{IsAtIn, IsNextIn, IsInShape, IsBelowLast};
-ghost use Rattle.vbr_core.specs.Learning.{exchanged, confirmed, present_reply, effect_of};
+ghost use Rattle.vbr_core.specs.Learning.{exchanged, taken, confirmed, present_reply, effect_of};
 ghost use Rattle.vbr_core.specs.Machine.{place_of};
 ghost use Rattle.vbr_core.specs.Making.{succeeds};
 
 use crate::event::{Effect, Step};
 use crate::history::Op;
+use vbr_words::flags::{has_flag, word_of_flag};
 use vbr_words::{At, Place, Shape};
 
 // Whether a place of a link word is one of the shape.
@@ -81,7 +82,7 @@ pub fn place_of(step: Step) -> Place
     match step {
         Step::ReadEpoch | Step::Advance { .. } => Place::Epoch,
         Step::LoadStamp { slot } | Step::StoreStamp { slot, .. } => Place::Stamp(slot),
-        Step::Raise { slot } | Step::TakeFlag { slot } => Place::Flag(slot),
+        Step::Raise { slot } | Step::TakeFlag { slot } => Place::Flags(word_of_flag(slot)),
         Step::StoreBirth { slot, .. } | Step::LoadBirth { slot } => Place::Birth(slot),
         Step::StoreKey { slot, .. } | Step::LoadKey { slot } => Place::Key(slot),
         Step::StoreLink { slot, .. } | Step::Mark { slot, .. } => Place::LinkOf(slot),
@@ -97,7 +98,7 @@ pub fn succeeds(step: Step, found: u64) -> bool
 {
     match step {
         Step::Advance { from } => found == from,
-        Step::TakeFlag { .. } => found == 1,
+        Step::TakeFlag { slot } => has_flag(found, slot),
         Step::Publish { expected, .. } => found == expected,
         Step::Mark { expected, .. } => found == expected,
         Step::Unlink { expected, .. } => found == expected,
@@ -112,6 +113,17 @@ fn exchanged(expected: u64, found: u64) -> Effect
     ensures { result ≡ exchanged expected found }
 {
     if found == expected {
+        Effect::Won
+    } else {
+        Effect::Lost(found)
+    }
+}
+
+// The answer of a step that takes the flag of a slot.
+fn taken(slot: u32, found: u64) -> Effect
+    ensures { result ≡ taken slot found }
+{
+    if has_flag(found, slot) {
         Effect::Won
     } else {
         Effect::Lost(found)
@@ -139,7 +151,7 @@ fn present_reply(op: Op) -> bool
     }
 }
 
-// The effect of a step, from the word that its load or exchange found.
+// The effect of a step, from the word that it found.
 pub fn effect_of(step: Step, found: u64) -> Effect
     ensures { result ≡ effect_of step found }
 {
@@ -147,7 +159,7 @@ pub fn effect_of(step: Step, found: u64) -> Effect
         Step::Advance { from } => exchanged(from, found),
         Step::StoreStamp { .. } | Step::Raise { .. } | Step::StoreBirth { .. } => Effect::Done,
         Step::StoreKey { .. } | Step::StoreLink { .. } => Effect::Done,
-        Step::TakeFlag { .. } => exchanged(1, found),
+        Step::TakeFlag { slot } => taken(slot, found),
         Step::Publish { expected, .. } => exchanged(expected, found),
         Step::Mark { expected, .. } => exchanged(expected, found),
         Step::Unlink { expected, .. } => exchanged(expected, found),

@@ -3,9 +3,15 @@ use Rattle.vbr_words.specs.Dimensions.{Dimensions}
 use Rattle.vbr_words.specs.declared.place.At.{At}
 use Rattle.vbr_core.specs.Membership.{KeyAt}
 use Rattle.vbr_slots.specs.Views.{knows}
+use Rattle.vbr_slots.proofs.Calls.{did_loads}
 use Rattle.vbr_pools.proofs.Advancing.{did_none}
+use Rattle.std.proofs.Common.{◌≡◌}
+use Rattle.vbr_words.specs.Words.{link_of}
+use Rattle.vbr_core.specs.Images.{link_at}
+use Rattle.vbr_slots.specs.Alone.{nodes}
+use Rattle.vbr_access.proofs.AloneExchanges.{present_confirmed}
 use Rattle.vbr_access.proofs.Accepted.{present_accepted}
-use Rattle.vbr_access.proofs.MadeCalls.{present_made, present_failed}
+use Rattle.vbr_access.proofs.MadeCalls.{present_made, present_failed, present_adds, present_adds_none}
 use Rattle.vbr_access.proofs.SafeCalls.{made_safe}
 use Rattle.vbr_access.proofs.confirming.confirm_present.Goals as goal
 
@@ -35,3 +41,22 @@ returns-in-Ok-clause-raises_none c = did_none c.in-Ok.ensures.step refl c.confir
 
 pub returns-in-Err-clause-raises_none : goal.returns-in-Err-clause-raises_none
 returns-in-Err-clause-raises_none c = did_none c.in-Err.ensures.step.0 refl c.confirm_present.ensures.pool
+
+pub returns-in-Ok-clause-adds : goal.returns-in-Ok-clause-adds
+returns-in-Ok-clause-adds c = λ key k.
+    let P : At → Type 0 = λ at. KeyAt (knows c.args.pass.now.trace) at key in
+    present_adds c.soundness.ensures.shape c.soundness.ensures.is_run c.in-Ok.ensures.step key (subst P c.in-Slot.is k)
+
+pub returns-in-Err-clause-adds_none : goal.returns-in-Err-clause-adds_none
+returns-in-Err-clause-adds_none c = present_adds_none c.in-Err.ensures.step.0 c.in-Err.ensures.step.1
+
+pub returns-in-Err-clause-wins : goal.returns-in-Err-clause-wins
+returns-in-Err-clause-wins c = λ alone stands.
+    let P : At → Type 0 = λ at. link_at (nodes c.args.pass.now.trace) at ≡ link_of c.args.held.now.word in
+    present_confirmed c.soundness.ensures.shape alone c.args.op c.in-Slot.slot c.args.held.now.word c.in-Err.ensures.step.0 c.in-Err.ensures.step.1 (subst P c.in-Slot.is stands)
+
+pub returns-in-Ok-clause-only_loads : goal.returns-in-Ok-clause-only_loads
+returns-in-Ok-clause-only_loads c = did_loads c.in-Ok.ensures.step (λ know. refl)
+
+pub returns-in-Err-clause-only_loads : goal.returns-in-Err-clause-only_loads
+returns-in-Err-clause-only_loads c = did_loads c.in-Err.ensures.step.0 (λ know. refl)

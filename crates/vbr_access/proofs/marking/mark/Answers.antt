@@ -5,6 +5,11 @@ use Rattle.vbr_words.specs.declared.link.Link.{Link}
 use Rattle.vbr_core.specs.Membership.{KeyAt, BirthAt}
 use Rattle.vbr_slots.specs.Views.{knows}
 use Rattle.vbr_pools.proofs.Advancing.{did_none}
+use Rattle.std.proofs.Common.{◌≡◌}
+use Rattle.vbr_words.specs.Words.{link_of}
+use Rattle.vbr_core.specs.Images.{link_at}
+use Rattle.vbr_slots.specs.Alone.{nodes}
+use Rattle.vbr_access.proofs.AloneExchanges.{mark_wins}
 use Rattle.vbr_access.proofs.Accepted.{mark_accepted}
 use Rattle.vbr_access.proofs.Keeping.{held_kept}
 use Rattle.vbr_access.proofs.WonExchanges.{mark_keeps, mark_known}
@@ -50,3 +55,8 @@ returns-in-Ok-clause-raises_none c = did_none c.in-Ok.ensures.step refl c.mark.e
 
 pub returns-in-Err-clause-raises_none : goal.returns-in-Err-clause-raises_none
 returns-in-Err-clause-raises_none c = did_none c.in-Err.ensures.step.0 refl c.mark.ensures.pool
+
+pub returns-in-Err-clause-wins : goal.returns-in-Err-clause-wins
+returns-in-Err-clause-wins c = λ alone stands.
+    let P : At → Type 0 = λ at. link_at (nodes c.args.pass.now.trace) at ≡ link_of c.args.held.now.word in
+    mark_wins c.soundness.ensures.shape alone c.in-Slot.slot c.args.held.now.word c.in-Err.ensures.step.0 c.in-Err.ensures.step.1 (subst P c.in-Slot.is stands)

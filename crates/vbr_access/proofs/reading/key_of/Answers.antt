@@ -6,7 +6,9 @@ use Rattle.vbr_core.specs.Membership.{HeldIn, KeyAt, IsHeldPlace}
 use Rattle.vbr_slots.specs.Views.{knows}
 use Rattle.vbr_slots.proofs.Calls.{quiet_on}
 use Rattle.vbr_pools.proofs.Advancing.{none_on, did_none}
+use Rattle.vbr_slots.proofs.Calls.{adds_on, did_adds_none, did_loads, loads_on}
 use Rattle.vbr_access.proofs.Accepted.{place_in, place_held, slot_found}
+use Rattle.vbr_access.proofs.AloneReads.{key_looks, key_still}
 use Rattle.vbr_access.proofs.CheckedReads.{key_quiet, epoch_quiet, key_keeps, key_read, key_of_bucket}
 use Rattle.vbr_access.proofs.SafeCalls.{quiet_safe}
 use Rattle.vbr_access.proofs.reading.key_of.Goals as goal
@@ -49,3 +51,24 @@ returns-then-now-node-clause-raises_none c = none_on (did_none c.load_key-key.en
 
 pub returns-clause-raises_none : goal.returns-clause-raises_none
 returns-clause-raises_none c = none_on (did_none c.load_key-key.ensures.step refl c.load_key-key.ensures.pool) (did_none c.read_epoch-now.ensures.step refl c.read_epoch-now.ensures.pool)
+
+pub returns-then-now-node-clause-adds_none : goal.returns-then-now-node-clause-adds_none
+returns-then-now-node-clause-adds_none c = adds_on (did_adds_none c.load_key-key.ensures.step (λ w a. refl)) (did_adds_none c.read_epoch-now.ensures.step (λ w a. refl))
+
+pub returns-clause-adds_none : goal.returns-clause-adds_none
+returns-clause-adds_none c = adds_on (did_adds_none c.load_key-key.ensures.step (λ w a. refl)) (did_adds_none c.read_epoch-now.ensures.step (λ w a. refl))
+
+pub returns-then-now-node-clause-looks : goal.returns-then-now-node-clause-looks
+returns-then-now-node-clause-looks c = λ alone. key_looks c.load_key-key.ensures.step c.read_epoch-now.ensures.step alone
+
+pub returns-then-now-node-clause-still : goal.returns-then-now-node-clause-still
+returns-then-now-node-clause-still c = λ fresh alone. c.if-now-node.true (key_still c.load_key-key.ensures.step c.read_epoch-now.ensures.step alone c.soundness.ensures.shape fresh ∙ sym c.requires.held.epoch)
+
+pub returns-clause-looks : goal.returns-clause-looks
+returns-clause-looks c = λ alone. key_looks c.load_key-key.ensures.step c.read_epoch-now.ensures.step alone
+
+pub returns-then-now-node-clause-only_loads : goal.returns-then-now-node-clause-only_loads
+returns-then-now-node-clause-only_loads c = loads_on (did_loads c.load_key-key.ensures.step (λ know. refl)) (did_loads c.read_epoch-now.ensures.step (λ know. refl))
+
+pub returns-clause-only_loads : goal.returns-clause-only_loads
+returns-clause-only_loads c = loads_on (did_loads c.load_key-key.ensures.step (λ know. refl)) (did_loads c.read_epoch-now.ensures.step (λ know. refl))

@@ -7,6 +7,8 @@ use Rattle.vbr_core.specs.declared.knowledge.Read.{Read}
 use Rattle.std.proofs.Common.{List}
 use Rattle.vbr_slots.proofs.Calls.{quiet_on}
 use Rattle.vbr_pools.proofs.Advancing.{none_on, did_none}
+use Rattle.vbr_slots.proofs.Calls.{adds_on, adds_refl, did_adds_none, did_loads, loads_on, loads_refl}
+use Rattle.vbr_access.proofs.AloneReads.{node_looks, node_stands, node_still}
 use Rattle.vbr_access.proofs.Accepted.{named_slot, slot_in, slot_found}
 use Rattle.vbr_access.proofs.ReadSteps.{birth_loaded_checked}
 use Rattle.vbr_access.proofs.CheckedReads.{link_quiet, birth_quiet, epoch_quiet, node_keeps, node_read}
@@ -56,3 +58,30 @@ returns-then-now-held-clause-raises_none c = none_on (did_none c.load_birth-birt
 
 pub returns-clause-raises_none : goal.returns-clause-raises_none
 returns-clause-raises_none c = none_on (did_none c.load_birth-birth.ensures.step refl c.load_birth-birth.ensures.pool) (none_on (did_none c.load_link-word.ensures.step refl c.load_link-word.ensures.pool) (did_none c.read_epoch-now.ensures.step refl c.read_epoch-now.ensures.pool))
+
+pub returns-then-now-held-clause-adds_none : goal.returns-then-now-held-clause-adds_none
+returns-then-now-held-clause-adds_none c = adds_on (did_adds_none c.load_birth-birth.ensures.step (λ w a. refl)) (adds_on (did_adds_none c.load_link-word.ensures.step (λ w a. refl)) (did_adds_none c.read_epoch-now.ensures.step (λ w a. refl)))
+
+pub returns-clause-adds_none : goal.returns-clause-adds_none
+returns-clause-adds_none c = adds_on (did_adds_none c.load_birth-birth.ensures.step (λ w a. refl)) (adds_on (did_adds_none c.load_link-word.ensures.step (λ w a. refl)) (did_adds_none c.read_epoch-now.ensures.step (λ w a. refl)))
+
+pub returns-then-now-held-clause-looks : goal.returns-then-now-held-clause-looks
+returns-then-now-held-clause-looks c = λ alone. node_looks c.load_birth-birth.ensures.step c.load_link-word.ensures.step c.read_epoch-now.ensures.step alone
+
+pub returns-then-now-held-clause-still : goal.returns-then-now-held-clause-still
+returns-then-now-held-clause-still c = λ fresh alone. c.if-now-held.true (node_still c.load_birth-birth.ensures.step c.load_link-word.ensures.step c.read_epoch-now.ensures.step alone c.soundness.ensures.shape fresh ∙ sym c.requires.held.epoch)
+
+pub returns-clause-looks : goal.returns-clause-looks
+returns-clause-looks c = λ alone. node_looks c.load_birth-birth.ensures.step c.load_link-word.ensures.step c.read_epoch-now.ensures.step alone
+
+pub returns-clause-stands : goal.returns-clause-stands
+returns-clause-stands c = λ alone. node_stands c.load_birth-birth.ensures.step c.load_link-word.ensures.step c.read_epoch-now.ensures.step alone c.soundness.ensures.shape
+
+pub returns-then-now-held-clause-only_loads : goal.returns-then-now-held-clause-only_loads
+returns-then-now-held-clause-only_loads c = loads_on (did_loads c.load_birth-birth.ensures.step (λ know. refl)) (loads_on (did_loads c.load_link-word.ensures.step (λ know. refl)) (did_loads c.read_epoch-now.ensures.step (λ know. refl)))
+
+pub returns-clause-only_loads : goal.returns-clause-only_loads
+returns-clause-only_loads c = loads_on (did_loads c.load_birth-birth.ensures.step (λ know. refl)) (loads_on (did_loads c.load_link-word.ensures.step (λ know. refl)) (did_loads c.read_epoch-now.ensures.step (λ know. refl)))
+
+pub returns-in_default-clause-only_loads : goal.returns-in_default-clause-only_loads
+returns-in_default-clause-only_loads c = loads_refl c.args.pass.now.trace

@@ -6,6 +6,7 @@ use Rattle.vbr_slots.specs.Views.{knows}
 use Rattle.vbr_slots.proofs.Calls.{quiet_on}
 use Rattle.vbr_pools.proofs.Advancing.{none_on, did_none}
 use Rattle.vbr_access.specs.Held.{held_of}
+use Rattle.vbr_access.proofs.AloneReads.{birth_looks, birth_still}
 use Rattle.vbr_access.proofs.Accepted.{named_slot, slot_in, slot_found}
 use Rattle.vbr_access.proofs.CheckedReads.{birth_quiet, epoch_quiet, birth_keeps, birth_read}
 use Rattle.vbr_access.proofs.NoneUnlinked.{birth_unlinks_none, epoch_unlinks_none}
@@ -44,3 +45,12 @@ returns-then-now-marked-clause-unlinks_none c = λ s u. birth_unlinks_none c.loa
 
 pub returns-clause-unlinks_none : goal.returns-clause-unlinks_none
 returns-clause-unlinks_none c = λ s u. birth_unlinks_none c.load_birth-birth.ensures.step s (epoch_unlinks_none c.read_epoch-now.ensures.step s u)
+
+pub returns-then-now-marked-clause-looks : goal.returns-then-now-marked-clause-looks
+returns-then-now-marked-clause-looks c = λ alone. birth_looks c.load_birth-birth.ensures.step c.read_epoch-now.ensures.step alone
+
+pub returns-then-now-marked-clause-still : goal.returns-then-now-marked-clause-still
+returns-then-now-marked-clause-still c = λ fresh alone. c.if-now-marked.true (birth_still c.load_birth-birth.ensures.step c.read_epoch-now.ensures.step alone c.soundness.ensures.shape fresh ∙ sym c.requires.marked.held.epoch)
+
+pub returns-clause-looks : goal.returns-clause-looks
+returns-clause-looks c = λ alone. birth_looks c.load_birth-birth.ensures.step c.read_epoch-now.ensures.step alone

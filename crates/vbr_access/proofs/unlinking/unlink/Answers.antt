@@ -1,3 +1,4 @@
+use Rattle.std.specs.Prelude.{Result, Ok, Err, IfErr}
 use Rattle.std.proofs.Common.{◌<◌, sym, ap, ◌∙◌, subst, refl}
 use Rattle.vbr_words.specs.Dimensions.{Dimensions}
 use Rattle.vbr_words.specs.Words.{word_of}
@@ -6,7 +7,10 @@ use Rattle.vbr_pools.proofs.Advancing.{none_on, did_none}
 use Rattle.vbr_access.proofs.Keeping.{keeps_on, held_kept, marked_kept}
 use Rattle.vbr_access.proofs.Unlinks.{unlink_quiet, accepted, written, written_fits, new_read, read_after}
 use Rattle.vbr_access.proofs.WonExchanges.{unlink_keeps}
-use Rattle.vbr_slots.proofs.Calls.{quiet_on}
+use Rattle.vbr_core.specs.Images.{link_at}
+use Rattle.vbr_slots.proofs.Calls.{quiet_on, did_seen}
+use Rattle.vbr_slots.proofs.Alone.{alone_first, alone_then}
+use Rattle.vbr_access.proofs.AloneExchanges.{unlink_wins, unlinked_alone, unlinks_after}
 use Rattle.vbr_access.proofs.SafeCalls.{quiet_safe}
 use Rattle.vbr_access.proofs.NoneUnlinked.{lost_unlinks_none}
 use Rattle.vbr_access.proofs.unlinking.unlink.Goals as goal
@@ -65,3 +69,33 @@ returns-in-Err-clause-raises_none c = none_on c.birth_behind.ensures.raises_none
 
 pub returns-in-Err-clause-unlinks_none : goal.returns-in-Err-clause-unlinks_none
 returns-in-Err-clause-unlinks_none c = λ s u. c.birth_behind.ensures.unlinks_none s (lost_unlinks_none c.in-Err.ensures.step.0 c.in-Err.ensures.step.1 s u)
+
+pub returns-in-Err-clause-wins : goal.returns-in-Err-clause-wins
+returns-in-Err-clause-wins c = λ fresh alone stands.
+    let d = c.in-Err.ensures.step in
+    let b = c.birth_behind.ensures in
+    let first = alone_first b.quiet.seen (did_seen d.0) alone in
+    let then = alone_then b.quiet.same.who b.quiet.seen (did_seen d.0) alone in
+    unlink_wins c.soundness.ensures.shape then c.args.pred.now.at c.args.pred.now.word c.args.marked.slot d.0 d.1 (ap (λ a. link_at a c.args.pred.now.at) (b.looks first) ∙ stands)
+
+pub returns-in-Ok-clause-alone : goal.returns-in-Ok-clause-alone
+returns-in-Ok-clause-alone c = λ alone stands.
+    let d = c.in-Ok.ensures.step in
+    let b = c.in_ok-next_birth.ensures in
+    let q = c.birth_behind.new.pass in
+    let first = alone_first b.quiet.seen (did_seen d) alone in
+    let then = alone_then b.quiet.same.who b.quiet.seen (did_seen d) alone in
+    let held = held_kept c.args.pred.now b.keeps c.requires.pred in
+    let marked = marked_kept c.args.marked b.keeps c.requires.marked in
+    unlinks_after c.args.pass.now.trace q.trace c.unlink.new.pass.trace c.args.pred.now _ b.quiet.same.shape (b.looks first) b.keeps
+    (unlinked_alone c.args.pred.now c.link_to-new.result c.soundness.ensures.shape d then
+    (accepted q c.soundness.ensures c.args.pred.now c.args.marked c.decode.result c.in_ok-next_birth.next_birth held marked c.decode.ensures.link b.birth c.requires.unmarked c.requires.names)
+    held.link c.requires.unmarked (ap (λ a. link_at a c.args.pred.now.at) (b.looks first) ∙ stands)
+    (written q c.soundness.ensures c.args.pred.now c.args.marked c.decode.result c.in_ok-next_birth.next_birth held marked c.decode.ensures.link b.birth ∙ sym c.link_to-new.ensures.link))
+
+either : {A E P : Type 0} (x : Result A E) → P → IfErr x (λ _. P)
+either (Ok a) p = tt
+either (Err e) p = p
+
+pub returns-in_err-next_birth-clause-wins : goal.returns-in_err-next_birth-clause-wins
+returns-in_err-next_birth-clause-wins c = either c.from_residual.result (λ fresh alone stands. c.in_err-next_birth.ensures.still fresh alone)

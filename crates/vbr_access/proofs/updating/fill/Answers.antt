@@ -5,6 +5,7 @@ use Rattle.vbr_words.specs.declared.link.Link.{Link}
 use Rattle.vbr_core.specs.Acceptance.{IsNextIn, IsNextHeld}
 use Rattle.vbr_core.specs.Links.{link_to}
 use Rattle.vbr_slots.specs.Views.{knows}
+use Rattle.vbr_slots.proofs.Alone.{alone_two, key_stored_leaves, link_stored_leaves}
 use Rattle.vbr_slots.proofs.Calls.{quiet_on}
 use Rattle.vbr_pools.proofs.Advancing.{same_advances}
 use Rattle.vbr_access.specs.Held.{IsFilled}
@@ -79,3 +80,10 @@ returns-clause-filled c =
 
 pub returns-clause-advances : goal.returns-clause-advances
 returns-clause-advances c = same_advances c.store_link.ensures.step refl ∙ same_advances c.store_key.ensures.step refl
+
+pub returns-clause-stands : goal.returns-clause-stands
+returns-clause-stands c = λ alone unmarked stands.
+    let key = c.store_key.ensures.step in
+    let each = alone_two key c.store_link.ensures.step alone in
+    let held = held_kept c.args.pred.now (key_stored_keeps key) c.requires.pred in
+    link_stored_leaves c.args.pred.now.at (link_of c.args.pred.now.word) c.soundness-2.ensures.shape c.store_link.ensures.step each.1 held.link unmarked (key_stored_leaves c.args.pred.now.at c.soundness.ensures.shape key each.0 ∙ stands)

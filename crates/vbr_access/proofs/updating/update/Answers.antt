@@ -8,9 +8,11 @@ use Rattle.vbr_core.specs.Membership.{StandsBehind}
 use Rattle.vbr_core.specs.declared.history.Op.TheVariants.{Insert}
 use Rattle.vbr_slots.specs.Calls.{Made}
 use Rattle.vbr_slots.specs.Views.{knows}
-use Rattle.vbr_slots.proofs.Calls.{quiet_on, made_on}
+use Rattle.vbr_slots.proofs.Alone.{alone_first, alone_then}
+use Rattle.vbr_slots.proofs.Calls.{did_seen, quiet_on, made_on}
 use Rattle.vbr_pools.proofs.Advancing.{same_advances}
 use Rattle.vbr_access.specs.Held.{IsFilled}
+use Rattle.vbr_access.proofs.AloneExchanges.{publish_wins}
 use Rattle.vbr_access.proofs.Keeping.{keeps_on, held_kept, birth_named_kept, behind_kept, before_kept}
 use Rattle.vbr_access.proofs.WrittenLinks.{fits, birth_in_hand_low, birth_at_low}
 use Rattle.vbr_access.proofs.WonExchanges.{publish_keeps, publish_lost_keeps}
@@ -100,3 +102,11 @@ returns-in-Ok-clause-advances c = same_advances c.in-Ok.ensures.step refl ∙ c.
 
 pub returns-in-Err-clause-advances : goal.returns-in-Err-clause-advances
 returns-in-Err-clause-advances c = same_advances c.in-Err.ensures.step.0 refl ∙ c.fill.ensures.advances
+
+pub returns-in-Err-clause-wins : goal.returns-in-Err-clause-wins
+returns-in-Err-clause-wins c = λ alone stands.
+    let d = c.in-Err.ensures.step in
+    let fill = c.fill.ensures.quiet in
+    let first = alone_first fill.seen (did_seen d.0) alone in
+    let then = alone_then fill.same.who fill.seen (did_seen d.0) alone in
+    publish_wins c.soundness.ensures.shape then c.args.pred.now.at c.args.pred.now.word c.slot-slot.result d.0 d.1 (c.fill.ensures.stands first c.requires.unmarked stands)

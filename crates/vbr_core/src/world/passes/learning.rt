@@ -12,6 +12,7 @@ use crate::knowledge::{Holding, Read};
 use crate::world::holdings;
 use crate::world::passes::PassState;
 use std::alloc::AllocError;
+use vbr_words::flags::has_flag;
 use vbr_words::{At, Link, Shape, decode};
 
 impl PassState {
@@ -284,7 +285,7 @@ impl PassState {
             Step::LoadKey { slot } => self.load_key(slot, found)?,
             Step::StoreStamp { slot, stamp } => self.store_stamp(slot, stamp),
             Step::Raise { slot } => self.raise(slot),
-            Step::TakeFlag { slot } if found == 1 => self.take_flag(slot, stamp),
+            Step::TakeFlag { slot } if has_flag(found, slot) => self.take_flag(slot, stamp),
             Step::StoreBirth { slot, birth } => self.bear(slot, birth),
             Step::StoreKey { slot, key } => self.store_key(slot, key),
             Step::StoreLink { slot, .. } => {

@@ -1,15 +1,28 @@
 use Rattle.vbr_list.proofs.Going.{goes_on, tries_on}
+use Rattle.std.proofs.Common.{◌≡◌, ℕ, ◌+◌, ◌*◌, ◌<◌, refl, arith}
+use Rattle.vbr_slots.specs.Views.{PassView}
+use Rattle.vbr_list.specs.Budgets.{listed_for}
+use Rattle.vbr_list.specs.Nearing.{FoundAlone}
+use Rattle.vbr_list.proofs.Nearing.{first_lost, at_first}
 use Rattle.vbr_list.proofs.Moments.{found_since}
 use Rattle.vbr_list.proofs.finding.search.Goals as goal
 
 pub returns-in-Ok-clause-goes : goal.returns-in-Ok-clause-goes
-returns-in-Ok-clause-goes c = goes_on c.loop-found.invariant.goes c.traverse.ensures.goes
+returns-in-Ok-clause-goes c = goes_on c.loop-found.invariant.0.goes c.traverse.ensures.goes
 
 pub returns-in-Err-Tired-clause-goes : goal.returns-in-Err-Tired-clause-goes
-returns-in-Err-Tired-clause-goes c = goes_on c.loop-found.invariant.goes c.traverse.ensures.goes
+returns-in-Err-Tired-clause-goes c = goes_on c.loop-found.invariant.0.goes c.traverse.ensures.goes
 
 pub returns-in-Ok-clause-found : goal.returns-in-Ok-clause-found
-returns-in-Ok-clause-found c = found_since c.args.key c.in-Ok.found c.loop-found.invariant.goes.quiet c.in-Ok.ensures.found
+returns-in-Ok-clause-found c = found_since c.args.key c.in-Ok.found c.loop-found.invariant.0.goes.quiet c.in-Ok.ensures.found
 
 pub loop-found-preserved : goal.loop-found-preserved
-loop-found-preserved c = tries_on c.loop-found.invariant c.traverse.ensures.goes c.traverse.ensures.within.0 c.traverse.ensures.within.1
+loop-found-preserved c = (tries_on c.loop-found.invariant.0 c.traverse.ensures.goes c.traverse.ensures.within.0 c.traverse.ensures.within.1, first_lost c.args.pass.now c.loop-found.pass c.traverse.new.pass c.loop-found.invariant.1 c.loop-found.invariant.0.goes.quiet c.traverse.ensures.goes.quiet (c.in-Err-Again.ensures.still c.in-Err-Again.field-0-is))
+
+pub returns-in-Ok-clause-alone : goal.returns-in-Ok-clause-alone
+returns-in-Ok-clause-alone c = λ alone.
+    at_first (λ q since. FoundAlone q.trace c.traverse.new.pass.trace c.args.key since c.traverse.new.used c.in-Ok.found) c.args.pass.now c.loop-found.pass c.traverse.new.pass c.loop-found.invariant.1 c.loop-found.invariant.0.goes.quiet c.traverse.ensures.goes.quiet alone c.in-Ok.ensures.alone
+
+pub returns-in-Err-Tired-clause-short : goal.returns-in-Err-Tired-clause-short
+returns-in-Err-Tired-clause-short c = λ alone.
+    at_first (λ q since. c.args.budget < since + 9 * listed_for q.trace c.args.key + 11) c.args.pass.now c.loop-found.pass c.traverse.new.pass c.loop-found.invariant.1 c.loop-found.invariant.0.goes.quiet c.traverse.ensures.goes.quiet alone (c.in-Err-Tired.ensures.short c.in-Err-Tired.field-0-is)

@@ -1,9 +1,10 @@
 use Rattle.std.proofs.Common.{◌-◌}
 use Rattle.vbr_list.specs.Traversal.{Tries}
+use Rattle.vbr_list.specs.Nearing.{IsFirst}
 use Rattle.vbr_list.proofs.finding.search.Given as goal
 
 abbrev pub invariant-loop-found : goal.invariant-loop-found
-invariant-loop-found l = Tries l.fn.pass l.pass l.fn.used l.used l.budget
+invariant-loop-found l = Tries l.fn.pass l.pass l.fn.used l.used l.budget × IsFirst l.fn.pass l.pass l.fn.used l.used
 
 abbrev pub decreases-loop-found : goal.decreases-loop-found
 decreases-loop-found l = l.budget - l.used

@@ -1,8 +1,16 @@
-use Rattle.std.proofs.Common.{sym, ◌∙◌}
+use Rattle.std.proofs.lemmas.Result.{err_from_is_err_and}
+use Rattle.std.proofs.Common.{◌≡◌, ℕ, ◌+◌, ◌*◌, ◌<◌, ◌≤◌, [], sym, ◌∙◌, arith}
 use Rattle.vbr_core.specs.declared.history.Op.TheVariants.{Insert}
 use Rattle.vbr_slots.proofs.Calls.{same_on}
 use Rattle.vbr_pools.proofs.Advancing.{needed_before}
+use Rattle.vbr_pools.specs.Budgets.{most_to_take}
+use Rattle.vbr_slots.specs.Alone.{IsAlone}
+use Rattle.vbr_slots.proofs.Alone.{alone_first, alone_then}
+use Rattle.vbr_list.specs.Budgets.{LacksSteps, listed_for}
+use Rattle.vbr_list.specs.Inserting.{IsShort}
+use Rattle.vbr_list.specs.declared.refusal.Refusal.TheVariants.{NoSlot}
 use Rattle.vbr_list.proofs.Going.{bucket_is}
+use Rattle.vbr_list.proofs.Sufficing.{answered_or_spent, each_error, lacks, lacks_more, never_refused, no_more_listed, refused_empty}
 use Rattle.vbr_list.proofs.LonePasses.{alone, each_alone}
 use Rattle.vbr_list.proofs.Preparing.{each_same, each_seen, each_since, within_after, within_all, within_second}
 use Rattle.vbr_list.proofs.inserting.insert.Goals as goal
@@ -37,3 +45,41 @@ pub returns-in-Some-clause-advances : goal.returns-in-Some-clause-advances
 returns-in-Some-clause-advances c =
     let more = each_seen c.prepare.new.pass.trace c.link.new.pass.trace Insert c.args.key c.link.result c.link.ensures.made c.link.ensures.quiet in
     needed_before {p = c.args.pass.now} {q = c.prepare.new.pass} {r = c.link.new.pass} c.prepare.ensures.advances more.0 more.1 c.link.ensures.advances
+
+pub returns-in_err-prepare-clause-within : goal.returns-in_err-prepare-clause-within
+returns-in_err-prepare-clause-within c =
+    let p = err_from_is_err_and c.from_residual.result c.from_residual.ensures.1 in
+    let n = listed_for c.args.pass.now.trace c.args.key in
+    let most = most_to_take c.args.pass.now.trace.shape c.args.pass.now.pool in
+    rw (p.1, p.2) (λ alone. lacks_more (0 + 9 * n + most + 10) (18 * n + most + 14) c.args.budget c.in_err-prepare.field-0.0 (omega arith) (c.in_err-prepare.ensures.enough alone))
+
+pub returns-in_err-prepare-clause-ready : goal.returns-in_err-prepare-clause-ready
+returns-in_err-prepare-clause-ready c = λ some alone enough.
+    let p = err_from_is_err_and c.from_residual.result c.from_residual.ensures.1 in
+    answered_or_spent c.args.pass.now c.prepare.new.pass c.args.budget (listed_for c.args.pass.now.trace c.args.key) c.from_residual.result some alone enough
+    (rw (p.1, p.2) (refused_empty c.args.pass.now c.prepare.new.pass c.args.key 0 c.args.budget c.in_err-prepare.field-0.0 c.in_err-prepare.ensures.refused))
+    (returns-in_err-prepare-clause-within c)
+
+pub returns-in-Some-clause-within : goal.returns-in-Some-clause-within
+returns-in-Some-clause-within c =
+    let x = rw c.in-Some.is at c.in_ok-prepare.ensures.prepared in
+    let p = c.args.pass.now in
+    let q = c.prepare.new.pass in
+    let n = listed_for p.trace c.args.key in
+    let most = most_to_take p.trace.shape p.pool in
+    let more = each_seen q.trace c.link.new.pass.trace Insert c.args.key c.link.result c.link.ensures.made c.link.ensures.quiet in
+    each_error (λ refusal. IsAlone q.trace c.link.new.pass.trace → c.args.budget < c.prepare.new.used + 9 * listed_for q.trace c.args.key + 11) (λ refusal. IsAlone p.trace c.link.new.pass.trace → LacksSteps (18 * n + most + 14) c.args.budget refusal) c.link.result
+    (λ refusal short alone.
+    let first = alone_first x.0.seen more.0 alone in
+    let u = short (alone_then x.0.same.who x.0.seen more.0 alone) in
+    let v = c.in_ok-prepare.ensures.few first in
+    let w = no_more_listed p c.soundness.ensures.sound q.trace c.args.key x.0 first in
+    lacks (18 * n + most + 14) c.args.budget refusal (omega (arith, u, v, w)))
+    c.link.ensures.short
+
+pub returns-in-Some-clause-ready : goal.returns-in-Some-clause-ready
+returns-in-Some-clause-ready c = λ some alone enough.
+    let q = c.prepare.new.pass in
+    answered_or_spent c.args.pass.now c.link.new.pass c.args.budget (listed_for c.args.pass.now.trace c.args.key) c.link.result some alone enough
+    (each_error (λ refusal. IsShort q c.link.new.pass c.prepare.new.used c.args.budget refusal) (λ refusal. refusal ≡ NoSlot → c.args.pass.now.pool ≡ []) c.link.result (never_refused c.args.pass.now.pool q c.link.new.pass c.prepare.new.used c.args.budget) c.link.ensures.refused)
+    (returns-in-Some-clause-within c)

@@ -6,6 +6,7 @@ use Rattle.vbr_pools.specs.Retiring.{is_kept}
 use Rattle.vbr_access.specs.Steps.{unlink_steps}
 use Rattle.vbr_list.proofs.Going.{counts_step, goes_on, goes_step, took_same}
 use Rattle.vbr_list.proofs.KeptHands.{retired_hand}
+use Rattle.vbr_list.proofs.Nearing.{first_of, then_of, helped_alone}
 use Rattle.vbr_list.proofs.Reaching.{helped, retired_keeps}
 use Rattle.vbr_list.proofs.traversal.help.Goals as goal
 
@@ -47,3 +48,23 @@ returns-clause-pred c =
     let still = rw c.in_ok-unlinked.was at c.unlink-outcome.ensures.still in
     let e : (knows r.trace).epoch ≡ (knows q.trace).epoch = sym c.epoch-now.ensures ∙ c.if-now-place.false ∙ read.known.epoch in
     helped c.args.key c.args.pred.now c.in_ok-unlinked.place c.requires.pred keeps at still read c.unlink-outcome.ensures.quiet c.retire.ensures.quiet (retired_keeps (knows q.trace) (knows r.trace) c.in_ok-unlinked.unlinked.slot (is_kept q.pool) c.retire.ensures.known e)
+
+pub returns-then-now-place-clause-still : goal.returns-then-now-place-clause-still
+returns-then-now-place-clause-still c = λ fresh stands alone.
+    let a = c.unlink-outcome.ensures.quiet in
+    let b = c.retire.ensures.quiet in
+    let x = rw c.in_ok-unlinked.was at c.unlink-outcome.ensures.alone in
+    let u = x (first_of a b alone) stands in
+    let read = rw c.in_ok-unlinked.was at c.unlink-outcome.ensures.read in
+    let keeps = rw c.in_ok-unlinked.was at c.unlink-outcome.ensures.keeps in
+    let l = c.retire.ensures.alone (then_of a b alone) in
+    c.if-now-place.true (c.epoch-now.ensures ∙ sym l.1 ∙ l.0.epoch ∙ u.epoch ∙ fresh ∙ sym keeps.epoch ∙ sym read.known.epoch)
+
+pub returns-clause-alone : goal.returns-clause-alone
+returns-clause-alone c = λ fresh stands alone.
+    let a = c.unlink-outcome.ensures.quiet in
+    let b = c.retire.ensures.quiet in
+    let x = rw c.in_ok-unlinked.was at c.unlink-outcome.ensures.alone in
+    let at = rw c.in_ok-unlinked.was at c.unlink-outcome.ensures.at in
+    let l = c.retire.ensures.alone (then_of a b alone) in
+    helped_alone c.args.pass.now.trace c.unlink-outcome.new.pass.trace c.retire.new.pass.trace c.args.key c.args.pred.now c.in_ok-unlinked.place c.requires.pred.inside at a.same.shape b.same.shape (x (first_of a b alone) stands) l.0 l.1

@@ -10,6 +10,9 @@ use Rattle.vbr_access.specs.declared.held.Held.{Held}
 use Rattle.vbr_access.specs.declared.rollback.Rollback.{Rollback}
 use Rattle.vbr_list.specs.Traversal.{Goes, IsReached}
 use Rattle.vbr_list.proofs.Going.{goes_on, goes_step}
+use Rattle.vbr_slots.proofs.Calls.{quiet_on}
+use Rattle.vbr_list.proofs.Nearing.{looks_leave, two_looks, start_still, start_stands}
+use Rattle.vbr_list.proofs.Observing.{observed, observes_on}
 use Rattle.vbr_list.proofs.Reaching.{head_reached}
 use Rattle.vbr_list.proofs.traversal.start.Goals as goal
 
@@ -27,3 +30,18 @@ returns-clause-goes c =
     let sum : c.args.used.now + 1 + 2 ≡ c.args.used.now + 3 = omega arith in
     subst (λ (n : ℕ). Goes c.args.pass.now c.first-head.new.pass c.args.used.now n) sum
     (goes_on (goes_step c.args.used.now 1 point.quiet point.took point.own point.raises_none) (goes_step (c.args.used.now + 1) 2 head.quiet head.took head.own head.raises_none))
+
+pub returns-clause-looks : goal.returns-clause-looks
+returns-clause-looks c = λ alone.
+    let point = c.checkpoint-point.ensures in
+    let head = c.first-head.ensures in
+    looks_leave (quiet_on point.quiet head.quiet) (two_looks point.quiet head.quiet point.looks head.looks alone)
+
+pub returns-clause-still : goal.returns-clause-still
+returns-clause-still c = start_still c.first-head.result c.checkpoint-point.ensures.quiet c.first-head.ensures.quiet c.checkpoint-point.ensures.fresh c.first-head.ensures.still
+
+pub returns-clause-stands : goal.returns-clause-stands
+returns-clause-stands c = start_stands c.args.bucket c.first-head.result c.checkpoint-point.ensures.quiet c.first-head.ensures.quiet c.checkpoint-point.ensures.fresh c.first-head.ensures.looks c.first-head.ensures.keeps c.first-head.ensures.stands c.first-head.ensures.at
+
+pub returns-clause-observes : goal.returns-clause-observes
+returns-clause-observes c = observes_on (observed c.checkpoint-point.ensures.only_loads c.checkpoint-point.ensures.adds_none) (observed c.first-head.ensures.only_loads c.first-head.ensures.adds_none)

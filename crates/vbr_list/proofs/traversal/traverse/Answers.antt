@@ -1,7 +1,9 @@
-use Rattle.std.proofs.Common.{arith}
+use Rattle.std.proofs.Common.{◌≡◌, ◌+◌, ◌≤◌, true, false, sym, ◌∙◌, refl, arith, inl}
 use Rattle.vbr_list.proofs.Going.{goes_on}
 use Rattle.vbr_list.proofs.Moments.{cur_found}
-use Rattle.vbr_list.proofs.Reaching.{pred_on, stood_since, traverses_on}
+use Rattle.vbr_list.proofs.Reaching.{pred_inside, pred_on, stood_since, traverses_on}
+use Rattle.vbr_slots.proofs.Calls.{quiet_on}
+use Rattle.vbr_list.proofs.Nearing.{first_of, then_of, nears_visit, nears_help, stands_on, found_beyond}
 use Rattle.vbr_list.proofs.traversal.traverse.Goals as goal
 
 pub returns-in-Err-clause-goes : goal.returns-in-Err-clause-goes
@@ -24,7 +26,19 @@ loop-pred-preserved c =
     let met = rw c.in-Ok-Smaller.field-0-is at c.in-Ok-Smaller.ensures.met in
     let x = c.visit.ensures.used in
     let y = c.affords-in-loop-pred.ensures.0 c.if-not-affords-2.false in
-    traverses_on c.loop-pred.invariant c.visit.ensures.goes (omega (arith, x)) (omega (arith, x, y)) met
+    let v = c.in-Ok-Smaller.ensures in
+    let m = rw c.in-Ok-Smaller.field-0-is at v.alone in
+    let n : c.visit.new.used ≡ c.loop-pred.used + 5 = rw c.in-Ok-Smaller.field-0-is at v.count in
+    let p = c.args.pass.now.trace in
+    let q = c.loop-pred.pass.trace in
+    let r = c.visit.new.pass.trace in
+    let i = c.loop-pred.invariant in
+    traverses_on i c.visit.ensures.goes (omega (arith, x)) (omega (arith, x, y)) met
+    (λ alone.
+    let first = first_of i.tries.goes.quiet c.visit.ensures.goes.quiet alone in
+    let then = then_of i.tries.goes.quiet c.visit.ensures.goes.quiet alone in
+    let near = i.nears first in
+    nears_visit p q r c.args.key c.args.used.now c.loop-pred.used c.visit.new.used c.loop-pred.pred c.in-Ok-Smaller.node near (c.visit.ensures.looks then) c.visit.ensures.goes.quiet.same.shape n (m near.keeps.fresh (inl i.reached.is.unmarked) near.keeps.stands then))
 
 pub loop-pred-preserved-in-Ok-help : goal.loop-pred-preserved-in-Ok-help
 loop-pred-preserved-in-Ok-help c =
@@ -33,8 +47,68 @@ loop-pred-preserved-in-Ok-help c =
     let y = c.help.ensures.used in
     let z = c.affords-in-Ok-Marked.ensures.0 c.if-not-affords-3.false in
     traverses_on c.loop-pred.invariant (goes_on c.visit.ensures.goes c.help.ensures.goes) (omega (arith, x, y)) (omega (arith, y, z)) (record { is = s.is; stood = stood_since c.visit.ensures.goes.quiet s.stood })
+    (λ alone.
+    let i = c.loop-pred.invariant in
+    let a = i.tries.goes.quiet in
+    let v = c.visit.ensures.goes.quiet in
+    let h = c.help.ensures.goes.quiet in
+    let near = i.nears (first_of a (quiet_on v h) alone) in
+    let later = then_of a (quiet_on v h) alone in
+    let one = first_of v h later in
+    let m = rw c.in-Ok-Marked.field-0-is at c.in-Ok-Marked.ensures.alone in
+    let n : c.visit.new.used ≡ c.loop-pred.used + 3 = rw c.in-Ok-Marked.field-0-is at c.in-Ok-Marked.ensures.count in
+    let l = c.visit.ensures.looks one in
+    let met = m near.keeps.fresh (inl c.loop-pred.invariant.reached.is.unmarked) near.keeps.stands one in
+    nears_help c.args.pass.now.trace c.loop-pred.pass.trace c.visit.new.pass.trace c.help.new.pass.trace c.args.key c.args.used.now c.loop-pred.used c.visit.new.used c.help.new.used c.loop-pred.pred c.in-Ok-help.place near l v.same.shape n c.help.ensures.few
+    (c.in-Ok-help.ensures.alone met.0.fresh (stands_on c.loop-pred.pass.trace c.visit.new.pass.trace c.loop-pred.pred l near.keeps.stands) (then_of v h later)))
 
 pub returns-in-Ok-Beyond-clause-found : goal.returns-in-Ok-Beyond-clause-found
 returns-in-Ok-Beyond-clause-found c =
     let v = rw c.in-Ok-Beyond.field-0-is at c.in-Ok-Beyond.ensures.met in
     cur_found c.args.key c.visit.new.used c.loop-pred.pred c.in-Ok-Beyond.node c.in-Ok-Beyond.present c.loop-pred.invariant.reached c.loop-pred.invariant.tries.goes.quiet c.visit.ensures.goes.quiet c.in-Ok-Beyond.ensures.keeps v.0 v.1
+
+pub visit-requires-clause-pred : goal.visit-requires-clause-pred
+visit-requires-clause-pred c = pred_inside c.loop-pred.invariant.reached.is
+
+pub returns-in-Err-clause-still : goal.returns-in-Err-clause-still
+returns-in-Err-clause-still c = λ e alone.
+    let a = c.loop-pred.invariant.tries.goes.quiet in
+    let v = c.visit.ensures.goes.quiet in
+    let near = c.loop-pred.invariant.nears (first_of a v alone) in
+    c.in-Err.ensures.still near.keeps.fresh (then_of a v alone)
+
+pub returns-then-not-affords-3-clause-short : goal.returns-then-not-affords-3-clause-short
+returns-then-not-affords-3-clause-short c = λ e alone.
+    let a = c.loop-pred.invariant.tries.goes.quiet in
+    let v = c.visit.ensures.goes.quiet in
+    let i = c.loop-pred.invariant in
+    let near = i.nears (first_of a v alone) in
+    let m = rw c.in-Ok-Marked.field-0-is at c.in-Ok-Marked.ensures.alone in
+    let n : c.visit.new.used ≡ c.loop-pred.used + 3 = rw c.in-Ok-Marked.field-0-is at c.in-Ok-Marked.ensures.count in
+    let some = (m near.keeps.fresh (inl i.reached.is.unmarked) near.keeps.stands (then_of a v alone)).1 in
+    let paid = near.paid in
+    let short : ¬ (c.visit.new.used + 8 ≤ c.args.budget) = λ h. (let f = c.if-not-affords-3.true in let z = c.affords-in-Ok-Marked.ensures.1 h in let w : false ≡ true = sym f ∙ z in cc) in
+    omega (arith, some, paid, n, short)
+
+pub returns-in-Err-help-clause-still : goal.returns-in-Err-help-clause-still
+returns-in-Err-help-clause-still c = λ e alone.
+    let a = c.loop-pred.invariant.tries.goes.quiet in
+    let v = c.visit.ensures.goes.quiet in
+    let h = c.help.ensures.goes.quiet in
+    let near = c.loop-pred.invariant.nears (first_of a (quiet_on v h) alone) in
+    let later = then_of a (quiet_on v h) alone in
+    let one = first_of v h later in
+    let m = rw c.in-Ok-Marked.field-0-is at c.in-Ok-Marked.ensures.alone in
+    let met = m near.keeps.fresh (inl c.loop-pred.invariant.reached.is.unmarked) near.keeps.stands one in
+    c.in-Err-help.ensures.still met.0.fresh (stands_on c.loop-pred.pass.trace c.visit.new.pass.trace c.loop-pred.pred (c.visit.ensures.looks one) near.keeps.stands) (then_of v h later)
+
+pub returns-in-Ok-Beyond-clause-alone : goal.returns-in-Ok-Beyond-clause-alone
+returns-in-Ok-Beyond-clause-alone c = λ alone.
+    let i = c.loop-pred.invariant in
+    let a = i.tries.goes.quiet in
+    let v = c.visit.ensures.goes.quiet in
+    let near = i.nears (first_of a v alone) in
+    let then = then_of a v alone in
+    let m = rw c.in-Ok-Beyond.field-0-is at c.in-Ok-Beyond.ensures.alone in
+    let n : c.visit.new.used ≡ c.loop-pred.used + 5 = rw c.in-Ok-Beyond.field-0-is at c.in-Ok-Beyond.ensures.count in
+    found_beyond c.args.pass.now.trace c.loop-pred.pass.trace c.visit.new.pass.trace c.args.key c.args.used.now c.loop-pred.used c.visit.new.used c.loop-pred.pred c.in-Ok-Beyond.node _ near (c.visit.ensures.looks then) v.same.shape n (m near.keeps.fresh (inl i.reached.is.unmarked) near.keeps.stands then) refl refl

@@ -1,9 +1,13 @@
-use Rattle.std.proofs.Common.{◌≡◌, ◌+◌, ◌≤◌, ℕ, Option, Some, None, refl, arith}
+use Rattle.std.proofs.Common.{◌≡◌, ◌+◌, ◌≤◌, ℕ, Option, Some, None, refl, ◌∙◌, arith}
 use Rattle.std.specs.Prelude.{IsSome}
 use Rattle.vbr_words.specs.Words.{link_of}
 use Rattle.vbr_access.specs.Steps.{next_steps}
 use Rattle.vbr_access.proofs.Keeping.{keeps_on}
 use Rattle.vbr_list.proofs.Going.{goes_on, goes_step, took_same}
+use Rattle.vbr_slots.proofs.Calls.{quiet_on}
+use Rattle.vbr_access.proofs.AloneReads.{fresh_kept}
+use Rattle.vbr_list.proofs.Nearing.{either, first_of, then_of, looks_leave, two_looks, node_still_there, marked_alone, visited}
+use Rattle.vbr_list.proofs.Observing.{observed, observes_on}
 use Rattle.vbr_list.proofs.Reaching.{node_reached, node_found, node_unmarked}
 use Rattle.vbr_list.proofs.traversal.visit.Goals as goal
 
@@ -42,3 +46,74 @@ returns-else-here-key-clause-met c =
     let n = rw c.in-Some.is at c.in_ok-node.ensures.read in
     let high : c.args.key ≤ c.in_ok-here.here = let f = c.if-here-key.false in omega arith in
     node_found c.args.key c.in_ok-here.here c.args.pred.now c.in-Some.node n c.in_ok-here.ensures.keeps c.in_ok-here.ensures.key (node_unmarked c.args.pred.now c.in-Some.node n c.in_default-of.ensures) high c.key_of-read.ensures.quiet
+
+pub returns-in_err-here-clause-observes : goal.returns-in_err-here-clause-observes
+returns-in_err-here-clause-observes c = observes_on (observed c.next-node.ensures.only_loads c.next-node.ensures.adds_none) (observed c.key_of-read.ensures.only_loads c.key_of-read.ensures.adds_none)
+
+pub returns-then-here-key-clause-observes : goal.returns-then-here-key-clause-observes
+returns-then-here-key-clause-observes c = observes_on (observed c.next-node.ensures.only_loads c.next-node.ensures.adds_none) (observed c.key_of-read.ensures.only_loads c.key_of-read.ensures.adds_none)
+
+pub returns-in_err-here-clause-looks : goal.returns-in_err-here-clause-looks
+returns-in_err-here-clause-looks c = λ alone.
+    let x = c.next-node.ensures in
+    let y = c.key_of-read.ensures in
+    looks_leave (quiet_on x.quiet y.quiet) (two_looks x.quiet y.quiet x.looks y.looks alone)
+
+pub returns-in_err-here-clause-still : goal.returns-in_err-here-clause-still
+returns-in_err-here-clause-still c =
+    let x = c.in_ok-node.ensures in
+    let y = c.in_err-here.ensures in
+    either c.from_residual-in_err-here.result (λ fresh alone. y.still (fresh_kept c.args.pass.now.trace c.next-node.new.pass.trace (x.looks (first_of x.quiet y.quiet alone)) x.keeps fresh) (then_of x.quiet y.quiet alone))
+
+pub returns-then-here-key-clause-looks : goal.returns-then-here-key-clause-looks
+returns-then-here-key-clause-looks c = λ alone.
+    let x = c.next-node.ensures in
+    let y = c.key_of-read.ensures in
+    looks_leave (quiet_on x.quiet y.quiet) (two_looks x.quiet y.quiet x.looks y.looks alone)
+
+pub returns-else-here-key-clause-looks : goal.returns-else-here-key-clause-looks
+returns-else-here-key-clause-looks c = λ alone.
+    let x = c.next-node.ensures in
+    let y = c.key_of-read.ensures in
+    looks_leave (quiet_on x.quiet y.quiet) (two_looks x.quiet y.quiet x.looks y.looks alone)
+
+pub returns-then-here-key-clause-alone : goal.returns-then-here-key-clause-alone
+returns-then-here-key-clause-alone c = λ fresh there stands alone.
+    let x = c.in_ok-node.ensures in
+    let y = c.in_ok-here.ensures in
+    let p = c.args.pass.now in
+    let q = c.next-node.new.pass.trace in
+    let r = c.key_of-read.new.pass.trace in
+    let n = rw c.in-Some.is at x.read in
+    let m = rw c.in-Some.is at x.stands in
+    let first = first_of x.quiet y.quiet alone in
+    let same = two_looks x.quiet y.quiet x.looks y.looks alone in (
+      node_still_there p.trace q r c.in-Some.node (x.looks first) (y.looks (then_of x.quiet y.quiet alone)) x.keeps y.keeps fresh (m first),
+      visited p c.soundness.ensures.sound q r c.args.key c.args.pred.now c.in-Some.node c.requires.pred there stands n (looks_leave (quiet_on x.quiet y.quiet) same) (y.quiet.same.shape ∙ x.quiet.same.shape),
+    )
+
+pub returns-else-here-key-clause-alone : goal.returns-else-here-key-clause-alone
+returns-else-here-key-clause-alone c = λ fresh there stands alone.
+    let x = c.in_ok-node.ensures in
+    let y = c.in_ok-here.ensures in
+    let p = c.args.pass.now in
+    let q = c.next-node.new.pass.trace in
+    let r = c.key_of-read.new.pass.trace in
+    let n = rw c.in-Some.is at x.read in
+    let m = rw c.in-Some.is at x.stands in
+    let first = first_of x.quiet y.quiet alone in
+    let same = two_looks x.quiet y.quiet x.looks y.looks alone in (
+      node_still_there p.trace q r c.in-Some.node (x.looks first) (y.looks (then_of x.quiet y.quiet alone)) x.keeps y.keeps fresh (m first),
+      visited p c.soundness.ensures.sound q r c.args.key c.args.pred.now c.in-Some.node c.requires.pred there stands n (looks_leave (quiet_on x.quiet y.quiet) same) (y.quiet.same.shape ∙ x.quiet.same.shape),
+    )
+
+pub returns-in-Some-of-clause-alone : goal.returns-in-Some-of-clause-alone
+returns-in-Some-of-clause-alone c = λ fresh there stands alone.
+    let x = c.in_ok-node.ensures in
+    let n = rw c.in-Some.is at x.read in
+    let m = rw c.in-Some.is at x.stands in
+    let of = c.in-Some-of.ensures in
+    marked_alone c.args.pass.now c.soundness.ensures.sound c.next-node.new.pass.trace c.args.key c.args.pred.now c.in-Some.node c.in-Some-of.marked x.quiet c.requires.pred there stands n of.0 (x.looks alone) x.keeps fresh (m alone)
+
+pub returns-else-here-key-clause-observes : goal.returns-else-here-key-clause-observes
+returns-else-here-key-clause-observes c = observes_on (observed c.next-node.ensures.only_loads c.next-node.ensures.adds_none) (observed c.key_of-read.ensures.only_loads c.key_of-read.ensures.adds_none)

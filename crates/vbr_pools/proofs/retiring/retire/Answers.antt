@@ -1,5 +1,6 @@
 use Rattle.std.proofs.Common.{ℕ, ◌≡◌, ◌≤◌, List, length, sym, ap, ◌∙◌, subst, refl}
 use Rattle.std.specs.Prelude.{Contains}
+use Rattle.vbr_slots.specs.Alone.{IsAlone, IsFresh, LeavesLists}
 use Rattle.vbr_slots.specs.Calls.{Quiet}
 use Rattle.vbr_slots.specs.Pools.{without}
 use Rattle.vbr_slots.specs.Views.{Trace, knows}
@@ -7,6 +8,7 @@ use Rattle.vbr_slots.proofs.Calls.{quiet_on, did_quiet}
 use Rattle.vbr_pools.specs.Retiring.{Stamps}
 use Rattle.vbr_pools.proofs.Moments.{epoch_told}
 use Rattle.vbr_pools.proofs.Retirement.{retired_quiet, stamped, stamped_before, kept_none, raised_none, unlinked_outside, pool_left}
+use Rattle.vbr_pools.proofs.AloneRetirement.{retired_leaves, retired_fresh, raised_leaves, raised_fresh}
 use Rattle.vbr_pools.proofs.PoolLists.{without_other}
 use Rattle.vbr_pools.proofs.retiring.retire.Goals as goal
 
@@ -18,13 +20,13 @@ returns-then-kept-clause-stamped c =
     subst (λ (x : Trace × ℕ). Stamps c.args.pass.now.trace x.0 x.1 (knows x.0).epoch) (λ i. (sym c.keep.ensures.trace i, c.into_slot-slot.ensures i)) (stamped c.read_epoch.ensures.step c.store_stamp.ensures.step)
 
 pub returns-else-kept-clause-quiet : goal.returns-else-kept-clause-quiet
-returns-else-kept-clause-quiet c = quiet_on (retired_quiet c.read_epoch.ensures.step c.store_stamp.ensures.step) (did_quiet c.raise.ensures.step (λ know. refl))
+returns-else-kept-clause-quiet c = quiet_on (retired_quiet c.read_epoch.ensures.step c.store_stamp.ensures.step) (did_quiet c.raise.ensures.step.1 (λ know. refl))
 
 pub returns-else-kept-clause-stamped : goal.returns-else-kept-clause-stamped
 returns-else-kept-clause-stamped c =
-    let told : (knows c.raise.new.pass.trace).epoch ≡ (knows c.store_stamp.new.pass.trace).epoch = epoch_told c.raise.ensures.step in
+    let told : (knows c.raise.new.pass.trace).epoch ≡ (knows c.store_stamp.new.pass.trace).epoch = epoch_told c.raise.ensures.step.1 in
     subst (λ (x : ℕ × ℕ). Stamps c.args.pass.now.trace c.raise.new.pass.trace x.0 x.1) (λ i. (c.into_slot-slot.ensures i, sym told i))
-    (stamped_before (stamped c.read_epoch.ensures.step c.store_stamp.ensures.step) (did_quiet c.raise.ensures.step (λ know. refl)))
+    (stamped_before (stamped c.read_epoch.ensures.step c.store_stamp.ensures.step) (did_quiet c.raise.ensures.step.1 (λ know. refl)))
 
 pub returns-then-kept-clause-raises_none : goal.returns-then-kept-clause-raises_none
 returns-then-kept-clause-raises_none c = kept_none c.read_epoch.ensures.step c.store_stamp.ensures.step c.read_epoch.ensures.pool c.store_stamp.ensures.pool c.keep.ensures.trace c.keep.ensures.pool c.keep.ensures.hand
@@ -34,7 +36,7 @@ returns-else-kept-clause-raises_none c =
     let slot : ℕ = c.into_slot-slot.result in
     let pool : List ℕ = c.args.pass.now.pool in
     let out : ¬ (Contains pool slot) = subst (λ (s : ℕ). ¬ (Contains pool s)) (sym c.into_slot-slot.ensures) (unlinked_outside _ _ _ pool _ c.pool.ensures.own c.requires.unlinked) in
-    raised_none c.read_epoch.ensures.step c.store_stamp.ensures.step c.read_epoch.ensures.pool c.store_stamp.ensures.pool c.raise.ensures.step (c.raise.ensures.pool ∙ ap (without slot) (c.store_stamp.ensures.pool.0 ∙ c.read_epoch.ensures.pool.0) ∙ without_other slot pool out) c.raise.ensures.hand
+    raised_none c.read_epoch.ensures.step c.store_stamp.ensures.step c.read_epoch.ensures.pool c.store_stamp.ensures.pool c.raise.ensures.step.1 (c.raise.ensures.pool ∙ ap (without slot) (c.store_stamp.ensures.pool.0 ∙ c.read_epoch.ensures.pool.0) ∙ without_other slot pool out) c.raise.ensures.hand
 
 pub returns-else-kept-clause-pool : goal.returns-else-kept-clause-pool
 returns-else-kept-clause-pool c =
@@ -45,3 +47,11 @@ returns-else-kept-clause-pool c =
     let full = c.if-kept.false in
     let out : ¬ (Contains pool slot) = subst (λ (s : ℕ). ¬ (Contains pool s)) (sym c.into_slot-slot.ensures) (unlinked_outside _ _ _ pool _ c.pool.ensures.own c.requires.unlinked) in
     c.raise.ensures.pool ∙ ap (without slot) stays ∙ without_other slot pool out ∙ sym (pool_left pool c.args.unlinked.slot (subst (λ (l : List ℕ). 63 ≤ length l) shown full))
+
+pub returns-then-kept-clause-alone : goal.returns-then-kept-clause-alone
+returns-then-kept-clause-alone c =
+    let P : Trace → Type 0 = λ q. IsAlone c.args.pass.now.trace q → LeavesLists c.args.pass.now.trace q × IsFresh q in
+    subst P (sym c.keep.ensures.trace) (λ alone. (retired_leaves c.in_shape.ensures.shape c.read_epoch.ensures.step c.store_stamp.ensures.step alone, retired_fresh c.in_shape.ensures.shape c.read_epoch.ensures.step c.store_stamp.ensures.step alone))
+
+pub returns-else-kept-clause-alone : goal.returns-else-kept-clause-alone
+returns-else-kept-clause-alone c = λ alone. (raised_leaves c.in_shape.ensures.shape c.read_epoch.ensures.step c.store_stamp.ensures.step c.raise.ensures.step.1 alone, raised_fresh c.in_shape.ensures.shape c.read_epoch.ensures.step c.store_stamp.ensures.step c.raise.ensures.step.1 alone)

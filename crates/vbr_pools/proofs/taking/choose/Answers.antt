@@ -39,13 +39,13 @@ pub returns-then-epoch-last_epoch-clause-advances : goal.returns-then-epoch-last
 returns-then-epoch-last_epoch-clause-advances c = inl (c.scan.ensures.advances ∙ same_advances c.read_epoch-epoch.ensures.step refl)
 
 pub returns-in_err-found-clause-refused : goal.returns-in_err-found-clause-refused
-returns-in_err-found-clause-refused c = let p = err_from_is_err_and c.from_residual.result c.from_residual.ensures.1 in rw (p.1, p.2) (short_then c.args.pass.now c.read_epoch-epoch.new.pass c.scan.new.pass c.read_epoch-epoch.result c.args.budget c.args.used c.read_epoch-epoch.ensures.step (c.affords.ensures.0 c.if-not-affords.false) c.scan.ensures.quiet c.scan.ensures.known _ c.in_err-found.ensures.refused)
+returns-in_err-found-clause-refused c = let p = err_from_is_err_and c.from_residual.result c.from_residual.ensures.1 in rw (p.1, p.2) (short_then c.args.pass.now c.read_epoch-epoch.new.pass c.scan.new.pass c.read_epoch-epoch.result c.args.budget c.args.used c.read_epoch-epoch.ensures.step (c.affords.ensures.0 c.if-not-affords.false) c.scan.ensures.quiet c.scan.ensures.known c.read_epoch-epoch.ensures.pool.0 _ c.in_err-found.ensures.refused)
 
 pub returns-in-Some-clause-ok : goal.returns-in-Some-clause-ok
-returns-in-Some-clause-ok c = chosen_then c.args.pass.now c.read_epoch-epoch.new.pass c.scan.new.pass c.read_epoch-epoch.result c.args.budget c.args.used c.read_epoch-epoch.ensures.step (c.affords.ensures.0 c.if-not-affords.false) c.scan.ensures.quiet c.scan.ensures.known c.in_ok-found.found c.in_ok-found.used c.in_ok-found.ensures.ok c.in-Some.slot c.in-Some.is
+returns-in-Some-clause-ok c = chosen_then c.args.pass.now c.read_epoch-epoch.new.pass c.scan.new.pass c.read_epoch-epoch.result c.args.budget c.args.used c.read_epoch-epoch.ensures.step (c.affords.ensures.0 c.if-not-affords.false) c.scan.ensures.quiet c.scan.ensures.known c.read_epoch-epoch.ensures.pool.0 c.in_ok-found.found c.in_ok-found.used c.in_ok-found.ensures.ok c.in-Some.slot c.in-Some.is
 
 pub returns-then-not-affords-2-clause-refused : goal.returns-then-not-affords-2-clause-refused
-returns-then-not-affords-2-clause-refused c = full_then c.args.pass.now c.read_epoch-epoch.new.pass c.scan.new.pass c.read_epoch-epoch.result c.args.budget c.args.used c.read_epoch-epoch.ensures.step (c.affords.ensures.0 c.if-not-affords.false) c.scan.ensures.quiet c.scan.ensures.known c.in_ok-found.found c.in_ok-found.used c.in_ok-found.ensures.ok (no_room _ _ c.affords-2.result c.if-not-affords-2.true c.affords-2.ensures.1)
+returns-then-not-affords-2-clause-refused c = full_then c.args.pass.now c.read_epoch-epoch.new.pass c.scan.new.pass c.read_epoch-epoch.result c.args.budget c.args.used c.read_epoch-epoch.ensures.step (c.affords.ensures.0 c.if-not-affords.false) c.scan.ensures.quiet c.scan.ensures.known c.read_epoch-epoch.ensures.pool.0 c.in_ok-found.found c.in_ok-found.used c.in_ok-found.ensures.ok (no_room _ _ c.affords-2.result c.if-not-affords-2.true c.affords-2.ensures.1)
 
 pub returns-then-epoch-last_epoch-clause-refused : goal.returns-then-epoch-last_epoch-clause-refused
 returns-then-epoch-last_epoch-clause-refused c =
@@ -53,7 +53,7 @@ returns-then-epoch-last_epoch-clause-refused c =
     let shapes : c.shape.result ≡ c.scan.new.pass.trace.shape = c.shape.ensures ∙ sym c.requires.own.1 ∙ sym quiet.same.shape in
     let is : IsShape c.scan.new.pass.trace.shape = subst IsShape shapes c.last_epoch.ensures.shape in
     let some : c.scan.new.pass.pool ≢ [] = λ none. c.requires.some (sym (c.scan.ensures.pool.0 ∙ c.read_epoch-epoch.ensures.pool.0) ∙ none) in
-    spent_then c.args.pass.now c.read_epoch-epoch.new.pass c.scan.new.pass c.read_epoch-epoch.result c.args.budget c.args.used c.read_epoch-epoch.ensures.step (c.affords.ensures.0 c.if-not-affords.false) c.scan.ensures.quiet c.scan.ensures.known c.in_ok-found.found c.in_ok-found.used c.in_ok-found.ensures.ok (none_left c.in_ok-found.found c.in_default.not-Some) c.scan.ensures.own is some (c.if-epoch-last_epoch.true ∙ c.last_epoch.ensures.last_epoch ∙ ap (λ (d : Dimensions). d.last_epoch) shapes)
+    spent_then c.args.pass.now c.read_epoch-epoch.new.pass c.scan.new.pass c.read_epoch-epoch.result c.args.budget c.args.used c.read_epoch-epoch.ensures.step (c.affords.ensures.0 c.if-not-affords.false) c.scan.ensures.quiet c.scan.ensures.known c.read_epoch-epoch.ensures.pool.0 c.in_ok-found.found c.in_ok-found.used c.in_ok-found.ensures.ok (none_left c.in_ok-found.found c.in_default.not-Some) c.scan.ensures.own is some (c.if-epoch-last_epoch.true ∙ c.last_epoch.ensures.last_epoch ∙ ap (λ (d : Dimensions). d.last_epoch) shapes)
 
 pub advance-requires-clause-some : goal.advance-requires-clause-some
 advance-requires-clause-some c =
@@ -83,7 +83,7 @@ returns-clause-quiet c =
     let is : IsShape c.scan.new.pass.trace.shape = subst IsShape shapes c.last_epoch.ensures.shape in
     let some : c.scan.new.pass.pool ≢ [] = λ none. c.requires.some (sym (c.scan.ensures.pool.0 ∙ c.read_epoch-epoch.ensures.pool.0) ∙ none) in
     let raise = tried c.advance.result c.advance.ensures.step in
-    raised_quiet c.args.pass.now c.read_epoch-epoch.new.pass c.scan.new.pass c.read_epoch-epoch.result c.args.budget c.args.used c.read_epoch-epoch.ensures.step (c.affords.ensures.0 c.if-not-affords.false) c.scan.ensures.quiet c.scan.ensures.known c.in_ok-found.found c.in_ok-found.used c.in_ok-found.ensures.ok (none_left c.in_ok-found.found c.in_default.not-Some) c.scan.ensures.own is c.advance.new.pass c.read_epoch.new.pass raise.0 c.read_epoch.result raise.1 c.read_epoch.ensures.step c.advance.ensures.pool c.read_epoch.ensures.pool (c.scan.ensures.pool.1 ∙ c.read_epoch-epoch.ensures.pool.1 ∙ c.requires.empty_hand)
+    raised_quiet c.args.pass.now c.read_epoch-epoch.new.pass c.scan.new.pass c.read_epoch-epoch.result c.args.budget c.args.used c.read_epoch-epoch.ensures.step (c.affords.ensures.0 c.if-not-affords.false) c.scan.ensures.quiet c.scan.ensures.known c.read_epoch-epoch.ensures.pool.0 c.in_ok-found.found c.in_ok-found.used c.in_ok-found.ensures.ok (none_left c.in_ok-found.found c.in_default.not-Some) c.scan.ensures.own is c.advance.new.pass c.read_epoch.new.pass raise.0 c.read_epoch.result raise.1 c.read_epoch.ensures.step c.advance.ensures.pool c.read_epoch.ensures.pool (c.scan.ensures.pool.1 ∙ c.read_epoch-epoch.ensures.pool.1 ∙ c.requires.empty_hand)
 
 pub returns-clause-ok : goal.returns-clause-ok
 returns-clause-ok c =
@@ -92,7 +92,7 @@ returns-clause-ok c =
     let is : IsShape c.scan.new.pass.trace.shape = subst IsShape shapes c.last_epoch.ensures.shape in
     let some : c.scan.new.pass.pool ≢ [] = λ none. c.requires.some (sym (c.scan.ensures.pool.0 ∙ c.read_epoch-epoch.ensures.pool.0) ∙ none) in
     let raise = tried c.advance.result c.advance.ensures.step in
-    raised_chosen c.args.pass.now c.read_epoch-epoch.new.pass c.scan.new.pass c.read_epoch-epoch.result c.args.budget c.args.used c.read_epoch-epoch.ensures.step (c.affords.ensures.0 c.if-not-affords.false) c.scan.ensures.quiet c.scan.ensures.known c.in_ok-found.found c.in_ok-found.used c.in_ok-found.ensures.ok (none_left c.in_ok-found.found c.in_default.not-Some) c.scan.ensures.own is c.advance.new.pass c.read_epoch.new.pass raise.0 c.read_epoch.result raise.1 c.read_epoch.ensures.step c.advance.ensures.pool c.read_epoch.ensures.pool (c.scan.ensures.pool.1 ∙ c.read_epoch-epoch.ensures.pool.1 ∙ c.requires.empty_hand) c.pool.result.now c.pool.ensures.pool some (c.affords-2.ensures.0 c.if-not-affords-2.false)
+    raised_chosen c.args.pass.now c.read_epoch-epoch.new.pass c.scan.new.pass c.read_epoch-epoch.result c.args.budget c.args.used c.read_epoch-epoch.ensures.step (c.affords.ensures.0 c.if-not-affords.false) c.scan.ensures.quiet c.scan.ensures.known c.read_epoch-epoch.ensures.pool.0 c.in_ok-found.found c.in_ok-found.used c.in_ok-found.ensures.ok (none_left c.in_ok-found.found c.in_default.not-Some) c.scan.ensures.own is c.advance.new.pass c.read_epoch.new.pass raise.0 c.read_epoch.result raise.1 c.read_epoch.ensures.step c.advance.ensures.pool c.read_epoch.ensures.pool (c.scan.ensures.pool.1 ∙ c.read_epoch-epoch.ensures.pool.1 ∙ c.requires.empty_hand) c.pool.result.now c.pool.ensures.pool some (c.affords-2.ensures.0 c.if-not-affords-2.false)
 
 pub returns-clause-advances : goal.returns-clause-advances
 returns-clause-advances c =
@@ -101,4 +101,4 @@ returns-clause-advances c =
     let is : IsShape c.scan.new.pass.trace.shape = subst IsShape shapes c.last_epoch.ensures.shape in
     let some : c.scan.new.pass.pool ≢ [] = λ none. c.requires.some (sym (c.scan.ensures.pool.0 ∙ c.read_epoch-epoch.ensures.pool.0) ∙ none) in
     let raise = tried c.advance.result c.advance.ensures.step in
-    inr (raised_once c.args.pass.now c.read_epoch-epoch.new.pass c.scan.new.pass c.read_epoch-epoch.result c.args.budget c.args.used c.read_epoch-epoch.ensures.step (c.affords.ensures.0 c.if-not-affords.false) c.scan.ensures.quiet c.scan.ensures.known c.in_ok-found.found c.in_ok-found.used c.in_ok-found.ensures.ok (none_left c.in_ok-found.found c.in_default.not-Some) c.scan.ensures.own is c.advance.new.pass c.read_epoch.new.pass raise.0 c.read_epoch.result raise.1 c.read_epoch.ensures.step c.advance.ensures.pool c.read_epoch.ensures.pool (c.scan.ensures.pool.1 ∙ c.read_epoch-epoch.ensures.pool.1 ∙ c.requires.empty_hand) c.read_epoch-epoch.ensures.pool c.scan.ensures.pool c.scan.ensures.advances)
+    inr (raised_once c.args.pass.now c.read_epoch-epoch.new.pass c.scan.new.pass c.read_epoch-epoch.result c.args.budget c.args.used c.read_epoch-epoch.ensures.step (c.affords.ensures.0 c.if-not-affords.false) c.scan.ensures.quiet c.scan.ensures.known c.read_epoch-epoch.ensures.pool.0 c.in_ok-found.found c.in_ok-found.used c.in_ok-found.ensures.ok (none_left c.in_ok-found.found c.in_default.not-Some) c.scan.ensures.own is c.advance.new.pass c.read_epoch.new.pass raise.0 c.read_epoch.result raise.1 c.read_epoch.ensures.step c.advance.ensures.pool c.read_epoch.ensures.pool (c.scan.ensures.pool.1 ∙ c.read_epoch-epoch.ensures.pool.1 ∙ c.requires.empty_hand) c.read_epoch-epoch.ensures.pool c.scan.ensures.pool c.scan.ensures.advances)

@@ -1,21 +1,39 @@
-use Rattle.std.proofs.Common.{refl, sym, ◌∙◌, subst}
+use Rattle.std.proofs.Common.{ℕ, ◌≡◌, ◌+◌, ◌<◌, ◌≤◌, refl, sym, ap, ◌∙◌, subst, arith}
+use Rattle.vbr_words.specs.Dimensions.{Dimensions}
+use Rattle.vbr_slots.specs.Alone.{IsAlone}
 use Rattle.vbr_slots.specs.Calls.{Quiet}
 use Rattle.vbr_slots.proofs.Calls.{quiet_on, did_quiet}
-use Rattle.vbr_pools.proofs.Claiming.{claim_next, claim_none, claim_won, none_in}
+use Rattle.vbr_pools.proofs.Claiming.{claim_few, claim_next, claim_none, claim_short, claim_won, none_in}
 use Rattle.vbr_pools.proofs.taking.claim.Goals as goal
 
-pub returns-then-take_flag-clause-quiet : goal.returns-then-take_flag-clause-quiet
-returns-then-take_flag-clause-quiet c =
-    subst (Quiet c.args.pass.now.trace) (sym c.keep.ensures.trace) (quiet_on c.loop-slot.invariant.quiet (did_quiet c.if-take_flag.ensures.step (λ know. refl)))
+pub returns-in-Ok-clause-quiet : goal.returns-in-Ok-clause-quiet
+returns-in-Ok-clause-quiet c = subst (Quiet c.args.pass.now.trace) (sym c.keep.ensures.trace) (quiet_on c.loop-slot.invariant.quiet (did_quiet c.in-Ok.ensures.step.1 (λ know. refl)))
 
-pub returns-then-take_flag-clause-raises_none : goal.returns-then-take_flag-clause-raises_none
-returns-then-take_flag-clause-raises_none c = claim_none c.loop-slot.invariant c.if-take_flag.ensures.step c.take_flag.ensures.pool c.keep.ensures.trace c.keep.ensures.pool c.keep.ensures.hand
+pub returns-in-Ok-clause-raises_none : goal.returns-in-Ok-clause-raises_none
+returns-in-Ok-clause-raises_none c =
+    claim_none c.loop-slot.invariant c.in-Ok.ensures.step.1 c.in-Ok.ensures.step.2 c.in-Ok.ensures.pool c.keep.ensures.trace c.keep.ensures.pool c.keep.ensures.hand
 
-pub returns-then-take_flag-clause-ok : goal.returns-then-take_flag-clause-ok
-returns-then-take_flag-clause-ok c =
-    claim_won c.loop-slot.invariant (sym c.pool.ensures.pool ∙ none_in c.pool.result.now (sym c.is_empty.ensures ∙ c.if-not-is_empty.false)) c.requires.empty_hand (c.affords.ensures.0 c.if-not-affords.false) c.if-take_flag.ensures.step c.take_flag.ensures.pool c.keep.ensures.trace c.keep.ensures.pool c.keep.ensures.hand
+pub returns-in-Ok-clause-ok : goal.returns-in-Ok-clause-ok
+returns-in-Ok-clause-ok c =
+    let slots : c.slots.result ≡ c.args.pass.now.trace.shape.slots = c.slots.ensures.slots ∙ ap (λ (shape : Dimensions). shape.slots) (c.shape.ensures ∙ sym c.requires.own.1) in
+    let low = subst (λ (n : ℕ). c.loop-slot.slot < n) slots c.loop-slot-test.true in
+    let empty = sym c.pool.ensures.pool ∙ none_in c.pool.result.now (sym c.is_empty.ensures ∙ c.if-not-is_empty.false) in
+    claim_won c.loop-slot.invariant low empty c.requires.empty_hand (c.affords.ensures.0 c.if-not-affords.false) c.in-Ok.ensures.step.1 c.in-Ok.ensures.step.2 c.in-Ok.ensures.pool c.keep.ensures.trace c.keep.ensures.pool c.keep.ensures.hand
 
 pub loop-slot-preserved : goal.loop-slot-preserved
-loop-slot-preserved c =
-    let lost = c.if-take_flag.ensures.step in
-    claim_next c.loop-slot.invariant (c.affords.ensures.0 c.if-not-affords.false) lost.1 lost.2 c.take_flag.ensures.pool
+loop-slot-preserved c = claim_next c.loop-slot.invariant (c.affords.ensures.0 c.if-not-affords.false) c.in-Err.ensures.step.0 c.in-Err.ensures.step.1 c.next_flag-slot.ensures c.in-Err.ensures.pool
+
+pub returns-then-not-affords-clause-enough : goal.returns-then-not-affords-clause-enough
+returns-then-not-affords-clause-enough c =
+    let slots : c.slots.result ≡ c.args.pass.now.trace.shape.slots = c.slots.ensures.slots ∙ ap (λ (shape : Dimensions). shape.slots) (c.shape.ensures ∙ sym c.requires.own.1) in
+    let low = subst (λ (n : ℕ). c.loop-slot.slot < n) slots c.loop-slot-test.true in
+    λ alone. claim_short c.loop-slot.invariant low (unaffordable c.args.budget c.loop-slot.probes (λ fits. (let f = sym (c.affords.ensures.1 fits) ∙ c.if-not-affords.true in absurd (cc)))) alone
+  where
+    unaffordable : (budget used : ℕ) → ¬ (used + 8 ≤ budget) → budget < used + 8
+    unaffordable budget used short = omega (arith, short)
+
+pub returns-in-Ok-clause-few : goal.returns-in-Ok-clause-few
+returns-in-Ok-clause-few c =
+    let slots : c.slots.result ≡ c.args.pass.now.trace.shape.slots = c.slots.ensures.slots ∙ ap (λ (shape : Dimensions). shape.slots) (c.shape.ensures ∙ sym c.requires.own.1) in
+    let low = subst (λ (n : ℕ). c.loop-slot.slot < n) slots c.loop-slot-test.true in
+    λ empty alone. claim_few c.loop-slot.invariant low c.in-Ok.ensures.step.1 (subst (IsAlone c.args.pass.now.trace) c.keep.ensures.trace alone)

@@ -14,9 +14,8 @@ pub returns-then-stamp-epoch-clause-ok : goal.returns-then-stamp-epoch-clause-ok
 returns-then-stamp-epoch-clause-ok c =
     let now : length c.pool.result.now ≡ length c.args.pass.now.pool = ap length (c.pool.ensures.pool ∙ c.loop-i.invariant.pool.0) in
     let then : length c.pool-i-end.result.now ≡ length c.args.pass.now.pool = ap length c.pool-i-end.ensures.pool in
-    let most = c.pool-i-end.ensures.room in
     let low = c.loop-i-test.true in
-    scan_found c.loop-i.invariant c.pool.result.now c.pool.ensures.pool c.pool.ensures.own (omega arith) (c.affords.ensures.0 c.if-not-affords.false) c.load_stamp-stamp.ensures.step c.load_stamp-stamp.ensures.known c.load_stamp-stamp.ensures.pool (omega arith) c.if-stamp-epoch.true
+    scan_found c.loop-i.invariant c.pool.result.now c.pool.ensures.pool c.pool.ensures.own (omega arith) (c.affords.ensures.0 c.if-not-affords.false) c.load_stamp-stamp.ensures.step c.load_stamp-stamp.ensures.known c.load_stamp-stamp.ensures.pool c.if-stamp-epoch.true
 
 pub loop-i-preserved : goal.loop-i-preserved
 loop-i-preserved c =

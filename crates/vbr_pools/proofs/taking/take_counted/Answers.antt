@@ -1,4 +1,5 @@
-use Rattle.vbr_pools.proofs.Takings.{stops_within, leaves, advances_all, on_each, ends_quiet, ends_within, ends_counted, ends_taken, ends_left, ends_advances}
+use Rattle.std.proofs.lemmas.Result.{err_from_is_err_and}
+use Rattle.vbr_pools.proofs.Takings.{claim_enough, stops_within, stops_enough, ends_few, ends_enough, leaves, advances_all, on_each, ends_quiet, ends_within, ends_counted, ends_taken, ends_left, ends_advances}
 use Rattle.vbr_pools.proofs.taking.take_counted.Goals as goal
 
 pub returns-in_err-slot-clause-steps : goal.returns-in_err-slot-clause-steps
@@ -27,3 +28,19 @@ returns-clause-advances c = ends_advances c.args.pass.now c.claim.new.pass c.cho
 
 pub returns-clause-counted : goal.returns-clause-counted
 returns-clause-counted c = ends_counted c.args.pass.now c.claim.new.pass c.choose.new.pass c.args.budget c.in_ok-used.used c.claim.ensures.quiet c.claim.ensures.raises_none c.in_ok-used.ensures.ok c.choose.ensures.quiet c.choose.ensures.pool c.bear.new.pass c.in_ok-slot.slot c.in_ok-slot.used c.in_ok-slot.ensures.ok c.bear.result c.bear.ensures.ok c.bear.ensures.refused c.bear.ensures.same c.bear.ensures.used
+
+pub returns-in_err-used-clause-enough : goal.returns-in_err-used-clause-enough
+returns-in_err-used-clause-enough c =
+    let p = err_from_is_err_and c.from_residual.result c.from_residual.ensures.1 in
+    rw (p.1, p.2) (λ alone. claim_enough c.args.pass.now c.args.budget _ c.in_err-used.ensures.empty (c.in_err-used.ensures.enough alone))
+
+pub returns-in_err-slot-clause-enough : goal.returns-in_err-slot-clause-enough
+returns-in_err-slot-clause-enough c =
+    let p = err_from_is_err_and c.from_residual-in_err-slot.result c.from_residual-in_err-slot.ensures.1 in
+    rw (p.1, p.2) (λ alone. stops_enough c.args.pass.now c.claim.new.pass c.choose.new.pass c.args.budget c.in_ok-used.used c.claim.ensures.quiet c.claim.ensures.raises_none c.in_ok-used.ensures.ok c.choose.ensures.quiet c.choose.ensures.pool _ c.in_ok-used.ensures.few c.in_err-slot.ensures.refused alone)
+
+pub returns-clause-few : goal.returns-clause-few
+returns-clause-few c = ends_few c.args.pass.now c.claim.new.pass c.choose.new.pass c.args.budget c.in_ok-used.used c.claim.ensures.quiet c.claim.ensures.raises_none c.in_ok-used.ensures.ok c.choose.ensures.quiet c.choose.ensures.pool c.bear.new.pass c.in_ok-slot.slot c.in_ok-slot.used c.in_ok-slot.ensures.ok c.bear.result c.bear.ensures.ok c.bear.ensures.refused c.bear.ensures.same c.in_ok-used.ensures.few c.bear.ensures.used
+
+pub returns-clause-enough : goal.returns-clause-enough
+returns-clause-enough c = ends_enough c.args.pass.now c.claim.new.pass c.choose.new.pass c.args.budget c.in_ok-used.used c.claim.ensures.quiet c.claim.ensures.raises_none c.in_ok-used.ensures.ok c.choose.ensures.quiet c.choose.ensures.pool c.bear.new.pass c.in_ok-slot.slot c.in_ok-slot.used c.in_ok-slot.ensures.ok c.bear.result c.bear.ensures.ok c.bear.ensures.refused c.bear.ensures.same c.in_ok-used.ensures.few

@@ -10,11 +10,11 @@ use Rattle.vbr_slots.proofs.slots.Slots.raise.Goals as goal
 pub invariant_of-pass : goal.invariant_of-pass
 invariant_of-pass c =
     let p = c.pass.inside in
-    let d = c.store.ensures in
+    let d = c.fetch_or.ensures in
     let trace = ap (λ (v : PassView). v.trace) c.pass.view_is ∙ c.leave_pool.ensures.trace in
     let left = ap (λ (v : PassView). v.pool) c.pass.view_is ∙ c.leave_pool.ensures.pool in
     record {
       shape = subst IsShape (sym d.same.1) c.pass.invariant.shape;
-      pool = pool_raised p.runner c.store.new.runner c.args.slot 1 p.pool.items p.hand d (subst (λ (t : Trace). IsFree ((knows t).own c.args.slot)) (sym trace) c.requires.free)
+      pool = pool_raised p.runner c.fetch_or.new.runner c.args.slot c.fetch_or.result p.pool.items p.hand d (subst (λ (t : Trace). IsFree ((knows t).own c.args.slot)) (sym trace) c.requires.free)
           (subst (λ (xs : List ℕ). ¬ (Contains xs c.args.slot)) (sym left) (outside c.args.slot c.args.pass.now.pool)) c.pass.invariant.pool;
     }

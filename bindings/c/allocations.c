@@ -1,0 +1,90 @@
+/* Each allocation is refused in turn, and then all from some allocation on; nothing is lost or leaked.
+   Link with -Wl,--wrap=malloc,--wrap=realloc,--wrap=free. */
+#include "vbr.h"
+
+#include <stdio.h>
+#include <stdlib.h>
+
+#define CHECK(x) do { if (!(x)) { fprintf(stderr, "allocations.c:%d: %s\n", __LINE__, #x); return 1; } } while (0)
+
+void *__real_malloc(size_t size);
+void *__real_realloc(void *block, size_t size);
+void __real_free(void *block);
+
+static long allowed = -1; /* how many allocations are granted before one is refused; below 0: all are */
+static int stays_short;   /* whether those behind it are refused too */
+static long blocks;       /* how many blocks are allocated */
+
+static int refuses(void) {
+    if (allowed < 0) return 0;
+    if (allowed > 0) return allowed--, 0;
+    if (!stays_short) allowed = -1;
+    return 1;
+}
+
+void *__wrap_malloc(size_t size) {
+    void *block = refuses() ? NULL : __real_malloc(size);
+    if (block) blocks++;
+    return block;
+}
+
+void *__wrap_realloc(void *old, size_t size) {
+    void *block = refuses() ? NULL : __real_realloc(old, size);
+    if (block && !old) blocks++;
+    return block;
+}
+
+void __wrap_free(void *block) {
+    if (block) blocks--;
+    __real_free(block);
+}
+
+static long failed_opens, failed_closes;
+
+/* A set is opened, used and closed while the nth allocation is refused. 1: none was, 0: one was. */
+static int round_with(long n, int *done) {
+    vbr_handle handle[3] = {{0}};
+    vbr_totals totals = {0, 0, 0, 0};
+    uint64_t keys[8] = {0};
+    *done = 0;
+    allowed = n;
+    int32_t code = vbr_open(handle, 3, 8, 2, 100);
+    if (code != VBR_NO) {
+        allowed = -1;
+        CHECK(code == VBR_NO_MEMORY && blocks == 0);
+        for (int i = 0; i < 3; i++) CHECK(vbr_has(&handle[i], 7, 1000) == VBR_EMPTY);
+        failed_opens++;
+        return 0;
+    }
+    CHECK(vbr_insert(&handle[1], 7, 1000) == VBR_YES && vbr_insert(&handle[0], 6, 1000) == VBR_YES);
+    CHECK(vbr_close(&handle[0], keys, 8, &totals) == VBR_NO && vbr_close(&handle[2], keys, 8, &totals) == VBR_NO);
+    code = vbr_close(&handle[1], keys, 8, &totals);
+    if (code == VBR_NO_MEMORY) {
+        failed_closes++;
+        CHECK(keys[0] == 0 && vbr_close(&handle[1], keys, 8, &totals) == (stays_short ? VBR_NO_MEMORY : VBR_YES));
+        if (stays_short) { /* the handle is full: it makes calls, and is closed once there is memory */
+            CHECK(vbr_has(&handle[1], 7, 1000) == VBR_YES && vbr_remove(&handle[1], 6, 1000) == VBR_YES);
+            CHECK(vbr_insert(&handle[1], 6, 1000) == VBR_YES);
+            allowed = -1;
+            CHECK(vbr_close(&handle[1], keys, 8, &totals) == VBR_YES);
+        }
+    } else {
+        CHECK(code == VBR_YES);
+        *done = allowed >= 0;
+    }
+    allowed = -1;
+    CHECK(totals.live == 2 && keys[0] == 6 && keys[1] == 7 && blocks == 0);
+    CHECK(vbr_has(&handle[1], 7, 1000) == VBR_EMPTY);
+    return 0;
+}
+
+int main(void) {
+    for (stays_short = 0; stays_short < 2; stays_short++) {
+        int done = 0;
+        for (long n = 0; !done; n++)
+            if (round_with(n, &done)) return 1;
+    }
+    CHECK(failed_opens > 0 && failed_closes > 0);
+    printf("refused allocations in C: passed, %ld opens and %ld closes found no memory\n", failed_opens, failed_closes);
+    return 0;
+}

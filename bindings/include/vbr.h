@@ -1,0 +1,116 @@
+/* A hash set of 64-bit keys that threads share, in fixed memory and without a lock.
+
+   Ten lines:
+
+       vbr_handle handle[2] = {{0}};
+       vbr_totals totals;
+       uint64_t keys[8];
+       if (vbr_open(handle, 2, 8, 4, 1000000) != VBR_NO) return 1;
+       vbr_insert(&handle[0], 5, 1000);               // VBR_YES: 5 was absent
+       vbr_has(&handle[1], 5, 1000);                  // VBR_YES, from another thread too
+       vbr_close(&handle[0], keys, 8, &totals);       // VBR_NO: the other handle is open
+       vbr_close(&handle[1], keys, 8, &totals);       // VBR_YES: totals.live is 1, keys[0] is 5
+
+   Link with -lvbr (`pkg-config --cflags --libs vbr`). The library needs nothing but malloc, realloc and
+   free; each block is to be aligned as these align it, to 16 bytes.
+
+   Who owns what. A set is opened with 1 to 64 handles, and each handle owns one pass of the set, the
+   right to make calls, and a share of the set. A handle is all zero while it is empty: write {0} before
+   it is opened. A full one belongs to the library: it may be moved (copied, and the old place set to
+   zero, or never used again), and is never copied, compared, read or written otherwise. A full handle
+   is closed by vbr_close or given up by vbr_drop; memory is freed with the last handle of a set. What
+   a pointer names belongs to the call while it runs, and to the caller afterwards. No pointer is null:
+   for no keys at all pass any address, with a room of 0.
+
+   Which calls may run at the same time. Handles of one set may be in calls at the same time, in any
+   threads; that is what they are for. One handle is in one call at a time. A handle that goes to another
+   thread is handed over by a lock, by the start or the join of the thread, or by a seq_cst atomic. No
+   function is for a signal handler, or for the child of a fork.
+
+   Budgets. A call makes at most `budget` steps, each one load, store or exchange of a word that the
+   threads share, and never waits for another thread. A look-up makes loads alone, so it writes nothing
+   that another thread can see. While the other handles make no step, wherever they stand still, a call
+   does not run out of steps with a budget of 5n + 11 for has, 9n + 11 for remove, and 18n + slots + 82
+   for insert, where n nodes are in the bucket of the key as it begins, removed ones that are still in a
+   list among them. What other threads do at the same time can cost more: 100,000 is plenty for short
+   buckets, whatever the number of slots. A call that runs out of steps made no call: make it again, or
+   give it up.
+
+   Memory and sizes. The words of a set take 8 * (2 + buckets + 4 * slots + slots / 64) bytes, the
+   last part rounded up, in one block, and each handle about 1,200 bytes besides; opening and
+   closing take as much as the words again while they run, and the last close 9 bytes more for each
+   slot. A key in the set takes a slot, and so does a removed node that no handle has taken back
+   yet; each handle may keep up to 64 free slots to itself. So open with 64 slots more for each
+   handle than keys. With as many buckets as keys a bucket has about one node; a power of two is
+   found by a mask in place of a division. Only inserts raise the epoch, and once the last one is
+   spent inserts of absent keys may be refused: the greatest lasts ten days at ten million inserts a
+   second. The numbers are 1 to VBR_MAX_SLOTS slots, 1 to VBR_MAX_BUCKETS buckets, and 1 to
+   VBR_MAX_EPOCH as the last epoch. */
+#ifndef VBR_H
+#define VBR_H
+
+#include <stddef.h>
+#include <stdint.h>
+
+#ifdef __cplusplus
+extern "C" {
+#endif
+
+#define VBR_MAX_SLOTS 1048575u
+#define VBR_MAX_BUCKETS 65536u
+#define VBR_MAX_EPOCH 8796093022207ull
+#define VBR_MAX_HANDLES 64u
+
+/* What a call answers. Numbers below 0 are refusals. */
+enum {
+    VBR_NO = 0,            /* the answer is no; of vbr_open: done; of vbr_close: others are open */
+    VBR_YES = 1,           /* the answer is yes; of vbr_close: it was the last, the set is closed */
+    VBR_OUT_OF_STEPS = -1, /* insert, remove, has: the budget is spent; no call was made */
+    VBR_NO_SLOT = -2,      /* insert: the key is absent and no slot is free; no call was made */
+    VBR_EPOCH_SPENT = -3,  /* insert: the key is absent and the last epoch is spent; no call was made */
+    VBR_EMPTY = -4,        /* the handle is empty; nothing was done */
+    VBR_IN_USE = -5,       /* open: one of the handles is not empty; nothing was done */
+    VBR_BAD_SHAPE = -6,    /* open: slots, buckets or last_epoch is out of range; nothing was done */
+    VBR_BAD_COUNT = -7,    /* open: count is not from 1 to 64; nothing was done */
+    VBR_NO_MEMORY = -8,    /* open: nothing was done; close: it is the last and stays as it was */
+    VBR_LOST = -9          /* close: it was the last, but a handle was dropped; the set is gone */
+};
+
+/* A handle to a set, or {0}. */
+typedef struct vbr_handle {
+    void *owned;
+} vbr_handle;
+
+/* What a closed set held. */
+typedef struct vbr_totals {
+    uint64_t epoch;  /* the epoch */
+    uint32_t live;   /* how many keys were in the set */
+    uint32_t marked; /* how many removed nodes were still in a list */
+    uint32_t free;   /* how many slots had no node in a list */
+} vbr_totals;
+
+/* Opens an empty set and fills `count` handles, which are empty: VBR_NO. Else VBR_IN_USE, VBR_BAD_SHAPE,
+   VBR_BAD_COUNT or VBR_NO_MEMORY, tested in this order, and the handles are as they were. */
+int32_t vbr_open(vbr_handle *handles, size_t count, uint32_t slots, uint32_t buckets,
+                 uint64_t last_epoch);
+
+/* VBR_YES or VBR_NO, or a refusal. They take no memory and never wait. */
+int32_t vbr_insert(vbr_handle *handle, uint64_t key, uint32_t budget); /* yes: it was absent */
+int32_t vbr_remove(vbr_handle *handle, uint64_t key, uint32_t budget); /* yes: it was there */
+int32_t vbr_has(vbr_handle *handle, uint64_t key, uint32_t budget);    /* yes: it is there */
+
+/* Gives the pass back and leaves the handle empty: VBR_NO while others of its set are open. The last one
+   ends the set: VBR_YES, with the totals and the first of the keys, ascending, as many as there is
+   room for. Only then is anything written, and only then is memory needed, which is freed again.
+   VBR_NO_MEMORY leaves the handle full: close it again, drop it, or go on with it. */
+int32_t vbr_close(vbr_handle *handle, uint64_t *keys, size_t room, vbr_totals *totals);
+
+/* Gives a handle up, empty or full, and leaves it empty. Its pass is lost, so the last close of its set
+   answers VBR_LOST. It needs no memory. */
+void vbr_drop(vbr_handle *handle);
+
+#ifdef __cplusplus
+}
+#endif
+
+#endif

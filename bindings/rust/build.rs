@@ -1,0 +1,25 @@
+//! Finds the static library: in the directory that `VBR_LIB_DIR` names, or else by pkg-config.
+use std::env;
+use std::process::Command;
+
+fn main() {
+    println!("cargo:rerun-if-env-changed=VBR_LIB_DIR");
+    println!("cargo:rerun-if-env-changed=PKG_CONFIG_PATH");
+    let dir = env::var("VBR_LIB_DIR").ok().or_else(installed);
+    let Some(dir) = dir else {
+        panic!(
+            "libvbr.a is not found: run `make install PREFIX=DIR` in the repository and put DIR/lib/pkgconfig \
+             on PKG_CONFIG_PATH, or `make lib`, and set VBR_LIB_DIR to the directory of libvbr.a"
+        );
+    };
+    println!("cargo:rerun-if-changed={dir}/libvbr.a");
+    println!("cargo:rustc-link-search=native={dir}");
+    println!("cargo:rustc-link-lib=static=vbr");
+}
+
+/// The directory that pkg-config names.
+fn installed() -> Option<String> {
+    let told = Command::new("pkg-config").args(["--variable=libdir", "vbr"]).output().ok()?;
+    let dir = String::from_utf8(told.stdout).ok()?.trim().to_owned();
+    (told.status.success() && !dir.is_empty()).then_some(dir)
+}

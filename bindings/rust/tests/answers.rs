@@ -1,0 +1,50 @@
+//! Each answer of the crate once.
+use vbr::{CloseError, OpenError, Refusal, Set, Shape, MAX_EPOCH, MAX_SLOTS};
+
+const BUDGET: u32 = 100_000;
+
+#[test]
+fn openings() {
+    for shape in [Shape::new(0, 1, 1), Shape::new(MAX_SLOTS + 1, 1, 1), Shape::new(1, 0, 1), Shape::new(1, 1, MAX_EPOCH + 1)] {
+        assert_eq!(Set::open(shape, 1).unwrap_err(), OpenError::Shape);
+    }
+    for handles in [0, 65, usize::MAX] {
+        assert_eq!(Set::open(Shape::new(8, 1, 1), handles).unwrap_err(), OpenError::Handles);
+    }
+    assert_eq!(Set::open(Shape::new(8, 1, 1), 64).expect("a set").len(), 64);
+}
+
+#[test]
+fn calls() {
+    let mut handles = Set::open(Shape::new(1, 1, 1), 2).expect("a set");
+    assert_eq!(handles[0].insert(5, BUDGET), Ok(true));
+    assert_eq!(handles[1].insert(5, BUDGET), Ok(false));
+    assert_eq!(handles[1].insert(6, BUDGET), Err(Refusal::NoSlot));
+    assert_eq!(handles[1].has(5, 1), Err(Refusal::OutOfSteps));
+    assert_eq!(handles[1].has(5, BUDGET), Ok(true));
+    assert_eq!(handles[0].remove(5, BUDGET), Ok(true));
+    assert_eq!(handles[0].remove(5, BUDGET), Ok(false));
+    assert_eq!(handles[0].has(5, BUDGET), Ok(false));
+    assert_eq!(handles[0].insert(5, BUDGET), Err(Refusal::EpochSpent));
+}
+
+#[test]
+fn closes() {
+    let mut handles = Set::open(Shape::new(8, 2, 100), 2).expect("a set");
+    assert_eq!(handles[0].insert(5, BUDGET), Ok(true));
+    let last = handles.pop().expect("two handles");
+    let first = handles.pop().expect("two handles");
+    assert!(first.close().expect("a pass given back").is_none());
+    let report = last.close().expect("a report").expect("the last handle");
+    assert_eq!((report.keys, report.epoch, report.marked, report.free), (vec![5], 1, 0, 7));
+}
+
+#[test]
+fn a_dropped_handle() {
+    let mut handles = Set::open(Shape::new(8, 2, 100), 2).expect("a set");
+    drop(handles.pop());
+    let last = handles.pop().expect("two handles");
+    let error = last.close().unwrap_err();
+    assert!(matches!(error, CloseError::Lost));
+    assert_eq!(error.to_string(), "a handle of the set was dropped");
+}

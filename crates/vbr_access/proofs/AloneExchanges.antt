@@ -1,0 +1,100 @@
+-- Exchanges and confirming loads by a pass that was alone: where the link that is held stands, none is lost.
+use Rattle.std.proofs.Common.{◌≡◌, ◌≢◌, ◌≤◌, ℕ, suc, false, List, [], ◌∷◌, ◌++◌, Some, refl, sym, ap, ◌∙◌, subst}
+use Rattle.vbr_words.specs.Dimensions.{Dimensions, IsShape}
+use Rattle.vbr_words.specs.Words.{link_of, word_of}
+use Rattle.vbr_words.specs.declared.link.Link.{Link}
+use Rattle.vbr_words.specs.declared.place.At.{At}
+use Rattle.vbr_words.specs.declared.place.At.TheVariants.{Head, Slot}
+use Rattle.vbr_core.specs.Acceptance.{Accepts}
+use Rattle.vbr_core.specs.Accounts.{incarnations_after, notes_after}
+use Rattle.vbr_core.specs.Agreement.{Agrees}
+use Rattle.vbr_core.specs.Images.{link_at}
+use Rattle.vbr_core.specs.Incarnations.{Incarnations}
+use Rattle.vbr_core.specs.Learning.{link_written, present_reply}
+use Rattle.vbr_core.specs.Machine.{found}
+use Rattle.vbr_core.specs.Machine as machine
+use Rattle.vbr_core.specs.Membership.{Knows, HeldIn}
+use Rattle.vbr_core.specs.Nodes.{behind}
+use Rattle.vbr_core.specs.Runs.{IsRun, world_after}
+use Rattle.vbr_core.specs.declared.event.Event.{Event}
+use Rattle.vbr_core.specs.declared.event.Step.{Step}
+use Rattle.vbr_core.specs.declared.event.Step.TheVariants.{Publish, Mark, Unlink, ConfirmPresent, ConfirmAbsent}
+use Rattle.vbr_core.specs.declared.history.Op.{Op}
+use Rattle.vbr_core.specs.declared.knowledge.Read.TheVariants.{LinkAt}
+use Rattle.vbr_core.proofs.ConfirmSteps.{found_at}
+use Rattle.vbr_core.proofs.EveryRun.{run_agrees}
+use Rattle.vbr_core.proofs.ListedRuns.{unlink_takes_one, unlink_makes}
+use Rattle.vbr_slots.specs.Alone.{IsAlone, nodes, ahead}
+use Rattle.vbr_slots.specs.Views.{Trace, Did, knows, event_of}
+use Rattle.vbr_slots.proofs.Alone.{before_it, nodes_next, run_was, stands_found, found_now, same_leaves}
+use Rattle.vbr_slots.proofs.Calls.{did_run}
+use Rattle.vbr_access.specs.Alone.{StandsNow, UnlinksAlone}
+use Rattle.vbr_access.specs.Keeping.{Keeps}
+use Rattle.vbr_access.proofs.Keeping.{held_in_kept}
+use Rattle.vbr_access.specs.declared.held.Held.{Held}
+use Rattle.vbr_access.proofs.Moments.{won, lost, unanswered}
+use Rattle.vbr_access.proofs.UnlinkedLinks.{link_after}
+use Rattle.vbr_access.proofs.AloneReads.{shape_on}
+
+-- ---- none is lost
+
+module _ {p q : Trace} {r : ℕ} (is : IsShape p.shape) (alone : IsAlone p q) where
+  pub unlink_wins : (pred : At) (expected s : ℕ) → Did (Unlink pred expected s) p q r → r ≢ expected → link_at (nodes p) pred ≡ link_of expected → ⊥
+  unlink_wins pred expected s d other stands =
+      other (sym (lost expected r _ other d.shows.answers) ∙ found_now d alone ∙ found_at p.shape (world_after p.shape p.seen) pred ∙ stands_found p pred expected is (run_was d alone) stands)
+
+  pub publish_wins : (pred : At) (expected s : ℕ) → Did (Publish pred expected s) p q r → r ≢ expected → link_at (nodes p) pred ≡ link_of expected → ⊥
+  publish_wins pred expected s d other stands =
+      other (sym (lost expected r _ other d.shows.answers) ∙ found_now d alone ∙ found_at p.shape (world_after p.shape p.seen) pred ∙ stands_found p pred expected is (run_was d alone) stands)
+
+  pub mark_wins : (s expected : ℕ) → Did (Mark s expected) p q r → r ≢ expected → link_at (nodes p) (Slot s) ≡ link_of expected → ⊥
+  mark_wins s expected d other stands =
+      other (sym (lost expected r _ other d.shows.answers) ∙ found_now d alone ∙ stands_found p (Slot s) expected is (run_was d alone) stands)
+
+  pub present_confirmed : (op : Op) (s expected : ℕ) → Did (ConfirmPresent op s expected) p q r → r ≢ expected → link_at (nodes p) (Slot s) ≡ link_of expected → ⊥
+  present_confirmed op s expected d other stands =
+      other (sym (unanswered (present_reply op) expected r _ other d.shows.answers) ∙ found_now d alone ∙ stands_found p (Slot s) expected is (run_was d alone) stands)
+
+  pub absent_confirmed : (op : Op) (key : ℕ) (at : At) (expected : ℕ) → Did (ConfirmAbsent op key at expected) p q r → r ≢ expected → link_at (nodes p) at ≡ link_of expected → ⊥
+  absent_confirmed op key at expected d other stands =
+      other (sym (unanswered false expected r _ other d.shows.answers) ∙ found_now d alone ∙ found_at p.shape (world_after p.shape p.seen) at ∙ stands_found p at expected is (run_was d alone) stands)
+
+-- ---- a won unlinking
+
+module _ {p q : Trace} {expected s : ℕ} {pred : At} (is : IsShape p.shape) (d : Did (Unlink pred expected s) p q expected) (alone : IsAlone p q) where
+  won_now : found p.shape (world_after p.shape p.seen) (Unlink pred expected s) ≡ expected
+  won_now = sym (found_now d alone) ∙ won expected _ d.shows.answers
+
+  -- the link that was written stands there
+  pub written_stands : (new : ℕ) → link_written (knows p) (Unlink pred expected s) ≡ link_of new → link_at (nodes q) pred ≡ link_of new
+  written_stands new is_new =
+      image pred (run_agrees q.shape q.passes q.seen (shape_on d is) (did_run d))
+      ∙ ap (λ (shape : Dimensions). machine.link_at (world_after shape q.seen) pred) d.same.1 ∙ link_after d ∙ is_new
+    where
+      image : (at : At) → Agrees q.shape (world_after q.shape q.seen) (incarnations_after q.shape q.seen) (notes_after q.shape q.seen) → link_at (nodes q) at ≡ machine.link_at (world_after q.shape q.seen) at
+      image (Head b) g = sym (g.image.head b)
+      image (Slot t) g = sym (g.image.link t)
+
+  ahead_is : (bucket : ℕ) (at : At) → ahead q bucket at ≡ behind p.shape (incarnations_after p.shape (p.seen ++ event_of p.who (Unlink pred expected s) ∷ [])) bucket at
+  ahead_is bucket at = (λ i. behind (d.same.1 i) (nodes_next d alone i) bucket at)
+
+pub unlinked_alone : {p q : Trace} {s : ℕ} (held : Held) (new : ℕ) → IsShape p.shape → (d : Did (Unlink held.at held.word s) p q held.word) → IsAlone p q → Accepts p.shape (knows p) (Unlink held.at held.word s) → Knows (knows p) (LinkAt held.at (link_of held.word)) → (link_of held.word).mark ≡ false → StandsNow p held → link_written (knows p) (Unlink held.at held.word s) ≡ link_of new →
+    UnlinksAlone p q held (record { at = held.at; birth = held.birth; word = new; epoch = held.epoch })
+unlinked_alone {p} {q} {s} held new is d alone accepts known unmarked stands is_new =
+    let ok = run_was d alone in
+    let w = won_now is d alone in
+    record {
+      epoch = ap (λ (a : Incarnations). a.epoch) (nodes_next d alone ∙ unlink_makes p.shape p.passes p.seen is ok p.who held.at held.word s w);
+      stands = written_stands is d alone new is_new;
+      fewer = λ bucket inside. unlink_takes_one p.shape p.passes p.seen is ok p.who bucket held.at held.word s accepts w known unmarked stands inside ∙ ap suc (sym (ahead_is is d alone bucket held.at));
+    }
+
+-- an unlinking that came after what only read
+pub unlinks_after : (p q r : Trace) (pred place : Held) → q.shape ≡ p.shape → nodes q ≡ nodes p → Keeps (knows p) (knows q) → UnlinksAlone q r pred place → UnlinksAlone p r pred place
+unlinks_after p q r pred place shape same keeps x =
+    let l = same_leaves p q shape same in
+    record {
+      epoch = x.epoch ∙ l.epoch;
+      stands = x.stands;
+      fewer = λ bucket inside. sym (l.count bucket pred.at) ∙ x.fewer bucket (held_in_kept pred.at bucket keeps inside);
+    }

@@ -1,0 +1,24 @@
+-- What a pass that was alone holds: it stands as it was read.
+use Rattle.std.specs.Prelude.{◌≡◌, ℕ, suc, Option, Some, None}
+use Rattle.vbr_words.specs.Words.{link_of}
+use Rattle.vbr_words.specs.declared.place.At.{At}
+use Rattle.vbr_core.specs.Images.{link_at}
+use Rattle.vbr_core.specs.Membership.{HeldIn}
+use Rattle.vbr_slots.specs.Alone.{nodes, ahead}
+use Rattle.vbr_slots.specs.Views.{Trace, knows}
+use Rattle.vbr_access.specs.declared.held.Held.{Held}
+
+-- the link that is held is the one that stands at its place, after what the pass has seen
+abbrev pub StandsNow : Trace → Held → Type 0
+StandsNow q held = link_at (nodes q) held.at ≡ link_of held.word
+
+-- so it is of what was read behind a place, if that is a node
+abbrev pub NextStands : Trace → Option Held → Type 0
+NextStands q None = Unit {0}
+NextStands q (Some node) = StandsNow q node
+
+-- what a won unlinking behind a place leaves to a pass that was alone: the epoch and the new link stand, and one node fewer is behind the place in each bucket in which it is held
+pub record UnlinksAlone (p q : Trace) (pred place : Held) : Type 0 where
+  pub epoch : (nodes q).epoch ≡ (nodes p).epoch
+  pub stands : StandsNow q place
+  pub fewer : (bucket : ℕ) → HeldIn (knows p) pred.at bucket → ahead p bucket pred.at ≡ suc (ahead q bucket pred.at)

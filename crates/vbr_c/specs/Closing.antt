@@ -1,0 +1,29 @@
+-- What `vbr_close` tells.
+use Rattle.std.specs.Prelude.{◌≡◌, ℕ, ℤ, List, ◌++◌, length, take, drop, Option, None, Some, Result, Ok, Err}
+use Rattle.vbr_set.specs.declared.member.Member.{Member}
+use Rattle.vbr_set.specs.declared.report.Report.{Report}
+use Rattle.vbr_handles.specs.Closing.{ClosesAs}
+use Rattle.vbr_handles.specs.declared.closing.CloseRefusal.{CloseRefusal}
+use Rattle.vbr_c.specs.Codes.{close_code}
+use Rattle.vbr_c.specs.declared.Totals.{Totals}
+
+-- the numbers are those of the report, and its keys stand in front, as many as there is room for
+pub record IsTold (report : Report) (before after : List ℕ) (totals : Totals) : Type 0 where
+  pub epoch : totals.epoch ≡ report.epoch
+  pub live : totals.live ≡ report.live
+  pub marked : totals.marked ≡ report.marked
+  pub free : totals.free ≡ report.free
+  pub keys : after ≡ take (length before) report.keys.items ++ drop (length report.keys.items) before
+
+-- a report is told, and nothing is written where there is none
+abbrev pub Writes : Result (Option Report) CloseRefusal → List ℕ → List ℕ → Totals → Totals → Type 0
+Writes (Ok (Some report)) before after old new = IsTold report before after new
+Writes (Ok None) before after old new = (after ≡ before) × (new ≡ old)
+Writes (Err refusal) before after old new = (after ≡ before) × (new ≡ old)
+
+-- the code is that of an answer to the close, and a report is told
+pub record TellsClose (m n : Option Member) (before after : List ℕ) (old new : Totals) (code : ℤ) : Type 0 where
+  pub answer : Result (Option Report) CloseRefusal
+  pub is : code ≡ close_code answer
+  pub closes : ClosesAs m n answer
+  pub writes : Writes answer before after old new

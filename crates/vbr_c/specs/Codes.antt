@@ -1,0 +1,37 @@
+-- The number of each answer: 1 is yes, 0 is no or done, and each refusal has a number below 0.
+use Rattle.std.specs.Prelude.{ℤ, pos, negsuc, Bool, true, false, Option, None, Some, Result, Ok, Err}
+use Rattle.vbr_list.specs.declared.refusal.Refusal.{Refusal}
+use Rattle.vbr_list.specs.declared.refusal.Refusal.TheVariants.{OutOfSteps, NoSlot, EpochSpent}
+use Rattle.vbr_set.specs.declared.report.Report.{Report}
+use Rattle.vbr_handles.specs.declared.closing.CloseRefusal.{CloseRefusal}
+use Rattle.vbr_handles.specs.declared.closing.CloseRefusal.TheVariants as closing
+use Rattle.vbr_handles.specs.declared.opening.OpenRefusal.{OpenRefusal}
+use Rattle.vbr_handles.specs.declared.opening.OpenRefusal.TheVariants as opening
+
+-- of a call: 1 yes, 0 no, -1 out of steps, -2 no slot, -3 the epoch is spent
+abbrev pub call_code : Result Bool Refusal → ℤ
+call_code (Ok true) = pos 1
+call_code (Ok false) = pos 0
+call_code (Err (OutOfSteps used)) = negsuc 0
+call_code (Err NoSlot) = negsuc 1
+call_code (Err (EpochSpent epoch)) = negsuc 2
+
+-- of an empty handle: -4
+abbrev pub empty_code : ℤ
+empty_code = negsuc 3
+
+-- of an opening: 0 done, -5 a handle is in use, -6 a bad shape, -7 a bad count, -8 no memory
+abbrev pub open_code : Result (Unit {0}) OpenRefusal → ℤ
+open_code (Ok done) = pos 0
+open_code (Err opening.InUse) = negsuc 4
+open_code (Err opening.Shape) = negsuc 5
+open_code (Err opening.Passes) = negsuc 6
+open_code (Err opening.Memory) = negsuc 7
+
+-- of a close: 0 given back, 1 ended, -4 empty, -8 no memory, -9 a pass was lost
+abbrev pub close_code : Result (Option Report) CloseRefusal → ℤ
+close_code (Ok None) = pos 0
+close_code (Ok (Some report)) = pos 1
+close_code (Err closing.Empty) = negsuc 3
+close_code (Err closing.Memory) = negsuc 7
+close_code (Err closing.Lost) = negsuc 8

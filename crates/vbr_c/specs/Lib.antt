@@ -1,0 +1,4 @@
+pub mod Codes
+pub mod Opening
+pub mod Calls
+pub mod Closing

@@ -1,0 +1,93 @@
+//! Link words, shapes and the places of words.
+use std::test::Fail;
+use vbr_words::{
+    Link, Place, Shape, ShapeError, decode, encode, place_index, version_of, with_mark, word_count,
+};
+
+const UNMARKED: Link = Link {
+    slot: Some(0),
+    mark: false,
+    version: 1,
+};
+
+const MARKED_NONE: Link = Link {
+    slot: None,
+    mark: true,
+    version: 0,
+};
+
+#[test]
+fn packs_links(rt: HostRuntime) {
+    assert_eq!(rt; encode(UNMARKED), 2_097_153);
+    assert_eq!(rt; encode(MARKED_NONE), 1_048_576);
+    assert_eq!(rt; with_mark(2_097_153), 3_145_729);
+    assert_eq!(rt; with_mark(3_145_729), 3_145_729);
+    assert_eq!(rt; version_of(3, 5), 5);
+}
+
+#[test]
+fn unpacks_words(rt: HostRuntime) {
+    let greatest = Link {
+        slot: Some(1_048_574),
+        mark: true,
+        version: 8_796_093_022_207,
+    };
+    let none = Link {
+        slot: None,
+        mark: false,
+        version: 0,
+    };
+    let rows = [
+        (u64::MAX, greatest),
+        (0, none),
+        (2_097_153, UNMARKED),
+        (1_048_576, MARKED_NONE),
+    ];
+    for (word, link) in rows {
+        assert_eq!(rt; decode(word), link, "{word}");
+    }
+}
+
+#[test]
+fn lays_out_words(rt: HostRuntime) -> Result<(), Fail> {
+    let shape = Shape::new(3, 2, 10)?;
+    assert!(rt; shape.slots() == 3 && shape.buckets() == 2 && shape.last_epoch() == 10);
+    assert_eq!(rt; place_index(&shape, Place::LinkOf(1)), 8);
+    assert_eq!(rt; place_index(&shape, Place::Key(0)), 7);
+    assert_eq!(rt; place_index(&shape, Place::Flags(0)), 16);
+    assert_eq!(rt; word_count(&shape), 17);
+    Ok(())
+}
+
+#[test]
+fn refuses_shapes(rt: HostRuntime) {
+    let rows = [
+        ((0, 0, 0), Err(ShapeError::Slots)),
+        ((1_048_576, 1, 1), Err(ShapeError::Slots)),
+        ((1_048_575, 0, 1), Err(ShapeError::Buckets)),
+        ((1, 65_537, 0), Err(ShapeError::Buckets)),
+        ((1, 1, 0), Err(ShapeError::LastEpoch)),
+        ((1, 65_536, 8_796_093_022_208), Err(ShapeError::LastEpoch)),
+        (
+            (1_048_575, 65_536, 8_796_093_022_207),
+            Ok((1_048_575, 65_536, 8_796_093_022_207)),
+        ),
+    ];
+    for ((slots, buckets, last_epoch), answer) in rows {
+        let shape = Shape::new(slots, buckets, last_epoch);
+        let numbers = shape.map(|s| (s.slots(), s.buckets(), s.last_epoch()));
+        assert_eq!(rt; numbers, answer);
+    }
+}
+
+#[test]
+fn finds_buckets(rt: HostRuntime) -> Result<(), Fail> {
+    let sixteen = Shape::new(1, 16, 1)?;
+    assert_eq!(rt; sixteen.bucket_of(u64::MAX), 15);
+    assert_eq!(rt; sixteen.bucket_of(32), 0);
+    let three = Shape::new(1, 3, 1)?;
+    for (key, bucket) in [(0, 0), (2, 2), (3, 0), (u64::MAX, 0), (u64::MAX - 1, 2)] {
+        assert_eq!(rt; three.bucket_of(key), bucket, "{key}");
+    }
+    Ok(())
+}

@@ -1,0 +1,44 @@
+-- The three worked lists of events, computed: each is accepted, with its effects and with the link words that it names.
+use Rattle.std.proofs.Common.{ℕ, zero, suc, List, [], ◌∷◌, take, drop, rules, tests}
+use Rattle.std.specs.Prelude.{if◌then◌else◌}
+use Rattle.vbr_words.specs.Dimensions.{Dimensions}
+use Rattle.vbr_words.specs.Flags.{has_flag, first_bits, flag_word}
+use Rattle.vbr_words.specs.Words.{word_of, link_of}
+use Rattle.vbr_core.specs.Acceptance.{bucket_of}
+use Rattle.vbr_core.specs.Machine.{World, after, opening}
+use Rattle.vbr_core.specs.declared.event.Effect.{Effect}
+use Rattle.vbr_core.specs.declared.event.Step.{Step}
+use Rattle.vbr_event_lists.specs.Worked.{AreWorked, names_link, others_of}
+use Rattle.vbr_event_lists.specs.declared.lists.TheConstants.{REBORN_SLOT, SAME_WORD, TWO_HELPERS, REBORN_SLOT_WORDS, SAME_WORD_WORDS, TWO_HELPERS_WORDS}
+
+abbrev pub three_slots : Dimensions
+three_slots = record { slots = 3; buckets = 1; last_epoch = 10 }
+
+abbrev pub one_slot : Dimensions
+one_slot = record { slots = 1; buckets = 1; last_epoch = 10 }
+
+pub two_helpers : AreWorked one_slot opening TWO_HELPERS TWO_HELPERS_WORDS
+unfolding bucket_of link_of word_of has_flag first_bits flag_word
+two_helpers = search (rules, tests)
+
+pub reborn_slot : AreWorked three_slots opening REBORN_SLOT REBORN_SLOT_WORDS
+unfolding bucket_of link_of word_of has_flag first_bits flag_word
+reborn_slot = search (rules, tests)
+
+-- the world and the words that are left after so many rows
+abbrev pub left_after : Dimensions → ℕ → List (ℕ × Step × Effect) → World → List ℕ → World × List ℕ
+left_after shape (suc n) (row ∷ rows) w words = left_after shape n rows (after shape w row.0 row.1) (if names_link row.1 then others_of words else words)
+left_after shape zero rows w words = (w, words)
+left_after shape (suc n) [] w words = (w, words)
+
+-- rows are worked where the first of them are, and then the others
+worked_in_two : (shape : Dimensions) (n : ℕ) (rows : List (ℕ × Step × Effect)) (w : World) (words : List ℕ) → AreWorked shape w (take n rows) words → AreWorked shape (left_after shape n rows w words).0 (drop n rows) (left_after shape n rows w words).1 → AreWorked shape w rows words
+worked_in_two shape zero rows w words first later = later
+worked_in_two shape (suc n) [] w words first later = later
+worked_in_two shape (suc n) (row ∷ rows) w words first later =
+    (first.0, first.1, first.2, first.3, worked_in_two shape n rows (after shape w row.0 row.1) (if names_link row.1 then others_of words else words) first.4 later)
+
+-- in two parts, since the whole is too long for one search
+pub same_word : AreWorked three_slots opening SAME_WORD SAME_WORD_WORDS
+unfolding bucket_of link_of word_of has_flag first_bits flag_word
+same_word = worked_in_two three_slots 18 SAME_WORD opening SAME_WORD_WORDS (search (rules, tests)) (search (rules, tests))

@@ -1,0 +1,42 @@
+-- A list of events of two passes that is accepted, with its effects and with the link words that callers name.
+use Rattle.std.specs.Prelude.{◌≡◌, ℕ, List, [], ◌∷◌, Bool, true, false, if◌then◌else◌}
+use Rattle.vbr_words.specs.Dimensions.{Dimensions}
+use Rattle.vbr_words.specs.Words.{word_of}
+use Rattle.vbr_core.specs.Knowledge.{Know}
+use Rattle.vbr_core.specs.Learning.{effect_of, link_written}
+use Rattle.vbr_core.specs.Machine.{World, found, stamp_shown, after}
+use Rattle.vbr_core.specs.Runs.{IsAccepted}
+use Rattle.vbr_core.specs.declared.event.Effect.{Effect}
+use Rattle.vbr_core.specs.declared.event.Step.{Step}
+use Rattle.vbr_core.specs.declared.event.Step.TheVariants.{StoreLink, Publish, Unlink}
+
+-- whether the step writes a link word that its caller names
+abbrev pub names_link : Step → Bool
+names_link (StoreLink s next) = true
+names_link (Publish pred expected s) = true
+names_link (Unlink pred expected s) = true
+names_link _ = false
+
+-- the first of the words; 0 where there is none
+abbrev pub first_of : List ℕ → ℕ
+first_of [] = 0
+first_of (word ∷ words) = word
+
+-- the words after the first
+abbrev pub others_of : List ℕ → List ℕ
+others_of [] = []
+others_of (word ∷ words) = words
+
+-- the word is the one that the step writes, if its caller names it
+abbrev pub IsNew : Know → Step → ℕ → Type 0
+IsNew know (StoreLink s next) word = word ≡ word_of (link_written know (StoreLink s next))
+IsNew know (Publish pred expected s) word = word ≡ word_of (link_written know (Publish pred expected s))
+IsNew know (Unlink pred expected s) word = word ≡ word_of (link_written know (Unlink pred expected s))
+IsNew know _ word = Unit {0}
+
+-- the rows are events that are accepted one after another from a world on, each with its effect; the words are the link words that callers name; and each slot that is taken has the stamp 0
+abbrev pub AreWorked : Dimensions → World → List (ℕ × Step × Effect) → List ℕ → Type 0
+AreWorked shape w [] words = Unit {0}
+AreWorked shape w (row ∷ rows) words =
+    IsAccepted shape 2 w (record { pass = row.0; step = row.1 }) × (effect_of row.1 (found shape w row.1) ≡ row.2) × (stamp_shown w row.1 ≡ 0) × IsNew (w.know row.0) row.1 (first_of words)
+    × AreWorked shape (after shape w row.0 row.1) rows (if names_link row.1 then others_of words else words)

@@ -1,0 +1,10 @@
+//! The worked lists of events, which tests follow, with what is computed of them.
+#![tactic(auto)]
+
+mod lists;
+mod standing;
+
+pub use lists::{
+    REBORN_SLOT, REBORN_SLOT_WORDS, Row, SAME_WORD, SAME_WORD_WORDS, TWO_HELPERS, TWO_HELPERS_WORDS,
+};
+pub use standing::{STANDING, STANDING_WORDS};

@@ -1,0 +1,4 @@
+pub mod Handles
+pub mod Lent
+pub mod Opening
+pub mod Closing

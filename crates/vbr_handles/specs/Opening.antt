@@ -1,0 +1,31 @@
+-- What an opening of handles answers, and what it leaves in them.
+use Rattle.std.specs.Prelude.{◌≡◌, ℕ, ◌<◌, ◌⊎◌, All, List, length, map, None, Some, Result, Ok, Err}
+use Rattle.vbr_words.specs.Dimensions.{Dimensions, IsShape}
+use Rattle.vbr_slots.specs.Views.{TableView}
+use Rattle.vbr_set.specs.Members.{new_members}
+use Rattle.vbr_handles.specs.declared.handle.Handle.{Handle}
+use Rattle.vbr_handles.specs.declared.opening.OpenRefusal.{OpenRefusal}
+use Rattle.vbr_handles.specs.declared.opening.OpenRefusal.TheVariants.{InUse, Shape, Passes, Memory}
+
+-- no handle has a member
+abbrev pub AreEmpty : List Handle → Type 0
+AreEmpty handles = All (λ handle. handle.member ≡ None) handles
+
+-- not from 1 to 64
+abbrev pub IsBadCount : ℕ → Type 0
+IsBadCount count = (count ≡ 0) ⊎ (64 < count)
+
+-- each handle is full, all are of one set of the shape, which was opened with so many passes, and each has the fresh pass of its number
+pub record AreOpened (shape : Dimensions) (handles : List Handle) : Type 0 where
+  pub set : TableView
+  pub shaped : set.shape ≡ shape
+  pub counted : set.passes ≡ length handles
+  pub members : map (λ handle. handle.member) handles ≡ map Some (new_members set (length handles))
+
+-- the handles are opened where they were empty and the numbers are in range; and else they are as they were, and the answer is the first test that failed
+abbrev pub Opens : List Handle → List Handle → Dimensions → Result (Unit {0}) OpenRefusal → Type 0
+Opens before after shape (Ok done) = AreEmpty before × IsShape shape × ¬ (IsBadCount (length before)) × AreOpened shape after
+Opens before after shape (Err InUse) = (after ≡ before) × ¬ (AreEmpty before)
+Opens before after shape (Err Shape) = (after ≡ before) × AreEmpty before × ¬ (IsShape shape)
+Opens before after shape (Err Passes) = (after ≡ before) × AreEmpty before × IsShape shape × IsBadCount (length before)
+Opens before after shape (Err Memory) = (after ≡ before) × AreEmpty before × IsShape shape × ¬ (IsBadCount (length before))

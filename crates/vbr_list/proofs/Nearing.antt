@@ -1,0 +1,192 @@
+-- A pass that was alone comes nearer to the key, node by node.
+use Rattle.std.proofs.Common.{◌≡◌, ℕ, suc, ◌+◌, ◌*◌, ◌≤◌, true, false, Option, Some, None, refl, sym, ap, ◌∙◌, subst, arith, inl, inr}
+use Rattle.std.specs.Prelude.{Result, Ok, Err, IfOk, IfErr}
+use Rattle.vbr_words.specs.Dimensions.{Dimensions}
+use Rattle.vbr_words.specs.Words.{link_of}
+use Rattle.vbr_words.specs.declared.place.At.{At}
+use Rattle.vbr_words.specs.declared.place.At.TheVariants.{Head, Slot}
+use Rattle.vbr_core.specs.Acceptance.{bucket_of}
+use Rattle.vbr_core.specs.Images.{link_at}
+use Rattle.vbr_core.specs.Incarnations.{Incarnations}
+use Rattle.vbr_core.specs.Membership.{HeldIn}
+use Rattle.vbr_core.specs.Nodes.{is_there}
+use Rattle.vbr_core.proofs.ListedRuns.{named_there, one_fewer_behind}
+use Rattle.vbr_slots.specs.Alone.{IsAlone, IsFresh, LeavesLists, ahead, nodes}
+use Rattle.vbr_slots.specs.Calls.{Quiet}
+use Rattle.vbr_slots.specs.Views.{Trace, PassView, knows}
+use Rattle.vbr_slots.proofs.Alone.{alone_first, alone_then, same_leaves, leaves_on}
+use Rattle.vbr_access.specs.Alone.{StandsNow, NextStands, UnlinksAlone}
+use Rattle.vbr_access.specs.Held.{Names, held_of}
+use Rattle.vbr_access.specs.Keeping.{Keeps}
+use Rattle.vbr_access.specs.Moments.{IsNext}
+use Rattle.vbr_access.specs.Soundness.{IsSound}
+use Rattle.vbr_access.specs.declared.held.Held.{Held}
+use Rattle.vbr_access.specs.declared.held.Marked.{Marked}
+use Rattle.vbr_access.specs.declared.rollback.Rollback.{Rollback}
+use Rattle.vbr_access.proofs.AloneReads.{fresh_kept}
+use Rattle.vbr_list.specs.Budgets.{listed_for}
+use Rattle.vbr_list.specs.Nearing.{StillAt, HelpsAlone, IsThere, Nears, FoundAlone, Passes, SeenAlone, IsFirst, ahead_for}
+use Rattle.vbr_list.specs.Places.{IsInside}
+use Rattle.vbr_list.proofs.Reaching.{slot_same}
+use Rattle.std.specs.Prelude.{IsSome, zero}
+use Rattle.vbr_list.specs.declared.found.Found.{Found}
+use Rattle.vbr_list.specs.declared.looking.Sight.TheVariants.{Present, Absent}
+
+-- ---- two pieces
+
+pub first_of : {p q r : Trace} → Quiet p q → Quiet q r → IsAlone p r → IsAlone p q
+first_of a b alone = alone_first a.seen b.seen alone
+
+pub then_of : {p q r : Trace} → Quiet p q → Quiet q r → IsAlone p r → IsAlone q r
+then_of a b alone = alone_then a.same.who a.seen b.seen alone
+
+-- pieces that only read
+pub looks_leave : {p q : Trace} → Quiet p q → nodes q ≡ nodes p → LeavesLists p q
+looks_leave {p} {q} a same = same_leaves p q a.same.shape same
+
+pub two_looks : {p q r : Trace} → Quiet p q → Quiet q r → (IsAlone p q → nodes q ≡ nodes p) → (IsAlone q r → nodes r ≡ nodes q) → IsAlone p r → nodes r ≡ nodes p
+two_looks a b x y alone = y (then_of a b alone) ∙ x (first_of a b alone)
+
+-- ---- a start
+
+pub start_stands : {p q r : Trace} (bucket : ℕ) (head : Result Held Rollback) → Quiet p q → Quiet q r → IsFresh q → (IsAlone q r → nodes r ≡ nodes q) → IfOk head (λ _. Keeps (knows q) (knows r)) → IfOk head (λ h. IsAlone q r → StandsNow r h) → IfOk head (λ h. h.at ≡ Head bucket) → IfOk head (λ h. IsAlone p r → StillAt r h × (h.at ≡ Head bucket))
+start_stands bucket (Err e) a b fresh looks keeps stands at = tt
+start_stands {p} {q} {r} bucket (Ok h) a b fresh looks keeps stands at = λ alone.
+    let then = then_of a b alone in
+    (record { fresh = fresh_kept q r (looks then) keeps fresh; stands = stands then }, at)
+
+pub start_still : {p q r : Trace} (head : Result Held Rollback) → Quiet p q → Quiet q r → IsFresh q → IfErr head (λ _. IsFresh q → IsAlone q r → ⊥) → IfErr head (λ _. IsAlone p r → ⊥)
+start_still (Err e) a b fresh still = λ alone. still fresh (then_of a b alone)
+start_still (Ok h) a b fresh still = tt
+
+-- ---- a visit
+
+-- behind what the link of a place names there is one node fewer
+one_behind : (p : PassView) → IsSound p → (key : ℕ) (pred : Held) → IsInside p.trace.shape (knows p.trace) key pred → IsThere p.trace pred → StandsNow p.trace pred → (s : ℕ) → Names pred s → ahead_for p.trace key pred ≡ suc (ahead p.trace (bucket_of p.trace.shape key) (Slot s))
+one_behind p sound key pred x there stands s names =
+    one_fewer_behind p.trace.shape p.trace.passes p.trace.seen sound.shape sound.is_run p.trace.who (bucket_of p.trace.shape key) pred.at (link_of pred.word) x.held.link there stands x.inside s names
+
+-- in lists as they were
+pub ahead_same : (p q : Trace) (key : ℕ) (at : At) → LeavesLists p q → q.shape ≡ p.shape → ahead q (bucket_of q.shape key) at ≡ ahead p (bucket_of p.shape key) at
+ahead_same p q key at l shape = ap (λ (s : Dimensions). ahead q (bucket_of s key) at) shape ∙ l.count (bucket_of p.shape key) at
+
+pub listed_same : (p q : Trace) (key : ℕ) → LeavesLists p q → q.shape ≡ p.shape → listed_for q key ≡ listed_for p key
+listed_same p q key l shape = ap (λ (s : Dimensions). ahead q (bucket_of s key) (Head (bucket_of s key))) shape ∙ l.count (bucket_of p.shape key) (Head (bucket_of p.shape key))
+
+pub visited : (p : PassView) → IsSound p → (q r : Trace) (key : ℕ) (pred node : Held) → IsInside p.trace.shape (knows p.trace) key pred → IsThere p.trace pred → StandsNow p.trace pred → IsNext p.trace q pred (Some node) → LeavesLists p.trace r → r.shape ≡ p.trace.shape → ahead_for p.trace key pred ≡ suc (ahead_for r key node)
+visited p sound q r key pred node x there stands n l shape =
+    one_behind p sound key pred x there stands n.0 n.1
+    ∙ ap suc (sym (ahead_same p.trace r key (Slot n.0) l shape) ∙ ap (ahead r (bucket_of r.shape key)) (sym n.2))
+
+-- the node that was read stands in its fresh epoch, also once its key was read
+pub node_still_there : (p q r : Trace) (node : Held) → nodes q ≡ nodes p → nodes r ≡ nodes q → Keeps (knows p) (knows q) → Keeps (knows q) (knows r) → IsFresh p → StandsNow q node → StillAt r node
+node_still_there p q r node x y k l fresh stands = record { fresh = fresh_kept q r y l (fresh_kept p q x k fresh); stands = ap (λ a. link_at a node.at) y ∙ stands }
+
+-- ---- a help
+
+pub helped_alone : (p q r : Trace) (key : ℕ) (pred place : Held) → HeldIn (knows p) pred.at (bucket_of p.shape key) → place.at ≡ pred.at → q.shape ≡ p.shape → r.shape ≡ q.shape → UnlinksAlone p q pred place → LeavesLists q r → IsFresh r → HelpsAlone p r key pred place
+helped_alone p q r key pred place inside at s1 s2 x l fresh = record {
+  keeps = record { fresh = fresh; stands = l.links place.at ∙ x.stands };
+  fewer = x.fewer (bucket_of p.shape key) inside ∙ ap suc (sym (ahead_same q r key place.at l s2 ∙ ap (λ (s : Dimensions). ahead q (bucket_of s key) place.at) s1 ∙ ap (ahead q (bucket_of p.shape key)) at));
+}
+
+-- ---- errors that are handed on
+
+pub either : {A E P : Type 0} (x : Result A E) → P → IfErr x (λ _. P)
+either (Ok a) p = tt
+either (Err e) p = p
+
+-- ---- from place to place
+
+pub nears_start : (p q : Trace) (bucket key before since : ℕ) (head : Held) → LeavesLists p q → q.shape ≡ p.shape → bucket ≡ bucket_of p.shape key → since ≡ before + 3 → StillAt q head × (head.at ≡ Head bucket) → Nears p q key before since head
+nears_start p q bucket key before since head l shape is sum x =
+    let a : ahead_for q key head ≡ listed_for p key = ahead_same p q key head.at l shape ∙ ap (ahead p (bucket_of p.shape key)) (x.1 ∙ ap Head is) in
+    record { keeps = x.0; paid = omega (arith, a, sum) }
+
+pub nears_visit : (p q r : Trace) (key before a b : ℕ) (pred node : Held) → Nears p q key before a pred → LeavesLists q r → r.shape ≡ q.shape → b ≡ a + 5 → StillAt r node × (ahead_for q key pred ≡ suc (ahead_for r key node)) → Nears p r key before b node
+nears_visit p q r key before a b pred node x l shape sum y =
+    record { keeps = y.0; paid = (let u = x.paid in let v = y.1 in omega (arith, u, v, sum)) }
+
+pub nears_help : (p q r s : Trace) (key before a b c : ℕ) (pred place : Held) → Nears p q key before a pred → LeavesLists q r → r.shape ≡ q.shape → b ≡ a + 3 → c ≤ b + 6 → HelpsAlone r s key pred place → Nears p s key before c place
+nears_help p q r s key before a b c pred place x l shape sum few y =
+    let d : ahead_for r key pred ≡ ahead_for q key pred = ahead_same q r key pred.at l shape in
+    record { keeps = y.keeps; paid = (let u = x.paid in let v = y.fewer in omega (arith, u, v, d, sum, few)) }
+
+-- what stands in lists as they were
+pub stands_on : (q r : Trace) (pred : Held) → LeavesLists q r → StandsNow q pred → StandsNow r pred
+stands_on q r pred l stands = l.links pred.at ∙ stands
+
+-- ---- at the key
+
+pub found_beyond : (p q r : Trace) (key before a b : ℕ) (pred node : Held) (found : Found) → Nears p q key before a pred → LeavesLists q r → r.shape ≡ q.shape → b ≡ a + 5 → StillAt r node × (ahead_for q key pred ≡ suc (ahead_for r key node)) → found.pred ≡ pred → found.cur ≡ Some node → FoundAlone p r key before b found
+found_beyond p q r key before a b pred node found x l shape sum y is cur =
+    let P : Held → Type 0 = StillAt r in
+    let Q : Option Held → Type 0 = NextStands r in
+    record {
+      pred = subst P (sym is) (record { fresh = y.0.fresh; stands = stands_on q r pred l x.keeps.stands });
+      cur = subst Q (sym cur) y.0.stands;
+      paid = (let u = x.paid in let v = y.1 in omega (arith, u, v, sum));
+    }
+
+pub found_end : (p q : Trace) (key before a : ℕ) (pred : Held) (found : Found) → Nears p q key before a pred → found.pred ≡ pred → found.cur ≡ None → FoundAlone p q key before a found
+found_end p q key before a pred found x is cur =
+    let P : Held → Type 0 = StillAt q in
+    let Q : Option Held → Type 0 = NextStands q in
+    record { pred = subst P (sym is) x.keeps; cur = subst Q (sym cur) tt; paid = (let u = x.paid in omega (arith, u)) }
+
+-- ---- past marked nodes
+
+-- a marked node behind a place of the list is in the list too
+pub named_in_list : (p : PassView) → IsSound p → (r : Trace) (key : ℕ) (pred : Held) → IsInside p.trace.shape (knows p.trace) key pred → IsThere p.trace pred → StandsNow p.trace pred → (s : ℕ) → Names pred s → nodes r ≡ nodes p.trace → is_there (nodes r) (Slot s) ≡ true
+named_in_list p sound r key pred x there stands s names same =
+    ap (λ a. is_there a (Slot s)) same
+    ∙ named_there p.trace.shape p.trace.passes p.trace.seen sound.shape sound.is_run p.trace.who (bucket_of p.trace.shape key) pred.at (link_of pred.word) x.held.link there stands x.inside s names
+
+-- what a visit of a marked node leaves
+pub marked_alone : (p : PassView) → IsSound p → (q : Trace) (key : ℕ) (pred node : Held) (marked : Marked) → Quiet p.trace q → IsInside p.trace.shape (knows p.trace) key pred → IsThere p.trace pred → StandsNow p.trace pred → IsNext p.trace q pred (Some node) → held_of marked ≡ node → nodes q ≡ nodes p.trace → Keeps (knows p.trace) (knows q) → IsFresh p.trace → StandsNow q node →
+    StillAt q (held_of marked) × (ahead_for p.trace key pred ≡ suc (ahead_for q key (held_of marked))) × (is_there (nodes q) (Slot marked.slot) ≡ true)
+marked_alone p sound q key pred node marked quiet x there stands n e same keeps fresh now =
+    let P : Held → Type 0 = λ h. StillAt q h × (ahead_for p.trace key pred ≡ suc (ahead_for q key h)) in
+    let both = subst P (sym e) (record { fresh = fresh_kept p.trace q same keeps fresh; stands = now }, visited p sound q q key pred node x there stands n (looks_leave quiet same) quiet.same.shape) in
+    let s : n.0 ≡ marked.slot = slot_same marked.slot n.0 (ap (λ (h : Held). h.at) e ∙ n.2) in
+    let Q : ℕ → Type 0 = λ t. is_there (nodes q) (Slot t) ≡ true in
+    (both.0, both.1, subst Q s (named_in_list p sound q key pred x there stands n.0 n.1 same))
+
+pub passes_start : (p q : Trace) (bucket key before since : ℕ) (head : Held) → LeavesLists p q → q.shape ≡ p.shape → bucket ≡ bucket_of p.shape key → since ≡ before + 3 → (link_of head.word).mark ≡ false → StillAt q head × (head.at ≡ Head bucket) → Passes p q key before since head head
+passes_start p q bucket key before since head l shape is sum unmarked x =
+    let a : ahead_for q key head ≡ listed_for p key = ahead_same p q key head.at l shape ∙ ap (ahead p (bucket_of p.shape key)) (x.1 ∙ ap Head is) in
+    record { last = x.0; place = x.0; there = inl unmarked; paid = omega (arith, a, sum) }
+
+-- past a node with a smaller key
+pub passes_smaller : (p q r : Trace) (key before a b : ℕ) (pred here node : Held) → Passes p q key before a pred here → b ≡ a + 5 → (link_of node.word).mark ≡ false → StillAt r node × (ahead_for q key here ≡ suc (ahead_for r key node)) → Passes p r key before b node node
+passes_smaller p q r key before a b pred here node x sum unmarked y = record { last = y.0; place = y.0; there = inl unmarked; paid = (let u = x.paid in let v = y.1 in omega (arith, u, v, sum)) }
+
+-- past a marked node
+pub passes_marked : (p q r : Trace) (key before a b : ℕ) (pred here node : Held) → Passes p q key before a pred here → LeavesLists q r → IsFresh r → b ≡ a + 3 → StillAt r node × (ahead_for q key here ≡ suc (ahead_for r key node)) × (is_there (nodes r) node.at ≡ true) → Passes p r key before b pred node
+passes_marked p q r key before a b pred here node x l fresh sum y = record { last = record { fresh = fresh; stands = stands_on q r pred l x.last.stands }; place = y.0; there = inr y.2; paid = (let u = x.paid in let v = y.1 in omega (arith, u, v, sum)) }
+
+-- at the node with the key
+pub sight_present : (p q r : Trace) (key before a b : ℕ) (pred here node : Held) → Passes p q key before a pred here → b ≡ a + 5 → StillAt r node × (ahead_for q key here ≡ suc (ahead_for r key node)) → SeenAlone p r key before b (Present node)
+sight_present p q r key before a b pred here node x sum y = record { stands = y.0.stands; paid = (let u = x.paid in let v = y.1 in omega (arith, u, v, sum)) }
+
+-- at a node with a greater key
+pub sight_absent : (p q r : Trace) (key before a b : ℕ) (pred here node : Held) → Passes p q key before a pred here → LeavesLists q r → b ≡ a + 5 → StillAt r node × (ahead_for q key here ≡ suc (ahead_for r key node)) → SeenAlone p r key before b (Absent pred)
+sight_absent p q r key before a b pred here node x l sum y = record { stands = stands_on q r pred l x.last.stands; paid = (let u = x.paid in let v = y.1 in omega (arith, u, v, sum)) }
+
+-- at the end of the list
+pub sight_end : (p q : Trace) (key before a : ℕ) (pred here : Held) → Passes p q key before a pred here → SeenAlone p q key before a (Absent pred)
+sight_end p q key before a pred here x = record { stands = x.last.stands; paid = (let u = x.paid in omega (arith, u)) }
+
+-- ---- again
+
+-- a pass that rolls back was not alone
+pub first_lost : (p q r : PassView) {a b c : ℕ} → IsFirst p q a b → Quiet p.trace q.trace → Quiet q.trace r.trace → (IsAlone q.trace r.trace → ⊥) → IsFirst p r a c
+first_lost p q r x y z lost = inl (λ alone. lost (then_of y z alone))
+
+-- alone, it is the first time
+pub at_first : (P : PassView → ℕ → Type 0) (p q r : PassView) {a b : ℕ} → IsFirst p q a b → Quiet p.trace q.trace → Quiet q.trace r.trace → IsAlone p.trace r.trace → (IsAlone q.trace r.trace → P q b) → P p a
+at_first P p q r (inl never) y z alone found = absurd (never (first_of y z alone))
+at_first P p q r {a} {b} (inr same) y z alone found =
+    let Q : ℕ → Type 0 = λ n. P q n in
+    let R : PassView → Type 0 = λ s. P s a in
+    subst R same.0 (subst Q same.1 (found (then_of y z alone)))

@@ -1,0 +1,76 @@
+-- The steps of an insert by a pass that was alone.
+use Rattle.std.proofs.Common.{◌≡◌, ◌≢◌, ℕ, ◌+◌, ◌*◌, ◌-◌, ◌<◌, ◌≤◌, max, List, [], ◌∷◌, Result, Ok, Err, refl, sym, ap, ◌∙◌, subst, arith}
+use Rattle.std.specs.Prelude.{IfErr}
+use Rattle.vbr_words.specs.Dimensions.{Dimensions}
+use Rattle.vbr_words.specs.declared.place.At.TheVariants.{Head}
+use Rattle.vbr_core.specs.Acceptance.{bucket_of}
+use Rattle.vbr_slots.specs.Alone.{IsAlone, ahead}
+use Rattle.vbr_slots.specs.Calls.{Quiet}
+use Rattle.vbr_slots.specs.Views.{Trace, PassView}
+use Rattle.vbr_slots.proofs.Alone.{quiet_adds_none}
+use Rattle.vbr_pools.specs.Budgets.{NeedsMore, most_to_take, steps_to_take}
+use Rattle.vbr_access.specs.Soundness.{IsSound}
+use Rattle.vbr_list.specs.Budgets.{IsAnsweredOrSpent, LacksSteps, listed_for}
+use Rattle.vbr_list.specs.Inserting.{IsShort, Refuses}
+use Rattle.vbr_list.specs.declared.refusal.Refusal.{Refusal}
+use Rattle.vbr_list.specs.declared.refusal.Refusal.TheVariants.{OutOfSteps, NoSlot, EpochSpent}
+
+-- a pass that was alone and made no call has no more nodes in the list of a key's bucket
+pub no_more_listed : (p : PassView) → IsSound p → (q : Trace) (key : ℕ) → Quiet p.trace q → IsAlone p.trace q → listed_for q key ≤ listed_for p.trace key
+no_more_listed p sound q key quiet alone =
+    let P : Dimensions → Type 0 = λ shape. ahead q (bucket_of shape key) (Head (bucket_of shape key)) ≤ listed_for p.trace key in
+    subst P (sym quiet.same.shape) (quiet_adds_none sound.shape sound.is_run quiet alone (bucket_of p.trace.shape key) (bucket_of p.trace.shape key))
+
+-- where an own pool with slots keeps some, a slot is taken in no more steps than were allowed for before
+pub take_later : (shape : Dimensions) (before now : List ℕ) → (before ≢ [] → now ≢ []) → steps_to_take shape now ≤ most_to_take shape before
+take_later shape [] [] some = omega arith
+take_later shape [] (s ∷ now) some = omega arith
+take_later shape (s ∷ before) [] some = absurd (some (λ e. absurd (cc)) refl)
+take_later shape (s ∷ before) (t ∷ now) some = omega arith
+
+pub take_after : (p q : PassView) → Quiet p.trace q.trace → (p.pool ≢ [] → q.pool ≢ []) → steps_to_take q.trace.shape q.pool ≤ most_to_take p.trace.shape p.pool
+take_after p q quiet some =
+    let P : Dimensions → Type 0 = λ shape. steps_to_take shape q.pool ≤ most_to_take p.trace.shape p.pool in
+    subst P (sym quiet.same.shape) (take_later p.trace.shape p.pool q.pool some)
+
+pub take_least : (shape : Dimensions) (pool : List ℕ) → 68 ≤ most_to_take shape pool
+take_least shape [] = omega arith
+take_least shape (s ∷ pool) = omega arith
+
+-- a budget that is short of so many steps is short of more
+pub lacks_more : (m n budget : ℕ) (refusal : Refusal) → m ≤ n → LacksSteps m budget refusal → LacksSteps n budget refusal
+lacks_more m n budget (OutOfSteps used) le short = omega (arith, le, short)
+lacks_more m n budget NoSlot le short = tt
+lacks_more m n budget (EpochSpent epoch) le short = tt
+
+pub lacks : (n budget : ℕ) (refusal : Refusal) → budget < n → LacksSteps n budget refusal
+lacks n budget (OutOfSteps used) short = short
+lacks n budget NoSlot short = tt
+lacks n budget (EpochSpent epoch) short = tt
+
+-- a refusal for want of a slot comes of an empty own pool
+pub refused_empty : (p q : PassView) (key before budget : ℕ) (refusal : Refusal) → Refuses p q key before budget refusal → refusal ≡ NoSlot → p.pool ≡ []
+refused_empty p q key before budget (OutOfSteps used) x e = absurd (cc)
+refused_empty p q key before budget NoSlot x e = x.empty
+refused_empty p q key before budget (EpochSpent epoch) x e = absurd (cc)
+
+pub never_refused : (pool : List ℕ) (p q : PassView) (before budget : ℕ) (refusal : Refusal) → IsShort p q before budget refusal → refusal ≡ NoSlot → pool ≡ []
+never_refused pool p q before budget (OutOfSteps used) x e = absurd (cc)
+never_refused pool p q before budget NoSlot x e = absurd x
+never_refused pool p q before budget (EpochSpent epoch) x e = absurd x
+
+-- with slots in the own pool an insert that has steps enough is answered, or the epoch is spent
+pub answered_or_spent : {A : Type 0} (p q : PassView) (budget n : ℕ) (answer : Result A Refusal) → p.pool ≢ [] → IsAlone p.trace q.trace → 18 * n + 82 ≤ budget → IfErr answer (λ refusal. refusal ≡ NoSlot → p.pool ≡ []) → IfErr answer (λ refusal. IsAlone p.trace q.trace → LacksSteps (18 * n + most_to_take p.trace.shape p.pool + 14) budget refusal) → IsAnsweredOrSpent answer
+answered_or_spent p q budget n (Ok reply) some alone enough none lacks = tt
+answered_or_spent p q budget n (Err (OutOfSteps used)) some alone enough none lacks = short p.pool some (lacks alone)
+  where
+    short : (pool : List ℕ) → pool ≢ [] → budget < 18 * n + most_to_take p.trace.shape pool + 14 → ⊥
+    short [] some lacks = some refl
+    short (s ∷ pool) some lacks = omega (arith, enough, lacks)
+answered_or_spent p q budget n (Err NoSlot) some alone enough none lacks = some (none refl)
+answered_or_spent p q budget n (Err (EpochSpent epoch)) some alone enough none lacks = tt
+
+-- what is so of each error of an answer
+pub each_error : {A E : Type 0} (P Q : E → Type 0) (x : Result A E) → ((e : E) → P e → Q e) → IfErr x P → IfErr x Q
+each_error P Q (Ok a) f h = tt
+each_error P Q (Err e) f h = f e h

@@ -1,0 +1,71 @@
+-- The lines of the next phase, behind those of the phases before.
+use Rattle.std.proofs.Common.{◌≡◌, ℕ, ◌+◌, ◌-◌, ◌<◌, ◌≤◌, eqb, List, [], ◌++◌, length, take, drop, refl, sym, ap, subst, ◌∙◌, arith, append-nil, length-drop}
+use Rattle.std.specs.Prelude.{All}
+use Rattle.std.specs.List.{prefix_len}
+use Rattle.std.proofs.Math.Seq.{take-add}
+use Rattle.std.proofs.lemmas.List.{drop-drop, take_all, take-append-drop}
+use Rattle.std.proofs.lemmas.List.Elements.{All-append, All-drop}
+use Rattle.vbr_slots.specs.Views.{TableView}
+use Rattle.vbr_transcript.specs.Calls.{lines_up_to}
+use Rattle.vbr_player.specs.Meeting.{PlayedAndMet}
+use Rattle.vbr_script.specs.Scripts.{AscendFrom}
+use Rattle.vbr_player.specs.Standing.{Stand}
+use Rattle.vbr_player.specs.Working.{IsReady}
+use Rattle.vbr_script.specs.declared.script.Line.{Line}
+use Rattle.vbr_player.specs.declared.worker.Worker.{Worker}
+use Rattle.vbr_player.proofs.Standing.{all_ready, stand_next}
+use Rattle.vbr_player.proofs.Slices.{next_phase, lines_up_to-front, none_left}
+
+-- the next lines of a phase are cut off the rest
+pub record Cuts (script : List Line) (first n phase : ℕ) : Type 0 where
+  pub taken : take (first + n) script ≡ take first script ++ take n (drop first script)
+  pub left : script ≡ (take first script ++ take n (drop first script)) ++ drop (first + n) script
+  pub up_to : lines_up_to phase script ≡ take first script ++ take n (drop first script)
+  pub early : All (λ line. line.phase < phase + 1) (take (first + n) script)
+  pub later : AscendFrom (phase + 1) (drop (first + n) script)
+
+pub cuts : (script : List Line) (first n phase : ℕ) → n ≡ prefix_len (λ line. eqb line.phase phase) (drop first script) → All (λ line. line.phase < phase) (take first script) → AscendFrom phase (drop first script) → Cuts script first n phase
+cuts script first n phase is early up =
+    let front = take first script in
+    let rest = drop first script in
+    let slice = take n rest in
+    let next = next_phase phase rest up in
+    let within : All (λ line. line.phase ≤ phase) slice = subst (λ (k : ℕ). All (λ line. line.phase ≤ phase) (take k rest)) (sym is) next.0 in
+    let dropped : drop (first + n) script ≡ drop n rest = sym (drop-drop n first script) in
+    let beyond : AscendFrom (phase + 1) (drop (first + n) script) = subst (λ (lines : List Line). AscendFrom (phase + 1) lines) (sym dropped) (subst (λ (k : ℕ). AscendFrom (phase + 1) (drop k rest)) (sym is) next.1) in
+    let taken : take (first + n) script ≡ front ++ slice = take-add first n script in
+    let whole : script ≡ (front ++ slice) ++ drop (first + n) script = sym (take-append-drop (first + n) script) ∙ ap (λ (lines : List Line). lines ++ drop (first + n) script) taken in
+    let all : All (λ line. line.phase ≤ phase) (front ++ slice) = All-append (λ (line : Line). line.phase ≤ phase) front slice (λ k d inside. let low = early k d inside in omega arith) within in
+    record {
+      taken = taken;
+      left = whole;
+      up_to = ap (lines_up_to phase) whole ∙ lines_up_to-front phase (front ++ slice) (drop (first + n) script) all beyond;
+      early = subst (All (λ (line : Line). line.phase < phase + 1)) (sym taken) (λ k d inside. let low = all k d inside in omega arith);
+      later = beyond;
+    }
+
+-- no lines are left behind the last phase
+pub all_played : (set : TableView) (script : List Line) (first phase phases count : ℕ) (workers : List Worker) → phase ≡ phases → All (λ line. line.phase < phases) script → AscendFrom phase (drop first script) → Stand set script (take first script) count phase workers → Stand set script script count phases workers
+all_played set script first phase phases count workers is below up stand =
+    let none : drop first script ≡ [] = none_left phases (drop first script) (subst (λ (k : ℕ). AscendFrom k (drop first script)) is up) (All-drop (λ (line : Line). line.phase < phases) first script below) in
+    let all : take first script ≡ script = sym (append-nil (take first script)) ∙ ap (λ (lines : List Line). take first script ++ lines) (sym none) ∙ take-append-drop first script in
+    subst (λ (k : List Line × ℕ). Stand set script k.0 count k.1 workers) (λ i. (all i, is i)) stand
+
+-- the rest of some lines
+pub rest_of : (lines : List Line) (first : ℕ) → take (length lines - first) (drop first lines) ≡ drop first lines
+rest_of lines first = take_all (length lines - first) (drop first lines) (omega (arith, length-drop first lines))
+
+-- the lines of a phase among them
+pub slice_of : (lines : List Line) (first n : ℕ) → take (first + n - first) (drop first lines) ≡ take n (drop first lines)
+slice_of lines first n = ap (λ (k : ℕ). take k (drop first lines)) (let e : first + n - first ≡ n = omega arith in e)
+
+-- the workers are ready for the lines of the next phase
+pub next_ready : (set : TableView) (script : List Line) (first n phase count : ℕ) (workers : List Worker) → Cuts script first n phase → Stand set script (take first script) count phase workers → All (IsReady set (take (first + n - first) (drop first script))) workers
+next_ready set script first n phase count workers cut stand =
+    subst (λ (lines : List Line). All (IsReady set lines) workers) (sym (slice_of script first n)) (all_ready set script (take first script) (take n (drop first script)) (drop (first + n) script) workers cut.left stand.played)
+
+-- they stand behind it when they have played it and met
+pub stand_behind : (set : TableView) (script : List Line) (first n phase count : ℕ) (ws us : List Worker) → Cuts script first n phase → Stand set script (take first script) count phase ws → PlayedAndMet (take (first + n - first) (drop first script)) ws us → Stand set script (take (first + n) script) count (phase + 1) us
+stand_behind set script first n phase count ws us cut stand next =
+    let played : PlayedAndMet (take n (drop first script)) ws us = subst (λ (lines : List Line). PlayedAndMet lines ws us) (slice_of script first n) next in
+    subst (λ (lines : List Line). Stand set script lines count (phase + 1) us) (sym cut.taken) (stand_next set script (take first script) (take n (drop first script)) count phase ws us cut.up_to stand played)

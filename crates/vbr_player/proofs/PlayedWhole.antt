@@ -1,0 +1,122 @@
+-- Workers that have played a whole script, and whose passes came to the end of a run, have played it by that run.
+use Rattle.std.proofs.Common.{◌≡◌, ℕ, zero, suc, ◌+◌, ◌<◌, ◌≤◌, List, [], ◌∷◌, ◌++◌, length, map, get_or, inl, inr, refl, sym, ap, subst, ◌∙◌, arith}
+use Rattle.std.proofs.lemmas.Bool.{cases_lt}
+use Rattle.std.proofs.lemmas.List.{length-map, get_or-map}
+use Rattle.std.proofs.lemmas.List.Elements.{All-head}
+use Rattle.std.proofs.Math.ListN.{get_or-eq_default}
+use Rattle.std.specs.Prelude.{zip, All}
+use Rattle.vbr_words.specs.Dimensions.{Dimensions}
+use Rattle.vbr_core.specs.Calls.{own_calls}
+use Rattle.vbr_core.specs.Runs.{Begins, BeginsFor, world_after}
+use Rattle.vbr_core.specs.Safety.{IsSafe}
+use Rattle.vbr_core.specs.declared.event.Event.{Event}
+use Rattle.vbr_core.specs.declared.history.Op.{Op}
+use Rattle.vbr_core.proofs.RunsGoOn.{begins_trans, begins_for_begins, others_leave_calls}
+use Rattle.vbr_slots.specs.Calls.{made_by}
+use Rattle.vbr_slots.specs.Closing.{EachSeen}
+use Rattle.vbr_slots.specs.Views.{Trace, TableView}
+use Rattle.vbr_transcript.specs.Calls.{Outcome, answered, lines_by, lines_up_to}
+use Rattle.vbr_player.specs.Ending.{passes_of}
+use Rattle.vbr_transcript.specs.Merging.{replies_by, HaveReplies}
+use Rattle.vbr_transcript.specs.Phases.{HaveCalled, EndsWithin, MayAnswer, HavePlayed}
+use Rattle.vbr_transcript.specs.Runs.{MayBeAnswered}
+use Rattle.vbr_script.specs.Scripts.{ArePhased}
+use Rattle.vbr_player.specs.Standing.{replies_of, AreNumbered, HasPlayed, HasEnded, Stand}
+use Rattle.vbr_player.specs.Working.{Tells}
+use Rattle.vbr_transcript.specs.declared.reply.Reply.{Reply}
+use Rattle.vbr_transcript.specs.declared.reply.Reply.TheVariants.{Yes, No, Full, Spent, Tired}
+use Rattle.vbr_player.specs.declared.worker.Worker.{Worker}
+use Rattle.vbr_script.specs.declared.script.Line.{Line}
+use Rattle.vbr_transcript.proofs.CoreCalls.{epoch_begins}
+use Rattle.vbr_transcript.proofs.Explaining.{none_beyond}
+use Rattle.vbr_player.proofs.Standing.{as_many}
+
+-- ---- one worker
+
+-- the worker of a number has that number, has replied to its lines, and has seen what begins the run
+pub record IsAt (set : TableView) (script : List Line) (run : List Event) (who : ℕ) (own : List Reply) : Type 0 where
+  pub worker : Worker
+  pub number : worker.pass.trace.who ≡ who
+  pub played : HasPlayed set script script worker
+  pub seen : BeginsFor worker.pass.trace.who worker.pass.trace.seen run
+  pub replies : worker.replies.items ≡ own
+
+-- there is a worker of each number
+is_at : (set : TableView) (script : List Line) (run : List Event) (n : ℕ) (workers : List Worker) → AreNumbered n workers → ((k : ℕ) (d : Worker) → k < length workers → HasPlayed set script script (get_or workers k d)) → EachSeen run (passes_of workers) → (i : ℕ) → i < length workers → IsAt set script run (n + i) (replies_by i (replies_of workers))
+is_at set script run n [] numbered played seen i inside = absurd (omega arith)
+is_at set script run n (worker ∷ workers) numbered played seen zero inside = record {
+  worker = worker;
+  number = numbered.0 ∙ omega arith;
+  played = played 0 worker inside;
+  seen = seen.0;
+  replies = refl;
+}
+is_at set script run n (worker ∷ workers) numbered played seen (suc i) inside =
+    let same : suc n + i ≡ n + suc i = omega arith in
+    subst (λ (who : ℕ). IsAt set script run who (replies_by i (replies_of workers))) same
+    (is_at set script run (suc n) workers numbered.1 (λ k d below. played (suc k) d (omega arith)) seen.1 i (omega arith))
+
+-- its calls in the run are its answered lines
+called_at : (set : TableView) (script : List Line) (run : List Event) (who : ℕ) (own : List Reply) → IsAt set script run who own → own_calls set.shape run who ≡ answered (zip (lines_by who script) own)
+called_at set script run who own at =
+    let trace = at.worker.pass.trace in
+    let rest = at.seen in
+    let calls : own_calls set.shape run trace.who ≡ own_calls set.shape trace.seen trace.who = ap (λ (events : List Event). own_calls set.shape events trace.who) rest.1 ∙ others_leave_calls set.shape trace.seen rest.0 trace.who rest.2 in
+    let made : own_calls set.shape trace.seen trace.who ≡ answered (zip (lines_by trace.who script) at.worker.replies.items) = (λ i. own_calls (sym at.played.of.1 i) trace.seen trace.who) ∙ at.played.calls in
+    subst (λ (k : ℕ × List Reply). own_calls set.shape run k.0 ≡ answered (zip (lines_by k.0 script) k.1)) (λ i. (at.number i, at.replies i)) (calls ∙ made)
+
+-- what a reply tells of its pass at a moment allows the reply at the end
+may_be_answered : (p : Trace) (run : List Event) (op : Op) (reply : Reply) → Begins p.seen run → IsSafe p.shape run → Tells p op reply → MayBeAnswered p.shape.last_epoch (world_after p.shape run).epoch op reply
+may_be_answered p run op Yes begins safe tells = tt
+may_be_answered p run op No begins safe tells = tt
+may_be_answered p run op Full begins safe tells = tells
+may_be_answered p run op Spent begins safe tells = (tells.0, omega (arith, tells.1, epoch_begins p.shape p.seen run begins, safe.epoch))
+may_be_answered p run op Tired begins safe tells = tt
+
+answers_at : (set : TableView) (script : List Line) (run : List Event) (who : ℕ) (own : List Reply) → IsSafe set.shape run → IsAt set script run who own → All (λ outcome. MayBeAnswered set.shape.last_epoch (world_after set.shape run).epoch outcome.0.op outcome.1) (zip (lines_by who script) own)
+answers_at set script run who own safe at =
+    let trace = at.worker.pass.trace in
+    let begins = begins_for_begins trace.who trace.seen run at.seen in
+    let may : (shape : Dimensions) → Outcome → Type 0 = λ shape outcome. MayBeAnswered shape.last_epoch (world_after shape run).epoch outcome.0.op outcome.1 in
+    let safe_too : IsSafe trace.shape run = subst (λ (shape : Dimensions). IsSafe shape run) (sym at.played.of.1) safe in
+    let own_may : All (may trace.shape) (zip (lines_by trace.who script) at.worker.replies.items) = λ k d inside. may_be_answered trace run _ _ begins safe_too (at.played.tells k d inside) in
+    subst (λ (k : Dimensions × ℕ × List Reply). All (may k.0) (zip (lines_by k.1 script) k.2)) (λ i. (at.played.of.1 i, at.number i, at.replies i)) own_may
+
+-- ---- all workers
+
+-- each worker has a reply to each of its lines
+pub have_replies : (set : TableView) (script : List Line) (count phases : ℕ) (workers : List Worker) → ArePhased count phases script → Stand set script script count phases workers → HaveReplies (replies_of workers) script
+have_replies set script count phases workers phased stand = record {
+  workers = λ k d inside. let below = phased.workers_below k d inside in omega (arith, below, stand.count_is, length-map workers (λ (worker : Worker). worker.replies.items));
+  one_each = λ who. elim (cases_lt who (length workers)) [
+    | inl one ↦
+        let same : 0 + who ≡ who = omega arith in
+        subst (λ (k : ℕ). length (replies_by who (replies_of workers)) ≡ length (lines_by k script)) same (as_many set script script 0 workers stand.numbered stand.played who one)
+    | inr none ↦
+        let no_replies : replies_by who (replies_of workers) ≡ [] = get_or-eq_default (replies_of workers) [] (omega (arith, none, length-map workers (λ (worker : Worker). worker.replies.items))) in
+        let no_lines : lines_by who script ≡ [] = none_beyond count who script (omega (arith, none, stand.count_is)) phased.workers_below in
+        ap length no_replies ∙ ap length (sym no_lines)
+  ];
+}
+
+-- a phase that has ended for them ends within the run
+ends_within : (set : TableView) (script : List Line) (phase : ℕ) (workers : List Worker) (run : List Event) → 0 < length workers → HasEnded set script phase workers → EachSeen run (passes_of workers) → EndsWithin set.shape (length workers) script (replies_of workers) run phase
+ends_within set script phase [] run some ended seen = absurd (omega arith)
+ends_within set script phase (worker ∷ workers) run some ended seen = record {
+  seen = ended.seen;
+  begins = begins_trans ended.seen worker.pass.trace.seen run (All-head (λ (w : Worker). Begins ended.seen w.pass.trace.seen) worker workers ended.begins) (begins_for_begins worker.pass.trace.who worker.pass.trace.seen run seen.0);
+  called = ended.called;
+}
+
+-- they have played the script by the run
+pub have_played : (set : TableView) (script : List Line) (count phases : ℕ) (workers : List Worker) (run : List Event) → 0 < count → Stand set script script count phases workers → EachSeen run (passes_of workers) → IsSafe set.shape run → HavePlayed set.shape count phases script (replies_of workers) run
+have_played set script count phases workers run some stand seen safe = record {
+  called = λ who below. called_at set script run who (replies_by who (replies_of workers)) (at who below);
+  ends = λ phase below. subst (λ (n : ℕ). EndsWithin set.shape n script (replies_of workers) run phase) stand.count_is (ends_within set script phase workers run (omega (arith, some, stand.count_is)) (stand.ended phase below) seen);
+  answers = λ who below. answers_at set script run who (replies_by who (replies_of workers)) safe (at who below);
+}
+  where
+    at : (who : ℕ) → who < count → IsAt set script run who (replies_by who (replies_of workers))
+    at who below =
+        let same : 0 + who ≡ who = omega arith in
+        subst (λ (k : ℕ). IsAt set script run k (replies_by who (replies_of workers))) same (is_at set script run 0 workers stand.numbered stand.played seen who (omega (arith, stand.count_is)))

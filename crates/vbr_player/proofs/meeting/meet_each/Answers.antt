@@ -1,0 +1,27 @@
+use Rattle.std.proofs.Common.{◌∙◌, arith}
+use Rattle.vbr_core.proofs.RunsGoOn.{begins_for_begins}
+use Rattle.vbr_slots.proofs.Calls.{quiet_on}
+use Rattle.vbr_player.proofs.AllMet.{of_at, put_back, seen_more, seen_all}
+use Rattle.vbr_player.proofs.meeting.meet_each.Goals as goal
+
+pub meet-requires-clause-own : goal.meet-requires-clause-own
+meet-requires-clause-own c =
+    let same = c.loop-other.invariant.quiet.same in
+    (same.table ∙ c.requires.of.0, same.shape ∙ c.requires.of.1, same.passes ∙ c.requires.of.2)
+
+pub meet-requires-clause-other : goal.meet-requires-clause-other
+meet-requires-clause-other c = of_at c.args.set.now c.args.others.now c.loop-other.others c.loop-other.other-index c.other-item.result c.loop-other.invariant.same c.loop-other-test.true c.requires.others_of
+
+pub loop-other-preserved : goal.loop-other-preserved
+loop-other-preserved c =
+    let met = c.meet.ensures in
+    let before = c.loop-other.invariant in
+    record {
+      same = put_back c.args.others.now c.loop-other.others c.loop-other.other-index c.other-item.result c.meet.new.other before.same met.same;
+      quiet = quiet_on before.quiet met.shares.quiet;
+      pool = (met.pool.0 ∙ before.pool.0, met.pool.1 ∙ before.pool.1);
+      seen = seen_more c.args.others.now c.loop-other.others c.loop-other.other-index c.other-item.result c.loop-other.pass.trace.seen c.meet.new.pass.trace.seen before.same c.loop-other-test.true before.seen met.shares.quiet.seen (begins_for_begins _ _ _ met.met);
+    }
+
+pub returns-clause-seen : goal.returns-clause-seen
+returns-clause-seen c = seen_all c.args.others.now c.loop-other.other-index c.loop-other.pass.trace.seen (omega arith) c.loop-other.invariant.seen

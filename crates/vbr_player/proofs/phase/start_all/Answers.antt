@@ -1,0 +1,28 @@
+use Rattle.std.proofs.Common.{◌≡◌, [], ◌∷◌, ◌++◌, List, sym, ap, ◌∙◌, subst, append_assoc}
+use Rattle.std.specs.Vec.Iter.{into_iter_items}
+use Rattle.vbr_player.specs.Starting.{Started, AreFor}
+use Rattle.vbr_player.specs.Working.{AreReady}
+use Rattle.vbr_player.specs.declared.worker.Worker.{Worker}
+use Rattle.vbr_player.proofs.Starting.{are_for-snoc, ready_one, none_left}
+use Rattle.vbr_player.proofs.phase.start_all.Goals as goal
+
+pub start-requires-clause-ready : goal.start-requires-clause-ready
+start-requires-clause-ready g c κs within =
+    let i = c.loop-worker.invariant in
+    let all : c.loop-worker.yielded ++ (c.in-Some.worker ∷ into_iter_items c.next.new.self) ≡ c.args.workers.items = ap (λ (ws : List Worker). c.loop-worker.yielded ++ ws) (sym {A = List Worker} c.in-Some.ensures.steps.0) ∙ i.all in
+    ready_one c.args.part.now.set.now c.args.part.now.lines.now c.loop-worker.yielded c.in-Some.worker (into_iter_items c.next.new.self) (subst (AreReady c.args.part.now.set.now c.args.part.now.lines.now) (sym all) c.requires.ready)
+
+pub loop-worker-preserved : goal.loop-worker-preserved
+loop-worker-preserved g c =
+    let i = c.loop-worker.invariant in
+    let all : c.loop-worker.yielded ++ (c.in-Some.worker ∷ into_iter_items c.next.new.self) ≡ c.args.workers.items = ap (λ (ws : List Worker). c.loop-worker.yielded ++ ws) (sym {A = List Worker} c.in-Some.ensures.steps.0) ∙ i.all in
+    record {
+      threads = subst (λ (started : List Started). AreFor c.args.part.now.lines.now started (c.loop-worker.yielded ++ c.in-Some.worker ∷ [])) (sym c.in-Ok.ensures.items) (are_for-snoc c.args.part.now.lines.now c.loop-worker.started.items c.loop-worker.yielded c.in_ok-next.next c.in-Some.worker i.threads c.in_ok-next.ensures.before c.in_ok-next.ensures.lines);
+      all = append_assoc c.loop-worker.yielded (c.in-Some.worker ∷ []) (into_iter_items c.next.new.self) ∙ all;
+    }
+
+pub returns-clause-started : goal.returns-clause-started
+returns-clause-started g c =
+    let i = c.loop-worker.invariant in
+    let whole = none_left c.loop-worker.yielded (into_iter_items c.loop-worker.worker-iterator) c.args.workers.items (sym c.loop-worker.worker-iterator.rest.ok.0 ∙ c.in-None.ensures.steps.0) i.all in
+    subst (AreFor c.args.part.now.lines.now c.loop-worker.started.items) whole i.threads

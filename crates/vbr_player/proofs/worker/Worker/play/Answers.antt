@@ -1,0 +1,12 @@
+use Rattle.std.proofs.Common.{arith}
+use Rattle.vbr_player.proofs.Working.{played_next, played_all, ready_next}
+use Rattle.vbr_player.proofs.worker.Worker.play.Goals as goal
+
+pub play_line-requires : goal.play_line-requires
+play_line-requires g c = ready_next c.args.part.now.set.now c.args.part.now.lines.now c.loop-line.line-index _ c.args.self.now c.loop-line.self c.loop-line-test.true c.loop-line.invariant.played c.requires.ready
+
+pub loop-line-preserved : goal.loop-line-preserved
+loop-line-preserved g c = record {
+  index = omega arith;
+  played = played_next c.args.part.now.lines.now c.loop-line.line-index _ c.args.self.now c.loop-line.self c.play_line.new.self c.loop-line-test.true c.loop-line.invariant.played c.play_line.ensures;
+}

@@ -1,0 +1,6 @@
+pub mod Working
+pub mod Starting
+pub mod Meeting
+pub mod Standing
+pub mod Ending
+pub mod Playing

@@ -1,0 +1,42 @@
+-- What the player does with a reader and a writer.
+use Rattle.std.specs.Prelude.{◌≡◌, ℕ, List, Option, Some, None, Result, Ok, Err}
+use Rattle.std.specs.Io.KnownBytes.{Keeps, Appends}
+use Rattle.vbr_script.specs.Scripts.{first_fault, script_of}
+use Rattle.vbr_transcript.specs.Reading.{IsInput}
+use Rattle.vbr_transcript.specs.Runs.{IsRun}
+use Rattle.vbr_transcript.specs.Layout.{layout_of}
+use Rattle.vbr_transcript.specs.Writing.{AppendsSome}
+use Rattle.vbr_transcript.specs.declared.reply.Reply.{Reply}
+use Rattle.vbr_transcript.specs.declared.totals.Totals.{Totals}
+use Rattle.vbr_transcript.specs.declared.error.RunError.{RunError}
+use Rattle.vbr_transcript.specs.declared.error.RunError.TheVariants as error
+use Rattle.vbr_settings.specs.Settings.{Settings}
+
+-- the text is a script for the workers, and the output is the layout of a run of it with these totals
+abbrev pub Prints : Settings → List ℕ → Totals → List ℕ → Type 0
+Prints settings text totals output =
+    (replies : List Reply) × (first_fault settings.workers text ≡ None)
+    × IsRun settings.shape settings.workers (script_of settings.workers text) replies totals
+    × (output ≡ layout_of settings.epoch replies totals)
+
+-- want of memory, or of a thread for a worker
+abbrev pub IsWant : RunError → Type 0
+IsWant error.Memory = Unit {0}
+IsWant error.Worker = Unit {0}
+IsWant _ = ⊥
+
+-- why a text couldn't be played: the first fault of its script, or want of memory or of a thread
+abbrev pub IsFaultOf : ℕ → List ℕ → RunError → Type 0
+IsFaultOf workers text (error.Script line kind) = first_fault workers text ≡ Some (line, kind)
+IsFaultOf workers text e = IsWant e
+
+-- The player's answer, by the bytes that the reader had left and those that the writer held before and after.
+-- Done: the layout of a run of the script that was read is appended. A script fault is the first of the text.
+-- A write fault leaves a beginning of a run's layout, and any other fault leaves the writer as it was.
+abbrev pub Plays : Settings → Option (List ℕ) → Option (List ℕ) → Option (List ℕ) → Result Totals RunError → Type 0
+Plays settings left old new (Ok totals) = (text : List ℕ) × IsInput left text × (output : List ℕ) × Prints settings text totals output × Appends old new output
+Plays settings left old new (Err error.Write) = (text : List ℕ) × IsInput left text × (totals : Totals) × (output : List ℕ) × Prints settings text totals output × AppendsSome old new output
+Plays settings left old new (Err (error.Script line kind)) = (text : List ℕ) × IsInput left text × (first_fault settings.workers text ≡ Some (line, kind)) × Keeps old new
+Plays settings left old new (Err error.Read) = Keeps old new
+Plays settings left old new (Err error.Memory) = Keeps old new
+Plays settings left old new (Err error.Worker) = Keeps old new

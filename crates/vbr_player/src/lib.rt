@@ -1,0 +1,21 @@
+//! The player of scripts: it reads a script, plays it on a set by workers in threads of their own,
+//! and writes what it was answered.
+//!
+//! A set is opened with a worker for each pass; they play phase after phase, and meet after each;
+//! in the end the set is closed, and the replies and totals are those of one run. [`play`] is the
+//! whole.
+#![tactic(auto)]
+
+mod ending;
+pub mod gate;
+mod meeting;
+mod opening;
+mod phase;
+mod phases;
+pub mod playing;
+mod worker;
+
+pub use gate::{Gate, NoGate};
+pub use playing::play;
+pub use vbr_settings::{Config, ConfigError, MAX_WORKERS};
+pub use vbr_transcript::{MAX_SCRIPT_LEN, Reply, RunError, Totals};

@@ -1,0 +1,86 @@
+//! The player.
+ghost use Rattle.std.specs.Prelude.{◌≡◌, IfOk, IfErr};
+ghost use Rattle.vbr_player.specs.Playing.{Plays, Prints, IsFaultOf, IsWant};
+ghost use Rattle.vbr_transcript.specs.Runs.{IsRun};
+ghost use Rattle.vbr_script.specs.Scripts.{ArePhased};
+
+use crate::ending::finish;
+use crate::gate::Gate;
+use crate::opening::open;
+use crate::phase::Part;
+use crate::phases::play_phases;
+use std::alloc::Global;
+use std::io::{Read, Write};
+use std::sync::Wait;
+use std::thread::Threads;
+use vbr_script::{Script, parse_script};
+use vbr_settings::Config;
+use vbr_transcript::{Reply, RunError, Totals, WriteFault, layout, read_text, write_whole};
+
+/// Reads a script to its end, plays it, and writes the replies and the totals.
+///
+/// The phases are played one after the other. In each, every worker plays its lines of the phase in
+/// order, on a thread of its own; they are joined, and then each sees all that the others have seen.
+/// In the end the set is closed.
+///
+/// Read, Script, Memory and Worker come before anything is written, and leave the writer as it was. A
+/// write fault leaves a beginning of the text.
+pub fn play<RT: Threads + Wait, R: Read, W: Write, G: Gate + Sync>(
+    rt: &RT,
+    alloc: Global,
+    config: Config,
+    reader: &mut R,
+    writer: &mut W,
+    gate: &G,
+) -> Result<Totals, RunError>
+    ensures { Plays config (R.remaining reader.old) (W.contents writer.old) (W.contents writer.new) result }
+{
+    let text = read_text(alloc, reader)?;
+    let (output, totals) = play_text(rt, alloc, &config, &text, gate)?;
+    match write_whole(writer, &output) {
+        Ok(()) => Ok(totals),
+        Err(WriteFault) => Err(RunError::Write),
+    }
+}
+
+// What playing a text prints, and its totals.
+fn play_text<RT: Threads + Wait, G: Gate + Sync>(
+    rt: &RT,
+    alloc: Global,
+    config: &Config,
+    text: &[u8],
+    gate: &G,
+) -> Result<(Vec<u8>, Totals), RunError>
+    ensures ok { IfOk result (λ played. Prints config.now text.now played.1 played.0.items) }
+    ensures fault { IfErr result (IsFaultOf config.now.workers text.now) }
+{
+    let script = parse_script(alloc, text, config.workers())?;
+    let (replies, totals) = play_script(rt, alloc, config, &script, gate)?;
+    let output = layout(alloc, config.epoch(), &replies, &totals)?;
+    Ok((output, totals))
+}
+
+// The replies to the lines of a script, and its totals.
+fn play_script<RT: Threads + Wait, G: Gate + Sync>(
+    rt: &RT,
+    alloc: Global,
+    config: &Config,
+    script: &Script,
+    gate: &G,
+) -> Result<(Vec<Reply>, Totals), RunError>
+    requires { ArePhased config.now.workers script.now.phases script.now.lines.items }
+    ensures run { IfOk result (λ played. IsRun config.now.shape config.now.workers script.now.lines.items played.0.items played.1) }
+    ensures fault { IfErr result IsWant }
+{
+    let replies = Vec::with_capacity(alloc, script.lines.len())?;
+    let (set, workers) = open(alloc, config, &script.lines)?;
+    let whole = Part {
+        set: &set,
+        lines: &script.lines,
+        first: 0,
+        budget: config.budget(),
+        gate,
+    };
+    let workers = play_phases(rt, alloc, &whole, script.phases, workers)?;
+    finish(alloc, set, script, workers, replies)
+}

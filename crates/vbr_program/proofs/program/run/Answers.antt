@@ -1,0 +1,14 @@
+-- Want of memory for the options is told as the player's.
+use Rattle.std.proofs.Common.{inl, inr}
+use Rattle.std.specs.Prelude.{Err}
+use Rattle.vbr_transcript.specs.declared.error.RunError.TheVariants.{Memory}
+use Rattle.vbr_program.proofs.program.run.Goals as goal
+
+pub returns-in-Err-Usage-clause-played : goal.returns-in-Err-Usage-clause-played
+returns-in-Err-Usage-clause-played g c passed shaped = let refused = rw c.in-Err-Usage.field-0-is at c.in-Err-Usage.ensures.refusal in let lacks = c.show.ensures.memory (refused passed) in (Err Memory, lacks.1, (lacks.0, lacks.2))
+
+pub returns-in-Err-Usage-clause-others : goal.returns-in-Err-Usage-clause-others
+returns-in-Err-Usage-clause-others g c = elim c.show.ensures.others [
+  | inl lacks ↦ inl (Err Memory, lacks.1, (lacks.0, lacks.2))
+  | inr shown ↦ inr shown
+]

@@ -1,0 +1,82 @@
+// The line on standard error, and the exit status, of a run that wasn't done.
+ghost use Rattle.std.specs.Prelude.{◌≡◌};
+ghost use Rattle.vbr_transcript.specs.Writing.{AppendsSome};
+ghost use Rattle.vbr_program.specs.Program.{error_status, error_line, shape_line, shape_fault_number};
+ghost use Rattle.vbr_program.specs.declared.program.TheConstants.{USAGE};
+ghost use Rattle.vbr_transcript.specs.declared.error.RunError.TheVariants.{Script};
+
+use crate::program::{DEVICE_FAULT, NO_RESOURCES, SCRIPT_FAULT, USAGE};
+use std::io::Write;
+use vbr_script::ScriptFault;
+use vbr_transcript::{RunError, write_pieces};
+use vbr_words::ShapeError;
+
+// Tells an error in a line, and answers the exit status.
+pub fn report<E: Write>(errors: &mut E, error: RunError) -> u8
+    ensures status { result ≡ error_status error }
+    ensures told { AppendsSome (E.contents errors.old) (E.contents errors.new) (error_line error) }
+{
+    match error {
+        RunError::Script { line, kind } => {
+            report_script(errors, line, kind);
+            SCRIPT_FAULT
+        }
+        RunError::Read => {
+            write_pieces(errors, &[b"vbr_run: read fault\n".as_slice()]);
+            DEVICE_FAULT
+        }
+        RunError::Write => {
+            write_pieces(errors, &[b"vbr_run: write fault\n".as_slice()]);
+            DEVICE_FAULT
+        }
+        RunError::Memory => {
+            write_pieces(errors, &[b"vbr_run: no memory\n".as_slice()]);
+            NO_RESOURCES
+        }
+        RunError::Worker => {
+            write_pieces(errors, &[b"vbr_run: no worker\n".as_slice()]);
+            NO_RESOURCES
+        }
+    }
+}
+
+fn report_script<E: Write>(errors: &mut E, line: u64, kind: ScriptFault)
+    ensures { AppendsSome (E.contents errors.old) (E.contents errors.new) (error_line (Script line kind)) }
+{
+    let mut number = itoa::Buffer::new();
+    let mut place = itoa::Buffer::new();
+    let pieces = [
+        b"vbr_run: script fault ".as_slice(),
+        number.format(kind.number()).as_bytes(),
+        b" at line ".as_slice(),
+        place.format(line).as_bytes(),
+        b"\n".as_slice(),
+    ];
+    write_pieces(errors, &pieces);
+}
+
+// Tells what is wrong with a shape in a line, and answers the exit status.
+pub fn report_shape<E: Write>(errors: &mut E, error: ShapeError) -> u8
+    ensures status { result ≡ USAGE }
+    ensures told { AppendsSome (E.contents errors.old) (E.contents errors.new) (shape_line error) }
+{
+    let mut number = itoa::Buffer::new();
+    let pieces = [
+        b"vbr_run: shape fault ".as_slice(),
+        number.format(shape_fault_number(error)).as_bytes(),
+        b"\n".as_slice(),
+    ];
+    write_pieces(errors, &pieces);
+    USAGE
+}
+
+// The number of what is wrong with a shape: from 1, in the order of the tests.
+fn shape_fault_number(error: ShapeError) -> u8
+    ensures { result ≡ shape_fault_number error }
+{
+    match error {
+        ShapeError::Slots => 1,
+        ShapeError::Buckets => 2,
+        ShapeError::LastEpoch => 3,
+    }
+}

@@ -1,7 +1,0 @@
-mod Following
-mod HeldThrough
-mod OneBucket
-mod OnePass
-mod OwnedSlots
-mod Taking
-mod WorkedRows

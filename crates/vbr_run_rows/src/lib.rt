@@ -1,0 +1,15 @@
+//! Tests of scripts, of the player and of the program, from outside.
+#![tactic(auto)]
+
+#[cfg(test)]
+mod devices;
+#[cfg(test)]
+mod gates;
+#[cfg(test)]
+mod player;
+#[cfg(test)]
+mod random_runs;
+#[cfg(test)]
+mod scripts;
+#[cfg(test)]
+mod sized_runs;

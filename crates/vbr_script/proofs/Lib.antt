@@ -1,0 +1,4 @@
+mod Numerals
+mod Splitting
+pub mod PhasedScripts
+pub mod LinesRead

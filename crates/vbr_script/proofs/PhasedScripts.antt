@@ -1,0 +1,118 @@
+-- The operations of a text are for its workers, in its phases, one after the other.
+use Rattle.std.proofs.Common.{◌≡◌, ℕ, ◌+◌, ◌<◌, ◌≤◌, ◌^◌, Bool, true, false, nat_lt, List, [], ◌∷◌, map, Option, Some, None, if◌then◌else◌, codes, refl, arith}
+use Rattle.std.specs.Prelude.{count_by}
+use Rattle.std.specs.List.{All, AllByRecursion}
+use Rattle.std.specs.Str.{bytes_eq}
+use Rattle.std.proofs.lemmas.Bool.Decides.{nat_tests}
+use Rattle.std.proofs.lemmas.List.Elements.{All-nil, All-cons, All-weaker}
+use Rattle.vbr_core.specs.declared.history.Op.{Op}
+use Rattle.vbr_script.specs.declared.script.Line.{Line}
+use Rattle.vbr_script.specs.declared.script.ScriptFault.TheVariants.{Words, TooMany}
+use Rattle.vbr_script.specs.declared.script.Meaning.{Meaning}
+use Rattle.vbr_script.specs.declared.script.Meaning.TheVariants.{Blank, Sync, Asks, Faulty}
+use Rattle.vbr_script.specs.declared.script.TheConstants.{MAX_OPERATIONS, MAX_SYNCS}
+use Rattle.vbr_script.specs.Text.{lines_of, words_of}
+use Rattle.vbr_script.specs.Number.{number_below}
+use Rattle.vbr_script.specs.Grammar.{operation_of, request_of, meaning_of, lone_word}
+use Rattle.vbr_script.specs.Scripts.{all_limited, operations_from, is_sync, meanings_of, script_of, phases_of, AscendFrom, ArePhased}
+use Rattle.vbr_script.proofs.LinesRead.{one_more}
+
+-- ---- workers
+
+-- an operation that is asked for is of one of so many workers
+abbrev IsOfWorker : ℕ → Meaning → Type 0
+IsOfWorker workers (Asks worker op key) = worker < workers
+IsOfWorker workers _ = Unit {0}
+
+number_is_below : (limit : ℕ) (word : List ℕ) (n : ℕ) → number_below limit word ≡ Some n → n < limit
+number_is_below limit word n is = grind (arith, nat_tests)
+
+-- what three words mean is of a worker below the limit
+request : (workers : ℕ) (worker : Option ℕ) (op : Option Op) (key : Option ℕ) → ((n : ℕ) → worker ≡ Some n → n < workers) → IsOfWorker workers (request_of worker op key)
+request workers None op key below = tt
+request workers (Some n) None key below = tt
+request workers (Some n) (Some op) None below = tt
+request workers (Some n) (Some op) (Some key) below = below n refl
+
+lone : (workers : ℕ) (word : List ℕ) → IsOfWorker workers (lone_word word)
+unfolding lone_word
+lone workers word = at (bytes_eq word (codes "sync"))
+  where
+    at : (is : Bool) → IsOfWorker workers (if is then Sync else Faulty Words)
+    at true = tt
+    at false = tt
+
+-- so are the words of each line
+words : (workers : ℕ) (line : List (List ℕ)) → IsOfWorker workers (meaning_of workers line)
+words workers [] = tt
+words workers (word ∷ []) = lone workers word
+words workers (worker ∷ op ∷ []) = tt
+words workers (worker ∷ op ∷ key ∷ []) = request workers (number_below workers worker) (operation_of op) (number_below (2 ^ 64) key) (number_is_below workers worker)
+words workers (worker ∷ op ∷ key ∷ more ∷ rest) = tt
+
+-- and those of all lines
+all_words : (workers : ℕ) (lines : List (List ℕ)) → AllByRecursion (IsOfWorker workers) (map (λ line. meaning_of workers (words_of line)) lines)
+all_words workers [] = tt
+all_words workers (line ∷ lines) = (words workers (words_of line), all_words workers lines)
+
+of_workers : (workers : ℕ) (lines : List Meaning) (operations syncs phase : ℕ) → AllByRecursion (IsOfWorker workers) lines → All (λ line. line.worker < workers) (operations_from phase (all_limited operations syncs lines))
+of_workers workers [] operations syncs phase all = All-nil (λ line. line.worker < workers)
+of_workers workers (Blank ∷ lines) operations syncs phase all = of_workers workers lines operations syncs phase all.1
+of_workers workers (Faulty kind ∷ lines) operations syncs phase all = All-nil (λ line. line.worker < workers)
+of_workers workers (Sync ∷ lines) operations syncs phase all = at (nat_lt syncs MAX_SYNCS) (of_workers workers lines operations (syncs + 1) (phase + 1) all.1)
+  where
+    at : (fits : Bool) → All (λ line. line.worker < workers) (operations_from (phase + 1) (all_limited operations (syncs + 1) lines)) → All (λ line. line.worker < workers) (operations_from phase ((if fits then Sync else Faulty TooMany) ∷ all_limited operations (syncs + 1) lines))
+    at true rest = rest
+    at false rest = All-nil (λ line. line.worker < workers)
+of_workers workers (Asks worker op key ∷ lines) operations syncs phase all = at (nat_lt operations MAX_OPERATIONS) (of_workers workers lines (operations + 1) syncs phase all.1)
+  where
+    at : (fits : Bool) → All (λ line. line.worker < workers) (operations_from phase (all_limited (operations + 1) syncs lines)) → All (λ line. line.worker < workers) (operations_from phase ((if fits then Asks worker op key else Faulty TooMany) ∷ all_limited (operations + 1) syncs lines))
+    at true rest = All-cons (λ line. line.worker < workers) (record { phase = phase; worker = worker; op = op; key = key }) _ all.0 rest
+    at false rest = All-nil (λ line. line.worker < workers)
+
+-- ---- phases
+
+-- operations lie in the phases from one on, of which there are so many more behind it, and in order
+record LieFrom (phase more : ℕ) (lines : List Line) : Type 0 where
+  below : All (λ line. line.phase ≤ phase + more) lines
+  ascend : AscendFrom phase lines
+
+none_lie : (phase more : ℕ) → LieFrom phase more []
+none_lie phase more = record { below = All-nil _; ascend = tt }
+
+one_lies : (phase more : ℕ) (line : Line) (lines : List Line) → line.phase ≡ phase → LieFrom phase more lines → LieFrom phase more (line ∷ lines)
+one_lies phase more line lines here rest = record {
+  below = All-cons (λ line. line.phase ≤ phase + more) line lines (omega arith) rest.below;
+  ascend = (omega arith, rw here rest.ascend);
+}
+
+as_many : (phase more less : ℕ) (lines : List Line) → less ≡ more → LieFrom phase more lines → LieFrom phase less lines
+as_many phase more less lines same rest = rw same rest
+
+ascend_lower : (low high : ℕ) (lines : List Line) → low ≤ high → AscendFrom high lines → AscendFrom low lines
+ascend_lower low high [] lower rest = tt
+ascend_lower low high (line ∷ lines) lower rest = (omega (arith, rest.0), rest.1)
+
+later_lie : (phase more less : ℕ) (lines : List Line) → less + 1 ≡ more → LieFrom (phase + 1) less lines → LieFrom phase more lines
+later_lie phase more less lines one rest = record {
+  below = All-weaker (λ line. line.phase ≤ phase + 1 + less) (λ line. line.phase ≤ phase + more) (λ line high. omega arith) lines rest.below;
+  ascend = ascend_lower phase (phase + 1) lines (omega arith) rest.ascend;
+}
+
+lie_from : (lines : List Meaning) (phase : ℕ) → LieFrom phase (count_by is_sync lines) (operations_from phase lines)
+lie_from [] phase = none_lie phase 0
+lie_from (Blank ∷ lines) phase = rw (one_more Blank lines) (as_many phase _ _ _ (omega arith) (lie_from lines phase))
+lie_from (Sync ∷ lines) phase = rw (one_more Sync lines) (later_lie phase _ _ _ (omega arith) (lie_from lines (phase + 1)))
+lie_from (Asks worker op key ∷ lines) phase = rw (one_more (Asks worker op key) lines) (one_lies phase _ (record { phase = phase; worker = worker; op = op; key = key }) (operations_from phase lines) refl (as_many phase _ _ _ (omega arith) (lie_from lines phase)))
+lie_from (Faulty kind ∷ lines) phase = none_lie phase (count_by is_sync (Faulty kind ∷ lines))
+
+-- ---- both
+
+pub phased : (workers : ℕ) (text : List ℕ) → ArePhased workers (phases_of workers text) (script_of workers text)
+phased workers text =
+    let lie = lie_from (meanings_of workers text) 0 in
+    record {
+      workers_below = of_workers workers (map (λ line. meaning_of workers (words_of line)) (lines_of text)) 0 0 0 (all_words workers (lines_of text));
+      phases_below = All-weaker (λ line. line.phase ≤ 0 + count_by is_sync (meanings_of workers text)) (λ line. line.phase < phases_of workers text) (λ line high. omega arith) (script_of workers text) lie.below;
+      ascend = lie.ascend;
+    }

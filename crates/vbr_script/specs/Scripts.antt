@@ -1,0 +1,73 @@
+-- The script that a text of bytes is, and its first fault.
+use Rattle.std.specs.Prelude.{ℕ, ◌+◌, ◌<◌, ◌≤◌, Bool, true, false, nat_lt, List, [], ◌∷◌, map, All, count_by, Option, Some, None, if◌then◌else◌}
+use Rattle.vbr_script.specs.declared.script.Line.{Line}
+use Rattle.vbr_script.specs.declared.script.ScriptFault.{ScriptFault}
+use Rattle.vbr_script.specs.declared.script.ScriptFault.TheVariants.{TooMany}
+use Rattle.vbr_script.specs.declared.script.Meaning.{Meaning}
+use Rattle.vbr_script.specs.declared.script.Meaning.TheVariants.{Blank, Sync, Asks, Faulty}
+use Rattle.vbr_script.specs.declared.script.TheConstants.{MAX_OPERATIONS, MAX_SYNCS}
+use Rattle.vbr_script.specs.Text.{lines_of, words_of}
+use Rattle.vbr_script.specs.Grammar.{meaning_of}
+
+-- what a line means behind so many operations and `sync` lines: one more operation or `sync` line than a script may have is faulty
+abbrev pub limited : ℕ → ℕ → Meaning → Meaning
+limited operations syncs (Asks worker op key) = if nat_lt operations MAX_OPERATIONS then Asks worker op key else Faulty TooMany
+limited operations syncs Sync = if nat_lt syncs MAX_SYNCS then Sync else Faulty TooMany
+limited operations syncs line = line
+
+-- what lines mean behind so many operations and `sync` lines
+abbrev pub all_limited : ℕ → ℕ → List Meaning → List Meaning
+all_limited operations syncs [] = []
+all_limited operations syncs (Asks worker op key ∷ lines) = limited operations syncs (Asks worker op key) ∷ all_limited (operations + 1) syncs lines
+all_limited operations syncs (Sync ∷ lines) = limited operations syncs Sync ∷ all_limited operations (syncs + 1) lines
+all_limited operations syncs (line ∷ lines) = line ∷ all_limited operations syncs lines
+
+-- what each line of a text means behind so many operations and `sync` lines, in order
+abbrev pub meanings_behind : ℕ → ℕ → ℕ → List ℕ → List Meaning
+meanings_behind operations syncs workers text = all_limited operations syncs (map (λ line. meaning_of workers (words_of line)) (lines_of text))
+
+-- what each line of a text means, in order
+abbrev pub meanings_of : ℕ → List ℕ → List Meaning
+meanings_of workers text = meanings_behind 0 0 workers text
+
+-- the operations that lines ask for, in order, up to the first faulty line; the phase of each is the number of `sync` lines before it, counted on from a number
+abbrev pub operations_from : ℕ → List Meaning → List Line
+operations_from phase [] = []
+operations_from phase (Blank ∷ lines) = operations_from phase lines
+operations_from phase (Sync ∷ lines) = operations_from (phase + 1) lines
+operations_from phase (Asks worker op key ∷ lines) = record { phase = phase; worker = worker; op = op; key = key } ∷ operations_from phase lines
+operations_from phase (Faulty fault ∷ lines) = []
+
+-- the first faulty line, where lines are counted on from a number, and its fault
+abbrev pub first_fault_from : ℕ → List Meaning → Option (ℕ × ScriptFault)
+first_fault_from number [] = None
+first_fault_from number (Faulty fault ∷ lines) = Some (number, fault)
+first_fault_from number (_ ∷ lines) = first_fault_from (number + 1) lines
+
+-- whether a line is `sync`
+abbrev pub is_sync : Meaning → Bool
+is_sync Sync = true
+is_sync _ = false
+
+-- the operations of a text
+abbrev pub script_of : ℕ → List ℕ → List Line
+script_of workers text = operations_from 0 (meanings_of workers text)
+
+-- how many phases a text has: one more than it has `sync` lines
+abbrev pub phases_of : ℕ → List ℕ → ℕ
+phases_of workers text = count_by is_sync (meanings_of workers text) + 1
+
+-- the first fault of a text: the number of its line, from 1, and what is wrong with it
+abbrev pub first_fault : ℕ → List ℕ → Option (ℕ × ScriptFault)
+first_fault workers text = first_fault_from 1 (meanings_of workers text)
+
+-- phases never fall along operations, from a phase on
+abbrev pub AscendFrom : ℕ → List Line → Type 0
+AscendFrom phase [] = Unit {0}
+AscendFrom phase (line ∷ lines) = (phase ≤ line.phase) × AscendFrom line.phase lines
+
+-- operations for so many workers, in so many phases, one after the other
+pub record ArePhased (workers phases : ℕ) (lines : List Line) : Type 0 where
+  pub workers_below : All (λ line. line.worker < workers) lines
+  pub phases_below : All (λ line. line.phase < phases) lines
+  pub ascend : AscendFrom 0 lines

@@ -1,0 +1,21 @@
+// The names of the operations.
+ghost use Rattle.std.specs.Prelude.{◌≡◌};
+ghost use Rattle.vbr_script.specs.Grammar.{operation_of};
+
+use vbr_core::Op;
+
+// The operation that a word names.
+#[tactic(auto, unfolding(crate::specs::Grammar::operation_of))]
+pub fn operation(word: &[u8]) -> Option<Op>
+    ensures { result ≡ operation_of word.now }
+{
+    if word == b"insert".as_slice() {
+        Some(Op::Insert)
+    } else if word == b"remove".as_slice() {
+        Some(Op::Remove)
+    } else if word == b"has".as_slice() {
+        Some(Op::Has)
+    } else {
+        None
+    }
+}

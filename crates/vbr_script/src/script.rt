@@ -1,0 +1,95 @@
+//! What a script is: its lines, the meaning of each, and what may be wrong with it.
+use thiserror::Error;
+use vbr_core::Op;
+
+/// One operation of a script.
+#[derive(Clone, Copy, Debug, PartialEq, Eq, Hash)]
+pub struct Line {
+    /// The phase that it is played in, from 0: the number of `sync` lines before it.
+    pub phase: u32,
+    /// The worker that plays it, from 0.
+    pub worker: u32,
+    /// What is asked of the set.
+    pub op: Op,
+    /// The key that it is asked of.
+    pub key: u64,
+}
+
+/// The greatest number of operations in a script.
+pub const MAX_OPERATIONS: usize = 1_000_000;
+
+/// The greatest number of `sync` lines in a script.
+pub const MAX_SYNCS: u32 = 10_000;
+
+/// A script: its operations in order, and how many phases they are played in. A `sync` line ends a
+/// phase: each operation before it is played before any behind it.
+#[derive(Debug, Drop)]
+pub struct Script {
+    /// The operations, in the order of the text.
+    pub lines: Vec<Line>,
+    /// The number of phases: one more than there are `sync` lines.
+    pub phases: u32,
+}
+
+/// What is wrong with a line. The tests are made in this order.
+#[derive(Clone, Copy, Debug, PartialEq, Eq, Hash, Error)]
+pub enum ScriptFault {
+    /// The line has neither three words nor the one word `sync`.
+    #[error("a line is a worker, an operation and a key, or `sync` alone")]
+    Words,
+    /// The first word is no number, or not one below the number of workers.
+    #[error("no such worker")]
+    Worker,
+    /// The second word is no operation.
+    #[error("no such operation: insert, remove and has are known")]
+    Operation,
+    /// The third word is no number, or one above the greatest key.
+    #[error("a key is a number from 0 to 18446744073709551615")]
+    Key,
+    /// With this line there are more operations than `MAX_OPERATIONS`, or more `sync` lines than
+    /// `MAX_SYNCS`.
+    #[error("a script has at most {MAX_OPERATIONS} operations and {MAX_SYNCS} `sync` lines")]
+    TooMany,
+}
+
+impl ScriptFault {
+    ghost use Rattle.std.specs.Prelude.{◌≡◌};
+    ghost use Rattle.vbr_script.specs.Grammar.{fault_number};
+
+    /// The fault's number, as the program prints it: from 1, in the order of the tests.
+    pub fn number(self) -> u8
+        ensures { result ≡ fault_number self }
+    {
+        match self {
+            ScriptFault::Words => 1,
+            ScriptFault::Worker => 2,
+            ScriptFault::Operation => 3,
+            ScriptFault::Key => 4,
+            ScriptFault::TooMany => 5,
+        }
+    }
+}
+
+/// What the words of a line mean by themselves.
+#[derive(Clone, Copy, Debug, PartialEq, Eq, Hash)]
+pub enum Meaning {
+    /// The line has no words.
+    Blank,
+    /// The line ends a phase.
+    Sync,
+    /// The worker, the operation and the key that the line asks for.
+    Asks(u32, Op, u64),
+    /// What is wrong with the line.
+    Faulty(ScriptFault),
+}
+
+/// Why a text gave no script.
+#[derive(Clone, Copy, Debug, PartialEq, Eq, Hash, Error)]
+pub enum ScriptError {
+    /// The first faulty line, counted from 1 with blank lines counted too, and its fault.
+    #[error("line {line}: {kind}")]
+    Fault { line: u64, kind: ScriptFault },
+    /// There was no memory for the script.
+    #[error("no memory for the script")]
+    Memory,
+}

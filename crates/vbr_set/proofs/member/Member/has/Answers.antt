@@ -1,0 +1,12 @@
+use Rattle.std.proofs.Common.{refl, subst}
+use Rattle.vbr_core.specs.declared.history.Op.TheVariants.{Has}
+use Rattle.vbr_set.specs.MemberView.{member_view}
+use Rattle.vbr_set.specs.Members.{MemberView, Called}
+use Rattle.vbr_set.proofs.member.Member.has.Goals as goal
+
+pub returns : goal.returns
+returns c =
+    let e = c.has.ensures in
+    let i = c.self.inside in
+    subst (λ (m : MemberView). Called Has m (member_view record { before = i.before; share = i.share; pass = c.has.new.pass; after = i.after }) c.args.key c.args.budget c.has.result) c.self.view_is
+    (record { set = refl; same = e.same; answers = e.answers; alone = e.alone; quiet = e.quiet; hand = e.hand; steps = e.steps; spares = record { only_loads = e.only_loads; adds = e.adds; adds_none = e.adds_none; raises_none = e.raises_none; refused = e.refused; within = e.within } })

@@ -1,0 +1,30 @@
+-- How a set ends by its members, and what the last one is told.
+use Rattle.std.specs.Prelude.{◌≡◌, ℕ, ◌<◌, List, length, slice_index_or}
+use Rattle.vbr_slots.specs.Views.{PassView, TableView}
+use Rattle.vbr_set.specs.Closing.{Closes}
+use Rattle.vbr_set.specs.Sharing.{ArePassesOf}
+use Rattle.vbr_set.specs.declared.end_error.EndError.{EndError}
+use Rattle.vbr_set.specs.declared.end_error.EndError.TheVariants.{Lost, Memory}
+use Rattle.vbr_set.specs.declared.report.Report.{Report}
+
+-- each pass stands at its number
+abbrev pub AreNumbered : List PassView → Type 0
+AreNumbered passes = (k : ℕ) (d : PassView) → k < length passes → (slice_index_or passes k d).trace.who ≡ k
+
+-- all passes that were opened with the set, in the order of their numbers
+pub record AreAll (set : TableView) (passes : List PassView) : Type 0 where
+  pub of_set : ArePassesOf set passes
+  pub count : length passes ≡ set.passes
+  pub numbered : AreNumbered passes
+
+-- the report tells the end of the set with all passes that were opened with it, each with just the calls that it has made; this pass is among them
+pub record EndsWith (set : TableView) (pass : PassView) (report : Report) : Type 0 where
+  pub passes : List PassView
+  pub all : AreAll set passes
+  pub own : (d : PassView) → slice_index_or passes pass.trace.who d ≡ pass
+  pub closes : Closes set passes report
+
+-- where there is no memory, the member comes back as it was
+abbrev pub IsBack : TableView → PassView → EndError → Type 0
+IsBack set pass Lost = Unit {0}
+IsBack set pass (Memory member) = member ≡ record { set = set; pass = pass }

@@ -1,0 +1,38 @@
+-- What a member has of its set: a share of it, or all of it.
+use Rattle.std.specs.Prelude.{◌≡◌, ℕ, ◌<◌, List, [], None, All, length, slice_index_or}
+use Rattle.std.specs.Arc.{arc_value}
+use Rattle.atomic_table.specs.Seated.{TableId}
+use Rattle.atomic_table.specs.Table.{Me}
+use Rattle.std.specs.Prelude.{Option}
+use Rattle.vbr_slots.specs.Views.{PassView, TableView, IsOf}
+use Rattle.vbr_set.specs.Places.{Knows}
+use Rattle.vbr_set.specs.declared.place.Place.{Place}
+use Rattle.vbr_set.specs.declared.share.Share.{Share}
+use Rattle.vbr_set.specs.declared.share.Share.TheVariants.{Among, Alone, Gathered}
+
+-- the set
+abbrev pub set_shared : Share → TableView
+set_shared (Among common seat) = (arc_value common).set
+set_shared (Alone set places) = set
+set_shared (Gathered set passes) = set
+
+-- a seat that has laid nothing, of the place with a number
+pub record IsSeatOf (places : List Place) (who : ℕ) (table : TableId) (id : ℕ) (me : Me (Option PassView) Knows) : Type 0 where
+  pub there : who < length places
+  pub fits : (d : Place) → table ≡ (slice_index_or places who d).table.shared.table_id
+  pub first : id ≡ 0
+  pub fresh : me ≡ (None, [])
+
+-- the places are for passes of the set
+abbrev pub ArePlacesOf : TableView → List Place → Type 0
+ArePlacesOf set places = All (λ place. place.table.shared.key ≡ set) places
+
+-- the passes are of the set
+abbrev pub ArePassesOf : TableView → List PassView → Type 0
+ArePassesOf set passes = All (λ pass. IsOf pass.trace set) passes
+
+-- a pass with this number can come back, or the others have come back
+abbrev pub IsPlaced : Share → ℕ → Type 0
+IsPlaced (Among common seat) who = IsSeatOf (arc_value common).places.items who seat.table_id seat.id seat.me
+IsPlaced (Alone set places) who = ArePlacesOf set places.items
+IsPlaced (Gathered set passes) who = ArePassesOf set passes.items

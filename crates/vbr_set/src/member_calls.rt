@@ -1,0 +1,64 @@
+//! The calls of a member.
+ghost use Rattle.std.specs.Prelude.{◌≡◌};
+ghost use Rattle.vbr_core.specs.declared.history.Op.TheVariants.{Insert, Remove, Has};
+ghost use Rattle.vbr_set.specs.MemberView.{IsMember};
+ghost use Rattle.vbr_set.specs.Sharing.{IsPlaced, set_shared};
+ghost use Rattle.vbr_set.specs.Members.{Called};
+ghost use Rattle.vbr_slots.specs.Views.{IsOf};
+
+use crate::member::Member;
+use crate::share::Share;
+use vbr_list::Refusal;
+use vbr_slots::Pass;
+use vbr_words::Shape;
+
+impl Member {
+    /// Adds a key, in at most `budget` steps, and says whether it was absent: [`VbrSet::insert`] by
+    /// its pass.
+    ///
+    /// [`VbrSet::insert`]: crate::VbrSet::insert
+    #[inline]
+    pub fn insert(&mut self, key: u64, budget: u32) -> Result<bool, Refusal>
+        ensures { Called Insert self.old self.new key budget result }
+    {
+        self.share.set().insert(&mut self.pass, key, budget)
+    }
+
+    /// Takes a key out, in at most `budget` steps, and says whether it was there: [`VbrSet::remove`]
+    /// by its pass.
+    ///
+    /// [`VbrSet::remove`]: crate::VbrSet::remove
+    #[inline]
+    pub fn remove(&mut self, key: u64, budget: u32) -> Result<bool, Refusal>
+        ensures { Called Remove self.old self.new key budget result }
+    {
+        self.share.set().remove(&mut self.pass, key, budget)
+    }
+
+    /// Whether a key is in the set, in at most `budget` steps: [`VbrSet::has`] by its pass.
+    ///
+    /// [`VbrSet::has`]: crate::VbrSet::has
+    #[inline]
+    pub fn has(&mut self, key: u64, budget: u32) -> Result<bool, Refusal>
+        ensures { Called Has self.old self.new key budget result }
+    {
+        self.share.set().has(&mut self.pass, key, budget)
+    }
+
+    /// The shape of its set.
+    #[inline]
+    pub fn shape(&self) -> Shape
+        ensures { result ≡ self.now.set.shape }
+    {
+        self.share.set().shape()
+    }
+
+    /// Its pass, which tells its number, its steps and its own pool.
+    #[inline]
+    pub fn pass(&self) -> &Pass
+        ensures pass { result.now ≡ self.now.pass }
+        ensures own { IsOf self.now.pass.trace self.now.set }
+    {
+        &self.pass
+    }
+}

@@ -1,0 +1,151 @@
+//! Closing a set by its members, one after another.
+ghost use Rattle.std.specs.Prelude.{◌≡◌, ◌≤◌, [], true, length, IfOk, IfErr, IfSome};
+ghost use Rattle.std.specs.Arc.{arc_value};
+ghost use Rattle.std.specs.Vec.{vec_capacity};
+ghost use Rattle.vbr_set.specs.Ends.{AreNumbered, EndsWith, IsBack};
+ghost use Rattle.vbr_set.specs.Places.{IsReady};
+ghost use Rattle.vbr_set.specs.Sharing.{ArePassesOf, ArePlacesOf, IsSeatOf};
+
+use crate::common::Common;
+use crate::end_error::EndError;
+use crate::member::Member;
+use crate::place::{Knows, Place};
+use crate::report::Report;
+use crate::set::VbrSet;
+use crate::share::Share;
+use atomic_table::Seat;
+use std::alloc::{AllocFailed, Global};
+use std::sync::Arc;
+use vbr_slots::{CloseError, Pass};
+
+impl Member {
+    /// Gives its pass back. While others have a share of the set, the answer is None. The last member
+    /// ends the set, and is told what is in it, as [`VbrSet::close`] tells it with all passes.
+    ///
+    /// Only the last member needs memory, for the report.
+    ///
+    /// [`VbrSet::close`]: crate::VbrSet::close
+    pub fn close(self, alloc: Global) -> Result<Option<Report>, EndError>
+        ensures report { IfOk result (λ report. IfSome report (EndsWith self.set self.pass)) }
+        ensures stays { IfErr result (IsBack self.set self.pass) }
+    {
+        let Member {
+            before: _,
+            share,
+            pass,
+            after: _,
+        } = self;
+        let report = match share {
+            Share::Among(common, seat) => match leave(common, seat, pass) {
+                None => return Ok(None),
+                Some((set, places, pass)) => end_alone(alloc, set, places, pass)?,
+            },
+            Share::Alone(set, places) => end_alone(alloc, set, places, pass)?,
+            Share::Gathered(set, passes) => end_gathered(alloc, set, passes, pass)?,
+        };
+        Ok(Some(report))
+    }
+}
+
+// Lays a pass into its place and gives the share of its set up. The last one gets the set, the places
+// of the other passes, and its pass again.
+fn leave(
+    common: Arc<Common, Global>,
+    mut seat: Seat<Option<Pass>, Knows>,
+    pass: Pass,
+) -> Option<(VbrSet, Vec<Place>, Pass)>
+    requires ready { IsReady (arc_value common).set pass }
+    requires seat { IsSeatOf (arc_value common).places.items pass.trace.who seat.table_id seat.id seat.me }
+    ensures set { IfSome result (λ r. r.0 ≡ (arc_value common).set) }
+    ensures places { IfSome result (λ r. ArePlacesOf (arc_value common).set r.1.items) }
+    ensures pass { IfSome result (λ r. r.2 ≡ pass) }
+{
+    let who = pass.who() as usize;
+    common.places[who].put(&mut seat, pass);
+    let Common {
+        before: _,
+        set,
+        mut places,
+        after: _,
+    } = Arc::into_inner(common)?;
+    let own = places.remove(who).into_own(seat);
+    Some((set, places, own))
+}
+
+// Ends a set whose other passes lie in their places.
+fn end_alone(alloc: Global, set: VbrSet, places: Vec<Place>, pass: Pass) -> Result<Report, EndError>
+    requires ready { IsReady set pass }
+    requires places { ArePlacesOf set places.items }
+    ensures ended { IfOk result (EndsWith set pass) }
+    ensures stays { IfErr result (IsBack set pass) }
+{
+    let Ok(room) = Vec::with_capacity(alloc, places.len().saturating_add(1)) else {
+        let share = Share::Alone(set, places);
+        return Err(EndError::Memory(Member::of(share, pass)));
+    };
+    match gather(&set, places, room) {
+        Some(passes) => end_gathered(alloc, set, passes, pass),
+        None => Err(EndError::Lost),
+    }
+}
+
+// Takes the passes out of their places, in the order of the places, or none where one is missing.
+fn gather(set: &VbrSet, places: Vec<Place>, mut passes: Vec<Pass>) -> Option<Vec<Pass>>
+    requires places { ArePlacesOf set.now places.items }
+    requires room { (passes.items ≡ []) × (length places.items ≤ vec_capacity passes) }
+    ensures { IfSome result (λ passes. ArePassesOf set.now passes.items) }
+{
+    for place in places {
+        let pass = place.into_pass()?;
+        let Ok(()) = passes.push(pass) else {
+            unreachable!()
+        };
+    }
+    Some(passes)
+}
+
+// Ends a set with the other passes.
+fn end_gathered(
+    alloc: Global,
+    set: VbrSet,
+    mut passes: Vec<Pass>,
+    pass: Pass,
+) -> Result<Report, EndError>
+    requires ready { IsReady set pass }
+    requires passes { ArePassesOf set passes.items }
+    ensures ended { IfOk result (EndsWith set pass) }
+    ensures stays { IfErr result (IsBack set pass) }
+{
+    let who = pass.who() as usize;
+    if who > passes.len() {
+        return Err(EndError::Lost);
+    }
+    if let Err(AllocFailed { value }) = passes.insert(who, pass) {
+        let share = Share::Gathered(set, passes);
+        return Err(EndError::Memory(Member::of(share, value)));
+    }
+    if passes.len() != set.count as usize || !are_numbered(&passes) {
+        return Err(EndError::Lost);
+    }
+    match set.close(alloc, passes) {
+        Ok(report) => Ok(report),
+        Err(CloseError::Missing(_, _)) => Err(EndError::Lost),
+        Err(CloseError::Memory(set, mut passes)) => {
+            let pass = passes.remove(who);
+            let share = Share::Gathered(set, passes);
+            Err(EndError::Memory(Member::of(share, pass)))
+        }
+    }
+}
+
+// Whether each pass stands at its number.
+fn are_numbered(passes: &[Pass]) -> bool
+    ensures { result ≡ true → AreNumbered passes.now }
+{
+    for number in 0..passes.len() {
+        if passes[number].who() as usize != number {
+            return false;
+        }
+    }
+    true
+}

@@ -1,0 +1,98 @@
+//! Opening a set for members.
+ghost use Rattle.std.specs.Prelude.{◌≡◌, ◌<◌, ◌↔◌, ◌⊎◌, All, length, map, IfOk, IsErrOf, None};
+ghost use Rattle.vbr_slots.specs.Views.{IsOf, new_passes};
+ghost use Rattle.vbr_set.specs.MemberView.{IsMember};
+ghost use Rattle.vbr_set.specs.Members.{AreNew};
+ghost use Rattle.vbr_set.specs.Seats.{AreSeats};
+ghost use Rattle.vbr_set.specs.Sharing.{IsPlaced, set_shared};
+
+use crate::common::Common;
+use crate::member::Member;
+use crate::place::{Knows, Place};
+use crate::set::VbrSet;
+use crate::share::Share;
+use atomic_table::Seat;
+use std::alloc::{AllocError, Global};
+use std::sync::Arc;
+use vbr_slots::{OpenError, Pass};
+use vbr_words::Shape;
+
+impl Member {
+    /// Opens an empty set and gives its members, from 1 to 64 of them, in the order of their numbers,
+    /// which begin with 0. They have seen nothing. No call takes memory later, but for the close of
+    /// the last member.
+    ///
+    /// The refusals are tested in the order of [`OpenError`].
+    pub fn open(alloc: Global, shape: Shape, passes: u32) -> Result<Vec<Member>, OpenError>
+        ensures members { IfOk result (λ members. AreNew shape passes members.items) }
+        ensures refused { IsErrOf result OpenError.Passes ↔ ((passes ≡ 0) ⊎ (64 < passes)) }
+    {
+        let (set, opened) = VbrSet::open(alloc, shape, passes)?;
+        match hand_out(alloc, set, opened) {
+            Ok(members) => Ok(members),
+            Err(_) => Err(OpenError::Memory),
+        }
+    }
+
+    // A member with what it has of its set.
+    pub(crate) fn of(share: Share, pass: Pass) -> Member
+        requires own { IsOf pass.trace (set_shared share) }
+        requires empty_hand { pass.hand ≡ None }
+        requires placed { IsPlaced share pass.trace.who }
+        ensures { result ≡ record { set = set_shared share; pass = pass } }
+    {
+        Member {
+            before: [0; 16],
+            share,
+            pass,
+            after: [0; 16],
+        }
+    }
+}
+
+// A place for each of so many passes, and a seat of each of them.
+fn make_places(
+    alloc: Global,
+    set: &VbrSet,
+    count: usize,
+) -> Result<(Vec<Place>, Vec<Seat<Option<Pass>, Knows>>), AllocError>
+    ensures places { IfOk result (λ r. All (λ place. place.table.shared.key ≡ set.now) r.0.items) }
+    ensures seats { IfOk result (λ r. AreSeats r.0.items 0 r.1.items) }
+    ensures count { IfOk result (λ r. length r.1.items ≡ count) }
+{
+    let mut places = Vec::with_capacity(alloc, count)?;
+    let mut seats = Vec::with_capacity(alloc, count)?;
+    for _ in 0..count {
+        let (place, seat) = Place::new(alloc, set)?;
+        places.push(place)?;
+        seats.push(seat)?;
+    }
+    Ok((places, seats))
+}
+
+// Makes a member with each of the passes of a set.
+fn hand_out(alloc: Global, set: VbrSet, passes: Vec<Pass>) -> Result<Vec<Member>, AllocError>
+    requires { passes.items ≡ new_passes set 0 (length passes.items) }
+    ensures { IfOk result (λ members. members.items ≡ map (λ pass. record { set = set; pass = pass }) passes.items) }
+{
+    let (places, seats) = make_places(alloc, &set, passes.len())?;
+    let mut members = Vec::with_capacity(alloc, passes.len())?;
+    let common = Arc::new(
+        alloc,
+        Common {
+            before: [0; 16],
+            set,
+            places,
+            after: [0; 16],
+        },
+    )?;
+    let mut seats = seats.into_iter();
+    for pass in passes {
+        let Some(seat) = seats.next() else {
+            unreachable!()
+        };
+        let share = Share::Among(Arc::try_clone(&common)?, seat);
+        members.push(Member::of(share, pass))?;
+    }
+    Ok(members)
+}

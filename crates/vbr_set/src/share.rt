@@ -1,0 +1,19 @@
+//! What a member has of its set.
+use crate::common::Common;
+use crate::place::{Knows, Place};
+use crate::set::VbrSet;
+use atomic_table::Seat;
+use std::alloc::Global;
+use std::sync::Arc;
+use vbr_slots::Pass;
+
+/// What a member has of its set.
+#[derive(Drop)]
+pub enum Share {
+    /// A share of it, with the right to lay its pass into its place.
+    Among(Arc<Common, Global>, Seat<Option<Pass>, Knows>),
+    /// All of it, with the places of the other passes, after a close that found no memory.
+    Alone(VbrSet, Vec<Place>),
+    /// All of it, with the other passes, after a close that found no memory later on.
+    Gathered(VbrSet, Vec<Pass>),
+}

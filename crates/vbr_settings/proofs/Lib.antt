@@ -1,0 +1,3 @@
+pub mod OptionsRead
+pub mod OptionValues
+pub mod CompleteOptions

@@ -1,0 +1,89 @@
+//! How a script is played: on a set of which shape, by how many workers, and with which budget.
+ghost use Rattle.std.specs.Prelude.{◌≡◌, Some, None, MatchResult};
+ghost use Rattle.vbr_settings.specs.Settings.{AreSettings, config_error};
+
+use std::marker::Model;
+use thiserror::Error;
+use vbr_words::Shape;
+
+/// The greatest number of workers.
+pub const MAX_WORKERS: u32 = 16;
+
+/// How a script is played.
+#[derive(Clone, Copy, Debug, PartialEq, Eq, Hash)]
+pub struct Config {
+    shape: Shape,
+    workers: u32,
+    budget: u32,
+    epoch: bool,
+}
+
+impl Model for Config {
+    ghost use Rattle.vbr_settings.specs.Settings.{Settings, AreSettings};
+
+    ghost Value = { Settings };
+
+    ghost view = { λ c. record { shape = c.shape; workers = c.workers; budget = c.budget; epoch = c.epoch } };
+
+    ghost invariant = { λ c. AreSettings (record { shape = c.shape; workers = c.workers; budget = c.budget; epoch = c.epoch }) };
+
+    ghost inverse = { λ s. record { shape = s.shape; workers = s.workers; budget = s.budget; epoch = s.epoch } };
+}
+
+/// Why a script can't be played so.
+#[derive(Clone, Copy, Debug, PartialEq, Eq, Hash, Error)]
+pub enum ConfigError {
+    /// The number of workers is 0 or above `MAX_WORKERS`.
+    #[error("the number of workers is not from 1 to {MAX_WORKERS}")]
+    Workers,
+}
+
+impl Config {
+    /// Plays on a set of this shape, by so many workers, with a budget of so many steps for each
+    /// call, and tells the set's last epoch or not. The one refusal is that of the number of
+    /// workers.
+    pub fn new(shape: Shape, workers: u32, budget: u32, epoch: bool) -> Result<Self, ConfigError>
+        ensures { MatchResult result
+            (λ config. (config_error workers ≡ None) × (config ≡ record { shape = shape; workers = workers; budget = budget; epoch = epoch }))
+            (λ error. config_error workers ≡ Some error) }
+    {
+        if workers == 0 || workers > MAX_WORKERS {
+            return Err(ConfigError::Workers);
+        }
+        Ok(Config {
+            shape,
+            workers,
+            budget,
+            epoch,
+        })
+    }
+
+    /// The shape of the set.
+    pub fn shape(&self) -> Shape
+        ensures { result ≡ self.now.shape }
+    {
+        self.shape
+    }
+
+    /// The number of workers, from 1 to `MAX_WORKERS`.
+    pub fn workers(&self) -> u32
+        ensures workers { result ≡ self.now.workers }
+        ensures within { AreSettings self.now }
+    {
+        self.workers
+    }
+
+    /// The greatest number of steps that a call may make.
+    pub fn budget(&self) -> u32
+        ensures { result ≡ self.now.budget }
+    {
+        self.budget
+    }
+
+    /// Whether the set's epoch in the end is told.
+    pub fn epoch(&self) -> bool
+        ensures { result ≡ self.now.epoch }
+    {
+        self.epoch
+    }
+}

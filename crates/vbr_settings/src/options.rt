@@ -1,0 +1,229 @@
+//! The options of the program.
+ghost use Rattle.std.specs.Prelude.{◌≡◌, ◌⊎◌, ℕ, List, [], ◌∷◌, Some, true, false, IfOk, IfErr, MatchResult, map, fold, codes};
+ghost use Rattle.clap.specs.Words.{app_of, rule_of, rows_of, found_of, with_rule, kind_of};
+ghost use Rattle.vbr_settings.specs.Options.{AreOptions, number_option, flag, shape_options, command_line, settings_of, settings_among, number_among, is_among, HasNumber, IsFlag, AreComplete, shape_fault, IsRefusalOf};
+ghost use Rattle.vbr_settings.specs.declared.options.Refusal.TheVariants.{Usage, Unshaped};
+
+use crate::config::{Config, MAX_WORKERS};
+use clap::builder::ValueParser;
+use clap::error::ErrorKind;
+use clap::{Arg, ArgAction, ArgMatches, Command, Error};
+use std::alloc::Global;
+use vbr_words::{Shape, ShapeError};
+
+const ABOUT: &str =
+    "Plays a script of calls of a concurrent set, and prints the replies and the totals.";
+
+const HELP: &str = "\
+The script is read on standard input, one operation a line:
+
+  WORKER OPERATION KEY
+
+WORKER is the number of a worker, from 0. OPERATION is insert, remove or has.
+KEY is a number from 0 to 18446744073709551615. Words are separated by spaces or
+tabs; lines without words are skipped.
+
+Each worker plays its lines in order, on a thread of its own. A line that is
+sync alone ends a phase: the workers go on once all have played their lines of
+it, and each has then seen what the others did.
+
+The output has a line for each operation, in script order: yes or no. An insert
+is answered yes where the key was absent, a remove and a has where it was
+present. A refused operation has the line full (no slot is left), spent (no
+epoch is left) or tired (the budget of steps is used up). Then come the totals:
+how many inserts, removes and look-ups were answered yes, how many operations
+were refused, and the keys that are left, ascending.
+
+Exit status: 0 done, 2 a fault in the options, 3 a fault in the script, 4 the
+script couldn't be read or the output couldn't be written, 5 no memory, or a
+worker couldn't be started.
+
+Example:
+
+  printf '0 insert 5\\nsync\\n1 has 5\\n' | vbr_run --workers 2
+
+prints
+
+  yes
+  yes
+  inserted 1
+  removed 0
+  found 1
+  refused 0
+  keys 5
+";
+
+const WORKERS_HELP: &str = "How many workers play the script";
+
+const SLOTS_HELP: &str = "How many slots the set has";
+
+const BUCKETS_HELP: &str = "How many buckets the set has";
+
+const LAST_EPOCH_HELP: &str = "The last epoch of the set";
+
+const BUDGET_HELP: &str = "How many steps a call may make";
+
+const EPOCH_HELP: &str = "Prints the epoch of the set in the end";
+
+// The greatest number of an option of 32 bits.
+const MOST: u64 = u32::MAX as u64;
+
+/// Why there are no options to play with.
+#[derive(Drop)]
+pub enum Refusal {
+    /// The words are at fault, or ask for the help, or there was no memory for them.
+    Usage(Error),
+    /// The numbers that they give are no shape.
+    Unshaped(ShapeError),
+}
+
+impl From<Error> for Refusal {
+    ghost from_gives = { λ error refusal. refusal ≡ Usage error };
+
+    fn from(error: Error) -> Self {
+        Refusal::Usage(error)
+    }
+}
+
+impl From<ShapeError> for Refusal {
+    ghost from_gives = { λ error refusal. refusal ≡ Unshaped error };
+
+    fn from(error: ShapeError) -> Self {
+        Refusal::Unshaped(error)
+    }
+}
+
+/// Reads the options: how the script is to be played, or what is to be told in its place. Words that
+/// the command takes lack nothing but a shape, or memory.
+pub fn read_options(alloc: Global, words: &[&str]) -> Result<Config, Refusal>
+    ensures ok { IfOk result (λ config. config ≡ settings_of (map (λ word. word.now) words.entry.now)) }
+    ensures refusal { IfErr result (IsRefusalOf (map (λ word. word.now) words.entry.now)) }
+{
+    let matches = command(alloc)?.try_get_matches_from(words)?;
+    Ok(config_of(&matches)?)
+}
+
+/// A law: command lines that are accepted, and what they give. The program's name alone gives each
+/// option its own value, and each option may be given.
+pub fn knows_its_options()
+    ensures name_alone { (name : List ℕ) → AreOptions (name ∷ [])
+        × (settings_of (name ∷ []) ≡ record { shape = record { slots = 1024; buckets = 16; last_epoch = 8796093022207 }; workers = 1; budget = 100000; epoch = false }) }
+    ensures all_given { (name : List ℕ) → AreOptions (name ∷ codes "--workers" ∷ codes "4" ∷ codes "--slots" ∷ codes "512" ∷ codes "--buckets=8" ∷ codes "--last-epoch" ∷ codes "7" ∷ codes "--budget" ∷ codes "1000000" ∷ codes "--epoch" ∷ [])
+        × (settings_of (name ∷ codes "--workers" ∷ codes "4" ∷ codes "--slots" ∷ codes "512" ∷ codes "--buckets=8" ∷ codes "--last-epoch" ∷ codes "7" ∷ codes "--budget" ∷ codes "1000000" ∷ codes "--epoch" ∷ []) ≡ record { shape = record { slots = 512; buckets = 8; last_epoch = 7 }; workers = 4; budget = 1000000; epoch = true }) }
+{}
+
+// The command, with its options.
+fn command<'a>(alloc: Global) -> Result<Command<'a>, Error>
+    ensures options { IfOk result (λ command. app_of command ≡ command_line) }
+    ensures memory { IfErr result (λ e. kind_of e ≡ ErrorKind.OutOfMemory) }
+{
+    let command = Command::new(alloc, "vbr_run")
+        .bin_name("vbr_run")?
+        .about(ABOUT)
+        .after_help(HELP);
+    let workers = number(
+        alloc,
+        "workers",
+        WORKERS_HELP,
+        1,
+        u64::from(MAX_WORKERS),
+        "1",
+    );
+    let command = with_shape(alloc, command.arg(workers)?)?;
+    let budget = number(alloc, "budget", BUDGET_HELP, 0, MOST, "100000");
+    let epoch = flag(alloc, "epoch", EPOCH_HELP);
+    Ok(command.arg(budget)?.arg(epoch)?)
+}
+
+// The command with the options that give the set's shape.
+fn with_shape<'a>(alloc: Global, command: Command<'a>) -> Result<Command<'a>, Error>
+    ensures options { IfOk result (λ shaped. app_of shaped ≡ fold with_rule (app_of command.entry) shape_options) }
+    ensures memory { IfErr result (λ e. kind_of e ≡ ErrorKind.OutOfMemory) }
+{
+    let slots = number(alloc, "slots", SLOTS_HELP, 0, MOST, "1024");
+    let buckets = number(alloc, "buckets", BUCKETS_HELP, 0, MOST, "16");
+    let last_epoch = number(
+        alloc,
+        "last-epoch",
+        LAST_EPOCH_HELP,
+        0,
+        u64::MAX,
+        "8796093022207",
+    );
+    Ok(command.arg(slots)?.arg(buckets)?.arg(last_epoch)?)
+}
+
+// An option that takes a number between two limits, and is this number where it isn't given.
+fn number<'a>(
+    alloc: Global,
+    name: &'a str,
+    help: &'a str,
+    least: u64,
+    most: u64,
+    default: &'a str,
+) -> Arg<'a>
+    ensures rule { rule_of result ≡ number_option name.entry.now least most default.entry.now }
+    ensures local { result.global ≡ false }
+{
+    Arg::new(alloc, name)
+        .long(name)
+        .help(help)
+        .action(ArgAction::Set)
+        .value_name("N")
+        .value_parser(ValueParser::unsigned(least, most))
+        .default_value(default)
+}
+
+// An option that is given or not.
+fn flag<'a>(alloc: Global, name: &'a str, help: &'a str) -> Arg<'a>
+    ensures rule { rule_of result ≡ flag name.entry.now }
+    ensures local { result.global ≡ false }
+{
+    Arg::new(alloc, name)
+        .long(name)
+        .help(help)
+        .action(ArgAction::SetTrue)
+        .value_parser(ValueParser::bool())
+}
+
+// The config that the options give.
+fn config_of(matches: &ArgMatches) -> Result<Config, ShapeError>
+    requires { AreComplete (rows_of (found_of matches.now)) }
+    ensures { MatchResult result
+        (λ config. config ≡ settings_among (rows_of (found_of matches.now)))
+        (λ error. shape_fault (settings_among (rows_of (found_of matches.now))) ≡ Some error) }
+{
+    let shape = shape_of(matches)?;
+    let workers = number_of(matches, "workers") as u32;
+    let budget = number_of(matches, "budget") as u32;
+    let epoch = is_given(matches, "epoch");
+    Ok(Config::new(shape, workers, budget, epoch).unwrap())
+}
+
+// The shape that the options give.
+fn shape_of(matches: &ArgMatches) -> Result<Shape, ShapeError>
+    requires { AreComplete (rows_of (found_of matches.now)) }
+    ensures { MatchResult result
+        (λ shape. shape ≡ (settings_among (rows_of (found_of matches.now))).shape)
+        (λ error. shape_fault (settings_among (rows_of (found_of matches.now))) ≡ Some error) }
+{
+    let slots = number_of(matches, "slots") as u32;
+    let buckets = number_of(matches, "buckets") as u32;
+    Shape::new(slots, buckets, number_of(matches, "last-epoch"))
+}
+
+// The number that an option has.
+fn number_of(matches: &ArgMatches, name: &str) -> u64
+    requires { HasNumber name.now (rows_of (found_of matches.now)) }
+    ensures { result ≡ number_among name.now (rows_of (found_of matches.now)) }
+{
+    matches.get_one(name).unwrap()
+}
+
+// Whether a flag is given.
+fn is_given(matches: &ArgMatches, name: &str) -> bool
+    requires { IsFlag name.now (rows_of (found_of matches.now)) }
+    ensures { result ≡ is_among name.now (rows_of (found_of matches.now)) }
+{
+    matches.get_flag(name)
+}

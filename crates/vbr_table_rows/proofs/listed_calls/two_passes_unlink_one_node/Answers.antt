@@ -1,0 +1,13 @@
+-- The list is worked at this shape.
+use Rattle.std.proofs.Common.{◌≡◌, sym, subst, rules}
+use Rattle.vbr_words.specs.Dimensions.{Dimensions}
+use Rattle.vbr_core.specs.Machine.{opening}
+use Rattle.vbr_event_lists.specs.Worked.{AreWorked}
+use Rattle.vbr_event_lists.specs.declared.lists.TheConstants.{TWO_HELPERS, TWO_HELPERS_WORDS}
+use Rattle.vbr_event_lists.proofs.WorkedRows.{one_slot, two_helpers}
+use Rattle.vbr_table_rows.proofs.listed_calls.two_passes_unlink_one_node.Goals as goal
+
+pub words_after-requires : goal.words_after-requires
+words_after-requires g c =
+    let shape : c.in_ok-shape.shape ≡ one_slot = search rules in
+    subst (λ (d : Dimensions). AreWorked d opening TWO_HELPERS TWO_HELPERS_WORDS) (sym shape) two_helpers

@@ -1,0 +1,3 @@
+mod OnePass
+mod OwnedSlots
+mod Taking

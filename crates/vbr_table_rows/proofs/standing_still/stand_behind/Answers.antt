@@ -1,0 +1,13 @@
+-- The first rows of the list are worked at this shape.
+use Rattle.std.proofs.Common.{◌≡◌, sym, subst, take, rules}
+use Rattle.vbr_words.specs.Dimensions.{Dimensions}
+use Rattle.vbr_core.specs.Machine.{opening}
+use Rattle.vbr_event_lists.specs.Worked.{AreWorked}
+use Rattle.vbr_event_lists.specs.declared.standing.TheConstants.{STANDING, STANDING_WORDS}
+use Rattle.vbr_event_lists.proofs.StandingRows.{first_worked, many_epochs, standing}
+use Rattle.vbr_table_rows.proofs.standing_still.stand_behind.Goals as goal
+
+pub table_after-requires : goal.table_after-requires
+table_after-requires g c =
+    let shape : c.in_ok-shape.shape ≡ many_epochs = search rules in
+    subst (λ (d : Dimensions). AreWorked d opening (take c.args.steps STANDING) STANDING_WORDS) (sym shape) (first_worked many_epochs c.args.steps STANDING opening STANDING_WORDS standing)

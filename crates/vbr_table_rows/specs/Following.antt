@@ -1,0 +1,35 @@
+-- A running table of two passes on which a worked list of events is made: what a row asks, and where the passes stand in the list.
+use Rattle.std.specs.Prelude.{◌≡◌, ℕ, List}
+use Rattle.vbr_core.specs.Acceptance.{Accepts}
+use Rattle.vbr_core.specs.Learning.{effect_of, learn}
+use Rattle.vbr_core.specs.Machine.{World}
+use Rattle.vbr_core.specs.declared.event.Effect.{Effect}
+use Rattle.vbr_core.specs.declared.event.Step.{Step}
+use Rattle.vbr_slots.specs.Views.{Trace, TableView, IsOf, knows}
+use Rattle.vbr_event_lists.specs.Worked.{AreWorked, IsNew}
+
+-- a pass of the table with this number, which knows what it knows in the world
+pub record Follows (t : TableView) (who : ℕ) (p : Trace) (w : World) : Type 0 where
+  pub own : IsOf p t
+  pub who_is : p.who ≡ who
+  pub knows_it : knows p ≡ w.know who
+
+-- two passes know what they know in a world from which on the rows are worked
+pub record Stands (t : TableView) (a b : Trace) (rows : List (ℕ × Step × Effect)) (words : List ℕ) : Type 0 where
+  pub world : World
+  pub first : Follows t 0 a world
+  pub second : Follows t 1 b world
+  pub worked : AreWorked t.shape world rows words
+
+-- the pass may make the step at the table, with this word
+pub record May (t : TableView) (p : Trace) (step : Step) (word : ℕ) : Type 0 where
+  pub own : IsOf p t
+  pub accepted : Accepts t.shape (knows p) step
+  pub new : IsNew (knows p) step word
+
+-- what a pass learned from a step that had this effect; a slot that it took had the stamp 0
+pub record Learned (step : Step) (p q : Trace) (effect : Effect) : Type 0 where
+  pub found : ℕ
+  pub answers : effect ≡ effect_of step found
+  pub learned : knows q ≡ learn step found 0 (knows p)
+  pub same : (q.table ≡ p.table) × (q.shape ≡ p.shape) × (q.passes ≡ p.passes) × (q.who ≡ p.who)

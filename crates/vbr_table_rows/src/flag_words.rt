@@ -1,0 +1,119 @@
+//! The flag words of the shared pool, on seventy slots: sixty-four flags in one word, six in the next.
+ghost use Rattle.std.specs.Prelude.{◌≡◌, ◌≤◌, None};
+ghost use Rattle.vbr_slots.specs.Views.{IsOf};
+
+use crate::running_table::{close_two, open_two};
+use std::alloc::Global;
+use std::test::Fail;
+use vbr_core::World;
+use vbr_pools::{TakeRefusal, give_back, take};
+use vbr_slots::{Pass, Slots};
+use vbr_words::{Place, Shape, place_index, word_count};
+
+#[test]
+fn seventy_flags_have_two_words(rt: HostRuntime) -> Result<(), Fail> {
+    let shape = Shape::new(70, 1, 10)?;
+    assert_eq!(rt; word_count(&shape), 285);
+    assert_eq!(rt; place_index(&shape, Place::Flags(1)), 284);
+    let world = World::open(rt.alloc(), shape, 2)?;
+    assert_eq!(rt; world.word(Place::Flags(0)), 18_446_744_073_709_551_615);
+    assert_eq!(rt; world.word(Place::Flags(1)), 63);
+    Ok(())
+}
+
+// Takes the first slots out of the shared pool, so many, and says whether all were there.
+fn take_first(slots: &Slots, pass: &mut Pass, count: u32) -> bool
+    requires own { IsOf pass.old.trace slots.now }
+    requires count { count ≤ slots.now.shape.slots }
+    ensures own { IsOf pass.new.trace slots.now }
+    ensures hand { pass.new.hand ≡ pass.old.hand }
+{
+    for slot in 0..count {
+        if slots.take_flag(pass, slot).is_err() {
+            return false;
+        }
+    }
+    true
+}
+
+// The two flag words of a table that is closed with its passes.
+fn closing_flags(alloc: Global, slots: Slots, first: Pass, second: Pass) -> Option<(u64, u64)>
+    requires { IsOf first.trace slots × IsOf second.trace slots }
+{
+    let words = close_two(alloc, slots, first, second)?;
+    Some((*words.get(283)?, *words.get(284)?))
+}
+
+#[test]
+fn a_lost_flag_shows_the_others_of_its_word(rt: HostRuntime) -> Result<(), Fail> {
+    let Some((slots, mut a, mut b)) = open_two(rt.alloc(), Shape::new(70, 1, 10)?) else {
+        panic!(rt; "no memory")
+    };
+    assert!(rt; take_first(&slots, &mut a, 2));
+    assert_eq!(rt; slots.take_flag(&mut b, 0), Err(18_446_744_073_709_551_612));
+    let flags = closing_flags(rt.alloc(), slots, a, b);
+    assert_eq!(rt; flags, Some((18_446_744_073_709_551_612, 63)));
+    Ok(())
+}
+
+#[test]
+fn the_lowest_flag_that_was_found_is_taken(rt: HostRuntime) -> Result<(), Fail> {
+    let Some((slots, mut a, mut b)) = open_two(rt.alloc(), Shape::new(70, 1, 10)?) else {
+        panic!(rt; "no memory")
+    };
+    assert!(rt; take_first(&slots, &mut a, 2));
+    let Ok(hand) = take(&slots, &mut b, 100) else {
+        panic!(rt; "no slot")
+    };
+    assert_eq!(rt; (hand.slot(), b.steps()), (2, 5));
+    give_back(&mut b, hand);
+    Ok(())
+}
+
+#[test]
+fn an_empty_word_leads_to_the_next(rt: HostRuntime) -> Result<(), Fail> {
+    let Some((slots, mut a, mut b)) = open_two(rt.alloc(), Shape::new(70, 1, 10)?) else {
+        panic!(rt; "no memory")
+    };
+    assert!(rt; take_first(&slots, &mut a, 64));
+    let Ok(hand) = take(&slots, &mut b, 100) else {
+        panic!(rt; "no slot")
+    };
+    assert_eq!(rt; (hand.slot(), b.steps()), (64, 5));
+    give_back(&mut b, hand);
+    assert_eq!(rt; closing_flags(rt.alloc(), slots, a, b), Some((0, 62)));
+    Ok(())
+}
+
+/// The bits past the last slot are no slots.
+#[test]
+fn no_slot_is_past_the_last(rt: HostRuntime) -> Result<(), Fail> {
+    let Some((slots, mut a, mut b)) = open_two(rt.alloc(), Shape::new(70, 1, 10)?) else {
+        panic!(rt; "no memory")
+    };
+    assert!(rt; take_first(&slots, &mut a, 70));
+    match take(&slots, &mut b, 100) {
+        Ok(_) => panic!(rt; "a slot past the last"),
+        Err(refusal) => assert!(rt; refusal == TakeRefusal::NoSlot),
+    }
+    assert!(rt; b.pool().is_empty() && b.steps() == 2);
+    assert_eq!(rt; closing_flags(rt.alloc(), slots, a, b), Some((0, 0)));
+    Ok(())
+}
+
+/// A flag that is raised leaves those of its neighbours.
+#[test]
+fn a_raised_flag_is_one(rt: HostRuntime) -> Result<(), Fail> {
+    let Some((slots, mut a, b)) = open_two(rt.alloc(), Shape::new(70, 1, 10)?) else {
+        panic!(rt; "no memory")
+    };
+    if slots.take_flag(&mut a, 65).is_err() {
+        panic!(rt; "not there")
+    }
+    slots.raise(&mut a, 65);
+    assert_eq!(rt;
+        closing_flags(rt.alloc(), slots, a, b),
+        Some((18_446_744_073_709_551_615, 63))
+    );
+    Ok(())
+}

@@ -1,0 +1,97 @@
+//! Retiring: the stamp of a slot is an epoch that was read after the slot was unlinked.
+ghost use Rattle.std.specs.Prelude.{◌≡◌, ◌<◌, false, None};
+ghost use Rattle.vbr_words.specs.Words.{link_of};
+ghost use Rattle.vbr_words.specs.declared.place.At.TheVariants.{Head};
+ghost use Rattle.vbr_core.specs.Acceptance.{IsUnlinked};
+ghost use Rattle.vbr_slots.specs.Views.{IsOf, knows};
+ghost use Rattle.vbr_access.specs.Held.{IsHeld};
+ghost use Rattle.vbr_access.specs.Keeping.{KeepsOwn};
+
+use crate::running_table::close_two;
+use std::process::Abort;
+use std::test::Fail;
+use vbr_access::{Held, checkpoint, first, key_of, mark, next, unlink, update};
+use vbr_pools::{Unlinked, retire, take};
+use vbr_slots::{Pass, Slots};
+use vbr_words::{At, Shape};
+
+// The head of bucket 0, which has this word, read after a new checkpoint in epoch 1.
+fn head_of(rt: &impl Abort, slots: &Slots, pass: &mut Pass, word: u64) -> Held
+    requires own { IsOf pass.old.trace slots.now }
+    requires bucket { 0 < slots.now.shape.buckets }
+    ensures own { IsOf pass.new.trace slots.now }
+    ensures keeps { KeepsOwn pass.old pass.new }
+    ensures at { result.at ≡ Head 0 }
+    ensures held { IsHeld (knows pass.new.trace) result }
+    ensures unmarked { (link_of result.word).mark ≡ false }
+{
+    let point = checkpoint(slots, pass);
+    let head = first(slots, pass, &point, 0).expect(rt, "the epoch has not moved");
+    assert_eq!(rt; (head.word, head.epoch), (word, 1));
+    head
+}
+
+// Takes slot 0, and inserts 7 into the one bucket, which is empty.
+fn insert_one(rt: &impl Abort, slots: &Slots, pass: &mut Pass)
+    requires own { IsOf pass.old.trace slots.now }
+    requires bucket { slots.now.shape.buckets ≡ 1 }
+    requires empty_hand { pass.old.hand ≡ None }
+    ensures own { IsOf pass.new.trace slots.now }
+{
+    let hand = take(slots, pass, 100).expect(rt, "a slot is in the shared pool");
+    assert_eq!(rt; (hand.slot(), hand.birth()), (0, 1));
+    let head = head_of(rt, slots, pass, 0);
+    let None = next(slots, pass, &head).expect(rt, "there is no step") else {
+        panic!(rt; "a node")
+    };
+    match update(slots, pass, &head, None, 7, hand) {
+        Ok(()) => {}
+        Err(_refused) => panic!(rt; "not inserted"),
+    }
+}
+
+// Marks and unlinks the one node, which is in slot 0.
+fn remove_one(rt: &impl Abort, slots: &Slots, pass: &mut Pass) -> Unlinked
+    requires own { IsOf pass.old.trace slots.now }
+    requires bucket { 0 < slots.now.shape.buckets }
+    ensures own { IsOf pass.new.trace slots.now }
+    ensures slot { result.slot ≡ 0 }
+    ensures unlinked { IsUnlinked ((knows pass.new.trace).own result.slot) }
+{
+    let head = head_of(rt, slots, pass, 2_097_153);
+    let Some(node) = next(slots, pass, &head).expect(rt, "the epoch has not moved") else {
+        panic!(rt; "no node")
+    };
+    assert!(rt; node.word == 2_097_152);
+    assert_eq!(rt; (node.at, node.birth), (At::Slot(0), 1));
+    let key = key_of(slots, pass, &node).expect(rt, "the epoch has not moved");
+    assert_eq!(rt; key, 7);
+    let marked = mark(slots, pass, &node).expect(rt, "the link is unmarked");
+    let (unlinked, head) = unlink(slots, pass, &head, marked).expect(rt, "the node is linked");
+    assert_eq!(rt; (head.at, head.word), (At::Head(0), 0));
+    assert!(rt; unlinked.slot() == 0);
+    unlinked
+}
+
+/// The epoch moves between an unlinking and the return of the slot: the stamp is the new epoch.
+#[test]
+fn a_stamp_is_read_after_the_unlinking(rt: HostRuntime) -> Result<(), Fail> {
+    let (slots, mut passes) = Slots::open(rt.alloc(), Shape::new(1, 1, 10)?, 2)?;
+    let mut b = passes.pop().expect(&rt, "there are two passes");
+    let mut a = passes.pop().expect(&rt, "there are two passes");
+    insert_one(&rt, &slots, &mut a);
+    let unlinked = remove_one(&rt, &slots, &mut a);
+    assert!(rt; slots.read_epoch(&mut b) == 1);
+    assert!(rt; slots.advance(&mut b, 1));
+    assert_eq!(rt; retire(&slots, &mut a, unlinked), 2);
+    assert_eq!(rt; a.epoch(), 2);
+    assert_eq!(rt; a.pool(), [0].as_slice());
+    let Some(words) = close_two(rt.alloc(), slots, a, b) else {
+        panic!(rt; "no words")
+    };
+    assert_eq!(rt;
+        words.as_slice(),
+        [2, 10_485_761, 0, 3_145_728, 1, 2, 7, 0].as_slice()
+    );
+    Ok(())
+}

@@ -1,0 +1,294 @@
+//! The running table: rows call by call, refusals that hand all back, and two threads.
+ghost use Rattle.std.specs.Prelude.{◌≡◌, ◌≢◌, ◌<◌, [], ◌∷◌, None, IfOk, IfErr, IfSome};
+ghost use Rattle.vbr_core.specs.declared.event.Step.TheVariants.{TakeFlag};
+ghost use Rattle.vbr_slots.specs.Closing.{AllOf, Ends, HandsBack};
+ghost use Rattle.vbr_slots.specs.Views.{IsOf, event_of, new_pass, new_passes};
+ghost use Rattle.vbr_table_rows.specs.Taking.{Has, BothTook};
+
+use std::alloc::{AllocError, Global};
+use std::process::Abort;
+use std::test::Fail;
+use std::thread::{Threads, join};
+use vbr_slots::{CloseError, OpenError, Pass, Slots};
+use vbr_words::Shape;
+
+// Opens a table. What found no memory left nothing, so it is tried again.
+pub fn open(alloc: Global, shape: Shape, passes: u32) -> Result<(Slots, Vec<Pass>), OpenError>
+    ensures table { IfOk result (λ r. (r.0.shape ≡ shape) × (r.0.passes ≡ passes)) }
+    ensures passes { IfOk result (λ r. r.1.items ≡ new_passes r.0 0 passes) }
+{
+    match Slots::open(alloc, shape, passes) {
+        Err(OpenError::Memory) => Slots::open(alloc, shape, passes),
+        opened => opened,
+    }
+}
+
+// A table with two passes.
+pub fn open_two(alloc: Global, shape: Shape) -> Option<(Slots, Pass, Pass)>
+    ensures table { IfSome result (λ r. (r.0.shape ≡ shape) × (r.0.passes ≡ 2)) }
+    ensures first { IfSome result (λ r. r.1 ≡ new_pass r.0 0) }
+    ensures second { IfSome result (λ r. r.2 ≡ new_pass r.0 1) }
+{
+    let (slots, mut passes) = open(alloc, shape, 2).ok()?;
+    let second = passes.pop()?;
+    let first = passes.pop()?;
+    Some((slots, first, second))
+}
+
+// An empty vector with room for two passes. What found no memory left nothing, so it is tried again.
+pub fn room_for_two(alloc: Global) -> Result<Vec<Pass>, AllocError>
+    ensures { IfOk result (λ passes. passes.items ≡ []) }
+{
+    match Vec::with_capacity(alloc, 2) {
+        Err(_) => Vec::with_capacity(alloc, 2),
+        made => made,
+    }
+}
+
+// Closes a table. What found no memory left all as it was, so it is tried again.
+pub fn close(slots: Slots, alloc: Global, passes: Vec<Pass>) -> Result<Vec<u64>, CloseError<Slots>>
+    requires { AllOf slots passes.items }
+    ensures ok { IfOk result (λ words. Ends slots passes.items words.items) }
+    ensures back { IfErr result (λ e. HandsBack e slots passes.items) }
+{
+    match slots.close(alloc, passes) {
+        Err(CloseError::Memory(slots, passes)) => slots.close(alloc, passes),
+        closed => closed,
+    }
+}
+
+// Closes a table with two passes.
+pub fn close_two(alloc: Global, slots: Slots, first: Pass, second: Pass) -> Option<Vec<u64>>
+    requires { IsOf first.trace slots × IsOf second.trace slots }
+{
+    let mut passes = room_for_two(alloc).ok()?;
+    passes.push(first).ok()?;
+    passes.push(second).ok()?;
+    close(slots, alloc, passes).ok()
+}
+
+// Reaches for a slot.
+fn take(slots: &Slots, mut pass: Pass, slot: u32) -> Pass
+    requires own { IsOf pass.trace slots.now }
+    requires slot { slot < slots.now.shape.slots }
+    ensures own { IsOf result.trace slots.now }
+    ensures who { result.trace.who ≡ pass.trace.who }
+    ensures has { Has result.trace.seen (event_of pass.trace.who (TakeFlag slot)) }
+{
+    let _ = slots.take_flag(&mut pass, slot);
+    pass
+}
+
+// Closes a table with two passes, each of which reached for its slot.
+fn gather(alloc: Global, slots: Slots, first: Pass, second: Pass) -> Option<Vec<u64>>
+    requires passes { slots.passes ≡ 2 }
+    requires own { IsOf first.trace slots × IsOf second.trace slots }
+    requires first { Has first.trace.seen (event_of 0 (TakeFlag 0)) }
+    requires second { Has second.trace.seen (event_of 1 (TakeFlag 1)) }
+    ensures { IfSome result (λ words. BothTook slots.shape words.items) }
+{
+    let mut passes = room_for_two(alloc).ok()?;
+    passes.push(first).ok()?;
+    passes.push(second).ok()?;
+    close(slots, alloc, passes).ok()
+}
+
+// Two threads reach for a slot each. The words are those of a run that has both steps.
+fn take_both<R: Threads + Sync>(rt: &R, alloc: Global, shape: Shape) -> Option<Vec<u64>>
+    requires { 1 < shape.slots }
+    ensures { IfSome result (λ words. BothTook shape words.items) }
+{
+    let (slots, first, second) = open_two(alloc, shape)?;
+    let table = &slots;
+    let (first, second) = join(
+        rt,
+        move ||
+            requires { IsOf first.trace table.now × (0 < table.now.shape.slots) }
+            ensures { IsOf result.trace table.entry.now × Has result.trace.seen (event_of first.trace.who (TakeFlag 0)) }
+        { take(table, first, 0) },
+        move ||
+            requires { IsOf second.trace table.now × (1 < table.now.shape.slots) }
+            ensures { IsOf result.trace table.entry.now × Has result.trace.seen (event_of second.trace.who (TakeFlag 1)) }
+        { take(table, second, 1) },
+    );
+    gather(alloc, slots, first, second)
+}
+
+#[test]
+fn two_threads_take_a_slot_each(rt: HostRuntime) -> Result<(), Fail> {
+    let shape = Shape::new(2, 1, 10)?;
+    let Some(words) = take_both(&rt, rt.alloc(), shape) else {
+        panic!(rt; "no words")
+    };
+    assert_eq!(rt;
+        words.as_slice(),
+        [1, 10_485_762, 0, 1_048_576, 0, 0, 0, 1_048_576, 0, 0, 0, 0].as_slice()
+    );
+    Ok(())
+}
+
+#[test]
+fn opens_and_closes(rt: HostRuntime) -> Result<(), Fail> {
+    let shape = Shape::new(1, 1, 10)?;
+    assert!(rt; matches!(open(rt.alloc(), shape, 0), Err(OpenError::Passes)));
+    assert!(rt; matches!(open(rt.alloc(), shape, 65), Err(OpenError::Passes)));
+    let (slots, passes) = open(rt.alloc(), shape, 2)?;
+    assert!(rt; slots.shape() == shape);
+    match close(slots, rt.alloc(), passes) {
+        Ok(words) => {
+            assert_eq!(rt;
+                words.as_slice(),
+                [1, 10_485_761, 0, 1_048_576, 0, 0, 0, 1].as_slice()
+            )
+        }
+        Err(_) => panic!(rt; "not closed"),
+    }
+    Ok(())
+}
+
+// Two passes reach for slot 0 and raise the epoch, and the first of them wins both. Once it has put the
+// slot back, the other takes it.
+fn share(rt: &impl Abort, slots: &Slots, a: &mut Pass, b: &mut Pass)
+    requires first { IsOf a.old.trace slots.now }
+    requires second { IsOf b.old.trace slots.now }
+    requires shape { (0 < slots.now.shape.slots) × (1 < slots.now.shape.last_epoch) }
+    ensures first { IsOf a.new.trace slots.now }
+    ensures second { IsOf b.new.trace slots.now }
+{
+    assert!(rt; slots.read_epoch(a) == 1);
+    assert_eq!(rt; slots.take_flag(a, 0), Ok(()));
+    assert_eq!(rt; slots.take_flag(b, 0), Err(2));
+    assert!(rt; slots.advance(a, 1));
+    assert!(rt; !slots.advance(b, 1));
+    assert!(rt; slots.read_epoch(b) == 2);
+    assert!(rt; slots.load_stamp(a, 0) == 0);
+    slots.raise(a, 0);
+    assert_eq!(rt; slots.take_flag(b, 0), Ok(()));
+}
+
+// Closes a table without its second pass, which is refused, and then with both.
+fn close_late(
+    rt: &impl Abort,
+    alloc: Global,
+    slots: Slots,
+    first: Pass,
+    second: Pass,
+) -> Option<Vec<u64>>
+    requires passes { slots.passes ≡ 2 }
+    requires own { IsOf first.trace slots × IsOf second.trace slots }
+{
+    let mut passes = room_for_two(alloc).ok()?;
+    passes.push(first).ok()?;
+    match close(slots, alloc, passes) {
+        Err(CloseError::Missing(slots, mut passes)) => {
+            passes.push(second).ok()?;
+            close(slots, alloc, passes).ok()
+        }
+        _ => panic!(rt; "closed without a pass"),
+    }
+}
+
+#[test]
+fn two_passes_share_a_slot(rt: HostRuntime) -> Result<(), Fail> {
+    let Some((slots, mut a, mut b)) = open_two(rt.alloc(), Shape::new(2, 1, 10)?) else {
+        panic!(rt; "no memory")
+    };
+    share(&rt, &slots, &mut a, &mut b);
+    assert_eq!(rt; (a.who(), a.epoch(), a.steps()), (0, 1, 5));
+    assert_eq!(rt; (b.who(), b.epoch(), b.steps()), (1, 2, 4));
+    let Some(words) = close_late(&rt, rt.alloc(), slots, a, b) else {
+        panic!(rt; "no words")
+    };
+    assert_eq!(rt;
+        words.as_slice(),
+        [2, 10_485_762, 0, 1_048_576, 0, 0, 0, 1_048_576, 0, 0, 0, 2].as_slice()
+    );
+    Ok(())
+}
+
+#[test]
+fn a_slot_is_born_in(rt: HostRuntime) -> Result<(), Fail> {
+    let Some((slots, mut a, b)) = open_two(rt.alloc(), Shape::new(1, 1, 10)?) else {
+        panic!(rt; "no memory")
+    };
+    assert!(rt; slots.read_epoch(&mut a) == 1);
+    assert!(rt; slots.take_flag(&mut a, 0).is_ok());
+    assert!(rt; slots.load_stamp(&mut a, 0) == 0);
+    slots.store_birth(&mut a, 0);
+    assert!(rt; a.in_hand() == Some(0) && a.pool().is_empty());
+    slots.store_key(&mut a, 0, 7);
+    slots.store_link(&mut a, 0, 2_097_152);
+    let Some(words) = close_two(rt.alloc(), slots, a, b) else {
+        panic!(rt; "no words")
+    };
+    assert_eq!(rt;
+        words.as_slice(),
+        [1, 10_485_761, 0, 2_097_152, 1, 0, 7, 0].as_slice()
+    );
+    Ok(())
+}
+
+#[test]
+fn one_pass_bears_a_slot(rt: HostRuntime) -> Result<(), Fail> {
+    let (slots, mut passes) = open(rt.alloc(), Shape::new(1, 1, 10)?, 1)?;
+    let Some(mut a) = passes.pop() else {
+        panic!(rt; "no pass")
+    };
+    assert!(rt; slots.read_epoch(&mut a) == 1);
+    assert!(rt; slots.take_flag(&mut a, 0).is_ok());
+    slots.store_birth(&mut a, 0);
+    slots.store_key(&mut a, 0, 7);
+    slots.store_link(&mut a, 0, 2_097_152);
+    passes.push(a).ok().ok_or("no room")?;
+    match close(slots, rt.alloc(), passes) {
+        Ok(words) => assert_eq!(rt;
+            words.as_slice(),
+            [1, 10_485_761, 0, 2_097_152, 1, 0, 7, 0].as_slice()
+        ),
+        Err(_) => panic!(rt; "not closed"),
+    }
+    Ok(())
+}
+
+// Raises the epoch, takes slot 0 and keeps it.
+fn take_later(rt: &impl Abort, slots: &Slots, pass: &mut Pass)
+    requires own { IsOf pass.old.trace slots.now }
+    requires shape { (0 < slots.now.shape.slots) × (1 < slots.now.shape.last_epoch) }
+    requires pool { pass.old.pool ≡ [] }
+    requires hand { pass.old.hand ≡ None }
+    ensures own { IsOf pass.new.trace slots.now }
+{
+    assert!(rt; slots.advance(pass, 1));
+    assert!(rt; slots.read_epoch(pass) == 2);
+    assert!(rt; slots.take_flag(pass, 0).is_ok());
+    assert!(rt; slots.load_stamp(pass, 0) == 0);
+    pass.keep(0);
+}
+
+// Compares the second pass of `two_passes_meet` with what it was before they met.
+fn expect_unmoved(rt: &impl Abort, pass: &Pass) {
+    assert_eq!(rt; (pass.who(), pass.epoch(), pass.steps()), (1, 2, 4));
+    assert!(rt; pass.pool() == [0].as_slice() && pass.in_hand().is_none());
+}
+
+#[test]
+fn two_passes_meet(rt: HostRuntime) -> Result<(), Fail> {
+    let Some((slots, mut a, mut b)) = open_two(rt.alloc(), Shape::new(2, 1, 10)?) else {
+        panic!(rt; "no memory")
+    };
+    take_later(&rt, &slots, &mut b);
+    assert!(rt; slots.advance(&mut a, 2));
+    assert_eq!(rt; (a.epoch(), a.steps()), (1, 1));
+    slots.meet(&mut a, &mut b);
+    assert_eq!(rt; (a.who(), a.epoch(), a.steps()), (0, 3, 2));
+    assert!(rt; a.pool().is_empty() && a.in_hand().is_none());
+    expect_unmoved(&rt, &b);
+    let Some(words) = close_two(rt.alloc(), slots, a, b) else {
+        panic!(rt; "no words")
+    };
+    assert_eq!(rt;
+        words.as_slice(),
+        [3, 10_485_762, 0, 1_048_576, 0, 0, 0, 1_048_576, 0, 0, 0, 2].as_slice()
+    );
+    Ok(())
+}

@@ -1,0 +1,195 @@
+//! A pass that stands still, wherever it is in a call, holds up no other.
+ghost use Rattle.std.specs.Prelude.{◌≡◌, ◌≤◌, None, IfSome};
+ghost use Rattle.vbr_core.specs.Machine.{opening};
+ghost use Rattle.vbr_slots.specs.Views.{IsOf};
+ghost use Rattle.vbr_event_lists.specs.Worked.{AreWorked};
+
+use crate::listed_calls::follow;
+use crate::running_table::{open, open_two};
+use std::alloc::Global;
+use std::process::Abort;
+use std::test::Fail;
+use vbr_access::{Checkpoint, Rollback, first};
+use vbr_event_lists::{Row, STANDING, STANDING_WORDS};
+use vbr_list::{insert, remove};
+use vbr_pools::{give_back, take};
+use vbr_slots::{Pass, Slots};
+use vbr_words::Shape;
+
+// A table of this shape on which two passes made the steps of a list.
+fn table_after(
+    rt: &impl Abort,
+    alloc: Global,
+    shape: Shape,
+    rows: &[Row],
+    words: &[u64],
+) -> Option<(Slots, Pass, Pass)>
+    requires { AreWorked shape opening rows.now words.now }
+    ensures shape { IfSome result (λ r. r.0.shape ≡ shape) }
+    ensures own { IfSome result (λ r. IsOf r.1.trace r.0 × IsOf r.2.trace r.0) }
+{
+    let (slots, mut a, mut b) = open_two(alloc, shape)?;
+    follow(rt, &slots, &mut a, &mut b, rows, words);
+    Some((slots, a, b))
+}
+
+// A thousand rounds of an insert and a remove.
+fn make_rounds(rt: &impl Abort, slots: &Slots, pass: &mut Pass)
+    requires own { IsOf pass.old.trace slots.now }
+    requires empty_hand { pass.old.hand ≡ None }
+    ensures own { IsOf pass.new.trace slots.now }
+{
+    for _ in 0..1000 {
+        assert!(rt; insert(slots, pass, 9, 1000) == Ok(true));
+        assert!(rt; remove(slots, pass, 9, 1000) == Ok(true));
+    }
+}
+
+// Pass 1 stands still behind the first steps of the list, pass 0 makes its rounds, and then pass 1 goes
+// on: it is told that the epoch has moved since its checkpoint.
+fn stand_behind(rt: &impl Abort, alloc: Global, steps: usize) -> Result<(), Fail>
+    requires { steps ≤ 29 }
+{
+    let shape = Shape::new(3, 1, 10_000)?;
+    let Some((slots, mut a, mut b)) = table_after(
+        rt,
+        alloc,
+        shape,
+        &STANDING[..steps],
+        &STANDING_WORDS,
+    ) else {
+        panic!(rt; "no memory")
+    };
+    assert!(rt; a.in_hand() == None);
+    make_rounds(rt, &slots, &mut a);
+    assert!(rt; a.epoch() >= 1000);
+    let point = Checkpoint { epoch: b.epoch() };
+    assert_eq!(rt; point.epoch, 1);
+    assert!(rt;
+        matches!(
+            first(&slots, &mut b, &point, 0),
+            Err(Rollback::EpochMoved { .. })
+        )
+    );
+    Ok(())
+}
+
+#[test]
+fn behind_a_read_of_the_epoch(rt: HostRuntime) -> Result<(), Fail> {
+    stand_behind(&rt, rt.alloc(), 9)
+}
+
+#[test]
+fn behind_a_flag(rt: HostRuntime) -> Result<(), Fail> {
+    stand_behind(&rt, rt.alloc(), 10)
+}
+
+#[test]
+fn behind_a_load_of_a_stamp(rt: HostRuntime) -> Result<(), Fail> {
+    stand_behind(&rt, rt.alloc(), 11)
+}
+
+#[test]
+fn behind_a_birth(rt: HostRuntime) -> Result<(), Fail> {
+    stand_behind(&rt, rt.alloc(), 12)
+}
+
+#[test]
+fn behind_a_stored_key(rt: HostRuntime) -> Result<(), Fail> {
+    stand_behind(&rt, rt.alloc(), 13)
+}
+
+#[test]
+fn behind_a_load_of_a_link(rt: HostRuntime) -> Result<(), Fail> {
+    stand_behind(&rt, rt.alloc(), 14)
+}
+
+#[test]
+fn behind_a_load_of_a_birth(rt: HostRuntime) -> Result<(), Fail> {
+    stand_behind(&rt, rt.alloc(), 16)
+}
+
+#[test]
+fn behind_a_load_of_a_key(rt: HostRuntime) -> Result<(), Fail> {
+    stand_behind(&rt, rt.alloc(), 19)
+}
+
+#[test]
+fn behind_a_confirming_load(rt: HostRuntime) -> Result<(), Fail> {
+    stand_behind(&rt, rt.alloc(), 21)
+}
+
+#[test]
+fn behind_a_stored_link(rt: HostRuntime) -> Result<(), Fail> {
+    stand_behind(&rt, rt.alloc(), 22)
+}
+
+#[test]
+fn behind_a_publication(rt: HostRuntime) -> Result<(), Fail> {
+    stand_behind(&rt, rt.alloc(), 23)
+}
+
+#[test]
+fn behind_a_mark(rt: HostRuntime) -> Result<(), Fail> {
+    stand_behind(&rt, rt.alloc(), 24)
+}
+
+#[test]
+fn behind_an_unlinking(rt: HostRuntime) -> Result<(), Fail> {
+    stand_behind(&rt, rt.alloc(), 25)
+}
+
+#[test]
+fn behind_a_stamp(rt: HostRuntime) -> Result<(), Fail> {
+    stand_behind(&rt, rt.alloc(), 27)
+}
+
+#[test]
+fn behind_a_raised_slot(rt: HostRuntime) -> Result<(), Fail> {
+    stand_behind(&rt, rt.alloc(), 28)
+}
+
+#[test]
+fn behind_a_raised_epoch(rt: HostRuntime) -> Result<(), Fail> {
+    stand_behind(&rt, rt.alloc(), 29)
+}
+
+// Inserts the keys 1 to 64, and then removes them.
+fn fill_and_empty(rt: &impl Abort, slots: &Slots, pass: &mut Pass)
+    requires own { IsOf pass.old.trace slots.now }
+    requires empty_hand { pass.old.hand ≡ None }
+    ensures own { IsOf pass.new.trace slots.now }
+    ensures empty_hand { pass.new.hand ≡ None }
+{
+    for key in 1..65 {
+        assert!(rt; insert(slots, pass, key, 100_000) == Ok(true));
+    }
+    for key in 1..65 {
+        assert!(rt; remove(slots, pass, key, 100_000) == Ok(true));
+    }
+}
+
+/// A pass keeps 63 of the slots that it unlinked, and gives the next one to the shared pool; the first
+/// that it takes again is the oldest, in an epoch that it raises.
+#[test]
+fn sixty_four_slots_filled_and_emptied(rt: HostRuntime) -> Result<(), Fail> {
+    let (slots, mut passes) = open(rt.alloc(), Shape::new(64, 1, 10)?, 1)?;
+    let Some(mut pass) = passes.pop() else {
+        panic!(rt; "no pass")
+    };
+    fill_and_empty(&rt, &slots, &mut pass);
+    assert_eq!(rt; pass.pool().len(), 63);
+    for i in 0..pass.pool().len() {
+        assert!(rt; pass.pool()[i] as usize == i);
+    }
+    assert_eq!(rt; pass.epoch(), 1);
+    let steps = pass.steps();
+    let Ok(hand) = take(&slots, &mut pass, 80) else {
+        panic!(rt; "no slot")
+    };
+    assert_eq!(rt; (hand.slot(), hand.birth()), (0, 2));
+    assert!(rt; pass.steps() == steps.saturating_add(67));
+    give_back(&mut pass, hand);
+    assert_eq!(rt; slots.take_flag(&mut pass, 63), Ok(()));
+    Ok(())
+}

@@ -1,0 +1,108 @@
+-- What the workers have played, put together in script order, is a run of the script.
+use Rattle.std.proofs.Common.{◌≡◌, ◌≢◌, ℕ, ◌<◌, ◌≤◌, true, eqb, List, [], ◌∷◌, inl, inr, sym, ap, subst, ◌∙◌, arith, append-nil}
+use Rattle.std.proofs.lemmas.Bool.{cases_lt, ne_eqb}
+use Rattle.std.proofs.lemmas.Bool.Decides.{nat_tests}
+use Rattle.std.proofs.lemmas.List.Elements.{All-nil, All-cons, All-head, All-tail, All-filter}
+use Rattle.std.specs.Prelude.{nat_le, zip, All}
+use Rattle.vbr_words.specs.Dimensions.{Dimensions}
+use Rattle.vbr_core.specs.Keys.{no_keys, Lists}
+use Rattle.vbr_core.specs.History.{calls_by, set_after}
+use Rattle.vbr_core.specs.Runs as machine
+use Rattle.vbr_core.specs.Runs.{world_after}
+use Rattle.vbr_core.specs.Safety.{IsSafe}
+use Rattle.vbr_core.specs.declared.event.Event.{Event}
+use Rattle.vbr_transcript.specs.Calls.{Outcome, answered, lines_by, lines_up_to, outcomes_by, outcomes_up_to}
+use Rattle.vbr_transcript.specs.Merging.{replies_by, IsMerged}
+use Rattle.vbr_script.specs.Scripts.{ArePhased}
+use Rattle.vbr_transcript.specs.Phases.{HaveCalled, HavePlayed}
+use Rattle.vbr_transcript.specs.Runs.{EndsIn, MayBeAnswered, Counts, IsRun}
+use Rattle.vbr_script.specs.declared.script.Line.{Line}
+use Rattle.vbr_transcript.specs.declared.reply.Reply.{Reply}
+use Rattle.vbr_transcript.specs.declared.totals.Totals.{Totals}
+use Rattle.vbr_core.proofs.RunsGoOn.{begins_run}
+use Rattle.vbr_transcript.proofs.CoreCalls.{calls_begin, no_calls_beyond}
+use Rattle.vbr_transcript.proofs.Filters.{filter_all, filter_none}
+use Rattle.vbr_transcript.proofs.Outcomes.{calls_by-answered, outcomes_by-own, all_outcomes, lines_by-ascend, outcomes_up_to-zip, lines_by-up_to, outcomes_by-up_to}
+
+-- what holds of each line holds of the line of each outcome
+all_lines : (P : Line → Type 0) (lines : List Line) (replies : List Reply) → All P lines → All (λ outcome. P outcome.0) (zip lines replies)
+all_lines P [] replies all = All-nil (λ (o : Outcome). P o.0)
+all_lines P (line ∷ lines) [] all = All-nil (λ (o : Outcome). P o.0)
+all_lines P (line ∷ lines) (reply ∷ replies) all = All-cons (λ (o : Outcome). P o.0) (line, reply) (zip lines replies) (All-head P line lines all) (all_lines P lines replies (All-tail P line lines all))
+
+-- no line is of a worker beyond the last
+pub none_beyond : (workers who : ℕ) (lines : List Line) → workers ≤ who → All (λ line. line.worker < workers) lines → lines_by who lines ≡ []
+none_beyond workers who lines beyond below = filter_none (λ (line : Line). eqb line.worker who) lines (λ k d inside. ne_eqb _ who (other (below k d inside)))
+  where
+    other : {n : ℕ} → n < workers → n ≢ who
+    other low same = omega arith
+
+-- after the last phase all are up to it
+all_up_to : (phases phase : ℕ) (outcomes : List Outcome) → phases ≤ phase → All (λ outcome. outcome.0.phase < phases) outcomes → outcomes_up_to phase outcomes ≡ outcomes
+all_up_to phases phase outcomes last below = filter_all (λ (outcome : Outcome). nat_le outcome.0.phase phase) outcomes (λ k d inside. within (below k d inside))
+  where
+    within : {n : ℕ} → n < phases → nat_le n phase ≡ true
+    within low = grind (arith, nat_tests)
+
+-- ---- the parts of a run
+
+-- the outcomes of a worker up to a phase are its lines up to it with its own replies
+of_worker_up_to : (phases workers who phase : ℕ) (lines : List Line) (own : List (List Reply)) (replies : List Reply) → ArePhased workers phases lines → IsMerged lines own replies → outcomes_by who (outcomes_up_to phase (zip lines replies)) ≡ zip (lines_by who (lines_up_to phase lines)) (replies_by who own)
+of_worker_up_to phases workers who phase lines own replies phased merged =
+    outcomes_by-up_to who phase (zip lines replies)
+    ∙ ap (outcomes_up_to phase) (outcomes_by-own who lines replies (replies_by who own) merged.one_each (merged.own_order who))
+    ∙ outcomes_up_to-zip phase 0 (lines_by who lines) (replies_by who own) (lines_by-ascend who 0 lines phased.ascend)
+    ∙ ap (λ (some : List Line). zip some (replies_by who own)) (sym (lines_by-up_to who phase lines))
+
+-- where each worker has called these lines, and there are no others, the calls are those of outcomes that are theirs
+own_order : (shape : Dimensions) (workers who : ℕ) (seen : List Event) (lines : List Line) (own : List (List Reply)) (outcomes : List Outcome) → machine.IsRun shape workers seen → HaveCalled shape workers lines own seen → All (λ line. line.worker < workers) lines → outcomes_by who outcomes ≡ zip (lines_by who lines) (replies_by who own) → calls_by who (world_after shape seen).calls ≡ calls_by who (answered outcomes)
+own_order shape workers who seen lines own outcomes is_run called below of_worker = elim (cases_lt who workers) [
+  | inl one ↦ called who one ∙ sym (calls_by-answered who outcomes ∙ ap answered of_worker)
+  | inr none ↦
+      let no_lines : zip (lines_by who lines) (replies_by who own) ≡ [] = ap (λ (some : List Line). zip some (replies_by who own)) (none_beyond workers who lines none below) in
+      no_calls_beyond shape workers who seen none is_run ∙ sym (calls_by-answered who outcomes ∙ ap answered (of_worker ∙ no_lines))
+]
+
+-- each phase ends in the history
+ends : (shape : Dimensions) (workers phases phase : ℕ) (lines : List Line) (own : List (List Reply)) (replies : List Reply) (run : List Event) → ArePhased workers phases lines → IsMerged lines own replies → machine.IsRun shape workers run → HavePlayed shape workers phases lines own run → ((who : ℕ) → calls_by who (world_after shape run).calls ≡ calls_by who (answered (zip lines replies))) → EndsIn (world_after shape run).calls (zip lines replies) phase
+ends shape workers phases phase lines own replies run phased merged is_run played all = elim (cases_lt phase phases) [
+  | inl before ↦
+      let end = played.ends phase before in
+      let calls = calls_begin shape end.seen run end.begins in
+      record {
+        before = (world_after shape end.seen).calls;
+        after = calls.0;
+        whole = calls.1;
+        own_order = λ who. own_order shape workers who end.seen (lines_up_to phase lines) own (outcomes_up_to phase (zip lines replies)) (begins_run shape workers end.seen run end.begins is_run) end.called (All-filter (λ (line : Line). nat_le line.phase phase) (λ (line : Line). line.worker < workers) lines phased.workers_below) (of_worker_up_to phases workers who phase lines own replies phased merged);
+      }
+  | inr after ↦
+      let whole = all_up_to phases phase (zip lines replies) after (all_lines (λ (line : Line). line.phase < phases) lines replies phased.phases_below) in
+      record {
+        before = (world_after shape run).calls;
+        after = [];
+        whole = sym (append-nil (world_after shape run).calls);
+        own_order = λ who. all who ∙ ap (λ (some : List Outcome). calls_by who (answered some)) (sym whole);
+      }
+]
+
+-- what the workers have played by a safe run is a run of the script, with the replies that they have merged
+pub run_of_workers : (shape : Dimensions) (workers phases : ℕ) (lines : List Line) (own : List (List Reply)) (replies : List Reply) (totals : Totals) (run : List Event) → ArePhased workers phases lines → IsMerged lines own replies → machine.IsRun shape workers run → IsSafe shape run → HavePlayed shape workers phases lines own run → Counts totals (zip lines replies) → Lists totals.keys.items (set_after no_keys (world_after shape run).calls) → totals.epoch ≡ (world_after shape run).epoch → IsRun shape workers lines replies totals
+run_of_workers shape workers phases lines own replies totals run phased merged is_run safe played counts keys epoch =
+    let of_worker = λ (who : ℕ). outcomes_by-own who lines replies (replies_by who own) merged.one_each (merged.own_order who) in
+    let all = λ (who : ℕ). own_order shape workers who run lines own (zip lines replies) is_run played.called phased.workers_below (of_worker who) in
+    let may = λ (outcome : Outcome). MayBeAnswered shape.last_epoch totals.epoch outcome.0.op outcome.1 in
+    record {
+      one_each = merged.one_each;
+      run = run;
+      is_run = is_run;
+      safe = safe;
+      explains = record {
+        legal = safe.legal;
+        own_order = all;
+        phases = λ phase. ends shape workers phases phase lines own replies run phased merged is_run played all;
+      };
+      refusals = all_outcomes may workers (zip lines replies) (all_lines (λ (line : Line). line.worker < workers) lines replies phased.workers_below) (λ who below. subst (λ (epoch : ℕ). All (λ outcome. MayBeAnswered shape.last_epoch epoch outcome.0.op outcome.1) (outcomes_by who (zip lines replies))) (sym epoch) (subst (All (λ outcome. MayBeAnswered shape.last_epoch (world_after shape run).epoch outcome.0.op outcome.1)) (sym (of_worker who)) (played.answers who below)));
+      counts = counts;
+      keys = keys;
+      epoch = epoch;
+    }

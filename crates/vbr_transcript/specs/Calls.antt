@@ -1,0 +1,40 @@
+-- What the operations of a script were answered, and the calls that they are.
+use Rattle.std.specs.Prelude.{ℕ, Bool, true, false, ◌==◌, nat_le, List, [], ◌∷◌, filter, flat_map}
+use Rattle.vbr_core.specs.declared.history.Call.{Call}
+use Rattle.vbr_script.specs.declared.script.Line.{Line}
+use Rattle.vbr_transcript.specs.declared.reply.Reply.{Reply}
+use Rattle.vbr_transcript.specs.declared.reply.Reply.TheVariants.{Yes, No}
+
+-- an operation with its reply
+abbrev pub Outcome : Type 0
+Outcome = Line × Reply
+
+-- an operation as a call that was answered so
+abbrev pub call_of : Line → Bool → Call
+call_of line answer = record { who = line.worker; op = line.op; key = line.key; reply = answer }
+
+-- the call that an operation is where its reply answers it, and none where it was refused
+abbrev pub answer_of : Line → Reply → List Call
+answer_of line Yes = call_of line true ∷ []
+answer_of line No = call_of line false ∷ []
+answer_of line _ = []
+
+-- the answered operations as calls, in their order
+abbrev pub answered : List Outcome → List Call
+answered outcomes = flat_map (λ outcome. answer_of outcome.0 outcome.1) outcomes
+
+-- the lines of one worker, in their order
+abbrev pub lines_by : ℕ → List Line → List Line
+lines_by who lines = filter (λ line. line.worker == who) lines
+
+-- the lines of the phases up to one, in their order
+abbrev pub lines_up_to : ℕ → List Line → List Line
+lines_up_to phase lines = filter (λ line. nat_le line.phase phase) lines
+
+-- the outcomes of one worker, in their order
+abbrev pub outcomes_by : ℕ → List Outcome → List Outcome
+outcomes_by who outcomes = filter (λ outcome. outcome.0.worker == who) outcomes
+
+-- the outcomes of the phases up to one, in their order
+abbrev pub outcomes_up_to : ℕ → List Outcome → List Outcome
+outcomes_up_to phase outcomes = filter (λ outcome. nat_le outcome.0.phase phase) outcomes

@@ -1,0 +1,89 @@
+-- A run of a script: a reply for each of its operations, and totals, that the calls of one run of the core explain.
+use Rattle.std.specs.Prelude.{◌≡◌, ℕ, Bool, true, false, ◌&&◌, List, ◌++◌, length, zip, All, count_by}
+use Rattle.vbr_words.specs.Dimensions.{Dimensions}
+use Rattle.vbr_core.specs.Keys.{no_keys, Lists}
+use Rattle.vbr_core.specs.History.{IsLegal, set_after, calls_by}
+use Rattle.vbr_core.specs.Runs as machine
+use Rattle.vbr_core.specs.Runs.{world_after}
+use Rattle.vbr_core.specs.Safety.{IsSafe}
+use Rattle.vbr_core.specs.declared.event.Event.{Event}
+use Rattle.vbr_core.specs.declared.history.Call.{Call}
+use Rattle.vbr_core.specs.declared.history.Op.{Op}
+use Rattle.vbr_core.specs.declared.history.Op.TheVariants.{Insert, Remove, Has}
+use Rattle.vbr_transcript.specs.Calls.{Outcome, answered, outcomes_up_to}
+use Rattle.vbr_script.specs.declared.script.Line.{Line}
+use Rattle.vbr_transcript.specs.declared.reply.Reply.{Reply}
+use Rattle.vbr_transcript.specs.declared.reply.Reply.TheVariants.{Yes, No, Full, Spent}
+use Rattle.vbr_transcript.specs.declared.totals.Totals.{Totals}
+
+-- ---- the history
+
+-- a phase ends within a history: what stands before its end is just the answered operations of the phases up to it, those of each worker in script order
+pub record EndsIn (history : List Call) (outcomes : List Outcome) (phase : ℕ) : Type 0 where
+  pub before : List Call
+  pub after : List Call
+  pub whole : history ≡ before ++ after
+  pub own_order : (who : ℕ) → calls_by who before ≡ calls_by who (answered (outcomes_up_to phase outcomes))
+
+-- a history explains outcomes: it is legal from the empty set, it has just the answered operations as its calls, those of each worker in script order, and each phase ends before the next
+pub record Explains (history : List Call) (outcomes : List Outcome) : Type 0 where
+  pub legal : IsLegal no_keys history
+  pub own_order : (who : ℕ) → calls_by who history ≡ calls_by who (answered outcomes)
+  pub phases : (phase : ℕ) → EndsIn history outcomes phase
+
+-- ---- refusals
+
+-- an operation may be answered so by a set of this last epoch that has come to an epoch: an insert alone finds the set full or its epochs spent, and they are spent only at the last
+abbrev pub MayBeAnswered : ℕ → ℕ → Op → Reply → Type 0
+MayBeAnswered last epoch op Full = op ≡ Insert
+MayBeAnswered last epoch op Spent = (op ≡ Insert) × (epoch ≡ last)
+MayBeAnswered last epoch op _ = Unit {0}
+
+-- ---- the totals
+
+-- whether two operations are the same
+abbrev pub is_same : Op → Op → Bool
+is_same Insert Insert = true
+is_same Remove Remove = true
+is_same Has Has = true
+is_same a b = false
+
+-- whether a reply is yes
+abbrev pub is_yes : Reply → Bool
+is_yes Yes = true
+is_yes _ = false
+
+-- whether a reply is a refusal
+abbrev pub is_refusal : Reply → Bool
+is_refusal Yes = false
+is_refusal No = false
+is_refusal _ = true
+
+-- whether it is this operation that was answered, and with yes
+abbrev pub is_yes_to : Op → Outcome → Bool
+is_yes_to op outcome = is_yes outcome.1 && is_same op outcome.0.op
+
+-- whether an operation was refused
+abbrev pub is_refused : Outcome → Bool
+is_refused outcome = is_refusal outcome.1
+
+-- the totals count the inserts, removes and look-ups that were answered yes, and the operations that were refused
+pub record Counts (totals : Totals) (outcomes : List Outcome) : Type 0 where
+  pub inserted : totals.inserted ≡ count_by (is_yes_to Insert) outcomes
+  pub removed : totals.removed ≡ count_by (is_yes_to Remove) outcomes
+  pub found : totals.found ≡ count_by (is_yes_to Has) outcomes
+  pub refused : totals.refused ≡ count_by is_refused outcomes
+
+-- ---- the run
+
+-- replies and totals of a run of a script on a set of this shape, with so many workers: each line has a reply; a safe run of the core, whose passes are the workers, has the calls that explain the replies; its epoch, and the keys that its calls leave, are those of the totals
+pub record IsRun (shape : Dimensions) (workers : ℕ) (lines : List Line) (replies : List Reply) (totals : Totals) : Type 0 where
+  pub one_each : length replies ≡ length lines
+  pub run : List Event
+  pub is_run : machine.IsRun shape workers run
+  pub safe : IsSafe shape run
+  pub explains : Explains (world_after shape run).calls (zip lines replies)
+  pub refusals : All (λ outcome. MayBeAnswered shape.last_epoch totals.epoch outcome.0.op outcome.1) (zip lines replies)
+  pub counts : Counts totals (zip lines replies)
+  pub keys : Lists totals.keys.items (set_after no_keys (world_after shape run).calls)
+  pub epoch : totals.epoch ≡ (world_after shape run).epoch
