@@ -7,31 +7,43 @@ HEADER := bindings/include/vbr.h
 CRATE := crates/vbr_main
 SCRIPT := crates/vbr_example/data/phases.script
 BENCH ?= --short
+SOAK ?= 1000000000
+FUZZ ?= 9000000 1000000
+COMPARE ?=
 
 .DEFAULT_GOAL := help
-.PHONY: help kit run build lib install check test clients bench clean
+.PHONY: help kit run build lib install check test docs-check clients faults soak fuzz bench plot compare clean
 
 help:
-	@echo 'make run                 play a script with three workers (before its proof; a minute or two)'
+	@echo 'make run                 play a script with three workers (before its proof; about a minute)'
 	@echo 'make build               prove and build the program: $(PROGRAM)'
 	@echo 'make lib                 prove and build the static library for C and Rust: $(LIBRARY)'
 	@echo 'make install PREFIX=DIR  build both, and put them into DIR with the header and vbr.pc (default: $(PREFIX))'
 	@echo 'make check               for daily work: what has changed, the tests, the programs, edits of changed crates'
-	@echo 'make test                the whole gate: every proof from nothing, must-fail edits, tests, programs; then the clients'
+	@echo 'make test                the whole gate: every proof from nothing, must-fail edits, tests, programs; then clients, faults and kept inputs'
+	@echo 'make docs-check          see that links, file names, commands and snippets in the documents are true to the tree'
 	@echo 'make clients             build and run the clients in C and Rust over the library'
+	@echo 'make faults              refuse memory call by call, and try the program in a shell: statuses, streams, memory'
+	@echo 'make soak                a thousand million calls of four threads on set after set, each answer balanced'
+	@echo 'make fuzz                ten million random inputs for the library and the program, on all processors'
 	@echo 'make bench               prove and run the measurements, in their short form, and print a CSV table'
 	@echo 'make bench BENCH=        the same in their full form; BENCH has the options of crates/vbr_bench'
+	@echo 'make plot                the same, and draw the table: target/bench.csv, target/bench.svg (needs gnuplot)'
+	@echo 'make compare             the library beside libcds, liburcu, crossbeam-epoch and locks (needs apt-get and gnuplot)'
 	@echo 'make clean               remove what was built and what checks keep'
 
 kit:
 	@command -v $(RT) > /dev/null 2>&1 || { echo 'Rattle is missing: put the directory of its command `rt` on the PATH' >&2; exit 1; }
 
 run: kit
-	@echo 'playing $(SCRIPT); this run is not proved, `make build` proves the program'
-	@cd $(CRATE) && $(RT) try -- --workers 3 < ../../$(SCRIPT)
+	@echo 'compiling, and playing $(SCRIPT)'
+	@mkdir -p target
+	@cd $(CRATE) && $(RT) try -- --workers 3 < ../../$(SCRIPT) 2> ../../target/run.log || { cat ../../target/run.log >&2; exit 1; }
+	@echo 'played well, before its proof; `make build` proves the program'
 
+# Right after the gate, programs and tests stand where the gate built them.
 build: kit
-	@cd $(CRATE) && $(RT) run -- --help > /dev/null
+	@$(if $(AFTER_GATE),true,cd $(CRATE) && $(RT) run -- --help > /dev/null)
 	@mkdir -p $(dir $(PROGRAM))
 	@cp $(CRATE)/out/vbr_main $(PROGRAM)
 	@echo 'the proved program: $(PROGRAM)'
@@ -52,18 +64,43 @@ install: build lib
 	@sed 's|@PREFIX@|$(abspath $(PREFIX))|' bindings/vbr.pc.in > '$(DESTDIR)$(PREFIX)/lib/pkgconfig/vbr.pc'
 	@echo 'installed in $(DESTDIR)$(PREFIX): bin/vbr_run, lib/libvbr.a, include/vbr.h, lib/pkgconfig/vbr.pc'
 
-check: kit
+docs-check:
+	@tools/docs-check
+
+check: kit docs-check
 	@RT='$(RT)' tools/check
 
-test: kit
-	@$(RT) ci
-	@$(MAKE) --no-print-directory clients AFTER_GATE=--after-gate
+test: kit docs-check
+	@RT_JOBS="$${RT_JOBS:-$$(getconf _NPROCESSORS_ONLN)}" $(RT) ci
+	@$(MAKE) --no-print-directory clients faults AFTER_GATE=--after-gate
+	@tests/fuzz/run --kept
 
 clients: lib
 	@bindings/test
 
+faults: build
+	@$(if $(AFTER_GATE),true,(cd crates/vbr_refusals && $(RT) test) > target/refusals.log 2>&1 || { cat target/refusals.log >&2; exit 1; })
+	@tests/faults
+
+soak: lib
+	@mkdir -p target/clients
+	@cc -std=c11 -O2 -Wall -Wextra -Ibindings/include -pthread -o target/clients/soak bindings/c/soak.c -Ltarget -lvbr
+	@target/clients/soak $(SOAK)
+
+fuzz: build lib
+	@tests/fuzz/run $(FUZZ)
+
 bench: kit
 	@cd crates/vbr_bench && $(RT) run -- $(BENCH)
+
+plot: kit
+	@command -v gnuplot > /dev/null 2>&1 || { echo 'there is no gnuplot: apt-get install gnuplot-nox' >&2; exit 1; }
+	@mkdir -p target
+	@$(MAKE) --no-print-directory bench > target/bench.csv
+	@bench/plot target/bench.csv target/bench.svg
+
+compare: lib
+	@bench/compare/run $(COMPARE)
 
 clean:
 	@rm -rf target crates/*/out

@@ -27,7 +27,7 @@
    thread is handed over by a lock, by the start or the join of the thread, or by a seq_cst atomic. No
    function is for a signal handler, or for the child of a fork.
 
-   Budgets. A call makes at most `budget` steps, each one load, store or exchange of a word that the
+   Budgets. A call makes at most `budget` steps, each one atomic operation on a word that the
    threads share, and never waits for another thread. A look-up makes loads alone, so it writes nothing
    that another thread can see. While the other handles make no step, wherever they stand still, a call
    does not run out of steps with a budget of 5n + 11 for has, 9n + 11 for remove, and 18n + slots + 82

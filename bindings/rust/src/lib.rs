@@ -108,7 +108,7 @@ impl Set {
     ///
     /// # Errors
     ///
-    /// The errors are tested in the order of [`OpenError`].
+    /// The errors are tested in the order of [`OpenError`], and nothing is kept then.
     pub fn open(shape: Shape, handles: usize) -> Result<Vec<Handle>, OpenError> {
         let mut raw: [Raw; MAX_HANDLES] = [const { Raw(null_mut()) }; MAX_HANDLES];
         let mut opened = Vec::new();
@@ -153,7 +153,9 @@ pub struct Handle {
 unsafe impl Send for Handle {}
 
 impl Handle {
-    /// Adds a key, in at most `budget` steps, and says whether it was absent.
+    /// Adds a key, in at most `budget` steps, and says whether it was absent. A step is one atomic
+    /// operation on one word. While the other handles stand still, 18n + slots + 82 are enough, with n
+    /// nodes in the bucket of the key.
     ///
     /// ```
     /// # use vbr::{Set, Shape};
@@ -173,7 +175,8 @@ impl Handle {
         answer(unsafe { vbr_insert(&mut self.raw, key, budget) })
     }
 
-    /// Takes a key out, in at most `budget` steps, and says whether it was there.
+    /// Takes a key out, in at most `budget` steps, and says whether it was there. While the other handles
+    /// stand still, 9n + 11 are enough, with n nodes in the bucket of the key.
     ///
     /// # Errors
     ///
@@ -184,7 +187,8 @@ impl Handle {
         answer(unsafe { vbr_remove(&mut self.raw, key, budget) })
     }
 
-    /// Whether a key is in the set, in at most `budget` steps.
+    /// Whether a key is in the set, in at most `budget` steps, all of them loads. While the other handles
+    /// stand still, 5n + 11 are enough, with n nodes in the bucket of the key.
     ///
     /// # Errors
     ///

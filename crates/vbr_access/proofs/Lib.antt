@@ -7,11 +7,13 @@ mod MadeCalls
 mod CheckedReads
 pub mod AloneReads
 pub mod HeldPlaces
-mod SafeCalls
+pub mod SafeCalls
 mod WonExchanges
+mod KeptSlots
 mod WrittenLinks
 mod UnlinkedLinks
 mod Unlinks
 pub mod AloneExchanges
 mod NoneUnlinked
+mod LookUps
 mod Filled

@@ -66,7 +66,7 @@ module _ {p q : Trace} {pred : At} {expected s : ℕ} (d : Did (Unlink pred expe
 -- ---- a publication
 
 module _ {p q : Trace} {pred : At} {expected s : ℕ} (d : Did (Publish pred expected s) p q expected) where
-  publish_learned : knows q ≡ with_own (with_checked (knows p) (reads_won (knows p) (Publish pred expected s))) s None
+  pub publish_learned : knows q ≡ with_own (with_checked (knows p) (reads_won (knows p) (Publish pred expected s))) s None
   publish_learned = d.know ∙ won_test expected _ (knows p)
 
   pub publish_keeps : Keeps (knows p) (knows q)

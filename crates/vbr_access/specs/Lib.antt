@@ -6,3 +6,4 @@ pub mod Alone
 pub mod Rollbacks
 pub mod Steps
 pub mod Messages
+pub mod LookUps

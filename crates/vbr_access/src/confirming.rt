@@ -3,8 +3,7 @@ ghost use Rattle.std.specs.Prelude.{◌≡◌, ◌≢◌, ℕ, false, IfOk, IfEr
 ghost use Rattle.vbr_words.specs.Words.{link_of};
 ghost use Rattle.vbr_core.specs.Learning.{present_reply};
 ghost use Rattle.vbr_core.specs.Membership.{KeyAt, StandsBehind, StandsBeforeOn};
-ghost use Rattle.vbr_core.specs.declared.history.Op.TheVariants.{Insert, Remove};
-ghost use Rattle.vbr_core.specs.Safety.{IsSafe};
+ghost use Rattle.vbr_core.specs.declared.history.Op.TheVariants.{Has, Insert, Remove};
 ghost use Rattle.vbr_slots.specs.Calls.{AddsAnswer, AddsNone, Quiet, Made, Took, OnlyLoads};
 ghost use Rattle.vbr_slots.specs.Alone.{IsAlone};
 ghost use Rattle.vbr_slots.specs.Views.{IsOf, knows};
@@ -12,7 +11,9 @@ ghost use Rattle.vbr_pools.specs.Advances.{RaisesNone};
 ghost use Rattle.vbr_access.specs.Alone.{StandsNow};
 ghost use Rattle.vbr_access.specs.Held.{IsHeld};
 ghost use Rattle.vbr_access.specs.Keeping.{Keeps, KeepsOwn};
+ghost use Rattle.vbr_access.specs.LookUps.{Answers};
 ghost use Rattle.vbr_access.specs.Rollbacks.{IsLost};
+ghost use Rattle.vbr_access.specs.Soundness.{HasSafeRun};
 
 use crate::held::Held;
 use crate::rollback::Rollback;
@@ -22,7 +23,8 @@ use vbr_slots::{Pass, Slots};
 use vbr_words::At;
 
 /// Answers, in one step, that the key of a node is present: a look-up with yes, an insert with no.
-/// It does so only where the node's link is still the unmarked one that is held.
+/// It does so only where the node's link is still the unmarked one that is held. Else it answers
+/// LostExchange: no call was made, and what the pass knew it knows.
 #[inline]
 pub fn confirm_present(slots: &Slots, pass: &mut Pass, op: Op, held: &Held) -> Result<(), Rollback>
     requires own { IsOf pass.old.trace slots.now }
@@ -42,7 +44,7 @@ pub fn confirm_present(slots: &Slots, pass: &mut Pass, op: Op, held: &Held) -> R
     ensures adds_none { IfErr result (λ r. AddsNone pass.old.trace pass.new.trace) }
     ensures only_loads { OnlyLoads pass.old.trace pass.new.trace }
     ensures lost { IfErr result (λ r. IsLost pass.old.trace pass.new.trace held.now r) }
-    ensures right { IfOk result (λ _. IsSafe pass.new.trace.shape pass.new.trace.seen) }
+    ensures safe { HasSafeRun pass.new.trace }
     ensures wins { IfErr result (λ r. IsAlone pass.old.trace pass.new.trace → StandsNow pass.old.trace held.now → ⊥) }
 {
     soundness(slots, pass);
@@ -58,6 +60,7 @@ pub fn confirm_present(slots: &Slots, pass: &mut Pass, op: Op, held: &Held) -> R
 /// Answers, in one step, that a key is absent: a look-up or a remove with no. It would stand behind
 /// `pred` and before what its link names, or what marked nodes lead to from there. It does so only
 /// where that link is still the unmarked one that is held: then all nodes between are still marked.
+/// Else it answers LostExchange: no call was made, and what the pass knew it knows.
 #[inline]
 pub fn confirm_absent(
     slots: &Slots,
@@ -82,11 +85,46 @@ pub fn confirm_absent(
     ensures adds_none { IfErr result (λ r. AddsNone pass.old.trace pass.new.trace) }
     ensures only_loads { OnlyLoads pass.old.trace pass.new.trace }
     ensures lost { IfErr result (λ r. IsLost pass.old.trace pass.new.trace pred.now r) }
-    ensures right { IfOk result (λ _. IsSafe pass.new.trace.shape pass.new.trace.seen) }
+    ensures safe { HasSafeRun pass.new.trace }
     ensures wins { IfErr result (λ r. IsAlone pass.old.trace pass.new.trace → StandsNow pass.old.trace pred.now → ⊥) }
 {
     soundness(slots, pass);
     match slots.confirm_absent(pass, op, key, pred.at, pred.word) {
+        Ok(()) => Ok(()),
+        Err(found) => Err(Rollback::LostExchange { found }),
+    }
+}
+
+/// Answers a look-up, in one step, by what is held: the key is present there; or it is absent, and
+/// would stand behind that place and before what its link names, or what marked nodes lead to from
+/// there. It does so only where the link is still the unmarked one that is held; else it answers
+/// LostExchange, and no call was made. Which of the two it is can't be foreseen, so it takes no
+/// branch.
+#[inline]
+pub fn confirm_look_up(
+    slots: &Slots,
+    pass: &mut Pass,
+    key: u64,
+    held: &Held,
+    present: bool,
+) -> Result<(), Rollback>
+    requires own { IsOf pass.old.trace slots.now }
+    requires held { IsHeld (knows pass.old.trace) held.now }
+    requires unmarked { (link_of held.now.word).mark ≡ false }
+    requires answers { Answers pass.old.trace.shape (knows pass.old.trace) key held.now present }
+    ensures took { Took pass.old.trace pass.new.trace 1 }
+    ensures own { KeepsOwn pass.old pass.new }
+    ensures raises_none { RaisesNone pass.old pass.new }
+    ensures made { IfOk result (λ _. Made (record { who = pass.old.trace.who; op = Has; key = key; reply = present }) pass.old.trace pass.new.trace) }
+    ensures quiet { IfErr result (λ r. Quiet pass.old.trace pass.new.trace) }
+    ensures adds { IfOk result (λ _. AddsAnswer (record { who = pass.old.trace.who; op = Has; key = key; reply = present }) pass.old.trace pass.new.trace) }
+    ensures adds_none { IfErr result (λ r. AddsNone pass.old.trace pass.new.trace) }
+    ensures only_loads { OnlyLoads pass.old.trace pass.new.trace }
+    ensures safe { HasSafeRun pass.new.trace }
+    ensures wins { IfErr result (λ r. IsAlone pass.old.trace pass.new.trace → StandsNow pass.old.trace held.now → ⊥) }
+{
+    soundness(slots, pass);
+    match slots.confirm_look_up(pass, present, key, held.at, held.word) {
         Ok(()) => Ok(()),
         Err(found) => Err(Rollback::LostExchange { found }),
     }

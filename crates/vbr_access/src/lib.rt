@@ -17,7 +17,7 @@ mod soundness;
 pub mod unlinking;
 pub mod updating;
 
-pub use confirming::{confirm_absent, confirm_present};
+pub use confirming::{confirm_absent, confirm_look_up, confirm_present};
 pub use held::{Checkpoint, Held, Marked};
 pub use marking::mark;
 pub use reading::{checkpoint, first, key_of, next};

@@ -4,7 +4,6 @@ ghost use Rattle.vbr_words.specs.Words.{link_of};
 ghost use Rattle.vbr_core.specs.Links.{marked};
 ghost use Rattle.vbr_core.specs.Membership.{KeyAt};
 ghost use Rattle.vbr_core.specs.declared.history.Op.TheVariants.{Remove};
-ghost use Rattle.vbr_core.specs.Safety.{IsSafe};
 ghost use Rattle.vbr_slots.specs.Alone.{IsAlone};
 ghost use Rattle.vbr_slots.specs.Calls.{Quiet, Made, Took};
 ghost use Rattle.vbr_slots.specs.Views.{IsOf, knows};
@@ -13,6 +12,7 @@ ghost use Rattle.vbr_access.specs.Alone.{StandsNow};
 ghost use Rattle.vbr_access.specs.Held.{IsHeld, IsMarked, held_of};
 ghost use Rattle.vbr_access.specs.Keeping.{Keeps, KeepsOwn};
 ghost use Rattle.vbr_access.specs.Rollbacks.{IsLost};
+ghost use Rattle.vbr_access.specs.Soundness.{HasSafeRun};
 
 use crate::held::{Held, Marked};
 use crate::rollback::Rollback;
@@ -20,8 +20,9 @@ use crate::soundness::soundness;
 use vbr_slots::{Pass, Slots};
 use vbr_words::{At, with_mark};
 
-/// Marks a node, in one step: the pass has removed its key. It does so only where the node's link is
-/// still the unmarked one that is held.
+/// Marks a node, in one step: the pass has removed its key. It does so only where the node's link
+/// is still the unmarked one that is held. Else it answers LostExchange: no call was made, and what
+/// the pass knew it knows.
 #[inline]
 pub fn mark(slots: &Slots, pass: &mut Pass, held: &Held) -> Result<Marked, Rollback>
     requires own { IsOf pass.old.trace slots.now }
@@ -39,7 +40,7 @@ pub fn mark(slots: &Slots, pass: &mut Pass, held: &Held) -> Result<Marked, Rollb
     ensures held { IfOk result (λ m. IsMarked (knows pass.new.trace) m) }
     ensures quiet { IfErr result (λ r. Quiet pass.old.trace pass.new.trace) }
     ensures lost { IfErr result (λ r. IsLost pass.old.trace pass.new.trace held.now r) }
-    ensures right { IfOk result (λ _. IsSafe pass.new.trace.shape pass.new.trace.seen) }
+    ensures safe { HasSafeRun pass.new.trace }
     ensures wins { IfErr result (λ r. IsAlone pass.old.trace pass.new.trace → StandsNow pass.old.trace held.now → ⊥) }
 {
     soundness(slots, pass);

@@ -4,7 +4,6 @@ ghost use Rattle.vbr_words.specs.Words.{link_of};
 ghost use Rattle.vbr_words.specs.declared.place.At.TheVariants.{Head};
 ghost use Rattle.vbr_core.specs.Acceptance.{bucket_of};
 ghost use Rattle.vbr_core.specs.Membership.{KeyAt, HeldIn};
-ghost use Rattle.vbr_core.specs.Safety.{IsSafe};
 ghost use Rattle.vbr_slots.specs.Calls.{AddsNone, Quiet, Took, OnlyLoads};
 ghost use Rattle.vbr_slots.specs.Alone.{IsAlone, IsFresh, nodes};
 ghost use Rattle.vbr_slots.specs.Views.{IsOf, knows};
@@ -14,6 +13,7 @@ ghost use Rattle.vbr_access.specs.Held.{IsSlot, IsHeld};
 ghost use Rattle.vbr_access.specs.Keeping.{Keeps, KeepsOwn};
 ghost use Rattle.vbr_access.specs.Moments.{IsEpochRead, IsRead, IsNext};
 ghost use Rattle.vbr_access.specs.Rollbacks.{IsMoved};
+ghost use Rattle.vbr_access.specs.Soundness.{HasSafeRun};
 ghost use Rattle.vbr_access.specs.Steps.{next_steps};
 
 use crate::held::{Checkpoint, Held};
@@ -22,7 +22,7 @@ use crate::soundness::soundness;
 use vbr_slots::{Pass, Slots};
 use vbr_words::{At, decode};
 
-/// Reads the epoch, in one step: a checkpoint to roll back to.
+/// Reads the epoch, in one step: a checkpoint to roll back to. It can't fail.
 #[inline]
 pub fn checkpoint(slots: &Slots, pass: &mut Pass) -> Checkpoint
     requires { IsOf pass.old.trace slots.now }
@@ -35,6 +35,7 @@ pub fn checkpoint(slots: &Slots, pass: &mut Pass) -> Checkpoint
     ensures adds_none { AddsNone pass.old.trace pass.new.trace }
     ensures looks { IsAlone pass.old.trace pass.new.trace → nodes pass.new.trace ≡ nodes pass.old.trace }
     ensures fresh { IsFresh pass.new.trace }
+    ensures safe { HasSafeRun pass.new.trace }
     ensures only_loads { OnlyLoads pass.old.trace pass.new.trace }
 {
     soundness(slots, pass);
@@ -44,6 +45,9 @@ pub fn checkpoint(slots: &Slots, pass: &mut Pass) -> Checkpoint
 }
 
 /// Reads the head of a bucket, in two steps.
+///
+/// EpochMoved is its one error: the epoch is another one than the checkpoint's, and nothing is held
+/// any more but the heads.
 #[inline]
 pub fn first(
     slots: &Slots,
@@ -65,15 +69,14 @@ pub fn first(
     ensures read { IfOk result (λ head. IsRead pass.old.trace pass.new.trace head) }
     ensures unmarked { IfOk result (λ head. (link_of head.word).mark ≡ false) }
     ensures moved { IfErr result (λ r. IsMoved pass.old.trace pass.new.trace r) }
-    ensures right { IfOk result (λ _. IsSafe pass.new.trace.shape pass.new.trace.seen) }
+    ensures safe { HasSafeRun pass.new.trace }
     ensures looks { IsAlone pass.old.trace pass.new.trace → nodes pass.new.trace ≡ nodes pass.old.trace }
     ensures still { IfErr result (λ r. IsFresh pass.old.trace → IsAlone pass.old.trace pass.new.trace → ⊥) }
     ensures stands { IfOk result (λ head. IsAlone pass.old.trace pass.new.trace → StandsNow pass.new.trace head) }
 {
     soundness(slots, pass);
     let at = At::Head(bucket);
-    let word = slots.load_link(pass, at);
-    let now = slots.read_epoch(pass);
+    let (word, now) = slots.read_link(pass, at);
     if now != point.epoch {
         return Err(Rollback::EpochMoved { now });
     }
@@ -85,7 +88,9 @@ pub fn first(
     })
 }
 
-/// Reads the node that a link names, in three steps; a link to none needs no step.
+/// Reads the node that a link names, in three steps; a link to none needs no step, and gives none.
+///
+/// EpochMoved is its one error, as of [`first`].
 #[inline]
 pub fn next(slots: &Slots, pass: &mut Pass, held: &Held) -> Result<Option<Held>, Rollback>
     requires own { IsOf pass.old.trace slots.now }
@@ -99,7 +104,7 @@ pub fn next(slots: &Slots, pass: &mut Pass, held: &Held) -> Result<Option<Held>,
     ensures keeps { IfOk result (λ next. Keeps (knows pass.old.trace) (knows pass.new.trace)) }
     ensures read { IfOk result (λ next. IsNext pass.old.trace pass.new.trace held.now next) }
     ensures moved { IfErr result (λ r. IsMoved pass.old.trace pass.new.trace r) }
-    ensures right { IfOk result (λ _. IsSafe pass.new.trace.shape pass.new.trace.seen) }
+    ensures safe { HasSafeRun pass.new.trace }
     ensures looks { IsAlone pass.old.trace pass.new.trace → nodes pass.new.trace ≡ nodes pass.old.trace }
     ensures still { IfErr result (λ r. IsFresh pass.old.trace → IsAlone pass.old.trace pass.new.trace → ⊥) }
     ensures stands { IfOk result (λ next. IsAlone pass.old.trace pass.new.trace → NextStands pass.new.trace next) }
@@ -108,15 +113,12 @@ pub fn next(slots: &Slots, pass: &mut Pass, held: &Held) -> Result<Option<Held>,
     let Some(slot) = decode(held.word).slot else {
         return Ok(None);
     };
-    let birth = slots.load_birth(pass, slot);
-    let at = At::Slot(slot);
-    let word = slots.load_link(pass, at);
-    let now = slots.read_epoch(pass);
+    let (birth, word, now) = slots.read_node(pass, slot);
     if now != held.epoch {
         return Err(Rollback::EpochMoved { now });
     }
     Ok(Some(Held {
-        at,
+        at: At::Slot(slot),
         birth,
         word,
         epoch: now,
@@ -124,6 +126,8 @@ pub fn next(slots: &Slots, pass: &mut Pass, held: &Held) -> Result<Option<Held>,
 }
 
 /// Reads the key of a node, in two steps.
+///
+/// EpochMoved is its one error, as of [`first`].
 #[inline]
 pub fn key_of(slots: &Slots, pass: &mut Pass, node: &Held) -> Result<u64, Rollback>
     requires own { IsOf pass.old.trace slots.now }
@@ -139,7 +143,7 @@ pub fn key_of(slots: &Slots, pass: &mut Pass, node: &Held) -> Result<u64, Rollba
     ensures key { IfOk result (λ key. KeyAt (knows pass.new.trace) node.now.at key) }
     ensures bucket { IfOk result (λ key. (b : ℕ) → HeldIn (knows pass.old.trace) node.now.at b → bucket_of pass.old.trace.shape key ≡ b) }
     ensures moved { IfErr result (λ r. IsMoved pass.old.trace pass.new.trace r) }
-    ensures right { IfOk result (λ _. IsSafe pass.new.trace.shape pass.new.trace.seen) }
+    ensures safe { HasSafeRun pass.new.trace }
     ensures looks { IsAlone pass.old.trace pass.new.trace → nodes pass.new.trace ≡ nodes pass.old.trace }
     ensures still { IfErr result (λ r. IsFresh pass.old.trace → IsAlone pass.old.trace pass.new.trace → ⊥) }
 {
@@ -147,8 +151,7 @@ pub fn key_of(slots: &Slots, pass: &mut Pass, node: &Held) -> Result<u64, Rollba
     let At::Slot(slot) = node.at else {
         unreachable!()
     };
-    let key = slots.load_key(pass, slot);
-    let now = slots.read_epoch(pass);
+    let (key, now) = slots.read_key(pass, slot);
     if now != node.epoch {
         return Err(Rollback::EpochMoved { now });
     }

@@ -3,7 +3,6 @@ ghost use Rattle.std.specs.Prelude.{◌≡◌, ℕ, false, IsSome, IfOk, IfErr};
 ghost use Rattle.vbr_words.specs.Words.{IsLink, link_of};
 ghost use Rattle.vbr_core.specs.Acceptance.{IsUnlinked};
 ghost use Rattle.vbr_core.specs.Membership.{BirthNamed};
-ghost use Rattle.vbr_core.specs.Safety.{IsSafe};
 ghost use Rattle.vbr_slots.specs.Alone.{IsAlone, IsFresh, nodes};
 ghost use Rattle.vbr_slots.specs.Calls.{Quiet, Took};
 ghost use Rattle.vbr_slots.specs.Views.{IsOf, knows};
@@ -13,6 +12,7 @@ ghost use Rattle.vbr_access.specs.Held.{IsHeld, IsMarked, Names};
 ghost use Rattle.vbr_access.specs.Keeping.{Keeps, KeepsOwn, UnlinksNone};
 ghost use Rattle.vbr_access.specs.Moments.{IsRead};
 ghost use Rattle.vbr_access.specs.Rollbacks.{IsMoved, IsMovedOrLost};
+ghost use Rattle.vbr_access.specs.Soundness.{HasSafeRun};
 ghost use Rattle.vbr_access.specs.Steps.{birth_steps, unlink_steps};
 
 use crate::held::{Held, Marked};
@@ -36,6 +36,7 @@ fn birth_behind(slots: &Slots, pass: &mut Pass, marked: &Marked) -> Result<u64, 
     ensures birth { IfOk result (λ birth. BirthNamed (knows pass.new.trace) (link_of marked.now.word).slot birth) }
     ensures some { IfErr result (λ r. IsSome (link_of marked.now.word).slot) }
     ensures unlinks_none { UnlinksNone (knows pass.old.trace) (knows pass.new.trace) }
+    ensures safe { HasSafeRun pass.new.trace }
     ensures moved { IfErr result (λ r. IsMoved pass.old.trace pass.new.trace r) }
     ensures looks { IsAlone pass.old.trace pass.new.trace → nodes pass.new.trace ≡ nodes pass.old.trace }
     ensures still { IfErr result (λ r. IsFresh pass.old.trace → IsAlone pass.old.trace pass.new.trace → ⊥) }
@@ -57,6 +58,9 @@ fn birth_behind(slots: &Slots, pass: &mut Pass, marked: &Marked) -> Result<u64, 
 /// where the link of `pred` is still the unmarked one that is held; else no slot is unlinked.
 ///
 /// It makes one step, and two before that if the marked link names a node.
+///
+/// LostExchange says that another link stood there, and EpochMoved, that the epoch is another one
+/// than the one under which they are held: then nothing is held any more but the heads.
 #[inline]
 pub fn unlink(
     slots: &Slots,
@@ -82,7 +86,7 @@ pub fn unlink(
     ensures next { IfOk result (λ r. (link_of r.1.word).slot ≡ (link_of marked.word).slot) }
     ensures unlinks_none { IfErr result (λ r. UnlinksNone (knows pass.old.trace) (knows pass.new.trace)) }
     ensures rolled { IfErr result (λ r. IsMovedOrLost pass.old.trace pass.new.trace pred.now r) }
-    ensures right { IfOk result (λ _. IsSafe pass.new.trace.shape pass.new.trace.seen) }
+    ensures safe { HasSafeRun pass.new.trace }
     ensures wins { IfErr result (λ r. IsFresh pass.old.trace → IsAlone pass.old.trace pass.new.trace → StandsNow pass.old.trace pred.now → ⊥) }
     ensures alone { IfOk result (λ r. IsAlone pass.old.trace pass.new.trace → StandsNow pass.old.trace pred.now → UnlinksAlone pass.old.trace pass.new.trace pred.now r.1) }
 {

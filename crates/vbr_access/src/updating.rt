@@ -4,9 +4,8 @@ ghost use Rattle.vbr_words.specs.Words.{link_of};
 ghost use Rattle.vbr_core.specs.Links.{link_to};
 ghost use Rattle.vbr_core.specs.Membership.{BirthNamed, StandsBehind, StandsBefore};
 ghost use Rattle.vbr_core.specs.declared.history.Op.TheVariants.{Insert};
-ghost use Rattle.vbr_pools.specs.Advances.{advances};
+ghost use Rattle.vbr_pools.specs.Advances.{advances, KeepsSlots};
 ghost use Rattle.vbr_pools.specs.Hands.{IsHandOf};
-ghost use Rattle.vbr_core.specs.Safety.{IsSafe};
 ghost use Rattle.vbr_slots.specs.Alone.{IsAlone};
 ghost use Rattle.vbr_slots.specs.Calls.{Quiet, Made, Took};
 ghost use Rattle.vbr_slots.specs.Views.{IsOf, KeepsPool, knows};
@@ -14,6 +13,7 @@ ghost use Rattle.vbr_access.specs.Alone.{StandsNow};
 ghost use Rattle.vbr_access.specs.Held.{IsHeld, IsSucc, IsFilled};
 ghost use Rattle.vbr_access.specs.Keeping.{Keeps};
 ghost use Rattle.vbr_access.specs.Rollbacks.{IsLost};
+ghost use Rattle.vbr_access.specs.Soundness.{HasSafeRun};
 
 use crate::held::Held;
 use crate::links::link_to;
@@ -48,6 +48,7 @@ fn fill(slots: &Slots, pass: &mut Pass, hand: &Hand, key: u64, pred: &Held, birt
     ensures keeps { Keeps (knows pass.old.trace) (knows pass.new.trace) }
     ensures pool { KeepsPool pass.old pass.new }
     ensures advances { advances pass.new.trace ≡ advances pass.old.trace }
+    ensures kept { KeepsSlots pass.old pass.new }
     ensures filled { let link = link_to (link_of pred.now.word).slot hand.now.birth birth in
         IsFilled ((knows pass.new.trace).own hand.now.slot) hand.now.birth key link }
     ensures stands { IsAlone pass.old.trace pass.new.trace → (link_of pred.now.word).mark ≡ false → StandsNow pass.old.trace pred.now → StandsNow pass.new.trace pred.now }
@@ -62,7 +63,8 @@ fn fill(slots: &Slots, pass: &mut Pass, hand: &Hand, key: u64, pred: &Held, birt
 
 /// Links the slot in hand with this key between `pred` and `succ`, in three steps: the pass has
 /// inserted the key. `succ` is the node that the link of `pred` names, if it names one. It does so
-/// only where the link of `pred` is still the unmarked one that is held; else the hand comes back.
+/// only where the link of `pred` is still the unmarked one that is held. Else the hand comes back
+/// with LostExchange: no call was made, and what the pass knew it knows.
 #[inline]
 pub fn update(
     slots: &Slots,
@@ -83,13 +85,14 @@ pub fn update(
     ensures keeps { Keeps (knows pass.old.trace) (knows pass.new.trace) }
     ensures pool { pass.new.pool ≡ pass.old.pool }
     ensures advances { advances pass.new.trace ≡ advances pass.old.trace }
+    ensures kept { KeepsSlots pass.old pass.new }
     ensures made { IfOk result (λ _. Made (record { who = pass.old.trace.who; op = Insert; key = key; reply = true }) pass.old.trace pass.new.trace) }
     ensures spent { OnOk result (pass.new.hand ≡ None) }
     ensures quiet { IfErr result (λ r. Quiet pass.old.trace pass.new.trace) }
     ensures lost { IfErr result (λ r. IsLost pass.old.trace pass.new.trace pred.now r.1) }
     ensures same { IfErr result (λ r. r.0 ≡ hand) }
     ensures hand { IfErr result (λ r. IsHandOf pass.new r.0) }
-    ensures right { IfOk result (λ _. IsSafe pass.new.trace.shape pass.new.trace.seen) }
+    ensures safe { HasSafeRun pass.new.trace }
     ensures wins { IfErr result (λ r. IsAlone pass.old.trace pass.new.trace → StandsNow pass.old.trace pred.now → ⊥) }
 {
     let birth = birth_named(pass, pred, succ);

@@ -1,4 +1,2 @@
-pub mod Passes
 pub mod Tally
-pub mod Threads
 pub mod Times

@@ -1,23 +1,17 @@
 //! Measuring a workload: runs of it, each on a fresh set.
-ghost use Rattle.std.specs.Prelude.{◌≡◌, ◌<◌, None, IfOk};
-ghost use Rattle.vbr_slots.specs.Views.{IsOf};
-ghost use Rattle.vbr_slots.specs.Calls.{IsSame};
-ghost use Rattle.vbr_slots.specs.Closing.{AllOf};
-ghost use Rattle.vbr_bench.specs.Passes.{AreReady};
-
 use crate::gate::Gate;
 use crate::options::Options;
 use crate::threads::{Outcome, run_threads};
 use crate::times::Times;
 use crate::worker::{BUDGET, Task};
 use crate::workload::Workload;
-use anyhow::{Context, anyhow, ensure};
+use anyhow::{Context, bail, ensure};
 use std::alloc::Global;
 use std::rt::Clock;
 use std::sync::Wait;
 use std::thread::Threads;
 use std::time::Duration;
-use vbr_set::{CloseError, Pass, Refusal, VbrSet};
+use vbr_set::{Member, Refusal};
 
 /// Runs a workload as often as the options say, each time on a fresh set.
 pub fn measure<R: Threads + Wait + Clock + Sync>(
@@ -47,27 +41,25 @@ fn run_once<R: Threads + Wait + Clock + Sync>(
     operations: u32,
     run: u32,
 ) -> anyhow::Result<Duration> {
-    let (set, mut passes) = VbrSet::open(alloc, workload.shape(), workload.threads)?;
-    let Some(mut first) = passes.pop() else {
-        unreachable!()
+    let mut members = Member::open(alloc, workload.shape(), workload.threads)?;
+    let Some(first) = members.first_mut() else {
+        bail!("there is no member")
     };
-    let before = prefill(&set, &mut first, workload.range)?;
-    passes.push(first)?;
+    let before = prefill(first, workload.range)?;
     let gate = Gate::new();
     let task = Task {
-        set: &set,
         workload,
         operations,
         run,
         gate: &gate,
     };
     let Outcome {
-        passes,
+        members,
         tally,
         time,
-    } = run_threads(rt, alloc, &task, passes)?;
+    } = run_threads(rt, alloc, &task, members)?;
     ensure!(tally.refused == 0, "{} calls were refused", tally.refused);
-    let after = keys_left(alloc, set, passes)?;
+    let after = keys_left(alloc, members)?;
     ensure!(
         tally.leads(before, after),
         "{before} keys before, {} inserted, {} removed, and {after} left",
@@ -78,28 +70,22 @@ fn run_once<R: Threads + Wait + Clock + Sync>(
 }
 
 // Puts every other key below a range into a set, from 0 on, and tells how many these are.
-fn prefill(set: &VbrSet, pass: &mut Pass, range: u32) -> Result<u64, Refusal>
-    requires own { IsOf pass.old.trace set.now }
-    requires empty_hand { pass.old.hand ≡ None }
-    ensures same { IsSame pass.old.trace pass.new.trace }
-    ensures empty_hand { pass.new.hand ≡ None }
-{
+fn prefill(member: &mut Member, range: u32) -> Result<u64, Refusal> {
     let mut count = 0u64;
     for key in 0..range {
-        if key % 2 == 0 && set.insert(pass, u64::from(key), BUDGET)? {
-            count += 1;
+        if key % 2 == 0 && member.insert(u64::from(key), BUDGET)? {
+            count = count.saturating_add(1);
         }
     }
     Ok(count)
 }
 
-// Closes a set, and tells how many keys are left in it.
-fn keys_left(alloc: Global, set: VbrSet, passes: Vec<Pass>) -> anyhow::Result<u64>
-    requires { AllOf set passes.items }
-{
-    match set.close(alloc, passes) {
-        Ok(report) => Ok(report.keys.len() as u64),
-        Err(CloseError::Missing(_, _)) => Err(anyhow!("a pass is missing")),
-        Err(CloseError::Memory(_, _)) => Err(anyhow!("there is no memory to close the set")),
+// Closes a set by its members, and tells how many keys are left in it.
+fn keys_left(alloc: Global, members: Vec<Member>) -> anyhow::Result<u64> {
+    for member in members {
+        if let Some(report) = member.close(alloc)? {
+            return Ok(report.keys.len() as u64);
+        }
     }
+    bail!("a member is missing")
 }

@@ -1,7 +1,18 @@
 //! The set for C. Each thread has a handle, which owns a pass of the set and a share of the set.
 //!
 //! No call asks anything of its caller but what the types say: a handle is moved and never copied,
-//! and one call at a time has it. `include/vbr.h` is what a C programmer reads.
+//! and one call at a time has it. `bindings/include/vbr.h` is what a C programmer reads.
+//!
+//! ```c file=bindings/c/example.c
+//! if (vbr_open(handle, 2, 8, 4, 1000000) != VBR_NO) return 1;
+//! int32_t added = vbr_insert(&handle[0], 5, 1000);         /* VBR_YES: 5 was absent */
+//! int32_t there = vbr_has(&handle[1], 5, 1000);            /* VBR_YES, from another thread too */
+//! int32_t first = vbr_close(&handle[0], keys, 8, &totals); /* VBR_NO: the other handle is open */
+//! int32_t last = vbr_close(&handle[1], keys, 8, &totals);  /* VBR_YES: totals.live is 1, keys[0] is 5 */
+//! ```
+//!
+//! What each call costs in steps, and what is proved of it, is said at the calls of `Member` in
+//! `vbr_set`: a number below 0 is a refusal, after which no call was made.
 #![tactic(auto)]
 
 ghost use Rattle.std.specs.Prelude.{◌≡◌, None};
@@ -51,7 +62,10 @@ pub struct Totals {
     pub free: u32,
 }
 
-/// Opens an empty set, with a pass for each of the handles, which are empty.
+/// Opens an empty set, with a pass for each of the handles, which are empty: 0.
+///
+/// Refusals, tested in this order, which leave the handles as they were: -5, one of the handles isn't
+/// empty; -6, the numbers are no shape; -7, the number of handles is 0 or above 64; -8, no memory.
 #[unsafe(no_mangle)]
 pub extern "C" fn vbr_open(
     alloc: Global,
@@ -65,7 +79,11 @@ pub extern "C" fn vbr_open(
     open_code(vbr_handles::open(alloc, handles, slots, buckets, last_epoch))
 }
 
-/// Adds a key: 1 if it was absent, 0 if it was there.
+/// Adds a key: 1 if it was absent, 0 if it was there. It makes at most `budget` steps.
+///
+/// Refusals, after which no call was made: -1, the steps leave no room in the budget; -2, the key was
+/// absent and no slot is free; -3, the key was absent and the last epoch is spent; -4, the handle is
+/// empty.
 #[unsafe(no_mangle)]
 pub extern "C" fn vbr_insert(handle: &mut Handle, key: u64, budget: u32) -> i32
     ensures { Tells Insert handle.old.member handle.new.member key budget result }
@@ -76,7 +94,10 @@ pub extern "C" fn vbr_insert(handle: &mut Handle, key: u64, budget: u32) -> i32
     call_code(handle.member_mut().insert(key, budget))
 }
 
-/// Takes a key out: 1 if it was there, 0 if it was absent.
+/// Takes a key out: 1 if it was there, 0 if it was absent. It makes at most `budget` steps.
+///
+/// Refusals, after which no call was made: -1, the steps leave no room in the budget; -4, the handle is
+/// empty.
 #[unsafe(no_mangle)]
 pub extern "C" fn vbr_remove(handle: &mut Handle, key: u64, budget: u32) -> i32
     ensures { Tells Remove handle.old.member handle.new.member key budget result }
@@ -87,7 +108,11 @@ pub extern "C" fn vbr_remove(handle: &mut Handle, key: u64, budget: u32) -> i32
     call_code(handle.member_mut().remove(key, budget))
 }
 
-/// Looks a key up: 1 if it is there, 0 if it is absent.
+/// Looks a key up: 1 if it is there, 0 if it is absent. It makes at most `budget` steps, all of them
+/// loads.
+///
+/// Refusals, after which no call was made: -1, the steps leave no room in the budget; -4, the handle is
+/// empty.
 #[unsafe(no_mangle)]
 pub extern "C" fn vbr_has(handle: &mut Handle, key: u64, budget: u32) -> i32
     ensures { Tells Has handle.old.member handle.new.member key budget result }
@@ -100,7 +125,11 @@ pub extern "C" fn vbr_has(handle: &mut Handle, key: u64, budget: u32) -> i32
 
 /// Gives a pass back, and leaves the handle empty. 0 while other handles of the set are full. The
 /// last one ends the set: 1, and it writes what the set held and the first of its keys, ascending,
-/// as many as there is room for. Where there is no memory for that, the handle stays as it was.
+/// as many as there is room for.
+///
+/// Refusals, after which nothing is written: -4, the handle is empty; -8, it was the last one and there
+/// is no memory for the report, and the handle stays as it was; -9, it was the last one and a handle was
+/// dropped before, so the set is gone.
 #[unsafe(no_mangle)]
 pub extern "C" fn vbr_close(
     alloc: Global,
@@ -117,7 +146,8 @@ pub extern "C" fn vbr_close(
     close_code(&answer)
 }
 
-/// Drops what the handle has, and leaves it empty. Its pass is lost.
+/// Drops what the handle has, and leaves it empty. Its pass is lost, so the last close of its set
+/// answers -9. It needs no memory, and can't fail.
 #[unsafe(no_mangle)]
 pub extern "C" fn vbr_drop(alloc: Global, handle: &mut Handle)
     ensures { handle.new.member ≡ None }

@@ -5,7 +5,7 @@ use std::fmt;
 use vbr_words::At;
 
 /// One step of one pass.
-#[derive(Clone, Copy, Debug, PartialEq, Eq, Hash)]
+#[derive(Clone, Copy, Debug, PartialEq, Eq)]
 pub struct Event {
     /// The number of the pass.
     pub pass: u32,
@@ -14,7 +14,7 @@ pub struct Event {
 }
 
 /// A step of the core: one atomic operation on one word.
-#[derive(Clone, Copy, Debug, PartialEq, Eq, Hash)]
+#[derive(Clone, Copy, Debug, PartialEq, Eq)]
 pub enum Step {
     /// Loads the epoch. Where it is the one that the pass read last, its pending reads are checked;
     /// where it has moved, the pass knows nothing any more.
@@ -101,7 +101,7 @@ pub enum Step {
 }
 
 /// What a step answers.
-#[derive(Clone, Copy, Debug, PartialEq, Eq, Hash)]
+#[derive(Clone, Copy, Debug, PartialEq, Eq)]
 pub enum Effect {
     /// The value that was loaded.
     Value(u64),
@@ -115,9 +115,9 @@ pub enum Effect {
     Answered(bool),
 }
 
-/// Why the core refuses an event. The tests are made in the order of the documents, not of this
-/// list.
-#[derive(Clone, Copy, Debug, PartialEq, Eq, Hash)]
+/// Why the core refuses an event. The tests are of the pass, the slots and buckets, what
+/// the pass owns, what it has checked, the numbers, and the last epoch, in this order.
+#[derive(Clone, Copy, Debug, PartialEq, Eq)]
 pub enum CoreRefusal {
     /// There is no pass of that number.
     NoSuchPass,

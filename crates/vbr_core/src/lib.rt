@@ -1,4 +1,4 @@
-//! What a set promises its callers, and the pure machine that the concurrent set is to be a run of.
+//! What a set promises its callers, and the pure machine that the concurrent set is a run of.
 //!
 //! [`PlainSet`] is the plain, exact set of one caller that the other crates are measured against.
 #![tactic(auto)]

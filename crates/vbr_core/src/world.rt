@@ -49,7 +49,7 @@ impl Model for World {
 }
 
 /// Why a world isn't opened. The tests are made in this order.
-#[derive(Clone, Copy, Debug, PartialEq, Eq, Hash)]
+#[derive(Clone, Copy, Debug, PartialEq, Eq)]
 pub enum WorldRefusal {
     /// The number of passes is 0 or above 64.
     Passes,

@@ -18,11 +18,16 @@ const MARKED_NONE: Link = Link {
 
 #[test]
 fn packs_links(rt: HostRuntime) {
-    assert_eq!(rt; encode(UNMARKED), 2_097_153);
-    assert_eq!(rt; encode(MARKED_NONE), 1_048_576);
-    assert_eq!(rt; with_mark(2_097_153), 3_145_729);
-    assert_eq!(rt; with_mark(3_145_729), 3_145_729);
-    assert_eq!(rt; version_of(3, 5), 5);
+    let rows = [
+        (encode(UNMARKED), 2_097_153),
+        (encode(MARKED_NONE), 1_048_576),
+        (with_mark(2_097_153), 3_145_729),
+        (with_mark(3_145_729), 3_145_729),
+        (version_of(3, 5), 5),
+    ];
+    for (word, wanted) in rows {
+        assert_eq!(rt; word, wanted);
+    }
 }
 
 #[test]
@@ -52,10 +57,15 @@ fn unpacks_words(rt: HostRuntime) {
 fn lays_out_words(rt: HostRuntime) -> Result<(), Fail> {
     let shape = Shape::new(3, 2, 10)?;
     assert!(rt; shape.slots() == 3 && shape.buckets() == 2 && shape.last_epoch() == 10);
-    assert_eq!(rt; place_index(&shape, Place::LinkOf(1)), 8);
-    assert_eq!(rt; place_index(&shape, Place::Key(0)), 7);
-    assert_eq!(rt; place_index(&shape, Place::Flags(0)), 16);
-    assert_eq!(rt; word_count(&shape), 17);
+    let rows = [
+        (place_index(&shape, Place::LinkOf(1)), 8),
+        (place_index(&shape, Place::Key(0)), 7),
+        (place_index(&shape, Place::Flags(0)), 16),
+        (word_count(&shape), 17),
+    ];
+    for (index, wanted) in rows {
+        assert_eq!(rt; index, wanted);
+    }
     Ok(())
 }
 
@@ -83,11 +93,18 @@ fn refuses_shapes(rt: HostRuntime) {
 #[test]
 fn finds_buckets(rt: HostRuntime) -> Result<(), Fail> {
     let sixteen = Shape::new(1, 16, 1)?;
-    assert_eq!(rt; sixteen.bucket_of(u64::MAX), 15);
-    assert_eq!(rt; sixteen.bucket_of(32), 0);
     let three = Shape::new(1, 3, 1)?;
-    for (key, bucket) in [(0, 0), (2, 2), (3, 0), (u64::MAX, 0), (u64::MAX - 1, 2)] {
-        assert_eq!(rt; three.bucket_of(key), bucket, "{key}");
+    let rows = [
+        (sixteen, u64::MAX, 15),
+        (sixteen, 32, 0),
+        (three, 0, 0),
+        (three, 2, 2),
+        (three, 3, 0),
+        (three, u64::MAX, 0),
+        (three, u64::MAX - 1, 2),
+    ];
+    for (shape, key, bucket) in rows {
+        assert_eq!(rt; shape.bucket_of(key), bucket, "{key}");
     }
     Ok(())
 }

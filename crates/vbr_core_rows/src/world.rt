@@ -1,40 +1,105 @@
 //! The core's world: worked lists of events, refusals, and a fresh world.
-ghost use Rattle.std.specs.Prelude.{◌≡◌};
-ghost use Rattle.vbr_words.specs.Places.{IsIn};
+ghost use Rattle.std.specs.Prelude.{◌≡◌, IfOk};
 
+use std::alloc::{AllocError, Global};
 use std::process::Abort;
 use std::test::Fail;
 use vbr_core::{
     Call, CoreRefusal, Effect, Event, Op, SlotPlace, Step, World, WorldRefusal, replay,
 };
 use vbr_event_lists::{REBORN_SLOT, Row, SAME_WORD, TWO_HELPERS};
+use vbr_words::flags::flag_words;
 use vbr_words::{At, Place, Shape};
 
-// Steps through a list, and compares each effect. A step that found no memory left the world as it
-// was, so it is made again.
-fn follow(rt: &impl Abort, world: &mut World, rows: &[Row])
+// The word at a place of the world, which has this shape; none where the shape has no such place.
+fn word_at(world: &World, shape: Shape, place: Place) -> Option<u64>
+    requires { world.now.shape ≡ shape }
+{
+    let is_in = match place {
+        Place::Epoch | Place::ShapeWord => true,
+        Place::Head(bucket) => bucket < shape.buckets(),
+        Place::LinkOf(slot) | Place::Birth(slot) | Place::Stamp(slot) | Place::Key(slot) => {
+            slot < shape.slots()
+        }
+        Place::Flags(number) => number < flag_words(&shape),
+    };
+    if is_in { Some(world.word(place)) } else { None }
+}
+
+// How many rows are made before a look, the place, and the word that stands there.
+type Look = (usize, Place, u64);
+
+// Compares the words that are looked at behind so many rows, and tells how many these are.
+fn look(rt: &impl Abort, world: &World, shape: Shape, rows: usize, looks: &[Look]) -> usize
+    requires { world.now.shape ≡ shape }
+{
+    let mut looked = 0usize;
+    for (at, place, word) in looks {
+        if *at == rows {
+            let told = word_at(world, shape, *place);
+            assert_eq!(rt; told, Some(*word), "{place:?} behind {rows} rows");
+            looked = looked.saturating_add(1);
+        }
+    }
+    looked
+}
+
+// Makes a step, and compares its effect. A step that found no memory left the world as it was, so it
+// is made again.
+fn make(rt: &impl Abort, world: &mut World, event: Event, effect: Effect)
     ensures { world.new.shape ≡ world.old.shape }
 {
+    let mut answer = world.step(event);
+    if answer == Err(CoreRefusal::NoMemory) {
+        answer = world.step(event);
+    }
+    assert_eq!(rt; answer, Ok(effect), "{event:?}");
+}
+
+// Opens a world with two passes and makes the steps of a list, with looks between them, each of which
+// has to come.
+fn follow(
+    rt: &impl Abort,
+    alloc: Global,
+    shape: Shape,
+    rows: &[Row],
+    looks: &[Look],
+) -> Result<World, WorldRefusal>
+    ensures { IfOk result (λ world. world.shape ≡ shape) }
+{
+    let mut world = World::open(alloc, shape, 2)?;
+    let mut made = 0usize;
+    let mut looked = look(rt, &world, shape, made, looks);
     for (pass, step, effect) in rows {
         let event = Event {
             pass: *pass,
             step: *step,
         };
-        let mut answer = world.step(event);
-        if answer == Err(CoreRefusal::NoMemory) {
-            answer = world.step(event);
-        }
-        assert_eq!(rt; answer, Ok(*effect), "{event:?}");
+        make(rt, &mut world, event, *effect);
+        made = made.saturating_add(1);
+        looked = looked.saturating_add(look(rt, &world, shape, made, looks));
     }
+    assert_eq!(rt; looked, looks.len());
+    Ok(world)
 }
 
-// Steps through the next part of a list, and compares the word that then stands at a place.
-fn follow_to(rt: &impl Abort, world: &mut World, rows: &[Row], place: Place, word: u64)
-    requires { IsIn world.old.shape place }
-    ensures { world.new.shape ≡ world.old.shape }
+// Compares the calls that were made, the places of the slots, and the number of incarnations.
+fn expect(
+    rt: &impl Abort,
+    world: &World,
+    shape: Shape,
+    calls: &[Call],
+    places: &[SlotPlace],
+    incarnations: u64,
+)
+    requires { world.now.shape ≡ shape }
 {
-    follow(rt, world, rows);
-    assert_eq!(rt; world.word(place), word, "{place:?}");
+    assert_eq!(rt; world.calls(), calls);
+    assert_eq!(rt; world.incarnations(), incarnations);
+    for slot in 0..shape.slots() {
+        let told = world.place_of_slot(slot);
+        assert_eq!(rt; places.get(slot as usize), Some(&told), "slot {slot}");
+    }
 }
 
 fn call(who: u32, op: Op, key: u64) -> Call {
@@ -48,147 +113,104 @@ fn call(who: u32, op: Op, key: u64) -> Call {
 
 #[test]
 fn follows_a_reborn_slot(rt: HostRuntime) -> Result<(), Fail> {
-    let mut world = World::open(rt.alloc(), Shape::new(3, 1, 10)?, 2)?;
-    follow_to(
-        &rt,
-        &mut world,
-        &REBORN_SLOT[..9],
-        Place::Head(0),
-        2_097_153,
-    );
-    follow_to(
-        &rt,
-        &mut world,
-        &REBORN_SLOT[9..14],
-        Place::Head(0),
-        2_097_154,
-    );
-    follow_to(
-        &rt,
-        &mut world,
-        &REBORN_SLOT[14..29],
-        Place::LinkOf(1),
-        3_145_729,
-    );
-    follow_to(
-        &rt,
-        &mut world,
-        &REBORN_SLOT[29..30],
-        Place::Head(0),
-        2_097_153,
-    );
-    follow_to(
-        &rt,
-        &mut world,
-        &REBORN_SLOT[30..42],
-        Place::LinkOf(1),
-        4_194_305,
-    );
-    follow_to(
-        &rt,
-        &mut world,
-        &REBORN_SLOT[42..43],
-        Place::Head(0),
-        4_194_306,
-    );
-    follow(&rt, &mut world, &REBORN_SLOT[43..]);
+    let shape = Shape::new(3, 1, 10)?;
+    let looks = [
+        (9, Place::Head(0), 2_097_153),
+        (14, Place::Head(0), 2_097_154),
+        (29, Place::LinkOf(1), 3_145_729),
+        (30, Place::Head(0), 2_097_153),
+        (42, Place::LinkOf(1), 4_194_305),
+        (43, Place::Head(0), 4_194_306),
+        (44, Place::Epoch, 2),
+    ];
+    let world = follow(&rt, rt.alloc(), shape, &REBORN_SLOT, &looks)?;
     let calls = [
         call(0, Op::Insert, 30),
         call(0, Op::Insert, 20),
         call(0, Op::Remove, 20),
         call(0, Op::Insert, 10),
     ];
-    assert_eq!(rt; world.calls(), calls.as_slice());
-    assert!(rt; world.incarnations() == 4 && world.word(Place::Epoch) == 2);
-    assert_eq!(rt; world.place_of_slot(0), SlotPlace::Listed(0));
-    assert_eq!(rt; world.place_of_slot(1), SlotPlace::Listed(0));
-    assert_eq!(rt; world.place_of_slot(2), SlotPlace::Hand(1));
+    let places = [
+        SlotPlace::Listed(0),
+        SlotPlace::Listed(0),
+        SlotPlace::Hand(1),
+    ];
+    expect(&rt, &world, shape, &calls, &places, 4);
     Ok(())
 }
 
 #[test]
 fn follows_a_word_that_comes_back(rt: HostRuntime) -> Result<(), Fail> {
-    let mut world = World::open(rt.alloc(), Shape::new(3, 1, 10)?, 2)?;
-    follow_to(
-        &rt,
-        &mut world,
-        &SAME_WORD[..9],
-        Place::LinkOf(0),
-        4_194_304,
-    );
-    follow_to(
-        &rt,
-        &mut world,
-        &SAME_WORD[9..33],
-        Place::LinkOf(2),
-        10_485_761,
-    );
-    follow_to(
-        &rt,
-        &mut world,
-        &SAME_WORD[33..34],
-        Place::Head(0),
-        10_485_763,
-    );
-    follow_to(
-        &rt,
-        &mut world,
-        &SAME_WORD[34..35],
-        Place::LinkOf(2),
-        11_534_337,
-    );
-    follow_to(
-        &rt,
-        &mut world,
-        &SAME_WORD[35..36],
-        Place::Head(0),
-        4_194_305,
-    );
-    follow_to(&rt, &mut world, &SAME_WORD[36..], Place::Head(0), 4_194_306);
+    let shape = Shape::new(3, 1, 10)?;
+    let looks = [
+        (9, Place::LinkOf(0), 4_194_304),
+        (33, Place::LinkOf(2), 10_485_761),
+        (34, Place::Head(0), 10_485_763),
+        (35, Place::LinkOf(2), 11_534_337),
+        (36, Place::Head(0), 4_194_305),
+        (37, Place::Head(0), 4_194_306),
+        (37, Place::Epoch, 5),
+    ];
+    let world = follow(&rt, rt.alloc(), shape, &SAME_WORD, &looks)?;
     let calls = [
         call(0, Op::Insert, 30),
         call(0, Op::Insert, 10),
         call(0, Op::Remove, 10),
         call(1, Op::Insert, 20),
     ];
-    assert_eq!(rt; world.calls(), calls.as_slice());
-    assert!(rt; world.incarnations() == 3 && world.word(Place::Epoch) == 5);
-    assert_eq!(rt; world.place_of_slot(0), SlotPlace::Listed(0));
-    assert_eq!(rt; world.place_of_slot(1), SlotPlace::Listed(0));
-    assert_eq!(rt; world.place_of_slot(2), SlotPlace::Own(0));
+    let places = [
+        SlotPlace::Listed(0),
+        SlotPlace::Listed(0),
+        SlotPlace::Own(0),
+    ];
+    expect(&rt, &world, shape, &calls, &places, 3);
     Ok(())
 }
 
 #[test]
 fn follows_two_helpers(rt: HostRuntime) -> Result<(), Fail> {
-    let mut world = World::open(rt.alloc(), Shape::new(1, 1, 10)?, 2)?;
-    follow(&rt, &mut world, &TWO_HELPERS);
+    let shape = Shape::new(1, 1, 10)?;
+    let looks = [(18, Place::Head(0), 0)];
+    let world = follow(&rt, rt.alloc(), shape, &TWO_HELPERS, &looks)?;
     let calls = [call(0, Op::Insert, 7), call(0, Op::Remove, 7)];
-    assert_eq!(rt; world.calls(), calls.as_slice());
-    assert!(rt; world.incarnations() == 1 && world.word(Place::Head(0)) == 0);
-    assert_eq!(rt; world.place_of_slot(0), SlotPlace::Own(1));
+    expect(&rt, &world, shape, &calls, &[SlotPlace::Own(1)], 1);
     Ok(())
 }
 
 // A look-up for the key of the node that the list of two helpers marks.
-fn look_up() -> Event {
-    Event {
+const LOOK_UP: Step = Step::ConfirmAbsent {
+    op: Op::Has,
+    key: 7,
+    at: At::Head(0),
+    expected: 2_097_153,
+};
+
+// What a look-up is answered behind so many rows of the list of two helpers, and the calls that are
+// then made.
+fn look_up_behind(
+    rt: &impl Abort,
+    alloc: Global,
+    rows: usize,
+    wanted: Result<Effect, CoreRefusal>,
+    calls: &[Call],
+) -> Result<(), Fail> {
+    let shape = Shape::new(1, 1, 10)?;
+    let Some(first) = TWO_HELPERS.get(..rows) else {
+        panic!(rt; "the list has no {rows} rows")
+    };
+    let mut world = follow(rt, alloc, shape, first, &[])?;
+    let event = Event {
         pass: 1,
-        step: Step::ConfirmAbsent {
-            op: Op::Has,
-            key: 7,
-            at: At::Head(0),
-            expected: 2_097_153,
-        },
-    }
+        step: LOOK_UP,
+    };
+    assert_eq!(rt; world.step(event), wanted);
+    assert_eq!(rt; world.calls(), calls);
+    Ok(())
 }
 
 /// A look-up passes a marked node, even one that has the key itself.
 #[test]
 fn a_look_up_passes_a_marked_node(rt: HostRuntime) -> Result<(), Fail> {
-    let mut world = World::open(rt.alloc(), Shape::new(1, 1, 10)?, 2)?;
-    follow(&rt, &mut world, &TWO_HELPERS[..16]);
-    assert_eq!(rt; world.step(look_up()), Ok(Effect::Answered(false)));
     let no = Call {
         who: 1,
         op: Op::Has,
@@ -196,38 +218,72 @@ fn a_look_up_passes_a_marked_node(rt: HostRuntime) -> Result<(), Fail> {
         reply: false,
     };
     let calls = [call(0, Op::Insert, 7), call(0, Op::Remove, 7), no];
-    assert_eq!(rt; world.calls(), calls.as_slice());
-    Ok(())
+    look_up_behind(&rt, rt.alloc(), 16, Ok(Effect::Answered(false)), &calls)
 }
 
 /// It passes none whose marked link isn't checked.
 #[test]
 fn a_look_up_checks_the_marked_link(rt: HostRuntime) -> Result<(), Fail> {
-    let mut world = World::open(rt.alloc(), Shape::new(1, 1, 10)?, 2)?;
-    follow(&rt, &mut world, &TWO_HELPERS[..15]);
-    assert_eq!(rt; world.step(look_up()), Err(CoreRefusal::NotHeld));
-    Ok(())
+    let calls = [call(0, Op::Insert, 7), call(0, Op::Remove, 7)];
+    look_up_behind(&rt, rt.alloc(), 15, Err(CoreRefusal::NotHeld), &calls)
+}
+
+// The events of the first rows of a list, so many.
+fn events_of(alloc: Global, rows: &[Row], count: usize) -> Result<Vec<Event>, AllocError> {
+    rows.iter()
+        .take(count)
+        .map(|(pass, step, _)| Event {
+            pass: *pass,
+            step: *step,
+        })
+        .collect(alloc)
+}
+
+// Where the replay of events stops, and why.
+fn stop_of(
+    alloc: Global,
+    shape: Shape,
+    passes: u32,
+    events: &[Event],
+) -> Option<(usize, CoreRefusal)> {
+    replay(alloc, shape, passes, events).err()
 }
 
 #[test]
 fn replays_a_list(rt: HostRuntime) -> Result<(), Fail> {
-    let mut events = Vec::new(rt.alloc());
-    for (pass, step, _) in REBORN_SLOT.iter().take(32) {
-        events.push(Event {
-            pass: *pass,
-            step: *step,
-        })?;
-    }
     let shape = Shape::new(3, 1, 10)?;
+    let mut events = events_of(rt.alloc(), &REBORN_SLOT, 32)?;
     let world = replay(rt.alloc(), shape, 2, &events)?;
-    assert_eq!(rt; world.word(Place::Stamp(1)), 1);
+    assert_eq!(rt; word_at(&world, shape, Place::Stamp(1)), Some(1));
     // a birth at the stamp
     events.push(Event {
         pass: 0,
         step: Step::StoreBirth { slot: 1, birth: 1 },
     })?;
-    let refused = replay(rt.alloc(), shape, 2, &events);
-    assert_eq!(rt; refused.err(), Some((32, CoreRefusal::OutOfRange)));
+    let stop = stop_of(rt.alloc(), shape, 2, &events);
+    assert_eq!(rt; stop, Some((32, CoreRefusal::OutOfRange)));
+    Ok(())
+}
+
+// The world that a whole list leads to.
+fn replay_whole(alloc: Global, shape: Shape, rows: &[Row]) -> Result<World, Fail> {
+    let events = events_of(alloc, rows, rows.len())?;
+    Ok(replay(alloc, shape, 2, &events)?)
+}
+
+#[test]
+fn replays_each_list_whole(rt: HostRuntime) -> Result<(), Fail> {
+    let rows: [(&[Row], u32, usize, u64, u64); 3] = [
+        (&REBORN_SLOT, 3, 4, 4, 2),
+        (&SAME_WORD, 3, 4, 3, 5),
+        (&TWO_HELPERS, 1, 2, 1, 1),
+    ];
+    for (list, slots, calls, incarnations, epoch) in rows {
+        let world = replay_whole(rt.alloc(), Shape::new(slots, 1, 10)?, list)?;
+        assert_eq!(rt; world.calls().len(), calls);
+        assert_eq!(rt; world.incarnations(), incarnations);
+        assert_eq!(rt; world.word(Place::Epoch), epoch);
+    }
     Ok(())
 }
 
@@ -243,8 +299,8 @@ fn refuses_events(rt: HostRuntime) -> Result<(), Fail> {
         (0, Step::Advance { from: 1 }, CoreRefusal::EpochLast),
     ];
     for (pass, step, refusal) in rows {
-        let answer = replay(rt.alloc(), shape, 1, &[Event { pass, step }]);
-        assert_eq!(rt; answer.err(), Some((0, refusal)), "{step:?}");
+        let stop = stop_of(rt.alloc(), shape, 1, &[Event { pass, step }]);
+        assert_eq!(rt; stop, Some((0, refusal)), "{step:?}");
     }
     let take = Event {
         pass: 0,
@@ -254,38 +310,34 @@ fn refuses_events(rt: HostRuntime) -> Result<(), Fail> {
         pass: 0,
         step: Step::StoreBirth { slot: 0, birth: 2 },
     };
-    let answer = replay(rt.alloc(), shape, 1, &[take, birth]);
-    assert_eq!(rt; answer.err(), Some((1, CoreRefusal::OutOfRange)));
-    let mut world = World::open(rt.alloc(), shape, 1)?;
-    assert_eq!(rt; world.step(take), Ok(Effect::Won));
-    assert_eq!(rt; world.step(take), Ok(Effect::Lost(0)));
+    let stop = stop_of(rt.alloc(), shape, 1, &[take, birth]);
+    assert_eq!(rt; stop, Some((1, CoreRefusal::OutOfRange)));
+    Ok(())
+}
+
+/// A slot is taken once. The answer to the second one has the flag word, in which its flag is gone.
+#[test]
+fn takes_a_slot_once(rt: HostRuntime) -> Result<(), Fail> {
+    let take = Step::TakeFlag { slot: 0 };
+    let rows = [(0, take, Effect::Won), (0, take, Effect::Lost(0))];
+    follow(&rt, rt.alloc(), Shape::new(1, 1, 1)?, &rows, &[])?;
     Ok(())
 }
 
 #[test]
 fn opens_fresh(rt: HostRuntime) -> Result<(), Fail> {
-    let shape = Shape::new(1, 1, 10)?;
-    let mut world = World::open(rt.alloc(), shape, 2)?;
-    let words = [
-        (Place::Epoch, 1),
-        (Place::ShapeWord, 10_485_761),
-        (Place::Head(0), 0),
-        (Place::LinkOf(0), 1_048_576),
-        (Place::Birth(0), 0),
-        (Place::Stamp(0), 0),
-        (Place::Key(0), 0),
-        (Place::Flags(0), 1),
+    let looks = [
+        (0, Place::Epoch, 1),
+        (0, Place::ShapeWord, 10_485_761),
+        (0, Place::Head(0), 0),
+        (0, Place::LinkOf(0), 1_048_576),
+        (0, Place::Birth(0), 0),
+        (0, Place::Stamp(0), 0),
+        (0, Place::Key(0), 0),
+        (0, Place::Flags(0), 1),
     ];
-    for (place, word) in words {
-        assert_eq!(rt; world.word(place), word, "{place:?}");
-    }
-    assert_eq!(rt;
-        world.step(Event {
-            pass: 0,
-            step: Step::ReadEpoch
-        }),
-        Ok(Effect::Value(1))
-    );
+    let rows = [(0, Step::ReadEpoch, Effect::Value(1))];
+    follow(&rt, rt.alloc(), Shape::new(1, 1, 10)?, &rows, &looks)?;
     Ok(())
 }
 
@@ -293,13 +345,12 @@ fn opens_fresh(rt: HostRuntime) -> Result<(), Fail> {
 fn refuses_numbers_of_passes(rt: HostRuntime) -> Result<(), Fail> {
     let shape = Shape::new(1, 1, 10)?;
     for passes in [0, 65] {
-        let opened = World::open(rt.alloc(), shape, passes);
-        assert_eq!(rt; opened.err(), Some(WorldRefusal::Passes));
-        let replayed = replay(rt.alloc(), shape, passes, &[]);
-        assert_eq!(rt; replayed.err(), Some((0, CoreRefusal::NoSuchPass)));
+        let opened = World::open(rt.alloc(), shape, passes).err();
+        assert_eq!(rt; opened, Some(WorldRefusal::Passes));
+        let stop = stop_of(rt.alloc(), shape, passes, &[]);
+        assert_eq!(rt; stop, Some((0, CoreRefusal::NoSuchPass)));
     }
-    assert!(rt;
-        World::open(rt.alloc(), shape, 64).is_ok() && replay(rt.alloc(), shape, 1, &[]).is_ok()
-    );
+    assert!(rt; World::open(rt.alloc(), shape, 64).is_ok());
+    assert!(rt; replay(rt.alloc(), shape, 1, &[]).is_ok());
     Ok(())
 }

@@ -1,16 +1,16 @@
 -- What a close of a handle answers, and what it leaves.
-use Rattle.std.specs.Prelude.{◌≡◌, Option, None, Some, Result, Ok, Err}
+use Rattle.std.specs.Prelude.{◌≡◌, ◌≢◌, Option, None, Some, Result, Ok, Err}
 use Rattle.vbr_set.specs.Ends.{EndsWith}
 use Rattle.vbr_set.specs.declared.member.Member.{Member}
 use Rattle.vbr_set.specs.declared.report.Report.{Report}
 use Rattle.vbr_handles.specs.declared.closing.CloseRefusal.{CloseRefusal}
 use Rattle.vbr_handles.specs.declared.closing.CloseRefusal.TheVariants.{Empty, Lost, Memory}
 
--- an empty handle stays so, and is told; a full one becomes empty, but where there is no memory, and is then as it was; a report tells the end of its set with all passes that were opened, its own among them
+-- an empty handle stays so, and is told; a full one becomes empty, but where there is no memory, and is then as it was; a report tells the end of its set with all passes that were opened, its own among them; and the handle of a set that was opened for one is the last, and no pass of it is lost
 abbrev pub ClosesAs : Option Member → Option Member → Result (Option Report) CloseRefusal → Type 0
 ClosesAs None after answer = (after ≡ None) × (answer ≡ Err Empty)
-ClosesAs (Some m) after (Ok None) = after ≡ None
+ClosesAs (Some m) after (Ok None) = (after ≡ None) × (m.set.passes ≢ 1)
 ClosesAs (Some m) after (Ok (Some report)) = (after ≡ None) × EndsWith m.set m.pass report
 ClosesAs (Some m) after (Err Empty) = ⊥
-ClosesAs (Some m) after (Err Lost) = after ≡ None
+ClosesAs (Some m) after (Err Lost) = (after ≡ None) × (m.set.passes ≢ 1)
 ClosesAs (Some m) after (Err Memory) = after ≡ Some m

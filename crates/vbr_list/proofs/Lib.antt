@@ -5,6 +5,7 @@ mod Nearing
 mod Moments
 mod Observing
 mod Passing
+mod Sights
 mod Preparing
 mod Sufficing
 mod LonePasses

@@ -1,5 +1,5 @@
 -- Where a key stands in the list of its bucket: behind which place, and before which node.
-use Rattle.std.specs.Prelude.{◌≡◌, ℕ, ◌≤◌, ◌==◌, Bool, false, Option, Some, None}
+use Rattle.std.specs.Prelude.{◌≡◌, ℕ, ◌≤◌, ◌==◌, Bool, true, false, Option, Some, None}
 use Rattle.vbr_words.specs.Dimensions.{Dimensions}
 use Rattle.vbr_words.specs.Words.{link_of}
 use Rattle.vbr_words.specs.declared.place.At.TheVariants.{Slot}
@@ -51,6 +51,15 @@ pub record IsLook (shape : Dimensions) (know : Know) (key : ℕ) (pred here : He
 abbrev pub IsSight : Dimensions → Know → ℕ → Sight → Type 0
 IsSight shape know key (Present node) = IsHeld know node × ((link_of node.word).mark ≡ false) × KeyAt know node.at key
 IsSight shape know key (Absent pred) = IsPred shape know key pred × StandsBeforeOn know key (link_of pred.word)
+
+-- what is held there, and whether it has the key
+abbrev pub held_in : Sight → Held
+held_in (Present node) = node
+held_in (Absent pred) = pred
+
+abbrev pub is_present : Sight → Bool
+is_present (Present node) = true
+is_present (Absent pred) = false
 
 -- what was found tells where the key stands, by what the pass knows
 pub record Locates (shape : Dimensions) (know : Know) (key : ℕ) (found : Found) : Type 0 where

@@ -6,6 +6,7 @@ ghost use Rattle.vbr_slots.specs.Calls.{Quiet, Took};
 ghost use Rattle.vbr_slots.specs.Views.{IsOf};
 ghost use Rattle.vbr_pools.specs.Advances.{RaisesNone};
 ghost use Rattle.vbr_access.specs.Moments.{WasSo};
+ghost use Rattle.vbr_access.specs.Soundness.{HasSafeRun};
 ghost use Rattle.vbr_list.specs.Found.{IsFound};
 ghost use Rattle.vbr_list.specs.Budgets.{listed_for};
 ghost use Rattle.vbr_list.specs.Nearing.{FoundAlone};
@@ -19,6 +20,7 @@ use crate::traversal::{Stop, traverse};
 use vbr_slots::{Pass, Slots};
 
 /// Traverses until it comes to the key; none where the budget has no room for one more piece.
+#[inline(always)]
 pub(crate) fn search(
     slots: &Slots,
     pass: &mut Pass,
@@ -59,6 +61,7 @@ pub fn find(slots: &Slots, pass: &mut Pass, key: u64, budget: u32) -> Result<Fou
     requires own { IsOf pass.old.trace slots.now }
     requires empty_hand { pass.old.hand ≡ None }
     ensures quiet { Quiet pass.old.trace pass.new.trace }
+    ensures safe { HasSafeRun pass.new.trace }
     ensures hand { pass.new.hand ≡ None }
     ensures found { IfOk result (λ found. IsFound pass.old.trace pass.new.trace key found) }
     ensures was_so { IfOk result (λ found. WasSo pass.old.trace pass.new.trace key found.present) }

@@ -2,7 +2,7 @@
 ghost use Rattle.std.specs.Prelude.{◌≡◌, ◌≢◌, ℕ, ◌+◌, ◌*◌, ◌<◌, ◌≤◌, ◌^◌, true, false, [], None, IfOk, IfErr};
 ghost use Rattle.vbr_core.specs.Acceptance.{bucket_of};
 ghost use Rattle.vbr_core.specs.declared.history.Op.TheVariants.{Insert};
-ghost use Rattle.vbr_pools.specs.Advances.{advances, AdvancesWhereNeeded, RaisesNone};
+ghost use Rattle.vbr_pools.specs.Advances.{advances, AdvancesWhereNeeded, KeepsSlots, RaisesNone};
 ghost use Rattle.vbr_pools.specs.Budgets.{most_to_take, steps_to_take};
 ghost use Rattle.vbr_pools.specs.Steps.{Counts, TookWithin};
 ghost use Rattle.vbr_slots.specs.Alone.{IsAlone};
@@ -10,6 +10,7 @@ ghost use Rattle.vbr_slots.specs.Calls.{IsSame, Quiet, Made, Took};
 ghost use Rattle.vbr_slots.specs.Views.{IsOf, knows};
 ghost use Rattle.vbr_access.specs.Alone.{NextStands, StandsNow};
 ghost use Rattle.vbr_access.specs.Keeping.{KeepsOwn};
+ghost use Rattle.vbr_access.specs.Soundness.{HasSafeRun};
 ghost use Rattle.vbr_list.specs.Alone.{AnswersAlone};
 ghost use Rattle.vbr_list.specs.Budgets.{IsAnsweredOrSpent, LacksSteps, listed_for};
 ghost use Rattle.vbr_list.specs.Inserting.{CountsWithin, IsPrepared, IsReady, IsShort, Refuses, TakesNone};
@@ -58,6 +59,7 @@ fn provide(slots: &Slots, pass: &mut Pass, budget: u32, used: &mut u32) -> Resul
     ensures steps { IfErr result (λ refusal. (since : ℕ) × CountsWithin pass.old.trace pass.new.trace used.old since budget) }
     ensures refused { IfErr result (λ refusal. TakesNone pass.old pass.new used.old budget refusal) }
     ensures advances { AdvancesWhereNeeded pass.old pass.new }
+    ensures kept { KeepsSlots pass.old pass.new }
     ensures few { IfOk result (λ hand. IsAlone pass.old.trace pass.new.trace → used.new ≤ used.old + steps_to_take pass.old.trace.shape pass.old.pool) }
     ensures enough { IfErr result (λ refusal. IsAlone pass.old.trace pass.new.trace → LacksSteps (used.old + steps_to_take pass.old.trace.shape pass.old.pool + 7) budget refusal) }
 {
@@ -96,6 +98,7 @@ fn prepare(
     ensures steps { IfErr result (λ refusal. (since : ℕ) × CountsWithin pass.old.trace pass.new.trace used.old since budget) }
     ensures refused { IfErr result (λ refusal. Refuses pass.old pass.new key used.old budget refusal) }
     ensures advances { AdvancesWhereNeeded pass.old pass.new }
+    ensures kept { KeepsSlots pass.old pass.new }
     ensures few { IfOk result (λ hand. IsAlone pass.old.trace pass.new.trace → used.new ≤ used.old + 9 * listed_for pass.old.trace key + most_to_take pass.old.trace.shape pass.old.pool + 3) }
     ensures enough { IfErr result (λ refusal. IsAlone pass.old.trace pass.new.trace → LacksSteps (used.old + 9 * listed_for pass.old.trace key + most_to_take pass.old.trace.shape pass.old.pool + 10) budget refusal) }
 {
@@ -140,6 +143,7 @@ fn settle(
     ensures quiet { IfErr result (λ back. Quiet pass.old.trace pass.new.trace) }
     ensures hand { IfErr result (λ back. IsReady pass.new back) }
     ensures advances { advances pass.new.trace ≡ advances pass.old.trace }
+    ensures kept { KeepsSlots pass.old pass.new }
     ensures wins { IfErr result (λ back. StandsNow pass.old.trace found.now.pred → NextStands pass.old.trace found.now.cur → IsAlone pass.old.trace pass.new.trace → ⊥) }
 {
     if found.present {
@@ -179,6 +183,7 @@ fn link(
     ensures quiet { IfErr result (λ refusal. Quiet pass.old.trace pass.new.trace) }
     ensures refused { IfErr result (λ refusal. IsShort pass.old pass.new used.old budget refusal) }
     ensures advances { advances pass.new.trace ≡ advances pass.old.trace }
+    ensures kept { KeepsSlots pass.old pass.new }
     ensures short { IfErr result (λ refusal. IsAlone pass.old.trace pass.new.trace → budget < used.old + 9 * listed_for pass.old.trace key + 11) }
 {
     loop {
@@ -213,9 +218,11 @@ pub fn insert(slots: &Slots, pass: &mut Pass, key: u64, budget: u32) -> Result<b
     ensures made { IfOk result (λ reply. Made (record { who = pass.old.trace.who; op = Insert; key = key; reply = reply }) pass.old.trace pass.new.trace) }
     ensures alone { IfOk result (λ reply. AnswersAlone pass.old.trace Insert key reply) }
     ensures quiet { IfErr result (λ refusal. Quiet pass.old.trace pass.new.trace) }
+    ensures safe { HasSafeRun pass.new.trace }
     ensures hand { pass.new.hand ≡ None }
     ensures steps { TookWithin pass.old.trace pass.new.trace budget }
     ensures advances { AdvancesWhereNeeded pass.old pass.new }
+    ensures kept { KeepsSlots pass.old pass.new }
     ensures refused { IfErr result (λ refusal. IsRefused pass.old pass.new key budget refusal) }
     // Alone, it answers in so many steps, or finds no slot or the epoch spent.
     ensures within { IfErr result (λ refusal. IsAlone pass.old.trace pass.new.trace → LacksSteps (18 * listed_for pass.old.trace key + most_to_take pass.old.trace.shape pass.old.pool + 14) budget refusal) }

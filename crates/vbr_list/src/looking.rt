@@ -40,6 +40,7 @@ fn place_of(marked: Marked) -> Held
 }
 
 // One walk from the head to the key, past marked nodes.
+#[inline(always)]
 fn walk(
     slots: &Slots,
     pass: &mut Pass,
@@ -89,6 +90,7 @@ fn walk(
 
 /// Looks until it comes to the key or to where it is absent; none where the budget has no room for
 /// one more piece.
+#[inline(always)]
 pub(crate) fn look(
     slots: &Slots,
     pass: &mut Pass,

@@ -7,22 +7,22 @@ ghost use Rattle.vbr_slots.specs.Calls.{AddsAnswer, AddsNone, IsSame, Quiet, Mad
 ghost use Rattle.vbr_slots.specs.Alone.{IsAlone};
 ghost use Rattle.vbr_slots.specs.Views.{IsOf, knows};
 ghost use Rattle.vbr_access.specs.Keeping.{KeepsOwn};
+ghost use Rattle.vbr_access.specs.Soundness.{HasSafeRun};
 ghost use Rattle.vbr_list.specs.Alone.{AnswersAlone};
 ghost use Rattle.vbr_list.specs.Budgets.{listed_for};
 ghost use Rattle.vbr_list.specs.Nearing.{SightStands};
-ghost use Rattle.vbr_list.specs.Places.{IsSight};
+ghost use Rattle.vbr_list.specs.Places.{IsSight, held_in, is_present};
 ghost use Rattle.vbr_list.specs.Refusals.{IsTired};
 
 use crate::looking::{Sight, look};
 use crate::refusal::Refusal;
 use crate::soundness::soundness;
-use vbr_access::{Rollback, confirm_absent, confirm_present};
-use vbr_core::Op;
+use vbr_access::{Held, Rollback, confirm_look_up};
 use vbr_pools::budget::affords;
 use vbr_slots::{Pass, Slots};
 
 // Answers a look-up by what it came to, in one step, if the link that was read still stands there.
-#[inline]
+#[inline(always)]
 fn answer(slots: &Slots, pass: &mut Pass, key: u64, sight: Sight) -> Result<bool, Rollback>
     requires own { IsOf pass.old.trace slots.now }
     requires sight { IsSight pass.old.trace.shape (knows pass.old.trace) key sight }
@@ -36,15 +36,20 @@ fn answer(slots: &Slots, pass: &mut Pass, key: u64, sight: Sight) -> Result<bool
     ensures wins { IfErr result (λ r. SightStands pass.old.trace sight → IsAlone pass.old.trace pass.new.trace → ⊥) }
     ensures only_loads { OnlyLoads pass.old.trace pass.new.trace }
 {
+    let (held, present) = told_by(sight);
+    confirm_look_up(slots, pass, key, &held, present)?;
+    Ok(present)
+}
+
+// What is held that tells, and whether it tells that the key is present.
+#[inline(always)]
+fn told_by(sight: Sight) -> (Held, bool)
+    ensures held { result.0 ≡ held_in sight }
+    ensures present { result.1 ≡ is_present sight }
+{
     match sight {
-        Sight::Present(node) => {
-            confirm_present(slots, pass, Op::Has, &node)?;
-            Ok(true)
-        }
-        Sight::Absent(pred) => {
-            confirm_absent(slots, pass, Op::Has, key, &pred)?;
-            Ok(false)
-        }
+        Sight::Present(node) => (node, true),
+        Sight::Absent(pred) => (pred, false),
     }
 }
 
@@ -68,6 +73,7 @@ pub fn has(slots: &Slots, pass: &mut Pass, key: u64, budget: u32) -> Result<bool
     ensures quiet { IfErr result (λ refusal. Quiet pass.old.trace pass.new.trace) }
     ensures adds_none { IfErr result (λ refusal. AddsNone pass.old.trace pass.new.trace) }
     ensures only_loads { OnlyLoads pass.old.trace pass.new.trace }
+    ensures safe { HasSafeRun pass.new.trace }
     ensures hand { pass.new.hand ≡ None }
     ensures steps { TookWithin pass.old.trace pass.new.trace budget }
     ensures raises_none { RaisesNone pass.old pass.new }

@@ -2,7 +2,8 @@
 use std::error::Error;
 use std::fmt;
 
-/// Why a call gave no answer. It made no call then, and the pass has no slot in hand.
+/// Why a call gave no answer. The pass made no call then, it has no slot in hand, and each slot
+/// that it could take is in its own pool.
 #[derive(Clone, Copy, Debug, PartialEq, Eq, Hash)]
 pub enum Refusal {
     /// The steps that were made leave no room in the budget for one more piece.

@@ -22,7 +22,7 @@ use vbr_access::{Held, Marked, Rollback, checkpoint, first, key_of, next, unlink
 use vbr_pools::budget::affords;
 use vbr_pools::{Unlinked, retire};
 use vbr_slots::{Pass, Slots};
-use vbr_words::decode;
+use vbr_words::{At, decode};
 
 /// What a visit meets behind a place.
 #[derive(Clone, Copy)]
@@ -45,7 +45,7 @@ pub(crate) enum Stop {
 }
 
 // Starts at the head of the bucket, in three steps.
-#[inline]
+#[inline(always)]
 pub(crate) fn start(
     slots: &Slots,
     pass: &mut Pass,
@@ -72,7 +72,7 @@ pub(crate) fn start(
 }
 
 // Visits the node that the link of a place names, in three steps if it is marked, else in five.
-#[inline]
+#[inline(always)]
 pub(crate) fn visit(
     slots: &Slots,
     pass: &mut Pass,
@@ -126,7 +126,7 @@ fn steps_of(next: Option<u32>, outcome: &Result<(Unlinked, Held), Rollback>) -> 
 
 // Unlinks a marked node behind a place and retires it, in one step to six: gives the place with its
 // new link, if the epoch stayed.
-#[inline]
+#[inline(always)]
 pub(crate) fn help(
     slots: &Slots,
     pass: &mut Pass,
@@ -161,7 +161,52 @@ pub(crate) fn help(
     Ok(place)
 }
 
+// As `help`, in a function of its own that takes what is held in parts, so that a traversal that meets
+// no marked node has all of it in registers.
+#[inline(never)]
+fn help_apart(
+    slots: &Slots,
+    pass: &mut Pass,
+    key: u64,
+    at: At,
+    birth: u64,
+    word: u64,
+    epoch: u64,
+    slot: u32,
+    born: u64,
+    link: u64,
+    read: u64,
+    used: &mut u32,
+) -> Result<Held, Rollback>
+    requires own { IsOf pass.old.trace slots.now }
+    requires pred { IsPred pass.old.trace.shape (knows pass.old.trace) key (record { at = at; birth = birth; word = word; epoch = epoch }) }
+    requires marked { IsMarked (knows pass.old.trace) (record { slot = slot; birth = born; word = link; epoch = read }) }
+    requires names { Names (record { at = at; birth = birth; word = word; epoch = epoch }) slot }
+    requires room { used.old + 8 < 2 ^ 32 }
+    ensures goes { Goes pass.old pass.new used.old used.new }
+    ensures used { (used.old ≤ used.new) × (used.new ≤ used.old + 8) }
+    ensures pred { IfOk result (λ place. IsReached pass.old.trace pass.new.trace key place) }
+    ensures few { used.new ≤ used.old + 6 }
+    ensures still { IfErr result (λ r. IsFresh pass.old.trace → StandsNow pass.old.trace (record { at = at; birth = birth; word = word; epoch = epoch }) → IsAlone pass.old.trace pass.new.trace → ⊥) }
+    ensures alone { IfOk result (λ place. IsFresh pass.old.trace → StandsNow pass.old.trace (record { at = at; birth = birth; word = word; epoch = epoch }) → IsAlone pass.old.trace pass.new.trace → HelpsAlone pass.old.trace pass.new.trace key (record { at = at; birth = birth; word = word; epoch = epoch }) place) }
+{
+    let pred = Held {
+        at,
+        birth,
+        word,
+        epoch,
+    };
+    let marked = Marked {
+        slot,
+        birth: born,
+        word: link,
+        epoch: read,
+    };
+    help(slots, pass, key, &pred, marked, used)
+}
+
 /// One traversal from the head to the key.
+#[inline(always)]
 pub(crate) fn traverse(
     slots: &Slots,
     pass: &mut Pass,
@@ -200,7 +245,23 @@ pub(crate) fn traverse(
                 if !affords(budget, *used) {
                     return Err(Stop::Tired);
                 }
-                match help(slots, pass, key, &pred, marked, used) {
+                let mut more = *used;
+                let outcome = help_apart(
+                    slots,
+                    pass,
+                    key,
+                    pred.at,
+                    pred.birth,
+                    pred.word,
+                    pred.epoch,
+                    marked.slot,
+                    marked.birth,
+                    marked.word,
+                    marked.epoch,
+                    &mut more,
+                );
+                *used = more;
+                match outcome {
                     Ok(place) => pred = place,
                     Err(_) => return Err(Stop::Again),
                 }

@@ -11,18 +11,6 @@ use Rattle.vbr_player.specs.Working.{Tells}
 use Rattle.vbr_script.specs.declared.script.Line.{Line}
 use Rattle.vbr_player.specs.declared.worker.Worker.{Worker}
 
--- one more worker for one more pass
-pub new-snoc : (script : List Line) (passes : List PassView) (workers : List Worker) (pass : PassView) (worker : Worker) → AllZip (IsNew script) passes workers → IsNew script pass worker → AllZip (IsNew script) (passes ++ pass ∷ []) (workers ++ worker ∷ [])
-new-snoc script [] [] pass worker are is = (is, tt)
-new-snoc script (p ∷ ps) (w ∷ ws) pass worker are is = (are.0, new-snoc script ps ws pass worker are.1 is)
-new-snoc script [] (w ∷ ws) pass worker are is = absurd are
-new-snoc script (p ∷ ps) [] pass worker are is = absurd are
-
--- no pass is left
-pub no_pass_left : (passes rest all : List PassView) → length rest ≡ 0 → passes ++ rest ≡ all → passes ≡ all
-no_pass_left passes [] all none is = sym (append-nil passes) ∙ is
-no_pass_left passes (p ∷ ps) all none is = absurd (omega arith)
-
 -- a new worker has played no lines
 new_played : (set : TableView) (script : List Line) (who : ℕ) (worker : Worker) → IsNew script (new_pass set who) worker → HasPlayed set script [] worker
 new_played set script who worker new =

@@ -1,21 +1,26 @@
--- The threads of the workers that were started. Only contracts of private functions cite this.
-use Rattle.std.specs.Prelude.{◌≡◌, List, [], ◌∷◌}
-use Rattle.std.specs.declared.thread.PromisedHandle.{PromisedHandle}
+-- The turns of the workers in a phase. Only contracts of private functions cite this.
+use Rattle.std.specs.Prelude.{◌≡◌, List}
+use Rattle.std.specs.List.{AllZip}
 use Rattle.vbr_script.specs.declared.script.Line.{Line}
-use Rattle.vbr_player.specs.declared.phase.Plays.{Plays}
+use Rattle.vbr_player.specs.Working.{Played}
+use Rattle.vbr_player.specs.declared.phase.Turn.{Turn}
+use Rattle.vbr_player.specs.declared.phase.Turn.TheVariants.{Started, Done}
 use Rattle.vbr_player.specs.declared.worker.Worker.{Worker}
 
--- a thread that is still to be joined
-abbrev pub Started : Type 0
-Started = PromisedHandle Worker Plays
+-- a thread promises that this worker will have played these lines, or it has played them
+abbrev pub IsFor : List Line → Turn → Worker → Type 0
+IsFor lines (Started thread) worker = (thread.promise.before.value ≡ worker) × (thread.promise.lines.now ≡ lines)
+IsFor lines (Done played) worker = Played lines worker played
 
--- a thread promises that this worker will have played these lines
-pub record IsFor (lines : List Line) (started : Started) (worker : Worker) : Type 0 where
-  pub before : started.promise.before.value ≡ worker
-  pub lines_are : started.promise.lines.now ≡ lines
+-- there is a turn for each worker, in order
+abbrev pub AreFor : List Line → List Turn → List Worker → Type 0
+AreFor lines turns workers = AllZip (IsFor lines) turns workers
 
--- there is a thread for each worker, in order
-abbrev pub AreFor : List Line → List Started → List Worker → Type 0
-AreFor lines [] [] = Unit {0}
-AreFor lines (started ∷ more) (worker ∷ workers) = IsFor lines started worker × AreFor lines more workers
-AreFor lines _ _ = ⊥
+-- a turn ended with this worker, as its thread promised
+abbrev pub EndsAs : Turn → Worker → Type 0
+EndsAs (Started thread) worker = Played thread.promise.lines.now thread.promise.before.value worker
+EndsAs (Done played) worker = worker ≡ played
+
+-- each of the turns did, in order
+abbrev pub AreEndedBy : List Turn → List Worker → Type 0
+AreEndedBy turns workers = AllZip EndsAs turns workers

@@ -1,9 +1,9 @@
-// A phase: each worker plays its lines in a thread of its own.
+// A phase: each worker that has lines in it plays them in a thread of its own.
 ghost use Rattle.std.specs.Prelude.{◌≡◌, ◌+◌, ◌<◌, ◌^◌, length, [], IfOk, IfErr};
 ghost use Rattle.vbr_player.specs.Working.{Played, EachPlayed, IsReady, AreReady};
 ghost use Rattle.vbr_player.specs.Meeting.{PlayedAndMet};
 ghost use Rattle.vbr_player.specs.Playing.{IsWant};
-ghost use Rattle.vbr_player.specs.Starting.{AreFor};
+ghost use Rattle.vbr_player.specs.Starting.{AreEndedBy, AreFor, EndsAs, IsFor};
 
 use crate::gate::Gate;
 use crate::meeting::meet_all;
@@ -43,9 +43,17 @@ impl<'l> Promise<Worker> for Plays<'l> {
     ghost kept_by = { λ p r. Played p.lines.now p.before.value r };
 }
 
-type Playing<'l> = PromisedHandle<Worker, Plays<'l>>;
+/// What a worker does in a phase.
+#[derive(Drop)]
+pub enum Turn<'l> {
+    /// It plays its lines in a thread of its own.
+    Started(PromisedHandle<Worker, Plays<'l>>),
+    /// It has no lines, and so has played them.
+    Done(Worker),
+}
 
-// Plays a phase, each worker in a thread of its own, and joins them all; then all meet.
+// Plays a phase, each worker that has lines in it in a thread of its own, and joins them all; then
+// all meet.
 pub fn play_phase<R: Threads + Wait, G: Gate + Sync>(
     rt: &R,
     alloc: Global,
@@ -62,8 +70,8 @@ pub fn play_phase<R: Threads + Wait, G: Gate + Sync>(
     Ok(workers)
 }
 
-// Starts a thread for each worker, and joins them all. Where a thread can't be started, those that
-// were end first.
+// Starts a thread for each worker that has lines, and joins them all. Where a thread can't be started,
+// those that were end first.
 fn play_apart<R: Threads + Wait, G: Gate + Sync>(
     rt: &R,
     alloc: Global,
@@ -98,35 +106,80 @@ fn play_apart<R: Threads + Wait, G: Gate + Sync>(
                 gate,
             };
             let room = Vec::with_capacity(alloc, workers.len())?;
-            let started = start_all(scope, &part, workers, room)?;
-            match thread::join_promised(rt, started) {
-                Ok(played) => Ok(played),
-                Err(_) => Err(RunError::Memory),
-            }
+            let played = Vec::with_capacity(alloc, workers.len())?;
+            let turns = start_all(scope, &part, workers, room)?;
+            join_all(rt, turns, played)
         },
     )
 }
 
-// Starts a thread for each worker.
+// Gives each worker its turn.
 fn start_all<'s, 'e, G: Gate + Sync>(
     scope: &'s Scope<'s, &'e ()>,
     part: &Part<'e, G>,
     workers: Vec<Worker>,
-    mut started: Vec<Playing<'e>>,
-) -> Result<Vec<Playing<'e>>, RunError>
+    mut turns: Vec<Turn<'e>>,
+) -> Result<Vec<Turn<'e>>, RunError>
     requires ready { AreReady part.now.set.now part.now.lines.now workers.items }
     requires index { part.now.first + length part.now.lines.now < 2 ^ 64 }
-    requires none { started.items ≡ [] }
-    ensures started { IfOk result (λ started. AreFor part.now.lines.now started.items workers.items) }
+    requires none { turns.items ≡ [] }
+    ensures turns { IfOk result (λ turns. AreFor part.now.lines.now turns.items workers.items) }
     ensures fault { IfErr result IsWant }
 {
     for worker in workers {
-        let next = start(scope, part, worker)?;
-        let Ok(()) = started.push(next) else {
+        let turn = take_turn(scope, part, worker)?;
+        let Ok(()) = turns.push(turn) else {
             return Err(RunError::Memory);
         };
     }
-    Ok(started)
+    Ok(turns)
+}
+
+// Starts a worker's thread, if it has lines.
+fn take_turn<'s, 'e, G: Gate + Sync>(
+    scope: &'s Scope<'s, &'e ()>,
+    part: &Part<'e, G>,
+    worker: Worker,
+) -> Result<Turn<'e>, RunError>
+    requires ready { IsReady part.now.set.now part.now.lines.now worker }
+    requires index { part.now.first + length part.now.lines.now < 2 ^ 64 }
+    ensures turn { IfOk result (λ turn. IsFor part.now.lines.now turn worker) }
+    ensures fault { IfErr result (λ error. error ≡ RunError.Worker) }
+{
+    let who = worker.pass.who();
+    if part.lines.iter().any(|line| line.worker == who) {
+        Ok(Turn::Started(start(scope, part, worker)?))
+    } else {
+        Ok(Turn::Done(played(part, worker)))
+    }
+}
+
+// Waits for the workers, in their order. The vector for them has room for all.
+fn join_all<R: Threads>(
+    rt: &R,
+    turns: Vec<Turn>,
+    mut played: Vec<Worker>,
+) -> Result<Vec<Worker>, RunError>
+    requires none { played.items ≡ [] }
+    ensures ended { IfOk result (λ played. AreEndedBy turns.entry.items played.items) }
+    ensures fault { IfErr result IsWant }
+{
+    for turn in turns {
+        let Ok(()) = played.push(end(rt, turn)) else {
+            return Err(RunError::Memory);
+        };
+    }
+    Ok(played)
+}
+
+// Waits for a worker, if it plays.
+fn end<R: Threads>(rt: &R, turn: Turn) -> Worker
+    ensures { EndsAs turn.entry result }
+{
+    match turn {
+        Turn::Started(thread) => thread.join(rt),
+        Turn::Done(worker) => worker,
+    }
 }
 
 // Starts a worker's thread.
@@ -134,7 +187,7 @@ fn start<'s, 'e, G: Gate + Sync>(
     scope: &'s Scope<'s, &'e ()>,
     part: &Part<'e, G>,
     worker: Worker,
-) -> Result<Playing<'e>, RunError>
+) -> Result<PromisedHandle<Worker, Plays<'e>>, RunError>
     requires ready { IsReady part.now.set.now part.now.lines.now worker }
     requires index { part.now.first + length part.now.lines.now < 2 ^ 64 }
     ensures before { IfOk result (λ started. started.promise.before.value ≡ worker) }

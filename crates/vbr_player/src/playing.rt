@@ -19,12 +19,31 @@ use vbr_transcript::{Reply, RunError, Totals, WriteFault, layout, read_text, wri
 
 /// Reads a script to its end, plays it, and writes the replies and the totals.
 ///
-/// The phases are played one after the other. In each, every worker plays its lines of the phase in
-/// order, on a thread of its own; they are joined, and then each sees all that the others have seen.
-/// In the end the set is closed.
+/// The phases are played one after the other. In each, every worker that has lines of the phase plays
+/// them in order, on a thread of its own; they are joined, and then each worker sees all that the
+/// others have seen. In the end the set is closed.
 ///
-/// Read, Script, Memory and Worker come before anything is written, and leave the writer as it was. A
-/// write fault leaves a beginning of the text.
+/// It takes memory for the text, the script, the replies and the output, and for the set. Each line is
+/// one call, of at most the config's budget of steps.
+///
+/// # Errors
+///
+/// All but Write come before anything is written, and leave the writer as it was.
+///
+/// - Read: the reader failed, or the text is longer than 67,108,864 bytes.
+/// - Script: the text's first faulty line, and what is wrong with it.
+/// - Memory: there was none for the run.
+/// - Worker: a thread couldn't be started.
+/// - Write: the writer failed, and has a beginning of the text.
+///
+/// # Example
+///
+/// ```rattle file=crates/vbr_example/src/main.rt
+/// let config = Config::new(Shape::new(64, 16, MAX_EPOCH)?, 3, 100_000, false)?;
+/// let mut script = File::open(&rt, "phases.script")?;
+/// let mut output = rt.stdout();
+/// play(&rt, rt.alloc(), config, &mut script, &mut output, &NoGate)?;
+/// ```
 pub fn play<RT: Threads + Wait, R: Read, W: Write, G: Gate + Sync>(
     rt: &RT,
     alloc: Global,

@@ -23,7 +23,7 @@ use Rattle.vbr_slots.specs.Pools.{hand_without}
 use Rattle.vbr_slots.specs.Rule.{one_if}
 use Rattle.vbr_slots.specs.Views.{Trace, PassView, Did, KeepsPool, knows, event_of}
 use Rattle.vbr_slots.proofs.Calls.{did_moment, moment_after}
-use Rattle.vbr_pools.specs.Advances.{is_advance, advances, Has, CouldTake, RaisesNone, AdvancesOnce, AdvancesWhereNeeded}
+use Rattle.vbr_pools.specs.Advances.{is_advance, advances, Has, CouldTake, KeepsSlots, RaisesNone, AdvancesOnce, AdvancesWhereNeeded}
 
 abbrev advances_in : ℕ → List Event → ℕ
 advances_in who events = count_by (λ (e : Event). (e.pass == who) && is_advance e.step) events
@@ -71,15 +71,35 @@ same_advances {step} {p} d e = did_advances d ∙ ap (λ (b : Bool). advances p 
 pub nobody : {A : Type 0} (hand : Option ℕ) (slot : ℕ) → hand ≡ None → hand ≡ Some slot → A
 nobody hand slot e f = absurd (cc)
 
-pub none_refl : (p : PassView) → RaisesNone p p
-none_refl p = record { count = refl; kept = λ s h. h.1 h.0 }
+pub keeps_refl : (p : PassView) → KeepsSlots p p
+keeps_refl p s h = h.1 h.0
 
-pub none_on : {p q r : PassView} → RaisesNone p q → RaisesNone q r → RaisesNone p r
-none_on a b = record { count = b.count ∙ a.count; kept = λ s h. b.kept s (h.0, λ m. a.kept s (m, h.1)) }
+pub keeps_on : (p q r : PassView) → KeepsSlots p q → KeepsSlots q r → KeepsSlots p r
+keeps_on p q r a b s h = b s (h.0, λ m. a s (m, h.1))
 
 -- what doesn't give the pass a slot that it may give birth in leaves it what it could take
+pub keeps_pool : (p q : PassView) → KeepsPool p q → ((s : ℕ) → MayBear ((knows q.trace).own s) → MayBear ((knows p.trace).own s)) → KeepsSlots p q
+keeps_pool p q pool may s h = subst (λ (x : List ℕ × Option ℕ). Contains x.0 s ⊎ (x.1 ≡ Some s)) (λ i. (sym pool.0 i, sym pool.1 i)) (h.1 (may s h.0))
+
+-- a slot that goes from the hand into the pool
+pub keeps_back : (p q : PassView) (slot : ℕ) → p.hand ≡ Some slot → q.trace ≡ p.trace → q.pool ≡ p.pool ++ slot ∷ [] → KeepsSlots p q
+keeps_back p q slot hand same pool s h = stays (h.1 (subst (λ (t : Trace). MayBear ((knows t).own s)) same h.0))
+  where
+    in_pool : Contains (p.pool ++ slot ∷ []) s → Has q s
+    in_pool c = inl (subst (λ (l : List ℕ). Contains l s) (sym pool) c)
+
+    stays : Has p s → Has q s
+    stays (inl c) = in_pool (Contains-append_left p.pool (slot ∷ []) s c)
+    stays (inr e) = let is : slot ≡ s = cc in in_pool (Contains-append_right p.pool (slot ∷ []) s (0, omega arith, is))
+
+pub none_refl : (p : PassView) → RaisesNone p p
+none_refl p = record { count = refl; kept = keeps_refl p }
+
+pub none_on : {p q r : PassView} → RaisesNone p q → RaisesNone q r → RaisesNone p r
+none_on {p} {q} {r} a b = record { count = b.count ∙ a.count; kept = keeps_on p q r a.kept b.kept }
+
 pub none_kept : {p q : PassView} → advances q.trace ≡ advances p.trace → KeepsPool p q → ((s : ℕ) → MayBear ((knows q.trace).own s) → MayBear ((knows p.trace).own s)) → RaisesNone p q
-none_kept {p} {q} same pool may = record { count = same; kept = λ s h. subst (λ (x : List ℕ × Option ℕ). Contains x.0 s ⊎ (x.1 ≡ Some s)) (λ i. (sym pool.0 i, sym pool.1 i)) (h.1 (may s h.0)) }
+none_kept {p} {q} same pool may = record { count = same; kept = keeps_pool p q pool may }
 
 pub none_known : {p q : PassView} → advances q.trace ≡ advances p.trace → KeepsPool p q → knows q.trace ≡ knows p.trace → RaisesNone p q
 none_known same pool known = none_kept same pool (λ s m. subst (λ (k : Know). MayBear (k.own s)) known m)

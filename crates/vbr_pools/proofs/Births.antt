@@ -1,7 +1,7 @@
 -- A birth in a slot of the own pool.
-use Rattle.std.proofs.Common.{◌≡◌, ◌≢◌, ℕ, ◌+◌, ◌≤◌, length, get_or, Option, Some, None, refl, sym, ap, ◌∙◌, subst, ⊎_elim, arith}
+use Rattle.std.proofs.Common.{◌≡◌, ◌≢◌, ℕ, ◌+◌, ◌≤◌, Contains, List, length, get_or, Option, Some, None, refl, sym, ap, ◌∙◌, subst, inl, inr, ⊎_elim, arith}
 use Rattle.std.proofs.lemmas.Bool.{cases_eq}
-use Rattle.vbr_core.specs.Acceptance.{stamp_in}
+use Rattle.vbr_core.specs.Acceptance.{MayBear, stamp_in}
 use Rattle.vbr_core.specs.Knowledge.{Know}
 use Rattle.vbr_core.specs.Learning.{birth_in_hand}
 use Rattle.vbr_core.specs.declared.event.Step.TheVariants.{StoreBirth}
@@ -13,9 +13,10 @@ use Rattle.vbr_slots.specs.Views.{PassView, Did, knows}
 use Rattle.vbr_slots.proofs.Calls.{did_quiet}
 use Rattle.vbr_pools.specs.Hands.{HandView}
 use Rattle.vbr_pools.specs.Pieces.{IsBelow, IsBorn}
-use Rattle.vbr_pools.proofs.Advancing.{same_advances}
+use Rattle.vbr_pools.specs.Advances.{Has, KeepsSlots}
+use Rattle.vbr_pools.proofs.Advancing.{nobody, same_advances}
 use Rattle.vbr_pools.proofs.Counting.{counts_one}
-use Rattle.vbr_pools.proofs.PoolLists.{without_shorter}
+use Rattle.vbr_pools.proofs.PoolLists.{stays_in, without_shorter}
 
 module _ (p q : PassView) (slot : ℕ) (d : Did (StoreBirth slot (knows p.trace).epoch) p.trace q.trace (knows p.trace).epoch) where
   abbrev born : Option Holding
@@ -33,8 +34,18 @@ module _ (p q : PassView) (slot : ℕ) (d : Did (StoreBirth slot (knows p.trace)
       ⊎_elim (λ (is : s ≡ slot). ap (λ (i : ℕ). stamp_in ((knows q.trace).own i)) is ∙ ap stamp_in own_here ∙ ap (λ (i : ℕ). stamp_in ((knows p.trace).own i)) (sym is))
       (λ (other : s ≢ slot). ap (λ (k : Know). stamp_in (k.own s)) d.know ∙ ap stamp_in (put_other (knows p.trace).own slot born s other)) (cases_eq s slot)
 
-  pub is_born : (budget used : ℕ) (hand : HandView) → IsBelow p (knows p.trace).epoch (Some slot) → used + 8 ≤ budget → length p.pool ≤ 64 → q.pool ≡ without slot p.pool → q.hand ≡ Some slot → hand ≡ record { slot = slot; birth = (knows q.trace).epoch } → IsBorn p q slot budget used hand
-  is_born budget used hand below room most pool in_hand is = subst (IsBorn p q slot budget used) (sym is) (record {
+  -- the slot goes from the pool into the hand, and the others stay
+  kept_born : p.hand ≡ None → q.pool ≡ without slot p.pool → q.hand ≡ Some slot → KeepsSlots p q
+  kept_born empty pool in_hand s h =
+      ⊎_elim (λ (is : s ≡ slot). inr (in_hand ∙ ap Some (sym is)))
+      (λ (other : s ≢ slot). stays other (h.1 (subst MayBear (ap (λ (k : Know). k.own s) d.know ∙ put_other (knows p.trace).own slot born s other) h.0))) (cases_eq s slot)
+    where
+      stays : s ≢ slot → Has p s → Has q s
+      stays other (inl c) = inl (subst (λ (l : List ℕ). Contains l s) (sym pool) (stays_in slot p.pool s other c))
+      stays other (inr e) = nobody p.hand s empty e
+
+  pub is_born : (budget used : ℕ) (hand : HandView) → p.hand ≡ None → IsBelow p (knows p.trace).epoch (Some slot) → used + 8 ≤ budget → length p.pool ≤ 64 → q.pool ≡ without slot p.pool → q.hand ≡ Some slot → hand ≡ record { slot = slot; birth = (knows q.trace).epoch } → IsBorn p q slot budget used hand
+  is_born budget used hand empty below room most pool in_hand is = subst (IsBorn p q slot budget used) (sym is) (record {
     quiet = did_quiet d (λ know. refl);
     uses = record { counts = counts_one used d; within = omega arith; at_most = omega arith };
     slot = refl;
@@ -50,4 +61,5 @@ module _ (p q : PassView) (slot : ℕ) (d : Did (StoreBirth slot (knows p.trace)
     rest = pool;
     room = (let less = without_shorter slot p.pool below.0 in let e = ap length pool in omega arith);
     advances = same_advances d refl;
+    kept = kept_born empty pool in_hand;
   })

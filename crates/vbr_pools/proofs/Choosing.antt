@@ -10,14 +10,14 @@ use Rattle.vbr_slots.specs.Calls.{Quiet}
 use Rattle.vbr_slots.specs.Pools.{IsPooled, OwnPool}
 use Rattle.vbr_slots.specs.Views.{PassView, KeepsPool, Did, knows}
 use Rattle.vbr_slots.proofs.Calls.{quiet_on, did_quiet}
-use Rattle.vbr_pools.specs.Advances.{advances, Has, AdvancesOnce}
+use Rattle.vbr_pools.specs.Advances.{advances, Has, KeepsSlots, RaisesNone, AdvancesOnce}
 use Rattle.vbr_pools.specs.Pieces.{Uses, NoRoom, IsShort, Stops, ShowsSpent, IsBelow, IsScanned, IsChosen}
 use Rattle.vbr_pools.specs.Refusals.{AllStamped}
 use Rattle.vbr_pools.specs.Steps.{Counts}
 use Rattle.vbr_pools.specs.Taking.{IsOldest}
 use Rattle.vbr_pools.specs.declared.refusal.TakeRefusal.{TakeRefusal}
 use Rattle.vbr_pools.specs.declared.refusal.TakeRefusal.TheVariants.{OutOfSteps, NoSlot, EpochSpent}
-use Rattle.vbr_pools.proofs.Advancing.{same_advances, nobody, none_known, none_on, did_none, once, once_after, once_before}
+use Rattle.vbr_pools.proofs.Advancing.{same_advances, nobody, keeps_on, keeps_pool, none_known, none_on, did_none, once, once_after, once_before}
 use Rattle.vbr_pools.proofs.Counting.{counts_one, counts_on, uses_on, uses_more}
 use Rattle.vbr_pools.proofs.Moments.{epoch_told}
 use Rattle.vbr_pools.proofs.Raising.{stamps_reread, stamps_low, read_above}
@@ -26,6 +26,14 @@ use Rattle.vbr_pools.proofs.Raising.{stamps_reread, stamps_low, read_above}
 some_slot : (pool : List ℕ) → pool ≢ [] → 0 < length pool
 some_slot [] some = absurd (some refl)
 some_slot (x ∷ xs) some = omega arith
+
+-- the slots of the pass stay its own where the epoch is read and the pool is looked through
+pub kept_read : (p q r : PassView) {e : ℕ} → Did ReadEpoch p.trace q.trace e → KeepsPool p q → KeepsPool q r → knows r.trace ≡ knows q.trace → KeepsSlots p r
+kept_read p q r read pool stays known = keeps_on p q r (let none : RaisesNone p q = did_none read refl pool in none.kept) (keeps_pool q r stays (λ s m. subst (λ (k : Know). MayBear (k.own s)) known m))
+
+-- and where the epoch is raised and read
+pub kept_raised : (p q r : PassView) {e n f : ℕ} → Did (Advance e) p.trace q.trace n → Did ReadEpoch q.trace r.trace f → KeepsPool p q → KeepsPool q r → KeepsSlots p r
+kept_raised p q r advance again keeps still = keeps_on p q r (keeps_pool p q keeps (λ s m. subst (λ (k : Know). MayBear (k.own s)) advance.know m)) (let none : RaisesNone q r = did_none again refl still in none.kept)
 
 -- the epoch was read, and then the pool was looked through
 module _ (p q r : PassView) (e budget used : ℕ) (read : Did ReadEpoch p.trace q.trace e) (room : used + 8 ≤ budget) (quiet : Quiet q.trace r.trace) (known : knows r.trace ≡ knows q.trace) (stayed : q.pool ≡ p.pool) where
@@ -73,8 +81,8 @@ module _ (p q r : PassView) (e budget used : ℕ) (read : Did ReadEpoch p.trace 
       stamped : AllStamped r e
       stamped k d less = let has = Contains-get_or r.pool k d less in let h = high (get_or r.pool k d) has in let l = low (get_or r.pool k d) has in omega arith
 
-      pub spent_then : r.pool ≢ [] → e ≡ r.trace.shape.last_epoch → ShowsSpent p r budget used (length p.pool + 1) e
-      spent_then some last = record { spent = record { last = last; last_read = last_read; some = some; stamped = stamped }; since = since; uses = uses }
+      pub spent_then : r.pool ≢ [] → e ≡ r.trace.shape.last_epoch → since + 8 ≤ budget → ShowsSpent p r budget used (length p.pool + 1) e
+      spent_then some last left = record { spent = record { last = last; last_read = last_read; some = some; stamped = stamped }; since = since; uses = uses; room = left }
 
       -- and the epoch was raised, and read again
       module _ (s t : PassView) (n f : ℕ) (advance : Did (Advance e) r.trace s.trace n) (again : Did ReadEpoch s.trace t.trace f) (keeps : KeepsPool r s) (still : KeepsPool s t) (empty : r.hand ≡ None) where

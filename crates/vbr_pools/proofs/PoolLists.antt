@@ -1,5 +1,5 @@
 -- Lists of slots, without one of them.
-use Rattle.std.proofs.Common.{◌≡◌, ℕ, zero, suc, ◌<◌, ◌≤◌, ◌==◌, Bool, true, false, not, List, [], ◌∷◌, length, cond, refl, sym, ap, ◌∙◌, subst, eq-eqb, arith}
+use Rattle.std.proofs.Common.{◌≡◌, ◌≢◌, ℕ, zero, suc, ◌<◌, ◌≤◌, ◌==◌, Bool, true, false, not, List, [], ◌∷◌, length, cond, refl, sym, ap, ◌∙◌, subst, eq-eqb, arith}
 use Rattle.std.specs.Prelude.{Contains}
 use Rattle.std.proofs.lemmas.Bool.{ne_eqb}
 use Rattle.std.proofs.lemmas.List.Sums.{length-filter, count_by-le-length}
@@ -23,3 +23,13 @@ without_shorter slot (x ∷ xs) (suc k, low, is) = let less = without_shorter sl
     either : (b : Bool) → length (without slot xs) < length xs → length (cond (not b) (x ∷ without slot xs) (without slot xs)) < suc (length xs)
     either true less = omega arith
     either false less = omega arith
+
+-- a pool keeps its other slots
+pub stays_in : (slot : ℕ) (pool : List ℕ) (s : ℕ) → s ≢ slot → Contains pool s → Contains (without slot pool) s
+stays_in slot [] s other (k, low, is) = absurd (omega arith)
+stays_in slot (x ∷ xs) s other (zero, low, is) = subst (λ (b : Bool). Contains (cond (not b) (x ∷ without slot xs) (without slot xs)) s) (sym (ne_eqb x slot (λ e. other (sym is ∙ e)))) (0, omega arith, is)
+stays_in slot (x ∷ xs) s other (suc k, low, is) = either (x == slot) (stays_in slot xs s other (k, omega arith, is))
+  where
+    either : (b : Bool) → Contains (without slot xs) s → Contains (cond (not b) (x ∷ without slot xs) (without slot xs)) s
+    either true c = c
+    either false c = (suc c.0, (let l = c.1 in omega arith), c.2)

@@ -9,17 +9,17 @@ use Rattle.vbr_slots.specs.Pools.{without}
 use Rattle.vbr_slots.specs.Views.{PassView, KeepsPool, knows}
 use Rattle.vbr_slots.proofs.Alone.{alone_first}
 use Rattle.vbr_slots.proofs.Calls.{quiet_on, quiet_refl}
-use Rattle.vbr_pools.specs.Advances.{RaisesNone, AdvancesWhereNeeded}
+use Rattle.vbr_pools.specs.Advances.{KeepsSlots, RaisesNone, AdvancesWhereNeeded}
 use Rattle.vbr_pools.specs.Hands.{HandView}
 use Rattle.vbr_pools.specs.Budgets.{NeedsMore, steps_to_claim, steps_to_take}
 use Rattle.vbr_pools.specs.Pieces.{Uses, IsShort, Stops, HasSlots, IsChosen, IsBorn}
-use Rattle.vbr_pools.specs.Refusals.{LeavesPool}
+use Rattle.vbr_pools.specs.Refusals.{HadRoom, IsRefused, LeavesPool}
 use Rattle.vbr_pools.specs.SharedPool.{CameByFlag}
 use Rattle.vbr_pools.specs.Steps.{TookWithin}
 use Rattle.vbr_pools.specs.Taking.{IsOldest, IsTaken}
 use Rattle.vbr_pools.specs.declared.refusal.TakeRefusal.{TakeRefusal}
 use Rattle.vbr_pools.specs.declared.refusal.TakeRefusal.TheVariants.{OutOfSteps, NoSlot, EpochSpent}
-use Rattle.vbr_pools.proofs.Advancing.{needed_after, needed_before}
+use Rattle.vbr_pools.proofs.Advancing.{keeps_on, needed_after, needed_before}
 use Rattle.vbr_pools.proofs.Counting.{uses_on, took_all, took_within}
 use Rattle.vbr_pools.proofs.Moments.{came_before}
 
@@ -51,6 +51,12 @@ claim_enough p budget (OutOfSteps used) empty short =
 claim_enough p budget NoSlot empty short = tt
 claim_enough p budget (EpochSpent epoch) empty short = tt
 
+-- a claim is never refused for a spent epoch, since the own pool is empty then
+pub claim_room : (p q : PassView) (budget : ℕ) (refusal : TakeRefusal) → p.pool ≡ [] → KeepsPool p q → IsRefused p q budget refusal → HadRoom p q budget refusal
+claim_room p q budget (OutOfSteps used) empty keeps refused = tt
+claim_room p q budget NoSlot empty keeps refused = tt
+claim_room p q budget (EpochSpent epoch) empty keeps refused = absurd (refused.some (keeps.0 ∙ empty))
+
 -- ---- the pieces
 
 module _ (p q r : PassView) (budget used : ℕ) (first : Quiet p.trace q.trace) (none : RaisesNone p q) (begun : HasSlots p q budget used) (quiet : Quiet q.trace r.trace) (keeps : KeepsPool q r) where
@@ -65,6 +71,14 @@ module _ (p q r : PassView) (budget used : ℕ) (first : Quiet p.trace q.trace) 
 
   pub advances_all : AdvancesWhereNeeded q r → AdvancesWhereNeeded p r
   advances_all = needed_after {p = p} {q = q} {r = r} first none
+
+  pub stops_room : (most : ℕ) (refusal : TakeRefusal) → Stops q r budget used most refusal → HadRoom p r budget refusal
+  stops_room most (OutOfSteps n) s = tt
+  stops_room most NoSlot s = tt
+  stops_room most (EpochSpent e) s = record { steps = s.since; room = s.room; took = took_all (uses_on begun.uses s.uses).counts }
+
+  pub kept_all : KeepsSlots q r → KeepsSlots p r
+  kept_all stays = keeps_on p q r none.kept stays
 
   pub stops_within : (most : ℕ) (refusal : TakeRefusal) → Stops q r budget used most refusal → TookWithin p.trace r.trace budget
   stops_within most (OutOfSteps n) s = took_within (uses_on begun.uses s.uses)
@@ -177,6 +191,22 @@ module _ (p q r : PassView) (budget used : ℕ) (first : Quiet p.trace q.trace) 
           go : (x : Result (HandView × ℕ) TakeRefusal) → OnErr x (t ≡ r) → IfErr x (λ refusal. LeavesPool p t)
           go (Ok b) same = tt
           go (Err refusal) same = subst (LeavesPool p) (sym same) leaves
+
+      pub ends_kept : KeepsSlots q r → KeepsSlots p t
+      ends_kept stays = go result ok still
+        where
+          go : (x : Result (HandView × ℕ) TakeRefusal) → IfOk x (λ b. IsBorn r t slot budget since b.0) → OnErr x (t ≡ r) → KeepsSlots p t
+          go (Ok b) born same = keeps_on p r t (kept_all stays) born.kept
+          go (Err refusal) born same = subst (KeepsSlots p) (sym same) (kept_all stays)
+
+      pub ends_room : IfErr result (λ refusal. HadRoom p t budget refusal)
+      ends_room = go result refused
+        where
+          go : (x : Result (HandView × ℕ) TakeRefusal) → IfErr x (λ refusal. IsShort r t budget since 0 refusal) → IfErr x (λ refusal. HadRoom p t budget refusal)
+          go (Ok b) short = tt
+          go (Err (OutOfSteps n)) short = tt
+          go (Err NoSlot) short = tt
+          go (Err (EpochSpent e)) short = absurd short
 
       pub ends_advances : AdvancesWhereNeeded q r → AdvancesWhereNeeded p t
       ends_advances before = go result ok still

@@ -25,10 +25,14 @@ Has pass slot = Contains pass.pool slot ⊎ (pass.hand ≡ Some slot)
 abbrev pub CouldTake : PassView → Know → ℕ → Type 0
 CouldTake p know slot = MayBear (know.own slot) × (MayBear ((knows p.trace).own slot) → Has p slot)
 
+-- each slot that the pass could take then is in its own pool or in its hand
+abbrev pub KeepsSlots : PassView → PassView → Type 0
+KeepsSlots p q = (slot : ℕ) → CouldTake p (knows q.trace) slot → Has q slot
+
 -- the pass made no step that would raise the epoch, and each slot that it could take then is in its own pool or in its hand
 pub record RaisesNone (p q : PassView) : Type 0 where
   pub count : advances q.trace ≡ advances p.trace
-  pub kept : (slot : ℕ) → CouldTake p (knows q.trace) slot → Has q slot
+  pub kept : KeepsSlots p q
 
 -- the pass made one step that would raise the epoch, from the epoch that it had read last: no slot that it could take then was stamped below that one
 pub record AdvancesOnce (p q : PassView) : Type 0 where

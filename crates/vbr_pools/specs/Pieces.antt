@@ -5,7 +5,7 @@ use Rattle.vbr_slots.specs.declared.pass.TheConstants.{POOL}
 use Rattle.vbr_slots.specs.Calls.{Quiet}
 use Rattle.vbr_slots.specs.Pools.{without}
 use Rattle.vbr_slots.specs.Views.{PassView, knows}
-use Rattle.vbr_pools.specs.Advances.{advances}
+use Rattle.vbr_pools.specs.Advances.{advances, KeepsSlots}
 use Rattle.vbr_pools.specs.Hands.{HandView, IsHandOf}
 use Rattle.vbr_pools.specs.Refusals.{IsSpent}
 use Rattle.vbr_pools.specs.SharedPool.{CameByFlag}
@@ -30,11 +30,12 @@ abbrev pub IsShort : PassView → PassView → ℕ → ℕ → ℕ → TakeRefus
 IsShort p q budget before most (OutOfSteps used) = NoRoom p q budget before most used
 IsShort p q budget before most _ = ⊥
 
--- the epoch is spent, and the steps that showed it were within the budget
+-- the epoch is spent, and the steps that showed it leave room in the budget for one more piece
 pub record ShowsSpent (p q : PassView) (budget before most epoch : ℕ) : Type 0 where
   pub spent : IsSpent q epoch
   pub since : ℕ
   pub uses : Uses p q budget before since most
+  pub room : since + 8 ≤ budget
 
 -- a piece is refused since the budget has no room for it, or since the epoch is spent
 abbrev pub Stops : PassView → PassView → ℕ → ℕ → ℕ → TakeRefusal → Type 0
@@ -70,7 +71,7 @@ pub record IsChosen (p q : PassView) (budget before slot since : ℕ) : Type 0 w
   pub uses : Uses p q budget before since (length p.pool + 3)
   pub below : IsBelow q (knows q.trace).epoch (Some slot)
 
--- the slot is in hand, and an incarnation was born there at the epoch that the pass read last
+-- the slot is in hand, and an incarnation was born there at the epoch that the pass read last; the other slots of the pass stay its own
 pub record IsBorn (p q : PassView) (chosen budget before : ℕ) (hand : HandView) : Type 0 where
   pub quiet : Quiet p.trace q.trace
   pub uses : Uses p q budget before (before + 1) 1
@@ -82,3 +83,4 @@ pub record IsBorn (p q : PassView) (chosen budget before : ℕ) (hand : HandView
   pub rest : q.pool ≡ without chosen p.pool
   pub room : length q.pool < POOL
   pub advances : advances q.trace ≡ advances p.trace
+  pub kept : KeepsSlots p q

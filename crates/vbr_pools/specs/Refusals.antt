@@ -36,6 +36,18 @@ IsRefused p q budget (OutOfSteps used) = IsOutOfSteps p q budget used
 IsRefused p q budget NoSlot = HasNoSlot p q
 IsRefused p q budget (EpochSpent epoch) = IsSpent q epoch
 
+-- the steps that were made leave room in the budget for one more piece
+pub record LeavesRoom (p q : PassView) (budget : ℕ) : Type 0 where
+  pub steps : ℕ
+  pub room : steps + 8 ≤ budget
+  pub took : Took p.trace q.trace steps
+
+-- that the epoch is spent is told only where the budget had room for the piece that would raise it
+abbrev pub HadRoom : PassView → PassView → ℕ → TakeRefusal → Type 0
+HadRoom p q budget (OutOfSteps used) = Unit {0}
+HadRoom p q budget NoSlot = Unit {0}
+HadRoom p q budget (EpochSpent epoch) = LeavesRoom p q budget
+
 -- after a refusal the own pool is as before, or was empty and holds the one slot whose flag was won
 abbrev pub LeavesPool : PassView → PassView → Type 0
 LeavesPool p q = (q.pool ≡ p.pool) ⊎ ((p.pool ≡ []) × (slot : ℕ) × (q.pool ≡ slot ∷ []) × CameByFlag p.trace q.trace slot)

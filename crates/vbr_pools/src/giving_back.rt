@@ -1,6 +1,7 @@
 //! Giving back a slot in hand.
 ghost use Rattle.std.specs.Prelude.{◌≡◌, ◌<◌, ◌++◌, [], ◌∷◌, length, None};
 ghost use Rattle.vbr_slots.specs.declared.pass.TheConstants.{POOL};
+ghost use Rattle.vbr_pools.specs.Advances.{KeepsSlots};
 ghost use Rattle.vbr_pools.specs.Hands.{IsHandOf};
 
 use crate::hand::Hand;
@@ -15,6 +16,7 @@ pub fn give_back(pass: &mut Pass, hand: Hand)
     ensures trace { pass.new.trace ≡ pass.old.trace }
     ensures pool { pass.new.pool ≡ pass.old.pool ++ hand.slot ∷ [] }
     ensures hand { pass.new.hand ≡ None }
+    ensures kept { KeepsSlots pass.old pass.new }
 {
     let _pool = pass.pool();
     pass.keep(hand.into_slot());

@@ -2,14 +2,16 @@
 use std::error::Error;
 use std::fmt;
 
-/// Why no slot was taken.
+/// Why no slot was taken. Nothing is in hand then, and the own pool is as it was; or it was empty,
+/// and has the one slot whose flag was won.
 #[derive(Clone, Copy, Debug, PartialEq, Eq, Hash)]
 pub enum TakeRefusal {
     /// The steps that were made leave no room in the budget.
     OutOfSteps { used: u32 },
     /// The own pool is empty, and each slot was outside the shared pool when it was looked for.
     NoSlot,
-    /// The epoch is the last, and each slot of the own pool is stamped with it.
+    /// The epoch is the last, and each slot of the own pool, which has some, is stamped with it.
+    /// The budget had room to raise it.
     EpochSpent { epoch: u64 },
 }
 

@@ -14,7 +14,8 @@ use vbr_slots::{Pass, Slots};
 
 /// Stamps a slot that the pass unlinked with an epoch that it reads now, and so after the unlinking,
 /// and puts it at the end of its own pool; where that holds 63 slots or more, into the shared pool.
-/// The place that stays free is the one for a slot in hand. Returns how many steps it made.
+/// The place that stays free is the one for a slot in hand. Returns how many steps it made: 2, or 3
+/// where the slot went into the shared pool. It can't fail.
 #[inline]
 pub fn retire(slots: &Slots, pass: &mut Pass, unlinked: Unlinked) -> u32
     requires own { IsOf pass.old.trace slots.now }

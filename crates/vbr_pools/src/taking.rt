@@ -4,10 +4,10 @@ ghost use Rattle.vbr_slots.specs.Alone.{IsAlone};
 ghost use Rattle.vbr_slots.specs.Calls.{Quiet, Took};
 ghost use Rattle.vbr_slots.specs.Pools.{OwnPool};
 ghost use Rattle.vbr_slots.specs.Views.{IsOf, KeepsPool, knows};
-ghost use Rattle.vbr_pools.specs.Advances.{advances, AdvancesWhereNeeded, RaisesNone};
+ghost use Rattle.vbr_pools.specs.Advances.{advances, AdvancesWhereNeeded, KeepsSlots, RaisesNone};
 ghost use Rattle.vbr_pools.specs.Budgets.{NeedsMore, steps_to_claim, steps_to_take};
 ghost use Rattle.vbr_pools.specs.Pieces.{HasSlots, IsBelow, IsBorn, IsChosen, IsScanned, IsShort, Stops};
-ghost use Rattle.vbr_pools.specs.Refusals.{IsRefused, LeavesPool, IsTakenOrSpent};
+ghost use Rattle.vbr_pools.specs.Refusals.{HadRoom, IsRefused, LeavesPool, IsTakenOrSpent};
 ghost use Rattle.vbr_pools.specs.Steps.{TookWithin};
 ghost use Rattle.vbr_pools.specs.Taking.{IsTaken};
 
@@ -24,8 +24,8 @@ use vbr_words::flags::next_flag;
 /// The call makes at most `budget` steps. It goes in pieces, and tests before each whether the budget
 /// has room for it; if not, it answers OutOfSteps. It looks in the shared pool only where the own
 /// pool is empty: NoSlot, if nothing is there. It raises the epoch only where no slot of the own pool
-/// is stamped below the epoch that it read: EpochSpent, if that is the last. A flag that it won
-/// stays in the own pool after a refusal.
+/// is stamped below the epoch that it read: EpochSpent, if that is the last. That is tested last, where
+/// the budget had room to raise it. A flag that it won stays in the own pool after a refusal.
 ///
 /// With slots in the own pool a budget of 80 is enough, whatever others do; with none, one of w + 13
 /// is, while the other passes stand still, where w is the number of flag words.
@@ -36,8 +36,10 @@ pub fn take(slots: &Slots, pass: &mut Pass, budget: u32) -> Result<Hand, TakeRef
     ensures steps { TookWithin pass.old.trace pass.new.trace budget }
     ensures ok { IfOk result (λ hand. IsTaken pass.old pass.new hand) }
     ensures refused { IfErr result (λ refusal. IsRefused pass.old pass.new budget refusal) }
+    ensures room { IfErr result (λ refusal. HadRoom pass.old pass.new budget refusal) }
     ensures pool { IfErr result (λ refusal. LeavesPool pass.old pass.new) }
     ensures hand { IfErr result (λ refusal. pass.new.hand ≡ None) }
+    ensures kept { KeepsSlots pass.old pass.new }
     ensures advances { AdvancesWhereNeeded pass.old pass.new }
     // No condition speaks of another pass: none can hold it up.
     ensures ready { pass.old.pool ≢ [] → 80 ≤ budget → IsTakenOrSpent result }
@@ -48,7 +50,7 @@ pub fn take(slots: &Slots, pass: &mut Pass, budget: u32) -> Result<Hand, TakeRef
     Ok(hand)
 }
 
-/// As [`take`], and tells how many steps it made.
+/// As [`take`], and tells how many steps it made, where it took a slot.
 pub fn take_counted(slots: &Slots, pass: &mut Pass, budget: u32) -> Result<(Hand, u32), TakeRefusal>
     requires own { IsOf pass.old.trace slots.now }
     requires empty_hand { pass.old.hand ≡ None }
@@ -57,8 +59,10 @@ pub fn take_counted(slots: &Slots, pass: &mut Pass, budget: u32) -> Result<(Hand
     ensures counted { IfOk result (λ r. (r.1 ≤ budget) × Took pass.old.trace pass.new.trace r.1) }
     ensures ok { IfOk result (λ r. IsTaken pass.old pass.new r.0) }
     ensures refused { IfErr result (λ refusal. IsRefused pass.old pass.new budget refusal) }
+    ensures room { IfErr result (λ refusal. HadRoom pass.old pass.new budget refusal) }
     ensures pool { IfErr result (λ refusal. LeavesPool pass.old pass.new) }
     ensures hand { IfErr result (λ refusal. pass.new.hand ≡ None) }
+    ensures kept { KeepsSlots pass.old pass.new }
     ensures advances { AdvancesWhereNeeded pass.old pass.new }
     // No condition speaks of another pass: none can hold it up.
     ensures ready { pass.old.pool ≢ [] → 80 ≤ budget → IsTakenOrSpent result }
@@ -122,6 +126,7 @@ fn choose(slots: &Slots, pass: &mut Pass, budget: u32, used: u32) -> Result<(u32
     ensures pool { KeepsPool pass.old pass.new }
     ensures ok { IfOk result (λ r. IsChosen pass.old pass.new budget used r.0 r.1) }
     ensures refused { IfErr result (λ refusal. Stops pass.old pass.new budget used (length pass.old.pool + 1) refusal) }
+    ensures kept { KeepsSlots pass.old pass.new }
     ensures advances { AdvancesWhereNeeded pass.old pass.new }
 {
     if !affords(budget, used) {

@@ -45,7 +45,7 @@ abbrev pub Tells : Result Totals RunError → Option (List ℕ) → Option (List
 Tells (Ok totals) old new status = (status ≡ DONE) × Keeps old new
 Tells (Err e) old new status = (status ≡ error_status e) × AppendsSome old new (error_line e)
 
--- a request for the help: it is on standard output, or as much of it as could be written
+-- a request for the help or the version: it is on standard output, or as much of it as could be written
 abbrev pub Helps : Option (List ℕ) → Option (List ℕ) → ℕ → Type 0
 Helps old new status = ((status ≡ DONE) ⊎ (status ≡ DEVICE_FAULT)) × ((help : List ℕ) × AppendsSome old new help)
 

@@ -36,7 +36,21 @@ pub const NO_RESOURCES: u8 = 5;
 /// plays the script that the reader gives, and answers the exit status. A fault is told in one line
 /// on `errors`; an error of `errors` itself is ignored. A fault in the options comes before a shape
 /// that is none, and both before anything is read; for a fault in the options `clap`'s text is
-/// written to `errors`, and with `--help` the help is written to the writer.
+/// written to `errors`, and with `--help` or `--version` its text is written to the writer.
+///
+/// # Example
+///
+/// ```rattle file=crates/vbr_main/src/main.rt
+/// let status = vbr_run::run(
+///     &rt,
+///     alloc,
+///     &words,
+///     &mut rt.stdin(),
+///     &mut rt.stdout(),
+///     &mut rt.stderr(),
+/// );
+/// ExitCode::from(status)
+/// ```
 pub fn run<T: Threads + Wait, R: Read, W: Write, E: Write>(
     rt: &T,
     alloc: Global,
@@ -64,7 +78,8 @@ pub fn run<T: Threads + Wait, R: Read, W: Write, E: Write>(
     }
 }
 
-// Shows what `clap` answers in place of the options: the help, or what is wrong with the words.
+// Shows what `clap` answers in place of the options: the help, the version, or what is wrong with the
+// words.
 fn show<W: Write, E: Write>(
     alloc: Global,
     refusal: &clap::Error,

@@ -4,6 +4,18 @@
 //! [`parse_script`] reads a script, [`play`] plays one over any reader and writer, and [`run`] is the
 //! body of the program, with its options and exit statuses. What they do stands in the crates that
 //! are named here; a user needs this one alone.
+//!
+//! ```rattle file=crates/vbr_example/src/main.rt
+//! let config = Config::new(Shape::new(64, 16, MAX_EPOCH)?, 3, 100_000, false)?;
+//! let mut script = File::open(&rt, "phases.script")?;
+//! let mut output = rt.stdout();
+//! play(&rt, rt.alloc(), config, &mut script, &mut output, &NoGate)?;
+//! ```
+//!
+//! Each line of a script is one call of the set, by the member of its worker, with the budget of the
+//! config. A call that is refused is told as `full`, `spent` or `tired`, and the run goes on. A run that
+//! isn't done is a [`RunError`]: for a faulty script, a failing reader, want of memory or of a thread
+//! nothing was written; a failing writer has a beginning of the output.
 #![tactic(auto)]
 
 pub use vbr_player as player;

@@ -1,13 +1,31 @@
 //! The gate of the player: that the workers of a phase run at the same time, and that each is told of
 //! its own calls.
+use crate::player::expect_totals;
+use std::alloc::Global;
 use std::hint::spin_loop;
+use std::sync::Wait;
 use std::sync::atomic::{AtomicBool, AtomicU32, Ordering};
 use std::test::Fail;
-use vbr_run::{Config, Gate, Reply, play};
+use std::thread::Threads;
+use vbr_run::{Config, Gate, Reply, Totals, play};
 use vbr_words::Shape;
 
 // How often a wait looks at its flag before it gives up.
 const LOOKS: u32 = 1_000_000_000;
+
+// Plays a script for two workers at a gate: what is written, and the totals.
+fn play_at<T: Threads + Wait, G: Gate + Sync>(
+    rt: &T,
+    alloc: Global,
+    mut script: &[u8],
+    gate: &G,
+) -> Result<(Vec<u8>, Totals), Fail> {
+    let shape = Shape::new(1024, 16, 8_796_093_022_207)?;
+    let config = Config::new(shape, 2, 100_000, false)?;
+    let mut output = Vec::new(alloc);
+    let totals = play(rt, alloc, config, &mut script, &mut output, gate)?;
+    Ok((output, totals))
+}
 
 /// A gate at which worker 0 waits before line 0 until worker 1 has its reply to line 1, and worker 1 waits
 /// before line 1 until worker 0 has come. Where one of them plays its line to the end before the other
@@ -62,20 +80,14 @@ impl Gate for Crossing {
 /// With a player that has one worker play at a time, a wait gives up.
 #[test]
 fn workers_run_at_the_same_time(rt: HostRuntime) -> Result<(), Fail> {
-    let shape = Shape::new(1024, 16, 8_796_093_022_207)?;
-    let config = Config::new(shape, 2, 100_000, false)?;
-    let mut script = b"0 insert 1\n1 insert 2\n".as_slice();
-    let mut output = Vec::new(rt.alloc());
     let gate = Crossing::new();
-    let totals = play(&rt, rt.alloc(), config, &mut script, &mut output, &gate)?;
+    let (output, totals) = play_at(&rt, rt.alloc(), b"0 insert 1\n1 insert 2\n", &gate)?;
     assert!(rt; !gate.gave_up.load(Ordering::SeqCst));
     assert_eq!(rt;
         output.as_slice(),
         b"yes\nyes\ninserted 2\nremoved 0\nfound 0\nrefused 0\nkeys 1 2\n".as_slice()
     );
-    assert_eq!(rt; (totals.inserted, totals.removed, totals.found), (2, 0, 0));
-    assert_eq!(rt; (totals.refused, totals.epoch), (0, 1));
-    assert_eq!(rt; totals.keys.as_slice(), [1, 2].as_slice());
+    expect_totals(&rt, &totals, [2, 0, 0, 0], 1, &[1, 2]);
     Ok(())
 }
 
@@ -144,11 +156,8 @@ impl Gate for Witness {
 /// Each worker tells of each of its lines once before the call and once behind it, with its reply.
 #[test]
 fn a_gate_is_told_of_each_call(rt: HostRuntime) -> Result<(), Fail> {
-    let config = Config::new(Shape::new(4, 2, 10)?, 2, 1_000, false)?;
-    let mut script = SCRIPT;
-    let mut output = Vec::new(rt.alloc());
     let gate = Witness::new();
-    play(&rt, rt.alloc(), config, &mut script, &mut output, &gate)?;
+    play_at(&rt, rt.alloc(), SCRIPT, &gate)?;
     assert!(rt; !gate.was_misled.load(Ordering::SeqCst));
     for count in gate.begun.iter().chain(gate.answered.iter()) {
         assert_eq!(rt; count.load(Ordering::SeqCst), 1);

@@ -1,8 +1,10 @@
 //! The program on worked scripts.
 use std::alloc::{AllocError, Global};
+use std::process::Abort;
 use std::sync::Wait;
 use std::test::Fail;
 use std::thread::Threads;
+use vbr_run::Totals;
 
 /// What a run of the program gave.
 #[derive(Drop)]
@@ -30,6 +32,28 @@ pub fn outcome_of<T: Threads + Wait>(
     }
 }
 
+/// Compares what a run of the program gave.
+pub fn expect(rt: &impl Abort, outcome: &Outcome, status: u8, output: &[u8], errors: &[u8]) {
+    assert_eq!(rt; outcome.status, status);
+    assert_eq!(rt; outcome.output.as_slice(), output);
+    assert_eq!(rt; outcome.errors.as_slice(), errors);
+}
+
+/// Compares totals: how many operations were answered yes, by kind, and how many were refused; the
+/// epoch; and the keys that are left.
+pub fn expect_totals(rt: &impl Abort, totals: &Totals, counts: [u64; 4], epoch: u64, keys: &[u64]) {
+    let Totals {
+        inserted,
+        removed,
+        found,
+        refused,
+        ..
+    } = *totals;
+    assert_eq!(rt; [inserted, removed, found, refused], counts);
+    assert_eq!(rt; totals.epoch, epoch);
+    assert_eq!(rt; totals.keys.as_slice(), keys);
+}
+
 const PROGRAM: [&str; 1] = ["vbr_run"];
 
 #[test]
@@ -52,9 +76,7 @@ fn plays_scripts(rt: HostRuntime) -> Result<(), Fail> {
     ];
     for (script, output) in rows {
         let outcome = outcome_of(&rt, rt.alloc(), PROGRAM.as_slice(), script);
-        assert_eq!(rt; outcome.status, 0);
-        assert_eq!(rt; outcome.output.as_slice(), output);
-        assert!(rt; outcome.errors.is_empty());
+        expect(&rt, &outcome, 0, output, b"");
     }
     Ok(())
 }
@@ -84,12 +106,10 @@ fn tells_the_first_fault(rt: HostRuntime) -> Result<(), Fail> {
     ];
     for (script, told) in rows {
         let outcome = outcome_of(&rt, rt.alloc(), PROGRAM.as_slice(), script);
-        assert_eq!(rt; outcome.status, 3);
-        assert!(rt; outcome.output.is_empty());
         let mut line = Vec::from_slice(rt.alloc(), b"vbr_run: script fault ")?;
         line.extend_from_slice(told)?;
         line.push(b'\n').map_err(AllocError::from)?;
-        assert_eq!(rt; outcome.errors.as_slice(), line.as_slice());
+        expect(&rt, &outcome, 3, b"", &line);
     }
     Ok(())
 }
@@ -144,8 +164,6 @@ fn tells_what_is_wrong_with_a_shape(rt: HostRuntime) {
     ];
     for (words, told) in rows {
         let outcome = outcome_of(&rt, rt.alloc(), words, b"0 drop 5\n");
-        assert_eq!(rt; outcome.status, 2);
-        assert!(rt; outcome.output.is_empty());
-        assert_eq!(rt; outcome.errors.as_slice(), told);
+        expect(&rt, &outcome, 2, b"", told);
     }
 }

@@ -2,11 +2,16 @@
 use std::alloc::{AllocError, Global};
 use std::test::Fail;
 use vbr_core::Op;
-use vbr_run::{Line, ScriptError, ScriptFault, parse_script};
+use vbr_run::{Line, Script, ScriptError, ScriptFault, parse_script};
+
+// Reads a script. The tests compare what comes of it when they run, and need no contract for that.
+fn parsed(alloc: Global, text: &[u8], workers: u32) -> Result<Script, ScriptError> {
+    parse_script(alloc, text, workers)
+}
 
 #[test]
 fn reads_a_line_in_full(rt: HostRuntime) -> Result<(), Fail> {
-    let script = parse_script(rt.alloc(), b"  0\tinsert  007\r\n", 1)?;
+    let script = parsed(rt.alloc(), b"  0\tinsert  007\r\n", 1)?;
     let line = Line {
         phase: 0,
         worker: 0,
@@ -20,12 +25,12 @@ fn reads_a_line_in_full(rt: HostRuntime) -> Result<(), Fail> {
 
 #[test]
 fn knows_its_workers(rt: HostRuntime) -> Result<(), Fail> {
-    let script = parse_script(rt.alloc(), b"2 has 1\n", 3)?;
+    let script = parsed(rt.alloc(), b"2 has 1\n", 3)?;
     assert_eq!(rt; script.lines.len(), 1);
     assert_eq!(rt; script.lines[0].worker, 2);
     for workers in [0, 1, 2] {
         let kind = ScriptFault::Worker;
-        let error = parse_script(rt.alloc(), b"2 has 1\n", workers).err();
+        let error = parsed(rt.alloc(), b"2 has 1\n", workers).err();
         assert_eq!(rt;
             error,
             Some(ScriptError::Fault { line: 1, kind }),
@@ -38,14 +43,14 @@ fn knows_its_workers(rt: HostRuntime) -> Result<(), Fail> {
 #[test]
 fn reads_a_long_blank_line(rt: HostRuntime) -> Result<(), Fail> {
     let text = vec![in rt.alloc(); b' '; 100_000]?;
-    let script = parse_script(rt.alloc(), &text, 1)?;
+    let script = parsed(rt.alloc(), &text, 1)?;
     assert!(rt; script.lines.is_empty());
     Ok(())
 }
 
 /// What is wrong with a text, as the line's number and the fault's.
 fn fault_of(alloc: Global, text: &[u8], workers: u32) -> Option<(u64, u8)> {
-    match parse_script(alloc, text, workers) {
+    match parsed(alloc, text, workers) {
         Err(ScriptError::Fault { line, kind }) => Some((line, kind.number())),
         _ => None,
     }
@@ -62,7 +67,7 @@ fn lines_of(alloc: Global, line: &[u8], count: usize) -> Result<Vec<u8>, AllocEr
 
 #[test]
 fn counts_phases_by_sync_lines(rt: HostRuntime) -> Result<(), Fail> {
-    let script = parse_script(rt.alloc(), b"0 insert 5\nsync\n1 has 5", 2)?;
+    let script = parsed(rt.alloc(), b"0 insert 5\nsync\n1 has 5", 2)?;
     let lines = [
         Line {
             phase: 0,
@@ -80,7 +85,7 @@ fn counts_phases_by_sync_lines(rt: HostRuntime) -> Result<(), Fail> {
     assert_eq!(rt; script.lines.as_slice(), lines.as_slice());
     assert_eq!(rt; script.phases, 2);
 
-    let syncs = parse_script(rt.alloc(), b"sync\n\n \tsync \r\nsync", 1)?;
+    let syncs = parsed(rt.alloc(), b"sync\n\n \tsync \r\nsync", 1)?;
     assert!(rt; syncs.lines.is_empty());
     assert_eq!(rt; syncs.phases, 4);
     Ok(())
@@ -107,7 +112,7 @@ fn tells_the_first_test_that_fails(rt: HostRuntime) {
 #[test]
 fn has_a_greatest_number_of_operations(rt: HostRuntime) -> Result<(), Fail> {
     let mut text = lines_of(rt.alloc(), b"0 has 5\n", 1_000_000)?;
-    let script = parse_script(rt.alloc(), &text, 1)?;
+    let script = parsed(rt.alloc(), &text, 1)?;
     assert_eq!(rt; script.lines.len(), 1_000_000);
 
     text.extend_from_slice(b"0 has 5\n")?;
@@ -118,7 +123,7 @@ fn has_a_greatest_number_of_operations(rt: HostRuntime) -> Result<(), Fail> {
 #[test]
 fn has_a_greatest_number_of_sync_lines(rt: HostRuntime) -> Result<(), Fail> {
     let mut text = lines_of(rt.alloc(), b"sync\n", 10_000)?;
-    let script = parse_script(rt.alloc(), &text, 1)?;
+    let script = parsed(rt.alloc(), &text, 1)?;
     assert_eq!(rt; script.phases, 10_001);
 
     text.extend_from_slice(b"\n0 has 5\nsync")?;

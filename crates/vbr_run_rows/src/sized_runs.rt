@@ -1,5 +1,6 @@
 //! The program on sets of many sizes: reuse of slots, full sets, spent epochs, small budgets, phases.
-use crate::player::outcome_of;
+use crate::player::{expect, outcome_of};
+use std::alloc::{AllocError, Global};
 use std::test::Fail;
 
 // A worked run: the words behind the program's name, the script, and what is printed.
@@ -89,47 +90,70 @@ const ROWS: [Worked<'static>; 10] = [
 fn plays_on_sets_of_many_sizes(rt: HostRuntime) {
     for (words, script, output) in ROWS {
         let outcome = outcome_of(&rt, rt.alloc(), words, script);
-        assert_eq!(rt; outcome.status, 0);
-        assert_eq!(rt; outcome.output.as_slice(), output);
-        assert!(rt; outcome.errors.is_empty());
+        expect(&rt, &outcome, 0, output, b"");
     }
+}
+
+// A text so many times over.
+fn repeated(alloc: Global, text: &[u8], times: u32) -> Result<Vec<u8>, AllocError> {
+    let mut all = Vec::new(alloc);
+    for _ in 0..times {
+        all.extend_from_slice(text)?;
+    }
+    Ok(all)
 }
 
 #[test]
 fn uses_one_slot_a_thousand_times(rt: HostRuntime) -> Result<(), Fail> {
-    let mut script = Vec::new(rt.alloc());
-    let mut wanted = Vec::new(rt.alloc());
-    for _ in 0..1000 {
-        script.extend_from_slice(b"0 insert 9\n0 remove 9\n")?;
-        wanted.extend_from_slice(b"yes\nyes\n")?;
-    }
+    let script = repeated(rt.alloc(), b"0 insert 9\n0 remove 9\n", 1000)?;
+    let mut wanted = repeated(rt.alloc(), b"yes\nyes\n", 1000)?;
     wanted.extend_from_slice(
         b"inserted 1000\nremoved 1000\nfound 0\nrefused 0\nkeys\nepoch 1000\n",
     )?;
     let words = ["vbr_run", "--slots=1", "--buckets=1", "--epoch"];
     let outcome = outcome_of(&rt, rt.alloc(), words.as_slice(), &script);
-    assert_eq!(rt; outcome.status, 0);
-    assert_eq!(rt; outcome.output.as_slice(), wanted.as_slice());
+    expect(&rt, &outcome, 0, &wanted, b"");
     Ok(())
+}
+
+// A script in which four workers insert the same hundred keys.
+fn same_keys(alloc: Global) -> Result<String, AllocError> {
+    let mut script = String::new(alloc);
+    for worker in 0..4 {
+        for key in 0..100 {
+            writeln!(script, "{worker} insert {key}")?;
+        }
+    }
+    Ok(script)
+}
+
+// The totals that it ends with.
+fn totals_of_a_hundred(alloc: Global) -> Result<String, AllocError> {
+    let mut totals = String::new(alloc);
+    totals.push_str("inserted 100\nremoved 0\nfound 0\nrefused 0\nkeys")?;
+    for key in 0..100 {
+        write!(totals, " {key}")?;
+    }
+    totals.push_str("\n")?;
+    Ok(totals)
+}
+
+// How many lines of a text are this one.
+fn count_lines(text: &[u8], wanted: &[u8]) -> u32 {
+    let mut count = 0u32;
+    for line in text.split(|byte| *byte == b'\n') {
+        if line == wanted {
+            count = count.saturating_add(1);
+        }
+    }
+    count
 }
 
 /// Four workers insert the same hundred keys: each key is answered yes once.
 #[test]
 fn four_workers_insert_the_same_keys(rt: HostRuntime) -> Result<(), Fail> {
-    let mut script = Vec::new(rt.alloc());
-    let mut keys = Vec::new(rt.alloc());
-    for worker in 0..4 {
-        for key in 0..100 {
-            let line = format!(in rt.alloc(); "{worker} insert {key}\n")?;
-            script.extend_from_slice(line.as_bytes())?;
-        }
-    }
-    keys.extend_from_slice(b"inserted 100\nremoved 0\nfound 0\nrefused 0\nkeys")?;
-    for key in 0..100 {
-        let spaced = format!(in rt.alloc(); " {key}")?;
-        keys.extend_from_slice(spaced.as_bytes())?;
-    }
-    keys.extend_from_slice(b"\n")?;
+    let script = same_keys(rt.alloc())?;
+    let totals = totals_of_a_hundred(rt.alloc())?;
     let words = [
         "vbr_run",
         "--workers=4",
@@ -137,20 +161,11 @@ fn four_workers_insert_the_same_keys(rt: HostRuntime) -> Result<(), Fail> {
         "--buckets=8",
         "--budget=1000000",
     ];
-    let outcome = outcome_of(&rt, rt.alloc(), words.as_slice(), &script);
+    let outcome = outcome_of(&rt, rt.alloc(), words.as_slice(), script.as_bytes());
     assert_eq!(rt; outcome.status, 0);
-    assert!(rt; outcome.output.ends_with(&keys));
-    let lines = outcome.output.split(|byte| *byte == b'\n');
-    let mut added = 0u32;
-    let mut present = 0u32;
-    for line in lines {
-        if line == b"yes".as_slice() {
-            added = added.saturating_add(1);
-        }
-        if line == b"no".as_slice() {
-            present = present.saturating_add(1);
-        }
-    }
+    assert!(rt; outcome.output.ends_with(totals.as_bytes()));
+    let added = count_lines(&outcome.output, b"yes");
+    let present = count_lines(&outcome.output, b"no");
     assert_eq!(rt; (added, present), (100, 300));
     Ok(())
 }

@@ -15,7 +15,13 @@ use std::alloc::Global;
 
 /// Reads a script for so many workers. A text that is none gives its first faulty line and what is
 /// wrong with it; memory is the one other error, and it is answered at the line whose growth was
-/// refused.
+/// refused. It goes over the bytes once.
+///
+/// # Example
+///
+/// ```rattle file=crates/vbr_player/src/playing.rt
+/// let script = parse_script(alloc, text, config.workers())?;
+/// ```
 pub fn parse_script(alloc: Global, text: &[u8], workers: u32) -> Result<Script, ScriptError>
     ensures lines { IfOk result (λ script. script.lines.items ≡ script_of workers text.now) }
     ensures phases { IfOk result (λ script. script.phases ≡ phases_of workers text.now) }

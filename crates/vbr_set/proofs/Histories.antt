@@ -13,6 +13,7 @@ use Rattle.vbr_core.proofs.SafeRuns.{every_run}
 use Rattle.vbr_slots.specs.Calls.{Made}
 use Rattle.vbr_slots.specs.Views.{TableView, Trace, IsOf, Did}
 use Rattle.vbr_slots.proofs.Calls.{did_quiet, did_run}
+use Rattle.vbr_access.specs.Soundness.{HasSafeRun}
 use Rattle.vbr_set.specs.Answers.{Answers}
 use Rattle.vbr_set.specs.Histories.{ReadsAreRight}
 use Rattle.vbr_set.specs.Meetings.{Shares}
@@ -59,6 +60,12 @@ each_answers p q op key (Err refusal) is made = tt
 -- and what stands there was made
 pub made_of : {call : Call} {p q : Trace} → Answers call p q → Made call p q
 made_of a = record { same = a.same; seen = a.begins; is_run = a.is_run; calls = a.once }
+
+-- a pass that met another has seen a safe run
+pub met_safe : {p q : Trace} {epoch : ℕ} → IsShape p.shape → Did ReadEpoch p q epoch → HasSafeRun q
+met_safe {p} {q} is did =
+    let run = did_run did in
+    record { is_run = run; safe = every_run q.shape q.passes q.seen (shape_of p.shape q.shape (did_quiet did (λ know. refl)).same.shape is) run }
 
 -- passes that met share one legal history
 pub shares : {p other q : Trace} {epoch : ℕ} → IsShape p.shape → other.shape ≡ p.shape → Did ReadEpoch p q epoch → BeginsFor other.who other.seen q.seen → Shares p other q

@@ -77,6 +77,9 @@ new_count : (set : TableView) (who n : ℕ) → length (new_passes set who n) �
 new_count set who zero = refl
 new_count set who (suc n) = ap suc (new_count set (suc who) n)
 
+pub count_of_all : (set : TableView) (n : ℕ) (passes : List PassView) → passes ≡ new_passes set 0 n → set.passes ≡ n → set.passes ≡ length passes
+count_of_all set n passes e all = all ∙ sym (ap (λ (ps : List PassView). length ps) e ∙ new_count set 0 n)
+
 pub as_many : (set : TableView) (n : ℕ) (passes : List PassView) → passes ≡ new_passes set 0 n → passes ≡ new_passes set 0 (length passes)
 as_many set n passes e = e ∙ ap (λ (k : ℕ). new_passes set 0 k) (sym (ap (λ (ps : List PassView). length ps) e ∙ new_count set 0 n))
 

@@ -1,5 +1,5 @@
 -- How a set ends, and what the report tells of that.
-use Rattle.std.specs.Prelude.{◌≡◌, ◌+◌, List, [], ◌∷◌}
+use Rattle.std.specs.Prelude.{◌≡◌, ◌+◌, List, [], ◌∷◌, length}
 use Rattle.vbr_words.specs.Dimensions.{Dimensions}
 use Rattle.vbr_core.specs.Keys.{Lists, no_keys}
 use Rattle.vbr_core.specs.History.{IsLegal, set_after}
@@ -14,11 +14,12 @@ use Rattle.vbr_set.specs.Histories.{calls_of}
 use Rattle.vbr_core.specs.Nodes.{linked_after, marked_after}
 use Rattle.vbr_set.specs.declared.report.Report.{Report}
 
--- the report tells the keys that the calls of a run leave in a set that opened empty, ascending; the epoch; how many nodes are linked; how many are marked and still in a list; and how many slots have neither
+-- the report tells the keys that the calls of a run leave in a set that opened empty, ascending; the epoch; how many nodes are linked, one for each key; how many are marked and still in a list; and how many slots have neither
 pub record Reports (shape : Dimensions) (run : List Event) (report : Report) : Type 0 where
   pub keys : Lists report.keys.items (set_after no_keys (calls_of shape run))
   pub epoch : report.epoch ≡ (world_after shape run).epoch
   pub live : report.live ≡ linked_after shape run
+  pub one_each : length report.keys.items ≡ report.live
   pub marked : report.marked ≡ marked_after shape run
   pub free : report.live + report.marked + report.free ≡ shape.slots
 

@@ -1,5 +1,5 @@
 -- How a set ends by its members, and what the last one is told.
-use Rattle.std.specs.Prelude.{◌≡◌, ℕ, ◌<◌, List, length, slice_index_or}
+use Rattle.std.specs.Prelude.{◌≡◌, ℕ, ◌<◌, List, length, slice_index_or, Option, None, Some, Result, Ok, Err}
 use Rattle.vbr_slots.specs.Views.{PassView, TableView}
 use Rattle.vbr_set.specs.Closing.{Closes}
 use Rattle.vbr_set.specs.Sharing.{ArePassesOf}
@@ -28,3 +28,14 @@ pub record EndsWith (set : TableView) (pass : PassView) (report : Report) : Type
 abbrev pub IsBack : TableView → PassView → EndError → Type 0
 IsBack set pass Lost = Unit {0}
 IsBack set pass (Memory member) = member ≡ record { set = set; pass = pass }
+
+-- there is no memory, and no pass is lost
+abbrev pub IsShort : EndError → Type 0
+IsShort Lost = ⊥
+IsShort (Memory member) = Unit {0}
+
+-- the answer to the last member: a report, or that there is no memory for it
+abbrev pub IsLast : Result (Option Report) EndError → Type 0
+IsLast (Ok None) = ⊥
+IsLast (Ok (Some report)) = Unit {0}
+IsLast (Err error) = IsShort error

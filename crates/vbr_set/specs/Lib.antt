@@ -7,5 +7,7 @@ pub mod Places
 pub mod Members
 pub mod Sharing
 pub mod MemberView
+pub mod SetRefView
 pub mod Seats
 pub mod Ends
+pub mod Names

@@ -6,9 +6,10 @@ use Rattle.vbr_words.specs.Dimensions.{Dimensions}
 use Rattle.vbr_slots.specs.Alone.{IsAlone}
 use Rattle.vbr_slots.specs.Calls.{AddsAnswer, AddsNone, IsSame, OnlyLoads, Quiet}
 use Rattle.vbr_slots.specs.Views.{PassView, TableView, new_passes}
-use Rattle.vbr_pools.specs.Advances.{AdvancesWhereNeeded, RaisesNone}
+use Rattle.vbr_pools.specs.Advances.{AdvancesWhereNeeded, KeepsSlots, RaisesNone}
 use Rattle.vbr_pools.specs.Budgets.{most_to_take}
 use Rattle.vbr_pools.specs.Steps.{TookWithin}
+use Rattle.vbr_access.specs.Soundness.{HasSafeRun}
 use Rattle.vbr_list.specs.Alone.{AnswersAlone}
 use Rattle.vbr_list.specs.Budgets.{IsAnsweredOrSpent, LacksSteps, listed_for}
 use Rattle.vbr_list.specs.Refusals.{IsRefused, IsTired}
@@ -31,9 +32,10 @@ pub record AreNew (shape : Dimensions) (count : ℕ) (members : List MemberView)
   pub counted : set.passes ≡ count
   pub are : members ≡ new_members set count
 
--- what an insert promises besides: it raises the epoch only where that is needed, and is refused where it must be; alone it has steps enough with a budget that is known before, and with a slot in the own pool it is answered, unless the epoch is spent
+-- what an insert promises besides: it raises the epoch only where that is needed, keeps each slot that the pass could take then, and is refused where it must be; alone it has steps enough with a budget that is known before, and with a slot in the own pool it is answered, unless the epoch is spent
 pub record SparesInsert (p q : PassView) (key budget : ℕ) (answer : Result Bool Refusal) : Type 0 where
   pub advances : AdvancesWhereNeeded p q
+  pub kept : KeepsSlots p q
   pub refused : IfErr answer (IsRefused p q key budget)
   pub within : IfErr answer (λ refusal. IsAlone p.trace q.trace → LacksSteps (18 * listed_for p.trace key + most_to_take p.trace.shape p.pool + 14) budget refusal)
   pub ready : p.pool ≢ [] → IsAlone p.trace q.trace → 18 * listed_for p.trace key + 82 ≤ budget → IsAnsweredOrSpent answer
@@ -59,13 +61,14 @@ Spares Insert = SparesInsert
 Spares Remove = SparesRemove
 Spares Has = SparesHas
 
--- the member is the same pass of the same set; where the call was answered, the answer stands in one legal history of what its pass has then seen, once, behind its calls before; where it was refused, it made no call; it has no slot in hand; and it made no more steps than its budget
+-- the member is the same pass of the same set; where the call was answered, the answer stands in one legal history of what its pass has then seen, once, behind its calls before; where it was refused, it made no call; in each case what its pass has then seen is a safe run; it has no slot in hand; and it made no more steps than its budget
 pub record Called (op : Op) (m n : MemberView) (key budget : ℕ) (answer : Result Bool Refusal) : Type 0 where
   pub set : n.set ≡ m.set
   pub same : IsSame m.pass.trace n.pass.trace
   pub answers : IfOk answer (λ reply. Answers (record { who = m.pass.trace.who; op = op; key = key; reply = reply }) m.pass.trace n.pass.trace)
   pub alone : IfOk answer (λ reply. AnswersAlone m.pass.trace op key reply)
   pub quiet : IfErr answer (λ refusal. Quiet m.pass.trace n.pass.trace)
+  pub safe : HasSafeRun n.pass.trace
   pub hand : n.pass.hand ≡ None
   pub steps : TookWithin m.pass.trace n.pass.trace budget
   pub spares : Spares op m.pass n.pass key budget answer

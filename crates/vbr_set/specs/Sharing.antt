@@ -31,8 +31,16 @@ ArePlacesOf set places = All (λ place. place.table.shared.key ≡ set) places
 abbrev pub ArePassesOf : TableView → List PassView → Type 0
 ArePassesOf set passes = All (λ pass. IsOf pass.trace set) passes
 
--- a pass with this number can come back, or the others have come back
+-- the set was opened for several passes
+abbrev pub HasOthers : TableView → Type 0
+HasOthers set = 1 < set.passes
+
+-- a set that was opened for one pass has no other passes
+abbrev pub AreOthers : TableView → List PassView → Type 0
+AreOthers set passes = set.passes ≡ 1 → passes ≡ []
+
+-- a pass with this number can come back to the others, or the others have come back; a pass that was opened alone has the set
 abbrev pub IsPlaced : Share → ℕ → Type 0
-IsPlaced (Among common seat) who = IsSeatOf (arc_value common).places.items who seat.table_id seat.id seat.me
-IsPlaced (Alone set places) who = ArePlacesOf set places.items
-IsPlaced (Gathered set passes) who = ArePassesOf set passes.items
+IsPlaced (Among common seat) who = IsSeatOf (arc_value common).places.items who seat.table_id seat.id seat.me × HasOthers (arc_value common).set
+IsPlaced (Alone set places) who = ArePlacesOf set places.items × HasOthers set
+IsPlaced (Gathered set passes) who = ArePassesOf set passes.items × AreOthers set passes.items

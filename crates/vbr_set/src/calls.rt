@@ -2,12 +2,13 @@
 ghost use Rattle.std.specs.Prelude.{◌≡◌, ◌≢◌, ◌+◌, ◌*◌, ◌<◌, ◌≤◌, [], None, IfOk, IfErr};
 ghost use Rattle.vbr_words.specs.Dimensions.{IsShape};
 ghost use Rattle.vbr_core.specs.declared.history.Op.TheVariants.{Insert, Remove, Has};
-ghost use Rattle.vbr_pools.specs.Advances.{AdvancesWhereNeeded, RaisesNone};
+ghost use Rattle.vbr_pools.specs.Advances.{AdvancesWhereNeeded, KeepsSlots, RaisesNone};
 ghost use Rattle.vbr_pools.specs.Budgets.{most_to_take};
 ghost use Rattle.vbr_pools.specs.Steps.{TookWithin};
 ghost use Rattle.vbr_slots.specs.Alone.{IsAlone};
 ghost use Rattle.vbr_slots.specs.Calls.{AddsAnswer, AddsNone, IsSame, OnlyLoads, Quiet};
 ghost use Rattle.vbr_slots.specs.Views.{IsOf};
+ghost use Rattle.vbr_access.specs.Soundness.{HasSafeRun};
 ghost use Rattle.vbr_list.specs.Alone.{AnswersAlone};
 ghost use Rattle.vbr_list.specs.Budgets.{IsAnsweredOrSpent, LacksSteps, listed_for};
 ghost use Rattle.vbr_list.specs.Refusals.{IsRefused, IsTired};
@@ -27,12 +28,29 @@ pub(crate) fn known_shape(slots: &Slots)
 
 impl VbrSet {
     /// Adds a key, in at most `budget` steps, and says whether it was absent. The answer's point is
-    /// one step of the call.
+    /// one step of the call: the exchange that links the new node (Michael 2002), or a load that finds
+    /// the link of the key's node as it was read.
     ///
-    /// Its refusals are OutOfSteps, and, where the key was absent, NoSlot and EpochSpent. After a
-    /// refusal the pass has made no call and has no slot in hand. While the other passes stand still, a
-    /// budget of 18n + slots + 82 is enough, with n nodes in the key's bucket; and with a slot in the
-    /// pass's own pool and 18n + 82 steps the call is answered, unless the epoch is spent.
+    /// While the other passes stand still, a budget of 18n + slots + 82 is enough, with n nodes in the
+    /// key's bucket; and with a slot in the pass's own pool and 18n + 82 steps the call is answered,
+    /// unless the epoch is spent. It raises the epoch at most once, and only where no slot that it
+    /// could take is stamped below it (Sheffi, Herlihy and Petrank 2021).
+    ///
+    /// # Errors
+    ///
+    /// After each the pass has made no call and has no slot in hand, and no history has the call.
+    ///
+    /// - OutOfSteps: the steps that were made leave less than eight of the budget.
+    /// - NoSlot: the key was absent, the own pool was empty, and each slot was outside the shared pool
+    ///   at a moment of the call.
+    /// - EpochSpent: the key was absent, the epoch is the last, and each slot of the own pool is stamped
+    ///   with it.
+    ///
+    /// # Example
+    ///
+    /// ```rattle file=crates/vbr_set/src/member_calls.rt
+    /// self.share.set().insert(&mut self.pass, key, budget)
+    /// ```
     #[inline]
     pub fn insert(&self, pass: &mut Pass, key: u64, budget: u32) -> Result<bool, Refusal>
         requires own { IsOf pass.old.trace self.now }
@@ -41,9 +59,11 @@ impl VbrSet {
         ensures answers { IfOk result (λ reply. Answers (record { who = pass.old.trace.who; op = Insert; key = key; reply = reply }) pass.old.trace pass.new.trace) }
         ensures alone { IfOk result (λ reply. AnswersAlone pass.old.trace Insert key reply) }
         ensures quiet { IfErr result (λ refusal. Quiet pass.old.trace pass.new.trace) }
+        ensures safe { HasSafeRun pass.new.trace }
         ensures hand { pass.new.hand ≡ None }
         ensures steps { TookWithin pass.old.trace pass.new.trace budget }
         ensures advances { AdvancesWhereNeeded pass.old pass.new }
+        ensures kept { KeepsSlots pass.old pass.new }
         ensures refused { IfErr result (λ refusal. IsRefused pass.old pass.new key budget refusal) }
         // Alone, it answers in so many steps, or finds no slot or the epoch spent.
         ensures within { IfErr result (λ refusal. IsAlone pass.old.trace pass.new.trace → LacksSteps (18 * listed_for pass.old.trace key + most_to_take pass.old.trace.shape pass.old.pool + 14) budget refusal) }
@@ -55,11 +75,25 @@ impl VbrSet {
     }
 
     /// Takes a key out, in at most `budget` steps, and says whether it was there. The answer's point
-    /// is one step of the call. A removed node that can't be unlinked within the budget is left to
-    /// later calls.
+    /// is one step of the call: the exchange that marks the node (Michael 2002), or a load that finds
+    /// a link as it was read. A removed node that can't be unlinked within the budget is left to later
+    /// calls. The slot of a node that this call unlinks is retired, into the pass's own pool while that
+    /// has room.
     ///
-    /// OutOfSteps is its one refusal. The pass has made no call then. While the other passes stand
-    /// still, a budget of 9n + 11 is enough, with n nodes in the key's bucket.
+    /// While the other passes stand still, a budget of 9n + 11 is enough, with n nodes in the key's
+    /// bucket. It raises no epoch.
+    ///
+    /// # Errors
+    ///
+    /// After each the pass has made no call and has no slot in hand, and no history has the call.
+    ///
+    /// - OutOfSteps: the steps that were made leave less than eight of the budget.
+    ///
+    /// # Example
+    ///
+    /// ```rattle file=crates/vbr_set/src/member_calls.rt
+    /// self.share.set().remove(&mut self.pass, key, budget)
+    /// ```
     #[inline]
     pub fn remove(&self, pass: &mut Pass, key: u64, budget: u32) -> Result<bool, Refusal>
         requires own { IsOf pass.old.trace self.now }
@@ -68,6 +102,7 @@ impl VbrSet {
         ensures answers { IfOk result (λ reply. Answers (record { who = pass.old.trace.who; op = Remove; key = key; reply = reply }) pass.old.trace pass.new.trace) }
         ensures alone { IfOk result (λ reply. AnswersAlone pass.old.trace Remove key reply) }
         ensures quiet { IfErr result (λ refusal. Quiet pass.old.trace pass.new.trace) }
+        ensures safe { HasSafeRun pass.new.trace }
         ensures hand { pass.new.hand ≡ None }
         ensures steps { TookWithin pass.old.trace pass.new.trace budget }
         ensures raises_none { RaisesNone pass.old pass.new }
@@ -85,8 +120,20 @@ impl VbrSet {
     /// A look-up writes nothing that another thread can see: each of its steps is a load. It passes a
     /// removed node that is still in its list in three steps, and leaves it to inserts and removes.
     ///
-    /// OutOfSteps is its one refusal. The pass has made no call then. While the other passes stand
-    /// still, a budget of 5n + 11 is enough, with n nodes in the key's bucket.
+    /// While the other passes stand still, a budget of 5n + 11 is enough, with n nodes in the key's
+    /// bucket.
+    ///
+    /// # Errors
+    ///
+    /// After each the pass has made no call and has no slot in hand, and no history has the call.
+    ///
+    /// - OutOfSteps: the steps that were made leave less than eight of the budget.
+    ///
+    /// # Example
+    ///
+    /// ```rattle file=crates/vbr_set/src/member_calls.rt
+    /// self.share.set().has(&mut self.pass, key, budget)
+    /// ```
     #[inline]
     pub fn has(&self, pass: &mut Pass, key: u64, budget: u32) -> Result<bool, Refusal>
         requires own { IsOf pass.old.trace self.now }
@@ -98,6 +145,7 @@ impl VbrSet {
         ensures quiet { IfErr result (λ refusal. Quiet pass.old.trace pass.new.trace) }
         ensures adds_none { IfErr result (λ refusal. AddsNone pass.old.trace pass.new.trace) }
         ensures only_loads { OnlyLoads pass.old.trace pass.new.trace }
+        ensures safe { HasSafeRun pass.new.trace }
         ensures hand { pass.new.hand ≡ None }
         ensures steps { TookWithin pass.old.trace pass.new.trace budget }
         ensures raises_none { RaisesNone pass.old pass.new }

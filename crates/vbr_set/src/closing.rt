@@ -1,5 +1,5 @@
 //! Closing a set.
-ghost use Rattle.std.specs.Prelude.{◌≡◌, ℕ, ◌+◌, ◌<◌, ◌≤◌, ◌↔◌, List, [], false, length, IfOk, IfErr};
+ghost use Rattle.std.specs.Prelude.{◌≡◌, ℕ, ◌+◌, ◌<◌, ◌≤◌, ◌↔◌, List, [], false, length, IfOk, IfErr, OnOk};
 ghost use Rattle.std.specs.Vec.{vec_capacity};
 ghost use Rattle.vbr_core.specs.Accounts.{incarnations_after};
 ghost use Rattle.vbr_core.specs.declared.event.Event.{Event};
@@ -21,11 +21,28 @@ impl VbrSet {
     /// opened empty, in one legal history, which begins with what each pass has seen and has just the
     /// calls that it has made.
     ///
-    /// Missing is tested first; then room is made, for a key and a note for each slot and then for
-    /// the words, before anything is changed. What is refused comes back as it was.
+    /// It goes once over the buckets and once over the slots, and takes 9 bytes for each slot, and the
+    /// words once more while it runs.
+    ///
+    /// # Errors
+    ///
+    /// Both hand the set and the passes back, unchanged.
+    ///
+    /// - Missing: fewer passes came than were opened. It is tested first.
+    /// - Memory: there is no room, for a key and a note for each slot and then for the words. All of it
+    ///   is made before anything is changed.
+    ///
+    /// # Example
+    ///
+    /// ```rattle file=crates/vbr_set/src/member_closing.rt
+    /// match set.close(alloc, passes) {
+    ///     Ok(report) => Ok(report),
+    ///     Err(CloseError::Missing(_, _)) => Err(EndError::Lost),
+    /// ```
     pub fn close(self, alloc: Global, passes: Vec<Pass>) -> Result<Report, CloseError<VbrSet>>
         requires { AllOf self passes.items }
         ensures ok { IfOk result (λ report. Closes self passes.items report) }
+        ensures all { OnOk result (self.passes ≤ length passes.items) }
         ensures back { IfErr result (λ e. HandsBack e self passes.items) }
         ensures missing { IfErr result (λ e. IsMissing e ↔ (length passes.items < self.passes)) }
     {
@@ -59,6 +76,7 @@ fn gather(shape: &Shape, words: &[u64], notes: &[bool], keys: &mut Vec<u64>) -> 
     requires notes { length notes.now ≡ shape.now.slots }
     requires room { (keys.old.items ≡ []) × (shape.now.slots ≤ vec_capacity keys.old) }
     ensures fit { result.0 + result.1 ≤ shape.now.slots }
+    ensures each { length keys.new.items ≡ result.0 }
     ensures gathered { (run : List Event) → AreAfter shape.now words.now run → NotesLists shape.now (incarnations_after shape.now run) notes.now →
         (keys.new.items ≡ linked_keys (incarnations_after shape.now run) shape.now.slots)
         × (result.0 ≡ linked_after shape.now run) × (result.1 ≡ marked_after shape.now run) }

@@ -12,17 +12,23 @@
 //! behind the calls that the member had made before; members that meet ([`Member::meet`]) share one
 //! history.
 //!
-//! ```text
-//! let mut members = Member::open(alloc, Shape::new(64, 8, 1_000_000)?, 2)?;
-//! members[0].insert(5, 1_000)?;                   // true: 5 was absent
-//! members[1].has(5, 1_000)?;                      // true
-//! for member in members {
-//!     let report = member.close(alloc)?;          // Some at the last: its keys are [5]
-//! }
+//! From `crates/vbr_example`, whose workers claim pages in threads of their own:
+//!
+//! ```rattle file=crates/vbr_example/src/claiming.rt
+//! let members = Member::open(alloc, Shape::new(64, 16, MAX_EPOCH)?, 4)?;
+//! ...
+//!     &|_, worker| worker.claim_all(),
 //! ```
 //!
-//! Where the set is to be borrowed, [`VbrSet::open`] gives the set and its passes apart. The calls of
-//! [`VbrSet`] take a pass, and ask that it is one of the set with no slot in hand.
+//! A step is one atomic operation on one word that threads share, and the unit of budgets. A call
+//! makes 3 steps to start, 5 for each node that it looks at in the key's bucket, up to 9 for a
+//! removed one, and 1 to 7 for its answer; an insert of an absent key takes a slot and goes through
+//! the bucket twice. `docs/USING.md` has all this, and how large to open a set.
+//!
+//! Where the set is to be borrowed, [`VbrSet::open`] gives the set and its passes apart.
+//! [`VbrSet::with_pass`] makes a [`VbrSetRef`] of a pass, with the calls of a member, and
+//! [`VbrSet::close`] takes all passes back and tells one report of them. The calls of [`VbrSet`]
+//! itself take a pass, and ask that it is one of the set with no slot in hand.
 #![tactic(auto)]
 
 pub mod calls;
@@ -39,6 +45,8 @@ pub mod opening;
 mod place;
 pub mod report;
 pub mod set;
+pub mod set_ref;
+pub mod set_ref_calls;
 mod share;
 mod sharing;
 mod walking;
@@ -47,6 +55,7 @@ pub use end_error::EndError;
 pub use member::Member;
 pub use report::Report;
 pub use set::VbrSet;
+pub use set_ref::VbrSetRef;
 pub use vbr_core::{Call, Op};
 pub use vbr_list::Refusal;
 pub use vbr_slots::{CloseError, OpenError, Pass};

@@ -3,6 +3,7 @@ ghost use Rattle.std.specs.Prelude.{◌≡◌, ℕ};
 ghost use Rattle.vbr_core.specs.Runs.{BeginsFor};
 ghost use Rattle.vbr_core.specs.declared.event.Step.TheVariants.{ReadEpoch};
 ghost use Rattle.vbr_slots.specs.Views.{IsOf, Did, KeepsPool};
+ghost use Rattle.vbr_access.specs.Soundness.{HasSafeRun};
 ghost use Rattle.vbr_set.specs.Meetings.{Shares};
 
 use crate::calls::known_shape;
@@ -11,8 +12,14 @@ use vbr_slots::Pass;
 
 impl VbrSet {
     /// Lets the pass see all that the other has seen: the two then share one legal history, in which
-    /// the other has just the calls that it has made. It is one step, counted for the pass; the other
-    /// stays as it was.
+    /// the other has just the calls that it has made. It is one step, a load of the epoch, counted for
+    /// the pass; the other stays as it was. It can't fail.
+    ///
+    /// # Example
+    ///
+    /// ```rattle file=crates/vbr_set/src/member_meeting.rt
+    /// self.share.set().meet(&mut self.pass, &mut other.pass);
+    /// ```
     #[inline]
     pub fn meet(&self, pass: &mut Pass, other: &mut Pass)
         requires own { IsOf pass.old.trace self.now }
@@ -22,6 +29,7 @@ impl VbrSet {
         ensures same { other.new ≡ other.old }
         ensures met { BeginsFor other.old.trace.who other.old.trace.seen pass.new.trace.seen }
         ensures shares { Shares pass.old.trace other.old.trace pass.new.trace }
+        ensures safe { HasSafeRun pass.new.trace }
     {
         known_shape(&self.slots);
         self.slots.meet(pass, other);

@@ -14,7 +14,14 @@ use vbr_words::Shape;
 
 impl Member {
     /// Adds a key, in at most `budget` steps, and says whether it was absent: [`VbrSet::insert`] by
-    /// its pass.
+    /// its pass, which says what it costs and when it is refused. After a refusal the member has made
+    /// no call, and can go on at once.
+    ///
+    /// # Example
+    ///
+    /// ```rattle file=crates/vbr_example/src/worker.rt
+    /// member.insert(page, BUDGET)
+    /// ```
     ///
     /// [`VbrSet::insert`]: crate::VbrSet::insert
     #[inline]
@@ -25,7 +32,14 @@ impl Member {
     }
 
     /// Takes a key out, in at most `budget` steps, and says whether it was there: [`VbrSet::remove`]
-    /// by its pass.
+    /// by its pass, which says what it costs. OutOfSteps is its one refusal; the member has made no call
+    /// then.
+    ///
+    /// # Example
+    ///
+    /// ```rattle file=crates/vbr_set_rows/src/worker.rt
+    /// let removed = self.member.remove(key, BUDGET)?;
+    /// ```
     ///
     /// [`VbrSet::remove`]: crate::VbrSet::remove
     #[inline]
@@ -35,7 +49,14 @@ impl Member {
         self.share.set().remove(&mut self.pass, key, budget)
     }
 
-    /// Whether a key is in the set, in at most `budget` steps: [`VbrSet::has`] by its pass.
+    /// Whether a key is in the set, in at most `budget` steps: [`VbrSet::has`] by its pass. It only
+    /// loads words. OutOfSteps is its one refusal; the member has made no call then.
+    ///
+    /// # Example
+    ///
+    /// ```rattle file=crates/vbr_set_rows/src/worker.rt
+    /// self.member.has(key, BUDGET)
+    /// ```
     ///
     /// [`VbrSet::has`]: crate::VbrSet::has
     #[inline]

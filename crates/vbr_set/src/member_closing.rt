@@ -1,10 +1,10 @@
 //! Closing a set by its members, one after another.
-ghost use Rattle.std.specs.Prelude.{◌≡◌, ◌≤◌, [], true, length, IfOk, IfErr, IfSome};
+ghost use Rattle.std.specs.Prelude.{◌≡◌, ◌≤◌, [], true, false, length, IfOk, IfErr, IfSome};
 ghost use Rattle.std.specs.Arc.{arc_value};
 ghost use Rattle.std.specs.Vec.{vec_capacity};
-ghost use Rattle.vbr_set.specs.Ends.{AreNumbered, EndsWith, IsBack};
+ghost use Rattle.vbr_set.specs.Ends.{AreNumbered, EndsWith, IsBack, IsLast, IsShort};
 ghost use Rattle.vbr_set.specs.Places.{IsReady};
-ghost use Rattle.vbr_set.specs.Sharing.{ArePassesOf, ArePlacesOf, IsSeatOf};
+ghost use Rattle.vbr_set.specs.Sharing.{AreOthers, ArePassesOf, ArePlacesOf, HasOthers, IsSeatOf};
 
 use crate::common::Common;
 use crate::end_error::EndError;
@@ -20,14 +20,34 @@ use vbr_slots::{CloseError, Pass};
 
 impl Member {
     /// Gives its pass back. While others have a share of the set, the answer is None. The last member
-    /// ends the set, and is told what is in it, as [`VbrSet::close`] tells it with all passes.
+    /// ends the set, and is told what is in it, as [`VbrSet::close`] tells it with all passes. The
+    /// member of a set that was opened for one is always the last.
     ///
-    /// Only the last member needs memory, for the report.
+    /// Only the last member needs memory: 9 bytes for each slot, for the report, and the words once
+    /// more while it runs.
+    ///
+    /// # Errors
+    ///
+    /// Only the last member gets one.
+    ///
+    /// - Lost: another member was dropped, so its pass is missing. The set is gone.
+    /// - Memory: there is no room for the report. The member comes back as it was: it can make calls,
+    ///   and be closed again.
+    ///
+    /// # Example
+    ///
+    /// ```rattle file=crates/vbr_example/src/claiming.rt
+    /// for worker in workers {
+    ///     claimed = claimed.saturating_add(worker.claimed?);
+    ///     report = worker.member.close(alloc)?;
+    /// }
+    /// ```
     ///
     /// [`VbrSet::close`]: crate::VbrSet::close
     pub fn close(self, alloc: Global) -> Result<Option<Report>, EndError>
         ensures report { IfOk result (λ report. IfSome report (EndsWith self.set self.pass)) }
         ensures stays { IfErr result (IsBack self.set self.pass) }
+        ensures alone { self.set.passes ≡ 1 → IsLast result }
     {
         let Member {
             before: _,
@@ -76,6 +96,7 @@ fn leave(
 fn end_alone(alloc: Global, set: VbrSet, places: Vec<Place>, pass: Pass) -> Result<Report, EndError>
     requires ready { IsReady set pass }
     requires places { ArePlacesOf set places.items }
+    requires others { HasOthers set }
     ensures ended { IfOk result (EndsWith set pass) }
     ensures stays { IfErr result (IsBack set pass) }
 {
@@ -113,8 +134,10 @@ fn end_gathered(
 ) -> Result<Report, EndError>
     requires ready { IsReady set pass }
     requires passes { ArePassesOf set passes.items }
+    requires others { AreOthers set passes.items }
     ensures ended { IfOk result (EndsWith set pass) }
     ensures stays { IfErr result (IsBack set pass) }
+    ensures alone { set.passes ≡ 1 → IfErr result IsShort }
 {
     let who = pass.who() as usize;
     if who > passes.len() {
@@ -140,7 +163,8 @@ fn end_gathered(
 
 // Whether each pass stands at its number.
 fn are_numbered(passes: &[Pass]) -> bool
-    ensures { result ≡ true → AreNumbered passes.now }
+    ensures yes { result ≡ true → AreNumbered passes.now }
+    ensures no { result ≡ false → ¬ (AreNumbered passes.now) }
 {
     for number in 0..passes.len() {
         if passes[number].who() as usize != number {

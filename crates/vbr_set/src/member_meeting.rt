@@ -3,12 +3,14 @@ ghost use Rattle.std.specs.Prelude.{◌≡◌, ℕ};
 ghost use Rattle.vbr_core.specs.Runs.{BeginsFor};
 ghost use Rattle.vbr_core.specs.declared.event.Step.TheVariants.{ReadEpoch};
 ghost use Rattle.vbr_slots.specs.Views.{Did, KeepsPool};
+ghost use Rattle.vbr_access.specs.Soundness.{HasSafeRun};
 ghost use Rattle.vbr_set.specs.Meetings.{Shares};
 
 use crate::member::Member;
 
 impl Member {
-    /// Lets the member see all that another of its set has seen: [`VbrSet::meet`] by their passes.
+    /// Lets the member see all that another of its set has seen: [`VbrSet::meet`] by their passes. It is
+    /// one step, and can't fail. `a.meet(&mut b)` lets `a` see what `b` has seen.
     ///
     /// [`VbrSet::meet`]: crate::VbrSet::meet
     #[inline]
@@ -20,6 +22,7 @@ impl Member {
         ensures same { other.new ≡ other.old }
         ensures met { BeginsFor other.old.pass.trace.who other.old.pass.trace.seen self.new.pass.trace.seen }
         ensures shares { Shares self.old.pass.trace other.old.pass.trace self.new.pass.trace }
+        ensures safe { HasSafeRun self.new.pass.trace }
     {
         self.share.set().meet(&mut self.pass, &mut other.pass);
     }

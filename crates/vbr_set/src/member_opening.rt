@@ -4,7 +4,7 @@ ghost use Rattle.vbr_slots.specs.Views.{IsOf, new_passes};
 ghost use Rattle.vbr_set.specs.MemberView.{IsMember};
 ghost use Rattle.vbr_set.specs.Members.{AreNew};
 ghost use Rattle.vbr_set.specs.Seats.{AreSeats};
-ghost use Rattle.vbr_set.specs.Sharing.{IsPlaced, set_shared};
+ghost use Rattle.vbr_set.specs.Sharing.{HasOthers, IsPlaced, set_shared};
 
 use crate::common::Common;
 use crate::member::Member;
@@ -22,7 +22,18 @@ impl Member {
     /// which begin with 0. They have seen nothing. No call takes memory later, but for the close of
     /// the last member.
     ///
-    /// The refusals are tested in the order of [`OpenError`].
+    /// Besides what [`VbrSet::open`] takes, each member takes about 1,200 bytes.
+    ///
+    /// # Errors
+    ///
+    /// They are tested in the order of [`OpenError`]: a number of passes that is 0 or above 64, and
+    /// want of memory. Nothing is kept then.
+    ///
+    /// # Example
+    ///
+    /// ```rattle file=crates/vbr_example/src/claiming.rt
+    /// let members = Member::open(alloc, Shape::new(64, 16, MAX_EPOCH)?, 4)?;
+    /// ```
     pub fn open(alloc: Global, shape: Shape, passes: u32) -> Result<Vec<Member>, OpenError>
         ensures members { IfOk result (λ members. AreNew shape passes members.items) }
         ensures refused { IsErrOf result OpenError.Passes ↔ ((passes ≡ 0) ⊎ (64 < passes)) }
@@ -70,9 +81,26 @@ fn make_places(
     Ok((places, seats))
 }
 
-// Makes a member with each of the passes of a set.
-fn hand_out(alloc: Global, set: VbrSet, passes: Vec<Pass>) -> Result<Vec<Member>, AllocError>
-    requires { passes.items ≡ new_passes set 0 (length passes.items) }
+// Makes a member with each of the passes of a set. One that is alone has the set.
+fn hand_out(alloc: Global, set: VbrSet, mut passes: Vec<Pass>) -> Result<Vec<Member>, AllocError>
+    requires new { passes.items ≡ new_passes set 0 (length passes.items) }
+    requires all { set.passes ≡ length passes.items }
+    ensures { IfOk result (λ members. members.items ≡ map (λ pass. record { set = set; pass = pass }) passes.items) }
+{
+    if passes.len() > 1 {
+        return share_out(alloc, set, passes);
+    }
+    let mut members = Vec::with_capacity(alloc, 1)?;
+    if let Some(pass) = passes.pop() {
+        members.push(Member::of(Share::Gathered(set, passes), pass))?;
+    }
+    Ok(members)
+}
+
+// Makes a member, with a share of the set, with each of its passes.
+fn share_out(alloc: Global, set: VbrSet, passes: Vec<Pass>) -> Result<Vec<Member>, AllocError>
+    requires new { passes.items ≡ new_passes set 0 (length passes.items) }
+    requires others { HasOthers set }
     ensures { IfOk result (λ members. members.items ≡ map (λ pass. record { set = set; pass = pass }) passes.items) }
 {
     let (places, seats) = make_places(alloc, &set, passes.len())?;

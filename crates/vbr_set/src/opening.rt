@@ -10,9 +10,19 @@ use vbr_words::Shape;
 impl VbrSet {
     /// Opens an empty set, with so many passes, from 1 to 64. They stand in the order of their
     /// numbers, which begin with 0, and have seen nothing. No call takes memory later, but for
-    /// [`VbrSet::close`].
+    /// [`VbrSet::close`]. It takes 8 * (2 + buckets + 4 * slots + slots / 64) bytes, the last part
+    /// rounded up, 320 for each pass, and the words once more while it runs.
     ///
-    /// The refusals are tested in the order of [`OpenError`].
+    /// # Errors
+    ///
+    /// They are tested in the order of [`OpenError`]: a number of passes that is 0 or above 64, and
+    /// want of memory. Nothing is kept then.
+    ///
+    /// # Example
+    ///
+    /// ```rattle file=crates/vbr_set/src/member_opening.rt
+    /// let (set, opened) = VbrSet::open(alloc, shape, passes)?;
+    /// ```
     pub fn open(alloc: Global, shape: Shape, passes: u32) -> Result<(VbrSet, Vec<Pass>), OpenError>
         ensures table { IfOk result (λ r. (r.0.shape ≡ shape) × (r.0.passes ≡ passes)) }
         ensures passes { IfOk result (λ r. r.1.items ≡ new_passes r.0 0 passes) }

@@ -14,6 +14,7 @@ pub enum Share {
     Among(Arc<Common, Global>, Seat<Option<Pass>, Knows>),
     /// All of it, with the places of the other passes, after a close that found no memory.
     Alone(VbrSet, Vec<Place>),
-    /// All of it, with the other passes, after a close that found no memory later on.
+    /// All of it, with the other passes, after a close that found no memory later on; or with none,
+    /// where it was opened for one pass.
     Gathered(VbrSet, Vec<Pass>),
 }

@@ -1,5 +1,5 @@
 //! The set: rows call by call, closings that hand all back, and small budgets.
-ghost use Rattle.std.specs.Prelude.{◌≡◌, None, IfOk, IfErr, IfSome};
+ghost use Rattle.std.specs.Prelude.{◌≡◌, IfOk, IfErr, IfSome};
 ghost use Rattle.vbr_slots.specs.Closing.{AllOf, HandsBack};
 ghost use Rattle.vbr_slots.specs.Views.{IsOf, new_pass, new_passes};
 ghost use Rattle.vbr_set.specs.Closing.{Closes};
@@ -8,7 +8,7 @@ use std::alloc::Global;
 use std::process::Abort;
 use std::test::Fail;
 use vbr_core::Op;
-use vbr_set::{CloseError, OpenError, Pass, Refusal, Report, Shape, VbrSet};
+use vbr_set::{CloseError, OpenError, Pass, Refusal, Report, Shape, VbrSet, VbrSetRef};
 
 // Opens a set. What found no memory left nothing, so it is tried again.
 fn open(alloc: Global, shape: Shape, passes: u32) -> Result<(VbrSet, Vec<Pass>), OpenError>
@@ -55,135 +55,170 @@ pub fn close_both(alloc: Global, set: VbrSet, first: Pass, second: Pass) -> Opti
     close(set, alloc, passes).ok()
 }
 
-// Compares a report with the keys, the epoch, and the counts of live, marked and free.
-fn expect(rt: &impl Abort, report: &Report, keys: &[u64], epoch: u64, counts: (u32, u32, u32)) {
+// What is made on a set with two passes, 0 and 1.
+#[derive(Clone, Copy)]
+enum Row<'a> {
+    // A call of a pass, with its key and budget, and what it is answered.
+    Call(u32, Op, u64, u32, Result<bool, Refusal>),
+    // Pass 1 meets pass 0, which makes no step.
+    Meet,
+    // How many steps the last row took.
+    Steps(u64),
+    // The slots in the own pool of pass 1.
+    Pool(&'a [u32]),
+}
+
+// What is in a set that is closed: the keys, the epoch, and how many slots are live, marked and free.
+type Left<'a> = (&'a [u64], u64, (u32, u32, u32));
+
+// Makes a call, compares what it is answered, and tells how many steps it made.
+fn call(
+    rt: &impl Abort,
+    caller: &mut VbrSetRef,
+    made: (Op, u64, u32),
+    answer: Result<bool, Refusal>,
+) -> u64
+    ensures { caller.new.set ≡ caller.old.set }
+{
+    let (op, key, budget) = made;
+    let before = caller.pass().steps();
+    let told = match op {
+        Op::Has => caller.has(key, budget),
+        Op::Insert => caller.insert(key, budget),
+        Op::Remove => caller.remove(key, budget),
+    };
+    assert_eq!(rt; told, answer, "{op:?} {key}");
+    caller.pass().steps().saturating_sub(before)
+}
+
+// The first caller meets the second one. Tells how many steps it made.
+fn meet(rt: &impl Abort, caller: &mut VbrSetRef, other: &mut VbrSetRef) -> u64
+    requires { other.old.set ≡ caller.old.set }
+    ensures own { caller.new.set ≡ caller.old.set }
+    ensures other { other.new.set ≡ other.old.set }
+{
+    let before = (caller.pass().steps(), other.pass().steps());
+    caller.meet(other);
+    assert_eq!(rt; other.pass().steps(), before.1);
+    caller.pass().steps().saturating_sub(before.0)
+}
+
+// Makes rows one after another.
+fn play(rt: &impl Abort, a: &mut VbrSetRef, b: &mut VbrSetRef, rows: &[Row])
+    requires { b.old.set ≡ a.old.set }
+    ensures first { a.new.set ≡ a.old.set }
+    ensures second { b.new.set ≡ b.old.set }
+{
+    let mut steps = 0;
+    for row in rows {
+        match *row {
+            Row::Call(0, op, key, budget, answer) => {
+                steps = call(rt, a, (op, key, budget), answer);
+            }
+            Row::Call(_, op, key, budget, answer) => {
+                steps = call(rt, b, (op, key, budget), answer);
+            }
+            Row::Meet => steps = meet(rt, b, a),
+            Row::Steps(made) => assert_eq!(rt; steps, made),
+            Row::Pool(pool) => assert_eq!(rt; b.pass().pool(), pool),
+        }
+    }
+}
+
+// Makes rows on a fresh set with two passes, closes it, and compares what is left in it.
+fn expect(
+    rt: &impl Abort,
+    alloc: Global,
+    shape: (u32, u32, u64),
+    rows: &[Row],
+    left: Left,
+) -> Result<(), Fail> {
+    let (slots, buckets, last_epoch) = shape;
+    let shape = Shape::new(slots, buckets, last_epoch)?;
+    let Some((set, a, b)) = open_two(alloc, shape) else {
+        panic!(rt; "no memory")
+    };
+    let (mut a, mut b) = (set.with_pass(a), set.with_pass(b));
+    play(rt, &mut a, &mut b, rows);
+    let (a, b) = (a.into_pass(), b.into_pass());
+    let Some(report) = close_both(alloc, set, a, b) else {
+        panic!(rt; "not closed")
+    };
+    compare(rt, &report, left);
+    Ok(())
+}
+
+// Compares a report with what is left.
+fn compare(rt: &impl Abort, report: &Report, left: Left) {
+    let (keys, epoch, counts) = left;
     assert_eq!(rt; report.keys.as_slice(), keys);
     assert_eq!(rt; report.epoch, epoch);
     assert_eq!(rt; (report.live, report.marked, report.free), counts);
 }
 
-// A call, its key and budget, and what it is answered.
-type Row = (Op, u64, u32, Result<bool, Refusal>);
-
-// Makes calls one after another, and compares what each is answered.
-fn call_all(rt: &impl Abort, set: &VbrSet, pass: &mut Pass, rows: &[Row])
-    requires own { IsOf pass.old.trace set.now }
-    requires empty_hand { pass.old.hand ≡ None }
-    ensures own { IsOf pass.new.trace set.now }
-    ensures hand { pass.new.hand ≡ None }
-{
-    for (op, key, budget, answer) in rows {
-        let told = match op {
-            Op::Has => set.has(pass, *key, *budget),
-            Op::Insert => set.insert(pass, *key, *budget),
-            Op::Remove => set.remove(pass, *key, *budget),
-        };
-        assert_eq!(rt; told, *answer, "{op:?} {key}");
-    }
-}
-
 /// A remove that can't unlink within its budget leaves the node to the next call that meets it.
 #[test]
 fn a_marked_node_is_left_to_others(rt: HostRuntime) -> Result<(), Fail> {
-    let Some((set, mut a, mut b)) = open_two(rt.alloc(), Shape::new(1, 1, 10)?) else {
-        panic!(rt; "no memory")
-    };
-    call_all(&rt, &set, &mut a, &[(Op::Insert, 7, 100, Ok(true))]);
-    let steps = a.steps();
-    call_all(&rt, &set, &mut a, &[(Op::Remove, 7, 16, Ok(true))]);
-    assert!(rt; a.steps() == steps.saturating_add(9));
-    call_all(&rt, &set, &mut b, &[(Op::Remove, 7, 100, Ok(false))]);
-    assert_eq!(rt; b.steps(), 10);
-    assert_eq!(rt; b.pool(), [0].as_slice());
-    let Some(report) = close_both(rt.alloc(), set, a, b) else {
-        panic!(rt; "not closed")
-    };
-    expect(&rt, &report, &[], 1, (0, 0, 1));
-    Ok(())
+    let rows = [
+        Row::Call(0, Op::Insert, 7, 100, Ok(true)),
+        Row::Call(0, Op::Remove, 7, 16, Ok(true)),
+        Row::Steps(9),
+        Row::Call(1, Op::Remove, 7, 100, Ok(false)),
+        Row::Steps(10),
+        Row::Pool(&[0]),
+    ];
+    expect(&rt, rt.alloc(), (1, 1, 10), &rows, (&[], 1, (0, 0, 1)))
 }
 
 /// The same, closed while the node is marked.
 #[test]
 fn a_marked_node_is_counted(rt: HostRuntime) -> Result<(), Fail> {
-    let Some((set, mut a, b)) = open_two(rt.alloc(), Shape::new(1, 1, 10)?) else {
-        panic!(rt; "no memory")
-    };
     let rows = [
-        (Op::Insert, 7, 100, Ok(true)),
-        (Op::Remove, 7, 16, Ok(true)),
+        Row::Call(0, Op::Insert, 7, 100, Ok(true)),
+        Row::Call(0, Op::Remove, 7, 16, Ok(true)),
     ];
-    call_all(&rt, &set, &mut a, &rows);
-    let Some(report) = close_both(rt.alloc(), set, a, b) else {
-        panic!(rt; "not closed")
-    };
-    expect(&rt, &report, &[], 1, (0, 1, 0));
-    Ok(())
+    expect(&rt, rt.alloc(), (1, 1, 10), &rows, (&[], 1, (0, 1, 0)))
 }
 
 /// A look-up passes marked nodes, however many, and leaves them.
 #[test]
 fn look_ups_pass_marked_nodes(rt: HostRuntime) -> Result<(), Fail> {
-    let Some((set, mut a, mut b)) = open_two(rt.alloc(), Shape::new(3, 1, 10)?) else {
-        panic!(rt; "no memory")
-    };
-    let inserts = [
-        (Op::Insert, 30, 100, Ok(true)),
-        (Op::Insert, 20, 100, Ok(true)),
-        (Op::Insert, 10, 100, Ok(true)),
+    let rows = [
+        Row::Call(0, Op::Insert, 30, 100, Ok(true)),
+        Row::Call(0, Op::Insert, 20, 100, Ok(true)),
+        Row::Call(0, Op::Insert, 10, 100, Ok(true)),
+        Row::Call(0, Op::Remove, 30, 26, Ok(true)),
+        Row::Steps(19),
+        Row::Call(0, Op::Remove, 20, 21, Ok(true)),
+        Row::Steps(14),
+        Row::Call(0, Op::Remove, 10, 16, Ok(true)),
+        Row::Steps(9),
+        Row::Call(1, Op::Has, 20, 100, Ok(false)),
+        Row::Steps(13),
     ];
-    call_all(&rt, &set, &mut a, &inserts);
-    let steps = a.steps();
-    call_all(&rt, &set, &mut a, &[(Op::Remove, 30, 26, Ok(true))]);
-    assert!(rt; a.steps() == steps.saturating_add(19));
-    call_all(&rt, &set, &mut a, &[(Op::Remove, 20, 21, Ok(true))]);
-    assert!(rt; a.steps() == steps.saturating_add(33));
-    call_all(&rt, &set, &mut a, &[(Op::Remove, 10, 16, Ok(true))]);
-    assert!(rt; a.steps() == steps.saturating_add(42));
-    call_all(&rt, &set, &mut b, &[(Op::Has, 20, 100, Ok(false))]);
-    assert_eq!(rt; b.steps(), 13);
-    let Some(report) = close_both(rt.alloc(), set, a, b) else {
-        panic!(rt; "not closed")
-    };
-    expect(&rt, &report, &[], 1, (0, 3, 0));
-    Ok(())
+    expect(&rt, rt.alloc(), (3, 1, 10), &rows, (&[], 1, (0, 3, 0)))
 }
 
 /// A look-up doesn't unlink, nor help in any other way.
 #[test]
 fn a_look_up_leaves_a_marked_node(rt: HostRuntime) -> Result<(), Fail> {
-    let Some((set, mut a, mut b)) = open_two(rt.alloc(), Shape::new(1, 1, 10)?) else {
-        panic!(rt; "no memory")
-    };
     let rows = [
-        (Op::Insert, 7, 100, Ok(true)),
-        (Op::Remove, 7, 16, Ok(true)),
+        Row::Call(0, Op::Insert, 7, 100, Ok(true)),
+        Row::Call(0, Op::Remove, 7, 16, Ok(true)),
+        Row::Call(1, Op::Has, 7, 100, Ok(false)),
+        Row::Steps(7),
     ];
-    call_all(&rt, &set, &mut a, &rows);
-    call_all(&rt, &set, &mut b, &[(Op::Has, 7, 100, Ok(false))]);
-    assert_eq!(rt; b.steps(), 7);
-    let Some(report) = close_both(rt.alloc(), set, a, b) else {
-        panic!(rt; "not closed")
-    };
-    expect(&rt, &report, &[], 1, (0, 1, 0));
-    Ok(())
+    expect(&rt, rt.alloc(), (1, 1, 10), &rows, (&[], 1, (0, 1, 0)))
 }
 
 #[test]
 fn a_slot_is_used_again(rt: HostRuntime) -> Result<(), Fail> {
-    let Some((set, mut a, b)) = open_two(rt.alloc(), Shape::new(1, 1, 10)?) else {
-        panic!(rt; "no memory")
-    };
     let rows = [
-        (Op::Insert, 1, 100, Ok(true)),
-        (Op::Remove, 1, 100, Ok(true)),
-        (Op::Insert, 2, 100, Ok(true)),
+        Row::Call(0, Op::Insert, 1, 100, Ok(true)),
+        Row::Call(0, Op::Remove, 1, 100, Ok(true)),
+        Row::Call(0, Op::Insert, 2, 100, Ok(true)),
     ];
-    call_all(&rt, &set, &mut a, &rows);
-    let Some(report) = close_both(rt.alloc(), set, a, b) else {
-        panic!(rt; "not closed")
-    };
-    expect(&rt, &report, &[2], 2, (1, 0, 0));
-    Ok(())
+    expect(&rt, rt.alloc(), (1, 1, 10), &rows, (&[2], 2, (1, 0, 0)))
 }
 
 // Closes a set without its second pass, which is refused, and then with both.
@@ -217,7 +252,7 @@ fn a_pass_is_missing(rt: HostRuntime) -> Result<(), Fail> {
     let Some(report) = close_late(&rt, rt.alloc(), set, a, b) else {
         panic!(rt; "not closed")
     };
-    expect(&rt, &report, &[], 1, (0, 0, 1));
+    compare(&rt, &report, (&[], 1, (0, 0, 1)));
     Ok(())
 }
 
@@ -233,95 +268,70 @@ fn no_pass_and_too_many_are_refused(rt: HostRuntime) -> Result<(), Fail> {
 
 #[test]
 fn keys_of_many_buckets_ascend(rt: HostRuntime) -> Result<(), Fail> {
-    let Some((set, mut a, b)) = open_two(rt.alloc(), Shape::new(64, 8, 10)?) else {
-        panic!(rt; "no memory")
-    };
-    for key in [9, 64, 1, 3, 17, u64::MAX, 8, 0, 23, 16] {
-        call_all(&rt, &set, &mut a, &[(Op::Insert, key, 1_000, Ok(true))]);
-    }
     let rows = [
-        (Op::Remove, 17, 1_000, Ok(true)),
-        (Op::Has, 17, 1_000, Ok(false)),
-        (Op::Has, u64::MAX, 1_000, Ok(true)),
+        Row::Call(0, Op::Insert, 9, 1_000, Ok(true)),
+        Row::Call(0, Op::Insert, 64, 1_000, Ok(true)),
+        Row::Call(0, Op::Insert, 1, 1_000, Ok(true)),
+        Row::Call(0, Op::Insert, 3, 1_000, Ok(true)),
+        Row::Call(0, Op::Insert, 17, 1_000, Ok(true)),
+        Row::Call(0, Op::Insert, u64::MAX, 1_000, Ok(true)),
+        Row::Call(0, Op::Insert, 8, 1_000, Ok(true)),
+        Row::Call(0, Op::Insert, 0, 1_000, Ok(true)),
+        Row::Call(0, Op::Insert, 23, 1_000, Ok(true)),
+        Row::Call(0, Op::Insert, 16, 1_000, Ok(true)),
+        Row::Call(0, Op::Remove, 17, 1_000, Ok(true)),
+        Row::Call(0, Op::Has, 17, 1_000, Ok(false)),
+        Row::Call(0, Op::Has, u64::MAX, 1_000, Ok(true)),
     ];
-    call_all(&rt, &set, &mut a, &rows);
-    let Some(report) = close_both(rt.alloc(), set, a, b) else {
-        panic!(rt; "not closed")
-    };
     let ascending = [0, 1, 3, 8, 9, 16, 23, 64, u64::MAX];
-    expect(&rt, &report, &ascending, 1, (9, 0, 55));
-    Ok(())
+    let left = (ascending.as_slice(), 1, (9, 0, 55));
+    expect(&rt, rt.alloc(), (64, 8, 10), &rows, left)
 }
 
 #[test]
 fn a_pass_sees_what_the_other_has_seen(rt: HostRuntime) -> Result<(), Fail> {
-    let Some((set, mut a, mut b)) = open_two(rt.alloc(), Shape::new(2, 1, 10)?) else {
-        panic!(rt; "no memory")
-    };
-    call_all(&rt, &set, &mut a, &[(Op::Insert, 7, 100, Ok(true))]);
-    let steps = a.steps();
-    set.meet(&mut b, &mut a);
-    assert_eq!(rt; b.steps(), 1);
-    assert!(rt; a.steps() == steps);
-    call_all(&rt, &set, &mut b, &[(Op::Insert, 7, 100, Ok(false))]);
-    let Some(report) = close_both(rt.alloc(), set, a, b) else {
-        panic!(rt; "not closed")
-    };
-    expect(&rt, &report, &[7], 1, (1, 0, 1));
-    Ok(())
-}
-
-// Looks up a key in an empty set with each budget of a list: the call gives up after so many steps.
-fn gives_up(rt: &impl Abort, set: &VbrSet, pass: &mut Pass, budgets: &[u32], used: u32)
-    requires own { IsOf pass.old.trace set.now }
-    requires empty_hand { pass.old.hand ≡ None }
-    ensures own { IsOf pass.new.trace set.now }
-    ensures hand { pass.new.hand ≡ None }
-{
-    for budget in budgets {
-        assert_eq!(rt;
-            set.has(pass, 1, *budget),
-            Err(Refusal::OutOfSteps { used })
-        );
-    }
+    let rows = [
+        Row::Call(0, Op::Insert, 7, 100, Ok(true)),
+        Row::Meet,
+        Row::Steps(1),
+        Row::Call(1, Op::Insert, 7, 100, Ok(false)),
+    ];
+    expect(&rt, rt.alloc(), (2, 1, 10), &rows, (&[7], 1, (1, 0, 1)))
 }
 
 #[test]
 fn a_small_budget_gives_no_answer(rt: HostRuntime) -> Result<(), Fail> {
-    let Some((set, mut a, _b)) = open_two(rt.alloc(), Shape::new(1, 1, 10)?) else {
-        panic!(rt; "no memory")
-    };
-    gives_up(&rt, &set, &mut a, &[0, 1, 2, 3, 4, 5, 6, 7], 0);
-    assert_eq!(rt; a.steps(), 0);
-    gives_up(&rt, &set, &mut a, &[8, 9, 10], 3);
-    assert_eq!(rt; a.steps(), 9);
-    call_all(&rt, &set, &mut a, &[(Op::Has, 1, 11, Ok(false))]);
-    assert_eq!(rt; a.steps(), 13);
-    call_all(&rt, &set, &mut a, &[(Op::Insert, 1, 18, Ok(true))]);
-    assert_eq!(rt; a.steps(), 26);
-    Ok(())
+    let none = Err(Refusal::OutOfSteps { used: 0 });
+    for budget in 0..8 {
+        let rows = [Row::Call(0, Op::Has, 1, budget, none), Row::Steps(0)];
+        expect(&rt, rt.alloc(), (1, 1, 10), &rows, (&[], 1, (0, 0, 1)))?;
+    }
+    let three = Err(Refusal::OutOfSteps { used: 3 });
+    let rows = [
+        Row::Call(0, Op::Has, 1, 8, three),
+        Row::Steps(3),
+        Row::Call(0, Op::Has, 1, 9, three),
+        Row::Steps(3),
+        Row::Call(0, Op::Has, 1, 10, three),
+        Row::Steps(3),
+        Row::Call(0, Op::Has, 1, 11, Ok(false)),
+        Row::Steps(4),
+        Row::Call(0, Op::Insert, 1, 18, Ok(true)),
+        Row::Steps(13),
+    ];
+    expect(&rt, rt.alloc(), (1, 1, 10), &rows, (&[1], 1, (1, 0, 0)))
 }
 
 #[test]
 fn slots_and_epochs_run_out(rt: HostRuntime) -> Result<(), Fail> {
-    let Some((set, mut a, mut b)) = open_two(rt.alloc(), Shape::new(1, 1, 1)?) else {
-        panic!(rt; "no memory")
-    };
-    call_all(&rt, &set, &mut a, &[(Op::Insert, 1, 100, Ok(true))]);
-    let full = [
-        (Op::Insert, 2, 100, Err(Refusal::NoSlot)),
-        (Op::Insert, 1, 100, Ok(false)),
+    let spent = Err(Refusal::EpochSpent { epoch: 1 });
+    let rows = [
+        Row::Call(0, Op::Insert, 1, 100, Ok(true)),
+        Row::Call(1, Op::Insert, 2, 100, Err(Refusal::NoSlot)),
+        Row::Call(1, Op::Insert, 1, 100, Ok(false)),
+        Row::Call(0, Op::Remove, 1, 100, Ok(true)),
+        Row::Call(0, Op::Insert, 2, 100, spent),
+        Row::Call(0, Op::Has, 1, 100, Ok(false)),
     ];
-    call_all(&rt, &set, &mut b, &full);
-    let spent = [
-        (Op::Remove, 1, 100, Ok(true)),
-        (Op::Insert, 2, 100, Err(Refusal::EpochSpent { epoch: 1 })),
-        (Op::Has, 1, 100, Ok(false)),
-    ];
-    call_all(&rt, &set, &mut a, &spent);
-    let Some(report) = close_both(rt.alloc(), set, a, b) else {
-        panic!(rt; "not closed")
-    };
-    expect(&rt, &report, &[], 1, (0, 0, 1));
-    Ok(())
+    expect(&rt, rt.alloc(), (1, 1, 1), &rows, (&[], 1, (0, 0, 1)))
 }

@@ -6,7 +6,7 @@ ghost use Rattle.vbr_slots.specs.Views.{IsOf};
 use crate::set::{close_both, open_two};
 use std::test::Fail;
 use std::thread::join;
-use vbr_set::{Pass, Shape, VbrSet};
+use vbr_set::{Pass, Shape, VbrSet, VbrSetRef};
 
 // How many keys each thread puts into the set, which has two buckets.
 const KEYS: u64 = 35;
@@ -15,15 +15,12 @@ const KEYS: u64 = 35;
 const BUDGET: u32 = 100_000;
 
 // Inserts all keys of a bucket, and says whether each was absent.
-fn fill(set: &VbrSet, pass: &mut Pass, bucket: u64) -> bool
-    requires own { IsOf pass.old.trace set.now }
-    requires empty_hand { pass.old.hand ≡ None }
-    ensures own { IsOf pass.new.trace set.now }
-    ensures hand { pass.new.hand ≡ None }
+fn fill(caller: &mut VbrSetRef, bucket: u64) -> bool
+    ensures { caller.new.set ≡ caller.old.set }
 {
     for i in 0..KEYS {
         let key = (2 * i).saturating_add(bucket);
-        if set.insert(pass, key, BUDGET) != Ok(true) {
+        if caller.insert(key, BUDGET) != Ok(true) {
             return false;
         }
     }
@@ -31,15 +28,12 @@ fn fill(set: &VbrSet, pass: &mut Pass, bucket: u64) -> bool
 }
 
 // Removes all keys of a bucket, and says whether each was present.
-fn empty(set: &VbrSet, pass: &mut Pass, bucket: u64) -> bool
-    requires own { IsOf pass.old.trace set.now }
-    requires empty_hand { pass.old.hand ≡ None }
-    ensures own { IsOf pass.new.trace set.now }
-    ensures hand { pass.new.hand ≡ None }
+fn empty(caller: &mut VbrSetRef, bucket: u64) -> bool
+    ensures { caller.new.set ≡ caller.old.set }
 {
     for i in 0..KEYS {
         let key = (2 * i).saturating_add(bucket);
-        if set.remove(pass, key, BUDGET) != Ok(true) {
+        if caller.remove(key, BUDGET) != Ok(true) {
             return false;
         }
     }
@@ -47,15 +41,14 @@ fn empty(set: &VbrSet, pass: &mut Pass, bucket: u64) -> bool
 }
 
 // Fills a bucket, empties it, and fills it again.
-fn turn_over(set: &VbrSet, mut pass: Pass, bucket: u64) -> (Pass, bool)
+fn turn_over(set: &VbrSet, pass: Pass, bucket: u64) -> (Pass, bool)
     requires own { IsOf pass.trace set.now }
     requires empty_hand { pass.hand ≡ None }
     ensures { IsOf result.0.trace set.now }
 {
-    let done = fill(set, &mut pass, bucket)
-        && empty(set, &mut pass, bucket)
-        && fill(set, &mut pass, bucket);
-    (pass, done)
+    let mut caller = set.with_pass(pass);
+    let done = fill(&mut caller, bucket) && empty(&mut caller, bucket) && fill(&mut caller, bucket);
+    (caller.into_pass(), done)
 }
 
 #[test]

@@ -45,9 +45,13 @@ options =
     ∷ flag (codes "epoch")
     ∷ []
 
--- the command, with its options
+-- a command that can be asked for its version
+abbrev pub with_version : App → App
+with_version app = record app { top = record app.top { has_version = true } }
+
+-- the command, with its version and its options
 unfoldable pub command_line : App
-command_line = fold with_rule (new_app (codes "vbr_run")) options
+command_line = fold with_rule (with_version (new_app (codes "vbr_run"))) options
 
 -- the words, of which the first is the program's name, are options that the command takes
 unfoldable pub AreOptions : List Text → Type 0

@@ -11,6 +11,8 @@ use clap::{Arg, ArgAction, ArgMatches, Command, Error};
 use std::alloc::Global;
 use vbr_words::{Shape, ShapeError};
 
+const VERSION: &str = "0.2.0";
+
 const ABOUT: &str =
     "Plays a script of calls of a concurrent set, and prints the replies and the totals.";
 
@@ -34,9 +36,30 @@ epoch is left) or tired (the budget of steps is used up). Then come the totals:
 how many inserts, removes and look-ups were answered yes, how many operations
 were refused, and the keys that are left, ascending.
 
-Exit status: 0 done, 2 a fault in the options, 3 a fault in the script, 4 the
-script couldn't be read or the output couldn't be written, 5 no memory, or a
-worker couldn't be started.
+Exit status 0 says that the script was played, also where operations were refused.
+Else one line on standard error tells what was wrong; for status 2 it may be text
+of the option parser. Nothing was written on standard output then, but after a
+write fault, which leaves a beginning of the output.
+
+  2  a fault in the options, or
+     vbr_run: shape fault N
+       1  --slots isn't from 1 to 1048575
+       2  --buckets isn't from 1 to 65536
+       3  --last-epoch isn't from 1 to 8796093022207
+  3  vbr_run: script fault N at line M
+       the first faulty line, from 1, lines without words counted, and its first fault:
+       1  it has neither three words nor the one word sync
+       2  WORKER is no number below the number of workers
+       3  OPERATION is none of the three
+       4  KEY is no number from 0 to 18446744073709551615
+       5  it is one operation above 1000000, or one sync line above 10000
+  4  vbr_run: read fault
+       standard input failed, is closed, is a directory, or has above 67108864 bytes
+     vbr_run: write fault
+       standard output failed, is closed, or is a pipe that nobody reads any more
+  5  vbr_run: no memory
+     vbr_run: no worker
+       a thread for a worker couldn't be started
 
 Example:
 
@@ -53,15 +76,15 @@ prints
   keys 5
 ";
 
-const WORKERS_HELP: &str = "How many workers play the script";
+const WORKERS_HELP: &str = "How many workers play the script, from 1 to 16";
 
-const SLOTS_HELP: &str = "How many slots the set has";
+const SLOTS_HELP: &str = "How many slots the set has, from 1 to 1048575";
 
-const BUCKETS_HELP: &str = "How many buckets the set has";
+const BUCKETS_HELP: &str = "How many buckets the set has, from 1 to 65536";
 
-const LAST_EPOCH_HELP: &str = "The last epoch of the set";
+const LAST_EPOCH_HELP: &str = "The last epoch of the set, from 1 to 8796093022207";
 
-const BUDGET_HELP: &str = "How many steps a call may make";
+const BUDGET_HELP: &str = "How many steps a call may make, from 0 to 4294967295";
 
 const EPOCH_HELP: &str = "Prints the epoch of the set in the end";
 
@@ -119,6 +142,7 @@ fn command<'a>(alloc: Global) -> Result<Command<'a>, Error>
 {
     let command = Command::new(alloc, "vbr_run")
         .bin_name("vbr_run")?
+        .version(VERSION)
         .about(ABOUT)
         .after_help(HELP);
     let workers = number(

@@ -1,5 +1,7 @@
--- Steps one after another: what they add to what the pass has seen, to its calls, and to its count.
-use Rattle.std.proofs.Common.{◌≡◌, ℕ, ◌+◌, Bool, true, false, cond, List, [], ◌∷◌, ◌++◌, Option, None, refl, sym, ap, subst, ◌∙◌, append_assoc, append-nil, arith, option_to_list}
+-- Steps one after another: what they add to what the pass has seen, to its calls, and to its steps.
+use Rattle.std.proofs.Common.{◌≡◌, ℕ, ◌+◌, ◌==◌, Bool, true, false, cond, List, [], ◌∷◌, ◌++◌, Option, None, refl, sym, ap, subst, ◌∙◌, append_assoc, append-nil, arith, eq-eqb, option_to_list}
+use Rattle.std.proofs.lemmas.Bool.{ne_eqb}
+use Rattle.std.proofs.lemmas.List.Sums.{sum_by-append}
 use Rattle.vbr_words.specs.Dimensions.{Dimensions}
 use Rattle.vbr_core.specs.Knowledge.{Know}
 use Rattle.vbr_core.specs.Learning.{call_of}
@@ -16,7 +18,7 @@ use Rattle.vbr_core.specs.Chronicles.{Answers}
 use Rattle.vbr_core.specs.Accounts.{just, happens, incarnations_after, own_entries}
 use Rattle.vbr_core.proofs.RunsGoOn.{begins_trans, others_leave_calls, own_calls-snoc}
 use Rattle.vbr_core.proofs.OwnEntries.{others_leave_entries, own_entries-snoc}
-use Rattle.vbr_slots.specs.Views.{Trace, Did, event_of}
+use Rattle.vbr_slots.specs.Views.{Trace, Did, counted, event_of, steps_in, steps_of}
 use Rattle.vbr_slots.specs.Calls.{IsSame, made_by, Quiet, Made, entries_of, AddsNone, AddsAnswer, OnlyLoads, Moment, Took}
 
 -- ---- the same pass
@@ -42,10 +44,10 @@ pub made_then : {call : Call} {p q r : Trace} → Made call p q → Quiet q r �
 made_then {call} {p} {q} {r} a b = record { same = same_on a.same b.same; seen = begins_trans p.seen q.seen r.seen a.seen b.seen; is_run = b.is_run a.is_run; calls = b.calls ∙ a.calls }
 
 pub took_none : (p : Trace) → Took p p 0
-took_none p = record { counted = λ h. omega arith }
+took_none p = record { made = omega arith }
 
 pub took_on : {p q r : Trace} (m n : ℕ) → Took p q m → Took q r n → Took p r (m + n)
-took_on m n a b = record { counted = λ h. let x = a.counted h in let y = b.counted (omega arith) in omega arith }
+took_on m n a b = record { made = let x = a.made in let y = b.made in omega arith }
 
 -- a moment of a part is one of the whole
 pub moment_before : {p q r : Trace} {m : List Event} → Moment p q m → Quiet q r → Moment p r m
@@ -53,6 +55,24 @@ moment_before {p} {q} {r} {m} a b = record { from = a.from; to = begins_trans m 
 
 pub moment_after : {p q r : Trace} {m : List Event} → Begins p.seen q.seen → Moment q r m → Moment p r m
 moment_after {p} {q} {r} {m} s a = record { from = begins_trans p.seen q.seen m s a.from; to = a.to; is_run = a.is_run }
+
+-- ---- how many steps
+
+own_both : (who : ℕ) (xs ys : List Event) → steps_in who (xs ++ ys) ≡ steps_in who xs + steps_in who ys
+own_both who xs ys = sum_by-append (λ (e : Event). cond (e.pass == who) 1 0) xs ys
+
+own_none : (who : ℕ) (events : List Event) → NoneOf who events → steps_in who events ≡ 0
+own_none who [] none = refl
+own_none who (x ∷ xs) none = own_both who (x ∷ []) xs ∙ (λ i. ap (λ (b : Bool). 0 + cond b 1 0) (ne_eqb x.pass who none.0) i + own_none who xs none.1 i)
+
+-- one step more of the pass, after what others did
+pub steps_next : (who : ℕ) (seen rest : List Event) (step : Step) → NoneOf who rest → steps_in who ((seen ++ rest) ++ event_of who step ∷ []) ≡ steps_in who seen + 1
+steps_next who seen rest step none =
+    let a : steps_in who ((seen ++ rest) ++ event_of who step ∷ []) ≡ steps_in who (seen ++ rest) + steps_in who (event_of who step ∷ []) = own_both who (seen ++ rest) (event_of who step ∷ []) in
+    let b : steps_in who (seen ++ rest) ≡ steps_in who seen + steps_in who rest = own_both who seen rest in
+    let c : steps_in who rest ≡ 0 = own_none who rest none in
+    let d : steps_in who (event_of who step ∷ []) ≡ 1 = ap (λ (b : Bool). 0 + cond b 1 0) (eq-eqb who who refl) in
+    omega (arith, a, b, c, d)
 
 -- ---- one step
 
@@ -66,7 +86,11 @@ pub did_run : {step : Step} {p q : Trace} {r : ℕ} → Did step p q r → IsRun
 did_run {step} {p} {q} d = rw (d.same.1, d.same.2) d.is_run
 
 pub did_took : {step : Step} {p q : Trace} {r : ℕ} → Did step p q r → Took p q 1
-did_took d = record { counted = λ h. d.counted }
+did_took d = record { made = d.steps }
+
+-- the count that a pass keeps, after one more step
+pub count_next : {step : Step} {p q : Trace} {r : ℕ} (old new : ℕ) → old ≡ counted (steps_of p) → new ≡ counted (old + 1) → Did step p q r → new ≡ counted (steps_of q)
+count_next old new is more d = let took = (did_took d).made in omega (arith, is, more, took)
 
 -- the moment just before a step
 pub did_moment : {step : Step} {p q : Trace} {r : ℕ} (d : Did step p q r) → Moment p q (p.seen ++ d.rest)

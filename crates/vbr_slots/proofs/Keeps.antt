@@ -1,5 +1,5 @@
 -- A step of the core keeps the rule of the table.
-use Rattle.std.proofs.Common.{◌≡◌, ◌≢◌, ℕ, ◌<◌, List, [], ◌∷◌, ◌++◌, set, get_or, refl, sym, ap, ◌∙◌, subst, ⊎_elim, arith}
+use Rattle.std.proofs.Common.{◌≡◌, ◌≢◌, ℕ, ◌<◌, List, [], ◌∷◌, ◌++◌, set, get_or, refl, sym, ap, ◌∙◌, subst, ⊎_elim, inl, inr, arith}
 use mathlib.Core.Option.{some}
 use lib.ListN.{get_elem?}
 use Rattle.atomic_table.specs.Table.{State as Standing, Me, keeps, Allows}
@@ -20,6 +20,7 @@ use Rattle.vbr_slots.specs.Rule.{member, EachBegins, times, Kept, Shows, Told}
 use Rattle.vbr_slots.specs.Words.{AreWordsOf}
 use Rattle.vbr_slots.proofs.Members.{each_begins_more, two_in, one_in, times-set, times-first, times-members}
 use Rattle.vbr_core.proofs.WordsAfter.{place_in}
+use Rattle.vbr_slots.proofs.Sightings.{set_at}
 use Rattle.vbr_slots.proofs.Worlds.{words_after}
 
 module _ (opening : Opening) (is_shape : IsShape opening.shape) where
@@ -88,6 +89,7 @@ module _ (opening : Opening) (is_shape : IsShape opening.shape) where
               (λ (x : (j ≡ id) × (w ≡ u)). subst (EachBegins run') x.1 (begins_for_refl e.pass run', theirs))
               (λ (x : (j ≢ id) × (get_elem? s.views j ≡ some u)). more u (others_away s h id j (member e.pass seen) others u x.0 at x.1) (h.begins j u x.1))
               (at_set s.views id j w u bt);
+          seen = inr (id, w, set_at s.views id w (member e.pass seen ∷ others) at, inl refl);
           counted = λ who. let t = times-set who s.views id w (member e.pass seen ∷ others) at in let all = h.counted who in omega arith;
         },
         record {

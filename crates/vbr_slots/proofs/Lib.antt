@@ -1,6 +1,10 @@
 mod Worlds
 pub mod Members
+mod Sightings
 pub mod Keeps
+mod Leaving
+mod LookUps
+mod ReadsInRows
 pub mod Learning
 pub mod Steps
 pub mod Seats

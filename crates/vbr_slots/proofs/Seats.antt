@@ -1,5 +1,5 @@
 -- Seats that are opened, split and joined keep the rule.
-use Rattle.std.proofs.Common.{◌≡◌, ◌≢◌, ℕ, zero, suc, ◌+◌, ◌-◌, ◌<◌, List, [], ◌∷◌, ◌++◌, set, refl, sym, ap, ◌∙◌, subst, ⊎_elim, arith}
+use Rattle.std.proofs.Common.{◌≡◌, ◌≢◌, ◌⊎◌, ℕ, zero, suc, ◌+◌, ◌-◌, ◌<◌, List, [], ◌∷◌, ◌++◌, set, refl, sym, ap, ◌∙◌, subst, ⊎_elim, inl, inr, arith}
 use mathlib.Core.Option.{some, some-ne-none, some-injective}
 use lib.ListN.{get_elem?}
 use Rattle.atomic_table.specs.Table.{State as Standing, opening as table_opening, Splits, Joins, Enters, Me}
@@ -9,10 +9,11 @@ use Rattle.vbr_core.specs.declared.event.Event.{Event}
 use Rattle.vbr_core.proofs.RunsGoOn.{is_run_first}
 use Rattle.vbr_slots.specs.declared.rule.Member.{Member}
 use Rattle.vbr_slots.specs.declared.rule.Opening.{Opening}
-use Rattle.vbr_slots.specs.Rule.{member, members, first_members, head_of, tail_of, first_seen, EachBegins, times, times_in, Kept}
+use Rattle.vbr_slots.specs.Rule.{member, members, first_members, head_of, tail_of, first_seen, EachBegins, HasSeen, IsSeen, times, times_in, Kept}
 use Rattle.vbr_slots.specs.Views.{TableView, new_pass, new_passes}
 use Rattle.vbr_slots.specs.Words.{AreWordsOf}
 use Rattle.vbr_slots.proofs.Members.{times-set}
+use Rattle.vbr_slots.proofs.Sightings.{seen_longer, seen_split, seen_join}
 
 abbrev V : Type 0
 V = List Member
@@ -30,6 +31,7 @@ opens opening words are = record {
   is_run = is_run_first opening.shape opening.passes;
   words = are;
   begins = each;
+  seen = inl refl;
   counted = λ who. omega arith;
 }
   where
@@ -50,8 +52,8 @@ begins-append run [] w a b = b
 begins-append run (m ∷ ms) w a b = (a.0, begins-append run ms w a.1 b)
 
 pub splits : (opening : Opening) (id : ℕ) (v left right : V) → ((who : ℕ) → times who left + times who right ≡ times who v) → ((run : List Event) → EachBegins run v → EachBegins run left × EachBegins run right)
-    → Splits (Kept opening) id v left right
-splits opening id v left right count part s h at = record {
+    → ((run : List Event) → HasSeen run v → HasSeen run left ⊎ HasSeen run right) → Splits (Kept opening) id v left right
+splits opening id v left right count part sight s h at = record {
   run = h.run;
   is_run = h.is_run;
   words = h.words;
@@ -60,6 +62,7 @@ splits opening id v left right count part s h at = record {
       (λ was. ⊎_elim (λ (x : (j ≡ id) × (left ≡ u)). subst (EachBegins h.run) x.1 (part h.run (h.begins id v at)).0) (λ (x : (j ≢ id) × (get_elem? s.views j ≡ some u)). h.begins j u x.1) (at_set s.views id j left u was))
       (λ (is : right ≡ u). subst (EachBegins h.run) is (part h.run (h.begins id v at)).1)
       (at_snoc (set s.views id left) right u j bt);
+  seen = ⊎_elim inl (λ (x : IsSeen h.run s.views). inr (seen_split h.run s.views id v left right (sight h.run) at x)) h.seen;
   counted = λ who.
       let a = times_in-snoc who (set s.views id left) right in
       let b = times-set who s.views id left v at in
@@ -83,6 +86,7 @@ joins opening id v other w s h at two there =
           (λ (y : (j ≢ id) × (get_elem? s.views j ≡ some u)). h.begins j u y.1)
           (at_set s.views id j (v ++ w) u x.1))
           (at_set (set s.views id (v ++ w)) other j [] u bt);
+      seen = ⊎_elim inl (λ (x : IsSeen h.run s.views). inr (seen_join h.run s.views id v other w at two there x)) h.seen;
       counted = λ who.
           let a = times-set who s.views id (v ++ w) v at in
           let b = times-set who (set s.views id (v ++ w)) other [] w there in
@@ -99,13 +103,14 @@ enters opening slots i s h _ _ = (
     is_run = h.is_run;
     words = h.words;
     begins = λ j u bt. ⊎_elim (h.begins j u) (λ (is : [] ≡ u). subst (EachBegins h.run) is tt) (at_snoc s.views [] u j bt);
+    seen = ⊎_elim inl (λ (x : IsSeen h.run s.views). inr (seen_longer h.run s.views [] x)) h.seen;
     counted = λ who. let a = times_in-snoc who s.views [] in let most = h.counted who in omega arith;
   },
   refl,
 )
 
 pub splits_first : (opening : Opening) (id : ℕ) (v : V) → Splits (Kept opening) id v (head_of v) (tail_of v)
-splits_first opening id v = splits opening id v (head_of v) (tail_of v) (λ who. count who v) (λ run. part run v)
+splits_first opening id v = splits opening id v (head_of v) (tail_of v) (λ who. count who v) (λ run. part run v) (λ run. sight run v)
   where
     count : (who : ℕ) (u : V) → times who (head_of u) + times who (tail_of u) ≡ times who u
     count who [] = refl
@@ -115,8 +120,13 @@ splits_first opening id v = splits opening id v (head_of v) (tail_of v) (λ who.
     part run [] b = (tt, tt)
     part run (m ∷ ms) b = ((b.0, tt), b.1)
 
+    sight : (run : List Event) (u : V) → HasSeen run u → HasSeen run (head_of u) ⊎ HasSeen run (tail_of u)
+    sight run [] h = absurd h
+    sight run (m ∷ ms) (inl e) = inl (inl e)
+    sight run (m ∷ ms) (inr h) = inr h
+
 pub splits_whole : (opening : Opening) (id : ℕ) (v : V) → Splits (Kept opening) id v [] v
-splits_whole opening id v = splits opening id v [] v (λ who. omega arith) (λ run b. (tt, b))
+splits_whole opening id v = splits opening id v [] v (λ who. omega arith) (λ run b. (tt, b)) (λ run h. inr h)
 
 -- the loop at the opening: the next seat goes to the pass of the number k
 module _ (k n : ℕ) (old new next : Me (Unit {0}) V) (low : k < n) (is : old ≡ (members k (n - k), [])) (left : new ≡ (head_of old.0, old.1)) (right : next ≡ (tail_of old.0, [])) where

@@ -19,9 +19,10 @@ use Rattle.vbr_slots.specs.declared.rule.Opening.{Opening}
 use Rattle.vbr_slots.specs.declared.runner.Runner.TheInside.{Inside as RunnerInside}
 use Rattle.vbr_slots.specs.declared.slots.Slots.TheInside.{Inside as SlotsInside}
 use Rattle.vbr_slots.specs.Rule.{Kept, Told, Shows, member, first_seen, head_of, tail_of, EachBegins}
-use Rattle.vbr_slots.specs.Views.{Trace, TableView, IsOf, Did, knows, event_of, epoch_after, counted}
+use Rattle.vbr_slots.specs.Views.{Trace, TableView, IsOf, Did, knows, event_of, epoch_after, steps_in}
 use Rattle.vbr_slots.specs.RunnerView.{trace_of, seen_of, IsSound}
 use Rattle.vbr_slots.specs.SlotsView.{table_of, IsBuilt}
+use Rattle.vbr_slots.proofs.Calls.{steps_next}
 use Rattle.vbr_slots.proofs.Keeps.{plays_as}
 use Rattle.vbr_slots.proofs.Learning.{epoch_learned}
 use Rattle.vbr_core.proofs.WordsAfter.{place_in}
@@ -126,8 +127,8 @@ module _ (p : RunnerInside) (w : Trace) (sound : IsSound p) (p_is : trace_of p �
     epoch = fields.2 ∙ ap (epoch_after step r) (sound.epoch ∙ ap (λ (v : Trace). (knows v).epoch) p_is) ∙ sym (epoch_learned step r _ (knows w)) ∙ sym (ap (λ (k : Know). k.epoch) know_is);
   }
 
-  pub did : q.seat.table_id ≡ p.seat.table_id → q.steps ≡ counted p.steps → Did step w (trace_of q) r
-  did table more = record {
+  pub did : q.seat.table_id ≡ p.seat.table_id → Did step w (trace_of q) r
+  did table = record {
     rest = end.rest;
     none = end.none;
     seen = seen_now ∙ end.run_is;
@@ -135,7 +136,7 @@ module _ (p : RunnerInside) (w : Trace) (sound : IsSound p) (p_is : trace_of p �
     shows = end.shows;
     know = know_is;
     same = (table ∙ ap (λ (v : Trace). v.table) p_is, shape_is, passes_is, who_is);
-    counted = more ∙ ap (λ (v : Trace). counted v.steps) p_is;
+    steps = (λ i. steps_in (who_is i) ((seen_now ∙ end.run_is) i)) ∙ steps_next w.who w.seen end.rest step end.none;
   }
 
 -- two seats made one
@@ -152,7 +153,7 @@ pub right_rest : (m m' : Sat) (v : Member) (vs : List Member) → m ≡ (v ∷ v
 right_rest m m' v vs is right = right ∙ ap (λ (x : Sat). (tail_of x.0, [])) is
 
 -- a runner that has its seat back is what it was
-pub same_again : (p : RunnerInside) (w : Trace) (sound : IsSound p) (p_is : trace_of p ≡ w) (q : RunnerInside) (is : q.seat.me ≡ (member w.who w.seen ∷ [], [])) → (q.who ≡ p.who) × (q.opening ≡ p.opening) × (q.epoch ≡ p.epoch) × (q.steps ≡ p.steps)
+pub same_again : (p : RunnerInside) (w : Trace) (sound : IsSound p) (p_is : trace_of p ≡ w) (q : RunnerInside) (is : q.seat.me ≡ (member w.who w.seen ∷ [], [])) → (q.who ≡ p.who) × (q.opening ≡ p.opening) × (q.epoch ≡ p.epoch)
     → q.seat.table_id ≡ w.table → IsSound q × (trace_of q ≡ w)
 same_again p w sound p_is q is fields table =
     let seen : seen_of q ≡ w.seen = seen_in q.seat.me w.who w.seen [] is in
@@ -167,7 +168,7 @@ same_again p w sound p_is q is fields table =
         is_run = subst (λ (x : Opening × List Event). IsRun x.0.shape x.0.passes x.1) (λ i. (sym fields.1 i, sym was i)) sound.is_run;
         epoch = fields.2 ∙ sound.epoch ∙ sym (λ i. (know_after (fields.1 i).shape (was i) (fields.0 i)).epoch);
       },
-      (λ i. record { table = table i; shape = shape i; passes = passes i; who = who i; seen = seen i; steps = (fields.3 ∙ ap (λ (v : Trace). v.steps) p_is) i }),
+      (λ i. record { table = table i; shape = shape i; passes = passes i; who = who i; seen = seen i }),
     )
 
 pub wide : (t : SlotsInside) → IsBuilt t → 0 < t.table.shared.table_id.words

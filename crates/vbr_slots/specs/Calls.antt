@@ -1,5 +1,5 @@
--- What steps in a row add: to what the pass has seen, to its calls, and to the count of its steps.
-use Rattle.std.specs.Prelude.{◌≡◌, ℕ, ◌+◌, ◌-◌, ◌^◌, ◌≤◌, min, List, [], ◌∷◌, ◌++◌}
+-- What steps in a row add: to what the pass has seen, to its calls, and to its steps.
+use Rattle.std.specs.Prelude.{◌≡◌, ℕ, ◌+◌, List, [], ◌∷◌, ◌++◌}
 use Rattle.vbr_core.specs.Loads.{OnlyLoadsOf}
 use Rattle.vbr_core.specs.Runs.{IsRun, Begins}
 use Rattle.vbr_core.specs.Calls.{own_calls}
@@ -7,7 +7,7 @@ use Rattle.vbr_core.specs.Chronicles.{Entry, Answers}
 use Rattle.vbr_core.specs.Accounts.{just, own_entries}
 use Rattle.vbr_core.specs.declared.event.Event.{Event}
 use Rattle.vbr_core.specs.declared.history.Call.{Call}
-use Rattle.vbr_slots.specs.Views.{Trace}
+use Rattle.vbr_slots.specs.Views.{Trace, steps_of}
 
 -- the same pass of the same table
 pub record IsSame (p q : Trace) : Type 0 where
@@ -59,6 +59,6 @@ pub record Moment (p q : Trace) (moment : List Event) : Type 0 where
   pub to : Begins moment q.seen
   pub is_run : IsRun q.shape q.passes q.seen
 
--- so many steps were made, as far as the count goes
+-- so many steps were made: the pass has so many more events of its own in what it has seen
 pub record Took (p q : Trace) (steps : ℕ) : Type 0 where
-  pub counted : p.steps ≤ 2 ^ 64 - 1 → q.steps ≡ min (p.steps + steps) (2 ^ 64 - 1)
+  pub made : steps_of q ≡ steps_of p + steps

@@ -4,9 +4,12 @@ pub mod Running
 pub mod Views
 pub mod Pools
 pub mod RunnerView
+pub mod CountedView
 pub mod PassView
 pub mod SlotsView
 pub mod Closing
 pub mod Calls
+pub mod Reads
+pub mod LookUps
 pub mod Alone
 pub mod Messages

@@ -1,8 +1,14 @@
--- What an error prints.
+-- What errors print.
 use Rattle.std.specs.Prelude.{ℕ, List, codes}
 use Rattle.vbr_slots.specs.declared.opening.OpenError.{OpenError}
 use Rattle.vbr_slots.specs.declared.opening.OpenError.TheVariants.{Passes, Memory}
+use Rattle.vbr_slots.specs.declared.close_error.CloseError.{CloseError}
+use Rattle.vbr_slots.specs.declared.close_error.CloseError.TheVariants as close
 
 abbrev pub error_text : OpenError → List ℕ
 error_text Passes = codes "the number of passes is not from 1 to 64"
 error_text Memory = codes "there is no memory for the table"
+
+abbrev pub close_error_text : {T : Type 0} → CloseError T → List ℕ
+close_error_text (close.Missing closed passes) = codes "there are fewer passes than were opened"
+close_error_text (close.Memory closed passes) = codes "there is no memory to close it"

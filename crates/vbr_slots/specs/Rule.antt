@@ -1,5 +1,5 @@
 -- The rule of the table: it is the state of a run of the core, and what each pass has seen begins this run and has all its own events.
-use Rattle.std.specs.Prelude.{◌≡◌, ℕ, zero, suc, ◌+◌, ◌==◌, List, [], ◌∷◌, ◌++◌, Bool, true, false}
+use Rattle.std.specs.Prelude.{◌≡◌, ◌⊎◌, ℕ, zero, suc, ◌+◌, ◌==◌, List, [], ◌∷◌, ◌++◌, Bool, true, false}
 use mathlib.Core.Option.{some}
 use lib.ListN.{get_elem?}
 use Rattle.atomic_table.specs.Table.{State as Standing, Me}
@@ -47,6 +47,15 @@ abbrev pub EachBegins : List Event → List Member → Type 0
 EachBegins run [] = Unit {0}
 EachBegins run (m ∷ ms) = BeginsFor m.who m.seen run × EachBegins run ms
 
+-- a member of the seat has seen all of the run
+abbrev pub HasSeen : List Event → List Member → Type 0
+HasSeen run [] = ⊥
+HasSeen run (m ∷ ms) = (m.seen ≡ run) ⊎ HasSeen run ms
+
+-- a member of some seat has seen all of the run
+abbrev pub IsSeen : List Event → List (List Member) → Type 0
+IsSeen run views = (j : ℕ) × (v : List Member) × (get_elem? views j ≡ some v) × HasSeen run v
+
 abbrev pub one_if : Bool → ℕ
 one_if true = 1
 one_if false = 0
@@ -62,12 +71,13 @@ times_in who (v ∷ vs) = times who v + times_in who vs
 
 -- ---- the rule
 
--- the words are those of the world after a run; what each member of each seat has seen begins this run and has all its own events; and each number stands as often in all seats as at the opening
+-- the words are those of the world after a run; what each member of each seat has seen begins this run and has all its own events; nothing has happened, or some member has seen all of it; and each number stands as often in all seats as at the opening
 pub record Kept (opening : Opening) (s : Standing (Unit {0}) (List Member)) : Type 0 where
   pub run : List Event
   pub is_run : IsRun opening.shape opening.passes run
   pub words : AreWordsOf opening.shape (world_after opening.shape run) s.words
   pub begins : (j : ℕ) (v : List Member) → get_elem? s.views j ≡ some v → EachBegins run v
+  pub seen : (run ≡ []) ⊎ IsSeen run s.views
   pub counted : (who : ℕ) → times_in who s.views ≡ times who (first_members opening)
 
 -- ---- steps

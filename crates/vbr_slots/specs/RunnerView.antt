@@ -11,7 +11,7 @@ abbrev pub seen_of : Inside → List Event
 seen_of p = first_seen p.seat.me.0
 
 abbrev pub trace_of : Inside → Trace
-trace_of p = record { table = p.seat.table_id; shape = p.opening.shape; passes = p.opening.passes; who = p.who; seen = seen_of p; steps = p.steps }
+trace_of p = record { table = p.seat.table_id; shape = p.opening.shape; passes = p.opening.passes; who = p.who; seen = seen_of p }
 
 -- its seat has this pass alone, and no slot of the table; what it has seen is a run; and the epoch that it keeps is the one that it knows
 pub record IsSound (p : Inside) : Type 0 where

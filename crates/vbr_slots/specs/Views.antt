@@ -1,5 +1,5 @@
 -- What contracts see of a pass and of a table, and what a step does.
-use Rattle.std.specs.Prelude.{◌≡◌, ℕ, zero, suc, ◌+◌, ◌-◌, ◌^◌, min, List, [], ◌∷◌, ◌++◌, Option, None}
+use Rattle.std.specs.Prelude.{◌≡◌, ℕ, zero, suc, ◌+◌, ◌-◌, ◌^◌, ◌==◌, min, count_by, List, [], ◌∷◌, ◌++◌, Option, None}
 use Rattle.atomic_table.specs.Seated.{TableId}
 use Rattle.vbr_words.specs.Dimensions.{Dimensions}
 use Rattle.vbr_core.specs.Knowledge.{Know}
@@ -11,14 +11,13 @@ use Rattle.vbr_core.specs.declared.event.Step.{Step}
 use Rattle.vbr_core.specs.declared.event.Step.TheVariants.{ReadEpoch}
 use Rattle.vbr_slots.specs.Rule.{Shows}
 
--- which pass of which table, the events of the run that it has seen, and how many steps it has made
+-- which pass of which table, and the events of the run that it has seen
 pub record Trace : Type 0 where
   pub table : TableId
   pub shape : Dimensions
   pub passes : ℕ
   pub who : ℕ
   pub seen : List Event
-  pub steps : ℕ
 
 -- a pass: its trace, its own pool with the oldest slot first, and the slot in its hand
 pub record PassView : Type 0 where
@@ -34,7 +33,7 @@ pub record TableView : Type 0 where
 
 -- a pass that has seen nothing
 abbrev pub new_trace : TableView → ℕ → Trace
-new_trace t who = record { table = t.table; shape = t.shape; passes = t.passes; who = who; seen = []; steps = 0 }
+new_trace t who = record { table = t.table; shape = t.shape; passes = t.passes; who = who; seen = [] }
 
 abbrev pub new_pass : TableView → ℕ → PassView
 new_pass t who = record { trace = new_trace t who; pool = []; hand = None }
@@ -64,9 +63,17 @@ KeepsPool p q = (q.pool ≡ p.pool) × (q.hand ≡ p.hand)
 abbrev pub event_of : ℕ → Step → Event
 event_of who step = record { pass = who; step = step }
 
--- one more step, counted up to the greatest number
+-- how many of these events are the pass's own
+abbrev pub steps_in : ℕ → List Event → ℕ
+steps_in who events = count_by (λ (e : Event). e.pass == who) events
+
+-- how many steps the pass has made: its own events in what it has seen
+abbrev pub steps_of : Trace → ℕ
+steps_of p = steps_in p.who p.seen
+
+-- a number of steps, up to the greatest number that a count holds
 abbrev pub counted : ℕ → ℕ
-counted steps = min (steps + 1) (2 ^ 64 - 1)
+counted steps = min steps (2 ^ 64 - 1)
 
 -- the pass made the step: after all that it had seen and what others did since, which the core accepted as a run; it was shown r; and it knows what the core has it learn from that
 pub record Did (step : Step) (p q : Trace) (r : ℕ) : Type 0 where
@@ -77,4 +84,4 @@ pub record Did (step : Step) (p q : Trace) (r : ℕ) : Type 0 where
   pub shows : Shows step r (found p.shape (world_after p.shape (p.seen ++ rest)) step)
   pub know : knows q ≡ learn step r (stamp_shown (world_after p.shape (p.seen ++ rest)) step) (knows p)
   pub same : (q.table ≡ p.table) × (q.shape ≡ p.shape) × (q.passes ≡ p.passes) × (q.who ≡ p.who)
-  pub counted : q.steps ≡ counted p.steps
+  pub steps : steps_of q ≡ steps_of p + 1

@@ -13,8 +13,9 @@ use vbr_core::Step;
 use vbr_words::{Place, decode};
 
 impl Slots {
-    /// Gives birth to a new incarnation in a slot of the pass that was stamped before the last epoch
-    /// that the pass read, which is the birth. The slot leaves the own pool and is in hand.
+    /// Gives birth to a new incarnation in a slot of the pass, in one step. The slot was stamped
+    /// before the last epoch that the pass read, which is the birth; it leaves the own pool and is
+    /// in hand.
     #[inline]
     pub fn store_birth(&self, pass: &mut Pass, slot: u32)
         requires own { IsOf pass.old.trace self.now }
@@ -33,7 +34,7 @@ impl Slots {
         pass.hand = Some(slot);
     }
 
-    /// Stores the key of the incarnation in hand.
+    /// Stores the key of the incarnation in hand, in one step.
     #[inline]
     pub fn store_key(&self, pass: &mut Pass, slot: u32, key: u64)
         requires own { IsOf pass.old.trace self.now }
@@ -45,8 +46,8 @@ impl Slots {
         self.store(&mut pass.runner, step, Place::Key(slot), key);
     }
 
-    /// Stores the link word of the incarnation in hand: unmarked, to none or to a held slot whose
-    /// birth the pass has checked, with the greater of the two births as its version.
+    /// Stores the link word of the incarnation in hand, in one step: unmarked, to none or to a held
+    /// slot whose birth the pass has checked, with the greater of the two births as its version.
     #[inline]
     pub fn store_link(&self, pass: &mut Pass, slot: u32, word: u64)
         requires own { IsOf pass.old.trace self.now }

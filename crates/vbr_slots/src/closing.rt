@@ -1,10 +1,11 @@
 //! Closing a table.
-ghost use Rattle.std.specs.Prelude.{◌≡◌, ◌<◌, ◌≤◌, ◌↔◌, [], length, IfOk, IfErr};
+ghost use Rattle.std.specs.Prelude.{◌≡◌, ◌<◌, ◌≤◌, ◌↔◌, [], length, IfOk, IfErr, OnOk};
 ghost use Rattle.std.specs.Vec.{vec_capacity};
 ghost use Rattle.std.specs.Mem.Slots.{slots_items, slots_len, IsFull};
 ghost use Rattle.vbr_slots.specs.Closing.{AllOf, Ends, HandsBack, IsMissing};
 
 use crate::close_error::CloseError;
+use crate::counted::Counted;
 use crate::pass::Pass;
 use crate::rule::{Both, Nobody};
 use crate::runner::Runner;
@@ -21,6 +22,7 @@ impl Slots {
     pub fn close(self, alloc: Global, passes: Vec<Pass>) -> Result<Vec<u64>, CloseError<Slots>>
         requires { AllOf self passes.items }
         ensures ok { IfOk result (λ words. Ends self passes.items words.items) }
+        ensures all { OnOk result (self.passes ≤ length passes.items) }
         ensures back { IfErr result (λ e. HandsBack e self passes.items) }
         ensures missing { IfErr result (λ e. IsMissing e ↔ (length passes.items < self.passes)) }
     {
@@ -35,16 +37,16 @@ impl Slots {
         let (_, mut seat) = table.shared.load_new_seat::<Nobody>(0);
         for pass in passes {
             let Pass {
-                runner,
+                runner: counted,
                 pool: _,
                 hand: _,
             } = pass;
+            let Counted { runner, steps: _ } = counted;
             let Runner {
                 seat: other,
                 opening: _,
                 who: _,
                 epoch: _,
-                steps: _,
             } = runner;
             table.shared.join_seat::<Both>(&mut seat, other);
         }

@@ -1,9 +1,10 @@
 //! The steps that answer a call by one more load of a link word.
 ghost use Rattle.std.specs.Prelude.{◌≡◌, ◌≢◌, ◌<◌, false, MatchResult};
 ghost use Rattle.vbr_words.specs.Words.{link_of};
-ghost use Rattle.vbr_core.specs.Acceptance.{IsAtIn, IsHeld, IsInRange};
+ghost use Rattle.vbr_core.specs.Acceptance.{Accepts, IsAtIn, IsHeld, IsInRange};
 ghost use Rattle.vbr_core.specs.declared.event.Step.TheVariants.{ConfirmPresent, ConfirmAbsent};
 ghost use Rattle.vbr_core.specs.declared.history.Op.TheVariants.{Remove};
+ghost use Rattle.vbr_slots.specs.LookUps.{look_up};
 ghost use Rattle.vbr_slots.specs.Views.{IsOf, Did, KeepsPool, knows};
 
 use crate::pass::Pass;
@@ -13,8 +14,9 @@ use vbr_core::{Op, Step};
 use vbr_words::{At, Place};
 
 impl Slots {
-    /// Answers a look-up or an insert: if the link word of a node is still `expected`, unmarked, the
-    /// node's key is present. Else the word that was found comes back, and no call is answered.
+    /// Answers a look-up or an insert, in one step, a load: if the link word of a node is still
+    /// `expected`, unmarked, the node's key is present. Else the word that was found comes back,
+    /// and no call is answered.
     #[inline]
     pub fn confirm_present(
         &self,
@@ -40,10 +42,10 @@ impl Slots {
         }
     }
 
-    /// Answers a look-up or a remove: if the link word at a place is still `expected`, unmarked, then
-    /// the key, which would stand behind that place and before what the word names, or what marked
-    /// nodes lead to from there, is absent. Else the word that was found comes back, and no call is
-    /// answered.
+    /// Answers a look-up or a remove, in one step, a load: if the link word at a place is still
+    /// `expected`, unmarked, then the key, which would stand behind that place and before what the
+    /// word names, or what marked nodes lead to from there, is absent. Else the word that was found
+    /// comes back, and no call is answered.
     #[inline]
     pub fn confirm_absent(
         &self,
@@ -72,5 +74,49 @@ impl Slots {
             found if found == expected => Ok(()),
             found => Err(found),
         }
+    }
+
+    /// Answers a look-up of a key, in one step: it is present, if the link word at its node is
+    /// still `expected`, unmarked; or it is absent, if the link word at the place before it is.
+    /// Which of the two is asked `present` says. Else the word that was found comes back, and no
+    /// call is answered. Either way it is one load, without a branch.
+    #[inline]
+    pub fn confirm_look_up(
+        &self,
+        pass: &mut Pass,
+        present: bool,
+        key: u64,
+        at: At,
+        expected: u64,
+    ) -> Result<(), u64>
+        requires own { IsOf pass.old.trace self.now }
+        requires accepted { Accepts self.now.shape (knows pass.old.trace) (look_up present key at expected) }
+        ensures step { MatchResult result
+            (λ _. Did (look_up present key at expected) pass.old.trace pass.new.trace expected)
+            (λ found. Did (look_up present key at expected) pass.old.trace pass.new.trace found × (found ≢ expected)) }
+        ensures pool { KeepsPool pass.old pass.new }
+    {
+        let step = step_of_look_up(present, key, at, expected);
+        match self.load_at(&mut pass.runner, step, at) {
+            found if found == expected => Ok(()),
+            found => Err(found),
+        }
+    }
+}
+
+// The step that answers a look-up.
+#[inline]
+fn step_of_look_up(present: bool, key: u64, at: At, expected: u64) -> Step
+    ensures { result ≡ look_up present key at expected }
+{
+    let op = Op::Has;
+    match at {
+        At::Slot(slot) if present => Step::ConfirmPresent { op, slot, expected },
+        _ => Step::ConfirmAbsent {
+            op,
+            key,
+            at,
+            expected,
+        },
     }
 }

@@ -9,8 +9,8 @@ use vbr_core::Step;
 use vbr_words::Place;
 
 impl Slots {
-    /// Reads the epoch. Where it is the one that the pass read last, its pending reads are checked;
-    /// where it has moved, the pass knows nothing any more.
+    /// Reads the epoch, in one step. Where it is the one that the pass read last, its pending reads
+    /// are checked; where it has moved, the pass knows of no reads any more.
     #[inline]
     pub fn read_epoch(&self, pass: &mut Pass) -> u64
         requires own { IsOf pass.old.trace self.now }
@@ -20,7 +20,7 @@ impl Slots {
         self.load(&mut pass.runner, Step::ReadEpoch, Place::Epoch)
     }
 
-    /// Raises the epoch by 1, if it is `from`, and says whether it was.
+    /// Raises the epoch by 1, if it is `from`, in one step, and says whether it was.
     #[inline]
     pub fn advance(&self, pass: &mut Pass, from: u64) -> bool
         requires own { IsOf pass.old.trace self.now }

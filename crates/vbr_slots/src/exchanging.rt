@@ -14,9 +14,9 @@ use vbr_core::Step;
 use vbr_words::{At, Place, with_mark};
 
 impl Slots {
-    /// Links the incarnation in hand behind `pred`, if the word there is `expected`: it becomes
-    /// `new`, nothing is in hand any more, and the pass has inserted the key. Else the word that was
-    /// found comes back, and nothing changes.
+    /// Links the incarnation in hand behind `pred`, in one step, if the word there is `expected`:
+    /// it becomes `new`, nothing is in hand any more, and the pass has inserted the key. Else the
+    /// word that was found comes back, and nothing changes.
     #[inline]
     pub fn publish(
         &self,
@@ -53,8 +53,8 @@ impl Slots {
         Err(found)
     }
 
-    /// Marks a node, if its link word is `expected`: the pass has removed its key. Else the word that
-    /// was found comes back, and nothing changes.
+    /// Marks a node, in one step, if its link word is `expected`: the pass has removed its key.
+    /// Else the word that was found comes back, and nothing changes.
     #[inline]
     pub fn mark(&self, pass: &mut Pass, slot: u32, expected: u64) -> Result<(), u64>
         requires own { IsOf pass.old.trace self.now }
@@ -75,9 +75,9 @@ impl Slots {
         }
     }
 
-    /// Unlinks a marked node behind `pred`, if the word there is `expected`: it becomes `new`, and
-    /// the slot is the pass's own, to be stamped. Else the word that was found comes back, and
-    /// nothing changes.
+    /// Unlinks a marked node behind `pred`, in one step, if the word there is `expected`: it
+    /// becomes `new`, and the slot is the pass's own, to be stamped. Else the word that was found
+    /// comes back, and nothing changes.
     #[inline]
     pub fn unlink(
         &self,

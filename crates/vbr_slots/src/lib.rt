@@ -2,14 +2,16 @@
 //! of a run of the core, and what each pass has seen is a beginning of that run that has all its own
 //! events.
 //!
-//! [`Slots`] is the table. A [`Pass`] is the right to make steps under one number, in one thread at a
-//! time. Each step is one atomic load, store or exchange of one word.
+//! [`Slots`] is the table. A [`Pass`] is the right to make steps under one number, in one thread at
+//! a time. Each step is one atomic operation on one word: a load, a store, an exchange, an `|` or
+//! an `&`.
 #![tactic(auto)]
 
 pub mod bearing;
 pub mod close_error;
 pub mod closing;
 pub mod confirming;
+mod counted;
 pub mod epoch;
 pub mod exchanging;
 pub mod laws;
@@ -18,6 +20,7 @@ pub mod meeting;
 pub mod opening;
 pub mod owning;
 pub mod pass;
+pub mod reading;
 mod rule;
 mod runner;
 pub mod slots;

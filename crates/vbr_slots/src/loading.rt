@@ -1,4 +1,5 @@
-//! The steps that load what a traversal reads. Each read is pending until the epoch is read again.
+//! The steps that load what a traversal reads, one each. A read is pending until the epoch is read
+//! again.
 ghost use Rattle.std.specs.Prelude.{◌≡◌, ◌<◌, IsTrue};
 ghost use Rattle.vbr_core.specs.Acceptance.{IsAtIn};
 ghost use Rattle.vbr_core.specs.Knowledge.{holds, holds_at};
@@ -12,7 +13,7 @@ use vbr_core::Step;
 use vbr_words::{At, Place};
 
 impl Slots {
-    /// Loads the link word of a head or of a held slot.
+    /// Loads the link word of a head or of a held slot, in one step.
     #[inline]
     pub fn load_link(&self, pass: &mut Pass, at: At) -> u64
         requires own { IsOf pass.old.trace self.now }
@@ -24,7 +25,7 @@ impl Slots {
         self.load(&mut pass.runner, Step::LoadLink { at }, place_of_link(at))
     }
 
-    /// Loads the birth of a held slot, an epoch.
+    /// Loads the birth of a held slot, an epoch, in one step.
     #[inline]
     pub fn load_birth(&self, pass: &mut Pass, slot: u32) -> u64
         requires own { IsOf pass.old.trace self.now }
@@ -40,7 +41,7 @@ impl Slots {
         )
     }
 
-    /// Loads the key of a held slot.
+    /// Loads the key of a held slot, in one step.
     #[inline]
     pub fn load_key(&self, pass: &mut Pass, slot: u32) -> u64
         requires own { IsOf pass.old.trace self.now }

@@ -5,6 +5,7 @@ ghost use Rattle.vbr_core.specs.Machine as machine;
 ghost use Rattle.vbr_slots.specs.Views.{new_passes};
 ghost use Rattle.vbr_slots.specs.Words.{AreWordsOf};
 
+use crate::counted::Counted;
 use crate::pass::Pass;
 use crate::rule::{First, Opening};
 use crate::runner::Runner;
@@ -66,7 +67,7 @@ impl Slots {
     /// Opens a table in the state of a fresh world of the core, with so many passes, from 1 to 64. They
     /// stand in the order of their numbers, which begin with 0.
     ///
-    /// The refusals are tested in the order of [`OpenError`].
+    /// The refusals are tested in the order of [`OpenError`], and nothing is kept then.
     pub fn open(alloc: Global, shape: Shape, passes: u32) -> Result<(Slots, Vec<Pass>), OpenError>
         ensures table { IfOk result (λ r. (r.0.shape ≡ shape) × (r.0.passes ≡ passes)) }
         ensures passes { IfOk result (λ r. r.1.items ≡ new_passes r.0 0 passes) }
@@ -95,10 +96,10 @@ impl Slots {
                 opening,
                 who,
                 epoch: 1,
-                steps: 0,
             };
+            let counted = Counted { runner, steps: 0 };
             passes.push(Pass {
-                runner,
+                runner: counted,
                 pool: ArrayVec::new(),
                 hand: None,
             })?;

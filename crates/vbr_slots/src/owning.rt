@@ -13,7 +13,7 @@ use vbr_words::Place;
 use vbr_words::flags::{all_but, flag_of, has_flag, word_of_flag};
 
 impl Slots {
-    /// Loads the stamp of a slot that the pass owns, an epoch.
+    /// Loads the stamp of a slot that the pass owns, an epoch, in one step.
     #[inline]
     pub fn load_stamp(&self, pass: &mut Pass, slot: u32) -> u64
         requires own { IsOf pass.old.trace self.now }
@@ -30,8 +30,8 @@ impl Slots {
         )
     }
 
-    /// Stamps a slot that the pass unlinked, with the last epoch that it read, which it read since
-    /// the unlinking: the slot is retired.
+    /// Stamps a slot that the pass unlinked, in one step, with the last epoch that it read, which
+    /// it read since the unlinking: the slot is retired.
     #[inline]
     pub fn store_stamp(&self, pass: &mut Pass, slot: u32)
         requires own { IsOf pass.old.trace self.now }

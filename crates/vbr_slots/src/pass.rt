@@ -1,11 +1,12 @@
 //! A pass: the right to make steps under one number.
-ghost use Rattle.std.specs.Prelude.{◌≡◌, ◌<◌, ◌≤◌, ◌⊎◌, [], ◌∷◌, ◌++◌, length, Some, Contains};
+ghost use Rattle.std.specs.List.{position_from};
+ghost use Rattle.std.specs.Prelude.{◌≡◌, ◌==◌, ◌<◌, ◌≤◌, ◌⊎◌, [], ◌∷◌, ◌++◌, length, Some, Contains};
 ghost use Rattle.vbr_core.specs.Acceptance.{IsFree};
 ghost use Rattle.vbr_core.specs.Runs.{IsRun};
 ghost use Rattle.vbr_slots.specs.Pools.{OwnPool, hand_without, without};
-ghost use Rattle.vbr_slots.specs.Views.{knows};
+ghost use Rattle.vbr_slots.specs.Views.{counted, knows, steps_of};
 
-use crate::runner::Runner;
+use crate::counted::Counted;
 use arrayvec::ArrayVec;
 use std::marker::Model;
 
@@ -18,7 +19,7 @@ pub const POOL: usize = 64;
 /// A pass that is dropped takes its own slots out for good, and its table can't be closed any more.
 #[derive(Drop)]
 pub struct Pass {
-    pub(crate) runner: Runner,
+    pub(crate) runner: Counted,
     pub(crate) pool: ArrayVec<u32, POOL>,
     pub(crate) hand: Option<u32>,
 }
@@ -43,13 +44,14 @@ impl Pass {
         ensures low { result < self.now.trace.passes }
         ensures is_run { IsRun self.now.trace.shape self.now.trace.passes self.now.trace.seen }
     {
-        self.runner.who
+        self.runner.runner.who
     }
 
-    /// How many steps it has made since the opening, counted up to the greatest number.
+    /// How many steps it has made since the opening, counted up to the greatest number: its own events
+    /// in what it has seen.
     #[inline]
     pub fn steps(&self) -> u64
-        ensures { result ≡ self.now.trace.steps }
+        ensures { result ≡ counted (steps_of self.now.trace) }
     {
         self.runner.steps
     }
@@ -59,7 +61,7 @@ impl Pass {
     pub fn epoch(&self) -> u64
         ensures { result ≡ (knows self.now.trace).epoch }
     {
-        self.runner.epoch
+        self.runner.runner.epoch
     }
 
     /// Its own pool, the oldest slot first.
@@ -105,6 +107,16 @@ impl Pass {
         ensures pool { self.new.pool ≡ without slot self.old.pool }
         ensures hand { self.new.hand ≡ self.old.hand }
     {
-        self.pool.retain(|pooled| *pooled != slot);
+        if let Some(at) = place_of(self.pool.as_slice(), slot) {
+            self.pool.remove(at);
+        }
     }
+}
+
+// The place of a slot in a pool.
+#[inline]
+fn place_of(pool: &[u32], slot: u32) -> Option<usize>
+    ensures { result ≡ position_from (λ x. x == slot) 0 pool.now }
+{
+    pool.iter().position(|pooled| *pooled == slot)
 }

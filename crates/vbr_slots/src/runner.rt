@@ -1,6 +1,6 @@
 //! What makes the steps of one pass.
 ghost use Rattle.std.specs.Prelude.{◌≡◌};
-ghost use Rattle.vbr_slots.specs.Views.{counted, epoch_after};
+ghost use Rattle.vbr_slots.specs.Views.{epoch_after};
 
 use crate::rule::{Member, Opening};
 use atomic_table::Seat;
@@ -8,15 +8,14 @@ use std::collections::LinkedList;
 use std::marker::Model;
 use vbr_core::Step;
 
-/// What makes the steps of one pass: its seat at the table, its number, the last epoch that it read,
-/// and the count of its steps.
+/// What makes the steps of one pass: its seat at the table, its number, and the last epoch that it
+/// read.
 #[derive(Drop)]
 pub struct Runner {
     pub(crate) seat: Seat<(), LinkedList<Member>>,
     pub(crate) opening: Opening,
     pub(crate) who: u32,
     pub(crate) epoch: u64,
-    pub(crate) steps: u64,
 }
 
 impl Model for Runner {
@@ -31,21 +30,14 @@ impl Model for Runner {
     ghost invariant = { IsSound };
 }
 
-// The last epoch read, after a step that found this word.
+// Keeps the last epoch read, after a step that found this word. Nothing is stored where it stayed.
 #[inline]
-pub(crate) fn epoch_after(step: Step, found: u64, epoch: u64) -> u64
-    ensures { result ≡ epoch_after step found epoch }
+pub(crate) fn keep_epoch(epoch: &mut u64, step: Step, found: u64)
+    ensures { epoch.new ≡ epoch_after step found epoch.old }
 {
-    match step {
-        Step::ReadEpoch => found,
-        _ => epoch,
+    if let Step::ReadEpoch = step {
+        if *epoch != found {
+            *epoch = found;
+        }
     }
-}
-
-// The count after one more step; it stays at the greatest number.
-#[inline]
-pub(crate) fn counted(steps: u64) -> u64
-    ensures { result ≡ counted steps }
-{
-    steps.saturating_add(1)
 }

@@ -3,17 +3,21 @@
 //
 // A step is told to the table as an event. A function that ends in `_as` takes the event as its type
 // argument, and the function without that ending picks it.
-ghost use Rattle.std.specs.Prelude.{◌≡◌};
+ghost use Rattle.std.specs.Prelude.{◌≡◌, ◌<◌, ◌^◌, IsTrue};
 ghost use Rattle.vbr_core.specs.Acceptance.{Accepts};
 ghost use Rattle.vbr_core.specs.Machine.{Load, Store, Exchange, FetchOr, FetchAnd, access_of, place_of};
 ghost use Rattle.vbr_core.specs.Runs.{BeginsFor};
-ghost use Rattle.vbr_core.specs.declared.event.Step.TheVariants.{ReadEpoch};
+ghost use Rattle.vbr_core.specs.Knowledge.{holds};
+ghost use Rattle.vbr_core.specs.declared.event.Step.TheVariants.{LoadBirth, LoadLink, ReadEpoch};
 ghost use Rattle.vbr_words.specs.Places as places;
+ghost use Rattle.vbr_words.specs.declared.place.At.TheVariants.{Slot};
 ghost use Rattle.vbr_words.specs.declared.place.Place.TheVariants.{Epoch};
-ghost use Rattle.vbr_slots.specs.Views.{IsOf, Did, knows, event_of};
+ghost use Rattle.vbr_slots.specs.LookUps.{link_from};
+ghost use Rattle.vbr_slots.specs.Views.{IsOf, Did, Trace, knows, event_of};
 
+use crate::counted::{Counted, steps_after};
 use crate::rule::{Both, Does, First, Naming, Whole};
-use crate::runner::{Runner, counted, epoch_after};
+use crate::runner::{Runner, keep_epoch};
 use crate::slots::Slots;
 use std::marker::Brand;
 use vbr_core::Step;
@@ -30,7 +34,49 @@ pub(crate) fn place_of_link(at: At) -> Place
     }
 }
 
+// The index of the link word at a place, where the words of slots begin at this one. No branch is needed
+// to find it.
+#[inline]
+fn link_from(slots: usize, at: At) -> usize
+    requires { slots < 2 ^ 33 }
+    ensures { result ≡ link_from slots at }
+{
+    match at {
+        At::Head(bucket) => 2 + bucket as usize,
+        At::Slot(slot) => slots + 4 * slot as usize,
+    }
+}
+
 impl Slots {
+    // One load of a link word, which is the step.
+    #[inline]
+    fn load_at_as<E: Naming>(&self, runner: &mut Runner, step: Step, at: At) -> u64
+        requires named { (E.event ≡ event_of runner.old.who step) × (E.opening ≡ record { shape = self.now.shape; passes = self.now.passes }) }
+        requires own { IsOf runner.old self.now }
+        requires accepted { Accepts self.now.shape (knows runner.old) step }
+        requires place { places.place_of at ≡ place_of step }
+        requires access { access_of (knows runner.old) step ≡ Load }
+        ensures { Did step runner.old runner.new result }
+    {
+        let word = link_from(2 + self.opening.shape.buckets() as usize, at);
+        let found = self.table.shared.load::<Does<E>>(&mut runner.seat, word);
+        keep_epoch(&mut runner.epoch, step, found);
+        found
+    }
+
+    #[inline]
+    pub(crate) fn load_at(&self, counts: &mut Counted, step: Step, at: At) -> u64
+        requires own { IsOf counts.old self.now }
+        requires accepted { Accepts self.now.shape (knows counts.old) step }
+        requires place { places.place_of at ≡ place_of step }
+        requires access { access_of (knows counts.old) step ≡ Load }
+        ensures { Did step counts.old counts.new result }
+    {
+        let found = self.load_at_as::<Brand>(&mut counts.runner, step, at);
+        counts.steps = steps_after(counts.steps, 1);
+        found
+    }
+
     // One load, which is the step.
     #[inline]
     fn load_as<E: Naming>(&self, runner: &mut Runner, step: Step, place: Place) -> u64
@@ -42,21 +88,66 @@ impl Slots {
         ensures { Did step runner.old runner.new result }
     {
         let word = place_index(&self.opening.shape, place);
-        runner.steps = counted(runner.steps);
         let found = self.table.shared.load::<Does<E>>(&mut runner.seat, word);
-        runner.epoch = epoch_after(step, found, runner.epoch);
+        keep_epoch(&mut runner.epoch, step, found);
         found
     }
 
     #[inline]
-    pub(crate) fn load(&self, runner: &mut Runner, step: Step, place: Place) -> u64
-        requires own { IsOf runner.old self.now }
-        requires accepted { Accepts self.now.shape (knows runner.old) step }
+    pub(crate) fn load(&self, counts: &mut Counted, step: Step, place: Place) -> u64
+        requires own { IsOf counts.old self.now }
+        requires accepted { Accepts self.now.shape (knows counts.old) step }
         requires place { place ≡ place_of step }
-        requires access { access_of (knows runner.old) step ≡ Load }
-        ensures { Did step runner.old runner.new result }
+        requires access { access_of (knows counts.old) step ≡ Load }
+        ensures { Did step counts.old counts.new result }
     {
-        self.load_as::<Brand>(runner, step, place)
+        let found = self.load_as::<Brand>(&mut counts.runner, step, place);
+        counts.steps = steps_after(counts.steps, 1);
+        found
+    }
+
+    // One load, and one of the epoch: two steps.
+    #[inline]
+    pub(crate) fn load_and_epoch(
+        &self,
+        counts: &mut Counted,
+        step: Step,
+        place: Place,
+    ) -> (u64, u64)
+        requires own { IsOf counts.old self.now }
+        requires accepted { Accepts self.now.shape (knows counts.old) step }
+        requires place { place ≡ place_of step }
+        requires access { access_of (knows counts.old) step ≡ Load }
+        ensures { (between : Trace) × Did step counts.old between result.0 × Did ReadEpoch between counts.new result.1 }
+    {
+        let found = self.load_as::<Brand>(&mut counts.runner, step, place);
+        let epoch = self.load_as::<Brand>(&mut counts.runner, Step::ReadEpoch, Place::Epoch);
+        counts.steps = steps_after(counts.steps, 2);
+        (found, epoch)
+    }
+
+    // The loads of the birth and of the link word of a slot, and one of the epoch: three steps.
+    #[inline]
+    pub(crate) fn load_node(&self, counts: &mut Counted, slot: u32) -> (u64, u64, u64)
+        requires own { IsOf counts.old self.now }
+        requires slot { slot < self.now.shape.slots }
+        requires held { IsTrue (holds (knows counts.old).checked slot) }
+        ensures { (born between : Trace) × Did (LoadBirth slot) counts.old born result.0 × Did (LoadLink (Slot slot)) born between result.1 × Did ReadEpoch between counts.new result.2 }
+    {
+        let at = At::Slot(slot);
+        let birth = self.load_as::<Brand>(
+            &mut counts.runner,
+            Step::LoadBirth { slot },
+            Place::Birth(slot),
+        );
+        let word = self.load_as::<Brand>(
+            &mut counts.runner,
+            Step::LoadLink { at },
+            Place::LinkOf(slot),
+        );
+        let epoch = self.load_as::<Brand>(&mut counts.runner, Step::ReadEpoch, Place::Epoch);
+        counts.steps = steps_after(counts.steps, 3);
+        (birth, word, epoch)
     }
 
     // One store of a word, which is the step.
@@ -70,22 +161,22 @@ impl Slots {
         ensures { Did step runner.old runner.new new }
     {
         let word = place_index(&self.opening.shape, place);
-        runner.steps = counted(runner.steps);
         self.table
             .shared
             .store::<Does<E>>(&mut runner.seat, word, new);
-        runner.epoch = epoch_after(step, new, runner.epoch);
+        keep_epoch(&mut runner.epoch, step, new);
     }
 
     #[inline]
-    pub(crate) fn store(&self, runner: &mut Runner, step: Step, place: Place, new: u64)
-        requires own { IsOf runner.old self.now }
-        requires accepted { Accepts self.now.shape (knows runner.old) step }
+    pub(crate) fn store(&self, counts: &mut Counted, step: Step, place: Place, new: u64)
+        requires own { IsOf counts.old self.now }
+        requires accepted { Accepts self.now.shape (knows counts.old) step }
         requires place { place ≡ place_of step }
-        requires access { access_of (knows runner.old) step ≡ Store new }
-        ensures { Did step runner.old runner.new new }
+        requires access { access_of (knows counts.old) step ≡ Store new }
+        ensures { Did step counts.old counts.new new }
     {
-        self.store_as::<Brand>(runner, step, place, new);
+        self.store_as::<Brand>(&mut counts.runner, step, place, new);
+        counts.steps = steps_after(counts.steps, 1);
     }
 
     // One exchange of an expected word for a new one, which is the step. Returns what it found.
@@ -106,31 +197,32 @@ impl Slots {
         ensures { Did step runner.old runner.new result }
     {
         let word = place_index(&self.opening.shape, place);
-        runner.steps = counted(runner.steps);
         let found = self
             .table
             .shared
             .compare_exchange::<Does<E>>(&mut runner.seat, word, expected, new);
-        runner.epoch = epoch_after(step, found, runner.epoch);
+        keep_epoch(&mut runner.epoch, step, found);
         found
     }
 
     #[inline]
     pub(crate) fn exchange(
         &self,
-        runner: &mut Runner,
+        counts: &mut Counted,
         step: Step,
         place: Place,
         expected: u64,
         new: u64,
     ) -> u64
-        requires own { IsOf runner.old self.now }
-        requires accepted { Accepts self.now.shape (knows runner.old) step }
+        requires own { IsOf counts.old self.now }
+        requires accepted { Accepts self.now.shape (knows counts.old) step }
         requires place { place ≡ place_of step }
-        requires access { access_of (knows runner.old) step ≡ Exchange expected new }
-        ensures { Did step runner.old runner.new result }
+        requires access { access_of (knows counts.old) step ≡ Exchange expected new }
+        ensures { Did step counts.old counts.new result }
     {
-        self.exchange_as::<Brand>(runner, step, place, expected, new)
+        let found = self.exchange_as::<Brand>(&mut counts.runner, step, place, expected, new);
+        counts.steps = steps_after(counts.steps, 1);
+        found
     }
 
     // One `|` of the word with bits, which is the step. Returns the word that it found.
@@ -150,24 +242,25 @@ impl Slots {
         ensures { Did step runner.old runner.new result }
     {
         let word = place_index(&self.opening.shape, place);
-        runner.steps = counted(runner.steps);
         let found = self
             .table
             .shared
             .fetch_or::<Does<E>>(&mut runner.seat, word, bits);
-        runner.epoch = epoch_after(step, found, runner.epoch);
+        keep_epoch(&mut runner.epoch, step, found);
         found
     }
 
     #[inline]
-    pub(crate) fn fetch_or(&self, runner: &mut Runner, step: Step, place: Place, bits: u64) -> u64
-        requires own { IsOf runner.old self.now }
-        requires accepted { Accepts self.now.shape (knows runner.old) step }
+    pub(crate) fn fetch_or(&self, counts: &mut Counted, step: Step, place: Place, bits: u64) -> u64
+        requires own { IsOf counts.old self.now }
+        requires accepted { Accepts self.now.shape (knows counts.old) step }
         requires place { place ≡ place_of step }
-        requires access { access_of (knows runner.old) step ≡ FetchOr bits }
-        ensures { Did step runner.old runner.new result }
+        requires access { access_of (knows counts.old) step ≡ FetchOr bits }
+        ensures { Did step counts.old counts.new result }
     {
-        self.fetch_or_as::<Brand>(runner, step, place, bits)
+        let found = self.fetch_or_as::<Brand>(&mut counts.runner, step, place, bits);
+        counts.steps = steps_after(counts.steps, 1);
+        found
     }
 
     // One `&` of the word with bits, which is the step. Returns the word that it found.
@@ -187,24 +280,25 @@ impl Slots {
         ensures { Did step runner.old runner.new result }
     {
         let word = place_index(&self.opening.shape, place);
-        runner.steps = counted(runner.steps);
         let found = self
             .table
             .shared
             .fetch_and::<Does<E>>(&mut runner.seat, word, bits);
-        runner.epoch = epoch_after(step, found, runner.epoch);
+        keep_epoch(&mut runner.epoch, step, found);
         found
     }
 
     #[inline]
-    pub(crate) fn fetch_and(&self, runner: &mut Runner, step: Step, place: Place, bits: u64) -> u64
-        requires own { IsOf runner.old self.now }
-        requires accepted { Accepts self.now.shape (knows runner.old) step }
+    pub(crate) fn fetch_and(&self, counts: &mut Counted, step: Step, place: Place, bits: u64) -> u64
+        requires own { IsOf counts.old self.now }
+        requires accepted { Accepts self.now.shape (knows counts.old) step }
         requires place { place ≡ place_of step }
-        requires access { access_of (knows runner.old) step ≡ FetchAnd bits }
-        ensures { Did step runner.old runner.new result }
+        requires access { access_of (knows counts.old) step ≡ FetchAnd bits }
+        ensures { Did step counts.old counts.new result }
     {
-        self.fetch_and_as::<Brand>(runner, step, place, bits)
+        let found = self.fetch_and_as::<Brand>(&mut counts.runner, step, place, bits);
+        counts.steps = steps_after(counts.steps, 1);
+        found
     }
 
     // One load of the epoch, which is the step, while the other's seat is joined to the runner's.
@@ -224,21 +318,22 @@ impl Slots {
         let word = place_index(&self.opening.shape, Place::Epoch);
         let theirs = shared.split_seat::<Whole>(&mut other.seat);
         shared.join_seat::<Both>(&mut runner.seat, theirs);
-        runner.steps = counted(runner.steps);
         let found = shared.load::<Does<E>>(&mut runner.seat, word);
-        runner.epoch = epoch_after(step, found, runner.epoch);
+        keep_epoch(&mut runner.epoch, step, found);
         other.seat = shared.split_seat::<First>(&mut runner.seat);
         found
     }
 
     #[inline]
-    pub(crate) fn meet_runner(&self, runner: &mut Runner, other: &mut Runner) -> u64
-        requires own { IsOf runner.old self.now }
+    pub(crate) fn meet_runner(&self, counts: &mut Counted, other: &mut Counted) -> u64
+        requires own { IsOf counts.old self.now }
         requires other { IsOf other.old self.now }
-        ensures step { Did ReadEpoch runner.old runner.new result }
+        ensures step { Did ReadEpoch counts.old counts.new result }
         ensures same { other.new ≡ other.old }
-        ensures met { BeginsFor other.old.who other.old.seen runner.new.seen }
+        ensures met { BeginsFor other.old.who other.old.seen counts.new.seen }
     {
-        self.meet_as::<Brand>(runner, other, Step::ReadEpoch)
+        let found = self.meet_as::<Brand>(&mut counts.runner, &mut other.runner, Step::ReadEpoch);
+        counts.steps = steps_after(counts.steps, 1);
+        found
     }
 }

@@ -2,11 +2,13 @@
 ghost use Rattle.std.specs.Prelude.{◌≡◌, ◌≤◌, None};
 ghost use Rattle.vbr_slots.specs.Views.{IsOf};
 
-use crate::running_table::{close_two, open_two};
+use crate::pools::expect_taken;
+use crate::running_table::{close_two, two_passes};
 use std::alloc::Global;
+use std::process::Abort;
 use std::test::Fail;
 use vbr_core::World;
-use vbr_pools::{TakeRefusal, give_back, take};
+use vbr_pools::TakeRefusal;
 use vbr_slots::{Pass, Slots};
 use vbr_words::{Place, Shape, place_index, word_count};
 
@@ -45,75 +47,57 @@ fn closing_flags(alloc: Global, slots: Slots, first: Pass, second: Pass) -> Opti
 }
 
 #[test]
-fn a_lost_flag_shows_the_others_of_its_word(rt: HostRuntime) -> Result<(), Fail> {
-    let Some((slots, mut a, mut b)) = open_two(rt.alloc(), Shape::new(70, 1, 10)?) else {
-        panic!(rt; "no memory")
-    };
+fn a_lost_flag_shows_the_others_of_its_word(rt: HostRuntime) {
+    let (slots, mut a, mut b) = two_passes(&rt, rt.alloc(), 70, 10);
     assert!(rt; take_first(&slots, &mut a, 2));
     assert_eq!(rt; slots.take_flag(&mut b, 0), Err(18_446_744_073_709_551_612));
     let flags = closing_flags(rt.alloc(), slots, a, b);
     assert_eq!(rt; flags, Some((18_446_744_073_709_551_612, 63)));
-    Ok(())
+}
+
+// Pass 0 takes the first slots, so many, and then pass 1 takes one and gives it back to its own pool:
+// compares what it is told and how many steps that took, and gives the flag words of the closing.
+fn take_behind(
+    rt: &impl Abort,
+    alloc: Global,
+    count: u32,
+    wanted: Result<(u32, u64), TakeRefusal>,
+    steps: u64,
+) -> Option<(u64, u64)>
+    requires { count ≤ 70 }
+{
+    let (slots, mut a, mut b) = two_passes(rt, alloc, 70, 10);
+    assert!(rt; take_first(&slots, &mut a, count));
+    expect_taken(rt, &slots, &mut b, 100, wanted, steps);
+    closing_flags(alloc, slots, a, b)
 }
 
 #[test]
-fn the_lowest_flag_that_was_found_is_taken(rt: HostRuntime) -> Result<(), Fail> {
-    let Some((slots, mut a, mut b)) = open_two(rt.alloc(), Shape::new(70, 1, 10)?) else {
-        panic!(rt; "no memory")
-    };
-    assert!(rt; take_first(&slots, &mut a, 2));
-    let Ok(hand) = take(&slots, &mut b, 100) else {
-        panic!(rt; "no slot")
-    };
-    assert_eq!(rt; (hand.slot(), b.steps()), (2, 5));
-    give_back(&mut b, hand);
-    Ok(())
+fn the_lowest_flag_that_was_found_is_taken(rt: HostRuntime) {
+    take_behind(&rt, rt.alloc(), 2, Ok((2, 1)), 5);
 }
 
 #[test]
-fn an_empty_word_leads_to_the_next(rt: HostRuntime) -> Result<(), Fail> {
-    let Some((slots, mut a, mut b)) = open_two(rt.alloc(), Shape::new(70, 1, 10)?) else {
-        panic!(rt; "no memory")
-    };
-    assert!(rt; take_first(&slots, &mut a, 64));
-    let Ok(hand) = take(&slots, &mut b, 100) else {
-        panic!(rt; "no slot")
-    };
-    assert_eq!(rt; (hand.slot(), b.steps()), (64, 5));
-    give_back(&mut b, hand);
-    assert_eq!(rt; closing_flags(rt.alloc(), slots, a, b), Some((0, 62)));
-    Ok(())
+fn an_empty_word_leads_to_the_next(rt: HostRuntime) {
+    let flags = take_behind(&rt, rt.alloc(), 64, Ok((64, 1)), 5);
+    assert_eq!(rt; flags, Some((0, 62)));
 }
 
 /// The bits past the last slot are no slots.
 #[test]
-fn no_slot_is_past_the_last(rt: HostRuntime) -> Result<(), Fail> {
-    let Some((slots, mut a, mut b)) = open_two(rt.alloc(), Shape::new(70, 1, 10)?) else {
-        panic!(rt; "no memory")
-    };
-    assert!(rt; take_first(&slots, &mut a, 70));
-    match take(&slots, &mut b, 100) {
-        Ok(_) => panic!(rt; "a slot past the last"),
-        Err(refusal) => assert!(rt; refusal == TakeRefusal::NoSlot),
-    }
-    assert!(rt; b.pool().is_empty() && b.steps() == 2);
-    assert_eq!(rt; closing_flags(rt.alloc(), slots, a, b), Some((0, 0)));
-    Ok(())
+fn no_slot_is_past_the_last(rt: HostRuntime) {
+    let flags = take_behind(&rt, rt.alloc(), 70, Err(TakeRefusal::NoSlot), 2);
+    assert_eq!(rt; flags, Some((0, 0)));
 }
 
 /// A flag that is raised leaves those of its neighbours.
 #[test]
-fn a_raised_flag_is_one(rt: HostRuntime) -> Result<(), Fail> {
-    let Some((slots, mut a, b)) = open_two(rt.alloc(), Shape::new(70, 1, 10)?) else {
-        panic!(rt; "no memory")
-    };
+fn a_raised_flag_is_one(rt: HostRuntime) {
+    let (slots, mut a, b) = two_passes(&rt, rt.alloc(), 70, 10);
     if slots.take_flag(&mut a, 65).is_err() {
         panic!(rt; "not there")
     }
     slots.raise(&mut a, 65);
-    assert_eq!(rt;
-        closing_flags(rt.alloc(), slots, a, b),
-        Some((18_446_744_073_709_551_615, 63))
-    );
-    Ok(())
+    let flags = closing_flags(rt.alloc(), slots, a, b);
+    assert_eq!(rt; flags, Some((18_446_744_073_709_551_615, 63)));
 }

@@ -7,13 +7,12 @@ ghost use Rattle.vbr_slots.specs.Views.{IsOf, knows};
 ghost use Rattle.vbr_access.specs.Held.{IsHeld};
 ghost use Rattle.vbr_access.specs.Keeping.{KeepsOwn};
 
-use crate::running_table::close_two;
+use crate::running_table::{expect_words, two_passes};
 use std::process::Abort;
-use std::test::Fail;
 use vbr_access::{Held, checkpoint, first, key_of, mark, next, unlink, update};
 use vbr_pools::{Unlinked, retire, take};
 use vbr_slots::{Pass, Slots};
-use vbr_words::{At, Shape};
+use vbr_words::At;
 
 // The head of bucket 0, which has this word, read after a new checkpoint in epoch 1.
 fn head_of(rt: &impl Abort, slots: &Slots, pass: &mut Pass, word: u64) -> Held
@@ -32,11 +31,12 @@ fn head_of(rt: &impl Abort, slots: &Slots, pass: &mut Pass, word: u64) -> Held
 }
 
 // Takes slot 0, and inserts 7 into the one bucket, which is empty.
-fn insert_one(rt: &impl Abort, slots: &Slots, pass: &mut Pass)
+pub fn insert_one(rt: &impl Abort, slots: &Slots, pass: &mut Pass)
     requires own { IsOf pass.old.trace slots.now }
     requires bucket { slots.now.shape.buckets ≡ 1 }
     requires empty_hand { pass.old.hand ≡ None }
     ensures own { IsOf pass.new.trace slots.now }
+    ensures empty_hand { pass.new.hand ≡ None }
 {
     let hand = take(slots, pass, 100).expect(rt, "a slot is in the shared pool");
     assert_eq!(rt; (hand.slot(), hand.birth()), (0, 1));
@@ -51,10 +51,11 @@ fn insert_one(rt: &impl Abort, slots: &Slots, pass: &mut Pass)
 }
 
 // Marks and unlinks the one node, which is in slot 0.
-fn remove_one(rt: &impl Abort, slots: &Slots, pass: &mut Pass) -> Unlinked
+pub fn remove_one(rt: &impl Abort, slots: &Slots, pass: &mut Pass) -> Unlinked
     requires own { IsOf pass.old.trace slots.now }
     requires bucket { 0 < slots.now.shape.buckets }
     ensures own { IsOf pass.new.trace slots.now }
+    ensures hand { pass.new.hand ≡ pass.old.hand }
     ensures slot { result.slot ≡ 0 }
     ensures unlinked { IsUnlinked ((knows pass.new.trace).own result.slot) }
 {
@@ -75,10 +76,8 @@ fn remove_one(rt: &impl Abort, slots: &Slots, pass: &mut Pass) -> Unlinked
 
 /// The epoch moves between an unlinking and the return of the slot: the stamp is the new epoch.
 #[test]
-fn a_stamp_is_read_after_the_unlinking(rt: HostRuntime) -> Result<(), Fail> {
-    let (slots, mut passes) = Slots::open(rt.alloc(), Shape::new(1, 1, 10)?, 2)?;
-    let mut b = passes.pop().expect(&rt, "there are two passes");
-    let mut a = passes.pop().expect(&rt, "there are two passes");
+fn a_stamp_is_read_after_the_unlinking(rt: HostRuntime) {
+    let (slots, mut a, mut b) = two_passes(&rt, rt.alloc(), 1, 10);
     insert_one(&rt, &slots, &mut a);
     let unlinked = remove_one(&rt, &slots, &mut a);
     assert!(rt; slots.read_epoch(&mut b) == 1);
@@ -86,12 +85,6 @@ fn a_stamp_is_read_after_the_unlinking(rt: HostRuntime) -> Result<(), Fail> {
     assert_eq!(rt; retire(&slots, &mut a, unlinked), 2);
     assert_eq!(rt; a.epoch(), 2);
     assert_eq!(rt; a.pool(), [0].as_slice());
-    let Some(words) = close_two(rt.alloc(), slots, a, b) else {
-        panic!(rt; "no words")
-    };
-    assert_eq!(rt;
-        words.as_slice(),
-        [2, 10_485_761, 0, 3_145_728, 1, 2, 7, 0].as_slice()
-    );
-    Ok(())
+    let words = [2, 10_485_761, 0, 3_145_728, 1, 2, 7, 0];
+    expect_words(&rt, rt.alloc(), slots, a, b, &words);
 }

@@ -35,6 +35,22 @@ pub fn open_two(alloc: Global, shape: Shape) -> Option<(Slots, Pass, Pass)>
     Some((slots, first, second))
 }
 
+// A fresh table with two passes, of so many slots and one bucket.
+pub fn two_passes(
+    rt: &impl Abort,
+    alloc: Global,
+    slots: u32,
+    last_epoch: u64,
+) -> (Slots, Pass, Pass)
+    ensures shape { (result.0.shape.slots ≡ slots) × (result.0.shape.buckets ≡ 1) × (result.0.shape.last_epoch ≡ last_epoch) }
+    ensures passes { result.0.passes ≡ 2 }
+    ensures first { result.1 ≡ new_pass result.0 0 }
+    ensures second { result.2 ≡ new_pass result.0 1 }
+{
+    let shape = Shape::new(slots, 1, last_epoch).expect(rt, "a shape");
+    open_two(alloc, shape).expect(rt, "there is memory")
+}
+
 // An empty vector with room for two passes. What found no memory left nothing, so it is tried again.
 pub fn room_for_two(alloc: Global) -> Result<Vec<Pass>, AllocError>
     ensures { IfOk result (λ passes. passes.items ≡ []) }
@@ -57,14 +73,37 @@ pub fn close(slots: Slots, alloc: Global, passes: Vec<Pass>) -> Result<Vec<u64>,
     }
 }
 
-// Closes a table with two passes.
-pub fn close_two(alloc: Global, slots: Slots, first: Pass, second: Pass) -> Option<Vec<u64>>
-    requires { IsOf first.trace slots × IsOf second.trace slots }
+// Two passes as a list.
+fn both(alloc: Global, first: Pass, second: Pass) -> Option<Vec<Pass>>
+    ensures { IfSome result (λ passes. passes.items ≡ first ∷ second ∷ []) }
 {
     let mut passes = room_for_two(alloc).ok()?;
     passes.push(first).ok()?;
     passes.push(second).ok()?;
+    Some(passes)
+}
+
+// Closes a table with two passes.
+pub fn close_two(alloc: Global, slots: Slots, first: Pass, second: Pass) -> Option<Vec<u64>>
+    requires { IsOf first.trace slots × IsOf second.trace slots }
+{
+    let passes = both(alloc, first, second)?;
     close(slots, alloc, passes).ok()
+}
+
+// Closes a table with two passes, and compares its words.
+pub fn expect_words(
+    rt: &impl Abort,
+    alloc: Global,
+    slots: Slots,
+    first: Pass,
+    second: Pass,
+    words: &[u64],
+)
+    requires { IsOf first.trace slots × IsOf second.trace slots }
+{
+    let told = close_two(alloc, slots, first, second).expect(rt, "the table is closed");
+    assert_eq!(rt; told.as_slice(), words);
 }
 
 // Reaches for a slot.
@@ -87,10 +126,11 @@ fn gather(alloc: Global, slots: Slots, first: Pass, second: Pass) -> Option<Vec<
     requires second { Has second.trace.seen (event_of 1 (TakeFlag 1)) }
     ensures { IfSome result (λ words. BothTook slots.shape words.items) }
 {
-    let mut passes = room_for_two(alloc).ok()?;
-    passes.push(first).ok()?;
-    passes.push(second).ok()?;
-    close(slots, alloc, passes).ok()
+    let passes = both(alloc, first, second)?;
+    match close(slots, alloc, passes) {
+        Ok(words) => Some(words),
+        Err(_) => None,
+    }
 }
 
 // Two threads reach for a slot each. The words are those of a run that has both steps.
@@ -188,22 +228,20 @@ fn close_late(
     }
 }
 
+// Compares what a pass knows: its number, the epoch, and how many steps it made.
+pub fn expect_pass(rt: &impl Abort, pass: &Pass, wanted: (u32, u64, u64)) {
+    assert_eq!(rt; (pass.who(), pass.epoch(), pass.steps()), wanted);
+}
+
 #[test]
-fn two_passes_share_a_slot(rt: HostRuntime) -> Result<(), Fail> {
-    let Some((slots, mut a, mut b)) = open_two(rt.alloc(), Shape::new(2, 1, 10)?) else {
-        panic!(rt; "no memory")
-    };
+fn two_passes_share_a_slot(rt: HostRuntime) {
+    let (slots, mut a, mut b) = two_passes(&rt, rt.alloc(), 2, 10);
     share(&rt, &slots, &mut a, &mut b);
-    assert_eq!(rt; (a.who(), a.epoch(), a.steps()), (0, 1, 5));
-    assert_eq!(rt; (b.who(), b.epoch(), b.steps()), (1, 2, 4));
-    let Some(words) = close_late(&rt, rt.alloc(), slots, a, b) else {
-        panic!(rt; "no words")
-    };
-    assert_eq!(rt;
-        words.as_slice(),
-        [2, 10_485_762, 0, 1_048_576, 0, 0, 0, 1_048_576, 0, 0, 0, 2].as_slice()
-    );
-    Ok(())
+    expect_pass(&rt, &a, (0, 1, 5));
+    expect_pass(&rt, &b, (1, 2, 4));
+    let words = close_late(&rt, rt.alloc(), slots, a, b).expect(&rt, "the table is closed");
+    let wanted = [2, 10_485_762, 0, 1_048_576, 0, 0, 0, 1_048_576, 0, 0, 0, 2];
+    assert_eq!(rt; words.as_slice(), wanted.as_slice());
 }
 
 #[test]
@@ -265,30 +303,23 @@ fn take_later(rt: &impl Abort, slots: &Slots, pass: &mut Pass)
     pass.keep(0);
 }
 
-// Compares the second pass of `two_passes_meet` with what it was before they met.
-fn expect_unmoved(rt: &impl Abort, pass: &Pass) {
-    assert_eq!(rt; (pass.who(), pass.epoch(), pass.steps()), (1, 2, 4));
-    assert!(rt; pass.pool() == [0].as_slice() && pass.in_hand().is_none());
+// Compares what a pass has: the slots of its own pool, and none in hand.
+pub fn expect_pool(rt: &impl Abort, pass: &Pass, pool: &[u32]) {
+    assert_eq!(rt; pass.pool(), pool);
+    assert!(rt; pass.in_hand().is_none());
 }
 
 #[test]
-fn two_passes_meet(rt: HostRuntime) -> Result<(), Fail> {
-    let Some((slots, mut a, mut b)) = open_two(rt.alloc(), Shape::new(2, 1, 10)?) else {
-        panic!(rt; "no memory")
-    };
+fn two_passes_meet(rt: HostRuntime) {
+    let (slots, mut a, mut b) = two_passes(&rt, rt.alloc(), 2, 10);
     take_later(&rt, &slots, &mut b);
     assert!(rt; slots.advance(&mut a, 2));
-    assert_eq!(rt; (a.epoch(), a.steps()), (1, 1));
+    expect_pass(&rt, &a, (0, 1, 1));
     slots.meet(&mut a, &mut b);
-    assert_eq!(rt; (a.who(), a.epoch(), a.steps()), (0, 3, 2));
-    assert!(rt; a.pool().is_empty() && a.in_hand().is_none());
-    expect_unmoved(&rt, &b);
-    let Some(words) = close_two(rt.alloc(), slots, a, b) else {
-        panic!(rt; "no words")
-    };
-    assert_eq!(rt;
-        words.as_slice(),
-        [3, 10_485_762, 0, 1_048_576, 0, 0, 0, 1_048_576, 0, 0, 0, 2].as_slice()
-    );
-    Ok(())
+    expect_pass(&rt, &a, (0, 3, 2));
+    expect_pool(&rt, &a, &[]);
+    expect_pass(&rt, &b, (1, 2, 4));
+    expect_pool(&rt, &b, &[0]);
+    let wanted = [3, 10_485_762, 0, 1_048_576, 0, 0, 0, 1_048_576, 0, 0, 0, 2];
+    expect_words(&rt, rt.alloc(), slots, a, b, &wanted);
 }

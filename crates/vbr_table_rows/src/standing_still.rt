@@ -5,6 +5,7 @@ ghost use Rattle.vbr_slots.specs.Views.{IsOf};
 ghost use Rattle.vbr_event_lists.specs.Worked.{AreWorked};
 
 use crate::listed_calls::follow;
+use crate::pools::expect_taken;
 use crate::running_table::{open, open_two};
 use std::alloc::Global;
 use std::process::Abort;
@@ -12,7 +13,6 @@ use std::test::Fail;
 use vbr_access::{Checkpoint, Rollback, first};
 use vbr_event_lists::{Row, STANDING, STANDING_WORDS};
 use vbr_list::{insert, remove};
-use vbr_pools::{give_back, take};
 use vbr_slots::{Pass, Slots};
 use vbr_words::Shape;
 
@@ -169,6 +169,14 @@ fn fill_and_empty(rt: &impl Abort, slots: &Slots, pass: &mut Pass)
     }
 }
 
+// Compares the own pool of a pass: the slots 0 to 62.
+fn expect_full_pool(rt: &impl Abort, pass: &Pass) {
+    assert_eq!(rt; pass.pool().len(), 63);
+    for (place, slot) in pass.pool().iter().enumerate() {
+        assert!(rt; *slot as usize == place);
+    }
+}
+
 /// A pass keeps 63 of the slots that it unlinked, and gives the next one to the shared pool; the first
 /// that it takes again is the oldest, in an epoch that it raises.
 #[test]
@@ -178,18 +186,9 @@ fn sixty_four_slots_filled_and_emptied(rt: HostRuntime) -> Result<(), Fail> {
         panic!(rt; "no pass")
     };
     fill_and_empty(&rt, &slots, &mut pass);
-    assert_eq!(rt; pass.pool().len(), 63);
-    for i in 0..pass.pool().len() {
-        assert!(rt; pass.pool()[i] as usize == i);
-    }
+    expect_full_pool(&rt, &pass);
     assert_eq!(rt; pass.epoch(), 1);
-    let steps = pass.steps();
-    let Ok(hand) = take(&slots, &mut pass, 80) else {
-        panic!(rt; "no slot")
-    };
-    assert_eq!(rt; (hand.slot(), hand.birth()), (0, 2));
-    assert!(rt; pass.steps() == steps.saturating_add(67));
-    give_back(&mut pass, hand);
+    expect_taken(&rt, &slots, &mut pass, 80, Ok((0, 2)), 67);
     assert_eq!(rt; slots.take_flag(&mut pass, 63), Ok(()));
     Ok(())
 }

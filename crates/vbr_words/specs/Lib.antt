@@ -3,3 +3,4 @@ pub mod Shapes
 pub mod Words
 pub mod Flags
 pub mod Places
+pub mod Messages

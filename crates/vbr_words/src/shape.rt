@@ -46,6 +46,11 @@ pub enum ShapeError {
 }
 
 impl fmt::Display for ShapeError {
+    ghost use Rattle.std.specs.Prelude.{Some};
+    ghost use Rattle.vbr_words.specs.Messages.{error_text};
+
+    ghost output = { λ e. Some (error_text e) };
+
     fn fmt<W: fmt::Write>(&self, f: &mut fmt::Formatter<W>) -> fmt::Result {
         match self {
             ShapeError::Slots => write!(f, "the number of slots is not from 1 to {MAX_SLOTS}"),

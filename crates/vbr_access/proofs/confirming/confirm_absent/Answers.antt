@@ -8,7 +8,7 @@ use Rattle.vbr_pools.proofs.Advancing.{did_none}
 use Rattle.vbr_access.proofs.AloneExchanges.{absent_confirmed}
 use Rattle.vbr_access.proofs.Accepted.{place_in, absent_accepted}
 use Rattle.vbr_access.proofs.MadeCalls.{absent_made, absent_failed, absent_adds, absent_adds_none}
-use Rattle.vbr_access.proofs.SafeCalls.{made_safe}
+use Rattle.vbr_access.proofs.SafeCalls.{made_safe, quiet_safe}
 use Rattle.vbr_access.proofs.confirming.confirm_absent.Goals as goal
 
 pub confirm_absent-requires-clause-at : goal.confirm_absent-requires-clause-at
@@ -32,8 +32,8 @@ returns-in-Ok-clause-made c = absent_made c.in-Ok.ensures.step
 pub returns-in-Err-clause-quiet : goal.returns-in-Err-clause-quiet
 returns-in-Err-clause-quiet c = absent_failed c.in-Err.ensures.step.0 c.in-Err.ensures.step.1
 
-pub returns-in-Ok-clause-right : goal.returns-in-Ok-clause-right
-returns-in-Ok-clause-right c = made_safe c.args.pass.now c.soundness.ensures (absent_made c.in-Ok.ensures.step)
+pub returns-in-Ok-clause-safe : goal.returns-in-Ok-clause-safe
+returns-in-Ok-clause-safe c = made_safe c.args.pass.now c.soundness.ensures (absent_made c.in-Ok.ensures.step)
 
 pub returns-in-Ok-clause-raises_none : goal.returns-in-Ok-clause-raises_none
 returns-in-Ok-clause-raises_none c = did_none c.in-Ok.ensures.step refl c.confirm_absent.ensures.pool
@@ -55,3 +55,6 @@ returns-in-Ok-clause-only_loads c = did_loads c.in-Ok.ensures.step (λ know. ref
 
 pub returns-in-Err-clause-only_loads : goal.returns-in-Err-clause-only_loads
 returns-in-Err-clause-only_loads c = did_loads c.in-Err.ensures.step.0 (λ know. refl)
+
+pub returns-in-Err-clause-safe : goal.returns-in-Err-clause-safe
+returns-in-Err-clause-safe c = quiet_safe c.args.pass.now c.soundness.ensures (absent_failed c.in-Err.ensures.step.0 c.in-Err.ensures.step.1)

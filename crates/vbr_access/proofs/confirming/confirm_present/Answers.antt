@@ -12,7 +12,7 @@ use Rattle.vbr_slots.specs.Alone.{nodes}
 use Rattle.vbr_access.proofs.AloneExchanges.{present_confirmed}
 use Rattle.vbr_access.proofs.Accepted.{present_accepted}
 use Rattle.vbr_access.proofs.MadeCalls.{present_made, present_failed, present_adds, present_adds_none}
-use Rattle.vbr_access.proofs.SafeCalls.{made_safe}
+use Rattle.vbr_access.proofs.SafeCalls.{made_safe, quiet_safe}
 use Rattle.vbr_access.proofs.confirming.confirm_present.Goals as goal
 
 pub confirm_present-requires-clause-slot : goal.confirm_present-requires-clause-slot
@@ -31,8 +31,8 @@ returns-in-Ok-clause-made c = λ key k.
 pub returns-in-Err-clause-quiet : goal.returns-in-Err-clause-quiet
 returns-in-Err-clause-quiet c = present_failed c.in-Err.ensures.step.0 c.in-Err.ensures.step.1
 
-pub returns-in-Ok-clause-right : goal.returns-in-Ok-clause-right
-returns-in-Ok-clause-right c =
+pub returns-in-Ok-clause-safe : goal.returns-in-Ok-clause-safe
+returns-in-Ok-clause-safe c =
     let P : At → Type 0 = λ at. KeyAt (knows c.args.pass.now.trace) at c.requires.key.0 in
     made_safe c.args.pass.now c.soundness.ensures (present_made c.soundness.ensures.shape c.soundness.ensures.is_run c.in-Ok.ensures.step c.requires.key.0 (subst P c.in-Slot.is c.requires.key.1))
 
@@ -60,3 +60,6 @@ returns-in-Ok-clause-only_loads c = did_loads c.in-Ok.ensures.step (λ know. ref
 
 pub returns-in-Err-clause-only_loads : goal.returns-in-Err-clause-only_loads
 returns-in-Err-clause-only_loads c = did_loads c.in-Err.ensures.step.0 (λ know. refl)
+
+pub returns-in-Err-clause-safe : goal.returns-in-Err-clause-safe
+returns-in-Err-clause-safe c = quiet_safe c.args.pass.now c.soundness.ensures (present_failed c.in-Err.ensures.step.0 c.in-Err.ensures.step.1)

@@ -14,7 +14,7 @@ use Rattle.vbr_access.proofs.Accepted.{mark_accepted}
 use Rattle.vbr_access.proofs.Keeping.{held_kept}
 use Rattle.vbr_access.proofs.WonExchanges.{mark_keeps, mark_known}
 use Rattle.vbr_access.proofs.MadeCalls.{mark_made, mark_failed}
-use Rattle.vbr_access.proofs.SafeCalls.{made_safe}
+use Rattle.vbr_access.proofs.SafeCalls.{made_safe, quiet_safe}
 use Rattle.vbr_access.proofs.marking.mark.Goals as goal
 
 pub mark-requires-clause-slot : goal.mark-requires-clause-slot
@@ -45,8 +45,8 @@ returns-in-Ok-clause-held c =
 pub returns-in-Err-clause-quiet : goal.returns-in-Err-clause-quiet
 returns-in-Err-clause-quiet c = mark_failed c.in-Err.ensures.step.0 c.in-Err.ensures.step.1
 
-pub returns-in-Ok-clause-right : goal.returns-in-Ok-clause-right
-returns-in-Ok-clause-right c =
+pub returns-in-Ok-clause-safe : goal.returns-in-Ok-clause-safe
+returns-in-Ok-clause-safe c =
     let P : At → Type 0 = λ at. KeyAt (knows c.args.pass.now.trace) at c.requires.key.0 in
     made_safe c.args.pass.now c.soundness.ensures (mark_made c.soundness.ensures.shape c.soundness.ensures.is_run c.in-Ok.ensures.step c.requires.key.0 (subst P c.in-Slot.is c.requires.key.1))
 
@@ -60,3 +60,6 @@ pub returns-in-Err-clause-wins : goal.returns-in-Err-clause-wins
 returns-in-Err-clause-wins c = λ alone stands.
     let P : At → Type 0 = λ at. link_at (nodes c.args.pass.now.trace) at ≡ link_of c.args.held.now.word in
     mark_wins c.soundness.ensures.shape alone c.in-Slot.slot c.args.held.now.word c.in-Err.ensures.step.0 c.in-Err.ensures.step.1 (subst P c.in-Slot.is stands)
+
+pub returns-in-Err-clause-safe : goal.returns-in-Err-clause-safe
+returns-in-Err-clause-safe c = quiet_safe c.args.pass.now c.soundness.ensures (mark_failed c.in-Err.ensures.step.0 c.in-Err.ensures.step.1)

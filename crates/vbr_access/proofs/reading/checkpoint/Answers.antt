@@ -5,6 +5,7 @@ use Rattle.vbr_slots.proofs.Alone.{looks, fresh_read}
 use Rattle.vbr_pools.proofs.Moments.{epoch_told}
 use Rattle.vbr_access.proofs.CheckedReads.{epoch_quiet}
 use Rattle.vbr_access.proofs.Moments.{epoch_read}
+use Rattle.vbr_access.proofs.SafeCalls.{quiet_safe}
 use Rattle.vbr_access.proofs.reading.checkpoint.Goals as goal
 
 pub returns-clause-quiet : goal.returns-clause-quiet
@@ -27,3 +28,6 @@ returns-clause-fresh c = fresh_read c.soundness.ensures.shape c.read_epoch.ensur
 
 pub returns-clause-only_loads : goal.returns-clause-only_loads
 returns-clause-only_loads c = did_loads c.read_epoch.ensures.step (λ know. refl)
+
+pub returns-clause-safe : goal.returns-clause-safe
+returns-clause-safe c = quiet_safe c.args.pass.now c.soundness.ensures (epoch_quiet c.read_epoch.ensures.step)

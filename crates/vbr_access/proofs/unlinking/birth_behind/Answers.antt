@@ -10,6 +10,7 @@ use Rattle.vbr_access.proofs.AloneReads.{birth_looks, birth_still}
 use Rattle.vbr_access.proofs.Accepted.{named_slot, slot_in, slot_found}
 use Rattle.vbr_access.proofs.CheckedReads.{birth_quiet, epoch_quiet, birth_keeps, birth_read}
 use Rattle.vbr_access.proofs.NoneUnlinked.{birth_unlinks_none, epoch_unlinks_none}
+use Rattle.vbr_access.proofs.SafeCalls.{safe_now, quiet_safe}
 use Rattle.vbr_access.proofs.unlinking.birth_behind.Goals as goal
 
 pub load_birth-birth-requires-clause-slot : goal.load_birth-birth-requires-clause-slot
@@ -54,3 +55,12 @@ returns-then-now-marked-clause-still c = λ fresh alone. c.if-now-marked.true (b
 
 pub returns-clause-looks : goal.returns-clause-looks
 returns-clause-looks c = λ alone. birth_looks c.load_birth-birth.ensures.step c.read_epoch-now.ensures.step alone
+
+pub returns-in_default-clause-safe : goal.returns-in_default-clause-safe
+returns-in_default-clause-safe c = safe_now c.args.pass.now c.soundness.ensures
+
+pub returns-then-now-marked-clause-safe : goal.returns-then-now-marked-clause-safe
+returns-then-now-marked-clause-safe c = quiet_safe c.args.pass.now c.soundness.ensures (quiet_on (birth_quiet c.load_birth-birth.ensures.step) (epoch_quiet c.read_epoch-now.ensures.step))
+
+pub returns-clause-safe : goal.returns-clause-safe
+returns-clause-safe c = quiet_safe c.args.pass.now c.soundness.ensures (quiet_on (birth_quiet c.load_birth-birth.ensures.step) (epoch_quiet c.read_epoch-now.ensures.step))

@@ -58,8 +58,8 @@ returns-in-Ok-clause-read c =
 pub returns-in-Err-clause-quiet : goal.returns-in-Err-clause-quiet
 returns-in-Err-clause-quiet c = quiet_on c.birth_behind.ensures.quiet (unlink_quiet c.in-Err.ensures.step.0)
 
-pub returns-in-Ok-clause-right : goal.returns-in-Ok-clause-right
-returns-in-Ok-clause-right c = quiet_safe c.birth_behind.new.pass c.soundness.ensures (unlink_quiet c.in-Ok.ensures.step)
+pub returns-in-Ok-clause-safe : goal.returns-in-Ok-clause-safe
+returns-in-Ok-clause-safe c = quiet_safe c.birth_behind.new.pass c.soundness.ensures (unlink_quiet c.in-Ok.ensures.step)
 
 pub returns-in-Ok-clause-raises_none : goal.returns-in-Ok-clause-raises_none
 returns-in-Ok-clause-raises_none c = none_on c.birth_behind.ensures.raises_none (did_none c.in-Ok.ensures.step refl c.unlink.ensures.pool)
@@ -99,3 +99,9 @@ either (Err e) p = p
 
 pub returns-in_err-next_birth-clause-wins : goal.returns-in_err-next_birth-clause-wins
 returns-in_err-next_birth-clause-wins c = either c.from_residual.result (λ fresh alone stands. c.in_err-next_birth.ensures.still fresh alone)
+
+pub returns-in_err-next_birth-clause-safe : goal.returns-in_err-next_birth-clause-safe
+returns-in_err-next_birth-clause-safe c = c.birth_behind.ensures.safe
+
+pub returns-in-Err-clause-safe : goal.returns-in-Err-clause-safe
+returns-in-Err-clause-safe c = quiet_safe c.birth_behind.new.pass c.soundness.ensures (unlink_quiet c.in-Err.ensures.step.0)

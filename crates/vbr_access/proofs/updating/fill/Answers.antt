@@ -7,7 +7,8 @@ use Rattle.vbr_core.specs.Links.{link_to}
 use Rattle.vbr_slots.specs.Views.{knows}
 use Rattle.vbr_slots.proofs.Alone.{alone_two, key_stored_leaves, link_stored_leaves}
 use Rattle.vbr_slots.proofs.Calls.{quiet_on}
-use Rattle.vbr_pools.proofs.Advancing.{same_advances}
+use Rattle.vbr_pools.specs.Advances.{RaisesNone}
+use Rattle.vbr_pools.proofs.Advancing.{did_none, keeps_on, same_advances}
 use Rattle.vbr_access.specs.Held.{IsFilled}
 use Rattle.vbr_access.proofs.Keeping.{held_kept, birth_named_kept}
 use Rattle.vbr_access.proofs.WrittenLinks.{fits, birth_in_hand_low, birth_named_low}
@@ -87,3 +88,9 @@ returns-clause-stands c = λ alone unmarked stands.
     let each = alone_two key c.store_link.ensures.step alone in
     let held = held_kept c.args.pred.now (key_stored_keeps key) c.requires.pred in
     link_stored_leaves c.args.pred.now.at (link_of c.args.pred.now.word) c.soundness-2.ensures.shape c.store_link.ensures.step each.1 held.link unmarked (key_stored_leaves c.args.pred.now.at c.soundness.ensures.shape key each.0 ∙ stands)
+
+pub returns-clause-kept : goal.returns-clause-kept
+returns-clause-kept c =
+    let first : RaisesNone c.args.pass.now c.store_key.new.pass = did_none c.store_key.ensures.step refl c.store_key.ensures.pool in
+    let then : RaisesNone c.store_key.new.pass c.store_link.new.pass = did_none c.store_link.ensures.step refl c.store_link.ensures.pool in
+    keeps_on c.args.pass.now c.store_key.new.pass c.store_link.new.pass first.kept then.kept

@@ -10,7 +10,8 @@ use Rattle.vbr_slots.specs.Calls.{Made}
 use Rattle.vbr_slots.specs.Views.{knows}
 use Rattle.vbr_slots.proofs.Alone.{alone_first, alone_then}
 use Rattle.vbr_slots.proofs.Calls.{did_seen, quiet_on, made_on}
-use Rattle.vbr_pools.proofs.Advancing.{same_advances}
+use Rattle.vbr_pools.specs.Advances.{RaisesNone}
+use Rattle.vbr_pools.proofs.Advancing.{did_none, keeps_on as slots_kept, same_advances}
 use Rattle.vbr_access.specs.Held.{IsFilled}
 use Rattle.vbr_access.proofs.AloneExchanges.{publish_wins}
 use Rattle.vbr_access.proofs.Keeping.{keeps_on, held_kept, birth_named_kept, behind_kept, before_kept}
@@ -20,7 +21,8 @@ use Rattle.vbr_access.proofs.MadeCalls.{publish_failed}
 use Rattle.vbr_access.proofs.Moments.{publish_found, found_after}
 use Rattle.vbr_access.proofs.Accepted.{place_in}
 use Rattle.vbr_access.proofs.Filled.{hand_filled, hand_at, publish_accepted, publish_writes, publish_made}
-use Rattle.vbr_access.proofs.SafeCalls.{made_safe}
+use Rattle.vbr_access.proofs.KeptSlots.{publish_kept}
+use Rattle.vbr_access.proofs.SafeCalls.{made_safe, quiet_safe}
 use Rattle.vbr_access.proofs.updating.update.Goals as goal
 
 pub link_to-new-requires : goal.link_to-new-requires
@@ -91,8 +93,8 @@ returns-in-Err-clause-lost c =
     let d = c.in-Err.ensures.step in
     (d.1, found_after c.fill.ensures.quiet (publish_found d.0 d.1), keeps_on c.fill.ensures.keeps (publish_lost_keeps d.0 d.1))
 
-pub returns-in-Ok-clause-right : goal.returns-in-Ok-clause-right
-returns-in-Ok-clause-right c =
+pub returns-in-Ok-clause-safe : goal.returns-in-Ok-clause-safe
+returns-in-Ok-clause-safe c =
     let p = c.fill.new.pass in
     let Q : ℕ → Type 0 = λ s. IsFilled ((knows p.trace).own s) c.args.hand.birth c.args.key (link_to (link_of c.args.pred.now.word).slot c.args.hand.birth c.birth_named-birth.result) in
     made_safe p c.soundness.ensures (publish_made p c.soundness.ensures c.args.pred.now c.slot-slot.result c.args.key c.args.hand.birth c.birth_named-birth.result (held_kept c.args.pred.now c.fill.ensures.keeps c.requires.pred) (subst Q (sym c.slot-slot.ensures) c.fill.ensures.filled) c.in-Ok.ensures.step)
@@ -110,3 +112,17 @@ returns-in-Err-clause-wins c = λ alone stands.
     let first = alone_first fill.seen (did_seen d.0) alone in
     let then = alone_then fill.same.who fill.seen (did_seen d.0) alone in
     publish_wins c.soundness.ensures.shape then c.args.pred.now.at c.args.pred.now.word c.slot-slot.result d.0 d.1 (c.fill.ensures.stands first c.requires.unmarked stands)
+
+pub returns-in-Err-clause-safe : goal.returns-in-Err-clause-safe
+returns-in-Err-clause-safe c = quiet_safe c.fill.new.pass c.soundness.ensures (publish_failed c.in-Err.ensures.step.0 c.in-Err.ensures.step.1)
+
+pub returns-in-Ok-clause-kept : goal.returns-in-Ok-clause-kept
+returns-in-Ok-clause-kept c =
+    let p = c.fill.new.pass in
+    let hand = c.fill.ensures.pool.1 ∙ c.requires.hand.slot ∙ ap Some (sym c.slot-slot.ensures) in
+    slots_kept c.args.pass.now p c.publish.new.pass c.fill.ensures.kept (publish_kept p c.publish.new.pass c.in-Ok.ensures.step hand c.publish.ensures.pool)
+
+pub returns-in-Err-clause-kept : goal.returns-in-Err-clause-kept
+returns-in-Err-clause-kept c =
+    let then : RaisesNone c.fill.new.pass c.publish.new.pass = did_none c.in-Err.ensures.step.0 refl (c.publish.ensures.pool, c.in-Err.ensures.err) in
+    slots_kept c.args.pass.now c.fill.new.pass c.publish.new.pass c.fill.ensures.kept then.kept

@@ -2,7 +2,7 @@ use Rattle.std.proofs.lemmas.Result.{err_from_is_err_and}
 use Rattle.std.proofs.Common.{◌≡◌, ℕ, ◌+◌, ◌*◌, ◌<◌, ◌≤◌, [], sym, ◌∙◌, arith}
 use Rattle.vbr_core.specs.declared.history.Op.TheVariants.{Insert}
 use Rattle.vbr_slots.proofs.Calls.{same_on}
-use Rattle.vbr_pools.proofs.Advancing.{needed_before}
+use Rattle.vbr_pools.proofs.Advancing.{keeps_on, needed_before}
 use Rattle.vbr_pools.specs.Budgets.{most_to_take}
 use Rattle.vbr_slots.specs.Alone.{IsAlone}
 use Rattle.vbr_slots.proofs.Alone.{alone_first, alone_then}
@@ -13,6 +13,7 @@ use Rattle.vbr_list.proofs.Going.{bucket_is}
 use Rattle.vbr_list.proofs.Sufficing.{answered_or_spent, each_error, lacks, lacks_more, never_refused, no_more_listed, refused_empty}
 use Rattle.vbr_list.proofs.LonePasses.{alone, each_alone}
 use Rattle.vbr_list.proofs.Preparing.{each_same, each_seen, each_since, within_after, within_all, within_second}
+use Rattle.vbr_access.proofs.SafeCalls.{made_safe, quiet_safe, run_safe}
 use Rattle.vbr_list.proofs.inserting.insert.Goals as goal
 
 pub prepare-requires-clause-bucket : goal.prepare-requires-clause-bucket
@@ -83,3 +84,20 @@ returns-in-Some-clause-ready c = λ some alone enough.
     answered_or_spent c.args.pass.now c.link.new.pass c.args.budget (listed_for c.args.pass.now.trace c.args.key) c.link.result some alone enough
     (each_error (λ refusal. IsShort q c.link.new.pass c.prepare.new.used c.args.budget refusal) (λ refusal. refusal ≡ NoSlot → c.args.pass.now.pool ≡ []) c.link.result (never_refused c.args.pass.now.pool q c.link.new.pass c.prepare.new.used c.args.budget) c.link.ensures.refused)
     (returns-in-Some-clause-within c)
+
+pub returns-in_err-prepare-clause-safe : goal.returns-in_err-prepare-clause-safe
+returns-in_err-prepare-clause-safe c = quiet_safe c.args.pass.now c.soundness.ensures.sound c.in_err-prepare.ensures.quiet
+
+pub returns-in-None-clause-safe : goal.returns-in-None-clause-safe
+returns-in-None-clause-safe c =
+    let x = rw c.in-None.is at c.in_ok-prepare.ensures.prepared in
+    made_safe c.args.pass.now c.soundness.ensures.sound x.0
+
+pub returns-in-Some-clause-safe : goal.returns-in-Some-clause-safe
+returns-in-Some-clause-safe c =
+    let x = rw c.in-Some.is at c.in_ok-prepare.ensures.prepared in
+    let more = each_seen c.prepare.new.pass.trace c.link.new.pass.trace Insert c.args.key c.link.result c.link.ensures.made c.link.ensures.quiet in
+    run_safe c.args.pass.now c.soundness.ensures.sound (returns-in-Some-clause-same c) (more.1 (x.0.is_run c.soundness.ensures.sound.is_run))
+
+pub returns-in-Some-clause-kept : goal.returns-in-Some-clause-kept
+returns-in-Some-clause-kept c = keeps_on c.args.pass.now c.prepare.new.pass c.link.new.pass c.prepare.ensures.kept c.link.ensures.kept

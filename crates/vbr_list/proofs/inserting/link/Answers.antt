@@ -2,6 +2,7 @@ use Rattle.std.proofs.Common.{ℕ, ◌+◌, ◌*◌, ◌<◌, ap, ◌∙◌, sub
 use Rattle.vbr_slots.specs.Views.{Trace}
 use Rattle.vbr_slots.proofs.Calls.{quiet_on}
 use Rattle.vbr_pools.specs.Advances.{advances}
+use Rattle.vbr_pools.proofs.Advancing.{keeps_on, keeps_refl}
 use Rattle.vbr_pools.proofs.Counting.{no_room}
 use Rattle.vbr_slots.specs.Alone.{IsAlone}
 use Rattle.vbr_list.specs.Budgets.{listed_for}
@@ -47,6 +48,7 @@ loop-found-preserved c =
       c.in-Err.ensures.hand,
       first_lost c.args.pass.now c.loop-found.pass c.settle.new.pass c.loop-found.invariant.4 c.loop-found.invariant.0 (quiet_on s.goes.quiet c.in-Err.ensures.quiet)
           (λ alone. let f = c.in-Some.ensures.alone (first_of s.goes.quiet c.in-Err.ensures.quiet alone) in c.in-Err.ensures.wins f.pred.stands f.cur (then_of s.goes.quiet c.in-Err.ensures.quiet alone)),
+      keeps_on c.args.pass.now c.search.new.pass c.settle.new.pass (keeps_on c.args.pass.now c.loop-found.pass c.search.new.pass c.loop-found.invariant.5 c.search.ensures.goes.hand.raises_none.kept) c.settle.ensures.kept,
     )
 
 pub returns-in_default-clause-short : goal.returns-in_default-clause-short
@@ -60,3 +62,12 @@ returns-then-not-affords-clause-short c = λ alone.
     let short = no_room c.search.new.used c.args.budget c.affords.result c.if-not-affords.true c.affords.ensures.1 in
     at_first (λ q since. c.args.budget < since + 9 * listed_for q.trace c.args.key + 11) c.args.pass.now c.loop-found.pass c.search.new.pass c.loop-found.invariant.4 c.loop-found.invariant.0 c.search.ensures.goes.quiet (subst P c.give_back-then-not-affords.ensures.trace alone)
     (λ then. let f = (c.in-Some.ensures.alone then).paid in omega (arith, f, short))
+
+pub returns-in_default-clause-kept : goal.returns-in_default-clause-kept
+returns-in_default-clause-kept c = keeps_on c.args.pass.now c.search.new.pass c.give_back.new.pass (keeps_on c.args.pass.now c.loop-found.pass c.search.new.pass c.loop-found.invariant.5 c.search.ensures.goes.hand.raises_none.kept) c.give_back.ensures.kept
+
+pub returns-then-not-affords-clause-kept : goal.returns-then-not-affords-clause-kept
+returns-then-not-affords-clause-kept c = keeps_on c.args.pass.now c.search.new.pass c.give_back-then-not-affords.new.pass (keeps_on c.args.pass.now c.loop-found.pass c.search.new.pass c.loop-found.invariant.5 c.search.ensures.goes.hand.raises_none.kept) c.give_back-then-not-affords.ensures.kept
+
+pub returns-in-Ok-clause-kept : goal.returns-in-Ok-clause-kept
+returns-in-Ok-clause-kept c = keeps_on c.args.pass.now c.search.new.pass c.settle.new.pass (keeps_on c.args.pass.now c.loop-found.pass c.search.new.pass c.loop-found.invariant.5 c.search.ensures.goes.hand.raises_none.kept) c.settle.ensures.kept

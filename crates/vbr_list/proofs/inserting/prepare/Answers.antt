@@ -10,7 +10,7 @@ use Rattle.vbr_list.specs.Nearing.{FoundAlone}
 use Rattle.vbr_list.proofs.Nearing.{at_first, either, first_lost, first_of, then_of}
 use Rattle.vbr_list.proofs.Sufficing.{each_error, lacks, lacks_more, take_after, take_least, take_later}
 use Rattle.vbr_list.proofs.Moments.{found_since, was_so}
-use Rattle.vbr_pools.proofs.Advancing.{needed_after}
+use Rattle.vbr_pools.proofs.Advancing.{keeps_on, needed_after}
 use Rattle.vbr_pools.proofs.Counting.{no_room}
 use Rattle.vbr_list.proofs.Preparing.{if_err, if_ok, made_since, refuses_after, within_after, within_on, within_tries}
 use Rattle.vbr_list.proofs.inserting.prepare.Goals as goal
@@ -132,3 +132,18 @@ returns-in_err-hand-clause-enough c =
 
 pub returns-then-not-found-clause-prepared : goal.returns-then-not-found-clause-prepared
 returns-then-not-found-clause-prepared c = (quiet_on (quiet_on c.loop-found.invariant.0.goes.quiet c.search.ensures.goes.quiet) c.provide.ensures.quiet, c.in_ok-hand.ensures.hand)
+
+pub returns-in_default-clause-kept : goal.returns-in_default-clause-kept
+returns-in_default-clause-kept c = (goes_on c.loop-found.invariant.0.goes c.search.ensures.goes).hand.raises_none.kept
+
+pub returns-then-not-affords-clause-kept : goal.returns-then-not-affords-clause-kept
+returns-then-not-affords-clause-kept c = (goes_on c.loop-found.invariant.0.goes c.search.ensures.goes).hand.raises_none.kept
+
+pub returns-in_err-hand-clause-kept : goal.returns-in_err-hand-clause-kept
+returns-in_err-hand-clause-kept c = keeps_on c.args.pass.now c.search.new.pass c.provide.new.pass (goes_on c.loop-found.invariant.0.goes c.search.ensures.goes).hand.raises_none.kept c.provide.ensures.kept
+
+pub returns-then-not-found-clause-kept : goal.returns-then-not-found-clause-kept
+returns-then-not-found-clause-kept c = keeps_on c.args.pass.now c.search.new.pass c.provide.new.pass (goes_on c.loop-found.invariant.0.goes c.search.ensures.goes).hand.raises_none.kept c.provide.ensures.kept
+
+pub returns-then-is_ok-clause-kept : goal.returns-then-is_ok-clause-kept
+returns-then-is_ok-clause-kept c = keeps_on c.args.pass.now c.search.new.pass c.deny-denied.new.pass (goes_on c.loop-found.invariant.0.goes c.search.ensures.goes).hand.raises_none.kept c.deny-denied.ensures.raises_none.kept

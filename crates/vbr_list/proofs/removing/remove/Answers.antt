@@ -8,6 +8,7 @@ use Rattle.std.proofs.Common.{◌≡◌, ℕ, ◌+◌, ◌*◌, ◌<◌, ◌≤�
 use Rattle.vbr_list.specs.Budgets.{listed_for}
 use Rattle.vbr_list.proofs.Nearing.{at_first, first_lost, first_of, then_of}
 use Rattle.vbr_list.proofs.Preparing.{made_since}
+use Rattle.vbr_access.proofs.SafeCalls.{made_safe, quiet_safe}
 use Rattle.vbr_list.proofs.removing.remove.Goals as goal
 
 pub search-requires-clause-bucket : goal.search-requires-clause-bucket
@@ -70,3 +71,12 @@ returns-then-not-affords-clause-within c = λ alone.
     let x : c.args.budget < 0 + 9 * listed_for c.args.pass.now.trace c.args.key + 11 = at_first (λ q since. c.args.budget < since + 9 * listed_for q.trace c.args.key + 11) c.args.pass.now c.loop-found.pass c.search.new.pass c.loop-found.invariant.1 c.loop-found.invariant.0.goes.quiet c.search.ensures.goes.quiet alone
     (λ then. let f = (c.in-Some.ensures.alone then).paid in omega (arith, f, short)) in
     omega (arith, x)
+
+pub returns-in_default-clause-safe : goal.returns-in_default-clause-safe
+returns-in_default-clause-safe c = quiet_safe c.args.pass.now c.soundness.ensures.sound (quiet_on c.loop-found.invariant.0.goes.quiet c.search.ensures.goes.quiet)
+
+pub returns-then-not-affords-clause-safe : goal.returns-then-not-affords-clause-safe
+returns-then-not-affords-clause-safe c = quiet_safe c.args.pass.now c.soundness.ensures.sound (quiet_on c.loop-found.invariant.0.goes.quiet c.search.ensures.goes.quiet)
+
+pub returns-in-Ok-clause-safe : goal.returns-in-Ok-clause-safe
+returns-in-Ok-clause-safe c = made_safe c.args.pass.now c.soundness.ensures.sound (made_since (quiet_on c.loop-found.invariant.0.goes.quiet c.search.ensures.goes.quiet) c.in-Ok.ensures.made)

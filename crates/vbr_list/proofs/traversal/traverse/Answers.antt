@@ -15,11 +15,11 @@ returns-then-not-affords-3-clause-goes c = goes_on c.loop-pred.invariant.tries.g
 pub returns-in-Ok-Beyond-clause-goes : goal.returns-in-Ok-Beyond-clause-goes
 returns-in-Ok-Beyond-clause-goes c = goes_on c.loop-pred.invariant.tries.goes c.visit.ensures.goes
 
-pub returns-in-Err-help-clause-goes : goal.returns-in-Err-help-clause-goes
-returns-in-Err-help-clause-goes c = goes_on c.loop-pred.invariant.tries.goes (goes_on c.visit.ensures.goes c.help.ensures.goes)
+pub returns-in-Err-outcome-clause-goes : goal.returns-in-Err-outcome-clause-goes
+returns-in-Err-outcome-clause-goes c = goes_on c.loop-pred.invariant.tries.goes (goes_on c.visit.ensures.goes c.help_apart-outcome.ensures.goes)
 
-pub help-requires-clause-pred : goal.help-requires-clause-pred
-help-requires-clause-pred c = pred_on c.args.key c.loop-pred.pred c.visit.ensures.goes.quiet.same c.in-Ok-Marked.ensures.keeps c.loop-pred.invariant.reached.is
+pub help_apart-outcome-requires-clause-pred : goal.help_apart-outcome-requires-clause-pred
+help_apart-outcome-requires-clause-pred c = pred_on c.args.key c.loop-pred.pred c.visit.ensures.goes.quiet.same c.in-Ok-Marked.ensures.keeps c.loop-pred.invariant.reached.is
 
 pub loop-pred-preserved : goal.loop-pred-preserved
 loop-pred-preserved c =
@@ -40,18 +40,18 @@ loop-pred-preserved c =
     let near = i.nears first in
     nears_visit p q r c.args.key c.args.used.now c.loop-pred.used c.visit.new.used c.loop-pred.pred c.in-Ok-Smaller.node near (c.visit.ensures.looks then) c.visit.ensures.goes.quiet.same.shape n (m near.keeps.fresh (inl i.reached.is.unmarked) near.keeps.stands then))
 
-pub loop-pred-preserved-in-Ok-help : goal.loop-pred-preserved-in-Ok-help
-loop-pred-preserved-in-Ok-help c =
-    let s = c.in-Ok-help.ensures.pred in
+pub loop-pred-preserved-in-Ok-outcome : goal.loop-pred-preserved-in-Ok-outcome
+loop-pred-preserved-in-Ok-outcome c =
+    let s = c.in-Ok-outcome.ensures.pred in
     let x = c.visit.ensures.used in
-    let y = c.help.ensures.used in
+    let y = c.help_apart-outcome.ensures.used in
     let z = c.affords-in-Ok-Marked.ensures.0 c.if-not-affords-3.false in
-    traverses_on c.loop-pred.invariant (goes_on c.visit.ensures.goes c.help.ensures.goes) (omega (arith, x, y)) (omega (arith, y, z)) (record { is = s.is; stood = stood_since c.visit.ensures.goes.quiet s.stood })
+    traverses_on c.loop-pred.invariant (goes_on c.visit.ensures.goes c.help_apart-outcome.ensures.goes) (omega (arith, x, y)) (omega (arith, y, z)) (record { is = s.is; stood = stood_since c.visit.ensures.goes.quiet s.stood })
     (λ alone.
     let i = c.loop-pred.invariant in
     let a = i.tries.goes.quiet in
     let v = c.visit.ensures.goes.quiet in
-    let h = c.help.ensures.goes.quiet in
+    let h = c.help_apart-outcome.ensures.goes.quiet in
     let near = i.nears (first_of a (quiet_on v h) alone) in
     let later = then_of a (quiet_on v h) alone in
     let one = first_of v h later in
@@ -59,8 +59,8 @@ loop-pred-preserved-in-Ok-help c =
     let n : c.visit.new.used ≡ c.loop-pred.used + 3 = rw c.in-Ok-Marked.field-0-is at c.in-Ok-Marked.ensures.count in
     let l = c.visit.ensures.looks one in
     let met = m near.keeps.fresh (inl c.loop-pred.invariant.reached.is.unmarked) near.keeps.stands one in
-    nears_help c.args.pass.now.trace c.loop-pred.pass.trace c.visit.new.pass.trace c.help.new.pass.trace c.args.key c.args.used.now c.loop-pred.used c.visit.new.used c.help.new.used c.loop-pred.pred c.in-Ok-help.place near l v.same.shape n c.help.ensures.few
-    (c.in-Ok-help.ensures.alone met.0.fresh (stands_on c.loop-pred.pass.trace c.visit.new.pass.trace c.loop-pred.pred l near.keeps.stands) (then_of v h later)))
+    nears_help c.args.pass.now.trace c.loop-pred.pass.trace c.visit.new.pass.trace c.help_apart-outcome.new.pass.trace c.args.key c.args.used.now c.loop-pred.used c.visit.new.used c.help_apart-outcome.new.used c.loop-pred.pred c.in-Ok-outcome.place near l v.same.shape n c.help_apart-outcome.ensures.few
+    (c.in-Ok-outcome.ensures.alone met.0.fresh (stands_on c.loop-pred.pass.trace c.visit.new.pass.trace c.loop-pred.pred l near.keeps.stands) (then_of v h later)))
 
 pub returns-in-Ok-Beyond-clause-found : goal.returns-in-Ok-Beyond-clause-found
 returns-in-Ok-Beyond-clause-found c =
@@ -90,17 +90,17 @@ returns-then-not-affords-3-clause-short c = λ e alone.
     let short : ¬ (c.visit.new.used + 8 ≤ c.args.budget) = λ h. (let f = c.if-not-affords-3.true in let z = c.affords-in-Ok-Marked.ensures.1 h in let w : false ≡ true = sym f ∙ z in cc) in
     omega (arith, some, paid, n, short)
 
-pub returns-in-Err-help-clause-still : goal.returns-in-Err-help-clause-still
-returns-in-Err-help-clause-still c = λ e alone.
+pub returns-in-Err-outcome-clause-still : goal.returns-in-Err-outcome-clause-still
+returns-in-Err-outcome-clause-still c = λ e alone.
     let a = c.loop-pred.invariant.tries.goes.quiet in
     let v = c.visit.ensures.goes.quiet in
-    let h = c.help.ensures.goes.quiet in
+    let h = c.help_apart-outcome.ensures.goes.quiet in
     let near = c.loop-pred.invariant.nears (first_of a (quiet_on v h) alone) in
     let later = then_of a (quiet_on v h) alone in
     let one = first_of v h later in
     let m = rw c.in-Ok-Marked.field-0-is at c.in-Ok-Marked.ensures.alone in
     let met = m near.keeps.fresh (inl c.loop-pred.invariant.reached.is.unmarked) near.keeps.stands one in
-    c.in-Err-help.ensures.still met.0.fresh (stands_on c.loop-pred.pass.trace c.visit.new.pass.trace c.loop-pred.pred (c.visit.ensures.looks one) near.keeps.stands) (then_of v h later)
+    c.in-Err-outcome.ensures.still met.0.fresh (stands_on c.loop-pred.pass.trace c.visit.new.pass.trace c.loop-pred.pred (c.visit.ensures.looks one) near.keeps.stands) (then_of v h later)
 
 pub returns-in-Ok-Beyond-clause-alone : goal.returns-in-Ok-Beyond-clause-alone
 returns-in-Ok-Beyond-clause-alone c = λ alone.

@@ -1,13 +1,15 @@
-use Rattle.std.proofs.Common.{◌≡◌, [], ◌∷◌, ◌++◌, List, sym, ap, ◌∙◌, subst, append_assoc}
+use Rattle.std.proofs.Common.{◌≡◌, ◌∷◌, [], ◌++◌, List, sym, ap, ◌∙◌, subst, append_assoc}
 use Rattle.std.specs.Vec.Iter.{into_iter_items}
-use Rattle.vbr_player.specs.Starting.{Started, AreFor}
+use Rattle.vbr_player.specs.Starting.{IsFor, AreFor}
 use Rattle.vbr_player.specs.Working.{AreReady}
+use Rattle.vbr_player.specs.declared.phase.Turn.{Turn}
 use Rattle.vbr_player.specs.declared.worker.Worker.{Worker}
-use Rattle.vbr_player.proofs.Starting.{are_for-snoc, ready_one, none_left}
+use Rattle.vbr_player.proofs.Starting.{ready_one, none_left}
+use Rattle.vbr_player.proofs.Zips.{zip-snoc}
 use Rattle.vbr_player.proofs.phase.start_all.Goals as goal
 
-pub start-requires-clause-ready : goal.start-requires-clause-ready
-start-requires-clause-ready g c κs within =
+pub take_turn-requires-clause-ready : goal.take_turn-requires-clause-ready
+take_turn-requires-clause-ready g c κs within =
     let i = c.loop-worker.invariant in
     let all : c.loop-worker.yielded ++ (c.in-Some.worker ∷ into_iter_items c.next.new.self) ≡ c.args.workers.items = ap (λ (ws : List Worker). c.loop-worker.yielded ++ ws) (sym {A = List Worker} c.in-Some.ensures.steps.0) ∙ i.all in
     ready_one c.args.part.now.set.now c.args.part.now.lines.now c.loop-worker.yielded c.in-Some.worker (into_iter_items c.next.new.self) (subst (AreReady c.args.part.now.set.now c.args.part.now.lines.now) (sym all) c.requires.ready)
@@ -16,13 +18,14 @@ pub loop-worker-preserved : goal.loop-worker-preserved
 loop-worker-preserved g c =
     let i = c.loop-worker.invariant in
     let all : c.loop-worker.yielded ++ (c.in-Some.worker ∷ into_iter_items c.next.new.self) ≡ c.args.workers.items = ap (λ (ws : List Worker). c.loop-worker.yielded ++ ws) (sym {A = List Worker} c.in-Some.ensures.steps.0) ∙ i.all in
+    let lines = c.args.part.now.lines.now in
     record {
-      threads = subst (λ (started : List Started). AreFor c.args.part.now.lines.now started (c.loop-worker.yielded ++ c.in-Some.worker ∷ [])) (sym c.in-Ok.ensures.items) (are_for-snoc c.args.part.now.lines.now c.loop-worker.started.items c.loop-worker.yielded c.in_ok-next.next c.in-Some.worker i.threads c.in_ok-next.ensures.before c.in_ok-next.ensures.lines);
+      turns = subst (λ (turns : List Turn). AreFor lines turns (c.loop-worker.yielded ++ c.in-Some.worker ∷ [])) (sym c.in-Ok.ensures.items) (zip-snoc (IsFor lines) c.loop-worker.turns.items c.loop-worker.yielded c.in_ok-turn.turn c.in-Some.worker i.turns c.in_ok-turn.ensures.turn);
       all = append_assoc c.loop-worker.yielded (c.in-Some.worker ∷ []) (into_iter_items c.next.new.self) ∙ all;
     }
 
-pub returns-clause-started : goal.returns-clause-started
-returns-clause-started g c =
+pub returns-clause-turns : goal.returns-clause-turns
+returns-clause-turns g c =
     let i = c.loop-worker.invariant in
     let whole = none_left c.loop-worker.yielded (into_iter_items c.loop-worker.worker-iterator) c.args.workers.items (sym c.loop-worker.worker-iterator.rest.ok.0 ∙ c.in-None.ensures.steps.0) i.all in
-    subst (AreFor c.args.part.now.lines.now c.loop-worker.started.items) whole i.threads
+    subst (AreFor c.args.part.now.lines.now c.loop-worker.turns.items) whole i.turns

@@ -3,9 +3,9 @@ use Rattle.std.specs.Vec.Iter.{into_iter_items}
 use Rattle.vbr_player.specs.Starting.{AreFor}
 use Rattle.vbr_player.proofs.phase.start_all.Given as goal
 
--- the workers so far have threads
+-- the workers so far have their turns
 abbrev pub invariant-loop-worker : goal.invariant-loop-worker
 invariant-loop-worker g l = record {
-  threads : AreFor l.part.lines.now l.started.items l.yielded;
+  turns : AreFor l.part.lines.now l.turns.items l.yielded;
   all : l.yielded ++ into_iter_items l.worker-iterator ≡ l.fn.workers.items;
 }

@@ -1,10 +1,10 @@
 use Rattle.std.proofs.Common.{ℕ, ◌≡◌, ◌≤◌, List, length, sym, ap, ◌∙◌, subst, refl}
 use Rattle.std.specs.Prelude.{Contains}
 use Rattle.vbr_slots.specs.Alone.{IsAlone, IsFresh, LeavesLists}
-use Rattle.vbr_slots.specs.Calls.{Quiet}
+use Rattle.vbr_slots.specs.Calls.{Quiet, Took}
 use Rattle.vbr_slots.specs.Pools.{without}
 use Rattle.vbr_slots.specs.Views.{Trace, knows}
-use Rattle.vbr_slots.proofs.Calls.{quiet_on, did_quiet}
+use Rattle.vbr_slots.proofs.Calls.{quiet_on, did_quiet, did_took, took_on}
 use Rattle.vbr_pools.specs.Retiring.{Stamps}
 use Rattle.vbr_pools.proofs.Moments.{epoch_told}
 use Rattle.vbr_pools.proofs.Retirement.{retired_quiet, stamped, stamped_before, kept_none, raised_none, unlinked_outside, pool_left}
@@ -55,3 +55,9 @@ returns-then-kept-clause-alone c =
 
 pub returns-else-kept-clause-alone : goal.returns-else-kept-clause-alone
 returns-else-kept-clause-alone c = λ alone. (raised_leaves c.in_shape.ensures.shape c.read_epoch.ensures.step c.store_stamp.ensures.step c.raise.ensures.step.1 alone, raised_fresh c.in_shape.ensures.shape c.read_epoch.ensures.step c.store_stamp.ensures.step c.raise.ensures.step.1 alone)
+
+pub returns-then-kept-clause-steps : goal.returns-then-kept-clause-steps
+returns-then-kept-clause-steps c = subst (λ (q : Trace). Took c.args.pass.now.trace q 2) (sym c.keep.ensures.trace) (took_on 1 1 (did_took c.read_epoch.ensures.step) (did_took c.store_stamp.ensures.step))
+
+pub returns-else-kept-clause-steps : goal.returns-else-kept-clause-steps
+returns-else-kept-clause-steps c = took_on 2 1 (took_on 1 1 (did_took c.read_epoch.ensures.step) (did_took c.store_stamp.ensures.step)) (did_took c.raise.ensures.step.1)

@@ -2,8 +2,8 @@ use Rattle.std.proofs.Common.{ℕ, ◌≡◌, ◌≢◌, [], Option, Some, None,
 use Rattle.std.proofs.lemmas.Result.{err_from_is_err_and}
 use Rattle.vbr_words.specs.Dimensions.{Dimensions, IsShape}
 use Rattle.vbr_slots.proofs.Calls.{quiet_on, did_quiet, did_run, did_same}
-use Rattle.vbr_pools.proofs.Advancing.{same_advances}
-use Rattle.vbr_pools.proofs.Choosing.{short_then, chosen_then, full_then, spent_then, raised_quiet, raised_chosen, raised_once}
+use Rattle.vbr_pools.proofs.Advancing.{keeps_on, keeps_refl, same_advances}
+use Rattle.vbr_pools.proofs.Choosing.{kept_raised, kept_read, short_then, chosen_then, full_then, spent_then, raised_quiet, raised_chosen, raised_once}
 use Rattle.vbr_pools.proofs.Counting.{no_room}
 use Rattle.vbr_pools.proofs.Epochs.{read_some, read_in_shape}
 use Rattle.vbr_pools.proofs.Moments.{epoch_told}
@@ -53,7 +53,7 @@ returns-then-epoch-last_epoch-clause-refused c =
     let shapes : c.shape.result ≡ c.scan.new.pass.trace.shape = c.shape.ensures ∙ sym c.requires.own.1 ∙ sym quiet.same.shape in
     let is : IsShape c.scan.new.pass.trace.shape = subst IsShape shapes c.last_epoch.ensures.shape in
     let some : c.scan.new.pass.pool ≢ [] = λ none. c.requires.some (sym (c.scan.ensures.pool.0 ∙ c.read_epoch-epoch.ensures.pool.0) ∙ none) in
-    spent_then c.args.pass.now c.read_epoch-epoch.new.pass c.scan.new.pass c.read_epoch-epoch.result c.args.budget c.args.used c.read_epoch-epoch.ensures.step (c.affords.ensures.0 c.if-not-affords.false) c.scan.ensures.quiet c.scan.ensures.known c.read_epoch-epoch.ensures.pool.0 c.in_ok-found.found c.in_ok-found.used c.in_ok-found.ensures.ok (none_left c.in_ok-found.found c.in_default.not-Some) c.scan.ensures.own is some (c.if-epoch-last_epoch.true ∙ c.last_epoch.ensures.last_epoch ∙ ap (λ (d : Dimensions). d.last_epoch) shapes)
+    spent_then c.args.pass.now c.read_epoch-epoch.new.pass c.scan.new.pass c.read_epoch-epoch.result c.args.budget c.args.used c.read_epoch-epoch.ensures.step (c.affords.ensures.0 c.if-not-affords.false) c.scan.ensures.quiet c.scan.ensures.known c.read_epoch-epoch.ensures.pool.0 c.in_ok-found.found c.in_ok-found.used c.in_ok-found.ensures.ok (none_left c.in_ok-found.found c.in_default.not-Some) c.scan.ensures.own is some (c.if-epoch-last_epoch.true ∙ c.last_epoch.ensures.last_epoch ∙ ap (λ (d : Dimensions). d.last_epoch) shapes) (c.affords-2.ensures.0 c.if-not-affords-2.false)
 
 pub advance-requires-clause-some : goal.advance-requires-clause-some
 advance-requires-clause-some c =
@@ -102,3 +102,25 @@ returns-clause-advances c =
     let some : c.scan.new.pass.pool ≢ [] = λ none. c.requires.some (sym (c.scan.ensures.pool.0 ∙ c.read_epoch-epoch.ensures.pool.0) ∙ none) in
     let raise = tried c.advance.result c.advance.ensures.step in
     inr (raised_once c.args.pass.now c.read_epoch-epoch.new.pass c.scan.new.pass c.read_epoch-epoch.result c.args.budget c.args.used c.read_epoch-epoch.ensures.step (c.affords.ensures.0 c.if-not-affords.false) c.scan.ensures.quiet c.scan.ensures.known c.read_epoch-epoch.ensures.pool.0 c.in_ok-found.found c.in_ok-found.used c.in_ok-found.ensures.ok (none_left c.in_ok-found.found c.in_default.not-Some) c.scan.ensures.own is c.advance.new.pass c.read_epoch.new.pass raise.0 c.read_epoch.result raise.1 c.read_epoch.ensures.step c.advance.ensures.pool c.read_epoch.ensures.pool (c.scan.ensures.pool.1 ∙ c.read_epoch-epoch.ensures.pool.1 ∙ c.requires.empty_hand) c.read_epoch-epoch.ensures.pool c.scan.ensures.pool c.scan.ensures.advances)
+
+pub returns-in_err-found-clause-kept : goal.returns-in_err-found-clause-kept
+returns-in_err-found-clause-kept c = kept_read c.args.pass.now c.read_epoch-epoch.new.pass c.scan.new.pass c.read_epoch-epoch.ensures.step c.read_epoch-epoch.ensures.pool c.scan.ensures.pool c.scan.ensures.known
+
+pub returns-in-Some-clause-kept : goal.returns-in-Some-clause-kept
+returns-in-Some-clause-kept c = kept_read c.args.pass.now c.read_epoch-epoch.new.pass c.scan.new.pass c.read_epoch-epoch.ensures.step c.read_epoch-epoch.ensures.pool c.scan.ensures.pool c.scan.ensures.known
+
+pub returns-then-not-affords-2-clause-kept : goal.returns-then-not-affords-2-clause-kept
+returns-then-not-affords-2-clause-kept c = kept_read c.args.pass.now c.read_epoch-epoch.new.pass c.scan.new.pass c.read_epoch-epoch.ensures.step c.read_epoch-epoch.ensures.pool c.scan.ensures.pool c.scan.ensures.known
+
+pub returns-then-epoch-last_epoch-clause-kept : goal.returns-then-epoch-last_epoch-clause-kept
+returns-then-epoch-last_epoch-clause-kept c = kept_read c.args.pass.now c.read_epoch-epoch.new.pass c.scan.new.pass c.read_epoch-epoch.ensures.step c.read_epoch-epoch.ensures.pool c.scan.ensures.pool c.scan.ensures.known
+
+pub returns-then-not-affords-clause-kept : goal.returns-then-not-affords-clause-kept
+returns-then-not-affords-clause-kept c = keeps_refl c.args.pass.now
+
+pub returns-clause-kept : goal.returns-clause-kept
+returns-clause-kept c =
+    let raise = tried c.advance.result c.advance.ensures.step in
+    keeps_on c.args.pass.now c.scan.new.pass c.read_epoch.new.pass
+    (kept_read c.args.pass.now c.read_epoch-epoch.new.pass c.scan.new.pass c.read_epoch-epoch.ensures.step c.read_epoch-epoch.ensures.pool c.scan.ensures.pool c.scan.ensures.known)
+    (kept_raised c.scan.new.pass c.advance.new.pass c.read_epoch.new.pass raise.1 c.read_epoch.ensures.step c.advance.ensures.pool c.read_epoch.ensures.pool)

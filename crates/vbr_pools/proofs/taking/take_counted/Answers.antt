@@ -1,5 +1,5 @@
 use Rattle.std.proofs.lemmas.Result.{err_from_is_err_and}
-use Rattle.vbr_pools.proofs.Takings.{claim_enough, stops_within, stops_enough, ends_few, ends_enough, leaves, advances_all, on_each, ends_quiet, ends_within, ends_counted, ends_taken, ends_left, ends_advances}
+use Rattle.vbr_pools.proofs.Takings.{claim_enough, claim_room, ends_kept, ends_room, kept_all, stops_room, stops_within, stops_enough, ends_few, ends_enough, leaves, advances_all, on_each, ends_quiet, ends_within, ends_counted, ends_taken, ends_left, ends_advances}
 use Rattle.vbr_pools.proofs.taking.take_counted.Goals as goal
 
 pub returns-in_err-slot-clause-steps : goal.returns-in_err-slot-clause-steps
@@ -44,3 +44,25 @@ returns-clause-few c = ends_few c.args.pass.now c.claim.new.pass c.choose.new.pa
 
 pub returns-clause-enough : goal.returns-clause-enough
 returns-clause-enough c = ends_enough c.args.pass.now c.claim.new.pass c.choose.new.pass c.args.budget c.in_ok-used.used c.claim.ensures.quiet c.claim.ensures.raises_none c.in_ok-used.ensures.ok c.choose.ensures.quiet c.choose.ensures.pool c.bear.new.pass c.in_ok-slot.slot c.in_ok-slot.used c.in_ok-slot.ensures.ok c.bear.result c.bear.ensures.ok c.bear.ensures.refused c.bear.ensures.same c.in_ok-used.ensures.few
+
+pub returns-in_err-used-clause-room : goal.returns-in_err-used-clause-room
+returns-in_err-used-clause-room c =
+    let p = err_from_is_err_and c.from_residual.result c.from_residual.ensures.1 in
+    rw (p.1, p.2) (claim_room c.args.pass.now c.claim.new.pass c.args.budget _ c.in_err-used.ensures.empty c.in_err-used.ensures.pool c.in_err-used.ensures.refused)
+
+pub returns-in_err-used-clause-kept : goal.returns-in_err-used-clause-kept
+returns-in_err-used-clause-kept c = c.claim.ensures.raises_none.kept
+
+pub returns-in_err-slot-clause-room : goal.returns-in_err-slot-clause-room
+returns-in_err-slot-clause-room c =
+    let p = err_from_is_err_and c.from_residual-in_err-slot.result c.from_residual-in_err-slot.ensures.1 in
+    rw (p.1, p.2) (stops_room c.args.pass.now c.claim.new.pass c.choose.new.pass c.args.budget c.in_ok-used.used c.claim.ensures.quiet c.claim.ensures.raises_none c.in_ok-used.ensures.ok c.choose.ensures.quiet c.choose.ensures.pool _ _ c.in_err-slot.ensures.refused)
+
+pub returns-in_err-slot-clause-kept : goal.returns-in_err-slot-clause-kept
+returns-in_err-slot-clause-kept c = kept_all c.args.pass.now c.claim.new.pass c.choose.new.pass c.args.budget c.in_ok-used.used c.claim.ensures.quiet c.claim.ensures.raises_none c.in_ok-used.ensures.ok c.choose.ensures.quiet c.choose.ensures.pool c.choose.ensures.kept
+
+pub returns-clause-room : goal.returns-clause-room
+returns-clause-room c = ends_room c.args.pass.now c.claim.new.pass c.choose.new.pass c.args.budget c.in_ok-used.used c.claim.ensures.quiet c.claim.ensures.raises_none c.in_ok-used.ensures.ok c.choose.ensures.quiet c.choose.ensures.pool c.bear.new.pass c.in_ok-slot.slot c.in_ok-slot.used c.in_ok-slot.ensures.ok c.bear.result c.bear.ensures.ok c.bear.ensures.refused c.bear.ensures.same
+
+pub returns-clause-kept : goal.returns-clause-kept
+returns-clause-kept c = ends_kept c.args.pass.now c.claim.new.pass c.choose.new.pass c.args.budget c.in_ok-used.used c.claim.ensures.quiet c.claim.ensures.raises_none c.in_ok-used.ensures.ok c.choose.ensures.quiet c.choose.ensures.pool c.bear.new.pass c.in_ok-slot.slot c.in_ok-slot.used c.in_ok-slot.ensures.ok c.bear.result c.bear.ensures.ok c.bear.ensures.refused c.bear.ensures.same c.choose.ensures.kept

@@ -1,5 +1,6 @@
 use Rattle.std.proofs.Common.{◌≡◌, Bool, List, length, sym, ap, ◌∙◌, subst, arith}
 use Rattle.std.specs.Prelude.{slice_index}
+use Rattle.std.proofs.lemmas.List.Sorted.{length_permutation}
 use Rattle.vbr_words.specs.declared.place.Place.TheVariants as place
 use Rattle.vbr_core.specs.Accounts.{incarnations_after}
 use Rattle.vbr_set.specs.Walking.{NotesLists}
@@ -17,6 +18,7 @@ returns c = λ run x.
       keys = lists_keys x c.gather-live.new.keys.items c.sort_unstable.new.self.items g.0 c.sort_unstable.ensures.permutation c.sort_unstable.ensures.sorted;
       epoch = ap (slice_index c.args.words.now) c.place_index.ensures.index ∙ x.are.each place.Epoch tt;
       live = g.1;
+      one_each = length_permutation c.gather-live.new.keys.items c.sort_unstable.new.self.items c.sort_unstable.ensures.permutation ∙ c.gather-live.ensures.each;
       marked = g.2;
       free = (let fit = c.gather-live.ensures.fit in let slots = c.slots.ensures.slots in omega arith);
     }

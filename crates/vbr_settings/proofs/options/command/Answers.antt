@@ -3,14 +3,15 @@ use Rattle.std.proofs.Common.{◌≡◌, ap, ap₂, ◌∙◌, rules, codes}
 use Rattle.std.specs.Prelude.{fold}
 use Rattle.clap.specs.Words.{App, app_of, rule_of, with_rule, new_app}
 use Rattle.clap.specs.Simple.{app_of_fields}
-use Rattle.vbr_settings.specs.Options.{number_option, flag, shape_options, command_line}
+use Rattle.vbr_settings.specs.Options.{number_option, flag, shape_options, with_version, command_line}
 use Rattle.vbr_settings.specs.declared.config.TheConstants.{MAX_WORKERS}
 use Rattle.vbr_settings.proofs.options.command.Goals as goal
 
 pub returns-clause-options : goal.returns-clause-options
 unfolding command_line
 returns-clause-options c =
-    let none : app_of c.after_help-command.result ≡ new_app (codes "vbr_run") = ap app_of_fields c.after_help-command.ensures ∙ ap app_of_fields c.about.ensures ∙ ap app_of_fields c.in_ok-bin_name.ensures.0 ∙ c.new.ensures.app in
+    let named : app_of c.in_ok-bin_name.field-0 ≡ new_app (codes "vbr_run") = ap app_of_fields c.in_ok-bin_name.ensures.0 ∙ c.new.ensures.app in
+    let none : app_of c.after_help-command.result ≡ with_version (new_app (codes "vbr_run")) = ap app_of_fields c.after_help-command.ensures ∙ ap app_of_fields c.about.ensures ∙ ap app_of_fields c.version.ensures ∙ ap with_version named in
     let workers : rule_of c.number-workers.result ≡ number_option (codes "workers") 1 MAX_WORKERS (codes "1") = search rules in
     let budget : rule_of c.number-budget.result ≡ number_option (codes "budget") 0 4294967295 (codes "100000") = search rules in
     let epoch : rule_of c.flag-epoch.result ≡ flag (codes "epoch") = search rules in

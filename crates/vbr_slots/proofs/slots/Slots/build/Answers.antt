@@ -2,7 +2,7 @@ use Rattle.std.proofs.Common.{[], ◌∷◌, ◌++◌, length, ap, ◌∙◌, su
 use Rattle.vbr_core.specs.Machine as machine
 use Rattle.vbr_core.specs.Runs.{IsRun, know_after}
 use Rattle.vbr_core.proofs.RunsGoOn.{is_run_first}
-use Rattle.vbr_slots.specs.Views.{TableView}
+use Rattle.vbr_slots.specs.Views.{TableView, counted, steps_in}
 use Rattle.vbr_slots.specs.Words.{AreWordsOf}
 use Rattle.vbr_slots.proofs.Seats.{opens, splits_first, first_is, first_empty, others_next, new_passes-next}
 use Rattle.vbr_slots.proofs.slots.Slots.build.Goals as goal
@@ -32,6 +32,13 @@ invariant_of-runner c =
       epoch = sym (ap (λ es. (know_after c.args.opening.shape es who).epoch) empty);
     }
 
+pub invariant_of-counted : goal.invariant_of-counted
+invariant_of-counted c =
+    let s = c.split_seat-next.ensures in
+    let i = c.loop-who.invariant in
+    let empty = first_empty c.loop-who.who c.args.opening.passes c.loop-who.seat.me c.split_seat-next.new.seat.me c.split_seat-next.result.me c.loop-who-test.true i.1 s.2 s.4 in
+    record { steps = ap (λ es. counted (steps_in c.loop-who.who es)) (sym empty) }
+
 pub loop-who-preserved : goal.loop-who-preserved
 loop-who-preserved c =
     let s = c.split_seat-next.ensures in
@@ -41,6 +48,6 @@ loop-who-preserved c =
       s.3 ∙ i.0,
       others_next c.loop-who.who c.args.opening.passes c.loop-who.seat.me c.split_seat-next.new.seat.me _ c.loop-who-test.true i.1 s.2 s.4,
       c.in_ok-push.ensures.items
-          ∙ (λ k. i.2 k ++ record { trace = record { table = (s.0 ∙ i.0) k; shape = c.args.opening.shape; passes = c.args.opening.passes; who = c.loop-who.who; seen = seen k; steps = 0 }; pool = c.new.ensures k; hand = None } ∷ [])
+          ∙ (λ k. i.2 k ++ record { trace = record { table = (s.0 ∙ i.0) k; shape = c.args.opening.shape; passes = c.args.opening.passes; who = c.loop-who.who; seen = seen k }; pool = c.new.ensures k; hand = None } ∷ [])
           ∙ sym (new_passes-next table c.loop-who.who),
     )

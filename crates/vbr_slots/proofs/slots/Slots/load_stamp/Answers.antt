@@ -7,4 +7,4 @@ use Rattle.vbr_slots.proofs.slots.Slots.load_stamp.Goals as goal
 pub returns-clause-known : goal.returns-clause-known
 returns-clause-known c =
     subst (λ (v : PassView). MayBear ((knows v.trace).own c.args.slot) → c.load.result ≡ stamp_in ((knows v.trace).own c.args.slot)) c.pass.view_is
-    (stamp_loaded c.pass.inside.runner c.load.new.runner c.args.slot c.load.result c.pass.invariant.shape c.load.ensures)
+    (stamp_loaded c.pass.inside.runner c.load.new.counts c.args.slot c.load.result c.pass.invariant.shape c.load.ensures)

@@ -46,8 +46,8 @@ invariant_of-runner g c =
     let o = c.args.other.now in
     let both = together w.who w.seen o.who o.seen c.runner.inside.seat.me c.other.inside.seat.me c.split_seat-theirs.result.me c.join_seat.new.seat.me (known c.runner.inside w c.runner.invariant c.runner.view_is) (known c.other.inside o c.other.invariant c.other.view_is) c.split_seat-theirs.ensures.4 c.join_seat.ensures.2 in
     let end = done w c.args.self.now c.requires.own c.join_seat.new.seat.me c.load-found.new.seat.me (member o.who o.seen ∷ []) both c.args.step _ _ c.requires.named _ c.load-found.ensures.2 in
-    stays_sound c.runner.inside w c.runner.invariant c.runner.view_is c.args.step _ _ _ end (record c.runner.inside { seat = c.split_seat.new.seat; steps = c.counted-runner-inside.result; epoch = c.epoch_after-runner-inside.result })
-    (left_alone c.load-found.new.seat.me _ _ _ end.now c.split_seat.ensures.2) (refl, refl, c.epoch_after-runner-inside.ensures)
+    stays_sound c.runner.inside w c.runner.invariant c.runner.view_is c.args.step _ _ _ end (record c.runner.inside { seat = c.split_seat.new.seat; epoch = c.keep_epoch.new.epoch })
+    (left_alone c.load-found.new.seat.me _ _ _ end.now c.split_seat.ensures.2) (refl, refl, c.keep_epoch.ensures)
 
 pub invariant_of-other : goal.invariant_of-other
 invariant_of-other g c =
@@ -56,7 +56,7 @@ invariant_of-other g c =
     let both = together w.who w.seen o.who o.seen c.runner.inside.seat.me c.other.inside.seat.me c.split_seat-theirs.result.me c.join_seat.new.seat.me (known c.runner.inside w c.runner.invariant c.runner.view_is) (known c.other.inside o c.other.invariant c.other.view_is) c.split_seat-theirs.ensures.4 c.join_seat.ensures.2 in
     let end = done w c.args.self.now c.requires.own c.join_seat.new.seat.me c.load-found.new.seat.me (member o.who o.seen ∷ []) both c.args.step _ _ c.requires.named _ c.load-found.ensures.2 in
     let table = c.split_seat.ensures.3 ∙ c.load-found.ensures.0 ∙ c.join_seat.ensures.0 ∙ ap (λ (v : Trace). v.table) c.runner.view_is ∙ c.requires.own.0 ∙ sym c.requires.other.0 in
-    (same_again c.other.inside o c.other.invariant c.other.view_is (record c.other.inside { seat = c.split_seat.result }) (right_rest c.load-found.new.seat.me _ _ _ end.now c.split_seat.ensures.4) (refl, refl, refl, refl) table).0
+    (same_again c.other.inside o c.other.invariant c.other.view_is (record c.other.inside { seat = c.split_seat.result }) (right_rest c.load-found.new.seat.me _ _ _ end.now c.split_seat.ensures.4) (refl, refl, refl) table).0
 
 pub returns : goal.returns
 returns g c =
@@ -68,8 +68,8 @@ returns g c =
     let back = c.split_seat.ensures.3 ∙ table ∙ ap (λ (v : Trace). v.table) c.runner.view_is ∙ c.requires.own.0 ∙ sym c.requires.other.0 in
     let mine = left_alone c.load-found.new.seat.me c.split_seat.new.seat.me _ _ end.now c.split_seat.ensures.2 in
     record {
-      step = did c.runner.inside w c.runner.invariant c.runner.view_is c.args.step _ _ _ end (record c.runner.inside { seat = c.split_seat.new.seat; steps = c.counted-runner-inside.result; epoch = c.epoch_after-runner-inside.result })
-          mine (refl, refl, c.epoch_after-runner-inside.ensures) (c.split_seat.ensures.0 ∙ table) c.counted-runner-inside.ensures;
-      same = (same_again c.other.inside o c.other.invariant c.other.view_is (record c.other.inside { seat = c.split_seat.result }) (right_rest c.load-found.new.seat.me _ _ _ end.now c.split_seat.ensures.4) (refl, refl, refl, refl) back).1;
+      step = did c.runner.inside w c.runner.invariant c.runner.view_is c.args.step _ _ _ end (record c.runner.inside { seat = c.split_seat.new.seat; epoch = c.keep_epoch.new.epoch })
+          mine (refl, refl, c.keep_epoch.ensures) (c.split_seat.ensures.0 ∙ table);
+      same = (same_again c.other.inside o c.other.invariant c.other.view_is (record c.other.inside { seat = c.split_seat.result }) (right_rest c.load-found.new.seat.me _ _ _ end.now c.split_seat.ensures.4) (refl, refl, refl) back).1;
       met = subst (λ es. BeginsFor o.who o.seen es) (sym (seen_in c.split_seat.new.seat.me _ _ [] mine)) end.mates.0;
     }

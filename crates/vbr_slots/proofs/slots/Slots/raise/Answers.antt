@@ -15,6 +15,6 @@ invariant_of-pass c =
     let left = ap (λ (v : PassView). v.pool) c.pass.view_is ∙ c.leave_pool.ensures.pool in
     record {
       shape = subst IsShape (sym d.same.1) c.pass.invariant.shape;
-      pool = pool_raised p.runner c.fetch_or.new.runner c.args.slot c.fetch_or.result p.pool.items p.hand d (subst (λ (t : Trace). IsFree ((knows t).own c.args.slot)) (sym trace) c.requires.free)
+      pool = pool_raised p.runner c.fetch_or.new.counts c.args.slot c.fetch_or.result p.pool.items p.hand d (subst (λ (t : Trace). IsFree ((knows t).own c.args.slot)) (sym trace) c.requires.free)
           (subst (λ (xs : List ℕ). ¬ (Contains xs c.args.slot)) (sym left) (outside c.args.slot c.args.pass.now.pool)) c.pass.invariant.pool;
     }

@@ -17,11 +17,11 @@ invariant_of-runner g c =
     let w = c.args.runner.now in
     let end = done w c.args.self.now c.requires.own c.runner.inside.seat.me c.store.new.seat.me [] (known c.runner.inside w c.runner.invariant c.runner.view_is) c.args.step _ _ c.requires.named _ c.store.ensures.2 in
     stays_sound c.runner.inside w c.runner.invariant c.runner.view_is c.args.step _ [] _ end
-    (record c.runner.inside { seat = c.store.new.seat; steps = c.counted-runner-inside.result; epoch = c.epoch_after-runner-inside.result }) end.now (refl, refl, c.epoch_after-runner-inside.ensures)
+    (record c.runner.inside { seat = c.store.new.seat; epoch = c.keep_epoch.new.epoch }) end.now (refl, refl, c.keep_epoch.ensures)
 
 pub returns : goal.returns
 returns g c =
     let w = c.args.runner.now in
     let end = done w c.args.self.now c.requires.own c.runner.inside.seat.me c.store.new.seat.me [] (known c.runner.inside w c.runner.invariant c.runner.view_is) c.args.step _ _ c.requires.named _ c.store.ensures.2 in
     did c.runner.inside w c.runner.invariant c.runner.view_is c.args.step _ [] _ end
-    (record c.runner.inside { seat = c.store.new.seat; steps = c.counted-runner-inside.result; epoch = c.epoch_after-runner-inside.result }) end.now (refl, refl, c.epoch_after-runner-inside.ensures) c.store.ensures.0 c.counted-runner-inside.ensures
+    (record c.runner.inside { seat = c.store.new.seat; epoch = c.keep_epoch.new.epoch }) end.now (refl, refl, c.keep_epoch.ensures) c.store.ensures.0

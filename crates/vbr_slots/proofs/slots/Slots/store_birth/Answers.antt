@@ -15,6 +15,6 @@ invariant_of-pass c =
     let shape = ap (λ (t : Trace). t.shape) trace ∙ c.requires.own.1 in
     record {
       shape = subst IsShape (sym d.same.1) c.pass.invariant.shape;
-      pool = pool_born p.runner c.store.new.runner c.args.slot _ _ p.pool.items p.hand d (subst (λ (s : Dimensions). c.args.slot < s.slots) (sym shape) c.requires.slot)
+      pool = pool_born p.runner c.store.new.counts c.args.slot _ _ p.pool.items p.hand d (subst (λ (s : Dimensions). c.args.slot < s.slots) (sym shape) c.requires.slot)
           (subst (λ (xs : List ℕ). ¬ (Contains xs c.args.slot)) (sym left) (outside c.args.slot c.args.pass.now.pool)) c.pass.invariant.pool;
     }

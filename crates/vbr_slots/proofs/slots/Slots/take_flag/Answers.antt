@@ -12,11 +12,11 @@ invariant_of-pass c =
     let d = c.fetch_and-found.ensures in
     record {
       shape = subst IsShape (sym d.same.1) c.pass.invariant.shape;
-      pool = pool_taken p.runner c.fetch_and-found.new.runner c.args.slot c.fetch_and-found.result p.pool.items p.hand c.pass.invariant.shape d c.pass.invariant.pool;
+      pool = pool_taken p.runner c.fetch_and-found.new.counts c.args.slot c.fetch_and-found.result p.pool.items p.hand c.pass.invariant.shape d c.pass.invariant.pool;
     }
 
 pub returns-then-has_flag-clause-outside : goal.returns-then-has_flag-clause-outside
 returns-then-has_flag-clause-outside c = λ has.
     let p = c.pass.inside in
-    let new = taken_new p.runner c.fetch_and-found.new.runner c.args.slot c.fetch_and-found.result c.pass.invariant.shape c.fetch_and-found.ensures (sym c.has_flag.ensures ∙ c.if-has_flag.true) in
+    let new = taken_new p.runner c.fetch_and-found.new.counts c.args.slot c.fetch_and-found.result c.pass.invariant.shape c.fetch_and-found.ensures (sym c.has_flag.ensures ∙ c.if-has_flag.true) in
     subst MayBear new (pooled_may p.runner.shape (knows p.runner) c.args.slot p.pool.items p.hand c.pass.invariant.pool has)

@@ -18,5 +18,5 @@ invariant_of-pass c =
     let accepted : Accepts p.runner.shape (knows p.runner) step = subst (λ (t : Trace). Accepts t.shape (knows t) step) (sym (ap (λ (v : PassView). v.trace) c.pass.view_is)) mine in
     record {
       shape = subst IsShape (sym d.same.1) c.pass.invariant.shape;
-      pool = pool_unlinked p.runner c.exchange-found.new.runner c.args.pred c.args.expected c.args.slot c.exchange-found.result p.pool.items p.hand c.pass.invariant.shape accepted d c.pass.invariant.pool;
+      pool = pool_unlinked p.runner c.exchange-found.new.counts c.args.pred c.args.expected c.args.slot c.exchange-found.result p.pool.items p.hand c.pass.invariant.shape accepted d c.pass.invariant.pool;
     }

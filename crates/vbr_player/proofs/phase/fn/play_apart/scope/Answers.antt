@@ -1,11 +1,8 @@
-use Rattle.std.proofs.Common.{arith}
-use Rattle.vbr_player.proofs.Starting.{each_played}
+use Rattle.vbr_player.proofs.Starting.{each_played_if}
 use Rattle.vbr_player.proofs.phase.fn.play_apart.scope.Goals as goal
 
-pub returns-in-Ok : goal.returns-in-Ok
-returns-in-Ok g c =
-    let each = c.in-Ok.ensures.each in
-    record {
-      played = each_played c.captures.lines.now c.in_ok-started.started.items c.captures.workers.items c.in-Ok.played.items c.in_ok-started.ensures.started (omega (arith, c.in-Ok.ensures.len)) (λ i d inside. let k = (each i d (omega arith)).1 in (k.handle, k.handle_is, k.kept));
-      fault = tt;
-    }
+pub returns : goal.returns
+returns g c = record {
+  played = each_played_if c.captures.lines.now c.in_ok-turns.turns.items c.captures.workers.items c.join_all.result c.in_ok-turns.ensures.turns c.join_all.ensures.ended;
+  fault = c.join_all.ensures.fault;
+}

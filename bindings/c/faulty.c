@@ -1,0 +1,77 @@
+/* The library with one fault, whose number FAULT names in the environment: what looks for faults has to find it. Link with
+   -Wl,--wrap=vbr_open,--wrap=vbr_insert,--wrap=vbr_remove,--wrap=vbr_has,--wrap=vbr_close
+
+    1 an insert now and then answers yes for a key that is there
+    2 a remove now and then removes nothing, and answers yes
+    3 an insert now and then is lost
+    4 a look-up now and then answers no for a key that is there
+    5 a report is short of a key
+    6 a report has no epoch
+    7 a remove answers what a look-up just before it answered: two threads may both remove one key
+    8 a call is refused with a budget that is promised to be enough
+    9 an opening tests the handles last
+   10 a refused opening keeps memory
+
+   One thread alone can't see the seventh, and four threads don't look for the last three. */
+#include "vbr.h"
+
+#include <stdatomic.h>
+#include <stdlib.h>
+
+int32_t __real_vbr_open(vbr_handle *handles, size_t count, uint32_t slots, uint32_t buckets, uint64_t last_epoch);
+int32_t __real_vbr_insert(vbr_handle *handle, uint64_t key, uint32_t budget);
+int32_t __real_vbr_remove(vbr_handle *handle, uint64_t key, uint32_t budget);
+int32_t __real_vbr_has(vbr_handle *handle, uint64_t key, uint32_t budget);
+int32_t __real_vbr_close(vbr_handle *handle, uint64_t *keys, size_t room, vbr_totals *totals);
+
+static atomic_int number = -1;
+static atomic_uint calls;
+
+static int fault(void) {
+    if (atomic_load(&number) < 0) {
+        const char *text = getenv("FAULT");
+        atomic_store(&number, text ? atoi(text) : 0);
+    }
+    return atomic_load(&number);
+}
+
+/* Whether this is the fault, and its turn has come: once in twenty calls. */
+static int now(int n) { return fault() == n && atomic_fetch_add(&calls, 1) % 20 == 19; }
+
+int32_t __wrap_vbr_open(vbr_handle *handles, size_t count, uint32_t slots, uint32_t buckets, uint64_t last_epoch) {
+    static void *kept;
+    if (fault() == 9 && (count < 1 || count > VBR_MAX_HANDLES)) return VBR_BAD_COUNT;
+    int32_t answer = __real_vbr_open(handles, count, slots, buckets, last_epoch);
+    if (fault() == 10 && answer == VBR_IN_USE) kept = realloc(kept, 1);
+    return answer;
+}
+
+int32_t __wrap_vbr_insert(vbr_handle *handle, uint64_t key, uint32_t budget) {
+    if (fault() == 8 && budget < 100) return budget < 8 || !handle->owned ? __real_vbr_insert(handle, key, budget) : VBR_OUT_OF_STEPS;
+    int32_t answer = __real_vbr_insert(handle, key, budget);
+    if (answer == VBR_NO && now(1)) return VBR_YES;
+    if (answer == VBR_YES && now(3)) __real_vbr_remove(handle, key, budget);
+    return answer;
+}
+
+int32_t __wrap_vbr_remove(vbr_handle *handle, uint64_t key, uint32_t budget) {
+    if (now(2)) return __real_vbr_has(handle, key, budget);
+    if (fault() == 7) {
+        int32_t answer = __real_vbr_has(handle, key, budget);
+        int32_t removed = __real_vbr_remove(handle, key, budget);
+        return removed < 0 ? removed : answer;
+    }
+    return __real_vbr_remove(handle, key, budget);
+}
+
+int32_t __wrap_vbr_has(vbr_handle *handle, uint64_t key, uint32_t budget) {
+    int32_t answer = __real_vbr_has(handle, key, budget);
+    return answer == VBR_YES && now(4) ? VBR_NO : answer;
+}
+
+int32_t __wrap_vbr_close(vbr_handle *handle, uint64_t *keys, size_t room, vbr_totals *totals) {
+    int32_t answer = __real_vbr_close(handle, keys, room, totals);
+    if (answer == VBR_YES && fault() == 5 && totals->live > 0) totals->live--, totals->free++;
+    if (answer == VBR_YES && fault() == 6) totals->epoch = 0;
+    return answer;
+}

@@ -1,0 +1,289 @@
+/* Four threads on set after set: small and large ones, with all calls, budgets that are too small, handles that stand
+   still, threads that are stopped in the middle of calls, and epochs that run out. The answers are balanced against
+   the report of each set.
+
+       soak [OPERATIONS [SEED]]
+
+   makes at least that many calls, and tells on standard error how far it is. Each set is one round. Keys are shared
+   by all threads, but for some that one thread alone inserts and removes: each answer on those is known. At the end of
+   a round every key is in the set exactly if more inserts than removes of it were answered yes; it is looked up, and
+   looked for in the report. Then the keys of the report are carried over into the next set, or a fresh one begins. */
+#define _POSIX_C_SOURCE 200809L
+#include "vbr.h"
+
+#include <pthread.h>
+#include <signal.h>
+#include <stdatomic.h>
+#include <stdio.h>
+#include <stdlib.h>
+#include <string.h>
+#include <time.h>
+
+enum {
+    THREADS = 4,
+    STILL = 2,         /* handles that take some slots, and then stand still for the whole round */
+    MAX_KEYS = 16384,  /* how many keys a round has at most */
+    AMPLE = 1 << 20,   /* a budget that no call runs out of */
+    SPENT_LIMIT = 2000 /* a thread ends its round after so many inserts that found the epoch spent */
+};
+
+struct round {
+    uint32_t keys, slots, buckets;
+    uint64_t last_epoch, spread; /* the key of number i is i * spread, and spread is odd */
+    uint32_t small_budgets;      /* of 256 calls, how many have one */
+    uint32_t look_ups, inserts;  /* of 256 calls; the others are removes */
+    long calls;                  /* of each thread */
+    int with_still, drops;
+};
+
+struct worker {
+    struct round *round;
+    vbr_handle handle;
+    uint64_t random;
+    int number;
+    long made, refused[4]; /* by -answer */
+    const char *wrong;
+    uint32_t wrong_key;
+    int32_t balance[MAX_KEYS]; /* inserts answered yes, less removes answered yes */
+};
+
+static struct worker workers[THREADS];
+static unsigned char held[MAX_KEYS]; /* which keys were in the set as the round began */
+static atomic_int working;
+static volatile sig_atomic_t pause_us;
+static long stalls, sets, carried, seed = 1;
+static long refusals[4]; /* by -answer */
+
+static uint64_t next(uint64_t *random) {
+    *random ^= *random << 13;
+    *random ^= *random >> 7;
+    *random ^= *random << 17;
+    return *random;
+}
+
+static uint64_t key_of(const struct round *r, uint32_t number) { return number * r->spread; }
+
+/* The thread that alone inserts and removes the key, or -1. */
+static int owner_of(uint32_t number) { return number % 8 < THREADS ? (int)(number % 8) : -1; }
+
+static int is_in(uint32_t number) {
+    int32_t sum = held[number];
+    for (int i = 0; i < THREADS; i++) sum += workers[i].balance[number];
+    return sum;
+}
+
+/* Stops the thread where it is, often in the middle of a call. */
+static void stand_still(int signal_number) {
+    (void)signal_number;
+    struct timespec time = {0, pause_us * 1000L};
+    nanosleep(&time, NULL);
+}
+
+static int32_t call(struct worker *w, int kind, uint32_t number, uint32_t budget) {
+    uint64_t key = key_of(w->round, number);
+    int32_t answer = kind == 0   ? vbr_has(&w->handle, key, budget)
+                     : kind == 1 ? vbr_insert(&w->handle, key, budget)
+                                 : vbr_remove(&w->handle, key, budget);
+    if (answer == VBR_YES && kind == 1) w->balance[number]++;
+    if (answer == VBR_YES && kind == 2) w->balance[number]--;
+    return answer;
+}
+
+/* What is wrong with the answer, or nothing. `before`: whether an own key was in the set. */
+static const char *fault(const struct worker *w, int kind, int own, int before, uint32_t budget, int32_t answer) {
+    const struct round *r = w->round;
+    if (answer > VBR_YES || answer < VBR_EPOCH_SPENT) return "an answer that no call has";
+    if (answer == VBR_OUT_OF_STEPS && budget >= AMPLE) return "too few steps with an ample budget";
+    if (answer < VBR_OUT_OF_STEPS && kind != 1) return "a refusal that only inserts have";
+    if (answer < VBR_OUT_OF_STEPS && own && before) return "an insert of a key that is there was refused";
+    if (answer == VBR_NO_SLOT && r->slots >= r->keys + 64 * (THREADS + STILL)) return "no slot in an ample set";
+    if (answer == VBR_EPOCH_SPENT && r->last_epoch == VBR_MAX_EPOCH) return "the greatest epoch is spent";
+    if (own && answer >= 0 && answer != (kind == 1 ? !before : before)) return "a wrong answer on a key of one thread";
+    return NULL;
+}
+
+static void *work(void *of) {
+    struct worker *w = of;
+    const struct round *r = w->round;
+    for (long i = 0; i < r->calls && !w->wrong && w->refused[3] < SPENT_LIMIT; i++) {
+        uint64_t x = next(&w->random);
+        uint32_t number = (uint32_t)((x >> 32) * r->keys >> 32);
+        uint32_t mix = x & 255;
+        int kind = mix < r->look_ups ? 0 : mix < r->look_ups + r->inserts ? 1 : 2;
+        uint32_t budget = (x >> 8 & 255) < r->small_budgets ? (uint32_t)(x >> 16 & 127) : AMPLE;
+        int owner = owner_of(number);
+        if (kind && owner >= 0 && owner != w->number) kind = 0;
+        int own = owner == w->number;
+        int before = own ? held[number] + w->balance[number] : 0;
+        int32_t answer = call(w, kind, number, budget);
+        w->made++;
+        if (answer < 0 && answer >= -3) w->refused[-answer]++;
+        w->wrong = fault(w, kind, own, before, budget, answer);
+        w->wrong_key = number;
+    }
+    atomic_fetch_sub(&working, 1);
+    return NULL;
+}
+
+static int failed(const struct round *r, long number, const char *what, uint32_t key) {
+    fprintf(stderr,
+            "soak: FAILED: %s (seed %ld, set %ld, key %llu; %u keys, %u slots, %u buckets, last epoch %llu)\n", what,
+            seed, number, (unsigned long long)key_of(r, key), r->keys, r->slots, r->buckets,
+            (unsigned long long)r->last_epoch);
+    return 1;
+}
+
+static struct round plan(uint64_t *random, const struct round *old, int carries) {
+    struct round r = {0};
+    uint64_t x = next(random);
+    r.keys = carries ? old->keys : x % 4 == 0 ? MAX_KEYS : x % 4 == 1 ? 1024 : 8 + (uint32_t)(x >> 8 & 63);
+    r.spread = carries ? old->spread : x >> 32 & 1 ? 1 : next(random) | 1;
+    r.buckets = 1 + (uint32_t)(next(random) % (r.keys / 2));
+    if (r.keys > 64 && r.buckets < r.keys / 8) r.buckets = r.keys / 8; /* so that the lists are short */
+    r.slots = r.keys + 64 * (THREADS + STILL);
+    if ((x >> 33 & 3) == 0) r.slots = r.keys + 2; /* some inserts find no slot */
+    r.last_epoch = (x >> 35 & 3) == 0 ? 1 + next(random) % 5000 : VBR_MAX_EPOCH;
+    r.small_budgets = (x >> 37 & 3) == 0 ? 64 : 0;
+    r.look_ups = (uint32_t)(x >> 40 & 1 ? 128 : x >> 41 & 1 ? 230 : 0);
+    r.inserts = (256 - r.look_ups) / 2;
+    r.calls = 20000 + (long)(next(random) % 180000);
+    r.with_still = x >> 42 & 1;
+    r.drops = (x >> 43 & 15) == 0;
+    return r;
+}
+
+/* Puts the keys of the last set into the one that was opened, and lets the handles that stand still take slots. */
+static const char *begin(const struct round *r, vbr_handle *handles) {
+    for (uint32_t i = 0; i < r->keys; i++)
+        if (held[i] && vbr_insert(&handles[0], key_of(r, i), AMPLE) != VBR_YES) return "a key could not be carried over";
+    for (int h = THREADS; r->with_still && h < THREADS + STILL; h++)
+        for (uint32_t i = 0; i < 16 && i < r->keys; i++) {
+            if (held[i]) continue;
+            int32_t added = vbr_insert(&handles[h], key_of(r, i), AMPLE);
+            if (added == VBR_YES && vbr_remove(&handles[h], key_of(r, i), AMPLE) != VBR_YES) return "a lost insert";
+        }
+    return NULL;
+}
+
+/* Stops threads in the middle of calls, from time to time, until all have done. */
+static void stall_threads(uint64_t *random, pthread_t *threads) {
+    while (atomic_load(&working) > 0) {
+        uint64_t x = next(random);
+        struct timespec time = {0, 1000000 + (long)(x % 4000000)};
+        nanosleep(&time, NULL);
+        if (atomic_load(&working) < THREADS) continue;
+        pause_us = (x >> 32 & 7) == 0 ? 50000 : 2000;
+        pthread_kill(threads[x >> 40 & 3], SIGUSR1);
+        stalls++;
+    }
+}
+
+static int by_number(const void *a, const void *b) {
+    uint64_t x = *(const uint64_t *)a, y = *(const uint64_t *)b;
+    return x < y ? -1 : x > y;
+}
+
+/* Compares the report with the keys that the answers leave. */
+static int check_report(const struct round *r, const vbr_totals *totals, const uint64_t *keys) {
+    static uint64_t want[MAX_KEYS];
+    uint32_t count = 0;
+    for (uint32_t i = 0; i < r->keys; i++)
+        if (is_in(i)) want[count++] = key_of(r, i);
+    qsort(want, count, sizeof want[0], by_number);
+    if (totals->live != count) return failed(r, sets, "the report has another number of keys", 0);
+    for (uint32_t i = 0; i < count; i++)
+        if (keys[i] != want[i]) return failed(r, sets, "the report has other keys", i);
+    if (totals->live + totals->marked + totals->free != r->slots) return failed(r, sets, "slots are lost", 0);
+    if (totals->epoch < 1 || totals->epoch > r->last_epoch) return failed(r, sets, "an epoch out of range", 0);
+    for (int i = 0; i < THREADS; i++)
+        if (workers[i].refused[3] && totals->epoch != r->last_epoch)
+            return failed(r, sets, "an epoch was said to be spent, and is not", 0);
+    return 0;
+}
+
+/* Looks every key up, closes the set, and checks the report. */
+static int finish(const struct round *r, vbr_handle *handles, int count) {
+    static uint64_t keys[MAX_KEYS];
+    vbr_totals totals;
+    for (uint32_t i = 0; i < r->keys; i++) {
+        int sum = is_in(i);
+        if (sum != 0 && sum != 1) return failed(r, sets, "the answers do not balance", i);
+        if (vbr_has(&handles[i % (uint32_t)count], key_of(r, i), AMPLE) != sum)
+            return failed(r, sets, "a look-up differs from the answers", i);
+    }
+    if (r->drops) vbr_drop(&handles[0]);
+    for (int i = r->drops; i < count - 1; i++)
+        if (vbr_close(&handles[i], keys, MAX_KEYS, &totals) != VBR_NO) return failed(r, sets, "a close was not the last", 0);
+    int32_t last = vbr_close(&handles[count - 1], keys, MAX_KEYS, &totals);
+    if (last != (r->drops ? VBR_LOST : VBR_YES)) return failed(r, sets, "the last close", 0);
+    return r->drops ? 0 : check_report(r, &totals, keys);
+}
+
+/* One set from its opening to its closing. */
+static int play(struct round *r, uint64_t *random, long *made) {
+    vbr_handle handles[THREADS + STILL] = {{0}};
+    int count = THREADS + (r->with_still ? STILL : 0);
+    pthread_t threads[THREADS];
+    sets++;
+    if (vbr_open(handles, (size_t)count, r->slots, r->buckets, r->last_epoch) != VBR_NO)
+        return failed(r, sets, "the set could not be opened", 0);
+    const char *wrong = begin(r, handles);
+    if (wrong) return failed(r, sets, wrong, 0);
+    atomic_store(&working, THREADS);
+    for (int i = 0; i < THREADS; i++) {
+        memset(&workers[i], 0, sizeof workers[i]);
+        workers[i].round = r;
+        workers[i].handle = handles[i]; /* moved, and back after the join */
+        workers[i].random = next(random) | 1;
+        workers[i].number = i;
+        if (pthread_create(&threads[i], NULL, work, &workers[i])) return failed(r, sets, "no thread", 0);
+    }
+    stall_threads(random, threads);
+    for (int i = 0; i < THREADS; i++) {
+        pthread_join(threads[i], NULL);
+        handles[i] = workers[i].handle;
+        *made += workers[i].made;
+        for (int k = 1; k < 4; k++) refusals[k] += workers[i].refused[k];
+        if (workers[i].wrong) return failed(r, sets, workers[i].wrong, workers[i].wrong_key);
+    }
+    return finish(r, handles, count);
+}
+
+/* Whether the next set begins with the keys of this one. */
+static int carry(const struct round *r, uint64_t *random) {
+    int carries = (next(random) & 1) && !r->drops;
+    for (uint32_t i = 0; i < MAX_KEYS; i++) held[i] = carries && i < r->keys && is_in(i);
+    return carries;
+}
+
+static double now(void) {
+    struct timespec time;
+    clock_gettime(CLOCK_MONOTONIC, &time);
+    return (double)time.tv_sec + (double)time.tv_nsec / 1e9;
+}
+
+int main(int count, char **words) {
+    long wanted = count > 1 ? atol(words[1]) : 1000000000, made = 0;
+    if (count > 2) seed = atol(words[2]);
+    if (wanted < 1 || seed < 0) return fputs("usage: soak [OPERATIONS [SEED]]\n", stderr), 2;
+    uint64_t random = ((uint64_t)seed + 1) * 0x9e3779b97f4a7c15u | 1;
+    struct sigaction action = {0};
+    action.sa_handler = stand_still;
+    if (sigaction(SIGUSR1, &action, NULL)) return 1;
+    struct round r = {0};
+    int carries = 0;
+    double start = now(), told = start;
+    while (made < wanted) {
+        r = plan(&random, &r, carries);
+        if (play(&r, &random, &made)) return 1;
+        carries = carry(&r, &random);
+        carried += carries;
+        if (now() - told < 5 && made < wanted) continue;
+        told = now();
+        fprintf(stderr, "soak: %ld of %ld operations, %ld sets, %ld stalls, %.0f s\n", made, wanted, sets, stalls, told - start);
+    }
+    printf("soak in C: passed, %ld operations on %ld sets, %ld of them carried over; %ld stalls; "
+           "refused: %ld steps, %ld slots, %ld epochs\n",
+           made, sets, carried, stalls, refusals[1], refusals[2], refusals[3]);
+    return 0;
+}

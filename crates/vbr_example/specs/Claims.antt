@@ -1,0 +1,28 @@
+-- What it means that a page is claimed once.
+use Rattle.std.specs.Prelude.{◌≡◌, ◌≢◌, ◌≤◌, ◌+◌, ◌==◌, ℕ, Bool, true, false, List, [], ◌∷◌, ◌++◌, if◌then◌else◌}
+use Rattle.vbr_core.specs.declared.history.Call.{Call}
+use Rattle.vbr_core.specs.declared.history.Op.{Op}
+use Rattle.vbr_core.specs.declared.history.Op.TheVariants.{Insert, Remove}
+use Rattle.vbr_slots.specs.Calls.{made_by}
+use Rattle.vbr_set.specs.Histories.{calls_of}
+use Rattle.vbr_set.specs.Members.{MemberView}
+
+-- how often a call claims a page: once, if it is an insert of it that was answered yes
+abbrev pub claims_of : ℕ → Op → ℕ → Bool → ℕ
+claims_of page Insert key true = if page == key then 1 else 0
+claims_of page _ key _ = 0
+
+-- how often calls claim a page
+abbrev pub claims_in : ℕ → List Call → ℕ
+claims_in page [] = 0
+claims_in page (call ∷ calls) = claims_of page call.op call.key call.reply + claims_in page calls
+
+-- no call is a remove
+abbrev pub RemoveNone : List Call → Type 0
+RemoveNone [] = Unit {0}
+RemoveNone (call ∷ calls) = (call.op ≢ Remove) × RemoveNone calls
+
+-- the member's insert of the page is its last call, and was answered this; in the history of all that it has then seen, of all members, the page is claimed at most once, if nobody removes
+pub record IsClaimedOnce (m n : MemberView) (page : ℕ) (claimed : Bool) : Type 0 where
+  pub own : made_by n.pass.trace ≡ made_by m.pass.trace ++ record { who = m.pass.trace.who; op = Insert; key = page; reply = claimed } ∷ []
+  pub once : RemoveNone (calls_of n.pass.trace.shape n.pass.trace.seen) → claims_in page (calls_of n.pass.trace.shape n.pass.trace.seen) ≤ 1

@@ -1,0 +1,37 @@
+-- What a look-up came to, as what its answer asks.
+use Rattle.std.proofs.Common.{◌≡◌, ℕ, false}
+use Rattle.vbr_words.specs.Dimensions.{Dimensions}
+use Rattle.vbr_words.specs.Words.{link_of}
+use Rattle.vbr_words.specs.declared.place.At.{At}
+use Rattle.vbr_words.specs.declared.place.At.TheVariants.{Head, Slot}
+use Rattle.vbr_core.specs.Knowledge.{Know}
+use Rattle.vbr_core.specs.Membership.{KeyAt}
+use Rattle.vbr_slots.specs.Views.{Trace}
+use Rattle.vbr_access.specs.Alone.{StandsNow}
+use Rattle.vbr_access.specs.Held.{IsHeld, IsSlot}
+use Rattle.vbr_access.specs.LookUps.{Answers}
+use Rattle.vbr_list.specs.Nearing.{SightStands}
+use Rattle.vbr_list.specs.Places.{IsSight, held_in, is_present}
+use Rattle.vbr_list.specs.declared.looking.Sight.{Sight}
+use Rattle.vbr_list.specs.declared.looking.Sight.TheVariants.{Present, Absent}
+
+keyed_slot : (know : Know) (at : At) (key : ℕ) → KeyAt know at key → IsSlot at
+keyed_slot know (Head b) key k = absurd k
+keyed_slot know (Slot s) key k = tt
+
+module _ (shape : Dimensions) (know : Know) (key : ℕ) where
+  pub sight_held : (sight : Sight) → IsSight shape know key sight → IsHeld know (held_in sight)
+  sight_held (Present node) s = s.0
+  sight_held (Absent pred) s = s.0.held
+
+  pub sight_unmarked : (sight : Sight) → IsSight shape know key sight → (link_of (held_in sight).word).mark ≡ false
+  sight_unmarked (Present node) s = s.1
+  sight_unmarked (Absent pred) s = s.0.unmarked
+
+  pub sight_answers : (sight : Sight) → IsSight shape know key sight → Answers shape know key (held_in sight) (is_present sight)
+  sight_answers (Present node) s = (keyed_slot know node.at key s.2, s.2)
+  sight_answers (Absent pred) s = (s.0.behind, s.1)
+
+pub sight_stands : (q : Trace) (sight : Sight) → SightStands q sight → StandsNow q (held_in sight)
+sight_stands q (Present node) s = s
+sight_stands q (Absent pred) s = s

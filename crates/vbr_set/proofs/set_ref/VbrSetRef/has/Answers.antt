@@ -1,0 +1,12 @@
+use Rattle.std.proofs.Common.{refl, subst}
+use Rattle.vbr_core.specs.declared.history.Op.TheVariants.{Has}
+use Rattle.vbr_set.specs.SetRefView.{set_ref_view}
+use Rattle.vbr_set.specs.Members.{MemberView, Called}
+use Rattle.vbr_set.proofs.set_ref.VbrSetRef.has.Goals as goal
+
+pub returns : goal.returns
+returns c =
+    let e = c.has.ensures in
+    let i = c.self.inside in
+    subst (λ (m : MemberView). Called Has m (set_ref_view record { set = i.set; pass = c.has.new.pass }) c.args.key c.args.budget c.has.result) c.self.view_is
+    (record { set = refl; same = e.same; answers = e.answers; alone = e.alone; quiet = e.quiet; safe = e.safe; hand = e.hand; steps = e.steps; spares = record { only_loads = e.only_loads; adds = e.adds; adds_none = e.adds_none; raises_none = e.raises_none; refused = e.refused; within = e.within } })

@@ -1,0 +1,13 @@
+-- What contracts see of a pass with a reference to its set, and the invariant of the two.
+use Rattle.std.specs.Prelude.{◌≡◌, None}
+use Rattle.vbr_slots.specs.Views.{IsOf}
+use Rattle.vbr_set.specs.Members.{MemberView}
+use Rattle.vbr_set.specs.declared.set_ref.VbrSetRef.TheInside.{Inside}
+
+abbrev pub set_ref_view : Inside → MemberView
+set_ref_view r = record { set = r.set.now; pass = r.pass }
+
+-- its pass is of the set, and has no slot in hand
+pub record IsSetRef (r : Inside) : Type 0 where
+  pub own : IsOf r.pass.trace r.set.now
+  pub empty_hand : r.pass.hand ≡ None

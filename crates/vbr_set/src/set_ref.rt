@@ -1,0 +1,33 @@
+//! A pass with a reference to its set.
+ghost use Rattle.std.specs.Prelude.{◌≡◌};
+
+use crate::set::VbrSet;
+use std::marker::Model;
+use vbr_slots::Pass;
+
+/// A pass with a reference to its set: what a thread needs to make calls of a set that another has.
+///
+/// Its calls ask nothing of their caller, and promise what those of a [`Member`] promise.
+/// [`VbrSet::with_pass`] makes it, and [`VbrSetRef::into_pass`] gives the pass back, for
+/// [`VbrSet::close`]. The pass of one that is dropped is lost, and its set can't be closed any more.
+///
+/// It has no lines of the cache of its own, as a [`Member`] has.
+///
+/// [`Member`]: crate::Member
+#[derive(Drop)]
+pub struct VbrSetRef<'s> {
+    pub(crate) set: &'s VbrSet,
+    pub(crate) pass: Pass,
+}
+
+impl<'s> Model for VbrSetRef<'s> {
+    ghost use Rattle.vbr_set.specs.Members.{MemberView};
+
+    ghost Value = { MemberView };
+
+    ghost use Rattle.vbr_set.specs.SetRefView.{set_ref_view, IsSetRef};
+
+    ghost view = { set_ref_view };
+
+    ghost invariant = { IsSetRef };
+}

@@ -1,0 +1,136 @@
+//! The calls of a pass with a reference to its set.
+ghost use Rattle.std.specs.Prelude.{◌≡◌, ℕ, None};
+ghost use Rattle.vbr_core.specs.Runs.{BeginsFor};
+ghost use Rattle.vbr_core.specs.declared.event.Step.TheVariants.{ReadEpoch};
+ghost use Rattle.vbr_core.specs.declared.history.Op.TheVariants.{Insert, Remove, Has};
+ghost use Rattle.vbr_slots.specs.Views.{Did, IsOf, KeepsPool};
+ghost use Rattle.vbr_access.specs.Soundness.{HasSafeRun};
+ghost use Rattle.vbr_set.specs.Meetings.{Shares};
+ghost use Rattle.vbr_set.specs.Members.{Called};
+
+use crate::set::VbrSet;
+use crate::set_ref::VbrSetRef;
+use vbr_list::Refusal;
+use vbr_slots::Pass;
+use vbr_words::Shape;
+
+impl VbrSet {
+    /// Puts a pass beside a reference to its set. From here on its calls ask nothing of their caller.
+    ///
+    /// # Example
+    ///
+    /// ```rattle file=crates/vbr_set_rows/src/seventy_slots.rt
+    /// let mut caller = set.with_pass(pass);
+    /// ```
+    #[inline]
+    pub fn with_pass(&self, pass: Pass) -> VbrSetRef<'_>
+        requires own { IsOf pass.trace self.now }
+        requires empty_hand { pass.hand ≡ None }
+        ensures { result ≡ record { set = self.now; pass = pass } }
+    {
+        VbrSetRef { set: self, pass }
+    }
+}
+
+impl<'s> VbrSetRef<'s> {
+    /// Adds a key, in at most `budget` steps, and says whether it was absent: [`VbrSet::insert`],
+    /// which says what it costs and when it is refused. After a refusal the pass has made no call, and
+    /// can go on at once.
+    ///
+    /// # Example
+    ///
+    /// ```rattle file=crates/vbr_set_rows/src/seventy_slots.rt
+    /// if caller.insert(key, BUDGET) != Ok(true) {
+    /// ```
+    #[inline]
+    pub fn insert(&mut self, key: u64, budget: u32) -> Result<bool, Refusal>
+        ensures { Called Insert self.old self.new key budget result }
+    {
+        self.set.insert(&mut self.pass, key, budget)
+    }
+
+    /// Takes a key out, in at most `budget` steps, and says whether it was there: [`VbrSet::remove`],
+    /// which says what it costs. OutOfSteps is its one refusal; the pass has made no call then.
+    ///
+    /// # Example
+    ///
+    /// ```rattle file=crates/vbr_set_rows/src/seventy_slots.rt
+    /// if caller.remove(key, BUDGET) != Ok(true) {
+    /// ```
+    #[inline]
+    pub fn remove(&mut self, key: u64, budget: u32) -> Result<bool, Refusal>
+        ensures { Called Remove self.old self.new key budget result }
+    {
+        self.set.remove(&mut self.pass, key, budget)
+    }
+
+    /// Whether a key is in the set, in at most `budget` steps: [`VbrSet::has`]. It only loads words.
+    /// OutOfSteps is its one refusal; the pass has made no call then.
+    ///
+    /// # Example
+    ///
+    /// ```rattle file=crates/vbr_set_rows/src/set.rt
+    /// Op::Has => caller.has(key, budget),
+    /// ```
+    #[inline]
+    pub fn has(&mut self, key: u64, budget: u32) -> Result<bool, Refusal>
+        ensures { Called Has self.old self.new key budget result }
+    {
+        self.set.has(&mut self.pass, key, budget)
+    }
+
+    /// Lets its pass see all that another of its set has seen: [`VbrSet::meet`]. It is one step, and
+    /// can't fail. `a.meet(&mut b)` lets `a` see what `b` has seen.
+    ///
+    /// # Example
+    ///
+    /// ```rattle file=crates/vbr_set_rows/src/set.rt
+    /// caller.meet(other);
+    /// ```
+    #[inline]
+    pub fn meet(&mut self, other: &mut VbrSetRef)
+        requires { other.old.set ≡ self.old.set }
+        ensures set { self.new.set ≡ self.old.set }
+        ensures step { (epoch : ℕ) × Did ReadEpoch self.old.pass.trace self.new.pass.trace epoch }
+        ensures pool { KeepsPool self.old.pass self.new.pass }
+        ensures same { other.new ≡ other.old }
+        ensures met { BeginsFor other.old.pass.trace.who other.old.pass.trace.seen self.new.pass.trace.seen }
+        ensures shares { Shares self.old.pass.trace other.old.pass.trace self.new.pass.trace }
+        ensures safe { HasSafeRun self.new.pass.trace }
+    {
+        self.set.meet(&mut self.pass, &mut other.pass);
+    }
+
+    /// The shape of its set.
+    #[inline]
+    pub fn shape(&self) -> Shape
+        ensures { result ≡ self.now.set.shape }
+    {
+        self.set.shape()
+    }
+
+    /// Its pass, which tells its number, its steps and its own pool.
+    #[inline]
+    pub fn pass(&self) -> &Pass
+        ensures pass { result.now ≡ self.now.pass }
+        ensures own { IsOf self.now.pass.trace self.now.set }
+    {
+        &self.pass
+    }
+
+    /// Gives its pass back, as [`VbrSet::close`] takes it.
+    ///
+    /// # Example
+    ///
+    /// ```rattle file=crates/vbr_set_rows/src/seventy_slots.rt
+    /// (caller.into_pass(), done)
+    /// ```
+    #[inline]
+    pub fn into_pass(self) -> Pass
+        ensures pass { result ≡ self.entry.pass }
+        ensures own { IsOf result.trace self.entry.set }
+        ensures empty_hand { result.hand ≡ None }
+    {
+        self.pass
+    }
+}

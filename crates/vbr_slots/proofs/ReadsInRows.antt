@@ -1,0 +1,31 @@
+-- Loads in a row, as what they do to a pass.
+use Rattle.std.proofs.Common.{◌≡◌, ℕ, refl, ap, ◌∙◌, subst}
+use Rattle.vbr_words.specs.declared.place.At.TheVariants.{Slot}
+use Rattle.vbr_core.specs.declared.event.Step.{Step}
+use Rattle.vbr_core.specs.declared.event.Step.TheVariants.{ReadEpoch, LoadBirth, LoadLink}
+use Rattle.vbr_slots.specs.Reads.{Reads, ReadsNode}
+use Rattle.vbr_slots.specs.Views.{PassView, Trace, Did}
+
+pub reads : {step : Step} {was : PassView} (p q : PassView) (between : Trace) {found epoch : ℕ} → was ≡ p → Did step was.trace between found → Did ReadEpoch between q.trace epoch → q.pool ≡ was.pool → q.hand ≡ was.hand → Reads step p q found epoch
+reads {step} {was} p q between {found} is a b pool hand = record {
+  between = record p { trace = between };
+  loaded = subst (λ (v : PassView). Did step v.trace between found) is a;
+  pool_loaded = (refl, refl);
+  read = b;
+  pool_read = (pool ∙ ap (λ (v : PassView). v.pool) is, hand ∙ ap (λ (v : PassView). v.hand) is);
+}
+
+pub reads_node : {slot : ℕ} {was : PassView} (p q : PassView) (born between : Trace) {birth word epoch : ℕ} → was ≡ p → Did (LoadBirth slot) was.trace born birth → Did (LoadLink (Slot slot)) born between word → Did ReadEpoch between q.trace epoch → q.pool ≡ was.pool → q.hand ≡ was.hand
+    → ReadsNode slot p q birth word epoch
+reads_node {slot} {was} p q born between {birth} is a b c pool hand = record {
+  first = record p { trace = born };
+  born = subst (λ (v : PassView). Did (LoadBirth slot) v.trace born birth) is a;
+  pool_born = (refl, refl);
+  reads = record {
+    between = record p { trace = between };
+    loaded = b;
+    pool_loaded = (refl, refl);
+    read = c;
+    pool_read = (pool ∙ ap (λ (v : PassView). v.pool) is, hand ∙ ap (λ (v : PassView). v.hand) is);
+  };
+}

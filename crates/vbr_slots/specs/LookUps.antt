@@ -1,0 +1,18 @@
+-- The step that answers a look-up, by one more load of a link word.
+use Rattle.std.specs.Prelude.{ℕ, ◌+◌, ◌*◌, Bool, true, false}
+use Rattle.vbr_words.specs.declared.place.At.{At}
+use Rattle.vbr_words.specs.declared.place.At.TheVariants.{Head, Slot}
+use Rattle.vbr_core.specs.declared.event.Step.{Step}
+use Rattle.vbr_core.specs.declared.event.Step.TheVariants.{ConfirmPresent, ConfirmAbsent}
+use Rattle.vbr_core.specs.declared.history.Op.TheVariants.{Has}
+
+-- whether the key is there, the key, the place of the link word, and the word that is expected there
+abbrev pub look_up : Bool → ℕ → At → ℕ → Step
+look_up true key (Slot s) word = ConfirmPresent Has s word
+look_up true key (Head b) word = ConfirmAbsent Has key (Head b) word
+look_up false key at word = ConfirmAbsent Has key at word
+
+-- the index of the link word at a place, where the words of slots begin at this one
+abbrev pub link_from : ℕ → At → ℕ
+link_from slots (Head b) = 2 + b
+link_from slots (Slot s) = slots + 4 * s

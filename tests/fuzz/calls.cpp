@@ -1,0 +1,351 @@
+// Random sequences of calls of the C library, in one thread, against a set of the standard library.
+//
+//     calls INPUTS [SEED [FILE]]   tries so many random inputs; FILE gets at most 100 that show all that was seen
+//     calls --replay FILE          tries the inputs of a file, one a line
+//
+// An input is bytes, which are read as calls: openings with good and bad numbers, calls with budgets of all sizes, closings
+// in any order, on handles that are empty or in use, with memory that is refused. While the other handles stand still, as
+// they do here, a budget that vbr.h promises to be enough is enough: so each refusal is known to be due, or isn't made.
+// Link with -Wl,--wrap=malloc,--wrap=realloc,--wrap=free.
+#include "fuzz.hpp"
+#include "vbr.h"
+
+#include <algorithm>
+#include <map>
+#include <memory>
+#include <set>
+
+using fuzz::fail;
+
+// ---- memory that is refused --------------------------------------------------------------------------------
+
+extern "C" {
+void *__real_malloc(size_t size);
+void *__real_realloc(void *block, size_t size);
+void __real_free(void *block);
+}
+
+static long allowed = -1;  // how many allocations are granted before one is refused; below 0: all are
+static bool refused_one;
+static long blocks;
+
+static bool refuses() {
+    if (allowed < 0 || allowed-- > 0) return false;
+    return refused_one = true;
+}
+
+extern "C" void *__wrap_malloc(size_t size) {
+    void *block = refuses() ? nullptr : __real_malloc(size);
+    blocks += block != nullptr;
+    return block;
+}
+
+extern "C" void *__wrap_realloc(void *old, size_t size) {
+    void *block = refuses() ? nullptr : __real_realloc(old, size);
+    blocks += block && !old;
+    return block;
+}
+
+extern "C" void __wrap_free(void *block) {
+    blocks -= block != nullptr;
+    __real_free(block);
+}
+
+// ---- the model -----------------------------------------------------------------------------------------------
+
+struct Model {
+    uint32_t slots, buckets;
+    uint64_t last_epoch;
+    size_t handles, open;
+    bool lost = false;
+    std::set<uint64_t> keys;
+    std::map<uint64_t, uint64_t> marked;  // by bucket: how many removed nodes may still be in its list
+    uint64_t all_marked = 0, inserts = 0;
+
+    // How many nodes the bucket of a key has at most.
+    uint64_t nodes(uint64_t key) const {
+        uint64_t bucket = key % buckets, count = 0;
+        for (uint64_t other : keys) count += other % buckets == bucket;
+        auto it = marked.find(bucket);
+        return count + (it == marked.end() ? 0 : it->second);
+    }
+};
+
+enum Kind { INSERT, REMOVE, HAS };
+
+static constexpr size_t CELLS = 80, MOST_KEYS = 96;
+
+class Calls {
+public:
+    explicit Calls(const std::string &input) : input(input) {}
+
+    std::vector<uint64_t> features;  // what it showed; nothing where a set was large, so that such inputs stay few
+
+    void play() {
+        while (at < input.size()) step();
+        for (size_t cell = 0; cell < CELLS; cell++) close(cell, MOST_KEYS);
+        if (blocks != 0) fail("a block of memory is left behind");
+        if (large > 0) features.clear();
+    }
+
+private:
+    const std::string &input;
+    size_t at = 0;
+    int large = 0;
+    vbr_handle cells[CELLS] = {};
+    std::shared_ptr<Model> models[CELLS];
+
+    uint8_t byte() { return at < input.size() ? static_cast<uint8_t>(input[at++]) : 0; }
+
+    void saw(int what, int answer, uint64_t more) {
+        features.push_back((static_cast<uint64_t>(what) << 32) ^ (static_cast<uint64_t>(answer + 16) << 24) ^ more);
+    }
+
+    size_t cell() {
+        uint8_t x = byte();
+        return x < 200 ? x % 8 : x % CELLS;
+    }
+
+    uint64_t key() {
+        uint8_t x = byte();
+        if (x < 192) return x % 24;
+        if (x < 224) return UINT64_MAX - (x & 7);
+        return (static_cast<uint64_t>(x & 15) << 60 | 1u << 20) + byte();
+    }
+
+    void step() {
+        uint8_t x = byte();
+        switch (x % 16) {
+            case 0: case 1: case 2: case 3: case 4: return call(INSERT, cell(), key());
+            case 5: case 6: case 7: return call(REMOVE, cell(), key());
+            case 8: case 9: return call(HAS, cell(), key());
+            case 10: return burst(cell(), key(), byte());
+            case 11: case 12: return open(cell());
+            case 13: return close(cell(), byte() % MOST_KEYS);
+            case 14: return drop(cell());
+            default: allowed = byte() % 8; return x & 16 ? open(cell()) : close(cell(), MOST_KEYS);
+        }
+    }
+
+    // The largest sets take long to open: they come seldom, and once an input.
+    bool is_small(uint8_t least) { return byte() < least || large++ > 0; }
+
+    uint64_t slots() {
+        static const uint64_t some[] = {0, VBR_MAX_SLOTS, VBR_MAX_SLOTS + 1, UINT32_MAX, 63, 64, 65, 1000};
+        uint8_t x = byte();
+        uint64_t slots = x < 200 ? 1 + x % 20 : x < 240 ? 40 + x : some[x % 8];
+        return slots == VBR_MAX_SLOTS && is_small(255) ? 1 : slots;
+    }
+
+    uint64_t buckets() {
+        static const uint64_t some[] = {0, VBR_MAX_BUCKETS, VBR_MAX_BUCKETS + 1, UINT32_MAX};
+        uint8_t x = byte();
+        uint64_t buckets = x < 240 ? 1 + x % 9 : some[x % 4];
+        return buckets == VBR_MAX_BUCKETS && is_small(240) ? 1 : buckets;
+    }
+
+    uint64_t last_epoch() {
+        static const uint64_t some[] = {0, VBR_MAX_EPOCH, VBR_MAX_EPOCH + 1, UINT64_MAX};
+        uint8_t x = byte();
+        return x < 128 ? VBR_MAX_EPOCH : x < 240 ? 1 + x % 20 : some[x % 4];
+    }
+
+    void open(size_t from) {
+        uint64_t s = slots(), b = buckets(), e = last_epoch();
+        uint8_t x = byte();
+        size_t count = x < 200 ? 1 + x % 4 : x < 250 ? x % CELLS : 0;
+        count = std::min(count, CELLS - from);
+        bool in_use = false;
+        for (size_t i = from; i < from + count; i++) in_use |= models[i] != nullptr;
+        bool bad = s < 1 || s > VBR_MAX_SLOTS || b < 1 || b > VBR_MAX_BUCKETS || e < 1 || e > VBR_MAX_EPOCH;
+        int want = in_use ? VBR_IN_USE : bad ? VBR_BAD_SHAPE : count < 1 || count > 64 ? VBR_BAD_COUNT : VBR_NO;
+        refused_one = false;
+        long before = blocks;
+        int answer = vbr_open(&cells[from], count, static_cast<uint32_t>(s), static_cast<uint32_t>(b), e);
+        allowed = -1;
+        if (answer != want && !(want == VBR_NO && answer == VBR_NO_MEMORY && refused_one)) fail("the answer of vbr_open");
+        if (answer != VBR_NO && blocks != before) fail("vbr_open kept memory");
+        saw(1, answer, (count > 1) * 2 + refused_one);
+        if (answer != VBR_NO) return;
+        auto model = std::make_shared<Model>();
+        model->slots = static_cast<uint32_t>(s), model->buckets = static_cast<uint32_t>(b), model->last_epoch = e;
+        model->handles = model->open = count;
+        for (size_t i = from; i < from + count; i++) models[i] = model;
+    }
+
+    // The steps that are promised to be enough.
+    static uint64_t enough(const Model &m, Kind kind, uint64_t key) {
+        uint64_t n = m.nodes(key), words = (m.slots + 63) / 64;
+        return kind == HAS ? 5 * n + 11 : kind == REMOVE ? 9 * n + 11 : std::max(18 * n + 82, 18 * n + words + 20);
+    }
+
+    uint32_t budget(const Model &m, Kind kind, uint64_t key) {
+        uint8_t x = byte();
+        uint64_t most = enough(m, kind, key);
+        if (x < 96) return static_cast<uint32_t>(most);
+        if (x < 128) return UINT32_MAX - (x & 3);
+        if (x < 160) return x - 128u;
+        return static_cast<uint32_t>(most * (x - 160) / 96);
+    }
+
+    int made(Kind kind, size_t cell, uint64_t key, uint32_t budget) {
+        return kind == INSERT   ? vbr_insert(&cells[cell], key, budget)
+               : kind == REMOVE ? vbr_remove(&cells[cell], key, budget)
+                                : vbr_has(&cells[cell], key, budget);
+    }
+
+    void call(Kind kind, size_t cell, uint64_t key) {
+        if (!models[cell]) {
+            int answer = made(kind, cell, key, byte());
+            if (answer != VBR_EMPTY) fail("a call of an empty handle");
+            return saw(2 + kind, answer, 0);
+        }
+        Model &m = *models[cell];
+        uint32_t budget = this->budget(m, kind, key);
+        uint64_t most = enough(m, kind, key);
+        bool there = m.keys.count(key) != 0;
+        m.inserts += kind == INSERT;
+        int answer = made(kind, cell, key, budget);
+        check(m, kind, answer, there, budget, most);
+        saw(2 + kind, answer, there | (budget < most) << 1 | (m.keys.size() > 8) << 2 | (m.handles > 1) << 3 |
+                                  (m.slots < 8) << 4 | (m.all_marked > 0) << 5 | m.lost << 6);
+        if (kind == INSERT && answer == VBR_YES) m.keys.insert(key);
+        if (kind == REMOVE && answer == VBR_YES) {
+            m.keys.erase(key);
+            if (budget < most + 9) m.marked[key % m.buckets]++, m.all_marked++;  // its node may still be in the list
+        }
+    }
+
+    // Whether the answer is the set's, or a refusal that is due.
+    void check(const Model &m, Kind kind, int answer, bool there, uint32_t budget, uint64_t most) const {
+        if (budget < 8 && answer != VBR_OUT_OF_STEPS) fail("a call within less than eight steps");
+        switch (answer) {
+            case VBR_NO: case VBR_YES:
+                if ((answer == VBR_YES) != (kind == INSERT ? !there : there)) fail("a wrong answer");
+                return;
+            case VBR_OUT_OF_STEPS:
+                if (budget >= most) fail("too few steps, with a budget that is promised to be enough");
+                return;
+            case VBR_NO_SLOT:
+                if (kind != INSERT || there) fail("a refusal that only inserts of absent keys have");
+                if (m.slots >= m.keys.size() + m.all_marked + 64 * m.handles) fail("no slot, and some are free");
+                return;
+            case VBR_EPOCH_SPENT:
+                if (kind != INSERT || there) fail("a refusal that only inserts of absent keys have");
+                if (m.inserts < m.last_epoch) fail("the epoch is spent, after too few inserts");
+                return;
+            default: fail("an answer that no call has");
+        }
+    }
+
+    // Inserts and removes of one key in turn: slots are used again, and the epoch moves.
+    void burst(size_t cell, uint64_t key, int count) {
+        for (int i = 0; i < count % 64; i++) call(i % 2 ? REMOVE : INSERT, cell, key);
+    }
+
+    void close(size_t cell, size_t room) {
+        uint64_t keys[MOST_KEYS + 1];
+        std::fill(std::begin(keys), std::end(keys), 0xabcdefu);
+        vbr_totals totals = {77, 77, 77, 77};
+        std::shared_ptr<Model> m = models[cell];
+        int want = !m ? VBR_EMPTY : m->open > 1 ? VBR_NO : m->lost ? VBR_LOST : VBR_YES;
+        refused_one = false;
+        int answer = vbr_close(&cells[cell], keys, room, &totals);
+        allowed = -1;
+        bool short_of = m && m->open == 1 && answer == VBR_NO_MEMORY && refused_one;
+        if (answer != want && !short_of) fail("the answer of vbr_close");
+        saw(5, answer, m ? (m->keys.size() > room) | (m->all_marked > 0) << 1 | (m->keys.empty()) << 2 : 0);
+        bool untouched = totals.epoch == 77 && totals.live == 77 && totals.marked == 77 && totals.free == 77;
+        if (answer != VBR_YES && (!untouched || keys[0] != 0xabcdefu)) fail("vbr_close wrote without a report");
+        if (answer == VBR_YES) check_report(*m, totals, keys, room);
+        if (m && !short_of) m->open--, models[cell] = nullptr;
+    }
+
+    static void check_report(const Model &m, const vbr_totals &totals, const uint64_t *keys, size_t room) {
+        size_t count = 0;
+        for (uint64_t key : m.keys) {
+            if (count == room) break;
+            if (keys[count++] != key) fail("a key of the report");
+        }
+        if (keys[count] != 0xabcdefu) fail("more keys than there are, or than there is room for");
+        if (totals.live != m.keys.size()) fail("the number of keys of the report");
+        if (totals.marked > m.all_marked) fail("more marked nodes than removes could leave");
+        if (uint64_t{totals.live} + totals.marked + totals.free != m.slots) fail("slots are lost");
+        if (totals.epoch < 1 || totals.epoch > m.last_epoch || totals.epoch > 1 + m.inserts) fail("the epoch of the report");
+    }
+
+    void drop(size_t cell) {
+        vbr_drop(&cells[cell]);
+        saw(6, 0, models[cell] ? models[cell]->open : 0);
+        if (!models[cell]) return;
+        models[cell]->lost = true;
+        models[cell]->open--;
+        models[cell] = nullptr;
+    }
+};
+
+static std::vector<uint64_t> play(const std::string &input) {
+    fuzz::current = fuzz::escaped(input, true);
+    Calls calls(input);
+    calls.play();
+    return calls.features;
+}
+
+// ---- inputs --------------------------------------------------------------------------------------------------
+
+static std::string fresh(fuzz::Random &random) {
+    std::string input;
+    // most begin with an opening of some handles, so that there is something to call
+    if (!random.once_in(8)) input = {11, 0, static_cast<char>(random.below(256)), static_cast<char>(random.below(240)),
+                                     static_cast<char>(random.below(240)), static_cast<char>(random.below(200))};
+    size_t size = random.below(160);
+    while (input.size() < size) input += static_cast<char>(random.below(256));
+    return input;
+}
+
+static std::string changed(fuzz::Random &random, const std::vector<std::string> &from) {
+    std::string input = random.one_of(from);
+    for (uint64_t n = 1 + random.below(4); n > 0 && !input.empty(); n--) {
+        size_t at = random.below(input.size()), size = 1 + random.below(12);
+        switch (random.below(5)) {
+            case 0: input[at] = static_cast<char>(random.below(256)); break;
+            case 1: input.insert(at, 1, static_cast<char>(random.below(256))); break;
+            case 2: input.erase(at, size); break;
+            case 3: input.insert(at, input.substr(random.below(input.size()), size)); break;
+            default: input += random.one_of(from).substr(0, 64);
+        }
+    }
+    return input.substr(0, 240);
+}
+
+static int try_all(uint64_t wanted, uint64_t seed, const char *file) {
+    fuzz::Random random(seed);
+    fuzz::Kept<std::string> kept;
+    fuzz::Progress progress{"calls", wanted};
+    for (uint64_t done = 0; done < wanted; done++) {
+        if (done % 64 == 0) alarm(60);
+        std::string input = kept.inputs.empty() || random.once_in(3) ? fresh(random) : changed(random, kept.inputs);
+        kept.offer(input, play(input));
+        progress.tell(done, kept.inputs.size());
+    }
+    if (file) {
+        std::ofstream out(file);
+        for (const std::string &input : kept.best(100)) out << fuzz::escaped(input, true) << '\n';
+    }
+    std::printf("random calls: passed, %llu inputs of seed %llu, %zu of them showed something new\n",
+                static_cast<unsigned long long>(wanted), static_cast<unsigned long long>(seed), kept.inputs.size());
+    return 0;
+}
+
+int main(int count, char **words) {
+    fuzz::catch_crashes();
+    if (count == 3 && !std::strcmp(words[1], "--replay")) {
+        std::vector<std::string> lines = fuzz::lines_of(words[2]);
+        for (const std::string &line : lines) play(fuzz::unescaped(line));
+        std::printf("kept calls: passed, %zu inputs\n", lines.size());
+        return 0;
+    }
+    if (count < 2 || count > 4) return std::fputs("usage: calls INPUTS [SEED [FILE]] | --replay FILE\n", stderr), 2;
+    return try_all(std::strtoull(words[1], nullptr, 10), count > 2 ? std::strtoull(words[2], nullptr, 10) : 1,
+                   count > 3 ? words[3] : nullptr);
+}
