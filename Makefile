@@ -79,7 +79,7 @@ clients: lib
 	@bindings/test
 
 faults: build
-	@$(if $(AFTER_GATE),true,(cd crates/vbr_refusals && $(RT) test) > target/refusals.log 2>&1 || { cat target/refusals.log >&2; exit 1; })
+	@$(if $(AFTER_GATE),true,(cd crates/vbr_set_rows && $(RT) test) > target/refusals.log 2>&1 || { cat target/refusals.log >&2; exit 1; })
 	@tests/faults
 
 soak: lib

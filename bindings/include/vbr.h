@@ -33,8 +33,8 @@
    does not run out of steps with a budget of 5n + 11 for has, 9n + 11 for remove, and 18n + slots + 82
    for insert, where n nodes are in the bucket of the key as it begins, removed ones that are still in a
    list among them. What other threads do at the same time can cost more: 100,000 is plenty for short
-   buckets, whatever the number of slots. A call that runs out of steps made no call: make it again, or
-   give it up.
+   buckets, with up to six million slots; with more, take slots / 64 besides. A call that runs out of
+   steps made no call: make it again, or give it up.
 
    Memory and sizes. The words of a set take 8 * (2 + buckets + 4 * slots + slots / 64) bytes, the
    last part rounded up, in one block, and each handle about 1,200 bytes besides; opening and
@@ -42,10 +42,10 @@
    slot. A key in the set takes a slot, and so does a removed node that no handle has taken back
    yet; each handle may keep up to 64 free slots to itself. So open with 64 slots more for each
    handle than keys. With as many buckets as keys a bucket has about one node; a power of two is
-   found by a mask in place of a division. Only inserts raise the epoch, and once the last one is
-   spent inserts of absent keys may be refused: the greatest lasts ten days at ten million inserts a
-   second. The numbers are 1 to VBR_MAX_SLOTS slots, 1 to VBR_MAX_BUCKETS buckets, and 1 to
-   VBR_MAX_EPOCH as the last epoch. */
+   found by a mask in place of a division. Only inserts advance the epoch, and once the last one is
+   spent inserts of absent keys may be refused: the greatest lasts fifteen hours at ten million inserts
+   a second. The numbers are 1 to VBR_MAX_SLOTS slots, 1 to VBR_MAX_BUCKETS buckets, and 1 to
+   VBR_MAX_EPOCH as the last epoch; the most slots and buckets take 540 million bytes. */
 #ifndef VBR_H
 #define VBR_H
 
@@ -56,9 +56,9 @@
 extern "C" {
 #endif
 
-#define VBR_MAX_SLOTS 1048575u
+#define VBR_MAX_SLOTS 16777215u
 #define VBR_MAX_BUCKETS 65536u
-#define VBR_MAX_EPOCH 8796093022207ull
+#define VBR_MAX_EPOCH 549755813887ull
 #define VBR_MAX_HANDLES 64u
 
 /* What a call answers. Numbers below 0 are refusals. */

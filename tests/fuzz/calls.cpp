@@ -127,14 +127,15 @@ private:
         }
     }
 
-    // The largest sets take long to open: they come seldom, and once an input.
+    // Large sets take long to open: they come seldom, and once an input; that of most slots, which takes more than 1 GB,
+    // more seldom by far.
     bool is_small(uint8_t least) { return byte() < least || large++ > 0; }
 
     uint64_t slots() {
         static const uint64_t some[] = {0, VBR_MAX_SLOTS, VBR_MAX_SLOTS + 1, UINT32_MAX, 63, 64, 65, 1000};
         uint8_t x = byte();
         uint64_t slots = x < 200 ? 1 + x % 20 : x < 240 ? 40 + x : some[x % 8];
-        return slots == VBR_MAX_SLOTS && is_small(255) ? 1 : slots;
+        return slots == VBR_MAX_SLOTS && (byte() < 255 || is_small(255)) ? 1 : slots;
     }
 
     uint64_t buckets() {

@@ -7,6 +7,7 @@
 // once more, so that the first faulty line, the number of replies and the totals are known; with one worker so is each
 // reply.
 #include "fuzz.hpp"
+#include "vbr.h"
 
 #include <algorithm>
 #include <cinttypes>
@@ -109,7 +110,7 @@ private:
 
 struct Settings {
     std::map<std::string, uint64_t> numbers{
-        {"workers", 1}, {"slots", 1024}, {"buckets", 16}, {"last-epoch", 8796093022207}, {"budget", 100000}};
+        {"workers", 1}, {"slots", 1024}, {"buckets", 16}, {"last-epoch", VBR_MAX_EPOCH}, {"budget", 100000}};
     bool epoch = false;
     // 'v': these settings; 'f': a fault in the options; 'o': any of the program's answers, as for help and odd words
     char kind = 'v';
@@ -117,7 +118,7 @@ struct Settings {
     uint64_t operator[](const char *name) const { return numbers.at(name); }
     int shape_fault() const {
         auto within = [&](const char *name, uint64_t most) { return numbers.at(name) >= 1 && numbers.at(name) <= most; };
-        return !within("slots", 1048575) ? 1 : !within("buckets", 65536) ? 2 : !within("last-epoch", 8796093022207) ? 3 : 0;
+        return !within("slots", VBR_MAX_SLOTS) ? 1 : !within("buckets", VBR_MAX_BUCKETS) ? 2 : !within("last-epoch", VBR_MAX_EPOCH) ? 3 : 0;
     }
 };
 
@@ -330,7 +331,7 @@ static std::vector<uint64_t> play(Program &program, const Input &input) {
 static std::string number_word(fuzz::Random &random) {
     static const Words edges{"0",          "1",          "2",           "7",          "63",        "64",
                              "65",         "16",         "17",          "00012",      "65536",     "65537",
-                             "4294967295", "4294967296", "8796093022207", "8796093022208", "18446744073709551615", "18446744073709551616",
+                             "4294967295", "4294967296", std::to_string(VBR_MAX_EPOCH), std::to_string(VBR_MAX_EPOCH + 1), "18446744073709551615", "18446744073709551616",
                              "-1",         "+1",         "1e3",         "0x10",       "",          "9999999999999999999999999"};
     return random.once_in(3) ? random.one_of(edges) : std::to_string(random.below(random.once_in(2) ? 12 : 300));
 }
@@ -343,7 +344,6 @@ static Words random_words(fuzz::Random &random) {
         if (!random.once_in(3)) continue;
         std::string small = std::to_string(1 + random.below(name[2] == 'w' ? 4 : name[2] == 'b' && name[4] == 'd' ? 200 : 20));
         std::string value = random.once_in(6) ? number_word(random) : small;
-        if (value == "1048575") value = "1000";
         if (random.once_in(2)) words.push_back(std::string(name) + '=' + value);
         else words.push_back(name), words.push_back(value);
     }

@@ -1,12 +1,13 @@
 /* To be preloaded into a program: refuses its allocation number REFUSE, counted from 1, and so many together as TOGETHER
    says (0: all from there on). The file that REFUSED names is made where one is refused. A program that ends by exit
-   leaves in the file that LEFT names how many of its blocks are left. */
-#define _POSIX_C_SOURCE 200809L
+   or _exit leaves in the file that LEFT names how many of its blocks are left. */
+#define _GNU_SOURCE
 #include <errno.h>
 #include <fcntl.h>
 #include <stdatomic.h>
 #include <stdio.h>
 #include <stdlib.h>
+#include <sys/syscall.h>
 #include <unistd.h>
 
 void *__libc_malloc(size_t size);
@@ -36,6 +37,12 @@ __attribute__((destructor)) static void end(void) {
     if (!file) return;
     fprintf(file, "%ld\n", left);
     fclose(file);
+}
+
+/* A program that has threads ends so, past the destructors. */
+void _exit(int status) {
+    end();
+    for (;;) syscall(SYS_exit_group, status);
 }
 
 static int refuses(void) {

@@ -36,13 +36,13 @@ use core::fmt;
 use core::ptr::null_mut;
 
 /// The greatest number of slots.
-pub const MAX_SLOTS: u32 = 1_048_575;
+pub const MAX_SLOTS: u32 = 16_777_215;
 
 /// The greatest number of buckets.
 pub const MAX_BUCKETS: u32 = 65_536;
 
 /// The greatest last epoch.
-pub const MAX_EPOCH: u64 = 8_796_093_022_207;
+pub const MAX_EPOCH: u64 = 549_755_813_887;
 
 /// The greatest number of handles of a set.
 pub const MAX_HANDLES: usize = 64;

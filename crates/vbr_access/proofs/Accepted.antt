@@ -13,10 +13,10 @@ use Rattle.vbr_core.specs.declared.event.Step.TheVariants.{LoadBirth, Mark, Unli
 use Rattle.vbr_core.specs.declared.history.Op.{Op}
 use Rattle.vbr_core.specs.declared.history.Op.TheVariants.{Insert, Remove}
 use Rattle.vbr_core.specs.declared.knowledge.Read.TheVariants.{LinkAt, KeyOf}
-use Rattle.vbr_core.proofs.RunForms.{known_accepts, link_held, written_is}
+use Rattle.vbr_core.proofs.Lemmas.{known_accepts, link_held, written_is}
 use Rattle.vbr_slots.specs.Views.{PassView, knows}
 use Rattle.vbr_access.specs.Held.{IsHeld, Names}
-use Rattle.vbr_access.specs.Soundness.{IsSound}
+use Rattle.vbr_slots.specs.PassLaw.{PassLaw}
 use Rattle.vbr_access.specs.declared.held.Held.{Held}
 use Rattle.vbr_access.proofs.PlacesInShape.{link_in, held_in}
 
@@ -24,7 +24,7 @@ use Rattle.vbr_access.proofs.PlacesInShape.{link_in, held_in}
 pub named_slot : {know : Know} (held : Held) (s : ℕ) → IsHeld know held → Names held s → IsHeldSlot know s
 named_slot held s h names = record { at = held.at; link = link_of held.word; known = h.link; names = names }
 
-module _ (p : PassView) (sound : IsSound p) where
+module _ (p : PassView) (sound : PassLaw p) where
   -- the place of what is held is one of the shape, and is held
   pub place_in : (held : Held) → IsHeld (knows p.trace) held → IsAtIn p.trace.shape held.at
   place_in held h = link_in p.trace.shape p.trace.passes p.trace.seen sound.shape sound.is_run p.trace.who held.at (link_of held.word) h.link

@@ -1,33 +1,27 @@
 -- Exchanges and confirming loads by a pass that was alone: where the link that is held stands, none is lost.
-use Rattle.std.proofs.Common.{◌≡◌, ◌≢◌, ◌≤◌, ℕ, suc, false, List, [], ◌∷◌, ◌++◌, Some, refl, sym, ap, ◌∙◌, subst}
+use Rattle.std.proofs.Common.{◌≡◌, ◌≢◌, ℕ, suc, false, [], ◌∷◌, ◌++◌, sym, ap, ◌∙◌}
 use Rattle.vbr_words.specs.Dimensions.{Dimensions, IsShape}
-use Rattle.vbr_words.specs.Words.{link_of, word_of}
-use Rattle.vbr_words.specs.declared.link.Link.{Link}
+use Rattle.vbr_words.specs.Words.{link_of}
 use Rattle.vbr_words.specs.declared.place.At.{At}
 use Rattle.vbr_words.specs.declared.place.At.TheVariants.{Head, Slot}
 use Rattle.vbr_core.specs.Acceptance.{Accepts}
 use Rattle.vbr_core.specs.Accounts.{incarnations_after, notes_after}
 use Rattle.vbr_core.specs.Agreement.{Agrees}
-use Rattle.vbr_core.specs.Images.{link_at}
+use Rattle.vbr_core.specs.Images.{link_shown_at}
 use Rattle.vbr_core.specs.Incarnations.{Incarnations}
 use Rattle.vbr_core.specs.Learning.{link_written, present_reply}
 use Rattle.vbr_core.specs.Machine.{found}
 use Rattle.vbr_core.specs.Machine as machine
-use Rattle.vbr_core.specs.Membership.{Knows, HeldIn}
+use Rattle.vbr_core.specs.Membership.{Knows}
 use Rattle.vbr_core.specs.Nodes.{behind}
-use Rattle.vbr_core.specs.Runs.{IsRun, world_after}
-use Rattle.vbr_core.specs.declared.event.Event.{Event}
-use Rattle.vbr_core.specs.declared.event.Step.{Step}
+use Rattle.vbr_core.specs.Runs.{world_after}
 use Rattle.vbr_core.specs.declared.event.Step.TheVariants.{Publish, Mark, Unlink, ConfirmPresent, ConfirmAbsent}
 use Rattle.vbr_core.specs.declared.history.Op.{Op}
 use Rattle.vbr_core.specs.declared.knowledge.Read.TheVariants.{LinkAt}
-use Rattle.vbr_core.proofs.ConfirmSteps.{found_at}
-use Rattle.vbr_core.proofs.EveryRun.{run_agrees}
-use Rattle.vbr_core.proofs.ListedRuns.{unlink_takes_one, unlink_makes}
+use Rattle.vbr_core.proofs.Lemmas.{found_at, run_agrees, unlink_makes, unlink_takes_one}
 use Rattle.vbr_slots.specs.Alone.{IsAlone, nodes, ahead}
 use Rattle.vbr_slots.specs.Views.{Trace, Did, knows, event_of}
-use Rattle.vbr_slots.proofs.Alone.{before_it, nodes_next, run_was, stands_found, found_now, same_leaves}
-use Rattle.vbr_slots.proofs.Calls.{did_run}
+use Rattle.vbr_slots.proofs.Lemmas.{did_run, found_now, nodes_next, run_was, same_leaves, stands_found}
 use Rattle.vbr_access.specs.Alone.{StandsNow, UnlinksAlone}
 use Rattle.vbr_access.specs.Keeping.{Keeps}
 use Rattle.vbr_access.proofs.Keeping.{held_in_kept}
@@ -39,23 +33,23 @@ use Rattle.vbr_access.proofs.AloneReads.{shape_on}
 -- ---- none is lost
 
 module _ {p q : Trace} {r : ℕ} (is : IsShape p.shape) (alone : IsAlone p q) where
-  pub unlink_wins : (pred : At) (expected s : ℕ) → Did (Unlink pred expected s) p q r → r ≢ expected → link_at (nodes p) pred ≡ link_of expected → ⊥
+  pub unlink_wins : (pred : At) (expected s : ℕ) → Did (Unlink pred expected s) p q r → r ≢ expected → link_shown_at (nodes p) pred ≡ link_of expected → ⊥
   unlink_wins pred expected s d other stands =
       other (sym (lost expected r _ other d.shows.answers) ∙ found_now d alone ∙ found_at p.shape (world_after p.shape p.seen) pred ∙ stands_found p pred expected is (run_was d alone) stands)
 
-  pub publish_wins : (pred : At) (expected s : ℕ) → Did (Publish pred expected s) p q r → r ≢ expected → link_at (nodes p) pred ≡ link_of expected → ⊥
+  pub publish_wins : (pred : At) (expected s : ℕ) → Did (Publish pred expected s) p q r → r ≢ expected → link_shown_at (nodes p) pred ≡ link_of expected → ⊥
   publish_wins pred expected s d other stands =
       other (sym (lost expected r _ other d.shows.answers) ∙ found_now d alone ∙ found_at p.shape (world_after p.shape p.seen) pred ∙ stands_found p pred expected is (run_was d alone) stands)
 
-  pub mark_wins : (s expected : ℕ) → Did (Mark s expected) p q r → r ≢ expected → link_at (nodes p) (Slot s) ≡ link_of expected → ⊥
+  pub mark_wins : (s expected : ℕ) → Did (Mark s expected) p q r → r ≢ expected → link_shown_at (nodes p) (Slot s) ≡ link_of expected → ⊥
   mark_wins s expected d other stands =
       other (sym (lost expected r _ other d.shows.answers) ∙ found_now d alone ∙ stands_found p (Slot s) expected is (run_was d alone) stands)
 
-  pub present_confirmed : (op : Op) (s expected : ℕ) → Did (ConfirmPresent op s expected) p q r → r ≢ expected → link_at (nodes p) (Slot s) ≡ link_of expected → ⊥
+  pub present_confirmed : (op : Op) (s expected : ℕ) → Did (ConfirmPresent op s expected) p q r → r ≢ expected → link_shown_at (nodes p) (Slot s) ≡ link_of expected → ⊥
   present_confirmed op s expected d other stands =
       other (sym (unanswered (present_reply op) expected r _ other d.shows.answers) ∙ found_now d alone ∙ stands_found p (Slot s) expected is (run_was d alone) stands)
 
-  pub absent_confirmed : (op : Op) (key : ℕ) (at : At) (expected : ℕ) → Did (ConfirmAbsent op key at expected) p q r → r ≢ expected → link_at (nodes p) at ≡ link_of expected → ⊥
+  pub absent_confirmed : (op : Op) (key : ℕ) (at : At) (expected : ℕ) → Did (ConfirmAbsent op key at expected) p q r → r ≢ expected → link_shown_at (nodes p) at ≡ link_of expected → ⊥
   absent_confirmed op key at expected d other stands =
       other (sym (unanswered false expected r _ other d.shows.answers) ∙ found_now d alone ∙ found_at p.shape (world_after p.shape p.seen) at ∙ stands_found p at expected is (run_was d alone) stands)
 
@@ -66,12 +60,12 @@ module _ {p q : Trace} {expected s : ℕ} {pred : At} (is : IsShape p.shape) (d 
   won_now = sym (found_now d alone) ∙ won expected _ d.shows.answers
 
   -- the link that was written stands there
-  pub written_stands : (new : ℕ) → link_written (knows p) (Unlink pred expected s) ≡ link_of new → link_at (nodes q) pred ≡ link_of new
+  pub written_stands : (new : ℕ) → link_written (knows p) (Unlink pred expected s) ≡ link_of new → link_shown_at (nodes q) pred ≡ link_of new
   written_stands new is_new =
       image pred (run_agrees q.shape q.passes q.seen (shape_on d is) (did_run d))
       ∙ ap (λ (shape : Dimensions). machine.link_at (world_after shape q.seen) pred) d.same.1 ∙ link_after d ∙ is_new
     where
-      image : (at : At) → Agrees q.shape (world_after q.shape q.seen) (incarnations_after q.shape q.seen) (notes_after q.shape q.seen) → link_at (nodes q) at ≡ machine.link_at (world_after q.shape q.seen) at
+      image : (at : At) → Agrees q.shape (world_after q.shape q.seen) (incarnations_after q.shape q.seen) (notes_after q.shape q.seen) → link_shown_at (nodes q) at ≡ machine.link_at (world_after q.shape q.seen) at
       image (Head b) g = sym (g.image.head b)
       image (Slot t) g = sym (g.image.link t)
 

@@ -3,17 +3,15 @@ use Rattle.std.proofs.Common.{◌≡◌, ℕ, refl, sym, ap, ◌∙◌, subst}
 use Rattle.vbr_words.specs.Dimensions.{Dimensions, IsShape}
 use Rattle.vbr_words.specs.Words.{link_of}
 use Rattle.vbr_words.specs.declared.place.At.{At}
-use Rattle.vbr_words.specs.declared.place.At.TheVariants.{Head, Slot}
-use Rattle.vbr_core.specs.Images.{link_at}
+use Rattle.vbr_words.specs.declared.place.At.TheVariants.{Slot}
+use Rattle.vbr_core.specs.Images.{link_shown_at}
 use Rattle.vbr_core.specs.Incarnations.{Incarnations}
 use Rattle.vbr_core.specs.declared.event.Step.{Step}
 use Rattle.vbr_core.specs.declared.event.Step.TheVariants.{ReadEpoch, LoadLink, LoadBirth, LoadKey}
 use Rattle.vbr_slots.specs.Alone.{IsAlone, nodes, IsFresh}
 use Rattle.vbr_slots.specs.Views.{Trace, Did, knows}
-use Rattle.vbr_slots.proofs.Alone.{looks, link_now, epoch_now, alone_two, alone_three}
+use Rattle.vbr_slots.proofs.Lemmas.{alone_three, alone_two, epoch_now, link_now, looks}
 use Rattle.vbr_access.specs.Keeping.{Keeps}
-use Rattle.vbr_access.proofs.Keeping.{keeps_on}
-use Rattle.vbr_access.proofs.ReadSteps.{link_loaded_keeps, birth_loaded_keeps, key_loaded_keeps}
 
 pub shape_on : {step : Step} {p q : Trace} {r : ℕ} → Did step p q r → IsShape p.shape → IsShape q.shape
 shape_on d is = let P : Dimensions → Type 0 = IsShape in subst P (sym d.same.1) is
@@ -32,8 +30,8 @@ module _ {p q r : Trace} {at : At} {word epoch : ℕ} (load : Did (LoadLink at) 
   pub head_looks : nodes r ≡ nodes p
   head_looks = looks read (parts load read alone).1 (λ w a. refl) ∙ looks load (parts load read alone).0 (λ w a. refl)
 
-  pub head_stands : IsShape p.shape → link_at (nodes r) at ≡ link_of word
-  head_stands is = ap (λ a. link_at a at) head_looks ∙ link_now is load (parts load read alone).0
+  pub head_stands : IsShape p.shape → link_shown_at (nodes r) at ≡ link_of word
+  head_stands is = ap (λ a. link_shown_at a at) head_looks ∙ link_now is load (parts load read alone).0
 
   pub head_still : IsShape p.shape → IsFresh p → epoch ≡ (knows p).epoch
   head_still is fresh = epoch_now (shape_on load is) read (parts load read alone).1 ∙ ap (λ (a : Incarnations). a.epoch) (looks load (parts load read alone).0 (λ w a. refl)) ∙ fresh
@@ -64,8 +62,8 @@ module _ {p q r t : Trace} {s birth word epoch : ℕ} (first : Did (LoadBirth s)
   pub node_looks : nodes t ≡ nodes p
   node_looks = looks read each.2 (λ w a. refl) ∙ loaded_same
 
-  pub node_stands : IsShape p.shape → link_at (nodes t) (Slot s) ≡ link_of word
-  node_stands is = ap (λ a. link_at a (Slot s)) (node_looks ∙ sym (looks first each.0 (λ w a. refl))) ∙ link_now (shape_on first is) second each.1
+  pub node_stands : IsShape p.shape → link_shown_at (nodes t) (Slot s) ≡ link_of word
+  node_stands is = ap (λ a. link_shown_at a (Slot s)) (node_looks ∙ sym (looks first each.0 (λ w a. refl))) ∙ link_now (shape_on first is) second each.1
 
   pub node_still : IsShape p.shape → IsFresh p → epoch ≡ (knows p).epoch
   node_still is fresh = epoch_now (shape_on second (shape_on first is)) read each.2 ∙ ap (λ (a : Incarnations). a.epoch) loaded_same ∙ fresh

@@ -8,10 +8,10 @@ use Rattle.vbr_core.specs.Acceptance.{bucket_of}
 use Rattle.vbr_core.specs.Membership.{Knows, IsHeldSlot, HeldIn}
 use Rattle.vbr_core.specs.declared.event.Step.TheVariants.{ReadEpoch, LoadLink, LoadBirth, LoadKey}
 use Rattle.vbr_core.specs.declared.knowledge.Read.TheVariants.{LinkAt, BirthOf, KeyOf}
-use Rattle.vbr_core.proofs.RunForms.{head_unmarked, held_in_bucket}
+use Rattle.vbr_core.proofs.Lemmas.{head_unmarked, held_in_bucket}
 use Rattle.vbr_slots.specs.Calls.{Quiet}
 use Rattle.vbr_slots.specs.Views.{Trace, Did, knows}
-use Rattle.vbr_slots.proofs.Calls.{did_quiet, did_run, did_same, same_on, quiet_refl}
+use Rattle.vbr_slots.proofs.Lemmas.{did_quiet, did_run, did_same, quiet_refl, same_on}
 use Rattle.vbr_access.specs.Keeping.{Keeps}
 use Rattle.vbr_access.specs.Moments.{IsRead}
 use Rattle.vbr_access.proofs.Keeping.{keeps_on, slot_kept, held_in_kept}

@@ -6,21 +6,20 @@ use Rattle.vbr_core.specs.Acceptance.{IsNextIn, IsInHand, Accepts}
 use Rattle.vbr_core.specs.Knowledge.{Know}
 use Rattle.vbr_core.specs.Learning.{with_key, with_link, with_own, link_written, birth_in_hand, key_in_hand}
 use Rattle.vbr_core.specs.Links.{link_to}
-use Rattle.vbr_core.specs.Membership.{IsHeldSlot, IsNextKnown, BirthNamed, StandsBehind, StandsBefore, IsReadyKnown}
+use Rattle.vbr_core.specs.Membership.{IsHeldSlot, IsNextKnown, BirthNamed, StandsBehind, StandsBefore, MayPublishKnown}
 use Rattle.vbr_core.specs.declared.event.Step.TheVariants.{StoreKey, StoreLink, Publish}
 use Rattle.vbr_core.specs.declared.history.Op.TheVariants.{Insert}
 use Rattle.vbr_core.specs.declared.knowledge.Holding.{Holding}
 use Rattle.vbr_core.specs.declared.knowledge.Holding.TheVariants.{Free, Unlinked, InHand}
-use Rattle.vbr_core.proofs.Puts.{put_here}
-use Rattle.vbr_core.proofs.RunForms.{known_accepts, written_is}
+use Rattle.vbr_core.proofs.Lemmas.{known_accepts, put_here, written_is}
 use Rattle.vbr_pools.specs.Hands.{HandView, IsHandOf}
 use Rattle.vbr_slots.specs.Calls.{Quiet, Made}
 use Rattle.vbr_slots.specs.Pools as pools
 use Rattle.vbr_slots.specs.Views.{Trace, PassView, Did, knows}
-use Rattle.vbr_slots.proofs.Calls.{did_quiet}
+use Rattle.vbr_slots.proofs.Lemmas.{did_quiet}
 use Rattle.vbr_access.specs.Held.{IsHeld, IsFilled}
 use Rattle.vbr_access.specs.Keeping.{Keeps}
-use Rattle.vbr_access.specs.Soundness.{IsSound}
+use Rattle.vbr_slots.specs.PassLaw.{PassLaw}
 use Rattle.vbr_access.specs.declared.held.Held.{Held}
 use Rattle.vbr_access.proofs.MadeCalls.{published}
 use Rattle.vbr_access.proofs.Accepted.{place_in, slot_in, named_slot}
@@ -34,13 +33,13 @@ in_hand_is (Some (Unlinked reread)) is = absurd is
 in_hand_is (Some (InHand stamp birth key link)) is = (stamp, birth, key, link, refl)
 
 -- the slot of a hand is one of the shape, and in hand
-hand_in_hand : (p : PassView) → IsSound p → (hand : HandView) → IsHandOf p hand → (hand.slot < p.trace.shape.slots) × IsInHand ((knows p.trace).own hand.slot)
+hand_in_hand : (p : PassView) → PassLaw p → (hand : HandView) → IsHandOf p hand → (hand.slot < p.trace.shape.slots) × IsInHand ((knows p.trace).own hand.slot)
 hand_in_hand p sound hand h =
-    let P : Option ℕ → Type 0 = pools.IsHandOf p.trace.shape (knows p.trace) p.pool in
+    let P : Option ℕ → Type 0 = pools.HandFits p.trace.shape (knows p.trace) p.pool in
     let o = subst P h.slot sound.own.in_hand in
     (o.0, o.1)
 
-pub hand_at : (p : PassView) → IsSound p → (hand : HandView) → IsHandOf p hand → (s : ℕ) → s ≡ hand.slot → (s < p.trace.shape.slots) × IsInHand ((knows p.trace).own s) × (birth_in_hand ((knows p.trace).own s) ≡ hand.birth)
+pub hand_at : (p : PassView) → PassLaw p → (hand : HandView) → IsHandOf p hand → (s : ℕ) → s ≡ hand.slot → (s < p.trace.shape.slots) × IsInHand ((knows p.trace).own s) × (birth_in_hand ((knows p.trace).own s) ≡ hand.birth)
 hand_at p sound hand h s is =
     let P : ℕ → Type 0 = λ s. (s < p.trace.shape.slots) × IsInHand ((knows p.trace).own s) × (birth_in_hand ((knows p.trace).own s) ≡ hand.birth) in
     let o = hand_in_hand p sound hand h in
@@ -80,7 +79,7 @@ keyed_hand {p} {q} {s} {key} {r} {birth} d is same =
     rw now k
 
 -- the link that is stored, by any birth that is known of what it names
-module _ (p : PassView) (sound : IsSound p) (pred : Held) (s birth next : ℕ) (h : IsHeld (knows p.trace) pred) (low : s < p.trace.shape.slots) (is : IsInHand ((knows p.trace).own s)) (known : BirthNamed (knows p.trace) (link_of pred.word).slot next) where
+module _ (p : PassView) (sound : PassLaw p) (pred : Held) (s birth next : ℕ) (h : IsHeld (knows p.trace) pred) (low : s < p.trace.shape.slots) (is : IsInHand ((knows p.trace).own s)) (known : BirthNamed (knows p.trace) (link_of pred.word).slot next) where
   named_in : (slot : Option ℕ) → ((n : ℕ) → slot ≡ Some n → IsHeldSlot (knows p.trace) n) → IsNextIn p.trace.shape slot
   named_in None held = tt
   named_in (Some n) held = slot_in p sound n (held n refl)
@@ -124,13 +123,13 @@ hand_filled p hand key link is f = record { slot = is; birth = ap birth_in_hand 
 
 -- ---- the publication
 
-module _ (p : PassView) (sound : IsSound p) (pred : Held) (s key birth next : ℕ) (h : IsHeld (knows p.trace) pred) (f : IsFilled ((knows p.trace).own s) birth key (link_to (link_of pred.word).slot birth next)) where
+module _ (p : PassView) (sound : PassLaw p) (pred : Held) (s key birth next : ℕ) (h : IsHeld (knows p.trace) pred) (f : IsFilled ((knows p.trace).own s) birth key (link_to (link_of pred.word).slot birth next)) where
   filled_hand : IsInHand ((knows p.trace).own s)
   filled_hand = let P : Option Holding → Type 0 = IsInHand in subst P (sym f.1) tt
 
   pub publish_accepted : (link_of pred.word).mark ≡ false → s < p.trace.shape.slots → BirthNamed (knows p.trace) (link_of pred.word).slot next → StandsBehind p.trace.shape (knows p.trace) pred.at key → StandsBefore (knows p.trace) key (link_of pred.word).slot → Accepts p.trace.shape (knows p.trace) (Publish pred.at pred.word s)
   publish_accepted unmarked low k i j =
-      let P : Option Holding → Type 0 = IsReadyKnown p.trace.shape (knows p.trace) pred.at (link_of pred.word) in
+      let P : Option Holding → Type 0 = MayPublishKnown p.trace.shape (knows p.trace) pred.at (link_of pred.word) in
       known_accepts p.trace.shape p.trace.passes p.trace.seen sound.shape sound.is_run p.trace.who (Publish pred.at pred.word s) (record {
         in_shape = (place_in p sound pred h, low);
         owned = filled_hand;

@@ -1,19 +1,19 @@
-pub mod PlacesInShape
-pub mod Keeping
+mod PlacesInShape
+mod Keeping
 mod ReadSteps
-pub mod Moments
+mod Moments
 mod Accepted
 mod MadeCalls
 mod CheckedReads
-pub mod AloneReads
-pub mod HeldPlaces
-pub mod SafeCalls
+mod AloneReads
+mod SafeCalls
 mod WonExchanges
 mod KeptSlots
 mod WrittenLinks
 mod UnlinkedLinks
 mod Unlinks
-pub mod AloneExchanges
+mod AloneExchanges
 mod NoneUnlinked
 mod LookUps
 mod Filled
+pub mod Lemmas

@@ -5,9 +5,8 @@ use Rattle.std.proofs.lemmas.Bool.{ne_eqb}
 use Rattle.vbr_words.specs.Dimensions.{IsShape}
 use Rattle.vbr_words.specs.declared.place.At.{At}
 use Rattle.vbr_core.specs.Knowledge.{Know}
-use Rattle.vbr_core.specs.Learning.{call_of, present_reply}
+use Rattle.vbr_core.specs.Learning.{call_of, present_reply, succeeds}
 use Rattle.vbr_core.specs.Machine.{found}
-use Rattle.vbr_core.specs.Making.{succeeds}
 use Rattle.vbr_core.specs.Accounts as entries
 use Rattle.vbr_core.specs.Membership.{Knows}
 use Rattle.vbr_core.specs.Runs.{IsRun, world_after}
@@ -17,11 +16,10 @@ use Rattle.vbr_core.specs.declared.history.Call.{Call}
 use Rattle.vbr_core.specs.declared.history.Op.{Op}
 use Rattle.vbr_core.specs.declared.history.Op.TheVariants.{Remove}
 use Rattle.vbr_core.specs.declared.knowledge.Read.TheVariants.{KeyOf}
-use Rattle.vbr_core.proofs.RunForms.{marked_call_is, confirmed_call_is}
-use Rattle.vbr_core.proofs.RunsGoOn.{others_leave_know}
+use Rattle.vbr_core.proofs.Lemmas.{confirmed_call_is, marked_call_is, others_leave_know}
 use Rattle.vbr_slots.specs.Calls.{Quiet, Made, made_by, entries_of, AddsNone, AddsAnswer}
 use Rattle.vbr_slots.specs.Views.{Trace, Did, knows}
-use Rattle.vbr_slots.proofs.Calls.{did_same, did_seen, did_run, did_calls, did_entries}
+use Rattle.vbr_slots.proofs.Lemmas.{did_calls, did_entries, did_run, did_same, did_seen}
 use Rattle.vbr_access.proofs.Moments.{won, lost, answered, unanswered}
 
 -- a step that succeeds makes its call

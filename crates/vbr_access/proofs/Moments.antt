@@ -8,22 +8,20 @@ use Rattle.vbr_words.specs.declared.place.At.{At}
 use Rattle.vbr_core.specs.Keys.{no_keys}
 use Rattle.vbr_core.specs.History.{set_after}
 use Rattle.vbr_core.specs.Knowledge.{Know}
-use Rattle.vbr_core.specs.Learning.{exchanged, confirmed}
 use Rattle.vbr_core.specs.Machine.{link_at, found}
+use Rattle.vbr_core.specs.Making.{exchanged, confirmed}
 use Rattle.vbr_core.specs.Membership.{IsHeldPlace, KeyAt, StandsBehind, StandsBefore}
 use Rattle.vbr_core.specs.Moments.{WasShown}
 use Rattle.vbr_core.specs.Runs.{IsRun, Begins, world_after, know_after}
 use Rattle.vbr_core.specs.declared.event.Event.{Event}
 use Rattle.vbr_core.specs.declared.event.Effect.TheVariants.{Value, Won, Lost, Answered}
 use Rattle.vbr_core.specs.declared.event.Step.{Step}
-use Rattle.vbr_core.specs.declared.event.Step.TheVariants.{ReadEpoch, LoadLink, Publish}
-use Rattle.vbr_core.proofs.RunForms.{present_at_load, absent_at_load}
-use Rattle.vbr_core.proofs.RunForms as forms
-use Rattle.vbr_core.proofs.RunsGoOn.{is_run_before, others_leave_know}
+use Rattle.vbr_core.specs.declared.event.Step.TheVariants.{ReadEpoch, LoadLink, Publish, Unlink}
+use Rattle.vbr_core.proofs.Lemmas.{absent_at_load, is_run_before, link_loaded, others_leave_know, present_at_load}
 use Rattle.vbr_slots.specs.Calls.{IsSame, Quiet}
 use Rattle.vbr_slots.specs.Views.{Trace, Did, knows, event_of}
-use Rattle.vbr_slots.proofs.Calls.{moment_before, moment_after, did_moment}
-use Rattle.vbr_pools.proofs.Moments.{epoch_stood}
+use Rattle.vbr_slots.proofs.Lemmas.{did_moment, moment_after, moment_before}
+use Rattle.vbr_pools.proofs.Lemmas.{epoch_stood}
 use Rattle.vbr_access.specs.Moments.{IsEpochRead, Stood, IsRead, WasFound, WasSo}
 use Rattle.vbr_access.specs.declared.held.Held.{Held}
 
@@ -99,7 +97,7 @@ stood_here {p} {q} at birth word epoch shape held same d =
       within = did_moment d;
       epoch = ap (λ (k : Know). k.epoch) know ∙ same;
       place = let P : Know → Type 0 = λ k. IsHeldPlace k at in subst P (sym know) held;
-      shown = forms.link_loaded p.shape p.passes (p.seen ++ d.rest) shape (run_before d) p.who at ∙ ap link_of (value_is word _ d.shows.answers);
+      shown = link_loaded p.shape p.passes (p.seen ++ d.rest) shape (run_before d) p.who at ∙ ap link_of (value_is word _ d.shows.answers);
     }
 
 -- what stood in a part of what the pass did stood in the whole
@@ -128,6 +126,10 @@ stood_at_load {p} {q} {r} {s} at birth word epoch shape a held same d b =
 -- a lost publication answers the word that stood there
 pub publish_found : {pred : At} {expected s word : ℕ} {p q : Trace} → Did (Publish pred expected s) p q word → word ≢ expected → WasFound p q pred word
 publish_found {pred} {expected} {s} {word} {p} d other = record { moment = p.seen ++ d.rest; within = did_moment d; found = lost expected word _ other d.shows.answers }
+
+-- and so does a lost unlinking
+pub unlink_found : {pred : At} {expected s word : ℕ} {p q : Trace} → Did (Unlink pred expected s) p q word → word ≢ expected → WasFound p q pred word
+unlink_found {pred} {expected} {s} {word} {p} d other = record { moment = p.seen ++ d.rest; within = did_moment d; found = lost expected word _ other d.shows.answers }
 
 -- what was found in a part of what the pass did was found in the whole
 pub found_after : {p q r : Trace} {at : At} {word : ℕ} → Quiet p q → WasFound q r at word → WasFound p r at word

@@ -1,34 +1,51 @@
--- Steps that unlink no slot.
-use Rattle.std.proofs.Common.{◌≢◌, ℕ, Bool, true, false, cond, Option, Some, None, subst}
-use Rattle.std.specs.Prelude.{◌==◌}
+-- An unlinking: won, it gives the pass the slot to stamp; lost, it leaves all as it was.
+use Rattle.std.proofs.Common.{◌≡◌, ◌≢◌, ℕ, false, Some, refl, ap, ◌∙◌, subst, inl, ⊎_elim}
+use Rattle.std.proofs.lemmas.Bool.{cases_eq}
 use Rattle.vbr_words.specs.declared.place.At.{At}
-use Rattle.vbr_core.specs.Acceptance.{IsUnlinked}
+use Rattle.vbr_core.specs.Acceptance.{IsUnlinked, MayBear}
 use Rattle.vbr_core.specs.Knowledge.{Know}
-use Rattle.vbr_core.specs.Learning.{reread}
-use Rattle.vbr_core.specs.declared.event.Step.TheVariants.{ReadEpoch, LoadBirth, Unlink}
-use Rattle.vbr_core.specs.declared.knowledge.Holding.{Holding}
-use Rattle.vbr_core.specs.declared.knowledge.Holding.TheVariants.{Free, Unlinked, InHand}
-use Rattle.vbr_slots.specs.Views.{Trace, Did, knows}
-use Rattle.vbr_access.specs.Keeping.{UnlinksNone}
-use Rattle.vbr_access.proofs.WonExchanges.{unlink_lost_same}
+use Rattle.vbr_core.specs.declared.event.Step.TheVariants.{Unlink}
+use Rattle.vbr_core.specs.declared.knowledge.Holding.TheVariants.{Unlinked}
+use Rattle.vbr_core.proofs.Lemmas.{put_other}
+use Rattle.vbr_slots.specs.Views.{PassView, Did, KeepsPool, knows}
+use Rattle.vbr_pools.specs.Advances.{TakesNoSlot}
+use Rattle.vbr_pools.proofs.Lemmas.{free_on, free_pool, grows_on, grows_same, longer, none_known, same_advances, same_flags, shared_on}
+use Rattle.vbr_access.specs.Keeping.{Unlinks}
+use Rattle.vbr_access.proofs.WonExchanges.{unlink_learned, unlink_lost_same, unlink_owns}
 
-unlinked_reread : (holding : Option Holding) → IsUnlinked (reread holding) → IsUnlinked holding
-unlinked_reread None u = u
-unlinked_reread (Some (Free stamp)) u = u
-unlinked_reread (Some (Unlinked seen)) u = tt
-unlinked_reread (Some (InHand stamp birth key link)) u = u
+pub lost_none : {p q : PassView} {pred : At} {expected slot found : ℕ} → Did (Unlink pred expected slot) p.trace q.trace found → found ≢ expected → KeepsPool p q → TakesNoSlot p q
+lost_none d other pool = none_known (same_advances d refl) (same_flags d refl) pool (unlink_lost_same d other)
 
-either_know : (b : Bool) (x y know : Know) (s : ℕ) → (IsUnlinked (x.own s) → IsUnlinked (know.own s)) → (IsUnlinked (y.own s) → IsUnlinked (know.own s)) → IsUnlinked ((cond b x y).own s) → IsUnlinked (know.own s)
-either_know true x y know s f g u = f u
-either_know false x y know s f g u = g u
+pub won_unlinks : {p q : PassView} {pred : At} {expected slot : ℕ} → Did (Unlink pred expected slot) p.trace q.trace expected → KeepsPool p q → Unlinks slot p q
+won_unlinks {p} {q} {pred} {expected} {slot} d pool = record {
+  count = same_advances d refl;
+  free = free_pool p q pool (λ s m. ⊎_elim (λ (is : s ≡ slot). absurd (subst MayBear (ap (knows q.trace).own is ∙ unlink_owns d) m)) (λ (other : s ≢ slot). subst MayBear (stays s other) m) (cases_eq s slot));
+  others = λ s other u. subst IsUnlinked (stays s other) u;
+  grows = grows_same p q pool.0;
+  shared = inl (same_flags d refl);
+}
+  where
+    stays : (s : ℕ) → s ≢ slot → (knows q.trace).own s ≡ (knows p.trace).own s
+    stays s other = ap (λ (k : Know). k.own s) (unlink_learned d) ∙ put_other (knows p.trace).own slot (Some (Unlinked false)) s other
 
-pub birth_unlinks_none : {p q : Trace} {slot birth : ℕ} → Did (LoadBirth slot) p q birth → UnlinksNone (knows p) (knows q)
-birth_unlinks_none d = λ s u. subst (λ (k : Know). IsUnlinked (k.own s)) d.know u
+-- what was done before the unlinking
+pub unlinks_on : {slot : ℕ} (p q r : PassView) → TakesNoSlot p q → Unlinks slot q r → Unlinks slot p r
+unlinks_on p q r a b = record {
+  count = b.count ∙ a.count;
+  free = free_on p q r a.kept.free b.free;
+  others = λ s other u. a.kept.stamped s (b.others s other u);
+  grows = grows_on p q r a.grows b.grows;
+  shared = shared_on p q r 1 a.shared (longer q r b.grows) b.shared;
+}
 
-pub epoch_unlinks_none : {p q : Trace} {epoch : ℕ} → Did ReadEpoch p q epoch → UnlinksNone (knows p) (knows q)
-epoch_unlinks_none {p} {q} {epoch} d = λ s u.
-    let know = knows p in
-    either_know (epoch == know.epoch) _ _ know s (unlinked_reread (know.own s)) (unlinked_reread (know.own s)) (subst (λ (k : Know). IsUnlinked (k.own s)) d.know u)
-
-pub lost_unlinks_none : {p q : Trace} {pred : At} {expected slot found : ℕ} → Did (Unlink pred expected slot) p q found → found ≢ expected → UnlinksNone (knows p) (knows q)
-lost_unlinks_none d other = λ s u. subst (λ (k : Know). IsUnlinked (k.own s)) (unlink_lost_same d other) u
+-- once the slot is stamped, none is lost
+pub unlinks_none : {slot : ℕ} (p q r : PassView) → Unlinks slot p q → TakesNoSlot q r → ¬ (IsUnlinked ((knows r.trace).own slot)) → TakesNoSlot p r
+unlinks_none {slot} p q r a b stamped = record {
+  count = b.count ∙ a.count;
+  kept = record {
+    free = free_on p q r a.free b.kept.free;
+    stamped = λ s u. ⊎_elim (λ (is : s ≡ slot). absurd (stamped (subst (λ (t : ℕ). IsUnlinked ((knows r.trace).own t)) is u))) (λ (other : s ≢ slot). a.others s other (b.kept.stamped s u)) (cases_eq s slot);
+  };
+  grows = grows_on p q r a.grows b.grows;
+  shared = shared_on p q r 1 a.shared (longer q r b.grows) b.shared;
+}

@@ -26,9 +26,7 @@ use Rattle.vbr_core.specs.declared.knowledge.Holding.{Holding}
 use Rattle.vbr_core.specs.declared.knowledge.Holding.TheVariants.{Free, Unlinked, InHand}
 use Rattle.vbr_core.specs.declared.knowledge.Read.{Read}
 use Rattle.vbr_core.specs.declared.knowledge.Read.TheVariants.{LinkAt, BirthOf, KeyOf}
-use Rattle.vbr_core.proofs.EveryRun.{run_agrees}
-use Rattle.vbr_core.proofs.KnownReads.{slot_held, birth_held}
-use Rattle.vbr_core.proofs.RunsGoOn.{know_own, know_other}
+use Rattle.vbr_core.proofs.Lemmas.{birth_held, know_other, know_own, run_agrees, slot_held}
 
 -- a read is of a place of the shape
 abbrev IsReadIn : Dimensions → Read → Type 0

@@ -2,23 +2,21 @@
 use Rattle.std.proofs.Common.{◌≡◌, ℕ, Bool, true, [], ◌++◌, sym, ap, ◌∙◌, subst, cond, eq-eqb, append-nil}
 use Rattle.std.specs.Prelude.{◌==◌}
 use Rattle.vbr_words.specs.Dimensions.{Dimensions}
-use Rattle.vbr_words.specs.Words.{link_of, word_of}
+use Rattle.vbr_words.specs.Words.{link_of}
 use Rattle.vbr_words.specs.declared.link.Link.{Link}
 use Rattle.vbr_words.specs.declared.place.At.{At}
 use Rattle.vbr_words.specs.declared.place.At.TheVariants.{Head, Slot}
 use Rattle.vbr_core.specs.Knowledge.{Know}
 use Rattle.vbr_core.specs.Learning.{link_written}
-use Rattle.vbr_core.specs.Machine.{World, link_at, after, with_learning, with_link_at}
+use Rattle.vbr_core.specs.Machine.{World, found, link_at, after, with_learning, with_link_at}
 use Rattle.vbr_core.specs.Membership.{IsHeldPlace}
 use Rattle.vbr_core.specs.Runs.{world_after, know_after}
 use Rattle.vbr_core.specs.declared.event.Step.TheVariants.{Unlink}
 use Rattle.vbr_core.specs.declared.knowledge.SlotPlace.TheVariants.{Own}
 use Rattle.vbr_core.specs.Put.{put}
-use Rattle.vbr_core.proofs.ConfirmSteps.{found_at}
-use Rattle.vbr_core.proofs.Puts.{put_here}
-use Rattle.vbr_core.proofs.RunsGoOn.{others_leave_know, world_after-snoc}
+use Rattle.vbr_core.proofs.Lemmas.{others_leave_know, put_here, world_after-snoc}
 use Rattle.vbr_slots.specs.Views.{Trace, Did, knows, event_of}
-use Rattle.vbr_slots.proofs.Calls.{did_seen, did_run}
+use Rattle.vbr_slots.proofs.Lemmas.{did_run, did_seen}
 use Rattle.vbr_access.specs.Moments.{Stood}
 use Rattle.vbr_access.proofs.Moments.{won}
 
@@ -30,19 +28,19 @@ link_put w (Slot t) link s p = put_here w.link t link
 test_won : (b : Bool) (at : At) (x y : World) (link : Link) → b ≡ true → link_at x at ≡ link → link_at (cond b x y) at ≡ link
 test_won b at x y link t e = ap (λ (b : Bool). link_at (cond b x y) at) t ∙ e
 
-unlinked : (shape : Dimensions) (w : World) (p : ℕ) (pred : At) (expected s : ℕ) → word_of (link_at w pred) ≡ expected → link_at (after shape w p (Unlink pred expected s)) pred ≡ link_written (w.know p) (Unlink pred expected s)
+unlinked : (shape : Dimensions) (w : World) (p : ℕ) (pred : At) (expected s : ℕ) → found shape w (Unlink pred expected s) ≡ expected → link_at (after shape w p (Unlink pred expected s)) pred ≡ link_written (w.know p) (Unlink pred expected s)
 unlinked shape w p pred expected s is =
-    test_won (word_of (link_at w pred) == expected) pred _ w _ (eq-eqb _ expected is) (link_put (with_learning shape w p (Unlink pred expected s)) pred (link_written (w.know p) (Unlink pred expected s)) s p)
+    test_won (found shape w (Unlink pred expected s) == expected) pred _ w _ (eq-eqb _ expected is) (link_put (with_learning shape w p (Unlink pred expected s)) pred (link_written (w.know p) (Unlink pred expected s)) s p)
 
 module _ {p q : Trace} {pred : At} {expected s : ℕ} (d : Did (Unlink pred expected s) p q expected) where
   -- it is the one that the core writes by what the pass knew
   pub link_after : link_at (world_after p.shape q.seen) pred ≡ link_written (knows p) (Unlink pred expected s)
   link_after =
       let w = world_after p.shape (p.seen ++ d.rest) in
-      let found = sym (found_at p.shape w pred) ∙ won expected _ d.shows.answers in
+      let stood = won expected _ d.shows.answers in
       ap (λ l. link_at (world_after p.shape l) pred) d.seen
       ∙ ap (λ (v : World). link_at v pred) (world_after-snoc p.shape (p.seen ++ d.rest) (event_of p.who (Unlink pred expected s)))
-      ∙ unlinked p.shape w p.who pred expected s found
+      ∙ unlinked p.shape w p.who pred expected s stood
       ∙ ap (λ (k : Know). link_written k (Unlink pred expected s)) (others_leave_know p.shape p.seen d.rest p.who d.none)
 
   -- so it stood there at the end

@@ -18,7 +18,7 @@ use Rattle.vbr_core.specs.declared.knowledge.Read.{Read}
 use Rattle.vbr_core.specs.declared.knowledge.Read.TheVariants.{LinkAt}
 use Rattle.vbr_slots.specs.Views.{Trace, Did, knows}
 use Rattle.vbr_access.specs.Keeping.{Keeps}
-use Rattle.vbr_core.proofs.Puts.{put_here}
+use Rattle.vbr_core.proofs.Lemmas.{put_here}
 use Rattle.vbr_access.proofs.Keeping.{keeps_refl}
 use Rattle.vbr_access.proofs.ReadSteps.{only}
 
@@ -50,7 +50,7 @@ module _ {p q : Trace} {s expected : ℕ} (d : Did (Mark s expected) p q expecte
 -- ---- an unlinking
 
 module _ {p q : Trace} {pred : At} {expected s : ℕ} (d : Did (Unlink pred expected s) p q expected) where
-  unlink_learned : knows q ≡ with_own (with_checked (knows p) (reads_won (knows p) (Unlink pred expected s))) s (Some (Unlinked false))
+  pub unlink_learned : knows q ≡ with_own (with_checked (knows p) (reads_won (knows p) (Unlink pred expected s))) s (Some (Unlinked false))
   unlink_learned = d.know ∙ won_test expected _ (knows p)
 
   pub unlink_keeps : Keeps (knows p) (knows q)
@@ -79,3 +79,6 @@ publish_lost_keeps {p} {q} {pred} {expected} {s} {found} d other = rw (d.know �
 -- and so does a lost unlinking
 pub unlink_lost_same : {p q : Trace} {pred : At} {expected s found : ℕ} → Did (Unlink pred expected s) p q found → found ≢ expected → knows q ≡ knows p
 unlink_lost_same {p} {q} {pred} {expected} {s} {found} d other = d.know ∙ lost_test found expected _ (knows p) other
+
+pub unlink_lost_keeps : {p q : Trace} {pred : At} {expected s found : ℕ} → Did (Unlink pred expected s) p q found → found ≢ expected → Keeps (knows p) (knows q)
+unlink_lost_keeps {p} {q} d other = rw (unlink_lost_same d other) (keeps_refl (knows p))

@@ -12,12 +12,12 @@ use Rattle.vbr_core.specs.Learning.{birth_in_hand}
 use Rattle.vbr_core.specs.Membership.{BirthAt, BirthNamed, IsUnlinkLink}
 use Rattle.vbr_slots.specs.Views.{PassView, knows}
 use Rattle.vbr_access.specs.Held.{IsHeld, IsMarked}
-use Rattle.vbr_access.specs.Soundness.{IsSound}
+use Rattle.vbr_slots.specs.PassLaw.{PassLaw}
 use Rattle.vbr_access.specs.declared.held.Held.{Held}
 use Rattle.vbr_access.specs.declared.held.Marked.{Marked}
 use Rattle.vbr_access.proofs.PlacesInShape.{birth_in, hand_in}
 
-module _ (p : PassView) (sound : IsSound p) where
+module _ (p : PassView) (sound : PassLaw p) where
   -- known births are epochs of the shape
   pub birth_at_low : (at : At) (birth : ℕ) → BirthAt (knows p.trace) at birth → birth ≤ p.trace.shape.last_epoch
   birth_at_low (Head b) birth k = omega (arith, k)

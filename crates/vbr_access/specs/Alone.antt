@@ -1,8 +1,7 @@
 -- What a pass that was alone holds: it stands as it was read.
 use Rattle.std.specs.Prelude.{◌≡◌, ℕ, suc, Option, Some, None}
 use Rattle.vbr_words.specs.Words.{link_of}
-use Rattle.vbr_words.specs.declared.place.At.{At}
-use Rattle.vbr_core.specs.Images.{link_at}
+use Rattle.vbr_core.specs.Images.{link_shown_at}
 use Rattle.vbr_core.specs.Membership.{HeldIn}
 use Rattle.vbr_slots.specs.Alone.{nodes, ahead}
 use Rattle.vbr_slots.specs.Views.{Trace, knows}
@@ -10,7 +9,7 @@ use Rattle.vbr_access.specs.declared.held.Held.{Held}
 
 -- the link that is held is the one that stands at its place, after what the pass has seen
 abbrev pub StandsNow : Trace → Held → Type 0
-StandsNow q held = link_at (nodes q) held.at ≡ link_of held.word
+StandsNow q held = link_shown_at (nodes q) held.at ≡ link_of held.word
 
 -- so it is of what was read behind a place, if that is a node
 abbrev pub NextStands : Trace → Option Held → Type 0

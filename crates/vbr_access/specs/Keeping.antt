@@ -1,10 +1,11 @@
 -- What stays of what a pass knows and has.
-use Rattle.std.specs.Prelude.{◌≡◌, ℕ, Some}
+use Rattle.std.specs.Prelude.{◌≡◌, ◌≢◌, ℕ, Some}
 use Rattle.vbr_core.specs.Acceptance.{IsUnlinked}
 use Rattle.vbr_core.specs.Knowledge.{Know}
 use Rattle.vbr_core.specs.Membership.{Knows}
 use Rattle.vbr_core.specs.declared.knowledge.Read.{Read}
 use Rattle.vbr_slots.specs.Views.{PassView, knows}
+use Rattle.vbr_pools.specs.Advances.{advances, HasFree, PoolGrows, SharesWhereFull}
 
 -- what was known is known, in the same epoch
 pub record Keeps (know later : Know) : Type 0 where
@@ -17,6 +18,10 @@ pub record KeepsOwn (p q : PassView) : Type 0 where
   pub hand : q.hand ≡ p.hand
   pub in_hand : (s : ℕ) → p.hand ≡ Some s → (knows q.trace).own s ≡ (knows p.trace).own s
 
--- no slot was unlinked: each that is unlinked and not stamped since was so before
-abbrev pub UnlinksNone : Know → Know → Type 0
-UnlinksNone know later = (slot : ℕ) → IsUnlinked (later.own slot) → IsUnlinked (know.own slot)
+-- the pass unlinked this slot and has it to stamp, and else did what a call does that takes no slot: no other slot is lost
+pub record Unlinks (slot : ℕ) (p q : PassView) : Type 0 where
+  pub count : advances q.trace ≡ advances p.trace
+  pub free : HasFree p q
+  pub others : (other : ℕ) → other ≢ slot → IsUnlinked ((knows q.trace).own other) → IsUnlinked ((knows p.trace).own other)
+  pub grows : PoolGrows p q
+  pub shared : SharesWhereFull 1 p q

@@ -8,6 +8,6 @@ use Rattle.vbr_access.specs.Held.{IsSlot}
 use Rattle.vbr_access.specs.declared.held.Held.{Held}
 
 -- what is held tells whether the key is present: it is a node with that key; or a place which the key would stand behind, and before what its link names or leads to
-abbrev pub Answers : Dimensions → Know → ℕ → Held → Bool → Type 0
-Answers shape know key held true = IsSlot held.at × KeyAt know held.at key
-Answers shape know key held false = StandsBehind shape know held.at key × StandsBeforeOn know key (link_of held.word)
+abbrev pub DecidesKey : Dimensions → Know → ℕ → Held → Bool → Type 0
+DecidesKey shape know key held true = IsSlot held.at × KeyAt know held.at key
+DecidesKey shape know key held false = StandsBehind shape know held.at key × StandsBeforeOn know key (link_of held.word)

@@ -7,17 +7,16 @@ ghost use Rattle.vbr_core.specs.declared.history.Op.TheVariants.{Has, Insert, Re
 ghost use Rattle.vbr_slots.specs.Calls.{AddsAnswer, AddsNone, Quiet, Made, Took, OnlyLoads};
 ghost use Rattle.vbr_slots.specs.Alone.{IsAlone};
 ghost use Rattle.vbr_slots.specs.Views.{IsOf, knows};
-ghost use Rattle.vbr_pools.specs.Advances.{RaisesNone};
+ghost use Rattle.vbr_pools.specs.Advances.{TakesNoSlot};
 ghost use Rattle.vbr_access.specs.Alone.{StandsNow};
 ghost use Rattle.vbr_access.specs.Held.{IsHeld};
 ghost use Rattle.vbr_access.specs.Keeping.{Keeps, KeepsOwn};
-ghost use Rattle.vbr_access.specs.LookUps.{Answers};
+ghost use Rattle.vbr_access.specs.LookUps.{DecidesKey};
 ghost use Rattle.vbr_access.specs.Rollbacks.{IsLost};
 ghost use Rattle.vbr_access.specs.Soundness.{HasSafeRun};
 
 use crate::held::Held;
 use crate::rollback::Rollback;
-use crate::soundness::soundness;
 use vbr_core::Op;
 use vbr_slots::{Pass, Slots};
 use vbr_words::At;
@@ -34,7 +33,7 @@ pub fn confirm_present(slots: &Slots, pass: &mut Pass, op: Op, held: &Held) -> R
     requires op { op ≢ Remove }
     ensures took { Took pass.old.trace pass.new.trace 1 }
     ensures own { KeepsOwn pass.old pass.new }
-    ensures raises_none { RaisesNone pass.old pass.new }
+    ensures takes_no_slot { TakesNoSlot pass.old pass.new }
     ensures keeps { Keeps (knows pass.old.trace) (knows pass.new.trace) }
     ensures made { IfOk result (λ _. (key : ℕ) → KeyAt (knows pass.old.trace) held.now.at key →
         Made (record { who = pass.old.trace.who; op = op; key = key; reply = present_reply op }) pass.old.trace pass.new.trace) }
@@ -47,7 +46,7 @@ pub fn confirm_present(slots: &Slots, pass: &mut Pass, op: Op, held: &Held) -> R
     ensures safe { HasSafeRun pass.new.trace }
     ensures wins { IfErr result (λ r. IsAlone pass.old.trace pass.new.trace → StandsNow pass.old.trace held.now → ⊥) }
 {
-    soundness(slots, pass);
+    pass.law();
     let At::Slot(slot) = held.at else {
         unreachable!()
     };
@@ -77,7 +76,7 @@ pub fn confirm_absent(
     requires op { op ≢ Insert }
     ensures took { Took pass.old.trace pass.new.trace 1 }
     ensures own { KeepsOwn pass.old pass.new }
-    ensures raises_none { RaisesNone pass.old pass.new }
+    ensures takes_no_slot { TakesNoSlot pass.old pass.new }
     ensures keeps { Keeps (knows pass.old.trace) (knows pass.new.trace) }
     ensures made { IfOk result (λ _. Made (record { who = pass.old.trace.who; op = op; key = key; reply = false }) pass.old.trace pass.new.trace) }
     ensures quiet { IfErr result (λ r. Quiet pass.old.trace pass.new.trace) }
@@ -88,7 +87,7 @@ pub fn confirm_absent(
     ensures safe { HasSafeRun pass.new.trace }
     ensures wins { IfErr result (λ r. IsAlone pass.old.trace pass.new.trace → StandsNow pass.old.trace pred.now → ⊥) }
 {
-    soundness(slots, pass);
+    pass.law();
     match slots.confirm_absent(pass, op, key, pred.at, pred.word) {
         Ok(()) => Ok(()),
         Err(found) => Err(Rollback::LostExchange { found }),
@@ -111,19 +110,21 @@ pub fn confirm_look_up(
     requires own { IsOf pass.old.trace slots.now }
     requires held { IsHeld (knows pass.old.trace) held.now }
     requires unmarked { (link_of held.now.word).mark ≡ false }
-    requires answers { Answers pass.old.trace.shape (knows pass.old.trace) key held.now present }
+    requires answers { DecidesKey pass.old.trace.shape (knows pass.old.trace) key held.now present }
     ensures took { Took pass.old.trace pass.new.trace 1 }
     ensures own { KeepsOwn pass.old pass.new }
-    ensures raises_none { RaisesNone pass.old pass.new }
+    ensures takes_no_slot { TakesNoSlot pass.old pass.new }
+    ensures keeps { Keeps (knows pass.old.trace) (knows pass.new.trace) }
     ensures made { IfOk result (λ _. Made (record { who = pass.old.trace.who; op = Has; key = key; reply = present }) pass.old.trace pass.new.trace) }
     ensures quiet { IfErr result (λ r. Quiet pass.old.trace pass.new.trace) }
     ensures adds { IfOk result (λ _. AddsAnswer (record { who = pass.old.trace.who; op = Has; key = key; reply = present }) pass.old.trace pass.new.trace) }
     ensures adds_none { IfErr result (λ r. AddsNone pass.old.trace pass.new.trace) }
     ensures only_loads { OnlyLoads pass.old.trace pass.new.trace }
+    ensures lost { IfErr result (λ r. IsLost pass.old.trace pass.new.trace held.now r) }
     ensures safe { HasSafeRun pass.new.trace }
     ensures wins { IfErr result (λ r. IsAlone pass.old.trace pass.new.trace → StandsNow pass.old.trace held.now → ⊥) }
 {
-    soundness(slots, pass);
+    pass.law();
     match slots.confirm_look_up(pass, present, key, held.at, held.word) {
         Ok(()) => Ok(()),
         Err(found) => Err(Rollback::LostExchange { found }),

@@ -7,7 +7,7 @@ ghost use Rattle.vbr_core.specs.declared.history.Op.TheVariants.{Remove};
 ghost use Rattle.vbr_slots.specs.Alone.{IsAlone};
 ghost use Rattle.vbr_slots.specs.Calls.{Quiet, Made, Took};
 ghost use Rattle.vbr_slots.specs.Views.{IsOf, knows};
-ghost use Rattle.vbr_pools.specs.Advances.{RaisesNone};
+ghost use Rattle.vbr_pools.specs.Advances.{TakesNoSlot};
 ghost use Rattle.vbr_access.specs.Alone.{StandsNow};
 ghost use Rattle.vbr_access.specs.Held.{IsHeld, IsMarked, held_of};
 ghost use Rattle.vbr_access.specs.Keeping.{Keeps, KeepsOwn};
@@ -16,7 +16,6 @@ ghost use Rattle.vbr_access.specs.Soundness.{HasSafeRun};
 
 use crate::held::{Held, Marked};
 use crate::rollback::Rollback;
-use crate::soundness::soundness;
 use vbr_slots::{Pass, Slots};
 use vbr_words::{At, with_mark};
 
@@ -31,7 +30,7 @@ pub fn mark(slots: &Slots, pass: &mut Pass, held: &Held) -> Result<Marked, Rollb
     requires unmarked { (link_of held.now.word).mark ≡ false }
     ensures took { Took pass.old.trace pass.new.trace 1 }
     ensures own { KeepsOwn pass.old pass.new }
-    ensures raises_none { RaisesNone pass.old pass.new }
+    ensures takes_no_slot { TakesNoSlot pass.old pass.new }
     ensures keeps { Keeps (knows pass.old.trace) (knows pass.new.trace) }
     ensures made { IfOk result (λ _. (key : ℕ) → KeyAt (knows pass.old.trace) held.now.at key →
         Made (record { who = pass.old.trace.who; op = Remove; key = key; reply = true }) pass.old.trace pass.new.trace) }
@@ -43,7 +42,7 @@ pub fn mark(slots: &Slots, pass: &mut Pass, held: &Held) -> Result<Marked, Rollb
     ensures safe { HasSafeRun pass.new.trace }
     ensures wins { IfErr result (λ r. IsAlone pass.old.trace pass.new.trace → StandsNow pass.old.trace held.now → ⊥) }
 {
-    soundness(slots, pass);
+    pass.law();
     let At::Slot(slot) = held.at else {
         unreachable!()
     };

@@ -7,7 +7,7 @@ ghost use Rattle.vbr_core.specs.Membership.{KeyAt, HeldIn};
 ghost use Rattle.vbr_slots.specs.Calls.{AddsNone, Quiet, Took, OnlyLoads};
 ghost use Rattle.vbr_slots.specs.Alone.{IsAlone, IsFresh, nodes};
 ghost use Rattle.vbr_slots.specs.Views.{IsOf, knows};
-ghost use Rattle.vbr_pools.specs.Advances.{RaisesNone};
+ghost use Rattle.vbr_pools.specs.Advances.{TakesNoSlot};
 ghost use Rattle.vbr_access.specs.Alone.{NextStands, StandsNow};
 ghost use Rattle.vbr_access.specs.Held.{IsSlot, IsHeld};
 ghost use Rattle.vbr_access.specs.Keeping.{Keeps, KeepsOwn};
@@ -18,7 +18,6 @@ ghost use Rattle.vbr_access.specs.Steps.{next_steps};
 
 use crate::held::{Checkpoint, Held};
 use crate::rollback::Rollback;
-use crate::soundness::soundness;
 use vbr_slots::{Pass, Slots};
 use vbr_words::{At, decode};
 
@@ -31,14 +30,14 @@ pub fn checkpoint(slots: &Slots, pass: &mut Pass) -> Checkpoint
     ensures quiet { Quiet pass.old.trace pass.new.trace }
     ensures took { Took pass.old.trace pass.new.trace 1 }
     ensures own { KeepsOwn pass.old pass.new }
-    ensures raises_none { RaisesNone pass.old pass.new }
+    ensures takes_no_slot { TakesNoSlot pass.old pass.new }
     ensures adds_none { AddsNone pass.old.trace pass.new.trace }
     ensures looks { IsAlone pass.old.trace pass.new.trace → nodes pass.new.trace ≡ nodes pass.old.trace }
     ensures fresh { IsFresh pass.new.trace }
     ensures safe { HasSafeRun pass.new.trace }
     ensures only_loads { OnlyLoads pass.old.trace pass.new.trace }
 {
-    soundness(slots, pass);
+    pass.law();
     Checkpoint {
         epoch: slots.read_epoch(pass),
     }
@@ -61,7 +60,7 @@ pub fn first(
     ensures quiet { Quiet pass.old.trace pass.new.trace }
     ensures took { Took pass.old.trace pass.new.trace 2 }
     ensures own { KeepsOwn pass.old pass.new }
-    ensures raises_none { RaisesNone pass.old pass.new }
+    ensures takes_no_slot { TakesNoSlot pass.old pass.new }
     ensures adds_none { AddsNone pass.old.trace pass.new.trace }
     ensures only_loads { OnlyLoads pass.old.trace pass.new.trace }
     ensures keeps { IfOk result (λ head. Keeps (knows pass.old.trace) (knows pass.new.trace)) }
@@ -74,10 +73,11 @@ pub fn first(
     ensures still { IfErr result (λ r. IsFresh pass.old.trace → IsAlone pass.old.trace pass.new.trace → ⊥) }
     ensures stands { IfOk result (λ head. IsAlone pass.old.trace pass.new.trace → StandsNow pass.new.trace head) }
 {
-    soundness(slots, pass);
+    pass.law();
     let at = At::Head(bucket);
+    let before = pass.epoch();
     let (word, now) = slots.read_link(pass, at);
-    if now != point.epoch {
+    if now != before {
         return Err(Rollback::EpochMoved { now });
     }
     Ok(Held {
@@ -98,7 +98,7 @@ pub fn next(slots: &Slots, pass: &mut Pass, held: &Held) -> Result<Option<Held>,
     ensures quiet { Quiet pass.old.trace pass.new.trace }
     ensures took { Took pass.old.trace pass.new.trace (next_steps (link_of held.now.word).slot) }
     ensures own { KeepsOwn pass.old pass.new }
-    ensures raises_none { RaisesNone pass.old pass.new }
+    ensures takes_no_slot { TakesNoSlot pass.old pass.new }
     ensures adds_none { AddsNone pass.old.trace pass.new.trace }
     ensures only_loads { OnlyLoads pass.old.trace pass.new.trace }
     ensures keeps { IfOk result (λ next. Keeps (knows pass.old.trace) (knows pass.new.trace)) }
@@ -109,12 +109,13 @@ pub fn next(slots: &Slots, pass: &mut Pass, held: &Held) -> Result<Option<Held>,
     ensures still { IfErr result (λ r. IsFresh pass.old.trace → IsAlone pass.old.trace pass.new.trace → ⊥) }
     ensures stands { IfOk result (λ next. IsAlone pass.old.trace pass.new.trace → NextStands pass.new.trace next) }
 {
-    soundness(slots, pass);
+    pass.law();
     let Some(slot) = decode(held.word).slot else {
         return Ok(None);
     };
+    let before = pass.epoch();
     let (birth, word, now) = slots.read_node(pass, slot);
-    if now != held.epoch {
+    if now != before {
         return Err(Rollback::EpochMoved { now });
     }
     Ok(Some(Held {
@@ -136,7 +137,7 @@ pub fn key_of(slots: &Slots, pass: &mut Pass, node: &Held) -> Result<u64, Rollba
     ensures quiet { Quiet pass.old.trace pass.new.trace }
     ensures took { Took pass.old.trace pass.new.trace 2 }
     ensures own { KeepsOwn pass.old pass.new }
-    ensures raises_none { RaisesNone pass.old pass.new }
+    ensures takes_no_slot { TakesNoSlot pass.old pass.new }
     ensures adds_none { AddsNone pass.old.trace pass.new.trace }
     ensures only_loads { OnlyLoads pass.old.trace pass.new.trace }
     ensures keeps { IfOk result (λ key. Keeps (knows pass.old.trace) (knows pass.new.trace)) }
@@ -147,12 +148,13 @@ pub fn key_of(slots: &Slots, pass: &mut Pass, node: &Held) -> Result<u64, Rollba
     ensures looks { IsAlone pass.old.trace pass.new.trace → nodes pass.new.trace ≡ nodes pass.old.trace }
     ensures still { IfErr result (λ r. IsFresh pass.old.trace → IsAlone pass.old.trace pass.new.trace → ⊥) }
 {
-    soundness(slots, pass);
+    pass.law();
     let At::Slot(slot) = node.at else {
         unreachable!()
     };
+    let before = pass.epoch();
     let (key, now) = slots.read_key(pass, slot);
-    if now != node.epoch {
+    if now != before {
         return Err(Rollback::EpochMoved { now });
     }
     Ok(key)

@@ -6,10 +6,10 @@ ghost use Rattle.vbr_core.specs.Membership.{BirthNamed};
 ghost use Rattle.vbr_slots.specs.Alone.{IsAlone, IsFresh, nodes};
 ghost use Rattle.vbr_slots.specs.Calls.{Quiet, Took};
 ghost use Rattle.vbr_slots.specs.Views.{IsOf, knows};
-ghost use Rattle.vbr_pools.specs.Advances.{RaisesNone};
+ghost use Rattle.vbr_pools.specs.Advances.{TakesNoSlot};
 ghost use Rattle.vbr_access.specs.Alone.{StandsNow, UnlinksAlone};
 ghost use Rattle.vbr_access.specs.Held.{IsHeld, IsMarked, Names};
-ghost use Rattle.vbr_access.specs.Keeping.{Keeps, KeepsOwn, UnlinksNone};
+ghost use Rattle.vbr_access.specs.Keeping.{Keeps, KeepsOwn, Unlinks};
 ghost use Rattle.vbr_access.specs.Moments.{IsRead};
 ghost use Rattle.vbr_access.specs.Rollbacks.{IsMoved, IsMovedOrLost};
 ghost use Rattle.vbr_access.specs.Soundness.{HasSafeRun};
@@ -18,7 +18,6 @@ ghost use Rattle.vbr_access.specs.Steps.{birth_steps, unlink_steps};
 use crate::held::{Held, Marked};
 use crate::links::link_to;
 use crate::rollback::Rollback;
-use crate::soundness::soundness;
 use vbr_pools::Unlinked;
 use vbr_slots::{Pass, Slots};
 use vbr_words::decode;
@@ -31,17 +30,16 @@ fn birth_behind(slots: &Slots, pass: &mut Pass, marked: &Marked) -> Result<u64, 
     ensures quiet { Quiet pass.old.trace pass.new.trace }
     ensures took { Took pass.old.trace pass.new.trace (birth_steps (link_of marked.now.word).slot) }
     ensures own { KeepsOwn pass.old pass.new }
-    ensures raises_none { RaisesNone pass.old pass.new }
+    ensures takes_no_slot { TakesNoSlot pass.old pass.new }
     ensures keeps { IfOk result (λ birth. Keeps (knows pass.old.trace) (knows pass.new.trace)) }
     ensures birth { IfOk result (λ birth. BirthNamed (knows pass.new.trace) (link_of marked.now.word).slot birth) }
     ensures some { IfErr result (λ r. IsSome (link_of marked.now.word).slot) }
-    ensures unlinks_none { UnlinksNone (knows pass.old.trace) (knows pass.new.trace) }
     ensures safe { HasSafeRun pass.new.trace }
     ensures moved { IfErr result (λ r. IsMoved pass.old.trace pass.new.trace r) }
     ensures looks { IsAlone pass.old.trace pass.new.trace → nodes pass.new.trace ≡ nodes pass.old.trace }
     ensures still { IfErr result (λ r. IsFresh pass.old.trace → IsAlone pass.old.trace pass.new.trace → ⊥) }
 {
-    soundness(slots, pass);
+    pass.law();
     let Some(slot) = decode(marked.word).slot else {
         return Ok(0);
     };
@@ -76,7 +74,7 @@ pub fn unlink(
     ensures quiet { Quiet pass.old.trace pass.new.trace }
     ensures took { Took pass.old.trace pass.new.trace (unlink_steps (link_of marked.word).slot result) }
     ensures own { KeepsOwn pass.old pass.new }
-    ensures raises_none { RaisesNone pass.old pass.new }
+    ensures unlinks { IfOk result (λ r. Unlinks marked.slot pass.old pass.new) }
     ensures keeps { IfOk result (λ r. Keeps (knows pass.old.trace) (knows pass.new.trace)) }
     ensures slot { IfOk result (λ r. r.0.slot ≡ marked.slot) }
     ensures owned { IfOk result (λ r. IsUnlinked ((knows pass.new.trace).own marked.slot)) }
@@ -84,18 +82,18 @@ pub fn unlink(
     ensures read { IfOk result (λ r. IsRead pass.old.trace pass.new.trace r.1) }
     ensures still { IfOk result (λ r. (link_of r.1.word).mark ≡ false) }
     ensures next { IfOk result (λ r. (link_of r.1.word).slot ≡ (link_of marked.word).slot) }
-    ensures unlinks_none { IfErr result (λ r. UnlinksNone (knows pass.old.trace) (knows pass.new.trace)) }
+    ensures takes_no_slot { IfErr result (λ r. TakesNoSlot pass.old pass.new) }
     ensures rolled { IfErr result (λ r. IsMovedOrLost pass.old.trace pass.new.trace pred.now r) }
     ensures safe { HasSafeRun pass.new.trace }
     ensures wins { IfErr result (λ r. IsFresh pass.old.trace → IsAlone pass.old.trace pass.new.trace → StandsNow pass.old.trace pred.now → ⊥) }
     ensures alone { IfOk result (λ r. IsAlone pass.old.trace pass.new.trace → StandsNow pass.old.trace pred.now → UnlinksAlone pass.old.trace pass.new.trace pred.now r.1) }
 {
     let next_birth = birth_behind(slots, pass, &marked)?;
-    soundness(slots, pass);
+    pass.law();
     let new = link_to(decode(marked.word).slot, pred.birth, next_birth);
     match slots.unlink(pass, pred.at, pred.word, marked.slot, new) {
         Ok(()) => {
-            soundness(slots, pass);
+            pass.law();
             let node = Unlinked::of(pass, marked.slot);
             Ok((node, Held { word: new, ..*pred }))
         }

@@ -4,7 +4,7 @@ ghost use Rattle.vbr_words.specs.Words.{link_of};
 ghost use Rattle.vbr_core.specs.Links.{link_to};
 ghost use Rattle.vbr_core.specs.Membership.{BirthNamed, StandsBehind, StandsBefore};
 ghost use Rattle.vbr_core.specs.declared.history.Op.TheVariants.{Insert};
-ghost use Rattle.vbr_pools.specs.Advances.{advances, KeepsSlots};
+ghost use Rattle.vbr_pools.specs.Advances.{TakesNoSlot};
 ghost use Rattle.vbr_pools.specs.Hands.{IsHandOf};
 ghost use Rattle.vbr_slots.specs.Alone.{IsAlone};
 ghost use Rattle.vbr_slots.specs.Calls.{Quiet, Made, Took};
@@ -18,7 +18,6 @@ ghost use Rattle.vbr_access.specs.Soundness.{HasSafeRun};
 use crate::held::Held;
 use crate::links::link_to;
 use crate::rollback::Rollback;
-use crate::soundness::soundness;
 use vbr_pools::Hand;
 use vbr_slots::{Pass, Slots};
 use vbr_words::decode;
@@ -47,16 +46,15 @@ fn fill(slots: &Slots, pass: &mut Pass, hand: &Hand, key: u64, pred: &Held, birt
     ensures took { Took pass.old.trace pass.new.trace 2 }
     ensures keeps { Keeps (knows pass.old.trace) (knows pass.new.trace) }
     ensures pool { KeepsPool pass.old pass.new }
-    ensures advances { advances pass.new.trace ≡ advances pass.old.trace }
-    ensures kept { KeepsSlots pass.old pass.new }
+    ensures takes_no_slot { TakesNoSlot pass.old pass.new }
     ensures filled { let link = link_to (link_of pred.now.word).slot hand.now.birth birth in
         IsFilled ((knows pass.new.trace).own hand.now.slot) hand.now.birth key link }
     ensures stands { IsAlone pass.old.trace pass.new.trace → (link_of pred.now.word).mark ≡ false → StandsNow pass.old.trace pred.now → StandsNow pass.new.trace pred.now }
 {
     let slot = hand.slot();
-    soundness(slots, pass);
+    pass.law();
     slots.store_key(pass, slot, key);
-    soundness(slots, pass);
+    pass.law();
     let link = link_to(decode(pred.word).slot, hand.birth(), birth);
     slots.store_link(pass, slot, link);
 }
@@ -84,8 +82,7 @@ pub fn update(
     ensures took { Took pass.old.trace pass.new.trace 3 }
     ensures keeps { Keeps (knows pass.old.trace) (knows pass.new.trace) }
     ensures pool { pass.new.pool ≡ pass.old.pool }
-    ensures advances { advances pass.new.trace ≡ advances pass.old.trace }
-    ensures kept { KeepsSlots pass.old pass.new }
+    ensures takes_no_slot { TakesNoSlot pass.old pass.new }
     ensures made { IfOk result (λ _. Made (record { who = pass.old.trace.who; op = Insert; key = key; reply = true }) pass.old.trace pass.new.trace) }
     ensures spent { OnOk result (pass.new.hand ≡ None) }
     ensures quiet { IfErr result (λ r. Quiet pass.old.trace pass.new.trace) }
@@ -97,7 +94,7 @@ pub fn update(
 {
     let birth = birth_named(pass, pred, succ);
     fill(slots, pass, &hand, key, pred, birth);
-    soundness(slots, pass);
+    pass.law();
     let slot = hand.slot();
     let new = link_to(Some(slot), pred.birth, hand.birth());
     match slots.publish(pass, pred.at, pred.word, slot, new) {

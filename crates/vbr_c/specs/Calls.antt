@@ -13,8 +13,8 @@ pub record Answered (op : Op) (m n : Member) (key budget : ℕ) (code : ℤ) : T
   pub called : Called op m n key budget answer
 
 -- an empty handle stays so, and has a code of its own; a full one stays full, and its member made the call
-abbrev pub Tells : Op → Option Member → Option Member → ℕ → ℕ → ℤ → Type 0
-Tells op None None key budget code = code ≡ empty_code
-Tells op None (Some n) key budget code = ⊥
-Tells op (Some m) None key budget code = ⊥
-Tells op (Some m) (Some n) key budget code = Answered op m n key budget code
+abbrev pub TellsCall : Op → Option Member → Option Member → ℕ → ℕ → ℤ → Type 0
+TellsCall op None None key budget code = code ≡ empty_code
+TellsCall op None (Some n) key budget code = ⊥
+TellsCall op (Some m) None key budget code = ⊥
+TellsCall op (Some m) (Some n) key budget code = Answered op m n key budget code

@@ -16,14 +16,14 @@ pub record IsTold (report : Report) (before after : List ℕ) (totals : Totals) 
   pub keys : after ≡ take (length before) report.keys.items ++ drop (length report.keys.items) before
 
 -- a report is told, and nothing is written where there is none
-abbrev pub Writes : Result (Option Report) CloseRefusal → List ℕ → List ℕ → Totals → Totals → Type 0
-Writes (Ok (Some report)) before after old new = IsTold report before after new
-Writes (Ok None) before after old new = (after ≡ before) × (new ≡ old)
-Writes (Err refusal) before after old new = (after ≡ before) × (new ≡ old)
+abbrev pub WritesReport : Result (Option Report) CloseRefusal → List ℕ → List ℕ → Totals → Totals → Type 0
+WritesReport (Ok (Some report)) before after old new = IsTold report before after new
+WritesReport (Ok None) before after old new = (after ≡ before) × (new ≡ old)
+WritesReport (Err refusal) before after old new = (after ≡ before) × (new ≡ old)
 
 -- the code is that of an answer to the close, and a report is told
 pub record TellsClose (m n : Option Member) (before after : List ℕ) (old new : Totals) (code : ℤ) : Type 0 where
   pub answer : Result (Option Report) CloseRefusal
   pub is : code ≡ close_code answer
   pub closes : ClosesAs m n answer
-  pub writes : Writes answer before after old new
+  pub writes : WritesReport answer before after old new

@@ -18,7 +18,7 @@
 ghost use Rattle.std.specs.Prelude.{◌≡◌, None};
 ghost use Rattle.vbr_core.specs.declared.history.Op.TheVariants.{Insert, Remove, Has};
 ghost use Rattle.vbr_c.specs.Codes.{call_code, close_code, open_code};
-ghost use Rattle.vbr_c.specs.Calls.{Tells};
+ghost use Rattle.vbr_c.specs.Calls.{TellsCall};
 ghost use Rattle.vbr_c.specs.Opening.{TellsOpening};
 ghost use Rattle.vbr_c.specs.Closing.{IsTold, TellsClose};
 
@@ -86,7 +86,7 @@ pub extern "C" fn vbr_open(
 /// empty.
 #[unsafe(no_mangle)]
 pub extern "C" fn vbr_insert(handle: &mut Handle, key: u64, budget: u32) -> i32
-    ensures { Tells Insert handle.old.member handle.new.member key budget result }
+    ensures { TellsCall Insert handle.old.member handle.new.member key budget result }
 {
     if handle.is_empty() {
         return EMPTY;
@@ -100,7 +100,7 @@ pub extern "C" fn vbr_insert(handle: &mut Handle, key: u64, budget: u32) -> i32
 /// empty.
 #[unsafe(no_mangle)]
 pub extern "C" fn vbr_remove(handle: &mut Handle, key: u64, budget: u32) -> i32
-    ensures { Tells Remove handle.old.member handle.new.member key budget result }
+    ensures { TellsCall Remove handle.old.member handle.new.member key budget result }
 {
     if handle.is_empty() {
         return EMPTY;
@@ -115,7 +115,7 @@ pub extern "C" fn vbr_remove(handle: &mut Handle, key: u64, budget: u32) -> i32
 /// empty.
 #[unsafe(no_mangle)]
 pub extern "C" fn vbr_has(handle: &mut Handle, key: u64, budget: u32) -> i32
-    ensures { Tells Has handle.old.member handle.new.member key budget result }
+    ensures { TellsCall Has handle.old.member handle.new.member key budget result }
 {
     if handle.is_empty() {
         return EMPTY;

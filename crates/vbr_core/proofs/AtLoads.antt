@@ -19,11 +19,11 @@ use Rattle.vbr_core.specs.Acceptance.{bucket_of, Accepts}
 use Rattle.vbr_core.specs.declared.history.Op.{Op}
 use Rattle.vbr_core.specs.declared.event.Step.TheVariants.{ConfirmPresent}
 use Rattle.vbr_core.specs.Incarnations.{State, Unborn, InHand, GivenUp, Linked, Marked, Unlinked, Stamped, Incarnations}
-use Rattle.vbr_core.specs.Images.{birth_shown, slot_shown, link_to_next, link_in_state, link_at}
+use Rattle.vbr_core.specs.Images.{birth_shown, slot_shown, link_to_next, link_in_state, link_shown_at}
 use Rattle.vbr_core.specs.Chronicles.{Before, AtHead, AtNode, IsOpen, BelongsBehind, BelongsBefore, next_of}
 use Rattle.vbr_core.specs.Sound.{IsListed, Sound, Tells, Grows}
 use Rattle.vbr_core.specs.Notes.{Notes}
-use Rattle.vbr_core.specs.Agreement.{Held, IsHeldAt, IsHeldNext, IsGoodLink, IsPair, IsNoted, Agrees}
+use Rattle.vbr_core.specs.Agreement.{IsHeldIncarnation, IsHeldAt, IsHeldNext, IsGoodLink, IsPair, IsNoted, Agrees}
 use Rattle.vbr_core.specs.declared.knowledge.Read.TheVariants.{LinkAt, KeyOf}
 use Rattle.vbr_core.proofs.Slots.{late_inserted, listed_late}
 use Rattle.vbr_core.proofs.Lists.{next_listed, no_key_between}
@@ -45,7 +45,7 @@ next_held a e holder o link l q v = let u : max holder (birth_shown a o) ≤ e =
     go (Some m) l u = record { slot = refl; birth = omega arith; late = listed_late (a.state m) e (l m refl) }
 
 -- it is linked, and what follows it is held
-pub held_open : {shape : Dimensions} {a : Incarnations} → Sound shape a → (e : ℕ) (at : At) (of : Option ℕ) (link : Link) → IsHeldAt a e at of → link_at a at ≡ link → link.mark ≡ false → link.version ≤ e → (n : Option ℕ) × IsPair a at of n × IsHeldNext a e link.slot n
+pub held_open : {shape : Dimensions} {a : Incarnations} → Sound shape a → (e : ℕ) (at : At) (of : Option ℕ) (link : Link) → IsHeldAt a e at of → link_shown_at a at ≡ link → link.mark ≡ false → link.version ≤ e → (n : Option ℕ) × IsPair a at of n × IsHeldNext a e link.slot n
 held_open {shape} {a} s e (Head b) None link h q m v = (a.first b, (refl, refl), next_held a e 0 (a.first b) link (λ i r. (s.lists.first_in b i r).0) q v)
 held_open {shape} {a} s e (Head b) (Some c) link h q m v = absurd h
 held_open {shape} {a} s e (Slot t) None link h q m v = absurd h
@@ -86,7 +86,7 @@ pair_open a (Slot s) (Some c) n p = let q : c ≡ p.0 = (let r = p.1 in cc) in (
 -- incarnations a then and b now: the known keys are those that the same incarnations had then
 module _ {shape : Dimensions} {a b : Incarnations} {know : Know} {notes : Notes} (then : Sound shape a) (grown : Grows a b) (now : Sound shape b) (noted : IsNoted b know notes) (low : know.epoch ≤ a.epoch) where
   -- a key that is known at a slot
-  key_then : (s c key : ℕ) → Held a know.epoch s c → Knows know (KeyOf s key) → a.key c ≡ key
+  key_then : (s c key : ℕ) → IsHeldIncarnation a know.epoch s c → Knows know (KeyOf s key) → a.key c ≡ key
   key_then s c key h m = sym (grown.key c (late_inserted (a.state c) know.epoch h.late)) ∙ known_key now noted s c key (stays_held then grown know.epoch s c low h) m
 
   -- a key that stands behind a place
@@ -102,7 +102,7 @@ module _ {shape : Dimensions} {a b : Incarnations} {know : Know} {notes : Notes}
   before_then (Some t) None key h s = tt
   before_then (Some t) (Some n) key h s = let k = key_then t n s.0 h s.1 in (let u = s.2 in omega arith)
 
-  module _ (tells : Tells a) (at : At) (of : Option ℕ) (link : Link) (held : IsHeldAt a know.epoch at of) (shown : link_at a at ≡ link) (unmarked : link.mark ≡ false) (known : Knows know (LinkAt at link)) where
+  module _ (tells : Tells a) (at : At) (of : Option ℕ) (link : Link) (held : IsHeldAt a know.epoch at of) (shown : link_shown_at a at ≡ link) (unmarked : link.mark ≡ false) (known : Knows know (LinkAt at link)) where
     opened : (n : Option ℕ) × IsPair a at of n × IsHeldNext a know.epoch link.slot n
     opened = held_open then know.epoch at of link held shown unmarked ((good_link noted at link known).2.version)
 
@@ -144,7 +144,7 @@ module _ {shape : Dimensions} {v w : World} {a b : Incarnations} {early late : �
   low : (w.know p).epoch ≤ a.epoch
   low = rw (← epoch) ((then.knows p).epoch)
 
-  shows : link_at a at ≡ link
+  shows : link_shown_at a at ≡ link
   shows = sym (stands v a at then.image) ∙ shown
 
   -- a key that is known at the place now was in the set then

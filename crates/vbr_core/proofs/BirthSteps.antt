@@ -12,11 +12,11 @@ use Rattle.vbr_core.specs.Learning.{with_own}
 use Rattle.vbr_core.specs.Machine.{World, after, counted}
 use Rattle.vbr_core.specs.Incarnations.{State, Unborn, Linked, Marked, GivenUp, Stamped, Incarnations, IsLate, last_in}
 use Rattle.vbr_core.specs.Incarnations as state
-use Rattle.vbr_core.specs.Images.{birth_shown, key_shown, link_shown, link_in_state, link_to_next, link_at, IsImage}
+use Rattle.vbr_core.specs.Images.{birth_shown, key_shown, link_shown, link_in_state, link_to_next, link_shown_at, IsImage}
 use Rattle.vbr_core.specs.Chronicles.{Allowed, GivesUp, Bears, Stamps, becomes, unlinked_at}
 use Rattle.vbr_core.specs.Sound.{Sound, Tells}
 use Rattle.vbr_core.specs.Notes.{Notes}
-use Rattle.vbr_core.specs.Agreement.{OwnFits, Knows, Fits, Agrees}
+use Rattle.vbr_core.specs.Agreement.{OwnFits, AllKnowRight, Fits, Agrees}
 use Rattle.vbr_words.specs.declared.place.At.TheVariants.{Slot}
 use Rattle.vbr_core.specs.declared.event.Step.TheVariants.{StoreStamp, StoreBirth}
 use Rattle.vbr_core.specs.declared.knowledge.Holding.{Holding}
@@ -33,7 +33,7 @@ use Rattle.vbr_core.proofs.Shown.{fits_kept, to_next_same, in_state_same, link_k
 use Rattle.vbr_core.proofs.Steps.{StepAgrees, agrees_next, puts_same, at_put, hand_facts, unlinked_facts, own_not_of, hand_not_of}
 
 -- one state changes, and no link that is shown
-pub moved_link : (a b : Incarnations) (c s : ℕ) → b.slot ≡ a.slot → b.birth ≡ a.birth → b.link ≡ a.link → b.next ≡ a.next → b.last ≡ a.last → ((d : ℕ) → d ≢ c → b.state d ≡ a.state d) → a.last s ≡ Some c → ((v d : ℕ) → v ≢ s → a.last v ≡ Some d → d ≢ c) → link_in_state b c (b.state c) ≡ link_in_state b c (a.state c) → (v : ℕ) → link_at a (Slot v) ≡ link_at b (Slot v)
+pub moved_link : (a b : Incarnations) (c s : ℕ) → b.slot ≡ a.slot → b.birth ≡ a.birth → b.link ≡ a.link → b.next ≡ a.next → b.last ≡ a.last → ((d : ℕ) → d ≢ c → b.state d ≡ a.state d) → a.last s ≡ Some c → ((v d : ℕ) → v ≢ s → a.last v ≡ Some d → d ≢ c) → link_in_state b c (b.state c) ≡ link_in_state b c (a.state c) → (v : ℕ) → link_shown_at a (Slot v) ≡ link_shown_at b (Slot v)
 moved_link a b c s es eb ew en el st l df q v = go (cases_eq v s)
   where
     there : (x : Option ℕ) → ((d : ℕ) → x ≡ Some d → d ≢ c) → link_shown a x ≡ link_shown b x
@@ -42,7 +42,7 @@ moved_link a b c s es eb ew en el st l df q v = go (cases_eq v s)
     here : link_shown a (Some c) ≡ link_shown b (Some c)
     here = sym (q ∙ in_state_same a b es eb c (a.state c) (ap (λ f. f c) ew) (ap (λ f. f c) en))
 
-    go : (v ≡ s) ⊎ (v ≢ s) → link_at a (Slot v) ≡ link_at b (Slot v)
+    go : (v ≡ s) ⊎ (v ≢ s) → link_shown_at a (Slot v) ≡ link_shown_at b (Slot v)
     go (inl e) = ap (λ i. link_shown a (a.last i)) e ∙ ap (link_shown a) l ∙ here ∙ ap (link_shown b) (sym l) ∙ ap (λ i. link_shown b (a.last i)) (sym e) ∙ ap (λ f. link_shown b (f v)) (sym el)
     go (inr ne) = there (a.last v) (λ d e. df v d ne e) ∙ ap (λ f. link_shown b (f v)) (sym el)
 
@@ -86,7 +86,7 @@ record AgreesAway (shape : Dimensions) (w : World) (a : Incarnations) (notes : �
   tells : Tells a
   fits : Fits shape a
   image : IsImage w a
-  knows : Knows a w.know notes
+  knows : AllKnowRight a w.know notes
   away : (q v : ℕ) → v ≢ s → OwnFits a q (w.know q).epoch ((w.know q).own v) (a.place v) (a.last v) (a.stamp v)
   others : (q : ℕ) → q ≢ p → (w.know q).own s ≡ None
   calls : w.calls ≡ a.calls

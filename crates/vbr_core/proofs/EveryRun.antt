@@ -16,7 +16,7 @@ use Rattle.vbr_core.specs.declared.event.Event.{Event}
 use Rattle.vbr_core.specs.declared.event.Step.{Step}
 use Rattle.vbr_core.specs.declared.event.Step.TheVariants.{ReadEpoch, Advance, LoadStamp, StoreStamp, Raise, TakeFlag, StoreBirth, StoreKey, StoreLink, LoadLink, LoadBirth, LoadKey, Publish, Mark, Unlink, ConfirmPresent, ConfirmAbsent}
 use Rattle.vbr_core.proofs.Growth.{grows_after}
-use Rattle.vbr_core.proofs.Steps.{StepAgrees, agrees_at_first}
+use Rattle.vbr_core.proofs.Steps.{agrees_at_first}
 use Rattle.vbr_core.proofs.EpochSteps.{step_read_epoch, step_advance, step_load_stamp}
 use Rattle.vbr_core.proofs.OwnerSteps.{step_raise, step_take_flag, step_store_key, step_store_link}
 use Rattle.vbr_core.proofs.BirthSteps.{step_store_stamp, step_store_birth}
@@ -27,7 +27,9 @@ use Rattle.vbr_core.proofs.Publishing.{step_publish}
 use Rattle.vbr_core.proofs.Unlinking.{step_unlink}
 
 -- every accepted step adds what is lawful and keeps the agreement
-pub step_agrees : (shape : Dimensions) (w : World) (a : Incarnations) (notes : ℕ → Notes) (p : ℕ) (step : Step) → Agrees shape w a notes → Accepts shape (w.know p) step → StepAgrees shape w a notes p step
+pub step_agrees : (shape : Dimensions) (w : World) (a : Incarnations) (notes : ℕ → Notes) (p : ℕ) (step : Step) → Agrees shape w a notes → Accepts shape (w.know p) step →
+    IsLawful shape no_keys a (happens shape w a p step)
+    × Agrees shape (after shape w p step) (incarnations_from shape a (happens shape w a p step)) (put notes p (notes_with shape w (incarnations_from shape a (happens shape w a p step)) p step (notes p)))
 step_agrees shape w a notes p ReadEpoch g ok = step_read_epoch shape w a notes p g
 step_agrees shape w a notes p (Advance from) g ok = step_advance shape w a notes p from g ok
 step_agrees shape w a notes p (LoadStamp s) g ok = step_load_stamp shape w a notes p s g

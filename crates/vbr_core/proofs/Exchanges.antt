@@ -11,11 +11,11 @@ use Rattle.vbr_core.specs.Links.{link_to}
 use Rattle.vbr_core.specs.Machine.{World, with_link_at}
 use Rattle.vbr_core.specs.Machine as machine
 use Rattle.vbr_core.specs.Knowledge.{birth_of}
-use Rattle.vbr_core.specs.Acceptance.{IsReady, IsBehind, IsBefore}
+use Rattle.vbr_core.specs.Acceptance.{MayPublish, IsBehind, IsBefore}
 use Rattle.vbr_core.specs.Learning.{birth_in_hand, key_in_hand, link_in_hand}
 use Rattle.vbr_core.specs.Incarnations.{Linked, Incarnations, last_in}
 use Rattle.vbr_core.specs.Incarnations as state
-use Rattle.vbr_core.specs.Images.{link_to_next, link_in_state, link_shown, link_at, IsImage}
+use Rattle.vbr_core.specs.Images.{link_to_next, link_in_state, link_shown, link_shown_at, IsImage}
 use Rattle.vbr_core.specs.Chronicles.{Inserts, AtHead, AtNode, MayInsert, becomes}
 use Rattle.vbr_core.specs.Sound.{Sound}
 use Rattle.vbr_core.specs.Notes.{before_at, last_at}
@@ -30,22 +30,22 @@ use Rattle.vbr_core.proofs.Shown.{to_next_same, link_kept}
 use Rattle.vbr_core.proofs.Meetings.{node_at, birth_there}
 
 -- one link was exchanged
-pub exchanged : (w : World) (a b : Incarnations) (pred : At) (new : Link) → IsImage w a → link_at b pred ≡ new → ((at : At) → at ≢ pred → link_at b at ≡ link_at a at) → (at : At) → machine.link_at (with_link_at w pred new) at ≡ link_at b at
+pub exchanged : (w : World) (a b : Incarnations) (pred : At) (new : Link) → IsImage w a → link_shown_at b pred ≡ new → ((at : At) → at ≢ pred → link_shown_at b at ≡ link_shown_at a at) → (at : At) → machine.link_at (with_link_at w pred new) at ≡ link_shown_at b at
 exchanged w a b (Head h) new i here there (Head v) = go (cases_eq v h)
   where
-    go : (v ≡ h) ⊎ (v ≢ h) → put w.head h new v ≡ link_at b (Head v)
+    go : (v ≡ h) ⊎ (v ≢ h) → put w.head h new v ≡ link_shown_at b (Head v)
     go (inl e) = rw e (put_here w.head h new ∙ sym here)
     go (inr ne) = put_other w.head h new v ne ∙ i.head v ∙ sym (there (Head v) (λ e. ne (cc)))
 exchanged w a b (Head h) new i here there (Slot v) = i.link v ∙ sym (there (Slot v) (λ e. cc))
 exchanged w a b (Slot q) new i here there (Head v) = i.head v ∙ sym (there (Head v) (λ e. cc))
 exchanged w a b (Slot q) new i here there (Slot v) = go (cases_eq v q)
   where
-    go : (v ≡ q) ⊎ (v ≢ q) → put w.link q new v ≡ link_at b (Slot v)
+    go : (v ≡ q) ⊎ (v ≢ q) → put w.link q new v ≡ link_shown_at b (Slot v)
     go (inl e) = rw e (put_here w.link q new ∙ sym here)
     go (inr ne) = put_other w.link q new v ne ∙ i.link v ∙ sym (there (Slot v) (λ e. ne (cc)))
 
 -- the links elsewhere once c was inserted behind the place
-pub inserted_there : {shape : Dimensions} {a : Incarnations} → Sound shape a → (p c : ℕ) (pred : At) → last_at a pred ≡ node_at a pred → MayInsert shape a p c (before_at a pred) → (at : At) → at ≢ pred → link_at (becomes shape a p (Inserts c (before_at a pred))) at ≡ link_at a at
+pub inserted_there : {shape : Dimensions} {a : Incarnations} → Sound shape a → (p c : ℕ) (pred : At) → last_at a pred ≡ node_at a pred → MayInsert shape a p c (before_at a pred) → (at : At) → at ≢ pred → link_shown_at (becomes shape a p (Inserts c (before_at a pred))) at ≡ link_shown_at a at
 inserted_there {shape} {a} snd p c (Head h) lq m (Head v) ne = to_next_same a (becomes shape a p (Inserts c (AtHead h))) refl refl 0 (put a.first h (Some c) v) ∙ ap (link_to_next a 0) (put_other a.first h (Some c) v (λ e. ne (ap Head e)))
 inserted_there {shape} {a} snd p c (Slot q) lq m (Head v) ne = to_next_same a (becomes shape a p (Inserts c (AtNode (last_in a q)))) refl refl 0 (a.first v)
 inserted_there {shape} {a} snd p c (Head h) lq m (Slot v) ne = go (a.last v)
@@ -80,7 +80,7 @@ inserted_there {shape} {a} snd p c (Slot q) lq m (Slot v) ne = go (a.last v) ref
         go2 (inr r) = link_kept a (becomes shape a p (Inserts c (AtNode (last_in a q)))) refl refl (Some d) (λ i s. let z : i ≡ d = cc in (put_other a.state c Linked i (λ y. r (sym z ∙ y)), refl, put_other (put a.next c (a.next (last_in a q))) (last_in a q) (Some c) i (λ y. dk (sym z ∙ y)) ∙ put_other a.next c (a.next (last_in a q)) i (λ y. r (sym z ∙ y))))
 
 -- the link at the place itself
-pub inserted_here : {shape : Dimensions} {a : Incarnations} → (p c : ℕ) (pred : At) → last_at a pred ≡ node_at a pred → MayInsert shape a p c (before_at a pred) → link_at (becomes shape a p (Inserts c (before_at a pred))) pred ≡ link_to (Some (a.slot c)) (birth_there a pred) (a.birth c)
+pub inserted_here : {shape : Dimensions} {a : Incarnations} → (p c : ℕ) (pred : At) → last_at a pred ≡ node_at a pred → MayInsert shape a p c (before_at a pred) → link_shown_at (becomes shape a p (Inserts c (before_at a pred))) pred ≡ link_to (Some (a.slot c)) (birth_there a pred) (a.birth c)
 inserted_here {shape} {a} p c (Head h) lq m = ap (link_to_next (becomes shape a p (Inserts c (AtHead h))) 0) (put_here a.first h (Some c))
 inserted_here {shape} {a} p c (Slot q) lq m =
     let k = last_in a q in
@@ -103,7 +103,7 @@ pub record ReadyFacts (shape : Dimensions) (a : Incarnations) (p s e : ℕ) (rea
   pub behind : IsBehind shape reads pred (a.key (last_in a s))
   pub before : IsBefore reads (a.key (last_in a s)) expected.slot
 
-pub ready_facts : (shape : Dimensions) (a : Incarnations) (p s e : ℕ) (reads : List Read) (pred : At) (expected : Link) (holding : Option Holding) → OwnFits a p e holding (a.place s) (a.last s) (a.stamp s) → IsReady shape reads pred expected holding → ReadyFacts shape a p s e reads pred expected holding
+pub ready_facts : (shape : Dimensions) (a : Incarnations) (p s e : ℕ) (reads : List Read) (pred : At) (expected : Link) (holding : Option Holding) → OwnFits a p e holding (a.place s) (a.last s) (a.stamp s) → MayPublish shape reads pred expected holding → ReadyFacts shape a p s e reads pred expected holding
 ready_facts shape a p s e reads pred expected None h r = absurd r
 ready_facts shape a p s e reads pred expected (Some (Free known)) h r = absurd r
 ready_facts shape a p s e reads pred expected (Some (Unlinked seen)) h r = absurd r

@@ -14,7 +14,7 @@ use Rattle.vbr_core.specs.Membership.{Knows, HeldIn, at_head, behind}
 use Rattle.vbr_core.specs.Incarnations.{Incarnations, last_in}
 use Rattle.vbr_core.specs.Sound.{IsInserted, Sound, Grows}
 use Rattle.vbr_core.specs.Notes.{Note, Notes, note_of, with_read, with_won, confirmed_notes, notes_with}
-use Rattle.vbr_core.specs.Agreement.{Held, IsHeldAt, IsHeldNext, IsGoodLink, IsGoodRead, IsGood, IsNoted}
+use Rattle.vbr_core.specs.Agreement.{IsHeldIncarnation, IsHeldAt, IsHeldNext, IsGoodLink, IsGoodRead, IsGood, IsNoted}
 use Rattle.vbr_core.specs.declared.event.Step.{Step}
 use Rattle.vbr_core.specs.declared.event.Step.TheVariants.{ReadEpoch, Publish, Mark, Unlink}
 use Rattle.vbr_core.specs.declared.knowledge.Read.{Read}
@@ -128,7 +128,7 @@ module _ {shape : Dimensions} {a : Incarnations} (sound : Sound shape a) (notes 
 -- a place is one of a bucket: its head, or a slot where each incarnation that is held has a key of the bucket
 abbrev pub IsOfBucket : Dimensions → Incarnations → ℕ → At → ℕ → Type 0
 IsOfBucket shape a epoch (Head h) b = h ≡ b
-IsOfBucket shape a epoch (Slot s) b = (c : ℕ) → Held a epoch s c → bucket_of shape (a.key c) ≡ b
+IsOfBucket shape a epoch (Slot s) b = (c : ℕ) → IsHeldIncarnation a epoch s c → bucket_of shape (a.key c) ≡ b
 
 module _ {shape : Dimensions} {a : Incarnations} {know : Know} {notes : Notes} (sound : Sound shape a) (noted : IsNoted a know notes) (ordered : AreOrdered shape a notes) where
   both : (notes : List Note) → AllByRecursion (IsGood a know.epoch) notes → AllByRecursion (IsOrdered shape a) notes → AllByRecursion (λ note. IsGood a know.epoch note × IsOrdered shape a note) notes
@@ -155,7 +155,7 @@ module _ {shape : Dimensions} {a : Incarnations} {know : Know} {notes : Notes} (
       go (Some v) of None q p n f = absurd n
       go (Some v) of (Some m) q p n f =
           let e : v ≡ s = cc in
-          let P : ℕ → Type 0 = λ v. Held a know.epoch v m in
+          let P : ℕ → Type 0 = λ v. IsHeldIncarnation a know.epoch v m in
           ap (λ d. bucket_of shape (a.key d)) (one_held sound know.epoch s c m h (subst P e n)) ∙ follows at of m b p f i
 
   -- a place that is held in a bucket is of it

@@ -9,10 +9,10 @@ use Rattle.vbr_words.specs.declared.place.At.{At}
 use Rattle.vbr_words.specs.declared.place.At.TheVariants.{Head, Slot}
 use Rattle.vbr_core.specs.Links.{marked}
 use Rattle.vbr_core.specs.Incarnations.{State, Unborn, InHand, GivenUp, Linked, Marked, Unlinked, Stamped, Incarnations, IsLate}
-use Rattle.vbr_core.specs.Images.{birth_shown, slot_shown, link_to_next, link_in_state, link_at}
+use Rattle.vbr_core.specs.Images.{birth_shown, slot_shown, link_to_next, link_in_state, link_shown_at}
 use Rattle.vbr_core.specs.Sound.{IsListed, IsPassed, TimesFit, StampFits, Sound, Grows}
 use Rattle.vbr_core.specs.Notes.{Note}
-use Rattle.vbr_core.specs.Agreement.{Held, IsHeldAt, IsHeldNext, IsFrozen, IsGoodLink, IsPair, IsLastOf, IsGoodRead, IsGood}
+use Rattle.vbr_core.specs.Agreement.{IsHeldIncarnation, IsHeldAt, IsHeldNext, IsFrozen, IsGoodLink, IsPair, IsLastOf, IsGoodRead, IsGood}
 use Rattle.vbr_core.specs.declared.knowledge.Read.{Read}
 use Rattle.vbr_core.specs.declared.knowledge.Read.TheVariants.{LinkAt, BirthOf, KeyOf}
 use Rattle.vbr_core.proofs.Slots.{late_inserted, late_born, one_late, late_last, listed_late, listed_last, shows}
@@ -31,7 +31,7 @@ same_next {shape} {a} s e holder o n link l q v h = go o n l (rw (← q) at h) (
     go (Some m) (Some k) l h v = ap Some (one_late s.slots m k e (sym h.slot) (listed_late (a.state m) e (l m refl)) h.late (omega arith) h.birth)
 
 -- the last incarnation of the slot is the one held, where the slot shows an unmarked link with a version no greater than the epoch
-pub still_last : {shape : Dimensions} {a : Incarnations} → Sound shape a → (e s c : ℕ) → Held a e s c → (link_at a (Slot s)).mark ≡ false → (link_at a (Slot s)).version ≤ e → a.last s ≡ Some c
+pub still_last : {shape : Dimensions} {a : Incarnations} → Sound shape a → (e s c : ℕ) → IsHeldIncarnation a e s c → (link_shown_at a (Slot s)).mark ≡ false → (link_shown_at a (Slot s)).version ≤ e → a.last s ≡ Some c
 still_last {shape} {a} s e v c h m le = go (s.slots.has_last c (late_born s.slots c e h.late))
   where
     no : (st : State) (birth epoch b stamp version : ℕ) → IsLate st e → TimesFit st birth epoch → IsPassed st b → StampFits st birth stamp → stamp < version → version ≤ e → ⊥
@@ -46,7 +46,7 @@ still_last {shape} {a} s e v c h m le = go (s.slots.has_last c (late_born s.slot
         b : (l < a.count) × (a.slot l ≡ a.slot c)
         b = s.slots.last_born (a.slot c) l el
 
-        above : a.stamp v < (link_at a (Slot v)).version
+        above : a.stamp v < (link_shown_at a (Slot v)).version
         above = let u = shows s.slots v (a.last v) refl in grind arith
 
         fits : StampFits (a.state c) (a.birth c) (a.stamp v)
@@ -54,11 +54,11 @@ still_last {shape} {a} s e v c h m le = go (s.slots.has_last c (late_born s.slot
 
         go2 : (c ≡ l) ⊎ ((c < l) ⊎ (l < c)) → a.last v ≡ Some c
         go2 (inl q) = e2 ∙ ap Some (sym q)
-        go2 (inr (inl lt)) = absurd (no (a.state c) (a.birth c) a.epoch (a.birth l) (a.stamp v) (link_at a (Slot v)).version h.late (s.slots.times c) (s.slots.passed c l lt b.0 (sym b.1)) fits above le)
+        go2 (inr (inl lt)) = absurd (no (a.state c) (a.birth c) a.epoch (a.birth l) (a.stamp v) (link_shown_at a (Slot v)).version h.late (s.slots.times c) (s.slots.passed c l lt b.0 (sym b.1)) fits above le)
         go2 (inr (inr lt)) = absurd (omega arith)
 
 -- a checked unmarked link that stands there again stands for the pair that it was checked with
-pub same_pair : {shape : Dimensions} {a : Incarnations} → Sound shape a → (e : ℕ) (at : At) (link : Link) (of names : Option ℕ) → IsGoodLink a e at link of names → link.mark ≡ false → link_at a at ≡ link → IsPair a at of names
+pub same_pair : {shape : Dimensions} {a : Incarnations} → Sound shape a → (e : ℕ) (at : At) (link : Link) (of names : Option ℕ) → IsGoodLink a e at link of names → link.mark ≡ false → link_shown_at a at ≡ link → IsPair a at of names
 same_pair {shape} {a} s e (Head b) link None n g m q = (refl, same_next s e 0 (a.first b) n link (λ k r. (s.lists.first_in b k r).0) q g.version g.next)
 same_pair {shape} {a} s e (Head b) link (Some c) n g m q = absurd g.place
 same_pair {shape} {a} s e (Slot v) link None n g m q = absurd g.place
@@ -90,7 +90,7 @@ pair_last s (Slot v) of (Some n) p = listed_last s.slots n (next_listed s p.0 n 
 
 -- ---- good reads stay good
 
-pub stays_held : {shape : Dimensions} {a b : Incarnations} → Sound shape a → Grows a b → (e s c : ℕ) → e ≤ a.epoch → Held a e s c → Held b e s c
+pub stays_held : {shape : Dimensions} {a b : Incarnations} → Sound shape a → Grows a b → (e s c : ℕ) → e ≤ a.epoch → IsHeldIncarnation a e s c → IsHeldIncarnation b e s c
 stays_held s g e v c le h = let lt = late_born s.slots c e h.late in record { slot = g.slot c lt ∙ h.slot; birth = rw (g.birth c lt) h.birth; late = g.late c e le h.late }
 
 pub stays_at : {shape : Dimensions} {a b : Incarnations} → Sound shape a → Grows a b → (e : ℕ) (at : At) (of : Option ℕ) → e ≤ a.epoch → IsHeldAt a e at of → IsHeldAt b e at of
@@ -126,7 +126,7 @@ stays_good s g e le (note ∷ notes) h = (stays_good_read s g e le note.read not
 
 -- ---- a load where the epoch is that of the pass
 
-pub held_last : {shape : Dimensions} {a : Incarnations} → Sound shape a → (v c : ℕ) → Held a a.epoch v c → a.last v ≡ Some c
+pub held_last : {shape : Dimensions} {a : Incarnations} → Sound shape a → (v c : ℕ) → IsHeldIncarnation a a.epoch v c → a.last v ≡ Some c
 held_last {shape} {a} s v c h = rw h.slot at (late_last s.slots c h.late)
 
 held_next : {shape : Dimensions} {a : Incarnations} → Sound shape a → (n : Option ℕ) → ((m : ℕ) → n ≡ Some m → IsLate (a.state m) a.epoch) → IsHeldNext a a.epoch (slot_shown a n) n
@@ -137,12 +137,12 @@ birth_below : {shape : Dimensions} {a : Incarnations} → Sound shape a → (e :
 birth_below s e None l = omega arith
 birth_below s e (Some m) l = s.slots.born m (late_born s.slots m e (l m refl))
 
-pub load_head : {shape : Dimensions} {a : Incarnations} → Sound shape a → (b : ℕ) → IsGoodLink a a.epoch (Head b) (link_at a (Head b)) None (a.first b)
+pub load_head : {shape : Dimensions} {a : Incarnations} → Sound shape a → (b : ℕ) → IsGoodLink a a.epoch (Head b) (link_shown_at a (Head b)) None (a.first b)
 load_head {shape} {a} s b =
     let l = λ (m : ℕ) (q : a.first b ≡ Some m). listed_late (a.state m) a.epoch (s.lists.first_in b m q).0 in
     record { version = let u = birth_below s a.epoch (a.first b) l in omega arith; place = tt; next = held_next s (a.first b) l; frozen = λ m. cc }
 
-pub load_slot : {shape : Dimensions} {a : Incarnations} → Sound shape a → (v c : ℕ) → Held a a.epoch v c → IsGoodLink a a.epoch (Slot v) (link_at a (Slot v)) (Some c) (a.next c)
+pub load_slot : {shape : Dimensions} {a : Incarnations} → Sound shape a → (v c : ℕ) → IsHeldIncarnation a a.epoch v c → IsGoodLink a a.epoch (Slot v) (link_shown_at a (Slot v)) (Some c) (a.next c)
 load_slot {shape} {a} s v c h = rw (held_last s v c h) (go (a.state c) refl)
   where
     l : (m : ℕ) → a.next c ≡ Some m → IsLate (a.state m) a.epoch

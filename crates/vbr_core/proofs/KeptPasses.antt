@@ -13,7 +13,7 @@ use Rattle.vbr_words.specs.declared.place.At.TheVariants.{Head, Slot}
 use Rattle.vbr_words.specs.declared.shape.TheConstants.{MAX_EPOCH}
 use Rattle.vbr_core.specs.Put.{put}
 use Rattle.vbr_core.specs.Knowledge.{Know, birth_in, birth_at, birth_of, marked_in, same_at}
-use Rattle.vbr_core.specs.Acceptance.{IsReady, next_of_marked}
+use Rattle.vbr_core.specs.Acceptance.{MayPublish, next_of_marked}
 use Rattle.vbr_core.specs.Learning.{link_in_hand, reread, read_epoch, with_own}
 use Rattle.vbr_core.specs.Kept.{KeptPass, know_of, FitsRead, FitsHolding}
 use Rattle.vbr_core.specs.declared.knowledge.Read.{Read}
@@ -90,7 +90,7 @@ next-fits (KeyOf slot key ∷ reads) s fits = next-fits reads s fits.1
 next-fits (LinkAt at link ∷ reads) s fits = next_of-if (same_at at (Slot s) && link.mark) link (marked_in reads s) fits.0 (next-fits reads s fits.1)
 
 -- a link in hand that is ready has room
-pub ready-fits : (shape : Dimensions) (reads : List Read) (pred : At) (expected : Link) (holding : Option Holding) → AllByRecursion FitsRead reads → FitsHolding holding → IsLink expected → IsReady shape reads pred expected holding → IsLink (link_in_hand holding)
+pub ready-fits : (shape : Dimensions) (reads : List Read) (pred : At) (expected : Link) (holding : Option Holding) → AllByRecursion FitsRead reads → FitsHolding holding → IsLink expected → MayPublish shape reads pred expected holding → IsLink (link_in_hand holding)
 ready-fits shape reads pred expected (Some (InHand stamp birth (Some key) (Some link))) all fits is ready = let named = birth_of-fits reads expected.slot all in rw ready.0 (record { slot = is.slot; version = omega (arith, named, fits) })
 ready-fits shape reads pred expected holding all fits is ready = absurd ready
 

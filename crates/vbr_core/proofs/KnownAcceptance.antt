@@ -8,9 +8,9 @@ use Rattle.vbr_words.specs.declared.place.At.{At}
 use Rattle.vbr_words.specs.declared.place.At.TheVariants.{Head, Slot}
 use Rattle.vbr_core.specs.Links.{link_to}
 use Rattle.vbr_core.specs.Knowledge.{Know, knows_link, birth_in, key_in, marked_in, holds, holds_at, birth_at, birth_of}
-use Rattle.vbr_core.specs.Acceptance.{bucket_of, KnowsKeyAt, KnowsKeyOf, after_turns, MeetsKey, next_of_marked, IsHeld, IsBehind, IsBefore, MeetsAbove, IsReady, IsInRange, Accepts}
+use Rattle.vbr_core.specs.Acceptance.{bucket_of, KnowsKeyAt, KnowsKeyOf, after_turns, MeetsKey, next_of_marked, HasChecked, IsBehind, IsBefore, MeetsAbove, MayPublish, IsInRange, Accepts}
 use Rattle.vbr_core.specs.Learning.{link_written, call_of, present_reply, birth_in_hand}
-use Rattle.vbr_core.specs.Membership.{Knows, IsHeldSlot, IsHeldPlace, BirthAt, BirthNamed, StandsBehind, StandsBefore, StandsBeforeOn, IsUnlinkLink, Writes, IsKnown, IsReadyKnown, IsInRangeKnown, AcceptsKnown}
+use Rattle.vbr_core.specs.Membership.{Knows, IsHeldSlot, IsHeldPlace, BirthAt, BirthNamed, StandsBehind, StandsBefore, StandsBeforeOn, IsUnlinkLink, WritesLink, IsKnown, MayPublishKnown, IsInRangeKnown, AcceptsKnown}
 use Rattle.vbr_core.specs.Incarnations.{Incarnations}
 use Rattle.vbr_core.specs.Sound.{Sound}
 use Rattle.vbr_core.specs.Notes.{Notes}
@@ -76,7 +76,7 @@ unlink_known know pred expected s m b n =
       is = ap (λ v. link_to v (unwrap_or (birth_at know.checked pred) 0) (unwrap_or (birth_of know.checked v) 0)) e;
     }
 
-held_known : (shape : Dimensions) (know : Know) (step : Step) → IsHeld shape know step → IsKnown know step
+held_known : (shape : Dimensions) (know : Know) (step : Step) → HasChecked shape know step → IsKnown know step
 held_known shape know (StoreLink s None) h = tt
 held_known shape know (StoreLink s (Some n)) h = (slot_known know n h.0, (unwrap_or (birth_in know.checked n) 0, birth_known know n h.1))
 held_known shape know (LoadLink at) h = place_known know at h
@@ -89,7 +89,7 @@ held_known shape know (ConfirmPresent op s expected) h = (link_known know (Slot 
 held_known shape know (ConfirmAbsent op key at expected) h = link_known know at (link_of expected) h.0
 held_known shape know step h = tt
 
-ready_known : (shape : Dimensions) (know : Know) (pred : At) (expected : Link) (own : Option Holding) → KnowsKeyAt know.checked pred → KnowsKeyOf know.checked expected.slot → IsSome (birth_of know.checked expected.slot) → IsReady shape know.checked pred expected own → IsReadyKnown shape know pred expected own
+ready_known : (shape : Dimensions) (know : Know) (pred : At) (expected : Link) (own : Option Holding) → KnowsKeyAt know.checked pred → KnowsKeyOf know.checked expected.slot → IsSome (birth_of know.checked expected.slot) → MayPublish shape know.checked pred expected own → MayPublishKnown shape know pred expected own
 ready_known shape know pred expected None k n b r = absurd r
 ready_known shape know pred expected (Some (Free stamp)) k n b r = absurd r
 ready_known shape know pred expected (Some (Unlinked reread)) k n b r = absurd r
@@ -117,7 +117,7 @@ before_on know key link most m =
     let P : Option ℕ → Type 0 = StandsBefore know key in
     record { last = led.last; leads = led.leads; before = subst P (sym led.names) (before_known know key (after_turns know.checked m.turns link.slot) (key_found know.checked key (after_turns know.checked m.turns link.slot) m.before) m.before) }
 
-range_known : (shape : Dimensions) (know : Know) (step : Step) → IsHeld shape know step → IsInRange shape know step → IsInRangeKnown shape know step
+range_known : (shape : Dimensions) (know : Know) (step : Step) → HasChecked shape know step → IsInRange shape know step → IsInRangeKnown shape know step
 range_known shape know (Publish pred expected s) h r = (r.0, ready_known shape know pred (link_of expected) (know.own s) h.1.1 h.2.1 h.2.0 r.1)
 range_known shape know (ConfirmAbsent op key at expected) h r = (r.0, r.1, behind_known know shape at key h.1 r.2, before_on know key (link_of expected) shape.slots r.3)
 range_known shape know step h r = r
@@ -164,7 +164,7 @@ module _ {shape : Dimensions} {a : Incarnations} {know : Know} {notes : Notes} (
       ap next_of_marked x.1 ∙ one_mark sound noted s x.0 link (record { among = y.0 }) k y.1 m
 
   -- the link that a step writes by look-ups is the one that it writes by any known births and marked link
-  pub written_is : (step : Step) (new : Link) → Writes know step new → link_written know step ≡ new
+  pub written_is : (step : Step) (new : Link) → WritesLink know step new → link_written know step ≡ new
   written_is (StoreLink s next) new h = ap (λ n. link_to next (birth_in_hand (know.own s)) n) (birth_named_is next h.0 h.1) ∙ sym h.2
   written_is (Publish pred expected s) new h = ap (λ n. link_to (Some s) n (birth_in_hand (know.own s))) (birth_at_is pred h.0 h.1) ∙ sym h.2
   written_is (Mark s expected) new h = sym h
@@ -210,8 +210,8 @@ module _ {shape : Dimensions} {a : Incarnations} {know : Know} {notes : Notes} (
   link_held at link k = link_there know.checked at link k.among
 
   -- a slot in hand that is ready by what is known is so by look-ups, and the reads that it asks for are checked
-  ready_is : (pred : At) (expected : Link) (own : Option Holding) → IsReadyKnown shape know pred expected own →
-      IsReady shape know.checked pred expected own × KnowsKeyAt know.checked pred × KnowsKeyOf know.checked expected.slot × IsSome (birth_of know.checked expected.slot)
+  ready_is : (pred : At) (expected : Link) (own : Option Holding) → MayPublishKnown shape know pred expected own →
+      MayPublish shape know.checked pred expected own × KnowsKeyAt know.checked pred × KnowsKeyOf know.checked expected.slot × IsSome (birth_of know.checked expected.slot)
   ready_is pred expected None r = absurd r
   ready_is pred expected (Some (Free stamp)) r = absurd r
   ready_is pred expected (Some (Unlinked reread)) r = absurd r
@@ -237,7 +237,7 @@ module _ {shape : Dimensions} {a : Incarnations} {know : Know} {notes : Notes} (
       let P : Option ℕ → Type 0 = IsBefore know.checked key in
       record { turns = w.0; within = w.1; before = subst P (sym w.2) (before_is key on.last.slot on.before) }
 
-  held_is : Fits shape a → (step : Step) → IsKnown know step → IsInRangeKnown shape know step → IsHeld shape know step
+  held_is : Fits shape a → (step : Step) → IsKnown know step → IsInRangeKnown shape know step → HasChecked shape know step
   held_is fits (StoreLink s None) k r = tt
   held_is fits (StoreLink s (Some n)) k r = (held_of_slot n k.0, birth_there know.checked n k.1.0 k.1.1.among)
   held_is fits (LoadLink at) k r = held_of_place at k

@@ -14,7 +14,7 @@ use Rattle.vbr_core.specs.Incarnations.{Incarnations}
 use Rattle.vbr_core.specs.Images.{slot_shown}
 use Rattle.vbr_core.specs.Sound.{Sound}
 use Rattle.vbr_core.specs.Notes.{Note, Notes}
-use Rattle.vbr_core.specs.Agreement.{Held, IsHeldNext, IsGoodLink, IsGoodRead, IsGood, reads_of, IsNoted}
+use Rattle.vbr_core.specs.Agreement.{IsHeldIncarnation, IsHeldNext, IsGoodLink, IsGoodRead, IsGood, reads_of, IsNoted}
 use Rattle.vbr_core.specs.declared.knowledge.Read.{Read}
 use Rattle.vbr_core.specs.declared.knowledge.Read.TheVariants.{LinkAt, BirthOf, KeyOf}
 use Rattle.vbr_core.proofs.Slots.{one_late}
@@ -36,40 +36,40 @@ good_read {a} {know} {notes} k read m =
 pub good_link : {a : Incarnations} {know : Know} {notes : Notes} → IsNoted a know notes → (at : At) (link : Link) → Knows know (LinkAt at link) → (of names : Option ℕ) × IsGoodLink a know.epoch at link of names
 good_link k at link m = good_read k (LinkAt at link) m
 
-pub birth_held : {a : Incarnations} {know : Know} {notes : Notes} → IsNoted a know notes → (s b : ℕ) → Knows know (BirthOf s b) → (c : ℕ) × Held a know.epoch s c × (a.birth c ≡ b)
+pub birth_held : {a : Incarnations} {know : Know} {notes : Notes} → IsNoted a know notes → (s b : ℕ) → Knows know (BirthOf s b) → (c : ℕ) × IsHeldIncarnation a know.epoch s c × (a.birth c ≡ b)
 birth_held {a} {know} {notes} k s b m = go (good_read k (BirthOf s b) m)
   where
-    go : ((of names : Option ℕ) × IsGoodRead a know.epoch (BirthOf s b) of names) → (c : ℕ) × Held a know.epoch s c × (a.birth c ≡ b)
+    go : ((of names : Option ℕ) × IsGoodRead a know.epoch (BirthOf s b) of names) → (c : ℕ) × IsHeldIncarnation a know.epoch s c × (a.birth c ≡ b)
     go (None, names, h) = absurd h
     go (Some c, names, h) = (c, h.0, h.1)
 
-pub key_held : {a : Incarnations} {know : Know} {notes : Notes} → IsNoted a know notes → (s key : ℕ) → Knows know (KeyOf s key) → (c : ℕ) × Held a know.epoch s c × (a.key c ≡ key)
+pub key_held : {a : Incarnations} {know : Know} {notes : Notes} → IsNoted a know notes → (s key : ℕ) → Knows know (KeyOf s key) → (c : ℕ) × IsHeldIncarnation a know.epoch s c × (a.key c ≡ key)
 key_held {a} {know} {notes} k s key m = go (good_read k (KeyOf s key) m)
   where
-    go : ((of names : Option ℕ) × IsGoodRead a know.epoch (KeyOf s key) of names) → (c : ℕ) × Held a know.epoch s c × (a.key c ≡ key)
+    go : ((of names : Option ℕ) × IsGoodRead a know.epoch (KeyOf s key) of names) → (c : ℕ) × IsHeldIncarnation a know.epoch s c × (a.key c ≡ key)
     go (None, names, h) = absurd h
     go (Some c, names, h) = (c, h.0, h.1)
 
 -- a held slot has an incarnation that is held there
-pub slot_held : {a : Incarnations} {know : Know} {notes : Notes} → IsNoted a know notes → (s : ℕ) → IsHeldSlot know s → (c : ℕ) × Held a know.epoch s c
+pub slot_held : {a : Incarnations} {know : Know} {notes : Notes} → IsNoted a know notes → (s : ℕ) → IsHeldSlot know s → (c : ℕ) × IsHeldIncarnation a know.epoch s c
 slot_held {a} {know} {notes} k s h = let g = good_link k h.at h.link h.known in go h.link.slot g.1 h.names g.2.next
   where
-    go : (v n : Option ℕ) → v ≡ Some s → IsHeldNext a know.epoch v n → (c : ℕ) × Held a know.epoch s c
+    go : (v n : Option ℕ) → v ≡ Some s → IsHeldNext a know.epoch v n → (c : ℕ) × IsHeldIncarnation a know.epoch s c
     go None n q h = absurd (cc)
     go (Some v) None q h = absurd h
-    go (Some v) (Some c) q h = let P : ℕ → Type 0 = λ i. Held a know.epoch i c in let e : v ≡ s = cc in (c, subst P e h)
+    go (Some v) (Some c) q h = let P : ℕ → Type 0 = λ i. IsHeldIncarnation a know.epoch i c in let e : v ≡ s = cc in (c, subst P e h)
 
 -- ---- one of each
 
 -- the incarnation that is held at a slot is one
-pub one_held : {shape : Dimensions} {a : Incarnations} → Sound shape a → (e s c d : ℕ) → Held a e s c → Held a e s d → c ≡ d
+pub one_held : {shape : Dimensions} {a : Incarnations} → Sound shape a → (e s c d : ℕ) → IsHeldIncarnation a e s c → IsHeldIncarnation a e s d → c ≡ d
 one_held snd e s c d g h = one_late snd.slots c d e (g.slot ∙ sym h.slot) g.late h.late g.birth h.birth
 
 -- a known key of a slot is that of the incarnation held there
-pub known_key : {shape : Dimensions} {a : Incarnations} {know : Know} {notes : Notes} → Sound shape a → IsNoted a know notes → (s c key : ℕ) → Held a know.epoch s c → Knows know (KeyOf s key) → a.key c ≡ key
+pub known_key : {shape : Dimensions} {a : Incarnations} {know : Know} {notes : Notes} → Sound shape a → IsNoted a know notes → (s c key : ℕ) → IsHeldIncarnation a know.epoch s c → Knows know (KeyOf s key) → a.key c ≡ key
 known_key {shape} {a} {know} {notes} snd k s c key h m = let x = key_held k s key m in ap a.key (one_held snd know.epoch s c x.0 h x.1) ∙ x.2
 
-pub known_birth : {shape : Dimensions} {a : Incarnations} {know : Know} {notes : Notes} → Sound shape a → IsNoted a know notes → (s c birth : ℕ) → Held a know.epoch s c → Knows know (BirthOf s birth) → a.birth c ≡ birth
+pub known_birth : {shape : Dimensions} {a : Incarnations} {know : Know} {notes : Notes} → Sound shape a → IsNoted a know notes → (s c birth : ℕ) → IsHeldIncarnation a know.epoch s c → Knows know (BirthOf s birth) → a.birth c ≡ birth
 known_birth {shape} {a} {know} {notes} snd k s c birth h m = let x = birth_held k s birth m in ap a.birth (one_held snd know.epoch s c x.0 h x.1) ∙ x.2
 
 -- a slot has one known key

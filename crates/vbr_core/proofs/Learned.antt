@@ -2,7 +2,7 @@
 use Rattle.std.proofs.Common.{◌≡◌, ℕ, ◌<◌, List, [], ◌∷◌, ◌++◌, length, get_or, Option, Some, None, sym, ap, ◌∙◌}
 use Rattle.std.proofs.lemmas.List.{get_or_read}
 use Rattle.vbr_words.specs.Words.{IsLink, word_of, link_of}
-use Rattle.vbr_words.proofs.LinkWords.{link_of-word_of}
+use Rattle.vbr_words.proofs.Lemmas.{link_of-word_of}
 use Rattle.vbr_core.specs.Put.{put}
 use Rattle.vbr_core.specs.Knowledge.{Know}
 use Rattle.vbr_core.specs.Learning.{link_written, learn}

@@ -1,10 +1,10 @@
-pub mod Histories
+mod Histories
 mod PlainSets
-pub mod Puts
-pub mod Slots
+mod Puts
+mod Slots
 mod SlotsAfter
-pub mod Lists
-pub mod ListedNodes
+mod Lists
+mod ListedNodes
 mod ListsAfter
 mod InsertedLists
 mod UnlinkedLists
@@ -22,7 +22,7 @@ mod OwnerSteps
 mod BirthSteps
 mod LoadSteps
 mod Meetings
-pub mod ConfirmSteps
+mod ConfirmSteps
 mod MarkSteps
 mod Exchanges
 mod PublishSteps
@@ -30,31 +30,31 @@ mod PublishedNotes
 mod Publishing
 mod UnlinkSteps
 mod Unlinking
-pub mod EveryRun
-pub mod SlotFlags
-pub mod RunsGoOn
-pub mod WordsAfter
+mod EveryRun
+mod SlotFlags
+mod RunsGoOn
+mod WordsAfter
 mod LoadsLeave
-pub mod OwnedSlots
+mod OwnedSlots
 mod HeldSlots
 mod RightReads
 mod RightExchanges
 mod PlacedSlots
-pub mod SafeRuns
+mod SafeRuns
 mod RunMoments
 mod FoundReads
 mod MarkedWalks
 mod MarkedSearches
-pub mod OwnEntries
-pub mod KnownReads
-pub mod KnownAcceptance
-pub mod HeldBuckets
-pub mod AtLoads
-pub mod MarkedChains
-pub mod RunForms
-pub mod ListedRuns
-pub mod ListedGrowth
-pub mod ListedLinks
+mod OwnEntries
+mod KnownReads
+mod KnownAcceptance
+mod HeldBuckets
+mod AtLoads
+mod MarkedChains
+mod RunForms
+mod ListedRuns
+mod ListedGrowth
+mod ListedLinks
 mod ReachedWorlds
 mod WorkedLists
 mod WorkedChronicles
@@ -63,8 +63,9 @@ mod WorkedLookups
 mod NamedKeys
 mod WorkedSafety
 mod KeptLists
-pub mod KeptPasses
+mod KeptPasses
 mod KeptWorlds
 mod Learned
 mod MadeSteps
-pub mod Replayed
+mod Replayed
+pub mod Lemmas

@@ -2,17 +2,17 @@
 use Rattle.std.proofs.Common.{◌≡◌, ◌≢◌, ℕ, ◌≤◌, Bool, true, false, List, [], ◌∷◌, ◌++◌, Option, Some, None, refl, sym, ap, ◌∙◌, subst, arith, inl, inr}
 use Rattle.std.specs.Option.{option_to_list}
 use Rattle.std.specs.Prelude.{◌==◌, ◌&&◌, ◌⊎◌, if◌then◌else◌}
-use Rattle.std.proofs.lemmas.Bool.{and_left, cases_Bool, cases_eq}
+use Rattle.std.proofs.lemmas.Bool.{and_left, cases_eq}
 use Rattle.vbr_words.specs.Flags.{has_flag}
 use Rattle.vbr_words.specs.Dimensions.{Dimensions, IsShape}
 use Rattle.vbr_words.specs.declared.place.At.{At}
-use Rattle.vbr_words.specs.declared.place.At.TheVariants.{Head, Slot}
+use Rattle.vbr_words.specs.declared.place.At.TheVariants.{Head}
 use Rattle.vbr_core.specs.Acceptance.{bucket_of, Accepts}
 use Rattle.vbr_core.specs.Accounts.{incarnations_after, notes_after, happens, just, answered, born_in}
 use Rattle.vbr_core.specs.Calls.{calls_added}
 use Rattle.vbr_core.specs.Chronicles.{Entry, Advances, Gains, Probes, Keyed, Aims, Inserts, Raises, Removes, Stamps, Unlinks, Answers, Allowed, becomes, incarnations_from, IsLawful}
 use Rattle.vbr_core.specs.Images.{key_shown}
-use Rattle.vbr_core.specs.Incarnations.{State, InHand, Linked, Marked, Incarnations, last_in}
+use Rattle.vbr_core.specs.Incarnations.{Marked, Incarnations, last_in}
 use Rattle.vbr_core.specs.Keys.{no_keys}
 use Rattle.vbr_core.specs.Learning.{call_of, link_written}
 use Rattle.vbr_core.specs.Machine.{found}
@@ -75,17 +75,17 @@ either_adds_none shape a bucket h true xs ys x y = x
 either_adds_none shape a bucket h false xs ys x y = y
 
 -- entries that add no node to the list of a bucket
-abbrev pub AddsNone : Dimensions → Incarnations → ℕ → ℕ → List Entry → Type 0
-AddsNone shape a bucket h entries = behind shape (incarnations_from shape a entries) bucket (Head h) ≤ behind shape a bucket (Head h)
+abbrev pub AddsNoNode : Dimensions → Incarnations → ℕ → ℕ → List Entry → Type 0
+AddsNoNode shape a bucket h entries = behind shape (incarnations_from shape a entries) bucket (Head h) ≤ behind shape a bucket (Head h)
 
 module _ (shape : Dimensions) (passes : ℕ) (run : List Event) (is : IsShape shape) (ok : IsRun shape passes run) (p bucket h : ℕ) where
   abbrev a : Incarnations
   a = incarnations_after shape run
 
-  same : (entries : List Entry) → behind shape (incarnations_from shape (incarnations_after shape run) entries) bucket (Head h) ≡ behind shape (incarnations_after shape run) bucket (Head h) → AddsNone shape (incarnations_after shape run) bucket h entries
+  same : (entries : List Entry) → behind shape (incarnations_from shape (incarnations_after shape run) entries) bucket (Head h) ≡ behind shape (incarnations_after shape run) bucket (Head h) → AddsNoNode shape (incarnations_after shape run) bucket h entries
   same entries e = no_more (behind shape (incarnations_from shape (incarnations_after shape run) entries) bucket (Head h)) (behind shape (incarnations_after shape run) bucket (Head h)) e
 
-  confirmed : (t : Bool) (call : Option Call) → AddsNone shape (incarnations_after shape run) bucket h (if t then answered p call else [])
+  confirmed : (t : Bool) (call : Option Call) → AddsNoNode shape (incarnations_after shape run) bucket h (if t then answered p call else [])
   confirmed true None = same [] refl
   confirmed true (Some call) = same (just p (Answers call)) refl
   confirmed false call = same [] refl
@@ -106,12 +106,12 @@ module _ (shape : Dimensions) (passes : ℕ) (run : List Event) (is : IsShape sh
   one (StoreLink s next) n l = same (just p (Aims (last_in a s) (link_written (know_after shape run p) (StoreLink s next)))) refl
   one (Publish pred expected s) n l = published (found shape (world_after shape run) (Publish pred expected s) == expected) n
     where
-      published : (t : Bool) → option_to_list (if t then call_of p (know_after shape run p) (Publish pred expected s) else None) ≡ [] → AddsNone shape (incarnations_after shape run) bucket h (if t then just p (Inserts (last_in a s) (before_at a pred)) else [])
+      published : (t : Bool) → option_to_list (if t then call_of p (know_after shape run p) (Publish pred expected s) else None) ≡ [] → AddsNoNode shape (incarnations_after shape run) bucket h (if t then just p (Inserts (last_in a s) (before_at a pred)) else [])
       published true n = absurd (cc)
       published false n = same [] refl
   one (Mark s expected) n l = marked (found shape (world_after shape run) (Mark s expected) == expected) l
     where
-      marked : (t : Bool) → IsLawful shape no_keys a (if t then just p (Removes (last_in a s)) else []) → AddsNone shape (incarnations_after shape run) bucket h (if t then just p (Removes (last_in a s)) else [])
+      marked : (t : Bool) → IsLawful shape no_keys a (if t then just p (Removes (last_in a s)) else []) → AddsNoNode shape (incarnations_after shape run) bucket h (if t then just p (Removes (last_in a s)) else [])
       marked true l = same (just p (Removes (last_in a s))) (removes_none shape a p (last_in a s) bucket (Head h) l.0)
       marked false l = same [] refl
   one (Unlink pred expected s) n l = either_adds_none shape a bucket h (found shape (world_after shape run) (Unlink pred expected s) == expected) (just p (Unlinks (last_in a s) (before_at a pred))) [] (unlinks_add_none shape a p bucket (last_in a s) (before_at a pred) (Head h)) (same [] refl)

@@ -7,7 +7,7 @@ use Rattle.vbr_words.specs.declared.place.At.TheVariants.{Head, Slot}
 use Rattle.vbr_core.specs.Accounts.{incarnations_after}
 use Rattle.vbr_core.specs.Agreement.{IsPair}
 use Rattle.vbr_core.specs.Chronicles.{Aims, becomes}
-use Rattle.vbr_core.specs.Images.{link_at, link_in_state, link_shown}
+use Rattle.vbr_core.specs.Images.{link_shown_at, link_in_state, link_shown}
 use Rattle.vbr_core.specs.Incarnations.{Incarnations, last_in}
 use Rattle.vbr_core.specs.Learning.{link_written}
 use Rattle.vbr_core.specs.Membership.{Knows}
@@ -20,7 +20,7 @@ use Rattle.vbr_core.proofs.HeldReads.{same_pair}
 use Rattle.vbr_core.proofs.KnownReads.{good_link}
 
 -- the link that is stored in a slot in hand is shown at no place whose incarnation is linked
-aims_elsewhere : (shape : Dimensions) (a : Incarnations) (pass c : ℕ) (link : Link) (at : At) (of next : Option ℕ) → IsPair a at of next → link_at (becomes shape a pass (Aims c link)) at ≡ link_at a at
+aims_elsewhere : (shape : Dimensions) (a : Incarnations) (pass c : ℕ) (link : Link) (at : At) (of next : Option ℕ) → IsPair a at of next → link_shown_at (becomes shape a pass (Aims c link)) at ≡ link_shown_at a at
 aims_elsewhere shape a pass c link (Head b) of next pair = refl
 aims_elsewhere shape a pass c link (Slot s) of next pair =
     let b = becomes shape a pass (Aims c link) in
@@ -28,17 +28,17 @@ aims_elsewhere shape a pass c link (Slot s) of next pair =
 
 module _ (shape : Dimensions) (passes : ℕ) (run : List Event) (is : IsShape shape) (ok : IsRun shape passes run) (p : ℕ) where
   -- a law: a key that is stored leaves each link
-  pub key_leaves_links : (s key : ℕ) (at : At) → link_at (incarnations_after shape (run ++ (record { pass = p; step = StoreKey s key }) ∷ [])) at ≡ link_at (incarnations_after shape run) at
-  key_leaves_links s key at = ap (λ a. link_at a at) (incarnations_after-snoc shape run (record { pass = p; step = StoreKey s key }))
+  pub key_leaves_links : (s key : ℕ) (at : At) → link_shown_at (incarnations_after shape (run ++ (record { pass = p; step = StoreKey s key }) ∷ [])) at ≡ link_shown_at (incarnations_after shape run) at
+  key_leaves_links s key at = ap (λ a. link_shown_at a at) (incarnations_after-snoc shape run (record { pass = p; step = StoreKey s key }))
 
   -- a law: a link that is stored in a slot in hand leaves one that is known unmarked and stands
-  pub link_leaves_links : (s : ℕ) (next : Option ℕ) (at : At) (link : Link) → Knows (know_after shape run p) (LinkAt at link) → link.mark ≡ false → link_at (incarnations_after shape run) at ≡ link →
-      link_at (incarnations_after shape (run ++ (record { pass = p; step = StoreLink s next }) ∷ [])) at ≡ link
+  pub link_leaves_links : (s : ℕ) (next : Option ℕ) (at : At) (link : Link) → Knows (know_after shape run p) (LinkAt at link) → link.mark ≡ false → link_shown_at (incarnations_after shape run) at ≡ link →
+      link_shown_at (incarnations_after shape (run ++ (record { pass = p; step = StoreLink s next }) ∷ [])) at ≡ link
   link_leaves_links s next at link known unmarked shown =
       let a = incarnations_after shape run in
       let agrees = run_agrees shape passes run is ok in
       let g = good_link (agrees.knows p) at link known in
       let pair = same_pair agrees.sound (know_after shape run p).epoch at link g.0 g.1 g.2 unmarked shown in
-      ap (λ b. link_at b at) (incarnations_after-snoc shape run (record { pass = p; step = StoreLink s next }))
+      ap (λ b. link_shown_at b at) (incarnations_after-snoc shape run (record { pass = p; step = StoreLink s next }))
       ∙ aims_elsewhere shape a p (last_in a s) (link_written ((world_after shape run).know p) (StoreLink s next)) at g.0 g.1 pair
       ∙ shown

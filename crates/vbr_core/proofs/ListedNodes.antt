@@ -1,7 +1,7 @@
 -- Nodes of one list, by their slots, and how many of them stand behind a place: from a place to its successor they are one fewer.
-use Rattle.std.proofs.Common.{◌≡◌, ◌≢◌, ℕ, zero, suc, ◌+◌, ◌<◌, ◌≤◌, Bool, true, false, Option, Some, None, refl, sym, ap, ◌∙◌, subst, inl, inr, arith}
+use Rattle.std.proofs.Common.{◌≡◌, ◌≢◌, ℕ, zero, suc, ◌<◌, ◌≤◌, Bool, true, false, Option, Some, None, refl, sym, ap, ◌∙◌, subst, inl, inr, arith}
 use Rattle.std.specs.Prelude.{nat_lt, ◌==◌, ◌&&◌, ◌⊎◌, if◌then◌else◌}
-use Rattle.std.proofs.lemmas.Bool.{and_parts, and_from, and_left, cases_Bool, cases_eq, eq-eqb, eqb-true, le-ltb, lt-ltb}
+use Rattle.std.proofs.lemmas.Bool.{and_parts, and_from, and_left, cases_Bool, cases_eq, eq-eqb, eqb-true, lt-ltb}
 use Rattle.std.proofs.lemmas.Bool.Decides.{nat_tests}
 use Rattle.vbr_words.specs.Dimensions.{Dimensions}
 use Rattle.vbr_words.specs.declared.place.At.{At}
@@ -9,7 +9,7 @@ use Rattle.vbr_words.specs.declared.place.At.TheVariants.{Head, Slot}
 use Rattle.vbr_core.specs.Acceptance.{bucket_of}
 use Rattle.vbr_words.specs.declared.link.Link.{Link}
 use Rattle.vbr_core.specs.Agreement.{Fits, IsPair, IsGoodLink}
-use Rattle.vbr_core.specs.Images.{key_shown, link_in_state, link_shown, link_at}
+use Rattle.vbr_core.specs.Images.{key_shown, link_in_state, link_shown, link_shown_at}
 use Rattle.vbr_core.specs.Incarnations.{State, Unborn, InHand, GivenUp, Linked, Marked, Unlinked, Stamped, Incarnations}
 use Rattle.vbr_core.specs.Put.{put}
 use Rattle.vbr_core.specs.Keys.{Keys}
@@ -17,7 +17,7 @@ use Rattle.vbr_core.specs.Chronicles.{Before, GivesUp, Bears, Stamps, Unlinks, A
 use Rattle.vbr_core.specs.Notes.{before_at}
 use Rattle.vbr_core.specs.declared.knowledge.SlotPlace.{SlotPlace}
 use Rattle.vbr_core.specs.declared.knowledge.SlotPlace.TheVariants.{Shared, Own, Hand, Listed}
-use Rattle.vbr_core.specs.Nodes.{state_shown, state_in, is_listed, key_in, is_in_list, is_there, is_above, is_behind, count_below, behind}
+use Rattle.vbr_core.specs.Nodes.{state_shown, state_in, is_listed, key_in, is_in_list, is_there, is_above, is_behind, count_below, behind, Stands, InList}
 use Rattle.vbr_core.specs.Sound.{IsListed, IsApart, IsFrom, Sound}
 use Rattle.vbr_core.proofs.Puts.{put_here, put_other}
 use Rattle.vbr_core.proofs.Lists.{next_listed, keys_differ}
@@ -55,11 +55,6 @@ count_falls f g (suc n) k l t u e = go (cases_Bool (k == n)) (λ m. count_falls 
 
 -- ---- nodes
 
--- the last incarnation of a slot is this one, and it is in a list
-pub record Stands (a : Incarnations) (s c : ℕ) : Type 0 where
-  pub last : a.last s ≡ Some c
-  pub listed : IsListed (a.state c)
-
 listed_from : (st : State) → is_listed st ≡ true → IsListed st
 listed_from st e = grind arith
 
@@ -82,11 +77,6 @@ stands_key {a} n = ap (key_shown a) n.last
 -- a node in a list stands in its slot
 pub stands_there : {shape : Dimensions} {a : Incarnations} → Sound shape a → Fits shape a → (n : ℕ) → IsListed (a.state n) → (a.slot n < shape.slots) × Stands a (a.slot n) n
 stands_there {shape} {a} sound fits n l = (fits.slot n (late_born sound.slots n 0 (listed_late (a.state n) 0 l)), record { last = listed_last sound.slots n l; listed = l })
-
--- the node of a slot is in the list of a bucket
-pub record InList (shape : Dimensions) (a : Incarnations) (bucket s c : ℕ) : Type 0 where
-  pub stands : Stands a s c
-  pub of_bucket : bucket_of shape (a.key c) ≡ bucket
 
 pub in_list_from : (shape : Dimensions) (a : Incarnations) (bucket s : ℕ) → is_in_list shape a bucket s ≡ true → (c : ℕ) × InList shape a bucket s c
 in_list_from shape a bucket s e =
@@ -141,11 +131,11 @@ version_of_listed a c (Unlinked p u) l = absurd l
 version_of_listed a c (Stamped u r) l = absurd l
 
 -- a checked link that stands there again, of a node that is in a list, stands for what it was checked with
-pub same_followed : {shape : Dimensions} {a : Incarnations} → Sound shape a → (e : ℕ) (at : At) (link : Link) (of names : Option ℕ) → IsGoodLink a e at link of names → (link.mark ≡ false) ⊎ (is_there a at ≡ true) → link_at a at ≡ link → IsFollowed a at of names
+pub same_followed : {shape : Dimensions} {a : Incarnations} → Sound shape a → (e : ℕ) (at : At) (link : Link) (of names : Option ℕ) → IsGoodLink a e at link of names → (link.mark ≡ false) ⊎ (is_there a at ≡ true) → link_shown_at a at ≡ link → IsFollowed a at of names
 same_followed {shape} {a} sound e at link of names g (inl unmarked) shown = pair_followed a at of names (same_pair sound e at link of names g unmarked shown)
 same_followed {shape} {a} sound e at link of names g (inr there) shown = either (cases_Bool link.mark)
   where
-    marked_one : (at : At) (of : Option ℕ) → IsGoodLink a e at link of names → is_there a at ≡ true → link_at a at ≡ link → link.mark ≡ true → IsFollowed a at of names
+    marked_one : (at : At) (of : Option ℕ) → IsGoodLink a e at link of names → is_there a at ≡ true → link_shown_at a at ≡ link → link.mark ≡ true → IsFollowed a at of names
     marked_one (Head b) None g there shown m = absurd (g.frozen m)
     marked_one (Head b) (Some c) g there shown m = absurd g.place
     marked_one (Slot v) None g there shown m = absurd g.place
@@ -326,7 +316,7 @@ unlinks_add_none shape a pass bucket c before at = count_le (is_behind shape b b
 -- ---- links
 
 -- a stamping leaves the links that are shown
-pub stamps_links : (shape : Dimensions) (keys : Keys) (a : Incarnations) (pass c stamp : ℕ) (at : At) → Allowed shape keys a pass (Stamps c stamp) → link_at (becomes shape a pass (Stamps c stamp)) at ≡ link_at a at
+pub stamps_links : (shape : Dimensions) (keys : Keys) (a : Incarnations) (pass c stamp : ℕ) (at : At) → Allowed shape keys a pass (Stamps c stamp) → link_shown_at (becomes shape a pass (Stamps c stamp)) at ≡ link_shown_at a at
 stamps_links shape keys a pass c stamp (Head h) al = refl
 stamps_links shape keys a pass c stamp (Slot s) al = shown (a.last s)
   where

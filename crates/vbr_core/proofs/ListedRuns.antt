@@ -1,29 +1,27 @@
 -- What runs say of how many nodes stand behind a place that a pass holds, whose link is still the one that it has checked.
-use Rattle.std.proofs.Common.{◌≡◌, ℕ, ◌≤◌, suc, Bool, true, false, List, [], ◌∷◌, ◌++◌, cond, Option, Some, None, refl, sym, ap, ◌∙◌, subst, inl, inr, eq-eqb}
+use Rattle.std.proofs.Common.{◌≡◌, ℕ, suc, true, false, List, [], ◌∷◌, ◌++◌, Option, Some, None, refl, sym, ap, ◌∙◌, subst, inl, eq-eqb}
 use Rattle.std.specs.Prelude.{◌==◌, ◌⊎◌, if◌then◌else◌}
-use Rattle.std.proofs.lemmas.Bool.{cases_Bool}
 use Rattle.vbr_words.specs.Dimensions.{Dimensions, IsShape}
-use Rattle.vbr_words.specs.Words.{word_of, link_of}
+use Rattle.vbr_words.specs.Words.{link_of}
 use Rattle.vbr_words.specs.declared.link.Link.{Link}
 use Rattle.vbr_words.specs.declared.place.At.{At}
 use Rattle.vbr_words.specs.declared.place.At.TheVariants.{Head, Slot}
 use Rattle.vbr_core.specs.Acceptance.{bucket_of, Accepts}
-use Rattle.vbr_core.specs.Machine.{World, found, after}
-use Rattle.vbr_core.specs.Machine as machine
+use Rattle.vbr_core.specs.Machine.{found}
 use Rattle.vbr_core.specs.Membership.{Knows, HeldIn}
 use Rattle.vbr_core.specs.Keys.{no_keys}
-use Rattle.vbr_core.specs.Runs.{IsAccepted, IsRun, world_after, know_after}
+use Rattle.vbr_core.specs.Runs.{IsRun, world_after, know_after}
 use Rattle.vbr_core.specs.Incarnations.{Incarnations, last_in}
-use Rattle.vbr_core.specs.Images.{link_at, key_shown}
-use Rattle.vbr_core.specs.Chronicles.{Entry, Advances, Gains, Probes, GivesUp, Stamps, Unlinks, Allowed, becomes, incarnations_from, IsLawful, next_of}
-use Rattle.vbr_core.specs.Accounts.{incarnations_after, incarnations_with, happens, notes_after, just, born_in}
-use Rattle.vbr_core.specs.Agreement.{Held, IsHeldAt, IsHeldNext, Agrees}
-use Rattle.vbr_core.specs.Notes.{Notes, before_at}
-use Rattle.vbr_core.specs.Nodes.{behind, is_listed, is_there, key_in, state_in}
+use Rattle.vbr_core.specs.Images.{link_shown_at, key_shown}
+use Rattle.vbr_core.specs.Chronicles.{GivesUp, Unlinks, becomes, incarnations_from, IsLawful, next_of}
+use Rattle.vbr_core.specs.Accounts.{incarnations_after, happens, notes_after, just, born_in}
+use Rattle.vbr_core.specs.Agreement.{IsHeldAt, IsHeldNext, Agrees}
+use Rattle.vbr_core.specs.Notes.{before_at}
+use Rattle.vbr_core.specs.Nodes.{behind, is_listed, is_there, state_in}
 use Rattle.vbr_core.specs.Sound.{Sound}
 use Rattle.vbr_core.specs.declared.event.Event.{Event}
 use Rattle.vbr_core.specs.declared.event.Step.{Step}
-use Rattle.vbr_core.specs.declared.event.Step.TheVariants.{ReadEpoch, Advance, LoadStamp, StoreStamp, Raise, TakeFlag, StoreBirth, StoreKey, StoreLink, LoadLink, LoadBirth, LoadKey, Publish, Mark, Unlink, ConfirmPresent, ConfirmAbsent}
+use Rattle.vbr_core.specs.declared.event.Step.TheVariants.{StoreStamp, Raise, Unlink}
 use Rattle.vbr_core.specs.declared.knowledge.Read.TheVariants.{LinkAt}
 use Rattle.vbr_core.proofs.HeldBuckets.{IsOfBucket, place_in_bucket}
 use Rattle.vbr_core.proofs.KnownReads.{good_link}
@@ -58,7 +56,7 @@ named_next a epoch s (Some t) None q h = absurd h
 named_next a epoch s (Some t) (Some n) q h = (n, refl, h.slot ∙ (let e : t ≡ s = cc in e))
 
 module _ (shape : Dimensions) (passes : ℕ) (run : List Event) (is : IsShape shape) (ok : IsRun shape passes run) (p : ℕ) (bucket : ℕ) (at : At) (link : Link)
-    (known : Knows (know_after shape run p) (LinkAt at link)) (there : (link.mark ≡ false) ⊎ (is_there (incarnations_after shape run) at ≡ true)) (shown : link_at (incarnations_after shape run) at ≡ link) (inside : HeldIn (know_after shape run p) at bucket) where
+    (known : Knows (know_after shape run p) (LinkAt at link)) (there : (link.mark ≡ false) ⊎ (is_there (incarnations_after shape run) at ≡ true)) (shown : link_shown_at (incarnations_after shape run) at ≡ link) (inside : HeldIn (know_after shape run p) at bucket) where
   abbrev a : Incarnations
   a = incarnations_after shape run
 
@@ -135,7 +133,7 @@ module _ (shape : Dimensions) (passes : ℕ) (run : List Event) (is : IsShape sh
 
   -- a law: a won unlinking leaves one node fewer behind the place
   pub unlink_takes_one : (bucket : ℕ) (pred : At) (expected s : ℕ) → Accepts shape (know_after shape run p) (Unlink pred expected s) → found shape (world_after shape run) (Unlink pred expected s) ≡ expected →
-      Knows (know_after shape run p) (LinkAt pred (link_of expected)) → (link_of expected).mark ≡ false → link_at (incarnations_after shape run) pred ≡ link_of expected → HeldIn (know_after shape run p) pred bucket →
+      Knows (know_after shape run p) (LinkAt pred (link_of expected)) → (link_of expected).mark ≡ false → link_shown_at (incarnations_after shape run) pred ≡ link_of expected → HeldIn (know_after shape run p) pred bucket →
       behind shape (incarnations_after shape run) bucket pred ≡ suc (behind shape (incarnations_after shape (run ++ (record { pass = p; step = Unlink pred expected s }) ∷ [])) bucket pred)
   unlink_takes_one bucket pred expected s accepts won known unmarked shown inside =
       let step = Unlink pred expected s in
@@ -164,13 +162,13 @@ module _ (shape : Dimensions) (passes : ℕ) (run : List Event) (is : IsShape sh
   raise_epoch s = ap (λ (a : Incarnations). a.epoch) (incarnations_after-snoc shape run (record { pass = p; step = Raise s }))
 
   -- and the links that are shown
-  pub stamp_links : (s stamp : ℕ) (at : At) → Accepts shape (know_after shape run p) (StoreStamp s stamp) → link_at (incarnations_after shape (run ++ (record { pass = p; step = StoreStamp s stamp }) ∷ [])) at ≡ link_at (incarnations_after shape run) at
+  pub stamp_links : (s stamp : ℕ) (at : At) → Accepts shape (know_after shape run p) (StoreStamp s stamp) → link_shown_at (incarnations_after shape (run ++ (record { pass = p; step = StoreStamp s stamp }) ∷ [])) at ≡ link_shown_at (incarnations_after shape run) at
   stamp_links s stamp at accepts =
-      ap (λ a. link_at a at) (incarnations_after-snoc shape run (record { pass = p; step = StoreStamp s stamp }))
+      ap (λ a. link_shown_at a at) (incarnations_after-snoc shape run (record { pass = p; step = StoreStamp s stamp }))
       ∙ stamps_links shape no_keys b p (last_in b s) stamp at (lawful (StoreStamp s stamp) accepts).0
 
-  pub raise_links : (s : ℕ) (at : At) → link_at (incarnations_after shape (run ++ (record { pass = p; step = Raise s }) ∷ [])) at ≡ link_at (incarnations_after shape run) at
-  raise_links s at = ap (λ a. link_at a at) (incarnations_after-snoc shape run (record { pass = p; step = Raise s }))
+  pub raise_links : (s : ℕ) (at : At) → link_shown_at (incarnations_after shape (run ++ (record { pass = p; step = Raise s }) ∷ [])) at ≡ link_shown_at (incarnations_after shape run) at
+  raise_links s at = ap (λ a. link_shown_at a at) (incarnations_after-snoc shape run (record { pass = p; step = Raise s }))
 
 -- ---- a birth
 

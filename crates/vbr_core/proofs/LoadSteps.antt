@@ -5,7 +5,7 @@ use Rattle.vbr_words.specs.Words.{word_of, link_of}
 use Rattle.vbr_words.specs.declared.link.Link.{Link}
 use Rattle.vbr_words.specs.declared.place.At.{At}
 use Rattle.vbr_words.specs.declared.place.At.TheVariants.{Head, Slot}
-use Rattle.vbr_words.proofs.LinkWords.{link_of-word_of}
+use Rattle.vbr_words.proofs.Lemmas.{link_of-word_of}
 use Rattle.vbr_core.specs.Put.{put}
 use Rattle.vbr_core.specs.Knowledge.{holds}
 use Rattle.vbr_core.specs.Acceptance.{Accepts}
@@ -13,9 +13,9 @@ use Rattle.vbr_core.specs.Learning.{with_pending}
 use Rattle.vbr_core.specs.Machine.{World}
 use Rattle.vbr_core.specs.Machine as machine
 use Rattle.vbr_core.specs.Incarnations.{Incarnations, last_in}
-use Rattle.vbr_core.specs.Images.{birth_shown, key_shown, link_at}
+use Rattle.vbr_core.specs.Images.{birth_shown, key_shown, link_shown_at}
 use Rattle.vbr_core.specs.Notes.{Notes, note_of, shown_at}
-use Rattle.vbr_core.specs.Agreement.{Held, IsGoodLink, IsOfHeldOne, IsGood, Agrees}
+use Rattle.vbr_core.specs.Agreement.{IsHeldIncarnation, IsGoodLink, IsOfHeldOne, IsGood, Agrees}
 use Rattle.vbr_core.specs.declared.event.Step.TheVariants.{LoadLink, LoadBirth, LoadKey}
 use Rattle.vbr_core.specs.declared.knowledge.Read.{Read}
 use Rattle.vbr_core.specs.declared.knowledge.Read.TheVariants.{LinkAt, BirthOf, KeyOf}
@@ -40,14 +40,14 @@ loaded shape w a notes p read g is good = record {
   births = g.births;
 }
 
-held_at_epoch : (a : Incarnations) (e f s c : ℕ) → e ≡ f → Held a e s c → Held a f s c
-held_at_epoch a e f s c q h = let P : ℕ → Type 0 = λ i. Held a i s c in subst P q h
+held_at_epoch : (a : Incarnations) (e f s c : ℕ) → e ≡ f → IsHeldIncarnation a e s c → IsHeldIncarnation a f s c
+held_at_epoch a e f s c q h = let P : ℕ → Type 0 = λ i. IsHeldIncarnation a i s c in subst P q h
 
 -- the last incarnation of a slot that a pass holds is the one it holds, where the epoch is its own
-held_now : (shape : Dimensions) (w : World) (a : Incarnations) (notes : ℕ → Notes) (p s : ℕ) → Agrees shape w a notes → holds (w.know p).checked s ≡ true → a.epoch ≡ (w.know p).epoch → Held a a.epoch s (last_in a s) × (a.last s ≡ Some (last_in a s))
+held_now : (shape : Dimensions) (w : World) (a : Incarnations) (notes : ℕ → Notes) (p s : ℕ) → Agrees shape w a notes → holds (w.know p).checked s ≡ true → a.epoch ≡ (w.know p).epoch → IsHeldIncarnation a a.epoch s (last_in a s) × (a.last s ≡ Some (last_in a s))
 held_now shape w a notes p s g h e =
     let x = held_found a (w.know p).epoch (notes p).checked s (rw ((g.knows p).checked_reads) at h) (g.knows p).checked in
-    let y : Held a a.epoch s x.0 = held_at_epoch a (w.know p).epoch a.epoch s x.0 (sym e) x.1 in
+    let y : IsHeldIncarnation a a.epoch s x.0 = held_at_epoch a (w.know p).epoch a.epoch s x.0 (sym e) x.1 in
     let l = held_last g.sound s x.0 y in
     let c : last_in a s ≡ x.0 = rw l refl in
     (rw c y, l ∙ ap Some (sym c))
@@ -55,7 +55,7 @@ held_now shape w a notes p s g h e =
 good_as : (a : Incarnations) (at : At) (e f : ℕ) (l m : Link) (of off names : Option ℕ) → e ≡ f → l ≡ m → of ≡ off → IsGoodLink a f at m off names → IsGoodLink a e at l of names
 good_as a at e f l m of off names q r o h = rw (q, r, o) h
 
-one_as : (a : Incarnations) (s e f : ℕ) (values : ℕ → ℕ) (value c : ℕ) (of : Option ℕ) → e ≡ f → of ≡ Some c → Held a f s c → values c ≡ value → IsOfHeldOne a e s values value of
+one_as : (a : Incarnations) (s e f : ℕ) (values : ℕ → ℕ) (value c : ℕ) (of : Option ℕ) → e ≡ f → of ≡ Some c → IsHeldIncarnation a f s c → values c ≡ value → IsOfHeldOne a e s values value of
 one_as a s e f values value c of q o h v = rw (q, o) (h, v)
 
 pub step_load_birth : (shape : Dimensions) (w : World) (a : Incarnations) (notes : ℕ → Notes) (p s : ℕ) → Agrees shape w a notes → Accepts shape (w.know p) (LoadBirth s) → StepAgrees shape w a notes p (LoadBirth s)
@@ -73,18 +73,18 @@ step_load_key shape w a notes p s g ok = (
 )
 
 -- the link of the word that stands at a place is that of the image
-pub link_read : {shape : Dimensions} {w : World} {a : Incarnations} {notes : ℕ → Notes} → Agrees shape w a notes → (at : At) → link_of (word_of (machine.link_at w at)) ≡ link_at a at
-link_read {shape} {w} {a} g at = ap (λ l. link_of (word_of l)) (stands w a at g.image) ∙ link_of-word_of (link_at a at) (image_fits g.sound g.fits at)
+pub link_read : {shape : Dimensions} {w : World} {a : Incarnations} {notes : ℕ → Notes} → Agrees shape w a notes → (at : At) → link_of (word_of (machine.link_at w at)) ≡ link_shown_at a at
+link_read {shape} {w} {a} g at = ap (λ l. link_of (word_of l)) (stands w a at g.image) ∙ link_of-word_of (link_shown_at a at) (image_fits g.sound g.fits at)
 
 pub step_load_link : (shape : Dimensions) (w : World) (a : Incarnations) (notes : ℕ → Notes) (p : ℕ) (at : At) → Agrees shape w a notes → Accepts shape (w.know p) (LoadLink at) → StepAgrees shape w a notes p (LoadLink at)
 step_load_link shape w a notes p (Head b) g ok = (
   tt,
   loaded shape w a notes p (LinkAt (Head b) (link_of (word_of (w.head b)))) g (ap (LinkAt (Head b)) (link_read g (Head b)))
-      (λ e. good_as a (Head b) (w.know p).epoch a.epoch (link_of (word_of (w.head b))) (link_at a (Head b)) None None (a.first b) (sym e) (link_read g (Head b)) refl (load_head g.sound b)),
+      (λ e. good_as a (Head b) (w.know p).epoch a.epoch (link_of (word_of (w.head b))) (link_shown_at a (Head b)) None None (a.first b) (sym e) (link_read g (Head b)) refl (load_head g.sound b)),
 )
 step_load_link shape w a notes p (Slot s) g ok = (
   tt,
   loaded shape w a notes p (LinkAt (Slot s) (link_of (word_of (w.link s)))) g (ap (LinkAt (Slot s)) (link_read g (Slot s)))
       (λ e. let h = held_now shape w a notes p s g ok.held e in
-      good_as a (Slot s) (w.know p).epoch a.epoch (link_of (word_of (w.link s))) (link_at a (Slot s)) (a.last s) (Some (last_in a s)) (a.next (last_in a s)) (sym e) (link_read g (Slot s)) h.1 (load_slot g.sound s (last_in a s) h.0)),
+      good_as a (Slot s) (w.know p).epoch a.epoch (link_of (word_of (w.link s))) (link_shown_at a (Slot s)) (a.last s) (Some (last_in a s)) (a.next (last_in a s)) (sym e) (link_read g (Slot s)) h.1 (load_slot g.sound s (last_in a s) h.0)),
 )

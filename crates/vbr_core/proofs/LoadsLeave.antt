@@ -5,7 +5,7 @@ use Rattle.vbr_words.specs.Dimensions.{Dimensions}
 use Rattle.vbr_words.specs.Words.{word_of}
 use Rattle.vbr_words.specs.declared.place.Place.{Place}
 use Rattle.vbr_core.specs.Loads.{IsLoad}
-use Rattle.vbr_core.specs.Machine.{World, knows_nothing, link_at, word_at, after}
+use Rattle.vbr_core.specs.Machine.{World, found, knows_nothing, word_at, after}
 use Rattle.vbr_core.specs.declared.event.Step.{Step}
 use Rattle.vbr_core.specs.declared.event.Step.TheVariants.{ReadEpoch, Advance, LoadStamp, StoreStamp, Raise, TakeFlag, StoreBirth, StoreKey, StoreLink, LoadLink, LoadBirth, LoadKey, Publish, Mark, Unlink, ConfirmPresent, ConfirmAbsent}
 
@@ -20,7 +20,7 @@ loads_leave shape w p (LoadLink at) load q = refl
 loads_leave shape w p (LoadBirth s) load q = refl
 loads_leave shape w p (LoadKey s) load q = refl
 loads_leave shape w p (ConfirmPresent op s expected) load q = either shape q (word_of (w.link s) == expected) _ w refl
-loads_leave shape w p (ConfirmAbsent op key at expected) load q = either shape q (word_of (link_at w at) == expected) _ w refl
+loads_leave shape w p (ConfirmAbsent op key at expected) load q = either shape q (found shape w (ConfirmAbsent op key at expected) == expected) _ w refl
 loads_leave shape w p (Advance from) load q = let e = load knows_nothing in absurd (cc)
 loads_leave shape w p (StoreStamp s stamp) load q = let e = load knows_nothing in absurd (cc)
 loads_leave shape w p (Raise s) load q = let e = load knows_nothing in absurd (cc)

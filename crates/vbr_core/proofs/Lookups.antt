@@ -14,7 +14,7 @@ use Rattle.vbr_core.specs.Incarnations.{Incarnations}
 use Rattle.vbr_core.specs.Images.{birth_shown}
 use Rattle.vbr_core.specs.Sound.{SlotsSound}
 use Rattle.vbr_core.specs.Notes.{Note}
-use Rattle.vbr_core.specs.Agreement.{Held, IsHeldNext, IsGoodLink, IsGoodRead, IsGood, reads_of}
+use Rattle.vbr_core.specs.Agreement.{IsHeldIncarnation, IsHeldNext, IsGoodLink, IsGoodRead, IsGood, reads_of}
 use Rattle.vbr_core.specs.declared.knowledge.Read.{Read}
 use Rattle.vbr_core.specs.declared.knowledge.Read.TheVariants.{LinkAt, BirthOf, KeyOf}
 use Rattle.vbr_core.proofs.Slots.{one_late}
@@ -44,15 +44,15 @@ same_at_true (Slot b) (Head c) e = cc
 
 -- ---- what is found
 
-moved : (a : Incarnations) (e s v c : ℕ) → v ≡ s → Held a e v c → Held a e s c
-moved a e s v c k h = let P : ℕ → Type 0 = λ i. Held a e i c in subst P k h
+moved : (a : Incarnations) (e s v c : ℕ) → v ≡ s → IsHeldIncarnation a e v c → IsHeldIncarnation a e s c
+moved a e s v c k h = let P : ℕ → Type 0 = λ i. IsHeldIncarnation a e i c in subst P k h
 
 -- a birth that is found is that of an incarnation held there
-pub birth_found : (a : Incarnations) (e : ℕ) (notes : List Note) (s b : ℕ) → birth_in (reads_of notes) s ≡ Some b → AllByRecursion (IsGood a e) notes → (c : ℕ) × Held a e s c × (a.birth c ≡ b)
+pub birth_found : (a : Incarnations) (e : ℕ) (notes : List Note) (s b : ℕ) → birth_in (reads_of notes) s ≡ Some b → AllByRecursion (IsGood a e) notes → (c : ℕ) × IsHeldIncarnation a e s c × (a.birth c ≡ b)
 birth_found a e [] s b q g = absurd (cc)
 birth_found a e (note ∷ notes) s b q g = go note.read note.of note.names g.0 q (λ r. birth_found a e notes s b r g.1)
   where
-    go : (read : Read) (of named : Option ℕ) → IsGoodRead a e read of named → birth_in (read ∷ reads_of notes) s ≡ Some b → (birth_in (reads_of notes) s ≡ Some b → (c : ℕ) × Held a e s c × (a.birth c ≡ b)) → (c : ℕ) × Held a e s c × (a.birth c ≡ b)
+    go : (read : Read) (of named : Option ℕ) → IsGoodRead a e read of named → birth_in (read ∷ reads_of notes) s ≡ Some b → (birth_in (reads_of notes) s ≡ Some b → (c : ℕ) × IsHeldIncarnation a e s c × (a.birth c ≡ b)) → (c : ℕ) × IsHeldIncarnation a e s c × (a.birth c ≡ b)
     go (LinkAt at link) of named h q rest = rest q
     go (KeyOf v k) of named h q rest = rest q
     go (BirthOf v d) None named h q rest = absurd h
@@ -62,11 +62,11 @@ birth_found a e (note ∷ notes) s b q g = go note.read note.of note.names g.0 q
     ]
 
 -- a key that is found is that of an incarnation held there
-pub key_found : (a : Incarnations) (e : ℕ) (notes : List Note) (s b : ℕ) → key_in (reads_of notes) s ≡ Some b → AllByRecursion (IsGood a e) notes → (c : ℕ) × Held a e s c × (a.key c ≡ b)
+pub key_found : (a : Incarnations) (e : ℕ) (notes : List Note) (s b : ℕ) → key_in (reads_of notes) s ≡ Some b → AllByRecursion (IsGood a e) notes → (c : ℕ) × IsHeldIncarnation a e s c × (a.key c ≡ b)
 key_found a e [] s b q g = absurd (cc)
 key_found a e (note ∷ notes) s b q g = go note.read note.of note.names g.0 q (λ r. key_found a e notes s b r g.1)
   where
-    go : (read : Read) (of named : Option ℕ) → IsGoodRead a e read of named → key_in (read ∷ reads_of notes) s ≡ Some b → (key_in (reads_of notes) s ≡ Some b → (c : ℕ) × Held a e s c × (a.key c ≡ b)) → (c : ℕ) × Held a e s c × (a.key c ≡ b)
+    go : (read : Read) (of named : Option ℕ) → IsGoodRead a e read of named → key_in (read ∷ reads_of notes) s ≡ Some b → (key_in (reads_of notes) s ≡ Some b → (c : ℕ) × IsHeldIncarnation a e s c × (a.key c ≡ b)) → (c : ℕ) × IsHeldIncarnation a e s c × (a.key c ≡ b)
     go (LinkAt at link) of named h q rest = rest q
     go (BirthOf v k) of named h q rest = rest q
     go (KeyOf v d) None named h q rest = absurd h
@@ -75,17 +75,17 @@ key_found a e (note ∷ notes) s b q g = go note.read note.of note.names g.0 q (
       | inr k ↦ rest (rw (ne_eqb v s k) at q)
     ]
 
-named_held : (a : Incarnations) (e s : ℕ) (o n : Option ℕ) → names o s ≡ true → IsHeldNext a e o n → (c : ℕ) × Held a e s c
+named_held : (a : Incarnations) (e s : ℕ) (o n : Option ℕ) → names o s ≡ true → IsHeldNext a e o n → (c : ℕ) × IsHeldIncarnation a e s c
 named_held a e s None n q h = absurd (cc)
 named_held a e s (Some i) None q h = absurd h
 named_held a e s (Some i) (Some c) q h = let k : i ≡ s = grind (arith, nat_tests) in (c, moved a e s i c k h)
 
 -- where a slot is held, so is an incarnation of it
-pub held_found : (a : Incarnations) (e : ℕ) (notes : List Note) (s : ℕ) → holds (reads_of notes) s ≡ true → AllByRecursion (IsGood a e) notes → (c : ℕ) × Held a e s c
+pub held_found : (a : Incarnations) (e : ℕ) (notes : List Note) (s : ℕ) → holds (reads_of notes) s ≡ true → AllByRecursion (IsGood a e) notes → (c : ℕ) × IsHeldIncarnation a e s c
 held_found a e [] s q g = absurd (cc)
 held_found a e (note ∷ notes) s q g = go note.read note.of note.names g.0 q (λ r. held_found a e notes s r g.1)
   where
-    go : (read : Read) (of named : Option ℕ) → IsGoodRead a e read of named → holds (read ∷ reads_of notes) s ≡ true → (holds (reads_of notes) s ≡ true → (c : ℕ) × Held a e s c) → (c : ℕ) × Held a e s c
+    go : (read : Read) (of named : Option ℕ) → IsGoodRead a e read of named → holds (read ∷ reads_of notes) s ≡ true → (holds (reads_of notes) s ≡ true → (c : ℕ) × IsHeldIncarnation a e s c) → (c : ℕ) × IsHeldIncarnation a e s c
     go (BirthOf v k) of named h q rest = rest q
     go (KeyOf v k) of named h q rest = rest q
     go (LinkAt at link) of named h q rest = elim (cases_Bool (names link.slot s)) [
@@ -121,7 +121,7 @@ marked_found a e (note ∷ notes) s link q g = go note.read note.of note.names g
 
 -- ---- what was checked is that of the incarnation that the pass holds
 
-pub birth_is : {shape : Dimensions} {a : Incarnations} → SlotsSound shape a → (e : ℕ) (notes : List Note) (reads : List Read) (s c : ℕ) → reads ≡ reads_of notes → AllByRecursion (IsGood a e) notes → Held a e s c → IsSome (birth_in reads s) → unwrap_or (birth_in reads s) 0 ≡ a.birth c
+pub birth_is : {shape : Dimensions} {a : Incarnations} → SlotsSound shape a → (e : ℕ) (notes : List Note) (reads : List Read) (s c : ℕ) → reads ≡ reads_of notes → AllByRecursion (IsGood a e) notes → IsHeldIncarnation a e s c → IsSome (birth_in reads s) → unwrap_or (birth_in reads s) 0 ≡ a.birth c
 birth_is {shape} {a} snd e notes reads s c q al h k = go (birth_in reads s) refl k
   where
     go : (o : Option ℕ) → birth_in reads s ≡ o → IsSome o → unwrap_or o 0 ≡ a.birth c
@@ -130,7 +130,7 @@ birth_is {shape} {a} snd e notes reads s c q al h k = go (birth_in reads s) refl
         let x = birth_found a e notes s b (rw q at r) al in
         sym x.2 ∙ ap a.birth (one_late snd x.0 c e (x.1.slot ∙ sym h.slot) x.1.late h.late x.1.birth h.birth)
 
-pub key_is : {shape : Dimensions} {a : Incarnations} → SlotsSound shape a → (e : ℕ) (notes : List Note) (reads : List Read) (s c : ℕ) → reads ≡ reads_of notes → AllByRecursion (IsGood a e) notes → Held a e s c → IsSome (key_in reads s) → unwrap_or (key_in reads s) 0 ≡ a.key c
+pub key_is : {shape : Dimensions} {a : Incarnations} → SlotsSound shape a → (e : ℕ) (notes : List Note) (reads : List Read) (s c : ℕ) → reads ≡ reads_of notes → AllByRecursion (IsGood a e) notes → IsHeldIncarnation a e s c → IsSome (key_in reads s) → unwrap_or (key_in reads s) 0 ≡ a.key c
 key_is {shape} {a} snd e notes reads s c q al h k = go (key_in reads s) refl k
   where
     go : (o : Option ℕ) → key_in reads s ≡ o → IsSome o → unwrap_or o 0 ≡ a.key c

@@ -9,10 +9,10 @@ use Rattle.vbr_words.specs.declared.shape.TheConstants.{MAX_EPOCH}
 use Rattle.vbr_core.specs.Acceptance.{Accepts}
 use Rattle.vbr_core.specs.Put.{put}
 use Rattle.vbr_core.specs.Knowledge.{Know}
-use Rattle.vbr_core.specs.Learning.{link_written, call_of}
-use Rattle.vbr_core.specs.Machine.{World, found, with_call, after}
+use Rattle.vbr_core.specs.Learning.{link_written, call_of, succeeds, key_written}
+use Rattle.vbr_core.specs.Machine.{World, found, with_call, after, written}
+use Rattle.vbr_core.specs.Making.{with_answer, WordsHaveRoom}
 use Rattle.vbr_core.specs.Kept.{KeptPass, KeptWorld, IsWhole, new_pass, world_of}
-use Rattle.vbr_core.specs.Making.{succeeds, with_answer, key_written, written, HasRoom}
 use Rattle.vbr_core.specs.declared.event.Step.{Step}
 use Rattle.vbr_core.specs.declared.event.Step.TheVariants.{ReadEpoch, Advance, LoadStamp, StoreStamp, Raise, TakeFlag, StoreBirth, StoreKey, StoreLink, LoadLink, LoadBirth, LoadKey, Publish, Mark, Unlink, ConfirmPresent, ConfirmAbsent}
 use Rattle.vbr_core.proofs.KeptLists.{put_here}
@@ -78,12 +78,12 @@ module _ (shape : Dimensions) (w : World) (p : ℕ) (step : Step) (word : ℕ) (
   step_lost gone = learned_is ∙ lost shape w p step (ap (λ word. succeeds step word) (sym is) ∙ gone)
 
 -- an accepted step that succeeds writes what has room: the epoch is below the last, and a birth is the epoch that the pass read
-has_room : (shape : Dimensions) (w : World) (p : ℕ) (step : Step) → Accepts shape (w.know p) step → (w.know p).epoch ≤ MAX_EPOCH → succeeds step (found shape w step) ≡ true → HasRoom shape w.epoch step
+has_room : (shape : Dimensions) (w : World) (p : ℕ) (step : Step) → Accepts shape (w.know p) step → (w.know p).epoch ≤ MAX_EPOCH → succeeds step (found shape w step) ≡ true → WordsHaveRoom shape w.epoch step
 has_room shape w p (Advance from) accepts fits won = omega (arith, accepts.below_last, eqb-true w.epoch from won)
 has_room shape w p (StoreBirth s birth) accepts fits won = omega (arith, accepts.in_range.0)
 has_room shape w p _ accepts fits won = tt
 
 -- the same of the lists that are kept, by the epoch that the pass tells
-pub room_kept : (kept : KeptWorld) (p epoch : ℕ) (pass : KeptPass) (step : Step) → IsWhole kept → p < length kept.passes → pass ≡ get_or kept.passes p pass → epoch ≡ pass.epoch → epoch ≤ MAX_EPOCH → Accepts kept.shape ((world_of kept).know p) step → succeeds step (found kept.shape (world_of kept) step) ≡ true → HasRoom kept.shape kept.epoch step
+pub room_kept : (kept : KeptWorld) (p epoch : ℕ) (pass : KeptPass) (step : Step) → IsWhole kept → p < length kept.passes → pass ≡ get_or kept.passes p pass → epoch ≡ pass.epoch → epoch ≤ MAX_EPOCH → Accepts kept.shape ((world_of kept).know p) step → succeeds step (found kept.shape (world_of kept) step) ≡ true → WordsHaveRoom kept.shape kept.epoch step
 room_kept kept p epoch pass step whole lt is told fits accepts won =
     has_room kept.shape (world_of kept) p step accepts (omega (arith, ap (λ (pass : KeptPass). pass.epoch) (get_or_read kept.passes p pass lt is new_pass))) won

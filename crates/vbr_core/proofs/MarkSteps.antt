@@ -15,7 +15,7 @@ use Rattle.vbr_core.specs.Acceptance.{Accepts}
 use Rattle.vbr_core.specs.Learning.{with_checked}
 use Rattle.vbr_core.specs.Machine.{World}
 use Rattle.vbr_core.specs.Incarnations.{State, Linked, Marked, Incarnations, last_in}
-use Rattle.vbr_core.specs.Images.{link_to_next, link_in_state, link_shown, link_at}
+use Rattle.vbr_core.specs.Images.{link_to_next, link_in_state, link_shown, link_shown_at}
 use Rattle.vbr_core.specs.Chronicles.{Removes, becomes}
 use Rattle.vbr_core.specs.Sound.{IsListed, PlaceFits}
 use Rattle.vbr_core.specs.Notes.{Notes, with_won}
@@ -50,7 +50,7 @@ of_as a at e l of off names o h = rw o h
 pub step_mark : (shape : Dimensions) (w : World) (a : Incarnations) (notes : ℕ → Notes) (p s expected : ℕ) → Agrees shape w a notes → Accepts shape (w.know p) (Mark s expected) → StepAgrees shape w a notes p (Mark s expected)
 step_mark shape w a notes p s expected g ok = go (cases_Bool (word_of (w.link s) == expected))
   where
-    won : (link : Link) → Meets shape a (w.know p).epoch (w.know p).checked (Slot s) link → link_at a (Slot s) ≡ link → (key : ℕ) → key ≡ a.key (last_in a s) →
+    won : (link : Link) → Meets shape a (w.know p).epoch (w.know p).checked (Slot s) link → link_shown_at a (Slot s) ≡ link → (key : ℕ) → key ≡ a.key (last_in a s) →
         Agrees shape (record w { know = put w.know p (with_checked (w.know p) (LinkAt (Slot s) (marked link) ∷ [])); link = put w.link s (marked link); calls = w.calls ++ record { who = p; op = Remove; key = key; reply = true } ∷ [] })
         (becomes shape a p (Removes (last_in a s))) (put notes p (with_won (becomes shape a p (Removes (last_in a s))) (notes p) (LinkAt (Slot s) (marked link) ∷ [])))
     won link m e key k =

@@ -18,7 +18,7 @@ use Rattle.vbr_core.specs.Incarnations.{State, Linked, Marked, Incarnations, las
 use Rattle.vbr_core.specs.Chronicles.{Before, AtHead, AtNode, IsOpen, BelongsBehind, BelongsBefore, next_of}
 use Rattle.vbr_core.specs.Sound.{IsListed, IsRemoved, IsApart, Sound, Grows}
 use Rattle.vbr_core.specs.Notes.{Notes, before_at}
-use Rattle.vbr_core.specs.Agreement.{Held, IsHeldNext, IsGoodLink, IsPair, IsNoted, Agrees}
+use Rattle.vbr_core.specs.Agreement.{IsHeldIncarnation, IsHeldNext, IsGoodLink, IsPair, IsNoted, Agrees}
 use Rattle.vbr_core.specs.declared.history.Op.{Op}
 use Rattle.vbr_core.specs.declared.event.Step.TheVariants.{ConfirmAbsent}
 use Rattle.vbr_core.specs.declared.knowledge.Read.TheVariants.{LinkAt}
@@ -102,7 +102,7 @@ pub record Reaches (a : Incarnations) (epoch : ℕ) (first : Option ℕ) (last :
   pub listed : (m : ℕ) → node ≡ Some m → IsListed (a.state m)
 
 -- a listed node that is held at a slot with a known marked link is marked now, and is followed by the one that this link names
-pub marked_node : {shape : Dimensions} {a : Incarnations} {know : Know} {notes : Notes} → Sound shape a → IsNoted a know notes → (s c : ℕ) (next : Link) → Held a know.epoch s c → IsListed (a.state c) → Knows know (LinkAt (Slot s) next) → next.mark ≡ true →
+pub marked_node : {shape : Dimensions} {a : Incarnations} {know : Know} {notes : Notes} → Sound shape a → IsNoted a know notes → (s c : ℕ) (next : Link) → IsHeldIncarnation a know.epoch s c → IsListed (a.state c) → Knows know (LinkAt (Slot s) next) → next.mark ≡ true →
     (a.state c ≡ Marked) × IsHeldNext a know.epoch next.slot (a.next c)
 marked_node {shape} {a} {know} {notes} snd noted s c next h l k m = let g = good_link noted (Slot s) next k in go g.0 g.1 g.2
   where
@@ -122,7 +122,7 @@ one_on {shape} {a} {know} {notes} snd noted first last s next r q k m = go last.
     go (Some v) None q t h l = absurd h
     go (Some v) (Some c) q t h l =
         let e : v ≡ s = cc in
-        let P : ℕ → Type 0 = λ v. Held a know.epoch v c in
+        let P : ℕ → Type 0 = λ v. IsHeldIncarnation a know.epoch v c in
         let x = marked_node snd noted s c next (subst P e h) (l c refl) k m in
         record { node = a.next c; through = past c (a.next c) t x.0 refl; held = x.1; listed = λ i r. next_listed snd c i r (l c refl) }
 

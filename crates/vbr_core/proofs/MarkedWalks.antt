@@ -13,7 +13,7 @@ use Rattle.vbr_core.specs.Membership.{Knows, LeadsTo, itself, onward}
 use Rattle.vbr_core.specs.Incarnations.{Incarnations}
 use Rattle.vbr_core.specs.Sound.{Sound}
 use Rattle.vbr_core.specs.Notes.{Notes}
-use Rattle.vbr_core.specs.Agreement.{Held, IsHeldNext, IsGoodLink, IsNoted, Fits}
+use Rattle.vbr_core.specs.Agreement.{IsHeldIncarnation, IsHeldNext, IsGoodLink, IsNoted, Fits}
 use Rattle.vbr_core.specs.declared.knowledge.Read.TheVariants.{LinkAt}
 use Rattle.vbr_core.proofs.Slots.{late_born}
 use Rattle.vbr_core.proofs.FoundReads.{marked_among, marked_there}
@@ -47,8 +47,8 @@ walk_led know link (suc turns) = led_on know link (after_turns know.checked turn
 -- an incarnation is held at a slot, and its key is below that of what is held at what follows
 pub record IsBelow (a : Incarnations) (epoch : ℕ) (next : Option ℕ) (s : ℕ) : Type 0 where
   pub node : ℕ
-  pub held : Held a epoch s node
-  pub key : (t d : ℕ) → next ≡ Some t → Held a epoch t d → a.key node < a.key d
+  pub held : IsHeldIncarnation a epoch s node
+  pub key : (t d : ℕ) → next ≡ Some t → IsHeldIncarnation a epoch t d → a.key node < a.key d
 
 -- the slots that were passed on the way to a link: as many as turns were made, of the shape, and no two the same, since their keys ascend
 pub record Passed (shape : Dimensions) (a : Incarnations) (know : Know) (link last : Link) : Type 0 where
@@ -76,7 +76,7 @@ module _ {shape : Dimensions} {a : Incarnations} {know : Know} {notes : Notes} (
       go (Some x) q h = let y = marked_among know.checked s x q in one_mark sound noted s x next (record { among = y.0 }) k y.1 m
 
   -- what is below a slot is below what follows it
-  below_on : (s c : ℕ) (v w : Option ℕ) → v ≡ Some s → Held a know.epoch s c → ((t d : ℕ) → w ≡ Some t → Held a know.epoch t d → a.key c < a.key d) → (slots : List ℕ) → AllByRecursion (IsBelow a know.epoch v) slots → AllByRecursion (IsBelow a know.epoch w) slots
+  below_on : (s c : ℕ) (v w : Option ℕ) → v ≡ Some s → IsHeldIncarnation a know.epoch s c → ((t d : ℕ) → w ≡ Some t → IsHeldIncarnation a know.epoch t d → a.key c < a.key d) → (slots : List ℕ) → AllByRecursion (IsBelow a know.epoch v) slots → AllByRecursion (IsBelow a know.epoch w) slots
   below_on s c v w q h up [] b = tt
   below_on s c v w q h up (_ ∷ slots) b = (
     record { node = b.0.node; held = b.0.held; key = λ t d r i. let x = b.0.key s c q h in let y = up t d r i in omega arith },
@@ -84,13 +84,13 @@ module _ {shape : Dimensions} {a : Incarnations} {know : Know} {notes : Notes} (
   )
 
   -- what is below a slot is in another slot
-  apart : (s c : ℕ) (v : Option ℕ) → v ≡ Some s → Held a know.epoch s c → (slots : List ℕ) → AllByRecursion (IsBelow a know.epoch v) slots → AllByRecursion (λ t. nat_eq s t ≡ false) slots
+  apart : (s c : ℕ) (v : Option ℕ) → v ≡ Some s → IsHeldIncarnation a know.epoch s c → (slots : List ℕ) → AllByRecursion (IsBelow a know.epoch v) slots → AllByRecursion (λ t. nat_eq s t ≡ false) slots
   apart s c v q h [] b = tt
   apart s c v q h (t ∷ slots) b = (ne_eqb s t differs, apart s c v q h slots b.1)
     where
       differs : s ≢ t
       differs e =
-          let P : ℕ → Type 0 = λ i. Held a know.epoch i b.0.node in
+          let P : ℕ → Type 0 = λ i. IsHeldIncarnation a know.epoch i b.0.node in
           let x = b.0.key s b.0.node q (subst P (sym e) b.0.held) in
           omega arith
 
@@ -108,15 +108,15 @@ module _ {shape : Dimensions} {a : Incarnations} {know : Know} {notes : Notes} (
         below = (record { node = c; held = g.place; key = above }, below_on s c last.slot next.slot q g.place above p.slots p.below);
       }
         where
-          follows : (t d : ℕ) (v n : Option ℕ) → IsHeldNext a know.epoch v n → v ≡ Some t → Held a know.epoch t d → n ≡ Some d
+          follows : (t d : ℕ) (v n : Option ℕ) → IsHeldNext a know.epoch v n → v ≡ Some t → IsHeldIncarnation a know.epoch t d → n ≡ Some d
           follows t d None n h r i = absurd (cc)
           follows t d (Some v) None h r i = absurd h
           follows t d (Some v) (Some n) h r i =
               let e : v ≡ t = cc in
-              let P : ℕ → Type 0 = λ j. Held a know.epoch j n in
+              let P : ℕ → Type 0 = λ j. IsHeldIncarnation a know.epoch j n in
               ap Some (one_held sound know.epoch t n d (subst P e h) i)
 
-          above : (t d : ℕ) → next.slot ≡ Some t → Held a know.epoch t d → a.key c < a.key d
+          above : (t d : ℕ) → next.slot ≡ Some t → IsHeldIncarnation a know.epoch t d → a.key c < a.key d
           above t d r i = (sound.lists.ordered c d ((g.frozen m).1 ∙ follows t d next.slot names g.next r i)).1
 
   passed : (link last : Link) → LeadsTo know link last → Passed shape a know link last

@@ -12,11 +12,11 @@ use Rattle.vbr_core.specs.Acceptance.{bucket_of, KnowsKeyAt, KnowsKeyOf, IsBehin
 use Rattle.vbr_core.specs.Machine.{World}
 use Rattle.vbr_core.specs.Machine as machine
 use Rattle.vbr_core.specs.Incarnations.{Incarnations, last_in}
-use Rattle.vbr_core.specs.Images.{link_at}
+use Rattle.vbr_core.specs.Images.{link_shown_at}
 use Rattle.vbr_core.specs.Chronicles.{next_of, IsOpen, BelongsBehind, BelongsBefore}
 use Rattle.vbr_core.specs.Sound.{IsListed, Sound}
 use Rattle.vbr_core.specs.Notes.{Note, Notes, before_at, last_at}
-use Rattle.vbr_core.specs.Agreement.{Held, IsHeldAt, IsHeldNext, IsPair, IsGood, reads_of, Agrees}
+use Rattle.vbr_core.specs.Agreement.{IsHeldIncarnation, IsHeldAt, IsHeldNext, IsPair, IsGood, reads_of, Agrees}
 use Rattle.vbr_core.specs.declared.knowledge.Read.{Read}
 use Rattle.vbr_core.proofs.Lists.{next_listed}
 use Rattle.vbr_core.proofs.HeldReads.{same_pair}
@@ -50,7 +50,7 @@ before_is snd e notes reads q al None (Some c) h key y b = absurd h
 before_is snd e notes reads q al (Some s) None h key y b = tt
 before_is snd e notes reads q al (Some s) (Some c) h key y b = let z = key_is snd.slots e notes reads s c q al h y in omega arith
 
-pub meets : {shape : Dimensions} {a : Incarnations} → Sound shape a → (e : ℕ) (notes : List Note) (reads : List Read) → reads ≡ reads_of notes → AllByRecursion (IsGood a e) notes → (at : At) (link : Link) → knows_link reads at link ≡ true → link.mark ≡ false → link_at a at ≡ link → Meets shape a e reads at link
+pub meets : {shape : Dimensions} {a : Incarnations} → Sound shape a → (e : ℕ) (notes : List Note) (reads : List Read) → reads ≡ reads_of notes → AllByRecursion (IsGood a e) notes → (at : At) (link : Link) → knows_link reads at link ≡ true → link.mark ≡ false → link_shown_at a at ≡ link → Meets shape a e reads at link
 meets {shape} {a} snd e notes reads q al (Head b) link k m w =
     let f = link_found a e notes (Head b) link (rw q at k) al in
     let p : IsPair a (Head b) f.0 f.1 = same_pair snd e (Head b) link f.0 f.1 f.2 m w in
@@ -71,7 +71,7 @@ meets {shape} {a} snd e notes reads q al (Slot s) link k m w =
     let p : IsPair a (Slot s) f.0 f.1 = same_pair snd e (Slot s) link f.0 f.1 f.2 m w in
     let c : last_in a s ≡ p.0 = rw p.2 refl in
     let g : IsHeldAt a e (Slot s) (Some p.0) = rw p.1 at f.2.place in
-    let h : Held a e s (last_in a s) = rw c g in
+    let h : IsHeldIncarnation a e s (last_in a s) = rw c g in
     let n : IsHeldNext a e link.slot (a.next (last_in a s)) = rw (c, p.4) f.2.next in
     record {
       held = h;

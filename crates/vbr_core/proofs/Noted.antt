@@ -10,7 +10,7 @@ use Rattle.vbr_core.specs.Learning.{read_epoch, with_own, with_pending, with_che
 use Rattle.vbr_core.specs.Incarnations.{Incarnations}
 use Rattle.vbr_core.specs.Sound.{Sound, Grows}
 use Rattle.vbr_core.specs.Notes.{Note, Notes, note_of, shown_at, with_won, confirmed_notes}
-use Rattle.vbr_core.specs.Agreement.{IsGood, IsAsShown, reads_of, IsNoted, Knows}
+use Rattle.vbr_core.specs.Agreement.{IsGood, IsAsShown, reads_of, IsNoted, AllKnowRight}
 use Rattle.vbr_core.specs.declared.knowledge.Read.{Read}
 use Rattle.vbr_core.specs.declared.knowledge.Holding.{Holding}
 use Rattle.vbr_core.proofs.Puts.{put_here, put_other}
@@ -103,11 +103,11 @@ noted_read a know notes epoch q k = go (cases_Bool (epoch == know.epoch))
 
 -- ---- all passes
 
-pub knows_on : {shape : Dimensions} {a b : Incarnations} → Sound shape a → Grows a b → (know : ℕ → Know) (notes : ℕ → Notes) → Knows a know notes → Knows b know notes
+pub knows_on : {shape : Dimensions} {a b : Incarnations} → Sound shape a → Grows a b → (know : ℕ → Know) (notes : ℕ → Notes) → AllKnowRight a know notes → AllKnowRight b know notes
 knows_on s g know notes k = λ q. noted_on s g (know q) (notes q) (k q)
 
 -- one pass's knowledge and notes have changed
-pub knows_put : (a : Incarnations) (know : ℕ → Know) (notes : ℕ → Notes) (p : ℕ) (x : Know) (n : Notes) → Knows a know notes → IsNoted a x n → Knows a (put know p x) (put notes p n)
+pub knows_put : (a : Incarnations) (know : ℕ → Know) (notes : ℕ → Notes) (p : ℕ) (x : Know) (n : Notes) → AllKnowRight a know notes → IsNoted a x n → AllKnowRight a (put know p x) (put notes p n)
 knows_put a know notes p x n k h = λ q. go q (cases_eq q p)
   where
     go : (q : ℕ) → (q ≡ p) ⊎ (q ≢ p) → IsNoted a (put know p x q) (put notes p n q)
@@ -115,7 +115,7 @@ knows_put a know notes p x n k h = λ q. go q (cases_eq q p)
     go q (inr ne) = rw (put_other know p x q ne, put_other notes p n q ne) (k q)
 
 -- nothing that a pass notes has changed
-pub knows_same : (a : Incarnations) (know : ℕ → Know) (notes : ℕ → Notes) (p : ℕ) → Knows a know notes → Knows a know (put notes p (notes p))
+pub knows_same : (a : Incarnations) (know : ℕ → Know) (notes : ℕ → Notes) (p : ℕ) → AllKnowRight a know notes → AllKnowRight a know (put notes p (notes p))
 knows_same a know notes p k = λ q. go q (cases_eq q p)
   where
     go : (q : ℕ) → (q ≡ p) ⊎ (q ≢ p) → IsNoted a (know q) (put notes p (notes p) q)
@@ -123,5 +123,5 @@ knows_same a know notes p k = λ q. go q (cases_eq q p)
     go q (inr ne) = rw (put_other notes p (notes p) q ne) (k q)
 
 -- a pass owns a slot in another way
-pub knows_own : (a : Incarnations) (know : ℕ → Know) (notes : ℕ → Notes) (p s : ℕ) (holding : Option Holding) → Knows a know notes → Knows a (put know p (with_own (know p) s holding)) (put notes p (notes p))
+pub knows_own : (a : Incarnations) (know : ℕ → Know) (notes : ℕ → Notes) (p s : ℕ) (holding : Option Holding) → AllKnowRight a know notes → AllKnowRight a (put know p (with_own (know p) s holding)) (put notes p (notes p))
 knows_own a know notes p s holding k = knows_put a know notes p (with_own (know p) s holding) (notes p) k (noted_beside a (know p) (with_own (know p) s holding) (notes p) refl refl refl (k p))

@@ -13,7 +13,7 @@ use Rattle.vbr_core.specs.Chronicles.{IsStamped}
 use Rattle.vbr_core.specs.Sound.{IsListed, IsApart, IsUnused, PlaceFits, Sound}
 use Rattle.vbr_core.specs.Accounts.{incarnations_after, notes_after}
 use Rattle.vbr_core.specs.Agreement.{IsNotOf, OwnFits, Agrees}
-use Rattle.vbr_core.specs.SlotPlaces.{IsHandOf, IsReachedFrom, at_once, onward, IsIn, ArePlaced}
+use Rattle.vbr_core.specs.SlotPlaces.{LiesInHand, IsReachedFrom, at_once, onward, FitsPlace, ArePlaced}
 use Rattle.vbr_core.specs.declared.event.Event.{Event}
 use Rattle.vbr_core.specs.declared.knowledge.Holding.{Holding}
 use Rattle.vbr_core.specs.declared.knowledge.Holding.TheVariants as holding
@@ -140,7 +140,7 @@ list_state shape b (Unlinked q u) key f = absurd f
 list_state shape b (Stamped u r) key f = absurd f
 
 -- what a pass knows of a slot that is in its hand
-hand_state : (a : Incarnations) (p e : ℕ) (known : Option Holding) (last : Option ℕ) (stamp : ℕ) → OwnFits a p e known (Hand p) last stamp → IsHandOf a p last
+hand_state : (a : Incarnations) (p e : ℕ) (known : Option Holding) (last : Option ℕ) (stamp : ℕ) → OwnFits a p e known (Hand p) last stamp → LiesInHand a p last
 hand_state a p e None last stamp o = absurd (o refl)
 hand_state a p e (Some (holding.Free known)) last stamp o = absurd (let u = o.0 in cc)
 hand_state a p e (Some (holding.Unlinked reread)) last stamp o = absurd (let u = o.0 in cc)
@@ -169,7 +169,7 @@ module _ (shape : Dimensions) (passes : ℕ) (run : List Event) (is : IsShape sh
   g = run_agrees shape passes run is ok
 
   -- a slot is where the incarnations have it
-  is_in : (s : ℕ) (place : SlotPlace) (last : Option ℕ) → a.place s ≡ place → a.last s ≡ last → IsIn shape passes w a s place
+  is_in : (s : ℕ) (place : SlotPlace) (last : Option ℕ) → a.place s ≡ place → a.last s ≡ last → FitsPlace shape passes w a s place
   is_in s Shared None e l = rw l tt
   is_in s Shared (Some c) e l = rw l (shared_retired shape (a.state c) (a.key c) (rw e at (g.sound.slots.placed c s l)))
   is_in s (Own p) None e l = (owner_low shape passes run p s (Own p) ok (rw e at (g.owns p s)) (λ n. n refl), inl (rw l tt))
@@ -187,6 +187,6 @@ module _ (shape : Dimensions) (passes : ℕ) (run : List Event) (is : IsShape sh
   -- each slot is in exactly one place
   pub are_placed : ArePlaced shape passes w a
   are_placed = record {
-    each = λ s. (let P : SlotPlace → Type 0 = IsIn shape passes w a s in subst P (sym (g.image.place s)) (is_in s (a.place s) (a.last s) refl refl));
+    each = λ s. (let P : SlotPlace → Type 0 = FitsPlace shape passes w a s in subst P (sym (g.image.place s)) (is_in s (a.place s) (a.last s) refl refl));
     reached = λ b s r. let x = reached_listed shape w a g.sound g.image b s r in sym (ap w.place x.1) ∙ listed_place shape w a g.sound g.image x.0 x.2 ∙ ap Listed x.3;
   }

@@ -9,11 +9,11 @@ use Rattle.vbr_core.specs.Acceptance.{Accepts}
 use Rattle.vbr_core.specs.Learning.{link_written}
 use Rattle.vbr_core.specs.Machine.{World}
 use Rattle.vbr_core.specs.Incarnations.{Linked, Incarnations, last_in}
-use Rattle.vbr_core.specs.Images.{birth_shown, slot_shown, link_to_next, link_at}
+use Rattle.vbr_core.specs.Images.{birth_shown, slot_shown, link_to_next, link_shown_at}
 use Rattle.vbr_core.specs.Chronicles.{Inserts, MayInsert, next_of, becomes}
 use Rattle.vbr_core.specs.Sound.{Grows}
 use Rattle.vbr_core.specs.Notes.{before_at}
-use Rattle.vbr_core.specs.Agreement.{Held, IsHeldAt, IsHeldNext, Agrees}
+use Rattle.vbr_core.specs.Agreement.{IsHeldIncarnation, IsHeldAt, IsHeldNext, Agrees}
 use Rattle.vbr_core.specs.Notes.{Notes}
 use Rattle.vbr_core.specs.declared.event.Step.TheVariants.{Publish}
 use Rattle.vbr_core.proofs.Puts.{put_here}
@@ -65,18 +65,18 @@ module _ (shape : Dimensions) (w : World) (a : Incarnations) (notes : ℕ → No
   slot_is = (g.sound.slots.last_born s (last_in a s) ready.last).1
 
   -- the link that the step writes is that of the image after it
-  pub new_link : link_at (becomes shape a p (Inserts (last_in a s) (before_at a pred))) pred ≡ link_written (w.know p) (Publish pred expected s)
+  pub new_link : link_shown_at (becomes shape a p (Inserts (last_in a s) (before_at a pred))) pred ≡ link_written (w.know p) (Publish pred expected s)
   new_link =
       let pb = m.birth ok.held.1.0 in
       let ob = ready.birth_is in
       inserted_here p (last_in a s) pred m.last may_insert ∙ (λ i. record { slot = Some (slot_is i); mark = false; version = max (sym pb i) (sym ob i) })
 
   -- and elsewhere no link changes
-  pub old_links : (at : At) → at ≢ pred → link_at (becomes shape a p (Inserts (last_in a s) (before_at a pred))) at ≡ link_at a at
+  pub old_links : (at : At) → at ≢ pred → link_shown_at (becomes shape a p (Inserts (last_in a s) (before_at a pred))) at ≡ link_shown_at a at
   old_links = inserted_there g.sound p (last_in a s) pred m.last may_insert
 
   pub gr : Grows a (becomes shape a p (Inserts (last_in a s) (before_at a pred)))
   gr = grows shape no_keys a p (Inserts (last_in a s) (before_at a pred)) g.sound may_insert
 
-  pub held_new : Held (becomes shape a p (Inserts (last_in a s) (before_at a pred))) (w.know p).epoch s (last_in a s)
+  pub held_new : IsHeldIncarnation (becomes shape a p (Inserts (last_in a s) (before_at a pred))) (w.know p).epoch s (last_in a s)
   held_new = record { slot = slot_is; birth = ready.born; late = rw (put_here a.state (last_in a s) Linked) tt }

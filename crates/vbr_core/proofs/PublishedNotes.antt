@@ -14,7 +14,7 @@ use Rattle.vbr_core.specs.Incarnations.{Linked, InHand, Incarnations, last_in}
 use Rattle.vbr_core.specs.Images.{birth_shown, key_shown, link_in_state, link_shown}
 use Rattle.vbr_core.specs.Chronicles.{Inserts, IsOpen, next_of, becomes}
 use Rattle.vbr_core.specs.Notes.{Notes, before_at, last_at, shown_at, note_of}
-use Rattle.vbr_core.specs.Agreement.{Held, IsGoodLink, IsGood, IsOfHeldOne, Agrees}
+use Rattle.vbr_core.specs.Agreement.{IsHeldIncarnation, IsGoodLink, IsGood, IsOfHeldOne, Agrees}
 use Rattle.vbr_core.specs.declared.event.Step.TheVariants.{Publish}
 use Rattle.vbr_core.specs.declared.knowledge.Read.TheVariants.{LinkAt, BirthOf, KeyOf}
 use Rattle.vbr_core.proofs.Puts.{put_here, put_other}
@@ -25,7 +25,7 @@ use Rattle.vbr_core.proofs.PublishSteps.{ready, own_link, new_link, old_links, g
 pub pair_as : (a : Incarnations) (at : At) (e : ℕ) (l : Link) (of off names named : Option ℕ) → of ≡ off → names ≡ named → IsGoodLink a e at l off named → IsGoodLink a e at l of names
 pair_as a at e l of off names named o n h = rw (o, n) h
 
-one_as : (a : Incarnations) (s e : ℕ) (values : ℕ → ℕ) (value c : ℕ) (of : Option ℕ) → of ≡ Some c → Held a e s c → values c ≡ value → IsOfHeldOne a e s values value of
+one_as : (a : Incarnations) (s e : ℕ) (values : ℕ → ℕ) (value c : ℕ) (of : Option ℕ) → of ≡ Some c → IsHeldIncarnation a e s c → values c ≡ value → IsOfHeldOne a e s values value of
 one_as a s e values value c of o h v = rw o (h, v)
 
 last_after : (shape : Dimensions) (a : Incarnations) (p c : ℕ) (at : At) → last_at a at ≡ node_at a at → last_at (becomes shape a p (Inserts c (before_at a at))) at ≡ node_at a at

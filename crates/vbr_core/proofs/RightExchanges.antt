@@ -18,7 +18,7 @@ use Rattle.vbr_core.specs.Incarnations as state
 use Rattle.vbr_core.specs.Chronicles.{next_of}
 use Rattle.vbr_core.specs.Notes.{Notes, before_at, HoldsLast, HoldsLastAt, HoldsLastNext, HoldsNext}
 use Rattle.vbr_core.specs.Accounts.{TakesHeldNext, IsRightExchange}
-use Rattle.vbr_core.specs.Agreement.{Held, IsHeldNext, Agrees}
+use Rattle.vbr_core.specs.Agreement.{IsHeldIncarnation, IsHeldNext, Agrees}
 use Rattle.vbr_core.specs.Safety.{ExchangesLink}
 use Rattle.vbr_core.specs.declared.event.Effect.TheVariants.{Won, Lost}
 use Rattle.vbr_core.specs.declared.event.Step.{Step}
@@ -55,7 +55,7 @@ link_names (LinkAt here seen ∷ reads) at link t h e = elim (cases_Bool (names 
 
 module _ (shape : Dimensions) (w : World) (a : Incarnations) (notes : ℕ → Notes) (p : ℕ) (g : Agrees shape w a notes) (r : ReadsHeldPlaces (w.know p)) where
   -- the incarnation that the pass holds at a slot is the slot's last
-  holds_last : (s : ℕ) → holds (w.know p).checked s ≡ true → Held a (w.know p).epoch s (last_in a s) → a.last s ≡ Some (last_in a s) → HoldsLast a (notes p).checked s
+  holds_last : (s : ℕ) → holds (w.know p).checked s ≡ true → IsHeldIncarnation a (w.know p).epoch s (last_in a s) → a.last s ≡ Some (last_in a s) → HoldsLast a (notes p).checked s
   holds_last s q h l = (last_in a s, holds_just g.sound (w.know p).epoch (notes p).checked (g.knows p).checked s (last_in a s) (rw (g.knows p).checked_reads at q) h, l)
 
   -- behind which the exchange is made

@@ -9,7 +9,7 @@ use Rattle.vbr_core.specs.Knowledge.{Know, names, holds}
 use Rattle.vbr_core.specs.Incarnations.{Incarnations}
 use Rattle.vbr_core.specs.Sound.{Sound}
 use Rattle.vbr_core.specs.Notes.{Note, Notes, IsAmong, LinkNames, Holds, HoldsJust, IsOfHeld, ReadsHeld, AreRightReads}
-use Rattle.vbr_core.specs.Agreement.{Held, IsHeldNext, IsGoodRead, IsGood, IsAsShown, reads_of, IsNoted}
+use Rattle.vbr_core.specs.Agreement.{IsHeldIncarnation, IsHeldNext, IsGoodRead, IsGood, IsAsShown, reads_of, IsNoted}
 use Rattle.vbr_core.specs.declared.knowledge.Read.{Read}
 use Rattle.vbr_core.specs.declared.knowledge.Read.TheVariants.{LinkAt, BirthOf, KeyOf}
 use Rattle.vbr_core.proofs.Slots.{one_late}
@@ -21,22 +21,22 @@ among_all P note [] h m = absurd m
 among_all P note (first ∷ notes) h (inl e) = subst P (sym e) h.0
 among_all P note (first ∷ notes) h (inr m) = among_all P note notes h.1 m
 
-moved : (a : Incarnations) (e s t c d : ℕ) → t ≡ s → d ≡ c → Held a e t d → Held a e s c
-moved a e s t c d p q h = let P : ℕ → Type 0 = λ i. Held a e i d in let Q : ℕ → Type 0 = λ i. Held a e s i in subst Q q (subst P p h)
+moved : (a : Incarnations) (e s t c d : ℕ) → t ≡ s → d ≡ c → IsHeldIncarnation a e t d → IsHeldIncarnation a e s c
+moved a e s t c d p q h = let P : ℕ → Type 0 = λ i. IsHeldIncarnation a e i d in let Q : ℕ → Type 0 = λ i. IsHeldIncarnation a e s i in subst Q q (subst P p h)
 
 -- an incarnation that a good link names is held
-gives_held : (a : Incarnations) (e s c : ℕ) (read : Read) (of named : Option ℕ) → IsGoodRead a e read of named → LinkNames read s → named ≡ Some c → Held a e s c
+gives_held : (a : Incarnations) (e s c : ℕ) (read : Read) (of named : Option ℕ) → IsGoodRead a e read of named → LinkNames read s → named ≡ Some c → IsHeldIncarnation a e s c
 gives_held a e s c (BirthOf v b) of named g n q = absurd n
 gives_held a e s c (KeyOf v b) of named g n q = absurd n
 gives_held a e s c (LinkAt at link) of named g n q = go link.slot named g.next n q
   where
-    go : (o m : Option ℕ) → IsHeldNext a e o m → o ≡ Some s → m ≡ Some c → Held a e s c
+    go : (o m : Option ℕ) → IsHeldNext a e o m → o ≡ Some s → m ≡ Some c → IsHeldIncarnation a e s c
     go None m h p q = absurd (cc)
     go (Some t) None h p q = absurd (cc)
     go (Some t) (Some d) h p q = moved a e s t c d (cc) (cc) h
 
 -- what a pass holds is late for its epoch
-pub holds_held : (a : Incarnations) (e : ℕ) (notes : List Note) → AllByRecursion (IsGood a e) notes → (s c : ℕ) → Holds notes s c → Held a e s c
+pub holds_held : (a : Incarnations) (e : ℕ) (notes : List Note) → AllByRecursion (IsGood a e) notes → (s c : ℕ) → Holds notes s c → IsHeldIncarnation a e s c
 holds_held a e notes al s c (note, m, g) = gives_held a e s c note.read note.of note.names (among_all (IsGood a e) note notes al m) g.0 g.1
 
 -- at a slot it holds one
@@ -71,7 +71,7 @@ holds_some a e (note ∷ notes) s q al = go note.read refl (λ r. let x = holds_
     ]
 
 -- the incarnation that a pass holds at a slot that is held
-pub holds_just : {shape : Dimensions} {a : Incarnations} → Sound shape a → (e : ℕ) (notes : List Note) → AllByRecursion (IsGood a e) notes → (s c : ℕ) → holds (reads_of notes) s ≡ true → Held a e s c → HoldsJust notes s c
+pub holds_just : {shape : Dimensions} {a : Incarnations} → Sound shape a → (e : ℕ) (notes : List Note) → AllByRecursion (IsGood a e) notes → (s c : ℕ) → holds (reads_of notes) s ≡ true → IsHeldIncarnation a e s c → HoldsJust notes s c
 holds_just {shape} {a} snd e notes al s c q h =
     let x = holds_some a e notes s q al in
     let y = holds_held a e notes al s x.0 x.1 in
@@ -84,7 +84,7 @@ holds_only {shape} {a} snd e notes al s q =
     let x = holds_some a e notes s q al in
     (x.0, record { held = x.1; only = λ d hd. holds_one snd e notes al s d x.0 hd x.1 })
 
-of_held : {shape : Dimensions} {a : Incarnations} → Sound shape a → (e : ℕ) (notes : List Note) → AllByRecursion (IsGood a e) notes → (s c : ℕ) → holds (reads_of notes) s ≡ true → Held a e s c → IsOfHeld notes s (Some c)
+of_held : {shape : Dimensions} {a : Incarnations} → Sound shape a → (e : ℕ) (notes : List Note) → AllByRecursion (IsGood a e) notes → (s c : ℕ) → holds (reads_of notes) s ≡ true → IsHeldIncarnation a e s c → IsOfHeld notes s (Some c)
 of_held snd e notes al s c q h = (c, holds_just snd e notes al s c q h, refl)
 
 reads_held : {shape : Dimensions} {a : Incarnations} → Sound shape a → (e : ℕ) (notes : List Note) → AllByRecursion (IsGood a e) notes → (read : Read) (of named : Option ℕ) → IsOfHeldPlace (reads_of notes) read → IsGoodRead a e read of named → ReadsHeld notes read of

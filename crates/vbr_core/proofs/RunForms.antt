@@ -16,7 +16,7 @@ use Rattle.vbr_core.specs.Learning.{link_written, call_of, present_reply}
 use Rattle.vbr_core.specs.Machine.{World, opening, link_at, found, after}
 use Rattle.vbr_core.specs.Runs.{AreAccepted, IsRun, world_after, know_after}
 use Rattle.vbr_core.specs.Moments.{WasShown}
-use Rattle.vbr_core.specs.Membership.{Knows, IsHeldSlot, IsHeldPlace, HeldIn, LeadsTo, KeyAt, StandsBehind, StandsBefore, Writes, AcceptsKnown}
+use Rattle.vbr_core.specs.Membership.{Knows, IsHeldSlot, IsHeldPlace, HeldIn, LeadsTo, KeyAt, StandsBehind, StandsBefore, WritesLink, AcceptsKnown}
 use Rattle.vbr_core.specs.Incarnations.{Incarnations, nothing_yet}
 use Rattle.vbr_core.specs.Chronicles.{incarnations_from}
 use Rattle.vbr_core.specs.Sound.{Grows}
@@ -120,7 +120,7 @@ module _ (shape : Dimensions) (passes : ℕ) (run : List Event) (is : IsShape sh
   accepts_known step accepts = acceptance.accepts_known accepts
 
   -- a step writes the link that it writes by any known births and marked link
-  pub written_is : (step : Step) (new : Link) → Writes (know_after shape run p) step new → link_written (know_after shape run p) step ≡ new
+  pub written_is : (step : Step) (new : Link) → WritesLink (know_after shape run p) step new → link_written (know_after shape run p) step ≡ new
   written_is step new h = acceptance.written_is agrees.sound (agrees.knows p) step new h
 
   -- the calls of a mark and of a confirming load of a slot are of any known key

@@ -9,7 +9,7 @@ use Rattle.vbr_core.specs.Incarnations.{IsLate}
 use Rattle.vbr_core.specs.Sound.{Grows}
 use Rattle.vbr_core.specs.Notes.{Note, Holds, IsAmong}
 use Rattle.vbr_core.specs.Accounts.{incarnations_after, notes_after}
-use Rattle.vbr_core.specs.Agreement.{Held, IsGoodLink, IsGoodRead, IsGood, IsPair, IsLastOf}
+use Rattle.vbr_core.specs.Agreement.{IsHeldIncarnation, IsGoodLink, IsGoodRead, IsGood, IsPair, IsLastOf}
 use Rattle.vbr_core.specs.Safety.{IsSafe}
 use Rattle.vbr_core.specs.declared.event.Event.{Event}
 use Rattle.vbr_core.specs.declared.knowledge.Read.{Read}
@@ -44,7 +44,7 @@ holds_last shape passes run pass s c is ok holds same =
     let g = run_agrees shape passes run is ok in
     let a = incarnations_after shape run in
     let held = holds_held a (know_after shape run pass).epoch (notes_after shape run pass).checked (g.knows pass).checked s c holds in
-    let P : ℕ → Type 0 = λ e. Held a e s c in
+    let P : ℕ → Type 0 = λ e. IsHeldIncarnation a e s c in
     held_last g.sound s c (subst P (same ∙ g.image.epoch) held)
 
 -- an unmarked link that was checked at a moment and stands at its place at the end stands for the same pair

@@ -11,9 +11,9 @@ use Rattle.vbr_core.specs.Put.{put}
 use Rattle.vbr_core.specs.History.{calls_by}
 use Rattle.vbr_core.specs.Knowledge.{Know}
 use Rattle.vbr_core.specs.Acceptance.{Accepts}
-use Rattle.vbr_core.specs.Learning.{learn, call_of}
-use Rattle.vbr_core.specs.Machine.{World, opening, found, stamp_shown, link_at, after}
-use Rattle.vbr_core.specs.Making.{succeeds, call_made}
+use Rattle.vbr_core.specs.Learning.{learn, call_of, succeeds}
+use Rattle.vbr_core.specs.Machine.{World, opening, found, stamp_shown, after}
+use Rattle.vbr_core.specs.Making.{call_made}
 use Rattle.vbr_core.specs.Runs.{IsAccepted, world_from, AreAccepted, IsRun, world_after, know_after, NoneOf, Begins, BeginsFor}
 use Rattle.vbr_core.specs.Calls.{calls_added, own_calls}
 use Rattle.vbr_core.specs.declared.history.Call.{Call}
@@ -132,7 +132,7 @@ know_other shape w p q (Mark s expected) ne = by_both (word_of (w.link s) == exp
 know_other shape w p q (Unlink (Head b) expected s) ne = by_both (word_of (w.head b) == expected) (λ v. v.know p) _ w (w.know p) (put_other w.know q _ p ne) refl
 know_other shape w p q (Unlink (Slot t) expected s) ne = by_both (word_of (w.link t) == expected) (λ v. v.know p) _ w (w.know p) (put_other w.know q _ p ne) refl
 know_other shape w p q (ConfirmPresent op s expected) ne = by_both (word_of (w.link s) == expected) (λ v. v.know p) _ w (w.know p) refl refl
-know_other shape w p q (ConfirmAbsent op key at expected) ne = by_both (word_of (link_at w at) == expected) (λ v. v.know p) _ w (w.know p) refl refl
+know_other shape w p q (ConfirmAbsent op key at expected) ne = by_both (found shape w (ConfirmAbsent op key at expected) == expected) (λ v. v.know p) _ w (w.know p) refl refl
 
 -- an exchange that is won teaches, and one that is lost doesn't
 taught : (b : Bool) (x w : World) (p : ℕ) (know : Know) → x.know ≡ put w.know p (cond b know (w.know p)) → (cond b x w).know p ≡ cond b know (w.know p)
@@ -159,7 +159,7 @@ know_own shape w p (Mark s expected) = taught (word_of (w.link s) == expected) _
 know_own shape w p (Unlink (Head b) expected s) = taught (word_of (w.head b) == expected) _ w p _ refl
 know_own shape w p (Unlink (Slot t) expected s) = taught (word_of (w.link t) == expected) _ w p _ refl
 know_own shape w p (ConfirmPresent op s expected) = by_both (word_of (w.link s) == expected) (λ v. v.know p) _ w (w.know p) refl refl
-know_own shape w p (ConfirmAbsent op key at expected) = by_both (word_of (link_at w at) == expected) (λ v. v.know p) _ w (w.know p) refl refl
+know_own shape w p (ConfirmAbsent op key at expected) = by_both (found shape w (ConfirmAbsent op key at expected) == expected) (λ v. v.know p) _ w (w.know p) refl refl
 
 -- the knowledge of a pass after events of others
 others_know : (shape : Dimensions) (w : World) (who : ℕ) (events : List Event) → NoneOf who events → (world_from shape w events).know who ≡ w.know who

@@ -10,7 +10,7 @@ use Rattle.vbr_core.specs.Links.{marked}
 use Rattle.vbr_core.specs.Machine.{World}
 use Rattle.vbr_core.specs.Machine as machine
 use Rattle.vbr_core.specs.Incarnations.{State, Unborn, InHand, GivenUp, Linked, Marked, Unlinked, Stamped, Incarnations, IsLate}
-use Rattle.vbr_core.specs.Images.{birth_shown, key_shown, link_to_next, link_in_state, link_shown, link_at, IsImage}
+use Rattle.vbr_core.specs.Images.{birth_shown, key_shown, link_to_next, link_in_state, link_shown, link_shown_at, IsImage}
 use Rattle.vbr_core.specs.Sound.{Sound}
 use Rattle.vbr_core.specs.Agreement.{Fits}
 use Rattle.vbr_core.proofs.Slots.{late_born, listed_late}
@@ -59,7 +59,7 @@ image_kept v w a b e eh el eb ek et place asl abi ak ali an ast af ala ats i = r
 }
 
 -- the link that stands at a place is that of the image
-pub stands : (w : World) (a : Incarnations) (at : At) → IsImage w a → machine.link_at w at ≡ link_at a at
+pub stands : (w : World) (a : Incarnations) (at : At) → IsImage w a → machine.link_at w at ≡ link_shown_at a at
 stands w a (Head b) i = i.head b
 stands w a (Slot s) i = i.link s
 
@@ -92,7 +92,7 @@ shown_fits {shape} {a} s f (Some c) = go (a.state c) refl
     go GivenUp e = rw e (f.link c)
 
 -- each link of the image has room in a word
-pub image_fits : {shape : Dimensions} {a : Incarnations} → Sound shape a → Fits shape a → (at : At) → IsLink (link_at a at)
+pub image_fits : {shape : Dimensions} {a : Incarnations} → Sound shape a → Fits shape a → (at : At) → IsLink (link_shown_at a at)
 image_fits {shape} {a} s f (Head b) = next_fits s f 0 (a.first b) (omega arith) (λ m q. late_born s.slots m 0 (listed_late (a.state m) 0 (s.lists.first_in b m q).0))
 image_fits {shape} {a} s f (Slot v) = shown_fits s f (a.last v)
 

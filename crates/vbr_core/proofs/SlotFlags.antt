@@ -8,10 +8,10 @@ use Rattle.std.proofs.lemmas.Nat.{one_shl}
 use Rattle.vbr_words.specs.Dimensions.{Dimensions}
 use Rattle.vbr_words.specs.Flags.{word_of_flag, flag_words, flag_of, all_but, has_flag, digit, first_bits, flag_word}
 use Rattle.vbr_words.specs.declared.place.Place.TheVariants.{Flags}
-use Rattle.vbr_words.proofs.FlagWords.{first_bits-lt, has_flag-flag_word, flag_word_same, flag_raised, flag_taken}
+use Rattle.vbr_words.proofs.Lemmas.{first_bits-lt, flag_raised, flag_taken, flag_word_same, has_flag-flag_word}
 use Rattle.vbr_core.specs.Put.{put}
-use Rattle.vbr_core.specs.Learning.{taken}
 use Rattle.vbr_core.specs.Machine.{World, is_shared, is_flagged, word_at, found}
+use Rattle.vbr_core.specs.Making.{taken}
 use Rattle.vbr_core.specs.declared.event.Effect.TheVariants.{Won, Lost}
 use Rattle.vbr_core.specs.declared.event.Step.TheVariants.{TakeFlag}
 use Rattle.vbr_core.specs.declared.knowledge.SlotPlace.{SlotPlace}

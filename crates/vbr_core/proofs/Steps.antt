@@ -13,7 +13,7 @@ use Rattle.vbr_core.specs.Chronicles.{Happening, IsLawful, Allowed, becomes, inc
 use Rattle.vbr_core.specs.Notes.{Notes, no_notes, notes_with}
 use Rattle.vbr_core.specs.Accounts.{happens}
 use Rattle.vbr_core.specs.Acceptance.{IsInHand, IsUnlinked, IsReread}
-use Rattle.vbr_core.specs.Agreement.{IsNotOf, IsStored, OwnFits, Knows, Owns, Fits, Agrees}
+use Rattle.vbr_core.specs.Agreement.{IsNotOf, IsStored, OwnFits, AllKnowRight, Owns, Fits, Agrees}
 use Rattle.vbr_core.specs.declared.event.Step.{Step}
 use Rattle.vbr_core.specs.declared.knowledge.Holding.{Holding}
 use Rattle.vbr_core.specs.declared.knowledge.Holding.TheVariants.{Free, Unlinked, InHand}
@@ -46,7 +46,7 @@ agrees_at_first shape is = record {
 
 -- after one allowed event
 pub agrees_next : (shape : Dimensions) (w v : World) (a : Incarnations) (notes new : ℕ → Notes) (p : ℕ) (what : Happening) → Agrees shape w a notes → Allowed shape no_keys a p what →
-    Fits shape (becomes shape a p what) → IsImage v (becomes shape a p what) → Knows (becomes shape a p what) v.know new → Owns (becomes shape a p what) v.know → v.calls ≡ (becomes shape a p what).calls → v.births ≡ min (becomes shape a p what).count (2 ^ 64 - 1) → Agrees shape v (becomes shape a p what) new
+    Fits shape (becomes shape a p what) → IsImage v (becomes shape a p what) → AllKnowRight (becomes shape a p what) v.know new → Owns (becomes shape a p what) v.know → v.calls ≡ (becomes shape a p what).calls → v.births ≡ min (becomes shape a p what).count (2 ^ 64 - 1) → Agrees shape v (becomes shape a p what) new
 agrees_next shape w v a notes new p what g al f i k o c n = record {
   sound = sound_kept shape no_keys a p what g.sound al;
   tells = tells_kept shape a p what g.sound g.tells al;

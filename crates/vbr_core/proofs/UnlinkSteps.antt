@@ -16,11 +16,11 @@ use Rattle.vbr_core.specs.Acceptance.{next_of_marked, Accepts}
 use Rattle.vbr_core.specs.Learning.{link_written}
 use Rattle.vbr_core.specs.Machine.{World}
 use Rattle.vbr_core.specs.Incarnations.{State, Linked, Marked, Unlinked, Incarnations, last_in}
-use Rattle.vbr_core.specs.Images.{link_to_next, link_in_state, link_shown, link_at}
+use Rattle.vbr_core.specs.Images.{link_to_next, link_in_state, link_shown, link_shown_at}
 use Rattle.vbr_core.specs.Chronicles.{Unlinks, AtHead, AtNode, IsOpen, Allowed, next_of, becomes}
 use Rattle.vbr_core.specs.Sound.{IsListed, IsRemoved, Sound, Grows}
 use Rattle.vbr_core.specs.Notes.{Note, Notes, before_at, last_at}
-use Rattle.vbr_core.specs.Agreement.{Held, IsHeldAt, IsHeldNext, IsFrozen, IsGood, reads_of, Agrees}
+use Rattle.vbr_core.specs.Agreement.{IsHeldIncarnation, IsHeldAt, IsHeldNext, IsFrozen, IsGood, reads_of, Agrees}
 use Rattle.vbr_core.specs.declared.event.Step.TheVariants.{Unlink}
 use Rattle.vbr_core.specs.declared.knowledge.Read.{Read}
 use Rattle.vbr_core.proofs.Puts.{put_here, put_other}
@@ -35,7 +35,7 @@ use Rattle.vbr_core.proofs.PublishSteps.{slot_of_is}
 -- ---- the links after an unlinking
 
 -- the links elsewhere once c was unlinked behind the place
-unlinked_there : {shape : Dimensions} {a : Incarnations} → Sound shape a → (p c : ℕ) (pred : At) → last_at a pred ≡ node_at a pred → a.state c ≡ Marked → (at : At) → at ≢ pred → link_at (becomes shape a p (Unlinks c (before_at a pred))) at ≡ link_at a at
+unlinked_there : {shape : Dimensions} {a : Incarnations} → Sound shape a → (p c : ℕ) (pred : At) → last_at a pred ≡ node_at a pred → a.state c ≡ Marked → (at : At) → at ≢ pred → link_shown_at (becomes shape a p (Unlinks c (before_at a pred))) at ≡ link_shown_at a at
 unlinked_there {shape} {a} snd p c (Head h) lq m (Head v) ne = to_next_same a (becomes shape a p (Unlinks c (AtHead h))) refl refl 0 (put a.first h (a.next c) v) ∙ ap (link_to_next a 0) (put_other a.first h (a.next c) v (λ e. ne (ap Head e)))
 unlinked_there {shape} {a} snd p c (Slot q) lq m (Head v) ne = to_next_same a (becomes shape a p (Unlinks c (AtNode (last_in a q)))) refl refl 0 (a.first v)
 unlinked_there {shape} {a} snd p c (Head h) lq m (Slot v) ne = go (a.last v)
@@ -61,7 +61,7 @@ unlinked_there {shape} {a} snd p c (Slot q) lq m (Slot v) ne = go (a.last v) ref
         go2 (inr r) = link_kept a (becomes shape a p (Unlinks c (AtNode (last_in a q)))) refl refl (Some d) (λ i s. let z : i ≡ d = cc in (put_other a.state c (Unlinked p a.epoch) i (λ y. r (sym z ∙ y)), refl, put_other a.next (last_in a q) (a.next c) i (λ y. dk (sym z ∙ y))))
 
 -- the link at the place itself
-unlinked_here : (shape : Dimensions) (a : Incarnations) (p c : ℕ) (pred : At) → last_at a pred ≡ node_at a pred → IsOpen a (before_at a pred) → a.state c ≡ Marked → link_at (becomes shape a p (Unlinks c (before_at a pred))) pred ≡ link_to_next a (birth_there a pred) (a.next c)
+unlinked_here : (shape : Dimensions) (a : Incarnations) (p c : ℕ) (pred : At) → last_at a pred ≡ node_at a pred → IsOpen a (before_at a pred) → a.state c ≡ Marked → link_shown_at (becomes shape a p (Unlinks c (before_at a pred))) pred ≡ link_to_next a (birth_there a pred) (a.next c)
 unlinked_here shape a p c (Head h) lq o m =
     let b = becomes shape a p (Unlinks c (AtHead h)) in
     ap (link_to_next b 0) (put_here a.first h (a.next c)) ∙ to_next_same a b refl refl 0 (a.next c)
@@ -85,7 +85,7 @@ next_behind shape a p c (Slot q) = put_here a.next (last_in a q) (a.next c)
 
 -- the last incarnation of a slot is held and marked, and the marked link that was checked there names its successor
 pub record MarkedFacts (a : Incarnations) (s e : ℕ) (known : Option Link) : Type 0 where
-  pub held : Held a e s (last_in a s)
+  pub held : IsHeldIncarnation a e s (last_in a s)
   pub last : a.last s ≡ Some (last_in a s)
   pub state : a.state (last_in a s) ≡ Marked
   pub next : IsHeldNext a e (next_of_marked known) (a.next (last_in a s))
@@ -95,11 +95,11 @@ marked_facts : {shape : Dimensions} {a : Incarnations} → Sound shape a → (e 
     MarkedFacts a s e (marked_in reads s) × (next_of a (before_at a at) ≡ Some (last_in a s))
 marked_facts {shape} {a} snd e notes reads s at link q al m sl k = go (marked_in reads s) refl k
   where
-    named : (n : Option ℕ) → next_of a (before_at a at) ≡ n → IsHeldNext a e (Some s) n → (c : ℕ) × (next_of a (before_at a at) ≡ Some c) × Held a e s c
+    named : (n : Option ℕ) → next_of a (before_at a at) ≡ n → IsHeldNext a e (Some s) n → (c : ℕ) × (next_of a (before_at a at) ≡ Some c) × IsHeldIncarnation a e s c
     named None r h = absurd h
     named (Some c) r h = (c, r, h)
 
-    removed : (of n : Option ℕ) → IsHeldAt a e (Slot s) of → IsFrozen a of n → (c : ℕ) × Held a e s c × IsRemoved (a.state c) × (a.next c ≡ n)
+    removed : (of n : Option ℕ) → IsHeldAt a e (Slot s) of → IsFrozen a of n → (c : ℕ) × IsHeldIncarnation a e s c × IsRemoved (a.state c) × (a.next c ≡ n)
     removed None n h f = absurd h
     removed (Some c) n h f = (c, h, f.0, f.1)
 
@@ -139,11 +139,11 @@ module _ (shape : Dimensions) (w : World) (a : Incarnations) (notes : ℕ → No
       λ i. record { slot = sl i; mark = false; version = max (pb i) (nb i) }
 
   -- it is that of the image after it
-  pub new_link : link_at (becomes shape a p (Unlinks (last_in a s) (before_at a pred))) pred ≡ link_written (w.know p) (Unlink pred expected s)
+  pub new_link : link_shown_at (becomes shape a p (Unlinks (last_in a s) (before_at a pred))) pred ≡ link_written (w.know p) (Unlink pred expected s)
   new_link = unlinked_here shape a p (last_in a s) pred m.last m.is_open facts.state ∙ sym link_is
 
   -- and elsewhere no link changes
-  pub old_links : (at : At) → at ≢ pred → link_at (becomes shape a p (Unlinks (last_in a s) (before_at a pred))) at ≡ link_at a at
+  pub old_links : (at : At) → at ≢ pred → link_shown_at (becomes shape a p (Unlinks (last_in a s) (before_at a pred))) at ≡ link_shown_at a at
   old_links = unlinked_there g.sound p (last_in a s) pred m.last facts.state
 
   pub gr : Grows a (becomes shape a p (Unlinks (last_in a s) (before_at a pred)))

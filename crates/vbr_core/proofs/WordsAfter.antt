@@ -14,7 +14,7 @@ use Rattle.vbr_words.specs.declared.place.Place.TheVariants as place
 use Rattle.vbr_core.specs.Put.{put}
 use Rattle.vbr_core.specs.Acceptance.{IsAtIn, IsInShape, MayBear, IsInHand, Accepts}
 use Rattle.vbr_core.specs.Learning.{link_written}
-use Rattle.vbr_core.specs.Machine.{World, link_at, is_shared, word_at, place_of, access_of, word_made, found, with_learning, after}
+use Rattle.vbr_core.specs.Machine.{World, link_at, is_shared, word_at, place_of_step, access_of, word_made, found, with_learning, after}
 use Rattle.vbr_core.specs.Runs.{IsAccepted, world_after, know_after}
 use Rattle.vbr_core.specs.Incarnations.{State, Incarnations}
 use Rattle.vbr_core.specs.Chronicles.{next_of}
@@ -41,7 +41,7 @@ place_at_in shape (Head b) here = here
 place_at_in shape (Slot s) here = here
 
 -- the place of a step of the shape is one of the shape
-pub place_in : (shape : Dimensions) (step : Step) → IsInShape shape step → IsIn shape (place_of step)
+pub place_in : (shape : Dimensions) (step : Step) → IsInShape shape step → IsIn shape (place_of_step step)
 place_in shape ReadEpoch here = tt
 place_in shape (Advance from) here = tt
 place_in shape (LoadStamp s) here = here
@@ -78,7 +78,7 @@ either true f x y new won lost = won refl
 either false f x y new won lost = lost refl
 
 -- the word at the place of a step is what its operation leaves there
-pub word_here : (shape : Dimensions) (w : World) (p : ℕ) (step : Step) → IsInShape shape step → word_at shape (after shape w p step) (place_of step) ≡ word_made (access_of (w.know p) step) (found shape w step)
+pub word_here : (shape : Dimensions) (w : World) (p : ℕ) (step : Step) → IsInShape shape step → word_at shape (after shape w p step) (place_of_step step) ≡ word_made (access_of (w.know p) step) (found shape w step)
 word_here shape w p ReadEpoch here = refl
 word_here shape w p (Advance from) here = left (w.epoch == from) (λ v. v.epoch) _ w (from + 1) w.epoch (λ t. ap (λ n. n + 1) (eqb-true w.epoch from t)) refl
 word_here shape w p (LoadStamp s) here = refl
@@ -156,7 +156,7 @@ flag_kept f s new e i = go (cases_eq i s)
     go (inr ne) = ap is_shared (put_other f s new i ne)
 
 -- a step changes no word but that at its place
-same_but : (shape : Dimensions) (w : World) (p : ℕ) (step : Step) → MovesUnshared w step → SameBut (place_of step) (after shape w p step) w
+same_but : (shape : Dimensions) (w : World) (p : ℕ) (step : Step) → MovesUnshared w step → SameBut (place_of_step step) (after shape w p step) w
 same_but shape w p ReadEpoch moves = unchanged _ _ w refl refl refl refl refl refl refl
 same_but shape w p (Advance from) moves = if_won (w.epoch == from) place.Epoch _ w (λ _. record { epoch = λ ne. absurd (ne refl); head = λ _ _. refl; link = λ _ _. refl; birth = λ _ _. refl; stamp = λ _ _. refl; key = λ _ _. refl; flag = λ _ _. refl })
 same_but shape w p (LoadStamp s) moves = unchanged _ _ w refl refl refl refl refl refl refl
@@ -175,11 +175,11 @@ same_but shape w p (Mark s expected) moves = if_won (word_of (w.link s) == expec
 same_but shape w p (Unlink (Head b) expected s) moves = if_won (word_of (w.head b) == expected) (place.Head b) _ w (λ won. record { epoch = λ _. refl; head = λ i ne. put_other w.head b _ i (λ e. ne (ap place.Head e)); link = λ _ _. refl; birth = λ _ _. refl; stamp = λ _ _. refl; key = λ _ _. refl; flag = λ i _. flag_kept w.place s (Own p) (moves (eqb-true (word_of (w.head b)) expected won)) i })
 same_but shape w p (Unlink (Slot t) expected s) moves = if_won (word_of (w.link t) == expected) (place.LinkOf t) _ w (λ won. record { epoch = λ _. refl; head = λ _ _. refl; link = λ i ne. put_other w.link t _ i (λ e. ne (ap place.LinkOf e)); birth = λ _ _. refl; stamp = λ _ _. refl; key = λ _ _. refl; flag = λ i _. flag_kept w.place s (Own p) (moves (eqb-true (word_of (w.link t)) expected won)) i })
 same_but shape w p (ConfirmPresent op s expected) moves = if_won (word_of (w.link s) == expected) (place.LinkOf s) _ w (λ _. unchanged _ _ w refl refl refl refl refl refl refl)
-same_but shape w p (ConfirmAbsent op key at expected) moves = if_won (word_of (link_at w at) == expected) (places.place_of at) _ w (λ _. unchanged _ _ w refl refl refl refl refl refl refl)
+same_but shape w p (ConfirmAbsent op key at expected) moves = if_won (found shape w (ConfirmAbsent op key at expected) == expected) (places.place_of at) _ w (λ _. unchanged _ _ w refl refl refl refl refl refl refl)
 
 -- a step leaves the words elsewhere, if it moves no slot out of the shared pool but by its flag
-pub word_elsewhere_if : (shape : Dimensions) (w : World) (p : ℕ) (step : Step) (q : Place) → MovesUnshared w step → q ≢ place_of step → word_at shape (after shape w p step) q ≡ word_at shape w q
-word_elsewhere_if shape w p step q moves ne = word_but shape (after shape w p step) w (place_of step) q (same_but shape w p step moves) ne
+pub word_elsewhere_if : (shape : Dimensions) (w : World) (p : ℕ) (step : Step) (q : Place) → MovesUnshared w step → q ≢ place_of_step step → word_at shape (after shape w p step) q ≡ word_at shape w q
+word_elsewhere_if shape w p step q moves ne = word_but shape (after shape w p step) w (place_of_step step) q (same_but shape w p step moves) ne
 
 -- ---- what a step moves
 
@@ -225,15 +225,15 @@ moves_unshared shape w a notes p (Unlink pred expected s) g ok = next_unshared s
 moves_unshared shape w a notes p _ g ok = tt
 
 -- an accepted step leaves the words elsewhere
-pub word_elsewhere : (shape : Dimensions) (w : World) (a : Incarnations) (notes : ℕ → Notes) (p : ℕ) (step : Step) (q : Place) → Agrees shape w a notes → Accepts shape (w.know p) step → q ≢ place_of step → word_at shape (after shape w p step) q ≡ word_at shape w q
+pub word_elsewhere : (shape : Dimensions) (w : World) (a : Incarnations) (notes : ℕ → Notes) (p : ℕ) (step : Step) (q : Place) → Agrees shape w a notes → Accepts shape (w.know p) step → q ≢ place_of_step step → word_at shape (after shape w p step) q ≡ word_at shape w q
 word_elsewhere shape w a notes p step q g ok ne = word_elsewhere_if shape w p step q (moves_unshared shape w a notes p step g ok) ne
 
 -- ---- along a run
 
 -- the word at the place of one more event, from what its pass knows
-pub word_here-snoc : (shape : Dimensions) (run : List Event) (event : Event) → IsInShape shape event.step → word_at shape (world_after shape (run ++ event ∷ [])) (place_of event.step) ≡ word_made (access_of (know_after shape run event.pass) event.step) (found shape (world_after shape run) event.step)
-word_here-snoc shape run event here = ap (λ v. word_at shape v (place_of event.step)) (world_after-snoc shape run event) ∙ word_here shape (world_after shape run) event.pass event.step here
+pub word_here-snoc : (shape : Dimensions) (run : List Event) (event : Event) → IsInShape shape event.step → word_at shape (world_after shape (run ++ event ∷ [])) (place_of_step event.step) ≡ word_made (access_of (know_after shape run event.pass) event.step) (found shape (world_after shape run) event.step)
+word_here-snoc shape run event here = ap (λ v. word_at shape v (place_of_step event.step)) (world_after-snoc shape run event) ∙ word_here shape (world_after shape run) event.pass event.step here
 
 -- and the words elsewhere
-pub word_elsewhere-snoc : (shape : Dimensions) (passes : ℕ) (a : Incarnations) (notes : ℕ → Notes) (run : List Event) (event : Event) (q : Place) → Agrees shape (world_after shape run) a notes → IsAccepted shape passes (world_after shape run) event → q ≢ place_of event.step → word_at shape (world_after shape (run ++ event ∷ [])) q ≡ word_at shape (world_after shape run) q
+pub word_elsewhere-snoc : (shape : Dimensions) (passes : ℕ) (a : Incarnations) (notes : ℕ → Notes) (run : List Event) (event : Event) (q : Place) → Agrees shape (world_after shape run) a notes → IsAccepted shape passes (world_after shape run) event → q ≢ place_of_step event.step → word_at shape (world_after shape (run ++ event ∷ [])) q ≡ word_at shape (world_after shape run) q
 word_elsewhere-snoc shape passes a notes run event q g accepted ne = ap (λ v. word_at shape v q) (world_after-snoc shape run event) ∙ word_elsewhere shape (world_after shape run) a notes event.pass event.step q g accepted.1 ne

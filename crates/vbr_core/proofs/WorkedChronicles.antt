@@ -7,7 +7,7 @@ use Rattle.vbr_words.specs.declared.place.At.TheVariants.{Head, Slot}
 use Rattle.vbr_core.specs.Keys.{no_keys}
 use Rattle.vbr_core.specs.Acceptance.{bucket_of}
 use Rattle.vbr_core.specs.Incarnations.{nothing_yet, Linked, Unlinked, Stamped, InHand}
-use Rattle.vbr_core.specs.Images.{link_at, birth_shown, key_shown}
+use Rattle.vbr_core.specs.Images.{link_shown_at, birth_shown, key_shown}
 use Rattle.vbr_core.specs.Chronicles.{Happening, Advances, Gains, Bears, Keyed, Aims, Inserts, Removes, Unlinks, Stamps, AtHead, Entry, IsLawful}
 use Rattle.vbr_core.specs.Accounts.{chronicle, incarnations_after, notes_after}
 use Rattle.vbr_core.specs.Runs.{world_after, know_after}
@@ -36,11 +36,11 @@ pub reborn_slot_same_calls : (world_after three_slots reborn_slot).calls ≡ (in
 unfolding bucket_of link_of word_of has_flag first_bits flag_word
 reborn_slot_same_calls = refl
 
-pub reborn_slot_head : (world_after three_slots reborn_slot).head 0 ≡ link_at (incarnations_after three_slots reborn_slot) (Head 0)
+pub reborn_slot_head : (world_after three_slots reborn_slot).head 0 ≡ link_shown_at (incarnations_after three_slots reborn_slot) (Head 0)
 unfolding bucket_of link_of word_of has_flag first_bits flag_word
 reborn_slot_head = refl
 
-pub reborn_slot_links : map (world_after three_slots reborn_slot).link (0 ∷ 1 ∷ 2 ∷ []) ≡ map (λ s. link_at (incarnations_after three_slots reborn_slot) (Slot s)) (0 ∷ 1 ∷ 2 ∷ [])
+pub reborn_slot_links : map (world_after three_slots reborn_slot).link (0 ∷ 1 ∷ 2 ∷ []) ≡ map (λ s. link_shown_at (incarnations_after three_slots reborn_slot) (Slot s)) (0 ∷ 1 ∷ 2 ∷ [])
 unfolding bucket_of link_of word_of has_flag first_bits flag_word
 reborn_slot_links = refl
 
@@ -100,11 +100,11 @@ pub same_word_same_calls : (world_after three_slots same_word).calls ≡ (incarn
 unfolding bucket_of link_of word_of has_flag first_bits flag_word
 same_word_same_calls = refl
 
-pub same_word_head : (world_after three_slots same_word).head 0 ≡ link_at (incarnations_after three_slots same_word) (Head 0)
+pub same_word_head : (world_after three_slots same_word).head 0 ≡ link_shown_at (incarnations_after three_slots same_word) (Head 0)
 unfolding bucket_of link_of word_of has_flag first_bits flag_word
 same_word_head = refl
 
-pub same_word_links : map (world_after three_slots same_word).link (0 ∷ 1 ∷ 2 ∷ []) ≡ map (λ s. link_at (incarnations_after three_slots same_word) (Slot s)) (0 ∷ 1 ∷ 2 ∷ [])
+pub same_word_links : map (world_after three_slots same_word).link (0 ∷ 1 ∷ 2 ∷ []) ≡ map (λ s. link_shown_at (incarnations_after three_slots same_word) (Slot s)) (0 ∷ 1 ∷ 2 ∷ [])
 unfolding bucket_of link_of word_of has_flag first_bits flag_word
 same_word_links = refl
 
@@ -164,11 +164,11 @@ pub two_helpers_same_calls : (world_after one_slot two_helpers).calls ≡ (incar
 unfolding bucket_of link_of word_of has_flag first_bits flag_word
 two_helpers_same_calls = refl
 
-pub two_helpers_head : (world_after one_slot two_helpers).head 0 ≡ link_at (incarnations_after one_slot two_helpers) (Head 0)
+pub two_helpers_head : (world_after one_slot two_helpers).head 0 ≡ link_shown_at (incarnations_after one_slot two_helpers) (Head 0)
 unfolding bucket_of link_of word_of has_flag first_bits flag_word
 two_helpers_head = refl
 
-pub two_helpers_links : map (world_after one_slot two_helpers).link (0 ∷ []) ≡ map (λ s. link_at (incarnations_after one_slot two_helpers) (Slot s)) (0 ∷ [])
+pub two_helpers_links : map (world_after one_slot two_helpers).link (0 ∷ []) ≡ map (λ s. link_shown_at (incarnations_after one_slot two_helpers) (Slot s)) (0 ∷ [])
 unfolding bucket_of link_of word_of has_flag first_bits flag_word
 two_helpers_links = refl
 

@@ -14,7 +14,7 @@ use Rattle.vbr_core.specs.declared.history.Op.TheVariants.{Insert, Remove, Has}
 use Rattle.vbr_core.proofs.WorkedLists.{by, one_slot, two_helpers}
 
 abbrev look : Step
-look = ConfirmAbsent Has 7 (Head 0) 2097153
+look = ConfirmAbsent Has 7 (Head 0) 33554433
 
 pub passes_a_marked_node : IsAccepted one_slot 2 (world_after one_slot (take 16 two_helpers)) (by 1 look)
 unfolding bucket_of link_of word_of has_flag first_bits flag_word

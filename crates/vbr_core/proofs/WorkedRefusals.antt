@@ -5,11 +5,11 @@ use Rattle.vbr_words.specs.Flags.{has_flag, first_bits, flag_word}
 use Rattle.vbr_words.specs.Words.{word_of, link_of}
 use Rattle.vbr_core.specs.Acceptance.{bucket_of}
 use Rattle.vbr_core.specs.Machine.{opening}
-use Rattle.vbr_core.specs.Runs.{IsRun, Refuses, world_after, effects_from}
+use Rattle.vbr_core.specs.Runs.{IsRun, Refuses, world_after}
 use Rattle.vbr_core.specs.declared.event.Step.TheVariants.{ReadEpoch, Advance, TakeFlag, StoreBirth, StoreKey, LoadKey}
 use Rattle.vbr_core.specs.declared.event.Effect.TheVariants.{Won, Lost}
 use Rattle.vbr_core.specs.declared.event.CoreRefusal.TheVariants.{NoSuchPass, NotOwned, NotHeld, OutOfRange, EpochLast}
-use Rattle.vbr_core.proofs.WorkedLists.{by, three_slots, reborn_slot}
+use Rattle.vbr_core.proofs.WorkedLists.{by, three_slots, reborn_slot, effects_from}
 
 abbrev one_of_each : Dimensions
 one_of_each = record { slots = 1; buckets = 1; last_epoch = 1 }

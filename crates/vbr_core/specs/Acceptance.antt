@@ -127,25 +127,25 @@ next_of_marked None = None
 next_of_marked (Some link) = link.slot
 
 -- the reads that the step asks for are checked
-abbrev pub IsHeld : Dimensions → Know → Step → Type 0
-IsHeld shape know (StoreLink s next) = IsNextHeld know.checked next
-IsHeld shape know (LoadLink at) = IsTrue (holds_at know.checked at)
-IsHeld shape know (LoadBirth s) = IsTrue (holds know.checked s)
-IsHeld shape know (LoadKey s) = IsTrue (holds know.checked s)
-IsHeld shape know (Publish pred expected s) =
+abbrev pub HasChecked : Dimensions → Know → Step → Type 0
+HasChecked shape know (StoreLink s next) = IsNextHeld know.checked next
+HasChecked shape know (LoadLink at) = IsTrue (holds_at know.checked at)
+HasChecked shape know (LoadBirth s) = IsTrue (holds know.checked s)
+HasChecked shape know (LoadKey s) = IsTrue (holds know.checked s)
+HasChecked shape know (Publish pred expected s) =
     IsTrue (knows_link know.checked pred (link_of expected))
     × (IsSome (birth_at know.checked pred) × KnowsKeyAt know.checked pred)
     × (IsSome (birth_of know.checked (link_of expected).slot) × KnowsKeyOf know.checked (link_of expected).slot)
-IsHeld shape know (Mark s expected) = IsTrue (knows_link know.checked (Slot s) (link_of expected)) × IsSome (key_in know.checked s)
-IsHeld shape know (Unlink pred expected s) =
+HasChecked shape know (Mark s expected) = IsTrue (knows_link know.checked (Slot s) (link_of expected)) × IsSome (key_in know.checked s)
+HasChecked shape know (Unlink pred expected s) =
     IsTrue (knows_link know.checked pred (link_of expected))
     × IsSome (marked_in know.checked s)
     × IsSome (birth_at know.checked pred)
     × IsSome (birth_of know.checked (next_of_marked (marked_in know.checked s)))
-IsHeld shape know (ConfirmPresent op s expected) = IsTrue (knows_link know.checked (Slot s) (link_of expected)) × IsSome (key_in know.checked s)
-IsHeld shape know (ConfirmAbsent op key at expected) =
+HasChecked shape know (ConfirmPresent op s expected) = IsTrue (knows_link know.checked (Slot s) (link_of expected)) × IsSome (key_in know.checked s)
+HasChecked shape know (ConfirmAbsent op key at expected) =
     IsTrue (knows_link know.checked at (link_of expected)) × KnowsKeyAt know.checked at × MeetsKey shape.slots know.checked (link_of expected).slot
-IsHeld shape know _ = Unit {0}
+HasChecked shape know _ = Unit {0}
 
 -- ---- the numbers
 
@@ -177,17 +177,17 @@ stamp_in (Some (InHand stamp birth key link)) = stamp
 stamp_in _ = 0
 
 -- a slot in hand whose key and link were stored since its birth: the link names what the expected link names, and the key stands between
-abbrev pub IsReady : Dimensions → List Read → At → Link → Option Holding → Type 0
-IsReady shape reads pred expected (Some (InHand stamp birth (Some key) (Some link))) =
+abbrev pub MayPublish : Dimensions → List Read → At → Link → Option Holding → Type 0
+MayPublish shape reads pred expected (Some (InHand stamp birth (Some key) (Some link))) =
     (link ≡ link_to expected.slot birth (unwrap_or (birth_of reads expected.slot) 0)) × IsBehind shape reads pred key × IsBefore reads key expected.slot
-IsReady shape reads pred expected _ = ⊥
+MayPublish shape reads pred expected _ = ⊥
 
 -- the step's numbers are in range
 abbrev pub IsInRange : Dimensions → Know → Step → Type 0
 IsInRange shape know (Advance from) = 1 ≤ from
 IsInRange shape know (StoreStamp s stamp) = IsReread (know.own s) × (stamp ≡ know.epoch)
 IsInRange shape know (StoreBirth s birth) = (birth ≡ know.epoch) × (stamp_in (know.own s) < birth)
-IsInRange shape know (Publish pred expected s) = ((link_of expected).mark ≡ false) × IsReady shape know.checked pred (link_of expected) (know.own s)
+IsInRange shape know (Publish pred expected s) = ((link_of expected).mark ≡ false) × MayPublish shape know.checked pred (link_of expected) (know.own s)
 IsInRange shape know (Mark s expected) = (link_of expected).mark ≡ false
 IsInRange shape know (Unlink pred expected s) = ((link_of expected).mark ≡ false) × ((link_of expected).slot ≡ Some s)
 IsInRange shape know (ConfirmPresent op s expected) = ((link_of expected).mark ≡ false) × (op ≢ Remove)
@@ -206,7 +206,7 @@ IsBelowLast shape _ = Unit {0}
 pub record Accepts (shape : Dimensions) (know : Know) (step : Step) : Type 0 where
   pub in_shape : IsInShape shape step
   pub owned : IsOwned know step
-  pub held : IsHeld shape know step
+  pub held : HasChecked shape know step
   pub in_range : IsInRange shape know step
   pub below_last : IsBelowLast shape step
 

@@ -1,11 +1,10 @@
 -- The account of a run: its chronicle, the incarnations that this makes, and the notes of each pass.
-use Rattle.std.specs.Prelude.{ℕ, List, [], ◌∷◌, ◌++◌, Option, Some, None, ◌==◌, if◌then◌else◌}
+use Rattle.std.specs.Prelude.{ℕ, List, [], ◌∷◌, ◌++◌, Option, Some, None, if◌then◌else◌}
 use Rattle.vbr_words.specs.Dimensions.{Dimensions}
-use Rattle.vbr_words.specs.Flags.{has_flag}
 use Rattle.vbr_words.specs.Words.{link_of}
 use Rattle.vbr_core.specs.Put.{put}
 use Rattle.vbr_core.specs.Keys.{no_keys}
-use Rattle.vbr_core.specs.Learning.{link_written, call_of}
+use Rattle.vbr_core.specs.Learning.{succeeds, link_written, call_of}
 use Rattle.vbr_core.specs.Machine.{World, opening, found, after}
 use Rattle.vbr_core.specs.Incarnations.{Incarnations, nothing_yet, last_in}
 use Rattle.vbr_core.specs.Chronicles.{Happening, Advances, Gains, Probes, Raises, GivesUp, Bears, Keyed, Aims, Inserts, Removes, Unlinks, Stamps, Answers, Entry, IsLawful, incarnations_from, entries_by}
@@ -13,7 +12,7 @@ use Rattle.vbr_core.specs.Notes.{Notes, no_notes, before_at, notes_with, NamesLa
 use Rattle.vbr_core.specs.declared.history.Call.{Call}
 use Rattle.vbr_core.specs.declared.event.Event.{Event}
 use Rattle.vbr_core.specs.declared.event.Step.{Step}
-use Rattle.vbr_core.specs.declared.event.Step.TheVariants.{Advance, StoreStamp, Raise, TakeFlag, StoreBirth, StoreKey, StoreLink, Publish, Mark, Unlink, ConfirmPresent, ConfirmAbsent}
+use Rattle.vbr_core.specs.declared.event.Step.TheVariants.{Advance, StoreStamp, Raise, TakeFlag, StoreBirth, StoreKey, StoreLink, Publish, Mark, Unlink}
 use Rattle.vbr_core.specs.declared.knowledge.Holding.{Holding}
 use Rattle.vbr_core.specs.declared.knowledge.Holding.TheVariants.{InHand}
 
@@ -31,35 +30,28 @@ abbrev pub answered : ℕ → Option Call → List Entry
 answered pass None = []
 answered pass (Some call) = just pass (Answers call)
 
--- what a step that found its word adds to the chronicle
+-- what a step that succeeds adds to the chronicle: loads add nothing
 abbrev pub happens_if_found : World → Incarnations → ℕ → Step → List Entry
 happens_if_found w a pass (Advance from) = just pass Advances
+happens_if_found w a pass (StoreStamp s stamp) = just pass (Stamps (last_in a s) stamp)
+happens_if_found w a pass (Raise s) = just pass (Raises s)
 happens_if_found w a pass (TakeFlag s) = just pass (Gains s)
+happens_if_found w a pass (StoreBirth s birth) = born_in a pass s birth ((w.know pass).own s)
+happens_if_found w a pass (StoreKey s key) = just pass (Keyed (last_in a s) key)
+happens_if_found w a pass (StoreLink s next) = just pass (Aims (last_in a s) (link_written (w.know pass) (StoreLink s next)))
 happens_if_found w a pass (Publish pred expected s) = just pass (Inserts (last_in a s) (before_at a pred))
 happens_if_found w a pass (Mark s expected) = just pass (Removes (last_in a s))
 happens_if_found w a pass (Unlink pred expected s) = just pass (Unlinks (last_in a s) (before_at a pred))
 happens_if_found w a pass step = answered pass (call_of pass (w.know pass) step)
 
--- what an accepted step adds to the chronicle: an exchange or a confirming load that doesn't find its word adds nothing, but a flag that isn't taken was probed; loads add nothing
+-- what a step that doesn't succeed adds: a flag that isn't taken was probed
+abbrev pub happens_if_missed : ℕ → Step → List Entry
+happens_if_missed pass (TakeFlag s) = just pass (Probes s)
+happens_if_missed pass step = []
+
+-- what an accepted step adds to the chronicle
 abbrev pub happens : Dimensions → World → Incarnations → ℕ → Step → List Entry
-happens shape w a pass (Advance from) = if found shape w (Advance from) == from then happens_if_found w a pass (Advance from) else []
-happens shape w a pass (StoreStamp s stamp) = just pass (Stamps (last_in a s) stamp)
-happens shape w a pass (Raise s) = just pass (Raises s)
-happens shape w a pass (TakeFlag s) = if has_flag (found shape w (TakeFlag s)) s then happens_if_found w a pass (TakeFlag s) else just pass (Probes s)
-happens shape w a pass (StoreBirth s birth) = born_in a pass s birth ((w.know pass).own s)
-happens shape w a pass (StoreKey s key) = just pass (Keyed (last_in a s) key)
-happens shape w a pass (StoreLink s next) = just pass (Aims (last_in a s) (link_written (w.know pass) (StoreLink s next)))
-happens shape w a pass (Publish pred expected s) =
-    let step = Publish pred expected s in if found shape w step == expected then happens_if_found w a pass step else []
-happens shape w a pass (Mark s expected) =
-    let step = Mark s expected in if found shape w step == expected then happens_if_found w a pass step else []
-happens shape w a pass (Unlink pred expected s) =
-    let step = Unlink pred expected s in if found shape w step == expected then happens_if_found w a pass step else []
-happens shape w a pass (ConfirmPresent op s expected) =
-    let step = ConfirmPresent op s expected in if found shape w step == expected then happens_if_found w a pass step else []
-happens shape w a pass (ConfirmAbsent op key at expected) =
-    let step = ConfirmAbsent op key at expected in if found shape w step == expected then happens_if_found w a pass step else []
-happens shape w a pass step = []
+happens shape w a pass step = if succeeds step (found shape w step) then happens_if_found w a pass step else happens_if_missed pass step
 
 -- ---- along a run
 

@@ -24,7 +24,7 @@ use Rattle.vbr_core.specs.declared.knowledge.SlotPlace.TheVariants.{Own, Hand}
 -- ---- good notes
 
 -- an incarnation of the slot that was born by the epoch and is late for it
-pub record Held (a : Incarnations) (epoch s c : ℕ) : Type 0 where
+pub record IsHeldIncarnation (a : Incarnations) (epoch s c : ℕ) : Type 0 where
   pub slot : a.slot c ≡ s
   pub birth : a.birth c ≤ epoch
   pub late : IsLate (a.state c) epoch
@@ -32,13 +32,13 @@ pub record Held (a : Incarnations) (epoch s c : ℕ) : Type 0 where
 -- the incarnation at a place is held there; at a head there is none
 abbrev pub IsHeldAt : Incarnations → ℕ → At → Option ℕ → Type 0
 IsHeldAt a epoch (Head b) None = Unit {0}
-IsHeldAt a epoch (Slot s) (Some c) = Held a epoch s c
+IsHeldAt a epoch (Slot s) (Some c) = IsHeldIncarnation a epoch s c
 IsHeldAt a epoch _ _ = ⊥
 
 -- the incarnation that a link names is held at the slot that it names, and there is one exactly where it names a slot
 abbrev pub IsHeldNext : Incarnations → ℕ → Option ℕ → Option ℕ → Type 0
 IsHeldNext a epoch None None = Unit {0}
-IsHeldNext a epoch (Some s) (Some n) = Held a epoch s n
+IsHeldNext a epoch (Some s) (Some n) = IsHeldIncarnation a epoch s n
 IsHeldNext a epoch _ _ = ⊥
 
 -- an incarnation was removed, and its successor, which no longer changes, is this one; there is none at a head
@@ -66,7 +66,7 @@ IsLastOf a (Some c) = a.last (a.slot c) ≡ Some c
 -- a birth or a key is that of an incarnation that is held at its slot
 abbrev pub IsOfHeldOne : Incarnations → ℕ → ℕ → (ℕ → ℕ) → ℕ → Option ℕ → Type 0
 IsOfHeldOne a epoch s values value None = ⊥
-IsOfHeldOne a epoch s values value (Some c) = Held a epoch s c × (values c ≡ value)
+IsOfHeldOne a epoch s values value (Some c) = IsHeldIncarnation a epoch s c × (values c ≡ value)
 
 -- a read is good for an epoch, as one of this incarnation and, for a link, naming this one
 abbrev pub IsGoodRead : Incarnations → ℕ → Read → Option ℕ → Option ℕ → Type 0
@@ -99,8 +99,8 @@ pub record IsNoted (a : Incarnations) (know : Know) (notes : Notes) : Type 0 whe
   pub pending : a.epoch ≡ know.epoch → AllByRecursion (IsGood a know.epoch) notes.pending
 
 -- what each pass has read agrees with its notes
-abbrev pub Knows : Incarnations → (ℕ → Know) → (ℕ → Notes) → Type 0
-Knows a know notes = (pass : ℕ) → IsNoted a (know pass) (notes pass)
+abbrev pub AllKnowRight : Incarnations → (ℕ → Know) → (ℕ → Notes) → Type 0
+AllKnowRight a know notes = (pass : ℕ) → IsNoted a (know pass) (notes pass)
 
 -- ---- what a pass knows of its slots
 
@@ -159,7 +159,7 @@ pub record Agrees (shape : Dimensions) (w : World) (a : Incarnations) (notes : �
   pub tells : Tells a
   pub fits : Fits shape a
   pub image : IsImage w a
-  pub knows : Knows a w.know notes
+  pub knows : AllKnowRight a w.know notes
   pub owns : Owns a w.know
   pub calls : w.calls ≡ a.calls
   pub births : w.births ≡ min a.count (2 ^ 64 - 1)

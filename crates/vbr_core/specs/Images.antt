@@ -40,15 +40,15 @@ link_shown a None = opening_link
 link_shown a (Some c) = link_in_state a c (a.state c)
 
 -- the link that the image has at a place: at a head that to the first of its bucket, in a slot that of its last incarnation
-abbrev pub link_at : Incarnations → At → Link
-link_at a (Head b) = link_to_next a 0 (a.first b)
-link_at a (Slot s) = link_shown a (a.last s)
+abbrev pub link_shown_at : Incarnations → At → Link
+link_shown_at a (Head b) = link_to_next a 0 (a.first b)
+link_shown_at a (Slot s) = link_shown a (a.last s)
 
 -- the words of a world are the image of the incarnations, and each slot has the same place in both; so the flag of a slot is set exactly where the slot is in the shared pool
 pub record IsImage (w : World) (a : Incarnations) : Type 0 where
   pub epoch : w.epoch ≡ a.epoch
-  pub head : (b : ℕ) → w.head b ≡ link_at a (Head b)
-  pub link : (s : ℕ) → w.link s ≡ link_at a (Slot s)
+  pub head : (b : ℕ) → w.head b ≡ link_shown_at a (Head b)
+  pub link : (s : ℕ) → w.link s ≡ link_shown_at a (Slot s)
   pub birth : (s : ℕ) → w.birth s ≡ birth_shown a (a.last s)
   pub key : (s : ℕ) → w.key s ≡ key_shown a (a.last s)
   pub stamp : (s : ℕ) → w.stamp s ≡ a.stamp s

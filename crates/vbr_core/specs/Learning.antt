@@ -22,38 +22,41 @@ use Rattle.vbr_core.specs.declared.knowledge.Holding.TheVariants.{Free, Unlinked
 
 -- ---- answers
 
--- the answer of an exchange that expected one word and found another or the same
-abbrev pub exchanged : ℕ → ℕ → Effect
-exchanged expected found = if found == expected then Won else Lost found
-
--- the answer of a step that takes the flag of a slot: it was won where the word that was found has it
-abbrev pub taken : ℕ → ℕ → Effect
-taken s found = if has_flag found s then Won else Lost found
-
--- the answer of a confirming load
-abbrev pub confirmed : Bool → ℕ → ℕ → Effect
-confirmed reply expected found = if found == expected then Answered reply else Lost found
+-- whether a step succeeds that found this word: an exchange or a confirming load does only where it found the expected one, and a flag is taken only where it is set
+abbrev pub succeeds : Step → ℕ → Bool
+succeeds (Advance from) found = found == from
+succeeds (TakeFlag s) found = has_flag found s
+succeeds (Publish pred expected s) found = found == expected
+succeeds (Mark s expected) found = found == expected
+succeeds (Unlink pred expected s) found = found == expected
+succeeds (ConfirmPresent op s expected) found = found == expected
+succeeds (ConfirmAbsent op key at expected) found = found == expected
+succeeds _ found = true
 
 -- the reply that the presence of the key gives to an operation: yes to a look-up, no to an insert
 abbrev pub present_reply : Op → Bool
 present_reply Has = true
 present_reply _ = false
 
+-- the effect of a step that succeeds, from the word that it found
+abbrev pub effect_where_it_succeeds : Step → ℕ → Effect
+effect_where_it_succeeds (Advance from) found = Won
+effect_where_it_succeeds (StoreStamp s stamp) found = Done
+effect_where_it_succeeds (Raise s) found = Done
+effect_where_it_succeeds (TakeFlag s) found = Won
+effect_where_it_succeeds (StoreBirth s birth) found = Done
+effect_where_it_succeeds (StoreKey s key) found = Done
+effect_where_it_succeeds (StoreLink s next) found = Done
+effect_where_it_succeeds (Publish pred expected s) found = Won
+effect_where_it_succeeds (Mark s expected) found = Won
+effect_where_it_succeeds (Unlink pred expected s) found = Won
+effect_where_it_succeeds (ConfirmPresent op s expected) found = Answered (present_reply op)
+effect_where_it_succeeds (ConfirmAbsent op key at expected) found = Answered false
+effect_where_it_succeeds _ found = Value found
+
 -- the effect of a step, from the word that it found
 abbrev pub effect_of : Step → ℕ → Effect
-effect_of (Advance from) found = exchanged from found
-effect_of (StoreStamp s stamp) found = Done
-effect_of (Raise s) found = Done
-effect_of (TakeFlag s) found = taken s found
-effect_of (StoreBirth s birth) found = Done
-effect_of (StoreKey s key) found = Done
-effect_of (StoreLink s next) found = Done
-effect_of (Publish pred expected s) found = exchanged expected found
-effect_of (Mark s expected) found = exchanged expected found
-effect_of (Unlink pred expected s) found = exchanged expected found
-effect_of (ConfirmPresent op s expected) found = confirmed (present_reply op) expected found
-effect_of (ConfirmAbsent op key at expected) found = confirmed false expected found
-effect_of _ found = Value found
+effect_of step found = if succeeds step found then effect_where_it_succeeds step found else Lost found
 
 -- ---- what is in hand
 
@@ -93,6 +96,11 @@ link_written know (Unlink pred expected s) =
     let next = next_of_marked (marked_in know.checked s) in
     link_to next (unwrap_or (birth_at know.checked pred) 0) (unwrap_or (birth_of know.checked next) 0)
 link_written know _ = opening_link
+
+-- the key of the slot that a step publishes
+abbrev pub key_written : Know → Step → ℕ
+key_written know (Publish pred expected s) = key_in_hand (know.own s)
+key_written know _ = 0
 
 -- ---- what is learned
 
@@ -140,7 +148,7 @@ abbrev pub learn : Step → ℕ → ℕ → Know → Know
 learn ReadEpoch found stamp know = read_epoch know found
 learn (StoreStamp s new) found stamp know = with_own know s (Some (Free new))
 learn (Raise s) found stamp know = with_own know s None
-learn (TakeFlag s) found stamp know = if has_flag found s then with_own know s (Some (Free stamp)) else know
+learn (TakeFlag s) found stamp know = if succeeds (TakeFlag s) found then with_own know s (Some (Free stamp)) else know
 learn (StoreBirth s birth) found stamp know = with_own know s (Some (InHand (stamp_in (know.own s)) birth None None))
 learn (StoreKey s key) found stamp know = with_own know s (with_key (know.own s) key)
 learn (StoreLink s next) found stamp know = with_own know s (with_link (know.own s) (link_written know (StoreLink s next)))
@@ -148,10 +156,10 @@ learn (LoadLink at) found stamp know = with_pending know (LinkAt at (link_of fou
 learn (LoadBirth s) found stamp know = with_pending know (BirthOf s found)
 learn (LoadKey s) found stamp know = with_pending know (KeyOf s found)
 learn (Publish pred expected s) found stamp know =
-    if found == expected then with_own (with_checked know (reads_won know (Publish pred expected s))) s None else know
-learn (Mark s expected) found stamp know = if found == expected then with_checked know (reads_won know (Mark s expected)) else know
+    if succeeds (Publish pred expected s) found then with_own (with_checked know (reads_won know (Publish pred expected s))) s None else know
+learn (Mark s expected) found stamp know = if succeeds (Mark s expected) found then with_checked know (reads_won know (Mark s expected)) else know
 learn (Unlink pred expected s) found stamp know =
-    if found == expected then with_own (with_checked know (reads_won know (Unlink pred expected s))) s (Some (Unlinked false)) else know
+    if succeeds (Unlink pred expected s) found then with_own (with_checked know (reads_won know (Unlink pred expected s))) s (Some (Unlinked false)) else know
 learn _ found stamp know = know
 
 -- ---- the call that is made

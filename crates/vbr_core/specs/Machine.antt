@@ -2,7 +2,7 @@
 use Rattle.std.specs.Prelude.{ℕ, ◌+◌, ◌-◌, ◌*◌, ◌^◌, min, ◌==◌, nat_lt, Bool, true, false, ◌&&◌, bit_and, bit_or, List, [], ◌∷◌, ◌++◌, Option, Some, None, if◌then◌else◌}
 use Rattle.vbr_words.specs.Dimensions.{Dimensions}
 use Rattle.vbr_words.specs.Words.{word_of}
-use Rattle.vbr_words.specs.Flags.{word_of_flag, flag_of, all_but, has_flag, flag_word}
+use Rattle.vbr_words.specs.Flags.{word_of_flag, flag_of, all_but, flag_word}
 use Rattle.vbr_words.specs.Places as places
 use Rattle.vbr_words.specs.declared.link.TheConstants.{MARK}
 use Rattle.vbr_words.specs.declared.link.Link.{Link}
@@ -14,7 +14,7 @@ use Rattle.vbr_core.specs.Put.{put}
 use Rattle.vbr_core.specs.Links.{opening_link, empty_head}
 use Rattle.vbr_core.specs.Knowledge.{Know}
 use Rattle.vbr_core.specs.Acceptance.{bucket_of}
-use Rattle.vbr_core.specs.Learning.{key_in_hand, link_written, learn, call_of}
+use Rattle.vbr_core.specs.Learning.{succeeds, link_written, key_written, learn, call_of}
 use Rattle.vbr_core.specs.declared.history.Call.{Call}
 use Rattle.vbr_core.specs.declared.event.Step.{Step}
 use Rattle.vbr_core.specs.declared.event.Step.TheVariants.{ReadEpoch, Advance, LoadStamp, StoreStamp, Raise, TakeFlag, StoreBirth, StoreKey, StoreLink, LoadLink, LoadBirth, LoadKey, Publish, Mark, Unlink, ConfirmPresent, ConfirmAbsent}
@@ -88,24 +88,24 @@ word_at shape w (place.Flags number) = flag_word (is_flagged shape w) number
 -- ---- how a step reaches its word
 
 -- the place of the one word that a step loads, stores or exchanges
-abbrev pub place_of : Step → Place
-place_of ReadEpoch = place.Epoch
-place_of (Advance from) = place.Epoch
-place_of (LoadStamp s) = place.Stamp s
-place_of (StoreStamp s stamp) = place.Stamp s
-place_of (Raise s) = place.Flags (word_of_flag s)
-place_of (TakeFlag s) = place.Flags (word_of_flag s)
-place_of (StoreBirth s birth) = place.Birth s
-place_of (StoreKey s key) = place.Key s
-place_of (StoreLink s next) = place.LinkOf s
-place_of (LoadLink at) = places.place_of at
-place_of (LoadBirth s) = place.Birth s
-place_of (LoadKey s) = place.Key s
-place_of (Publish pred expected s) = places.place_of pred
-place_of (Mark s expected) = place.LinkOf s
-place_of (Unlink pred expected s) = places.place_of pred
-place_of (ConfirmPresent op s expected) = place.LinkOf s
-place_of (ConfirmAbsent op key at expected) = places.place_of at
+abbrev pub place_of_step : Step → Place
+place_of_step ReadEpoch = place.Epoch
+place_of_step (Advance from) = place.Epoch
+place_of_step (LoadStamp s) = place.Stamp s
+place_of_step (StoreStamp s stamp) = place.Stamp s
+place_of_step (Raise s) = place.Flags (word_of_flag s)
+place_of_step (TakeFlag s) = place.Flags (word_of_flag s)
+place_of_step (StoreBirth s birth) = place.Birth s
+place_of_step (StoreKey s key) = place.Key s
+place_of_step (StoreLink s next) = place.LinkOf s
+place_of_step (LoadLink at) = places.place_of at
+place_of_step (LoadBirth s) = place.Birth s
+place_of_step (LoadKey s) = place.Key s
+place_of_step (Publish pred expected s) = places.place_of pred
+place_of_step (Mark s expected) = place.LinkOf s
+place_of_step (Unlink pred expected s) = places.place_of pred
+place_of_step (ConfirmPresent op s expected) = place.LinkOf s
+place_of_step (ConfirmAbsent op key at expected) = places.place_of at
 
 -- an atomic operation on one word: a load, a store of a word, an exchange of an expected word for a new one, or one that sets bits or keeps them alone
 pub data Access : Type 0 where
@@ -145,7 +145,7 @@ counted births = min (births + 1) (2 ^ 64 - 1)
 
 -- the word that a step finds, or that its store replaces
 abbrev pub found : Dimensions → World → Step → ℕ
-found shape w step = word_at shape w (place_of step)
+found shape w step = word_at shape w (place_of_step step)
 
 -- the stamp of the slot that a step takes
 abbrev pub stamp_shown : World → Step → ℕ
@@ -166,40 +166,31 @@ abbrev pub with_call : World → Option Call → World
 with_call w None = w
 with_call w (Some call) = record w { calls = w.calls ++ call ∷ [] }
 
--- an exchange or a confirming load makes its change only where it finds the expected word
-abbrev pub where_found : ℕ → ℕ → World → World → World
-where_found expected found changed w = if found == expected then changed else w
+-- the words and places that a step of a pass writes where it succeeds, from the link and the key that the pass had for it
+abbrev pub written : Dimensions → ℕ → Step → Link → ℕ → World → World
+written shape p (Advance from) link key w = record w { epoch = w.epoch + 1 }
+written shape p (StoreStamp s stamp) link key w = record w { stamp = put w.stamp s stamp }
+written shape p (Raise s) link key w = record w { place = put w.place s Shared }
+written shape p (TakeFlag s) link key w = record w { place = put w.place s (Own p) }
+written shape p (StoreBirth s birth) link key w = record w { birth = put w.birth s birth; place = put w.place s (Hand p); births = counted w.births }
+written shape p (StoreKey s new) link key w = record w { key = put w.key s new }
+written shape p (StoreLink s next) link key w = with_link_at w (Slot s) link
+written shape p (Publish pred expected s) link key w = record (with_link_at w pred link) { place = put w.place s (Listed (bucket_of shape key)) }
+written shape p (Mark s expected) link key w = with_link_at w (Slot s) link
+written shape p (Unlink pred expected s) link key w = record (with_link_at w pred link) { place = put w.place s (Own p) }
+written shape p _ link key w = w
 
--- the world after an accepted step of a pass
+-- its pass learns from a step that teaches something
+abbrev pub learned : Dimensions → World → ℕ → Step → World
+learned shape w p (Advance from) = w
+learned shape w p (LoadStamp s) = w
+learned shape w p (ConfirmPresent op s expected) = w
+learned shape w p (ConfirmAbsent op key at expected) = w
+learned shape w p step = with_learning shape w p step
+
+-- the world after an accepted step of a pass: where the step succeeds, its pass has learned, the words and places are written, and its call is made; else nothing has changed
 abbrev pub after : Dimensions → World → ℕ → Step → World
-after shape w p ReadEpoch = with_learning shape w p ReadEpoch
-after shape w p (Advance from) = where_found from w.epoch (record w { epoch = w.epoch + 1 }) w
-after shape w p (LoadStamp s) = w
-after shape w p (StoreStamp s stamp) = record (with_learning shape w p (StoreStamp s stamp)) { stamp = put w.stamp s stamp }
-after shape w p (Raise s) = record (with_learning shape w p (Raise s)) { place = put w.place s Shared }
-after shape w p (TakeFlag s) = if has_flag (found shape w (TakeFlag s)) s then record (with_learning shape w p (TakeFlag s)) { place = put w.place s (Own p) } else w
-after shape w p (StoreBirth s birth) =
-    record (with_learning shape w p (StoreBirth s birth)) { birth = put w.birth s birth; place = put w.place s (Hand p); births = counted w.births }
-after shape w p (StoreKey s key) = record (with_learning shape w p (StoreKey s key)) { key = put w.key s key }
-after shape w p (StoreLink s next) =
-    record (with_learning shape w p (StoreLink s next)) { link = put w.link s (link_written (w.know p) (StoreLink s next)) }
-after shape w p (LoadLink at) = with_learning shape w p (LoadLink at)
-after shape w p (LoadBirth s) = with_learning shape w p (LoadBirth s)
-after shape w p (LoadKey s) = with_learning shape w p (LoadKey s)
-after shape w p (Publish pred expected s) =
-    let step = Publish pred expected s in
-    let linked = with_link_at (with_learning shape w p step) pred (link_written (w.know p) step) in
-    where_found expected (word_of (link_at w pred))
-    (with_call (record linked { place = put w.place s (Listed (bucket_of shape (key_in_hand ((w.know p).own s)))) }) (call_of p (w.know p) step)) w
-after shape w p (Mark s expected) =
-    let step = Mark s expected in
-    where_found expected (word_of (w.link s))
-    (with_call (with_link_at (with_learning shape w p step) (Slot s) (link_written (w.know p) step)) (call_of p (w.know p) step)) w
-after shape w p (Unlink pred expected s) =
-    let step = Unlink pred expected s in
-    let unlinked = with_link_at (with_learning shape w p step) pred (link_written (w.know p) step) in
-    where_found expected (word_of (link_at w pred)) (record unlinked { place = put w.place s (Own p) }) w
-after shape w p (ConfirmPresent op s expected) =
-    where_found expected (word_of (w.link s)) (with_call w (call_of p (w.know p) (ConfirmPresent op s expected))) w
-after shape w p (ConfirmAbsent op key at expected) =
-    where_found expected (word_of (link_at w at)) (with_call w (call_of p (w.know p) (ConfirmAbsent op key at expected))) w
+after shape w p step =
+    if succeeds step (found shape w step)
+    then with_call (written shape p step (link_written (w.know p) step) (key_written (w.know p) step) (learned shape w p step)) (call_of p (w.know p) step)
+    else w

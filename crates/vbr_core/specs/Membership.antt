@@ -93,12 +93,12 @@ pub record IsUnlinkLink (know : Know) (pred : At) (s : ℕ) (new : Link) : Type 
   pub is : new ≡ link_to frozen.slot birth next_birth
 
 -- the step writes this link, by births and a marked link that are known; other steps write none
-abbrev pub Writes : Know → Step → Link → Type 0
-Writes know (StoreLink s next) new = (birth : ℕ) × BirthNamed know next birth × (new ≡ link_to next (birth_in_hand (know.own s)) birth)
-Writes know (Publish pred expected s) new = (birth : ℕ) × BirthAt know pred birth × (new ≡ link_to (Some s) birth (birth_in_hand (know.own s)))
-Writes know (Mark s expected) new = new ≡ marked (link_of expected)
-Writes know (Unlink pred expected s) new = IsUnlinkLink know pred s new
-Writes know _ new = ⊥
+abbrev pub WritesLink : Know → Step → Link → Type 0
+WritesLink know (StoreLink s next) new = (birth : ℕ) × BirthNamed know next birth × (new ≡ link_to next (birth_in_hand (know.own s)) birth)
+WritesLink know (Publish pred expected s) new = (birth : ℕ) × BirthAt know pred birth × (new ≡ link_to (Some s) birth (birth_in_hand (know.own s)))
+WritesLink know (Mark s expected) new = new ≡ marked (link_of expected)
+WritesLink know (Unlink pred expected s) new = IsUnlinkLink know pred s new
+WritesLink know _ new = ⊥
 
 -- ---- acceptance
 
@@ -121,14 +121,14 @@ IsKnown know (ConfirmAbsent op key at expected) = Knows know (LinkAt at (link_of
 IsKnown know _ = Unit {0}
 
 -- a slot in hand whose key and link were stored since its birth: the link names what the expected link names, by a birth that is known of that, and the key stands between
-abbrev pub IsReadyKnown : Dimensions → Know → At → Link → Option Holding → Type 0
-IsReadyKnown shape know pred expected (Some (InHand stamp birth (Some key) (Some link))) =
+abbrev pub MayPublishKnown : Dimensions → Know → At → Link → Option Holding → Type 0
+MayPublishKnown shape know pred expected (Some (InHand stamp birth (Some key) (Some link))) =
     ((named : ℕ) × BirthNamed know expected.slot named × (link ≡ link_to expected.slot birth named)) × StandsBehind shape know pred key × StandsBefore know key expected.slot
-IsReadyKnown shape know pred expected _ = ⊥
+MayPublishKnown shape know pred expected _ = ⊥
 
 -- the step's numbers are in range
 abbrev pub IsInRangeKnown : Dimensions → Know → Step → Type 0
-IsInRangeKnown shape know (Publish pred expected s) = ((link_of expected).mark ≡ false) × IsReadyKnown shape know pred (link_of expected) (know.own s)
+IsInRangeKnown shape know (Publish pred expected s) = ((link_of expected).mark ≡ false) × MayPublishKnown shape know pred (link_of expected) (know.own s)
 IsInRangeKnown shape know (ConfirmAbsent op key at expected) =
     ((link_of expected).mark ≡ false) × (op ≢ Insert) × StandsBehind shape know at key × StandsBeforeOn know key (link_of expected)
 IsInRangeKnown shape know step = IsInRange shape know step

@@ -1,5 +1,5 @@
 -- The nodes of lists, counted by slots: each slot has at most one, its last incarnation.
-use Rattle.std.specs.Prelude.{ℕ, zero, suc, Bool, true, false, ◌==◌, ◌&&◌, Option, Some, None, nat_lt, List, if◌then◌else◌}
+use Rattle.std.specs.Prelude.{ℕ, zero, suc, Bool, true, false, ◌==◌, ◌&&◌, Option, Some, None, nat_lt, List, if◌then◌else◌, ◌≡◌}
 use Rattle.vbr_words.specs.Dimensions.{Dimensions}
 use Rattle.vbr_words.specs.declared.place.At.{At}
 use Rattle.vbr_words.specs.declared.place.At.TheVariants.{Head, Slot}
@@ -8,6 +8,7 @@ use Rattle.vbr_core.specs.Accounts.{incarnations_after}
 use Rattle.vbr_core.specs.Images.{key_shown}
 use Rattle.vbr_core.specs.Incarnations.{State, Unborn, Linked, Marked, Incarnations}
 use Rattle.vbr_core.specs.declared.event.Event.{Event}
+use Rattle.vbr_core.specs.Sound.{IsListed}
 
 -- what has become of an incarnation; none is not born
 abbrev pub state_shown : Incarnations → Option ℕ → State
@@ -73,6 +74,12 @@ linked_after shape run = count_below (λ s. is_linked (state_in (incarnations_af
 abbrev pub marked_after : Dimensions → List Event → ℕ
 marked_after shape run = count_below (λ s. is_marked (state_in (incarnations_after shape run) s)) shape.slots
 
--- how many nodes, linked or marked, are in the list of a bucket after a run
-abbrev pub listed_after : Dimensions → List Event → ℕ → ℕ
-listed_after shape run bucket = behind shape (incarnations_after shape run) bucket (Head bucket)
+-- the last incarnation of a slot is this one, and it is in a list
+pub record Stands (a : Incarnations) (s c : ℕ) : Type 0 where
+  pub last : a.last s ≡ Some c
+  pub listed : IsListed (a.state c)
+
+-- the node of a slot is in the list of a bucket
+pub record InList (shape : Dimensions) (a : Incarnations) (bucket s c : ℕ) : Type 0 where
+  pub stands : Stands a s c
+  pub of_bucket : bucket_of shape (a.key c) ≡ bucket

@@ -4,10 +4,10 @@ use Rattle.vbr_words.specs.Dimensions.{Dimensions}
 use Rattle.vbr_words.specs.Words.{link_of}
 use Rattle.vbr_words.specs.declared.place.At.{At}
 use Rattle.vbr_words.specs.declared.place.At.TheVariants.{Head, Slot}
-use Rattle.vbr_core.specs.Learning.{read_loaded, reads_won}
+use Rattle.vbr_core.specs.Learning.{succeeds, read_loaded, reads_won}
 use Rattle.vbr_core.specs.Machine.{World, found}
 use Rattle.vbr_core.specs.Incarnations.{Incarnations, last_in}
-use Rattle.vbr_core.specs.Images.{birth_shown, key_shown, link_at}
+use Rattle.vbr_core.specs.Images.{birth_shown, key_shown, link_shown_at}
 use Rattle.vbr_core.specs.Chronicles.{Before, AtHead, AtNode, next_of}
 use Rattle.vbr_core.specs.declared.event.Step.{Step}
 use Rattle.vbr_core.specs.declared.event.Step.TheVariants.{ReadEpoch, Publish, Mark, Unlink}
@@ -44,7 +44,7 @@ last_at a (Slot s) = a.last s
 
 -- what the incarnations show where a read was made
 abbrev pub shown_at : Incarnations → Read → Read
-shown_at a (LinkAt at link) = LinkAt at (link_at a at)
+shown_at a (LinkAt at link) = LinkAt at (link_shown_at a at)
 shown_at a (BirthOf s birth) = BirthOf s (birth_shown a (a.last s))
 shown_at a (KeyOf s key) = KeyOf s (key_shown a (a.last s))
 
@@ -82,13 +82,13 @@ abbrev pub notes_with : Dimensions → World → Incarnations → ℕ → Step �
 notes_with shape w a pass ReadEpoch notes = confirmed_notes notes (w.epoch == (w.know pass).epoch)
 notes_with shape w a pass (Publish pred expected s) notes =
     let step = Publish pred expected s in
-    if found shape w step == expected then with_won a notes (reads_won (w.know pass) step) else notes
+    if succeeds step (found shape w step) then with_won a notes (reads_won (w.know pass) step) else notes
 notes_with shape w a pass (Mark s expected) notes =
     let step = Mark s expected in
-    if found shape w step == expected then with_won a notes (reads_won (w.know pass) step) else notes
+    if succeeds step (found shape w step) then with_won a notes (reads_won (w.know pass) step) else notes
 notes_with shape w a pass (Unlink pred expected s) notes =
     let step = Unlink pred expected s in
-    if found shape w step == expected then with_won a notes (reads_won (w.know pass) step) else notes
+    if succeeds step (found shape w step) then with_won a notes (reads_won (w.know pass) step) else notes
 notes_with shape w a pass step notes = with_read a notes (read_loaded step (found shape w step))
 
 -- ---- held

@@ -2,11 +2,9 @@
 use Rattle.std.specs.Prelude.{◌≡◌, ◌≢◌, ℕ, ◌<◌, ◌≤◌, List, [], ◌∷◌, ◌++◌, ◌⊎◌, take, slice_get, Some}
 use Rattle.vbr_words.specs.Dimensions.{Dimensions}
 use Rattle.vbr_core.specs.Knowledge.{Know}
-use Rattle.vbr_core.specs.Acceptance.{IsInShape, IsOwned, IsHeld, IsInRange, IsBelowLast, Accepts}
-use Rattle.vbr_core.specs.Learning.{effect_of}
-use Rattle.vbr_core.specs.Machine.{World, opening, found, after}
+use Rattle.vbr_core.specs.Acceptance.{IsInShape, IsOwned, HasChecked, IsInRange, IsBelowLast, Accepts}
+use Rattle.vbr_core.specs.Machine.{World, opening, after}
 use Rattle.vbr_core.specs.declared.event.Event.{Event}
-use Rattle.vbr_core.specs.declared.event.Effect.{Effect}
 use Rattle.vbr_core.specs.declared.event.CoreRefusal.{CoreRefusal}
 use Rattle.vbr_core.specs.declared.event.CoreRefusal.TheVariants.{NoSuchPass, NotOwned, NotHeld, OutOfRange, EpochLast, NoMemory}
 
@@ -20,13 +18,13 @@ Refuses shape passes w event NoSuchPass = passes ≤ event.pass
 Refuses shape passes w event NotOwned =
     (event.pass < passes) × IsInShape shape event.step × ¬ (IsOwned (w.know event.pass) event.step)
 Refuses shape passes w event NotHeld =
-    (event.pass < passes) × IsInShape shape event.step × IsOwned (w.know event.pass) event.step × ¬ (IsHeld shape (w.know event.pass) event.step)
+    (event.pass < passes) × IsInShape shape event.step × IsOwned (w.know event.pass) event.step × ¬ (HasChecked shape (w.know event.pass) event.step)
 Refuses shape passes w event OutOfRange =
     (event.pass < passes)
     × (¬ (IsInShape shape event.step)
-    ⊎ (IsInShape shape event.step × IsOwned (w.know event.pass) event.step × IsHeld shape (w.know event.pass) event.step × ¬ (IsInRange shape (w.know event.pass) event.step)))
+    ⊎ (IsInShape shape event.step × IsOwned (w.know event.pass) event.step × HasChecked shape (w.know event.pass) event.step × ¬ (IsInRange shape (w.know event.pass) event.step)))
 Refuses shape passes w event EpochLast =
-    (event.pass < passes) × IsInShape shape event.step × IsOwned (w.know event.pass) event.step × IsHeld shape (w.know event.pass) event.step
+    (event.pass < passes) × IsInShape shape event.step × IsOwned (w.know event.pass) event.step × HasChecked shape (w.know event.pass) event.step
     × IsInRange shape (w.know event.pass) event.step × ¬ (IsBelowLast shape event.step)
 Refuses shape passes w event NoMemory = IsAccepted shape passes w event
 
@@ -39,11 +37,6 @@ world_from shape w (event ∷ events) = world_from shape (after shape w event.pa
 abbrev pub AreAccepted : Dimensions → ℕ → World → List Event → Type 0
 AreAccepted shape passes w [] = Unit {0}
 AreAccepted shape passes w (event ∷ events) = IsAccepted shape passes w event × AreAccepted shape passes (after shape w event.pass event.step) events
-
--- the effects of events from a world, in order
-abbrev pub effects_from : Dimensions → World → List Event → List Effect
-effects_from shape w [] = []
-effects_from shape w (event ∷ events) = effect_of event.step (found shape w event.step) ∷ effects_from shape (after shape w event.pass event.step) events
 
 -- a run is a list of events that are accepted from the opening on
 abbrev pub IsRun : Dimensions → ℕ → List Event → Type 0
@@ -69,10 +62,6 @@ Begins seen run = (rest : List Event) × (run ≡ seen ++ rest)
 -- what a pass has seen begins a run and has all of its own events
 abbrev pub BeginsFor : ℕ → List Event → List Event → Type 0
 BeginsFor pass seen run = (rest : List Event) × (run ≡ seen ++ rest) × NoneOf pass rest
-
--- a moment of what leads from one run to another: a run that begins with the first and begins the second
-abbrev pub Moment : List Event → List Event → List Event → Type 0
-Moment before after moment = Begins before moment × Begins moment after
 
 -- where and why a replay stops: no such number of passes or no memory at the opening, or the first event that is refused after those before it
 abbrev pub StopsAt : Dimensions → ℕ → List Event → ℕ → CoreRefusal → Type 0

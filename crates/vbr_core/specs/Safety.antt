@@ -15,7 +15,7 @@ use Rattle.vbr_core.specs.Images.{IsImage}
 use Rattle.vbr_core.specs.Chronicles.{IsLawful}
 use Rattle.vbr_core.specs.Notes.{Holds, HoldsJust, AreRightReads}
 use Rattle.vbr_core.specs.Accounts.{chronicle, incarnations_after, notes_after, IsRightExchange}
-use Rattle.vbr_core.specs.Agreement.{Held, IsNotOf, OwnFits, reads_of}
+use Rattle.vbr_core.specs.Agreement.{IsHeldIncarnation, IsNotOf, OwnFits, reads_of}
 use Rattle.vbr_core.specs.SlotPlaces.{ArePlaced}
 use Rattle.vbr_core.specs.declared.event.Event.{Event}
 use Rattle.vbr_core.specs.declared.event.Effect.TheVariants.{Won}
@@ -82,7 +82,7 @@ pub record KnowsRight (shape : Dimensions) (run : List Event) (pass : ℕ) : Typ
   pub epoch : ((world_after shape run).know pass).epoch ≤ (world_after shape run).epoch
   pub pending : ((world_after shape run).know pass).pending ≡ reads_of (notes_after shape run pass).pending
   pub checked : ((world_after shape run).know pass).checked ≡ reads_of (notes_after shape run pass).checked
-  pub late : (s c : ℕ) → Holds (notes_after shape run pass).checked s c → Held (incarnations_after shape run) ((world_after shape run).know pass).epoch s c
+  pub late : (s c : ℕ) → Holds (notes_after shape run pass).checked s c → IsHeldIncarnation (incarnations_after shape run) ((world_after shape run).know pass).epoch s c
   pub one : (s c d : ℕ) → Holds (notes_after shape run pass).checked s c → Holds (notes_after shape run pass).checked s d → c ≡ d
   pub some : (s : ℕ) → IsTrue (holds ((world_after shape run).know pass).checked s) → (c : ℕ) × HoldsJust (notes_after shape run pass).checked s c
   pub reads : AreRightReads (notes_after shape run pass).checked

@@ -18,9 +18,9 @@ WasUnlinkedBy a pass None = ⊥
 WasUnlinkedBy a pass (Some c) = (at : ℕ) × (a.state c ≡ state.Unlinked pass at)
 
 -- it is in hand of the pass
-abbrev pub IsHandOf : Incarnations → ℕ → Option ℕ → Type 0
-IsHandOf a pass None = ⊥
-IsHandOf a pass (Some c) = a.state c ≡ state.InHand pass
+abbrev pub LiesInHand : Incarnations → ℕ → Option ℕ → Type 0
+LiesInHand a pass None = ⊥
+LiesInHand a pass (Some c) = a.state c ≡ state.InHand pass
 
 -- it is linked or marked, and has a key of the bucket
 abbrev pub IsOfList : Dimensions → Incarnations → ℕ → Option ℕ → Type 0
@@ -35,13 +35,13 @@ pub data IsReachedFrom (w : World) (bucket : ℕ) : ℕ → Type 0 where
   onward : (s : ℕ) → (t : ℕ) → IsReachedFrom w bucket s → (w.link s).slot ≡ Some t → IsReachedFrom w bucket t
 
 -- what a place asks of a slot. In the shared pool: nothing was born in it, or its last incarnation is stamped. Own, of one of so many passes: the same, or that pass unlinked its last incarnation. In hand, of one of them: so is its last incarnation. Listed, in one of the buckets: its last incarnation is linked or marked there, and the slot is reached from that bucket's head
-abbrev pub IsIn : Dimensions → ℕ → World → Incarnations → ℕ → SlotPlace → Type 0
-IsIn shape passes w a s Shared = IsRetired a (a.last s)
-IsIn shape passes w a s (Own pass) = (pass < passes) × (IsRetired a (a.last s) ⊎ WasUnlinkedBy a pass (a.last s))
-IsIn shape passes w a s (Hand pass) = (pass < passes) × IsHandOf a pass (a.last s)
-IsIn shape passes w a s (Listed bucket) = (bucket < shape.buckets) × IsOfList shape a bucket (a.last s) × IsReachedFrom w bucket s
+abbrev pub FitsPlace : Dimensions → ℕ → World → Incarnations → ℕ → SlotPlace → Type 0
+FitsPlace shape passes w a s Shared = IsRetired a (a.last s)
+FitsPlace shape passes w a s (Own pass) = (pass < passes) × (IsRetired a (a.last s) ⊎ WasUnlinkedBy a pass (a.last s))
+FitsPlace shape passes w a s (Hand pass) = (pass < passes) × LiesInHand a pass (a.last s)
+FitsPlace shape passes w a s (Listed bucket) = (bucket < shape.buckets) × IsOfList shape a bucket (a.last s) × IsReachedFrom w bucket s
 
 -- each slot is in just one place, the one where the world has it; and what is reached from a bucket's head is listed in that bucket
 pub record ArePlaced (shape : Dimensions) (passes : ℕ) (w : World) (a : Incarnations) : Type 0 where
-  pub each : (s : ℕ) → IsIn shape passes w a s (w.place s)
+  pub each : (s : ℕ) → FitsPlace shape passes w a s (w.place s)
   pub reached : (bucket s : ℕ) → IsReachedFrom w bucket s → w.place s ≡ Listed bucket

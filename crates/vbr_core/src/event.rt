@@ -19,7 +19,7 @@ pub enum Step {
     /// Loads the epoch. Where it is the one that the pass read last, its pending reads are checked;
     /// where it has moved, the pass knows nothing any more.
     ReadEpoch,
-    /// Raises the epoch by one, if it is `from`.
+    /// Advances the epoch by one, if it is `from`.
     Advance {
         from: u64,
     },

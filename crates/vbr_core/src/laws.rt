@@ -19,7 +19,7 @@ ghost use Rattle.vbr_core.specs.Moments.{WasShown};
 ghost use Rattle.vbr_core.specs.Incarnations.{Incarnations, IsLate, nothing_yet};
 ghost use Rattle.vbr_core.specs.Chronicles.{Entry, IsLawful, incarnations_from};
 ghost use Rattle.vbr_core.specs.Sound.{Grows, Sound, Tells};
-ghost use Rattle.vbr_core.specs.Images.{link_at};
+ghost use Rattle.vbr_core.specs.Images.{link_shown_at};
 ghost use Rattle.vbr_core.specs.Notes.{Note, Holds, IsAmong};
 ghost use Rattle.vbr_core.specs.Accounts.{incarnations_after, notes_after};
 ghost use Rattle.vbr_core.specs.Agreement.{IsGoodLink, IsLastOf, IsPair};
@@ -74,7 +74,7 @@ pub fn late_is_handed_on()
 /// second is its successor.
 pub fn same_link_same_pair()
     ensures { (shape : Dimensions) (a : Incarnations) (epoch : ℕ) (at : At) (link : Link) (of names : Option ℕ) → Sound shape a →
-        IsGoodLink a epoch at link of names → link.mark ≡ false → link_at a at ≡ link → IsPair a at of names × IsLastOf a names }
+        IsGoodLink a epoch at link of names → link.mark ≡ false → link_shown_at a at ≡ link → IsPair a at of names × IsLastOf a names }
 {}
 
 /// A law: every run is safe.

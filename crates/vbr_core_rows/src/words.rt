@@ -19,10 +19,10 @@ const MARKED_NONE: Link = Link {
 #[test]
 fn packs_links(rt: HostRuntime) {
     let rows = [
-        (encode(UNMARKED), 2_097_153),
-        (encode(MARKED_NONE), 1_048_576),
-        (with_mark(2_097_153), 3_145_729),
-        (with_mark(3_145_729), 3_145_729),
+        (encode(UNMARKED), 33_554_433),
+        (encode(MARKED_NONE), 16_777_216),
+        (with_mark(33_554_433), 50_331_649),
+        (with_mark(50_331_649), 50_331_649),
         (version_of(3, 5), 5),
     ];
     for (word, wanted) in rows {
@@ -33,9 +33,9 @@ fn packs_links(rt: HostRuntime) {
 #[test]
 fn unpacks_words(rt: HostRuntime) {
     let greatest = Link {
-        slot: Some(1_048_574),
+        slot: Some(16_777_214),
         mark: true,
-        version: 8_796_093_022_207,
+        version: 549_755_813_887,
     };
     let none = Link {
         slot: None,
@@ -45,8 +45,8 @@ fn unpacks_words(rt: HostRuntime) {
     let rows = [
         (u64::MAX, greatest),
         (0, none),
-        (2_097_153, UNMARKED),
-        (1_048_576, MARKED_NONE),
+        (33_554_433, UNMARKED),
+        (16_777_216, MARKED_NONE),
     ];
     for (word, link) in rows {
         assert_eq!(rt; decode(word), link, "{word}");
@@ -73,14 +73,14 @@ fn lays_out_words(rt: HostRuntime) -> Result<(), Fail> {
 fn refuses_shapes(rt: HostRuntime) {
     let rows = [
         ((0, 0, 0), Err(ShapeError::Slots)),
-        ((1_048_576, 1, 1), Err(ShapeError::Slots)),
-        ((1_048_575, 0, 1), Err(ShapeError::Buckets)),
+        ((16_777_216, 1, 1), Err(ShapeError::Slots)),
+        ((16_777_215, 0, 1), Err(ShapeError::Buckets)),
         ((1, 65_537, 0), Err(ShapeError::Buckets)),
         ((1, 1, 0), Err(ShapeError::LastEpoch)),
-        ((1, 65_536, 8_796_093_022_208), Err(ShapeError::LastEpoch)),
+        ((1, 65_536, 549_755_813_888), Err(ShapeError::LastEpoch)),
         (
-            (1_048_575, 65_536, 8_796_093_022_207),
-            Ok((1_048_575, 65_536, 8_796_093_022_207)),
+            (16_777_215, 65_536, 549_755_813_887),
+            Ok((16_777_215, 65_536, 549_755_813_887)),
         ),
     ];
     for ((slots, buckets, last_epoch), answer) in rows {

@@ -115,12 +115,12 @@ fn call(who: u32, op: Op, key: u64) -> Call {
 fn follows_a_reborn_slot(rt: HostRuntime) -> Result<(), Fail> {
     let shape = Shape::new(3, 1, 10)?;
     let looks = [
-        (9, Place::Head(0), 2_097_153),
-        (14, Place::Head(0), 2_097_154),
-        (29, Place::LinkOf(1), 3_145_729),
-        (30, Place::Head(0), 2_097_153),
-        (42, Place::LinkOf(1), 4_194_305),
-        (43, Place::Head(0), 4_194_306),
+        (9, Place::Head(0), 33_554_433),
+        (14, Place::Head(0), 33_554_434),
+        (29, Place::LinkOf(1), 50_331_649),
+        (30, Place::Head(0), 33_554_433),
+        (42, Place::LinkOf(1), 67_108_865),
+        (43, Place::Head(0), 67_108_866),
         (44, Place::Epoch, 2),
     ];
     let world = follow(&rt, rt.alloc(), shape, &REBORN_SLOT, &looks)?;
@@ -143,12 +143,12 @@ fn follows_a_reborn_slot(rt: HostRuntime) -> Result<(), Fail> {
 fn follows_a_word_that_comes_back(rt: HostRuntime) -> Result<(), Fail> {
     let shape = Shape::new(3, 1, 10)?;
     let looks = [
-        (9, Place::LinkOf(0), 4_194_304),
-        (33, Place::LinkOf(2), 10_485_761),
-        (34, Place::Head(0), 10_485_763),
-        (35, Place::LinkOf(2), 11_534_337),
-        (36, Place::Head(0), 4_194_305),
-        (37, Place::Head(0), 4_194_306),
+        (9, Place::LinkOf(0), 67_108_864),
+        (33, Place::LinkOf(2), 167_772_161),
+        (34, Place::Head(0), 167_772_163),
+        (35, Place::LinkOf(2), 184_549_377),
+        (36, Place::Head(0), 67_108_865),
+        (37, Place::Head(0), 67_108_866),
         (37, Place::Epoch, 5),
     ];
     let world = follow(&rt, rt.alloc(), shape, &SAME_WORD, &looks)?;
@@ -182,7 +182,7 @@ const LOOK_UP: Step = Step::ConfirmAbsent {
     op: Op::Has,
     key: 7,
     at: At::Head(0),
-    expected: 2_097_153,
+    expected: 33_554_433,
 };
 
 // What a look-up is answered behind so many rows of the list of two helpers, and the calls that are
@@ -328,9 +328,9 @@ fn takes_a_slot_once(rt: HostRuntime) -> Result<(), Fail> {
 fn opens_fresh(rt: HostRuntime) -> Result<(), Fail> {
     let looks = [
         (0, Place::Epoch, 1),
-        (0, Place::ShapeWord, 10_485_761),
+        (0, Place::ShapeWord, 167_772_161),
         (0, Place::Head(0), 0),
-        (0, Place::LinkOf(0), 1_048_576),
+        (0, Place::LinkOf(0), 16_777_216),
         (0, Place::Birth(0), 0),
         (0, Place::Stamp(0), 0),
         (0, Place::Key(0), 0),

@@ -1,2 +1,3 @@
-pub mod WorkedRows
-pub mod StandingRows
+mod WorkedRows
+mod StandingRows
+pub mod Lemmas

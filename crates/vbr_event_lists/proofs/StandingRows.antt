@@ -8,11 +8,8 @@ use Rattle.vbr_core.specs.Acceptance.{bucket_of}
 use Rattle.vbr_core.specs.Machine.{World, after, opening}
 use Rattle.vbr_core.specs.declared.event.Effect.{Effect}
 use Rattle.vbr_core.specs.declared.event.Step.{Step}
-use Rattle.vbr_event_lists.specs.Worked.{AreWorked, names_link, others_of}
+use Rattle.vbr_event_lists.specs.Worked.{AreWorked, names_link, others_of, many_epochs}
 use Rattle.vbr_event_lists.specs.declared.standing.TheConstants.{STANDING, STANDING_WORDS}
-
-abbrev pub many_epochs : Dimensions
-many_epochs = record { slots = 3; buckets = 1; last_epoch = 10000 }
 
 pub standing : AreWorked many_epochs opening STANDING STANDING_WORDS
 unfolding bucket_of link_of word_of has_flag first_bits flag_word

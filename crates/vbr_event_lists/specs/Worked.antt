@@ -28,15 +28,27 @@ others_of [] = []
 others_of (word ∷ words) = words
 
 -- the word is the one that the step writes, if its caller names it
-abbrev pub IsNew : Know → Step → ℕ → Type 0
-IsNew know (StoreLink s next) word = word ≡ word_of (link_written know (StoreLink s next))
-IsNew know (Publish pred expected s) word = word ≡ word_of (link_written know (Publish pred expected s))
-IsNew know (Unlink pred expected s) word = word ≡ word_of (link_written know (Unlink pred expected s))
-IsNew know _ word = Unit {0}
+abbrev pub IsNamedWord : Know → Step → ℕ → Type 0
+IsNamedWord know (StoreLink s next) word = word ≡ word_of (link_written know (StoreLink s next))
+IsNamedWord know (Publish pred expected s) word = word ≡ word_of (link_written know (Publish pred expected s))
+IsNamedWord know (Unlink pred expected s) word = word ≡ word_of (link_written know (Unlink pred expected s))
+IsNamedWord know _ word = Unit {0}
+
+-- a set of three slots and one bucket, up to epoch 10
+abbrev pub three_slots : Dimensions
+three_slots = record { slots = 3; buckets = 1; last_epoch = 10 }
+
+-- a set of one slot and one bucket, up to epoch 10
+abbrev pub one_slot : Dimensions
+one_slot = record { slots = 1; buckets = 1; last_epoch = 10 }
+
+-- a set of three slots and one bucket, up to epoch 10000
+abbrev pub many_epochs : Dimensions
+many_epochs = record { slots = 3; buckets = 1; last_epoch = 10000 }
 
 -- the rows are events that are accepted one after another from a world on, each with its effect; the words are the link words that callers name; and each slot that is taken has the stamp 0
 abbrev pub AreWorked : Dimensions → World → List (ℕ × Step × Effect) → List ℕ → Type 0
 AreWorked shape w [] words = Unit {0}
 AreWorked shape w (row ∷ rows) words =
-    IsAccepted shape 2 w (record { pass = row.0; step = row.1 }) × (effect_of row.1 (found shape w row.1) ≡ row.2) × (stamp_shown w row.1 ≡ 0) × IsNew (w.know row.0) row.1 (first_of words)
+    IsAccepted shape 2 w (record { pass = row.0; step = row.1 }) × (effect_of row.1 (found shape w row.1) ≡ row.2) × (stamp_shown w row.1 ≡ 0) × IsNamedWord (w.know row.0) row.1 (first_of words)
     × AreWorked shape (after shape w row.0 row.1) rows (if names_link row.1 then others_of words else words)

@@ -46,7 +46,7 @@ pub const REBORN_SLOT: [Row; 44] = [
         0,
         Step::Publish {
             pred: At::Head(0),
-            expected: 2_097_153,
+            expected: 33_554_433,
             slot: 1,
         },
         Effect::Won,
@@ -55,7 +55,7 @@ pub const REBORN_SLOT: [Row; 44] = [
     (
         1,
         Step::LoadLink { at: At::Head(0) },
-        Effect::Value(2_097_154),
+        Effect::Value(33_554_434),
     ),
     (1, Step::ReadEpoch, Effect::Value(1)),
     (1, Step::LoadKey { slot: 1 }, Effect::Value(20)),
@@ -63,7 +63,7 @@ pub const REBORN_SLOT: [Row; 44] = [
     (
         1,
         Step::LoadLink { at: At::Slot(1) },
-        Effect::Value(2_097_153),
+        Effect::Value(33_554_433),
     ),
     (1, Step::ReadEpoch, Effect::Value(1)),
     (1, Step::LoadKey { slot: 0 }, Effect::Value(30)),
@@ -84,7 +84,7 @@ pub const REBORN_SLOT: [Row; 44] = [
         0,
         Step::Mark {
             slot: 1,
-            expected: 2_097_153,
+            expected: 33_554_433,
         },
         Effect::Won,
     ),
@@ -92,7 +92,7 @@ pub const REBORN_SLOT: [Row; 44] = [
         0,
         Step::Unlink {
             pred: At::Head(0),
-            expected: 2_097_154,
+            expected: 33_554_434,
             slot: 1,
         },
         Effect::Won,
@@ -106,7 +106,7 @@ pub const REBORN_SLOT: [Row; 44] = [
     (
         0,
         Step::LoadLink { at: At::Head(0) },
-        Effect::Value(2_097_153),
+        Effect::Value(33_554_433),
     ),
     (0, Step::ReadEpoch, Effect::Value(2)),
     (0, Step::LoadKey { slot: 0 }, Effect::Value(30)),
@@ -124,7 +124,7 @@ pub const REBORN_SLOT: [Row; 44] = [
         0,
         Step::Publish {
             pred: At::Head(0),
-            expected: 2_097_153,
+            expected: 33_554_433,
             slot: 1,
         },
         Effect::Won,
@@ -133,10 +133,10 @@ pub const REBORN_SLOT: [Row; 44] = [
         1,
         Step::Publish {
             pred: At::Slot(1),
-            expected: 2_097_153,
+            expected: 33_554_433,
             slot: 2,
         },
-        Effect::Lost(4_194_305),
+        Effect::Lost(67_108_865),
     ),
 ];
 
@@ -171,7 +171,7 @@ pub const SAME_WORD: [Row; 37] = [
     (
         1,
         Step::LoadLink { at: At::Head(0) },
-        Effect::Value(4_194_305),
+        Effect::Value(67_108_865),
     ),
     (1, Step::ReadEpoch, Effect::Value(2)),
     (1, Step::LoadKey { slot: 0 }, Effect::Value(30)),
@@ -198,7 +198,7 @@ pub const SAME_WORD: [Row; 37] = [
     (
         0,
         Step::LoadLink { at: At::Head(0) },
-        Effect::Value(4_194_305),
+        Effect::Value(67_108_865),
     ),
     (0, Step::ReadEpoch, Effect::Value(5)),
     (0, Step::LoadKey { slot: 0 }, Effect::Value(30)),
@@ -216,7 +216,7 @@ pub const SAME_WORD: [Row; 37] = [
         0,
         Step::Publish {
             pred: At::Head(0),
-            expected: 4_194_305,
+            expected: 67_108_865,
             slot: 2,
         },
         Effect::Won,
@@ -225,7 +225,7 @@ pub const SAME_WORD: [Row; 37] = [
         0,
         Step::Mark {
             slot: 2,
-            expected: 10_485_761,
+            expected: 167_772_161,
         },
         Effect::Won,
     ),
@@ -233,7 +233,7 @@ pub const SAME_WORD: [Row; 37] = [
         0,
         Step::Unlink {
             pred: At::Head(0),
-            expected: 10_485_763,
+            expected: 167_772_163,
             slot: 2,
         },
         Effect::Won,
@@ -242,7 +242,7 @@ pub const SAME_WORD: [Row; 37] = [
         1,
         Step::Publish {
             pred: At::Head(0),
-            expected: 4_194_305,
+            expected: 67_108_865,
             slot: 1,
         },
         Effect::Won,
@@ -278,14 +278,14 @@ pub const TWO_HELPERS: [Row; 18] = [
     (
         1,
         Step::LoadLink { at: At::Head(0) },
-        Effect::Value(2_097_153),
+        Effect::Value(33_554_433),
     ),
     (1, Step::ReadEpoch, Effect::Value(1)),
     (
         0,
         Step::Mark {
             slot: 0,
-            expected: 2_097_152,
+            expected: 33_554_432,
         },
         Effect::Won,
     ),
@@ -294,14 +294,14 @@ pub const TWO_HELPERS: [Row; 18] = [
     (
         1,
         Step::LoadLink { at: At::Slot(0) },
-        Effect::Value(3_145_728),
+        Effect::Value(50_331_648),
     ),
     (1, Step::ReadEpoch, Effect::Value(1)),
     (
         1,
         Step::Unlink {
             pred: At::Head(0),
-            expected: 2_097_153,
+            expected: 33_554_433,
             slot: 0,
         },
         Effect::Won,
@@ -310,7 +310,7 @@ pub const TWO_HELPERS: [Row; 18] = [
         0,
         Step::Unlink {
             pred: At::Head(0),
-            expected: 2_097_153,
+            expected: 33_554_433,
             slot: 0,
         },
         Effect::Lost(0),
@@ -320,14 +320,20 @@ pub const TWO_HELPERS: [Row; 18] = [
 /// The link words that the callers of the first list name, in order: those of its steps that store,
 /// publish or unlink.
 pub const REBORN_SLOT_WORDS: [u64; 9] = [
-    2_097_152, 2_097_153, 2_097_153, 2_097_154, 2_097_153, 2_097_153, 4_194_305, 4_194_306,
-    2_097_155,
+    33_554_432, 33_554_433, 33_554_433, 33_554_434, 33_554_433, 33_554_433, 67_108_865, 67_108_866,
+    33_554_435,
 ];
 
 /// Those of the second list.
 pub const SAME_WORD_WORDS: [u64; 7] = [
-    4_194_304, 4_194_305, 4_194_305, 10_485_761, 10_485_763, 4_194_305, 4_194_306,
+    67_108_864,
+    67_108_865,
+    67_108_865,
+    167_772_161,
+    167_772_163,
+    67_108_865,
+    67_108_866,
 ];
 
 /// Those of the third list.
-pub const TWO_HELPERS_WORDS: [u64; 4] = [2_097_152, 2_097_153, 0, 0];
+pub const TWO_HELPERS_WORDS: [u64; 4] = [33_554_432, 33_554_433, 0, 0];

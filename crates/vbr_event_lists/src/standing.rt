@@ -4,7 +4,7 @@ use vbr_core::{Effect, Op, Step};
 use vbr_words::At;
 
 /// Pass 0 inserts 7. Then pass 1 takes a slot, reads the node of 7, inserts 8 behind it, removes 7,
-/// gives the slot of 7 to the shared pool, and raises the epoch.
+/// gives the slot of 7 to the shared pool, and advances the epoch.
 pub const STANDING: [Row; 29] = [
     (0, Step::ReadEpoch, Effect::Value(1)),
     (0, Step::TakeFlag { slot: 0 }, Effect::Won),
@@ -37,14 +37,14 @@ pub const STANDING: [Row; 29] = [
     (
         1,
         Step::LoadLink { at: At::Head(0) },
-        Effect::Value(2_097_153),
+        Effect::Value(33_554_433),
     ),
     (1, Step::ReadEpoch, Effect::Value(1)),
     (1, Step::LoadBirth { slot: 0 }, Effect::Value(1)),
     (
         1,
         Step::LoadLink { at: At::Slot(0) },
-        Effect::Value(2_097_152),
+        Effect::Value(33_554_432),
     ),
     (1, Step::ReadEpoch, Effect::Value(1)),
     (1, Step::LoadKey { slot: 0 }, Effect::Value(7)),
@@ -54,7 +54,7 @@ pub const STANDING: [Row; 29] = [
         Step::ConfirmPresent {
             op: Op::Has,
             slot: 0,
-            expected: 2_097_152,
+            expected: 33_554_432,
         },
         Effect::Answered(true),
     ),
@@ -70,7 +70,7 @@ pub const STANDING: [Row; 29] = [
         1,
         Step::Publish {
             pred: At::Slot(0),
-            expected: 2_097_152,
+            expected: 33_554_432,
             slot: 1,
         },
         Effect::Won,
@@ -79,7 +79,7 @@ pub const STANDING: [Row; 29] = [
         1,
         Step::Mark {
             slot: 0,
-            expected: 2_097_154,
+            expected: 33_554_434,
         },
         Effect::Won,
     ),
@@ -87,7 +87,7 @@ pub const STANDING: [Row; 29] = [
         1,
         Step::Unlink {
             pred: At::Head(0),
-            expected: 2_097_153,
+            expected: 33_554_433,
             slot: 0,
         },
         Effect::Won,
@@ -99,4 +99,4 @@ pub const STANDING: [Row; 29] = [
 ];
 
 /// The link words that the callers of its steps name.
-pub const STANDING_WORDS: [u64; 5] = [2_097_152, 2_097_153, 2_097_152, 2_097_154, 2_097_154];
+pub const STANDING_WORDS: [u64; 5] = [33_554_432, 33_554_433, 33_554_432, 33_554_434, 33_554_434];

@@ -1,8 +1,7 @@
 -- In a legal history without removes a page is claimed at most once.
-use Rattle.std.proofs.Common.{◌≡◌, ℕ, ◌+◌, ◌≤◌, Bool, true, false, eqb, List, [], ◌∷◌, inl, inr, refl, sym, ap, subst, ◌∙◌, arith}
-use Rattle.std.specs.Prelude.{◌≢◌, ◌==◌, not, if◌then◌else◌, Result, Ok, Err, IfOk}
-use Rattle.std.proofs.lemmas.Bool.{cases_Bool, eqb-true, false≢true, true≢false}
-use Rattle.vbr_core.specs.Put.{put}
+use Rattle.std.proofs.Common.{◌≡◌, ℕ, ◌+◌, ◌≤◌, Bool, true, false, eqb, List, [], ◌∷◌, inl, inr, refl, ap, subst, ◌∙◌, arith}
+use Rattle.std.specs.Prelude.{◌≢◌, not, if◌then◌else◌, Result, Ok, Err, IfOk}
+use Rattle.std.proofs.lemmas.Bool.{cases_Bool, eqb-true, true≢false}
 use Rattle.vbr_core.specs.Keys.{Keys, no_keys}
 use Rattle.vbr_core.specs.History.{IsLegal, keys_after, reply_of}
 use Rattle.vbr_core.specs.declared.history.Call.{Call}

@@ -1,1 +1,1 @@
-pub mod ClaimedOnce
+mod ClaimedOnce

@@ -4,19 +4,20 @@ use Rattle.vbr_words.specs.Dimensions.{Dimensions}
 use Rattle.vbr_core.specs.Acceptance.{bucket_of}
 use Rattle.vbr_slots.specs.Calls.{IsSame, Quiet, Took}
 use Rattle.vbr_slots.specs.Views.{Trace, TableView, PassView, IsOf}
-use Rattle.vbr_slots.proofs.Calls.{quiet_refl, quiet_on}
-use Rattle.vbr_pools.specs.Advances.{RaisesNone}
-use Rattle.vbr_pools.specs.Steps.{Counts, TookWithin}
-use Rattle.vbr_pools.proofs.Counting.{counts_none, counts_on, took_all}
+use Rattle.vbr_slots.proofs.Lemmas.{quiet_on, quiet_refl}
+use Rattle.vbr_pools.specs.Advances.{TakesNoSlot}
+use Rattle.vbr_pools.specs.Steps.{CountsSteps, TookWithin}
+use Rattle.vbr_pools.proofs.Lemmas.{counts_none, counts_on, took_all}
 use Rattle.vbr_access.specs.Keeping.{KeepsOwn}
-use Rattle.vbr_list.specs.Traversal.{Goes, Tries}
+use Rattle.vbr_list.specs.Traversal.{Goes}
 use Rattle.vbr_list.proofs.KeptHands.{hand_refl, hand_on, own_kept}
+use Rattle.vbr_list.proofs.Traversals.{Tries}
 
 -- the pass stays one of the table
 pub of_on : {p q : Trace} {t : TableView} → IsSame p q → IsOf p t → IsOf q t
 of_on s x = (s.table ∙ x.0, s.shape ∙ x.1, s.passes ∙ x.2)
 
-pub counts_step : {p q : Trace} (a n : ℕ) → Took p q n → Counts p q a (a + n)
+pub counts_step : {p q : Trace} (a n : ℕ) → Took p q n → CountsSteps p q a (a + n)
 counts_step a n took = record { steps = n; sum = refl; took = took }
 
 pub goes_refl : (p : PassView) (a : ℕ) → Goes p p a a
@@ -25,7 +26,7 @@ goes_refl p a = record { quiet = quiet_refl p.trace; counts = counts_none p.trac
 pub goes_on : {p q r : PassView} {a b c : ℕ} → Goes p q a b → Goes q r b c → Goes p r a c
 goes_on x y = record { quiet = quiet_on x.quiet y.quiet; counts = counts_on x.counts y.counts; hand = hand_on x.hand y.hand }
 
-pub goes_step : {p q : PassView} (a n : ℕ) → Quiet p.trace q.trace → Took p.trace q.trace n → KeepsOwn p q → RaisesNone p q → Goes p q a (a + n)
+pub goes_step : {p q : PassView} (a n : ℕ) → Quiet p.trace q.trace → Took p.trace q.trace n → KeepsOwn p q → TakesNoSlot p q → Goes p q a (a + n)
 goes_step a n quiet took own none = record { quiet = quiet; counts = counts_step a n took; hand = own_kept own none }
 
 pub tries_refl : (p : PassView) (a budget : ℕ) → a ≤ budget → Tries p p a a budget
@@ -37,7 +38,7 @@ tries_on x y le high = record { goes = goes_on x.goes y; within = (let u = x.wit
 pub took_same : {p q : Trace} (m n : ℕ) → m ≡ n → Took p q n → Took p q m
 took_same {p} {q} m n e took = subst (Took p q) (sym e) took
 
-pub within_of : {p q : Trace} (used budget : ℕ) → used ≤ budget → Counts p q 0 used → TookWithin p q budget
+pub within_of : {p q : Trace} (used budget : ℕ) → used ≤ budget → CountsSteps p q 0 used → TookWithin p q budget
 within_of used budget le counts = record { steps = used; within = le; took = took_all counts }
 
 -- the bucket of a key is that of the table's shape

@@ -8,37 +8,36 @@ use Rattle.vbr_core.specs.Knowledge.{Know}
 use Rattle.vbr_core.specs.Learning.{birth_in_hand, read_epoch, reread}
 use Rattle.vbr_core.specs.declared.knowledge.Holding.{Holding}
 use Rattle.vbr_core.specs.declared.knowledge.Holding.TheVariants.{Free, Unlinked, InHand}
-use Rattle.vbr_core.proofs.Puts.{put_other}
+use Rattle.vbr_core.proofs.Lemmas.{put_here, put_other}
 use Rattle.vbr_slots.specs.declared.pass.TheConstants.{POOL}
 use Rattle.vbr_slots.specs.Pools.{OwnPool}
 use Rattle.vbr_slots.specs.Pools as pools
 use Rattle.vbr_slots.specs.Views.{PassView, knows}
-use Rattle.vbr_pools.specs.Advances.{RaisesNone}
+use Rattle.vbr_pools.specs.Advances.{TakesNoSlot}
 use Rattle.vbr_pools.specs.Hands.{HandView, IsHandOf}
 use Rattle.vbr_pools.specs.Retiring.{is_kept, know_retired, pool_retired}
-use Rattle.vbr_pools.proofs.Advancing.{none_on, none_refl}
-use Rattle.vbr_access.specs.Keeping.{KeepsOwn}
+use Rattle.vbr_pools.proofs.Lemmas.{none_on, none_refl}
+use Rattle.vbr_access.specs.Keeping.{KeepsOwn, Unlinks}
+use Rattle.vbr_access.proofs.Lemmas.{unlinks_none}
 use Rattle.vbr_list.specs.Traversal.{KeepsHand}
 
 pub hand_refl : (p : PassView) → KeepsHand p p
-hand_refl p = record { hand = refl; in_hand = λ s e. refl; room = λ h. h; some = λ h. h; raises_none = none_refl p }
+hand_refl p = record { hand = refl; in_hand = λ s e. refl; room = λ h. h; takes_no_slot = none_refl p }
 
 pub hand_on : {p q r : PassView} → KeepsHand p q → KeepsHand q r → KeepsHand p r
 hand_on {p} {q} {r} x y = record {
   hand = y.hand ∙ x.hand;
   in_hand = λ s e. y.in_hand s (x.hand ∙ e) ∙ x.in_hand s e;
   room = λ h. y.room (x.room h);
-  some = λ h. y.some (x.some h);
-  raises_none = none_on x.raises_none y.raises_none;
+  takes_no_slot = none_on x.takes_no_slot y.takes_no_slot;
 }
 
-pub own_kept : {p q : PassView} → KeepsOwn p q → RaisesNone p q → KeepsHand p q
+pub own_kept : {p q : PassView} → KeepsOwn p q → TakesNoSlot p q → KeepsHand p q
 own_kept {p} {q} x none = record {
   hand = x.hand;
   in_hand = x.in_hand;
   room = let P : List ℕ → Type 0 = λ l. length l < POOL in subst P (sym x.pool);
-  some = λ h none. h (sym x.pool ∙ none);
-  raises_none = none;
+  takes_no_slot = none;
 }
 
 -- ---- a slot is retired
@@ -75,27 +74,33 @@ place_kept pool slot h = go (cases_Bool (is_kept pool))
     go (inl t) = let e = one pool in let u : length pool < POOL - 1 = grind (arith, nat_tests) in rw (t, e) (omega arith)
     go (inr f) = rw f h
 
--- a pool with slots keeps some
-some_kept : (pool : List ℕ) (slot : ℕ) → pool ≢ [] → pool_retired pool slot ≢ []
-some_kept pool slot some = go (is_kept pool)
-  where
-    added : (xs : List ℕ) → xs ++ slot ∷ [] ≢ []
-    added [] = λ e. absurd (cc)
-    added (x ∷ xs) = λ e. absurd (cc)
-
-    go : (kept : Bool) → cond kept (pool ++ slot ∷ []) pool ≢ []
-    go true = added pool
-    go false = some
-
-pub retired_hand : {p q : PassView} (slot : ℕ) → OwnPool p.trace.shape (knows p.trace) p.pool p.hand → IsUnlinked ((knows p.trace).own slot) → knows q.trace ≡ know_retired (knows p.trace) (knows q.trace).epoch slot (is_kept p.pool) → q.pool ≡ pool_retired p.pool slot → q.hand ≡ p.hand → RaisesNone p q → KeepsHand p q
-retired_hand {p} {q} slot own unlinked known pool hand none = record { hand = hand; in_hand = same; room = λ h. let P : List ℕ → Type 0 = λ l. length l < POOL in subst P (sym pool) (place_kept p.pool slot h); some = λ h empty. some_kept p.pool slot h (sym pool ∙ empty); raises_none = none }
+pub retired_hand : {p q : PassView} (slot : ℕ) → OwnPool p.trace.shape (knows p.trace) p.pool p.hand → IsUnlinked ((knows p.trace).own slot) → knows q.trace ≡ know_retired (knows p.trace) (knows q.trace).epoch slot (is_kept p.pool) → q.pool ≡ pool_retired p.pool slot → q.hand ≡ p.hand → TakesNoSlot p q → KeepsHand p q
+retired_hand {p} {q} slot own unlinked known pool hand none = record { hand = hand; in_hand = same; room = λ h. let P : List ℕ → Type 0 = λ l. length l < POOL in subst P (sym pool) (place_kept p.pool slot h); takes_no_slot = none }
   where
     same : (s : ℕ) → p.hand ≡ Some s → (knows q.trace).own s ≡ (knows p.trace).own s
     same s e =
-        let P : Option ℕ → Type 0 = pools.IsHandOf p.trace.shape (knows p.trace) p.pool in
+        let P : Option ℕ → Type 0 = pools.HandFits p.trace.shape (knows p.trace) p.pool in
         let in_hand = (subst P e own.in_hand).1 in
         let other : s ≢ slot = λ x. not_both ((knows p.trace).own s) in_hand (let Q : ℕ → Type 0 = λ t. IsUnlinked ((knows p.trace).own t) in subst Q (sym x) unlinked) in
         ap (λ (k : Know). k.own s) known ∙ put_other (read_epoch (knows p.trace) (knows q.trace).epoch).own slot (cond (is_kept p.pool) (Some (Free (knows q.trace).epoch)) None) s other ∙ own_read (knows p.trace) (knows q.trace).epoch s ∙ hand_reread ((knows p.trace).own s) in_hand
+
+-- a slot that was retired is stamped
+retired_stamped : (know later : Know) (epoch slot : ℕ) (kept : Bool) → later ≡ know_retired know epoch slot kept → ¬ (IsUnlinked (later.own slot))
+retired_stamped know later epoch slot kept is u =
+    free kept (subst IsUnlinked (ap (λ (k : Know). k.own slot) is ∙ put_here (read_epoch know epoch).own slot (cond kept (Some (Free epoch)) None)) u)
+  where
+    free : (b : Bool) → IsUnlinked (cond b (Some (Free epoch)) None) → ⊥
+    free true x = x
+    free false x = x
+
+-- a slot is unlinked, and then retired
+pub helped_hand : {p q r : PassView} {slot : ℕ} → KeepsOwn p q → Unlinks slot p q → KeepsHand q r → knows r.trace ≡ know_retired (knows q.trace) (knows r.trace).epoch slot (is_kept q.pool) → KeepsHand p r
+helped_hand {p} {q} {r} {slot} x u y known = record {
+  hand = y.hand ∙ x.hand;
+  in_hand = λ s e. y.in_hand s (x.hand ∙ e) ∙ x.in_hand s e;
+  room = λ h. y.room (let P : List ℕ → Type 0 = λ l. length l < POOL in subst P (sym x.pool) h);
+  takes_no_slot = unlinks_none p q r u y.takes_no_slot (retired_stamped (knows q.trace) (knows r.trace) (knows r.trace).epoch slot (is_kept q.pool) known);
+}
 
 -- ---- the hand itself
 

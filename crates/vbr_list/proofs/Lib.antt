@@ -1,3 +1,4 @@
+mod Traversals
 mod Going
 mod KeptHands
 mod Reaching
@@ -9,3 +10,4 @@ mod Sights
 mod Preparing
 mod Sufficing
 mod LonePasses
+pub mod Lemmas

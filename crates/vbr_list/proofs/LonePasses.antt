@@ -10,8 +10,7 @@ use Rattle.vbr_core.specs.Runs.{AreAccepted, IsRun, world_from}
 use Rattle.vbr_core.specs.declared.event.Event.{Event}
 use Rattle.vbr_core.specs.declared.history.Call.{Call}
 use Rattle.vbr_core.specs.declared.history.Op.{Op}
-use Rattle.vbr_core.proofs.RunsGoOn.{added_own, calls_after, calls_by-append}
-use Rattle.vbr_core.proofs.SafeRuns.{every_run}
+use Rattle.vbr_core.proofs.Lemmas.{added_own, calls_after, calls_by-append, every_run}
 use Rattle.vbr_slots.specs.Calls.{Made, made_by}
 use Rattle.vbr_slots.specs.Views.{Trace}
 use Rattle.vbr_list.specs.Alone.{AnswersAlone}

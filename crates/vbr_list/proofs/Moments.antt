@@ -8,23 +8,23 @@ use Rattle.vbr_core.specs.Knowledge.{Know}
 use Rattle.vbr_core.specs.Membership.{KeyAt, StandsBefore}
 use Rattle.vbr_slots.specs.Calls.{IsSame, Quiet}
 use Rattle.vbr_slots.specs.Views.{Trace, knows}
-use Rattle.vbr_slots.proofs.Calls.{moment_before}
+use Rattle.vbr_slots.proofs.Lemmas.{moment_before}
 use Rattle.vbr_access.specs.Keeping.{Keeps}
 use Rattle.vbr_access.specs.Moments.{Stood, WasSo}
 use Rattle.vbr_access.specs.declared.held.Held.{Held}
-use Rattle.vbr_access.proofs.Moments.{stood_before, was_present, was_absent}
+use Rattle.vbr_access.proofs.Lemmas.{stood_before, was_absent, was_present}
 use Rattle.vbr_list.specs.Places.{IsCur, IsEnd}
 use Rattle.vbr_list.specs.Found.{CurStood, IsFound}
-use Rattle.vbr_list.specs.Traversal.{IsReached}
+use Rattle.vbr_list.specs.Traversal.{HasComeTo}
 use Rattle.vbr_list.specs.declared.found.Found.{Found}
 use Rattle.vbr_list.proofs.Reaching.{stood_since, pred_on}
 
 -- ---- what was found
 
-pub end_found : {p r : Trace} (key used : ℕ) (pred : Held) → IsReached p r key pred → (link_of pred.word).slot ≡ None → IsFound p r key (record { pred = pred; cur = None; present = false; used = used })
+pub end_found : {p r : Trace} (key used : ℕ) (pred : Held) → HasComeTo p r key pred → (link_of pred.word).slot ≡ None → IsFound p r key (record { pred = pred; cur = None; present = false; used = used })
 end_found key used pred x none = record { locates = record { pred = x.is; end = (none, refl) }; stood = x.stood; cur_stood = tt }
 
-pub cur_found : {p q r : Trace} (key used : ℕ) (pred cur : Held) (present : Bool) → IsReached p q key pred → Quiet p q → Quiet q r → Keeps (knows q) (knows r) → IsCur (knows r) key pred cur present → Stood q r cur →
+pub cur_found : {p q r : Trace} (key used : ℕ) (pred cur : Held) (present : Bool) → HasComeTo p q key pred → Quiet p q → Quiet q r → Keeps (knows q) (knows r) → IsCur (knows r) key pred cur present → Stood q r cur →
     IsFound p r key (record { pred = pred; cur = Some cur; present = present; used = used })
 cur_found key used pred cur present x a b keeps y z = record {
   locates = record { pred = pred_on key pred b.same keeps x.is; end = y };

@@ -1,36 +1,35 @@
 -- A pass that was alone comes nearer to the key, node by node.
-use Rattle.std.proofs.Common.{◌≡◌, ℕ, suc, ◌+◌, ◌*◌, ◌≤◌, true, false, Option, Some, None, refl, sym, ap, ◌∙◌, subst, arith, inl, inr}
+use Rattle.std.proofs.Common.{◌≡◌, ℕ, suc, ◌+◌, ◌≤◌, true, false, Option, Some, None, sym, ap, ◌∙◌, subst, arith, inl, inr}
 use Rattle.std.specs.Prelude.{Result, Ok, Err, IfOk, IfErr}
 use Rattle.vbr_words.specs.Dimensions.{Dimensions}
 use Rattle.vbr_words.specs.Words.{link_of}
 use Rattle.vbr_words.specs.declared.place.At.{At}
 use Rattle.vbr_words.specs.declared.place.At.TheVariants.{Head, Slot}
 use Rattle.vbr_core.specs.Acceptance.{bucket_of}
-use Rattle.vbr_core.specs.Images.{link_at}
-use Rattle.vbr_core.specs.Incarnations.{Incarnations}
+use Rattle.vbr_core.specs.Images.{link_shown_at}
 use Rattle.vbr_core.specs.Membership.{HeldIn}
 use Rattle.vbr_core.specs.Nodes.{is_there}
-use Rattle.vbr_core.proofs.ListedRuns.{named_there, one_fewer_behind}
+use Rattle.vbr_core.proofs.Lemmas.{named_there, one_fewer_behind}
 use Rattle.vbr_slots.specs.Alone.{IsAlone, IsFresh, LeavesLists, ahead, nodes}
 use Rattle.vbr_slots.specs.Calls.{Quiet}
 use Rattle.vbr_slots.specs.Views.{Trace, PassView, knows}
-use Rattle.vbr_slots.proofs.Alone.{alone_first, alone_then, same_leaves, leaves_on}
+use Rattle.vbr_slots.proofs.Lemmas.{alone_first, alone_then, same_leaves}
 use Rattle.vbr_access.specs.Alone.{StandsNow, NextStands, UnlinksAlone}
 use Rattle.vbr_access.specs.Held.{Names, held_of}
 use Rattle.vbr_access.specs.Keeping.{Keeps}
 use Rattle.vbr_access.specs.Moments.{IsNext}
-use Rattle.vbr_access.specs.Soundness.{IsSound}
+use Rattle.vbr_slots.specs.PassLaw.{PassLaw}
 use Rattle.vbr_access.specs.declared.held.Held.{Held}
 use Rattle.vbr_access.specs.declared.held.Marked.{Marked}
 use Rattle.vbr_access.specs.declared.rollback.Rollback.{Rollback}
-use Rattle.vbr_access.proofs.AloneReads.{fresh_kept}
+use Rattle.vbr_access.proofs.Lemmas.{fresh_kept}
 use Rattle.vbr_list.specs.Budgets.{listed_for}
-use Rattle.vbr_list.specs.Nearing.{StillAt, HelpsAlone, IsThere, Nears, FoundAlone, Passes, SeenAlone, IsFirst, ahead_for}
+use Rattle.vbr_list.specs.Nearing.{StillAt, HelpsAlone, IsThere, Nears, FoundAlone, Passes, SeenAlone, ahead_for}
 use Rattle.vbr_list.specs.Places.{IsInside}
 use Rattle.vbr_list.proofs.Reaching.{slot_same}
-use Rattle.std.specs.Prelude.{IsSome, zero}
 use Rattle.vbr_list.specs.declared.found.Found.{Found}
 use Rattle.vbr_list.specs.declared.looking.Sight.TheVariants.{Present, Absent}
+use Rattle.vbr_list.proofs.Traversals.{IsFirst}
 
 -- ---- two pieces
 
@@ -62,7 +61,7 @@ start_still (Ok h) a b fresh still = tt
 -- ---- a visit
 
 -- behind what the link of a place names there is one node fewer
-one_behind : (p : PassView) → IsSound p → (key : ℕ) (pred : Held) → IsInside p.trace.shape (knows p.trace) key pred → IsThere p.trace pred → StandsNow p.trace pred → (s : ℕ) → Names pred s → ahead_for p.trace key pred ≡ suc (ahead p.trace (bucket_of p.trace.shape key) (Slot s))
+one_behind : (p : PassView) → PassLaw p → (key : ℕ) (pred : Held) → IsInside p.trace.shape (knows p.trace) key pred → IsThere p.trace pred → StandsNow p.trace pred → (s : ℕ) → Names pred s → ahead_for p.trace key pred ≡ suc (ahead p.trace (bucket_of p.trace.shape key) (Slot s))
 one_behind p sound key pred x there stands s names =
     one_fewer_behind p.trace.shape p.trace.passes p.trace.seen sound.shape sound.is_run p.trace.who (bucket_of p.trace.shape key) pred.at (link_of pred.word) x.held.link there stands x.inside s names
 
@@ -73,14 +72,14 @@ ahead_same p q key at l shape = ap (λ (s : Dimensions). ahead q (bucket_of s ke
 pub listed_same : (p q : Trace) (key : ℕ) → LeavesLists p q → q.shape ≡ p.shape → listed_for q key ≡ listed_for p key
 listed_same p q key l shape = ap (λ (s : Dimensions). ahead q (bucket_of s key) (Head (bucket_of s key))) shape ∙ l.count (bucket_of p.shape key) (Head (bucket_of p.shape key))
 
-pub visited : (p : PassView) → IsSound p → (q r : Trace) (key : ℕ) (pred node : Held) → IsInside p.trace.shape (knows p.trace) key pred → IsThere p.trace pred → StandsNow p.trace pred → IsNext p.trace q pred (Some node) → LeavesLists p.trace r → r.shape ≡ p.trace.shape → ahead_for p.trace key pred ≡ suc (ahead_for r key node)
+pub visited : (p : PassView) → PassLaw p → (q r : Trace) (key : ℕ) (pred node : Held) → IsInside p.trace.shape (knows p.trace) key pred → IsThere p.trace pred → StandsNow p.trace pred → IsNext p.trace q pred (Some node) → LeavesLists p.trace r → r.shape ≡ p.trace.shape → ahead_for p.trace key pred ≡ suc (ahead_for r key node)
 visited p sound q r key pred node x there stands n l shape =
     one_behind p sound key pred x there stands n.0 n.1
     ∙ ap suc (sym (ahead_same p.trace r key (Slot n.0) l shape) ∙ ap (ahead r (bucket_of r.shape key)) (sym n.2))
 
 -- the node that was read stands in its fresh epoch, also once its key was read
 pub node_still_there : (p q r : Trace) (node : Held) → nodes q ≡ nodes p → nodes r ≡ nodes q → Keeps (knows p) (knows q) → Keeps (knows q) (knows r) → IsFresh p → StandsNow q node → StillAt r node
-node_still_there p q r node x y k l fresh stands = record { fresh = fresh_kept q r y l (fresh_kept p q x k fresh); stands = ap (λ a. link_at a node.at) y ∙ stands }
+node_still_there p q r node x y k l fresh stands = record { fresh = fresh_kept q r y l (fresh_kept p q x k fresh); stands = ap (λ a. link_shown_at a node.at) y ∙ stands }
 
 -- ---- a help
 
@@ -137,13 +136,13 @@ found_end p q key before a pred found x is cur =
 -- ---- past marked nodes
 
 -- a marked node behind a place of the list is in the list too
-pub named_in_list : (p : PassView) → IsSound p → (r : Trace) (key : ℕ) (pred : Held) → IsInside p.trace.shape (knows p.trace) key pred → IsThere p.trace pred → StandsNow p.trace pred → (s : ℕ) → Names pred s → nodes r ≡ nodes p.trace → is_there (nodes r) (Slot s) ≡ true
+pub named_in_list : (p : PassView) → PassLaw p → (r : Trace) (key : ℕ) (pred : Held) → IsInside p.trace.shape (knows p.trace) key pred → IsThere p.trace pred → StandsNow p.trace pred → (s : ℕ) → Names pred s → nodes r ≡ nodes p.trace → is_there (nodes r) (Slot s) ≡ true
 named_in_list p sound r key pred x there stands s names same =
     ap (λ a. is_there a (Slot s)) same
     ∙ named_there p.trace.shape p.trace.passes p.trace.seen sound.shape sound.is_run p.trace.who (bucket_of p.trace.shape key) pred.at (link_of pred.word) x.held.link there stands x.inside s names
 
 -- what a visit of a marked node leaves
-pub marked_alone : (p : PassView) → IsSound p → (q : Trace) (key : ℕ) (pred node : Held) (marked : Marked) → Quiet p.trace q → IsInside p.trace.shape (knows p.trace) key pred → IsThere p.trace pred → StandsNow p.trace pred → IsNext p.trace q pred (Some node) → held_of marked ≡ node → nodes q ≡ nodes p.trace → Keeps (knows p.trace) (knows q) → IsFresh p.trace → StandsNow q node →
+pub marked_alone : (p : PassView) → PassLaw p → (q : Trace) (key : ℕ) (pred node : Held) (marked : Marked) → Quiet p.trace q → IsInside p.trace.shape (knows p.trace) key pred → IsThere p.trace pred → StandsNow p.trace pred → IsNext p.trace q pred (Some node) → held_of marked ≡ node → nodes q ≡ nodes p.trace → Keeps (knows p.trace) (knows q) → IsFresh p.trace → StandsNow q node →
     StillAt q (held_of marked) × (ahead_for p.trace key pred ≡ suc (ahead_for q key (held_of marked))) × (is_there (nodes q) (Slot marked.slot) ≡ true)
 marked_alone p sound q key pred node marked quiet x there stands n e same keeps fresh now =
     let P : Held → Type 0 = λ h. StillAt q h × (ahead_for p.trace key pred ≡ suc (ahead_for q key h)) in

@@ -1,7 +1,7 @@
 -- Loads alone, one after another.
 use Rattle.vbr_slots.specs.Calls.{AddsNone, OnlyLoads}
 use Rattle.vbr_slots.specs.Views.{Trace}
-use Rattle.vbr_slots.proofs.Calls.{adds_on, adds_refl, loads_on, loads_refl}
+use Rattle.vbr_slots.proofs.Lemmas.{adds_on, adds_refl, loads_on, loads_refl}
 use Rattle.vbr_list.specs.Traversal.{Observes}
 
 pub observes_refl : (p : Trace) → Observes p p

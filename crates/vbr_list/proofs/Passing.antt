@@ -15,15 +15,16 @@ use Rattle.vbr_access.specs.Held.{IsMarked, Names, held_of}
 use Rattle.vbr_access.specs.Keeping.{Keeps}
 use Rattle.vbr_access.specs.declared.held.Held.{Held}
 use Rattle.vbr_access.specs.declared.held.Marked.{Marked}
-use Rattle.vbr_access.proofs.Keeping.{held_in_kept, held_in_next, held_kept}
+use Rattle.vbr_access.proofs.Lemmas.{held_in_kept, held_in_next, held_kept}
 use Rattle.vbr_list.specs.Nearing.{Passes}
-use Rattle.vbr_list.specs.Places.{IsPred, IsCur, IsEnd, IsLook, IsSight}
-use Rattle.vbr_list.specs.Traversal.{Goes, Looks, Observes, Peeks}
+use Rattle.vbr_list.specs.Places.{IsPred, IsCur, IsEnd, IsSight}
+use Rattle.vbr_list.specs.Traversal.{Goes, Observes}
 use Rattle.vbr_list.specs.declared.looking.Sight.TheVariants.{Present, Absent}
 use Rattle.vbr_list.proofs.Going.{tries_on, tries_refl}
 use Rattle.vbr_list.proofs.Moments.{before_cur, stands_before, key_known}
 use Rattle.vbr_list.proofs.Observing.{observes_on, observes_refl}
 use Rattle.vbr_list.proofs.Reaching.{pred_inside, pred_on}
+use Rattle.vbr_list.proofs.Traversals.{IsLook, Looks, Peeks}
 
 -- where known marked links lead, they lead while they are known
 leads_kept : {know later : Know} (link last : Link) → Keeps know later → LeadsTo know link last → LeadsTo later link last

@@ -7,27 +7,28 @@ use Rattle.vbr_core.specs.Runs.{Begins, IsRun}
 use Rattle.vbr_core.specs.declared.history.Op.{Op}
 use Rattle.vbr_slots.specs.Calls.{IsSame, Quiet, Made}
 use Rattle.vbr_slots.specs.Views.{Trace, PassView}
-use Rattle.vbr_slots.proofs.Calls.{made_on}
-use Rattle.vbr_pools.specs.Steps.{Counts, TookWithin}
-use Rattle.vbr_pools.proofs.Counting.{counts_on, took_all}
-use Rattle.vbr_pools.proofs.Moments.{missed_after}
+use Rattle.vbr_slots.proofs.Lemmas.{made_on}
+use Rattle.vbr_pools.specs.Refusals.{IsSpent, LeavesRoom}
+use Rattle.vbr_pools.specs.Steps.{CountsSteps, TookWithin}
+use Rattle.vbr_pools.proofs.Lemmas.{counts_on, missed_after, took_all}
 use Rattle.vbr_access.specs.Moments.{WasSo}
-use Rattle.vbr_list.specs.Inserting.{CountsWithin, TakesNone, Refuses, IsShort}
-use Rattle.vbr_list.specs.Traversal.{Tries}
+use Rattle.vbr_list.specs.Inserting.{CountsWithin, InsertShowsSpent, TakesNone, RefusesInsert, InsertIsShort}
+use Rattle.vbr_list.specs.Refusals.{IsRefused}
 use Rattle.vbr_list.specs.declared.refusal.Refusal.{Refusal}
 use Rattle.vbr_list.specs.declared.refusal.Refusal.TheVariants.{OutOfSteps, NoSlot, EpochSpent}
 use Rattle.vbr_list.proofs.Going.{counts_step}
 use Rattle.vbr_list.proofs.Moments.{so_before}
+use Rattle.vbr_list.proofs.Traversals.{Tries}
 
 pub within_tries : {p q : PassView} {a b budget : ℕ} → Tries p q a b budget → CountsWithin p.trace q.trace a b budget
 within_tries x = record { counts = x.goes.counts; within = x.within }
 
-pub within_on : {p q r : Trace} {a b c budget : ℕ} → CountsWithin p q a b budget → Counts q r b c → b ≤ c → c ≤ budget → CountsWithin p r a c budget
+pub within_on : {p q r : Trace} {a b c budget : ℕ} → CountsWithin p q a b budget → CountsSteps q r b c → b ≤ c → c ≤ budget → CountsWithin p r a c budget
 within_on x y low high = record { counts = counts_on x.counts y; within = (let u = x.within.0 in omega arith, high) }
 
 -- they are those of a pass with the same trace
 pub within_same : {p q r : Trace} {a b budget : ℕ} → r ≡ q → CountsWithin p q a b budget → CountsWithin p r a b budget
-within_same {p} {q} {r} {a} {b} e x = record { counts = subst (λ (t : Trace). Counts p t a b) (sym e) x.counts; within = x.within }
+within_same {p} {q} {r} {a} {b} e x = record { counts = subst (λ (t : Trace). CountsSteps p t a b) (sym e) x.counts; within = x.within }
 
 -- a call with what is left of the budget
 pub within_rest : {p q : Trace} (used budget : ℕ) → used ≤ budget → TookWithin p q (budget - used) → (since : ℕ) × CountsWithin p q used since budget
@@ -44,7 +45,7 @@ was_empty [] now some empty = refl
 was_empty (s ∷ before) now some empty = absurd (some (λ e. absurd (cc)) empty)
 
 -- a refusal to take a slot, where the key was found absent before
-pub refuses_after : (p q r : PassView) {key a b budget : ℕ} → Quiet p.trace q.trace → (p.pool ≢ [] → q.pool ≢ []) → CountsWithin p.trace q.trace a b budget → WasSo p.trace q.trace key false → Quiet q.trace r.trace → (refusal : Refusal) → TakesNone q r b budget refusal → Refuses p r key a budget refusal
+pub refuses_after : (p q r : PassView) {key a b budget : ℕ} → Quiet p.trace q.trace → (p.pool ≢ [] → q.pool ≢ []) → CountsWithin p.trace q.trace a b budget → WasSo p.trace q.trace key false → Quiet q.trace r.trace → (refusal : Refusal) → TakesNone q r b budget refusal → RefusesInsert p r key a budget refusal
 refuses_after p q r quiet some x absent more (OutOfSteps used) y = record { counts = within_on x y.counts.counts y.counts.within.0 y.counts.within.1; short = y.short }
 refuses_after p q r quiet some x absent more NoSlot y = record {
   absent = so_before absent more;
@@ -52,10 +53,20 @@ refuses_after p q r quiet some x absent more NoSlot y = record {
   still = y.still;
   outside = λ slot low. missed_after quiet (y.outside slot (let P : Dimensions → Type 0 = λ shape. slot < shape.slots in subst P (sym quiet.same.shape) low));
 }
-refuses_after p q r quiet some x absent more (EpochSpent epoch) y = record { absent = so_before absent more; spent = y }
+refuses_after p q r quiet some x absent more (EpochSpent epoch) y = (so_before absent more, record { spent = y.spent; since = y.since; counts = within_on x y.counts.counts y.counts.within.0 y.counts.within.1; room = y.room })
+
+-- a refusal behind no steps is one of the whole call
+pub refused_first : (p q : PassView) (key budget : ℕ) (refusal : Refusal) → RefusesInsert p q key 0 budget refusal → IsRefused p q key budget refusal
+refused_first p q key budget (OutOfSteps used) x = record { took = took_all x.counts.counts; within = x.counts.within.1; short = x.short }
+refused_first p q key budget NoSlot x = x
+refused_first p q key budget (EpochSpent epoch) x = record { absent = x.0; spent = x.1.spent; room = record { steps = x.1.since; room = x.1.room; took = took_all x.1.counts.counts } }
+
+-- what shows that the epoch is spent, with what is left of the budget
+pub spent_rest : (p q : PassView) (used budget epoch : ℕ) → used ≤ budget → IsSpent q epoch → LeavesRoom p q (budget - used) → InsertShowsSpent p q used budget epoch
+spent_rest p q used budget epoch le spent left = let h = left.room in record { spent = spent; since = used + left.steps; counts = record { counts = counts_step used left.steps left.took; within = (omega arith, omega arith) }; room = omega arith }
 
 -- the second part of an insert makes so many steps
-pub within_second : (q r : PassView) {b budget : ℕ} (c : ℕ) (answer : Result Bool Refusal) → IfOk answer (λ _. CountsWithin q.trace r.trace b c budget) → IfErr answer (λ refusal. IsShort q r b budget refusal) → (since : ℕ) × CountsWithin q.trace r.trace b since budget
+pub within_second : (q r : PassView) {b budget : ℕ} (c : ℕ) (answer : Result Bool Refusal) → IfOk answer (λ _. CountsWithin q.trace r.trace b c budget) → IfErr answer (λ refusal. InsertIsShort q r b budget refusal) → (since : ℕ) × CountsWithin q.trace r.trace b since budget
 within_second q r c (Ok reply) x y = (c, x)
 within_second q r c (Err (OutOfSteps used)) x y = (used, y.counts)
 within_second q r c (Err NoSlot) x y = absurd y

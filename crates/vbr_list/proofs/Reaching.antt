@@ -12,21 +12,20 @@ use Rattle.vbr_core.specs.Membership.{HeldIn, at_head, KeyAt, StandsBehind}
 use Rattle.vbr_slots.specs.Alone.{IsAlone}
 use Rattle.vbr_slots.specs.Calls.{IsSame, Quiet}
 use Rattle.vbr_slots.specs.Views.{Trace, TableView, PassView, IsOf, knows}
-use Rattle.vbr_slots.proofs.Calls.{quiet_on}
+use Rattle.vbr_slots.proofs.Lemmas.{quiet_on}
 use Rattle.vbr_pools.specs.Retiring.{know_retired}
 use Rattle.vbr_access.specs.Held.{IsSlot, IsHeld, IsMarked, Names, held_of}
 use Rattle.vbr_access.specs.Keeping.{Keeps}
 use Rattle.vbr_access.specs.Moments.{Stood, IsRead, IsNext}
-use Rattle.vbr_access.specs.Soundness.{IsSound}
+use Rattle.vbr_slots.specs.PassLaw.{PassLaw}
 use Rattle.vbr_access.specs.declared.held.Held.{Held}
 use Rattle.vbr_access.specs.declared.held.Marked.{Marked}
-use Rattle.vbr_access.proofs.Keeping.{held_kept, held_in_kept, held_in_next, behind_kept}
-use Rattle.vbr_access.proofs.Moments.{stood_before, stood_after}
-use Rattle.vbr_access.proofs.PlacesInShape.{link_in}
+use Rattle.vbr_access.proofs.Lemmas.{behind_kept, held_in_kept, held_in_next, held_kept, link_in, stood_after, stood_before}
 use Rattle.vbr_list.specs.Places.{IsInside, IsPred, IsCur}
 use Rattle.vbr_list.specs.Nearing.{Nears}
-use Rattle.vbr_list.specs.Traversal.{Goes, IsReached, Traverses}
+use Rattle.vbr_list.specs.Traversal.{Goes, HasComeTo}
 use Rattle.vbr_list.proofs.Going.{tries_on}
+use Rattle.vbr_list.proofs.Traversals.{Traverses}
 
 pub stood_since : {p q r : Trace} {held : Held} → Quiet p q → Stood q r held → Stood p r held
 stood_since a x = stood_after a.same a.seen x
@@ -38,7 +37,7 @@ place_at_head shape know at bucket key e f =
     let P : At → Type 0 = λ x. HeldIn know x (bucket_of shape key) × StandsBehind shape know x key in
     subst P (sym (e ∙ ap Head f)) (at_head (bucket_of shape key), refl)
 
-pub head_reached : {p q r : Trace} (bucket key : ℕ) (head : Held) → Quiet p q → Quiet q r → bucket ≡ bucket_of p.shape key → head.at ≡ Head bucket → IsRead q r head → (link_of head.word).mark ≡ false → IsReached p r key head
+pub head_reached : {p q r : Trace} (bucket key : ℕ) (head : Held) → Quiet p q → Quiet q r → bucket ≡ bucket_of p.shape key → head.at ≡ Head bucket → IsRead q r head → (link_of head.word).mark ≡ false → HasComeTo p r key head
 head_reached {p} {q} {r} bucket key head x y e at read unmarked =
     let z = quiet_on x y in
     let place = place_at_head r.shape (knows r) head.at bucket key at (e ∙ ap (λ (shape : Dimensions). bucket_of shape key) (sym z.same.shape)) in
@@ -71,7 +70,7 @@ node_behind shape know at s here key e x b l =
 
 -- a node with a smaller key
 pub node_reached : {p q r : Trace} (key here : ℕ) (pred node : Held) → IsInside p.shape (knows p) key pred → Keeps (knows p) (knows q) → IsNext p q pred (Some node) → Keeps (knows q) (knows r) → KeyAt (knows r) node.at here →
-    ((b : ℕ) → HeldIn (knows q) node.at b → bucket_of q.shape here ≡ b) → (link_of node.word).mark ≡ false → here < key → Quiet p q → Quiet q r → IsReached p r key node
+    ((b : ℕ) → HeldIn (knows q) node.at b → bucket_of q.shape here ≡ b) → (link_of node.word).mark ≡ false → here < key → Quiet p q → Quiet q r → HasComeTo p r key node
 node_reached {p} {q} {r} key here pred node x keep n keep2 k bucket unmarked l a b =
     let P : At → Type 0 = λ at. HeldIn (knows q) at (bucket_of p.shape key) in
     let i : HeldIn (knows q) node.at (bucket_of p.shape key) = subst P (sym n.2) (held_in_next pred n.0 (bucket_of p.shape key) (held_kept pred keep x.held) n.1 (held_in_kept pred.at (bucket_of p.shape key) keep x.inside)) in
@@ -116,7 +115,7 @@ retired_keeps know later slot kept is same = record { epoch = same; reads = λ r
     all : later.checked ≡ know.checked ++ know.pending
     all = let t : (later.epoch == know.epoch) ≡ true = eq-eqb later.epoch know.epoch same in ap (λ (k : Know). k.checked) is ∙ rw t refl
 
-pub helped : {p q r : Trace} (key : ℕ) (pred place : Held) → IsPred p.shape (knows p) key pred → Keeps (knows p) (knows q) → place.at ≡ pred.at → (link_of place.word).mark ≡ false → IsRead p q place → Quiet p q → Quiet q r → Keeps (knows q) (knows r) → IsReached p r key place
+pub helped : {p q r : Trace} (key : ℕ) (pred place : Held) → IsPred p.shape (knows p) key pred → Keeps (knows p) (knows q) → place.at ≡ pred.at → (link_of place.word).mark ≡ false → IsRead p q place → Quiet p q → Quiet q r → Keeps (knows q) (knows r) → HasComeTo p r key place
 helped {p} {q} {r} key pred place x keeps at unmarked read a b keeps2 =
     let z = pred_on key pred a.same keeps x in
     let P : At → Type 0 = λ t. HeldIn (knows q) t (bucket_of q.shape key) in
@@ -126,7 +125,7 @@ helped {p} {q} {r} key pred place x keeps at unmarked read a b keeps2 =
 
 -- ---- from place to place
 
-pub traverses_on : {p q r : PassView} {key a b c budget : ℕ} {pred next : Held} → Traverses p q key a b budget pred → Goes q r b c → b ≤ c → c ≤ budget → IsReached q.trace r.trace key next → (IsAlone p.trace r.trace → Nears p.trace r.trace key a c next) → Traverses p r key a c budget next
+pub traverses_on : {p q r : PassView} {key a b c budget : ℕ} {pred next : Held} → Traverses p q key a b budget pred → Goes q r b c → b ≤ c → c ≤ budget → HasComeTo q.trace r.trace key next → (IsAlone p.trace r.trace → Nears p.trace r.trace key a c next) → Traverses p r key a c budget next
 traverses_on x y le high reached nears = record {
   nears = nears;
   tries = tries_on x.tries y le high;
@@ -135,7 +134,7 @@ traverses_on x y le high reached nears = record {
 }
 
 -- the slot of a marked node is one of the shape
-pub marked_in : (p : PassView) → IsSound p → (t : TableView) → IsOf p.trace t → (marked : Marked) → IsMarked (knows p.trace) marked → (s : ℕ) → s ≡ marked.slot → s < t.shape.slots
+pub marked_in : (p : PassView) → PassLaw p → (t : TableView) → IsOf p.trace t → (marked : Marked) → IsMarked (knows p.trace) marked → (s : ℕ) → s ≡ marked.slot → s < t.shape.slots
 marked_in p sound t own marked x s e =
     let P : Dimensions → Type 0 = λ shape. marked.slot < shape.slots in
     let Q : ℕ → Type 0 = λ i. i < t.shape.slots in

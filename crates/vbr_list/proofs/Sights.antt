@@ -9,7 +9,7 @@ use Rattle.vbr_core.specs.Membership.{KeyAt}
 use Rattle.vbr_slots.specs.Views.{Trace}
 use Rattle.vbr_access.specs.Alone.{StandsNow}
 use Rattle.vbr_access.specs.Held.{IsHeld, IsSlot}
-use Rattle.vbr_access.specs.LookUps.{Answers}
+use Rattle.vbr_access.specs.LookUps.{DecidesKey}
 use Rattle.vbr_list.specs.Nearing.{SightStands}
 use Rattle.vbr_list.specs.Places.{IsSight, held_in, is_present}
 use Rattle.vbr_list.specs.declared.looking.Sight.{Sight}
@@ -28,7 +28,7 @@ module _ (shape : Dimensions) (know : Know) (key : ℕ) where
   sight_unmarked (Present node) s = s.1
   sight_unmarked (Absent pred) s = s.0.unmarked
 
-  pub sight_answers : (sight : Sight) → IsSight shape know key sight → Answers shape know key (held_in sight) (is_present sight)
+  pub sight_answers : (sight : Sight) → IsSight shape know key sight → DecidesKey shape know key (held_in sight) (is_present sight)
   sight_answers (Present node) s = (keyed_slot know node.at key s.2, s.2)
   sight_answers (Absent pred) s = (s.0.behind, s.1)
 

@@ -1,5 +1,5 @@
 -- The steps of an insert by a pass that was alone.
-use Rattle.std.proofs.Common.{◌≡◌, ◌≢◌, ℕ, ◌+◌, ◌*◌, ◌-◌, ◌<◌, ◌≤◌, max, List, [], ◌∷◌, Result, Ok, Err, refl, sym, ap, ◌∙◌, subst, arith}
+use Rattle.std.proofs.Common.{◌≡◌, ◌≢◌, ℕ, ◌+◌, ◌*◌, ◌<◌, ◌≤◌, List, [], ◌∷◌, Result, Ok, Err, refl, sym, subst, arith}
 use Rattle.std.specs.Prelude.{IfErr}
 use Rattle.vbr_words.specs.Dimensions.{Dimensions}
 use Rattle.vbr_words.specs.declared.place.At.TheVariants.{Head}
@@ -7,16 +7,16 @@ use Rattle.vbr_core.specs.Acceptance.{bucket_of}
 use Rattle.vbr_slots.specs.Alone.{IsAlone, ahead}
 use Rattle.vbr_slots.specs.Calls.{Quiet}
 use Rattle.vbr_slots.specs.Views.{Trace, PassView}
-use Rattle.vbr_slots.proofs.Alone.{quiet_adds_none}
-use Rattle.vbr_pools.specs.Budgets.{NeedsMore, most_to_take, steps_to_take}
-use Rattle.vbr_access.specs.Soundness.{IsSound}
+use Rattle.vbr_slots.proofs.Lemmas.{quiet_adds_none}
+use Rattle.vbr_pools.specs.Budgets.{most_to_take, steps_to_take}
+use Rattle.vbr_slots.specs.PassLaw.{PassLaw}
 use Rattle.vbr_list.specs.Budgets.{IsAnsweredOrSpent, LacksSteps, listed_for}
-use Rattle.vbr_list.specs.Inserting.{IsShort, Refuses}
+use Rattle.vbr_list.specs.Inserting.{InsertIsShort, RefusesInsert}
 use Rattle.vbr_list.specs.declared.refusal.Refusal.{Refusal}
 use Rattle.vbr_list.specs.declared.refusal.Refusal.TheVariants.{OutOfSteps, NoSlot, EpochSpent}
 
 -- a pass that was alone and made no call has no more nodes in the list of a key's bucket
-pub no_more_listed : (p : PassView) → IsSound p → (q : Trace) (key : ℕ) → Quiet p.trace q → IsAlone p.trace q → listed_for q key ≤ listed_for p.trace key
+pub no_more_listed : (p : PassView) → PassLaw p → (q : Trace) (key : ℕ) → Quiet p.trace q → IsAlone p.trace q → listed_for q key ≤ listed_for p.trace key
 no_more_listed p sound q key quiet alone =
     let P : Dimensions → Type 0 = λ shape. ahead q (bucket_of shape key) (Head (bucket_of shape key)) ≤ listed_for p.trace key in
     subst P (sym quiet.same.shape) (quiet_adds_none sound.shape sound.is_run quiet alone (bucket_of p.trace.shape key) (bucket_of p.trace.shape key))
@@ -49,12 +49,12 @@ lacks n budget NoSlot short = tt
 lacks n budget (EpochSpent epoch) short = tt
 
 -- a refusal for want of a slot comes of an empty own pool
-pub refused_empty : (p q : PassView) (key before budget : ℕ) (refusal : Refusal) → Refuses p q key before budget refusal → refusal ≡ NoSlot → p.pool ≡ []
+pub refused_empty : (p q : PassView) (key before budget : ℕ) (refusal : Refusal) → RefusesInsert p q key before budget refusal → refusal ≡ NoSlot → p.pool ≡ []
 refused_empty p q key before budget (OutOfSteps used) x e = absurd (cc)
 refused_empty p q key before budget NoSlot x e = x.empty
 refused_empty p q key before budget (EpochSpent epoch) x e = absurd (cc)
 
-pub never_refused : (pool : List ℕ) (p q : PassView) (before budget : ℕ) (refusal : Refusal) → IsShort p q before budget refusal → refusal ≡ NoSlot → pool ≡ []
+pub never_refused : (pool : List ℕ) (p q : PassView) (before budget : ℕ) (refusal : Refusal) → InsertIsShort p q before budget refusal → refusal ≡ NoSlot → pool ≡ []
 never_refused pool p q before budget (OutOfSteps used) x e = absurd (cc)
 never_refused pool p q before budget NoSlot x e = absurd x
 never_refused pool p q before budget (EpochSpent epoch) x e = absurd x

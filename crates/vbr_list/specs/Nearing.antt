@@ -1,12 +1,11 @@
 -- How far a pass that was alone has come along the list of a key's bucket. Only contracts of private functions cite this.
-use Rattle.std.specs.Prelude.{◌≡◌, ℕ, ◌+◌, ◌*◌, ◌≤◌, suc, true, false, Option, Some, None, ◌⊎◌}
+use Rattle.std.specs.Prelude.{◌≡◌, ℕ, ◌+◌, ◌*◌, ◌≤◌, suc, true, false, ◌⊎◌}
 use Rattle.vbr_words.specs.Words.{link_of}
-use Rattle.vbr_words.specs.declared.place.At.{At}
 use Rattle.vbr_words.specs.declared.place.At.TheVariants.{Slot}
 use Rattle.vbr_core.specs.Acceptance.{bucket_of}
 use Rattle.vbr_core.specs.Nodes.{is_there}
-use Rattle.vbr_slots.specs.Alone.{IsAlone, IsFresh, ahead, nodes}
-use Rattle.vbr_slots.specs.Views.{Trace, PassView}
+use Rattle.vbr_slots.specs.Alone.{IsFresh, ahead, nodes}
+use Rattle.vbr_slots.specs.Views.{Trace}
 use Rattle.vbr_access.specs.Alone.{StandsNow, NextStands}
 use Rattle.vbr_access.specs.Held.{held_of}
 use Rattle.vbr_access.specs.declared.held.Held.{Held}
@@ -74,7 +73,3 @@ SightStands q (Absent pred) = StandsNow q pred
 pub record SeenAlone (p q : Trace) (key before since : ℕ) (sight : Sight) : Type 0 where
   pub stands : SightStands q sight
   pub paid : since ≤ before + 3 + 5 * listed_for p key
-
--- nothing was done yet, or the pass was not alone
-abbrev pub IsFirst : PassView → PassView → ℕ → ℕ → Type 0
-IsFirst p q before since = (IsAlone p.trace q.trace → ⊥) ⊎ ((q ≡ p) × (since ≡ before))

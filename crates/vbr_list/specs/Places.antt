@@ -5,7 +5,7 @@ use Rattle.vbr_words.specs.Words.{link_of}
 use Rattle.vbr_words.specs.declared.place.At.TheVariants.{Slot}
 use Rattle.vbr_core.specs.Acceptance.{bucket_of}
 use Rattle.vbr_core.specs.Knowledge.{Know}
-use Rattle.vbr_core.specs.Membership.{KeyAt, HeldIn, LeadsTo, StandsBehind, StandsBeforeOn}
+use Rattle.vbr_core.specs.Membership.{KeyAt, HeldIn, StandsBehind, StandsBeforeOn}
 use Rattle.vbr_access.specs.Held.{IsHeld, Names}
 use Rattle.vbr_access.specs.declared.held.Held.{Held}
 use Rattle.vbr_list.specs.declared.found.Found.{Found}
@@ -40,12 +40,6 @@ pub record IsCur (know : Know) (key : ℕ) (pred cur : Held) (present : Bool) : 
 abbrev pub IsEnd : Know → ℕ → Held → Option Held → Bool → Type 0
 IsEnd know key pred None present = ((link_of pred.word).slot ≡ None) × (present ≡ false)
 IsEnd know key pred (Some cur) present = IsCur know key pred cur present
-
--- known marked links lead from a place before the key to another place of the list, or to itself
-pub record IsLook (shape : Dimensions) (know : Know) (key : ℕ) (pred here : Held) : Type 0 where
-  pub before : IsPred shape know key pred
-  pub inside : IsInside shape know key here
-  pub leads : LeadsTo know (link_of pred.word) (link_of here.word)
 
 -- what a look-up came to: an unmarked node with the key, or a place before it behind which it is absent
 abbrev pub IsSight : Dimensions → Know → ℕ → Sight → Type 0

@@ -1,7 +1,7 @@
 -- What a refusal says of a call.
 use Rattle.std.specs.Prelude.{◌≡◌, ℕ, ◌<◌, false, []}
 use Rattle.vbr_slots.specs.Views.{PassView}
-use Rattle.vbr_pools.specs.Refusals.{IsOutOfSteps, IsSpent}
+use Rattle.vbr_pools.specs.Refusals.{IsOutOfSteps, IsSpent, LeavesRoom}
 use Rattle.vbr_pools.specs.SharedPool.{WasOutside}
 use Rattle.vbr_access.specs.Moments.{WasSo}
 use Rattle.vbr_list.specs.declared.refusal.Refusal.{Refusal}
@@ -20,13 +20,14 @@ pub record FoundNoSlot (p q : PassView) (key : ℕ) : Type 0 where
   pub still : q.pool ≡ []
   pub outside : (slot : ℕ) → slot < p.trace.shape.slots → WasOutside p.trace q.trace slot
 
--- the key was absent at a moment, and the epoch is spent
-pub record FoundSpent (p q : PassView) (key epoch : ℕ) : Type 0 where
+-- the key was absent at a moment, and the epoch is spent, which was told where the budget had room for the piece that would raise it
+pub record FoundSpent (p q : PassView) (key budget epoch : ℕ) : Type 0 where
   pub absent : WasSo p.trace q.trace key false
   pub spent : IsSpent q epoch
+  pub room : LeavesRoom p q budget
 
 -- what a refusal of an insert says
 abbrev pub IsRefused : PassView → PassView → ℕ → ℕ → Refusal → Type 0
 IsRefused p q key budget (OutOfSteps used) = IsOutOfSteps p q budget used
 IsRefused p q key budget NoSlot = FoundNoSlot p q key
-IsRefused p q key budget (EpochSpent epoch) = FoundSpent p q key epoch
+IsRefused p q key budget (EpochSpent epoch) = FoundSpent p q key budget epoch

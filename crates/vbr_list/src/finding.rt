@@ -4,7 +4,7 @@ ghost use Rattle.vbr_core.specs.Acceptance.{bucket_of};
 ghost use Rattle.vbr_slots.specs.Alone.{IsAlone};
 ghost use Rattle.vbr_slots.specs.Calls.{Quiet, Took};
 ghost use Rattle.vbr_slots.specs.Views.{IsOf};
-ghost use Rattle.vbr_pools.specs.Advances.{RaisesNone};
+ghost use Rattle.vbr_pools.specs.Advances.{TakesNoSlot};
 ghost use Rattle.vbr_access.specs.Moments.{WasSo};
 ghost use Rattle.vbr_access.specs.Soundness.{HasSafeRun};
 ghost use Rattle.vbr_list.specs.Found.{IsFound};
@@ -15,7 +15,6 @@ ghost use Rattle.vbr_list.specs.Traversal.{Goes};
 
 use crate::found::Found;
 use crate::refusal::Refusal;
-use crate::soundness::soundness;
 use crate::traversal::{Stop, traverse};
 use vbr_slots::{Pass, Slots};
 
@@ -52,8 +51,9 @@ pub(crate) fn search(
 
 /// Finds where a key stands, or would stand, in the list of its bucket, in at most `budget` steps:
 /// the last unmarked place before it, and the node behind that, which both stood so at moments of
-/// the call. It unlinks and retires the marked nodes that it meets, and makes no call. Each slot that
-/// the pass could take is in its own pool then.
+/// the call. It unlinks and retires the marked nodes that it meets, and makes no call. The own pool
+/// has what it had then, each slot that the pass could take, and what the call unlinked while it had
+/// room.
 ///
 /// OutOfSteps is its one refusal. While the other passes stand still, a budget of 9n + 11 is enough,
 /// with n nodes in the key's bucket.
@@ -66,12 +66,12 @@ pub fn find(slots: &Slots, pass: &mut Pass, key: u64, budget: u32) -> Result<Fou
     ensures found { IfOk result (λ found. IsFound pass.old.trace pass.new.trace key found) }
     ensures was_so { IfOk result (λ found. WasSo pass.old.trace pass.new.trace key found.present) }
     ensures steps { IfOk result (λ found. (found.used ≤ budget) × Took pass.old.trace pass.new.trace found.used) }
-    ensures raises_none { RaisesNone pass.old pass.new }
+    ensures takes_no_slot { TakesNoSlot pass.old pass.new }
     ensures refused { IfErr result (λ refusal. IsTired pass.old pass.new budget refusal) }
     // Alone, it finds the key in so many steps.
     ensures within { IfErr result (λ refusal. IsAlone pass.old.trace pass.new.trace → budget < 9 * listed_for pass.old.trace key + 11) }
 {
-    soundness(slots, pass);
+    pass.law();
     let bucket = slots.shape().bucket_of(key);
     let mut used = 0;
     match search(slots, pass, key, bucket, budget, &mut used) {

@@ -1,10 +1,10 @@
 //! Inserts.
-ghost use Rattle.std.specs.Prelude.{◌≡◌, ◌≢◌, ℕ, ◌+◌, ◌*◌, ◌<◌, ◌≤◌, ◌^◌, true, false, [], None, IfOk, IfErr};
+ghost use Rattle.std.specs.Prelude.{◌≡◌, ◌≢◌, ℕ, ◌+◌, ◌*◌, ◌<◌, ◌≤◌, ◌^◌, true, false, [], length, None, IfOk, IfErr};
 ghost use Rattle.vbr_core.specs.Acceptance.{bucket_of};
 ghost use Rattle.vbr_core.specs.declared.history.Op.TheVariants.{Insert};
-ghost use Rattle.vbr_pools.specs.Advances.{advances, AdvancesWhereNeeded, KeepsSlots, RaisesNone};
+ghost use Rattle.vbr_pools.specs.Advances.{AdvancesWhereNeeded, KeepsSlots, TakesNoSlot, SharesWhereFull};
 ghost use Rattle.vbr_pools.specs.Budgets.{most_to_take, steps_to_take};
-ghost use Rattle.vbr_pools.specs.Steps.{Counts, TookWithin};
+ghost use Rattle.vbr_pools.specs.Steps.{CountsSteps, TookWithin};
 ghost use Rattle.vbr_slots.specs.Alone.{IsAlone};
 ghost use Rattle.vbr_slots.specs.Calls.{IsSame, Quiet, Made, Took};
 ghost use Rattle.vbr_slots.specs.Views.{IsOf, knows};
@@ -13,14 +13,13 @@ ghost use Rattle.vbr_access.specs.Keeping.{KeepsOwn};
 ghost use Rattle.vbr_access.specs.Soundness.{HasSafeRun};
 ghost use Rattle.vbr_list.specs.Alone.{AnswersAlone};
 ghost use Rattle.vbr_list.specs.Budgets.{IsAnsweredOrSpent, LacksSteps, listed_for};
-ghost use Rattle.vbr_list.specs.Inserting.{CountsWithin, IsPrepared, IsReady, IsShort, Refuses, TakesNone};
+ghost use Rattle.vbr_list.specs.Inserting.{CountsWithin, IsPrepared, HasHandAndRoom, InsertIsShort, RefusesInsert, TakesNone};
 ghost use Rattle.vbr_list.specs.Places.{Locates};
 ghost use Rattle.vbr_list.specs.Refusals.{IsRefused};
 
 use crate::finding::search;
 use crate::found::Found;
 use crate::refusal::Refusal;
-use crate::soundness::soundness;
 use vbr_access::{Rollback, confirm_present, update};
 use vbr_core::Op;
 use vbr_pools::budget::affords;
@@ -35,7 +34,7 @@ fn deny(slots: &Slots, pass: &mut Pass, key: u64, found: &Found) -> Result<(), R
     requires present { found.now.present ≡ true }
     ensures took { Took pass.old.trace pass.new.trace 1 }
     ensures own { KeepsOwn pass.old pass.new }
-    ensures raises_none { RaisesNone pass.old pass.new }
+    ensures takes_no_slot { TakesNoSlot pass.old pass.new }
     ensures made { IfOk result (λ _. Made (record { who = pass.old.trace.who; op = Insert; key = key; reply = false }) pass.old.trace pass.new.trace) }
     ensures quiet { IfErr result (λ r. Quiet pass.old.trace pass.new.trace) }
     ensures wins { IfErr result (λ r. NextStands pass.old.trace found.now.cur → IsAlone pass.old.trace pass.new.trace → ⊥) }
@@ -53,13 +52,15 @@ fn provide(slots: &Slots, pass: &mut Pass, budget: u32, used: &mut u32) -> Resul
     requires empty_hand { pass.old.hand ≡ None }
     requires within { used.old ≤ budget }
     ensures quiet { Quiet pass.old.trace pass.new.trace }
-    ensures hand { IfOk result (λ hand. IsReady pass.new hand) }
+    ensures hand { IfOk result (λ hand. HasHandAndRoom pass.new hand) }
     ensures counts { IfOk result (λ hand. CountsWithin pass.old.trace pass.new.trace used.old used.new budget) }
     ensures empty_hand { IfErr result (λ refusal. pass.new.hand ≡ None) }
     ensures steps { IfErr result (λ refusal. (since : ℕ) × CountsWithin pass.old.trace pass.new.trace used.old since budget) }
     ensures refused { IfErr result (λ refusal. TakesNone pass.old pass.new used.old budget refusal) }
     ensures advances { AdvancesWhereNeeded pass.old pass.new }
     ensures kept { KeepsSlots pass.old pass.new }
+    ensures one { length pass.old.pool ≤ length pass.new.pool + 1 }
+    ensures shared { SharesWhereFull 2 pass.old pass.new }
     ensures few { IfOk result (λ hand. IsAlone pass.old.trace pass.new.trace → used.new ≤ used.old + steps_to_take pass.old.trace.shape pass.old.pool) }
     ensures enough { IfErr result (λ refusal. IsAlone pass.old.trace pass.new.trace → LacksSteps (used.old + steps_to_take pass.old.trace.shape pass.old.pool + 7) budget refusal) }
 {
@@ -96,13 +97,14 @@ fn prepare(
     ensures quiet { IfErr result (λ refusal. Quiet pass.old.trace pass.new.trace) }
     ensures empty_hand { IfErr result (λ refusal. pass.new.hand ≡ None) }
     ensures steps { IfErr result (λ refusal. (since : ℕ) × CountsWithin pass.old.trace pass.new.trace used.old since budget) }
-    ensures refused { IfErr result (λ refusal. Refuses pass.old pass.new key used.old budget refusal) }
+    ensures refused { IfErr result (λ refusal. RefusesInsert pass.old pass.new key used.old budget refusal) }
     ensures advances { AdvancesWhereNeeded pass.old pass.new }
     ensures kept { KeepsSlots pass.old pass.new }
+    ensures shared { SharesWhereFull 2 pass.old pass.new }
     ensures few { IfOk result (λ hand. IsAlone pass.old.trace pass.new.trace → used.new ≤ used.old + 9 * listed_for pass.old.trace key + most_to_take pass.old.trace.shape pass.old.pool + 3) }
     ensures enough { IfErr result (λ refusal. IsAlone pass.old.trace pass.new.trace → LacksSteps (used.old + 9 * listed_for pass.old.trace key + most_to_take pass.old.trace.shape pass.old.pool + 10) budget refusal) }
 {
-    soundness(slots, pass);
+    pass.law();
     loop {
         let Some(found) = search(slots, pass, key, bucket, budget, used) else {
             return Err(Refusal::OutOfSteps { used: *used });
@@ -134,16 +136,15 @@ fn settle(
 ) -> Result<bool, Hand>
     requires own { IsOf pass.old.trace slots.now }
     requires locates { Locates pass.old.trace.shape (knows pass.old.trace) key found.now }
-    requires hand { IsReady pass.old hand }
+    requires hand { HasHandAndRoom pass.old hand }
     requires room { used.old + 8 < 2 ^ 32 }
-    ensures counts { Counts pass.old.trace pass.new.trace used.old used.new }
+    ensures counts { CountsSteps pass.old.trace pass.new.trace used.old used.new }
     ensures used { (used.old < used.new) × (used.new ≤ used.old + 8) }
     ensures made { IfOk result (λ reply. Made (record { who = pass.old.trace.who; op = Insert; key = key; reply = reply }) pass.old.trace pass.new.trace) }
     ensures spent { IfOk result (λ reply. pass.new.hand ≡ None) }
     ensures quiet { IfErr result (λ back. Quiet pass.old.trace pass.new.trace) }
-    ensures hand { IfErr result (λ back. IsReady pass.new back) }
-    ensures advances { advances pass.new.trace ≡ advances pass.old.trace }
-    ensures kept { KeepsSlots pass.old pass.new }
+    ensures hand { IfErr result (λ back. HasHandAndRoom pass.new back) }
+    ensures takes_no_slot { TakesNoSlot pass.old pass.new }
     ensures wins { IfErr result (λ back. StandsNow pass.old.trace found.now.pred → NextStands pass.old.trace found.now.cur → IsAlone pass.old.trace pass.new.trace → ⊥) }
 {
     if found.present {
@@ -176,14 +177,13 @@ fn link(
     requires bucket { bucket ≡ bucket_of pass.old.trace.shape key }
     requires in_shape { bucket < slots.now.shape.buckets }
     requires within { used.old ≤ budget }
-    requires hand { IsReady pass.old hand }
+    requires hand { HasHandAndRoom pass.old hand }
     ensures made { IfOk result (λ reply. Made (record { who = pass.old.trace.who; op = Insert; key = key; reply = reply }) pass.old.trace pass.new.trace) }
     ensures counts { IfOk result (λ reply. CountsWithin pass.old.trace pass.new.trace used.old used.new budget) }
     ensures spent { pass.new.hand ≡ None }
     ensures quiet { IfErr result (λ refusal. Quiet pass.old.trace pass.new.trace) }
-    ensures refused { IfErr result (λ refusal. IsShort pass.old pass.new used.old budget refusal) }
-    ensures advances { advances pass.new.trace ≡ advances pass.old.trace }
-    ensures kept { KeepsSlots pass.old pass.new }
+    ensures refused { IfErr result (λ refusal. InsertIsShort pass.old pass.new used.old budget refusal) }
+    ensures takes_no_slot { TakesNoSlot pass.old pass.new }
     ensures short { IfErr result (λ refusal. IsAlone pass.old.trace pass.new.trace → budget < used.old + 9 * listed_for pass.old.trace key + 11) }
 {
     loop {
@@ -205,7 +205,8 @@ fn link(
 /// Adds a key to the set, in at most `budget` steps, and says whether it was absent. It takes a slot
 /// only once it has found the key absent, and traverses anew with it. The answer's point is one step:
 /// the publication of the new node, or a load that finds the link of the key's node as it was read.
-/// A slot that is left over goes back to the own pool. It raises the epoch at most once, and only
+/// A slot that is left over goes back to the own pool, and whatever the call unlinked is retired when
+/// it ends, answered or not, into the own pool while that has room. It advances the epoch at most once, and only
 /// where no slot that it could take is stamped below the epoch that it read.
 ///
 /// Its refusals are OutOfSteps, and, where the key was absent, NoSlot and EpochSpent. While the other
@@ -223,13 +224,14 @@ pub fn insert(slots: &Slots, pass: &mut Pass, key: u64, budget: u32) -> Result<b
     ensures steps { TookWithin pass.old.trace pass.new.trace budget }
     ensures advances { AdvancesWhereNeeded pass.old pass.new }
     ensures kept { KeepsSlots pass.old pass.new }
+    ensures shared { SharesWhereFull 2 pass.old pass.new }
     ensures refused { IfErr result (λ refusal. IsRefused pass.old pass.new key budget refusal) }
     // Alone, it answers in so many steps, or finds no slot or the epoch spent.
     ensures within { IfErr result (λ refusal. IsAlone pass.old.trace pass.new.trace → LacksSteps (18 * listed_for pass.old.trace key + most_to_take pass.old.trace.shape pass.old.pool + 14) budget refusal) }
     // With a slot in the own pool, whatever others hold while they stand still.
     ensures ready { pass.old.pool ≢ [] → IsAlone pass.old.trace pass.new.trace → 18 * listed_for pass.old.trace key + 82 ≤ budget → IsAnsweredOrSpent result }
 {
-    soundness(slots, pass);
+    pass.law();
     let bucket = slots.shape().bucket_of(key);
     let mut used = 0;
     match prepare(slots, pass, key, bucket, budget, &mut used)? {

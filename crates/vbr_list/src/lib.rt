@@ -14,7 +14,6 @@ mod looking;
 pub mod looking_up;
 pub mod refusal;
 pub mod removing;
-mod soundness;
 mod traversal;
 
 pub use finding::find;

@@ -1,7 +1,7 @@
 //! Look-ups.
 ghost use Rattle.std.specs.Prelude.{◌≡◌, ◌+◌, ◌*◌, ◌<◌, None, IfOk, IfErr};
 ghost use Rattle.vbr_core.specs.declared.history.Op.TheVariants.{Has};
-ghost use Rattle.vbr_pools.specs.Advances.{RaisesNone};
+ghost use Rattle.vbr_pools.specs.Advances.{TakesNoSlot};
 ghost use Rattle.vbr_pools.specs.Steps.{TookWithin};
 ghost use Rattle.vbr_slots.specs.Calls.{AddsAnswer, AddsNone, IsSame, Quiet, Made, Took, OnlyLoads};
 ghost use Rattle.vbr_slots.specs.Alone.{IsAlone};
@@ -16,7 +16,6 @@ ghost use Rattle.vbr_list.specs.Refusals.{IsTired};
 
 use crate::looking::{Sight, look};
 use crate::refusal::Refusal;
-use crate::soundness::soundness;
 use vbr_access::{Held, Rollback, confirm_look_up};
 use vbr_pools::budget::affords;
 use vbr_slots::{Pass, Slots};
@@ -28,7 +27,7 @@ fn answer(slots: &Slots, pass: &mut Pass, key: u64, sight: Sight) -> Result<bool
     requires sight { IsSight pass.old.trace.shape (knows pass.old.trace) key sight }
     ensures took { Took pass.old.trace pass.new.trace 1 }
     ensures own { KeepsOwn pass.old pass.new }
-    ensures raises_none { RaisesNone pass.old pass.new }
+    ensures takes_no_slot { TakesNoSlot pass.old pass.new }
     ensures made { IfOk result (λ reply. Made (record { who = pass.old.trace.who; op = Has; key = key; reply = reply }) pass.old.trace pass.new.trace) }
     ensures adds { IfOk result (λ reply. AddsAnswer (record { who = pass.old.trace.who; op = Has; key = key; reply = reply }) pass.old.trace pass.new.trace) }
     ensures quiet { IfErr result (λ r. Quiet pass.old.trace pass.new.trace) }
@@ -76,12 +75,12 @@ pub fn has(slots: &Slots, pass: &mut Pass, key: u64, budget: u32) -> Result<bool
     ensures safe { HasSafeRun pass.new.trace }
     ensures hand { pass.new.hand ≡ None }
     ensures steps { TookWithin pass.old.trace pass.new.trace budget }
-    ensures raises_none { RaisesNone pass.old pass.new }
+    ensures takes_no_slot { TakesNoSlot pass.old pass.new }
     ensures refused { IfErr result (λ refusal. IsTired pass.old pass.new budget refusal) }
     // Alone, it answers in so many steps.
     ensures within { IfErr result (λ refusal. IsAlone pass.old.trace pass.new.trace → budget < 5 * listed_for pass.old.trace key + 11) }
 {
-    soundness(slots, pass);
+    pass.law();
     let bucket = slots.shape().bucket_of(key);
     let mut used = 0;
     loop {

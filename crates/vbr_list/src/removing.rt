@@ -1,8 +1,8 @@
 //! Removes.
 ghost use Rattle.std.specs.Prelude.{◌≡◌, ◌+◌, ◌*◌, ◌<◌, ◌≤◌, ◌^◌, true, None, IfOk, IfErr};
 ghost use Rattle.vbr_core.specs.declared.history.Op.TheVariants.{Remove};
-ghost use Rattle.vbr_pools.specs.Advances.{RaisesNone};
-ghost use Rattle.vbr_pools.specs.Steps.{Counts, TookWithin};
+ghost use Rattle.vbr_pools.specs.Advances.{TakesNoSlot};
+ghost use Rattle.vbr_pools.specs.Steps.{CountsSteps, TookWithin};
 ghost use Rattle.vbr_slots.specs.Alone.{IsAlone};
 ghost use Rattle.vbr_slots.specs.Calls.{IsSame, Quiet, Made};
 ghost use Rattle.vbr_slots.specs.Views.{IsOf, knows};
@@ -17,7 +17,6 @@ ghost use Rattle.vbr_list.specs.Traversal.{KeepsHand};
 use crate::finding::search;
 use crate::found::Found;
 use crate::refusal::Refusal;
-use crate::soundness::soundness;
 use crate::traversal::help;
 use vbr_access::{Rollback, confirm_absent, mark};
 use vbr_core::Op;
@@ -41,7 +40,7 @@ fn take_out(
     requires room { used.old + 8 ≤ budget }
     ensures made { IfOk result (λ reply. Made (record { who = pass.old.trace.who; op = Remove; key = key; reply = reply }) pass.old.trace pass.new.trace) }
     ensures quiet { IfErr result (λ r. Quiet pass.old.trace pass.new.trace) }
-    ensures counts { Counts pass.old.trace pass.new.trace used.old used.new }
+    ensures counts { CountsSteps pass.old.trace pass.new.trace used.old used.new }
     ensures hand { KeepsHand pass.old pass.new }
     ensures used { (used.old < used.new) × (used.new ≤ budget) }
     ensures wins { IfErr result (λ r. StandsNow pass.old.trace found.now.pred → NextStands pass.old.trace found.now.cur → IsAlone pass.old.trace pass.new.trace → ⊥) }
@@ -73,7 +72,7 @@ fn settle(
     requires room { used.old + 8 ≤ budget }
     ensures made { IfOk result (λ reply. Made (record { who = pass.old.trace.who; op = Remove; key = key; reply = reply }) pass.old.trace pass.new.trace) }
     ensures quiet { IfErr result (λ r. Quiet pass.old.trace pass.new.trace) }
-    ensures counts { Counts pass.old.trace pass.new.trace used.old used.new }
+    ensures counts { CountsSteps pass.old.trace pass.new.trace used.old used.new }
     ensures hand { KeepsHand pass.old pass.new }
     ensures used { (used.old < used.new) × (used.new ≤ budget) }
     ensures wins { IfErr result (λ r. StandsNow pass.old.trace found.now.pred → NextStands pass.old.trace found.now.cur → IsAlone pass.old.trace pass.new.trace → ⊥) }
@@ -90,7 +89,8 @@ fn settle(
 /// Takes a key out of the set, in at most `budget` steps, and says whether it was there. The answer's
 /// point is one step: the mark of the node, or a load that finds the link of the last place before
 /// the key as it was read. A node that was marked and can't be unlinked within the budget is left
-/// to others. Each slot that the pass could take is in its own pool then.
+/// to others. Whatever the call unlinked is retired when it ends, answered or not, into the own pool
+/// while that has room; and each slot that the pass could take is in its own pool then.
 ///
 /// OutOfSteps is its one refusal. While the other passes stand still, a budget of 9n + 11 is enough,
 /// with n nodes in the key's bucket.
@@ -104,12 +104,12 @@ pub fn remove(slots: &Slots, pass: &mut Pass, key: u64, budget: u32) -> Result<b
     ensures safe { HasSafeRun pass.new.trace }
     ensures hand { pass.new.hand ≡ None }
     ensures steps { TookWithin pass.old.trace pass.new.trace budget }
-    ensures raises_none { RaisesNone pass.old pass.new }
+    ensures takes_no_slot { TakesNoSlot pass.old pass.new }
     ensures refused { IfErr result (λ refusal. IsTired pass.old pass.new budget refusal) }
     // Alone, it answers in so many steps.
     ensures within { IfErr result (λ refusal. IsAlone pass.old.trace pass.new.trace → budget < 9 * listed_for pass.old.trace key + 11) }
 {
-    soundness(slots, pass);
+    pass.law();
     let bucket = slots.shape().bucket_of(key);
     let mut used = 0;
     loop {

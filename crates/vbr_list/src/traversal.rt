@@ -14,10 +14,9 @@ ghost use Rattle.vbr_list.specs.Places.{IsInside, IsPred};
 ghost use Rattle.vbr_list.specs.Found.{IsFound};
 ghost use Rattle.vbr_list.specs.Budgets.{listed_for};
 ghost use Rattle.vbr_list.specs.Nearing.{FoundAlone, HelpsAlone, IsThere, MeetsAlone, StillAt, steps_met};
-ghost use Rattle.vbr_list.specs.Traversal.{Goes, IsReached, Visits, Observes};
+ghost use Rattle.vbr_list.specs.Traversal.{Goes, HasComeTo, Visits, Observes};
 
 use crate::found::Found;
-use crate::soundness::soundness;
 use vbr_access::{Held, Marked, Rollback, checkpoint, first, key_of, next, unlink};
 use vbr_pools::budget::affords;
 use vbr_pools::{Unlinked, retire};
@@ -60,7 +59,7 @@ pub(crate) fn start(
     ensures goes { Goes pass.old pass.new used.old used.new }
     ensures observes { Observes pass.old.trace pass.new.trace }
     ensures used { used.new ≡ used.old + 3 }
-    ensures pred { IfOk result (λ head. IsReached pass.old.trace pass.new.trace key head) }
+    ensures pred { IfOk result (λ head. HasComeTo pass.old.trace pass.new.trace key head) }
     ensures looks { IsAlone pass.old.trace pass.new.trace → LeavesLists pass.old.trace pass.new.trace }
     ensures still { IfErr result (λ r. IsAlone pass.old.trace pass.new.trace → ⊥) }
     ensures stands { IfOk result (λ head. IsAlone pass.old.trace pass.new.trace → StillAt pass.new.trace head × (head.at ≡ Head bucket)) }
@@ -94,7 +93,7 @@ pub(crate) fn visit(
     ensures still { IfErr result (λ r. IsFresh pass.old.trace → IsAlone pass.old.trace pass.new.trace → ⊥) }
     ensures alone { IfOk result (λ met. IsFresh pass.old.trace → IsThere pass.old.trace pred.now → StandsNow pass.old.trace pred.now → IsAlone pass.old.trace pass.new.trace → MeetsAlone pass.old.trace pass.new.trace key pred.now met) }
 {
-    soundness(slots, pass);
+    pass.law();
     let node = next(slots, pass, pred);
     *used += 3;
     let Some(node) = node? else { unreachable!() };
@@ -142,17 +141,17 @@ pub(crate) fn help(
     requires room { used.old + 8 < 2 ^ 32 }
     ensures goes { Goes pass.old pass.new used.old used.new }
     ensures used { (used.old ≤ used.new) × (used.new ≤ used.old + 8) }
-    ensures pred { IfOk result (λ place. IsReached pass.old.trace pass.new.trace key place) }
+    ensures pred { IfOk result (λ place. HasComeTo pass.old.trace pass.new.trace key place) }
     ensures few { used.new ≤ used.old + 6 }
     ensures still { IfErr result (λ r. IsFresh pass.old.trace → StandsNow pass.old.trace pred.now → IsAlone pass.old.trace pass.new.trace → ⊥) }
     ensures alone { IfOk result (λ place. IsFresh pass.old.trace → StandsNow pass.old.trace pred.now → IsAlone pass.old.trace pass.new.trace → HelpsAlone pass.old.trace pass.new.trace key pred.now place) }
 {
-    soundness(slots, pass);
+    pass.law();
     let next = decode(marked.word).slot;
     let outcome = unlink(slots, pass, pred, marked);
     *used += steps_of(next, &outcome);
     let (unlinked, place) = outcome?;
-    soundness(slots, pass);
+    pass.law();
     *used += retire(slots, pass, unlinked);
     let now = pass.epoch();
     if now != place.epoch {
@@ -185,7 +184,7 @@ fn help_apart(
     requires room { used.old + 8 < 2 ^ 32 }
     ensures goes { Goes pass.old pass.new used.old used.new }
     ensures used { (used.old ≤ used.new) × (used.new ≤ used.old + 8) }
-    ensures pred { IfOk result (λ place. IsReached pass.old.trace pass.new.trace key place) }
+    ensures pred { IfOk result (λ place. HasComeTo pass.old.trace pass.new.trace key place) }
     ensures few { used.new ≤ used.old + 6 }
     ensures still { IfErr result (λ r. IsFresh pass.old.trace → StandsNow pass.old.trace (record { at = at; birth = birth; word = word; epoch = epoch }) → IsAlone pass.old.trace pass.new.trace → ⊥) }
     ensures alone { IfOk result (λ place. IsFresh pass.old.trace → StandsNow pass.old.trace (record { at = at; birth = birth; word = word; epoch = epoch }) → IsAlone pass.old.trace pass.new.trace → HelpsAlone pass.old.trace pass.new.trace key (record { at = at; birth = birth; word = word; epoch = epoch }) place) }

@@ -11,6 +11,7 @@ use vbr_access::{Held, Marked, Rollback, checkpoint, first, key_of, mark, next, 
 use vbr_core::Op;
 use vbr_list::{Refusal, find, has, insert, remove};
 use vbr_slots::{Pass, Slots};
+use vbr_words::shape::MAX_EPOCH;
 use vbr_words::{At, Shape};
 
 // A table with two passes.
@@ -194,7 +195,7 @@ fn a_present_key_in_a_full_set(rt: HostRuntime) -> Result<(), Fail> {
     expect(&rt, rt.alloc(), (1, 1, 10), &rows)
 }
 
-/// A thousand rounds on one slot raise the epoch to a thousand.
+/// A thousand rounds on one slot advance the epoch to a thousand.
 #[test]
 fn a_thousand_rounds_on_one_slot(rt: HostRuntime) -> Result<(), Fail> {
     let round = [
@@ -206,7 +207,7 @@ fn a_thousand_rounds_on_one_slot(rt: HostRuntime) -> Result<(), Fail> {
         rows.extend_from_slice(&round)?;
     }
     rows.extend_from_slice(&[Row::Epoch(0, 1000), Row::Pool(0, &[0])])?;
-    expect(&rt, rt.alloc(), (1, 1, 8_796_093_022_207), &rows)
+    expect(&rt, rt.alloc(), (1, 1, MAX_EPOCH), &rows)
 }
 
 /// The greatest and the least key.
@@ -272,7 +273,7 @@ fn a_budget_of_17(rt: HostRuntime) -> Result<(), Fail> {
     let words = words_after(&rt, rt.alloc(), (1, 1, 10), &rows)?;
     assert_eq!(rt;
         words.as_slice(),
-        [1, 10_485_761, 2_097_153, 2_097_152, 1, 0, 1, 0].as_slice()
+        [1, 167_772_161, 33_554_433, 33_554_432, 1, 0, 1, 0].as_slice()
     );
     Ok(())
 }
@@ -299,7 +300,7 @@ fn a_marked_node_is_helped_away(rt: HostRuntime) -> Result<(), Fail> {
     let words = words_after(&rt, rt.alloc(), (1, 1, 10), &rows)?;
     assert_eq!(rt;
         words.as_slice(),
-        [1, 10_485_761, 0, 3_145_728, 1, 1, 7, 0].as_slice()
+        [1, 167_772_161, 0, 50_331_648, 1, 1, 7, 0].as_slice()
     );
     Ok(())
 }
@@ -316,11 +317,11 @@ fn mark_one(rt: &impl Abort, slots: &Slots, pass: &mut Pass) -> Result<(Held, Ma
 {
     let point = checkpoint(slots, pass);
     let head = first(slots, pass, &point, 0)?;
-    assert!(rt; head.word == 2_097_153);
+    assert!(rt; head.word == 33_554_433);
     let Some(node) = next(slots, pass, &head)? else {
         panic!(rt; "no node")
     };
-    assert!(rt; node.word == 2_097_152);
+    assert!(rt; node.word == 33_554_432);
     assert!(rt; key_of(slots, pass, &node)? == 7);
     let marked = mark(slots, pass, &node)?;
     Ok((head, marked))
@@ -338,7 +339,7 @@ fn a_standing_pass_loses_its_exchange(rt: HostRuntime) -> Result<(), Fail> {
     call(&rt, &slots, &mut a, (Op::Has, 7, 100), Ok(false));
     call(&rt, &slots, &mut a, (Op::Insert, 7, 100), Ok(true));
     match unlink(&slots, &mut b, &head, marked) {
-        Err(rollback) => { assert!(rt; rollback == Rollback::LostExchange { found: 4_194_305 }) }
+        Err(rollback) => { assert!(rt; rollback == Rollback::LostExchange { found: 67_108_865 }) }
         Ok(_) => panic!(rt; "unlinked twice"),
     }
     Ok(())

@@ -8,4 +8,4 @@ mod Phasing
 mod NewWorkers
 mod PlayedWhole
 mod Finishing
-pub mod Zips
+mod Zips

@@ -1,41 +1,53 @@
 -- New workers stand before the first phase.
-use Rattle.std.proofs.Common.{◌≡◌, ℕ, zero, suc, ◌+◌, ◌<◌, List, [], ◌∷◌, ◌++◌, length, refl, sym, ap, subst, ◌∙◌, append-nil, arith}
-use Rattle.std.specs.Prelude.{All}
+use Rattle.std.proofs.Common.{◌≡◌, ℕ, zero, suc, List, [], ◌∷◌, ◌++◌, length, refl, sym, ap, subst, ◌∙◌, arith}
+use Rattle.std.specs.Prelude.{All, None}
 use Rattle.std.specs.List.{AllZip}
 use Rattle.std.proofs.lemmas.List.Elements.{All-nil, All-cons}
-use Rattle.vbr_slots.specs.Views.{PassView, TableView, new_pass, new_passes}
+use Rattle.vbr_slots.specs.Views.{PassView, TableView, IsOf, new_pass, new_passes}
 use Rattle.vbr_slots.specs.Calls.{made_by}
+use Rattle.vbr_set.specs.Members.{MemberView}
 use Rattle.vbr_transcript.specs.Calls.{Outcome, lines_by}
-use Rattle.vbr_player.specs.Standing.{AreNumbered, HasPlayed, IsNew, Stand}
-use Rattle.vbr_player.specs.Working.{Tells}
+use Rattle.vbr_player.specs.Standing.{AreNumberedFrom, HasPlayed, IsNew, Stand}
+use Rattle.vbr_player.specs.Working.{TellsReply}
 use Rattle.vbr_script.specs.declared.script.Line.{Line}
 use Rattle.vbr_player.specs.declared.worker.Worker.{Worker}
+use Rattle.vbr_player.proofs.Starting.{one_behind}
+
+-- each new pass is of its set, and has no slot in hand
+pub new_are_of : (set : TableView) (who n : ℕ) → All (λ pass. IsOf pass.trace set × (pass.hand ≡ None)) (new_passes set who n)
+new_are_of set who zero = All-nil (λ (pass : PassView). IsOf pass.trace set × (pass.hand ≡ None))
+new_are_of set who (suc n) = All-cons (λ (pass : PassView). IsOf pass.trace set × (pass.hand ≡ None)) (new_pass set who) (new_passes set (suc who) n) ((refl, refl, refl), refl) (new_are_of set (suc who) n)
+
+-- and so is each of them
+pub new_is_of : (set : TableView) (n : ℕ) (passes before : List PassView) (pass : PassView) (after : List PassView) → passes ≡ new_passes set 0 n → before ++ (pass ∷ after) ≡ passes → IsOf pass.trace set × (pass.hand ≡ None)
+new_is_of set n passes before pass after are all =
+    one_behind (λ (p : PassView). IsOf p.trace set × (p.hand ≡ None)) before pass after (subst (λ (ps : List PassView). All (λ p. IsOf p.trace set × (p.hand ≡ None)) ps) (sym (all ∙ are)) (new_are_of set 0 n))
 
 -- a new worker has played no lines
-new_played : (set : TableView) (script : List Line) (who : ℕ) (worker : Worker) → IsNew script (new_pass set who) worker → HasPlayed set script [] worker
+new_played : (set : TableView) (script : List Line) (who : ℕ) (worker : Worker) → IsNew set script (new_pass set who) worker → HasPlayed set script [] worker
 new_played set script who worker new =
-    let is = new.pass_is in
-    let number : worker.pass.trace.who ≡ who = ap (λ (p : PassView). p.trace.who) is in
-    let own : length (lines_by worker.pass.trace.who script) ≡ length (lines_by who script) = ap (λ (k : ℕ). length (lines_by k script)) number in
+    let is : worker.caller.pass ≡ new_pass set who = ap (λ (m : MemberView). m.pass) new.caller_is in
+    let number : worker.caller.pass.trace.who ≡ who = ap (λ (p : PassView). p.trace.who) is in
+    let own : length (lines_by worker.caller.pass.trace.who script) ≡ length (lines_by who script) = ap (λ (k : ℕ). length (lines_by k script)) number in
     let room = new.room in
     record {
+      set_is = ap (λ (m : MemberView). m.set) new.caller_is;
       of = (ap (λ (p : PassView). p.trace.table) is, ap (λ (p : PassView). p.trace.shape) is, ap (λ (p : PassView). p.trace.passes) is);
-      hand = ap (λ (p : PassView). p.hand) is;
       one_each = ap length new.none;
       calls = ap (λ (p : PassView). made_by p.trace) is;
-      tells = All-nil (λ (outcome : Outcome). Tells worker.pass.trace outcome.0.op outcome.1);
+      tells = All-nil (λ (outcome : Outcome). TellsReply worker.caller.pass.trace outcome.0.op outcome.1);
       room = omega arith;
     }
 
-all_played : (set : TableView) (script : List Line) (who n : ℕ) (workers : List Worker) → AllZip (IsNew script) (new_passes set who n) workers → (length workers ≡ n) × AreNumbered who workers × All (HasPlayed set script []) workers
+all_played : (set : TableView) (script : List Line) (who n : ℕ) (workers : List Worker) → AllZip (IsNew set script) (new_passes set who n) workers → (length workers ≡ n) × AreNumberedFrom who workers × All (HasPlayed set script []) workers
 all_played set script who zero [] are = (refl, tt, All-nil (HasPlayed set script []))
 all_played set script who (suc n) (w ∷ ws) are =
     let rest = all_played set script (suc who) n ws are.1 in
-    (ap suc rest.0, (ap (λ (p : PassView). p.trace.who) are.0.pass_is, rest.1), All-cons (HasPlayed set script []) w ws (new_played set script who w are.0) rest.2)
+    (ap suc rest.0, (ap (λ (m : MemberView). m.pass.trace.who) are.0.caller_is, rest.1), All-cons (HasPlayed set script []) w ws (new_played set script who w are.0) rest.2)
 all_played set script who zero (w ∷ ws) are = absurd are
 all_played set script who (suc n) [] are = absurd are
 
-pub new_stand : (set : TableView) (script : List Line) (passes : List PassView) (n : ℕ) (workers : List Worker) → passes ≡ new_passes set 0 n → AllZip (IsNew script) passes workers → Stand set script [] n 0 workers
+pub new_stand : (set : TableView) (script : List Line) (passes : List PassView) (n : ℕ) (workers : List Worker) → passes ≡ new_passes set 0 n → AllZip (IsNew set script) passes workers → Stand set script [] n 0 workers
 new_stand set script passes n workers is are =
-    let all = all_played set script 0 n workers (subst (λ (ps : List PassView). AllZip (IsNew script) ps workers) is are) in
+    let all = all_played set script 0 n workers (subst (λ (ps : List PassView). AllZip (IsNew set script) ps workers) is are) in
     record { count_is = all.0; numbered = all.1; played = all.2; ended = λ phase none. absurd (omega arith) }

@@ -1,5 +1,5 @@
 -- The lines of the next phase, behind those of the phases before.
-use Rattle.std.proofs.Common.{◌≡◌, ℕ, ◌+◌, ◌-◌, ◌<◌, ◌≤◌, eqb, List, [], ◌++◌, length, take, drop, refl, sym, ap, subst, ◌∙◌, arith, append-nil, length-drop}
+use Rattle.std.proofs.Common.{◌≡◌, ℕ, ◌+◌, ◌-◌, ◌<◌, ◌≤◌, eqb, List, [], ◌++◌, length, take, drop, sym, ap, subst, ◌∙◌, arith, append-nil, length-drop}
 use Rattle.std.specs.Prelude.{All}
 use Rattle.std.specs.List.{prefix_len}
 use Rattle.std.proofs.Math.Seq.{take-add}
@@ -10,10 +10,10 @@ use Rattle.vbr_transcript.specs.Calls.{lines_up_to}
 use Rattle.vbr_player.specs.Meeting.{PlayedAndMet}
 use Rattle.vbr_script.specs.Scripts.{AscendFrom}
 use Rattle.vbr_player.specs.Standing.{Stand}
-use Rattle.vbr_player.specs.Working.{IsReady}
+use Rattle.vbr_player.specs.Working.{HaveRoom}
 use Rattle.vbr_script.specs.declared.script.Line.{Line}
 use Rattle.vbr_player.specs.declared.worker.Worker.{Worker}
-use Rattle.vbr_player.proofs.Standing.{all_ready, stand_next}
+use Rattle.vbr_player.proofs.Standing.{all_room, stand_next}
 use Rattle.vbr_player.proofs.Slices.{next_phase, lines_up_to-front, none_left}
 
 -- the next lines of a phase are cut off the rest
@@ -59,10 +59,10 @@ rest_of lines first = take_all (length lines - first) (drop first lines) (omega 
 pub slice_of : (lines : List Line) (first n : ℕ) → take (first + n - first) (drop first lines) ≡ take n (drop first lines)
 slice_of lines first n = ap (λ (k : ℕ). take k (drop first lines)) (let e : first + n - first ≡ n = omega arith in e)
 
--- the workers are ready for the lines of the next phase
-pub next_ready : (set : TableView) (script : List Line) (first n phase count : ℕ) (workers : List Worker) → Cuts script first n phase → Stand set script (take first script) count phase workers → All (IsReady set (take (first + n - first) (drop first script))) workers
-next_ready set script first n phase count workers cut stand =
-    subst (λ (lines : List Line). All (IsReady set lines) workers) (sym (slice_of script first n)) (all_ready set script (take first script) (take n (drop first script)) (drop (first + n) script) workers cut.left stand.played)
+-- the workers have room for the lines of the next phase
+pub next_room : (set : TableView) (script : List Line) (first n phase count : ℕ) (workers : List Worker) → Cuts script first n phase → Stand set script (take first script) count phase workers → HaveRoom workers (take (first + n - first) (drop first script))
+next_room set script first n phase count workers cut stand =
+    subst (λ (lines : List Line). HaveRoom workers lines) (sym (slice_of script first n)) (all_room set script (take first script) (take n (drop first script)) (drop (first + n) script) workers cut.left stand.played)
 
 -- they stand behind it when they have played it and met
 pub stand_behind : (set : TableView) (script : List Line) (first n phase count : ℕ) (ws us : List Worker) → Cuts script first n phase → Stand set script (take first script) count phase ws → PlayedAndMet (take (first + n - first) (drop first script)) ws us → Stand set script (take (first + n) script) count (phase + 1) us

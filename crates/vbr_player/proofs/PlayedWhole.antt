@@ -1,7 +1,7 @@
 -- Workers that have played a whole script, and whose passes came to the end of a run, have played it by that run.
-use Rattle.std.proofs.Common.{◌≡◌, ℕ, zero, suc, ◌+◌, ◌<◌, ◌≤◌, List, [], ◌∷◌, ◌++◌, length, map, get_or, inl, inr, refl, sym, ap, subst, ◌∙◌, arith}
+use Rattle.std.proofs.Common.{◌≡◌, ℕ, zero, suc, ◌+◌, ◌<◌, List, [], ◌∷◌, length, get_or, inl, inr, refl, sym, ap, subst, ◌∙◌, arith}
 use Rattle.std.proofs.lemmas.Bool.{cases_lt}
-use Rattle.std.proofs.lemmas.List.{length-map, get_or-map}
+use Rattle.std.proofs.lemmas.List.{length-map}
 use Rattle.std.proofs.lemmas.List.Elements.{All-head}
 use Rattle.std.proofs.Math.ListN.{get_or-eq_default}
 use Rattle.std.specs.Prelude.{zip, All}
@@ -11,24 +11,22 @@ use Rattle.vbr_core.specs.Runs.{Begins, BeginsFor, world_after}
 use Rattle.vbr_core.specs.Safety.{IsSafe}
 use Rattle.vbr_core.specs.declared.event.Event.{Event}
 use Rattle.vbr_core.specs.declared.history.Op.{Op}
-use Rattle.vbr_core.proofs.RunsGoOn.{begins_trans, begins_for_begins, others_leave_calls}
-use Rattle.vbr_slots.specs.Calls.{made_by}
+use Rattle.vbr_core.proofs.Lemmas.{begins_for_begins, begins_trans, others_leave_calls}
 use Rattle.vbr_slots.specs.Closing.{EachSeen}
 use Rattle.vbr_slots.specs.Views.{Trace, TableView}
-use Rattle.vbr_transcript.specs.Calls.{Outcome, answered, lines_by, lines_up_to}
+use Rattle.vbr_transcript.specs.Calls.{Outcome, answered, lines_by}
 use Rattle.vbr_player.specs.Ending.{passes_of}
 use Rattle.vbr_transcript.specs.Merging.{replies_by, HaveReplies}
-use Rattle.vbr_transcript.specs.Phases.{HaveCalled, EndsWithin, MayAnswer, HavePlayed}
+use Rattle.vbr_transcript.specs.Phases.{EndsWithin, HavePlayed}
 use Rattle.vbr_transcript.specs.Runs.{MayBeAnswered}
 use Rattle.vbr_script.specs.Scripts.{ArePhased}
-use Rattle.vbr_player.specs.Standing.{replies_of, AreNumbered, HasPlayed, HasEnded, Stand}
-use Rattle.vbr_player.specs.Working.{Tells}
+use Rattle.vbr_player.specs.Standing.{replies_of, AreNumberedFrom, HasPlayed, HasEnded, Stand}
+use Rattle.vbr_player.specs.Working.{TellsReply}
 use Rattle.vbr_transcript.specs.declared.reply.Reply.{Reply}
 use Rattle.vbr_transcript.specs.declared.reply.Reply.TheVariants.{Yes, No, Full, Spent, Tired}
 use Rattle.vbr_player.specs.declared.worker.Worker.{Worker}
 use Rattle.vbr_script.specs.declared.script.Line.{Line}
-use Rattle.vbr_transcript.proofs.CoreCalls.{epoch_begins}
-use Rattle.vbr_transcript.proofs.Explaining.{none_beyond}
+use Rattle.vbr_transcript.proofs.Lemmas.{epoch_begins, none_beyond}
 use Rattle.vbr_player.proofs.Standing.{as_many}
 
 -- ---- one worker
@@ -36,13 +34,13 @@ use Rattle.vbr_player.proofs.Standing.{as_many}
 -- the worker of a number has that number, has replied to its lines, and has seen what begins the run
 pub record IsAt (set : TableView) (script : List Line) (run : List Event) (who : ℕ) (own : List Reply) : Type 0 where
   pub worker : Worker
-  pub number : worker.pass.trace.who ≡ who
+  pub number : worker.caller.pass.trace.who ≡ who
   pub played : HasPlayed set script script worker
-  pub seen : BeginsFor worker.pass.trace.who worker.pass.trace.seen run
+  pub seen : BeginsFor worker.caller.pass.trace.who worker.caller.pass.trace.seen run
   pub replies : worker.replies.items ≡ own
 
 -- there is a worker of each number
-is_at : (set : TableView) (script : List Line) (run : List Event) (n : ℕ) (workers : List Worker) → AreNumbered n workers → ((k : ℕ) (d : Worker) → k < length workers → HasPlayed set script script (get_or workers k d)) → EachSeen run (passes_of workers) → (i : ℕ) → i < length workers → IsAt set script run (n + i) (replies_by i (replies_of workers))
+is_at : (set : TableView) (script : List Line) (run : List Event) (n : ℕ) (workers : List Worker) → AreNumberedFrom n workers → ((k : ℕ) (d : Worker) → k < length workers → HasPlayed set script script (get_or workers k d)) → EachSeen run (passes_of workers) → (i : ℕ) → i < length workers → IsAt set script run (n + i) (replies_by i (replies_of workers))
 is_at set script run n [] numbered played seen i inside = absurd (omega arith)
 is_at set script run n (worker ∷ workers) numbered played seen zero inside = record {
   worker = worker;
@@ -59,14 +57,14 @@ is_at set script run n (worker ∷ workers) numbered played seen (suc i) inside 
 -- its calls in the run are its answered lines
 called_at : (set : TableView) (script : List Line) (run : List Event) (who : ℕ) (own : List Reply) → IsAt set script run who own → own_calls set.shape run who ≡ answered (zip (lines_by who script) own)
 called_at set script run who own at =
-    let trace = at.worker.pass.trace in
+    let trace = at.worker.caller.pass.trace in
     let rest = at.seen in
     let calls : own_calls set.shape run trace.who ≡ own_calls set.shape trace.seen trace.who = ap (λ (events : List Event). own_calls set.shape events trace.who) rest.1 ∙ others_leave_calls set.shape trace.seen rest.0 trace.who rest.2 in
     let made : own_calls set.shape trace.seen trace.who ≡ answered (zip (lines_by trace.who script) at.worker.replies.items) = (λ i. own_calls (sym at.played.of.1 i) trace.seen trace.who) ∙ at.played.calls in
     subst (λ (k : ℕ × List Reply). own_calls set.shape run k.0 ≡ answered (zip (lines_by k.0 script) k.1)) (λ i. (at.number i, at.replies i)) (calls ∙ made)
 
 -- what a reply tells of its pass at a moment allows the reply at the end
-may_be_answered : (p : Trace) (run : List Event) (op : Op) (reply : Reply) → Begins p.seen run → IsSafe p.shape run → Tells p op reply → MayBeAnswered p.shape.last_epoch (world_after p.shape run).epoch op reply
+may_be_answered : (p : Trace) (run : List Event) (op : Op) (reply : Reply) → Begins p.seen run → IsSafe p.shape run → TellsReply p op reply → MayBeAnswered p.shape.last_epoch (world_after p.shape run).epoch op reply
 may_be_answered p run op Yes begins safe tells = tt
 may_be_answered p run op No begins safe tells = tt
 may_be_answered p run op Full begins safe tells = tells
@@ -75,7 +73,7 @@ may_be_answered p run op Tired begins safe tells = tt
 
 answers_at : (set : TableView) (script : List Line) (run : List Event) (who : ℕ) (own : List Reply) → IsSafe set.shape run → IsAt set script run who own → All (λ outcome. MayBeAnswered set.shape.last_epoch (world_after set.shape run).epoch outcome.0.op outcome.1) (zip (lines_by who script) own)
 answers_at set script run who own safe at =
-    let trace = at.worker.pass.trace in
+    let trace = at.worker.caller.pass.trace in
     let begins = begins_for_begins trace.who trace.seen run at.seen in
     let may : (shape : Dimensions) → Outcome → Type 0 = λ shape outcome. MayBeAnswered shape.last_epoch (world_after shape run).epoch outcome.0.op outcome.1 in
     let safe_too : IsSafe trace.shape run = subst (λ (shape : Dimensions). IsSafe shape run) (sym at.played.of.1) safe in
@@ -104,7 +102,7 @@ ends_within : (set : TableView) (script : List Line) (phase : ℕ) (workers : Li
 ends_within set script phase [] run some ended seen = absurd (omega arith)
 ends_within set script phase (worker ∷ workers) run some ended seen = record {
   seen = ended.seen;
-  begins = begins_trans ended.seen worker.pass.trace.seen run (All-head (λ (w : Worker). Begins ended.seen w.pass.trace.seen) worker workers ended.begins) (begins_for_begins worker.pass.trace.who worker.pass.trace.seen run seen.0);
+  begins = begins_trans ended.seen worker.caller.pass.trace.seen run (All-head (λ (w : Worker). Begins ended.seen w.caller.pass.trace.seen) worker workers ended.begins) (begins_for_begins worker.caller.pass.trace.who worker.caller.pass.trace.seen run seen.0);
   called = ended.called;
 }
 

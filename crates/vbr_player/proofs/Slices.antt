@@ -11,7 +11,7 @@ use Rattle.vbr_transcript.specs.Calls.{Outcome, answer_of, answered, lines_by, l
 use Rattle.vbr_script.specs.Scripts.{AscendFrom}
 use Rattle.vbr_script.specs.declared.script.Line.{Line}
 use Rattle.vbr_transcript.specs.declared.reply.Reply.{Reply}
-use Rattle.vbr_transcript.proofs.Filters.{filter_all, filter_none, zip-append}
+use Rattle.vbr_transcript.proofs.Lemmas.{filter_all, filter_none, zip-append}
 
 -- ---- what one worker plays of it
 

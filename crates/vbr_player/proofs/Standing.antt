@@ -1,10 +1,9 @@
 -- Workers that play a phase and meet stand behind it.
-use Rattle.std.proofs.Common.{◌≡◌, ℕ, zero, suc, ◌+◌, ◌<◌, ◌≤◌, List, [], ◌∷◌, ◌++◌, length, take, drop, map, refl, sym, ap, ap₂, subst, ◌∙◌, inl, inr, append-nil, append_assoc, arith, length-append}
-use Rattle.std.specs.Prelude.{zip, All, ◌⊎◌, Vec}
+use Rattle.std.proofs.Common.{◌≡◌, ℕ, zero, suc, ◌+◌, ◌<◌, ◌≤◌, List, [], ◌∷◌, ◌++◌, length, refl, sym, ap, ap₂, subst, ◌∙◌, inl, inr, append-nil, arith, length-append}
+use Rattle.std.specs.Prelude.{zip, All, Vec}
 use Rattle.std.specs.Global.{Global}
 use Rattle.std.specs.List.{AllZip}
 use Rattle.std.specs.Vec.{vec_capacity}
-use Rattle.std.proofs.Math.Seq.{take-append_seam}
 use Rattle.std.proofs.lemmas.Bool.{cases_lt}
 use Rattle.std.proofs.lemmas.List.Elements.{All-nil, All-cons, All-head, All-tail, All-append}
 use Rattle.vbr_words.specs.Dimensions.{Dimensions}
@@ -13,55 +12,54 @@ use Rattle.vbr_core.specs.History.{calls_by}
 use Rattle.vbr_core.specs.Runs.{Begins, world_after}
 use Rattle.vbr_core.specs.declared.event.Event.{Event}
 use Rattle.vbr_core.specs.declared.history.Call.{Call}
-use Rattle.vbr_core.proofs.RunsGoOn.{begins_trans, calls_by-append}
+use Rattle.vbr_core.proofs.Lemmas.{begins_trans, calls_by-append}
 use Rattle.vbr_slots.specs.Calls.{made_by}
-use Rattle.vbr_slots.specs.Views.{TableView, IsOf}
+use Rattle.vbr_slots.specs.Views.{TableView}
 use Rattle.vbr_transcript.specs.Calls.{Outcome, answered, lines_by, lines_up_to}
-use Rattle.vbr_player.specs.Meeting.{AreOf, Looks, Meets, PlayedAndMet}
+use Rattle.vbr_player.specs.Meeting.{AreOfOne, HasSeenMore, Meets, PlayedAndMet}
 use Rattle.vbr_transcript.specs.Merging.{replies_by}
-use Rattle.vbr_player.specs.Standing.{replies_of, AreNumbered, HasPlayed, HasEnded, Stand}
-use Rattle.vbr_player.specs.Working.{Tells, IsReady, Played}
+use Rattle.vbr_player.specs.Standing.{replies_of, AreNumberedFrom, HasPlayed, HasEnded, Stand}
+use Rattle.vbr_player.specs.Working.{TellsReply, HasRoom, HaveRoom, Played}
 use Rattle.vbr_script.specs.declared.script.Line.{Line}
 use Rattle.vbr_transcript.specs.declared.reply.Reply.{Reply}
 use Rattle.vbr_player.specs.declared.worker.Worker.{Worker}
-use Rattle.vbr_transcript.proofs.CoreCalls.{calls_begin}
-use Rattle.vbr_transcript.proofs.Filters.{zip_longer, zip-append}
+use Rattle.vbr_transcript.proofs.Lemmas.{calls_begin, zip-append, zip_longer}
 use Rattle.vbr_player.proofs.Slices.{lines_by-append, called_more, replied_more}
 use Rattle.vbr_player.proofs.Working.{all_tell_on}
 
 -- ---- one worker
 
--- it is ready for the next lines
-pub ready_for : (set : TableView) (script front slice back : List Line) (w : Worker) → script ≡ (front ++ slice) ++ back → HasPlayed set script front w → IsReady set slice w
-ready_for set script front slice back w whole has =
-    let who = w.pass.trace.who in
+-- it has room for the next lines
+pub room_for : (set : TableView) (script front slice back : List Line) (w : Worker) → script ≡ (front ++ slice) ++ back → HasPlayed set script front w → HasRoom w slice
+room_for set script front slice back w whole has =
+    let who = w.caller.pass.trace.who in
     let all : length (lines_by who script) ≡ length (lines_by who front) + length (lines_by who slice) + length (lines_by who back) =
     ap (λ (lines : List Line). length (lines_by who lines)) whole ∙ ap length (lines_by-append who (front ++ slice) back) ∙ length-append (lines_by who (front ++ slice)) (lines_by who back)
     ∙ ap (λ n. n + length (lines_by who back)) (ap length (lines_by-append who front slice) ∙ length-append (lines_by who front) (lines_by who slice)) in
     let each = has.one_each in let enough = has.room in
-    record { of = has.of; hand = has.hand; room = omega arith }
+    omega arith
 
 -- it has played them too
 pub played_more : (set : TableView) (script front slice : List Line) (w v : Worker) → HasPlayed set script front w → Played slice w v → HasPlayed set script (front ++ slice) v
 played_more set script front slice w v has played =
-    let who = w.pass.trace.who in
-    let same : v.pass.trace.who ≡ who = played.same.who in
+    let who = w.caller.pass.trace.who in
+    let same : v.caller.pass.trace.who ≡ who = played.same.who in
     let lines = front ++ slice in
-    let told = λ (outcome : Outcome). Tells v.pass.trace outcome.0.op outcome.1 in
+    let told = λ (outcome : Outcome). TellsReply v.caller.pass.trace outcome.0.op outcome.1 in
     let replied : length (w.replies.items ++ played.more) ≡ length (lines_by who lines) = replied_more who front slice w.replies.items played.more has.one_each played.one_each in
-    let called : made_by v.pass.trace ≡ answered (zip (lines_by who lines) (w.replies.items ++ played.more)) = called_more who front slice w.replies.items played.more (made_by w.pass.trace) (made_by v.pass.trace) has.one_each has.calls played.calls in
+    let called : made_by v.caller.pass.trace ≡ answered (zip (lines_by who lines) (w.replies.items ++ played.more)) = called_more who front slice w.replies.items played.more (made_by w.caller.pass.trace) (made_by v.caller.pass.trace) has.one_each has.calls played.calls in
     let outcomes : zip (lines_by who lines) (w.replies.items ++ played.more) ≡ zip (lines_by who front) w.replies.items ++ zip (lines_by who slice) played.more =
     ap (λ (own : List Line). zip own (w.replies.items ++ played.more)) (lines_by-append who front slice) ∙ zip-append (lines_by who front) (lines_by who slice) w.replies.items played.more has.one_each in
     let early : All told (zip (lines_by who front) w.replies.items) = all_tell_on (zip (lines_by who front) w.replies.items) played.same played.seen has.tells in
     let tells : All told (zip (lines_by who lines) (w.replies.items ++ played.more)) = subst (All told) (sym outcomes) (All-append told (zip (lines_by who front) w.replies.items) (zip (lines_by who slice) played.more) early played.tells) in
-    let are : (who, w.replies.items ++ played.more) ≡ (v.pass.trace.who, v.replies.items) = λ i. (sym same i, sym played.replies i) in
-    let P : ℕ × List Reply → Type 0 = λ k. (length k.1 ≡ length (lines_by k.0 lines)) × (made_by v.pass.trace ≡ answered (zip (lines_by k.0 lines) k.1)) × All told (zip (lines_by k.0 lines) k.1) in
+    let are : (who, w.replies.items ++ played.more) ≡ (v.caller.pass.trace.who, v.replies.items) = λ i. (sym same i, sym played.replies i) in
+    let P : ℕ × List Reply → Type 0 = λ k. (length k.1 ≡ length (lines_by k.0 lines)) × (made_by v.caller.pass.trace ≡ answered (zip (lines_by k.0 lines) k.1)) × All told (zip (lines_by k.0 lines) k.1) in
     let now = subst P are (replied, called, tells) in
-    let enough : length (lines_by v.pass.trace.who script) ≡ length (lines_by who script) = ap (λ (k : ℕ). length (lines_by k script)) same in
+    let enough : length (lines_by v.caller.pass.trace.who script) ≡ length (lines_by who script) = ap (λ (k : ℕ). length (lines_by k script)) same in
     let had = has.room in let grows = played.room in
     record {
+      set_is = played.set ∙ has.set_is;
       of = (played.same.table ∙ has.of.0, played.same.shape ∙ has.of.1, played.same.passes ∙ has.of.2);
-      hand = played.hand;
       one_each = now.0;
       calls = now.1;
       tells = now.2;
@@ -69,17 +67,17 @@ played_more set script front slice w v has played =
     }
 
 -- it has, when it has looked
-pub played_looks : (set : TableView) (script lines : List Line) (v u : Worker) → HasPlayed set script lines v → Looks v u → HasPlayed set script lines u
+pub played_looks : (set : TableView) (script lines : List Line) (v u : Worker) → HasPlayed set script lines v → HasSeenMore v u → HasPlayed set script lines u
 played_looks set script lines v u has looks =
-    let who = v.pass.trace.who in
-    let told = λ (outcome : Outcome). Tells u.pass.trace outcome.0.op outcome.1 in
+    let who = v.caller.pass.trace.who in
+    let told = λ (outcome : Outcome). TellsReply u.caller.pass.trace outcome.0.op outcome.1 in
     let tells : All told (zip (lines_by who lines) v.replies.items) = all_tell_on (zip (lines_by who lines) v.replies.items) looks.same looks.seen has.tells in
-    let are : (who, v.replies) ≡ (u.pass.trace.who, u.replies) = λ i. (sym looks.same.who i, sym looks.replies i) in
-    let P : ℕ × Vec Reply Global → Type 0 = λ k. (length k.1.items ≡ length (lines_by k.0 lines)) × (made_by u.pass.trace ≡ answered (zip (lines_by k.0 lines) k.1.items)) × All told (zip (lines_by k.0 lines) k.1.items) × (length (lines_by k.0 script) ≤ vec_capacity k.1) in
+    let are : (who, v.replies) ≡ (u.caller.pass.trace.who, u.replies) = λ i. (sym looks.same.who i, sym looks.replies i) in
+    let P : ℕ × Vec Reply Global → Type 0 = λ k. (length k.1.items ≡ length (lines_by k.0 lines)) × (made_by u.caller.pass.trace ≡ answered (zip (lines_by k.0 lines) k.1.items)) × All told (zip (lines_by k.0 lines) k.1.items) × (length (lines_by k.0 script) ≤ vec_capacity k.1) in
     let now = subst P are (has.one_each, looks.calls ∙ has.calls, tells, has.room) in
     record {
+      set_is = looks.set ∙ has.set_is;
       of = (looks.same.table ∙ has.of.0, looks.same.shape ∙ has.of.1, looks.same.passes ∙ has.of.2);
-      hand = looks.hand ∙ has.hand;
       one_each = now.0;
       calls = now.1;
       tells = now.2;
@@ -95,7 +93,7 @@ all_from_zip R P Q step (w ∷ ws) (v ∷ vs) all zipped = All-cons Q v vs (step
 all_from_zip R P Q step [] (v ∷ vs) all zipped = absurd zipped
 all_from_zip R P Q step (w ∷ ws) [] all zipped = absurd zipped
 
-pub numbered_zip : (R : Worker → Worker → Type 0) → ((w v : Worker) → R w v → v.pass.trace.who ≡ w.pass.trace.who) → (who : ℕ) (ws vs : List Worker) → AreNumbered who ws → AllZip R ws vs → AreNumbered who vs
+pub numbered_zip : (R : Worker → Worker → Type 0) → ((w v : Worker) → R w v → v.caller.pass.trace.who ≡ w.caller.pass.trace.who) → (who : ℕ) (ws vs : List Worker) → AreNumberedFrom who ws → AllZip R ws vs → AreNumberedFrom who vs
 numbered_zip R same who [] [] numbered zipped = tt
 numbered_zip R same who (w ∷ ws) (v ∷ vs) numbered zipped = (same w v zipped.0 ∙ numbered.0, numbered_zip R same (suc who) ws vs numbered.1 zipped.1)
 numbered_zip R same who [] (v ∷ vs) numbered zipped = absurd zipped
@@ -119,14 +117,14 @@ zip_length R (w ∷ ws) [] zipped = absurd zipped
 
 -- a worker has seen more, and has more replies
 pub record GoesOn (w u : Worker) : Type 0 where
-  pub seen : Begins w.pass.trace.seen u.pass.trace.seen
+  pub seen : Begins w.caller.pass.trace.seen u.caller.pass.trace.seen
   pub more : List Reply
   pub replies : u.replies.items ≡ w.replies.items ++ more
 
-goes_on : (slice : List Line) (w v u : Worker) → Played slice w v → Looks v u → GoesOn w u
+goes_on : (slice : List Line) (w v u : Worker) → Played slice w v → HasSeenMore v u → GoesOn w u
 goes_on slice w v u played looks =
     record {
-      seen = begins_trans w.pass.trace.seen v.pass.trace.seen u.pass.trace.seen played.seen looks.seen;
+      seen = begins_trans w.caller.pass.trace.seen v.caller.pass.trace.seen u.caller.pass.trace.seen played.seen looks.seen;
       more = played.more;
       replies = ap (λ (rs : Vec Reply Global). rs.items) looks.replies ∙ played.replies;
     }
@@ -143,7 +141,7 @@ ended_later set script phase ws us grow ended =
     let same : length us ≡ length ws = zip_length GoesOn ws us grow in
     record {
       seen = ended.seen;
-      begins = all_from_zip GoesOn (λ w. Begins ended.seen w.pass.trace.seen) (λ u. Begins ended.seen u.pass.trace.seen) (λ w u begins goes. begins_trans ended.seen w.pass.trace.seen u.pass.trace.seen begins goes.seen) ws us ended.begins grow;
+      begins = all_from_zip GoesOn (λ w. Begins ended.seen w.caller.pass.trace.seen) (λ u. Begins ended.seen u.caller.pass.trace.seen) (λ w u begins goes. begins_trans ended.seen w.caller.pass.trace.seen u.caller.pass.trace.seen begins goes.seen) ws us ended.begins grow;
       replied = λ who inside.
           let more = more_replies ws us who (omega arith) grow in
           let had = ended.replied who (omega arith) in
@@ -173,39 +171,39 @@ calls_between shape who before moment after from to same =
     none_between (own_calls shape before who) (calls_by who first.0) (calls_by who then.0) (own_calls shape moment who) front (sym same ∙ back)
 
 -- a worker that has met has called its lines at the moment of the meeting
-one_called : (set : TableView) (script lines : List Line) (moment : List Event) (v u : Worker) (who : ℕ) → u.pass.trace.who ≡ who → HasPlayed set script lines u → Looks v u → Begins v.pass.trace.seen moment → Begins moment u.pass.trace.seen → own_calls set.shape moment who ≡ answered (zip (lines_by who lines) u.replies.items)
+one_called : (set : TableView) (script lines : List Line) (moment : List Event) (v u : Worker) (who : ℕ) → u.caller.pass.trace.who ≡ who → HasPlayed set script lines u → HasSeenMore v u → Begins v.caller.pass.trace.seen moment → Begins moment u.caller.pass.trace.seen → own_calls set.shape moment who ≡ answered (zip (lines_by who lines) u.replies.items)
 one_called set script lines moment v u who number has looks from to =
-    let shape : u.pass.trace.shape ≡ set.shape = has.of.1 in
-    let at_last : own_calls u.pass.trace.shape u.pass.trace.seen u.pass.trace.who ≡ own_calls set.shape u.pass.trace.seen who = ap₂ (λ (d : Dimensions) (k : ℕ). own_calls d u.pass.trace.seen k) shape number in
-    let at_first : own_calls v.pass.trace.shape v.pass.trace.seen v.pass.trace.who ≡ own_calls set.shape v.pass.trace.seen who = ap₂ (λ (d : Dimensions) (k : ℕ). own_calls d v.pass.trace.seen k) (sym looks.same.shape ∙ shape) (sym looks.same.who ∙ number) in
-    let same : own_calls set.shape u.pass.trace.seen who ≡ own_calls set.shape v.pass.trace.seen who = sym at_last ∙ looks.calls ∙ at_first in
-    let then : own_calls set.shape u.pass.trace.seen who ≡ answered (zip (lines_by who lines) u.replies.items) = sym at_last ∙ has.calls ∙ ap (λ (k : ℕ). answered (zip (lines_by k lines) u.replies.items)) number in
-    calls_between set.shape who v.pass.trace.seen moment u.pass.trace.seen from to same ∙ sym same ∙ then
+    let shape : u.caller.pass.trace.shape ≡ set.shape = has.of.1 in
+    let at_last : own_calls u.caller.pass.trace.shape u.caller.pass.trace.seen u.caller.pass.trace.who ≡ own_calls set.shape u.caller.pass.trace.seen who = ap₂ (λ (d : Dimensions) (k : ℕ). own_calls d u.caller.pass.trace.seen k) shape number in
+    let at_first : own_calls v.caller.pass.trace.shape v.caller.pass.trace.seen v.caller.pass.trace.who ≡ own_calls set.shape v.caller.pass.trace.seen who = ap₂ (λ (d : Dimensions) (k : ℕ). own_calls d v.caller.pass.trace.seen k) (sym looks.same.shape ∙ shape) (sym looks.same.who ∙ number) in
+    let same : own_calls set.shape u.caller.pass.trace.seen who ≡ own_calls set.shape v.caller.pass.trace.seen who = sym at_last ∙ looks.calls ∙ at_first in
+    let then : own_calls set.shape u.caller.pass.trace.seen who ≡ answered (zip (lines_by who lines) u.replies.items) = sym at_last ∙ has.calls ∙ ap (λ (k : ℕ). answered (zip (lines_by k lines) u.replies.items)) number in
+    calls_between set.shape who v.caller.pass.trace.seen moment u.caller.pass.trace.seen from to same ∙ sym same ∙ then
 
 -- and so have all
-all_called : (set : TableView) (script lines : List Line) (moment : List Event) (n : ℕ) (vs us : List Worker) → AreNumbered n us → All (HasPlayed set script lines) us → AllZip Looks vs us → All (λ v. Begins v.pass.trace.seen moment) vs → All (λ u. Begins moment u.pass.trace.seen) us → (i : ℕ) → i < length us → own_calls set.shape moment (n + i) ≡ answered (zip (lines_by (n + i) lines) (replies_by i (replies_of us)))
+all_called : (set : TableView) (script lines : List Line) (moment : List Event) (n : ℕ) (vs us : List Worker) → AreNumberedFrom n us → All (HasPlayed set script lines) us → AllZip HasSeenMore vs us → All (λ v. Begins v.caller.pass.trace.seen moment) vs → All (λ u. Begins moment u.caller.pass.trace.seen) us → (i : ℕ) → i < length us → own_calls set.shape moment (n + i) ≡ answered (zip (lines_by (n + i) lines) (replies_by i (replies_of us)))
 all_called set script lines moment n vs [] numbered played looks from to i inside = absurd (omega arith)
 all_called set script lines moment n [] (u ∷ us) numbered played looks from to i inside = absurd looks
 all_called set script lines moment n (v ∷ vs) (u ∷ us) numbered played looks from to zero inside =
-    let number : u.pass.trace.who ≡ n + 0 = omega (arith, numbered.0) in
-    one_called set script lines moment v u (n + 0) number (All-head (HasPlayed set script lines) u us played) looks.0 (All-head (λ (w : Worker). Begins w.pass.trace.seen moment) v vs from) (All-head (λ (w : Worker). Begins moment w.pass.trace.seen) u us to)
+    let number : u.caller.pass.trace.who ≡ n + 0 = omega (arith, numbered.0) in
+    one_called set script lines moment v u (n + 0) number (All-head (HasPlayed set script lines) u us played) looks.0 (All-head (λ (w : Worker). Begins w.caller.pass.trace.seen moment) v vs from) (All-head (λ (w : Worker). Begins moment w.caller.pass.trace.seen) u us to)
 all_called set script lines moment n (v ∷ vs) (u ∷ us) numbered played looks from to (suc i) inside =
     let same : suc n + i ≡ n + suc i = omega arith in
     subst (λ (k : ℕ). own_calls set.shape moment k ≡ answered (zip (lines_by k lines) (replies_by i (replies_of us)))) same
-    (all_called set script lines moment (suc n) vs us numbered.1 (All-tail (HasPlayed set script lines) u us played) looks.1 (All-tail (λ (w : Worker). Begins w.pass.trace.seen moment) v vs from) (All-tail (λ (w : Worker). Begins moment w.pass.trace.seen) u us to) i (omega arith))
+    (all_called set script lines moment (suc n) vs us numbered.1 (All-tail (HasPlayed set script lines) u us played) looks.1 (All-tail (λ (w : Worker). Begins w.caller.pass.trace.seen moment) v vs from) (All-tail (λ (w : Worker). Begins moment w.caller.pass.trace.seen) u us to) i (omega arith))
 
 -- a worker has as many replies as lines
-pub as_many : (set : TableView) (script lines : List Line) (n : ℕ) (us : List Worker) → AreNumbered n us → All (HasPlayed set script lines) us → (i : ℕ) → i < length us → length (replies_by i (replies_of us)) ≡ length (lines_by (n + i) lines)
+pub as_many : (set : TableView) (script lines : List Line) (n : ℕ) (us : List Worker) → AreNumberedFrom n us → All (HasPlayed set script lines) us → (i : ℕ) → i < length us → length (replies_by i (replies_of us)) ≡ length (lines_by (n + i) lines)
 as_many set script lines n [] numbered played i inside = absurd (omega arith)
 as_many set script lines n (u ∷ us) numbered played zero inside =
-    let number : u.pass.trace.who ≡ n + 0 = omega (arith, numbered.0) in
+    let number : u.caller.pass.trace.who ≡ n + 0 = omega (arith, numbered.0) in
     (All-head (HasPlayed set script lines) u us played).one_each ∙ ap (λ (k : ℕ). length (lines_by k lines)) number
 as_many set script lines n (u ∷ us) numbered played (suc i) inside =
     let same : suc n + i ≡ n + suc i = omega arith in
     as_many set script lines (suc n) us numbered.1 (All-tail (HasPlayed set script lines) u us played) i (omega arith) ∙ ap (λ (k : ℕ). length (lines_by k lines)) same
 
 -- where workers that have played the lines up to a phase have met, it has ended
-has_ended : (set : TableView) (script lines : List Line) (phase : ℕ) (vs us : List Worker) → lines_up_to phase script ≡ lines → AreNumbered 0 us → All (HasPlayed set script lines) us → Meets vs us → HasEnded set script phase us
+has_ended : (set : TableView) (script lines : List Line) (phase : ℕ) (vs us : List Worker) → lines_up_to phase script ≡ lines → AreNumberedFrom 0 us → All (HasPlayed set script lines) us → Meets vs us → HasEnded set script phase us
 has_ended set script lines phase vs us are numbered played meets =
     record {
       seen = meets.moment;
@@ -222,14 +220,18 @@ has_ended set script lines phase vs us are numbered played meets =
 
 -- ---- the next phase
 
--- workers of a set are so when they have played
-pub are_of_played : (set : TableView) (lines : List Line) (ws vs : List Worker) → All (IsReady set lines) ws → AllZip (Played lines) ws vs → AreOf set vs
-are_of_played set lines ws vs ready played =
-    all_from_zip (Played lines) (IsReady set lines) (λ w. IsOf w.pass.trace set) (λ w v is p. (p.same.table ∙ is.of.0, p.same.shape ∙ is.of.1, p.same.passes ∙ is.of.2)) ws vs ready played
+-- workers of one set are so when they have played
+pub are_of_played : (lines : List Line) (ws vs : List Worker) → AreOfOne ws → AllZip (Played lines) ws vs → AreOfOne vs
+are_of_played lines ws vs of played =
+    record { set = of.set; all = all_from_zip (Played lines) (λ w. w.caller.set ≡ of.set) (λ v. v.caller.set ≡ of.set) (λ w v is p. p.set ∙ is) ws vs of.all played }
 
--- all are ready for the next lines
-pub all_ready : (set : TableView) (script front slice back : List Line) (ws : List Worker) → script ≡ (front ++ slice) ++ back → All (HasPlayed set script front) ws → All (IsReady set slice) ws
-all_ready set script front slice back ws whole played = λ k d inside. ready_for set script front slice back _ whole (played k d inside)
+-- workers that have played are of one set
+pub are_of_stand : (set : TableView) (script lines : List Line) (count phases : ℕ) (ws : List Worker) → Stand set script lines count phases ws → AreOfOne ws
+are_of_stand set script lines count phases ws stand = record { set = set; all = λ k d inside. (stand.played k d inside).set_is }
+
+-- all have room for the next lines
+pub all_room : (set : TableView) (script front slice back : List Line) (ws : List Worker) → script ≡ (front ++ slice) ++ back → All (HasPlayed set script front) ws → HaveRoom ws slice
+all_room set script front slice back ws whole played = λ k d inside. room_for set script front slice back _ whole (played k d inside)
 
 -- workers that have played a phase and met stand behind it
 pub stand_next : (set : TableView) (script front slice : List Line) (count phase : ℕ) (ws us : List Worker) → lines_up_to phase script ≡ front ++ slice → Stand set script front count phase ws → PlayedAndMet slice ws us → Stand set script (front ++ slice) count (phase + 1) us
@@ -237,9 +239,9 @@ stand_next set script front slice count phase ws us are stand next =
     let vs = next.apart in let played = next.played in let meets = next.meets in
     let lines = front ++ slice in
     let early : All (HasPlayed set script lines) vs = all_from_zip (Played slice) (HasPlayed set script front) (HasPlayed set script lines) (λ w v. played_more set script front slice w v) ws vs stand.played played in
-    let all : All (HasPlayed set script lines) us = all_from_zip Looks (HasPlayed set script lines) (HasPlayed set script lines) (λ v u. played_looks set script lines v u) vs us early meets.looks in
-    let numbered : AreNumbered 0 us = numbered_zip Looks (λ v u looks. looks.same.who) 0 vs us (numbered_zip (Played slice) (λ w v p. p.same.who) 0 ws vs stand.numbered played) meets.looks in
-    let on : AllZip GoesOn ws us = zip_zip (Played slice) Looks GoesOn (goes_on slice) ws vs us played meets.looks in
+    let all : All (HasPlayed set script lines) us = all_from_zip HasSeenMore (HasPlayed set script lines) (HasPlayed set script lines) (λ v u. played_looks set script lines v u) vs us early meets.looks in
+    let numbered : AreNumberedFrom 0 us = numbered_zip HasSeenMore (λ v u looks. looks.same.who) 0 vs us (numbered_zip (Played slice) (λ w v p. p.same.who) 0 ws vs stand.numbered played) meets.looks in
+    let on : AllZip GoesOn ws us = zip_zip (Played slice) HasSeenMore GoesOn (goes_on slice) ws vs us played meets.looks in
     record {
       count_is = zip_length GoesOn ws us on ∙ stand.count_is;
       numbered = numbered;
@@ -251,10 +253,3 @@ stand_next set script front slice count phase ws us are stand next =
             subst (λ (k : ℕ). HasEnded set script k us) this (has_ended set script lines phase vs us are numbered all meets)
       ];
     }
-
--- workers that played and met, written back
-pub played_and_met : (lines : List Line) (ws vs same us : List Worker) (len : ℕ) → len ≡ length vs → same ≡ vs → AllZip (Played lines) ws vs → Meets same us → PlayedAndMet lines ws (take len (us ++ drop (length us) vs))
-played_and_met lines ws vs same us len all is played meets =
-    let as_many : length us ≡ length same = zip_length Looks same us meets.looks in
-    let back : take len (us ++ drop (length us) vs) ≡ us = rw (all ∙ sym (as_many ∙ ap length is)) (take-append_seam us (drop (length us) vs)) in
-    subst (λ (qs : List Worker). PlayedAndMet lines ws qs) (sym back) (record { apart = same; played = subst (λ (qs : List Worker). AllZip (Played lines) ws qs) (sym is) played; meets = meets })

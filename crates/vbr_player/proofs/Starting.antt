@@ -1,21 +1,19 @@
 -- The turns of the workers in a phase.
 use Rattle.std.proofs.Common.{◌≡◌, List, [], ◌∷◌, ◌++◌, length, append-nil, sym, subst, ◌∙◌, arith}
-use Rattle.std.specs.Prelude.{Result, Ok, Err, IfOk, Vec}
+use Rattle.std.specs.Prelude.{Result, Ok, Err, IfOk, All, Vec}
 use Rattle.std.specs.Global.{Global}
-use Rattle.std.specs.List.{AllZip}
 use Rattle.std.proofs.lemmas.List.Elements.{All-head, All-tail}
-use Rattle.vbr_slots.specs.Views.{TableView}
 use Rattle.vbr_player.specs.Starting.{IsFor, AreFor, EndsAs, AreEndedBy}
-use Rattle.vbr_player.specs.Working.{IsReady, AreReady, Played, EachPlayed}
+use Rattle.vbr_player.specs.Working.{Played, EachPlayed}
 use Rattle.vbr_script.specs.declared.script.Line.{Line}
-use Rattle.vbr_player.specs.declared.phase.Turn.{Turn}
-use Rattle.vbr_player.specs.declared.phase.Turn.TheVariants.{Started, Done}
+use Rattle.vbr_player.specs.declared.turn.Turn.{Turn}
+use Rattle.vbr_player.specs.declared.turn.Turn.TheVariants.{Started, Done}
 use Rattle.vbr_player.specs.declared.worker.Worker.{Worker}
 
--- of ready workers, the one behind some others is ready
-pub ready_one : (set : TableView) (lines : List Line) (before : List Worker) (worker : Worker) (after : List Worker) → AreReady set lines (before ++ (worker ∷ after)) → IsReady set lines worker
-ready_one set lines [] worker after ready = All-head (IsReady set lines) worker after ready
-ready_one set lines (w ∷ ws) worker after ready = ready_one set lines ws worker after (All-tail (IsReady set lines) w (ws ++ (worker ∷ after)) ready)
+-- what all have, the one behind some others has
+pub one_behind : {A : Type 0} (P : A → Type 0) (before : List A) (x : A) (after : List A) → All P (before ++ (x ∷ after)) → P x
+one_behind P [] x after all = All-head P x after all
+one_behind P (y ∷ ys) x after all = one_behind P ys x after (All-tail P y (ys ++ (x ∷ after)) all)
 
 -- nothing is left
 pub none_left : {A : Type 0} (done rest all : List A) → length rest ≡ 0 → done ++ rest ≡ all → done ≡ all

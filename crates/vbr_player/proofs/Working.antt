@@ -1,29 +1,28 @@
 -- A worker that plays on: what it played before and what it plays then make what it has played.
 use Rattle.std.proofs.Common.{◌≡◌, ℕ, ◌+◌, ◌<◌, ◌≤◌, eqb, List, [], ◌∷◌, ◌++◌, length, refl, sym, ap, ap₂, subst, ◌∙◌, append_assoc, append-nil, take, drop, get_or, arith, length-append, add-one}
-use Rattle.std.specs.Prelude.{zip, All, None, ◌≢◌}
+use Rattle.std.specs.Prelude.{zip, All, ◌≢◌}
 use Rattle.std.specs.Vec.{vec_capacity}
 use Rattle.std.proofs.lemmas.Bool.{eq-eqb, ne_eqb}
 use Rattle.std.proofs.lemmas.Grind.{flat_map-append}
 use Rattle.std.proofs.lemmas.List.{take_more, take_all, take-append-drop}
 use Rattle.std.proofs.Math.Seq.{drop-cons}
 use Rattle.std.proofs.lemmas.List.Elements.{filter-append, All-append, All-nil, All-cons}
-use Rattle.vbr_core.specs.Runs.{Begins, world_after}
+use Rattle.vbr_core.specs.Runs.{Begins}
 use Rattle.vbr_core.specs.declared.history.Op.{Op}
-use Rattle.vbr_core.proofs.RunsGoOn.{begins_refl, begins_trans}
+use Rattle.vbr_core.proofs.Lemmas.{begins_refl, begins_trans}
 use Rattle.vbr_slots.specs.Calls.{IsSame, made_by}
-use Rattle.vbr_slots.specs.Views.{Trace, TableView}
-use Rattle.vbr_slots.proofs.Calls.{same_refl, same_on}
+use Rattle.vbr_slots.specs.Views.{Trace}
+use Rattle.vbr_slots.proofs.Lemmas.{same_on, same_refl}
 use Rattle.vbr_transcript.specs.Calls.{Outcome, answer_of, answered, lines_by}
-use Rattle.vbr_player.specs.Working.{Tells, Replied, Played, HasRoom, IsReady}
+use Rattle.vbr_player.specs.Working.{TellsReply, Replied, Played, HasRoom}
 use Rattle.vbr_script.specs.declared.script.Line.{Line}
 use Rattle.vbr_transcript.specs.declared.reply.Reply.{Reply}
 use Rattle.vbr_transcript.specs.declared.reply.Reply.TheVariants.{Yes, No, Full, Spent, Tired}
 use Rattle.vbr_player.specs.declared.worker.Worker.{Worker}
-use Rattle.vbr_transcript.proofs.CoreCalls.{epoch_begins}
-use Rattle.vbr_transcript.proofs.Filters.{zip-append}
+use Rattle.vbr_transcript.proofs.Lemmas.{epoch_begins, zip-append}
 
 -- what a reply told stays so
-pub tells_on : {q r : Trace} (op : Op) (reply : Reply) → IsSame q r → Begins q.seen r.seen → Tells q op reply → Tells r op reply
+pub tells_on : {q r : Trace} (op : Op) (reply : Reply) → IsSame q r → Begins q.seen r.seen → TellsReply q op reply → TellsReply r op reply
 tells_on op Yes same seen told = tt
 tells_on op No same seen told = tt
 tells_on op Full same seen told = told
@@ -34,7 +33,7 @@ tells_on {q} {r} op Spent same seen told =
 tells_on op Tired same seen told = tt
 
 -- all that replies told stays so
-pub all_tell_on : {q r : Trace} (outcomes : List Outcome) → IsSame q r → Begins q.seen r.seen → All (λ outcome. Tells q outcome.0.op outcome.1) outcomes → All (λ outcome. Tells r outcome.0.op outcome.1) outcomes
+pub all_tell_on : {q r : Trace} (outcomes : List Outcome) → IsSame q r → Begins q.seen r.seen → All (λ outcome. TellsReply q outcome.0.op outcome.1) outcomes → All (λ outcome. TellsReply r outcome.0.op outcome.1) outcomes
 all_tell_on outcomes same seen told = λ k d inside. tells_on _ _ same seen (told k d inside)
 
 -- ---- lines of a worker
@@ -59,78 +58,78 @@ answered-append xs ys = flat_map-append (λ (outcome : Outcome). answer_of outco
 -- ---- what was played
 
 -- nothing was played yet
-pub played_none : (p : Worker) → p.pass.hand ≡ None → Played [] p p
-played_none p hand =
+pub played_none : (p : Worker) → Played [] p p
+played_none p =
     record {
-      same = same_refl p.pass.trace;
-      seen = begins_refl p.pass.trace.seen;
+      set = refl;
+      same = same_refl p.caller.pass.trace;
+      seen = begins_refl p.caller.pass.trace.seen;
       more = [];
       replies = sym (append-nil p.replies.items);
       one_each = refl;
-      calls = sym (append-nil (made_by p.pass.trace));
-      tells = All-nil (λ (outcome : Outcome). Tells p.pass.trace outcome.0.op outcome.1);
-      hand = hand;
+      calls = sym (append-nil (made_by p.caller.pass.trace));
+      tells = All-nil (λ (outcome : Outcome). TellsReply p.caller.pass.trace outcome.0.op outcome.1);
       room = omega arith;
     }
 
 -- a line of its own was
-pub played_own : (line : Line) (reply : Reply) (p q : Worker) → line.worker ≡ p.pass.trace.who → Replied line reply p.pass q.pass → q.replies.items ≡ p.replies.items ++ reply ∷ [] → vec_capacity p.replies ≤ vec_capacity q.replies → Played (line ∷ []) p q
+pub played_own : (line : Line) (reply : Reply) (p q : Worker) → line.worker ≡ p.caller.pass.trace.who → Replied line reply p.caller q.caller → q.replies.items ≡ p.replies.items ++ reply ∷ [] → vec_capacity p.replies ≤ vec_capacity q.replies → Played (line ∷ []) p q
 played_own line reply p q own replied more room =
-    let mine : lines_by p.pass.trace.who (line ∷ []) ≡ line ∷ [] = own_line p.pass.trace.who line own in
-    let told = λ (outcome : Outcome). Tells q.pass.trace outcome.0.op outcome.1 in
+    let mine : lines_by p.caller.pass.trace.who (line ∷ []) ≡ line ∷ [] = own_line p.caller.pass.trace.who line own in
+    let told = λ (outcome : Outcome). TellsReply q.caller.pass.trace outcome.0.op outcome.1 in
     record {
+      set = replied.set;
       same = replied.same;
       seen = replied.seen;
       more = reply ∷ [];
       replies = more;
       one_each = ap length (sym mine);
-      calls = replied.calls ∙ ap (λ calls. made_by p.pass.trace ++ calls) (sym (append-nil (answer_of line reply)) ∙ ap (λ (lines : List Line). answered (zip lines (reply ∷ []))) (sym mine));
+      calls = replied.calls ∙ ap (λ calls. made_by p.caller.pass.trace ++ calls) (sym (append-nil (answer_of line reply)) ∙ ap (λ (lines : List Line). answered (zip lines (reply ∷ []))) (sym mine));
       tells = subst (λ (lines : List Line). All told (zip lines (reply ∷ []))) (sym mine) (All-cons told (line, reply) [] replied.tells (All-nil told));
-      hand = replied.hand;
       room = room;
     }
 
 -- a line of another worker was passed over
-pub played_other : (line : Line) (p : Worker) → line.worker ≢ p.pass.trace.who → p.pass.hand ≡ None → Played (line ∷ []) p p
-played_other line p other hand =
-    let none : lines_by p.pass.trace.who (line ∷ []) ≡ [] = other_line p.pass.trace.who line other in
-    let told = λ (outcome : Outcome). Tells p.pass.trace outcome.0.op outcome.1 in
+pub played_other : (line : Line) (p : Worker) → line.worker ≢ p.caller.pass.trace.who → Played (line ∷ []) p p
+played_other line p other =
+    let none : lines_by p.caller.pass.trace.who (line ∷ []) ≡ [] = other_line p.caller.pass.trace.who line other in
+    let told = λ (outcome : Outcome). TellsReply p.caller.pass.trace outcome.0.op outcome.1 in
     record {
-      same = same_refl p.pass.trace;
-      seen = begins_refl p.pass.trace.seen;
+      set = refl;
+      same = same_refl p.caller.pass.trace;
+      seen = begins_refl p.caller.pass.trace.seen;
       more = [];
       replies = sym (append-nil p.replies.items);
       one_each = ap length (sym none);
-      calls = sym (append-nil (made_by p.pass.trace)) ∙ ap (λ (lines : List Line). made_by p.pass.trace ++ answered (zip lines [])) (sym none);
+      calls = sym (append-nil (made_by p.caller.pass.trace)) ∙ ap (λ (lines : List Line). made_by p.caller.pass.trace ++ answered (zip lines [])) (sym none);
       tells = subst (λ (lines : List Line). All told (zip {X = Reply} lines [])) (sym none) (All-nil told);
-      hand = hand;
       room = omega arith;
     }
 
 -- some lines were, and then others
 pub played_on : (lines more : List Line) (p q r : Worker) → Played lines p q → Played more q r → Played (lines ++ more) p r
 played_on lines more p q r first then =
-    let who = p.pass.trace.who in
-    let told = λ (outcome : Outcome). Tells r.pass.trace outcome.0.op outcome.1 in
+    let who = p.caller.pass.trace.who in
+    let told = λ (outcome : Outcome). TellsReply r.caller.pass.trace outcome.0.op outcome.1 in
     let mine : List Line → List Line = λ some. lines_by who some in
-    let same : q.pass.trace.who ≡ who = first.same.who in
+    let same : q.caller.pass.trace.who ≡ who = first.same.who in
     let both : zip (lines_by who (lines ++ more)) (first.more ++ then.more) ≡ zip (lines_by who lines) first.more ++ zip (lines_by who more) then.more = outcomes-append who lines more first.more then.more first.one_each in
     let lengths : length then.more ≡ length (lines_by who more) = then.one_each ∙ ap (λ (w : ℕ). length (lines_by w more)) same in
-    let calls : made_by r.pass.trace ≡ made_by q.pass.trace ++ answered (zip (lines_by who more) then.more) = then.calls ∙ ap (λ (w : ℕ). made_by q.pass.trace ++ answered (zip (lines_by w more) then.more)) same in
+    let calls : made_by r.caller.pass.trace ≡ made_by q.caller.pass.trace ++ answered (zip (lines_by who more) then.more) = then.calls ∙ ap (λ (w : ℕ). made_by q.caller.pass.trace ++ answered (zip (lines_by w more) then.more)) same in
     let early : All told (zip (lines_by who lines) first.more) = all_tell_on (zip (lines_by who lines) first.more) then.same then.seen first.tells in
     let late : All told (zip (lines_by who more) then.more) = subst (λ (w : ℕ). All told (zip (lines_by w more) then.more)) same then.tells in
     record {
+      set = then.set ∙ first.set;
       same = same_on first.same then.same;
-      seen = begins_trans p.pass.trace.seen q.pass.trace.seen r.pass.trace.seen first.seen then.seen;
+      seen = begins_trans p.caller.pass.trace.seen q.caller.pass.trace.seen r.caller.pass.trace.seen first.seen then.seen;
       more = first.more ++ then.more;
       replies = then.replies ∙ ap (λ (rs : List Reply). rs ++ then.more) first.replies ∙ append_assoc p.replies.items first.more then.more;
       one_each = length-append first.more then.more ∙ ap₂ (λ (a b : ℕ). a + b) first.one_each lengths ∙ sym (length-append (lines_by who lines) (lines_by who more)) ∙ ap length (sym (lines_by-append who lines more));
       calls =
           calls ∙ ap (λ cs. cs ++ answered (zip (lines_by who more) then.more)) first.calls
-          ∙ append_assoc (made_by p.pass.trace) (answered (zip (lines_by who lines) first.more)) (answered (zip (lines_by who more) then.more))
-          ∙ ap (λ cs. made_by p.pass.trace ++ cs) (sym (answered-append (zip (lines_by who lines) first.more) (zip (lines_by who more) then.more)) ∙ ap answered (sym both));
+          ∙ append_assoc (made_by p.caller.pass.trace) (answered (zip (lines_by who lines) first.more)) (answered (zip (lines_by who more) then.more))
+          ∙ ap (λ cs. made_by p.caller.pass.trace ++ cs) (sym (answered-append (zip (lines_by who lines) first.more) (zip (lines_by who more) then.more)) ∙ ap answered (sym both));
       tells = subst (λ (outcomes : List Outcome). All told outcomes) (sym both) (All-append told (zip (lines_by who lines) first.more) (zip (lines_by who more) then.more) early late);
-      hand = then.hand;
       room = let a = first.room in let b = then.room in omega arith;
     }
 
@@ -148,16 +147,16 @@ played_all lines i p q all played = subst (λ (some : List Line). Played some p 
 -- room for some lines and others is left for the others when the first were played
 pub room_on : (lines more : List Line) (p q : Worker) → Played lines p q → HasRoom p (lines ++ more) → HasRoom q more
 room_on lines more p q played room =
-    let who = p.pass.trace.who in
+    let who = p.caller.pass.trace.who in
     let all : length (lines_by who (lines ++ more)) ≡ length (lines_by who lines) + length (lines_by who more) = ap length (lines_by-append who lines more) ∙ length-append (lines_by who lines) (lines_by who more) in
     let had : length q.replies.items ≡ length p.replies.items + length played.more = ap length played.replies ∙ length-append p.replies.items played.more in
-    let own : length (lines_by q.pass.trace.who more) ≡ length (lines_by who more) = ap (λ (w : ℕ). length (lines_by w more)) played.same.who in
+    let own : length (lines_by q.caller.pass.trace.who more) ≡ length (lines_by who more) = ap (λ (w : ℕ). length (lines_by w more)) played.same.who in
     let each = played.one_each in let grows = played.room in omega arith
 
 -- room for some lines and others is room for the first
 pub room_front : (lines more : List Line) (p : Worker) → HasRoom p (lines ++ more) → HasRoom p lines
 room_front lines more p room =
-    let who = p.pass.trace.who in
+    let who = p.caller.pass.trace.who in
     let all : length (lines_by who (lines ++ more)) ≡ length (lines_by who lines) + length (lines_by who more) = ap length (lines_by-append who lines more) ∙ length-append (lines_by who lines) (lines_by who more) in
     omega arith
 
@@ -166,12 +165,3 @@ pub room_next : (lines : List Line) (i : ℕ) (d : Line) (p q : Worker) → i < 
 room_next lines i d p q inside played room =
     let parts : lines ≡ take i lines ++ (get_or lines i d ∷ drop (i + 1) lines) = sym (take-append-drop i lines) ∙ ap (λ (rest : List Line). take i lines ++ rest) (drop-cons lines i d inside ∙ ap (λ (n : ℕ). get_or lines i d ∷ drop n lines) (sym (add-one i))) in
     room_front (get_or lines i d ∷ []) (drop (i + 1) lines) q (room_on (take i lines) (get_or lines i d ∷ drop (i + 1) lines) p q played (subst (λ (some : List Line). HasRoom p some) parts room))
-
--- ready for the next line
-pub ready_next : (set : TableView) (lines : List Line) (i : ℕ) (d : Line) (p q : Worker) → i < length lines → Played (take i lines) p q → IsReady set lines p → IsReady set (get_or lines i d ∷ []) q
-ready_next set lines i d p q inside played ready =
-    record {
-      of = (played.same.table ∙ ready.of.0, played.same.shape ∙ ready.of.1, played.same.passes ∙ ready.of.2);
-      hand = played.hand;
-      room = room_next lines i d p q inside played ready.room;
-    }

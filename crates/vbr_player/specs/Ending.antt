@@ -1,8 +1,18 @@
 -- What the workers bring to the end of a run.
-use Rattle.std.specs.Prelude.{List, map}
-use Rattle.vbr_slots.specs.Views.{PassView}
+use Rattle.std.specs.Prelude.{◌≡◌, ℕ, List, map}
+use Rattle.vbr_slots.specs.Views.{PassView, TableView}
+use Rattle.vbr_player.specs.Standing.{replies_of, Stand}
+use Rattle.vbr_script.specs.declared.script.Line.{Line}
+use Rattle.vbr_transcript.specs.declared.reply.Reply.{Reply}
 use Rattle.vbr_player.specs.declared.worker.Worker.{Worker}
 
 -- the passes of workers
 abbrev pub passes_of : List Worker → List PassView
-passes_of workers = map (λ worker. worker.pass) workers
+passes_of workers = map (λ worker. worker.caller.pass) workers
+
+-- the passes and the replies are those of workers, one for each pass of a set, that have played a whole script
+pub record PlayedWhole (set : TableView) (script : List Line) (phases : ℕ) (passes : List PassView) (replies : List (List Reply)) : Type 0 where
+  pub workers : List Worker
+  pub stand : Stand set script script set.passes phases workers
+  pub passes_are : passes ≡ passes_of workers
+  pub replies_are : replies ≡ replies_of workers

@@ -3,7 +3,7 @@ use Rattle.std.specs.Prelude.{◌≡◌, ℕ, List, Option, Some, None, Result, 
 use Rattle.std.specs.Io.KnownBytes.{Keeps, Appends}
 use Rattle.vbr_script.specs.Scripts.{first_fault, script_of}
 use Rattle.vbr_transcript.specs.Reading.{IsInput}
-use Rattle.vbr_transcript.specs.Runs.{IsRun}
+use Rattle.vbr_transcript.specs.Runs.{IsScriptRun}
 use Rattle.vbr_transcript.specs.Layout.{layout_of}
 use Rattle.vbr_transcript.specs.Writing.{AppendsSome}
 use Rattle.vbr_transcript.specs.declared.reply.Reply.{Reply}
@@ -16,7 +16,7 @@ use Rattle.vbr_settings.specs.Settings.{Settings}
 abbrev pub Prints : Settings → List ℕ → Totals → List ℕ → Type 0
 Prints settings text totals output =
     (replies : List Reply) × (first_fault settings.workers text ≡ None)
-    × IsRun settings.shape settings.workers (script_of settings.workers text) replies totals
+    × IsScriptRun settings.shape settings.workers (script_of settings.workers text) replies totals
     × (output ≡ layout_of settings.epoch replies totals)
 
 -- want of memory, or of a thread for a worker

@@ -1,5 +1,5 @@
 -- Where the workers of a script stand between its phases.
-use Rattle.std.specs.Prelude.{◌≡◌, ℕ, suc, ◌<◌, ◌≤◌, List, [], ◌∷◌, length, map, zip, All, None}
+use Rattle.std.specs.Prelude.{◌≡◌, ℕ, suc, ◌<◌, ◌≤◌, List, [], ◌∷◌, length, map, zip, All}
 use Rattle.std.specs.Vec.{vec_capacity}
 use Rattle.vbr_core.specs.Runs.{Begins}
 use Rattle.vbr_core.specs.declared.event.Event.{Event}
@@ -8,7 +8,7 @@ use Rattle.vbr_slots.specs.Views.{PassView, TableView, IsOf}
 use Rattle.vbr_transcript.specs.Calls.{answered, lines_by, lines_up_to}
 use Rattle.vbr_transcript.specs.Merging.{replies_by}
 use Rattle.vbr_transcript.specs.Phases.{HaveCalled}
-use Rattle.vbr_player.specs.Working.{Tells}
+use Rattle.vbr_player.specs.Working.{TellsReply}
 use Rattle.vbr_script.specs.declared.script.Line.{Line}
 use Rattle.vbr_transcript.specs.declared.reply.Reply.{Reply}
 use Rattle.vbr_player.specs.declared.worker.Worker.{Worker}
@@ -18,35 +18,35 @@ abbrev pub replies_of : List Worker → List (List Reply)
 replies_of workers = map (λ worker. worker.replies.items) workers
 
 -- the workers have the numbers from one on, in order
-abbrev pub AreNumbered : ℕ → List Worker → Type 0
-AreNumbered who [] = Unit {0}
-AreNumbered who (worker ∷ workers) = (worker.pass.trace.who ≡ who) × AreNumbered (suc who) workers
+abbrev pub AreNumberedFrom : ℕ → List Worker → Type 0
+AreNumberedFrom who [] = Unit {0}
+AreNumberedFrom who (worker ∷ workers) = (worker.caller.pass.trace.who ≡ who) × AreNumberedFrom (suc who) workers
 
 -- a worker of a set has played its own lines among the first of a script: it has a reply to each of them, its calls are those that were answered, and it has room for its replies to the whole script
 pub record HasPlayed (set : TableView) (script lines : List Line) (worker : Worker) : Type 0 where
-  pub of : IsOf worker.pass.trace set
-  pub hand : worker.pass.hand ≡ None
-  pub one_each : length worker.replies.items ≡ length (lines_by worker.pass.trace.who lines)
-  pub calls : made_by worker.pass.trace ≡ answered (zip (lines_by worker.pass.trace.who lines) worker.replies.items)
-  pub tells : All (λ outcome. Tells worker.pass.trace outcome.0.op outcome.1) (zip (lines_by worker.pass.trace.who lines) worker.replies.items)
-  pub room : length (lines_by worker.pass.trace.who script) ≤ vec_capacity worker.replies
+  pub set_is : worker.caller.set ≡ set
+  pub of : IsOf worker.caller.pass.trace set
+  pub one_each : length worker.replies.items ≡ length (lines_by worker.caller.pass.trace.who lines)
+  pub calls : made_by worker.caller.pass.trace ≡ answered (zip (lines_by worker.caller.pass.trace.who lines) worker.replies.items)
+  pub tells : All (λ outcome. TellsReply worker.caller.pass.trace outcome.0.op outcome.1) (zip (lines_by worker.caller.pass.trace.who lines) worker.replies.items)
+  pub room : length (lines_by worker.caller.pass.trace.who script) ≤ vec_capacity worker.replies
 
 -- a phase has ended for the workers: at some point of what each has seen, each had called its lines of the phases up to this one, and no more
 pub record HasEnded (set : TableView) (script : List Line) (phase : ℕ) (workers : List Worker) : Type 0 where
   pub seen : List Event
-  pub begins : All (λ worker. Begins seen worker.pass.trace.seen) workers
+  pub begins : All (λ worker. Begins seen worker.caller.pass.trace.seen) workers
   pub replied : (who : ℕ) → who < length workers → length (lines_by who (lines_up_to phase script)) ≤ length (replies_by who (replies_of workers))
   pub called : HaveCalled set.shape (length workers) (lines_up_to phase script) (replies_of workers) seen
 
 -- so many workers have played the first lines of a script, which are those of its first phases, one phase after the other
 pub record Stand (set : TableView) (script lines : List Line) (count phases : ℕ) (workers : List Worker) : Type 0 where
   pub count_is : length workers ≡ count
-  pub numbered : AreNumbered 0 workers
+  pub numbered : AreNumberedFrom 0 workers
   pub played : All (HasPlayed set script lines) workers
   pub ended : (phase : ℕ) → phase < phases → HasEnded set script phase workers
 
--- a pass has become a worker: it has no replies, and room for those to its own lines
-pub record IsNew (script : List Line) (pass : PassView) (worker : Worker) : Type 0 where
-  pub pass_is : worker.pass ≡ pass
+-- a pass of a set has become a worker: it has no replies, and room for those to its own lines
+pub record IsNew (set : TableView) (script : List Line) (pass : PassView) (worker : Worker) : Type 0 where
+  pub caller_is : worker.caller ≡ record { set = set; pass = pass }
   pub none : worker.replies.items ≡ []
   pub room : length (lines_by pass.trace.who script) ≤ vec_capacity worker.replies

@@ -3,8 +3,8 @@ use Rattle.std.specs.Prelude.{◌≡◌, List}
 use Rattle.std.specs.List.{AllZip}
 use Rattle.vbr_script.specs.declared.script.Line.{Line}
 use Rattle.vbr_player.specs.Working.{Played}
-use Rattle.vbr_player.specs.declared.phase.Turn.{Turn}
-use Rattle.vbr_player.specs.declared.phase.Turn.TheVariants.{Started, Done}
+use Rattle.vbr_player.specs.declared.turn.Turn.{Turn}
+use Rattle.vbr_player.specs.declared.turn.Turn.TheVariants.{Started, Done}
 use Rattle.vbr_player.specs.declared.worker.Worker.{Worker}
 
 -- a thread promises that this worker will have played these lines, or it has played them

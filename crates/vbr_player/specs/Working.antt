@@ -1,14 +1,15 @@
 -- What playing lines does to a worker.
-use Rattle.std.specs.Prelude.{◌≡◌, ℕ, ◌+◌, ◌≤◌, Bool, true, false, List, [], ◌∷◌, ◌++◌, length, zip, All, None, Result, Ok, Err}
+use Rattle.std.specs.Prelude.{◌≡◌, ◌+◌, ◌≤◌, Bool, true, false, List, ◌++◌, length, zip, All, Result, Ok, Err}
 use Rattle.std.specs.List.{AllZip}
 use Rattle.std.specs.Vec.{vec_capacity}
 use Rattle.vbr_core.specs.Runs.{Begins, world_after}
 use Rattle.vbr_core.specs.declared.history.Op.{Op}
 use Rattle.vbr_core.specs.declared.history.Op.TheVariants.{Insert}
 use Rattle.vbr_slots.specs.Calls.{IsSame, made_by}
-use Rattle.vbr_slots.specs.Views.{Trace, PassView, TableView, IsOf}
+use Rattle.vbr_slots.specs.Views.{Trace}
 use Rattle.vbr_list.specs.declared.refusal.Refusal.{Refusal}
 use Rattle.vbr_list.specs.declared.refusal.Refusal.TheVariants.{OutOfSteps, NoSlot, EpochSpent}
+use Rattle.vbr_set.specs.Members.{MemberView}
 use Rattle.vbr_transcript.specs.Calls.{answer_of, answered, lines_by}
 use Rattle.vbr_script.specs.declared.script.Line.{Line}
 use Rattle.vbr_transcript.specs.declared.reply.Reply.{Reply}
@@ -24,43 +25,37 @@ reply_of (Err NoSlot) = Full
 reply_of (Err (EpochSpent epoch)) = Spent
 
 -- what a reply tells of the pass that was given it: an insert alone finds the set full or its epochs spent, and they are spent once it has seen the last epoch come
-abbrev pub Tells : Trace → Op → Reply → Type 0
-Tells q op Full = op ≡ Insert
-Tells q op Spent = (op ≡ Insert) × (q.shape.last_epoch ≤ (world_after q.shape q.seen).epoch)
-Tells q op _ = Unit {0}
+abbrev pub TellsReply : Trace → Op → Reply → Type 0
+TellsReply q op Full = op ≡ Insert
+TellsReply q op Spent = (op ≡ Insert) × (q.shape.last_epoch ≤ (world_after q.shape q.seen).epoch)
+TellsReply q op _ = Unit {0}
 
--- a pass was given this reply to a line: it has seen more, and has made the call that the line is with this reply, or none where it was refused
-pub record Replied (line : Line) (reply : Reply) (p q : PassView) : Type 0 where
-  pub same : IsSame p.trace q.trace
-  pub seen : Begins p.trace.seen q.trace.seen
-  pub calls : made_by q.trace ≡ made_by p.trace ++ answer_of line reply
-  pub tells : Tells q.trace line.op reply
-  pub hand : q.hand ≡ None
+-- a pass of a set was given this reply to a line: it has seen more, and has made the call that the line is with this reply, or none where it was refused
+pub record Replied (line : Line) (reply : Reply) (p q : MemberView) : Type 0 where
+  pub set : q.set ≡ p.set
+  pub same : IsSame p.pass.trace q.pass.trace
+  pub seen : Begins p.pass.trace.seen q.pass.trace.seen
+  pub calls : made_by q.pass.trace ≡ made_by p.pass.trace ++ answer_of line reply
+  pub tells : TellsReply q.pass.trace line.op reply
 
 -- a worker has room for a reply to each of its own lines among these
 abbrev pub HasRoom : Worker → List Line → Type 0
-HasRoom p lines = length p.replies.items + length (lines_by p.pass.trace.who lines) ≤ vec_capacity p.replies
+HasRoom p lines = length p.replies.items + length (lines_by p.caller.pass.trace.who lines) ≤ vec_capacity p.replies
 
--- a worker of the set is ready for its own lines among these: it has no slot in hand, and room for the replies
-pub record IsReady (set : TableView) (lines : List Line) (p : Worker) : Type 0 where
-  pub of : IsOf p.pass.trace set
-  pub hand : p.pass.hand ≡ None
-  pub room : HasRoom p lines
-
--- each of the workers is
-abbrev pub AreReady : TableView → List Line → List Worker → Type 0
-AreReady set lines workers = All (IsReady set lines) workers
+-- each of the workers has
+abbrev pub HaveRoom : List Worker → List Line → Type 0
+HaveRoom workers lines = All (λ worker. HasRoom worker lines) workers
 
 -- a worker played its own lines among these, in order: each was given a reply, and the calls that its pass made are those that were answered
 pub record Played (lines : List Line) (p q : Worker) : Type 0 where
-  pub same : IsSame p.pass.trace q.pass.trace
-  pub seen : Begins p.pass.trace.seen q.pass.trace.seen
+  pub set : q.caller.set ≡ p.caller.set
+  pub same : IsSame p.caller.pass.trace q.caller.pass.trace
+  pub seen : Begins p.caller.pass.trace.seen q.caller.pass.trace.seen
   pub more : List Reply
   pub replies : q.replies.items ≡ p.replies.items ++ more
-  pub one_each : length more ≡ length (lines_by p.pass.trace.who lines)
-  pub calls : made_by q.pass.trace ≡ made_by p.pass.trace ++ answered (zip (lines_by p.pass.trace.who lines) more)
-  pub tells : All (λ outcome. Tells q.pass.trace outcome.0.op outcome.1) (zip (lines_by p.pass.trace.who lines) more)
-  pub hand : q.pass.hand ≡ None
+  pub one_each : length more ≡ length (lines_by p.caller.pass.trace.who lines)
+  pub calls : made_by q.caller.pass.trace ≡ made_by p.caller.pass.trace ++ answered (zip (lines_by p.caller.pass.trace.who lines) more)
+  pub tells : All (λ outcome. TellsReply q.caller.pass.trace outcome.0.op outcome.1) (zip (lines_by p.caller.pass.trace.who lines) more)
   pub room : vec_capacity p.replies ≤ vec_capacity q.replies
 
 -- each of the workers did

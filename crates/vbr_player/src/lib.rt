@@ -10,9 +10,11 @@ mod ending;
 pub mod gate;
 mod meeting;
 mod opening;
+mod part;
 mod phase;
 mod phases;
 pub mod playing;
+mod turn;
 mod worker;
 
 pub use gate::{Gate, NoGate};

@@ -1,47 +1,60 @@
 // The meeting of all workers.
-ghost use Rattle.std.specs.Prelude.{◌≡◌, ◌<◌, All, length};
+ghost use Rattle.std.specs.Prelude.{◌≡◌, All};
+ghost use Rattle.std.specs.List.{AllZip};
 ghost use Rattle.vbr_slots.specs.Calls.{Quiet};
-ghost use Rattle.vbr_slots.specs.Views.{IsOf, KeepsPool};
+ghost use Rattle.vbr_slots.specs.Views.{KeepsPool};
 ghost use Rattle.vbr_core.specs.Runs.{Begins};
-ghost use Rattle.vbr_player.specs.Meeting.{AreOf, Meets, MeetsOthers};
+ghost use Rattle.vbr_player.specs.Meeting.{AreOfOne, HasSeenMore, Meets, MeetsOthers};
 
 use crate::worker::Worker;
-use vbr_set::{Pass, VbrSet};
+use vbr_set::VbrSetRef;
 
 // Lets each worker see all that every other has seen.
-pub fn meet_all(set: &VbrSet, workers: &mut [Worker])
-    requires { AreOf set.now workers.old }
-    ensures { Meets workers.old workers.new }
+pub fn meet_all<'w>(mut workers: Vec<Worker<'w>>) -> Vec<Worker<'w>>
+    requires { AreOfOne workers.items }
+    ensures { Meets workers.entry.items result.items }
 {
-    for i in 0..workers.len() {
-        meet_others(set, workers, i);
-    }
-}
-
-// Lets one worker see all that every other has seen.
-fn meet_others(set: &VbrSet, workers: &mut [Worker], i: usize)
-    requires of { AreOf set.now workers.old }
-    requires inside { i < length workers.old }
-    ensures { MeetsOthers i workers.old workers.new }
-{
-    let (before, rest) = workers.split_at_mut(i);
-    let Some((worker, after)) = rest.split_first_mut() else {
+    let Some(mut last) = workers.pop() else {
+        return workers;
+    };
+    meet_others(&mut last.caller, &mut workers);
+    let Ok(()) = workers.push(last) else {
         unreachable!()
     };
-    meet_each(set, &mut worker.pass, before);
-    meet_each(set, &mut worker.pass, after);
+    workers
+}
+
+// Lets a pass see all that these workers have seen, and then each of them what it has seen.
+fn meet_others(caller: &mut VbrSetRef, others: &mut [Worker])
+    requires { All (λ other. other.caller.set ≡ caller.old.set) others.old }
+    ensures { MeetsOthers caller.old caller.new others.old others.new }
+{
+    see_all(caller, others);
+    show_all(caller, others);
 }
 
 // Lets a pass see all that each of these workers has seen.
-fn meet_each(set: &VbrSet, pass: &mut Pass, others: &mut [Worker])
-    requires of { IsOf pass.old.trace set.now }
-    requires others_of { AreOf set.now others.old }
+fn see_all(caller: &mut VbrSetRef, others: &mut [Worker])
+    requires { All (λ other. other.caller.set ≡ caller.old.set) others.old }
     ensures same { others.new ≡ others.old }
-    ensures quiet { Quiet pass.old.trace pass.new.trace }
-    ensures pool { KeepsPool pass.old pass.new }
-    ensures seen { All (λ other. Begins other.pass.trace.seen pass.new.trace.seen) others.old }
+    ensures set { caller.new.set ≡ caller.old.set }
+    ensures quiet { Quiet caller.old.pass.trace caller.new.pass.trace }
+    ensures pool { KeepsPool caller.old.pass caller.new.pass }
+    ensures seen { All (λ other. Begins other.caller.pass.trace.seen caller.new.pass.trace.seen) others.old }
 {
     for other in others.iter_mut() {
-        set.meet(pass, &mut other.pass);
+        caller.meet(&mut other.caller);
+    }
+}
+
+// Lets each of these workers see all that a pass has seen.
+fn show_all(caller: &mut VbrSetRef, others: &mut [Worker])
+    requires { All (λ other. other.caller.set ≡ caller.old.set) others.old }
+    ensures same { caller.new ≡ caller.old }
+    ensures looks { AllZip HasSeenMore others.old others.new }
+    ensures seen { All (λ other. Begins caller.old.pass.trace.seen other.caller.pass.trace.seen) others.new }
+{
+    for other in others.iter_mut() {
+        other.caller.meet(caller);
     }
 }

@@ -1,6 +1,6 @@
 // The set of a script and its workers, before the first phase.
-ghost use Rattle.std.specs.Prelude.{◌≡◌, ◌==◌, ◌<◌, [], count_by, IfOk, IfErr};
-ghost use Rattle.std.specs.List.{AllZip};
+ghost use Rattle.std.specs.Prelude.{◌≡◌, ◌==◌, ◌<◌, [], None, count_by, IfOk, IfErr};
+ghost use Rattle.vbr_slots.specs.Views.{IsOf, new_passes};
 ghost use Rattle.vbr_player.specs.Standing.{IsNew, Stand};
 
 use crate::worker::Worker;
@@ -10,34 +10,33 @@ use vbr_set::{OpenError, Pass, VbrSet};
 use vbr_settings::Config;
 use vbr_transcript::RunError;
 
-// Opens an empty set, and makes a worker for each of its passes.
-pub fn open(
-    alloc: Global,
-    config: &Config,
-    lines: &[Line],
-) -> Result<(VbrSet, Vec<Worker>), RunError>
+// Opens an empty set, with a pass for each worker.
+pub fn open(alloc: Global, config: &Config) -> Result<(VbrSet, Vec<Pass>), RunError>
     ensures set { IfOk result (λ opened. (opened.0.shape ≡ config.now.shape) × (opened.0.passes ≡ config.now.workers)) }
     ensures some { IfOk result (λ opened. 0 < opened.0.passes) }
-    ensures workers { IfOk result (λ opened. Stand opened.0 lines.now [] config.now.workers 0 opened.1.items) }
+    ensures passes { IfOk result (λ opened. opened.1.items ≡ new_passes opened.0 0 opened.0.passes) }
     ensures memory { IfErr result (λ error. error ≡ RunError.Memory) }
 {
     match VbrSet::open(alloc, config.shape(), config.workers()) {
-        Ok((set, passes)) => {
-            let workers = workers_of(alloc, lines, passes)?;
-            Ok((set, workers))
-        }
+        Ok(opened) => Ok(opened),
         Err(OpenError::Passes) => unreachable!(),
         Err(OpenError::Memory) => Err(RunError::Memory),
     }
 }
 
-// A worker for each pass.
-fn workers_of(alloc: Global, lines: &[Line], passes: Vec<Pass>) -> Result<Vec<Worker>, AllocError>
-    ensures { IfOk result (λ workers. AllZip (IsNew lines.now) passes.items workers.items) }
+// A worker for each pass of a new set.
+pub fn workers_of<'w>(
+    alloc: Global,
+    set: &'w VbrSet,
+    lines: &[Line],
+    passes: Vec<Pass>,
+) -> Result<Vec<Worker<'w>>, AllocError>
+    requires { passes.items ≡ new_passes set.now 0 set.now.passes }
+    ensures { IfOk result (λ workers. Stand set.now lines.now [] set.now.passes 0 workers.items) }
 {
     let mut workers = Vec::with_capacity(alloc, passes.len())?;
     for pass in passes {
-        let worker = new_worker(alloc, lines, pass)?;
+        let worker = new_worker(alloc, set, lines, pass)?;
         let Ok(()) = workers.push(worker) else {
             return Err(AllocError);
         };
@@ -46,12 +45,22 @@ fn workers_of(alloc: Global, lines: &[Line], passes: Vec<Pass>) -> Result<Vec<Wo
 }
 
 // A worker with room for the replies to its lines.
-fn new_worker(alloc: Global, lines: &[Line], pass: Pass) -> Result<Worker, AllocError>
-    ensures { IfOk result (λ worker. IsNew lines.now pass worker) }
+fn new_worker<'w>(
+    alloc: Global,
+    set: &'w VbrSet,
+    lines: &[Line],
+    pass: Pass,
+) -> Result<Worker<'w>, AllocError>
+    requires own { IsOf pass.trace set.now }
+    requires empty_hand { pass.hand ≡ None }
+    ensures { IfOk result (λ worker. IsNew set.now lines.now pass worker) }
 {
     let own = count_of(lines, pass.who());
     let replies = Vec::with_capacity(alloc, own)?;
-    Ok(Worker { pass, replies })
+    Ok(Worker {
+        caller: set.with_pass(pass),
+        replies,
+    })
 }
 
 // How many lines are of a worker.

@@ -1,13 +1,13 @@
 //! The player.
 ghost use Rattle.std.specs.Prelude.{◌≡◌, IfOk, IfErr};
 ghost use Rattle.vbr_player.specs.Playing.{Plays, Prints, IsFaultOf, IsWant};
-ghost use Rattle.vbr_transcript.specs.Runs.{IsRun};
+ghost use Rattle.vbr_transcript.specs.Runs.{IsScriptRun};
 ghost use Rattle.vbr_script.specs.Scripts.{ArePhased};
 
 use crate::ending::finish;
 use crate::gate::Gate;
 use crate::opening::open;
-use crate::phase::Part;
+use crate::part::Part;
 use crate::phases::play_phases;
 use std::alloc::Global;
 use std::io::{Read, Write};
@@ -88,18 +88,17 @@ fn play_script<RT: Threads + Wait, G: Gate + Sync>(
     gate: &G,
 ) -> Result<(Vec<Reply>, Totals), RunError>
     requires { ArePhased config.now.workers script.now.phases script.now.lines.items }
-    ensures run { IfOk result (λ played. IsRun config.now.shape config.now.workers script.now.lines.items played.0.items played.1) }
+    ensures run { IfOk result (λ played. IsScriptRun config.now.shape config.now.workers script.now.lines.items played.0.items played.1) }
     ensures fault { IfErr result IsWant }
 {
     let replies = Vec::with_capacity(alloc, script.lines.len())?;
-    let (set, workers) = open(alloc, config, &script.lines)?;
+    let (set, passes) = open(alloc, config)?;
     let whole = Part {
-        set: &set,
         lines: &script.lines,
         first: 0,
         budget: config.budget(),
         gate,
     };
-    let workers = play_phases(rt, alloc, &whole, script.phases, workers)?;
-    finish(alloc, set, script, workers, replies)
+    let (passes, own) = play_phases(rt, alloc, &set, passes, whole, script.phases)?;
+    finish(alloc, set, script, passes, own, replies)
 }

@@ -1,29 +1,25 @@
 // A worker: it plays its lines of a script, one after the other.
-ghost use Rattle.std.specs.Prelude.{◌≡◌, ◌+◌, ◌<◌, ◌^◌, [], ◌∷◌, None, length};
-ghost use Rattle.vbr_words.specs.Dimensions.{IsShape};
-ghost use Rattle.vbr_core.specs.Runs.{IsRun};
-ghost use Rattle.vbr_slots.specs.Views.{IsOf};
-ghost use Rattle.vbr_player.specs.Working.{reply_of, Replied, Played, IsReady};
+ghost use Rattle.std.specs.Prelude.{◌≡◌, [], ◌∷◌};
+ghost use Rattle.vbr_player.specs.Working.{reply_of, HasRoom, Replied, Played};
 
 use crate::gate::Gate;
-use crate::phase::Part;
+use crate::part::Part;
 use vbr_core::Op;
 use vbr_script::Line;
-use vbr_set::{Pass, Refusal, VbrSet};
+use vbr_set::{Refusal, VbrSetRef};
 use vbr_transcript::Reply;
 
-/// A worker: the right to make calls of the set, and the replies that it was given so far.
+/// A worker: its calls of the set, and the replies that it was given so far.
 #[derive(Drop)]
-pub struct Worker {
-    pub pass: Pass,
+pub struct Worker<'w> {
+    pub caller: VbrSetRef<'w>,
     pub replies: Vec<Reply>,
 }
 
-impl Worker {
+impl<'w> Worker<'w> {
     // Plays its own lines, in order.
     pub fn play<G: Gate>(&mut self, part: &Part<G>)
-        requires ready { IsReady part.now.set.now part.now.lines.now self.old }
-        requires index { part.now.first + length part.now.lines.now < 2 ^ 64 }
+        requires { HasRoom self.old part.now.lines.now }
         ensures { Played part.now.lines.now self.old self.new }
     {
         let mut index = part.first;
@@ -35,15 +31,15 @@ impl Worker {
 
     // Plays a line, which has this index in the script, if it is its own.
     fn play_line<G: Gate>(&mut self, part: &Part<G>, line: &Line, index: u64)
-        requires { IsReady part.now.set.now (line.now ∷ []) self.old }
+        requires { HasRoom self.old (line.now ∷ []) }
         ensures { Played (line.now ∷ []) self.old self.new }
     {
-        let who = self.pass.who();
+        let who = self.caller.pass().who();
         if line.worker != who {
             return;
         }
         part.gate.before(who, index);
-        let reply = reply_of(ask(part.set, &mut self.pass, line, part.budget));
+        let reply = reply_of(ask(&mut self.caller, line, part.budget));
         part.gate.after(who, index, reply);
         let Ok(()) = self.replies.push(reply) else {
             unreachable!()
@@ -51,27 +47,15 @@ impl Worker {
     }
 }
 
-// Says what is always so of a pass, for the proofs of its callers. It does nothing.
-fn soundness(set: &VbrSet, pass: &Pass)
-    ensures shape { IsShape set.now.shape }
-    ensures is_run { IsRun pass.now.trace.shape pass.now.trace.passes pass.now.trace.seen }
-{
-    let _slots = set.shape().slots();
-    let _who = pass.who();
-}
-
 // Makes the call of a line.
-fn ask(set: &VbrSet, pass: &mut Pass, line: &Line, budget: u32) -> Result<bool, Refusal>
-    requires own { IsOf pass.old.trace set.now }
-    requires hand { pass.old.hand ≡ None }
-    requires line { line.now.worker ≡ pass.old.trace.who }
-    ensures { Replied line.now (reply_of result) pass.old pass.new }
+fn ask(caller: &mut VbrSetRef, line: &Line, budget: u32) -> Result<bool, Refusal>
+    requires { line.now.worker ≡ caller.old.pass.trace.who }
+    ensures { Replied line.now (reply_of result) caller.old caller.new }
 {
-    soundness(set, pass);
     match line.op {
-        Op::Insert => set.insert(pass, line.key, budget),
-        Op::Remove => set.remove(pass, line.key, budget),
-        Op::Has => set.has(pass, line.key, budget),
+        Op::Insert => caller.insert(line.key, budget),
+        Op::Remove => caller.remove(line.key, budget),
+        Op::Has => caller.has(line.key, budget),
     }
 }
 

@@ -1,5 +1,5 @@
 -- The shared pool, probed by a pass that is alone: it finds each flag word as it stood, and wins the first flag that it has seen set.
-use Rattle.std.proofs.Common.{◌≡◌, ℕ, ◌+◌, ◌*◌, ◌/◌, ◌<◌, ◌≤◌, Bool, true, false, cond, List, ◌++◌, refl, sym, ap, ◌∙◌, subst, ◌⊎◌, inl, inr, ⊎_elim, arith}
+use Rattle.std.proofs.Common.{◌≡◌, ℕ, ◌+◌, ◌*◌, ◌<◌, ◌≤◌, Bool, true, false, cond, List, ◌++◌, refl, sym, ap, ◌∙◌, subst, ◌⊎◌, inl, inr, ⊎_elim, arith}
 use Rattle.vbr_words.specs.Dimensions.{Dimensions}
 use Rattle.vbr_words.specs.Flags.{word_of_flag, flag_words, has_flag, IsNextFlag}
 use Rattle.vbr_words.specs.declared.place.Place.TheVariants as place
@@ -7,11 +7,10 @@ use Rattle.vbr_core.specs.Machine.{World, word_at, found}
 use Rattle.vbr_core.specs.Runs.{world_after}
 use Rattle.vbr_core.specs.declared.event.Event.{Event}
 use Rattle.vbr_core.specs.declared.event.Step.TheVariants.{TakeFlag}
-use Rattle.vbr_core.proofs.RunsGoOn.{world_after-snoc}
-use Rattle.vbr_core.proofs.SlotFlags.{word_told}
+use Rattle.vbr_core.proofs.Lemmas.{word_told, world_after-snoc}
 use Rattle.vbr_slots.specs.Alone.{IsAlone}
 use Rattle.vbr_slots.specs.Views.{Trace, Did, event_of}
-use Rattle.vbr_slots.proofs.Alone.{before_it, seen_next}
+use Rattle.vbr_slots.proofs.Lemmas.{before_it, seen_next}
 use Rattle.vbr_pools.proofs.Moments.{flag_shown}
 
 -- the flag word of a slot, in what the pass has seen

@@ -1,5 +1,6 @@
 -- A birth in a slot of the own pool.
 use Rattle.std.proofs.Common.{◌≡◌, ◌≢◌, ℕ, ◌+◌, ◌≤◌, Contains, List, length, get_or, Option, Some, None, refl, sym, ap, ◌∙◌, subst, inl, inr, ⊎_elim, arith}
+use Rattle.std.specs.Prelude.{AllPairs}
 use Rattle.std.proofs.lemmas.Bool.{cases_eq}
 use Rattle.vbr_core.specs.Acceptance.{MayBear, stamp_in}
 use Rattle.vbr_core.specs.Knowledge.{Know}
@@ -7,16 +8,16 @@ use Rattle.vbr_core.specs.Learning.{birth_in_hand}
 use Rattle.vbr_core.specs.declared.event.Step.TheVariants.{StoreBirth}
 use Rattle.vbr_core.specs.declared.knowledge.Holding.{Holding}
 use Rattle.vbr_core.specs.declared.knowledge.Holding.TheVariants.{InHand}
-use Rattle.vbr_core.proofs.Puts.{put_here, put_other}
+use Rattle.vbr_core.proofs.Lemmas.{put_here, put_other}
 use Rattle.vbr_slots.specs.Pools.{without}
 use Rattle.vbr_slots.specs.Views.{PassView, Did, knows}
-use Rattle.vbr_slots.proofs.Calls.{did_quiet}
+use Rattle.vbr_slots.proofs.Lemmas.{did_quiet}
 use Rattle.vbr_pools.specs.Hands.{HandView}
 use Rattle.vbr_pools.specs.Pieces.{IsBelow, IsBorn}
-use Rattle.vbr_pools.specs.Advances.{Has, KeepsSlots}
-use Rattle.vbr_pools.proofs.Advancing.{nobody, same_advances}
+use Rattle.vbr_pools.specs.Advances.{HasSlot, HasFree}
+use Rattle.vbr_pools.proofs.Advancing.{did_stamps, nobody, same_advances, same_flags}
 use Rattle.vbr_pools.proofs.Counting.{counts_one}
-use Rattle.vbr_pools.proofs.PoolLists.{stays_in, without_shorter}
+use Rattle.vbr_pools.proofs.PoolLists.{stays_in, without_one, without_shorter}
 
 module _ (p q : PassView) (slot : ℕ) (d : Did (StoreBirth slot (knows p.trace).epoch) p.trace q.trace (knows p.trace).epoch) where
   abbrev born : Option Holding
@@ -35,17 +36,17 @@ module _ (p q : PassView) (slot : ℕ) (d : Did (StoreBirth slot (knows p.trace)
       (λ (other : s ≢ slot). ap (λ (k : Know). stamp_in (k.own s)) d.know ∙ ap stamp_in (put_other (knows p.trace).own slot born s other)) (cases_eq s slot)
 
   -- the slot goes from the pool into the hand, and the others stay
-  kept_born : p.hand ≡ None → q.pool ≡ without slot p.pool → q.hand ≡ Some slot → KeepsSlots p q
-  kept_born empty pool in_hand s h =
+  free_born : p.hand ≡ None → q.pool ≡ without slot p.pool → q.hand ≡ Some slot → HasFree p q
+  free_born empty pool in_hand s h =
       ⊎_elim (λ (is : s ≡ slot). inr (in_hand ∙ ap Some (sym is)))
       (λ (other : s ≢ slot). stays other (h.1 (subst MayBear (ap (λ (k : Know). k.own s) d.know ∙ put_other (knows p.trace).own slot born s other) h.0))) (cases_eq s slot)
     where
-      stays : s ≢ slot → Has p s → Has q s
+      stays : s ≢ slot → HasSlot p s → HasSlot q s
       stays other (inl c) = inl (subst (λ (l : List ℕ). Contains l s) (sym pool) (stays_in slot p.pool s other c))
       stays other (inr e) = nobody p.hand s empty e
 
-  pub is_born : (budget used : ℕ) (hand : HandView) → p.hand ≡ None → IsBelow p (knows p.trace).epoch (Some slot) → used + 8 ≤ budget → length p.pool ≤ 64 → q.pool ≡ without slot p.pool → q.hand ≡ Some slot → hand ≡ record { slot = slot; birth = (knows q.trace).epoch } → IsBorn p q slot budget used hand
-  is_born budget used hand empty below room most pool in_hand is = subst (IsBorn p q slot budget used) (sym is) (record {
+  pub is_born : (budget used : ℕ) (hand : HandView) → p.hand ≡ None → IsBelow p (knows p.trace).epoch (Some slot) → used + 8 ≤ budget → length p.pool ≤ 64 → AllPairs ◌≢◌ p.pool → q.pool ≡ without slot p.pool → q.hand ≡ Some slot → hand ≡ record { slot = slot; birth = (knows q.trace).epoch } → IsBorn p q slot budget used hand
+  is_born budget used hand empty below room most apart pool in_hand is = subst (IsBorn p q slot budget used) (sym is) (record {
     quiet = did_quiet d (λ know. refl);
     uses = record { counts = counts_one used d; within = omega arith; at_most = omega arith };
     slot = refl;
@@ -60,6 +61,8 @@ module _ (p q : PassView) (slot : ℕ) (d : Did (StoreBirth slot (knows p.trace)
     };
     rest = pool;
     room = (let less = without_shorter slot p.pool below.0 in let e = ap length pool in omega arith);
+    one = (let few = without_one slot p.pool apart in let e = ap length pool in omega arith);
     advances = same_advances d refl;
-    kept = kept_born empty pool in_hand;
+    flags = same_flags d refl;
+    kept = record { free = free_born empty pool in_hand; stamped = did_stamps d refl };
   })

@@ -1,4 +1,4 @@
--- A slot of the own pool is chosen: the epoch is read, the pool is looked through, and the epoch is raised if no slot is stamped below it.
+-- A slot of the own pool is chosen: the epoch is read, the pool is looked through, and the epoch is advanced if no slot is stamped below it.
 use Rattle.std.proofs.Common.{◌≡◌, ◌≢◌, ℕ, ◌+◌, ◌<◌, ◌≤◌, List, [], ◌∷◌, length, get_or, Option, Some, None, refl, sym, ap, ◌∙◌, subst, inl, inr, arith}
 use Rattle.std.specs.Prelude.{Contains}
 use Rattle.std.proofs.lemmas.List.Elements.{All-contains, Contains-get_or}
@@ -9,15 +9,15 @@ use Rattle.vbr_core.specs.declared.event.Step.TheVariants.{ReadEpoch, Advance}
 use Rattle.vbr_slots.specs.Calls.{Quiet}
 use Rattle.vbr_slots.specs.Pools.{IsPooled, OwnPool}
 use Rattle.vbr_slots.specs.Views.{PassView, KeepsPool, Did, knows}
-use Rattle.vbr_slots.proofs.Calls.{quiet_on, did_quiet}
-use Rattle.vbr_pools.specs.Advances.{advances, Has, KeepsSlots, RaisesNone, AdvancesOnce}
-use Rattle.vbr_pools.specs.Pieces.{Uses, NoRoom, IsShort, Stops, ShowsSpent, IsBelow, IsScanned, IsChosen}
+use Rattle.vbr_slots.proofs.Lemmas.{did_quiet, quiet_on}
+use Rattle.vbr_pools.specs.Advances.{HasSlot, KeepsSlots, SharesWhereFull, TakesNoSlot, AdvancesOnce}
+use Rattle.vbr_pools.specs.Pieces.{Uses, NoRoom, TakeIsShort, Stops, ShowsSpent, IsBelow, IsScanned, IsChosen}
 use Rattle.vbr_pools.specs.Refusals.{AllStamped}
-use Rattle.vbr_pools.specs.Steps.{Counts}
+use Rattle.vbr_pools.specs.Steps.{CountsSteps}
 use Rattle.vbr_pools.specs.Taking.{IsOldest}
 use Rattle.vbr_pools.specs.declared.refusal.TakeRefusal.{TakeRefusal}
 use Rattle.vbr_pools.specs.declared.refusal.TakeRefusal.TheVariants.{OutOfSteps, NoSlot, EpochSpent}
-use Rattle.vbr_pools.proofs.Advancing.{same_advances, nobody, keeps_on, keeps_pool, none_known, none_on, did_none, once, once_after, once_before}
+use Rattle.vbr_pools.proofs.Advancing.{same_advances, same_flags, nobody, keeps_on, keeps_known, none_on, did_none, once, once_after, once_before}
 use Rattle.vbr_pools.proofs.Counting.{counts_one, counts_on, uses_on, uses_more}
 use Rattle.vbr_pools.proofs.Moments.{epoch_told}
 use Rattle.vbr_pools.proofs.Raising.{stamps_reread, stamps_low, read_above}
@@ -27,13 +27,16 @@ some_slot : (pool : List ℕ) → pool ≢ [] → 0 < length pool
 some_slot [] some = absurd (some refl)
 some_slot (x ∷ xs) some = omega arith
 
--- the slots of the pass stay its own where the epoch is read and the pool is looked through
-pub kept_read : (p q r : PassView) {e : ℕ} → Did ReadEpoch p.trace q.trace e → KeepsPool p q → KeepsPool q r → knows r.trace ≡ knows q.trace → KeepsSlots p r
-kept_read p q r read pool stays known = keeps_on p q r (let none : RaisesNone p q = did_none read refl pool in none.kept) (keeps_pool q r stays (λ s m. subst (λ (k : Know). MayBear (k.own s)) known m))
+-- no slot is lost where the epoch is read and the pool is looked through
+pub none_read : {p q r : PassView} {e : ℕ} → Did ReadEpoch p.trace q.trace e → KeepsPool p q → TakesNoSlot q r → TakesNoSlot p r
+none_read read pool looked = none_on (did_none read refl pool) looked
 
--- and where the epoch is raised and read
+-- and where the epoch is advanced and read
 pub kept_raised : (p q r : PassView) {e n f : ℕ} → Did (Advance e) p.trace q.trace n → Did ReadEpoch q.trace r.trace f → KeepsPool p q → KeepsPool q r → KeepsSlots p r
-kept_raised p q r advance again keeps still = keeps_on p q r (keeps_pool p q keeps (λ s m. subst (λ (k : Know). MayBear (k.own s)) advance.know m)) (let none : RaisesNone q r = did_none again refl still in none.kept)
+kept_raised p q r advance again keeps still = keeps_on p q r (keeps_known p q keeps (λ s. ap (λ (k : Know). k.own s) advance.know)) (let none : TakesNoSlot q r = did_none again refl still in none.kept)
+
+pub shared_raised : (p q r : PassView) {e n f : ℕ} → Did (Advance e) p.trace q.trace n → Did ReadEpoch q.trace r.trace f → SharesWhereFull 1 p r
+shared_raised p q r advance again = inl (same_flags again refl ∙ same_flags advance refl)
 
 -- the epoch was read, and then the pool was looked through
 module _ (p q r : PassView) (e budget used : ℕ) (read : Did ReadEpoch p.trace q.trace e) (room : used + 8 ≤ budget) (quiet : Quiet q.trace r.trace) (known : knows r.trace ≡ knows q.trace) (stayed : q.pool ≡ p.pool) where
@@ -49,7 +52,7 @@ module _ (p q r : PassView) (e budget used : ℕ) (read : Did ReadEpoch p.trace 
   last_read : (knows r.trace).epoch ≡ e
   last_read = ap (λ (k : Know). k.epoch) known ∙ epoch_told read
 
-  pub short_then : (refusal : TakeRefusal) → IsShort q r budget (used + 1) (length q.pool) refusal → Stops p r budget used (length p.pool + 1) refusal
+  pub short_then : (refusal : TakeRefusal) → TakeIsShort q r budget (used + 1) (length q.pool) refusal → Stops p r budget used (length p.pool + 1) refusal
   short_then (OutOfSteps n) s = record { uses = uses_more (length p.pool + 1) (let e = long in omega arith) (uses_on first s.uses); short = s.short }
   short_then NoSlot s = s
   short_then (EpochSpent n) s = absurd s
@@ -84,7 +87,7 @@ module _ (p q r : PassView) (e budget used : ℕ) (read : Did ReadEpoch p.trace 
       pub spent_then : r.pool ≢ [] → e ≡ r.trace.shape.last_epoch → since + 8 ≤ budget → ShowsSpent p r budget used (length p.pool + 1) e
       spent_then some last left = record { spent = record { last = last; last_read = last_read; some = some; stamped = stamped }; since = since; uses = uses; room = left }
 
-      -- and the epoch was raised, and read again
+      -- and the epoch was advanced, and read again
       module _ (s t : PassView) (n f : ℕ) (advance : Did (Advance e) r.trace s.trace n) (again : Did ReadEpoch s.trace t.trace f) (keeps : KeepsPool r s) (still : KeepsPool s t) (empty : r.hand ≡ None) where
         rises : e < f
         rises = read_above is advance again last_read
@@ -111,15 +114,15 @@ module _ (p q r : PassView) (e budget used : ℕ) (read : Did ReadEpoch p.trace 
             let m = uses.at_most in
             let first_one : IsOldest (knows t.trace) t.pool slot (knows t.trace).epoch = subst (λ (l : List ℕ). IsOldest (knows t.trace) l slot (knows t.trace).epoch) shown (record { place = 0; low = some_slot pool (λ none. some (sym there ∙ none)); is = refl; before = λ k less. absurd (omega arith) }) in
             record {
-              uses = record { counts = counts_on uses.counts (subst (λ (k : ℕ). Counts r.trace t.trace since k) (omega arith) (counts_on (counts_one since advance) (counts_one (since + 1) again))); within = omega arith; at_most = omega arith };
+              uses = record { counts = counts_on uses.counts (subst (λ (k : ℕ). CountsSteps r.trace t.trace since k) (omega arith) (counts_on (counts_one since advance) (counts_one (since + 1) again))); within = omega arith; at_most = omega arith };
               below = (subst (λ (l : List ℕ). Contains l slot) shown has, omega arith, first_one);
             }
 
-        pub raised_once : KeepsPool p q → KeepsPool q r → advances r.trace ≡ advances q.trace → AdvancesOnce p t
-        raised_once pool stays same =
-            once_after {p = p} {q = r} {r = t} quiet_then (none_on {p = p} {q = q} {r = r} (did_none read refl pool) (none_known same stays known))
+        pub raised_once : KeepsPool p q → TakesNoSlot q r → AdvancesOnce p t
+        raised_once pool looked =
+            once_after {p = p} {q = r} {r = t} quiet_then (none_on {p = p} {q = q} {r = r} (did_none read refl pool) looked)
             (once_before {p = r} {q = s} {r = t} (once {p = r} {q = s} advance last_read (λ slot has. high slot (held slot has))) (did_quiet again (λ know. refl)).seen (did_quiet again (λ know. refl)).is_run (same_advances again refl))
           where
-            held : (slot : ℕ) → Has r slot → Contains r.pool slot
+            held : (slot : ℕ) → HasSlot r slot → Contains r.pool slot
             held slot (inl c) = c
             held slot (inr h) = nobody r.hand slot empty h

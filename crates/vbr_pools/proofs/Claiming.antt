@@ -6,19 +6,18 @@ use Rattle.vbr_words.specs.Flags.{word_of_flag, flag_words, has_flag, IsNextFlag
 use Rattle.vbr_core.specs.Acceptance.{MayBear}
 use Rattle.vbr_core.specs.Knowledge.{Know}
 use Rattle.vbr_core.specs.declared.event.Step.TheVariants.{TakeFlag}
-use Rattle.vbr_core.proofs.Puts.{put_other}
+use Rattle.vbr_core.proofs.Lemmas.{put_other}
 use Rattle.vbr_slots.specs.Alone.{IsAlone}
 use Rattle.vbr_slots.specs.Calls.{Quiet}
 use Rattle.vbr_slots.specs.Pools.{hand_without}
 use Rattle.vbr_slots.specs.Views.{Trace, PassView, KeepsPool, Did, knows}
-use Rattle.vbr_slots.proofs.Alone.{alone_first, alone_then}
-use Rattle.vbr_slots.proofs.Calls.{quiet_refl, quiet_on, did_quiet, did_seen}
-use Rattle.vbr_pools.specs.Advances.{RaisesNone}
+use Rattle.vbr_slots.proofs.Lemmas.{alone_first, alone_then, did_quiet, did_seen, quiet_on, quiet_refl}
+use Rattle.vbr_pools.specs.Advances.{TakesNoSlot}
 use Rattle.vbr_pools.specs.Pieces.{HasSlots}
 use Rattle.vbr_pools.specs.SharedPool.{WasOutside, CameByFlag}
-use Rattle.vbr_pools.specs.Steps.{Counts}
+use Rattle.vbr_pools.specs.Steps.{CountsSteps}
 use Rattle.vbr_pools.proofs.AloneClaiming.{Probed, probed_first, probed_next, probed_few}
-use Rattle.vbr_pools.proofs.Advancing.{same_advances, none_refl, none_given, none_known, none_on}
+use Rattle.vbr_pools.proofs.Advancing.{same_advances, same_flags, none_refl, none_given, none_known, none_on}
 use Rattle.vbr_pools.proofs.Counting.{counts_none, counts_one, counts_on}
 use Rattle.vbr_pools.proofs.Moments.{came, missed, missed_before, missed_after}
 
@@ -26,8 +25,8 @@ use Rattle.vbr_pools.proofs.Moments.{came, missed, missed_before, missed_after}
 pub record Claiming (p q : PassView) (budget used next : ℕ) : Type 0 where
   pub quiet : Quiet p.trace q.trace
   pub pool : KeepsPool p q
-  pub none : RaisesNone p q
-  pub counts : Counts p.trace q.trace 0 used
+  pub none : TakesNoSlot p q
+  pub counts : CountsSteps p.trace q.trace 0 used
   pub within : used ≤ budget
   pub outside : (slot : ℕ) → slot < next → slot < p.trace.shape.slots → WasOutside p.trace q.trace slot
   pub alone : IsAlone p.trace q.trace → Probed q.trace used next
@@ -55,7 +54,7 @@ claim_next {p} {q} {r} {budget} {used} {slot} {next} {n} at room d lost then sta
     record {
       quiet = quiet_on at.quiet more;
       pool = (stays.0 ∙ at.pool.0, stays.1 ∙ at.pool.1);
-      none = none_on at.none (none_known (same_advances d refl) stays (d.know ∙ lost_flag _ (knows q.trace)));
+      none = none_on at.none (none_known (same_advances d refl) (same_flags d refl) stays (d.know ∙ lost_flag _ (knows q.trace)));
       counts = counts_on at.counts (counts_one used d);
       within = omega arith;
       outside = λ s less low.
@@ -78,7 +77,7 @@ pub claim_won : {p q r t : PassView} {budget used slot n : ℕ} → Claiming p q
 claim_won {p} {q} {r} {t} {budget} {used} {slot} at low empty no_hand room d set stays same pool hand =
     let one : t.pool ≡ slot ∷ [] = pool ∙ ap (λ (l : List ℕ). l ++ slot ∷ []) (stays.0 ∙ at.pool.0 ∙ empty) in
     record {
-      uses = record { counts = subst (λ (x : Trace). Counts p.trace x 0 (used + 1)) (sym same) (counts_on at.counts (counts_one used d)); within = omega arith; at_most = omega arith };
+      uses = record { counts = subst (λ (x : Trace). CountsSteps p.trace x 0 (used + 1)) (sym same) (counts_on at.counts (counts_one used d)); within = omega arith; at_most = omega arith };
       hand = hand ∙ ap (hand_without slot) (stays.1 ∙ at.pool.1 ∙ no_hand);
       claimed = inr (empty, slot, one, subst (λ (x : Trace). CameByFlag p.trace x slot) (sym same) (came at.quiet d set (λ s less. missed_before (at.outside s less (omega arith)) (did_quiet d (λ know. refl)))));
       some = λ none. not_empty slot (sym one ∙ none);
@@ -89,8 +88,8 @@ claim_won {p} {q} {r} {t} {budget} {used} {slot} at low empty no_hand room d set
     not_empty s e = absurd (cc)
 
 -- and the slot is all that the pass could take
-pub claim_none : {p q r t : PassView} {budget used slot n : ℕ} → Claiming p q budget used slot → Did (TakeFlag slot) q.trace r.trace n → has_flag n slot ≡ true → KeepsPool q r → t.trace ≡ r.trace → t.pool ≡ r.pool ++ slot ∷ [] → t.hand ≡ hand_without slot r.hand → RaisesNone p t
-claim_none {q = q} {slot = slot} {n = n} at d set stays same pool hand = none_on at.none (none_given d refl (λ s other m. subst MayBear (ap (λ (k : Know). k.own s) (d.know ∙ won_flag _ (knows q.trace)) ∙ put_other (knows q.trace).own _ _ s other) m) stays same pool hand)
+pub claim_none : {p q r t : PassView} {budget used slot n : ℕ} → Claiming p q budget used slot → Did (TakeFlag slot) q.trace r.trace n → has_flag n slot ≡ true → KeepsPool q r → t.trace ≡ r.trace → t.pool ≡ r.pool ++ slot ∷ [] → t.hand ≡ hand_without slot r.hand → TakesNoSlot p t
+claim_none {q = q} {slot = slot} {n = n} at d set stays same pool hand = none_on at.none (none_given d refl refl refl (λ s other m. subst MayBear (ap (λ (k : Know). k.own s) (d.know ∙ won_flag _ (knows q.trace)) ∙ put_other (knows q.trace).own _ _ s other) m) stays same pool hand)
   where
     won_flag : (a b : Know) → cond (has_flag n slot) a b ≡ a
     won_flag a b = ap (λ (t : Bool). cond t a b) set

@@ -4,21 +4,21 @@ use Rattle.std.proofs.lemmas.Bool.{cases_lt}
 use Rattle.vbr_core.specs.declared.event.Step.{Step}
 use Rattle.vbr_slots.specs.Calls.{Took}
 use Rattle.vbr_slots.specs.Views.{Trace, PassView, Did}
-use Rattle.vbr_slots.proofs.Calls.{took_none, took_on, did_took}
+use Rattle.vbr_slots.proofs.Lemmas.{did_took, took_none, took_on}
 use Rattle.vbr_pools.specs.Pieces.{Uses}
-use Rattle.vbr_pools.specs.Steps.{Counts, TookWithin}
+use Rattle.vbr_pools.specs.Steps.{CountsSteps, TookWithin}
 
-pub counts_none : (p : Trace) (n : ℕ) → Counts p p n n
+pub counts_none : (p : Trace) (n : ℕ) → CountsSteps p p n n
 counts_none p n = record { steps = 0; sum = omega arith; took = took_none p }
 
-pub counts_one : {step : Step} {p q : Trace} {r : ℕ} (n : ℕ) → Did step p q r → Counts p q n (n + 1)
+pub counts_one : {step : Step} {p q : Trace} {r : ℕ} (n : ℕ) → Did step p q r → CountsSteps p q n (n + 1)
 counts_one n d = record { steps = 1; sum = omega arith; took = did_took d }
 
-pub counts_on : {p q r : Trace} {a b c : ℕ} → Counts p q a b → Counts q r b c → Counts p r a c
+pub counts_on : {p q r : Trace} {a b c : ℕ} → CountsSteps p q a b → CountsSteps q r b c → CountsSteps p r a c
 counts_on x y = record { steps = x.steps + y.steps; sum = (let e = x.sum in let f = y.sum in omega arith); took = took_on x.steps y.steps x.took y.took }
 
-pub counts_same : {p q r : Trace} {a b : ℕ} → q ≡ r → Counts p q a b → Counts p r a b
-counts_same {p} {q} {r} {a} {b} e x = subst (λ (t : Trace). Counts p t a b) e x
+pub counts_same : {p q r : Trace} {a b : ℕ} → q ≡ r → CountsSteps p q a b → CountsSteps p r a b
+counts_same {p} {q} {r} {a} {b} e x = subst (λ (t : Trace). CountsSteps p t a b) e x
 
 pub uses_on : {p q r : PassView} {budget a b c m n : ℕ} → Uses p q budget a b m → Uses q r budget b c n → Uses p r budget a c (m + n)
 uses_on x y = record { counts = counts_on x.counts y.counts; within = y.within; at_most = (let e = x.at_most in let f = y.at_most in omega arith) }
@@ -27,7 +27,7 @@ pub uses_more : {p q : PassView} {budget a b m : ℕ} (n : ℕ) → m ≤ n → 
 uses_more n le x = record { counts = x.counts; within = x.within; at_most = (let e = x.at_most in omega arith) }
 
 -- counted from none
-pub took_all : {p q : Trace} {used : ℕ} → Counts p q 0 used → Took p q used
+pub took_all : {p q : Trace} {used : ℕ} → CountsSteps p q 0 used → Took p q used
 took_all {p} {q} {used} x = subst (Took p q) (let e = x.sum in omega arith) x.took
 
 pub took_within : {p q : PassView} {budget used most : ℕ} → Uses p q budget 0 used most → TookWithin p.trace q.trace budget

@@ -10,19 +10,16 @@ use Rattle.vbr_core.specs.Accounts.{incarnations_after, notes_after, incarnation
 use Rattle.vbr_core.specs.Agreement.{Agrees}
 use Rattle.vbr_core.specs.Incarnations.{Incarnations, nothing_yet}
 use Rattle.vbr_core.specs.Knowledge.{Know}
-use Rattle.vbr_core.specs.Machine.{World, opening, found, stamp_shown, link_at, after}
+use Rattle.vbr_core.specs.Machine.{World, opening, found, stamp_shown, after}
 use Rattle.vbr_core.specs.Notes.{Notes, no_notes, notes_with}
 use Rattle.vbr_core.specs.Put.{put}
 use Rattle.vbr_core.specs.Runs.{world_from, AreAccepted, IsRun, world_after, know_after}
 use Rattle.vbr_core.specs.declared.event.Event.{Event}
 use Rattle.vbr_core.specs.declared.event.Step.{Step}
 use Rattle.vbr_core.specs.declared.event.Step.TheVariants.{ReadEpoch, Advance, LoadStamp, StoreStamp, Raise, TakeFlag, StoreBirth, StoreKey, StoreLink, LoadLink, LoadBirth, LoadKey, Publish, Mark, Unlink, ConfirmPresent, ConfirmAbsent}
-use Rattle.vbr_core.proofs.EveryRun.{step_agrees, run_agrees}
-use Rattle.vbr_core.proofs.OwnedSlots.{stamp_known}
-use Rattle.vbr_core.proofs.Puts.{put_here, put_other}
-use Rattle.vbr_core.proofs.RunsGoOn.{world_after-append, is_run_first, is_run_before, is_run_after, know_own, know_other}
+use Rattle.vbr_core.proofs.Lemmas.{is_run_after, is_run_before, is_run_first, know_other, know_own, put_here, put_other, run_agrees, stamp_known, step_agrees, world_after-append}
 use Rattle.vbr_slots.specs.Views.{epoch_after}
-use Rattle.vbr_slots.proofs.Learning.{epoch_learned}
+use Rattle.vbr_slots.proofs.Lemmas.{epoch_learned}
 
 -- ---- worlds
 
@@ -47,7 +44,7 @@ by_both : {A : Type 0} (b : Bool) (f : World → A) (x y : World) (z : A) → f 
 by_both true f x y z p q = p
 by_both false f x y z p q = q
 
--- one step raises the epoch by 1 or leaves it, and stamps with no greater one
+-- one step advances the epoch by 1 or leaves it, and stamps with no greater one
 later : (shape : Dimensions) (w : World) (p : ℕ) (step : Step) → IsTimely w → (w.know p).epoch ≤ w.epoch → Accepts shape (w.know p) step → Later w (after shape w p step)
 later shape w p ReadEpoch t low ok = same_times w (after shape w p ReadEpoch) refl t
 later shape w p (Advance from) t low ok =
@@ -71,7 +68,7 @@ later shape w p (Mark s expected) t low ok = same_times w (after shape w p (Mark
 later shape w p (Unlink (Head b) expected s) t low ok = same_times w (after shape w p (Unlink (Head b) expected s)) (by_both (word_of (w.head b) == expected) times _ w (times w) refl refl) t
 later shape w p (Unlink (Slot v) expected s) t low ok = same_times w (after shape w p (Unlink (Slot v) expected s)) (by_both (word_of (w.link v) == expected) times _ w (times w) refl refl) t
 later shape w p (ConfirmPresent op s expected) t low ok = same_times w (after shape w p (ConfirmPresent op s expected)) (by_both (word_of (w.link s) == expected) times _ w (times w) refl refl) t
-later shape w p (ConfirmAbsent op key at expected) t low ok = same_times w (after shape w p (ConfirmAbsent op key at expected)) (by_both (word_of (link_at w at) == expected) times _ w (times w) refl refl) t
+later shape w p (ConfirmAbsent op key at expected) t low ok = same_times w (after shape w p (ConfirmAbsent op key at expected)) (by_both (found shape w (ConfirmAbsent op key at expected) == expected) times _ w (times w) refl refl) t
 
 -- the epoch that is read in a timely world is at least 1
 some_read : (shape : Dimensions) (w : World) (step : Step) (e : ℕ) → IsTimely w → 1 ≤ e → 1 ≤ epoch_after step (found shape w step) e

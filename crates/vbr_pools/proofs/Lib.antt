@@ -1,10 +1,10 @@
 mod Epochs
 mod PoolLists
-pub mod Moments
+mod Moments
 mod Retirement
 mod AloneRetirement
-pub mod Counting
-pub mod Advancing
+mod Counting
+mod Advancing
 mod Scanning
 mod AloneClaiming
 mod Claiming
@@ -12,3 +12,4 @@ mod Births
 mod Raising
 mod Choosing
 mod Takings
+pub mod Lemmas

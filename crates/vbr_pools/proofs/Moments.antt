@@ -3,20 +3,18 @@ use Rattle.std.proofs.Common.{◌≡◌, ◌≢◌, ℕ, ◌<◌, true, false, [
 use Rattle.vbr_words.specs.Dimensions.{Dimensions}
 use Rattle.vbr_words.specs.Flags.{word_of_flag, has_flag}
 use Rattle.vbr_core.specs.Knowledge.{Know}
-use Rattle.vbr_core.specs.Learning.{taken}
 use Rattle.vbr_core.specs.Machine.{is_shared, found, stamp_shown}
+use Rattle.vbr_core.specs.Making.{taken}
 use Rattle.vbr_core.specs.Runs.{world_after, Begins}
 use Rattle.vbr_core.specs.declared.event.Effect.TheVariants.{Value}
 use Rattle.vbr_core.specs.declared.event.Step.{Step}
 use Rattle.vbr_core.specs.declared.event.Step.TheVariants.{ReadEpoch, TakeFlag}
 use Rattle.vbr_core.specs.declared.knowledge.SlotPlace.{SlotPlace}
 use Rattle.vbr_core.specs.declared.knowledge.SlotPlace.TheVariants.{Shared, Own, Hand, Listed}
-use Rattle.vbr_core.proofs.RunsGoOn.{begins_trans}
-use Rattle.vbr_core.proofs.SlotFlags.{flag_won, word_told, unflagged, flag_shared}
+use Rattle.vbr_core.proofs.Lemmas.{begins_trans, flag_shared, flag_won, unflagged, word_told}
 use Rattle.vbr_slots.specs.Calls.{Quiet}
 use Rattle.vbr_slots.specs.Views.{Trace, Did, knows, event_of, epoch_after}
-use Rattle.vbr_slots.proofs.Calls.{did_moment, moment_before, moment_after}
-use Rattle.vbr_slots.proofs.Learning.{epoch_learned}
+use Rattle.vbr_slots.proofs.Lemmas.{did_moment, epoch_learned, moment_after, moment_before}
 use Rattle.vbr_pools.specs.SharedPool.{WasOutside, CameByFlag}
 
 -- the epoch that a pass knows after a step

@@ -1,7 +1,7 @@
 -- Lists of slots, without one of them.
-use Rattle.std.proofs.Common.{◌≡◌, ◌≢◌, ℕ, zero, suc, ◌<◌, ◌≤◌, ◌==◌, Bool, true, false, not, List, [], ◌∷◌, length, cond, refl, sym, ap, ◌∙◌, subst, eq-eqb, arith}
-use Rattle.std.specs.Prelude.{Contains}
-use Rattle.std.proofs.lemmas.Bool.{ne_eqb}
+use Rattle.std.proofs.Common.{◌≡◌, ◌≢◌, ℕ, zero, suc, ◌<◌, ◌≤◌, ◌==◌, Bool, true, false, not, List, [], ◌∷◌, length, cond, refl, sym, ap, ◌∙◌, subst, eq-eqb, inl, inr, arith}
+use Rattle.std.specs.Prelude.{◌⊎◌, AllPairs, Contains}
+use Rattle.std.proofs.lemmas.Bool.{cases_eq, ne_eqb}
 use Rattle.std.proofs.lemmas.List.Sums.{length-filter, count_by-le-length}
 use Rattle.vbr_slots.specs.Pools.{without}
 
@@ -23,6 +23,20 @@ without_shorter slot (x ∷ xs) (suc k, low, is) = let less = without_shorter sl
     either : (b : Bool) → length (without slot xs) < length xs → length (cond (not b) (x ∷ without slot xs) (without slot xs)) < suc (length xs)
     either true less = omega arith
     either false less = omega arith
+
+-- and loses no more than that one slot, if each stands there once
+pub without_one : (slot : ℕ) (pool : List ℕ) → AllPairs ◌≢◌ pool → length pool ≤ suc (length (without slot pool))
+without_one slot [] apart = omega arith
+without_one slot (x ∷ xs) apart = either (cases_eq x slot) (without_one slot xs (λ i j d less low. apart (suc i) (suc j) d (omega arith) (omega arith)))
+  where
+    out : x ≡ slot → ¬ (Contains xs slot)
+    out is (k, low, at) = apart 0 (suc k) slot (omega arith) (omega arith) (is ∙ sym at)
+
+    either : (x ≡ slot) ⊎ (x ≢ slot) → length xs ≤ suc (length (without slot xs)) → length (x ∷ xs) ≤ suc (length (without slot (x ∷ xs)))
+    either (inl is) less =
+        let stays : length (without slot xs) ≡ length xs = ap length (without_other slot xs (out is)) in
+        subst (λ (b : Bool). suc (length xs) ≤ suc (length (cond (not b) (x ∷ without slot xs) (without slot xs)))) (sym (eq-eqb x slot is)) (omega arith)
+    either (inr other) less = subst (λ (b : Bool). suc (length xs) ≤ suc (length (cond (not b) (x ∷ without slot xs) (without slot xs)))) (sym (ne_eqb x slot other)) (omega arith)
 
 -- a pool keeps its other slots
 pub stays_in : (slot : ℕ) (pool : List ℕ) (s : ℕ) → s ≢ slot → Contains pool s → Contains (without slot pool) s

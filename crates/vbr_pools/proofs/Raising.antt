@@ -13,9 +13,9 @@ use Rattle.vbr_core.specs.declared.event.Step.{Step}
 use Rattle.vbr_core.specs.declared.event.Step.TheVariants.{ReadEpoch, Advance}
 use Rattle.vbr_core.specs.declared.knowledge.Holding.{Holding}
 use Rattle.vbr_core.specs.declared.knowledge.Holding.TheVariants.{Free, Unlinked, InHand}
-use Rattle.vbr_core.proofs.RunsGoOn.{world_after-snoc, is_run_before, others_leave_know}
+use Rattle.vbr_core.proofs.Lemmas.{is_run_before, others_leave_know, world_after-snoc}
 use Rattle.vbr_slots.specs.Views.{Trace, Did, knows, event_of}
-use Rattle.vbr_slots.proofs.Calls.{did_run}
+use Rattle.vbr_slots.proofs.Lemmas.{did_run}
 use Rattle.vbr_pools.proofs.Epochs.{epoch_rises, read_before, stamp_before}
 use Rattle.vbr_pools.proofs.Moments.{epoch_stood}
 

@@ -1,5 +1,5 @@
 -- An unlinked slot that returns: it is stamped with an epoch that was read before.
-use Rattle.std.proofs.Common.{◌≡◌, ℕ, ◌-◌, ◌<◌, ◌≤◌, Bool, true, false, cond, Option, Some, None, List, [], ◌∷◌, ◌++◌, length, arith, refl, sym, ap, ◌∙◌, append_assoc, append-nil, subst, ⊎_elim, ◌≢◌}
+use Rattle.std.proofs.Common.{◌≡◌, ℕ, ◌-◌, ◌<◌, ◌≤◌, Bool, true, false, cond, Option, Some, None, List, [], ◌∷◌, ◌++◌, length, arith, refl, sym, ap, ◌∙◌, append_assoc, append-nil, subst, inr, ⊎_elim, ◌≢◌}
 use Rattle.std.specs.Prelude.{Contains}
 use Rattle.std.proofs.lemmas.Bool.{cases_eq}
 use Rattle.std.proofs.lemmas.Bool.Decides.{nat_tests}
@@ -10,7 +10,7 @@ use Rattle.vbr_core.specs.Agreement.{OwnFits}
 use Rattle.vbr_core.specs.Incarnations.{Incarnations}
 use Rattle.vbr_core.specs.Sound.{SlotsSound}
 use Rattle.vbr_core.specs.Runs.{IsRun, know_after}
-use Rattle.vbr_core.proofs.EveryRun.{run_agrees}
+use Rattle.vbr_core.proofs.Lemmas.{begins_trans, put_here, put_other, run_agrees}
 use Rattle.vbr_core.specs.Acceptance.{MayBear, IsUnlinked}
 use Rattle.vbr_core.specs.Knowledge.{Know}
 use Rattle.vbr_core.specs.declared.knowledge.Holding.{Holding}
@@ -19,14 +19,13 @@ use Rattle.vbr_slots.specs.declared.pass.TheConstants.{POOL}
 use Rattle.vbr_slots.specs.Pools.{IsPooled, OwnPool, hand_without}
 use Rattle.vbr_core.specs.declared.event.Event.{Event}
 use Rattle.vbr_core.specs.declared.event.Step.TheVariants.{ReadEpoch, StoreStamp, Raise}
-use Rattle.vbr_core.proofs.Puts.{put_here, put_other}
-use Rattle.vbr_core.proofs.RunsGoOn.{begins_trans}
 use Rattle.vbr_slots.specs.Calls.{Quiet}
-use Rattle.vbr_slots.specs.Views.{Trace, PassView, KeepsPool, Did, knows, event_of}
-use Rattle.vbr_slots.proofs.Calls.{quiet_on, did_quiet, did_moment, moment_before}
-use Rattle.vbr_pools.specs.Advances.{RaisesNone}
+use Rattle.vbr_slots.specs.PassLaw.{PassLaw}
+use Rattle.vbr_slots.specs.Views.{Trace, PassView, TableView, KeepsPool, Did, IsOf, knows, event_of}
+use Rattle.vbr_slots.proofs.Lemmas.{did_moment, did_quiet, moment_before, quiet_on}
+use Rattle.vbr_pools.specs.Advances.{TakesNoSlot}
 use Rattle.vbr_pools.specs.Retiring.{Stamps, is_kept, pool_retired}
-use Rattle.vbr_pools.proofs.Advancing.{same_advances, none_on, none_kept, did_none, none_given}
+use Rattle.vbr_pools.proofs.Advancing.{same_advances, did_stamps, free_pool, grows_same, none_on, did_none, none_given}
 use Rattle.vbr_pools.proofs.Moments.{epoch_told, epoch_stood}
 
 module _ {p q r : Trace} {slot e n : ℕ} (read : Did ReadEpoch p q e) (stamp : Did (StoreStamp slot (knows q).epoch) q r n) where
@@ -65,14 +64,22 @@ module _ {p q r : PassView} {slot e n : ℕ} (read : Did ReadEpoch p.trace q.tra
   others s other m = subst MayBear (ap (λ (k : Know). k.own s) stamp.know ∙ put_other (knows q.trace).own _ _ s other) m
 
   -- a slot that is kept is in the pool
-  pub kept_none : {t : PassView} → t.trace ≡ r.trace → t.pool ≡ r.pool ++ slot ∷ [] → t.hand ≡ hand_without slot r.hand → RaisesNone p t
-  kept_none same pool hand = none_on (did_none read refl stays) (none_given stamp refl others still same pool hand)
+  pub kept_none : {t : PassView} → t.trace ≡ r.trace → t.pool ≡ r.pool ++ slot ∷ [] → t.hand ≡ hand_without slot r.hand → TakesNoSlot p t
+  kept_none same pool hand = none_on (did_none read refl stays) (none_given stamp refl refl refl others still same pool hand)
 
   -- and one that isn't is no more the pass's own
-  pub raised_none : {t : PassView} {m : ℕ} → Did (Raise slot) r.trace t.trace m → t.pool ≡ p.pool → t.hand ≡ r.hand → RaisesNone p t
-  raised_none {t} raise pool hand =
-      none_on (did_none read refl stays) (none_kept {p = q} {q = t} (same_advances raise refl ∙ same_advances stamp refl) (pool ∙ sym stays.0, hand ∙ still.1)
-      (λ s m. ⊎_elim (λ (is : s ≡ slot). gone s is m) (λ (other : s ≢ slot). others s other (subst MayBear (ap (λ (k : Know). k.own s) raise.know ∙ put_other (knows r.trace).own _ _ s other) m)) (cases_eq s slot)))
+  pub raised_none : {t : PassView} {m : ℕ} → Did (Raise slot) r.trace t.trace m → t.pool ≡ p.pool → t.hand ≡ r.hand → POOL - 1 ≤ length p.pool → TakesNoSlot p t
+  raised_none {t} raise pool hand full =
+      none_on {p = p} {q = q} {r = t} (did_none read refl stays) (record {
+        count = same_advances raise refl ∙ same_advances stamp refl;
+        kept = record {
+          free = free_pool q t (pool ∙ sym stays.0, hand ∙ still.1)
+              (λ s m. ⊎_elim (λ (is : s ≡ slot). gone s is m) (λ (other : s ≢ slot). others s other (subst MayBear (ap (λ (k : Know). k.own s) raise.know ∙ put_other (knows r.trace).own _ _ s other) m)) (cases_eq s slot));
+          stamped = λ s u. did_stamps stamp refl s (did_stamps raise refl s u);
+        };
+        grows = grows_same q t (pool ∙ sym stays.0);
+        shared = inr (let e = ap length pool in omega arith);
+      })
     where
       gone : (s : ℕ) → s ≡ slot → MayBear ((knows t.trace).own s) → MayBear ((knows q.trace).own s)
       gone s is m = absurd (subst MayBear (ap (λ (i : ℕ). (knows t.trace).own i) is ∙ ap (λ (k : Know). k.own slot) raise.know ∙ put_here (knows r.trace).own slot None) m)
@@ -100,6 +107,12 @@ unlinked_in_shape shape passes run who slot is ok unlinked =
     go a (Some (Free stamp)) u sound fits low = absurd u
     go a (Some (InHand stamp birth key link)) u sound fits low = absurd u
     go a (Some (Unlinked reread)) u sound fits low = let by = fits.1 in let born = sound.last_born slot by.node by.last_is in subst (λ (s : ℕ). s < shape.slots) born.1 (low by.node born.0)
+
+-- so it is a slot of the table
+pub unlinked_in_table : {p : PassView} {t : TableView} {slot same : ℕ} → PassLaw p → IsOf p.trace t → IsUnlinked ((knows p.trace).own slot) → same ≡ slot → same < t.shape.slots
+unlinked_in_table {p} {t} {slot} law of unlinked e =
+    subst (λ (s : ℕ). s < t.shape.slots) (sym e)
+    (subst (λ (shape : Dimensions). slot < shape.slots) of.1 (unlinked_in_shape p.trace.shape p.trace.passes p.trace.seen p.trace.who slot law.shape law.is_run unlinked))
 
 -- a pool with no room stays
 pub pool_left : (pool : List ℕ) (slot : ℕ) → POOL - 1 ≤ length pool → pool_retired pool slot ≡ pool

@@ -9,12 +9,12 @@ use Rattle.vbr_core.specs.declared.event.Step.TheVariants.{LoadStamp}
 use Rattle.vbr_slots.specs.Calls.{Quiet}
 use Rattle.vbr_slots.specs.Pools.{IsPooled, OwnPool}
 use Rattle.vbr_slots.specs.Views.{PassView, KeepsPool, Did, knows}
-use Rattle.vbr_slots.proofs.Calls.{quiet_on, did_quiet}
-use Rattle.vbr_pools.specs.Advances.{advances}
+use Rattle.vbr_slots.proofs.Lemmas.{did_quiet, quiet_on}
+use Rattle.vbr_pools.specs.Advances.{TakesNoSlot}
 use Rattle.vbr_pools.specs.Pieces.{IsScanned}
-use Rattle.vbr_pools.specs.Steps.{Counts}
+use Rattle.vbr_pools.specs.Steps.{CountsSteps}
 use Rattle.vbr_pools.specs.Taking.{IsOldest}
-use Rattle.vbr_pools.proofs.Advancing.{same_advances}
+use Rattle.vbr_pools.proofs.Advancing.{did_none, none_on}
 use Rattle.vbr_pools.proofs.Counting.{counts_one, counts_on}
 
 -- so many slots of the pool were looked at, and none was stamped below the epoch
@@ -22,8 +22,8 @@ pub record Scanned (p q : PassView) (epoch budget before looked used : ℕ) : Ty
   pub quiet : Quiet p.trace q.trace
   pub pool : KeepsPool p q
   pub known : knows q.trace ≡ knows p.trace
-  pub advances : advances q.trace ≡ advances p.trace
-  pub counts : Counts p.trace q.trace before used
+  pub none : TakesNoSlot p q
+  pub counts : CountsSteps p.trace q.trace before used
   pub sum : used ≡ before + looked
   pub within : used ≤ budget
   pub above : (k d : ℕ) → k < looked → epoch ≤ stamp_in ((knows p.trace).own (get_or p.pool k d))
@@ -45,7 +45,7 @@ module _ {p q r : PassView} {epoch budget before looked used n : ℕ} (at : Scan
     quiet = quiet_on at.quiet (did_quiet d (λ know. refl));
     pool = (stays.0 ∙ at.pool.0, stays.1 ∙ at.pool.1);
     known = d.know ∙ at.known;
-    advances = same_advances d refl ∙ at.advances;
+    none = none_on at.none (did_none d refl stays);
     counts = counts_on at.counts (counts_one used d);
     sum = (let s = at.sum in omega arith);
     within = omega arith;

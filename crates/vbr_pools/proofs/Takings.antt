@@ -7,19 +7,18 @@ use Rattle.vbr_slots.specs.Alone.{IsAlone}
 use Rattle.vbr_slots.specs.Calls.{Quiet, Took}
 use Rattle.vbr_slots.specs.Pools.{without}
 use Rattle.vbr_slots.specs.Views.{PassView, KeepsPool, knows}
-use Rattle.vbr_slots.proofs.Alone.{alone_first}
-use Rattle.vbr_slots.proofs.Calls.{quiet_on, quiet_refl}
-use Rattle.vbr_pools.specs.Advances.{KeepsSlots, RaisesNone, AdvancesWhereNeeded}
+use Rattle.vbr_slots.proofs.Lemmas.{alone_first, quiet_on, quiet_refl}
+use Rattle.vbr_pools.specs.Advances.{KeepsSlots, SharesWhereFull, TakesNoSlot, AdvancesWhereNeeded}
 use Rattle.vbr_pools.specs.Hands.{HandView}
 use Rattle.vbr_pools.specs.Budgets.{NeedsMore, steps_to_claim, steps_to_take}
-use Rattle.vbr_pools.specs.Pieces.{Uses, IsShort, Stops, HasSlots, IsChosen, IsBorn}
-use Rattle.vbr_pools.specs.Refusals.{HadRoom, IsRefused, LeavesPool}
+use Rattle.vbr_pools.specs.Pieces.{Uses, TakeIsShort, Stops, HasSlots, IsChosen, IsBorn}
+use Rattle.vbr_pools.specs.Refusals.{HadRoom, TakeIsRefused, LeavesPool}
 use Rattle.vbr_pools.specs.SharedPool.{CameByFlag}
 use Rattle.vbr_pools.specs.Steps.{TookWithin}
 use Rattle.vbr_pools.specs.Taking.{IsOldest, IsTaken}
 use Rattle.vbr_pools.specs.declared.refusal.TakeRefusal.{TakeRefusal}
 use Rattle.vbr_pools.specs.declared.refusal.TakeRefusal.TheVariants.{OutOfSteps, NoSlot, EpochSpent}
-use Rattle.vbr_pools.proofs.Advancing.{keeps_on, needed_after, needed_before}
+use Rattle.vbr_pools.proofs.Advancing.{keeps_on, longer, needed_after, needed_before, shared_on, shares_more}
 use Rattle.vbr_pools.proofs.Counting.{uses_on, took_all, took_within}
 use Rattle.vbr_pools.proofs.Moments.{came_before}
 
@@ -52,14 +51,14 @@ claim_enough p budget NoSlot empty short = tt
 claim_enough p budget (EpochSpent epoch) empty short = tt
 
 -- a claim is never refused for a spent epoch, since the own pool is empty then
-pub claim_room : (p q : PassView) (budget : ℕ) (refusal : TakeRefusal) → p.pool ≡ [] → KeepsPool p q → IsRefused p q budget refusal → HadRoom p q budget refusal
+pub claim_room : (p q : PassView) (budget : ℕ) (refusal : TakeRefusal) → p.pool ≡ [] → KeepsPool p q → TakeIsRefused p q budget refusal → HadRoom p q budget refusal
 claim_room p q budget (OutOfSteps used) empty keeps refused = tt
 claim_room p q budget NoSlot empty keeps refused = tt
 claim_room p q budget (EpochSpent epoch) empty keeps refused = absurd (refused.some (keeps.0 ∙ empty))
 
 -- ---- the pieces
 
-module _ (p q r : PassView) (budget used : ℕ) (first : Quiet p.trace q.trace) (none : RaisesNone p q) (begun : HasSlots p q budget used) (quiet : Quiet q.trace r.trace) (keeps : KeepsPool q r) where
+module _ (p q r : PassView) (budget used : ℕ) (first : Quiet p.trace q.trace) (none : TakesNoSlot p q) (begun : HasSlots p q budget used) (quiet : Quiet q.trace r.trace) (keeps : KeepsPool q r) where
   pub quiet_all : Quiet p.trace r.trace
   quiet_all = quiet_on first quiet
 
@@ -79,6 +78,12 @@ module _ (p q r : PassView) (budget used : ℕ) (first : Quiet p.trace q.trace) 
 
   pub kept_all : KeepsSlots q r → KeepsSlots p r
   kept_all stays = keeps_on p q r none.kept stays
+
+  pub shared_all : SharesWhereFull 1 q r → SharesWhereFull 1 p r
+  shared_all then = shared_on p q r 1 none.shared (let e = ap length keeps.0 in omega arith) then
+
+  pub one_all : length p.pool ≤ length r.pool + 1
+  one_all = let low = longer p q none.grows in let e = ap length keeps.0 in omega arith
 
   pub stops_within : (most : ℕ) (refusal : TakeRefusal) → Stops q r budget used most refusal → TookWithin p.trace r.trace budget
   stops_within most (OutOfSteps n) s = took_within (uses_on begun.uses s.uses)
@@ -124,7 +129,7 @@ module _ (p q r : PassView) (budget used : ℕ) (first : Quiet p.trace q.trace) 
         (λ come above left. record { from = come; in_hand = born.in_hand; birth = born.birth; above = above; rest = left; room = born.room })
         (from hand.birth born.quiet born.oldest) born.above (rest born.rest)
 
-    module _ (result : Result (HandView × ℕ) TakeRefusal) (ok : IfOk result (λ b. IsBorn r t slot budget since b.0)) (refused : IfErr result (λ refusal. IsShort r t budget since 0 refusal)) (still : OnErr result (t ≡ r)) where
+    module _ (result : Result (HandView × ℕ) TakeRefusal) (ok : IfOk result (λ b. IsBorn r t slot budget since b.0)) (refused : IfErr result (λ refusal. TakeIsShort r t budget since 0 refusal)) (still : OnErr result (t ≡ r)) where
       quiet_last : Quiet r.trace t.trace
       quiet_last = go result ok still
         where
@@ -138,7 +143,7 @@ module _ (p q r : PassView) (budget used : ℕ) (first : Quiet p.trace q.trace) 
       pub ends_within : TookWithin p.trace t.trace budget
       ends_within = go result ok refused
         where
-          go : (x : Result (HandView × ℕ) TakeRefusal) → IfOk x (λ b. IsBorn r t slot budget since b.0) → IfErr x (λ refusal. IsShort r t budget since 0 refusal) → TookWithin p.trace t.trace budget
+          go : (x : Result (HandView × ℕ) TakeRefusal) → IfOk x (λ b. IsBorn r t slot budget since b.0) → IfErr x (λ refusal. TakeIsShort r t budget since 0 refusal) → TookWithin p.trace t.trace budget
           go (Ok b) born short = took_within (uses_on all_uses born.uses)
           go (Err (OutOfSteps n)) born short = took_within (uses_on all_uses short.uses)
           go (Err NoSlot) born short = absurd short
@@ -168,7 +173,7 @@ module _ (p q r : PassView) (budget used : ℕ) (first : Quiet p.trace q.trace) 
       pub ends_enough : (p.pool ≡ [] → IsAlone p.trace q.trace → used ≤ steps_to_claim p.trace.shape) → IfErr result (λ refusal. IsAlone p.trace t.trace → NeedsMore (steps_to_take p.trace.shape p.pool) budget refusal)
       ends_enough few = go result refused
         where
-          go : (x : Result (HandView × ℕ) TakeRefusal) → IfErr x (λ refusal. IsShort r t budget since 0 refusal) → IfErr x (λ refusal. IsAlone p.trace t.trace → NeedsMore (steps_to_take p.trace.shape p.pool) budget refusal)
+          go : (x : Result (HandView × ℕ) TakeRefusal) → IfErr x (λ refusal. TakeIsShort r t budget since 0 refusal) → IfErr x (λ refusal. IsAlone p.trace t.trace → NeedsMore (steps_to_take p.trace.shape p.pool) budget refusal)
           go (Ok b) short = tt
           go (Err (OutOfSteps n)) short = λ alone.
               let m = chosen_few few alone in
@@ -199,10 +204,28 @@ module _ (p q r : PassView) (budget used : ℕ) (first : Quiet p.trace q.trace) 
           go (Ok b) born same = keeps_on p r t (kept_all stays) born.kept
           go (Err refusal) born same = subst (KeepsSlots p) (sym same) (kept_all stays)
 
+      pub ends_shared : SharesWhereFull 1 q r → SharesWhereFull 2 p t
+      ends_shared then = go result ok still
+        where
+          born_then : {hand : HandView} → SharesWhereFull 1 p r → IsBorn r t slot budget since hand → SharesWhereFull 2 p t
+          born_then (inl same) born = inl (born.flags ∙ same)
+          born_then (inr full) born = inr (let one = born.one in omega (arith, full, one))
+
+          go : (x : Result (HandView × ℕ) TakeRefusal) → IfOk x (λ b. IsBorn r t slot budget since b.0) → OnErr x (t ≡ r) → SharesWhereFull 2 p t
+          go (Ok b) born same = born_then (shared_all then) born
+          go (Err refusal) born same = subst (SharesWhereFull 2 p) (sym same) (shares_more p r (shared_all then))
+
+      pub ends_one : length p.pool ≤ length t.pool + 1
+      ends_one = go result ok still
+        where
+          go : (x : Result (HandView × ℕ) TakeRefusal) → IfOk x (λ b. IsBorn r t slot budget since b.0) → OnErr x (t ≡ r) → length p.pool ≤ length t.pool + 1
+          go (Ok b) born same = let low = longer p q none.grows in let e = ap length keeps.0 in let one = born.one in omega (arith, low, e, one)
+          go (Err refusal) born same = subst (λ (x : PassView). length p.pool ≤ length x.pool + 1) (sym same) one_all
+
       pub ends_room : IfErr result (λ refusal. HadRoom p t budget refusal)
       ends_room = go result refused
         where
-          go : (x : Result (HandView × ℕ) TakeRefusal) → IfErr x (λ refusal. IsShort r t budget since 0 refusal) → IfErr x (λ refusal. HadRoom p t budget refusal)
+          go : (x : Result (HandView × ℕ) TakeRefusal) → IfErr x (λ refusal. TakeIsShort r t budget since 0 refusal) → IfErr x (λ refusal. HadRoom p t budget refusal)
           go (Ok b) short = tt
           go (Err (OutOfSteps n)) short = tt
           go (Err NoSlot) short = tt

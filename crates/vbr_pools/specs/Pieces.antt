@@ -5,18 +5,18 @@ use Rattle.vbr_slots.specs.declared.pass.TheConstants.{POOL}
 use Rattle.vbr_slots.specs.Calls.{Quiet}
 use Rattle.vbr_slots.specs.Pools.{without}
 use Rattle.vbr_slots.specs.Views.{PassView, knows}
-use Rattle.vbr_pools.specs.Advances.{advances, KeepsSlots}
+use Rattle.vbr_pools.specs.Advances.{advances, flags_raised, KeepsSlots}
 use Rattle.vbr_pools.specs.Hands.{HandView, IsHandOf}
 use Rattle.vbr_pools.specs.Refusals.{IsSpent}
 use Rattle.vbr_pools.specs.SharedPool.{CameByFlag}
-use Rattle.vbr_pools.specs.Steps.{Counts}
+use Rattle.vbr_pools.specs.Steps.{CountsSteps}
 use Rattle.vbr_pools.specs.Taking.{IsOldest}
 use Rattle.vbr_pools.specs.declared.refusal.TakeRefusal.{TakeRefusal}
 use Rattle.vbr_pools.specs.declared.refusal.TakeRefusal.TheVariants.{OutOfSteps, NoSlot, EpochSpent}
 
 -- so many steps were used, of those before and some more, and they are within the budget
 pub record Uses (p q : PassView) (budget before since most : ℕ) : Type 0 where
-  pub counts : Counts p.trace q.trace before since
+  pub counts : CountsSteps p.trace q.trace before since
   pub within : since ≤ budget
   pub at_most : since ≤ before + most
 
@@ -26,9 +26,9 @@ pub record NoRoom (p q : PassView) (budget before most used : ℕ) : Type 0 wher
   pub short : budget < used + 8
 
 -- a piece is refused since the budget has no room for it
-abbrev pub IsShort : PassView → PassView → ℕ → ℕ → ℕ → TakeRefusal → Type 0
-IsShort p q budget before most (OutOfSteps used) = NoRoom p q budget before most used
-IsShort p q budget before most _ = ⊥
+abbrev pub TakeIsShort : PassView → PassView → ℕ → ℕ → ℕ → TakeRefusal → Type 0
+TakeIsShort p q budget before most (OutOfSteps used) = NoRoom p q budget before most used
+TakeIsShort p q budget before most _ = ⊥
 
 -- the epoch is spent, and the steps that showed it leave room in the budget for one more piece
 pub record ShowsSpent (p q : PassView) (budget before most epoch : ℕ) : Type 0 where
@@ -82,5 +82,7 @@ pub record IsBorn (p q : PassView) (chosen budget before : ℕ) (hand : HandView
   pub oldest : IsOldest (knows q.trace) p.pool chosen hand.birth
   pub rest : q.pool ≡ without chosen p.pool
   pub room : length q.pool < POOL
+  pub one : length p.pool ≤ length q.pool + 1
   pub advances : advances q.trace ≡ advances p.trace
+  pub flags : flags_raised q.trace ≡ flags_raised p.trace
   pub kept : KeepsSlots p q

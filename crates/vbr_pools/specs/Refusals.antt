@@ -31,10 +31,10 @@ pub record IsOutOfSteps (p q : PassView) (budget used : ℕ) : Type 0 where
   pub short : budget < used + 8
 
 -- what a refusal says of a call
-abbrev pub IsRefused : PassView → PassView → ℕ → TakeRefusal → Type 0
-IsRefused p q budget (OutOfSteps used) = IsOutOfSteps p q budget used
-IsRefused p q budget NoSlot = HasNoSlot p q
-IsRefused p q budget (EpochSpent epoch) = IsSpent q epoch
+abbrev pub TakeIsRefused : PassView → PassView → ℕ → TakeRefusal → Type 0
+TakeIsRefused p q budget (OutOfSteps used) = IsOutOfSteps p q budget used
+TakeIsRefused p q budget NoSlot = HasNoSlot p q
+TakeIsRefused p q budget (EpochSpent epoch) = IsSpent q epoch
 
 -- the steps that were made leave room in the budget for one more piece
 pub record LeavesRoom (p q : PassView) (budget : ℕ) : Type 0 where

@@ -10,7 +10,7 @@ pub record TookWithin (p q : Trace) (budget : ℕ) : Type 0 where
   pub took : Took p q steps
 
 -- the steps that were made, added to those used before, are those used since
-pub record Counts (p q : Trace) (before since : ℕ) : Type 0 where
+pub record CountsSteps (p q : Trace) (before since : ℕ) : Type 0 where
   pub steps : ℕ
   pub sum : since ≡ before + steps
   pub took : Took p q steps

@@ -1,11 +1,10 @@
 //! Retiring an unlinked slot.
-ghost use Rattle.std.specs.Prelude.{◌≡◌, ◌<◌};
+ghost use Rattle.std.specs.Prelude.{◌≡◌};
 ghost use Rattle.vbr_core.specs.Acceptance.{IsUnlinked};
-ghost use Rattle.vbr_words.specs.Dimensions.{IsShape};
 ghost use Rattle.vbr_slots.specs.Alone.{IsAlone, IsFresh, LeavesLists};
 ghost use Rattle.vbr_slots.specs.Calls.{Quiet, Took};
 ghost use Rattle.vbr_slots.specs.Views.{IsOf, knows};
-ghost use Rattle.vbr_pools.specs.Advances.{RaisesNone};
+ghost use Rattle.vbr_pools.specs.Advances.{TakesNoSlot};
 ghost use Rattle.vbr_pools.specs.Retiring.{Stamps, is_kept, know_retired, pool_retired, steps_to_retire};
 
 use crate::unlinked::Unlinked;
@@ -21,7 +20,7 @@ pub fn retire(slots: &Slots, pass: &mut Pass, unlinked: Unlinked) -> u32
     requires own { IsOf pass.old.trace slots.now }
     requires unlinked { IsUnlinked ((knows pass.old.trace).own unlinked.slot) }
     ensures quiet { Quiet pass.old.trace pass.new.trace }
-    ensures raises_none { RaisesNone pass.old pass.new }
+    ensures takes_no_slot { TakesNoSlot pass.old pass.new }
     ensures steps { Took pass.old.trace pass.new.trace result }
     ensures count { result ≡ steps_to_retire pass.old.pool }
     ensures stamped { Stamps pass.old.trace pass.new.trace unlinked.slot (knows pass.new.trace).epoch }
@@ -30,7 +29,7 @@ pub fn retire(slots: &Slots, pass: &mut Pass, unlinked: Unlinked) -> u32
     ensures hand { pass.new.hand ≡ pass.old.hand }
     ensures alone { IsAlone pass.old.trace pass.new.trace → LeavesLists pass.old.trace pass.new.trace × IsFresh pass.new.trace }
 {
-    in_shape(slots, pass, unlinked.slot());
+    pass.law();
     let slot = unlinked.into_slot();
     let kept = pass.pool().len() < POOL - 1;
     slots.read_epoch(pass);
@@ -42,17 +41,4 @@ pub fn retire(slots: &Slots, pass: &mut Pass, unlinked: Unlinked) -> u32
         slots.raise(pass, slot);
         3
     }
-}
-
-// A slot that a pass unlinked is one of the shape. The function says it in its contract.
-#[inline]
-fn in_shape(slots: &Slots, pass: &Pass, slot: u32)
-    requires own { IsOf pass.now.trace slots.now }
-    requires unlinked { IsUnlinked ((knows pass.now.trace).own slot) }
-    ensures slot { slot < slots.now.shape.slots }
-    ensures shape { IsShape pass.now.trace.shape }
-{
-    let _who = pass.who();
-    let _slot = slot;
-    let _slots = slots.shape().slots();
 }

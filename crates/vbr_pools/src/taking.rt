@@ -4,10 +4,10 @@ ghost use Rattle.vbr_slots.specs.Alone.{IsAlone};
 ghost use Rattle.vbr_slots.specs.Calls.{Quiet, Took};
 ghost use Rattle.vbr_slots.specs.Pools.{OwnPool};
 ghost use Rattle.vbr_slots.specs.Views.{IsOf, KeepsPool, knows};
-ghost use Rattle.vbr_pools.specs.Advances.{advances, AdvancesWhereNeeded, KeepsSlots, RaisesNone};
+ghost use Rattle.vbr_pools.specs.Advances.{AdvancesWhereNeeded, KeepsSlots, TakesNoSlot, SharesWhereFull};
 ghost use Rattle.vbr_pools.specs.Budgets.{NeedsMore, steps_to_claim, steps_to_take};
-ghost use Rattle.vbr_pools.specs.Pieces.{HasSlots, IsBelow, IsBorn, IsChosen, IsScanned, IsShort, Stops};
-ghost use Rattle.vbr_pools.specs.Refusals.{HadRoom, IsRefused, LeavesPool, IsTakenOrSpent};
+ghost use Rattle.vbr_pools.specs.Pieces.{HasSlots, IsBelow, IsBorn, IsChosen, IsScanned, TakeIsShort, Stops};
+ghost use Rattle.vbr_pools.specs.Refusals.{HadRoom, TakeIsRefused, LeavesPool, IsTakenOrSpent};
 ghost use Rattle.vbr_pools.specs.Steps.{TookWithin};
 ghost use Rattle.vbr_pools.specs.Taking.{IsTaken};
 
@@ -23,7 +23,7 @@ use vbr_words::flags::next_flag;
 ///
 /// The call makes at most `budget` steps. It goes in pieces, and tests before each whether the budget
 /// has room for it; if not, it answers OutOfSteps. It looks in the shared pool only where the own
-/// pool is empty: NoSlot, if nothing is there. It raises the epoch only where no slot of the own pool
+/// pool is empty: NoSlot, if nothing is there. It advances the epoch only where no slot of the own pool
 /// is stamped below the epoch that it read: EpochSpent, if that is the last. That is tested last, where
 /// the budget had room to raise it. A flag that it won stays in the own pool after a refusal.
 ///
@@ -35,11 +35,13 @@ pub fn take(slots: &Slots, pass: &mut Pass, budget: u32) -> Result<Hand, TakeRef
     ensures quiet { Quiet pass.old.trace pass.new.trace }
     ensures steps { TookWithin pass.old.trace pass.new.trace budget }
     ensures ok { IfOk result (λ hand. IsTaken pass.old pass.new hand) }
-    ensures refused { IfErr result (λ refusal. IsRefused pass.old pass.new budget refusal) }
+    ensures refused { IfErr result (λ refusal. TakeIsRefused pass.old pass.new budget refusal) }
     ensures room { IfErr result (λ refusal. HadRoom pass.old pass.new budget refusal) }
     ensures pool { IfErr result (λ refusal. LeavesPool pass.old pass.new) }
     ensures hand { IfErr result (λ refusal. pass.new.hand ≡ None) }
     ensures kept { KeepsSlots pass.old pass.new }
+    ensures one { length pass.old.pool ≤ length pass.new.pool + 1 }
+    ensures shared { SharesWhereFull 2 pass.old pass.new }
     ensures advances { AdvancesWhereNeeded pass.old pass.new }
     // No condition speaks of another pass: none can hold it up.
     ensures ready { pass.old.pool ≢ [] → 80 ≤ budget → IsTakenOrSpent result }
@@ -58,11 +60,13 @@ pub fn take_counted(slots: &Slots, pass: &mut Pass, budget: u32) -> Result<(Hand
     ensures steps { TookWithin pass.old.trace pass.new.trace budget }
     ensures counted { IfOk result (λ r. (r.1 ≤ budget) × Took pass.old.trace pass.new.trace r.1) }
     ensures ok { IfOk result (λ r. IsTaken pass.old pass.new r.0) }
-    ensures refused { IfErr result (λ refusal. IsRefused pass.old pass.new budget refusal) }
+    ensures refused { IfErr result (λ refusal. TakeIsRefused pass.old pass.new budget refusal) }
     ensures room { IfErr result (λ refusal. HadRoom pass.old pass.new budget refusal) }
     ensures pool { IfErr result (λ refusal. LeavesPool pass.old pass.new) }
     ensures hand { IfErr result (λ refusal. pass.new.hand ≡ None) }
     ensures kept { KeepsSlots pass.old pass.new }
+    ensures one { length pass.old.pool ≤ length pass.new.pool + 1 }
+    ensures shared { SharesWhereFull 2 pass.old pass.new }
     ensures advances { AdvancesWhereNeeded pass.old pass.new }
     // No condition speaks of another pass: none can hold it up.
     ensures ready { pass.old.pool ≢ [] → 80 ≤ budget → IsTakenOrSpent result }
@@ -82,10 +86,10 @@ fn claim(slots: &Slots, pass: &mut Pass, budget: u32) -> Result<u32, TakeRefusal
     requires own { IsOf pass.old.trace slots.now }
     requires empty_hand { pass.old.hand ≡ None }
     ensures quiet { Quiet pass.old.trace pass.new.trace }
-    ensures raises_none { RaisesNone pass.old pass.new }
+    ensures takes_no_slot { TakesNoSlot pass.old pass.new }
     ensures ok { IfOk result (λ used. HasSlots pass.old pass.new budget used) }
     ensures empty { IfErr result (λ refusal. pass.old.pool ≡ []) }
-    ensures refused { IfErr result (λ refusal. IsRefused pass.old pass.new budget refusal) }
+    ensures refused { IfErr result (λ refusal. TakeIsRefused pass.old pass.new budget refusal) }
     ensures steps { IfErr result (λ refusal. TookWithin pass.old.trace pass.new.trace budget) }
     ensures pool { IfErr result (λ refusal. KeepsPool pass.old pass.new) }
     ensures few { IfOk result (λ used. pass.old.pool ≡ [] → IsAlone pass.old.trace pass.new.trace → used ≤ steps_to_claim pass.old.trace.shape) }
@@ -115,7 +119,7 @@ fn claim(slots: &Slots, pass: &mut Pass, budget: u32) -> Result<u32, TakeRefusal
 }
 
 // Reads the epoch and chooses the oldest slot of the own pool that is stamped below it. If there is none,
-// raises the epoch, where it is still that one and not the last, and chooses the oldest slot. Returns
+// advances the epoch, where it is still that one and not the last, and chooses the oldest slot. Returns
 // the slot, and how many steps were used.
 fn choose(slots: &Slots, pass: &mut Pass, budget: u32, used: u32) -> Result<(u32, u32), TakeRefusal>
     requires own { IsOf pass.old.trace slots.now }
@@ -127,6 +131,7 @@ fn choose(slots: &Slots, pass: &mut Pass, budget: u32, used: u32) -> Result<(u32
     ensures ok { IfOk result (λ r. IsChosen pass.old pass.new budget used r.0 r.1) }
     ensures refused { IfErr result (λ refusal. Stops pass.old pass.new budget used (length pass.old.pool + 1) refusal) }
     ensures kept { KeepsSlots pass.old pass.new }
+    ensures shared { SharesWhereFull 1 pass.old pass.new }
     ensures advances { AdvancesWhereNeeded pass.old pass.new }
 {
     if !affords(budget, used) {
@@ -163,9 +168,9 @@ fn scan(
     ensures pool { KeepsPool pass.old pass.new }
     ensures own { OwnPool pass.new.trace.shape (knows pass.new.trace) pass.new.pool pass.new.hand }
     ensures known { knows pass.new.trace ≡ knows pass.old.trace }
-    ensures advances { advances pass.new.trace ≡ advances pass.old.trace }
+    ensures takes_no_slot { TakesNoSlot pass.old pass.new }
     ensures ok { IfOk result (λ r. IsScanned pass.old pass.new epoch budget used r.0 r.1) }
-    ensures refused { IfErr result (λ refusal. IsShort pass.old pass.new budget used (length pass.old.pool) refusal) }
+    ensures refused { IfErr result (λ refusal. TakeIsShort pass.old pass.new budget used (length pass.old.pool) refusal) }
 {
     for i in 0..pass.pool().len() {
         if !affords(budget, used) {
@@ -196,7 +201,7 @@ fn bear(
     requires empty_hand { pass.old.hand ≡ None }
     ensures ok { IfOk result (λ r. IsBorn pass.old pass.new slot budget used r.0) }
     ensures used { IfOk result (λ r. r.1 ≡ used + 1) }
-    ensures refused { IfErr result (λ refusal. IsShort pass.old pass.new budget used 0 refusal) }
+    ensures refused { IfErr result (λ refusal. TakeIsShort pass.old pass.new budget used 0 refusal) }
     ensures same { OnErr result (pass.new ≡ pass.old) }
 {
     if !affords(budget, used) {

@@ -1,11 +1,10 @@
 -- How the program ends.
-use Rattle.std.specs.Prelude.{◌≡◌, ℕ, List, ◌++◌, ◌⊎◌, Option, Some, Result, Ok, Err, codes, decimal}
+use Rattle.std.specs.Prelude.{◌≡◌, ℕ, List, ◌++◌, ◌⊎◌, Option, Result, Ok, Err, codes, decimal}
 use Rattle.std.specs.Io.KnownBytes.{Keeps}
 use Rattle.vbr_words.specs.declared.shape.ShapeError.{ShapeError}
 use Rattle.vbr_words.specs.declared.shape.ShapeError.TheVariants as shape
 use Rattle.vbr_script.specs.Grammar.{fault_number}
 use Rattle.vbr_settings.specs.Settings.{Settings}
-use Rattle.vbr_settings.specs.Options.{shape_fault}
 use Rattle.vbr_transcript.specs.Layout.{line}
 use Rattle.vbr_transcript.specs.Writing.{AppendsSome}
 use Rattle.vbr_player.specs.Playing.{Plays}
@@ -41,21 +40,21 @@ abbrev pub shape_line : ShapeError → List ℕ
 shape_line error = line (codes "vbr_run: shape fault " ++ decimal (shape_fault_number error))
 
 -- The status and the standard error tell the player's answer: nothing is told of a run that was done, and else as much of the error's line as could be written.
-abbrev pub Tells : Result Totals RunError → Option (List ℕ) → Option (List ℕ) → ℕ → Type 0
-Tells (Ok totals) old new status = (status ≡ DONE) × Keeps old new
-Tells (Err e) old new status = (status ≡ error_status e) × AppendsSome old new (error_line e)
+abbrev pub TellsRun : Result Totals RunError → Option (List ℕ) → Option (List ℕ) → ℕ → Type 0
+TellsRun (Ok totals) old new status = (status ≡ DONE) × Keeps old new
+TellsRun (Err e) old new status = (status ≡ error_status e) × AppendsSome old new (error_line e)
 
 -- a request for the help or the version: it is on standard output, or as much of it as could be written
 abbrev pub Helps : Option (List ℕ) → Option (List ℕ) → ℕ → Type 0
 Helps old new status = ((status ≡ DONE) ⊎ (status ≡ DEVICE_FAULT)) × ((help : List ℕ) × AppendsSome old new help)
 
 -- a fault in the options: nothing is written to standard output
-abbrev pub Refuses : Option (List ℕ) → Option (List ℕ) → ℕ → Type 0
-Refuses old new status = (status ≡ USAGE) × Keeps old new
+abbrev pub IsFault : Option (List ℕ) → Option (List ℕ) → ℕ → Type 0
+IsFault old new status = (status ≡ USAGE) × Keeps old new
 
 -- a script was played with these settings, and that is told
 abbrev pub IsPlayed : Settings → Option (List ℕ) → Option (List ℕ) → Option (List ℕ) → Option (List ℕ) → Option (List ℕ) → ℕ → Type 0
-IsPlayed settings left old new errors_old errors_new status = (answer : Result Totals RunError) × Plays settings left old new answer × Tells answer errors_old errors_new status
+IsPlayed settings left old new errors_old errors_new status = (answer : Result Totals RunError) × Plays settings left old new answer × TellsRun answer errors_old errors_new status
 
 -- there is no such shape: nothing is written to standard output, and that is told
 abbrev pub IsUnshaped : ShapeError → Option (List ℕ) → Option (List ℕ) → Option (List ℕ) → Option (List ℕ) → ℕ → Type 0

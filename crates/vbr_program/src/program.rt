@@ -4,7 +4,7 @@ ghost use Rattle.clap.specs.Words.{kind_of};
 ghost use Rattle.vbr_words.specs.declared.shape.ShapeError.{ShapeError};
 ghost use Rattle.vbr_settings.specs.Options.{AreOptions, settings_of, shape_fault};
 ghost use Rattle.vbr_program.specs.declared.program.TheConstants.{USAGE};
-ghost use Rattle.vbr_program.specs.Program.{IsPlayed, IsUnshaped, Helps, Refuses, LacksMemory};
+ghost use Rattle.vbr_program.specs.Program.{IsPlayed, IsUnshaped, Helps, IsFault, LacksMemory};
 
 use crate::report::{report, report_shape};
 use clap::error::ErrorKind;
@@ -65,7 +65,7 @@ pub fn run<T: Threads + Wait, R: Read, W: Write, E: Write>(
         IsUnshaped error (W.contents writer.old) (W.contents writer.new) (E.contents errors.old) (E.contents errors.new) result
         ⊎ LacksMemory (W.contents writer.old) (W.contents writer.new) (E.contents errors.old) (E.contents errors.new) result }
     ensures others { IsPlayed (settings_of (map (λ word. word.now) words.now)) (R.remaining reader.old) (W.contents writer.old) (W.contents writer.new) (E.contents errors.old) (E.contents errors.new) result
-        ⊎ (Helps (W.contents writer.old) (W.contents writer.new) result ⊎ Refuses (W.contents writer.old) (W.contents writer.new) result) }
+        ⊎ (Helps (W.contents writer.old) (W.contents writer.new) result ⊎ IsFault (W.contents writer.old) (W.contents writer.new) result) }
     ensures unread { result ≡ USAGE → reader.new ≡ reader.old }
 {
     match read_options(alloc, words) {
@@ -89,7 +89,7 @@ fn show<W: Write, E: Write>(
     ensures memory { kind_of refusal.now ≡ ErrorKind.OutOfMemory →
         LacksMemory (W.contents writer.old) (W.contents writer.new) (E.contents errors.old) (E.contents errors.new) result }
     ensures others { LacksMemory (W.contents writer.old) (W.contents writer.new) (E.contents errors.old) (E.contents errors.new) result
-        ⊎ (Helps (W.contents writer.old) (W.contents writer.new) result ⊎ Refuses (W.contents writer.old) (W.contents writer.new) result) }
+        ⊎ (Helps (W.contents writer.old) (W.contents writer.new) result ⊎ IsFault (W.contents writer.old) (W.contents writer.new) result) }
 {
     if refusal.kind() == ErrorKind::OutOfMemory {
         return report(errors, RunError::Memory);

@@ -9,6 +9,7 @@ use std::test::Fail;
 use std::thread::Threads;
 use vbr_run::{Config, Gate, Reply, Totals, play};
 use vbr_words::Shape;
+use vbr_words::shape::MAX_EPOCH;
 
 // How often a wait looks at its flag before it gives up.
 const LOOKS: u32 = 1_000_000_000;
@@ -20,7 +21,7 @@ fn play_at<T: Threads + Wait, G: Gate + Sync>(
     mut script: &[u8],
     gate: &G,
 ) -> Result<(Vec<u8>, Totals), Fail> {
-    let shape = Shape::new(1024, 16, 8_796_093_022_207)?;
+    let shape = Shape::new(1024, 16, MAX_EPOCH)?;
     let config = Config::new(shape, 2, 100_000, false)?;
     let mut output = Vec::new(alloc);
     let totals = play(rt, alloc, config, &mut script, &mut output, gate)?;

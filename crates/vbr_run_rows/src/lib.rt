@@ -8,8 +8,4 @@ mod gates;
 #[cfg(test)]
 mod player;
 #[cfg(test)]
-mod random_runs;
-#[cfg(test)]
 mod scripts;
-#[cfg(test)]
-mod sized_runs;

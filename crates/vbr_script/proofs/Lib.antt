@@ -1,4 +1,4 @@
 mod Numerals
 mod Splitting
-pub mod PhasedScripts
-pub mod LinesRead
+mod PhasedScripts
+mod LinesRead

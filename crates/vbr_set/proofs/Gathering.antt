@@ -13,7 +13,8 @@ use Rattle.vbr_core.specs.Incarnations.{State, Unborn, InHand, GivenUp, Linked, 
 use Rattle.vbr_core.specs.declared.event.Event.{Event}
 use Rattle.vbr_core.specs.Nodes.{count_below, is_linked, is_marked, state_in, is_listed, key_in}
 use Rattle.vbr_set.specs.Walking.{AreAfter, NotesLists, linked_keys, noted}
-use Rattle.vbr_set.proofs.ShownNodes.{key_read, link_read, mark_of_node, stands_in}
+use Rattle.vbr_set.proofs.ShownNodes.{key_read, link_read, mark_of_node}
+use Rattle.vbr_core.proofs.Lemmas.{stands_in}
 
 -- what was gathered from the slots below a number
 pub record Gathered (a : Incarnations) (slot : ℕ) (keys : List ℕ) (live marked : ℕ) : Type 0 where

@@ -8,11 +8,10 @@ use Rattle.vbr_core.specs.declared.event.Event.{Event}
 use Rattle.vbr_core.specs.declared.event.Step.TheVariants.{ReadEpoch}
 use Rattle.vbr_core.specs.declared.history.Call.{Call}
 use Rattle.vbr_core.specs.declared.history.Op.{Op}
-use Rattle.vbr_core.proofs.RunsGoOn.{is_run_before, others_leave_calls}
-use Rattle.vbr_core.proofs.SafeRuns.{every_run}
+use Rattle.vbr_core.proofs.Lemmas.{every_run, is_run_before, others_leave_calls}
 use Rattle.vbr_slots.specs.Calls.{Made}
-use Rattle.vbr_slots.specs.Views.{TableView, Trace, IsOf, Did}
-use Rattle.vbr_slots.proofs.Calls.{did_quiet, did_run}
+use Rattle.vbr_slots.specs.Views.{Trace, Did}
+use Rattle.vbr_slots.proofs.Lemmas.{did_quiet, did_run}
 use Rattle.vbr_access.specs.Soundness.{HasSafeRun}
 use Rattle.vbr_set.specs.Answers.{Answers}
 use Rattle.vbr_set.specs.Histories.{ReadsAreRight}
@@ -20,10 +19,6 @@ use Rattle.vbr_set.specs.Meetings.{Shares}
 
 shape_of : (p q : Dimensions) → q ≡ p → IsShape p → IsShape q
 shape_of p q is shape = let P : Dimensions → Type 0 = IsShape in subst P (sym is) shape
-
--- a pass of a table has its shape
-pub shape_known : {inside table : TableView} (p : Trace) → inside ≡ table → IsOf p table → IsShape inside.shape → IsShape p.shape
-shape_known {inside} {table} p is of shape = shape_of inside.shape p.shape (of.1 ∙ sym (ap (λ (t : TableView). t.shape) is)) shape
 
 -- each beginning of a run is a run, so its reads are right
 pub reads_right : (shape : Dimensions) (passes : ℕ) (run : List Event) → IsShape shape → IsRun shape passes run → ReadsAreRight shape run

@@ -1,4 +1,4 @@
-pub mod Histories
+mod Histories
 mod ShownNodes
 mod Walks
 mod Gathering

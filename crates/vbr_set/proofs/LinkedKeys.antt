@@ -18,11 +18,11 @@ use Rattle.vbr_core.specs.Keys.{Lists, no_keys}
 use Rattle.vbr_core.specs.Sound.{IsListed, Sound, Tells}
 use Rattle.vbr_core.specs.declared.event.Event.{Event}
 use Rattle.vbr_core.specs.declared.history.Call.{Call}
-use Rattle.vbr_core.proofs.Lists.{keys_differ}
+use Rattle.vbr_core.proofs.Lemmas.{keys_differ, stands_in, stands_key, stands_there}
 use Rattle.vbr_set.specs.Histories.{calls_of}
-use Rattle.vbr_core.specs.Nodes.{is_linked, state_in, key_in, is_listed}
+use Rattle.vbr_core.specs.Nodes.{is_linked, state_in, key_in, is_listed, Stands}
 use Rattle.vbr_set.specs.Walking.{AreAfter, linked_keys}
-use Rattle.vbr_set.proofs.ShownNodes.{Stands, agrees, stands_in, stands_key, stands_state, stands_there}
+use Rattle.vbr_set.proofs.ShownNodes.{agrees, stands_state}
 
 -- ---- linked nodes
 
@@ -49,7 +49,7 @@ linked_in a s e =
 -- ---- the keys of the list
 
 -- a slot below a number has a linked node with this key
-record Has (a : Incarnations) (n key : ℕ) : Type 0 where
+record HasKeyBelow (a : Incarnations) (n key : ℕ) : Type 0 where
   slot : ℕ
   low : slot < n
   linked : is_linked (state_in a slot) ≡ true
@@ -62,14 +62,14 @@ or_no : (b : Bool) → (b || false) ≡ true → b ≡ true
 or_no true e = refl
 or_no false e = e
 
-has_from : (a : Incarnations) (n key : ℕ) → list_any (nat_eq key) (linked_keys a n) ≡ true → Has a n key
+has_from : (a : Incarnations) (n key : ℕ) → list_any (nat_eq key) (linked_keys a n) ≡ true → HasKeyBelow a n key
 has_from a zero key e = absurd (false≢true e)
 has_from a (suc n) key e = go (λ before. has_from a n key before) (cases_Bool (is_linked (state_in a n)))
   where
-    more : Has a n key → Has a (suc n) key
+    more : HasKeyBelow a n key → HasKeyBelow a (suc n) key
     more h = record { slot = h.slot; low = (let l = h.low in omega arith); linked = h.linked; is = h.is }
 
-    go : (list_any (nat_eq key) (linked_keys a n) ≡ true → Has a n key) → (is_linked (state_in a n) ≡ true) ⊎ (is_linked (state_in a n) ≡ false) → Has a (suc n) key
+    go : (list_any (nat_eq key) (linked_keys a n) ≡ true → HasKeyBelow a n key) → (is_linked (state_in a n) ≡ true) ⊎ (is_linked (state_in a n) ≡ false) → HasKeyBelow a (suc n) key
     go earlier (inr not_linked) = more (earlier (sym (ap (λ b. list_any (nat_eq key) (cond b (linked_keys a n ++ key_in a n ∷ []) (linked_keys a n))) not_linked) ∙ e))
     go earlier (inl linked) =
         ⊎_elim
@@ -77,7 +77,7 @@ has_from a (suc n) key e = go (λ before. has_from a n key before) (cases_Bool (
         (λ here. record { slot = n; low = omega arith; linked = linked; is = sym (eqb-true key (key_in a n) (or_no _ here)) })
         (or_cases _ _ (sym (any_last a n key) ∙ sym (ap (λ b. list_any (nat_eq key) (cond b (linked_keys a n ++ key_in a n ∷ []) (linked_keys a n))) linked) ∙ e))
 
-has_is : (a : Incarnations) (n key : ℕ) → Has a n key → list_any (nat_eq key) (linked_keys a n) ≡ true
+has_is : (a : Incarnations) (n key : ℕ) → HasKeyBelow a n key → list_any (nat_eq key) (linked_keys a n) ≡ true
 has_is a zero key h = absurd (let l = h.low in omega arith)
 has_is a (suc n) key h = go (λ low. has_is a n key (record { slot = h.slot; low = low; linked = h.linked; is = h.is })) (cases_lt h.slot n) (cases_Bool (is_linked (state_in a n)))
   where

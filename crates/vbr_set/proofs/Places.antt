@@ -5,35 +5,35 @@ use lib.ListN.{get_elem?}
 use Rattle.atomic_table.specs.Table.{State, Me, takes, gives, Allows}
 use Rattle.atomic_table.proofs.Lists.{set_here}
 use Rattle.vbr_slots.specs.Views.{PassView, TableView}
-use Rattle.vbr_set.specs.Places.{IsReady, Knows, IsAs, IsPlace}
+use Rattle.vbr_set.specs.Places.{IsIdle, SeatKnows, IsAs, IsPlace}
 
-abbrev Held : Type 0
-Held = List (ℕ × Option PassView)
+abbrev SlotValues : Type 0
+SlotValues = List (ℕ × Option PassView)
 
 -- a place is as its seat knows it
-as_known : (set : TableView) (s : State (Option PassView) Knows) (k : Knows) → IsPlace set s → get_elem? s.views 0 ≡ some k → IsAs set s k
+as_known : (set : TableView) (s : State (Option PassView) SeatKnows) (k : SeatKnows) → IsPlace set s → get_elem? s.views 0 ≡ some k → IsAs set s k
 as_known set s k place at =
-    let same : place.knows ≡ k = some-injective place.knows k (ap (λ (vs : List Knows). get_elem? vs 0) (sym place.seat) ∙ at) in
+    let same : place.knows ≡ k = some-injective place.knows k (ap (λ (vs : List SeatKnows). get_elem? vs 0) (sym place.seat) ∙ at) in
     subst (IsAs set s) same place.is
 
 -- the one view becomes another
-one_view : (vs : List Knows) (k l : Knows) → vs ≡ k ∷ [] → set vs 0 l ≡ l ∷ []
-one_view vs k l e = ap (λ (us : List Knows). set us 0 l) e
+one_view : (vs : List SeatKnows) (k l : SeatKnows) → vs ≡ k ∷ [] → set vs 0 l ≡ l ∷ []
+one_view vs k l e = ap (λ (us : List SeatKnows). set us 0 l) e
 
 -- a seat that knows nothing takes the slot, which is empty
-pub opens : (key : TableView) (n id : ℕ) (m : Me (Option PassView) Knows) → n ≡ 1 → id ≡ 0 → m ≡ (None, []) → Allows (IsPlace key) n id m 0 (λ _. 0) (λ _ after. after ≡ (Some None, (0, None) ∷ []))
-opens key n id m one_slot first e = subst (λ (x : ℕ × Me (Option PassView) Knows). Allows (IsPlace key) n x.0 x.1 0 (λ _. 0) (λ _ after. after ≡ (Some None, (0, None) ∷ []))) (λ i. (sym first i, sym e i))
+pub opens : (key : TableView) (n id : ℕ) (m : Me (Option PassView) SeatKnows) → n ≡ 1 → id ≡ 0 → m ≡ (None, []) → Allows (IsPlace key) n id m 0 (λ _. 0) (λ _ after. after ≡ (Some None, (0, None) ∷ []))
+opens key n id m one_slot first e = subst (λ (x : ℕ × Me (Option PassView) SeatKnows). Allows (IsPlace key) n x.0 x.1 0 (λ _. 0) (λ _ after. after ≡ (Some None, (0, None) ∷ []))) (λ i. (sym first i, sym e i))
     (λ s place wide me _. let known = as_known key s None place me in
     (Some None, takes 0 None, known.1, record { one = length-set s.words 0 0 ∙ place.one; knows = Some None; seat = one_view s.views place.knows (Some None) place.seat; is = get_or-set_same s.words 0 0 0 (let one = place.one in omega arith) }, refl))
 
-abbrev held_first : Held → Knows
+abbrev held_first : SlotValues → SeatKnows
 held_first [] = None
 held_first (x ∷ xs) = Some x.1
 
 -- a seat that has the slot gives it back, with a pass in it
-pub lays : (key : TableView) (n id : ℕ) (m : Me (Option PassView) Knows) (pass : PassView) → n ≡ 1 → id ≡ 0 → m ≡ (Some None, (0, Some pass) ∷ []) → IsReady key pass
+pub lays : (key : TableView) (n id : ℕ) (m : Me (Option PassView) SeatKnows) (pass : PassView) → n ≡ 1 → id ≡ 0 → m ≡ (Some None, (0, Some pass) ∷ []) → IsIdle key pass
     → Allows (IsPlace key) n id m 0 (λ _. 1) (λ _ after. (p : PassView) → m.1 ≡ (0, Some p) ∷ [] → after ≡ (Some (Some p), []))
 lays key n id m pass one_slot first e ready =
-    subst (λ (x : ℕ × Me (Option PassView) Knows). Allows (IsPlace key) n x.0 x.1 0 (λ _. 1) (λ _ after. (p : PassView) → x.1.1 ≡ (0, Some p) ∷ [] → after ≡ (Some (Some p), []))) (λ i. (sym first i, sym e i))
+    subst (λ (x : ℕ × Me (Option PassView) SeatKnows). Allows (IsPlace key) n x.0 x.1 0 (λ _. 1) (λ _ after. (p : PassView) → x.1.1 ≡ (0, Some p) ∷ [] → after ≡ (Some (Some p), []))) (λ i. (sym first i, sym e i))
     (λ s place wide me _.
     (Some (Some pass), gives, tt, record { one = length-set s.words 0 1 ∙ place.one; knows = Some (Some pass); seat = one_view s.views place.knows (Some (Some pass)) place.seat; is = (set_here s.homes 0 (some (Some pass)) (omega arith), ready) }, λ p same. let f = ap held_first same in λ i. (f i, [])))

@@ -6,16 +6,22 @@ use Rattle.atomic_table.specs.Seated.{TableId}
 use Rattle.atomic_table.specs.Table.{Me}
 use Rattle.vbr_slots.specs.Views.{PassView, TableView, new_passes}
 use Rattle.vbr_set.specs.Members.{MemberView}
-use Rattle.vbr_set.specs.Places.{IsReady, Knows}
-use Rattle.vbr_set.specs.Seats.{PlaceSeat, AreSeats, AreSeated}
+use Rattle.vbr_set.specs.Places.{IsIdle, SeatKnows}
+use Rattle.vbr_set.specs.Seats.{PlaceSeat, AreSeats}
 use Rattle.vbr_set.specs.Sharing.{IsSeatOf, ArePlacesOf}
 use Rattle.vbr_set.specs.declared.place.Place.{Place}
+
+-- each pass is one of the set and has its seat
+abbrev pub AreSeated : TableView → List Place → List PassView → List PlaceSeat → Type 0
+AreSeated set places [] seats = Unit {0}
+AreSeated set places (pass ∷ passes) [] = ⊥
+AreSeated set places (pass ∷ passes) (seat ∷ seats) = IsIdle set pass × IsSeatOf places pass.trace.who seat.table_id seat.id seat.me × AreSeated set places passes seats
 
 longer : (places : List Place) (place : Place) → length (places ++ place ∷ []) ≡ length places + 1
 longer places place = length-append places (place ∷ [])
 
 -- a seat stays one where a place is added behind the others
-place_more : (places : List Place) (place : Place) (who : ℕ) (table : TableId) (id : ℕ) (me : Me (Option PassView) Knows) → IsSeatOf places who table id me → IsSeatOf (places ++ place ∷ []) who table id me
+place_more : (places : List Place) (place : Place) (who : ℕ) (table : TableId) (id : ℕ) (me : Me (Option PassView) SeatKnows) → IsSeatOf places who table id me → IsSeatOf (places ++ place ∷ []) who table id me
 place_more places place who table id me s =
     let there = s.there in let long = longer places place in
     record { there = omega arith; fits = λ d. s.fits d ∙ ap (λ (p : Place). p.table.shared.table_id) (sym (get_or_append_left places (place ∷ []) d who there)); first = s.first; fresh = s.fresh }
@@ -58,7 +64,7 @@ seated set places who (suc n) (seat ∷ seats) e s =
 
 -- the first pass with its seat, and the others
 pub seated_rest : (set : TableView) (places : List Place) (passes rest : List PassView) (pass : PassView) (seats others : List PlaceSeat) (seat : PlaceSeat) → passes ≡ pass ∷ rest → seats ≡ seat ∷ others
-    → AreSeated set places passes seats → IsReady set pass × IsSeatOf places pass.trace.who seat.table_id seat.id seat.me × AreSeated set places rest others
+    → AreSeated set places passes seats → IsIdle set pass × IsSeatOf places pass.trace.who seat.table_id seat.id seat.me × AreSeated set places rest others
 seated_rest set places passes rest pass seats others seat e f s = subst (λ (x : List PassView × List PlaceSeat). AreSeated set places x.0 x.1) (λ i. (e i, f i)) s
 
 -- there is a seat for each pass

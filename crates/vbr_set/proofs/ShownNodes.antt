@@ -1,5 +1,5 @@
 -- The nodes that the words of a closed table show: of each slot the link and the key of its last incarnation, and what stands in the lists.
-use Rattle.std.proofs.Common.{◌≡◌, ℕ, ◌<◌, true, List, Option, Some, None, refl, sym, ap, ◌∙◌, arith}
+use Rattle.std.proofs.Common.{◌≡◌, ℕ, ◌<◌, List, Option, refl, sym, ap, ◌∙◌}
 use Rattle.std.specs.Prelude.{slice_index}
 use Rattle.vbr_words.specs.Dimensions.{Dimensions}
 use Rattle.vbr_words.specs.Places.{IsIn, index_of, place_of}
@@ -7,19 +7,17 @@ use Rattle.vbr_words.specs.Words.{link_of}
 use Rattle.vbr_words.specs.declared.place.At.{At}
 use Rattle.vbr_words.specs.declared.place.At.TheVariants.{Head, Slot}
 use Rattle.vbr_words.specs.declared.place.Place.TheVariants as place
-use Rattle.vbr_words.proofs.LinkWords.{link_of-word_of}
+use Rattle.vbr_words.proofs.Lemmas.{link_of-word_of}
 use Rattle.vbr_core.specs.Accounts.{incarnations_after, notes_after}
-use Rattle.vbr_core.specs.Agreement.{Agrees, Fits}
-use Rattle.vbr_core.specs.Images.{key_shown, slot_shown, link_in_state, link_shown, link_at}
+use Rattle.vbr_core.specs.Agreement.{Agrees}
+use Rattle.vbr_core.specs.Images.{slot_shown, link_in_state, link_shown, link_shown_at}
 use Rattle.vbr_core.specs.Incarnations.{State, Unborn, InHand, GivenUp, Linked, Marked, Unlinked, Stamped, Incarnations}
 use Rattle.vbr_core.specs.Runs.{world_after}
 use Rattle.vbr_core.specs.Safety.{IsSafe}
-use Rattle.vbr_core.specs.Sound.{IsListed, Sound}
+use Rattle.vbr_core.specs.Sound.{IsListed}
 use Rattle.vbr_core.specs.declared.event.Event.{Event}
-use Rattle.vbr_core.proofs.EveryRun.{run_agrees}
-use Rattle.vbr_core.proofs.SafeRuns.{every_run}
-use Rattle.vbr_core.proofs.Slots.{late_born, listed_late, listed_last}
-use Rattle.vbr_core.specs.Nodes.{state_shown, state_in, is_marked, is_listed, key_in}
+use Rattle.vbr_core.proofs.Lemmas.{every_run, run_agrees}
+use Rattle.vbr_core.specs.Nodes.{state_shown, state_in, is_marked, key_in, Stands}
 use Rattle.vbr_set.specs.Walking.{AreAfter}
 
 -- ---- words
@@ -31,7 +29,7 @@ pub safe : {shape : Dimensions} {words : List ℕ} {run : List Event} → AreAft
 safe {shape} {words} {run} x = every_run shape x.passes run x.is_shape x.is_run
 
 -- the link of a word is the one that the incarnations show there
-pub link_read : {shape : Dimensions} {words : List ℕ} {run : List Event} → AreAfter shape words run → (at : At) → IsIn shape (place_of at) → link_of (slice_index words (index_of shape (place_of at))) ≡ link_at (incarnations_after shape run) at
+pub link_read : {shape : Dimensions} {words : List ℕ} {run : List Event} → AreAfter shape words run → (at : At) → IsIn shape (place_of at) → link_of (slice_index words (index_of shape (place_of at))) ≡ link_shown_at (incarnations_after shape run) at
 link_read {shape} {words} {run} x (Head b) is = ap link_of (x.are.each (place.Head b) is) ∙ link_of-word_of ((world_after shape run).head b) ((safe x).links (Head b)) ∙ (agrees x).image.head b
 link_read {shape} {words} {run} x (Slot s) is = ap link_of (x.are.each (place.LinkOf s) is) ∙ link_of-word_of ((world_after shape run).link s) ((safe x).links (Slot s)) ∙ (agrees x).image.link s
 
@@ -40,36 +38,8 @@ key_read x s is = x.are.each (place.Key s) is ∙ (agrees x).image.key s
 
 -- ---- nodes in lists
 
--- the last incarnation of a slot is this one, and it is in a list
-pub record Stands (a : Incarnations) (s c : ℕ) : Type 0 where
-  pub last : a.last s ≡ Some c
-  pub listed : IsListed (a.state c)
-
-listed_from : (st : State) → is_listed st ≡ true → IsListed st
-listed_from st e = grind arith
-
-listed_is : (st : State) → IsListed st → is_listed st ≡ true
-listed_is st l = grind arith
-
-pub stands_in : (a : Incarnations) (s : ℕ) → is_listed (state_in a s) ≡ true → (c : ℕ) × Stands a s c
-stands_in a s e = go (a.last s) refl e
-  where
-    go : (last : Option ℕ) → a.last s ≡ last → is_listed (state_shown a last) ≡ true → (c : ℕ) × Stands a s c
-    go None is e = absurd (listed_from Unborn e)
-    go (Some c) is e = (c, record { last = is; listed = listed_from (a.state c) e })
-
 pub stands_state : {a : Incarnations} {s c : ℕ} → Stands a s c → state_in a s ≡ a.state c
 stands_state {a} n = ap (state_shown a) n.last
-
-pub stands_listed : {a : Incarnations} {s c : ℕ} → Stands a s c → is_listed (state_in a s) ≡ true
-stands_listed {a} {s} {c} n = ap is_listed (stands_state n) ∙ listed_is (a.state c) n.listed
-
-pub stands_key : {a : Incarnations} {s c : ℕ} → Stands a s c → key_in a s ≡ a.key c
-stands_key {a} n = ap (key_shown a) n.last
-
--- a node in a list stands in its slot
-pub stands_there : {shape : Dimensions} {a : Incarnations} → Sound shape a → Fits shape a → (n : ℕ) → IsListed (a.state n) → (a.slot n < shape.slots) × Stands a (a.slot n) n
-stands_there {shape} {a} sound fits n l = (fits.slot n (late_born sound.slots n 0 (listed_late (a.state n) 0 l)), record { last = listed_last sound.slots n l; listed = l })
 
 -- its link names the slot of its successor, and has the mark once the node is marked
 next_named : (a : Incarnations) (c : ℕ) (st : State) → IsListed st → (link_in_state a c st).slot ≡ slot_shown a (a.next c)

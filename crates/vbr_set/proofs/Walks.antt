@@ -1,7 +1,7 @@
 -- A walk along the list of a bucket: the slots noted so far are those whose nodes stand before the one that is reached.
 use Rattle.std.proofs.Common.{◌≡◌, ◌≢◌, ℕ, ◌+◌, ◌-◌, ◌^◌, ◌<◌, Bool, true, false, List, length, set, Option, Some, None, refl, sym, ap, ◌∙◌, subst, inl, inr, arith, get_or-set_other, get_or-set_same}
 use Rattle.std.specs.Prelude.{slice_index, nat_lt, nat_eq, ◌&&◌, ◌||◌, ◌⊎◌}
-use Rattle.std.proofs.lemmas.Bool.{and_parts, and_from, and_left, cases_Bool, cases_eq, eq-eqb, eqb-true, le-ltb, lt-ltb}
+use Rattle.std.proofs.lemmas.Bool.{and_from, and_left, cases_Bool, cases_eq, le-ltb, lt-ltb}
 use Rattle.std.proofs.lemmas.Bool.Decides.{nat_tests}
 use Rattle.vbr_words.specs.Dimensions.{Dimensions}
 use Rattle.vbr_words.specs.Places.{index_of}
@@ -16,10 +16,10 @@ use Rattle.vbr_core.specs.Images.{slot_shown}
 use Rattle.vbr_core.specs.Incarnations.{Incarnations}
 use Rattle.vbr_core.specs.Sound.{IsApart, IsFrom, IsListed, Sound}
 use Rattle.vbr_core.specs.declared.event.Event.{Event}
-use Rattle.vbr_core.proofs.Lists.{next_listed}
-use Rattle.vbr_core.specs.Nodes.{state_in, is_in_list, is_listed, key_in}
+use Rattle.vbr_core.proofs.Lemmas.{in_list_from, in_list_is, next_listed, one_slot, stands_key, stands_there}
+use Rattle.vbr_core.specs.Nodes.{state_in, is_in_list, is_listed, key_in, Stands, InList}
 use Rattle.vbr_set.specs.Walking.{AreAfter, NotesList, NotesLists, noted}
-use Rattle.vbr_set.proofs.ShownNodes.{Stands, agrees, key_read, link_read, next_of_node, stands_in, stands_key, stands_listed, stands_there}
+use Rattle.vbr_set.proofs.ShownNodes.{agrees, key_read, link_read, next_of_node}
 
 -- whether the node of a slot stands before the node that is reached, or there is none any more
 abbrev pub is_before : Incarnations → ℕ → Option ℕ → Bool
@@ -27,13 +27,13 @@ is_before a s None = true
 is_before a s (Some t) = nat_lt (key_in a s) (key_in a t)
 
 -- the slot that is reached has a node of the list
-abbrev pub IsReached : Dimensions → Incarnations → ℕ → Option ℕ → Type 0
-IsReached shape a bucket None = Unit {0}
-IsReached shape a bucket (Some t) = (t < shape.slots) × (is_in_list shape a bucket t ≡ true)
+abbrev pub IsNextNode : Dimensions → Incarnations → ℕ → Option ℕ → Type 0
+IsNextNode shape a bucket None = Unit {0}
+IsNextNode shape a bucket (Some t) = (t < shape.slots) × (is_in_list shape a bucket t ≡ true)
 
 -- the walk has come to this slot, or to the end of the list
 pub record Walked (shape : Dimensions) (a : Incarnations) (bucket : ℕ) (before now : List Bool) (next : Option ℕ) : Type 0 where
-  pub reached : IsReached shape a bucket next
+  pub reached : IsNextNode shape a bucket next
   pub notes : (s : ℕ) → s < shape.slots → noted now s ≡ (noted before s || (is_in_list shape a bucket s && is_before a s next))
 
 -- the slot is named otherwise
@@ -47,29 +47,11 @@ left shape words (Some t) = 2 ^ 64 - slice_index words (index_of shape (place.Ke
 
 -- ---- nodes of one list
 
--- the node of a slot is in the list of a bucket
-pub record InList (shape : Dimensions) (a : Incarnations) (bucket s c : ℕ) : Type 0 where
-  pub stands : Stands a s c
-  pub of_bucket : bucket_of shape (a.key c) ≡ bucket
-
-in_list_from : (shape : Dimensions) (a : Incarnations) (bucket s : ℕ) → is_in_list shape a bucket s ≡ true → (c : ℕ) × InList shape a bucket s c
-in_list_from shape a bucket s e =
-    let parts = and_parts _ _ e in
-    let node = stands_in a s parts.0 in
-    (node.0, record { stands = node.1; of_bucket = ap (bucket_of shape) (sym (stands_key node.1)) ∙ eqb-true _ _ parts.1 })
-
-in_list_is : {shape : Dimensions} {a : Incarnations} {bucket s c : ℕ} → InList shape a bucket s c → is_in_list shape a bucket s ≡ true
-in_list_is {shape} n = and_from _ _ (stands_listed n.stands) (eq-eqb _ _ (ap (bucket_of shape) (stands_key n.stands) ∙ n.of_bucket))
-
 -- a node in a list is there, in its slot
-in_list_there : {shape : Dimensions} {a : Incarnations} → Sound shape a → Fits shape a → (bucket n : ℕ) → IsListed (a.state n) → bucket_of shape (a.key n) ≡ bucket → IsReached shape a bucket (Some (a.slot n))
+in_list_there : {shape : Dimensions} {a : Incarnations} → Sound shape a → Fits shape a → (bucket n : ℕ) → IsListed (a.state n) → bucket_of shape (a.key n) ≡ bucket → IsNextNode shape a bucket (Some (a.slot n))
 in_list_there sound fits bucket n l is =
     let there = stands_there sound fits n l in
     (there.0, in_list_is (record { stands = there.1; of_bucket = is }))
-
--- two nodes of one slot are one
-one_slot : {shape : Dimensions} {a : Incarnations} → Sound shape a → (s t c : ℕ) → Stands a s c → Stands a t c → s ≡ t
-one_slot sound s t c here there = sym ((sound.slots.last_born s c here.last).1) ∙ (sound.slots.last_born t c there.last).1
 
 -- ---- keys along a list
 
@@ -128,7 +110,7 @@ first_notes {shape} {a} sound fits bucket s first is = go (cases_Bool (is_in_lis
         ∙ before_next sound fits s node.0 first node.1.stands (λ n q. (sound.lists.first_in bucket n (is ∙ q)).0)
         ∙ none_before_first a (a.key node.0) first from
 
-first_reached : {shape : Dimensions} {a : Incarnations} → Sound shape a → Fits shape a → (bucket : ℕ) (first : Option ℕ) → a.first bucket ≡ first → IsReached shape a bucket (slot_shown a first)
+first_reached : {shape : Dimensions} {a : Incarnations} → Sound shape a → Fits shape a → (bucket : ℕ) (first : Option ℕ) → a.first bucket ≡ first → IsNextNode shape a bucket (slot_shown a first)
 first_reached sound fits bucket None is = tt
 first_reached sound fits bucket (Some n) is = let f = sound.lists.first_in bucket n is in in_list_there sound fits bucket n f.0 f.1
 
@@ -151,7 +133,7 @@ module _ {shape : Dimensions} {a : Incarnations} (sound : Sound shape a) (fits :
   follows : (n : ℕ) → a.next c ≡ Some n → IsListed (a.state n)
   follows n q = next_listed sound c n q here.stands.listed
 
-  next_reached : (next : Option ℕ) → a.next c ≡ next → IsReached shape a bucket (slot_shown a next)
+  next_reached : (next : Option ℕ) → a.next c ≡ next → IsNextNode shape a bucket (slot_shown a next)
   next_reached None q = tt
   next_reached (Some n) q = in_list_there sound fits bucket n (follows n q) (sym ((sound.lists.ordered c n q).0) ∙ here.of_bucket)
 

@@ -30,12 +30,12 @@ IsBack set pass Lost = Unit {0}
 IsBack set pass (Memory member) = member ≡ record { set = set; pass = pass }
 
 -- there is no memory, and no pass is lost
-abbrev pub IsShort : EndError → Type 0
-IsShort Lost = ⊥
-IsShort (Memory member) = Unit {0}
+abbrev pub EndLacksMemory : EndError → Type 0
+EndLacksMemory Lost = ⊥
+EndLacksMemory (Memory member) = Unit {0}
 
 -- the answer to the last member: a report, or that there is no memory for it
 abbrev pub IsLast : Result (Option Report) EndError → Type 0
 IsLast (Ok None) = ⊥
 IsLast (Ok (Some report)) = Unit {0}
-IsLast (Err error) = IsShort error
+IsLast (Err error) = EndLacksMemory error

@@ -6,7 +6,7 @@ use Rattle.vbr_words.specs.Dimensions.{Dimensions}
 use Rattle.vbr_slots.specs.Alone.{IsAlone}
 use Rattle.vbr_slots.specs.Calls.{AddsAnswer, AddsNone, IsSame, OnlyLoads, Quiet}
 use Rattle.vbr_slots.specs.Views.{PassView, TableView, new_passes}
-use Rattle.vbr_pools.specs.Advances.{AdvancesWhereNeeded, KeepsSlots, RaisesNone}
+use Rattle.vbr_pools.specs.Advances.{AdvancesWhereNeeded, KeepsSlots, TakesNoSlot, SharesWhereFull}
 use Rattle.vbr_pools.specs.Budgets.{most_to_take}
 use Rattle.vbr_pools.specs.Steps.{TookWithin}
 use Rattle.vbr_access.specs.Soundness.{HasSafeRun}
@@ -32,26 +32,27 @@ pub record AreNew (shape : Dimensions) (count : ℕ) (members : List MemberView)
   pub counted : set.passes ≡ count
   pub are : members ≡ new_members set count
 
--- what an insert promises besides: it raises the epoch only where that is needed, keeps each slot that the pass could take then, and is refused where it must be; alone it has steps enough with a budget that is known before, and with a slot in the own pool it is answered, unless the epoch is spent
+-- what an insert promises besides: it advances the epoch only where that is needed, loses no slot, puts one into the shared pool only where its own has no more than two places left, and is refused where it must be; alone it has steps enough with a budget that is known before, and with a slot in the own pool it is answered, unless the epoch is spent
 pub record SparesInsert (p q : PassView) (key budget : ℕ) (answer : Result Bool Refusal) : Type 0 where
   pub advances : AdvancesWhereNeeded p q
   pub kept : KeepsSlots p q
+  pub shared : SharesWhereFull 2 p q
   pub refused : IfErr answer (IsRefused p q key budget)
   pub within : IfErr answer (λ refusal. IsAlone p.trace q.trace → LacksSteps (18 * listed_for p.trace key + most_to_take p.trace.shape p.pool + 14) budget refusal)
   pub ready : p.pool ≢ [] → IsAlone p.trace q.trace → 18 * listed_for p.trace key + 82 ≤ budget → IsAnsweredOrSpent answer
 
--- what a remove promises besides: it raises no epoch, and is refused for want of steps alone; alone it has steps enough with a budget that is known before
+-- what a remove promises besides: it advances no epoch, loses no slot, and is refused for want of steps alone; alone it has steps enough with a budget that is known before
 pub record SparesRemove (p q : PassView) (key budget : ℕ) (answer : Result Bool Refusal) : Type 0 where
-  pub raises_none : RaisesNone p q
+  pub takes_no_slot : TakesNoSlot p q
   pub refused : IfErr answer (IsTired p q budget)
   pub within : IfErr answer (λ refusal. IsAlone p.trace q.trace → budget < 9 * listed_for p.trace key + 11)
 
--- what a look-up promises besides: all its steps are loads, and its answer is all that it adds to the chronicle; it raises no epoch, and is refused for want of steps alone; alone it has steps enough with a budget that is known before
+-- what a look-up promises besides: all its steps are loads, and its answer is all that it adds to the chronicle; it advances no epoch, loses no slot, and is refused for want of steps alone; alone it has steps enough with a budget that is known before
 pub record SparesHas (p q : PassView) (key budget : ℕ) (answer : Result Bool Refusal) : Type 0 where
   pub only_loads : OnlyLoads p.trace q.trace
   pub adds : IfOk answer (λ reply. AddsAnswer (record { who = p.trace.who; op = Has; key = key; reply = reply }) p.trace q.trace)
   pub adds_none : IfErr answer (λ refusal. AddsNone p.trace q.trace)
-  pub raises_none : RaisesNone p q
+  pub takes_no_slot : TakesNoSlot p q
   pub refused : IfErr answer (IsTired p q budget)
   pub within : IfErr answer (λ refusal. IsAlone p.trace q.trace → budget < 5 * listed_for p.trace key + 11)
 

@@ -2,19 +2,23 @@
 pub use Rattle.vbr_words.specs.Dimensions.{Dimensions, IsShape}
 pub use Rattle.vbr_core.specs.Keys.{Keys, Lists, no_keys}
 pub use Rattle.vbr_core.specs.History.{IsLegal, calls_by, keys_after, reply_of, set_after}
-pub use Rattle.vbr_core.specs.Runs.{Begins, BeginsFor, IsRun}
+pub use Rattle.vbr_core.specs.Runs.{Begins, BeginsFor, IsRun, world_after}
+pub use Rattle.vbr_core.specs.Calls.{own_calls}
+pub use Rattle.vbr_core.specs.Nodes.{linked_after, marked_after}
 pub use Rattle.vbr_core.specs.Safety.{IsSafe}
 pub use Rattle.vbr_core.specs.declared.event.Event.{Event}
+pub use Rattle.vbr_core.specs.declared.event.Step.TheVariants.{ReadEpoch}
 pub use Rattle.vbr_core.specs.declared.history.Call.{Call}
 pub use Rattle.vbr_core.specs.declared.history.Op.{Op}
 pub use Rattle.vbr_core.specs.declared.history.Op.TheVariants.{Insert, Remove, Has}
 pub use Rattle.vbr_slots.specs.Alone.{IsAlone}
 pub use Rattle.vbr_slots.specs.Calls.{AddsAnswer, AddsNone, IsSame, OnlyLoads, Quiet, made_by}
 pub use Rattle.vbr_slots.specs.Closing.{AllOf, EachSeen, HandsBack, IsMissing}
-pub use Rattle.vbr_slots.specs.Views.{IsOf, KeepsPool, PassView, TableView, Trace, new_pass, new_passes}
-pub use Rattle.vbr_pools.specs.Advances.{AdvancesWhereNeeded, RaisesNone}
+pub use Rattle.vbr_slots.specs.Views.{Did, IsOf, KeepsPool, PassView, TableView, Trace, new_pass, new_passes}
+pub use Rattle.vbr_pools.specs.Advances.{AdvancesWhereNeeded, KeepsSlots, TakesNoSlot, SharesWhereFull}
 pub use Rattle.vbr_pools.specs.Budgets.{most_to_take}
 pub use Rattle.vbr_pools.specs.Steps.{TookWithin}
+pub use Rattle.vbr_access.specs.Soundness.{HasSafeRun}
 pub use Rattle.vbr_list.specs.Alone.{AnswersAlone}
 pub use Rattle.vbr_list.specs.Budgets.{IsAnsweredOrSpent, LacksSteps, listed_for}
 pub use Rattle.vbr_list.specs.Refusals.{IsRefused, IsTired}

@@ -6,23 +6,23 @@ use Rattle.atomic_table.specs.Table.{State}
 use Rattle.vbr_slots.specs.Views.{PassView, TableView, IsOf}
 
 -- a pass of the set that has no slot in hand
-pub record IsReady (set : TableView) (pass : PassView) : Type 0 where
+pub record IsIdle (set : TableView) (pass : PassView) : Type 0 where
   pub own : IsOf pass.trace set
   pub empty_hand : pass.hand ≡ None
 
 -- what a seat of a place knows: nothing; that the slot is out with it; or the pass that lies in the slot
-abbrev pub Knows : Type 0
-Knows = Option (Option PassView)
+abbrev pub SeatKnows : Type 0
+SeatKnows = Option (Option PassView)
 
 -- the place is as its seat knows it
-abbrev pub IsAs : TableView → State (Option PassView) Knows → Knows → Type 0
+abbrev pub IsAs : TableView → State (Option PassView) SeatKnows → SeatKnows → Type 0
 IsAs set s None = (slice_index s.words 0 ≡ 0) × (get_elem? s.homes 0 ≡ some (some None))
 IsAs set s (Some None) = slice_index s.words 0 ≡ 0
-IsAs set s (Some (Some pass)) = (get_elem? s.homes 0 ≡ some (some (Some pass))) × IsReady set pass
+IsAs set s (Some (Some pass)) = (get_elem? s.homes 0 ≡ some (some (Some pass))) × IsIdle set pass
 
 -- a place has one word and one seat, and is as the seat knows it
-pub record IsPlace (set : TableView) (s : State (Option PassView) Knows) : Type 0 where
+pub record IsPlace (set : TableView) (s : State (Option PassView) SeatKnows) : Type 0 where
   pub one : length s.words ≡ 1
-  pub knows : Knows
+  pub knows : SeatKnows
   pub seat : s.views ≡ knows ∷ []
   pub is : IsAs set s knows

@@ -5,7 +5,7 @@ use Rattle.atomic_table.specs.Seated.{TableId}
 use Rattle.atomic_table.specs.Table.{Me}
 use Rattle.std.specs.Prelude.{Option}
 use Rattle.vbr_slots.specs.Views.{PassView, TableView, IsOf}
-use Rattle.vbr_set.specs.Places.{Knows}
+use Rattle.vbr_set.specs.Places.{SeatKnows}
 use Rattle.vbr_set.specs.declared.place.Place.{Place}
 use Rattle.vbr_set.specs.declared.share.Share.{Share}
 use Rattle.vbr_set.specs.declared.share.Share.TheVariants.{Among, Alone, Gathered}
@@ -17,7 +17,7 @@ set_shared (Alone set places) = set
 set_shared (Gathered set passes) = set
 
 -- a seat that has laid nothing, of the place with a number
-pub record IsSeatOf (places : List Place) (who : ℕ) (table : TableId) (id : ℕ) (me : Me (Option PassView) Knows) : Type 0 where
+pub record IsSeatOf (places : List Place) (who : ℕ) (table : TableId) (id : ℕ) (me : Me (Option PassView) SeatKnows) : Type 0 where
   pub there : who < length places
   pub fits : (d : Place) → table ≡ (slice_index_or places who d).table.shared.table_id
   pub first : id ≡ 0

@@ -1,8 +1,7 @@
 //! The calls: inserts, removes and look-ups.
 ghost use Rattle.std.specs.Prelude.{◌≡◌, ◌≢◌, ◌+◌, ◌*◌, ◌<◌, ◌≤◌, [], None, IfOk, IfErr};
-ghost use Rattle.vbr_words.specs.Dimensions.{IsShape};
 ghost use Rattle.vbr_core.specs.declared.history.Op.TheVariants.{Insert, Remove, Has};
-ghost use Rattle.vbr_pools.specs.Advances.{AdvancesWhereNeeded, KeepsSlots, RaisesNone};
+ghost use Rattle.vbr_pools.specs.Advances.{AdvancesWhereNeeded, KeepsSlots, TakesNoSlot, SharesWhereFull};
 ghost use Rattle.vbr_pools.specs.Budgets.{most_to_take};
 ghost use Rattle.vbr_pools.specs.Steps.{TookWithin};
 ghost use Rattle.vbr_slots.specs.Alone.{IsAlone};
@@ -16,15 +15,7 @@ ghost use Rattle.vbr_set.specs.Answers.{Answers};
 
 use crate::set::VbrSet;
 use vbr_list::{Refusal, has, insert, remove};
-use vbr_slots::{Pass, Slots};
-
-// Says that the shape of a table is one, for the proofs of its callers. It does nothing.
-#[inline]
-pub(crate) fn known_shape(slots: &Slots)
-    ensures { IsShape slots.now.shape }
-{
-    let _slots = slots.shape().slots();
-}
+use vbr_slots::Pass;
 
 impl VbrSet {
     /// Adds a key, in at most `budget` steps, and says whether it was absent. The answer's point is
@@ -33,8 +24,9 @@ impl VbrSet {
     ///
     /// While the other passes stand still, a budget of 18n + slots + 82 is enough, with n nodes in the
     /// key's bucket; and with a slot in the pass's own pool and 18n + 82 steps the call is answered,
-    /// unless the epoch is spent. It raises the epoch at most once, and only where no slot that it
-    /// could take is stamped below it (Sheffi, Herlihy and Petrank 2021).
+    /// unless the epoch is spent. It advances the epoch at most once, and only where no slot that it
+    /// could take is stamped below it (Sheffi, Herlihy and Petrank 2021). Whatever it unlinked is
+    /// retired when it ends, answered or not, into the pass's own pool while that has room.
     ///
     /// # Errors
     ///
@@ -44,7 +36,7 @@ impl VbrSet {
     /// - NoSlot: the key was absent, the own pool was empty, and each slot was outside the shared pool
     ///   at a moment of the call.
     /// - EpochSpent: the key was absent, the epoch is the last, and each slot of the own pool is stamped
-    ///   with it.
+    ///   with it. The budget had room to raise it.
     ///
     /// # Example
     ///
@@ -64,24 +56,25 @@ impl VbrSet {
         ensures steps { TookWithin pass.old.trace pass.new.trace budget }
         ensures advances { AdvancesWhereNeeded pass.old pass.new }
         ensures kept { KeepsSlots pass.old pass.new }
+        ensures shared { SharesWhereFull 2 pass.old pass.new }
         ensures refused { IfErr result (λ refusal. IsRefused pass.old pass.new key budget refusal) }
         // Alone, it answers in so many steps, or finds no slot or the epoch spent.
         ensures within { IfErr result (λ refusal. IsAlone pass.old.trace pass.new.trace → LacksSteps (18 * listed_for pass.old.trace key + most_to_take pass.old.trace.shape pass.old.pool + 14) budget refusal) }
         // With a slot in the own pool, whatever others hold while they stand still.
         ensures ready { pass.old.pool ≢ [] → IsAlone pass.old.trace pass.new.trace → 18 * listed_for pass.old.trace key + 82 ≤ budget → IsAnsweredOrSpent result }
     {
-        known_shape(&self.slots);
+        pass.law();
         insert(&self.slots, pass, key, budget)
     }
 
     /// Takes a key out, in at most `budget` steps, and says whether it was there. The answer's point
     /// is one step of the call: the exchange that marks the node (Michael 2002), or a load that finds
     /// a link as it was read. A removed node that can't be unlinked within the budget is left to later
-    /// calls. The slot of a node that this call unlinks is retired, into the pass's own pool while that
-    /// has room.
+    /// calls. Whatever this call unlinked is retired when it ends, answered or not, into the pass's own
+    /// pool while that has room.
     ///
     /// While the other passes stand still, a budget of 9n + 11 is enough, with n nodes in the key's
-    /// bucket. It raises no epoch.
+    /// bucket. It advances no epoch.
     ///
     /// # Errors
     ///
@@ -105,12 +98,12 @@ impl VbrSet {
         ensures safe { HasSafeRun pass.new.trace }
         ensures hand { pass.new.hand ≡ None }
         ensures steps { TookWithin pass.old.trace pass.new.trace budget }
-        ensures raises_none { RaisesNone pass.old pass.new }
+        ensures takes_no_slot { TakesNoSlot pass.old pass.new }
         ensures refused { IfErr result (λ refusal. IsTired pass.old pass.new budget refusal) }
         // Alone, it answers in so many steps.
         ensures within { IfErr result (λ refusal. IsAlone pass.old.trace pass.new.trace → budget < 9 * listed_for pass.old.trace key + 11) }
     {
-        known_shape(&self.slots);
+        pass.law();
         remove(&self.slots, pass, key, budget)
     }
 
@@ -148,12 +141,12 @@ impl VbrSet {
         ensures safe { HasSafeRun pass.new.trace }
         ensures hand { pass.new.hand ≡ None }
         ensures steps { TookWithin pass.old.trace pass.new.trace budget }
-        ensures raises_none { RaisesNone pass.old pass.new }
+        ensures takes_no_slot { TakesNoSlot pass.old pass.new }
         ensures refused { IfErr result (λ refusal. IsTired pass.old pass.new budget refusal) }
         // Alone, it answers in so many steps.
         ensures within { IfErr result (λ refusal. IsAlone pass.old.trace pass.new.trace → budget < 5 * listed_for pass.old.trace key + 11) }
     {
-        known_shape(&self.slots);
+        pass.law();
         has(&self.slots, pass, key, budget)
     }
 }

@@ -6,7 +6,6 @@ ghost use Rattle.vbr_slots.specs.Views.{IsOf, Did, KeepsPool};
 ghost use Rattle.vbr_access.specs.Soundness.{HasSafeRun};
 ghost use Rattle.vbr_set.specs.Meetings.{Shares};
 
-use crate::calls::known_shape;
 use crate::set::VbrSet;
 use vbr_slots::Pass;
 
@@ -31,7 +30,7 @@ impl VbrSet {
         ensures shares { Shares pass.old.trace other.old.trace pass.new.trace }
         ensures safe { HasSafeRun pass.new.trace }
     {
-        known_shape(&self.slots);
+        pass.law();
         self.slots.meet(pass, other);
     }
 }

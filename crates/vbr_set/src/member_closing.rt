@@ -2,8 +2,8 @@
 ghost use Rattle.std.specs.Prelude.{◌≡◌, ◌≤◌, [], true, false, length, IfOk, IfErr, IfSome};
 ghost use Rattle.std.specs.Arc.{arc_value};
 ghost use Rattle.std.specs.Vec.{vec_capacity};
-ghost use Rattle.vbr_set.specs.Ends.{AreNumbered, EndsWith, IsBack, IsLast, IsShort};
-ghost use Rattle.vbr_set.specs.Places.{IsReady};
+ghost use Rattle.vbr_set.specs.Ends.{AreNumbered, EndsWith, IsBack, IsLast, EndLacksMemory};
+ghost use Rattle.vbr_set.specs.Places.{IsIdle};
 ghost use Rattle.vbr_set.specs.Sharing.{AreOthers, ArePassesOf, ArePlacesOf, HasOthers, IsSeatOf};
 
 use crate::common::Common;
@@ -74,7 +74,7 @@ fn leave(
     mut seat: Seat<Option<Pass>, Knows>,
     pass: Pass,
 ) -> Option<(VbrSet, Vec<Place>, Pass)>
-    requires ready { IsReady (arc_value common).set pass }
+    requires ready { IsIdle (arc_value common).set pass }
     requires seat { IsSeatOf (arc_value common).places.items pass.trace.who seat.table_id seat.id seat.me }
     ensures set { IfSome result (λ r. r.0 ≡ (arc_value common).set) }
     ensures places { IfSome result (λ r. ArePlacesOf (arc_value common).set r.1.items) }
@@ -94,7 +94,7 @@ fn leave(
 
 // Ends a set whose other passes lie in their places.
 fn end_alone(alloc: Global, set: VbrSet, places: Vec<Place>, pass: Pass) -> Result<Report, EndError>
-    requires ready { IsReady set pass }
+    requires ready { IsIdle set pass }
     requires places { ArePlacesOf set places.items }
     requires others { HasOthers set }
     ensures ended { IfOk result (EndsWith set pass) }
@@ -132,12 +132,12 @@ fn end_gathered(
     mut passes: Vec<Pass>,
     pass: Pass,
 ) -> Result<Report, EndError>
-    requires ready { IsReady set pass }
+    requires ready { IsIdle set pass }
     requires passes { ArePassesOf set passes.items }
     requires others { AreOthers set passes.items }
     ensures ended { IfOk result (EndsWith set pass) }
     ensures stays { IfErr result (IsBack set pass) }
-    ensures alone { set.passes ≡ 1 → IfErr result IsShort }
+    ensures alone { set.passes ≡ 1 → IfErr result EndLacksMemory }
 {
     let who = pass.who() as usize;
     if who > passes.len() {

@@ -1,6 +1,6 @@
 //! A place for one pass of a set to come back to.
 ghost use Rattle.std.specs.Prelude.{◌≡◌, [], None, Some, IfOk, IfSome};
-ghost use Rattle.vbr_set.specs.Places.{IsReady};
+ghost use Rattle.vbr_set.specs.Places.{IsIdle};
 
 use crate::set::VbrSet;
 use atomic_table::{Play, Seat, Table, TableRule};
@@ -65,7 +65,7 @@ impl Place {
     /// Lays a pass into the place.
     pub(crate) fn put(&self, seat: &mut Seat<Option<Pass>, Knows>, pass: Pass)
         requires seat { (seat.old.table_id ≡ self.now.table.shared.table_id) × (seat.old.id ≡ 0) × (seat.old.me ≡ (None, [])) }
-        requires ready { IsReady self.now.table.shared.key pass }
+        requires ready { IsIdle self.now.table.shared.key pass }
         ensures same { (seat.new.table_id ≡ seat.old.table_id) × (seat.new.id ≡ 0) }
         ensures laid { seat.new.me ≡ (Some (Some pass), []) }
     {
@@ -91,7 +91,7 @@ impl Place {
 
     /// The pass that was laid into the place, if any was.
     pub(crate) fn into_pass(self) -> Option<Pass>
-        ensures { IfSome result (IsReady self.table.shared.key) }
+        ensures { IfSome result (IsIdle self.table.shared.key) }
     {
         let Place { table } = self;
         let mut closed = table.close();

@@ -1,6 +1,8 @@
-//! Tests of the set, from outside.
+//! Tests of the set, and of the calls that take memory, from outside.
 #![tactic(auto)]
 
+#[cfg(test)]
+mod refusals;
 #[cfg(test)]
 mod set;
 #[cfg(test)]

@@ -4,7 +4,7 @@ ghost use Rattle.std.specs.Prelude.{◌<◌};
 use crate::worker::{KEYS, Worker};
 use std::test::Fail;
 use std::thread::for_each_mut;
-use vbr_set::{Member, Refusal, Shape};
+use vbr_set::{MAX_EPOCH, Member, Refusal, Shape};
 
 // Whether the inserts of a key that were answered yes are as many as the removes, and one more where
 // the key is in the set now.
@@ -28,7 +28,7 @@ fn is_balanced(workers: &mut [Worker], key: usize) -> Result<bool, Refusal>
 /// that they get to inserts and removes of each key are balanced.
 #[test]
 fn four_threads_share_a_list(rt: HostRuntime) -> Result<(), Fail> {
-    let shape = Shape::new(16, 1, 8_796_093_022_207)?;
+    let shape = Shape::new(16, 1, MAX_EPOCH)?;
     for seed in 0..100 {
         let members = Member::open(rt.alloc(), shape, 4)?;
         let mut workers = Vec::with_capacity(rt.alloc(), 4)?;

@@ -220,7 +220,7 @@ complete old m is p = at (args_of old) refl
         let workers = numbered_at old m p options 0 d (codes "workers") 1 MAX_WORKERS (codes "1") has (omega arith) refl (omega arith) in
         let slots = numbered_at old m p options 1 d (codes "slots") 0 4294967295 (codes "1024") has (omega arith) refl (omega arith) in
         let buckets = numbered_at old m p options 2 d (codes "buckets") 0 4294967295 (codes "16") has (omega arith) refl (omega arith) in
-        let last_epoch = numbered_at old m p options 3 d (codes "last-epoch") 0 18446744073709551615 (codes "8796093022207") has (omega arith) refl (omega arith) in
+        let last_epoch = numbered_at old m p options 3 d (codes "last-epoch") 0 18446744073709551615 (codes "549755813887") has (omega arith) refl (omega arith) in
         let budget = numbered_at old m p options 4 d (codes "budget") 0 4294967295 (codes "100000") has (omega arith) refl (omega arith) in
         record {
           workers = workers.number;

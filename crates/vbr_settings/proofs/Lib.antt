@@ -1,3 +1,3 @@
-pub mod OptionsRead
-pub mod OptionValues
-pub mod CompleteOptions
+mod OptionsRead
+mod OptionValues
+mod CompleteOptions

@@ -33,7 +33,7 @@ abbrev pub shape_options : List Rule
 shape_options =
     number_option (codes "slots") 0 4294967295 (codes "1024")
     ∷ number_option (codes "buckets") 0 4294967295 (codes "16")
-    ∷ number_option (codes "last-epoch") 0 18446744073709551615 (codes "8796093022207")
+    ∷ number_option (codes "last-epoch") 0 18446744073709551615 (codes "549755813887")
     ∷ []
 
 -- the options of the program

@@ -1,6 +1,7 @@
 //! The options of the program.
 ghost use Rattle.std.specs.Prelude.{◌≡◌, ◌⊎◌, ℕ, List, [], ◌∷◌, Some, true, false, IfOk, IfErr, MatchResult, map, fold, codes};
 ghost use Rattle.clap.specs.Words.{app_of, rule_of, rows_of, found_of, with_rule, kind_of};
+ghost use Rattle.vbr_words.specs.declared.shape.TheConstants.{MAX_EPOCH};
 ghost use Rattle.vbr_settings.specs.Options.{AreOptions, number_option, flag, shape_options, command_line, settings_of, settings_among, number_among, is_among, HasNumber, IsFlag, AreComplete, shape_fault, IsRefusalOf};
 ghost use Rattle.vbr_settings.specs.declared.options.Refusal.TheVariants.{Usage, Unshaped};
 
@@ -43,9 +44,9 @@ write fault, which leaves a beginning of the output.
 
   2  a fault in the options, or
      vbr_run: shape fault N
-       1  --slots isn't from 1 to 1048575
+       1  --slots isn't from 1 to 16777215
        2  --buckets isn't from 1 to 65536
-       3  --last-epoch isn't from 1 to 8796093022207
+       3  --last-epoch isn't from 1 to 549755813887
   3  vbr_run: script fault N at line M
        the first faulty line, from 1, lines without words counted, and its first fault:
        1  it has neither three words nor the one word sync
@@ -78,11 +79,11 @@ prints
 
 const WORKERS_HELP: &str = "How many workers play the script, from 1 to 16";
 
-const SLOTS_HELP: &str = "How many slots the set has, from 1 to 1048575";
+const SLOTS_HELP: &str = "How many slots the set has, from 1 to 16777215";
 
 const BUCKETS_HELP: &str = "How many buckets the set has, from 1 to 65536";
 
-const LAST_EPOCH_HELP: &str = "The last epoch of the set, from 1 to 8796093022207";
+const LAST_EPOCH_HELP: &str = "The last epoch of the set, from 1 to 549755813887";
 
 const BUDGET_HELP: &str = "How many steps a call may make, from 0 to 4294967295";
 
@@ -130,7 +131,7 @@ pub fn read_options(alloc: Global, words: &[&str]) -> Result<Config, Refusal>
 /// option its own value, and each option may be given.
 pub fn knows_its_options()
     ensures name_alone { (name : List ℕ) → AreOptions (name ∷ [])
-        × (settings_of (name ∷ []) ≡ record { shape = record { slots = 1024; buckets = 16; last_epoch = 8796093022207 }; workers = 1; budget = 100000; epoch = false }) }
+        × (settings_of (name ∷ []) ≡ record { shape = record { slots = 1024; buckets = 16; last_epoch = MAX_EPOCH }; workers = 1; budget = 100000; epoch = false }) }
     ensures all_given { (name : List ℕ) → AreOptions (name ∷ codes "--workers" ∷ codes "4" ∷ codes "--slots" ∷ codes "512" ∷ codes "--buckets=8" ∷ codes "--last-epoch" ∷ codes "7" ∷ codes "--budget" ∷ codes "1000000" ∷ codes "--epoch" ∷ [])
         × (settings_of (name ∷ codes "--workers" ∷ codes "4" ∷ codes "--slots" ∷ codes "512" ∷ codes "--buckets=8" ∷ codes "--last-epoch" ∷ codes "7" ∷ codes "--budget" ∷ codes "1000000" ∷ codes "--epoch" ∷ []) ≡ record { shape = record { slots = 512; buckets = 8; last_epoch = 7 }; workers = 4; budget = 1000000; epoch = true }) }
 {}
@@ -172,7 +173,7 @@ fn with_shape<'a>(alloc: Global, command: Command<'a>) -> Result<Command<'a>, Er
         LAST_EPOCH_HELP,
         0,
         u64::MAX,
-        "8796093022207",
+        "549755813887",
     );
     Ok(command.arg(slots)?.arg(buckets)?.arg(last_epoch)?)
 }

@@ -1,28 +1,23 @@
 -- The steps of a pass that was alone: nothing was done before each but what the pass had seen.
-use Rattle.std.proofs.Common.{◌≡◌, ℕ, ◌≤◌, false, List, [], ◌∷◌, ◌++◌, Option, refl, sym, ap, ◌∙◌, subst, arith, append_assoc, append-nil, eq-eqb}
+use Rattle.std.proofs.Common.{◌≡◌, ℕ, ◌≤◌, false, List, [], ◌∷◌, ◌++◌, Option, refl, sym, ap, ◌∙◌, subst, arith, append_assoc, append-nil}
 use Rattle.std.proofs.lemmas.List.{append_cancel_left}
 use Rattle.vbr_words.specs.Dimensions.{Dimensions, IsShape}
 use Rattle.vbr_words.specs.Words.{link_of, word_of}
-use Rattle.vbr_words.proofs.LinkWords.{word_of-link_of}
+use Rattle.vbr_words.proofs.Lemmas.{word_of-link_of}
 use Rattle.vbr_words.specs.declared.place.At.{At}
 use Rattle.vbr_words.specs.declared.place.At.TheVariants.{Head, Slot}
-use Rattle.vbr_core.specs.Accounts.{happens, incarnations_after, incarnations_with, notes_after}
+use Rattle.vbr_core.specs.Accounts.{happens, incarnations_after, notes_after}
 use Rattle.vbr_core.specs.Agreement.{Agrees}
-use Rattle.vbr_core.specs.Images.{link_at}
+use Rattle.vbr_core.specs.Images.{link_shown_at}
 use Rattle.vbr_core.specs.Incarnations.{Incarnations}
-use Rattle.vbr_core.specs.Knowledge.{Know}
 use Rattle.vbr_core.specs.Machine.{World, found}
 use Rattle.vbr_core.specs.Machine as machine
 use Rattle.vbr_core.specs.Runs.{IsRun, Begins, NoneOf, world_after}
 use Rattle.vbr_core.specs.declared.event.Event.{Event}
 use Rattle.vbr_core.specs.declared.event.Effect.TheVariants.{Value}
 use Rattle.vbr_core.specs.declared.event.Step.{Step}
-use Rattle.vbr_core.specs.declared.event.Step.TheVariants.{ReadEpoch, LoadLink, LoadBirth, LoadKey, LoadStamp, StoreStamp, Raise, StoreKey, StoreLink}
-use Rattle.vbr_core.proofs.EveryRun.{run_agrees}
-use Rattle.vbr_core.proofs.ListedRuns.{read_leaves}
-use Rattle.vbr_core.proofs.ListedRuns as runs
-use Rattle.vbr_core.proofs.ListedGrowth as growth
-use Rattle.vbr_core.proofs.ListedLinks as links
+use Rattle.vbr_core.specs.declared.event.Step.TheVariants.{ReadEpoch, LoadLink, StoreStamp, Raise, StoreKey, StoreLink}
+use Rattle.vbr_core.proofs.Lemmas.{begins_trans, calls_or_adds_none, is_run_before, is_run_last, key_leaves_links, link_leaves_links, link_loaded, own_calls-snoc, raise_epoch, raise_leaves, raise_links, read_leaves, run_agrees, stamp_epoch, stamp_leaves, stamp_links}
 use Rattle.vbr_core.specs.Calls.{calls_added, own_calls}
 use Rattle.vbr_core.specs.Membership.{Knows}
 use Rattle.vbr_core.specs.declared.history.Call.{Call}
@@ -30,20 +25,18 @@ use Rattle.vbr_core.specs.declared.knowledge.Read.TheVariants.{LinkAt}
 use Rattle.vbr_words.specs.declared.link.Link.{Link}
 use Rattle.vbr_core.specs.Acceptance.{Accepts}
 use Rattle.vbr_core.specs.Nodes.{behind}
-use Rattle.vbr_core.proofs.RunForms as forms
-use Rattle.vbr_core.proofs.RunsGoOn.{begins_trans, is_run_before, is_run_last, own_calls-snoc}
-use Rattle.vbr_slots.specs.Alone.{AllOf, IsAlone, nodes, IsFresh, ahead, LeavesLists}
-use Rattle.vbr_slots.specs.Calls.{IsSame, Quiet}
+use Rattle.vbr_slots.specs.Alone.{OnlyEventsOf, IsAlone, nodes, IsFresh, ahead, LeavesLists}
+use Rattle.vbr_slots.specs.Calls.{Quiet}
 use Rattle.vbr_slots.specs.Views.{Trace, Did, knows, event_of}
-use Rattle.vbr_slots.proofs.Calls.{did_seen, did_run}
+use Rattle.vbr_slots.proofs.Calls.{did_seen}
 
 -- ---- parts of what was done alone
 
-all_front : (who : ℕ) (xs ys : List Event) → AllOf who (xs ++ ys) → AllOf who xs
+all_front : (who : ℕ) (xs ys : List Event) → OnlyEventsOf who (xs ++ ys) → OnlyEventsOf who xs
 all_front who [] ys h = tt
 all_front who (x ∷ xs) ys h = (h.0, all_front who xs ys h.1)
 
-all_back : (who : ℕ) (xs ys : List Event) → AllOf who (xs ++ ys) → AllOf who ys
+all_back : (who : ℕ) (xs ys : List Event) → OnlyEventsOf who (xs ++ ys) → OnlyEventsOf who ys
 all_back who [] ys h = h
 all_back who (x ∷ xs) ys h = all_back who xs ys h.1
 
@@ -55,17 +48,17 @@ in_parts : (p q r : Trace) (x : Begins p.seen q.seen) (y : Begins q.seen r.seen)
 in_parts p q r x y a = append_cancel_left p.seen a.own (x.0 ++ y.0) (sym a.seen ∙ y.1 ∙ ap (λ l. l ++ y.0) x.1 ∙ append_assoc p.seen x.0 y.0)
 
 pub alone_first : {p q r : Trace} → Begins p.seen q.seen → Begins q.seen r.seen → IsAlone p r → IsAlone p q
-alone_first {p} {q} {r} x y a = let P : List Event → Type 0 = AllOf p.who in record { own = x.0; each = all_front p.who x.0 y.0 (subst P (in_parts p q r x y a) a.each); seen = x.1 }
+alone_first {p} {q} {r} x y a = let P : List Event → Type 0 = OnlyEventsOf p.who in record { own = x.0; each = all_front p.who x.0 y.0 (subst P (in_parts p q r x y a) a.each); seen = x.1 }
 
 pub alone_then : {p q r : Trace} → q.who ≡ p.who → Begins p.seen q.seen → Begins q.seen r.seen → IsAlone p r → IsAlone q r
 alone_then {p} {q} {r} who x y a =
-    let P : List Event → Type 0 = AllOf p.who in
-    let Q : ℕ → Type 0 = λ w. AllOf w y.0 in
+    let P : List Event → Type 0 = OnlyEventsOf p.who in
+    let Q : ℕ → Type 0 = λ w. OnlyEventsOf w y.0 in
     record { own = y.0; each = subst Q (sym who) (all_back p.who x.0 y.0 (subst P (in_parts p q r x y a) a.each)); seen = y.1 }
 
 -- ---- one step
 
-none_and_all : (who : ℕ) (rest : List Event) (e : Event) → NoneOf who rest → AllOf who (rest ++ e ∷ []) → rest ≡ []
+none_and_all : (who : ℕ) (rest : List Event) (e : Event) → NoneOf who rest → OnlyEventsOf who (rest ++ e ∷ []) → rest ≡ []
 none_and_all who [] e n a = refl
 none_and_all who (x ∷ rest) e n a = absurd (n.0 a.0)
 
@@ -73,7 +66,7 @@ module _ {step : Step} {p q : Trace} {r : ℕ} (d : Did step p q r) (alone : IsA
   -- nobody else did anything before it
   pub no_rest : d.rest ≡ []
   no_rest =
-      let P : List Event → Type 0 = AllOf p.who in
+      let P : List Event → Type 0 = OnlyEventsOf p.who in
       let same : alone.own ≡ d.rest ++ event_of p.who step ∷ [] = append_cancel_left p.seen alone.own (d.rest ++ event_of p.who step ∷ []) (sym alone.seen ∙ d.seen ∙ append_assoc p.seen d.rest (event_of p.who step ∷ [])) in
       none_and_all p.who d.rest (event_of p.who step) d.none (subst P same alone.each)
 
@@ -100,13 +93,13 @@ value_was : (r n : ℕ) → Value r ≡ Value n → n ≡ r
 value_was r n e = cc
 
 -- the link that was read stands there
-pub link_now : {p q : Trace} {at : At} {word : ℕ} → IsShape p.shape → Did (LoadLink at) p q word → IsAlone p q → link_at (nodes p) at ≡ link_of word
+pub link_now : {p q : Trace} {at : At} {word : ℕ} → IsShape p.shape → Did (LoadLink at) p q word → IsAlone p q → link_shown_at (nodes p) at ≡ link_of word
 link_now {p} {q} {at} {word} is d alone =
     let ok = run_was d alone in
     let w : word ≡ found p.shape (world_after p.shape p.seen) (LoadLink at) = sym (value_was word _ d.shows.answers) ∙ ap (λ l. found p.shape (world_after p.shape l) (LoadLink at)) (before_it d alone) in
-    sym (image at (run_agrees p.shape p.passes p.seen is ok)) ∙ forms.link_loaded p.shape p.passes p.seen is ok p.who at ∙ ap link_of (sym w)
+    sym (image at (run_agrees p.shape p.passes p.seen is ok)) ∙ link_loaded p.shape p.passes p.seen is ok p.who at ∙ ap link_of (sym w)
   where
-    image : (at : At) → Agrees p.shape (world_after p.shape p.seen) (incarnations_after p.shape p.seen) (notes_after p.shape p.seen) → machine.link_at (world_after p.shape p.seen) at ≡ link_at (incarnations_after p.shape p.seen) at
+    image : (at : At) → Agrees p.shape (world_after p.shape p.seen) (incarnations_after p.shape p.seen) (notes_after p.shape p.seen) → machine.link_at (world_after p.shape p.seen) at ≡ link_shown_at (incarnations_after p.shape p.seen) at
     image (Head b) g = g.image.head b
     image (Slot s) g = g.image.link s
 
@@ -142,10 +135,10 @@ fresh_read {p} {q} {epoch} is d knew =
 -- ---- what an exchange finds
 
 -- the word of a link that stands at a place
-pub stands_found : (p : Trace) (at : At) (word : ℕ) → IsShape p.shape → IsRun p.shape p.passes p.seen → link_at (nodes p) at ≡ link_of word → word_of (machine.link_at (world_after p.shape p.seen) at) ≡ word
+pub stands_found : (p : Trace) (at : At) (word : ℕ) → IsShape p.shape → IsRun p.shape p.passes p.seen → link_shown_at (nodes p) at ≡ link_of word → word_of (machine.link_at (world_after p.shape p.seen) at) ≡ word
 stands_found p at word is ok stands = ap word_of (image at (run_agrees p.shape p.passes p.seen is ok) ∙ stands) ∙ word_of-link_of word
   where
-    image : (at : At) → Agrees p.shape (world_after p.shape p.seen) (incarnations_after p.shape p.seen) (notes_after p.shape p.seen) → machine.link_at (world_after p.shape p.seen) at ≡ link_at (incarnations_after p.shape p.seen) at
+    image : (at : At) → Agrees p.shape (world_after p.shape p.seen) (incarnations_after p.shape p.seen) (notes_after p.shape p.seen) → machine.link_at (world_after p.shape p.seen) at ≡ link_shown_at (incarnations_after p.shape p.seen) at
     image (Head b) g = g.image.head b
     image (Slot s) g = g.image.link s
 
@@ -162,7 +155,7 @@ leaves_on x y = record { epoch = y.epoch ∙ x.epoch; links = λ at. y.links at 
 pub same_leaves : (p q : Trace) → q.shape ≡ p.shape → nodes q ≡ nodes p → LeavesLists p q
 same_leaves p q shape same = record {
   epoch = ap (λ (a : Incarnations). a.epoch) same;
-  links = λ at. ap (λ a. link_at a at) same;
+  links = λ at. ap (λ a. link_shown_at a at) same;
   count = λ bucket at. (λ i. behind (shape i) (same i) bucket at);
 }
 
@@ -170,10 +163,10 @@ module _ {step : Step} {p q : Trace} {r : ℕ} (d : Did step p q r) (alone : IsA
   accepted_now : Accepts p.shape (knows p) step
   accepted_now = let P : List Event → Type 0 = IsRun p.shape p.passes in (is_run_last p.shape p.passes p.seen (event_of p.who step) (subst P (seen_next d alone) d.is_run)).1
 
-  next_leaves : (nodes q).epoch ≡ (nodes p).epoch → ((at : At) → link_at (incarnations_after p.shape (p.seen ++ event_of p.who step ∷ [])) at ≡ link_at (nodes p) at) → ((bucket : ℕ) (at : At) → behind p.shape (incarnations_after p.shape (p.seen ++ event_of p.who step ∷ [])) bucket at ≡ ahead p bucket at) → LeavesLists p q
+  next_leaves : (nodes q).epoch ≡ (nodes p).epoch → ((at : At) → link_shown_at (incarnations_after p.shape (p.seen ++ event_of p.who step ∷ [])) at ≡ link_shown_at (nodes p) at) → ((bucket : ℕ) (at : At) → behind p.shape (incarnations_after p.shape (p.seen ++ event_of p.who step ∷ [])) bucket at ≡ ahead p bucket at) → LeavesLists p q
   next_leaves epoch links count = record {
     epoch = epoch;
-    links = λ at. ap (λ a. link_at a at) (nodes_next d alone) ∙ links at;
+    links = λ at. ap (λ a. link_shown_at a at) (nodes_next d alone) ∙ links at;
     count = λ bucket at. (λ i. behind (d.same.1 i) (nodes_next d alone i) bucket at) ∙ count bucket at;
   }
 
@@ -181,34 +174,34 @@ pub stamp_leaves_lists : {p q : Trace} {s stamp r : ℕ} → IsShape p.shape →
 stamp_leaves_lists {p} {q} {s} {stamp} is d alone =
     let ok = run_was d alone in
     next_leaves d alone
-    (ap (λ (a : Incarnations). a.epoch) (nodes_next d alone) ∙ runs.stamp_epoch p.shape p.passes p.seen is ok p.who s stamp)
-    (λ at. runs.stamp_links p.shape p.passes p.seen is ok p.who s stamp at (accepted_now d alone))
-    (λ bucket at. runs.stamp_leaves p.shape p.passes p.seen is ok p.who s stamp bucket at (accepted_now d alone))
+    (ap (λ (a : Incarnations). a.epoch) (nodes_next d alone) ∙ stamp_epoch p.shape p.passes p.seen is ok p.who s stamp)
+    (λ at. stamp_links p.shape p.passes p.seen is ok p.who s stamp at (accepted_now d alone))
+    (λ bucket at. stamp_leaves p.shape p.passes p.seen is ok p.who s stamp bucket at (accepted_now d alone))
 
 pub raise_leaves_lists : {p q : Trace} {s r : ℕ} → IsShape p.shape → Did (Raise s) p q r → IsAlone p q → LeavesLists p q
 raise_leaves_lists {p} {q} {s} is d alone =
     let ok = run_was d alone in
     next_leaves d alone
-    (ap (λ (a : Incarnations). a.epoch) (nodes_next d alone) ∙ runs.raise_epoch p.shape p.passes p.seen is ok p.who s)
-    (λ at. runs.raise_links p.shape p.passes p.seen is ok p.who s at)
-    (λ bucket at. runs.raise_leaves p.shape p.passes p.seen is ok p.who s bucket at)
+    (ap (λ (a : Incarnations). a.epoch) (nodes_next d alone) ∙ raise_epoch p.shape p.passes p.seen is ok p.who s)
+    (λ at. raise_links p.shape p.passes p.seen is ok p.who s at)
+    (λ bucket at. raise_leaves p.shape p.passes p.seen is ok p.who s bucket at)
 
 -- ---- filling a slot in hand
 
 -- a key that is stored in a slot in hand leaves the link of each place
-pub key_stored_leaves : {p q : Trace} {s key r : ℕ} (at : At) → IsShape p.shape → Did (StoreKey s key) p q r → IsAlone p q → link_at (nodes q) at ≡ link_at (nodes p) at
+pub key_stored_leaves : {p q : Trace} {s key r : ℕ} (at : At) → IsShape p.shape → Did (StoreKey s key) p q r → IsAlone p q → link_shown_at (nodes q) at ≡ link_shown_at (nodes p) at
 key_stored_leaves {p} {q} {s} {key} at is d alone =
-    ap (λ a. link_at a at) (nodes_next d alone) ∙ links.key_leaves_links p.shape p.passes p.seen is (run_was d alone) p.who s key at
+    ap (λ a. link_shown_at a at) (nodes_next d alone) ∙ key_leaves_links p.shape p.passes p.seen is (run_was d alone) p.who s key at
 
 -- a link that is stored in a slot in hand leaves one that is known unmarked, and stands
-pub link_stored_leaves : {p q : Trace} {s r : ℕ} {next : Option ℕ} (at : At) (link : Link) → IsShape p.shape → Did (StoreLink s next) p q r → IsAlone p q → Knows (knows p) (LinkAt at link) → link.mark ≡ false → link_at (nodes p) at ≡ link → link_at (nodes q) at ≡ link
+pub link_stored_leaves : {p q : Trace} {s r : ℕ} {next : Option ℕ} (at : At) (link : Link) → IsShape p.shape → Did (StoreLink s next) p q r → IsAlone p q → Knows (knows p) (LinkAt at link) → link.mark ≡ false → link_shown_at (nodes p) at ≡ link → link_shown_at (nodes q) at ≡ link
 link_stored_leaves {p} {q} {s} {r} {next} at link is d alone known unmarked stands =
-    ap (λ a. link_at a at) (nodes_next d alone) ∙ links.link_leaves_links p.shape p.passes p.seen is (run_was d alone) p.who s next at link known unmarked stands
+    ap (λ a. link_shown_at a at) (nodes_next d alone) ∙ link_leaves_links p.shape p.passes p.seen is (run_was d alone) p.who s next at link known unmarked stands
 
 -- ---- without a call
 
 -- the calls of a pass go on with those of its own events
-calls_go_on : (shape : Dimensions) (who : ℕ) (run own : List Event) → AllOf who own → (more : List Call) × (own_calls shape (run ++ own) who ≡ own_calls shape run who ++ more)
+calls_go_on : (shape : Dimensions) (who : ℕ) (run own : List Event) → OnlyEventsOf who own → (more : List Call) × (own_calls shape (run ++ own) who ≡ own_calls shape run who ++ more)
 calls_go_on shape who run [] h = ([], ap (λ l. own_calls shape l who) (append-nil run) ∙ sym (append-nil (own_calls shape run who)))
 calls_go_on shape who run (e ∷ own) h =
     let rest = calls_go_on shape who (run ++ e ∷ []) own h.1 in
@@ -223,7 +216,7 @@ none_first [] ys e = refl
 none_first (x ∷ xs) ys e = absurd (cc)
 
 -- own events by which the pass makes no call add no node to a list
-own_add_none : (shape : Dimensions) (passes who bucket h : ℕ) → IsShape shape → (run own : List Event) → AllOf who own → IsRun shape passes (run ++ own) → own_calls shape (run ++ own) who ≡ own_calls shape run who →
+own_add_none : (shape : Dimensions) (passes who bucket h : ℕ) → IsShape shape → (run own : List Event) → OnlyEventsOf who own → IsRun shape passes (run ++ own) → own_calls shape (run ++ own) who ≡ own_calls shape run who →
     behind shape (incarnations_after shape (run ++ own)) bucket (Head h) ≤ behind shape (incarnations_after shape run) bucket (Head h)
 own_add_none shape passes who bucket h is run [] each ok calls =
     let P : List Event → Type 0 = λ l. behind shape (incarnations_after shape l) bucket (Head h) ≤ behind shape (incarnations_after shape run) bucket (Head h) in
@@ -244,7 +237,7 @@ own_add_none shape passes who bucket h is run (e ∷ own) each ok calls =
     sym (append_assoc (own_calls shape run who) added more.0) ∙ ap (λ l. l ++ more.0) (sym one) ∙ sym more.1 ∙ subst P split calls ∙ sym (append-nil (own_calls shape run who)) in
     let none : added ≡ [] = none_first added more.0 (append_cancel_left (own_calls shape run who) (added ++ more.0) [] all) in
     let still : own_calls shape next who ≡ own_calls shape run who = one ∙ ap (λ l. own_calls shape run who ++ l) none ∙ append-nil (own_calls shape run who) in
-    let first : behind shape (incarnations_after shape next) bucket (Head h) ≤ behind shape (incarnations_after shape run) bucket (Head h) = growth.calls_or_adds_none shape passes run is (is_run_before shape passes run (e ∷ []) ok_next) e.pass bucket h e.step last.1 none in
+    let first : behind shape (incarnations_after shape next) bucket (Head h) ≤ behind shape (incarnations_after shape run) bucket (Head h) = calls_or_adds_none shape passes run is (is_run_before shape passes run (e ∷ []) ok_next) e.pass bucket h e.step last.1 none in
     let rest = own_add_none shape passes who bucket h is next own each.1 ok_all (subst P split calls ∙ sym still) in
     let S : List Event → Type 0 = λ l. behind shape (incarnations_after shape l) bucket (Head h) ≤ behind shape (incarnations_after shape run) bucket (Head h) in
     subst S (sym split) (omega (arith, first, rest))

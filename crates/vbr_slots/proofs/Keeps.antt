@@ -9,17 +9,15 @@ use Rattle.vbr_words.specs.Places.{index_of}
 use Rattle.vbr_core.specs.Acceptance.{Accepts}
 use Rattle.vbr_core.specs.Accounts.{incarnations_after, notes_after}
 use Rattle.vbr_core.specs.Knowledge.{Know}
-use Rattle.vbr_core.specs.Machine.{word_made, World, access_of, found, place_of}
+use Rattle.vbr_core.specs.Machine.{word_made, World, access_of, found, place_of_step}
 use Rattle.vbr_core.specs.Runs.{IsRun, world_after, know_after, NoneOf}
 use Rattle.vbr_core.specs.declared.event.Event.{Event}
-use Rattle.vbr_core.proofs.EveryRun.{run_agrees}
-use Rattle.vbr_core.proofs.RunsGoOn.{world_after-snoc, is_run_after_others, others_leave_know, others_leave_it_accepted, begins_for_refl}
+use Rattle.vbr_core.proofs.Lemmas.{begins_for_refl, is_run_after_others, others_leave_it_accepted, others_leave_know, place_in, run_agrees, world_after-snoc}
 use Rattle.vbr_slots.specs.declared.rule.Member.{Member}
 use Rattle.vbr_slots.specs.declared.rule.Opening.{Opening}
 use Rattle.vbr_slots.specs.Rule.{member, EachBegins, times, Kept, Shows, Told}
 use Rattle.vbr_slots.specs.Words.{AreWordsOf}
 use Rattle.vbr_slots.proofs.Members.{each_begins_more, two_in, one_in, times-set, times-first, times-members}
-use Rattle.vbr_core.proofs.WordsAfter.{place_in}
 use Rattle.vbr_slots.proofs.Sightings.{set_at}
 use Rattle.vbr_slots.proofs.Worlds.{words_after}
 
@@ -31,7 +29,7 @@ module _ (opening : Opening) (is_shape : IsShape opening.shape) where
   St = Standing (Unit {0}) V
 
   -- the words after the event
-  moved : (words : List ℕ) (run : List Event) (e : Event) (i : ℕ) (f : ℕ → ℕ) → IsRun opening.shape opening.passes run → Accepts opening.shape (know_after opening.shape run e.pass) e.step → i ≡ index_of opening.shape (place_of e.step)
+  moved : (words : List ℕ) (run : List Event) (e : Event) (i : ℕ) (f : ℕ → ℕ) → IsRun opening.shape opening.passes run → Accepts opening.shape (know_after opening.shape run e.pass) e.step → i ≡ index_of opening.shape (place_of_step e.step)
       → ((n : ℕ) → f n ≡ word_made (access_of (know_after opening.shape run e.pass) e.step) n) → AreWordsOf opening.shape (world_after opening.shape run) words
       → AreWordsOf opening.shape (world_after opening.shape (run ++ e ∷ [])) (set words i (f (get_or words i 0)))
   moved words run e i f is_run ok place does are =
@@ -57,7 +55,7 @@ module _ (opening : Opening) (is_shape : IsShape opening.shape) where
       omega arith
 
   -- the first member of the seat takes the step
-  pub plays : (slots id : ℕ) (e : Event) (seen : List Event) (others : List Member) (cs : List (ℕ × Unit {0})) (i : ℕ) (f g : ℕ → ℕ) → e.pass < opening.passes → i ≡ index_of opening.shape (place_of e.step)
+  pub plays : (slots id : ℕ) (e : Event) (seen : List Event) (others : List Member) (cs : List (ℕ × Unit {0})) (i : ℕ) (f g : ℕ → ℕ) → e.pass < opening.passes → i ≡ index_of opening.shape (place_of_step e.step)
       → ((n : ℕ) → f n ≡ word_made (access_of (know_after opening.shape seen e.pass) e.step) n) → ((n : ℕ) → Shows e.step (g n) n) → Accepts opening.shape (know_after opening.shape seen e.pass) e.step
       → Allows (Kept opening) slots id (member e.pass seen ∷ others, cs) i f (λ r. Told opening e (member e.pass seen ∷ others, cs) (g r))
   plays slots id e seen others cs i f g low place does same ok s h _ at _ =
@@ -103,11 +101,11 @@ module _ (opening : Opening) (is_shape : IsShape opening.shape) where
       )
     where
       shown : (words : List ℕ) (run : List Event) → AreWordsOf opening.shape (world_after opening.shape run) words → get_or words i 0 ≡ found opening.shape (world_after opening.shape run) e.step
-      shown words run are = ap (λ (j : ℕ). get_or words j 0) place ∙ are.each (place_of e.step) (place_in opening.shape e.step ok.in_shape)
+      shown words run are = ap (λ (j : ℕ). get_or words j 0) place ∙ are.each (place_of_step e.step) (place_in opening.shape e.step ok.in_shape)
 
   -- the same at a seat that is known to be so
   pub plays_as : (slots id : ℕ) (e : Event) (seen : List Event) (others : List Member) (cs : List (ℕ × Unit {0})) (me : Me (Unit {0}) V) (i : ℕ) (f g : ℕ → ℕ) → me ≡ (member e.pass seen ∷ others, cs) → e.pass < opening.passes
-      → i ≡ index_of opening.shape (place_of e.step) → ((n : ℕ) → f n ≡ word_made (access_of (know_after opening.shape seen e.pass) e.step) n) → ((n : ℕ) → Shows e.step (g n) n)
+      → i ≡ index_of opening.shape (place_of_step e.step) → ((n : ℕ) → f n ≡ word_made (access_of (know_after opening.shape seen e.pass) e.step) n) → ((n : ℕ) → Shows e.step (g n) n)
       → Accepts opening.shape (know_after opening.shape seen e.pass) e.step → Allows (Kept opening) slots id me i f (λ r. Told opening e me (g r))
   plays_as slots id e seen others cs me i f g known low place does same ok =
       subst (λ (m : Me (Unit {0}) V). Allows (Kept opening) slots id m i f (λ r. Told opening e m (g r))) (sym known) (plays slots id e seen others cs i f g low place does same ok)

@@ -1,17 +1,19 @@
 mod Worlds
-pub mod Members
+mod Members
 mod Sightings
-pub mod Keeps
+mod Keeps
 mod Leaving
+mod Moving
 mod LookUps
 mod ReadsInRows
-pub mod Learning
-pub mod Steps
-pub mod Seats
+mod Learning
+mod Steps
+mod Seats
 mod Openings
 mod Closings
 mod Pools
 mod Passes
 mod Running
-pub mod Calls
-pub mod Alone
+mod Calls
+mod Alone
+pub mod Lemmas

@@ -6,7 +6,7 @@ use mathlib.Core.Option.{some, some-ne-none, some-injective}
 use lib.ListN.{get_elem?}
 use Rattle.std.specs.Prelude.{Bool}
 use Rattle.vbr_core.specs.declared.event.Event.{Event}
-use Rattle.vbr_core.proofs.RunsGoOn.{begins_for-snoc}
+use Rattle.vbr_core.proofs.Lemmas.{begins_for-snoc}
 use Rattle.vbr_slots.specs.declared.rule.Member.{Member}
 use Rattle.vbr_slots.specs.Rule.{EachBegins, members, one_if, times, times_in}
 

@@ -12,8 +12,7 @@ use Rattle.vbr_words.specs.Places.{IsIn, index_of, words_in}
 use Rattle.vbr_words.specs.declared.link.TheConstants.{MARK}
 use Rattle.vbr_words.specs.declared.place.Place.{Place}
 use Rattle.vbr_words.specs.declared.place.Place.TheVariants.{Epoch, ShapeWord, Head, LinkOf, Birth, Stamp, Key, Flags}
-use Rattle.vbr_words.proofs.FlagWords.{flag_word_same}
-use Rattle.vbr_words.proofs.Indices.{same_place, index_of-lt}
+use Rattle.vbr_words.proofs.Lemmas.{flag_word_same, index_of-lt, same_place}
 use Rattle.vbr_core.specs.Links.{opening_link, empty_head}
 use Rattle.vbr_core.specs.Machine as machine
 use Rattle.vbr_slots.specs.Words.{AreWordsOf}

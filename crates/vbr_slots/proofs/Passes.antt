@@ -9,8 +9,9 @@ use Rattle.vbr_core.specs.Acceptance.{Accepts, MayBear, IsInHand, IsFree, stamp_
 use Rattle.vbr_core.specs.Accounts.{incarnations_after, notes_after}
 use Rattle.vbr_core.specs.Agreement.{Agrees}
 use Rattle.vbr_core.specs.Knowledge.{Know}
-use Rattle.vbr_core.specs.Learning.{learn, exchanged, with_own, with_checked, reads_won}
+use Rattle.vbr_core.specs.Learning.{learn, with_own, with_checked, reads_won}
 use Rattle.vbr_core.specs.Machine.{World, stamp_shown, found}
+use Rattle.vbr_core.specs.Making.{exchanged}
 use Rattle.vbr_core.specs.Runs.{IsRun, world_after}
 use Rattle.vbr_core.specs.declared.event.Event.{Event}
 use Rattle.vbr_core.specs.declared.event.Effect.TheVariants.{Won, Lost}
@@ -18,12 +19,7 @@ use Rattle.vbr_core.specs.declared.event.Step.{Step}
 use Rattle.vbr_core.specs.declared.event.Step.TheVariants.{LoadStamp, Raise, TakeFlag, StoreBirth, Unlink}
 use Rattle.vbr_core.specs.declared.knowledge.Holding.{Holding}
 use Rattle.vbr_core.specs.declared.knowledge.Holding.TheVariants.{Free, Unlinked, InHand}
-use Rattle.vbr_core.proofs.ConfirmSteps.{found_at}
-use Rattle.vbr_core.proofs.EveryRun.{run_agrees}
-use Rattle.vbr_core.proofs.OwnedSlots.{taken_unowned, unlinked_unowned, stamp_known}
-use Rattle.vbr_core.proofs.Puts.{put_here}
-use Rattle.vbr_core.proofs.SlotFlags.{flag_won, flag_shared}
-use Rattle.vbr_core.proofs.RunsGoOn.{is_run_before, others_leave_know}
+use Rattle.vbr_core.proofs.Lemmas.{flag_shared, flag_won, found_at, is_run_before, others_leave_know, put_here, run_agrees, stamp_known, taken_unowned, unlinked_unowned}
 use Rattle.vbr_slots.specs.Pools.{OwnPool}
 use Rattle.vbr_slots.specs.Views.{Trace, Did, knows, event_of}
 use Rattle.vbr_slots.proofs.Pools.{changes, takes_in_hand, pooled_may, held_in_hand}

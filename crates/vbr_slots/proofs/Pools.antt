@@ -14,8 +14,8 @@ use Rattle.vbr_core.specs.Knowledge.{Know}
 use Rattle.vbr_core.specs.Put.{put}
 use Rattle.vbr_core.specs.declared.knowledge.Holding.{Holding}
 use Rattle.vbr_core.specs.declared.knowledge.Holding.TheVariants.{Free, Unlinked, InHand}
-use Rattle.vbr_core.proofs.Puts.{put_here, put_other}
-use Rattle.vbr_slots.specs.Pools.{IsPooled, IsHandOf, OwnPool, without, hand_without}
+use Rattle.vbr_core.proofs.Lemmas.{put_here, put_other}
+use Rattle.vbr_slots.specs.Pools.{IsPooled, HandFits, OwnPool, without, hand_without}
 
 -- ---- slots that leave and come
 
@@ -26,7 +26,7 @@ contains_before p pool s c = All-contains (Contains pool) (filter p pool) s (All
 pub outside : (slot : ℕ) (pool : List ℕ) → ¬ (Contains (without slot pool) slot)
 outside slot pool c = let t = All-contains (λ (x : ℕ). not (x == slot) ≡ true) (without slot pool) slot (filter_passes (λ (x : ℕ). not (x == slot)) pool) c in absurd (grind (arith, nat_tests))
 
-hand_left : (shape : Dimensions) (know : Know) (slot : ℕ) (pool : List ℕ) (hand : Option ℕ) → IsHandOf shape know pool hand → IsHandOf shape know (without slot pool) hand
+hand_left : (shape : Dimensions) (know : Know) (slot : ℕ) (pool : List ℕ) (hand : Option ℕ) → HandFits shape know pool hand → HandFits shape know (without slot pool) hand
 hand_left shape know slot pool None h = tt
 hand_left shape know slot pool (Some s) h = (h.0, h.1, (λ c. h.2 (contains_before (λ (x : ℕ). not (x == slot)) pool s c)))
 
@@ -40,7 +40,7 @@ leaves shape know slot pool hand o = record {
 
 -- ---- slots that become others
 
-hand_changed : (shape : Dimensions) (know know' : Know) (slot : ℕ) (holding : Option Holding) (pool : List ℕ) (hand : Option ℕ) → know'.own ≡ put know.own slot holding → (hand ≡ Some slot → IsInHand holding) → IsHandOf shape know pool hand → IsHandOf shape know' pool hand
+hand_changed : (shape : Dimensions) (know know' : Know) (slot : ℕ) (holding : Option Holding) (pool : List ℕ) (hand : Option ℕ) → know'.own ≡ put know.own slot holding → (hand ≡ Some slot → IsInHand holding) → HandFits shape know pool hand → HandFits shape know' pool hand
 hand_changed shape know know' slot holding pool None is in_hand h = tt
 hand_changed shape know know' slot holding pool (Some s) is in_hand h = (
   h.0,
@@ -77,11 +77,11 @@ takes_in_hand shape know slot pool hand low in_hand not o = record { pooled = o.
 pub empties : (shape : Dimensions) (know : Know) (pool : List ℕ) (hand : Option ℕ) → OwnPool shape know pool hand → OwnPool shape know pool None
 empties shape know pool hand o = record { pooled = o.pooled; apart = o.apart; in_hand = tt }
 
-hand_joined : (shape : Dimensions) (know : Know) (slot : ℕ) (pool : List ℕ) (hand : Option ℕ) → IsHandOf shape know pool hand → IsHandOf shape know (pool ++ slot ∷ []) (hand_without slot hand)
+hand_joined : (shape : Dimensions) (know : Know) (slot : ℕ) (pool : List ℕ) (hand : Option ℕ) → HandFits shape know pool hand → HandFits shape know (pool ++ slot ∷ []) (hand_without slot hand)
 hand_joined shape know slot pool None h = tt
 hand_joined shape know slot pool (Some t) h = go (t == slot) refl
   where
-    go : (b : Bool) → (t == slot) ≡ b → IsHandOf shape know (pool ++ slot ∷ []) (cond b None (Some t))
+    go : (b : Bool) → (t == slot) ≡ b → HandFits shape know (pool ++ slot ∷ []) (cond b None (Some t))
     go true e = tt
     go false e = (h.0, h.1, (λ c. ⊎_elim h.2 (λ (same : slot ≡ t). let same' : (t == slot) ≡ true = eq-eqb t slot (sym same) in absurd (cc)) (Contains-push_cases pool slot t c)))
 
@@ -99,7 +99,7 @@ pub pooled_may : (shape : Dimensions) (know : Know) (slot : ℕ) (pool : List �
 pooled_may shape know slot pool hand o c = (All-contains (IsPooled shape know) pool slot o.pooled c).1
 
 pub held_in_hand : (shape : Dimensions) (know : Know) (slot : ℕ) (pool : List ℕ) (hand : Option ℕ) → OwnPool shape know pool hand → hand ≡ Some slot → IsInHand (know.own slot)
-held_in_hand shape know slot pool hand o is = (subst (IsHandOf shape know pool) is o.in_hand).1
+held_in_hand shape know slot pool hand o is = (subst (HandFits shape know pool) is o.in_hand).1
 
 -- a free slot may be born in, and so may one in hand
 pub free_may : (holding : Option Holding) → IsFree holding → MayBear holding

@@ -3,8 +3,7 @@ use Rattle.std.proofs.Common.{List, [], ◌∷◌, sym, arith}
 use Rattle.atomic_table.specs.Table.{State as Standing}
 use Rattle.vbr_words.specs.Dimensions.{Dimensions, IsShape}
 use Rattle.vbr_core.specs.declared.event.Event.{Event}
-use Rattle.vbr_core.proofs.RunsGoOn.{begins_for_know}
-use Rattle.vbr_core.proofs.SafeRuns.{every_run}
+use Rattle.vbr_core.proofs.Lemmas.{begins_for_know, every_run}
 use Rattle.vbr_slots.specs.declared.rule.Member.{Member}
 use Rattle.vbr_slots.specs.declared.rule.Opening.{Opening}
 use Rattle.vbr_slots.specs.Rule.{EachBegins, Kept}

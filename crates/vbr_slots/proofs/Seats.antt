@@ -6,7 +6,7 @@ use Rattle.atomic_table.specs.Table.{State as Standing, opening as table_opening
 use Rattle.atomic_table.proofs.Lists.{at_set, at_snoc}
 use Rattle.vbr_core.specs.Machine as machine
 use Rattle.vbr_core.specs.declared.event.Event.{Event}
-use Rattle.vbr_core.proofs.RunsGoOn.{is_run_first}
+use Rattle.vbr_core.proofs.Lemmas.{is_run_first}
 use Rattle.vbr_slots.specs.declared.rule.Member.{Member}
 use Rattle.vbr_slots.specs.declared.rule.Opening.{Opening}
 use Rattle.vbr_slots.specs.Rule.{member, members, first_members, head_of, tail_of, first_seen, EachBegins, HasSeen, IsSeen, times, times_in, Kept}

@@ -5,37 +5,36 @@ use Rattle.atomic_table.specs.Seated.{TableId}
 use Rattle.vbr_words.specs.Dimensions.{Dimensions, IsShape}
 use Rattle.vbr_words.specs.Places.{index_of, words_in}
 use Rattle.vbr_words.specs.declared.place.Place.{Place}
-use Rattle.vbr_words.proofs.Indices.{index_of-lt}
+use Rattle.vbr_words.proofs.Lemmas.{index_of-lt}
 use Rattle.vbr_core.specs.Acceptance.{Accepts}
 use Rattle.vbr_core.specs.Knowledge.{Know}
 use Rattle.vbr_core.specs.Learning.{learn}
-use Rattle.vbr_core.specs.Machine.{word_made, access_of, found, place_of, stamp_shown}
+use Rattle.vbr_core.specs.Machine.{word_made, access_of, found, place_of_step, stamp_shown}
 use Rattle.vbr_core.specs.Runs.{IsRun, world_after, know_after, NoneOf}
 use Rattle.vbr_core.specs.declared.event.Event.{Event}
 use Rattle.vbr_core.specs.declared.event.Step.{Step}
-use Rattle.vbr_core.proofs.RunsGoOn.{know_after-snoc}
+use Rattle.vbr_core.proofs.Lemmas.{know_after-snoc, place_in}
 use Rattle.vbr_slots.specs.declared.rule.Member.{Member}
 use Rattle.vbr_slots.specs.declared.rule.Opening.{Opening}
 use Rattle.vbr_slots.specs.declared.runner.Runner.TheInside.{Inside as RunnerInside}
 use Rattle.vbr_slots.specs.declared.slots.Slots.TheInside.{Inside as SlotsInside}
 use Rattle.vbr_slots.specs.Rule.{Kept, Told, Shows, member, first_seen, head_of, tail_of, EachBegins}
 use Rattle.vbr_slots.specs.Views.{Trace, TableView, IsOf, Did, knows, event_of, epoch_after, steps_in}
-use Rattle.vbr_slots.specs.RunnerView.{trace_of, seen_of, IsSound}
+use Rattle.vbr_slots.specs.RunnerView.{trace_of, seen_of, IsSoundRunner}
 use Rattle.vbr_slots.specs.SlotsView.{table_of, IsBuilt}
 use Rattle.vbr_slots.proofs.Calls.{steps_next}
 use Rattle.vbr_slots.proofs.Keeps.{plays_as}
 use Rattle.vbr_slots.proofs.Learning.{epoch_learned}
-use Rattle.vbr_core.proofs.WordsAfter.{place_in}
 
 -- a seat's view, and the slots of the table that it has taken
 abbrev pub Sat : Type 0
 Sat = Me (Unit {0}) (List Member)
 
 -- the seat of a runner
-pub known : (p : RunnerInside) (w : Trace) → IsSound p → trace_of p ≡ w → p.seat.me ≡ (member w.who w.seen ∷ [], [])
+pub known : (p : RunnerInside) (w : Trace) → IsSoundRunner p → trace_of p ≡ w → p.seat.me ≡ (member w.who w.seen ∷ [], [])
 known p w sound is = sound.alone ∙ ap (λ (v : Trace). (member v.who v.seen ∷ [], [])) is
 
-pub low_of : (p : RunnerInside) (w : Trace) → IsSound p → trace_of p ≡ w → w.who < w.passes
+pub low_of : (p : RunnerInside) (w : Trace) → IsSoundRunner p → trace_of p ≡ w → w.who < w.passes
 low_of p w sound is = subst (λ (v : Trace). v.who < v.passes) is sound.low
 
 pub seen_in : (me : Sat) (who : ℕ) (seen : List Event) (others : List Member) → me ≡ (member who seen ∷ others, []) → first_seen me.0 ≡ seen
@@ -47,7 +46,7 @@ opening_of t = record { shape = t.shape; passes = t.passes }
 
 -- what a step on the word asks
 pub asks : (t : SlotsInside) (table : TableView) → IsBuilt t → table_of t ≡ table → (w : Trace) → w.who < w.passes → IsOf w table → (z : TableId) → z ≡ w.table → (id : ℕ) (me : Sat) (others : List Member)
-    → me ≡ (member w.who w.seen ∷ others, []) → (step : Step) (e : Event) (opening : Opening) → (e ≡ event_of w.who step) × (opening ≡ opening_of table) → (place : Place) (word : ℕ) (f g : ℕ → ℕ) → word ≡ index_of t.opening.shape place → place ≡ place_of step
+    → me ≡ (member w.who w.seen ∷ others, []) → (step : Step) (e : Event) (opening : Opening) → (e ≡ event_of w.who step) × (opening ≡ opening_of table) → (place : Place) (word : ℕ) (f g : ℕ → ℕ) → word ≡ index_of t.opening.shape place → place ≡ place_of_step step
     → ((n : ℕ) → f n ≡ word_made (access_of (knows w) step) n) → ((n : ℕ) → Shows step (g n) n) → Accepts table.shape (knows w) step
     → (z ≡ t.table.shared.table_id) × (word < t.table.shared.table_id.words) × Allows (Kept t.table.shared.key) t.table.shared.table_id.slots id me word f (λ r. Told opening e me (g r))
 asks t table built t_is w low own z z_is id me others is step e opening named place word f g at_place place_is does same ok =
@@ -57,9 +56,9 @@ asks t table built t_is w low own z z_is id me others is step e opening named pl
     let here : o ≡ t.table.shared.key = mine ∙ sym (ap opening_of t_is) ∙ sym built.key in
     let shape : w.shape ≡ t.opening.shape = own.1 ∙ sym (ap (λ (q : TableView). q.shape) t_is) in
     let accepted : Accepts w.shape (knows w) step = subst (λ (x : Dimensions). Accepts x (knows w) step) (sym own.1) ok in
-    let at : word ≡ index_of w.shape (place_of step) = at_place ∙ (λ i. index_of (sym shape i) (place_is i)) in
+    let at : word ≡ index_of w.shape (place_of_step step) = at_place ∙ (λ i. index_of (sym shape i) (place_is i)) in
     let size : words_in w.shape ≡ t.table.shared.table_id.words = ap words_in shape ∙ sym built.words in
-    let in_table : index_of w.shape (place_of step) < words_in w.shape = index_of-lt w.shape (place_of step) (place_in w.shape step accepted.in_shape) in
+    let in_table : index_of w.shape (place_of_step step) < words_in w.shape = index_of-lt w.shape (place_of_step step) (place_in w.shape step accepted.in_shape) in
     let is_shape : IsShape w.shape = subst IsShape (sym shape) built.shape in
     let plain : Allows (Kept o) t.table.shared.table_id.slots id me word f (λ r. Told o d me (g r)) = plays_as o is_shape t.table.shared.table_id.slots id d w.seen others [] me word f g is low at does same accepted in (
       z_is ∙ (own.0 ∙ sym (ap (λ (q : TableView). q.table) t_is)),
@@ -98,7 +97,7 @@ done w table own me n others is step e opening named r told =
     }
 
 -- the runner after the step, in a seat of its own
-module _ (p : RunnerInside) (w : Trace) (sound : IsSound p) (p_is : trace_of p ≡ w) (step : Step) (r : ℕ) (others : List Member) (n : Sat) (end : Done w step r others n) (q : RunnerInside) (is : q.seat.me ≡ (member w.who end.run ∷ [], []))
+module _ (p : RunnerInside) (w : Trace) (sound : IsSoundRunner p) (p_is : trace_of p ≡ w) (step : Step) (r : ℕ) (others : List Member) (n : Sat) (end : Done w step r others n) (q : RunnerInside) (is : q.seat.me ≡ (member w.who end.run ∷ [], []))
     (fields : (q.who ≡ p.who) × (q.opening ≡ p.opening) × (q.epoch ≡ epoch_after step r p.epoch)) where
   seen_now : seen_of q ≡ end.run
   seen_now = seen_in q.seat.me w.who end.run [] is
@@ -118,7 +117,7 @@ module _ (p : RunnerInside) (w : Trace) (sound : IsSound p) (p_is : trace_of p �
   know_is : know_after q.opening.shape (seen_of q) q.who ≡ know
   know_is = (λ i. know_after (shape_is i) (seen_now i) (who_is i)) ∙ end.know
 
-  pub stays_sound : IsSound q
+  pub stays_sound : IsSoundRunner q
   stays_sound = record {
     alone = is ∙ (λ i. (member (sym who_is i) (sym seen_now i) ∷ [], []));
     low = subst (λ (x : ℕ × Opening). x.0 < x.1.passes) (λ i. (sym fields.0 i, sym fields.1 i)) sound.low;
@@ -153,8 +152,8 @@ pub right_rest : (m m' : Sat) (v : Member) (vs : List Member) → m ≡ (v ∷ v
 right_rest m m' v vs is right = right ∙ ap (λ (x : Sat). (tail_of x.0, [])) is
 
 -- a runner that has its seat back is what it was
-pub same_again : (p : RunnerInside) (w : Trace) (sound : IsSound p) (p_is : trace_of p ≡ w) (q : RunnerInside) (is : q.seat.me ≡ (member w.who w.seen ∷ [], [])) → (q.who ≡ p.who) × (q.opening ≡ p.opening) × (q.epoch ≡ p.epoch)
-    → q.seat.table_id ≡ w.table → IsSound q × (trace_of q ≡ w)
+pub same_again : (p : RunnerInside) (w : Trace) (sound : IsSoundRunner p) (p_is : trace_of p ≡ w) (q : RunnerInside) (is : q.seat.me ≡ (member w.who w.seen ∷ [], [])) → (q.who ≡ p.who) × (q.opening ≡ p.opening) × (q.epoch ≡ p.epoch)
+    → q.seat.table_id ≡ w.table → IsSoundRunner q × (trace_of q ≡ w)
 same_again p w sound p_is q is fields table =
     let seen : seen_of q ≡ w.seen = seen_in q.seat.me w.who w.seen [] is in
     let was : seen_of q ≡ seen_of p = seen ∙ sym (ap (λ (v : Trace). v.seen) p_is) in

@@ -1,7 +1,7 @@
 -- A pass that was alone: whatever it has seen since is its own.
 use Rattle.std.specs.Prelude.{◌≡◌, ℕ, List, [], ◌∷◌, ◌++◌}
 use Rattle.vbr_core.specs.Accounts.{incarnations_after}
-use Rattle.vbr_core.specs.Images.{link_at}
+use Rattle.vbr_core.specs.Images.{link_shown_at}
 use Rattle.vbr_core.specs.Incarnations.{Incarnations}
 use Rattle.vbr_core.specs.Nodes.{behind}
 use Rattle.vbr_core.specs.declared.event.Event.{Event}
@@ -9,14 +9,14 @@ use Rattle.vbr_words.specs.declared.place.At.{At}
 use Rattle.vbr_slots.specs.Views.{Trace, knows}
 
 -- each event is one of a pass
-abbrev pub AllOf : ℕ → List Event → Type 0
-AllOf pass [] = Unit {0}
-AllOf pass (event ∷ events) = (event.pass ≡ pass) × AllOf pass events
+abbrev pub OnlyEventsOf : ℕ → List Event → Type 0
+OnlyEventsOf pass [] = Unit {0}
+OnlyEventsOf pass (event ∷ events) = (event.pass ≡ pass) × OnlyEventsOf pass events
 
 -- the pass has seen more, and all of that is its own
 pub record IsAlone (p q : Trace) : Type 0 where
   pub own : List Event
-  pub each : AllOf p.who own
+  pub each : OnlyEventsOf p.who own
   pub seen : q.seen ≡ p.seen ++ own
 
 -- the incarnations after what the pass has seen
@@ -34,5 +34,5 @@ ahead p bucket at = behind p.shape (nodes p) bucket at
 -- the lists are as they were: the epoch, the links that stand, and how many nodes are behind each place
 pub record LeavesLists (p q : Trace) : Type 0 where
   pub epoch : (nodes q).epoch ≡ (nodes p).epoch
-  pub links : (at : At) → link_at (nodes q) at ≡ link_at (nodes p) at
+  pub links : (at : At) → link_shown_at (nodes q) at ≡ link_shown_at (nodes p) at
   pub count : (bucket : ℕ) (at : At) → ahead q bucket at ≡ ahead p bucket at

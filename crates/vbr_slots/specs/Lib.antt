@@ -3,6 +3,7 @@ pub mod Rule
 pub mod Running
 pub mod Views
 pub mod Pools
+pub mod PoolView
 pub mod RunnerView
 pub mod CountedView
 pub mod PassView
@@ -13,3 +14,4 @@ pub mod Reads
 pub mod LookUps
 pub mod Alone
 pub mod Messages
+pub mod PassLaw

@@ -14,7 +14,7 @@ abbrev pub trace_of : Inside → Trace
 trace_of p = record { table = p.seat.table_id; shape = p.opening.shape; passes = p.opening.passes; who = p.who; seen = seen_of p }
 
 -- its seat has this pass alone, and no slot of the table; what it has seen is a run; and the epoch that it keeps is the one that it knows
-pub record IsSound (p : Inside) : Type 0 where
+pub record IsSoundRunner (p : Inside) : Type 0 where
   pub alone : p.seat.me ≡ (member p.who (seen_of p) ∷ [], [])
   pub low : p.who < p.opening.passes
   pub shape : IsShape p.opening.shape

@@ -20,7 +20,7 @@ impl Slots {
         self.load(&mut pass.runner, Step::ReadEpoch, Place::Epoch)
     }
 
-    /// Raises the epoch by 1, if it is `from`, in one step, and says whether it was.
+    /// Advances the epoch by 1, if it is `from`, in one step, and says whether it was.
     #[inline]
     pub fn advance(&self, pass: &mut Pass, from: u64) -> bool
         requires own { IsOf pass.old.trace self.now }

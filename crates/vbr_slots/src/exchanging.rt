@@ -2,7 +2,7 @@
 //! word with its version (Sheffi, Herlihy and Petrank 2021).
 ghost use Rattle.std.specs.Prelude.{◌≡◌, ◌≢◌, ◌<◌, false, Some, None, OnOk, OnErr, MatchResult};
 ghost use Rattle.vbr_words.specs.Words.{link_of, word_of};
-ghost use Rattle.vbr_core.specs.Acceptance.{IsAtIn, IsHeld, IsInRange};
+ghost use Rattle.vbr_core.specs.Acceptance.{IsAtIn, HasChecked, IsInRange};
 ghost use Rattle.vbr_core.specs.Learning.{link_written};
 ghost use Rattle.vbr_core.specs.declared.event.Step.TheVariants.{Publish, Mark, Unlink};
 ghost use Rattle.vbr_slots.specs.Views.{IsOf, Did, KeepsPool, knows};
@@ -29,7 +29,7 @@ impl Slots {
         requires own { IsOf pass.old.trace self.now }
         requires in_hand { pass.old.hand ≡ Some slot }
         requires pred { IsAtIn self.now.shape pred }
-        requires held { IsHeld self.now.shape (knows pass.old.trace) (Publish pred expected slot) }
+        requires held { HasChecked self.now.shape (knows pass.old.trace) (Publish pred expected slot) }
         requires in_range { IsInRange self.now.shape (knows pass.old.trace) (Publish pred expected slot) }
         requires new { new ≡ word_of (link_written (knows pass.old.trace) (Publish pred expected slot)) }
         ensures step { MatchResult result
@@ -59,7 +59,7 @@ impl Slots {
     pub fn mark(&self, pass: &mut Pass, slot: u32, expected: u64) -> Result<(), u64>
         requires own { IsOf pass.old.trace self.now }
         requires slot { slot < self.now.shape.slots }
-        requires held { IsHeld self.now.shape (knows pass.old.trace) (Mark slot expected) }
+        requires held { HasChecked self.now.shape (knows pass.old.trace) (Mark slot expected) }
         requires unmarked { (link_of expected).mark ≡ false }
         ensures step { MatchResult result
             (λ _. Did (Mark slot expected) pass.old.trace pass.new.trace expected)
@@ -90,7 +90,7 @@ impl Slots {
         requires own { IsOf pass.old.trace self.now }
         requires pred { IsAtIn self.now.shape pred }
         requires slot { slot < self.now.shape.slots }
-        requires held { IsHeld self.now.shape (knows pass.old.trace) (Unlink pred expected slot) }
+        requires held { HasChecked self.now.shape (knows pass.old.trace) (Unlink pred expected slot) }
         requires in_range { IsInRange self.now.shape (knows pass.old.trace) (Unlink pred expected slot) }
         requires new { new ≡ word_of (link_written (knows pass.old.trace) (Unlink pred expected slot)) }
         ensures step { MatchResult result

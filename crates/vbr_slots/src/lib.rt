@@ -20,6 +20,7 @@ pub mod meeting;
 pub mod opening;
 pub mod owning;
 pub mod pass;
+mod pool;
 pub mod reading;
 mod rule;
 mod runner;

@@ -7,10 +7,10 @@ ghost use Rattle.vbr_slots.specs.Words.{AreWordsOf};
 
 use crate::counted::Counted;
 use crate::pass::Pass;
+use crate::pool::Pool;
 use crate::rule::{First, Opening};
 use crate::runner::Runner;
 use crate::slots::Slots;
-use arrayvec::ArrayVec;
 use atomic_table::Table;
 use std::alloc::{AllocError, Global};
 use std::error::Error;
@@ -100,7 +100,7 @@ impl Slots {
             let counted = Counted { runner, steps: 0 };
             passes.push(Pass {
                 runner: counted,
-                pool: ArrayVec::new(),
+                pool: Pool::new(),
                 hand: None,
             })?;
             seat = next;

@@ -3,11 +3,12 @@ ghost use Rattle.std.specs.List.{position_from};
 ghost use Rattle.std.specs.Prelude.{◌≡◌, ◌==◌, ◌<◌, ◌≤◌, ◌⊎◌, [], ◌∷◌, ◌++◌, length, Some, Contains};
 ghost use Rattle.vbr_core.specs.Acceptance.{IsFree};
 ghost use Rattle.vbr_core.specs.Runs.{IsRun};
+ghost use Rattle.vbr_slots.specs.PassLaw.{PassLaw};
 ghost use Rattle.vbr_slots.specs.Pools.{OwnPool, hand_without, without};
 ghost use Rattle.vbr_slots.specs.Views.{counted, knows, steps_of};
 
 use crate::counted::Counted;
-use arrayvec::ArrayVec;
+use crate::pool::Pool;
 use std::marker::Model;
 
 /// How many slots the own pool of a pass has room for.
@@ -20,7 +21,7 @@ pub const POOL: usize = 64;
 #[derive(Drop)]
 pub struct Pass {
     pub(crate) runner: Counted,
-    pub(crate) pool: ArrayVec<u32, POOL>,
+    pub(crate) pool: Pool,
     pub(crate) hand: Option<u32>,
 }
 
@@ -45,6 +46,15 @@ impl Pass {
         ensures is_run { IsRun self.now.trace.shape self.now.trace.passes self.now.trace.seen }
     {
         self.runner.runner.who
+    }
+
+    /// The law of passes: what always holds of one, for the proofs of its callers. It does nothing.
+    #[inline]
+    pub fn law(&self)
+        ensures { PassLaw self.now }
+    {
+        let _who = self.who();
+        let _pool = &self.pool;
     }
 
     /// How many steps it has made since the opening, counted up to the greatest number: its own events

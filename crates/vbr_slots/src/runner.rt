@@ -1,6 +1,6 @@
 //! What makes the steps of one pass.
 ghost use Rattle.std.specs.Prelude.{◌≡◌};
-ghost use Rattle.vbr_slots.specs.Views.{epoch_after};
+ghost use Rattle.vbr_slots.specs.Views.{epoch_after, knows};
 
 use crate::rule::{Member, Opening};
 use atomic_table::Seat;
@@ -23,11 +23,21 @@ impl Model for Runner {
 
     ghost Value = { Trace };
 
-    ghost use Rattle.vbr_slots.specs.RunnerView.{trace_of, IsSound};
+    ghost use Rattle.vbr_slots.specs.RunnerView.{trace_of, IsSoundRunner};
 
     ghost view = { trace_of };
 
-    ghost invariant = { IsSound };
+    ghost invariant = { IsSoundRunner };
+}
+
+impl Runner {
+    // The last epoch that it read.
+    #[inline]
+    pub(crate) fn epoch(&self) -> u64
+        ensures { result ≡ (knows self.now).epoch }
+    {
+        self.epoch
+    }
 }
 
 // Keeps the last epoch read, after a step that found this word. Nothing is stored where it stayed.
@@ -39,5 +49,16 @@ pub(crate) fn keep_epoch(epoch: &mut u64, step: Step, found: u64)
         if *epoch != found {
             *epoch = found;
         }
+    }
+}
+
+// Keeps the epoch that was found, where the last one read was this. Nothing is stored where it stayed.
+#[inline]
+pub(crate) fn keep_epoch_found(epoch: &mut u64, before: u64, found: u64)
+    requires { before ≡ epoch.old }
+    ensures { epoch.new ≡ found }
+{
+    if before != found {
+        *epoch = found;
     }
 }

@@ -3,9 +3,9 @@
 //
 // A step is told to the table as an event. A function that ends in `_as` takes the event as its type
 // argument, and the function without that ending picks it.
-ghost use Rattle.std.specs.Prelude.{◌≡◌, ◌<◌, ◌^◌, IsTrue};
+ghost use Rattle.std.specs.Prelude.{◌≡◌, ℕ, ◌<◌, ◌^◌, IsTrue};
 ghost use Rattle.vbr_core.specs.Acceptance.{Accepts};
-ghost use Rattle.vbr_core.specs.Machine.{Load, Store, Exchange, FetchOr, FetchAnd, access_of, place_of};
+ghost use Rattle.vbr_core.specs.Machine.{Load, Store, Exchange, FetchOr, FetchAnd, access_of, place_of_step};
 ghost use Rattle.vbr_core.specs.Runs.{BeginsFor};
 ghost use Rattle.vbr_core.specs.Knowledge.{holds};
 ghost use Rattle.vbr_core.specs.declared.event.Step.TheVariants.{LoadBirth, LoadLink, ReadEpoch};
@@ -13,11 +13,11 @@ ghost use Rattle.vbr_words.specs.Places as places;
 ghost use Rattle.vbr_words.specs.declared.place.At.TheVariants.{Slot};
 ghost use Rattle.vbr_words.specs.declared.place.Place.TheVariants.{Epoch};
 ghost use Rattle.vbr_slots.specs.LookUps.{link_from};
-ghost use Rattle.vbr_slots.specs.Views.{IsOf, Did, Trace, knows, event_of};
+ghost use Rattle.vbr_slots.specs.Views.{IsOf, Did, Trace, knows, epoch_after, event_of};
 
 use crate::counted::{Counted, steps_after};
 use crate::rule::{Both, Does, First, Naming, Whole};
-use crate::runner::{Runner, keep_epoch};
+use crate::runner::{Runner, keep_epoch, keep_epoch_found};
 use crate::slots::Slots;
 use std::marker::Brand;
 use vbr_core::Step;
@@ -54,7 +54,7 @@ impl Slots {
         requires named { (E.event ≡ event_of runner.old.who step) × (E.opening ≡ record { shape = self.now.shape; passes = self.now.passes }) }
         requires own { IsOf runner.old self.now }
         requires accepted { Accepts self.now.shape (knows runner.old) step }
-        requires place { places.place_of at ≡ place_of step }
+        requires place { places.place_of at ≡ place_of_step step }
         requires access { access_of (knows runner.old) step ≡ Load }
         ensures { Did step runner.old runner.new result }
     {
@@ -68,7 +68,7 @@ impl Slots {
     pub(crate) fn load_at(&self, counts: &mut Counted, step: Step, at: At) -> u64
         requires own { IsOf counts.old self.now }
         requires accepted { Accepts self.now.shape (knows counts.old) step }
-        requires place { places.place_of at ≡ place_of step }
+        requires place { places.place_of at ≡ place_of_step step }
         requires access { access_of (knows counts.old) step ≡ Load }
         ensures { Did step counts.old counts.new result }
     {
@@ -83,7 +83,7 @@ impl Slots {
         requires named { (E.event ≡ event_of runner.old.who step) × (E.opening ≡ record { shape = self.now.shape; passes = self.now.passes }) }
         requires own { IsOf runner.old self.now }
         requires accepted { Accepts self.now.shape (knows runner.old) step }
-        requires place { place ≡ place_of step }
+        requires place { place ≡ place_of_step step }
         requires access { access_of (knows runner.old) step ≡ Load }
         ensures { Did step runner.old runner.new result }
     {
@@ -97,7 +97,7 @@ impl Slots {
     pub(crate) fn load(&self, counts: &mut Counted, step: Step, place: Place) -> u64
         requires own { IsOf counts.old self.now }
         requires accepted { Accepts self.now.shape (knows counts.old) step }
-        requires place { place ≡ place_of step }
+        requires place { place ≡ place_of_step step }
         requires access { access_of (knows counts.old) step ≡ Load }
         ensures { Did step counts.old counts.new result }
     {
@@ -106,7 +106,23 @@ impl Slots {
         found
     }
 
-    // One load, and one of the epoch: two steps.
+    // One load of the epoch, which is the step. The runner read `before` last, which its caller looks up
+    // before the loads that come first: so what the caller compares with that is compared once.
+    #[inline]
+    fn read_epoch_as<E: Naming>(&self, runner: &mut Runner, before: u64) -> u64
+        requires named { (E.event ≡ event_of runner.old.who ReadEpoch) × (E.opening ≡ record { shape = self.now.shape; passes = self.now.passes }) }
+        requires own { IsOf runner.old self.now }
+        requires accepted { Accepts self.now.shape (knows runner.old) ReadEpoch }
+        requires before { before ≡ (knows runner.old).epoch }
+        ensures { Did ReadEpoch runner.old runner.new result }
+    {
+        let word = place_index(&self.opening.shape, Place::Epoch);
+        let found = self.table.shared.load::<Does<E>>(&mut runner.seat, word);
+        keep_epoch_found(&mut runner.epoch, before, found);
+        found
+    }
+
+    // One load of another word than the epoch, and one of the epoch: two steps.
     #[inline]
     pub(crate) fn load_and_epoch(
         &self,
@@ -116,12 +132,14 @@ impl Slots {
     ) -> (u64, u64)
         requires own { IsOf counts.old self.now }
         requires accepted { Accepts self.now.shape (knows counts.old) step }
-        requires place { place ≡ place_of step }
+        requires place { place ≡ place_of_step step }
         requires access { access_of (knows counts.old) step ≡ Load }
+        requires stays { (found epoch : ℕ) → epoch_after step found epoch ≡ epoch }
         ensures { (between : Trace) × Did step counts.old between result.0 × Did ReadEpoch between counts.new result.1 }
     {
+        let before = counts.runner.epoch();
         let found = self.load_as::<Brand>(&mut counts.runner, step, place);
-        let epoch = self.load_as::<Brand>(&mut counts.runner, Step::ReadEpoch, Place::Epoch);
+        let epoch = self.read_epoch_as::<Brand>(&mut counts.runner, before);
         counts.steps = steps_after(counts.steps, 2);
         (found, epoch)
     }
@@ -134,6 +152,7 @@ impl Slots {
         requires held { IsTrue (holds (knows counts.old).checked slot) }
         ensures { (born between : Trace) × Did (LoadBirth slot) counts.old born result.0 × Did (LoadLink (Slot slot)) born between result.1 × Did ReadEpoch between counts.new result.2 }
     {
+        let before = counts.runner.epoch();
         let at = At::Slot(slot);
         let birth = self.load_as::<Brand>(
             &mut counts.runner,
@@ -145,7 +164,7 @@ impl Slots {
             Step::LoadLink { at },
             Place::LinkOf(slot),
         );
-        let epoch = self.load_as::<Brand>(&mut counts.runner, Step::ReadEpoch, Place::Epoch);
+        let epoch = self.read_epoch_as::<Brand>(&mut counts.runner, before);
         counts.steps = steps_after(counts.steps, 3);
         (birth, word, epoch)
     }
@@ -156,7 +175,7 @@ impl Slots {
         requires named { (E.event ≡ event_of runner.old.who step) × (E.opening ≡ record { shape = self.now.shape; passes = self.now.passes }) }
         requires own { IsOf runner.old self.now }
         requires accepted { Accepts self.now.shape (knows runner.old) step }
-        requires place { place ≡ place_of step }
+        requires place { place ≡ place_of_step step }
         requires access { access_of (knows runner.old) step ≡ Store new }
         ensures { Did step runner.old runner.new new }
     {
@@ -171,7 +190,7 @@ impl Slots {
     pub(crate) fn store(&self, counts: &mut Counted, step: Step, place: Place, new: u64)
         requires own { IsOf counts.old self.now }
         requires accepted { Accepts self.now.shape (knows counts.old) step }
-        requires place { place ≡ place_of step }
+        requires place { place ≡ place_of_step step }
         requires access { access_of (knows counts.old) step ≡ Store new }
         ensures { Did step counts.old counts.new new }
     {
@@ -192,7 +211,7 @@ impl Slots {
         requires named { (E.event ≡ event_of runner.old.who step) × (E.opening ≡ record { shape = self.now.shape; passes = self.now.passes }) }
         requires own { IsOf runner.old self.now }
         requires accepted { Accepts self.now.shape (knows runner.old) step }
-        requires place { place ≡ place_of step }
+        requires place { place ≡ place_of_step step }
         requires access { access_of (knows runner.old) step ≡ Exchange expected new }
         ensures { Did step runner.old runner.new result }
     {
@@ -216,7 +235,7 @@ impl Slots {
     ) -> u64
         requires own { IsOf counts.old self.now }
         requires accepted { Accepts self.now.shape (knows counts.old) step }
-        requires place { place ≡ place_of step }
+        requires place { place ≡ place_of_step step }
         requires access { access_of (knows counts.old) step ≡ Exchange expected new }
         ensures { Did step counts.old counts.new result }
     {
@@ -237,7 +256,7 @@ impl Slots {
         requires named { (E.event ≡ event_of runner.old.who step) × (E.opening ≡ record { shape = self.now.shape; passes = self.now.passes }) }
         requires own { IsOf runner.old self.now }
         requires accepted { Accepts self.now.shape (knows runner.old) step }
-        requires place { place ≡ place_of step }
+        requires place { place ≡ place_of_step step }
         requires access { access_of (knows runner.old) step ≡ FetchOr bits }
         ensures { Did step runner.old runner.new result }
     {
@@ -254,7 +273,7 @@ impl Slots {
     pub(crate) fn fetch_or(&self, counts: &mut Counted, step: Step, place: Place, bits: u64) -> u64
         requires own { IsOf counts.old self.now }
         requires accepted { Accepts self.now.shape (knows counts.old) step }
-        requires place { place ≡ place_of step }
+        requires place { place ≡ place_of_step step }
         requires access { access_of (knows counts.old) step ≡ FetchOr bits }
         ensures { Did step counts.old counts.new result }
     {
@@ -275,7 +294,7 @@ impl Slots {
         requires named { (E.event ≡ event_of runner.old.who step) × (E.opening ≡ record { shape = self.now.shape; passes = self.now.passes }) }
         requires own { IsOf runner.old self.now }
         requires accepted { Accepts self.now.shape (knows runner.old) step }
-        requires place { place ≡ place_of step }
+        requires place { place ≡ place_of_step step }
         requires access { access_of (knows runner.old) step ≡ FetchAnd bits }
         ensures { Did step runner.old runner.new result }
     {
@@ -292,7 +311,7 @@ impl Slots {
     pub(crate) fn fetch_and(&self, counts: &mut Counted, step: Step, place: Place, bits: u64) -> u64
         requires own { IsOf counts.old self.now }
         requires accepted { Accepts self.now.shape (knows counts.old) step }
-        requires place { place ≡ place_of step }
+        requires place { place ≡ place_of_step step }
         requires access { access_of (knows counts.old) step ≡ FetchAnd bits }
         ensures { Did step counts.old counts.new result }
     {
@@ -307,7 +326,7 @@ impl Slots {
         requires named { (E.event ≡ event_of runner.old.who step) × (E.opening ≡ record { shape = self.now.shape; passes = self.now.passes }) }
         requires own { IsOf runner.old self.now }
         requires accepted { Accepts self.now.shape (knows runner.old) step }
-        requires place { Epoch ≡ place_of step }
+        requires place { Epoch ≡ place_of_step step }
         requires access { access_of (knows runner.old) step ≡ Load }
         requires other { IsOf other.old self.now }
         ensures step { Did step runner.old runner.new result }

@@ -6,7 +6,7 @@ use Rattle.vbr_core.specs.Machine.{World}
 use Rattle.vbr_core.specs.declared.event.Effect.{Effect}
 use Rattle.vbr_core.specs.declared.event.Step.{Step}
 use Rattle.vbr_slots.specs.Views.{Trace, TableView, IsOf, knows}
-use Rattle.vbr_event_lists.specs.Worked.{AreWorked, IsNew}
+use Rattle.vbr_event_lists.specs.Worked.{AreWorked, IsNamedWord}
 
 -- a pass of the table with this number, which knows what it knows in the world
 pub record Follows (t : TableView) (who : ℕ) (p : Trace) (w : World) : Type 0 where
@@ -15,7 +15,7 @@ pub record Follows (t : TableView) (who : ℕ) (p : Trace) (w : World) : Type 0 
   pub knows_it : knows p ≡ w.know who
 
 -- two passes know what they know in a world from which on the rows are worked
-pub record Stands (t : TableView) (a b : Trace) (rows : List (ℕ × Step × Effect)) (words : List ℕ) : Type 0 where
+pub record BothFollow (t : TableView) (a b : Trace) (rows : List (ℕ × Step × Effect)) (words : List ℕ) : Type 0 where
   pub world : World
   pub first : Follows t 0 a world
   pub second : Follows t 1 b world
@@ -25,7 +25,7 @@ pub record Stands (t : TableView) (a b : Trace) (rows : List (ℕ × Step × Eff
 pub record May (t : TableView) (p : Trace) (step : Step) (word : ℕ) : Type 0 where
   pub own : IsOf p t
   pub accepted : Accepts t.shape (knows p) step
-  pub new : IsNew (knows p) step word
+  pub new : IsNamedWord (knows p) step word
 
 -- what a pass learned from a step that had this effect; a slot that it took had the stamp 0
 pub record Learned (step : Step) (p q : Trace) (effect : Effect) : Type 0 where

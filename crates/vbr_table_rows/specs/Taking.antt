@@ -1,28 +1,20 @@
 -- What two threads that each take a slot leave.
-use Rattle.std.specs.Prelude.{◌≡◌, ℕ, true, false, List, [], ◌∷◌, ◌++◌, Result, MatchResult}
+use Rattle.std.specs.Prelude.{◌≡◌, ℕ, List, [], ◌∷◌, ◌++◌}
 use Rattle.vbr_words.specs.Dimensions.{Dimensions}
-use Rattle.vbr_words.specs.Flags.{has_flag}
 use Rattle.vbr_core.specs.Runs.{IsRun, world_after}
 use Rattle.vbr_core.specs.declared.event.Event.{Event}
 use Rattle.vbr_core.specs.declared.event.Step.TheVariants.{TakeFlag}
-use Rattle.vbr_slots.specs.Views.{Trace, Did, event_of}
+use Rattle.vbr_slots.specs.Views.{event_of}
 use Rattle.vbr_slots.specs.Words.{AreWordsOf}
 
 -- the event stands in the run
-abbrev pub Has : List Event → Event → Type 0
-Has run e = (before : List Event) × (after : List Event) × (run ≡ (before ++ e ∷ []) ++ after)
+abbrev pub HasEvent : List Event → Event → Type 0
+HasEvent run e = (before : List Event) × (after : List Event) × (run ≡ (before ++ e ∷ []) ++ after)
 
 -- the words are those of a run in which pass 0 reached for slot 0 and pass 1 for slot 1
 pub record BothTook (shape : Dimensions) (words : List ℕ) : Type 0 where
   pub run : List Event
   pub is_run : IsRun shape 2 run
   pub are : AreWordsOf shape (world_after shape run) words
-  pub first : Has run (event_of 0 (TakeFlag 0))
-  pub second : Has run (event_of 1 (TakeFlag 1))
-
--- a pass reached for a slot, and was answered whether it was taken
-abbrev pub Reached : {T : Type 0} → ℕ → Trace → Trace → Result T ℕ → Type 0
-Reached slot p q answer =
-    MatchResult answer
-    (λ taken. (found : ℕ) × Did (TakeFlag slot) p q found × (has_flag found slot ≡ true))
-    (λ found. Did (TakeFlag slot) p q found × (has_flag found slot ≡ false))
+  pub first : HasEvent run (event_of 0 (TakeFlag 0))
+  pub second : HasEvent run (event_of 1 (TakeFlag 1))

@@ -5,7 +5,7 @@ ghost use Rattle.vbr_core.specs.Learning.{present_reply};
 ghost use Rattle.vbr_core.specs.Machine.{opening};
 ghost use Rattle.vbr_slots.specs.Views.{IsOf};
 ghost use Rattle.vbr_event_lists.specs.Worked.{AreWorked, first_of, names_link, others_of};
-ghost use Rattle.vbr_table_rows.specs.Following.{Learned, May, Stands};
+ghost use Rattle.vbr_table_rows.specs.Following.{Learned, May, BothFollow};
 
 use crate::running_table::{close_two, open_two};
 use std::alloc::Global;
@@ -176,7 +176,7 @@ pub(crate) fn follow(
     mut rows: &[Row],
     mut words: &[u64],
 )
-    requires { Stands slots.now a.old.trace b.old.trace rows.now words.now }
+    requires { BothFollow slots.now a.old.trace b.old.trace rows.now words.now }
     ensures { IsOf a.new.trace slots.now × IsOf b.new.trace slots.now }
 {
     while let Some((row, later)) = rows.split_first() {
@@ -212,7 +212,7 @@ fn two_passes_unlink_one_node(rt: HostRuntime) -> Result<(), Fail> {
     };
     assert_eq!(rt;
         words.as_slice(),
-        [1, 10_485_761, 0, 3_145_728, 1, 0, 7, 0].as_slice()
+        [1, 167_772_161, 0, 50_331_648, 1, 0, 7, 0].as_slice()
     );
     Ok(())
 }
@@ -226,8 +226,22 @@ fn a_slot_is_reborn(rt: HostRuntime) -> Result<(), Fail> {
     assert_eq!(rt;
         words.as_slice(),
         [
-            2, 10_485_763, 4_194_306, 2_097_152, 1, 0, 30, 4_194_305, 2, 1, 10, 2_097_153, 1, 0,
-            25, 0
+            2,
+            167_772_163,
+            67_108_866,
+            33_554_432,
+            1,
+            0,
+            30,
+            67_108_865,
+            2,
+            1,
+            10,
+            33_554_433,
+            1,
+            0,
+            25,
+            0
         ]
         .as_slice()
     );
@@ -243,8 +257,22 @@ fn a_word_comes_back(rt: HostRuntime) -> Result<(), Fail> {
     assert_eq!(rt;
         words.as_slice(),
         [
-            5, 10_485_763, 4_194_306, 4_194_304, 2, 0, 30, 4_194_305, 2, 0, 20, 11_534_337, 5, 0,
-            10, 0
+            5,
+            167_772_163,
+            67_108_866,
+            67_108_864,
+            2,
+            0,
+            30,
+            67_108_865,
+            2,
+            0,
+            20,
+            184_549_377,
+            5,
+            0,
+            10,
+            0
         ]
         .as_slice()
     );

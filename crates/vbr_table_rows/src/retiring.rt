@@ -59,11 +59,11 @@ pub fn remove_one(rt: &impl Abort, slots: &Slots, pass: &mut Pass) -> Unlinked
     ensures slot { result.slot ≡ 0 }
     ensures unlinked { IsUnlinked ((knows pass.new.trace).own result.slot) }
 {
-    let head = head_of(rt, slots, pass, 2_097_153);
+    let head = head_of(rt, slots, pass, 33_554_433);
     let Some(node) = next(slots, pass, &head).expect(rt, "the epoch has not moved") else {
         panic!(rt; "no node")
     };
-    assert!(rt; node.word == 2_097_152);
+    assert!(rt; node.word == 33_554_432);
     assert_eq!(rt; (node.at, node.birth), (At::Slot(0), 1));
     let key = key_of(slots, pass, &node).expect(rt, "the epoch has not moved");
     assert_eq!(rt; key, 7);
@@ -85,6 +85,6 @@ fn a_stamp_is_read_after_the_unlinking(rt: HostRuntime) {
     assert_eq!(rt; retire(&slots, &mut a, unlinked), 2);
     assert_eq!(rt; a.epoch(), 2);
     assert_eq!(rt; a.pool(), [0].as_slice());
-    let words = [2, 10_485_761, 0, 3_145_728, 1, 2, 7, 0];
+    let words = [2, 167_772_161, 0, 50_331_648, 1, 2, 7, 0];
     expect_words(&rt, rt.alloc(), slots, a, b, &words);
 }

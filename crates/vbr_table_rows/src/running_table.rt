@@ -3,7 +3,7 @@ ghost use Rattle.std.specs.Prelude.{◌≡◌, ◌≢◌, ◌<◌, [], ◌∷◌
 ghost use Rattle.vbr_core.specs.declared.event.Step.TheVariants.{TakeFlag};
 ghost use Rattle.vbr_slots.specs.Closing.{AllOf, Ends, HandsBack};
 ghost use Rattle.vbr_slots.specs.Views.{IsOf, event_of, new_pass, new_passes};
-ghost use Rattle.vbr_table_rows.specs.Taking.{Has, BothTook};
+ghost use Rattle.vbr_table_rows.specs.Taking.{HasEvent, BothTook};
 
 use std::alloc::{AllocError, Global};
 use std::process::Abort;
@@ -112,7 +112,7 @@ fn take(slots: &Slots, mut pass: Pass, slot: u32) -> Pass
     requires slot { slot < slots.now.shape.slots }
     ensures own { IsOf result.trace slots.now }
     ensures who { result.trace.who ≡ pass.trace.who }
-    ensures has { Has result.trace.seen (event_of pass.trace.who (TakeFlag slot)) }
+    ensures has { HasEvent result.trace.seen (event_of pass.trace.who (TakeFlag slot)) }
 {
     let _ = slots.take_flag(&mut pass, slot);
     pass
@@ -122,8 +122,8 @@ fn take(slots: &Slots, mut pass: Pass, slot: u32) -> Pass
 fn gather(alloc: Global, slots: Slots, first: Pass, second: Pass) -> Option<Vec<u64>>
     requires passes { slots.passes ≡ 2 }
     requires own { IsOf first.trace slots × IsOf second.trace slots }
-    requires first { Has first.trace.seen (event_of 0 (TakeFlag 0)) }
-    requires second { Has second.trace.seen (event_of 1 (TakeFlag 1)) }
+    requires first { HasEvent first.trace.seen (event_of 0 (TakeFlag 0)) }
+    requires second { HasEvent second.trace.seen (event_of 1 (TakeFlag 1)) }
     ensures { IfSome result (λ words. BothTook slots.shape words.items) }
 {
     let passes = both(alloc, first, second)?;
@@ -144,11 +144,11 @@ fn take_both<R: Threads + Sync>(rt: &R, alloc: Global, shape: Shape) -> Option<V
         rt,
         move ||
             requires { IsOf first.trace table.now × (0 < table.now.shape.slots) }
-            ensures { IsOf result.trace table.entry.now × Has result.trace.seen (event_of first.trace.who (TakeFlag 0)) }
+            ensures { IsOf result.trace table.entry.now × HasEvent result.trace.seen (event_of first.trace.who (TakeFlag 0)) }
         { take(table, first, 0) },
         move ||
             requires { IsOf second.trace table.now × (1 < table.now.shape.slots) }
-            ensures { IsOf result.trace table.entry.now × Has result.trace.seen (event_of second.trace.who (TakeFlag 1)) }
+            ensures { IsOf result.trace table.entry.now × HasEvent result.trace.seen (event_of second.trace.who (TakeFlag 1)) }
         { take(table, second, 1) },
     );
     gather(alloc, slots, first, second)
@@ -162,7 +162,21 @@ fn two_threads_take_a_slot_each(rt: HostRuntime) -> Result<(), Fail> {
     };
     assert_eq!(rt;
         words.as_slice(),
-        [1, 10_485_762, 0, 1_048_576, 0, 0, 0, 1_048_576, 0, 0, 0, 0].as_slice()
+        [
+            1,
+            167_772_162,
+            0,
+            16_777_216,
+            0,
+            0,
+            0,
+            16_777_216,
+            0,
+            0,
+            0,
+            0
+        ]
+        .as_slice()
     );
     Ok(())
 }
@@ -178,7 +192,7 @@ fn opens_and_closes(rt: HostRuntime) -> Result<(), Fail> {
         Ok(words) => {
             assert_eq!(rt;
                 words.as_slice(),
-                [1, 10_485_761, 0, 1_048_576, 0, 0, 0, 1].as_slice()
+                [1, 167_772_161, 0, 16_777_216, 0, 0, 0, 1].as_slice()
             )
         }
         Err(_) => panic!(rt; "not closed"),
@@ -186,7 +200,7 @@ fn opens_and_closes(rt: HostRuntime) -> Result<(), Fail> {
     Ok(())
 }
 
-// Two passes reach for slot 0 and raise the epoch, and the first of them wins both. Once it has put the
+// Two passes reach for slot 0 and advance the epoch, and the first of them wins both. Once it has put the
 // slot back, the other takes it.
 fn share(rt: &impl Abort, slots: &Slots, a: &mut Pass, b: &mut Pass)
     requires first { IsOf a.old.trace slots.now }
@@ -240,7 +254,20 @@ fn two_passes_share_a_slot(rt: HostRuntime) {
     expect_pass(&rt, &a, (0, 1, 5));
     expect_pass(&rt, &b, (1, 2, 4));
     let words = close_late(&rt, rt.alloc(), slots, a, b).expect(&rt, "the table is closed");
-    let wanted = [2, 10_485_762, 0, 1_048_576, 0, 0, 0, 1_048_576, 0, 0, 0, 2];
+    let wanted = [
+        2,
+        167_772_162,
+        0,
+        16_777_216,
+        0,
+        0,
+        0,
+        16_777_216,
+        0,
+        0,
+        0,
+        2,
+    ];
     assert_eq!(rt; words.as_slice(), wanted.as_slice());
 }
 
@@ -255,13 +282,13 @@ fn a_slot_is_born_in(rt: HostRuntime) -> Result<(), Fail> {
     slots.store_birth(&mut a, 0);
     assert!(rt; a.in_hand() == Some(0) && a.pool().is_empty());
     slots.store_key(&mut a, 0, 7);
-    slots.store_link(&mut a, 0, 2_097_152);
+    slots.store_link(&mut a, 0, 33_554_432);
     let Some(words) = close_two(rt.alloc(), slots, a, b) else {
         panic!(rt; "no words")
     };
     assert_eq!(rt;
         words.as_slice(),
-        [1, 10_485_761, 0, 2_097_152, 1, 0, 7, 0].as_slice()
+        [1, 167_772_161, 0, 33_554_432, 1, 0, 7, 0].as_slice()
     );
     Ok(())
 }
@@ -276,19 +303,19 @@ fn one_pass_bears_a_slot(rt: HostRuntime) -> Result<(), Fail> {
     assert!(rt; slots.take_flag(&mut a, 0).is_ok());
     slots.store_birth(&mut a, 0);
     slots.store_key(&mut a, 0, 7);
-    slots.store_link(&mut a, 0, 2_097_152);
+    slots.store_link(&mut a, 0, 33_554_432);
     passes.push(a).ok().ok_or("no room")?;
     match close(slots, rt.alloc(), passes) {
         Ok(words) => assert_eq!(rt;
             words.as_slice(),
-            [1, 10_485_761, 0, 2_097_152, 1, 0, 7, 0].as_slice()
+            [1, 167_772_161, 0, 33_554_432, 1, 0, 7, 0].as_slice()
         ),
         Err(_) => panic!(rt; "not closed"),
     }
     Ok(())
 }
 
-// Raises the epoch, takes slot 0 and keeps it.
+// Advances the epoch, takes slot 0 and keeps it.
 fn take_later(rt: &impl Abort, slots: &Slots, pass: &mut Pass)
     requires own { IsOf pass.old.trace slots.now }
     requires shape { (0 < slots.now.shape.slots) × (1 < slots.now.shape.last_epoch) }
@@ -320,6 +347,19 @@ fn two_passes_meet(rt: HostRuntime) {
     expect_pool(&rt, &a, &[]);
     expect_pass(&rt, &b, (1, 2, 4));
     expect_pool(&rt, &b, &[0]);
-    let wanted = [3, 10_485_762, 0, 1_048_576, 0, 0, 0, 1_048_576, 0, 0, 0, 2];
+    let wanted = [
+        3,
+        167_772_162,
+        0,
+        16_777_216,
+        0,
+        0,
+        0,
+        16_777_216,
+        0,
+        0,
+        0,
+        2,
+    ];
     expect_words(&rt, rt.alloc(), slots, a, b, &wanted);
 }

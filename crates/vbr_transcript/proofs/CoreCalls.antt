@@ -11,7 +11,7 @@ use Rattle.vbr_core.specs.declared.event.Event.{Event}
 use Rattle.vbr_core.specs.declared.event.Step.{Step}
 use Rattle.vbr_core.specs.declared.event.Step.TheVariants.{ReadEpoch, Advance, LoadStamp, StoreStamp, Raise, TakeFlag, StoreBirth, StoreKey, StoreLink, LoadLink, LoadBirth, LoadKey, Publish, Mark, Unlink, ConfirmPresent, ConfirmAbsent}
 use Rattle.vbr_core.specs.declared.history.Call.{Call}
-use Rattle.vbr_core.proofs.RunsGoOn.{world_after-append, calls_after, others_leave_calls}
+use Rattle.vbr_core.proofs.Lemmas.{calls_after, others_leave_calls, world_after-append}
 
 -- events add their calls at the end
 calls_from : (shape : Dimensions) (w : World) (events : List Event) → (more : List Call) × ((world_from shape w events).calls ≡ w.calls ++ more)
@@ -44,7 +44,7 @@ kept : (b : Bool) (x w : World) → x.epoch ≡ w.epoch → w.epoch ≤ (cond b 
 kept true x w same = omega (arith, same)
 kept false x w same = omega arith
 
--- the epoch is raised by one
+-- the epoch is advanced by one
 raised : (b : Bool) (x w : World) → x.epoch ≡ w.epoch + 1 → w.epoch ≤ (cond b x w).epoch
 raised true x w more = omega (arith, more)
 raised false x w more = omega arith

@@ -15,11 +15,11 @@ use Rattle.vbr_transcript.specs.Calls.{Outcome, answered, lines_by, lines_up_to,
 use Rattle.vbr_transcript.specs.Merging.{replies_by, IsMerged}
 use Rattle.vbr_script.specs.Scripts.{ArePhased}
 use Rattle.vbr_transcript.specs.Phases.{HaveCalled, HavePlayed}
-use Rattle.vbr_transcript.specs.Runs.{EndsIn, MayBeAnswered, Counts, IsRun}
+use Rattle.vbr_transcript.specs.Runs.{EndsIn, MayBeAnswered, Counts, IsScriptRun}
 use Rattle.vbr_script.specs.declared.script.Line.{Line}
 use Rattle.vbr_transcript.specs.declared.reply.Reply.{Reply}
 use Rattle.vbr_transcript.specs.declared.totals.Totals.{Totals}
-use Rattle.vbr_core.proofs.RunsGoOn.{begins_run}
+use Rattle.vbr_core.proofs.Lemmas.{begins_run}
 use Rattle.vbr_transcript.proofs.CoreCalls.{calls_begin, no_calls_beyond}
 use Rattle.vbr_transcript.proofs.Filters.{filter_all, filter_none}
 use Rattle.vbr_transcript.proofs.Outcomes.{calls_by-answered, outcomes_by-own, all_outcomes, lines_by-ascend, outcomes_up_to-zip, lines_by-up_to, outcomes_by-up_to}
@@ -86,7 +86,7 @@ ends shape workers phases phase lines own replies run phased merged is_run playe
 ]
 
 -- what the workers have played by a safe run is a run of the script, with the replies that they have merged
-pub run_of_workers : (shape : Dimensions) (workers phases : ℕ) (lines : List Line) (own : List (List Reply)) (replies : List Reply) (totals : Totals) (run : List Event) → ArePhased workers phases lines → IsMerged lines own replies → machine.IsRun shape workers run → IsSafe shape run → HavePlayed shape workers phases lines own run → Counts totals (zip lines replies) → Lists totals.keys.items (set_after no_keys (world_after shape run).calls) → totals.epoch ≡ (world_after shape run).epoch → IsRun shape workers lines replies totals
+pub run_of_workers : (shape : Dimensions) (workers phases : ℕ) (lines : List Line) (own : List (List Reply)) (replies : List Reply) (totals : Totals) (run : List Event) → ArePhased workers phases lines → IsMerged lines own replies → machine.IsRun shape workers run → IsSafe shape run → HavePlayed shape workers phases lines own run → Counts totals (zip lines replies) → Lists totals.keys.items (set_after no_keys (world_after shape run).calls) → totals.epoch ≡ (world_after shape run).epoch → IsScriptRun shape workers lines replies totals
 run_of_workers shape workers phases lines own replies totals run phased merged is_run safe played counts keys epoch =
     let of_worker = λ (who : ℕ). outcomes_by-own who lines replies (replies_by who own) merged.one_each (merged.own_order who) in
     let all = λ (who : ℕ). own_order shape workers who run lines own (zip lines replies) is_run played.called phased.workers_below (of_worker who) in

@@ -1,6 +1,7 @@
-pub mod KnownBytes
-pub mod CoreCalls
-pub mod Filters
+mod KnownBytes
+mod CoreCalls
+mod Filters
 mod Outcomes
-pub mod Explaining
+mod Explaining
 mod Merged
+pub mod Lemmas

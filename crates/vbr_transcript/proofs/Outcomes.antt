@@ -7,7 +7,7 @@ use Rattle.std.proofs.lemmas.Slice.Zip.{firsts-zip}
 use Rattle.std.specs.Prelude.{nat_le, zip, All}
 use Rattle.vbr_core.specs.History.{calls_by}
 use Rattle.vbr_core.specs.declared.history.Call.{Call}
-use Rattle.vbr_core.proofs.RunsGoOn.{calls_by-append}
+use Rattle.vbr_core.proofs.Lemmas.{calls_by-append}
 use Rattle.vbr_transcript.specs.Calls.{Outcome, answer_of, answered, lines_by, lines_up_to, outcomes_by, outcomes_up_to}
 use Rattle.vbr_script.specs.Scripts.{AscendFrom}
 use Rattle.vbr_script.specs.declared.script.Line.{Line}

@@ -77,7 +77,7 @@ pub record Counts (totals : Totals) (outcomes : List Outcome) : Type 0 where
 -- ---- the run
 
 -- replies and totals of a run of a script on a set of this shape, with so many workers: each line has a reply; a safe run of the core, whose passes are the workers, has the calls that explain the replies; its epoch, and the keys that its calls leave, are those of the totals
-pub record IsRun (shape : Dimensions) (workers : ℕ) (lines : List Line) (replies : List Reply) (totals : Totals) : Type 0 where
+pub record IsScriptRun (shape : Dimensions) (workers : ℕ) (lines : List Line) (replies : List Reply) (totals : Totals) : Type 0 where
   pub one_each : length replies ≡ length lines
   pub run : List Event
   pub is_run : machine.IsRun shape workers run

@@ -1,4 +1,5 @@
-pub mod FlagWords
-pub mod Indices
-pub mod LinkWords
+mod FlagWords
+mod Indices
+mod LinkWords
 mod Powers
+pub mod Lemmas

@@ -8,7 +8,7 @@ ghost use Rattle.vbr_words.specs.declared.link.Link.{Link};
 ghost use Rattle.vbr_words.specs.Words.{IsLink, slot_field, mark_field, word_of, link_of};
 
 /// How many bits of a link word name a slot.
-pub const SLOT_BITS: u32 = 20;
+pub const SLOT_BITS: u32 = 24;
 
 /// The mark in a link word.
 pub const MARK: u64 = 1 << SLOT_BITS;

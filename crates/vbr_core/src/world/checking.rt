@@ -2,11 +2,11 @@
 ghost use Rattle.std.specs.Prelude.{◌≡◌, ◌<◌, true, length, OnOk, IfErr};
 ghost use Rattle.vbr_words.specs.Words.{link_of};
 ghost use Rattle.vbr_core.specs.Acceptance.{IsInShape};
-ghost use Rattle.vbr_core.specs.Learning.{link_written};
+ghost use Rattle.vbr_core.specs.Learning.{link_written, succeeds, key_written};
+ghost use Rattle.vbr_core.specs.Making.{call_made, WordsHaveRoom};
 ghost use Rattle.vbr_core.specs.Machine as machine;
 ghost use Rattle.vbr_core.specs.Runs.{IsAccepted, Refuses};
 ghost use Rattle.vbr_core.specs.Kept.{world_of};
-ghost use Rattle.vbr_core.specs.Making.{succeeds, call_made, key_written, HasRoom};
 
 use crate::event::{CoreRefusal, Event, Step};
 use crate::history::Call;
@@ -46,7 +46,7 @@ impl Lists {
     pub(super) fn law_of_room(&self, event: Event)
         requires { IsAccepted self.now.shape (length self.now.passes) (world_of self.now) event }
         ensures { succeeds event.step (machine.found self.now.shape (world_of self.now) event.step) ≡ true →
-            HasRoom self.now.shape self.now.epoch event.step }
+            WordsHaveRoom self.now.shape self.now.epoch event.step }
     {
         let pass = &self.passes[event.pass as usize];
         let _ = pass.epoch();

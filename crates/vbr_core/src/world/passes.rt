@@ -5,7 +5,7 @@ ghost use Rattle.vbr_words.specs.declared.link.TheConstants.{MAX_SLOTS};
 ghost use Rattle.vbr_words.specs.declared.shape.TheConstants.{MAX_EPOCH};
 ghost use Rattle.vbr_core.specs.Links.{link_to, marked};
 ghost use Rattle.vbr_core.specs.Knowledge.{knows_link, marked_in, birth_at, birth_of, key_in};
-ghost use Rattle.vbr_core.specs.Acceptance.{IsInShape, IsOwned, IsHeld, IsInRange, Accepts, KnowsKeyAt, KnowsKeyOf, MeetsKey, stamp_in, IsReady, IsBehind, IsBefore, MeetsAbove, next_of_marked};
+ghost use Rattle.vbr_core.specs.Acceptance.{IsInShape, IsOwned, HasChecked, IsInRange, Accepts, KnowsKeyAt, KnowsKeyOf, MeetsKey, stamp_in, MayPublish, IsBehind, IsBefore, MeetsAbove, next_of_marked};
 ghost use Rattle.vbr_core.specs.Learning.{key_in_hand, link_written, call_of};
 ghost use Rattle.vbr_core.specs.Machine.{knows_nothing};
 ghost use Rattle.vbr_core.specs.Kept.{know_of, FitsHolding};
@@ -184,7 +184,7 @@ impl PassState {
 
     // Whether the reads that the step asks for are checked.
     pub fn holds(&self, shape: &Shape, step: Step) -> bool
-        ensures { IsTrue result ↔ IsHeld shape.now (know_of self.now) step }
+        ensures { IsTrue result ↔ HasChecked shape.now (know_of self.now) step }
     {
         match step {
             Step::StoreLink { next, .. } => reads::is_next_held(&self.checked, next),
@@ -211,7 +211,7 @@ impl PassState {
     // Whether a slot is in hand and ready to stand behind a place, before what the link there names.
     fn is_ready(&self, shape: &Shape, pred: At, expected: Link, slot: u32) -> bool
         requires { slot < length self.now.own }
-        ensures { IsTrue result ↔ IsReady shape.now self.now.checked pred expected (slice_index_or self.now.own slot None) }
+        ensures { IsTrue result ↔ MayPublish shape.now self.now.checked pred expected (slice_index_or self.now.own slot None) }
     {
         match self.own[slot as usize] {
             Some(Holding::InHand(_, birth, Some(key), Some(link))) => {

@@ -2,9 +2,9 @@
 ghost use Rattle.std.specs.Prelude.{◌≡◌, ◌↔◌, IsTrue};
 ghost use Rattle.vbr_words.specs.Places as places;
 ghost use Rattle.vbr_core.specs.Acceptance.{IsAtIn, IsNextIn, IsInShape, IsBelowLast};
-ghost use Rattle.vbr_core.specs.Learning.{exchanged, taken, confirmed, present_reply, effect_of};
-ghost use Rattle.vbr_core.specs.Machine.{place_of};
-ghost use Rattle.vbr_core.specs.Making.{succeeds};
+ghost use Rattle.vbr_core.specs.Learning.{present_reply, effect_of, succeeds};
+ghost use Rattle.vbr_core.specs.Machine.{place_of_step};
+ghost use Rattle.vbr_core.specs.Making.{exchanged, taken, confirmed};
 
 use crate::event::{Effect, Step};
 use crate::history::Op;
@@ -77,7 +77,7 @@ fn place_of_at(at: At) -> Place
 
 // The place of the one word that a step loads, stores or exchanges.
 pub fn place_of(step: Step) -> Place
-    ensures { result ≡ place_of step }
+    ensures { result ≡ place_of_step step }
 {
     match step {
         Step::ReadEpoch | Step::Advance { .. } => Place::Epoch,

@@ -4,9 +4,9 @@ ghost use Rattle.vbr_words.specs.Words.{link_of};
 ghost use Rattle.vbr_words.specs.declared.shape.TheConstants.{MAX_EPOCH};
 ghost use Rattle.vbr_core.specs.Put.{put};
 ghost use Rattle.vbr_core.specs.Acceptance.{IsAtIn, IsInShape, bucket_of};
-ghost use Rattle.vbr_core.specs.Machine.{counted, with_link_at};
+ghost use Rattle.vbr_core.specs.Machine.{counted, with_link_at, written};
+ghost use Rattle.vbr_core.specs.Making.{WordsHaveRoom};
 ghost use Rattle.vbr_core.specs.Kept.{world_of};
-ghost use Rattle.vbr_core.specs.Making.{HasRoom, written};
 
 use crate::event::{Event, Step};
 use crate::knowledge::SlotPlace;
@@ -14,7 +14,7 @@ use crate::world::lists::Lists;
 use vbr_words::At;
 
 impl Lists {
-    // Raises the epoch by one.
+    // Advances the epoch by one.
     fn advance(&mut self)
         requires { self.old.epoch < self.old.shape.last_epoch }
         ensures written { world_of self.new ≡ record (world_of self.old) { epoch = (world_of self.old).epoch + 1 } }
@@ -161,7 +161,7 @@ impl Lists {
     // Writes what the step writes, from the word of the link and the key that the pass had for it.
     pub(super) fn write(&mut self, event: Event, link: u64, key: u64)
         requires in_shape { IsInShape self.old.shape event.step }
-        requires room { HasRoom self.old.shape self.old.epoch event.step }
+        requires room { WordsHaveRoom self.old.shape self.old.epoch event.step }
         ensures written { world_of self.new ≡ written self.old.shape event.pass event.step (link_of link) key (world_of self.old) }
         ensures stays { (self.new.shape ≡ self.old.shape) × (length self.new.passes ≡ length self.old.passes) }
     {

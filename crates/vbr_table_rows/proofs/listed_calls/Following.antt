@@ -4,18 +4,19 @@ use Rattle.std.specs.Prelude.{MatchResult, ◌==◌}
 use Rattle.std.proofs.lemmas.Bool.{ne_eqb}
 use Rattle.vbr_words.specs.Flags.{has_flag}
 use Rattle.vbr_core.specs.Knowledge.{Know}
-use Rattle.vbr_core.specs.Learning.{exchanged, taken, confirmed, effect_of, with_checked, with_own, reads_won, learn}
+use Rattle.vbr_core.specs.Learning.{effect_of, with_checked, with_own, reads_won, learn}
 use Rattle.vbr_core.specs.Machine.{World, found, stamp_shown, after}
+use Rattle.vbr_core.specs.Making.{exchanged, taken, confirmed}
 use Rattle.vbr_core.specs.Runs.{world_after}
 use Rattle.vbr_core.specs.declared.event.Effect.{Effect}
 use Rattle.vbr_core.specs.declared.event.Effect.TheVariants.{Value, Won, Lost, Answered}
 use Rattle.vbr_core.specs.declared.event.Step.{Step}
 use Rattle.vbr_core.specs.declared.event.Step.TheVariants.{ReadEpoch, Advance, LoadStamp, StoreStamp, Raise, TakeFlag, StoreBirth, StoreKey, StoreLink, LoadLink, LoadBirth, LoadKey, Publish, Mark, Unlink, ConfirmPresent, ConfirmAbsent}
 use Rattle.vbr_core.specs.declared.knowledge.Holding.TheVariants.{Free, Unlinked}
-use Rattle.vbr_core.proofs.RunsGoOn.{know_own, know_other}
+use Rattle.vbr_core.proofs.Lemmas.{know_other, know_own}
 use Rattle.vbr_slots.specs.Views.{Trace, PassView, TableView, Did, knows}
 use Rattle.vbr_event_lists.specs.Worked.{others_of, names_link, AreWorked}
-use Rattle.vbr_table_rows.specs.Following.{Follows, Stands, Learned}
+use Rattle.vbr_table_rows.specs.Following.{Follows, BothFollow, Learned}
 
 -- ---- what one call teaches
 
@@ -114,7 +115,7 @@ follows_own t who p q w row rows words f worked is l = record {
 follows_other : (t : TableView) (who : ℕ) (p : Trace) (w : World) (pass : ℕ) (step : Step) → Follows t who p w → who ≢ pass → Follows t who p (after t.shape w pass step)
 follows_other t who p w pass step f ne = record { own = f.own; who_is = f.who_is; knows_it = f.knows_it ∙ sym (know_other t.shape w who pass step ne) }
 
-stands_first : (t : TableView) (a b c : Trace) (row : ℕ × Step × Effect) (rows : List (ℕ × Step × Effect)) (words : List ℕ) → Stands t a b (row ∷ rows) words → row.0 ≡ 0 → Learned row.1 a c row.2 → Stands t c b rows (cond (names_link row.1) (others_of words) words)
+stands_first : (t : TableView) (a b c : Trace) (row : ℕ × Step × Effect) (rows : List (ℕ × Step × Effect)) (words : List ℕ) → BothFollow t a b (row ∷ rows) words → row.0 ≡ 0 → Learned row.1 a c row.2 → BothFollow t c b rows (cond (names_link row.1) (others_of words) words)
 stands_first t a b c row rows words s is l = record {
   world = after t.shape s.world row.0 row.1;
   first = follows_own t 0 a c s.world row rows words s.first s.worked is l;
@@ -122,7 +123,7 @@ stands_first t a b c row rows words s is l = record {
   worked = s.worked.4;
 }
 
-stands_second : (t : TableView) (a b c : Trace) (row : ℕ × Step × Effect) (rows : List (ℕ × Step × Effect)) (words : List ℕ) → Stands t a b (row ∷ rows) words → row.0 ≢ 0 → Learned row.1 b c row.2 → Stands t a c rows (cond (names_link row.1) (others_of words) words)
+stands_second : (t : TableView) (a b c : Trace) (row : ℕ × Step × Effect) (rows : List (ℕ × Step × Effect)) (words : List ℕ) → BothFollow t a b (row ∷ rows) words → row.0 ≢ 0 → Learned row.1 b c row.2 → BothFollow t a c rows (cond (names_link row.1) (others_of words) words)
 stands_second t a b c row rows words s ne l = record {
   world = after t.shape s.world row.0 row.1;
   first = follows_other t 0 a s.world row.0 row.1 s.first (λ e. ne (sym e));
@@ -131,13 +132,13 @@ stands_second t a b c row rows words s ne l = record {
 }
 
 -- one row is made, by the one pass or the other
-pub stands_next : (t : TableView) (a b c d : PassView) (row : ℕ × Step × Effect) (rows : List (ℕ × Step × Effect)) (words : List ℕ) → Stands t a.trace b.trace (row ∷ rows) words → (row.0 ≡ 0 → Learned row.1 a.trace c.trace row.2 × (d ≡ b)) → (row.0 ≢ 0 → Learned row.1 b.trace d.trace row.2 × (c ≡ a)) → Stands t c.trace d.trace rows (cond (names_link row.1) (others_of words) words)
+pub stands_next : (t : TableView) (a b c d : PassView) (row : ℕ × Step × Effect) (rows : List (ℕ × Step × Effect)) (words : List ℕ) → BothFollow t a.trace b.trace (row ∷ rows) words → (row.0 ≡ 0 → Learned row.1 a.trace c.trace row.2 × (d ≡ b)) → (row.0 ≢ 0 → Learned row.1 b.trace d.trace row.2 × (c ≡ a)) → BothFollow t c.trace d.trace rows (cond (names_link row.1) (others_of words) words)
 stands_next t a b c d row rows words s first second = go row.0 refl
   where
-    go : (n : ℕ) → row.0 ≡ n → Stands t c.trace d.trace rows (cond (names_link row.1) (others_of words) words)
+    go : (n : ℕ) → row.0 ≡ n → BothFollow t c.trace d.trace rows (cond (names_link row.1) (others_of words) words)
     go zero is =
         let made = first is in
-        subst (λ (p : PassView). Stands t c.trace p.trace rows (cond (names_link row.1) (others_of words) words)) (sym made.1) (stands_first t a.trace b.trace c.trace row rows words s is made.0)
+        subst (λ (p : PassView). BothFollow t c.trace p.trace rows (cond (names_link row.1) (others_of words) words)) (sym made.1) (stands_first t a.trace b.trace c.trace row rows words s is made.0)
     go (suc n) is =
         let made = second (λ e. not_zero n (sym is ∙ e)) in
-        subst (λ (p : PassView). Stands t p.trace d.trace rows (cond (names_link row.1) (others_of words) words)) (sym made.1) (stands_second t a.trace b.trace d.trace row rows words s (λ e. not_zero n (sym is ∙ e)) made.0)
+        subst (λ (p : PassView). BothFollow t p.trace d.trace rows (cond (names_link row.1) (others_of words) words)) (sym made.1) (stands_second t a.trace b.trace d.trace row rows words s (λ e. not_zero n (sym is ∙ e)) made.0)

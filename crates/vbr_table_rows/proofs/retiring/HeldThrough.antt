@@ -12,7 +12,7 @@ use Rattle.vbr_core.specs.Membership.{StandsBehind}
 use Rattle.vbr_access.specs.Held.{IsHeld}
 use Rattle.vbr_access.specs.Keeping.{Keeps}
 use Rattle.vbr_access.specs.declared.held.Held.{Held}
-use Rattle.vbr_access.proofs.Keeping.{held_kept}
+use Rattle.vbr_access.proofs.Lemmas.{held_kept}
 
 -- what was held before a call that answered is held after it
 pub held_through : {T E : Type 0} {know later : Know} (held : Held) (r : Result T E) (x : T) → r ≡ Ok x → IfOk r (λ _. Keeps know later) → IsHeld know held → IsHeld later held
@@ -28,7 +28,7 @@ in_bucket shape key one = ap (λ (n : ℕ). key % n) one ∙ mod-one key
 pub behind_head : (shape : Dimensions) (know : Know) (at : At) (key : ℕ) → at ≡ Head 0 → shape.buckets ≡ 1 → StandsBehind shape know at key
 behind_head shape know at key head one = let P : At → Type 0 = λ at. StandsBehind shape know at key in subst P (sym head) (in_bucket shape key one)
 
--- the link word 2097152 isn't marked
-pub is_unmarked : (word : ℕ) → word ≡ 2097152 → (link_of word).mark ≡ false
+-- the link word 33554432 isn't marked
+pub is_unmarked : (word : ℕ) → word ≡ 33554432 → (link_of word).mark ≡ false
 unfolding link_of
 is_unmarked word is = rw is refl

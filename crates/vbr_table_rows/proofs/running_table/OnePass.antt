@@ -9,10 +9,9 @@ use Rattle.vbr_core.specs.Runs.{IsRun, NoneOf, world_after}
 use Rattle.vbr_core.specs.declared.event.Event.{Event}
 use Rattle.vbr_core.specs.declared.event.Step.{Step}
 use Rattle.vbr_core.specs.declared.event.Step.TheVariants.{ReadEpoch, TakeFlag}
-use Rattle.vbr_core.proofs.Puts.{put_here}
-use Rattle.vbr_core.proofs.RunsGoOn.{is_run_before, is_run_after}
+use Rattle.vbr_core.proofs.Lemmas.{is_run_after, is_run_before, put_here}
 use Rattle.vbr_slots.specs.Views.{Trace, Did, event_of, knows}
-use Rattle.vbr_table_rows.specs.Taking.{Reached}
+use Rattle.vbr_table_rows.proofs.running_table.Taking.{Reached}
 
 only_0 : (n : ℕ) → n < 1 → n ≡ 0
 only_0 n low = omega arith

@@ -9,10 +9,10 @@ use Rattle.vbr_core.specs.declared.event.Step.TheVariants.{ReadEpoch, LoadStamp,
 use Rattle.vbr_core.specs.declared.knowledge.Read.{Read}
 use Rattle.vbr_core.specs.declared.knowledge.Holding.{Holding}
 use Rattle.vbr_core.specs.declared.knowledge.Holding.TheVariants.{Free, Unlinked, InHand}
-use Rattle.vbr_core.proofs.Puts.{put_here}
+use Rattle.vbr_core.proofs.Lemmas.{put_here}
 use Rattle.vbr_slots.specs.Views.{Trace, Did, knows}
-use Rattle.vbr_slots.proofs.Learning.{epoch_learned}
-use Rattle.vbr_table_rows.specs.Taking.{Reached}
+use Rattle.vbr_slots.proofs.Lemmas.{epoch_learned}
+use Rattle.vbr_table_rows.proofs.running_table.Taking.{Reached}
 
 -- the epoch that a pass knows
 pub loaded_epoch : (p q : Trace) (t r : ℕ) → Did (LoadStamp t) p q r → (knows q).epoch ≡ (knows p).epoch
@@ -41,15 +41,15 @@ keyed (Some (InHand stamp birth k link)) key = refl
 pub keyed_birth : (p q : Trace) (s key r : ℕ) → Did (StoreKey s key) p q r → birth_in_hand ((knows q).own s) ≡ birth_in_hand ((knows p).own s)
 keyed_birth p q s key r d = ap birth_in_hand (ap (λ (k : Know). k.own s) d.know ∙ put_here (knows p).own s _) ∙ keyed ((knows p).own s) key
 
--- ---- the link word 2097152: to none, with version 1
+-- ---- the link word 33554432: to none, with version 1
 
-pub names_none : (link_of 2097152).slot ≡ None
+pub names_none : (link_of 33554432).slot ≡ None
 unfolding link_of
 names_none = refl
 
-to_none : (checked : List Read) → 2097152 ≡ word_of (link_to None 1 (unwrap_or (birth_of checked None) 0))
+to_none : (checked : List Read) → 33554432 ≡ word_of (link_to None 1 (unwrap_or (birth_of checked None) 0))
 unfolding word_of
 to_none checked = refl
 
-pub is_word : (checked : List Read) (slot : Option ℕ) (birth : ℕ) → slot ≡ None → birth ≡ 1 → 2097152 ≡ word_of (link_to slot birth (unwrap_or (birth_of checked slot) 0))
-is_word checked slot birth none one = subst (λ (x : Option ℕ × ℕ). 2097152 ≡ word_of (link_to x.0 x.1 (unwrap_or (birth_of checked x.0) 0))) (λ i. (sym none i, sym one i)) (to_none checked)
+pub is_word : (checked : List Read) (slot : Option ℕ) (birth : ℕ) → slot ≡ None → birth ≡ 1 → 33554432 ≡ word_of (link_to slot birth (unwrap_or (birth_of checked slot) 0))
+is_word checked slot birth none one = subst (λ (x : Option ℕ × ℕ). 33554432 ≡ word_of (link_to x.0 x.1 (unwrap_or (birth_of checked x.0) 0))) (λ i. (sym none i, sym one i)) (to_none checked)

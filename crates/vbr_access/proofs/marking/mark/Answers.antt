@@ -4,10 +4,10 @@ use Rattle.vbr_words.specs.declared.place.At.{At}
 use Rattle.vbr_words.specs.declared.link.Link.{Link}
 use Rattle.vbr_core.specs.Membership.{KeyAt, BirthAt}
 use Rattle.vbr_slots.specs.Views.{knows}
-use Rattle.vbr_pools.proofs.Advancing.{did_none}
+use Rattle.vbr_pools.proofs.Lemmas.{did_none}
 use Rattle.std.proofs.Common.{◌≡◌}
 use Rattle.vbr_words.specs.Words.{link_of}
-use Rattle.vbr_core.specs.Images.{link_at}
+use Rattle.vbr_core.specs.Images.{link_shown_at}
 use Rattle.vbr_slots.specs.Alone.{nodes}
 use Rattle.vbr_access.proofs.AloneExchanges.{mark_wins}
 use Rattle.vbr_access.proofs.Accepted.{mark_accepted}
@@ -20,10 +20,10 @@ use Rattle.vbr_access.proofs.marking.mark.Goals as goal
 pub mark-requires-clause-slot : goal.mark-requires-clause-slot
 mark-requires-clause-slot c =
     let P : Dimensions → Type 0 = λ shape. c.in-Slot.slot < shape.slots in
-    subst P c.requires.own.1 (mark_accepted c.args.pass.now c.soundness.ensures c.args.held.now c.in-Slot.slot c.requires.held c.in-Slot.is c.requires.key c.requires.unmarked).in_shape
+    subst P c.requires.own.1 (mark_accepted c.args.pass.now c.law.ensures c.args.held.now c.in-Slot.slot c.requires.held c.in-Slot.is c.requires.key c.requires.unmarked).in_shape
 
 pub mark-requires-clause-held : goal.mark-requires-clause-held
-mark-requires-clause-held c = (mark_accepted c.args.pass.now c.soundness.ensures c.args.held.now c.in-Slot.slot c.requires.held c.in-Slot.is c.requires.key c.requires.unmarked).held
+mark-requires-clause-held c = (mark_accepted c.args.pass.now c.law.ensures c.args.held.now c.in-Slot.slot c.requires.held c.in-Slot.is c.requires.key c.requires.unmarked).held
 
 pub returns-in-Ok-clause-keeps : goal.returns-in-Ok-clause-keeps
 returns-in-Ok-clause-keeps c = mark_keeps c.in-Ok.ensures.step
@@ -31,7 +31,7 @@ returns-in-Ok-clause-keeps c = mark_keeps c.in-Ok.ensures.step
 pub returns-in-Ok-clause-made : goal.returns-in-Ok-clause-made
 returns-in-Ok-clause-made c = λ key k.
     let P : At → Type 0 = λ at. KeyAt (knows c.args.pass.now.trace) at key in
-    mark_made c.soundness.ensures.shape c.soundness.ensures.is_run c.in-Ok.ensures.step key (subst P c.in-Slot.is k)
+    mark_made c.law.ensures.shape c.law.ensures.is_run c.in-Ok.ensures.step key (subst P c.in-Slot.is k)
 
 pub returns-in-Ok-clause-held : goal.returns-in-Ok-clause-held
 returns-in-Ok-clause-held c =
@@ -48,18 +48,18 @@ returns-in-Err-clause-quiet c = mark_failed c.in-Err.ensures.step.0 c.in-Err.ens
 pub returns-in-Ok-clause-safe : goal.returns-in-Ok-clause-safe
 returns-in-Ok-clause-safe c =
     let P : At → Type 0 = λ at. KeyAt (knows c.args.pass.now.trace) at c.requires.key.0 in
-    made_safe c.args.pass.now c.soundness.ensures (mark_made c.soundness.ensures.shape c.soundness.ensures.is_run c.in-Ok.ensures.step c.requires.key.0 (subst P c.in-Slot.is c.requires.key.1))
+    made_safe c.args.pass.now c.law.ensures (mark_made c.law.ensures.shape c.law.ensures.is_run c.in-Ok.ensures.step c.requires.key.0 (subst P c.in-Slot.is c.requires.key.1))
 
-pub returns-in-Ok-clause-raises_none : goal.returns-in-Ok-clause-raises_none
-returns-in-Ok-clause-raises_none c = did_none c.in-Ok.ensures.step refl c.mark.ensures.pool
+pub returns-in-Ok-clause-takes_no_slot : goal.returns-in-Ok-clause-takes_no_slot
+returns-in-Ok-clause-takes_no_slot c = did_none c.in-Ok.ensures.step refl c.mark.ensures.pool
 
-pub returns-in-Err-clause-raises_none : goal.returns-in-Err-clause-raises_none
-returns-in-Err-clause-raises_none c = did_none c.in-Err.ensures.step.0 refl c.mark.ensures.pool
+pub returns-in-Err-clause-takes_no_slot : goal.returns-in-Err-clause-takes_no_slot
+returns-in-Err-clause-takes_no_slot c = did_none c.in-Err.ensures.step.0 refl c.mark.ensures.pool
 
 pub returns-in-Err-clause-wins : goal.returns-in-Err-clause-wins
 returns-in-Err-clause-wins c = λ alone stands.
-    let P : At → Type 0 = λ at. link_at (nodes c.args.pass.now.trace) at ≡ link_of c.args.held.now.word in
-    mark_wins c.soundness.ensures.shape alone c.in-Slot.slot c.args.held.now.word c.in-Err.ensures.step.0 c.in-Err.ensures.step.1 (subst P c.in-Slot.is stands)
+    let P : At → Type 0 = λ at. link_shown_at (nodes c.args.pass.now.trace) at ≡ link_of c.args.held.now.word in
+    mark_wins c.law.ensures.shape alone c.in-Slot.slot c.args.held.now.word c.in-Err.ensures.step.0 c.in-Err.ensures.step.1 (subst P c.in-Slot.is stands)
 
 pub returns-in-Err-clause-safe : goal.returns-in-Err-clause-safe
-returns-in-Err-clause-safe c = quiet_safe c.args.pass.now c.soundness.ensures (mark_failed c.in-Err.ensures.step.0 c.in-Err.ensures.step.1)
+returns-in-Err-clause-safe c = quiet_safe c.args.pass.now c.law.ensures (mark_failed c.in-Err.ensures.step.0 c.in-Err.ensures.step.1)

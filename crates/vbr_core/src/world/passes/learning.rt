@@ -3,7 +3,7 @@ ghost use Rattle.std.specs.Prelude.{◌≡◌, ◌<◌, ◌≤◌, ℕ, [], ◌+
 ghost use Rattle.std.specs.List.{AllByRecursion};
 ghost use Rattle.vbr_words.specs.Words.{IsLink, link_of};
 ghost use Rattle.vbr_words.specs.declared.shape.TheConstants.{MAX_EPOCH};
-ghost use Rattle.vbr_core.specs.Acceptance.{Accepts, stamp_in, IsReady};
+ghost use Rattle.vbr_core.specs.Acceptance.{Accepts, stamp_in, MayPublish};
 ghost use Rattle.vbr_core.specs.Learning.{with_key, with_link, key_in_hand, link_in_hand, learn, with_own, with_checked, with_pending, reread, read_epoch};
 ghost use Rattle.vbr_core.specs.Kept.{know_of, FitsRead, FitsHolding};
 
@@ -181,7 +181,7 @@ impl PassState {
     // The link of a slot in hand that is ready to be published.
     fn link_in_hand(&self, shape: &Shape, pred: At, expected: u64, slot: u32) -> Link
         requires slot { slot < length self.now.own }
-        requires ready { IsReady shape.now self.now.checked pred (link_of expected) (slice_index_or self.now.own slot None) }
+        requires ready { MayPublish shape.now self.now.checked pred (link_of expected) (slice_index_or self.now.own slot None) }
         ensures link { result ≡ link_in_hand (slice_index_or self.now.own slot None) }
         ensures fits { IsLink result }
     {

@@ -1,6 +1,5 @@
 use Rattle.vbr_list.proofs.Going.{goes_on, tries_on}
-use Rattle.std.proofs.Common.{◌≡◌, ℕ, ◌+◌, ◌*◌, ◌<◌, refl, arith}
-use Rattle.vbr_slots.specs.Views.{PassView}
+use Rattle.std.proofs.Common.{◌+◌, ◌*◌, ◌<◌}
 use Rattle.vbr_list.specs.Budgets.{listed_for}
 use Rattle.vbr_list.specs.Nearing.{FoundAlone}
 use Rattle.vbr_list.proofs.Nearing.{first_lost, at_first}

@@ -1,9 +1,7 @@
-use Rattle.std.proofs.Common.{ℕ, ◌+◌, ◌*◌, ◌<◌, ap, ◌∙◌, subst, arith}
+use Rattle.std.proofs.Common.{◌+◌, ◌*◌, ◌<◌, subst, arith}
 use Rattle.vbr_slots.specs.Views.{Trace}
-use Rattle.vbr_slots.proofs.Calls.{quiet_on}
-use Rattle.vbr_pools.specs.Advances.{advances}
-use Rattle.vbr_pools.proofs.Advancing.{keeps_on, keeps_refl}
-use Rattle.vbr_pools.proofs.Counting.{no_room}
+use Rattle.vbr_slots.proofs.Lemmas.{quiet_on}
+use Rattle.vbr_pools.proofs.Lemmas.{no_room, none_back, none_on}
 use Rattle.vbr_slots.specs.Alone.{IsAlone}
 use Rattle.vbr_list.specs.Budgets.{listed_for}
 use Rattle.vbr_list.proofs.Nearing.{at_first, first_lost, first_of, then_of}
@@ -28,14 +26,14 @@ returns-in-Ok-clause-counts c =
     let used = c.settle.ensures.used in
     within_on (within_on c.loop-found.invariant.1 s.goes.counts s.within.0 s.within.1) c.settle.ensures.counts (omega arith) (omega arith)
 
-pub returns-in_default-clause-advances : goal.returns-in_default-clause-advances
-returns-in_default-clause-advances c = ap (λ (t : Trace). advances t) c.give_back.ensures.trace ∙ c.search.ensures.goes.hand.raises_none.count ∙ c.loop-found.invariant.2
+pub returns-in_default-clause-takes_no_slot : goal.returns-in_default-clause-takes_no_slot
+returns-in_default-clause-takes_no_slot c = none_on (none_on c.loop-found.invariant.2 c.search.ensures.goes.hand.takes_no_slot) (none_back c.search.new.pass c.give_back.new.pass c.loop-found.hand.slot c.give_back.ensures.trace c.give_back.ensures.pool c.give_back.ensures.kept)
 
-pub returns-then-not-affords-clause-advances : goal.returns-then-not-affords-clause-advances
-returns-then-not-affords-clause-advances c = ap (λ (t : Trace). advances t) c.give_back-then-not-affords.ensures.trace ∙ c.search.ensures.goes.hand.raises_none.count ∙ c.loop-found.invariant.2
+pub returns-then-not-affords-clause-takes_no_slot : goal.returns-then-not-affords-clause-takes_no_slot
+returns-then-not-affords-clause-takes_no_slot c = none_on (none_on c.loop-found.invariant.2 c.search.ensures.goes.hand.takes_no_slot) (none_back c.search.new.pass c.give_back-then-not-affords.new.pass c.loop-found.hand.slot c.give_back-then-not-affords.ensures.trace c.give_back-then-not-affords.ensures.pool c.give_back-then-not-affords.ensures.kept)
 
-pub returns-in-Ok-clause-advances : goal.returns-in-Ok-clause-advances
-returns-in-Ok-clause-advances c = c.settle.ensures.advances ∙ c.search.ensures.goes.hand.raises_none.count ∙ c.loop-found.invariant.2
+pub returns-in-Ok-clause-takes_no_slot : goal.returns-in-Ok-clause-takes_no_slot
+returns-in-Ok-clause-takes_no_slot c = none_on (none_on c.loop-found.invariant.2 c.search.ensures.goes.hand.takes_no_slot) c.settle.ensures.takes_no_slot
 
 pub loop-found-preserved : goal.loop-found-preserved
 loop-found-preserved c =
@@ -44,11 +42,10 @@ loop-found-preserved c =
     let used = c.settle.ensures.used in (
       quiet_on c.loop-found.invariant.0 (quiet_on s.goes.quiet c.in-Err.ensures.quiet),
       within_on (within_on c.loop-found.invariant.1 s.goes.counts s.within.0 s.within.1) c.settle.ensures.counts (omega arith) (omega arith),
-      c.settle.ensures.advances ∙ s.goes.hand.raises_none.count ∙ c.loop-found.invariant.2,
+      none_on (none_on c.loop-found.invariant.2 c.search.ensures.goes.hand.takes_no_slot) c.settle.ensures.takes_no_slot,
       c.in-Err.ensures.hand,
       first_lost c.args.pass.now c.loop-found.pass c.settle.new.pass c.loop-found.invariant.4 c.loop-found.invariant.0 (quiet_on s.goes.quiet c.in-Err.ensures.quiet)
           (λ alone. let f = c.in-Some.ensures.alone (first_of s.goes.quiet c.in-Err.ensures.quiet alone) in c.in-Err.ensures.wins f.pred.stands f.cur (then_of s.goes.quiet c.in-Err.ensures.quiet alone)),
-      keeps_on c.args.pass.now c.search.new.pass c.settle.new.pass (keeps_on c.args.pass.now c.loop-found.pass c.search.new.pass c.loop-found.invariant.5 c.search.ensures.goes.hand.raises_none.kept) c.settle.ensures.kept,
     )
 
 pub returns-in_default-clause-short : goal.returns-in_default-clause-short
@@ -62,12 +59,3 @@ returns-then-not-affords-clause-short c = λ alone.
     let short = no_room c.search.new.used c.args.budget c.affords.result c.if-not-affords.true c.affords.ensures.1 in
     at_first (λ q since. c.args.budget < since + 9 * listed_for q.trace c.args.key + 11) c.args.pass.now c.loop-found.pass c.search.new.pass c.loop-found.invariant.4 c.loop-found.invariant.0 c.search.ensures.goes.quiet (subst P c.give_back-then-not-affords.ensures.trace alone)
     (λ then. let f = (c.in-Some.ensures.alone then).paid in omega (arith, f, short))
-
-pub returns-in_default-clause-kept : goal.returns-in_default-clause-kept
-returns-in_default-clause-kept c = keeps_on c.args.pass.now c.search.new.pass c.give_back.new.pass (keeps_on c.args.pass.now c.loop-found.pass c.search.new.pass c.loop-found.invariant.5 c.search.ensures.goes.hand.raises_none.kept) c.give_back.ensures.kept
-
-pub returns-then-not-affords-clause-kept : goal.returns-then-not-affords-clause-kept
-returns-then-not-affords-clause-kept c = keeps_on c.args.pass.now c.search.new.pass c.give_back-then-not-affords.new.pass (keeps_on c.args.pass.now c.loop-found.pass c.search.new.pass c.loop-found.invariant.5 c.search.ensures.goes.hand.raises_none.kept) c.give_back-then-not-affords.ensures.kept
-
-pub returns-in-Ok-clause-kept : goal.returns-in-Ok-clause-kept
-returns-in-Ok-clause-kept c = keeps_on c.args.pass.now c.search.new.pass c.settle.new.pass (keeps_on c.args.pass.now c.loop-found.pass c.search.new.pass c.loop-found.invariant.5 c.search.ensures.goes.hand.raises_none.kept) c.settle.ensures.kept

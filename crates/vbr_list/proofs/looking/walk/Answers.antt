@@ -3,12 +3,12 @@ use Rattle.std.specs.Option.{is_some}
 use Rattle.vbr_words.specs.declared.link.Link.{Link}
 use Rattle.vbr_access.specs.Held.{held_of}
 use Rattle.vbr_access.specs.declared.held.Held.{Held}
-use Rattle.vbr_list.specs.Traversal.{Looks}
 use Rattle.vbr_list.proofs.Going.{goes_on}
 use Rattle.vbr_list.proofs.Nearing.{first_of, then_of, passes_start, passes_smaller, passes_marked, sight_present, sight_absent}
 use Rattle.vbr_list.proofs.Observing.{observes_on}
 use Rattle.vbr_list.proofs.Passing.{look_at, look_past, absent_at_end, absent_before, present_at, looks_on}
 use Rattle.vbr_list.proofs.looking.walk.Goals as goal
+use Rattle.vbr_list.proofs.Traversals.{Looks}
 
 no_slot : (o : Option ℕ) → is_some o ≡ false → o ≡ None
 no_slot None e = refl

@@ -2,7 +2,7 @@ use Rattle.std.proofs.Common.{◌≡◌, Bool, false, sym, subst}
 use Rattle.vbr_words.specs.Words.{link_of}
 use Rattle.vbr_slots.specs.Views.{knows}
 use Rattle.vbr_access.specs.Held.{IsHeld}
-use Rattle.vbr_access.specs.LookUps.{Answers}
+use Rattle.vbr_access.specs.LookUps.{DecidesKey}
 use Rattle.vbr_access.specs.declared.held.Held.{Held}
 use Rattle.vbr_list.proofs.Sights.{sight_answers, sight_held, sight_unmarked}
 use Rattle.vbr_list.proofs.looking_up.answer.Goals as goal
@@ -22,5 +22,5 @@ confirm_look_up-requires-clause-unmarked c =
 pub confirm_look_up-requires-clause-answers : goal.confirm_look_up-requires-clause-answers
 confirm_look_up-requires-clause-answers c =
     let p = c.args.pass.now.trace in
-    let P : Held × Bool → Type 0 = λ x. Answers p.shape (knows p) c.args.key x.0 x.1 in
+    let P : Held × Bool → Type 0 = λ x. DecidesKey p.shape (knows p) c.args.key x.0 x.1 in
     subst P (λ i. (sym c.told_by-present.ensures.held i, sym c.told_by-present.ensures.present i)) (sight_answers p.shape (knows p) c.args.key c.args.sight c.requires.sight)

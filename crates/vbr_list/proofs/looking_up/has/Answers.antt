@@ -1,8 +1,7 @@
-use Rattle.std.proofs.Common.{◌≡◌, ℕ, ◌+◌, ◌*◌, ◌<◌, ◌≤◌, true, false, refl, sym, ◌∙◌, arith, inr}
+use Rattle.std.proofs.Common.{◌≡◌, ◌+◌, ◌*◌, ◌<◌, ◌≤◌, true, false, refl, sym, ◌∙◌, arith, inr}
 use Rattle.vbr_core.specs.declared.history.Op.TheVariants.{Has}
-use Rattle.vbr_slots.proofs.Calls.{answer_on, loads_on, quiet_on, same_on}
-use Rattle.vbr_pools.proofs.Advancing.{none_on}
-use Rattle.vbr_pools.proofs.Counting.{counts_on}
+use Rattle.vbr_slots.proofs.Lemmas.{answer_on, loads_on, quiet_on, same_on}
+use Rattle.vbr_pools.proofs.Lemmas.{counts_on, none_on}
 use Rattle.vbr_list.proofs.Going.{bucket_is, counts_step, goes_on, goes_step, within_of}
 use Rattle.vbr_list.proofs.Observing.{observed, observes_on}
 use Rattle.vbr_list.specs.Budgets.{listed_for}
@@ -10,7 +9,7 @@ use Rattle.vbr_list.proofs.Nearing.{at_first, first_lost, first_of, then_of}
 use Rattle.vbr_list.proofs.Passing.{peeks_on, peeks_refl}
 use Rattle.vbr_list.proofs.LonePasses.{alone}
 use Rattle.vbr_list.proofs.Preparing.{made_since}
-use Rattle.vbr_access.proofs.SafeCalls.{made_safe, quiet_safe}
+use Rattle.vbr_access.proofs.Lemmas.{made_safe, quiet_safe}
 use Rattle.vbr_list.proofs.looking_up.has.Goals as goal
 
 pub look-requires-clause-bucket : goal.look-requires-clause-bucket
@@ -36,13 +35,13 @@ loop-sight-preserved c =
     let before = peeks_on c.loop-sight.invariant.0 c.look.ensures.goes c.look.ensures.observes c.look.ensures.within.0 c.look.ensures.within.1 in
     let a = c.look.ensures.goes.quiet in
     let b = c.in_default-reply.ensures.quiet in (
-      peeks_on before (goes_step c.look.new.used 1 b c.answer-reply.ensures.took c.answer-reply.ensures.own c.answer-reply.ensures.raises_none) (observed c.answer-reply.ensures.only_loads c.in_default-reply.ensures.adds_none) (omega arith) (omega arith),
+      peeks_on before (goes_step c.look.new.used 1 b c.answer-reply.ensures.took c.answer-reply.ensures.own c.answer-reply.ensures.takes_no_slot) (observed c.answer-reply.ensures.only_loads c.in_default-reply.ensures.adds_none) (omega arith) (omega arith),
       first_lost c.args.pass.now c.loop-sight.pass c.answer-reply.new.pass c.loop-sight.invariant.1 c.loop-sight.invariant.0.tries.goes.quiet (quiet_on a b)
           (λ alone. c.in_default-reply.ensures.wins (c.in-Some.ensures.alone (first_of a b alone)).stands (then_of a b alone)),
     )
 
 pub returns-in-Ok-clause-alone : goal.returns-in-Ok-clause-alone
-returns-in-Ok-clause-alone c = alone c.soundness.ensures.sound.shape c.soundness.ensures.low (made_since (quiet_on c.loop-sight.invariant.0.tries.goes.quiet c.look.ensures.goes.quiet) c.in-Ok.ensures.made)
+returns-in-Ok-clause-alone c = alone c.law.ensures.shape c.law.ensures.low (made_since (quiet_on c.loop-sight.invariant.0.tries.goes.quiet c.look.ensures.goes.quiet) c.in-Ok.ensures.made)
 
 pub returns-in_default-clause-same : goal.returns-in_default-clause-same
 returns-in_default-clause-same c = (quiet_on c.loop-sight.invariant.0.tries.goes.quiet c.look.ensures.goes.quiet).same
@@ -53,14 +52,14 @@ returns-then-not-affords-clause-same c = (quiet_on c.loop-sight.invariant.0.trie
 pub returns-in-Ok-clause-same : goal.returns-in-Ok-clause-same
 returns-in-Ok-clause-same c = same_on (quiet_on c.loop-sight.invariant.0.tries.goes.quiet c.look.ensures.goes.quiet).same c.in-Ok.ensures.made.same
 
-pub returns-in_default-clause-raises_none : goal.returns-in_default-clause-raises_none
-returns-in_default-clause-raises_none c = (goes_on c.loop-sight.invariant.0.tries.goes c.look.ensures.goes).hand.raises_none
+pub returns-in_default-clause-takes_no_slot : goal.returns-in_default-clause-takes_no_slot
+returns-in_default-clause-takes_no_slot c = (goes_on c.loop-sight.invariant.0.tries.goes c.look.ensures.goes).hand.takes_no_slot
 
-pub returns-then-not-affords-clause-raises_none : goal.returns-then-not-affords-clause-raises_none
-returns-then-not-affords-clause-raises_none c = (goes_on c.loop-sight.invariant.0.tries.goes c.look.ensures.goes).hand.raises_none
+pub returns-then-not-affords-clause-takes_no_slot : goal.returns-then-not-affords-clause-takes_no_slot
+returns-then-not-affords-clause-takes_no_slot c = (goes_on c.loop-sight.invariant.0.tries.goes c.look.ensures.goes).hand.takes_no_slot
 
-pub returns-in-Ok-clause-raises_none : goal.returns-in-Ok-clause-raises_none
-returns-in-Ok-clause-raises_none c = none_on (goes_on c.loop-sight.invariant.0.tries.goes c.look.ensures.goes).hand.raises_none c.answer-reply.ensures.raises_none
+pub returns-in-Ok-clause-takes_no_slot : goal.returns-in-Ok-clause-takes_no_slot
+returns-in-Ok-clause-takes_no_slot c = none_on (goes_on c.loop-sight.invariant.0.tries.goes c.look.ensures.goes).hand.takes_no_slot c.answer-reply.ensures.takes_no_slot
 
 pub returns-in_default-clause-adds_none : goal.returns-in_default-clause-adds_none
 returns-in_default-clause-adds_none c = (observes_on c.loop-sight.invariant.0.observes c.look.ensures.observes).adds_none
@@ -101,10 +100,10 @@ returns-then-not-affords-clause-within c = λ alone.
     omega (arith, x)
 
 pub returns-in_default-clause-safe : goal.returns-in_default-clause-safe
-returns-in_default-clause-safe c = quiet_safe c.args.pass.now c.soundness.ensures.sound (quiet_on c.loop-sight.invariant.0.tries.goes.quiet c.look.ensures.goes.quiet)
+returns-in_default-clause-safe c = quiet_safe c.args.pass.now c.law.ensures (quiet_on c.loop-sight.invariant.0.tries.goes.quiet c.look.ensures.goes.quiet)
 
 pub returns-then-not-affords-clause-safe : goal.returns-then-not-affords-clause-safe
-returns-then-not-affords-clause-safe c = quiet_safe c.args.pass.now c.soundness.ensures.sound (quiet_on c.loop-sight.invariant.0.tries.goes.quiet c.look.ensures.goes.quiet)
+returns-then-not-affords-clause-safe c = quiet_safe c.args.pass.now c.law.ensures (quiet_on c.loop-sight.invariant.0.tries.goes.quiet c.look.ensures.goes.quiet)
 
 pub returns-in-Ok-clause-safe : goal.returns-in-Ok-clause-safe
-returns-in-Ok-clause-safe c = made_safe c.args.pass.now c.soundness.ensures.sound (made_since (quiet_on c.loop-sight.invariant.0.tries.goes.quiet c.look.ensures.goes.quiet) c.in-Ok.ensures.made)
+returns-in-Ok-clause-safe c = made_safe c.args.pass.now c.law.ensures (made_since (quiet_on c.loop-sight.invariant.0.tries.goes.quiet c.look.ensures.goes.quiet) c.in-Ok.ensures.made)

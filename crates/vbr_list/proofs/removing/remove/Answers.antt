@@ -1,14 +1,13 @@
 use Rattle.std.proofs.Common.{sym, ◌∙◌, arith}
-use Rattle.vbr_slots.proofs.Calls.{quiet_on, same_on}
-use Rattle.vbr_pools.proofs.Advancing.{none_on}
-use Rattle.vbr_pools.proofs.Counting.{counts_on}
+use Rattle.vbr_slots.proofs.Lemmas.{quiet_on, same_on}
+use Rattle.vbr_pools.proofs.Lemmas.{counts_on, none_on}
 use Rattle.vbr_list.proofs.Going.{bucket_is, goes_on, tries_on, within_of}
 use Rattle.vbr_list.proofs.LonePasses.{alone}
-use Rattle.std.proofs.Common.{◌≡◌, ℕ, ◌+◌, ◌*◌, ◌<◌, ◌≤◌, true, false}
+use Rattle.std.proofs.Common.{◌≡◌, ◌+◌, ◌*◌, ◌<◌, ◌≤◌, true, false}
 use Rattle.vbr_list.specs.Budgets.{listed_for}
 use Rattle.vbr_list.proofs.Nearing.{at_first, first_lost, first_of, then_of}
 use Rattle.vbr_list.proofs.Preparing.{made_since}
-use Rattle.vbr_access.proofs.SafeCalls.{made_safe, quiet_safe}
+use Rattle.vbr_access.proofs.Lemmas.{made_safe, quiet_safe}
 use Rattle.vbr_list.proofs.removing.remove.Goals as goal
 
 pub search-requires-clause-bucket : goal.search-requires-clause-bucket
@@ -40,7 +39,7 @@ loop-found-preserved c =
     )
 
 pub returns-in-Ok-clause-alone : goal.returns-in-Ok-clause-alone
-returns-in-Ok-clause-alone c = alone c.soundness.ensures.sound.shape c.soundness.ensures.low (made_since (quiet_on c.loop-found.invariant.0.goes.quiet c.search.ensures.goes.quiet) c.in-Ok.ensures.made)
+returns-in-Ok-clause-alone c = alone c.law.ensures.shape c.law.ensures.low (made_since (quiet_on c.loop-found.invariant.0.goes.quiet c.search.ensures.goes.quiet) c.in-Ok.ensures.made)
 
 pub returns-in_default-clause-same : goal.returns-in_default-clause-same
 returns-in_default-clause-same c = (quiet_on c.loop-found.invariant.0.goes.quiet c.search.ensures.goes.quiet).same
@@ -51,14 +50,14 @@ returns-then-not-affords-clause-same c = (quiet_on c.loop-found.invariant.0.goes
 pub returns-in-Ok-clause-same : goal.returns-in-Ok-clause-same
 returns-in-Ok-clause-same c = same_on (quiet_on c.loop-found.invariant.0.goes.quiet c.search.ensures.goes.quiet).same c.in-Ok.ensures.made.same
 
-pub returns-in_default-clause-raises_none : goal.returns-in_default-clause-raises_none
-returns-in_default-clause-raises_none c = (goes_on c.loop-found.invariant.0.goes c.search.ensures.goes).hand.raises_none
+pub returns-in_default-clause-takes_no_slot : goal.returns-in_default-clause-takes_no_slot
+returns-in_default-clause-takes_no_slot c = (goes_on c.loop-found.invariant.0.goes c.search.ensures.goes).hand.takes_no_slot
 
-pub returns-then-not-affords-clause-raises_none : goal.returns-then-not-affords-clause-raises_none
-returns-then-not-affords-clause-raises_none c = (goes_on c.loop-found.invariant.0.goes c.search.ensures.goes).hand.raises_none
+pub returns-then-not-affords-clause-takes_no_slot : goal.returns-then-not-affords-clause-takes_no_slot
+returns-then-not-affords-clause-takes_no_slot c = (goes_on c.loop-found.invariant.0.goes c.search.ensures.goes).hand.takes_no_slot
 
-pub returns-in-Ok-clause-raises_none : goal.returns-in-Ok-clause-raises_none
-returns-in-Ok-clause-raises_none c = none_on (goes_on c.loop-found.invariant.0.goes c.search.ensures.goes).hand.raises_none c.settle-reply.ensures.hand.raises_none
+pub returns-in-Ok-clause-takes_no_slot : goal.returns-in-Ok-clause-takes_no_slot
+returns-in-Ok-clause-takes_no_slot c = none_on (goes_on c.loop-found.invariant.0.goes c.search.ensures.goes).hand.takes_no_slot c.settle-reply.ensures.hand.takes_no_slot
 
 pub returns-in_default-clause-within : goal.returns-in_default-clause-within
 returns-in_default-clause-within c = λ alone.
@@ -73,10 +72,10 @@ returns-then-not-affords-clause-within c = λ alone.
     omega (arith, x)
 
 pub returns-in_default-clause-safe : goal.returns-in_default-clause-safe
-returns-in_default-clause-safe c = quiet_safe c.args.pass.now c.soundness.ensures.sound (quiet_on c.loop-found.invariant.0.goes.quiet c.search.ensures.goes.quiet)
+returns-in_default-clause-safe c = quiet_safe c.args.pass.now c.law.ensures (quiet_on c.loop-found.invariant.0.goes.quiet c.search.ensures.goes.quiet)
 
 pub returns-then-not-affords-clause-safe : goal.returns-then-not-affords-clause-safe
-returns-then-not-affords-clause-safe c = quiet_safe c.args.pass.now c.soundness.ensures.sound (quiet_on c.loop-found.invariant.0.goes.quiet c.search.ensures.goes.quiet)
+returns-then-not-affords-clause-safe c = quiet_safe c.args.pass.now c.law.ensures (quiet_on c.loop-found.invariant.0.goes.quiet c.search.ensures.goes.quiet)
 
 pub returns-in-Ok-clause-safe : goal.returns-in-Ok-clause-safe
-returns-in-Ok-clause-safe c = made_safe c.args.pass.now c.soundness.ensures.sound (made_since (quiet_on c.loop-found.invariant.0.goes.quiet c.search.ensures.goes.quiet) c.in-Ok.ensures.made)
+returns-in-Ok-clause-safe c = made_safe c.args.pass.now c.law.ensures (made_since (quiet_on c.loop-found.invariant.0.goes.quiet c.search.ensures.goes.quiet) c.in-Ok.ensures.made)

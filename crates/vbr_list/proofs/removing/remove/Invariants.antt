@@ -1,7 +1,6 @@
 use Rattle.std.proofs.Common.{◌-◌}
-use Rattle.vbr_list.specs.Nearing.{IsFirst}
-use Rattle.vbr_list.specs.Traversal.{Tries}
 use Rattle.vbr_list.proofs.removing.remove.Given as goal
+use Rattle.vbr_list.proofs.Traversals.{IsFirst, Tries}
 
 abbrev pub invariant-loop-found : goal.invariant-loop-found
 invariant-loop-found l = Tries l.fn.pass l.pass 0 l.used l.budget × IsFirst l.fn.pass l.pass 0 l.used

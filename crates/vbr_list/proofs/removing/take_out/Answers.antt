@@ -1,7 +1,8 @@
 use Rattle.vbr_slots.specs.Views.{knows}
-use Rattle.vbr_slots.proofs.Calls.{made_then}
-use Rattle.vbr_pools.proofs.Counting.{counts_on}
+use Rattle.vbr_slots.proofs.Lemmas.{made_then}
+use Rattle.vbr_pools.proofs.Lemmas.{counts_on}
 use Rattle.vbr_list.proofs.Going.{counts_step}
+use Rattle.vbr_list.proofs.KeptHands.{hand_on, own_kept}
 use Rattle.vbr_list.proofs.Moments.{key_found}
 use Rattle.vbr_list.proofs.Reaching.{pred_on}
 use Rattle.vbr_list.proofs.removing.take_out.Goals as goal
@@ -21,3 +22,6 @@ returns-then-affords-clause-made c =
 
 pub returns-then-affords-clause-counts : goal.returns-then-affords-clause-counts
 returns-then-affords-clause-counts c = counts_on (counts_step c.args.used.now 1 c.mark-outcome.ensures.took) c.help.ensures.goes.counts
+
+pub returns-then-affords-clause-hand : goal.returns-then-affords-clause-hand
+returns-then-affords-clause-hand c = hand_on (own_kept c.mark-outcome.ensures.own c.mark-outcome.ensures.takes_no_slot) c.help.ensures.goes.hand

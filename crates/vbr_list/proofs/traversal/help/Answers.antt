@@ -2,41 +2,50 @@ use Rattle.std.proofs.Common.{◌≡◌, ◌+◌, ℕ, sym, ap, ◌∙◌, subst
 use Rattle.vbr_words.specs.declared.link.Link.{Link}
 use Rattle.vbr_core.specs.Acceptance.{IsUnlinked}
 use Rattle.vbr_slots.specs.Views.{knows}
+use Rattle.vbr_slots.proofs.Lemmas.{quiet_on}
+use Rattle.vbr_pools.proofs.Lemmas.{counts_on}
 use Rattle.vbr_pools.specs.Retiring.{is_kept}
+use Rattle.vbr_access.specs.Keeping.{Unlinks}
 use Rattle.vbr_access.specs.Steps.{unlink_steps}
-use Rattle.vbr_list.proofs.Going.{counts_step, goes_on, goes_step, took_same}
-use Rattle.vbr_list.proofs.KeptHands.{retired_hand}
+use Rattle.vbr_list.proofs.Going.{counts_step, took_same}
+use Rattle.vbr_list.proofs.KeptHands.{helped_hand, retired_hand}
 use Rattle.vbr_list.proofs.Nearing.{first_of, then_of, helped_alone}
 use Rattle.vbr_list.proofs.Reaching.{helped, retired_keeps}
 use Rattle.vbr_list.proofs.traversal.help.Goals as goal
 
 pub returns-then-now-place-clause-goes : goal.returns-then-now-place-clause-goes
 returns-then-now-place-clause-goes c =
+    let a = c.unlink-outcome.ensures in
+    let b = c.retire.ensures in
     let q = c.unlink-outcome.new.pass in
-    let e = rw c.in_ok-unlinked.was at c.unlink-outcome.ensures.slot in
-    let o = rw c.in_ok-unlinked.was at c.unlink-outcome.ensures.owned in
+    let e = rw c.in_ok-unlinked.was at a.slot in
+    let o = rw c.in_ok-unlinked.was at a.owned in
+    let u = rw c.in_ok-unlinked.was at a.unlinks in
     let P : ℕ → Type 0 = λ s. IsUnlinked ((knows q.trace).own s) in
+    let Q : ℕ → Type 0 = λ s. Unlinks s c.args.pass.now q in
     let n = c.steps_of.ensures.is ∙ ap (λ (l : Link). unlink_steps l.slot c.unlink-outcome.result) c.decode-next.ensures.link in
-    let one = goes_step c.args.used.now c.steps_of.result c.unlink-outcome.ensures.quiet (took_same c.steps_of.result _ n c.unlink-outcome.ensures.took) c.unlink-outcome.ensures.own c.unlink-outcome.ensures.raises_none in
-    goes_on one (record {
-      quiet = c.retire.ensures.quiet;
-      counts = counts_step (c.args.used.now + c.steps_of.result) c.retire.result c.retire.ensures.steps;
-      hand = retired_hand c.in_ok-unlinked.unlinked.slot c.soundness-2.ensures.sound.own (subst P (sym e) o) c.retire.ensures.known c.retire.ensures.pool c.retire.ensures.hand c.retire.ensures.raises_none;
-    })
+    record {
+      quiet = quiet_on a.quiet b.quiet;
+      counts = counts_on (counts_step c.args.used.now c.steps_of.result (took_same c.steps_of.result _ n a.took)) (counts_step (c.args.used.now + c.steps_of.result) c.retire.result b.steps);
+      hand = helped_hand a.own (subst Q (sym e) u) (retired_hand c.in_ok-unlinked.unlinked.slot c.law-2.ensures.own (subst P (sym e) o) b.known b.pool b.hand b.takes_no_slot) b.known;
+    }
 
 pub returns-clause-goes : goal.returns-clause-goes
 returns-clause-goes c =
+    let a = c.unlink-outcome.ensures in
+    let b = c.retire.ensures in
     let q = c.unlink-outcome.new.pass in
-    let e = rw c.in_ok-unlinked.was at c.unlink-outcome.ensures.slot in
-    let o = rw c.in_ok-unlinked.was at c.unlink-outcome.ensures.owned in
+    let e = rw c.in_ok-unlinked.was at a.slot in
+    let o = rw c.in_ok-unlinked.was at a.owned in
+    let u = rw c.in_ok-unlinked.was at a.unlinks in
     let P : ℕ → Type 0 = λ s. IsUnlinked ((knows q.trace).own s) in
+    let Q : ℕ → Type 0 = λ s. Unlinks s c.args.pass.now q in
     let n = c.steps_of.ensures.is ∙ ap (λ (l : Link). unlink_steps l.slot c.unlink-outcome.result) c.decode-next.ensures.link in
-    let one = goes_step c.args.used.now c.steps_of.result c.unlink-outcome.ensures.quiet (took_same c.steps_of.result _ n c.unlink-outcome.ensures.took) c.unlink-outcome.ensures.own c.unlink-outcome.ensures.raises_none in
-    goes_on one (record {
-      quiet = c.retire.ensures.quiet;
-      counts = counts_step (c.args.used.now + c.steps_of.result) c.retire.result c.retire.ensures.steps;
-      hand = retired_hand c.in_ok-unlinked.unlinked.slot c.soundness-2.ensures.sound.own (subst P (sym e) o) c.retire.ensures.known c.retire.ensures.pool c.retire.ensures.hand c.retire.ensures.raises_none;
-    })
+    record {
+      quiet = quiet_on a.quiet b.quiet;
+      counts = counts_on (counts_step c.args.used.now c.steps_of.result (took_same c.steps_of.result _ n a.took)) (counts_step (c.args.used.now + c.steps_of.result) c.retire.result b.steps);
+      hand = helped_hand a.own (subst Q (sym e) u) (retired_hand c.in_ok-unlinked.unlinked.slot c.law-2.ensures.own (subst P (sym e) o) b.known b.pool b.hand b.takes_no_slot) b.known;
+    }
 
 pub returns-clause-pred : goal.returns-clause-pred
 returns-clause-pred c =

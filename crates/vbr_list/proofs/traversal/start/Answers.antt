@@ -8,15 +8,15 @@ use Rattle.vbr_slots.specs.Views.{Trace}
 use Rattle.vbr_access.specs.Moments.{IsRead}
 use Rattle.vbr_access.specs.declared.held.Held.{Held}
 use Rattle.vbr_access.specs.declared.rollback.Rollback.{Rollback}
-use Rattle.vbr_list.specs.Traversal.{Goes, IsReached}
+use Rattle.vbr_list.specs.Traversal.{Goes, HasComeTo}
 use Rattle.vbr_list.proofs.Going.{goes_on, goes_step}
-use Rattle.vbr_slots.proofs.Calls.{quiet_on}
+use Rattle.vbr_slots.proofs.Lemmas.{quiet_on}
 use Rattle.vbr_list.proofs.Nearing.{looks_leave, two_looks, start_still, start_stands}
 use Rattle.vbr_list.proofs.Observing.{observed, observes_on}
 use Rattle.vbr_list.proofs.Reaching.{head_reached}
 use Rattle.vbr_list.proofs.traversal.start.Goals as goal
 
-reached : {p q r : Trace} (bucket key : ℕ) (head : Result Held Rollback) → Quiet p q → Quiet q r → bucket ≡ bucket_of p.shape key → IfOk head (λ h. h.at ≡ Head bucket) → IfOk head (λ h. IsRead q r h) → IfOk head (λ h. (link_of h.word).mark ≡ false) → IfOk head (λ h. IsReached p r key h)
+reached : {p q r : Trace} (bucket key : ℕ) (head : Result Held Rollback) → Quiet p q → Quiet q r → bucket ≡ bucket_of p.shape key → IfOk head (λ h. h.at ≡ Head bucket) → IfOk head (λ h. IsRead q r h) → IfOk head (λ h. (link_of h.word).mark ≡ false) → IfOk head (λ h. HasComeTo p r key h)
 reached bucket key (Ok h) x y e at read unmarked = head_reached bucket key h x y e at read unmarked
 reached bucket key (Err r) x y e at read unmarked = tt
 
@@ -29,7 +29,7 @@ returns-clause-goes c =
     let head = c.first-head.ensures in
     let sum : c.args.used.now + 1 + 2 ≡ c.args.used.now + 3 = omega arith in
     subst (λ (n : ℕ). Goes c.args.pass.now c.first-head.new.pass c.args.used.now n) sum
-    (goes_on (goes_step c.args.used.now 1 point.quiet point.took point.own point.raises_none) (goes_step (c.args.used.now + 1) 2 head.quiet head.took head.own head.raises_none))
+    (goes_on (goes_step c.args.used.now 1 point.quiet point.took point.own point.takes_no_slot) (goes_step (c.args.used.now + 1) 2 head.quiet head.took head.own head.takes_no_slot))
 
 pub returns-clause-looks : goal.returns-clause-looks
 returns-clause-looks c = λ alone.

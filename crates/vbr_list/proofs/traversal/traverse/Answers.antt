@@ -2,7 +2,7 @@ use Rattle.std.proofs.Common.{◌≡◌, ◌+◌, ◌≤◌, true, false, sym, �
 use Rattle.vbr_list.proofs.Going.{goes_on}
 use Rattle.vbr_list.proofs.Moments.{cur_found}
 use Rattle.vbr_list.proofs.Reaching.{pred_inside, pred_on, stood_since, traverses_on}
-use Rattle.vbr_slots.proofs.Calls.{quiet_on}
+use Rattle.vbr_slots.proofs.Lemmas.{quiet_on}
 use Rattle.vbr_list.proofs.Nearing.{first_of, then_of, nears_visit, nears_help, stands_on, found_beyond}
 use Rattle.vbr_list.proofs.traversal.traverse.Goals as goal
 

@@ -2,10 +2,9 @@ use Rattle.std.proofs.Common.{◌≡◌, ◌+◌, ◌≤◌, ℕ, Option, Some, 
 use Rattle.std.specs.Prelude.{IsSome}
 use Rattle.vbr_words.specs.Words.{link_of}
 use Rattle.vbr_access.specs.Steps.{next_steps}
-use Rattle.vbr_access.proofs.Keeping.{keeps_on}
+use Rattle.vbr_access.proofs.Lemmas.{fresh_kept, keeps_on}
 use Rattle.vbr_list.proofs.Going.{goes_on, goes_step, took_same}
-use Rattle.vbr_slots.proofs.Calls.{quiet_on}
-use Rattle.vbr_access.proofs.AloneReads.{fresh_kept}
+use Rattle.vbr_slots.proofs.Lemmas.{quiet_on}
 use Rattle.vbr_list.proofs.Nearing.{either, first_of, then_of, looks_leave, two_looks, node_still_there, marked_alone, visited}
 use Rattle.vbr_list.proofs.Observing.{observed, observes_on}
 use Rattle.vbr_list.proofs.Reaching.{node_reached, node_found, node_unmarked}
@@ -18,17 +17,17 @@ steps_some (Some s) h = refl
 pub returns-in_err-here-clause-goes : goal.returns-in_err-here-clause-goes
 returns-in_err-here-clause-goes c =
     let three = took_same 3 (next_steps (link_of c.args.pred.now.word).slot) (steps_some (link_of c.args.pred.now.word).slot c.requires.some) c.next-node.ensures.took in
-    goes_on (goes_step c.args.used.now 3 c.next-node.ensures.quiet three c.next-node.ensures.own c.next-node.ensures.raises_none) (goes_step (c.args.used.now + 3) 2 c.key_of-read.ensures.quiet c.key_of-read.ensures.took c.key_of-read.ensures.own c.key_of-read.ensures.raises_none)
+    goes_on (goes_step c.args.used.now 3 c.next-node.ensures.quiet three c.next-node.ensures.own c.next-node.ensures.takes_no_slot) (goes_step (c.args.used.now + 3) 2 c.key_of-read.ensures.quiet c.key_of-read.ensures.took c.key_of-read.ensures.own c.key_of-read.ensures.takes_no_slot)
 
 pub returns-then-here-key-clause-goes : goal.returns-then-here-key-clause-goes
 returns-then-here-key-clause-goes c =
     let three = took_same 3 (next_steps (link_of c.args.pred.now.word).slot) (steps_some (link_of c.args.pred.now.word).slot c.requires.some) c.next-node.ensures.took in
-    goes_on (goes_step c.args.used.now 3 c.next-node.ensures.quiet three c.next-node.ensures.own c.next-node.ensures.raises_none) (goes_step (c.args.used.now + 3) 2 c.key_of-read.ensures.quiet c.key_of-read.ensures.took c.key_of-read.ensures.own c.key_of-read.ensures.raises_none)
+    goes_on (goes_step c.args.used.now 3 c.next-node.ensures.quiet three c.next-node.ensures.own c.next-node.ensures.takes_no_slot) (goes_step (c.args.used.now + 3) 2 c.key_of-read.ensures.quiet c.key_of-read.ensures.took c.key_of-read.ensures.own c.key_of-read.ensures.takes_no_slot)
 
 pub returns-else-here-key-clause-goes : goal.returns-else-here-key-clause-goes
 returns-else-here-key-clause-goes c =
     let three = took_same 3 (next_steps (link_of c.args.pred.now.word).slot) (steps_some (link_of c.args.pred.now.word).slot c.requires.some) c.next-node.ensures.took in
-    goes_on (goes_step c.args.used.now 3 c.next-node.ensures.quiet three c.next-node.ensures.own c.next-node.ensures.raises_none) (goes_step (c.args.used.now + 3) 2 c.key_of-read.ensures.quiet c.key_of-read.ensures.took c.key_of-read.ensures.own c.key_of-read.ensures.raises_none)
+    goes_on (goes_step c.args.used.now 3 c.next-node.ensures.quiet three c.next-node.ensures.own c.next-node.ensures.takes_no_slot) (goes_step (c.args.used.now + 3) 2 c.key_of-read.ensures.quiet c.key_of-read.ensures.took c.key_of-read.ensures.own c.key_of-read.ensures.takes_no_slot)
 
 pub returns-then-here-key-clause-keeps : goal.returns-then-here-key-clause-keeps
 returns-then-here-key-clause-keeps c = keeps_on c.in_ok-node.ensures.keeps c.in_ok-here.ensures.keeps
@@ -89,7 +88,7 @@ returns-then-here-key-clause-alone c = λ fresh there stands alone.
     let first = first_of x.quiet y.quiet alone in
     let same = two_looks x.quiet y.quiet x.looks y.looks alone in (
       node_still_there p.trace q r c.in-Some.node (x.looks first) (y.looks (then_of x.quiet y.quiet alone)) x.keeps y.keeps fresh (m first),
-      visited p c.soundness.ensures.sound q r c.args.key c.args.pred.now c.in-Some.node c.requires.pred there stands n (looks_leave (quiet_on x.quiet y.quiet) same) (y.quiet.same.shape ∙ x.quiet.same.shape),
+      visited p c.law.ensures q r c.args.key c.args.pred.now c.in-Some.node c.requires.pred there stands n (looks_leave (quiet_on x.quiet y.quiet) same) (y.quiet.same.shape ∙ x.quiet.same.shape),
     )
 
 pub returns-else-here-key-clause-alone : goal.returns-else-here-key-clause-alone
@@ -104,7 +103,7 @@ returns-else-here-key-clause-alone c = λ fresh there stands alone.
     let first = first_of x.quiet y.quiet alone in
     let same = two_looks x.quiet y.quiet x.looks y.looks alone in (
       node_still_there p.trace q r c.in-Some.node (x.looks first) (y.looks (then_of x.quiet y.quiet alone)) x.keeps y.keeps fresh (m first),
-      visited p c.soundness.ensures.sound q r c.args.key c.args.pred.now c.in-Some.node c.requires.pred there stands n (looks_leave (quiet_on x.quiet y.quiet) same) (y.quiet.same.shape ∙ x.quiet.same.shape),
+      visited p c.law.ensures q r c.args.key c.args.pred.now c.in-Some.node c.requires.pred there stands n (looks_leave (quiet_on x.quiet y.quiet) same) (y.quiet.same.shape ∙ x.quiet.same.shape),
     )
 
 pub returns-in-Some-of-clause-alone : goal.returns-in-Some-of-clause-alone
@@ -113,7 +112,7 @@ returns-in-Some-of-clause-alone c = λ fresh there stands alone.
     let n = rw c.in-Some.is at x.read in
     let m = rw c.in-Some.is at x.stands in
     let of = c.in-Some-of.ensures in
-    marked_alone c.args.pass.now c.soundness.ensures.sound c.next-node.new.pass.trace c.args.key c.args.pred.now c.in-Some.node c.in-Some-of.marked x.quiet c.requires.pred there stands n of.0 (x.looks alone) x.keeps fresh (m alone)
+    marked_alone c.args.pass.now c.law.ensures c.next-node.new.pass.trace c.args.key c.args.pred.now c.in-Some.node c.in-Some-of.marked x.quiet c.requires.pred there stands n of.0 (x.looks alone) x.keeps fresh (m alone)
 
 pub returns-else-here-key-clause-observes : goal.returns-else-here-key-clause-observes
 returns-else-here-key-clause-observes c = observes_on (observed c.next-node.ensures.only_loads c.next-node.ensures.adds_none) (observed c.key_of-read.ensures.only_loads c.key_of-read.ensures.adds_none)

@@ -1,8 +1,11 @@
-use Rattle.vbr_player.proofs.AllMet.{others_met}
+use Rattle.vbr_player.proofs.AllMet.{still_here, seen_and_shown}
 use Rattle.vbr_player.proofs.meeting.meet_others.Goals as goal
+
+pub show_all-requires : goal.show_all-requires
+show_all-requires c = still_here c.args.others.now c.see_all.new.others c.args.caller.now c.see_all.new.caller c.see_all.ensures.same c.see_all.ensures.set c.requires
 
 pub returns : goal.returns
 returns c =
-    let cut = c.split_at_mut-before.ensures in let first = c.meet_each.ensures in let then = c.meet_each-2.ensures in
-    let parts = c.in-Some.ensures.cases in
-    others_met c.args.i c.args.workers.now c.split_at_mut-before.result.0.now c.split_at_mut-before.result.1.now c.in-Some.worker.now c.in-Some.after.now c.meet_each.new.others c.meet_each-2.new.others c.meet_each.new.pass c.meet_each-2.new.pass cut.front cut.back parts.0 first.same then.same first.quiet first.pool first.seen then.quiet then.pool then.seen
+    let see = c.see_all.ensures in
+    let show = c.show_all.ensures in
+    seen_and_shown c.args.others.now c.see_all.new.others c.show_all.new.others c.args.caller.now c.see_all.new.caller c.show_all.new.caller see.same see.set see.quiet see.pool see.seen show.same show.looks show.seen

@@ -1,7 +1,6 @@
-use Rattle.std.proofs.Common.{ℕ, ap, ◌∙◌}
+use Rattle.std.proofs.Common.{ℕ, sym, ap, ◌∙◌}
 use Rattle.vbr_slots.specs.Views.{new_passes}
-use Rattle.vbr_player.proofs.NewWorkers.{new_stand}
 use Rattle.vbr_player.proofs.opening.open.Goals as goal
 
-pub returns-in_ok-workers-in-Ok-clause-workers : goal.returns-in_ok-workers-in-Ok-clause-workers
-returns-in_ok-workers-in-Ok-clause-workers c = new_stand c.in-Ok.set c.args.lines.now c.in-Ok.passes.items c.args.config.now.workers c.in_ok-workers-in-Ok.workers.items (c.in-Ok.ensures.passes ∙ ap (λ (n : ℕ). new_passes c.in-Ok.set 0 n) c.workers.ensures.workers) c.in_ok-workers-in-Ok.ensures
+pub returns-in-Ok-clause-passes : goal.returns-in-Ok-clause-passes
+returns-in-Ok-clause-passes c = c.in-Ok.ensures.passes ∙ ap (λ (n : ℕ). new_passes c.in-Ok.opened.0 0 n) (sym c.in-Ok.ensures.table.1)

@@ -1,7 +1,7 @@
 use Rattle.std.proofs.Common.{◌≡◌, ◌∷◌, [], ◌++◌, List, sym, ap, ◌∙◌, subst, append_assoc}
 use Rattle.std.specs.Vec.Iter.{into_iter_items}
 use Rattle.vbr_player.specs.Starting.{EndsAs, AreEndedBy}
-use Rattle.vbr_player.specs.declared.phase.Turn.{Turn}
+use Rattle.vbr_player.specs.declared.turn.Turn.{Turn}
 use Rattle.vbr_player.specs.declared.worker.Worker.{Worker}
 use Rattle.vbr_player.proofs.Starting.{none_left}
 use Rattle.vbr_player.proofs.Zips.{zip-snoc}

@@ -1,24 +1,24 @@
 use Rattle.std.proofs.Common.{◌≡◌, ◌∷◌, [], ◌++◌, List, sym, ap, ◌∙◌, subst, append_assoc}
 use Rattle.std.specs.Vec.Iter.{into_iter_items}
 use Rattle.vbr_player.specs.Starting.{IsFor, AreFor}
-use Rattle.vbr_player.specs.Working.{AreReady}
-use Rattle.vbr_player.specs.declared.phase.Turn.{Turn}
+use Rattle.vbr_player.specs.Working.{HasRoom, HaveRoom}
+use Rattle.vbr_player.specs.declared.turn.Turn.{Turn}
 use Rattle.vbr_player.specs.declared.worker.Worker.{Worker}
-use Rattle.vbr_player.proofs.Starting.{ready_one, none_left}
+use Rattle.vbr_player.proofs.Starting.{one_behind, none_left}
 use Rattle.vbr_player.proofs.Zips.{zip-snoc}
 use Rattle.vbr_player.proofs.phase.start_all.Goals as goal
 
-pub take_turn-requires-clause-ready : goal.take_turn-requires-clause-ready
-take_turn-requires-clause-ready g c κs within =
+pub invariant_of-take_turn : goal.invariant_of-take_turn
+invariant_of-take_turn g c =
     let i = c.loop-worker.invariant in
     let all : c.loop-worker.yielded ++ (c.in-Some.worker ∷ into_iter_items c.next.new.self) ≡ c.args.workers.items = ap (λ (ws : List Worker). c.loop-worker.yielded ++ ws) (sym {A = List Worker} c.in-Some.ensures.steps.0) ∙ i.all in
-    ready_one c.args.part.now.set.now c.args.part.now.lines.now c.loop-worker.yielded c.in-Some.worker (into_iter_items c.next.new.self) (subst (AreReady c.args.part.now.set.now c.args.part.now.lines.now) (sym all) c.requires.ready)
+    record { room = one_behind (λ (w : Worker). HasRoom w c.args.part.lines.now) c.loop-worker.yielded c.in-Some.worker (into_iter_items c.next.new.self) (subst (λ (ws : List Worker). HaveRoom ws c.args.part.lines.now) (sym all) c.requires.room) }
 
 pub loop-worker-preserved : goal.loop-worker-preserved
 loop-worker-preserved g c =
     let i = c.loop-worker.invariant in
     let all : c.loop-worker.yielded ++ (c.in-Some.worker ∷ into_iter_items c.next.new.self) ≡ c.args.workers.items = ap (λ (ws : List Worker). c.loop-worker.yielded ++ ws) (sym {A = List Worker} c.in-Some.ensures.steps.0) ∙ i.all in
-    let lines = c.args.part.now.lines.now in
+    let lines = c.args.part.lines.now in
     record {
       turns = subst (λ (turns : List Turn). AreFor lines turns (c.loop-worker.yielded ++ c.in-Some.worker ∷ [])) (sym c.in-Ok.ensures.items) (zip-snoc (IsFor lines) c.loop-worker.turns.items c.loop-worker.yielded c.in_ok-turn.turn c.in-Some.worker i.turns c.in_ok-turn.ensures.turn);
       all = append_assoc c.loop-worker.yielded (c.in-Some.worker ∷ []) (into_iter_items c.next.new.self) ∙ all;
@@ -28,4 +28,4 @@ pub returns-clause-turns : goal.returns-clause-turns
 returns-clause-turns g c =
     let i = c.loop-worker.invariant in
     let whole = none_left c.loop-worker.yielded (into_iter_items c.loop-worker.worker-iterator) c.args.workers.items (sym c.loop-worker.worker-iterator.rest.ok.0 ∙ c.in-None.ensures.steps.0) i.all in
-    subst (AreFor c.args.part.now.lines.now c.loop-worker.turns.items) whole i.turns
+    subst (AreFor c.args.part.lines.now c.loop-worker.turns.items) whole i.turns

@@ -8,7 +8,7 @@ use Rattle.vbr_player.proofs.phases.play_phases.Given as goal
 abbrev pub invariant-loop-number : goal.invariant-loop-number
 invariant-loop-number g l = record {
   inside : l.first ≤ length l.whole.lines.now;
-  stand : Stand l.whole.set.now l.whole.lines.now (take l.first l.whole.lines.now) (length l.fn.workers.items) l.number l.workers.items;
+  stand : Stand l.set l.whole.lines.now (take l.first l.whole.lines.now) l.set.passes l.number l.workers.items;
   early : All (λ line. line.phase < l.number) (take l.first l.whole.lines.now);
   later : AscendFrom l.number (drop l.first l.whole.lines.now);
 }

@@ -1,9 +1,9 @@
-use Rattle.std.proofs.Common.{ℕ, ◌≡◌, ◌≢◌, [], Option, Some, None, refl, sym, ap, ◌∙◌, subst, inl, inr, arith}
+use Rattle.std.proofs.Common.{ℕ, ◌≡◌, ◌≢◌, [], length, Option, Some, None, refl, sym, ap, ◌∙◌, subst, inl, inr, arith}
 use Rattle.std.proofs.lemmas.Result.{err_from_is_err_and}
 use Rattle.vbr_words.specs.Dimensions.{Dimensions, IsShape}
-use Rattle.vbr_slots.proofs.Calls.{quiet_on, did_quiet, did_run, did_same}
-use Rattle.vbr_pools.proofs.Advancing.{keeps_on, keeps_refl, same_advances}
-use Rattle.vbr_pools.proofs.Choosing.{kept_raised, kept_read, short_then, chosen_then, full_then, spent_then, raised_quiet, raised_chosen, raised_once}
+use Rattle.vbr_slots.proofs.Lemmas.{did_quiet, did_run, did_same, quiet_on}
+use Rattle.vbr_pools.proofs.Advancing.{keeps_on, keeps_refl, same_advances, shared_on}
+use Rattle.vbr_pools.proofs.Choosing.{kept_raised, none_read, shared_raised, short_then, chosen_then, full_then, spent_then, raised_quiet, raised_chosen, raised_once}
 use Rattle.vbr_pools.proofs.Counting.{no_room}
 use Rattle.vbr_pools.proofs.Epochs.{read_some, read_in_shape}
 use Rattle.vbr_pools.proofs.Moments.{epoch_told}
@@ -18,25 +18,25 @@ pub returns-in_err-found-clause-quiet : goal.returns-in_err-found-clause-quiet
 returns-in_err-found-clause-quiet c = quiet_on (did_quiet c.read_epoch-epoch.ensures.step (λ know. refl)) c.scan.ensures.quiet
 
 pub returns-in_err-found-clause-advances : goal.returns-in_err-found-clause-advances
-returns-in_err-found-clause-advances c = inl (c.scan.ensures.advances ∙ same_advances c.read_epoch-epoch.ensures.step refl)
+returns-in_err-found-clause-advances c = inl (c.scan.ensures.takes_no_slot.count ∙ same_advances c.read_epoch-epoch.ensures.step refl)
 
 pub returns-in-Some-clause-quiet : goal.returns-in-Some-clause-quiet
 returns-in-Some-clause-quiet c = quiet_on (did_quiet c.read_epoch-epoch.ensures.step (λ know. refl)) c.scan.ensures.quiet
 
 pub returns-in-Some-clause-advances : goal.returns-in-Some-clause-advances
-returns-in-Some-clause-advances c = inl (c.scan.ensures.advances ∙ same_advances c.read_epoch-epoch.ensures.step refl)
+returns-in-Some-clause-advances c = inl (c.scan.ensures.takes_no_slot.count ∙ same_advances c.read_epoch-epoch.ensures.step refl)
 
 pub returns-then-not-affords-2-clause-quiet : goal.returns-then-not-affords-2-clause-quiet
 returns-then-not-affords-2-clause-quiet c = quiet_on (did_quiet c.read_epoch-epoch.ensures.step (λ know. refl)) c.scan.ensures.quiet
 
 pub returns-then-not-affords-2-clause-advances : goal.returns-then-not-affords-2-clause-advances
-returns-then-not-affords-2-clause-advances c = inl (c.scan.ensures.advances ∙ same_advances c.read_epoch-epoch.ensures.step refl)
+returns-then-not-affords-2-clause-advances c = inl (c.scan.ensures.takes_no_slot.count ∙ same_advances c.read_epoch-epoch.ensures.step refl)
 
 pub returns-then-epoch-last_epoch-clause-quiet : goal.returns-then-epoch-last_epoch-clause-quiet
 returns-then-epoch-last_epoch-clause-quiet c = quiet_on (did_quiet c.read_epoch-epoch.ensures.step (λ know. refl)) c.scan.ensures.quiet
 
 pub returns-then-epoch-last_epoch-clause-advances : goal.returns-then-epoch-last_epoch-clause-advances
-returns-then-epoch-last_epoch-clause-advances c = inl (c.scan.ensures.advances ∙ same_advances c.read_epoch-epoch.ensures.step refl)
+returns-then-epoch-last_epoch-clause-advances c = inl (c.scan.ensures.takes_no_slot.count ∙ same_advances c.read_epoch-epoch.ensures.step refl)
 
 pub returns-in_err-found-clause-refused : goal.returns-in_err-found-clause-refused
 returns-in_err-found-clause-refused c = let p = err_from_is_err_and c.from_residual.result c.from_residual.ensures.1 in rw (p.1, p.2) (short_then c.args.pass.now c.read_epoch-epoch.new.pass c.scan.new.pass c.read_epoch-epoch.result c.args.budget c.args.used c.read_epoch-epoch.ensures.step (c.affords.ensures.0 c.if-not-affords.false) c.scan.ensures.quiet c.scan.ensures.known c.read_epoch-epoch.ensures.pool.0 _ c.in_err-found.ensures.refused)
@@ -101,19 +101,19 @@ returns-clause-advances c =
     let is : IsShape c.scan.new.pass.trace.shape = subst IsShape shapes c.last_epoch.ensures.shape in
     let some : c.scan.new.pass.pool ≢ [] = λ none. c.requires.some (sym (c.scan.ensures.pool.0 ∙ c.read_epoch-epoch.ensures.pool.0) ∙ none) in
     let raise = tried c.advance.result c.advance.ensures.step in
-    inr (raised_once c.args.pass.now c.read_epoch-epoch.new.pass c.scan.new.pass c.read_epoch-epoch.result c.args.budget c.args.used c.read_epoch-epoch.ensures.step (c.affords.ensures.0 c.if-not-affords.false) c.scan.ensures.quiet c.scan.ensures.known c.read_epoch-epoch.ensures.pool.0 c.in_ok-found.found c.in_ok-found.used c.in_ok-found.ensures.ok (none_left c.in_ok-found.found c.in_default.not-Some) c.scan.ensures.own is c.advance.new.pass c.read_epoch.new.pass raise.0 c.read_epoch.result raise.1 c.read_epoch.ensures.step c.advance.ensures.pool c.read_epoch.ensures.pool (c.scan.ensures.pool.1 ∙ c.read_epoch-epoch.ensures.pool.1 ∙ c.requires.empty_hand) c.read_epoch-epoch.ensures.pool c.scan.ensures.pool c.scan.ensures.advances)
+    inr (raised_once c.args.pass.now c.read_epoch-epoch.new.pass c.scan.new.pass c.read_epoch-epoch.result c.args.budget c.args.used c.read_epoch-epoch.ensures.step (c.affords.ensures.0 c.if-not-affords.false) c.scan.ensures.quiet c.scan.ensures.known c.read_epoch-epoch.ensures.pool.0 c.in_ok-found.found c.in_ok-found.used c.in_ok-found.ensures.ok (none_left c.in_ok-found.found c.in_default.not-Some) c.scan.ensures.own is c.advance.new.pass c.read_epoch.new.pass raise.0 c.read_epoch.result raise.1 c.read_epoch.ensures.step c.advance.ensures.pool c.read_epoch.ensures.pool (c.scan.ensures.pool.1 ∙ c.read_epoch-epoch.ensures.pool.1 ∙ c.requires.empty_hand) c.read_epoch-epoch.ensures.pool c.scan.ensures.takes_no_slot)
 
 pub returns-in_err-found-clause-kept : goal.returns-in_err-found-clause-kept
-returns-in_err-found-clause-kept c = kept_read c.args.pass.now c.read_epoch-epoch.new.pass c.scan.new.pass c.read_epoch-epoch.ensures.step c.read_epoch-epoch.ensures.pool c.scan.ensures.pool c.scan.ensures.known
+returns-in_err-found-clause-kept c = (none_read c.read_epoch-epoch.ensures.step c.read_epoch-epoch.ensures.pool c.scan.ensures.takes_no_slot).kept
 
 pub returns-in-Some-clause-kept : goal.returns-in-Some-clause-kept
-returns-in-Some-clause-kept c = kept_read c.args.pass.now c.read_epoch-epoch.new.pass c.scan.new.pass c.read_epoch-epoch.ensures.step c.read_epoch-epoch.ensures.pool c.scan.ensures.pool c.scan.ensures.known
+returns-in-Some-clause-kept c = (none_read c.read_epoch-epoch.ensures.step c.read_epoch-epoch.ensures.pool c.scan.ensures.takes_no_slot).kept
 
 pub returns-then-not-affords-2-clause-kept : goal.returns-then-not-affords-2-clause-kept
-returns-then-not-affords-2-clause-kept c = kept_read c.args.pass.now c.read_epoch-epoch.new.pass c.scan.new.pass c.read_epoch-epoch.ensures.step c.read_epoch-epoch.ensures.pool c.scan.ensures.pool c.scan.ensures.known
+returns-then-not-affords-2-clause-kept c = (none_read c.read_epoch-epoch.ensures.step c.read_epoch-epoch.ensures.pool c.scan.ensures.takes_no_slot).kept
 
 pub returns-then-epoch-last_epoch-clause-kept : goal.returns-then-epoch-last_epoch-clause-kept
-returns-then-epoch-last_epoch-clause-kept c = kept_read c.args.pass.now c.read_epoch-epoch.new.pass c.scan.new.pass c.read_epoch-epoch.ensures.step c.read_epoch-epoch.ensures.pool c.scan.ensures.pool c.scan.ensures.known
+returns-then-epoch-last_epoch-clause-kept c = (none_read c.read_epoch-epoch.ensures.step c.read_epoch-epoch.ensures.pool c.scan.ensures.takes_no_slot).kept
 
 pub returns-then-not-affords-clause-kept : goal.returns-then-not-affords-clause-kept
 returns-then-not-affords-clause-kept c = keeps_refl c.args.pass.now
@@ -122,5 +122,26 @@ pub returns-clause-kept : goal.returns-clause-kept
 returns-clause-kept c =
     let raise = tried c.advance.result c.advance.ensures.step in
     keeps_on c.args.pass.now c.scan.new.pass c.read_epoch.new.pass
-    (kept_read c.args.pass.now c.read_epoch-epoch.new.pass c.scan.new.pass c.read_epoch-epoch.ensures.step c.read_epoch-epoch.ensures.pool c.scan.ensures.pool c.scan.ensures.known)
+    (none_read c.read_epoch-epoch.ensures.step c.read_epoch-epoch.ensures.pool c.scan.ensures.takes_no_slot).kept
     (kept_raised c.scan.new.pass c.advance.new.pass c.read_epoch.new.pass raise.1 c.read_epoch.ensures.step c.advance.ensures.pool c.read_epoch.ensures.pool)
+
+pub returns-in_err-found-clause-shared : goal.returns-in_err-found-clause-shared
+returns-in_err-found-clause-shared c = (none_read c.read_epoch-epoch.ensures.step c.read_epoch-epoch.ensures.pool c.scan.ensures.takes_no_slot).shared
+
+pub returns-in-Some-clause-shared : goal.returns-in-Some-clause-shared
+returns-in-Some-clause-shared c = (none_read c.read_epoch-epoch.ensures.step c.read_epoch-epoch.ensures.pool c.scan.ensures.takes_no_slot).shared
+
+pub returns-then-not-affords-2-clause-shared : goal.returns-then-not-affords-2-clause-shared
+returns-then-not-affords-2-clause-shared c = (none_read c.read_epoch-epoch.ensures.step c.read_epoch-epoch.ensures.pool c.scan.ensures.takes_no_slot).shared
+
+pub returns-then-epoch-last_epoch-clause-shared : goal.returns-then-epoch-last_epoch-clause-shared
+returns-then-epoch-last_epoch-clause-shared c = (none_read c.read_epoch-epoch.ensures.step c.read_epoch-epoch.ensures.pool c.scan.ensures.takes_no_slot).shared
+
+pub returns-then-not-affords-clause-shared : goal.returns-then-not-affords-clause-shared
+returns-then-not-affords-clause-shared c = inl refl
+
+pub returns-clause-shared : goal.returns-clause-shared
+returns-clause-shared c =
+    let raise = tried c.advance.result c.advance.ensures.step in
+    let stays = ap length (c.read_epoch.ensures.pool.0 ∙ c.advance.ensures.pool.0) in
+    shared_on c.args.pass.now c.scan.new.pass c.read_epoch.new.pass 1 (none_read c.read_epoch-epoch.ensures.step c.read_epoch-epoch.ensures.pool c.scan.ensures.takes_no_slot).shared (omega arith) (shared_raised c.scan.new.pass c.advance.new.pass c.read_epoch.new.pass raise.1 c.read_epoch.ensures.step)

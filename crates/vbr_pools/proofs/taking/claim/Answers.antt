@@ -2,15 +2,15 @@ use Rattle.std.proofs.Common.{ℕ, ◌≡◌, ◌+◌, ◌<◌, ◌≤◌, refl,
 use Rattle.vbr_words.specs.Dimensions.{Dimensions}
 use Rattle.vbr_slots.specs.Alone.{IsAlone}
 use Rattle.vbr_slots.specs.Calls.{Quiet}
-use Rattle.vbr_slots.proofs.Calls.{quiet_on, did_quiet}
+use Rattle.vbr_slots.proofs.Lemmas.{did_quiet, quiet_on}
 use Rattle.vbr_pools.proofs.Claiming.{claim_few, claim_next, claim_none, claim_short, claim_won, none_in}
 use Rattle.vbr_pools.proofs.taking.claim.Goals as goal
 
 pub returns-in-Ok-clause-quiet : goal.returns-in-Ok-clause-quiet
 returns-in-Ok-clause-quiet c = subst (Quiet c.args.pass.now.trace) (sym c.keep.ensures.trace) (quiet_on c.loop-slot.invariant.quiet (did_quiet c.in-Ok.ensures.step.1 (λ know. refl)))
 
-pub returns-in-Ok-clause-raises_none : goal.returns-in-Ok-clause-raises_none
-returns-in-Ok-clause-raises_none c =
+pub returns-in-Ok-clause-takes_no_slot : goal.returns-in-Ok-clause-takes_no_slot
+returns-in-Ok-clause-takes_no_slot c =
     claim_none c.loop-slot.invariant c.in-Ok.ensures.step.1 c.in-Ok.ensures.step.2 c.in-Ok.ensures.pool c.keep.ensures.trace c.keep.ensures.pool c.keep.ensures.hand
 
 pub returns-in-Ok-clause-ok : goal.returns-in-Ok-clause-ok

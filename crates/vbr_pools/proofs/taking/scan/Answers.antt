@@ -1,14 +1,14 @@
 use Rattle.std.proofs.Common.{◌≡◌, length, refl, ap, ◌∙◌, arith}
-use Rattle.vbr_slots.proofs.Calls.{quiet_on, did_quiet}
-use Rattle.vbr_pools.proofs.Advancing.{same_advances}
+use Rattle.vbr_slots.proofs.Lemmas.{did_quiet, quiet_on}
+use Rattle.vbr_pools.proofs.Advancing.{did_none, none_on}
 use Rattle.vbr_pools.proofs.Scanning.{scan_next, scan_found}
 use Rattle.vbr_pools.proofs.taking.scan.Goals as goal
 
 pub returns-then-stamp-epoch-clause-quiet : goal.returns-then-stamp-epoch-clause-quiet
 returns-then-stamp-epoch-clause-quiet c = quiet_on c.loop-i.invariant.quiet (did_quiet c.load_stamp-stamp.ensures.step (λ know. refl))
 
-pub returns-then-stamp-epoch-clause-advances : goal.returns-then-stamp-epoch-clause-advances
-returns-then-stamp-epoch-clause-advances c = same_advances c.load_stamp-stamp.ensures.step refl ∙ c.loop-i.invariant.advances
+pub returns-then-stamp-epoch-clause-takes_no_slot : goal.returns-then-stamp-epoch-clause-takes_no_slot
+returns-then-stamp-epoch-clause-takes_no_slot c = none_on c.loop-i.invariant.none (did_none c.load_stamp-stamp.ensures.step refl c.load_stamp-stamp.ensures.pool)
 
 pub returns-then-stamp-epoch-clause-ok : goal.returns-then-stamp-epoch-clause-ok
 returns-then-stamp-epoch-clause-ok c =

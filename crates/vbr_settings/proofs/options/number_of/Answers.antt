@@ -1,9 +1,8 @@
 -- The option's text is a number, so it is read.
-use Rattle.std.proofs.Common.{◌≡◌, ◌∙◌, sym, refl, Some, rules, ◌^◌}
+use Rattle.std.proofs.Common.{◌≡◌, ◌∙◌, sym, refl, Some, rules}
 use Rattle.std.specs.Str.Parse.{ParsesUnsigned, ExplainsUnsignedError, HasUnsignedDigitsIfOk, digits_value, without_leading_plus}
-use Rattle.clap.specs.Words.{found_of, rows_of}
+use Rattle.clap.specs.Words.{found_of}
 use Rattle.clap.proofs.WalkLemmas.{one_text-rows}
-use Rattle.vbr_settings.specs.Options.{number_among}
 use Rattle.vbr_settings.proofs.OptionValues.{number_read, its_number}
 use Rattle.vbr_settings.proofs.options.number_of.Goals as goal
 

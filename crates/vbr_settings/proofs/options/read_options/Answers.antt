@@ -2,7 +2,7 @@
 use Rattle.std.proofs.Common.{◌≡◌, ◌∙◌, List, ap, sym, subst, true, refl, Some}
 use Rattle.std.specs.Prelude.{Result, Ok, Err}
 use Rattle.std.specs.Result.{IsErrAnd, IfErr}
-use Rattle.clap.specs.Words.{App, Text, HasMatchesOf, is_simple, matches_of, rows_of, found_of, takes, kind_of, app_of}
+use Rattle.clap.specs.Words.{App, Text, HasMatchesOf, is_simple, rows_of, found_of, takes, kind_of, app_of}
 use Rattle.clap.specs.declared.error.Error.{Error}
 use Rattle.clap.specs.declared.error.kind.ErrorKind.TheVariants.{OutOfMemory}
 use Rattle.clap.specs.declared.parser.matches.ArgMatches.{ArgMatches}

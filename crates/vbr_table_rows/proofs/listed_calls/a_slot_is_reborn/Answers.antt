@@ -2,9 +2,9 @@
 use Rattle.std.proofs.Common.{◌≡◌, sym, subst, rules}
 use Rattle.vbr_words.specs.Dimensions.{Dimensions}
 use Rattle.vbr_core.specs.Machine.{opening}
-use Rattle.vbr_event_lists.specs.Worked.{AreWorked}
+use Rattle.vbr_event_lists.specs.Worked.{AreWorked, three_slots}
 use Rattle.vbr_event_lists.specs.declared.lists.TheConstants.{REBORN_SLOT, REBORN_SLOT_WORDS}
-use Rattle.vbr_event_lists.proofs.WorkedRows.{three_slots, reborn_slot}
+use Rattle.vbr_event_lists.proofs.Lemmas.{reborn_slot}
 use Rattle.vbr_table_rows.proofs.listed_calls.a_slot_is_reborn.Goals as goal
 
 pub words_after-requires : goal.words_after-requires

@@ -2,9 +2,9 @@
 use Rattle.std.proofs.Common.{◌≡◌, sym, subst, rules}
 use Rattle.vbr_words.specs.Dimensions.{Dimensions}
 use Rattle.vbr_core.specs.Machine.{opening}
-use Rattle.vbr_event_lists.specs.Worked.{AreWorked}
+use Rattle.vbr_event_lists.specs.Worked.{AreWorked, three_slots}
 use Rattle.vbr_event_lists.specs.declared.lists.TheConstants.{SAME_WORD, SAME_WORD_WORDS}
-use Rattle.vbr_event_lists.proofs.WorkedRows.{three_slots, same_word}
+use Rattle.vbr_event_lists.proofs.Lemmas.{same_word}
 use Rattle.vbr_table_rows.proofs.listed_calls.a_word_comes_back.Goals as goal
 
 pub words_after-requires : goal.words_after-requires

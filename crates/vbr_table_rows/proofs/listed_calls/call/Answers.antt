@@ -1,13 +1,14 @@
 -- A stored link names what the step names, and an exchange is won or lost.
 use Rattle.std.proofs.Common.{◌≡◌, Option, ℕ, false, sym, refl, rules, subst, ◌∙◌, ap}
 use Rattle.vbr_words.specs.Words.{link_of, word_of}
-use Rattle.vbr_core.specs.Acceptance.{IsInShape, IsHeld, IsNextIn, IsNextHeld}
-use Rattle.vbr_core.specs.Learning.{link_written, confirmed}
+use Rattle.vbr_core.specs.Acceptance.{IsInShape, HasChecked, IsNextIn, IsNextHeld}
+use Rattle.vbr_core.specs.Learning.{link_written}
+use Rattle.vbr_core.specs.Making.{confirmed}
 use Rattle.vbr_core.specs.declared.event.Step.{Step}
 use Rattle.vbr_core.specs.declared.event.Step.TheVariants.{StoreLink}
 use Rattle.vbr_core.specs.declared.event.Effect.TheVariants.{Done}
 use Rattle.vbr_slots.specs.Views.{knows}
-use Rattle.vbr_event_lists.specs.Worked.{IsNew}
+use Rattle.vbr_event_lists.specs.Worked.{IsNamedWord}
 use Rattle.vbr_table_rows.specs.Following.{Learned}
 use Rattle.vbr_table_rows.proofs.listed_calls.Following.{learned, learned_exchange, learned_load}
 use Rattle.vbr_table_rows.proofs.listed_calls.call.Goals as goal
@@ -16,13 +17,13 @@ pub store_link-requires-clause-next_in : goal.store_link-requires-clause-next_in
 store_link-requires-clause-next_in g c = subst (IsNextIn c.args.slots.now.shape) (sym (search rules)) (subst (IsInShape c.args.slots.now.shape) c.in-StoreLink.is c.requires.accepted.in_shape).1
 
 pub store_link-requires-clause-next_held : goal.store_link-requires-clause-next_held
-store_link-requires-clause-next_held g c = subst (IsNextHeld (knows c.args.pass.now.trace).checked) (sym (search rules)) (subst (IsHeld c.args.slots.now.shape (knows c.args.pass.now.trace)) c.in-StoreLink.is c.requires.accepted.held)
+store_link-requires-clause-next_held g c = subst (IsNextHeld (knows c.args.pass.now.trace).checked) (sym (search rules)) (subst (HasChecked c.args.slots.now.shape (knows c.args.pass.now.trace)) c.in-StoreLink.is c.requires.accepted.held)
 
 pub store_link-requires-clause-word : goal.store_link-requires-clause-word
 store_link-requires-clause-word g c =
     let know = knows c.args.pass.now.trace in
     let next : (link_of c.args.new).slot ≡ c.in-StoreLink.next = search rules in
-    subst (λ (s : Step). IsNew know s c.args.new) c.in-StoreLink.is c.requires.new ∙ ap (λ (n : Option ℕ). word_of (link_written know (StoreLink c.in-StoreLink.slot n))) (sym next)
+    subst (λ (s : Step). IsNamedWord know s c.args.new) c.in-StoreLink.is c.requires.new ∙ ap (λ (n : Option ℕ). word_of (link_written know (StoreLink c.in-StoreLink.slot n))) (sym next)
 
 pub returns-in-StoreLink : goal.returns-in-StoreLink
 returns-in-StoreLink g c =

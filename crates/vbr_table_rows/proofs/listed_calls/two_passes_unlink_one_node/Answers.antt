@@ -2,9 +2,9 @@
 use Rattle.std.proofs.Common.{◌≡◌, sym, subst, rules}
 use Rattle.vbr_words.specs.Dimensions.{Dimensions}
 use Rattle.vbr_core.specs.Machine.{opening}
-use Rattle.vbr_event_lists.specs.Worked.{AreWorked}
+use Rattle.vbr_event_lists.specs.Worked.{AreWorked, one_slot}
 use Rattle.vbr_event_lists.specs.declared.lists.TheConstants.{TWO_HELPERS, TWO_HELPERS_WORDS}
-use Rattle.vbr_event_lists.proofs.WorkedRows.{one_slot, two_helpers}
+use Rattle.vbr_event_lists.proofs.Lemmas.{two_helpers}
 use Rattle.vbr_table_rows.proofs.listed_calls.two_passes_unlink_one_node.Goals as goal
 
 pub words_after-requires : goal.words_after-requires

@@ -2,7 +2,7 @@
 use Rattle.std.proofs.Common.{◌≡◌, rules}
 use Rattle.vbr_slots.specs.Views.{knows}
 use Rattle.vbr_access.specs.Held.{IsHeld}
-use Rattle.vbr_access.proofs.Keeping.{held_kept}
+use Rattle.vbr_access.proofs.Lemmas.{held_kept}
 use Rattle.vbr_table_rows.proofs.retiring.HeldThrough.{held_through, is_unmarked}
 use Rattle.vbr_table_rows.proofs.retiring.remove_one.Goals as goal
 
@@ -13,7 +13,7 @@ mark-requires-clause-held g c =
 
 pub mark-requires-clause-unmarked : goal.mark-requires-clause-unmarked
 mark-requires-clause-unmarked g c =
-    let word : c.in-Some.node.word ≡ 2097152 = search rules in
+    let word : c.in-Some.node.word ≡ 33554432 = search rules in
     is_unmarked c.in-Some.node.word word
 
 pub unlink-requires-clause-pred : goal.unlink-requires-clause-pred

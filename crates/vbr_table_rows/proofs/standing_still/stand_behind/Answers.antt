@@ -2,9 +2,9 @@
 use Rattle.std.proofs.Common.{◌≡◌, sym, subst, take, rules}
 use Rattle.vbr_words.specs.Dimensions.{Dimensions}
 use Rattle.vbr_core.specs.Machine.{opening}
-use Rattle.vbr_event_lists.specs.Worked.{AreWorked}
+use Rattle.vbr_event_lists.specs.Worked.{AreWorked, many_epochs}
 use Rattle.vbr_event_lists.specs.declared.standing.TheConstants.{STANDING, STANDING_WORDS}
-use Rattle.vbr_event_lists.proofs.StandingRows.{first_worked, many_epochs, standing}
+use Rattle.vbr_event_lists.proofs.Lemmas.{first_worked, standing}
 use Rattle.vbr_table_rows.proofs.standing_still.stand_behind.Goals as goal
 
 pub table_after-requires : goal.table_after-requires

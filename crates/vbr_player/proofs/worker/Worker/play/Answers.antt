@@ -1,9 +1,9 @@
 use Rattle.std.proofs.Common.{arith}
-use Rattle.vbr_player.proofs.Working.{played_next, played_all, ready_next}
+use Rattle.vbr_player.proofs.Working.{played_next, room_next}
 use Rattle.vbr_player.proofs.worker.Worker.play.Goals as goal
 
 pub play_line-requires : goal.play_line-requires
-play_line-requires g c = ready_next c.args.part.now.set.now c.args.part.now.lines.now c.loop-line.line-index _ c.args.self.now c.loop-line.self c.loop-line-test.true c.loop-line.invariant.played c.requires.ready
+play_line-requires g c = room_next c.args.part.now.lines.now c.loop-line.line-index _ c.args.self.now c.loop-line.self c.loop-line-test.true c.loop-line.invariant.played c.requires
 
 pub loop-line-preserved : goal.loop-line-preserved
 loop-line-preserved g c = record {

@@ -1,10 +1,10 @@
 use Rattle.std.proofs.Common.{sym, ◌∙◌}
-use Rattle.vbr_set.proofs.Histories.{met_safe, shape_known, shares}
+use Rattle.vbr_set.proofs.Histories.{met_safe, shares}
 use Rattle.vbr_set.proofs.set.VbrSet.meet.Goals as goal
 
 pub returns-clause-shares : goal.returns-clause-shares
 returns-clause-shares c =
-    shares (shape_known c.args.pass.now.trace c.self.view_is c.requires.own c.known_shape.ensures) (c.requires.other.1 ∙ sym c.requires.own.1) c.meet.ensures.step.1 c.meet.ensures.met
+    shares c.law.ensures.shape (c.requires.other.1 ∙ sym c.requires.own.1) c.meet.ensures.step.1 c.meet.ensures.met
 
 pub returns-clause-safe : goal.returns-clause-safe
-returns-clause-safe c = met_safe (shape_known c.args.pass.now.trace c.self.view_is c.requires.own c.known_shape.ensures) c.meet.ensures.step.1
+returns-clause-safe c = met_safe c.law.ensures.shape c.meet.ensures.step.1

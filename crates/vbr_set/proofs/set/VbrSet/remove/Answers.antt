@@ -1,5 +1,5 @@
-use Rattle.vbr_set.proofs.Histories.{each_answers, shape_known}
+use Rattle.vbr_set.proofs.Histories.{each_answers}
 use Rattle.vbr_set.proofs.set.VbrSet.remove.Goals as goal
 
 pub returns-clause-answers : goal.returns-clause-answers
-returns-clause-answers c = each_answers _ _ _ _ c.remove.result (shape_known c.args.pass.now.trace c.self.view_is c.requires.own c.known_shape.ensures) c.remove.ensures.made
+returns-clause-answers c = each_answers _ _ _ _ c.remove.result c.law.ensures.shape c.remove.ensures.made

@@ -1,4 +1,4 @@
-use Rattle.std.proofs.Common.{◌≡◌, sym, subst, ap, ◌∙◌, arith}
+use Rattle.std.proofs.Common.{◌≡◌, sym, subst, ap, ◌∙◌}
 use Rattle.vbr_slots.specs.Pools.{OwnPool, without}
 use Rattle.vbr_slots.specs.Views.{PassView, knows}
 use Rattle.vbr_slots.proofs.Leaving.{left, stays}
@@ -6,7 +6,7 @@ use Rattle.vbr_slots.proofs.Pools.{leaves}
 use Rattle.vbr_slots.proofs.pass.Pass.leave_pool.Goals as goal
 
 pub remove-requires : goal.remove-requires
-remove-requires c = (omega arith, (left c.args.slot c.in-Some.at c.self.inside.pool.items _ _ c.self.invariant.pool.apart c.as_slice.ensures.value c.place_of.ensures c.in-Some.is).0)
+remove-requires c = (left c.args.slot c.in-Some.at c.self.inside.pool.items _ _ c.self.invariant.pool.apart c.as_slice.ensures.value c.place_of.ensures c.in-Some.is).0
 
 gone : (c : goal.After-remove) → c.remove.new.self.items ≡ without c.args.slot c.self.inside.pool.items
 gone c = c.remove.ensures.items ∙ (left c.args.slot c.in-Some.at c.self.inside.pool.items _ _ c.self.invariant.pool.apart c.as_slice.ensures.value c.place_of.ensures c.in-Some.is).1

@@ -1,7 +1,7 @@
 use Rattle.std.proofs.Common.{[], ◌∷◌, ◌++◌, length, ap, ◌∙◌, subst, sym, arith, None}
 use Rattle.vbr_core.specs.Machine as machine
 use Rattle.vbr_core.specs.Runs.{IsRun, know_after}
-use Rattle.vbr_core.proofs.RunsGoOn.{is_run_first}
+use Rattle.vbr_core.proofs.Lemmas.{is_run_first}
 use Rattle.vbr_slots.specs.Views.{TableView, counted, steps_in}
 use Rattle.vbr_slots.specs.Words.{AreWordsOf}
 use Rattle.vbr_slots.proofs.Seats.{opens, splits_first, first_is, first_empty, others_next, new_passes-next}

@@ -1,6 +1,6 @@
 use Rattle.std.proofs.Common.{sym, ap, ◌∙◌}
 use Rattle.vbr_words.specs.Words.{word_of}
-use Rattle.vbr_words.proofs.LinkWords.{word_of-link_of}
+use Rattle.vbr_words.proofs.Lemmas.{word_of-link_of}
 use Rattle.vbr_core.specs.Machine.{Exchange}
 use Rattle.vbr_slots.proofs.slots.Slots.mark.Goals as goal
 

@@ -2,9 +2,9 @@
 use Rattle.std.proofs.Common.{ap, sym, ◌∙◌}
 use Rattle.vbr_words.specs.Words.{link_of}
 use Rattle.vbr_words.specs.declared.place.Place.{Place}
+use Rattle.vbr_core.specs.Learning.{succeeds}
 use Rattle.vbr_core.specs.Machine.{word_at}
 use Rattle.vbr_core.specs.Kept.{world_of}
-use Rattle.vbr_core.specs.Making.{succeeds}
 use Rattle.vbr_core.proofs.MadeSteps.{step_made, step_lost}
 use Rattle.vbr_core.proofs.world.lists.Lists.step.Goals as goal
 use Rattle.vbr_core.proofs.world.lists.Lists.step.Goals.{then-succeeds, else-succeeds}

@@ -1,0 +1,6 @@
+-- The lemmas of vbr_event_lists that proofs of other crates cite: they import from here, and from no other module of its proofs.
+
+-- The three worked lists of events, computed: each is accepted, with its effects and with the link words that it names.
+pub use Rattle.vbr_event_lists.proofs.WorkedRows.{reborn_slot, same_word, two_helpers}
+-- The list with a step of each kind, computed, and its beginnings.
+pub use Rattle.vbr_event_lists.proofs.StandingRows.{first_worked, standing}

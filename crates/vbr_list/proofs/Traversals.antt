@@ -1,0 +1,46 @@
+-- How far the loop of a traversal or of a look-up has come: what its pass did since it began, and where it stands.
+use Rattle.std.specs.Prelude.{ℕ, ◌≡◌, ◌⊎◌, ◌≤◌, ◌<◌}
+use Rattle.vbr_words.specs.Dimensions.{Dimensions}
+use Rattle.vbr_words.specs.Words.{link_of}
+use Rattle.vbr_core.specs.Knowledge.{Know}
+use Rattle.vbr_core.specs.Membership.{LeadsTo}
+use Rattle.vbr_access.specs.declared.held.Held.{Held}
+use Rattle.vbr_list.specs.Places.{IsInside, IsPred}
+use Rattle.vbr_slots.specs.Alone.{IsAlone}
+use Rattle.vbr_slots.specs.Views.{PassView, knows}
+use Rattle.vbr_list.specs.Traversal.{Goes, HasComeTo, Observes}
+use Rattle.vbr_list.specs.Nearing.{Nears, Passes}
+
+-- known marked links lead from a place before the key to another place of the list, or to itself
+pub record IsLook (shape : Dimensions) (know : Know) (key : ℕ) (pred here : Held) : Type 0 where
+  pub before : IsPred shape know key pred
+  pub inside : IsInside shape know key here
+  pub leads : LeadsTo know (link_of pred.word) (link_of here.word)
+
+-- nothing was done yet, or the pass was not alone
+abbrev pub IsFirst : PassView → PassView → ℕ → ℕ → Type 0
+IsFirst p q before since = (IsAlone p.trace q.trace → ⊥) ⊎ ((q ≡ p) × (since ≡ before))
+
+-- the same, within the budget
+pub record Tries (p q : PassView) (before since budget : ℕ) : Type 0 where
+  pub goes : Goes p q before since
+  pub within : (before ≤ since) × (since ≤ budget)
+
+-- a traversal that began with so many steps stands at this place
+pub record Traverses (p q : PassView) (key before since budget : ℕ) (pred : Held) : Type 0 where
+  pub tries : Tries p q before since budget
+  pub some : before < since
+  pub reached : HasComeTo p.trace q.trace key pred
+  pub nears : IsAlone p.trace q.trace → Nears p.trace q.trace key before since pred
+
+-- within the budget, the pass only observed
+pub record Peeks (p q : PassView) (before since budget : ℕ) : Type 0 where
+  pub tries : Tries p q before since budget
+  pub observes : Observes p.trace q.trace
+
+-- a look-up that began with so many steps stands at this place, behind marked nodes alone
+pub record Looks (p q : PassView) (key before since budget : ℕ) (pred here : Held) : Type 0 where
+  pub peeks : Peeks p q before since budget
+  pub some : before < since
+  pub look : IsLook q.trace.shape (knows q.trace) key pred here
+  pub passes : IsAlone p.trace q.trace → Passes p.trace q.trace key before since pred here

@@ -1,0 +1,23 @@
+use Rattle.std.proofs.Common.{sym, ◌∙◌, arith}
+use Rattle.vbr_core.proofs.Lemmas.{begins_for_begins}
+use Rattle.vbr_slots.proofs.Lemmas.{quiet_on}
+use Rattle.vbr_player.proofs.AllMet.{of_at, put_back, seen_more, seen_all}
+use Rattle.vbr_player.proofs.meeting.see_all.Goals as goal
+
+pub meet-requires : goal.meet-requires
+meet-requires c = of_at c.args.caller.now.set c.args.others.now c.loop-other.others c.loop-other.other-index c.other-item.result c.loop-other.invariant.same c.loop-other-test.true c.requires ∙ sym c.loop-other.invariant.set
+
+pub loop-other-preserved : goal.loop-other-preserved
+loop-other-preserved c =
+    let met = c.meet.ensures in
+    let before = c.loop-other.invariant in
+    record {
+      same = put_back c.args.others.now c.loop-other.others c.loop-other.other-index c.other-item.result c.meet.new.other before.same met.same;
+      set = met.set ∙ before.set;
+      quiet = quiet_on before.quiet met.shares.quiet;
+      pool = (met.pool.0 ∙ before.pool.0, met.pool.1 ∙ before.pool.1);
+      seen = seen_more c.args.others.now c.loop-other.others c.loop-other.other-index c.other-item.result c.loop-other.caller.pass.trace.seen c.meet.new.self.pass.trace.seen before.same c.loop-other-test.true before.seen met.shares.quiet.seen (begins_for_begins _ _ _ met.met);
+    }
+
+pub returns-clause-seen : goal.returns-clause-seen
+returns-clause-seen c = seen_all c.args.others.now c.loop-other.other-index c.loop-other.caller.pass.trace.seen (omega arith) c.loop-other.invariant.seen

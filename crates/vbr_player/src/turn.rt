@@ -1,0 +1,109 @@
+// The turn of a worker in a phase.
+ghost use Rattle.std.specs.Prelude.{◌≡◌, IfOk, IfErr};
+ghost use Rattle.vbr_player.specs.Starting.{EndsAs, IsFor};
+ghost use Rattle.vbr_player.specs.Working.{Played};
+
+use crate::gate::Gate;
+use crate::part::Task;
+use crate::worker::Worker;
+use std::snapshot::Snapshot;
+use std::thread::{Promise, PromisedHandle, Scope, Threads};
+use vbr_script::Line;
+use vbr_transcript::RunError;
+
+/// That a worker will have played these lines.
+#[derive(Drop)]
+pub struct Plays<'l> {
+    pub before: Snapshot<Worker<'l>>,
+    pub lines: &'l [Line],
+}
+
+impl<'l> Promise<Worker<'l>> for Plays<'l> {
+    ghost kept_by = { λ p r. Played p.lines.now p.before.value r };
+}
+
+/// What a worker does in a phase.
+#[derive(Drop)]
+pub enum Turn<'l> {
+    /// It plays its lines in a thread of its own.
+    Started(PromisedHandle<Worker<'l>, Plays<'l>>),
+    /// It has no lines, and so has played them.
+    Done(Worker<'l>),
+}
+
+// Starts a worker's thread, if it has lines.
+pub fn take_turn<'s, 'e, G: Gate + Sync>(
+    scope: &'s Scope<'s, &'e ()>,
+    task: Task<'e, G>,
+) -> Result<Turn<'e>, RunError>
+    ensures turn { IfOk result (λ turn. IsFor task.entry.part.lines.now turn task.entry.worker) }
+    ensures fault { IfErr result (λ error. error ≡ RunError.Worker) }
+{
+    let who = task.worker.caller.pass().who();
+    if task.part.lines.iter().any(|line| line.worker == who) {
+        Ok(Turn::Started(start(scope, task)?))
+    } else {
+        Ok(Turn::Done(play(task)))
+    }
+}
+
+// Waits for a worker, if it plays.
+pub fn end<'l, R: Threads>(rt: &R, turn: Turn<'l>) -> Worker<'l>
+    ensures { EndsAs turn.entry result }
+{
+    match turn {
+        Turn::Started(thread) => thread.join(rt),
+        Turn::Done(worker) => worker,
+    }
+}
+
+// Starts a worker's thread.
+fn start<'s, 'e, G: Gate + Sync>(
+    scope: &'s Scope<'s, &'e ()>,
+    task: Task<'e, G>,
+) -> Result<PromisedHandle<Worker<'e>, Plays<'e>>, RunError>
+    ensures before { IfOk result (λ started. started.promise.before.value ≡ task.entry.worker) }
+    ensures lines { IfOk result (λ started. started.promise.lines.now ≡ task.entry.part.lines.now) }
+    ensures fault { IfErr result (λ error. error ≡ RunError.Worker) }
+{
+    let promise = Plays {
+        before: Snapshot::of(&task.worker),
+        lines: task.part.lines,
+    };
+    begin(scope, promise, task, play)
+}
+
+// What a worker's thread runs.
+fn play<'e, G: Gate>(task: Task<'e, G>) -> Worker<'e>
+    ensures { Played task.entry.part.lines.now task.entry.worker result }
+{
+    let Task { part, mut worker } = task;
+    worker.play(&part);
+    worker
+}
+
+// Starts a thread for a function that keeps a promise. The closure's result has to be of a type
+// parameter: of one that holds a reference, what the closure ensures isn't known.
+fn begin<
+    's,
+    'e,
+    A: Send + Drop + 's,
+    T: Send + Drop + 's,
+    P: Promise<T> + Drop,
+    W: FnOnce(A) -> T + Send + Drop + 's,
+>(
+    scope: &'s Scope<'s, &'e ()>,
+    promise: P,
+    given: A,
+    work: W,
+) -> Result<PromisedHandle<T, P>, RunError>
+    requires pre { (work : W) (given : A) → W.pre work given }
+    requires keeps { (result : T) → W.post work given result → P.kept_by promise result }
+    ensures started { IfOk result (λ started. started.promise ≡ promise) }
+    ensures fault { IfErr result (λ error. error ≡ RunError.Worker) }
+{
+    match scope.spawn_with(promise, move || work(given)) {
+        Ok(started) => Ok(started),
+        Err(_) => Err(RunError::Worker),
+    }
+}

@@ -1,0 +1,9 @@
+//! Rounds over the calls that take memory, as tests. A call that finds no memory must leave all as it
+//! was, and give what it should when it is made again. `tests/calls` runs each of them with each
+//! allocation refused in turn.
+mod plain_set;
+mod round;
+mod script;
+mod set;
+mod table;
+mod world;

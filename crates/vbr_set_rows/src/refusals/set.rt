@@ -1,0 +1,52 @@
+//! The set.
+ghost use Rattle.std.specs.Prelude.{◌≡◌, None, IfSome};
+ghost use Rattle.vbr_slots.specs.Closing.{AllOf};
+ghost use Rattle.vbr_slots.specs.Views.{new_passes};
+
+use crate::refusals::round::is_right;
+use std::alloc::Global;
+use vbr_set::{CloseError, OpenError, Pass, Report, Shape, VbrSet};
+
+// A set with its two passes, and whether memory was refused.
+fn open(alloc: Global, shape: Shape) -> Option<(VbrSet, Vec<Pass>, bool)>
+    ensures { IfSome result (λ r. r.1.items ≡ new_passes r.0 0 2) }
+{
+    match VbrSet::open(alloc, shape, 2) {
+        Ok((set, passes)) => Some((set, passes, false)),
+        Err(OpenError::Memory) => {
+            let (set, passes) = VbrSet::open(alloc, shape, 2).ok()?;
+            Some((set, passes, true))
+        }
+        Err(OpenError::Passes) => None,
+    }
+}
+
+// The report of a set that is closed, and whether memory was refused.
+fn close(set: VbrSet, alloc: Global, passes: Vec<Pass>) -> Option<(Report, bool)>
+    requires { AllOf set passes.items }
+{
+    match set.close(alloc, passes) {
+        Ok(report) => Some((report, false)),
+        Err(CloseError::Memory(set, passes)) => Some((set.close(alloc, passes).ok()?, true)),
+        Err(CloseError::Missing(..)) => None,
+    }
+}
+
+// Opens a set, makes three calls, and closes it.
+fn opens_and_closes(alloc: Global) -> Option<bool> {
+    let shape = Shape::new(1, 1, 10).ok()?;
+    let (set, mut passes, refused) = open(alloc, shape)?;
+    let pass = &mut passes[0];
+    let is_answered = set.insert(pass, 1, 100) == Ok(true)
+        && set.remove(pass, 1, 100) == Ok(true)
+        && set.insert(pass, 2, 100) == Ok(true);
+    let (report, refused_close) = close(set, alloc, passes)?;
+    let is_told = report.keys.as_slice() == [2].as_slice()
+        && (report.epoch, report.live, report.marked, report.free) == (2, 1, 0, 0);
+    (is_answered && is_told).then_some(refused | refused_close)
+}
+
+#[test]
+fn set_opens_and_closes(rt: HostRuntime) {
+    is_right(&rt, opens_and_closes(rt.alloc()));
+}

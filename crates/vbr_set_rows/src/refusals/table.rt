@@ -1,0 +1,47 @@
+//! The running table.
+ghost use Rattle.std.specs.Prelude.{◌≡◌, IfSome};
+ghost use Rattle.vbr_slots.specs.Closing.{AllOf};
+
+use crate::refusals::round::is_right;
+use std::alloc::Global;
+use vbr_slots::{CloseError, OpenError, Pass, Slots};
+use vbr_words::Shape;
+
+// A table with its passes, and whether memory was refused.
+fn open(alloc: Global, shape: Shape) -> Option<(Slots, Vec<Pass>, bool)>
+    ensures { IfSome result (λ r. AllOf r.0 r.1.items) }
+{
+    match Slots::open(alloc, shape, 1) {
+        Ok((slots, passes)) => Some((slots, passes, false)),
+        Err(OpenError::Memory) => {
+            let (slots, passes) = Slots::open(alloc, shape, 1).ok()?;
+            Some((slots, passes, true))
+        }
+        Err(OpenError::Passes) => None,
+    }
+}
+
+// The words of a table that is closed, and whether memory was refused.
+fn close(slots: Slots, alloc: Global, passes: Vec<Pass>) -> Option<(Vec<u64>, bool)>
+    requires { AllOf slots passes.items }
+{
+    match slots.close(alloc, passes) {
+        Ok(words) => Some((words, false)),
+        Err(CloseError::Memory(slots, passes)) => Some((slots.close(alloc, passes).ok()?, true)),
+        Err(CloseError::Missing(..)) => None,
+    }
+}
+
+// Opens a table, and closes it at once.
+fn opens_and_closes(alloc: Global) -> Option<bool> {
+    let shape = Shape::new(1, 1, 10).ok()?;
+    let (slots, passes, refused) = open(alloc, shape)?;
+    let (words, refused_close) = close(slots, alloc, passes)?;
+    let wanted = [1, 167_772_161, 0, 16_777_216, 0, 0, 0, 1];
+    (words.as_slice() == wanted.as_slice()).then_some(refused | refused_close)
+}
+
+#[test]
+fn table_opens_and_closes(rt: HostRuntime) {
+    is_right(&rt, opens_and_closes(rt.alloc()));
+}

@@ -1,0 +1,87 @@
+//! The world of the core.
+use crate::refusals::round::is_right;
+use std::alloc::Global;
+use vbr_core::{CoreRefusal, Effect, Event, Step, World, WorldRefusal, replay};
+use vbr_event_lists::TWO_HELPERS;
+use vbr_words::{At, Shape};
+
+// A world, and whether memory was refused.
+fn open(alloc: Global, shape: Shape) -> Option<(World, bool)> {
+    match World::open(alloc, shape, 2) {
+        Ok(world) => Some((world, false)),
+        Err(WorldRefusal::NoMemory) => Some((World::open(alloc, shape, 2).ok()?, true)),
+        Err(WorldRefusal::Passes) => None,
+    }
+}
+
+// Makes a step that has this effect, and says whether memory was refused.
+fn step(world: &mut World, event: Event, effect: Effect) -> Option<bool> {
+    let calls = world.calls().len();
+    let births = world.incarnations();
+    let (answer, refused) = match world.step(event) {
+        Err(CoreRefusal::NoMemory) => {
+            if world.calls().len() != calls || world.incarnations() != births {
+                return None;
+            }
+            (world.step(event), true)
+        }
+        answer => (answer, false),
+    };
+    (answer == Ok(effect)).then_some(refused)
+}
+
+// Opens a world, and steps through a worked list.
+fn opens_and_steps(alloc: Global) -> Option<bool> {
+    let shape = Shape::new(3, 1, 10).ok()?;
+    let (mut world, mut refused) = open(alloc, shape)?;
+    for (pass, made, effect) in TWO_HELPERS {
+        let event = Event { pass, step: made };
+        refused |= step(&mut world, event, effect)?;
+    }
+    Some(refused)
+}
+
+// A list of events that grows the lists of a world.
+const EVENTS: [Event; 5] = [
+    Event {
+        pass: 0,
+        step: Step::ReadEpoch,
+    },
+    Event {
+        pass: 0,
+        step: Step::TakeFlag { slot: 0 },
+    },
+    Event {
+        pass: 0,
+        step: Step::StoreBirth { slot: 0, birth: 1 },
+    },
+    Event {
+        pass: 0,
+        step: Step::LoadLink { at: At::Head(0) },
+    },
+    Event {
+        pass: 0,
+        step: Step::ReadEpoch,
+    },
+];
+
+// The world that a list of events leads to.
+fn replays(alloc: Global) -> Option<bool> {
+    let shape = Shape::new(3, 1, 10).ok()?;
+    let (world, refused) = match replay(alloc, shape, 2, &EVENTS) {
+        Ok(world) => (world, false),
+        Err((_, CoreRefusal::NoMemory)) => (replay(alloc, shape, 2, &EVENTS).ok()?, true),
+        Err(_) => return None,
+    };
+    (world.incarnations() == 1).then_some(refused)
+}
+
+#[test]
+fn world_opens_and_steps(rt: HostRuntime) {
+    is_right(&rt, opens_and_steps(rt.alloc()));
+}
+
+#[test]
+fn world_replays(rt: HostRuntime) {
+    is_right(&rt, replays(rt.alloc()));
+}
