@@ -195,7 +195,7 @@ IsInRange shape know (ConfirmAbsent op key at expected) =
     ((link_of expected).mark ≡ false) × (op ≢ Insert) × IsBehind shape know.checked at key × MeetsAbove shape.slots know.checked key (link_of expected).slot
 IsInRange shape know _ = Unit {0}
 
--- the epoch that the step would raise is below the last
+-- the epoch that the step would advance is below the last
 abbrev pub IsBelowLast : Dimensions → Step → Type 0
 IsBelowLast shape (Advance from) = from < shape.last_epoch
 IsBelowLast shape _ = Unit {0}

@@ -14,7 +14,7 @@ pub enum Refusal {
     /// The key was absent, the own pool empty, and each slot outside the shared pool.
     NoSlot,
     /// The key was absent, the epoch is the last, and each slot of the own pool is stamped with it.
-    /// The budget had room to raise it.
+    /// The budget had room to advance it.
     EpochSpent {
         /// The last epoch.
         epoch: u64,

@@ -1,4 +1,4 @@
--- The epoch that a pass reads, against the stamps that it knows, and after it tried to raise it.
+-- The epoch that a pass reads, against the stamps that it knows, and after it tried to advance it.
 use Rattle.std.proofs.Common.{◌≡◌, ◌≢◌, ℕ, ◌+◌, ◌<◌, ◌≤◌, ◌==◌, Bool, true, false, cond, List, [], ◌∷◌, ◌++◌, Option, Some, None, refl, sym, ap, ◌∙◌, subst, arith}
 use Rattle.std.specs.Bool.{MatchBool}
 use Rattle.std.proofs.lemmas.Bool.Decides.{nat_tests}
@@ -52,7 +52,7 @@ epoch_stands d = ap (λ (w : World). w.epoch) (world_then d) ∙ epoch_stood d
 pub stamps_low : {p q : Trace} {r : ℕ} → Did ReadEpoch p q r → IsShape q.shape → (s : ℕ) → MayBear ((knows q).own s) → stamp_in ((knows q).own s) ≤ r
 stamps_low {p} {q} {r} d is s may = let low = stamp_before q.shape q.passes q.seen q.who s is (did_run d) may in let e = epoch_stands d in omega arith
 
--- ---- what a try to raise it leaves
+-- ---- what a try to advance it leaves
 
 raised_if : (b : Bool) (w : World) (from : ℕ) → (w.epoch == from) ≡ b → from ≤ w.epoch → from < (cond b (record w { epoch = w.epoch + 1 }) w).epoch
 raised_if true w from e low = omega arith

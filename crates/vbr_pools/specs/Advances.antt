@@ -10,10 +10,12 @@ use Rattle.vbr_slots.specs.declared.pass.TheConstants.{POOL}
 use Rattle.vbr_slots.specs.Calls.{Moment}
 use Rattle.vbr_slots.specs.Views.{Trace, PassView, knows, event_of}
 
+-- whether a step would advance the epoch
 abbrev pub is_advance : Step → Bool
 is_advance (Advance from) = true
 is_advance _ = false
 
+-- whether a step raises a flag
 abbrev pub is_raise : Step → Bool
 is_raise (Raise slot) = true
 is_raise _ = false

@@ -42,7 +42,7 @@ pub record LeavesRoom (p q : PassView) (budget : ℕ) : Type 0 where
   pub room : steps + 8 ≤ budget
   pub took : Took p.trace q.trace steps
 
--- that the epoch is spent is told only where the budget had room for the piece that would raise it
+-- that the epoch is spent is told only where the budget had room for the piece that would advance it
 abbrev pub HadRoom : PassView → PassView → ℕ → TakeRefusal → Type 0
 HadRoom p q budget (OutOfSteps used) = Unit {0}
 HadRoom p q budget NoSlot = Unit {0}

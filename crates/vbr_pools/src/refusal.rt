@@ -11,7 +11,7 @@ pub enum TakeRefusal {
     /// The own pool is empty, and each slot was outside the shared pool when it was looked for.
     NoSlot,
     /// The epoch is the last, and each slot of the own pool, which has some, is stamped with it.
-    /// The budget had room to raise it.
+    /// The budget had room to advance it.
     EpochSpent { epoch: u64 },
 }
 

@@ -25,7 +25,7 @@ use vbr_words::flags::next_flag;
 /// has room for it; if not, it answers OutOfSteps. It looks in the shared pool only where the own
 /// pool is empty: NoSlot, if nothing is there. It advances the epoch only where no slot of the own pool
 /// is stamped below the epoch that it read: EpochSpent, if that is the last. That is tested last, where
-/// the budget had room to raise it. A flag that it won stays in the own pool after a refusal.
+/// the budget had room to advance it. A flag that it won stays in the own pool after a refusal.
 ///
 /// With slots in the own pool a budget of 80 is enough, whatever others do; with none, one of w + 13
 /// is, while the other passes stand still, where w is the number of flag words.

@@ -36,7 +36,7 @@ impl VbrSet {
     /// - NoSlot: the key was absent, the own pool was empty, and each slot was outside the shared pool
     ///   at a moment of the call.
     /// - EpochSpent: the key was absent, the epoch is the last, and each slot of the own pool is stamped
-    ///   with it. The budget had room to raise it.
+    ///   with it. The budget had room to advance it.
     ///
     /// # Example
     ///

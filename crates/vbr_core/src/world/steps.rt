@@ -55,7 +55,7 @@ pub fn is_in_shape(shape: &Shape, step: Step) -> bool
     }
 }
 
-// Whether the epoch that the step would raise is below the last.
+// Whether the epoch that the step would advance is below the last.
 pub fn is_below_last(shape: &Shape, step: Step) -> bool
     ensures { IsTrue result ↔ IsBelowLast shape.now step }
 {
