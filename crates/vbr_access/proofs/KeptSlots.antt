@@ -9,7 +9,7 @@ use Rattle.vbr_core.specs.Put.{put}
 use Rattle.vbr_core.specs.declared.event.Step.TheVariants.{Publish}
 use Rattle.vbr_core.proofs.Lemmas.{put_here, put_other}
 use Rattle.vbr_slots.specs.Views.{PassView, Did, knows}
-use Rattle.vbr_pools.specs.Advances.{HasSlot, HasFree, TakesNoSlot}
+use Rattle.vbr_pools.specs.KeptSlots.{HasSlot, HasFree, TakesNoSlot}
 use Rattle.vbr_pools.proofs.Lemmas.{did_stamps, grows_same, same_advances, same_flags}
 use Rattle.vbr_access.proofs.WonExchanges.{publish_learned}
 

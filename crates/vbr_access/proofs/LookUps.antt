@@ -14,7 +14,7 @@ use Rattle.vbr_slots.specs.Calls.{AddsAnswer, AddsNone, Made, OnlyLoads, Quiet}
 use Rattle.vbr_slots.specs.LookUps.{look_up}
 use Rattle.vbr_slots.specs.Views.{PassView, Trace, Did, KeepsPool, knows}
 use Rattle.vbr_slots.proofs.Lemmas.{did_loads, did_moment}
-use Rattle.vbr_pools.specs.Advances.{TakesNoSlot}
+use Rattle.vbr_pools.specs.KeptSlots.{TakesNoSlot}
 use Rattle.vbr_pools.proofs.Lemmas.{did_none}
 use Rattle.vbr_access.specs.Held.{IsHeld, IsSlot}
 use Rattle.vbr_access.specs.Keeping.{Keeps}

@@ -20,7 +20,7 @@ use Rattle.vbr_core.proofs.Lemmas.{confirmed_call_is, marked_call_is, others_lea
 use Rattle.vbr_slots.specs.Calls.{Quiet, Made, made_by, entries_of, AddsNone, AddsAnswer}
 use Rattle.vbr_slots.specs.Views.{Trace, Did, knows}
 use Rattle.vbr_slots.proofs.Lemmas.{did_calls, did_entries, did_run, did_same, did_seen}
-use Rattle.vbr_access.proofs.Moments.{won, lost, answered, unanswered}
+use Rattle.vbr_access.proofs.Moments.{won, lost, answers_same, unanswered}
 
 -- a step that succeeds makes its call
 succeeded : {step : Step} {p q : Trace} {r : ℕ} (d : Did step p q r) (call : Call) → succeeds step (found p.shape (world_after p.shape (p.seen ++ d.rest)) step) ≡ true → call_of p.who (knows p) step ≡ Some call → Made call p q
@@ -61,13 +61,13 @@ mark_failed {s} {expected} {found} d ne = failed d (other expected found _ ne (l
 
 pub present_made : {op : Op} {s expected : ℕ} {p q : Trace} → IsShape p.shape → IsRun p.shape p.passes p.seen → Did (ConfirmPresent op s expected) p q expected → (key : ℕ) → Knows (knows p) (KeyOf s key) → Made (record { who = p.who; op = op; key = key; reply = present_reply op }) p q
 present_made {op} {s} {expected} {p} {q} is run d key k =
-    succeeded d (record { who = p.who; op = op; key = key; reply = present_reply op }) (eq-eqb _ expected (answered (present_reply op) expected _ d.shows.answers)) (confirmed_call_is p.shape p.passes p.seen is run p.who op s expected key k)
+    succeeded d (record { who = p.who; op = op; key = key; reply = present_reply op }) (eq-eqb _ expected (answers_same (present_reply op) expected _ d.shows.answers)) (confirmed_call_is p.shape p.passes p.seen is run p.who op s expected key k)
 
 pub present_failed : {op : Op} {s expected found : ℕ} {p q : Trace} → Did (ConfirmPresent op s expected) p q found → found ≢ expected → Quiet p q
 present_failed {op} {s} {expected} {found} d ne = failed d (other expected found _ ne (unanswered (present_reply op) expected found _ ne d.shows.answers))
 
 pub absent_made : {op : Op} {key : ℕ} {at : At} {expected : ℕ} {p q : Trace} → Did (ConfirmAbsent op key at expected) p q expected → Made (record { who = p.who; op = op; key = key; reply = false }) p q
-absent_made {op} {key} {at} {expected} {p} d = succeeded d (record { who = p.who; op = op; key = key; reply = false }) (eq-eqb _ expected (answered false expected _ d.shows.answers)) refl
+absent_made {op} {key} {at} {expected} {p} d = succeeded d (record { who = p.who; op = op; key = key; reply = false }) (eq-eqb _ expected (answers_same false expected _ d.shows.answers)) refl
 
 pub absent_failed : {op : Op} {key : ℕ} {at : At} {expected found : ℕ} {p q : Trace} → Did (ConfirmAbsent op key at expected) p q found → found ≢ expected → Quiet p q
 absent_failed {op} {key} {at} {expected} {found} d ne = failed d (other expected found _ ne (unanswered false expected found _ ne d.shows.answers))
@@ -79,24 +79,24 @@ present_adds {op} {s} {expected} {p} {q} is run d key k =
     let w = world_after p.shape (p.seen ++ d.rest) in
     let step : Step = ConfirmPresent op s expected in
     let made = ap (λ (k : Know). call_of p.who k step) (others_leave_know p.shape p.seen d.rest p.who d.none) ∙ confirmed_call_is p.shape p.passes p.seen is run p.who op s expected key k in
-    let t = eq-eqb _ expected (answered (present_reply op) expected _ d.shows.answers) in
-    record { entries = did_entries d ∙ ap (λ (b : Bool). entries_of p ++ cond b (entries.answered p.who (call_of p.who (w.know p.who) step)) []) t ∙ ap (λ (call : Option Call). entries_of p ++ entries.answered p.who call) made }
+    let t = eq-eqb _ expected (answers_same (present_reply op) expected _ d.shows.answers) in
+    record { entries = did_entries d ∙ ap (λ (b : Bool). entries_of p ++ cond b (entries.entry_of_call p.who (call_of p.who (w.know p.who) step)) []) t ∙ ap (λ (call : Option Call). entries_of p ++ entries.entry_of_call p.who call) made }
 
 pub present_adds_none : {op : Op} {s expected found : ℕ} {p q : Trace} → Did (ConfirmPresent op s expected) p q found → found ≢ expected → AddsNone p q
 present_adds_none {op} {s} {expected} {found} {p} {q} d ne =
     let w = world_after p.shape (p.seen ++ d.rest) in
     let f = other expected found _ ne (unanswered (present_reply op) expected found _ ne d.shows.answers) in
-    record { entries = did_entries d ∙ ap (λ (b : Bool). entries_of p ++ cond b (entries.answered p.who (call_of p.who (w.know p.who) (ConfirmPresent op s expected))) []) f ∙ append-nil (entries_of p) }
+    record { entries = did_entries d ∙ ap (λ (b : Bool). entries_of p ++ cond b (entries.entry_of_call p.who (call_of p.who (w.know p.who) (ConfirmPresent op s expected))) []) f ∙ append-nil (entries_of p) }
 
 pub absent_adds : {op : Op} {key : ℕ} {at : At} {expected : ℕ} {p q : Trace} → Did (ConfirmAbsent op key at expected) p q expected → AddsAnswer (record { who = p.who; op = op; key = key; reply = false }) p q
 absent_adds {op} {key} {at} {expected} {p} d =
-    let t = eq-eqb _ expected (answered false expected _ d.shows.answers) in
-    record { entries = did_entries d ∙ ap (λ (b : Bool). entries_of p ++ cond b (entries.answered p.who (Some (record { who = p.who; op = op; key = key; reply = false }))) []) t }
+    let t = eq-eqb _ expected (answers_same false expected _ d.shows.answers) in
+    record { entries = did_entries d ∙ ap (λ (b : Bool). entries_of p ++ cond b (entries.entry_of_call p.who (Some (record { who = p.who; op = op; key = key; reply = false }))) []) t }
 
 pub absent_adds_none : {op : Op} {key : ℕ} {at : At} {expected found : ℕ} {p q : Trace} → Did (ConfirmAbsent op key at expected) p q found → found ≢ expected → AddsNone p q
 absent_adds_none {op} {key} {at} {expected} {found} {p} d ne =
     let f = other expected found _ ne (unanswered false expected found _ ne d.shows.answers) in
-    record { entries = did_entries d ∙ ap (λ (b : Bool). entries_of p ++ cond b (entries.answered p.who (Some (record { who = p.who; op = op; key = key; reply = false }))) []) f ∙ append-nil (entries_of p) }
+    record { entries = did_entries d ∙ ap (λ (b : Bool). entries_of p ++ cond b (entries.entry_of_call p.who (Some (record { who = p.who; op = op; key = key; reply = false }))) []) f ∙ append-nil (entries_of p) }
 
 -- ---- a publication
 

@@ -52,8 +52,8 @@ lost expected r n other e = go (cases_Bool (n == expected))
     go (inl t) = let z : Lost r ≡ Won = sym left ∙ e ∙ ap (λ (b : Bool). cond b Won (Lost n)) t in absurd (cc)
     go (inr f) = let z : Lost r ≡ Lost n = sym left ∙ e ∙ ap (λ (b : Bool). cond b Won (Lost n)) f in cc
 
-pub answered : (reply : Bool) (expected n : ℕ) → confirmed reply expected expected ≡ confirmed reply expected n → n ≡ expected
-answered reply expected n e = go (cases_Bool (n == expected))
+pub answers_same : (reply : Bool) (expected n : ℕ) → confirmed reply expected expected ≡ confirmed reply expected n → n ≡ expected
+answers_same reply expected n e = go (cases_Bool (n == expected))
   where
     left : confirmed reply expected expected ≡ Answered reply
     left = ap (λ (b : Bool). cond b (Answered reply) (Lost expected)) (eq-eqb expected expected refl)

@@ -8,7 +8,7 @@ use Rattle.vbr_core.specs.declared.event.Step.TheVariants.{Unlink}
 use Rattle.vbr_core.specs.declared.knowledge.Holding.TheVariants.{Unlinked}
 use Rattle.vbr_core.proofs.Lemmas.{put_other}
 use Rattle.vbr_slots.specs.Views.{PassView, Did, KeepsPool, knows}
-use Rattle.vbr_pools.specs.Advances.{TakesNoSlot}
+use Rattle.vbr_pools.specs.KeptSlots.{TakesNoSlot}
 use Rattle.vbr_pools.proofs.Lemmas.{free_on, free_pool, grows_on, grows_same, longer, none_known, same_advances, same_flags, shared_on}
 use Rattle.vbr_access.specs.Keeping.{Unlinks}
 use Rattle.vbr_access.proofs.WonExchanges.{unlink_learned, unlink_lost_same, unlink_owns}

@@ -5,7 +5,8 @@ use Rattle.vbr_core.specs.Knowledge.{Know}
 use Rattle.vbr_core.specs.Membership.{Knows}
 use Rattle.vbr_core.specs.declared.knowledge.Read.{Read}
 use Rattle.vbr_slots.specs.Views.{PassView, knows}
-use Rattle.vbr_pools.specs.Advances.{advances, HasFree, PoolGrows, SharesWhereFull}
+use Rattle.vbr_pools.specs.Counts.{advances}
+use Rattle.vbr_pools.specs.KeptSlots.{HasFree, PoolGrows, SharesWhereFull}
 
 -- what was known is known, in the same epoch
 pub record Keeps (know later : Know) : Type 0 where

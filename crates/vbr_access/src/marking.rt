@@ -7,7 +7,7 @@ ghost use Rattle.vbr_core.specs.declared.history.Op.TheVariants.{Remove};
 ghost use Rattle.vbr_slots.specs.Alone.{IsAlone};
 ghost use Rattle.vbr_slots.specs.Calls.{Quiet, Made, Took};
 ghost use Rattle.vbr_slots.specs.Views.{IsOf, knows};
-ghost use Rattle.vbr_pools.specs.Advances.{TakesNoSlot};
+ghost use Rattle.vbr_pools.specs.KeptSlots.{TakesNoSlot};
 ghost use Rattle.vbr_access.specs.Alone.{StandsNow};
 ghost use Rattle.vbr_access.specs.Held.{IsHeld, IsMarked, held_of};
 ghost use Rattle.vbr_access.specs.Keeping.{Keeps, KeepsOwn};

@@ -7,7 +7,7 @@ ghost use Rattle.vbr_core.specs.Membership.{KeyAt, HeldIn};
 ghost use Rattle.vbr_slots.specs.Calls.{AddsNone, Quiet, Took, OnlyLoads};
 ghost use Rattle.vbr_slots.specs.Alone.{IsAlone, IsFresh, nodes};
 ghost use Rattle.vbr_slots.specs.Views.{IsOf, knows};
-ghost use Rattle.vbr_pools.specs.Advances.{TakesNoSlot};
+ghost use Rattle.vbr_pools.specs.KeptSlots.{TakesNoSlot};
 ghost use Rattle.vbr_access.specs.Alone.{NextStands, StandsNow};
 ghost use Rattle.vbr_access.specs.Held.{IsSlot, IsHeld};
 ghost use Rattle.vbr_access.specs.Keeping.{Keeps, KeepsOwn};

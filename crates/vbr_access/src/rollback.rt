@@ -19,9 +19,9 @@ pub enum Rollback {
 
 impl fmt::Display for Rollback {
     ghost use Rattle.std.specs.Prelude.{Some};
-    ghost use Rattle.vbr_access.specs.Messages.{error_text};
+    ghost use Rattle.vbr_access.specs.Messages.{rollback_text};
 
-    ghost output = { λ e. Some (error_text e) };
+    ghost output = { λ e. Some (rollback_text e) };
 
     fn fmt<W: fmt::Write>(&self, f: &mut fmt::Formatter<W>) -> fmt::Result {
         match self {

@@ -6,7 +6,7 @@ ghost use Rattle.vbr_core.specs.Membership.{BirthNamed};
 ghost use Rattle.vbr_slots.specs.Alone.{IsAlone, IsFresh, nodes};
 ghost use Rattle.vbr_slots.specs.Calls.{Quiet, Took};
 ghost use Rattle.vbr_slots.specs.Views.{IsOf, knows};
-ghost use Rattle.vbr_pools.specs.Advances.{TakesNoSlot};
+ghost use Rattle.vbr_pools.specs.KeptSlots.{TakesNoSlot};
 ghost use Rattle.vbr_access.specs.Alone.{StandsNow, UnlinksAlone};
 ghost use Rattle.vbr_access.specs.Held.{IsHeld, IsMarked, Names};
 ghost use Rattle.vbr_access.specs.Keeping.{Keeps, KeepsOwn, Unlinks};

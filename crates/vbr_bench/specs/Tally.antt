@@ -6,22 +6,22 @@ use Rattle.vbr_list.specs.declared.refusal.Refusal.{Refusal}
 use Rattle.vbr_bench.specs.declared.tally.Tally.{Tally}
 
 -- a sum, counted up to the greatest number
-abbrev pub counted : ℕ → ℕ → ℕ
-counted n more = min (n + more) (2 ^ 64 - 1)
+abbrev pub counted_up : ℕ → ℕ → ℕ
+counted_up n more = min (n + more) (2 ^ 64 - 1)
 
 -- the tally after a call
-abbrev pub noted : Op → Result Bool Refusal → Tally → Tally
-noted Insert (Ok true) t = record t { inserted = counted t.inserted 1 }
-noted Remove (Ok true) t = record t { removed = counted t.removed 1 }
-noted Has (Ok true) t = record t { found = counted t.found 1 }
-noted op (Ok false) t = t
-noted op (Err refusal) t = record t { refused = counted t.refused 1 }
+abbrev pub tallied : Op → Result Bool Refusal → Tally → Tally
+tallied Insert (Ok true) t = record t { inserted = counted_up t.inserted 1 }
+tallied Remove (Ok true) t = record t { removed = counted_up t.removed 1 }
+tallied Has (Ok true) t = record t { found = counted_up t.found 1 }
+tallied op (Ok false) t = t
+tallied op (Err refusal) t = record t { refused = counted_up t.refused 1 }
 
 -- two tallies together
 abbrev pub both : Tally → Tally → Tally
 both a b = record {
-  inserted = counted a.inserted b.inserted;
-  removed = counted a.removed b.removed;
-  found = counted a.found b.found;
-  refused = counted a.refused b.refused;
+  inserted = counted_up a.inserted b.inserted;
+  removed = counted_up a.removed b.removed;
+  found = counted_up a.found b.found;
+  refused = counted_up a.refused b.refused;
 }

@@ -1,6 +1,6 @@
 //! What calls were answered.
 ghost use Rattle.std.specs.Prelude.{◌≡◌, ◌+◌, ◌↔◌, IsTrue};
-ghost use Rattle.vbr_bench.specs.Tally.{noted, both};
+ghost use Rattle.vbr_bench.specs.Tally.{tallied, both};
 
 use vbr_core::Op;
 use vbr_set::Refusal;
@@ -26,7 +26,7 @@ impl Tally {
     /// Counts a call.
     #[inline]
     pub fn note(&mut self, op: Op, answer: Result<bool, Refusal>)
-        ensures { self.new ≡ noted op answer self.old }
+        ensures { self.new ≡ tallied op answer self.old }
     {
         match (answer, op) {
             (Ok(false), _) => {}

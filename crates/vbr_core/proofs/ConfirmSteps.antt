@@ -33,9 +33,9 @@ pub use Rattle.vbr_core.proofs.AtLoads.{found_at}
 use Rattle.vbr_core.proofs.MarkedChains.{confirmed_absent}
 
 -- a call that changes nothing
-answered : (shape : Dimensions) (w : World) (a : Incarnations) (notes : ℕ → Notes) (p : ℕ) (call : Call) → Agrees shape w a notes → Allowed shape no_keys a p (Answers call) →
+answer_allowed : (shape : Dimensions) (w : World) (a : Incarnations) (notes : ℕ → Notes) (p : ℕ) (call : Call) → Agrees shape w a notes → Allowed shape no_keys a p (Answers call) →
     Agrees shape (record w { calls = w.calls ++ call ∷ [] }) (becomes shape a p (Answers call)) (put notes p (notes p))
-answered shape w a notes p call g al =
+answer_allowed shape w a notes p call g al =
     let b = becomes shape a p (Answers call) in
     let v = record w { calls = w.calls ++ call ∷ [] } in
     agrees_next shape w v a notes (put notes p (notes p)) p (Answers call) g al
@@ -66,7 +66,7 @@ step_confirm_present shape w a notes p op s expected g ok = go (cases_Bool (word
         let k : key ≡ a.key (last_in a s) = key_is g.sound.slots (w.know p).epoch (notes p).checked (w.know p).checked s (last_in a s) (g.knows p).checked_reads (g.knows p).checked m.held ok.held.1 in
         let call : Call = record { who = p; op = op; key = key; reply = present_reply op } in
         let al : Allowed shape no_keys a p (Answers call) = (refl, nothing op ok.in_range.1, reply op (set_after no_keys a.calls) key ok.in_range.1 (rw k (g.tells.there (last_in a s) m.is_open))) in
-        rw t ((al, tt), answered shape w a notes p call g al)
+        rw t ((al, tt), answer_allowed shape w a notes p call g al)
 
 pub step_confirm_absent : (shape : Dimensions) (w : World) (a : Incarnations) (notes : ℕ → Notes) (p : ℕ) (op : Op) (key : ℕ) (at : At) (expected : ℕ) → Agrees shape w a notes → Accepts shape (w.know p) (ConfirmAbsent op key at expected) → StepAgrees shape w a notes p (ConfirmAbsent op key at expected)
 step_confirm_absent shape w a notes p op key at expected g ok = go (cases_Bool (word_of (machine.link_at w at) == expected))
@@ -88,4 +88,4 @@ step_confirm_absent shape w a notes p op key at expected g ok = go (cases_Bool (
         let ab : set_after no_keys a.calls key ≡ false = sym (ap (λ calls. set_after no_keys calls key) g.calls) ∙ confirmed_absent g p op key at expected ok q in
         let call : Call = record { who = p; op = op; key = key; reply = false } in
         let al : Allowed shape no_keys a p (Answers call) = (refl, nothing op, reply op (set_after no_keys a.calls) key ok.in_range.1 ab) in
-        rw (found_at shape w at, t) ((al, tt), answered shape w a notes p call g al)
+        rw (found_at shape w at, t) ((al, tt), answer_allowed shape w a notes p call g al)

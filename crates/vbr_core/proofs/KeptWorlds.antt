@@ -13,7 +13,7 @@ use Rattle.vbr_core.specs.Put.{put}
 use Rattle.vbr_core.specs.Knowledge.{Know}
 use Rattle.vbr_core.specs.Links.{empty_head, opening_link}
 use Rattle.vbr_core.specs.Machine.{World, knows_nothing, opening, with_link_at}
-use Rattle.vbr_core.specs.Kept.{KeptPass, KeptWorld, IsWhole, know_of, new_pass, world_of}
+use Rattle.vbr_core.specs.Kept.{KeptPass, KeptWorld, IsWhole, know_of, opening_pass, world_of}
 use Rattle.vbr_core.specs.declared.knowledge.SlotPlace.{SlotPlace}
 use Rattle.vbr_core.specs.declared.knowledge.SlotPlace.TheVariants.{Shared}
 use Rattle.vbr_core.proofs.KeptLists.{read_replicate, read_set, all_at}
@@ -27,12 +27,12 @@ pub link_word : (kept : KeptWorld) (s word : ℕ) → IsWhole kept → s < kept.
 link_word kept s word whole lt is = get_or_read kept.links s word (omega (arith, whole.links)) is MARK ∙ sym (word_of-link_of (get_or kept.links s MARK))
 
 -- passes that know nothing
-know_opened : (slots : ℕ) (passes : List KeptPass) → AllByRecursion (λ pass. (know_of pass ≡ knows_nothing) × (length pass.own ≡ slots)) passes → ◌≡◌ {A = ℕ → Know} (λ p. know_of (get_or passes p new_pass)) (λ p. knows_nothing)
+know_opened : (slots : ℕ) (passes : List KeptPass) → AllByRecursion (λ pass. (know_of pass ≡ knows_nothing) × (length pass.own ≡ slots)) passes → ◌≡◌ {A = ℕ → Know} (λ p. know_of (get_or passes p opening_pass)) (λ p. knows_nothing)
 know_opened slots passes new = λ k p. at p (cases_lt p (length passes)) k
   where
-    at : (p : ℕ) → (p < length passes) ⊎ (length passes ≤ p) → know_of (get_or passes p new_pass) ≡ knows_nothing
-    at p (inl lt) = (all_at (λ pass. (know_of pass ≡ knows_nothing) × (length pass.own ≡ slots)) passes p new_pass new lt).0
-    at p (inr ge) = rw (get_or_past passes p new_pass ge) refl
+    at : (p : ℕ) → (p < length passes) ⊎ (length passes ≤ p) → know_of (get_or passes p opening_pass) ≡ knows_nothing
+    at p (inl lt) = (all_at (λ pass. (know_of pass ≡ knows_nothing) × (length pass.own ≡ slots)) passes p opening_pass new lt).0
+    at p (inr ge) = rw (get_or_past passes p opening_pass ge) refl
 
 -- the lists of an empty set stand for the world at opening
 pub opened : (kept : KeptWorld) (buckets slots own : ℕ) → kept.epoch ≡ 1 → kept.heads ≡ replicate buckets 0 → kept.links ≡ replicate slots MARK → kept.birth ≡ replicate slots 0 → kept.stamps ≡ replicate slots 0 → kept.keys ≡ replicate slots 0 → kept.places ≡ replicate slots Shared → AllByRecursion (λ pass. (know_of pass ≡ knows_nothing) × (length pass.own ≡ own)) kept.passes → kept.births ≡ 0 → kept.calls ≡ [] → world_of kept ≡ opening

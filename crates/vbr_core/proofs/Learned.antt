@@ -7,7 +7,7 @@ use Rattle.vbr_core.specs.Put.{put}
 use Rattle.vbr_core.specs.Knowledge.{Know}
 use Rattle.vbr_core.specs.Learning.{link_written, learn}
 use Rattle.vbr_core.specs.Machine.{found, stamp_shown, with_learning, with_call}
-use Rattle.vbr_core.specs.Kept.{KeptPass, KeptWorld, IsWhole, know_of, new_pass, world_of}
+use Rattle.vbr_core.specs.Kept.{KeptPass, KeptWorld, IsWhole, know_of, opening_pass, world_of}
 use Rattle.vbr_core.specs.Making.{call_made, with_answer}
 use Rattle.vbr_core.specs.declared.history.Call.{Call}
 use Rattle.vbr_core.specs.declared.event.Step.{Step}
@@ -15,11 +15,11 @@ use Rattle.vbr_core.specs.declared.event.Step.{Step}
 -- the link of the word that a pass answers with
 pub link_read : (kept : KeptWorld) (p word : ℕ) (pass : KeptPass) (step : Step) → IsWhole kept → p < length kept.passes → pass ≡ get_or kept.passes p pass → word ≡ word_of (link_written (know_of pass) step) → IsLink (link_written (know_of pass) step) → link_of word ≡ link_written ((world_of kept).know p) step
 link_read kept p word pass step whole lt is answer fits =
-    ap link_of answer ∙ link_of-word_of _ fits ∙ ap (λ (pass : KeptPass). link_written (know_of pass) step) (get_or_read kept.passes p pass lt is new_pass)
+    ap link_of answer ∙ link_of-word_of _ fits ∙ ap (λ (pass : KeptPass). link_written (know_of pass) step) (get_or_read kept.passes p pass lt is opening_pass)
 
-module _ (kept : KeptWorld) (passes : List KeptPass) (p : ℕ) (step : Step) (word stamp : ℕ) (whole : IsWhole kept) (is : word ≡ found kept.shape (world_of kept) step) (shown : stamp ≡ stamp_shown (world_of kept) step) (learned : ◌≡◌ {A = ℕ → Know} (λ q. know_of (get_or passes q new_pass)) (put (λ q. know_of (get_or kept.passes q new_pass)) p (learn step word stamp (know_of (get_or kept.passes p new_pass))))) where
+module _ (kept : KeptWorld) (passes : List KeptPass) (p : ℕ) (step : Step) (word stamp : ℕ) (whole : IsWhole kept) (is : word ≡ found kept.shape (world_of kept) step) (shown : stamp ≡ stamp_shown (world_of kept) step) (learned : ◌≡◌ {A = ℕ → Know} (λ q. know_of (get_or passes q opening_pass)) (put (λ q. know_of (get_or kept.passes q opening_pass)) p (learn step word stamp (know_of (get_or kept.passes p opening_pass))))) where
   -- the pass knows what it learned from the word and the stamp that the step found
-  known : ◌≡◌ {A = ℕ → Know} (λ q. know_of (get_or passes q new_pass)) (put (world_of kept).know p (learn step (found kept.shape (world_of kept) step) (stamp_shown (world_of kept) step) ((world_of kept).know p)))
+  known : ◌≡◌ {A = ℕ → Know} (λ q. know_of (get_or passes q opening_pass)) (put (world_of kept).know p (learn step (found kept.shape (world_of kept) step) (stamp_shown (world_of kept) step) ((world_of kept).know p)))
   known = learned ∙ (λ i. put (world_of kept).know p (learn step (is i) (shown i) ((world_of kept).know p)))
 
   -- a step that makes no call

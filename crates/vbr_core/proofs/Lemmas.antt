@@ -2,6 +2,8 @@
 
 -- Functions with one value changed.
 pub use Rattle.vbr_core.proofs.Puts.{put_here, put_other}
+-- What both outcomes of a test leave is left.
+pub use Rattle.vbr_core.proofs.Branches.{by_both}
 -- The lists of the buckets: what follows a listed incarnation is listed, no two stand before the same one, keys are different, and no key lies between neighbours.
 pub use Rattle.vbr_core.proofs.Lists.{keys_differ, next_listed}
 -- Nodes of one list, by their slots, and how many of them stand behind a place: from a place to its successor they are one fewer.

@@ -1,6 +1,7 @@
 mod Histories
 mod PlainSets
 mod Puts
+mod Branches
 mod Slots
 mod SlotsAfter
 mod Lists

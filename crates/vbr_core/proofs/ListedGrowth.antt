@@ -8,7 +8,7 @@ use Rattle.vbr_words.specs.Dimensions.{Dimensions, IsShape}
 use Rattle.vbr_words.specs.declared.place.At.{At}
 use Rattle.vbr_words.specs.declared.place.At.TheVariants.{Head}
 use Rattle.vbr_core.specs.Acceptance.{bucket_of, Accepts}
-use Rattle.vbr_core.specs.Accounts.{incarnations_after, notes_after, happens, just, answered, born_in}
+use Rattle.vbr_core.specs.Accounts.{incarnations_after, notes_after, happens, just, entry_of_call, born_in}
 use Rattle.vbr_core.specs.Calls.{calls_added}
 use Rattle.vbr_core.specs.Chronicles.{Entry, Advances, Gains, Probes, Keyed, Aims, Inserts, Raises, Removes, Stamps, Unlinks, Answers, Allowed, becomes, incarnations_from, IsLawful}
 use Rattle.vbr_core.specs.Images.{key_shown}
@@ -85,7 +85,7 @@ module _ (shape : Dimensions) (passes : ℕ) (run : List Event) (is : IsShape sh
   same : (entries : List Entry) → behind shape (incarnations_from shape (incarnations_after shape run) entries) bucket (Head h) ≡ behind shape (incarnations_after shape run) bucket (Head h) → AddsNoNode shape (incarnations_after shape run) bucket h entries
   same entries e = no_more (behind shape (incarnations_from shape (incarnations_after shape run) entries) bucket (Head h)) (behind shape (incarnations_after shape run) bucket (Head h)) e
 
-  confirmed : (t : Bool) (call : Option Call) → AddsNoNode shape (incarnations_after shape run) bucket h (if t then answered p call else [])
+  confirmed : (t : Bool) (call : Option Call) → AddsNoNode shape (incarnations_after shape run) bucket h (if t then entry_of_call p call else [])
   confirmed true None = same [] refl
   confirmed true (Some call) = same (just p (Answers call)) refl
   confirmed false call = same [] refl

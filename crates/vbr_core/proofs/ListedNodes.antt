@@ -17,7 +17,7 @@ use Rattle.vbr_core.specs.Chronicles.{Before, GivesUp, Bears, Stamps, Unlinks, A
 use Rattle.vbr_core.specs.Notes.{before_at}
 use Rattle.vbr_core.specs.declared.knowledge.SlotPlace.{SlotPlace}
 use Rattle.vbr_core.specs.declared.knowledge.SlotPlace.TheVariants.{Shared, Own, Hand, Listed}
-use Rattle.vbr_core.specs.Nodes.{state_shown, state_in, is_listed, key_in, is_in_list, is_there, is_above, is_behind, count_below, behind, Stands, InList}
+use Rattle.vbr_core.specs.Nodes.{state_shown, state_in, is_listed, key_in_slot, is_in_list, is_there, is_above, is_behind, count_below, behind, Stands, InList}
 use Rattle.vbr_core.specs.Sound.{IsListed, IsApart, IsFrom, Sound}
 use Rattle.vbr_core.proofs.Puts.{put_here, put_other}
 use Rattle.vbr_core.proofs.Lists.{next_listed, keys_differ}
@@ -71,7 +71,7 @@ stands_in a s e = go (a.last s) refl e
 pub stands_listed : {a : Incarnations} {s c : ℕ} → Stands a s c → is_listed (state_in a s) ≡ true
 stands_listed {a} {s} {c} n = ap (λ l. is_listed (state_shown a l)) n.last ∙ listed_is (a.state c) n.listed
 
-pub stands_key : {a : Incarnations} {s c : ℕ} → Stands a s c → key_in a s ≡ a.key c
+pub stands_key : {a : Incarnations} {s c : ℕ} → Stands a s c → key_in_slot a s ≡ a.key c
 stands_key {a} n = ap (key_shown a) n.last
 
 -- a node in a list stands in its slot
@@ -96,7 +96,7 @@ one_slot sound s t c here there = sym ((sound.slots.last_born s c here.last).1) 
 -- the place is the head of the bucket, or its slot's last incarnation has a key of the bucket
 abbrev pub IsPlaceOf : Dimensions → Incarnations → At → ℕ → Type 0
 IsPlaceOf shape a (Head b) bucket = b ≡ bucket
-IsPlaceOf shape a (Slot t) bucket = bucket_of shape (key_in a t) ≡ bucket
+IsPlaceOf shape a (Slot t) bucket = bucket_of shape (key_in_slot a t) ≡ bucket
 
 -- a node is the next behind a place: each other node of the list that stands behind the place has a greater key than it
 pub record IsNextOf (shape : Dimensions) (a : Incarnations) (bucket : ℕ) (at : At) (n : ℕ) : Type 0 where
@@ -168,7 +168,7 @@ next_of_followed {shape} {a} sound bucket (Head b) of n p is =
     }
 next_of_followed {shape} {a} sound bucket (Slot t) of n p is =
     let c = p.0 in
-    let k : key_in a t ≡ a.key c = ap (key_shown a) p.2 in
+    let k : key_in_slot a t ≡ a.key c = ap (key_shown a) p.2 in
     let lc : IsListed (a.state c) = p.3 in
     let ln : IsListed (a.state n) = next_listed sound c n p.4 lc in
     let o = sound.lists.ordered c n p.4 in
@@ -194,7 +194,7 @@ one_fewer {shape} {a} sound fits bucket at n next =
     passes st = and_from _ _ (in_list_is (record { stands = st; of_bucket = next.of_bucket })) (ap (is_above a at) (stands_key st) ∙ next.above)
 
     fails : Stands a (a.slot n) n → is_behind shape a bucket (Slot (a.slot n)) (a.slot n) ≡ false
-    fails st = ap (λ b. is_in_list shape a bucket (a.slot n) && b) (not_below_itself (key_in a (a.slot n))) ∙ right (is_in_list shape a bucket (a.slot n))
+    fails st = ap (λ b. is_in_list shape a bucket (a.slot n) && b) (not_below_itself (key_in_slot a (a.slot n))) ∙ right (is_in_list shape a bucket (a.slot n))
       where
         right : (b : Bool) → (b && false) ≡ false
         right true = refl
@@ -219,7 +219,7 @@ one_fewer {shape} {a} sound fits bucket at n next =
 pub behind_same : (shape : Dimensions) (a b : Incarnations) (bucket : ℕ) (at : At) → ((s : ℕ) → is_listed (state_in b s) ≡ is_listed (state_in a s)) → b.key ≡ a.key → b.last ≡ a.last → behind shape b bucket at ≡ behind shape a bucket at
 behind_same shape a b bucket at listed key last = count_same (is_behind shape b bucket at) (is_behind shape a bucket at) shape.slots (λ s l. same s)
   where
-    keys : (s : ℕ) → key_in b s ≡ key_in a s
+    keys : (s : ℕ) → key_in_slot b s ≡ key_in_slot a s
     keys s = (λ i. key_shown (record a { key = key i }) (last i s))
 
     above : (at : At) (key : ℕ) → is_above b at key ≡ is_above a at key
@@ -227,7 +227,7 @@ behind_same shape a b bucket at listed key last = count_same (is_behind shape b 
     above (Slot t) key = ap (λ k. nat_lt k key) (keys t)
 
     same : (s : ℕ) → is_behind shape b bucket at s ≡ is_behind shape a bucket at s
-    same s = (λ i. (listed s i && (bucket_of shape (keys s i) == bucket)) && is_above b at (keys s i)) ∙ ap (λ c. is_in_list shape a bucket s && c) (above at (key_in a s))
+    same s = (λ i. (listed s i && (bucket_of shape (keys s i) == bucket)) && is_above b at (keys s i)) ∙ ap (λ c. is_in_list shape a bucket s && c) (above at (key_in_slot a s))
 
 -- one that is in no list comes into another state in which it is in none
 put_unlisted : (state : ℕ → State) (c : ℕ) (st : State) (j : ℕ) → is_listed (state c) ≡ false → is_listed st ≡ false → is_listed (put state c st j) ≡ is_listed (state j)
@@ -267,7 +267,7 @@ unlinks_one {shape} {a} sound fits pass bucket c at of followed is =
     fails st = and_left _ _ (and_left _ _ (ap (λ l. is_listed (state_shown b l)) st.last ∙ ap is_listed (put_here a.state c (Unlinked pass a.epoch))))
 
     others : (s : ℕ) → s ≢ a.slot c → is_behind shape b bucket at s ≡ is_behind shape a bucket at s
-    others s ne = ap (λ x. (is_listed x && (bucket_of shape (key_in a s) == bucket)) && is_above a at (key_in a s)) (go (a.last s) refl) ∙ ap (λ f. is_in_list shape a bucket s && f) (above at (key_in a s))
+    others s ne = ap (λ x. (is_listed x && (bucket_of shape (key_in_slot a s) == bucket)) && is_above a at (key_in_slot a s)) (go (a.last s) refl) ∙ ap (λ f. is_in_list shape a bucket s && f) (above at (key_in_slot a s))
       where
         above : (at2 : At) (key : ℕ) → is_above a at2 key ≡ is_above a at2 key
         above at2 key = refl
@@ -307,7 +307,7 @@ unlinks_add_none shape a pass bucket c before at = count_le (is_behind shape b b
     was s e =
         let x = and_parts _ _ e in
         let y = and_parts _ _ x.0 in
-        and_from _ _ (and_from _ _ (still (a.last s) y.0) y.1) (same at (key_in a s) x.1)
+        and_from _ _ (and_from _ _ (still (a.last s) y.0) y.1) (same at (key_in_slot a s) x.1)
       where
         same : (at2 : At) (key : ℕ) → is_above b at2 key ≡ true → is_above a at2 key ≡ true
         same (Head h) key e = e
@@ -381,10 +381,10 @@ bears_none shape keys a pass s birth bucket h sound al = count_same (is_behind s
     same t = go (cases_eq t s)
       where
         go : (t ≡ s) ⊎ (t ≢ s) → is_behind shape b bucket (Head h) t ≡ is_behind shape a bucket (Head h) t
-        go (inl e) = none (is_listed (state_in b t)) (is_listed (state_in a t)) (key_in b t) (key_in a t)
+        go (inl e) = none (is_listed (state_in b t)) (is_listed (state_in a t)) (key_in_slot b t) (key_in_slot a t)
             (ap (λ l. is_listed (state_shown b l)) (ap (put a.last s (Some a.count)) e ∙ put_here a.last s (Some a.count)) ∙ ap is_listed (put_here a.state a.count (InHand pass)))
             (ap (λ v. is_listed (state_in a v)) e ∙ free_unlisted a pass s (a.place s) (a.last s) refl al.0)
         go (inr ne) =
             let l = put_other a.last s (Some a.count) t ne in
             let o = other t (a.last t) refl in
-            listed_key (is_listed (state_in b t)) (is_listed (state_in a t)) (key_in b t) (key_in a t) (ap (λ m. is_listed (state_shown b m)) l ∙ o.0) (ap (key_shown b) l ∙ o.1)
+            listed_key (is_listed (state_in b t)) (is_listed (state_in a t)) (key_in_slot b t) (key_in_slot a t) (ap (λ m. is_listed (state_shown b m)) l ∙ o.0) (ap (key_shown b) l ∙ o.1)

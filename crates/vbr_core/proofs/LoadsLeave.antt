@@ -1,5 +1,5 @@
 -- A load leaves each word as it was.
-use Rattle.std.proofs.Common.{◌≡◌, ℕ, Bool, true, false, cond, refl}
+use Rattle.std.proofs.Common.{◌≡◌, ℕ, refl}
 use Rattle.std.specs.Prelude.{◌==◌}
 use Rattle.vbr_words.specs.Dimensions.{Dimensions}
 use Rattle.vbr_words.specs.Words.{word_of}
@@ -8,10 +8,7 @@ use Rattle.vbr_core.specs.Loads.{IsLoad}
 use Rattle.vbr_core.specs.Machine.{World, found, knows_nothing, word_at, after}
 use Rattle.vbr_core.specs.declared.event.Step.{Step}
 use Rattle.vbr_core.specs.declared.event.Step.TheVariants.{ReadEpoch, Advance, LoadStamp, StoreStamp, Raise, TakeFlag, StoreBirth, StoreKey, StoreLink, LoadLink, LoadBirth, LoadKey, Publish, Mark, Unlink, ConfirmPresent, ConfirmAbsent}
-
-either : (shape : Dimensions) (q : Place) (b : Bool) (x y : World) → word_at shape x q ≡ word_at shape y q → word_at shape (cond b x y) q ≡ word_at shape y q
-either shape q true x y same = same
-either shape q false x y same = refl
+use Rattle.vbr_core.proofs.Branches.{by_both}
 
 pub loads_leave : (shape : Dimensions) (w : World) (p : ℕ) (step : Step) → IsLoad step → (q : Place) → word_at shape (after shape w p step) q ≡ word_at shape w q
 loads_leave shape w p ReadEpoch load q = refl
@@ -19,8 +16,8 @@ loads_leave shape w p (LoadStamp s) load q = refl
 loads_leave shape w p (LoadLink at) load q = refl
 loads_leave shape w p (LoadBirth s) load q = refl
 loads_leave shape w p (LoadKey s) load q = refl
-loads_leave shape w p (ConfirmPresent op s expected) load q = either shape q (word_of (w.link s) == expected) _ w refl
-loads_leave shape w p (ConfirmAbsent op key at expected) load q = either shape q (found shape w (ConfirmAbsent op key at expected) == expected) _ w refl
+loads_leave shape w p (ConfirmPresent op s expected) load q = by_both (word_of (w.link s) == expected) (λ (v : World). word_at shape v q) _ w _ refl refl
+loads_leave shape w p (ConfirmAbsent op key at expected) load q = by_both (found shape w (ConfirmAbsent op key at expected) == expected) (λ (v : World). word_at shape v q) _ w _ refl refl
 loads_leave shape w p (Advance from) load q = let e = load knows_nothing in absurd (cc)
 loads_leave shape w p (StoreStamp s stamp) load q = let e = load knows_nothing in absurd (cc)
 loads_leave shape w p (Raise s) load q = let e = load knows_nothing in absurd (cc)

@@ -12,7 +12,7 @@ use Rattle.vbr_core.specs.Knowledge.{Know}
 use Rattle.vbr_core.specs.Learning.{link_written, call_of, succeeds, key_written}
 use Rattle.vbr_core.specs.Machine.{World, found, with_call, after, written}
 use Rattle.vbr_core.specs.Making.{with_answer, WordsHaveRoom}
-use Rattle.vbr_core.specs.Kept.{KeptPass, KeptWorld, IsWhole, new_pass, world_of}
+use Rattle.vbr_core.specs.Kept.{KeptPass, KeptWorld, IsWhole, opening_pass, world_of}
 use Rattle.vbr_core.specs.declared.event.Step.{Step}
 use Rattle.vbr_core.specs.declared.event.Step.TheVariants.{ReadEpoch, Advance, LoadStamp, StoreStamp, Raise, TakeFlag, StoreBirth, StoreKey, StoreLink, LoadLink, LoadBirth, LoadKey, Publish, Mark, Unlink, ConfirmPresent, ConfirmAbsent}
 use Rattle.vbr_core.proofs.KeptLists.{put_here}
@@ -86,4 +86,4 @@ has_room shape w p _ accepts fits won = tt
 -- the same of the lists that are kept, by the epoch that the pass tells
 pub room_kept : (kept : KeptWorld) (p epoch : ℕ) (pass : KeptPass) (step : Step) → IsWhole kept → p < length kept.passes → pass ≡ get_or kept.passes p pass → epoch ≡ pass.epoch → epoch ≤ MAX_EPOCH → Accepts kept.shape ((world_of kept).know p) step → succeeds step (found kept.shape (world_of kept) step) ≡ true → WordsHaveRoom kept.shape kept.epoch step
 room_kept kept p epoch pass step whole lt is told fits accepts won =
-    has_room kept.shape (world_of kept) p step accepts (omega (arith, ap (λ (pass : KeptPass). pass.epoch) (get_or_read kept.passes p pass lt is new_pass))) won
+    has_room kept.shape (world_of kept) p step accepts (omega (arith, ap (λ (pass : KeptPass). pass.epoch) (get_or_read kept.passes p pass lt is opening_pass))) won

@@ -11,7 +11,7 @@ use Rattle.vbr_core.specs.Machine.{World, opening, found, after}
 use Rattle.vbr_core.specs.Runs.{world_from, world_after, NoneOf}
 use Rattle.vbr_core.specs.Incarnations.{Incarnations, nothing_yet}
 use Rattle.vbr_core.specs.Chronicles.{Entry, incarnations_from, entries_by}
-use Rattle.vbr_core.specs.Accounts.{born_in, answered, happens, incarnations_with, chronicle_from, chronicle, incarnations_after, own_entries}
+use Rattle.vbr_core.specs.Accounts.{born_in, entry_of_call, happens, incarnations_with, chronicle_from, chronicle, incarnations_after, own_entries}
 use Rattle.vbr_core.specs.declared.history.Call.{Call}
 use Rattle.vbr_core.specs.declared.event.Event.{Event}
 use Rattle.vbr_core.specs.declared.event.Step.{Step}
@@ -34,7 +34,7 @@ born_by a p s birth (Some (Free stamp)) = (refl, tt)
 born_by a p s birth (Some (Unlinked seen)) = (refl, tt)
 born_by a p s birth (Some (InHand stamp before key link)) = (refl, (refl, tt))
 
-answered_by : (p : ℕ) (made : Option Call) → AreBy p (answered p made)
+answered_by : (p : ℕ) (made : Option Call) → AreBy p (entry_of_call p made)
 answered_by p None = tt
 answered_by p (Some call) = (refl, tt)
 

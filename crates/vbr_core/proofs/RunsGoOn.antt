@@ -21,6 +21,7 @@ use Rattle.vbr_core.specs.declared.event.Event.{Event}
 use Rattle.vbr_core.specs.declared.event.Step.{Step}
 use Rattle.vbr_core.specs.declared.event.Step.TheVariants.{ReadEpoch, Advance, LoadStamp, StoreStamp, Raise, TakeFlag, StoreBirth, StoreKey, StoreLink, LoadLink, LoadBirth, LoadKey, Publish, Mark, Unlink, ConfirmPresent, ConfirmAbsent}
 use Rattle.vbr_core.proofs.Puts.{put_here, put_other}
+use Rattle.vbr_core.proofs.Branches.{by_both}
 
 -- ---- one list of events after another
 
@@ -106,11 +107,6 @@ begins_for_begins pass seen run begins = (begins.0, begins.1)
 by_test : {A : Type 0} (b : Bool) (f : World → A) (x y : World) (won lost : A) → f x ≡ won → f y ≡ lost → f (cond b x y) ≡ cond b won lost
 by_test true f x y won lost p q = p
 by_test false f x y won lost p q = q
-
--- and what both leave is left
-by_both : {A : Type 0} (b : Bool) (f : World → A) (x y : World) (z : A) → f x ≡ z → f y ≡ z → f (cond b x y) ≡ z
-by_both true f x y z p q = p
-by_both false f x y z p q = q
 
 -- a step leaves what other passes know
 pub know_other : (shape : Dimensions) (w : World) (p q : ℕ) (step : Step) → p ≢ q → (after shape w q step).know p ≡ w.know p

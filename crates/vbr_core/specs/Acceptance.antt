@@ -106,6 +106,7 @@ abbrev pub past_slot : ℕ → Option Link → Option ℕ
 past_slot s None = Some s
 past_slot s (Some link) = link.slot
 
+-- past the slot that a link names, if it names one
 abbrev pub past_marked : List Read → Option ℕ → Option ℕ
 past_marked reads None = None
 past_marked reads (Some s) = past_slot s (marked_in reads s)

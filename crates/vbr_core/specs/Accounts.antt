@@ -26,9 +26,9 @@ born_in a pass s birth (Some (InHand stamp before key link)) = just pass (GivesU
 born_in a pass s birth _ = just pass (Bears s birth)
 
 -- an answer, if a call is made
-abbrev pub answered : ℕ → Option Call → List Entry
-answered pass None = []
-answered pass (Some call) = just pass (Answers call)
+abbrev pub entry_of_call : ℕ → Option Call → List Entry
+entry_of_call pass None = []
+entry_of_call pass (Some call) = just pass (Answers call)
 
 -- what a step that succeeds adds to the chronicle: loads add nothing
 abbrev pub happens_if_found : World → Incarnations → ℕ → Step → List Entry
@@ -42,7 +42,7 @@ happens_if_found w a pass (StoreLink s next) = just pass (Aims (last_in a s) (li
 happens_if_found w a pass (Publish pred expected s) = just pass (Inserts (last_in a s) (before_at a pred))
 happens_if_found w a pass (Mark s expected) = just pass (Removes (last_in a s))
 happens_if_found w a pass (Unlink pred expected s) = just pass (Unlinks (last_in a s) (before_at a pred))
-happens_if_found w a pass step = answered pass (call_of pass (w.know pass) step)
+happens_if_found w a pass step = entry_of_call pass (call_of pass (w.know pass) step)
 
 -- what a step that doesn't succeed adds: a flag that isn't taken was probed
 abbrev pub happens_if_missed : ℕ → Step → List Entry

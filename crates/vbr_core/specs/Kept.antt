@@ -27,8 +27,8 @@ abbrev pub know_of : KeptPass → Know
 know_of kept = record { epoch = kept.epoch; pending = kept.pending; checked = kept.checked; own = λ s. slice_index_or kept.own s None }
 
 -- a pass that was just opened
-abbrev pub new_pass : KeptPass
-new_pass = record { epoch = 1; pending = []; checked = []; own = [] }
+abbrev pub opening_pass : KeptPass
+opening_pass = record { epoch = 1; pending = []; checked = []; own = [] }
 
 -- a read whose link or birth has room in a word
 abbrev pub FitsRead : Read → Type 0
@@ -73,7 +73,7 @@ world_of kept =
       stamp = λ s. slice_index_or kept.stamps s 0;
       key = λ s. slice_index_or kept.keys s 0;
       place = λ s. slice_index_or kept.places s Shared;
-      know = λ p. know_of (slice_index_or kept.passes p new_pass);
+      know = λ p. know_of (slice_index_or kept.passes p opening_pass);
       births = kept.births;
       calls = kept.calls;
     }

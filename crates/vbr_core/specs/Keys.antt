@@ -3,6 +3,7 @@ use Rattle.std.specs.Prelude.{◌≡◌, ℕ, Bool, false, List, nat_eq}
 use Rattle.std.specs.List.{list_any}
 use Rattle.std.specs.List.Sorted.{IsStrictlyIncreasing}
 
+-- a set of keys, as the test that tells which are in it
 abbrev pub Keys : Type 0
 Keys = ℕ → Bool
 

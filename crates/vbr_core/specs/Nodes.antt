@@ -36,12 +36,12 @@ is_listed Marked = true
 is_listed _ = false
 
 -- the key of the last incarnation of a slot
-abbrev pub key_in : Incarnations → ℕ → ℕ
-key_in a s = key_shown a (a.last s)
+abbrev pub key_in_slot : Incarnations → ℕ → ℕ
+key_in_slot a s = key_shown a (a.last s)
 
 -- whether the node of a slot is in the list of a bucket
 abbrev pub is_in_list : Dimensions → Incarnations → ℕ → ℕ → Bool
-is_in_list shape a bucket s = is_listed (state_in a s) && (bucket_of shape (key_in a s) == bucket)
+is_in_list shape a bucket s = is_listed (state_in a s) && (bucket_of shape (key_in_slot a s) == bucket)
 
 -- whether a place is in a list: a head is, and a slot whose last incarnation is
 abbrev pub is_there : Incarnations → At → Bool
@@ -56,11 +56,11 @@ count_below test (suc s) = if test s then suc (count_below test s) else count_be
 -- whether a key lies behind a place: behind a head each does, and behind a slot one that is above the key of its last incarnation
 abbrev pub is_above : Incarnations → At → ℕ → Bool
 is_above a (Head b) key = true
-is_above a (Slot t) key = nat_lt (key_in a t) key
+is_above a (Slot t) key = nat_lt (key_in_slot a t) key
 
 -- whether the node of a slot stands in the list of a bucket, behind a place
 abbrev pub is_behind : Dimensions → Incarnations → ℕ → At → ℕ → Bool
-is_behind shape a bucket at s = is_in_list shape a bucket s && is_above a at (key_in a s)
+is_behind shape a bucket at s = is_in_list shape a bucket s && is_above a at (key_in_slot a s)
 
 -- how many nodes, linked or marked, stand in the list of a bucket behind a place
 abbrev pub behind : Dimensions → Incarnations → ℕ → At → ℕ

@@ -11,9 +11,11 @@ use Rattle.std.specs.contracts.option.Option as OP
 use Rattle.std_heap.specs.contracts.GlobalAllocator.TheImpl.{ghosts}
 use Rattle.vbr_set.specs.contracts.member.Member.{the_row}
 
+-- what a handle owns, by its pointer and its member
 abbrev pub handle_owns : Global → Ptr → Option the_row.Denot → Fml
 handle_owns alloc p None = fex (p ≡ null_ptr) (λ _. ftrue)
 handle_owns alloc p (Some x) = box_owns (ghosts.dealloc_token alloc) the_row p x
 
+-- a member or none, as it stands in memory
 abbrev pub member_coded : Coded (Option the_row.Denot)
 member_coded = (OP.the_row the_row).coded

@@ -6,6 +6,7 @@ use Rattle.std.specs.declared.option.Option.TheVariants.{Some}
 use Rattle.vbr_set.specs.contracts.member.Member.{the_row as M}
 use Rattle.vbr_handles.specs.contracts.handle.Handle.{the_row as H}
 
+-- a handle with another value of its member
 abbrev pub with_member : H.Denot → M.Denot → H.Denot
 with_member h w = record { at = h.at; alloc = h.alloc; member = Some w }
 

@@ -5,7 +5,7 @@ use Rattle.vbr_core.specs.Acceptance.{bucket_of}
 use Rattle.vbr_slots.specs.Calls.{IsSame, Quiet, Took}
 use Rattle.vbr_slots.specs.Views.{Trace, TableView, PassView, IsOf}
 use Rattle.vbr_slots.proofs.Lemmas.{quiet_on, quiet_refl}
-use Rattle.vbr_pools.specs.Advances.{TakesNoSlot}
+use Rattle.vbr_pools.specs.KeptSlots.{TakesNoSlot}
 use Rattle.vbr_pools.specs.Steps.{CountsSteps, TookWithin}
 use Rattle.vbr_pools.proofs.Lemmas.{counts_none, counts_on, took_all}
 use Rattle.vbr_access.specs.Keeping.{KeepsOwn}

@@ -13,7 +13,7 @@ use Rattle.vbr_slots.specs.declared.pass.TheConstants.{POOL}
 use Rattle.vbr_slots.specs.Pools.{OwnPool}
 use Rattle.vbr_slots.specs.Pools as pools
 use Rattle.vbr_slots.specs.Views.{PassView, knows}
-use Rattle.vbr_pools.specs.Advances.{TakesNoSlot}
+use Rattle.vbr_pools.specs.KeptSlots.{TakesNoSlot}
 use Rattle.vbr_pools.specs.Hands.{HandView, IsHandOf}
 use Rattle.vbr_pools.specs.Retiring.{is_kept, know_retired, pool_retired}
 use Rattle.vbr_pools.proofs.Lemmas.{none_on, none_refl}

@@ -3,7 +3,8 @@ use Rattle.std.specs.Prelude.{ℕ, List, ◌++◌, codes, decimal}
 use Rattle.vbr_list.specs.declared.refusal.Refusal.{Refusal}
 use Rattle.vbr_list.specs.declared.refusal.Refusal.TheVariants.{OutOfSteps, NoSlot, EpochSpent}
 
-abbrev pub error_text : Refusal → List ℕ
-error_text (OutOfSteps used) = codes "the budget has no room after " ++ decimal used ++ codes " steps"
-error_text NoSlot = codes "there is no slot in the pools"
-error_text (EpochSpent epoch) = codes "the last epoch, " ++ decimal epoch ++ codes ", is spent"
+-- what is printed of a refusal
+abbrev pub refusal_text : Refusal → List ℕ
+refusal_text (OutOfSteps used) = codes "the budget has no room after " ++ decimal used ++ codes " steps"
+refusal_text NoSlot = codes "there is no slot in the pools"
+refusal_text (EpochSpent epoch) = codes "the last epoch, " ++ decimal epoch ++ codes ", is spent"

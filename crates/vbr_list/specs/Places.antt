@@ -51,6 +51,7 @@ abbrev pub held_in : Sight → Held
 held_in (Present node) = node
 held_in (Absent pred) = pred
 
+-- whether the key was found
 abbrev pub is_present : Sight → Bool
 is_present (Present node) = true
 is_present (Absent pred) = false

@@ -3,7 +3,7 @@ use Rattle.std.specs.Prelude.{◌≡◌, ℕ, ◌<◌, length, Some}
 use Rattle.vbr_slots.specs.declared.pass.TheConstants.{POOL}
 use Rattle.vbr_slots.specs.Calls.{AddsNone, Quiet, OnlyLoads}
 use Rattle.vbr_slots.specs.Views.{Trace, PassView, knows}
-use Rattle.vbr_pools.specs.Advances.{TakesNoSlot}
+use Rattle.vbr_pools.specs.KeptSlots.{TakesNoSlot}
 use Rattle.vbr_pools.specs.Steps.{CountsSteps}
 use Rattle.vbr_access.specs.Held.{IsMarked, Names}
 use Rattle.vbr_access.specs.Moments.{Stood}

@@ -2,7 +2,8 @@
 ghost use Rattle.std.specs.Prelude.{◌≡◌, ◌≢◌, ℕ, ◌+◌, ◌*◌, ◌<◌, ◌≤◌, ◌^◌, true, false, [], length, None, IfOk, IfErr};
 ghost use Rattle.vbr_core.specs.Acceptance.{bucket_of};
 ghost use Rattle.vbr_core.specs.declared.history.Op.TheVariants.{Insert};
-ghost use Rattle.vbr_pools.specs.Advances.{AdvancesWhereNeeded, KeepsSlots, TakesNoSlot, SharesWhereFull};
+ghost use Rattle.vbr_pools.specs.Advances.{AdvancesWhereNeeded};
+ghost use Rattle.vbr_pools.specs.KeptSlots.{KeepsSlots, TakesNoSlot, SharesWhereFull};
 ghost use Rattle.vbr_pools.specs.Budgets.{most_to_take, steps_to_take};
 ghost use Rattle.vbr_pools.specs.Steps.{CountsSteps, TookWithin};
 ghost use Rattle.vbr_slots.specs.Alone.{IsAlone};

@@ -23,9 +23,9 @@ pub enum Refusal {
 
 impl fmt::Display for Refusal {
     ghost use Rattle.std.specs.Prelude.{Some};
-    ghost use Rattle.vbr_list.specs.Messages.{error_text};
+    ghost use Rattle.vbr_list.specs.Messages.{refusal_text};
 
-    ghost output = { λ e. Some (error_text e) };
+    ghost output = { λ e. Some (refusal_text e) };
 
     fn fmt<W: fmt::Write>(&self, f: &mut fmt::Formatter<W>) -> fmt::Result {
         match self {

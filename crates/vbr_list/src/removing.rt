@@ -1,7 +1,7 @@
 //! Removes.
 ghost use Rattle.std.specs.Prelude.{◌≡◌, ◌+◌, ◌*◌, ◌<◌, ◌≤◌, ◌^◌, true, None, IfOk, IfErr};
 ghost use Rattle.vbr_core.specs.declared.history.Op.TheVariants.{Remove};
-ghost use Rattle.vbr_pools.specs.Advances.{TakesNoSlot};
+ghost use Rattle.vbr_pools.specs.KeptSlots.{TakesNoSlot};
 ghost use Rattle.vbr_pools.specs.Steps.{CountsSteps, TookWithin};
 ghost use Rattle.vbr_slots.specs.Alone.{IsAlone};
 ghost use Rattle.vbr_slots.specs.Calls.{IsSame, Quiet, Made};

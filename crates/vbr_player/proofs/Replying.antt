@@ -9,11 +9,11 @@ use Rattle.vbr_list.specs.declared.refusal.Refusal.{Refusal}
 use Rattle.vbr_list.specs.declared.refusal.Refusal.TheVariants.{OutOfSteps, NoSlot, EpochSpent}
 use Rattle.vbr_set.specs.Answers.{Answers}
 use Rattle.vbr_set.specs.Members.{MemberView, Called, Spares}
-use Rattle.vbr_player.specs.Working.{reply_of, TellsReply, Replied}
+use Rattle.vbr_player.specs.Working.{reply_told, TellsReply, Replied}
 use Rattle.vbr_script.specs.declared.script.Line.{Line}
 
 -- what a refusal tells
-tells : (op : Op) (p q : PassView) (key budget : ℕ) (refusal : Refusal) → IsSafe q.trace.shape q.trace.seen → Spares op p q key budget (Err refusal) → TellsReply q.trace op (reply_of (Err refusal))
+tells : (op : Op) (p q : PassView) (key budget : ℕ) (refusal : Refusal) → IsSafe q.trace.shape q.trace.seen → Spares op p q key budget (Err refusal) → TellsReply q.trace op (reply_told (Err refusal))
 tells op p q key budget (OutOfSteps used) safe spares = tt
 tells Insert p q key budget NoSlot safe spares = refl
 tells Insert p q key budget (EpochSpent epoch) safe spares =
@@ -26,7 +26,7 @@ tells Has p q key budget NoSlot safe spares = absurd spares.refused
 tells Has p q key budget (EpochSpent epoch) safe spares = absurd spares.refused
 
 -- an answer makes the call of the line, and a refusal none
-of_line : (line : Line) (p q : MemberView) (budget : ℕ) (result : Result Bool Refusal) → line.worker ≡ p.pass.trace.who → Called line.op p q line.key budget result → Replied line (reply_of result) p q
+of_line : (line : Line) (p q : MemberView) (budget : ℕ) (result : Result Bool Refusal) → line.worker ≡ p.pass.trace.who → Called line.op p q line.key budget result → Replied line (reply_told result) p q
 of_line line p q budget (Ok true) who called =
     let answers = subst (λ (k : ℕ). Answers (record { who = k; op = line.op; key = line.key; reply = true }) p.pass.trace q.pass.trace) (sym who) called.answers in
     record { set = called.set; same = called.same; seen = answers.begins; calls = answers.once; tells = tt }
@@ -40,6 +40,6 @@ of_line line p q budget (Err (EpochSpent epoch)) who called =
     record { set = called.set; same = called.same; seen = called.quiet.seen; calls = called.quiet.calls ∙ sym (append-nil _); tells = tells line.op p.pass q.pass line.key budget (EpochSpent epoch) called.safe.safe called.spares }
 
 -- what the set answers to the call that a line asks for
-pub replied : (line : Line) (op : Op) (p q : MemberView) (budget : ℕ) (result : Result Bool Refusal) → line.op ≡ op → line.worker ≡ p.pass.trace.who → Called op p q line.key budget result → Replied line (reply_of result) p q
+pub replied : (line : Line) (op : Op) (p q : MemberView) (budget : ℕ) (result : Result Bool Refusal) → line.op ≡ op → line.worker ≡ p.pass.trace.who → Called op p q line.key budget result → Replied line (reply_told result) p q
 replied line op p q budget result is who called =
     of_line line p q budget result who (subst (λ (o : Op). Called o p q line.key budget result) (sym is) called)

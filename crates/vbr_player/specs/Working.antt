@@ -17,12 +17,12 @@ use Rattle.vbr_transcript.specs.declared.reply.Reply.TheVariants.{Yes, No, Full,
 use Rattle.vbr_player.specs.declared.worker.Worker.{Worker}
 
 -- the reply that an answer of the set is
-abbrev pub reply_of : Result Bool Refusal → Reply
-reply_of (Ok true) = Yes
-reply_of (Ok false) = No
-reply_of (Err (OutOfSteps used)) = Tired
-reply_of (Err NoSlot) = Full
-reply_of (Err (EpochSpent epoch)) = Spent
+abbrev pub reply_told : Result Bool Refusal → Reply
+reply_told (Ok true) = Yes
+reply_told (Ok false) = No
+reply_told (Err (OutOfSteps used)) = Tired
+reply_told (Err NoSlot) = Full
+reply_told (Err (EpochSpent epoch)) = Spent
 
 -- what a reply tells of the pass that was given it: an insert alone finds the set full or its epochs spent, and they are spent once it has seen the last epoch come
 abbrev pub TellsReply : Trace → Op → Reply → Type 0

@@ -1,6 +1,6 @@
 // A worker: it plays its lines of a script, one after the other.
 ghost use Rattle.std.specs.Prelude.{◌≡◌, [], ◌∷◌};
-ghost use Rattle.vbr_player.specs.Working.{reply_of, HasRoom, Replied, Played};
+ghost use Rattle.vbr_player.specs.Working.{reply_told, HasRoom, Replied, Played};
 
 use crate::gate::Gate;
 use crate::part::Part;
@@ -39,7 +39,7 @@ impl<'w> Worker<'w> {
             return;
         }
         part.gate.before(who, index);
-        let reply = reply_of(ask(&mut self.caller, line, part.budget));
+        let reply = reply_told(ask(&mut self.caller, line, part.budget));
         part.gate.after(who, index, reply);
         let Ok(()) = self.replies.push(reply) else {
             unreachable!()
@@ -50,7 +50,7 @@ impl<'w> Worker<'w> {
 // Makes the call of a line.
 fn ask(caller: &mut VbrSetRef, line: &Line, budget: u32) -> Result<bool, Refusal>
     requires { line.now.worker ≡ caller.old.pass.trace.who }
-    ensures { Replied line.now (reply_of result) caller.old caller.new }
+    ensures { Replied line.now (reply_told result) caller.old caller.new }
 {
     match line.op {
         Op::Insert => caller.insert(line.key, budget),
@@ -60,8 +60,8 @@ fn ask(caller: &mut VbrSetRef, line: &Line, budget: u32) -> Result<bool, Refusal
 }
 
 // The reply that an answer of the set is.
-fn reply_of(answer: Result<bool, Refusal>) -> Reply
-    ensures { result ≡ reply_of answer }
+fn reply_told(answer: Result<bool, Refusal>) -> Reply
+    ensures { result ≡ reply_told answer }
 {
     match answer {
         Ok(true) => Reply::Yes,

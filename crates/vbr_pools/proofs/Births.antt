@@ -14,7 +14,7 @@ use Rattle.vbr_slots.specs.Views.{PassView, Did, knows}
 use Rattle.vbr_slots.proofs.Lemmas.{did_quiet}
 use Rattle.vbr_pools.specs.Hands.{HandView}
 use Rattle.vbr_pools.specs.Pieces.{IsBelow, IsBorn}
-use Rattle.vbr_pools.specs.Advances.{HasSlot, HasFree}
+use Rattle.vbr_pools.specs.KeptSlots.{HasSlot, HasFree}
 use Rattle.vbr_pools.proofs.Advancing.{did_stamps, nobody, same_advances, same_flags}
 use Rattle.vbr_pools.proofs.Counting.{counts_one}
 use Rattle.vbr_pools.proofs.PoolLists.{stays_in, without_one, without_shorter}

@@ -10,7 +10,8 @@ use Rattle.vbr_slots.specs.Calls.{Quiet}
 use Rattle.vbr_slots.specs.Pools.{IsPooled, OwnPool}
 use Rattle.vbr_slots.specs.Views.{PassView, KeepsPool, Did, knows}
 use Rattle.vbr_slots.proofs.Lemmas.{did_quiet, quiet_on}
-use Rattle.vbr_pools.specs.Advances.{HasSlot, KeepsSlots, SharesWhereFull, TakesNoSlot, AdvancesOnce}
+use Rattle.vbr_pools.specs.Advances.{AdvancesOnce}
+use Rattle.vbr_pools.specs.KeptSlots.{HasSlot, KeepsSlots, SharesWhereFull, TakesNoSlot}
 use Rattle.vbr_pools.specs.Pieces.{Uses, NoRoom, TakeIsShort, Stops, ShowsSpent, IsBelow, IsScanned, IsChosen}
 use Rattle.vbr_pools.specs.Refusals.{AllStamped}
 use Rattle.vbr_pools.specs.Steps.{CountsSteps}

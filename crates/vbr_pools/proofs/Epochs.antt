@@ -17,7 +17,7 @@ use Rattle.vbr_core.specs.Runs.{world_from, AreAccepted, IsRun, world_after, kno
 use Rattle.vbr_core.specs.declared.event.Event.{Event}
 use Rattle.vbr_core.specs.declared.event.Step.{Step}
 use Rattle.vbr_core.specs.declared.event.Step.TheVariants.{ReadEpoch, Advance, LoadStamp, StoreStamp, Raise, TakeFlag, StoreBirth, StoreKey, StoreLink, LoadLink, LoadBirth, LoadKey, Publish, Mark, Unlink, ConfirmPresent, ConfirmAbsent}
-use Rattle.vbr_core.proofs.Lemmas.{is_run_after, is_run_before, is_run_first, know_other, know_own, put_here, put_other, run_agrees, stamp_known, step_agrees, world_after-append}
+use Rattle.vbr_core.proofs.Lemmas.{by_both, is_run_after, is_run_before, is_run_first, know_other, know_own, put_here, put_other, run_agrees, stamp_known, step_agrees, world_after-append}
 use Rattle.vbr_slots.specs.Views.{epoch_after}
 use Rattle.vbr_slots.proofs.Lemmas.{epoch_learned}
 
@@ -39,10 +39,6 @@ Later w v = (w.epoch ≤ v.epoch) × ((s : ℕ) → v.stamp s ≤ v.epoch)
 
 same_times : (w v : World) → times v ≡ times w → IsTimely w → Later w v
 same_times w v e t = subst (λ (x : ℕ × (ℕ → ℕ)). (w.epoch ≤ x.0) × ((s : ℕ) → x.1 s ≤ x.0)) (sym e) (omega arith, t.stamps)
-
-by_both : {A : Type 0} (b : Bool) (f : World → A) (x y : World) (z : A) → f x ≡ z → f y ≡ z → f (cond b x y) ≡ z
-by_both true f x y z p q = p
-by_both false f x y z p q = q
 
 -- one step advances the epoch by 1 or leaves it, and stamps with no greater one
 later : (shape : Dimensions) (w : World) (p : ℕ) (step : Step) → IsTimely w → (w.know p).epoch ≤ w.epoch → Accepts shape (w.know p) step → Later w (after shape w p step)

@@ -23,7 +23,7 @@ use Rattle.vbr_slots.specs.Calls.{Quiet}
 use Rattle.vbr_slots.specs.PassLaw.{PassLaw}
 use Rattle.vbr_slots.specs.Views.{Trace, PassView, TableView, KeepsPool, Did, IsOf, knows, event_of}
 use Rattle.vbr_slots.proofs.Lemmas.{did_moment, did_quiet, moment_before, quiet_on}
-use Rattle.vbr_pools.specs.Advances.{TakesNoSlot}
+use Rattle.vbr_pools.specs.KeptSlots.{TakesNoSlot}
 use Rattle.vbr_pools.specs.Retiring.{Stamps, is_kept, pool_retired}
 use Rattle.vbr_pools.proofs.Advancing.{same_advances, did_stamps, free_pool, grows_same, none_on, did_none, none_given}
 use Rattle.vbr_pools.proofs.Moments.{epoch_told, epoch_stood}

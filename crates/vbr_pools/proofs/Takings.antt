@@ -8,7 +8,8 @@ use Rattle.vbr_slots.specs.Calls.{Quiet, Took}
 use Rattle.vbr_slots.specs.Pools.{without}
 use Rattle.vbr_slots.specs.Views.{PassView, KeepsPool, knows}
 use Rattle.vbr_slots.proofs.Lemmas.{alone_first, quiet_on, quiet_refl}
-use Rattle.vbr_pools.specs.Advances.{KeepsSlots, SharesWhereFull, TakesNoSlot, AdvancesWhereNeeded}
+use Rattle.vbr_pools.specs.Advances.{AdvancesWhereNeeded}
+use Rattle.vbr_pools.specs.KeptSlots.{KeepsSlots, SharesWhereFull, TakesNoSlot}
 use Rattle.vbr_pools.specs.Hands.{HandView}
 use Rattle.vbr_pools.specs.Budgets.{NeedsMore, steps_to_claim, steps_to_take}
 use Rattle.vbr_pools.specs.Pieces.{Uses, TakeIsShort, Stops, HasSlots, IsChosen, IsBorn}

@@ -3,6 +3,8 @@ pub mod HandView
 pub mod UnlinkedView
 pub mod Steps
 pub mod SharedPool
+pub mod Counts
+pub mod KeptSlots
 pub mod Advances
 pub mod Taking
 pub mod Refusals

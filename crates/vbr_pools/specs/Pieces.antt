@@ -5,7 +5,8 @@ use Rattle.vbr_slots.specs.declared.pass.TheConstants.{POOL}
 use Rattle.vbr_slots.specs.Calls.{Quiet}
 use Rattle.vbr_slots.specs.Pools.{without}
 use Rattle.vbr_slots.specs.Views.{PassView, knows}
-use Rattle.vbr_pools.specs.Advances.{advances, flags_raised, KeepsSlots}
+use Rattle.vbr_pools.specs.Counts.{advances, flags_raised}
+use Rattle.vbr_pools.specs.KeptSlots.{KeepsSlots}
 use Rattle.vbr_pools.specs.Hands.{HandView, IsHandOf}
 use Rattle.vbr_pools.specs.Refusals.{IsSpent}
 use Rattle.vbr_pools.specs.SharedPool.{CameByFlag}

@@ -2,5 +2,6 @@
 use Rattle.vbr_pools.specs.declared.unlinked.Unlinked.TheInside.{Inside}
 use Rattle.vbr_pools.specs.Hands.{UnlinkedView}
 
+-- what contracts see
 abbrev pub unlinked_of : Inside → UnlinkedView
 unlinked_of u = record { slot = u.slot }

@@ -1,7 +1,7 @@
 //! Giving back a slot in hand.
 ghost use Rattle.std.specs.Prelude.{◌≡◌, ◌<◌, ◌++◌, [], ◌∷◌, length, None};
 ghost use Rattle.vbr_slots.specs.declared.pass.TheConstants.{POOL};
-ghost use Rattle.vbr_pools.specs.Advances.{KeepsSlots};
+ghost use Rattle.vbr_pools.specs.KeptSlots.{KeepsSlots};
 ghost use Rattle.vbr_pools.specs.Hands.{IsHandOf};
 
 use crate::hand::Hand;

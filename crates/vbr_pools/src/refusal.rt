@@ -17,9 +17,9 @@ pub enum TakeRefusal {
 
 impl fmt::Display for TakeRefusal {
     ghost use Rattle.std.specs.Prelude.{Some};
-    ghost use Rattle.vbr_pools.specs.Messages.{error_text};
+    ghost use Rattle.vbr_pools.specs.Messages.{take_refusal_text};
 
-    ghost output = { λ e. Some (error_text e) };
+    ghost output = { λ e. Some (take_refusal_text e) };
 
     fn fmt<W: fmt::Write>(&self, f: &mut fmt::Formatter<W>) -> fmt::Result {
         match self {

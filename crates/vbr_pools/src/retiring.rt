@@ -4,7 +4,7 @@ ghost use Rattle.vbr_core.specs.Acceptance.{IsUnlinked};
 ghost use Rattle.vbr_slots.specs.Alone.{IsAlone, IsFresh, LeavesLists};
 ghost use Rattle.vbr_slots.specs.Calls.{Quiet, Took};
 ghost use Rattle.vbr_slots.specs.Views.{IsOf, knows};
-ghost use Rattle.vbr_pools.specs.Advances.{TakesNoSlot};
+ghost use Rattle.vbr_pools.specs.KeptSlots.{TakesNoSlot};
 ghost use Rattle.vbr_pools.specs.Retiring.{Stamps, is_kept, know_retired, pool_retired, steps_to_retire};
 
 use crate::unlinked::Unlinked;

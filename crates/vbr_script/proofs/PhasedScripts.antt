@@ -13,7 +13,7 @@ use Rattle.vbr_script.specs.declared.script.Meaning.TheVariants.{Blank, Sync, As
 use Rattle.vbr_script.specs.declared.script.TheConstants.{MAX_OPERATIONS, MAX_SYNCS}
 use Rattle.vbr_script.specs.Text.{lines_of, words_of}
 use Rattle.vbr_script.specs.Number.{number_below}
-use Rattle.vbr_script.specs.Grammar.{operation_of, request_of, meaning_of, lone_word}
+use Rattle.vbr_script.specs.Grammar.{operation_of, meaning_of_words, meaning_of, lone_word}
 use Rattle.vbr_script.specs.Scripts.{all_limited, operations_from, is_sync, meanings_of, script_of, phases_of, AscendFrom, ArePhased}
 use Rattle.vbr_script.proofs.LinesRead.{one_more}
 
@@ -28,7 +28,7 @@ number_is_below : (limit : ℕ) (word : List ℕ) (n : ℕ) → number_below lim
 number_is_below limit word n is = grind (arith, nat_tests)
 
 -- what three words mean is of a worker below the limit
-request : (workers : ℕ) (worker : Option ℕ) (op : Option Op) (key : Option ℕ) → ((n : ℕ) → worker ≡ Some n → n < workers) → IsOfWorker workers (request_of worker op key)
+request : (workers : ℕ) (worker : Option ℕ) (op : Option Op) (key : Option ℕ) → ((n : ℕ) → worker ≡ Some n → n < workers) → IsOfWorker workers (meaning_of_words worker op key)
 request workers None op key below = tt
 request workers (Some n) None key below = tt
 request workers (Some n) (Some op) None below = tt

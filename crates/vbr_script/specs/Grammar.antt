@@ -18,11 +18,11 @@ operation_of word =
     else None))
 
 -- what three words mean: the worker is tested first, then the operation, then the key
-abbrev pub request_of : Option ℕ → Option Op → Option ℕ → Meaning
-request_of None operation key = Faulty fault.Worker
-request_of (Some worker) None key = Faulty fault.Operation
-request_of (Some worker) (Some operation) None = Faulty fault.Key
-request_of (Some worker) (Some operation) (Some key) = Asks worker operation key
+abbrev pub meaning_of_words : Option ℕ → Option Op → Option ℕ → Meaning
+meaning_of_words None operation key = Faulty fault.Worker
+meaning_of_words (Some worker) None key = Faulty fault.Operation
+meaning_of_words (Some worker) (Some operation) None = Faulty fault.Key
+meaning_of_words (Some worker) (Some operation) (Some key) = Asks worker operation key
 
 -- what a word alone on its line means
 unfoldable pub lone_word : List ℕ → Meaning
@@ -32,7 +32,7 @@ lone_word word = if bytes_eq word (codes "sync") then Sync else Faulty fault.Wor
 abbrev pub meaning_of : ℕ → List (List ℕ) → Meaning
 meaning_of workers [] = Blank
 meaning_of workers (word ∷ []) = lone_word word
-meaning_of workers (worker ∷ operation ∷ key ∷ []) = request_of (number_below workers worker) (operation_of operation) (number_below (2 ^ 64) key)
+meaning_of workers (worker ∷ operation ∷ key ∷ []) = meaning_of_words (number_below workers worker) (operation_of operation) (number_below (2 ^ 64) key)
 meaning_of workers _ = Faulty fault.Words
 
 -- a script fault's number, in the order of the tests

@@ -5,8 +5,8 @@ use Rattle.std.proofs.lemmas.List.{length-append}
 use Rattle.std.proofs.lemmas.List.Elements.{All-append, All-cons, All-drop, All-head, All-push, All-rest, All-same, All-tail, All-take}
 use Rattle.vbr_slots.specs.Closing.{AllOf}
 use Rattle.vbr_slots.specs.Views.{PassView, TableView, IsOf}
-use Rattle.vbr_set.specs.Sharing.{ArePassesOf, ArePlacesOf}
-use Rattle.vbr_set.specs.declared.place.Place.{Place}
+use Rattle.vbr_set.specs.Sharing.{ArePassesOf, AreMailboxesOf}
+use Rattle.vbr_set.specs.declared.mailbox.Mailbox.{Mailbox}
 
 abbrev IsPassOf : TableView → PassView → Type 0
 IsPassOf set pass = IsOf pass.trace set
@@ -17,19 +17,19 @@ one_more set key passes passes' pass e all same own =
     let here : IsPassOf set pass = subst (λ (t : TableView). IsPassOf t pass) same own in
     All-same (IsPassOf set) passes' (passes ++ pass ∷ []) e (All-push (IsPassOf set) passes pass all here)
 
--- the first place, and the others
-pub place_first : (set : TableView) (places rest : List Place) (place : Place) → places ≡ place ∷ rest → ArePlacesOf set places → place.table.shared.key ≡ set
-place_first set places rest place e all = All-head (λ (p : Place). p.table.shared.key ≡ set) place rest (All-same (λ (p : Place). p.table.shared.key ≡ set) (place ∷ rest) places (sym e) all)
+-- the first mailbox, and the others
+pub mailbox_first : (set : TableView) (mailboxes rest : List Mailbox) (mailbox : Mailbox) → mailboxes ≡ mailbox ∷ rest → AreMailboxesOf set mailboxes → mailbox.table.shared.key ≡ set
+mailbox_first set mailboxes rest mailbox e all = All-head (λ (p : Mailbox). p.table.shared.key ≡ set) mailbox rest (All-same (λ (p : Mailbox). p.table.shared.key ≡ set) (mailbox ∷ rest) mailboxes (sym e) all)
 
-pub place_rest : (set : TableView) (places rest : List Place) (place : Place) → places ≡ place ∷ rest → ArePlacesOf set places → ArePlacesOf set rest
-place_rest set places rest place e all = All-rest (λ (p : Place). p.table.shared.key ≡ set) place rest places e all
+pub mailbox_rest : (set : TableView) (mailboxes rest : List Mailbox) (mailbox : Mailbox) → mailboxes ≡ mailbox ∷ rest → AreMailboxesOf set mailboxes → AreMailboxesOf set rest
+mailbox_rest set mailboxes rest mailbox e all = All-rest (λ (p : Mailbox). p.table.shared.key ≡ set) mailbox rest mailboxes e all
 
--- the room is enough for the places that are left
-pub room_left : (passes passes' : List PassView) (pass : PassView) (places rest : List Place) (place : Place) (cap cap' : ℕ) → passes' ≡ passes ++ pass ∷ [] → places ≡ place ∷ rest → cap ≤ cap'
-    → length passes + length places ≤ cap → length passes' + length rest ≤ cap'
-room_left passes passes' pass places rest place cap cap' e f more room =
+-- the room is enough for the mailboxes that are left
+pub room_left : (passes passes' : List PassView) (pass : PassView) (mailboxes rest : List Mailbox) (mailbox : Mailbox) (cap cap' : ℕ) → passes' ≡ passes ++ pass ∷ [] → mailboxes ≡ mailbox ∷ rest → cap ≤ cap'
+    → length passes + length mailboxes ≤ cap → length passes' + length rest ≤ cap'
+room_left passes passes' pass mailboxes rest mailbox cap cap' e f more room =
     let n : length passes' ≡ length passes + 1 = ap (λ (ps : List PassView). length ps) e ∙ length-append passes (pass ∷ []) in
-    let m : length places ≡ length rest + 1 = ap (λ (ps : List Place). length ps) f ∙ (omega arith) in
+    let m : length mailboxes ≡ length rest + 1 = ap (λ (ps : List Mailbox). length ps) f ∙ (omega arith) in
     omega arith
 
 -- the passes are of the set with one of it between them

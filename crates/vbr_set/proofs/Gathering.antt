@@ -11,8 +11,8 @@ use Rattle.vbr_words.specs.declared.place.Place.TheVariants as place
 use Rattle.vbr_core.specs.Accounts.{incarnations_after}
 use Rattle.vbr_core.specs.Incarnations.{State, Unborn, InHand, GivenUp, Linked, Marked, Unlinked, Stamped, Incarnations}
 use Rattle.vbr_core.specs.declared.event.Event.{Event}
-use Rattle.vbr_core.specs.Nodes.{count_below, is_linked, is_marked, state_in, is_listed, key_in}
-use Rattle.vbr_set.specs.Walking.{AreAfter, NotesLists, linked_keys, noted}
+use Rattle.vbr_core.specs.Nodes.{count_below, is_linked, is_marked, state_in, is_listed, key_in_slot}
+use Rattle.vbr_set.specs.Walking.{AreAfter, NotesLists, linked_keys, is_noted}
 use Rattle.vbr_set.proofs.ShownNodes.{key_read, link_read, mark_of_node}
 use Rattle.vbr_core.proofs.Lemmas.{stands_in}
 
@@ -37,11 +37,11 @@ count_yes test s e = ap (count_below test) (add-one s) ∙ ap (λ b. cond b (suc
 count_no : (test : ℕ → Bool) (s : ℕ) → test s ≡ false → count_below test (s + 1) ≡ count_below test s
 count_no test s e = ap (count_below test) (add-one s) ∙ ap (λ b. cond b (suc (count_below test s)) (count_below test s)) e
 
-keys_yes : (a : Incarnations) (s : ℕ) → is_linked (state_in a s) ≡ true → linked_keys a (s + 1) ≡ linked_keys a s ++ key_in a s ∷ []
-keys_yes a s e = ap (linked_keys a) (add-one s) ∙ ap (λ b. cond b (linked_keys a s ++ key_in a s ∷ []) (linked_keys a s)) e
+keys_yes : (a : Incarnations) (s : ℕ) → is_linked (state_in a s) ≡ true → linked_keys a (s + 1) ≡ linked_keys a s ++ key_in_slot a s ∷ []
+keys_yes a s e = ap (linked_keys a) (add-one s) ∙ ap (λ b. cond b (linked_keys a s ++ key_in_slot a s ∷ []) (linked_keys a s)) e
 
 keys_no : (a : Incarnations) (s : ℕ) → is_linked (state_in a s) ≡ false → linked_keys a (s + 1) ≡ linked_keys a s
-keys_no a s e = ap (linked_keys a) (add-one s) ∙ ap (λ b. cond b (linked_keys a s ++ key_in a s ∷ []) (linked_keys a s)) e
+keys_no a s e = ap (linked_keys a) (add-one s) ∙ ap (λ b. cond b (linked_keys a s ++ key_in_slot a s ∷ []) (linked_keys a s)) e
 
 -- a node in a list is linked or marked, and no other is either
 unlisted : (st : State) → is_listed st ≡ false → (is_linked st ≡ false) × (is_marked st ≡ false)
@@ -63,7 +63,7 @@ either (Unlinked p at) e = absurd (false≢true e)
 either (Stamped at stamp) e = absurd (false≢true e)
 
 -- the slot has no node in a list
-pub gathered_skip : {a : Incarnations} {s live marked : ℕ} {keys : List ℕ} (shape : Dimensions) (notes : List Bool) → NotesLists shape a notes → s < shape.slots → noted notes s ≡ false → Gathered a s keys live marked → Gathered a (s + 1) keys live marked
+pub gathered_skip : {a : Incarnations} {s live marked : ℕ} {keys : List ℕ} (shape : Dimensions) (notes : List Bool) → NotesLists shape a notes → s < shape.slots → is_noted notes s ≡ false → Gathered a s keys live marked → Gathered a (s + 1) keys live marked
 gathered_skip {a} {s} shape notes lists low absent g =
     let none = unlisted (state_in a s) (sym (lists s low) ∙ absent) in
     record {
@@ -77,7 +77,7 @@ mark_read : {shape : Dimensions} {words : List ℕ} {run : List Event} → AreAf
 mark_read {shape} {words} {run} x s low listed = ap (λ (l : Link). l.mark) (link_read x (Slot s) low) ∙ mark_of_node (stands_in (incarnations_after shape run) s listed).1
 
 -- it has a marked one
-pub gathered_marked : {shape : Dimensions} {words : List ℕ} {run : List Event} {s live marked : ℕ} {keys : List ℕ} (notes : List Bool) → AreAfter shape words run → NotesLists shape (incarnations_after shape run) notes → s < shape.slots → noted notes s ≡ true
+pub gathered_marked : {shape : Dimensions} {words : List ℕ} {run : List Event} {s live marked : ℕ} {keys : List ℕ} (notes : List Bool) → AreAfter shape words run → NotesLists shape (incarnations_after shape run) notes → s < shape.slots → is_noted notes s ≡ true
     → (link_of (slice_index words (index_of shape (place.LinkOf s)))).mark ≡ true → Gathered (incarnations_after shape run) s keys live marked → Gathered (incarnations_after shape run) (s + 1) keys live (marked + 1)
 gathered_marked {shape} {words} {run} {s} notes x lists low there mark g =
     let a = incarnations_after shape run in
@@ -91,7 +91,7 @@ gathered_marked {shape} {words} {run} {s} notes x lists low there mark g =
     }
 
 -- it has a linked one
-pub gathered_linked : {shape : Dimensions} {words : List ℕ} {run : List Event} {s live marked : ℕ} {keys : List ℕ} (notes : List Bool) → AreAfter shape words run → NotesLists shape (incarnations_after shape run) notes → s < shape.slots → noted notes s ≡ true
+pub gathered_linked : {shape : Dimensions} {words : List ℕ} {run : List Event} {s live marked : ℕ} {keys : List ℕ} (notes : List Bool) → AreAfter shape words run → NotesLists shape (incarnations_after shape run) notes → s < shape.slots → is_noted notes s ≡ true
     → (link_of (slice_index words (index_of shape (place.LinkOf s)))).mark ≡ false → Gathered (incarnations_after shape run) s keys live marked → Gathered (incarnations_after shape run) (s + 1) (keys ++ slice_index words (index_of shape (place.Key s)) ∷ []) (live + 1) marked
 gathered_linked {shape} {words} {run} {s} notes x lists low there mark g =
     let a = incarnations_after shape run in

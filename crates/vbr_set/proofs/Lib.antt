@@ -4,6 +4,6 @@ mod Walks
 mod Gathering
 mod LinkedKeys
 mod Closings
-mod Places
+mod Mailboxes
 mod Seats
 mod Ends

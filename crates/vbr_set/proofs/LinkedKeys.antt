@@ -20,7 +20,7 @@ use Rattle.vbr_core.specs.declared.event.Event.{Event}
 use Rattle.vbr_core.specs.declared.history.Call.{Call}
 use Rattle.vbr_core.proofs.Lemmas.{keys_differ, stands_in, stands_key, stands_there}
 use Rattle.vbr_set.specs.Histories.{calls_of}
-use Rattle.vbr_core.specs.Nodes.{is_linked, state_in, key_in, is_listed, Stands}
+use Rattle.vbr_core.specs.Nodes.{is_linked, state_in, key_in_slot, is_listed, Stands}
 use Rattle.vbr_set.specs.Walking.{AreAfter, linked_keys}
 use Rattle.vbr_set.proofs.ShownNodes.{agrees, stands_state}
 
@@ -53,10 +53,10 @@ record HasKeyBelow (a : Incarnations) (n key : ℕ) : Type 0 where
   slot : ℕ
   low : slot < n
   linked : is_linked (state_in a slot) ≡ true
-  is : key_in a slot ≡ key
+  is : key_in_slot a slot ≡ key
 
-any_last : (a : Incarnations) (n key : ℕ) → list_any (nat_eq key) (linked_keys a n ++ key_in a n ∷ []) ≡ (list_any (nat_eq key) (linked_keys a n) || (nat_eq key (key_in a n) || false))
-any_last a n key = list_any-append (nat_eq key) (linked_keys a n) (key_in a n ∷ [])
+any_last : (a : Incarnations) (n key : ℕ) → list_any (nat_eq key) (linked_keys a n ++ key_in_slot a n ∷ []) ≡ (list_any (nat_eq key) (linked_keys a n) || (nat_eq key (key_in_slot a n) || false))
+any_last a n key = list_any-append (nat_eq key) (linked_keys a n) (key_in_slot a n ∷ [])
 
 or_no : (b : Bool) → (b || false) ≡ true → b ≡ true
 or_no true e = refl
@@ -70,12 +70,12 @@ has_from a (suc n) key e = go (λ before. has_from a n key before) (cases_Bool (
     more h = record { slot = h.slot; low = (let l = h.low in omega arith); linked = h.linked; is = h.is }
 
     go : (list_any (nat_eq key) (linked_keys a n) ≡ true → HasKeyBelow a n key) → (is_linked (state_in a n) ≡ true) ⊎ (is_linked (state_in a n) ≡ false) → HasKeyBelow a (suc n) key
-    go earlier (inr not_linked) = more (earlier (sym (ap (λ b. list_any (nat_eq key) (cond b (linked_keys a n ++ key_in a n ∷ []) (linked_keys a n))) not_linked) ∙ e))
+    go earlier (inr not_linked) = more (earlier (sym (ap (λ b. list_any (nat_eq key) (cond b (linked_keys a n ++ key_in_slot a n ∷ []) (linked_keys a n))) not_linked) ∙ e))
     go earlier (inl linked) =
         ⊎_elim
         (λ before. more (earlier before))
-        (λ here. record { slot = n; low = omega arith; linked = linked; is = sym (eqb-true key (key_in a n) (or_no _ here)) })
-        (or_cases _ _ (sym (any_last a n key) ∙ sym (ap (λ b. list_any (nat_eq key) (cond b (linked_keys a n ++ key_in a n ∷ []) (linked_keys a n))) linked) ∙ e))
+        (λ here. record { slot = n; low = omega arith; linked = linked; is = sym (eqb-true key (key_in_slot a n) (or_no _ here)) })
+        (or_cases _ _ (sym (any_last a n key) ∙ sym (ap (λ b. list_any (nat_eq key) (cond b (linked_keys a n ++ key_in_slot a n ∷ []) (linked_keys a n))) linked) ∙ e))
 
 has_is : (a : Incarnations) (n key : ℕ) → HasKeyBelow a n key → list_any (nat_eq key) (linked_keys a n) ≡ true
 has_is a zero key h = absurd (let l = h.low in omega arith)
@@ -84,19 +84,19 @@ has_is a (suc n) key h = go (λ low. has_is a n key (record { slot = h.slot; low
     last : n ≤ h.slot → n ≡ h.slot
     last le = let l = h.low in omega arith
 
-    as_linked : (b : Bool) → is_linked (state_in a n) ≡ b → list_any (nat_eq key) (cond b (linked_keys a n ++ key_in a n ∷ []) (linked_keys a n)) ≡ true → list_any (nat_eq key) (linked_keys a (suc n)) ≡ true
-    as_linked b is e = ap (λ b. list_any (nat_eq key) (cond b (linked_keys a n ++ key_in a n ∷ []) (linked_keys a n))) is ∙ e
+    as_linked : (b : Bool) → is_linked (state_in a n) ≡ b → list_any (nat_eq key) (cond b (linked_keys a n ++ key_in_slot a n ∷ []) (linked_keys a n)) ≡ true → list_any (nat_eq key) (linked_keys a (suc n)) ≡ true
+    as_linked b is e = ap (λ b. list_any (nat_eq key) (cond b (linked_keys a n ++ key_in_slot a n ∷ []) (linked_keys a n))) is ∙ e
 
     go : (h.slot < n → list_any (nat_eq key) (linked_keys a n) ≡ true) → (h.slot < n) ⊎ (n ≤ h.slot) → (is_linked (state_in a n) ≡ true) ⊎ (is_linked (state_in a n) ≡ false) → list_any (nat_eq key) (linked_keys a (suc n)) ≡ true
     go below (inl low) (inl linked) = as_linked true linked (any_last a n key ∙ or_left _ _ (below low))
     go below (inl low) (inr not_linked) = as_linked false not_linked (below low)
-    go below (inr le) (inl linked) = as_linked true linked (any_last a n key ∙ or_right _ _ (or_left _ _ (eq-eqb key (key_in a n) (sym h.is ∙ ap (key_in a) (sym (last le))))))
+    go below (inr le) (inl linked) = as_linked true linked (any_last a n key ∙ or_right _ _ (or_left _ _ (eq-eqb key (key_in_slot a n) (sym h.is ∙ ap (key_in_slot a) (sym (last le))))))
     go below (inr le) (inr not_linked) = absurd (true≢false (sym h.linked ∙ ap (λ (s : ℕ). is_linked (state_in a s)) (sym (last le)) ∙ not_linked))
 
 -- ---- distinct
 
 -- linked nodes in two slots have different keys
-apart : {shape : Dimensions} {a : Incarnations} → Sound shape a → (s t : ℕ) → is_linked (state_in a s) ≡ true → is_linked (state_in a t) ≡ true → key_in a s ≡ key_in a t → s ≡ t
+apart : {shape : Dimensions} {a : Incarnations} → Sound shape a → (s t : ℕ) → is_linked (state_in a s) ≡ true → is_linked (state_in a t) ≡ true → key_in_slot a s ≡ key_in_slot a t → s ≡ t
 apart {shape} {a} sound s t ls lt e =
     let c = linked_in a s ls in
     let d = linked_in a t lt in
@@ -108,11 +108,11 @@ unfolding IsDistinct
 distinct sound zero = tt
 distinct {shape} {a} sound (suc n) = go (distinct sound n) (is_linked (state_in a n)) refl
   where
-    go : IsDistinct nat_eq (linked_keys a n) → (b : Bool) → is_linked (state_in a n) ≡ b → IsDistinct nat_eq (cond b (linked_keys a n ++ key_in a n ∷ []) (linked_keys a n))
+    go : IsDistinct nat_eq (linked_keys a n) → (b : Bool) → is_linked (state_in a n) ≡ b → IsDistinct nat_eq (cond b (linked_keys a n ++ key_in_slot a n ∷ []) (linked_keys a n))
     go earlier false is = earlier
     go earlier true is =
-        IsDistinct-push nat_eq_equiv (linked_keys a n) (key_in a n) earlier
-        (false_from_ne_true _ (λ e. let h = has_from a n (key_in a n) e in let same = apart sound h.slot n h.linked is h.is in let low = h.low in absurd (omega arith)))
+        IsDistinct-push nat_eq_equiv (linked_keys a n) (key_in_slot a n) earlier
+        (false_from_ne_true _ (λ e. let h = has_from a n (key_in_slot a n) e in let same = apart sound h.slot n h.linked is h.is in let low = h.low in absurd (omega arith)))
 
 -- ---- the set
 

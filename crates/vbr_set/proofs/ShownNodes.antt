@@ -17,7 +17,7 @@ use Rattle.vbr_core.specs.Safety.{IsSafe}
 use Rattle.vbr_core.specs.Sound.{IsListed}
 use Rattle.vbr_core.specs.declared.event.Event.{Event}
 use Rattle.vbr_core.proofs.Lemmas.{every_run, run_agrees}
-use Rattle.vbr_core.specs.Nodes.{state_shown, state_in, is_marked, key_in, Stands}
+use Rattle.vbr_core.specs.Nodes.{state_shown, state_in, is_marked, key_in_slot, Stands}
 use Rattle.vbr_set.specs.Walking.{AreAfter}
 
 -- ---- words
@@ -33,7 +33,7 @@ pub link_read : {shape : Dimensions} {words : List ℕ} {run : List Event} → A
 link_read {shape} {words} {run} x (Head b) is = ap link_of (x.are.each (place.Head b) is) ∙ link_of-word_of ((world_after shape run).head b) ((safe x).links (Head b)) ∙ (agrees x).image.head b
 link_read {shape} {words} {run} x (Slot s) is = ap link_of (x.are.each (place.LinkOf s) is) ∙ link_of-word_of ((world_after shape run).link s) ((safe x).links (Slot s)) ∙ (agrees x).image.link s
 
-pub key_read : {shape : Dimensions} {words : List ℕ} {run : List Event} → AreAfter shape words run → (s : ℕ) → s < shape.slots → slice_index words (index_of shape (place.Key s)) ≡ key_in (incarnations_after shape run) s
+pub key_read : {shape : Dimensions} {words : List ℕ} {run : List Event} → AreAfter shape words run → (s : ℕ) → s < shape.slots → slice_index words (index_of shape (place.Key s)) ≡ key_in_slot (incarnations_after shape run) s
 key_read x s is = x.are.each (place.Key s) is ∙ (agrees x).image.key s
 
 -- ---- nodes in lists

@@ -17,14 +17,14 @@ use Rattle.vbr_core.specs.Incarnations.{Incarnations}
 use Rattle.vbr_core.specs.Sound.{IsApart, IsFrom, IsListed, Sound}
 use Rattle.vbr_core.specs.declared.event.Event.{Event}
 use Rattle.vbr_core.proofs.Lemmas.{in_list_from, in_list_is, next_listed, one_slot, stands_key, stands_there}
-use Rattle.vbr_core.specs.Nodes.{state_in, is_in_list, is_listed, key_in, Stands, InList}
-use Rattle.vbr_set.specs.Walking.{AreAfter, NotesList, NotesLists, noted}
+use Rattle.vbr_core.specs.Nodes.{state_in, is_in_list, is_listed, key_in_slot, Stands, InList}
+use Rattle.vbr_set.specs.Walking.{AreAfter, NotesList, NotesLists, is_noted}
 use Rattle.vbr_set.proofs.ShownNodes.{agrees, key_read, link_read, next_of_node}
 
 -- whether the node of a slot stands before the node that is reached, or there is none any more
 abbrev pub is_before : Incarnations → ℕ → Option ℕ → Bool
 is_before a s None = true
-is_before a s (Some t) = nat_lt (key_in a s) (key_in a t)
+is_before a s (Some t) = nat_lt (key_in_slot a s) (key_in_slot a t)
 
 -- the slot that is reached has a node of the list
 abbrev pub IsNextNode : Dimensions → Incarnations → ℕ → Option ℕ → Type 0
@@ -34,7 +34,7 @@ IsNextNode shape a bucket (Some t) = (t < shape.slots) × (is_in_list shape a bu
 -- the walk has come to this slot, or to the end of the list
 pub record Walked (shape : Dimensions) (a : Incarnations) (bucket : ℕ) (before now : List Bool) (next : Option ℕ) : Type 0 where
   pub reached : IsNextNode shape a bucket next
-  pub notes : (s : ℕ) → s < shape.slots → noted now s ≡ (noted before s || (is_in_list shape a bucket s && is_before a s next))
+  pub notes : (s : ℕ) → s < shape.slots → is_noted now s ≡ (is_noted before s || (is_in_list shape a bucket s && is_before a s next))
 
 -- the slot is named otherwise
 pub walked_as : {shape : Dimensions} {a : Incarnations} {bucket : ℕ} {before now : List Bool} {m n : Option ℕ} → m ≡ n → Walked shape a bucket before now m → Walked shape a bucket before now n
@@ -121,7 +121,7 @@ walk_first {shape} {words} {run} x bucket notes low =
     let g = agrees x in
     let first : Walked shape a bucket notes notes (slot_shown a (a.first bucket)) = record {
       reached = first_reached g.sound g.fits bucket (a.first bucket) refl;
-      notes = λ s is_in. or_none (noted notes s) _ (first_notes g.sound g.fits bucket s (a.first bucket) refl);
+      notes = λ s is_in. or_none (is_noted notes s) _ (first_notes g.sound g.fits bucket s (a.first bucket) refl);
     } in
     subst (λ (l : Link). Walked shape a bucket notes notes l.slot) (sym (link_read x (Head bucket) low)) first
 
@@ -156,12 +156,12 @@ module _ {shape : Dimensions} {a : Incarnations} (sound : Sound shape a) (fits :
   next_walked : (before now : List Bool) → length now ≡ shape.slots → Walked shape a bucket before now (Some t) → Walked shape a bucket before (set now t true) (slot_shown a (a.next c))
   next_walked before now room walked = record { reached = next_reached (a.next c) refl; notes = λ s low. go s low (cases_eq s t) }
     where
-      go : (s : ℕ) → s < shape.slots → (s ≡ t) ⊎ (s ≡ t → ⊥) → noted (set now t true) s ≡ (noted before s || (is_in_list shape a bucket s && is_before a s (slot_shown a (a.next c))))
+      go : (s : ℕ) → s < shape.slots → (s ≡ t) ⊎ (s ≡ t → ⊥) → is_noted (set now t true) s ≡ (is_noted before s || (is_in_list shape a bucket s && is_before a s (slot_shown a (a.next c))))
       go s low (inl e) =
           let low_t : t < length now = (let r = walked.reached.0 in omega arith) in
           let both : (is_in_list shape a bucket s && is_before a s (slot_shown a (a.next c))) ≡ true = and_from _ _ (ap (is_in_list shape a bucket) e ∙ walked.reached.1) (ap (λ (i : ℕ). is_before a i (slot_shown a (a.next c))) e ∙ own_before) in
-          ap (noted (set now t true)) e ∙ get_or-set_same now t true false low_t ∙ or_some (noted before s) _ both
-      go s low (inr ne) = get_or-set_other now t s true false ne ∙ walked.notes s low ∙ ap (λ b. noted before s || b) (others_before s ne)
+          ap (is_noted (set now t true)) e ∙ get_or-set_same now t true false low_t ∙ or_some (is_noted before s) _ both
+      go s low (inr ne) = get_or-set_other now t s true false ne ∙ walked.notes s low ∙ ap (λ b. is_noted before s || b) (others_before s ne)
 
 pub walk_next : {shape : Dimensions} {words : List ℕ} {run : List Event} → AreAfter shape words run → (bucket : ℕ) (before now : List Bool) (t : ℕ) → length now ≡ shape.slots → Walked shape (incarnations_after shape run) bucket before now (Some t)
     → Walked shape (incarnations_after shape run) bucket before (set now t true) (link_of (slice_index words (index_of shape (place.LinkOf t)))).slot
@@ -173,7 +173,7 @@ walk_next {shape} {words} {run} x bucket before now t room walked =
     (next_walked g.sound g.fits bucket t node.0 node.1 before now room walked)
 
 pub walk_ends : (shape : Dimensions) (a : Incarnations) (bucket : ℕ) (before now : List Bool) → Walked shape a bucket before now None → NotesList shape a bucket before now
-walk_ends shape a bucket before now walked s low = walked.notes s low ∙ ap (λ b. noted before s || b) (and_true (is_in_list shape a bucket s))
+walk_ends shape a bucket before now walked s low = walked.notes s low ∙ ap (λ b. is_noted before s || b) (and_true (is_in_list shape a bucket s))
 
 pub walk_nearer : {shape : Dimensions} {words : List ℕ} {run : List Event} → AreAfter shape words run → (bucket : ℕ) (before now : List Bool) (t : ℕ) → ((i : ℕ) → slice_index words i < 2 ^ 64) → Walked shape (incarnations_after shape run) bucket before now (Some t)
     → left shape words (link_of (slice_index words (index_of shape (place.LinkOf t)))).slot < left shape words (Some t)
@@ -198,21 +198,21 @@ walk_nearer {shape} {words} {run} x bucket before now t fit walked =
 
 -- whether the node of a slot is in a list of a bucket below this one
 abbrev pub is_below : Dimensions → Incarnations → ℕ → ℕ → Bool
-is_below shape a bucket s = is_listed (state_in a s) && nat_lt (bucket_of shape (key_in a s)) bucket
+is_below shape a bucket s = is_listed (state_in a s) && nat_lt (bucket_of shape (key_in_slot a s)) bucket
 
 -- the slots whose nodes are in the lists of the buckets below this one are noted
 pub record NotedBelow (shape : Dimensions) (a : Incarnations) (bucket : ℕ) (notes : List Bool) : Type 0 where
-  pub notes_are : (s : ℕ) → s < shape.slots → noted notes s ≡ is_below shape a bucket s
+  pub notes_are : (s : ℕ) → s < shape.slots → is_noted notes s ≡ is_below shape a bucket s
 
-pub lists_first : (shape : Dimensions) (a : Incarnations) (notes : List Bool) → ((s : ℕ) → noted notes s ≡ false) → NotedBelow shape a 0 notes
-lists_first shape a notes none = record { notes_are = λ s low. none s ∙ sym (no (is_listed (state_in a s)) (bucket_of shape (key_in a s))) }
+pub lists_first : (shape : Dimensions) (a : Incarnations) (notes : List Bool) → ((s : ℕ) → is_noted notes s ≡ false) → NotedBelow shape a 0 notes
+lists_first shape a notes none = record { notes_are = λ s low. none s ∙ sym (no (is_listed (state_in a s)) (bucket_of shape (key_in_slot a s))) }
   where
     no : (b : Bool) (k : ℕ) → (b && nat_lt k 0) ≡ false
     no true k = le-ltb k 0 (omega arith)
     no false k = refl
 
 pub lists_next : (shape : Dimensions) (a : Incarnations) (bucket : ℕ) (before now : List Bool) → NotedBelow shape a bucket before → NotesList shape a bucket before now → NotedBelow shape a (bucket + 1) now
-lists_next shape a bucket before now below list = record { notes_are = λ s low. list s low ∙ ap (λ b. b || is_in_list shape a bucket s) (below.notes_are s low) ∙ both (is_listed (state_in a s)) (bucket_of shape (key_in a s)) }
+lists_next shape a bucket before now below list = record { notes_are = λ s low. list s low ∙ ap (λ b. b || is_in_list shape a bucket s) (below.notes_are s low) ∙ both (is_listed (state_in a s)) (bucket_of shape (key_in_slot a s)) }
   where
     both : (b : Bool) (k : ℕ) → ((b && nat_lt k bucket) || (b && nat_eq k bucket)) ≡ (b && nat_lt k (bucket + 1))
     both true k = grind (arith, nat_tests)
@@ -223,8 +223,8 @@ unfolding bucket_of
 bucket_in_shape shape key some = omega arith
 
 pub lists_end : (shape : Dimensions) (a : Incarnations) (notes : List Bool) → NotedBelow shape a shape.buckets notes → 0 < shape.buckets → NotesLists shape a notes
-lists_end shape a notes below some s low = below.notes_are s low ∙ all (is_listed (state_in a s)) (bucket_in_shape shape (key_in a s) some)
+lists_end shape a notes below some s low = below.notes_are s low ∙ all (is_listed (state_in a s)) (bucket_in_shape shape (key_in_slot a s) some)
   where
-    all : (b : Bool) → bucket_of shape (key_in a s) < shape.buckets → (b && nat_lt (bucket_of shape (key_in a s)) shape.buckets) ≡ b
+    all : (b : Bool) → bucket_of shape (key_in_slot a s) < shape.buckets → (b && nat_lt (bucket_of shape (key_in_slot a s)) shape.buckets) ≡ b
     all true lt = lt-ltb _ _ lt
     all false lt = refl

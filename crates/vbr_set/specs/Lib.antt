@@ -3,7 +3,7 @@ pub mod Answers
 pub mod Meetings
 pub mod Closing
 pub mod Walking
-pub mod Places
+pub mod Mailboxes
 pub mod Members
 pub mod Sharing
 pub mod MemberView

@@ -5,6 +5,7 @@ use Rattle.vbr_set.specs.Members.{MemberView}
 use Rattle.vbr_set.specs.Sharing.{set_shared, IsPlaced}
 use Rattle.vbr_set.specs.declared.member.Member.TheInside.{Inside}
 
+-- what contracts see
 abbrev pub member_view : Inside → MemberView
 member_view m = record { set = set_shared m.share; pass = m.pass }
 

@@ -6,7 +6,8 @@ use Rattle.vbr_words.specs.Dimensions.{Dimensions}
 use Rattle.vbr_slots.specs.Alone.{IsAlone}
 use Rattle.vbr_slots.specs.Calls.{AddsAnswer, AddsNone, IsSame, OnlyLoads, Quiet}
 use Rattle.vbr_slots.specs.Views.{PassView, TableView, new_passes}
-use Rattle.vbr_pools.specs.Advances.{AdvancesWhereNeeded, KeepsSlots, TakesNoSlot, SharesWhereFull}
+use Rattle.vbr_pools.specs.Advances.{AdvancesWhereNeeded}
+use Rattle.vbr_pools.specs.KeptSlots.{KeepsSlots, TakesNoSlot, SharesWhereFull}
 use Rattle.vbr_pools.specs.Budgets.{most_to_take}
 use Rattle.vbr_pools.specs.Steps.{TookWithin}
 use Rattle.vbr_access.specs.Soundness.{HasSafeRun}

@@ -15,7 +15,8 @@ pub use Rattle.vbr_slots.specs.Alone.{IsAlone}
 pub use Rattle.vbr_slots.specs.Calls.{AddsAnswer, AddsNone, IsSame, OnlyLoads, Quiet, made_by}
 pub use Rattle.vbr_slots.specs.Closing.{AllOf, EachSeen, HandsBack, IsMissing}
 pub use Rattle.vbr_slots.specs.Views.{Did, IsOf, KeepsPool, PassView, TableView, Trace, new_pass, new_passes}
-pub use Rattle.vbr_pools.specs.Advances.{AdvancesWhereNeeded, KeepsSlots, TakesNoSlot, SharesWhereFull}
+pub use Rattle.vbr_pools.specs.Advances.{AdvancesWhereNeeded}
+pub use Rattle.vbr_pools.specs.KeptSlots.{KeepsSlots, TakesNoSlot, SharesWhereFull}
 pub use Rattle.vbr_pools.specs.Budgets.{most_to_take}
 pub use Rattle.vbr_pools.specs.Steps.{TookWithin}
 pub use Rattle.vbr_access.specs.Soundness.{HasSafeRun}

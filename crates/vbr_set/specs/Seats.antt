@@ -1,15 +1,16 @@
--- The seats of the places of a set, while its members are made. Only contracts of private functions cite this.
+-- The seats of the mailboxes of a set, while its members are made. Only contracts of private functions cite this.
 use Rattle.std.specs.Prelude.{ℕ, suc, List, [], ◌∷◌, Option}
 use Rattle.atomic_table.specs.declared.shared.Seat.{Seat}
 use Rattle.vbr_slots.specs.Views.{PassView}
-use Rattle.vbr_set.specs.Places.{SeatKnows}
+use Rattle.vbr_set.specs.Mailboxes.{SeatKnows}
 use Rattle.vbr_set.specs.Sharing.{IsSeatOf}
-use Rattle.vbr_set.specs.declared.place.Place.{Place}
+use Rattle.vbr_set.specs.declared.mailbox.Mailbox.{Mailbox}
 
-abbrev pub PlaceSeat : Type 0
-PlaceSeat = Seat (Option PassView) SeatKnows
+-- a seat of the table of mailboxes
+abbrev pub MailboxSeat : Type 0
+MailboxSeat = Seat (Option PassView) SeatKnows
 
--- these are the seats of the places from a number on
-abbrev pub AreSeats : List Place → ℕ → List PlaceSeat → Type 0
-AreSeats places who [] = Unit {0}
-AreSeats places who (seat ∷ seats) = IsSeatOf places who seat.table_id seat.id seat.me × AreSeats places (suc who) seats
+-- these are the seats of the mailboxes from a number on
+abbrev pub AreSeats : List Mailbox → ℕ → List MailboxSeat → Type 0
+AreSeats mailboxes who [] = Unit {0}
+AreSeats mailboxes who (seat ∷ seats) = IsSeatOf mailboxes who seat.table_id seat.id seat.me × AreSeats mailboxes (suc who) seats

@@ -4,6 +4,7 @@ use Rattle.vbr_slots.specs.Views.{IsOf}
 use Rattle.vbr_set.specs.Members.{MemberView}
 use Rattle.vbr_set.specs.declared.set_ref.VbrSetRef.TheInside.{Inside}
 
+-- what contracts see
 abbrev pub set_ref_view : Inside → MemberView
 set_ref_view r = record { set = r.set.now; pass = r.pass }
 

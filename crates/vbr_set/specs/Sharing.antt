@@ -5,27 +5,27 @@ use Rattle.atomic_table.specs.Seated.{TableId}
 use Rattle.atomic_table.specs.Table.{Me}
 use Rattle.std.specs.Prelude.{Option}
 use Rattle.vbr_slots.specs.Views.{PassView, TableView, IsOf}
-use Rattle.vbr_set.specs.Places.{SeatKnows}
-use Rattle.vbr_set.specs.declared.place.Place.{Place}
+use Rattle.vbr_set.specs.Mailboxes.{SeatKnows}
+use Rattle.vbr_set.specs.declared.mailbox.Mailbox.{Mailbox}
 use Rattle.vbr_set.specs.declared.share.Share.{Share}
 use Rattle.vbr_set.specs.declared.share.Share.TheVariants.{Among, Alone, Gathered}
 
 -- the set
 abbrev pub set_shared : Share → TableView
 set_shared (Among common seat) = (arc_value common).set
-set_shared (Alone set places) = set
+set_shared (Alone set mailboxes) = set
 set_shared (Gathered set passes) = set
 
--- a seat that has laid nothing, of the place with a number
-pub record IsSeatOf (places : List Place) (who : ℕ) (table : TableId) (id : ℕ) (me : Me (Option PassView) SeatKnows) : Type 0 where
-  pub there : who < length places
-  pub fits : (d : Place) → table ≡ (slice_index_or places who d).table.shared.table_id
+-- a seat that has laid nothing, of the mailbox with a number
+pub record IsSeatOf (mailboxes : List Mailbox) (who : ℕ) (table : TableId) (id : ℕ) (me : Me (Option PassView) SeatKnows) : Type 0 where
+  pub there : who < length mailboxes
+  pub fits : (d : Mailbox) → table ≡ (slice_index_or mailboxes who d).table.shared.table_id
   pub first : id ≡ 0
   pub fresh : me ≡ (None, [])
 
--- the places are for passes of the set
-abbrev pub ArePlacesOf : TableView → List Place → Type 0
-ArePlacesOf set places = All (λ place. place.table.shared.key ≡ set) places
+-- the mailboxes are for passes of the set
+abbrev pub AreMailboxesOf : TableView → List Mailbox → Type 0
+AreMailboxesOf set mailboxes = All (λ mailbox. mailbox.table.shared.key ≡ set) mailboxes
 
 -- the passes are of the set
 abbrev pub ArePassesOf : TableView → List PassView → Type 0
@@ -41,6 +41,6 @@ AreOthers set passes = set.passes ≡ 1 → passes ≡ []
 
 -- a pass with this number can come back to the others, or the others have come back; a pass that was opened alone has the set
 abbrev pub IsPlaced : Share → ℕ → Type 0
-IsPlaced (Among common seat) who = IsSeatOf (arc_value common).places.items who seat.table_id seat.id seat.me × HasOthers (arc_value common).set
-IsPlaced (Alone set places) who = ArePlacesOf set places.items × HasOthers set
+IsPlaced (Among common seat) who = IsSeatOf (arc_value common).mailboxes.items who seat.table_id seat.id seat.me × HasOthers (arc_value common).set
+IsPlaced (Alone set mailboxes) who = AreMailboxesOf set mailboxes.items × HasOthers set
 IsPlaced (Gathered set passes) who = ArePassesOf set passes.items × AreOthers set passes.items

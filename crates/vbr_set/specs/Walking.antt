@@ -5,7 +5,7 @@ use Rattle.vbr_core.specs.Incarnations.{Incarnations}
 use Rattle.vbr_core.specs.Runs.{IsRun, world_after}
 use Rattle.vbr_core.specs.declared.event.Event.{Event}
 use Rattle.vbr_slots.specs.Words.{AreWordsOf}
-use Rattle.vbr_core.specs.Nodes.{state_in, is_linked, is_listed, is_in_list, key_in}
+use Rattle.vbr_core.specs.Nodes.{state_in, is_linked, is_listed, is_in_list, key_in_slot}
 
 -- the words are those of the world after a run of a shape
 pub record AreAfter (shape : Dimensions) (words : List ℕ) (run : List Event) : Type 0 where
@@ -15,18 +15,18 @@ pub record AreAfter (shape : Dimensions) (words : List ℕ) (run : List Event) :
   pub are : AreWordsOf shape (world_after shape run) words
 
 -- whether a slot was noted
-abbrev pub noted : List Bool → ℕ → Bool
-noted notes s = slice_index_or notes s false
+abbrev pub is_noted : List Bool → ℕ → Bool
+is_noted notes s = slice_index_or notes s false
 
 -- the slots whose nodes are in the list of a bucket were noted, and no others
 abbrev pub NotesList : Dimensions → Incarnations → ℕ → List Bool → List Bool → Type 0
-NotesList shape a bucket before now = (s : ℕ) → s < shape.slots → noted now s ≡ (noted before s || is_in_list shape a bucket s)
+NotesList shape a bucket before now = (s : ℕ) → s < shape.slots → is_noted now s ≡ (is_noted before s || is_in_list shape a bucket s)
 
 -- the slots whose nodes are in lists are noted, and no others
 abbrev pub NotesLists : Dimensions → Incarnations → List Bool → Type 0
-NotesLists shape a notes = (s : ℕ) → s < shape.slots → noted notes s ≡ is_listed (state_in a s)
+NotesLists shape a notes = (s : ℕ) → s < shape.slots → is_noted notes s ≡ is_listed (state_in a s)
 
 -- the keys of the linked nodes in the slots below a number
 abbrev pub linked_keys : Incarnations → ℕ → List ℕ
 linked_keys a zero = []
-linked_keys a (suc s) = if is_linked (state_in a s) then linked_keys a s ++ key_in a s ∷ [] else linked_keys a s
+linked_keys a (suc s) = if is_linked (state_in a s) then linked_keys a s ++ key_in_slot a s ∷ [] else linked_keys a s

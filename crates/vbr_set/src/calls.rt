@@ -1,7 +1,8 @@
 //! The calls: inserts, removes and look-ups.
 ghost use Rattle.std.specs.Prelude.{◌≡◌, ◌≢◌, ◌+◌, ◌*◌, ◌<◌, ◌≤◌, [], None, IfOk, IfErr};
 ghost use Rattle.vbr_core.specs.declared.history.Op.TheVariants.{Insert, Remove, Has};
-ghost use Rattle.vbr_pools.specs.Advances.{AdvancesWhereNeeded, KeepsSlots, TakesNoSlot, SharesWhereFull};
+ghost use Rattle.vbr_pools.specs.Advances.{AdvancesWhereNeeded};
+ghost use Rattle.vbr_pools.specs.KeptSlots.{KeepsSlots, TakesNoSlot, SharesWhereFull};
 ghost use Rattle.vbr_pools.specs.Budgets.{most_to_take};
 ghost use Rattle.vbr_pools.specs.Steps.{TookWithin};
 ghost use Rattle.vbr_slots.specs.Alone.{IsAlone};

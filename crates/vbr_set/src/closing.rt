@@ -7,7 +7,7 @@ ghost use Rattle.vbr_slots.specs.Closing.{AllOf, HandsBack, IsMissing};
 ghost use Rattle.vbr_words.specs.Places.{words_in};
 ghost use Rattle.vbr_set.specs.Closing.{Closes, Reports};
 ghost use Rattle.vbr_core.specs.Nodes.{linked_after, marked_after};
-ghost use Rattle.vbr_set.specs.Walking.{AreAfter, NotesLists, linked_keys, noted};
+ghost use Rattle.vbr_set.specs.Walking.{AreAfter, NotesLists, linked_keys, is_noted};
 
 use crate::report::Report;
 use crate::set::VbrSet;
@@ -103,7 +103,7 @@ fn gather(shape: &Shape, words: &[u64], notes: &[bool], keys: &mut Vec<u64>) -> 
 // What the words of a closed table tell.
 fn report_of(shape: &Shape, words: &[u64], mut notes: Vec<bool>, mut keys: Vec<u64>) -> Report
     requires run { (run : List Event) × AreAfter shape.now words.now run }
-    requires notes { (length notes.items ≡ shape.now.slots) × ((s : ℕ) → noted notes.items s ≡ false) }
+    requires notes { (length notes.items ≡ shape.now.slots) × ((s : ℕ) → is_noted notes.items s ≡ false) }
     requires room { (keys.items ≡ []) × (shape.now.slots ≤ vec_capacity keys) }
     ensures { (run : List Event) → AreAfter shape.now words.now run → Reports shape.now run result }
 {

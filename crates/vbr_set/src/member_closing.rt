@@ -3,13 +3,13 @@ ghost use Rattle.std.specs.Prelude.{◌≡◌, ◌≤◌, [], true, false, lengt
 ghost use Rattle.std.specs.Arc.{arc_value};
 ghost use Rattle.std.specs.Vec.{vec_capacity};
 ghost use Rattle.vbr_set.specs.Ends.{AreNumbered, EndsWith, IsBack, IsLast, EndLacksMemory};
-ghost use Rattle.vbr_set.specs.Places.{IsIdle};
-ghost use Rattle.vbr_set.specs.Sharing.{AreOthers, ArePassesOf, ArePlacesOf, HasOthers, IsSeatOf};
+ghost use Rattle.vbr_set.specs.Mailboxes.{IsIdle};
+ghost use Rattle.vbr_set.specs.Sharing.{AreOthers, ArePassesOf, AreMailboxesOf, HasOthers, IsSeatOf};
 
 use crate::common::Common;
 use crate::end_error::EndError;
+use crate::mailbox::{Knows, Mailbox};
 use crate::member::Member;
-use crate::place::{Knows, Place};
 use crate::report::Report;
 use crate::set::VbrSet;
 use crate::share::Share;
@@ -58,66 +58,71 @@ impl Member {
         let report = match share {
             Share::Among(common, seat) => match leave(common, seat, pass) {
                 None => return Ok(None),
-                Some((set, places, pass)) => end_alone(alloc, set, places, pass)?,
+                Some((set, mailboxes, pass)) => end_alone(alloc, set, mailboxes, pass)?,
             },
-            Share::Alone(set, places) => end_alone(alloc, set, places, pass)?,
+            Share::Alone(set, mailboxes) => end_alone(alloc, set, mailboxes, pass)?,
             Share::Gathered(set, passes) => end_gathered(alloc, set, passes, pass)?,
         };
         Ok(Some(report))
     }
 }
 
-// Lays a pass into its place and gives the share of its set up. The last one gets the set, the places
+// Lays a pass into its mailbox and gives the share of its set up. The last one gets the set, the mailboxes
 // of the other passes, and its pass again.
 fn leave(
     common: Arc<Common, Global>,
     mut seat: Seat<Option<Pass>, Knows>,
     pass: Pass,
-) -> Option<(VbrSet, Vec<Place>, Pass)>
+) -> Option<(VbrSet, Vec<Mailbox>, Pass)>
     requires ready { IsIdle (arc_value common).set pass }
-    requires seat { IsSeatOf (arc_value common).places.items pass.trace.who seat.table_id seat.id seat.me }
+    requires seat { IsSeatOf (arc_value common).mailboxes.items pass.trace.who seat.table_id seat.id seat.me }
     ensures set { IfSome result (λ r. r.0 ≡ (arc_value common).set) }
-    ensures places { IfSome result (λ r. ArePlacesOf (arc_value common).set r.1.items) }
+    ensures mailboxes { IfSome result (λ r. AreMailboxesOf (arc_value common).set r.1.items) }
     ensures pass { IfSome result (λ r. r.2 ≡ pass) }
 {
     let who = pass.who() as usize;
-    common.places[who].put(&mut seat, pass);
+    common.mailboxes[who].put(&mut seat, pass);
     let Common {
         before: _,
         set,
-        mut places,
+        mut mailboxes,
         after: _,
     } = Arc::into_inner(common)?;
-    let own = places.remove(who).into_own(seat);
-    Some((set, places, own))
+    let own = mailboxes.remove(who).into_own(seat);
+    Some((set, mailboxes, own))
 }
 
-// Ends a set whose other passes lie in their places.
-fn end_alone(alloc: Global, set: VbrSet, places: Vec<Place>, pass: Pass) -> Result<Report, EndError>
+// Ends a set whose other passes lie in their mailboxes.
+fn end_alone(
+    alloc: Global,
+    set: VbrSet,
+    mailboxes: Vec<Mailbox>,
+    pass: Pass,
+) -> Result<Report, EndError>
     requires ready { IsIdle set pass }
-    requires places { ArePlacesOf set places.items }
+    requires mailboxes { AreMailboxesOf set mailboxes.items }
     requires others { HasOthers set }
     ensures ended { IfOk result (EndsWith set pass) }
     ensures stays { IfErr result (IsBack set pass) }
 {
-    let Ok(room) = Vec::with_capacity(alloc, places.len().saturating_add(1)) else {
-        let share = Share::Alone(set, places);
+    let Ok(room) = Vec::with_capacity(alloc, mailboxes.len().saturating_add(1)) else {
+        let share = Share::Alone(set, mailboxes);
         return Err(EndError::Memory(Member::of(share, pass)));
     };
-    match gather(&set, places, room) {
+    match gather(&set, mailboxes, room) {
         Some(passes) => end_gathered(alloc, set, passes, pass),
         None => Err(EndError::Lost),
     }
 }
 
-// Takes the passes out of their places, in the order of the places, or none where one is missing.
-fn gather(set: &VbrSet, places: Vec<Place>, mut passes: Vec<Pass>) -> Option<Vec<Pass>>
-    requires places { ArePlacesOf set.now places.items }
-    requires room { (passes.items ≡ []) × (length places.items ≤ vec_capacity passes) }
+// Takes the passes out of their mailboxes, in the order of the mailboxes, or none where one is missing.
+fn gather(set: &VbrSet, mailboxes: Vec<Mailbox>, mut passes: Vec<Pass>) -> Option<Vec<Pass>>
+    requires mailboxes { AreMailboxesOf set.now mailboxes.items }
+    requires room { (passes.items ≡ []) × (length mailboxes.items ≤ vec_capacity passes) }
     ensures { IfSome result (λ passes. ArePassesOf set.now passes.items) }
 {
-    for place in places {
-        let pass = place.into_pass()?;
+    for mailbox in mailboxes {
+        let pass = mailbox.into_pass()?;
         let Ok(()) = passes.push(pass) else {
             unreachable!()
         };

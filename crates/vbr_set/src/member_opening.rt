@@ -7,8 +7,8 @@ ghost use Rattle.vbr_set.specs.Seats.{AreSeats};
 ghost use Rattle.vbr_set.specs.Sharing.{HasOthers, IsPlaced, set_shared};
 
 use crate::common::Common;
+use crate::mailbox::{Knows, Mailbox};
 use crate::member::Member;
-use crate::place::{Knows, Place};
 use crate::set::VbrSet;
 use crate::share::Share;
 use atomic_table::Seat;
@@ -61,24 +61,24 @@ impl Member {
     }
 }
 
-// A place for each of so many passes, and a seat of each of them.
-fn make_places(
+// A mailbox for each of so many passes, and a seat of each of them.
+fn make_mailboxes(
     alloc: Global,
     set: &VbrSet,
     count: usize,
-) -> Result<(Vec<Place>, Vec<Seat<Option<Pass>, Knows>>), AllocError>
-    ensures places { IfOk result (λ r. All (λ place. place.table.shared.key ≡ set.now) r.0.items) }
+) -> Result<(Vec<Mailbox>, Vec<Seat<Option<Pass>, Knows>>), AllocError>
+    ensures mailboxes { IfOk result (λ r. All (λ mailbox. mailbox.table.shared.key ≡ set.now) r.0.items) }
     ensures seats { IfOk result (λ r. AreSeats r.0.items 0 r.1.items) }
     ensures count { IfOk result (λ r. length r.1.items ≡ count) }
 {
-    let mut places = Vec::with_capacity(alloc, count)?;
+    let mut mailboxes = Vec::with_capacity(alloc, count)?;
     let mut seats = Vec::with_capacity(alloc, count)?;
     for _ in 0..count {
-        let (place, seat) = Place::new(alloc, set)?;
-        places.push(place)?;
+        let (mailbox, seat) = Mailbox::new(alloc, set)?;
+        mailboxes.push(mailbox)?;
         seats.push(seat)?;
     }
-    Ok((places, seats))
+    Ok((mailboxes, seats))
 }
 
 // Makes a member with each of the passes of a set. One that is alone has the set.
@@ -103,14 +103,14 @@ fn share_out(alloc: Global, set: VbrSet, passes: Vec<Pass>) -> Result<Vec<Member
     requires others { HasOthers set }
     ensures { IfOk result (λ members. members.items ≡ map (λ pass. record { set = set; pass = pass }) passes.items) }
 {
-    let (places, seats) = make_places(alloc, &set, passes.len())?;
+    let (mailboxes, seats) = make_mailboxes(alloc, &set, passes.len())?;
     let mut members = Vec::with_capacity(alloc, passes.len())?;
     let common = Arc::new(
         alloc,
         Common {
             before: [0; 16],
             set,
-            places,
+            mailboxes,
             after: [0; 16],
         },
     )?;

@@ -1,6 +1,6 @@
 //! What a member has of its set.
 use crate::common::Common;
-use crate::place::{Knows, Place};
+use crate::mailbox::{Knows, Mailbox};
 use crate::set::VbrSet;
 use atomic_table::Seat;
 use std::alloc::Global;
@@ -10,10 +10,10 @@ use vbr_slots::Pass;
 /// What a member has of its set.
 #[derive(Drop)]
 pub enum Share {
-    /// A share of it, with the right to lay its pass into its place.
+    /// A share of it, with the right to lay its pass into its mailbox.
     Among(Arc<Common, Global>, Seat<Option<Pass>, Knows>),
-    /// All of it, with the places of the other passes, after a close that found no memory.
-    Alone(VbrSet, Vec<Place>),
+    /// All of it, with the mailboxes of the other passes, after a close that found no memory.
+    Alone(VbrSet, Vec<Mailbox>),
     /// All of it, with the other passes, after a close that found no memory later on; or with none,
     /// where it was opened for one pass.
     Gathered(VbrSet, Vec<Pass>),

@@ -4,7 +4,7 @@ ghost use Rattle.vbr_words.specs.Places.{IsIn, index_of, words_in};
 ghost use Rattle.vbr_words.specs.Words.{link_of};
 ghost use Rattle.vbr_core.specs.Accounts.{incarnations_after};
 ghost use Rattle.vbr_core.specs.declared.event.Event.{Event};
-ghost use Rattle.vbr_set.specs.Walking.{AreAfter, NotesList, NotesLists, noted};
+ghost use Rattle.vbr_set.specs.Walking.{AreAfter, NotesList, NotesLists, is_noted};
 
 use vbr_words::{Place, Shape, decode, place_index};
 
@@ -36,7 +36,7 @@ fn note_list(shape: &Shape, words: &[u64], bucket: u32, notes: &mut [bool])
 pub(crate) fn note_lists(shape: &Shape, words: &[u64], notes: &mut [bool])
     requires run { (run : List Event) × AreAfter shape.now words.now run }
     requires room { length notes.old ≡ shape.now.slots }
-    requires none { (s : ℕ) → noted notes.old s ≡ false }
+    requires none { (s : ℕ) → is_noted notes.old s ≡ false }
     ensures { (run : List Event) → AreAfter shape.now words.now run →
         NotesLists shape.now (incarnations_after shape.now run) notes.new }
 {

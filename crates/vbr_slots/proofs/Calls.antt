@@ -16,7 +16,7 @@ use Rattle.vbr_core.specs.Incarnations.{Incarnations}
 use Rattle.vbr_core.specs.Chronicles.{Answers}
 use Rattle.vbr_core.specs.Accounts.{just, happens, incarnations_after, own_entries}
 use Rattle.vbr_core.proofs.Lemmas.{begins_trans, others_leave_calls, others_leave_entries, own_calls-snoc, own_entries-snoc}
-use Rattle.vbr_slots.specs.Views.{Trace, Did, counted, event_of, steps_in, steps_of}
+use Rattle.vbr_slots.specs.Views.{Trace, Did, counted_steps, event_of, steps_in, steps_of}
 use Rattle.vbr_slots.specs.Calls.{IsSame, made_by, Quiet, Made, entries_of, AddsNone, AddsAnswer, OnlyLoads, Moment, Took}
 
 -- ---- the same pass
@@ -87,7 +87,7 @@ pub did_took : {step : Step} {p q : Trace} {r : ℕ} → Did step p q r → Took
 did_took d = record { made = d.steps }
 
 -- the count that a pass keeps, after one more step
-pub count_next : {step : Step} {p q : Trace} {r : ℕ} (old new : ℕ) → old ≡ counted (steps_of p) → new ≡ counted (old + 1) → Did step p q r → new ≡ counted (steps_of q)
+pub count_next : {step : Step} {p q : Trace} {r : ℕ} (old new : ℕ) → old ≡ counted_steps (steps_of p) → new ≡ counted_steps (old + 1) → Did step p q r → new ≡ counted_steps (steps_of q)
 count_next old new is more d = let took = (did_took d).made in omega (arith, is, more, took)
 
 -- the moment just before a step

@@ -7,38 +7,38 @@ use lib.ListN.{get_elem?}
 use Rattle.std.specs.Prelude.{Bool}
 use Rattle.vbr_core.specs.declared.event.Event.{Event}
 use Rattle.vbr_core.proofs.Lemmas.{begins_for-snoc}
-use Rattle.vbr_slots.specs.declared.rule.Member.{Member}
-use Rattle.vbr_slots.specs.Rule.{EachBegins, members, one_if, times, times_in}
+use Rattle.vbr_slots.specs.declared.rule.Witness.{Witness}
+use Rattle.vbr_slots.specs.Rule.{EachBegins, witnesses, one_if, times, times_in}
 
-pub each_begins_more : (run : List Event) (e : Event) (v : List Member) → times e.pass v ≡ 0 → EachBegins run v → EachBegins (run ++ e ∷ []) v
+pub each_begins_more : (run : List Event) (e : Event) (v : List Witness) → times e.pass v ≡ 0 → EachBegins run v → EachBegins (run ++ e ∷ []) v
 each_begins_more run e [] away b = tt
 each_begins_more run e (m ∷ ms) away b = (
   begins_for-snoc m.who m.seen run e b.0 (λ is. let one : one_if (m.who == e.pass) ≡ 1 = ap one_if (eq-eqb m.who e.pass (sym is)) in absurd (omega arith)),
   each_begins_more run e ms (omega arith) b.1,
 )
 
-pub one_in : (who : ℕ) (vs : List (List Member)) (j : ℕ) (b : List Member) → get_elem? vs j ≡ some b → times who b ≤ times_in who vs
+pub one_in : (who : ℕ) (vs : List (List Witness)) (j : ℕ) (b : List Witness) → get_elem? vs j ≡ some b → times who b ≤ times_in who vs
 one_in who [] j b at = absurd (some-ne-none b (sym at))
 one_in who (v ∷ vs) zero b at = let same : times who v ≡ times who b = ap (times who) (some-injective v b at) in omega arith
 one_in who (v ∷ vs) (suc j) b at = let more = one_in who vs j b at in omega arith
 
-pub two_in : (who : ℕ) (vs : List (List Member)) (i j : ℕ) (a b : List Member) → j ≢ i → get_elem? vs i ≡ some a → get_elem? vs j ≡ some b → times who a + times who b ≤ times_in who vs
+pub two_in : (who : ℕ) (vs : List (List Witness)) (i j : ℕ) (a b : List Witness) → j ≢ i → get_elem? vs i ≡ some a → get_elem? vs j ≡ some b → times who a + times who b ≤ times_in who vs
 two_in who [] i j a b apart ai bj = absurd (some-ne-none b (sym bj))
 two_in who (v ∷ vs) zero zero a b apart ai bj = absurd (apart refl)
 two_in who (v ∷ vs) zero (suc j) a b apart ai bj = let same : times who v ≡ times who a = ap (times who) (some-injective v a ai) in let more = one_in who vs j b bj in omega arith
 two_in who (v ∷ vs) (suc i) zero a b apart ai bj = let same : times who v ≡ times who b = ap (times who) (some-injective v b bj) in let more = one_in who vs i a ai in omega arith
 two_in who (v ∷ vs) (suc i) (suc j) a b apart ai bj = let more = two_in who vs i j a b (λ is. apart (ap suc is)) ai bj in omega arith
 
-pub times-set : (who : ℕ) (vs : List (List Member)) (i : ℕ) (a b : List Member) → get_elem? vs i ≡ some b → times_in who (set vs i a) + times who b ≡ times_in who vs + times who a
+pub times-set : (who : ℕ) (vs : List (List Witness)) (i : ℕ) (a b : List Witness) → get_elem? vs i ≡ some b → times_in who (set vs i a) + times who b ≡ times_in who vs + times who a
 times-set who [] i a b at = absurd (some-ne-none b (sym at))
 times-set who (v ∷ vs) zero a b at = let same : times who v ≡ times who b = ap (times who) (some-injective v b at) in omega arith
 times-set who (v ∷ vs) (suc i) a b at = let more = times-set who vs i a b at in omega arith
 
--- the number of the first member
-pub times-first : (m : Member) (ms : List Member) → times m.who (m ∷ ms) ≡ 1 + times m.who ms
+-- the number of the first witness
+pub times-first : (m : Witness) (ms : List Witness) → times m.who (m ∷ ms) ≡ 1 + times m.who ms
 times-first m ms = ap (λ (t : Bool). one_if t + times m.who ms) (eq-eqb m.who m.who refl)
 
-times-below : (who k n : ℕ) → who < k → times who (members k n) ≡ 0
+times-below : (who k n : ℕ) → who < k → times who (witnesses k n) ≡ 0
 times-below who k zero low = refl
 times-below who k (suc n) low =
     let here : one_if (k == who) ≡ 0 = ap one_if (ne_eqb k who (λ is. omega arith)) in
@@ -46,7 +46,7 @@ times-below who k (suc n) low =
     omega arith
 
 -- no number stands twice at the opening
-pub times-members : (who k n : ℕ) → times who (members k n) ≤ 1
+pub times-members : (who k n : ℕ) → times who (witnesses k n) ≤ 1
 times-members who k zero = omega arith
 times-members who k (suc n) = dite (ℕ_discrete k who)
     (λ is. let here : one_if (k == who) ≡ 1 = ap one_if (eq-eqb k who is) in let rest = times-below who (suc k) n (omega arith) in omega arith)

@@ -4,17 +4,17 @@ use Rattle.atomic_table.specs.Table.{State as Standing}
 use Rattle.vbr_words.specs.Dimensions.{Dimensions, IsShape}
 use Rattle.vbr_core.specs.declared.event.Event.{Event}
 use Rattle.vbr_core.proofs.Lemmas.{begins_for_know, every_run}
-use Rattle.vbr_slots.specs.declared.rule.Member.{Member}
+use Rattle.vbr_slots.specs.declared.rule.Witness.{Witness}
 use Rattle.vbr_slots.specs.declared.rule.Opening.{Opening}
 use Rattle.vbr_slots.specs.Rule.{EachBegins, Kept}
 use Rattle.vbr_slots.specs.Running.{EachKnows, IsRunning}
 use Rattle.vbr_slots.proofs.Members.{times-members}
 
-each_knows : (shape : Dimensions) (run : List Event) (ms : List Member) → EachBegins run ms → EachKnows shape run ms
+each_knows : (shape : Dimensions) (run : List Event) (ms : List Witness) → EachBegins run ms → EachKnows shape run ms
 each_knows shape run [] b = tt
 each_knows shape run (m ∷ ms) b = (sym (begins_for_know shape m.who m.seen run b.0), each_knows shape run ms b.1)
 
-pub runs : (opening : Opening) (s : Standing (Unit {0}) (List Member)) → IsShape opening.shape → Kept opening s → IsRunning opening s
+pub runs : (opening : Opening) (s : Standing (Unit {0}) (List Witness)) → IsShape opening.shape → Kept opening s → IsRunning opening s
 runs opening s is h = record {
   run = h.run;
   is_run = h.is_run;

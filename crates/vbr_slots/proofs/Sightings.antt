@@ -6,11 +6,11 @@ use mathlib.Core.Option.{some, some-ne-none, some-injective}
 use lib.ListN.{get_elem?}
 use Rattle.atomic_table.proofs.Lists.{at_longer, at_last, set_else}
 use Rattle.vbr_core.specs.declared.event.Event.{Event}
-use Rattle.vbr_slots.specs.declared.rule.Member.{Member}
+use Rattle.vbr_slots.specs.declared.rule.Witness.{Witness}
 use Rattle.vbr_slots.specs.Rule.{HasSeen, IsSeen}
 
 abbrev V : Type 0
-V = List Member
+V = List Witness
 
 -- the seat that is set has what it was set to
 pub set_at : (vs : List V) (i : ℕ) (a b : V) → get_elem? vs i ≡ some b → get_elem? (set vs i a) i ≡ some a

@@ -14,11 +14,11 @@ use Rattle.vbr_core.specs.Runs.{IsRun, world_after, know_after, NoneOf}
 use Rattle.vbr_core.specs.declared.event.Event.{Event}
 use Rattle.vbr_core.specs.declared.event.Step.{Step}
 use Rattle.vbr_core.proofs.Lemmas.{know_after-snoc, place_in}
-use Rattle.vbr_slots.specs.declared.rule.Member.{Member}
+use Rattle.vbr_slots.specs.declared.rule.Witness.{Witness}
 use Rattle.vbr_slots.specs.declared.rule.Opening.{Opening}
 use Rattle.vbr_slots.specs.declared.runner.Runner.TheInside.{Inside as RunnerInside}
 use Rattle.vbr_slots.specs.declared.slots.Slots.TheInside.{Inside as SlotsInside}
-use Rattle.vbr_slots.specs.Rule.{Kept, Told, Shows, member, first_seen, head_of, tail_of, EachBegins}
+use Rattle.vbr_slots.specs.Rule.{Kept, Told, Shows, witness, first_seen, head_of, tail_of, EachBegins}
 use Rattle.vbr_slots.specs.Views.{Trace, TableView, IsOf, Did, knows, event_of, epoch_after, steps_in}
 use Rattle.vbr_slots.specs.RunnerView.{trace_of, seen_of, IsSoundRunner}
 use Rattle.vbr_slots.specs.SlotsView.{table_of, IsBuilt}
@@ -28,16 +28,16 @@ use Rattle.vbr_slots.proofs.Learning.{epoch_learned}
 
 -- a seat's view, and the slots of the table that it has taken
 abbrev pub Sat : Type 0
-Sat = Me (Unit {0}) (List Member)
+Sat = Me (Unit {0}) (List Witness)
 
 -- the seat of a runner
-pub known : (p : RunnerInside) (w : Trace) → IsSoundRunner p → trace_of p ≡ w → p.seat.me ≡ (member w.who w.seen ∷ [], [])
-known p w sound is = sound.alone ∙ ap (λ (v : Trace). (member v.who v.seen ∷ [], [])) is
+pub known : (p : RunnerInside) (w : Trace) → IsSoundRunner p → trace_of p ≡ w → p.seat.me ≡ (witness w.who w.seen ∷ [], [])
+known p w sound is = sound.alone ∙ ap (λ (v : Trace). (witness v.who v.seen ∷ [], [])) is
 
 pub low_of : (p : RunnerInside) (w : Trace) → IsSoundRunner p → trace_of p ≡ w → w.who < w.passes
 low_of p w sound is = subst (λ (v : Trace). v.who < v.passes) is sound.low
 
-pub seen_in : (me : Sat) (who : ℕ) (seen : List Event) (others : List Member) → me ≡ (member who seen ∷ others, []) → first_seen me.0 ≡ seen
+pub seen_in : (me : Sat) (who : ℕ) (seen : List Event) (others : List Witness) → me ≡ (witness who seen ∷ others, []) → first_seen me.0 ≡ seen
 seen_in me who seen others is = ap (λ (m : Sat). first_seen m.0) is
 
 -- what a table was opened with
@@ -45,8 +45,8 @@ abbrev pub opening_of : TableView → Opening
 opening_of t = record { shape = t.shape; passes = t.passes }
 
 -- what a step on the word asks
-pub asks : (t : SlotsInside) (table : TableView) → IsBuilt t → table_of t ≡ table → (w : Trace) → w.who < w.passes → IsOf w table → (z : TableId) → z ≡ w.table → (id : ℕ) (me : Sat) (others : List Member)
-    → me ≡ (member w.who w.seen ∷ others, []) → (step : Step) (e : Event) (opening : Opening) → (e ≡ event_of w.who step) × (opening ≡ opening_of table) → (place : Place) (word : ℕ) (f g : ℕ → ℕ) → word ≡ index_of t.opening.shape place → place ≡ place_of_step step
+pub asks : (t : SlotsInside) (table : TableView) → IsBuilt t → table_of t ≡ table → (w : Trace) → w.who < w.passes → IsOf w table → (z : TableId) → z ≡ w.table → (id : ℕ) (me : Sat) (others : List Witness)
+    → me ≡ (witness w.who w.seen ∷ others, []) → (step : Step) (e : Event) (opening : Opening) → (e ≡ event_of w.who step) × (opening ≡ opening_of table) → (place : Place) (word : ℕ) (f g : ℕ → ℕ) → word ≡ index_of t.opening.shape place → place ≡ place_of_step step
     → ((n : ℕ) → f n ≡ word_made (access_of (knows w) step) n) → ((n : ℕ) → Shows step (g n) n) → Accepts table.shape (knows w) step
     → (z ≡ t.table.shared.table_id) × (word < t.table.shared.table_id.words) × Allows (Kept t.table.shared.key) t.table.shared.table_id.slots id me word f (λ r. Told opening e me (g r))
 asks t table built t_is w low own z z_is id me others is step e opening named place word f g at_place place_is does same ok =
@@ -67,24 +67,24 @@ asks t table built t_is w low own z z_is id me others is step e opening named pl
     )
 
 -- what is known after the step
-pub record Done (w : Trace) (step : Step) (r : ℕ) (others : List Member) (n : Sat) : Type 0 where
+pub record Done (w : Trace) (step : Step) (r : ℕ) (others : List Witness) (n : Sat) : Type 0 where
   pub rest : List Event
   pub none : NoneOf w.who rest
   pub run : List Event
   pub run_is : run ≡ (w.seen ++ rest) ++ event_of w.who step ∷ []
-  pub now : n ≡ (member w.who run ∷ others, [])
+  pub now : n ≡ (witness w.who run ∷ others, [])
   pub is_run : IsRun w.shape w.passes run
   pub shows : Shows step r (found w.shape (world_after w.shape (w.seen ++ rest)) step)
   pub know : know_after w.shape run w.who ≡ learn step r (stamp_shown (world_after w.shape (w.seen ++ rest)) step) (knows w)
   pub mates : EachBegins run others
 
-pub done : (w : Trace) (table : TableView) → IsOf w table → (me n : Sat) (others : List Member) → me ≡ (member w.who w.seen ∷ others, []) → (step : Step) (e : Event) (opening : Opening) → (e ≡ event_of w.who step) × (opening ≡ opening_of table)
+pub done : (w : Trace) (table : TableView) → IsOf w table → (me n : Sat) (others : List Witness) → me ≡ (witness w.who w.seen ∷ others, []) → (step : Step) (e : Event) (opening : Opening) → (e ≡ event_of w.who step) × (opening ≡ opening_of table)
     → (r : ℕ) → Told opening e me r n → Done w step r others n
 done w table own me n others is step e opening named r told =
     let d : Event = event_of w.who step in
     let o : Opening = record { shape = w.shape; passes = w.passes } in
     let mine : opening_of table ≡ o = λ i. record { shape = sym own.1 i; passes = sym own.2 i } in
-    let here : Told o d (member w.who w.seen ∷ others, []) r n = subst (λ (x : Opening × Event × Sat). Told x.0 x.1 x.2 r n) (λ i. ((named.1 ∙ mine) i, named.0 i, is i)) told in record {
+    let here : Told o d (witness w.who w.seen ∷ others, []) r n = subst (λ (x : Opening × Event × Sat). Told x.0 x.1 x.2 r n) (λ i. ((named.1 ∙ mine) i, named.0 i, is i)) told in record {
       rest = here.rest;
       none = here.none;
       run = (w.seen ++ here.rest) ++ d ∷ [];
@@ -97,7 +97,7 @@ done w table own me n others is step e opening named r told =
     }
 
 -- the runner after the step, in a seat of its own
-module _ (p : RunnerInside) (w : Trace) (sound : IsSoundRunner p) (p_is : trace_of p ≡ w) (step : Step) (r : ℕ) (others : List Member) (n : Sat) (end : Done w step r others n) (q : RunnerInside) (is : q.seat.me ≡ (member w.who end.run ∷ [], []))
+module _ (p : RunnerInside) (w : Trace) (sound : IsSoundRunner p) (p_is : trace_of p ≡ w) (step : Step) (r : ℕ) (others : List Witness) (n : Sat) (end : Done w step r others n) (q : RunnerInside) (is : q.seat.me ≡ (witness w.who end.run ∷ [], []))
     (fields : (q.who ≡ p.who) × (q.opening ≡ p.opening) × (q.epoch ≡ epoch_after step r p.epoch)) where
   seen_now : seen_of q ≡ end.run
   seen_now = seen_in q.seat.me w.who end.run [] is
@@ -119,7 +119,7 @@ module _ (p : RunnerInside) (w : Trace) (sound : IsSoundRunner p) (p_is : trace_
 
   pub stays_sound : IsSoundRunner q
   stays_sound = record {
-    alone = is ∙ (λ i. (member (sym who_is i) (sym seen_now i) ∷ [], []));
+    alone = is ∙ (λ i. (witness (sym who_is i) (sym seen_now i) ∷ [], []));
     low = subst (λ (x : ℕ × Opening). x.0 < x.1.passes) (λ i. (sym fields.0 i, sym fields.1 i)) sound.low;
     shape = subst (λ (o : Opening). IsShape o.shape) (sym fields.1) sound.shape;
     is_run = subst (λ (x : Dimensions × ℕ × List Event). IsRun x.0 x.1 x.2) (λ i. (sym shape_is i, sym passes_is i, sym seen_now i)) end.is_run;
@@ -139,20 +139,20 @@ module _ (p : RunnerInside) (w : Trace) (sound : IsSoundRunner p) (p_is : trace_
   }
 
 -- two seats made one
-pub together : (p : ℕ) (seen : List Event) (o : ℕ) (theirs : List Event) (pm om given pm' : Sat) → pm ≡ (member p seen ∷ [], []) → om ≡ (member o theirs ∷ [], []) → given ≡ (om.0, []) → pm' ≡ (pm.0 ++ given.0, pm.1)
-    → pm' ≡ (member p seen ∷ member o theirs ∷ [], [])
+pub together : (p : ℕ) (seen : List Event) (o : ℕ) (theirs : List Event) (pm om given pm' : Sat) → pm ≡ (witness p seen ∷ [], []) → om ≡ (witness o theirs ∷ [], []) → given ≡ (om.0, []) → pm' ≡ (pm.0 ++ given.0, pm.1)
+    → pm' ≡ (witness p seen ∷ witness o theirs ∷ [], [])
 together p seen o theirs pm om given pm' is_p is_o from into =
-    into ∙ (λ i. ((is_p i).0 ++ (from i).0, (is_p i).1)) ∙ ap (λ (m : Sat). (member p seen ∷ m.0, [])) is_o
+    into ∙ (λ i. ((is_p i).0 ++ (from i).0, (is_p i).1)) ∙ ap (λ (m : Sat). (witness p seen ∷ m.0, [])) is_o
 
 -- a seat of two cut in two
-pub left_alone : (m m' : Sat) (v : Member) (vs : List Member) → m ≡ (v ∷ vs, []) → m' ≡ (head_of m.0, m.1) → m' ≡ (v ∷ [], [])
+pub left_alone : (m m' : Sat) (v : Witness) (vs : List Witness) → m ≡ (v ∷ vs, []) → m' ≡ (head_of m.0, m.1) → m' ≡ (v ∷ [], [])
 left_alone m m' v vs is left = left ∙ ap (λ (x : Sat). (head_of x.0, x.1)) is
 
-pub right_rest : (m m' : Sat) (v : Member) (vs : List Member) → m ≡ (v ∷ vs, []) → m' ≡ (tail_of m.0, []) → m' ≡ (vs, [])
+pub right_rest : (m m' : Sat) (v : Witness) (vs : List Witness) → m ≡ (v ∷ vs, []) → m' ≡ (tail_of m.0, []) → m' ≡ (vs, [])
 right_rest m m' v vs is right = right ∙ ap (λ (x : Sat). (tail_of x.0, [])) is
 
 -- a runner that has its seat back is what it was
-pub same_again : (p : RunnerInside) (w : Trace) (sound : IsSoundRunner p) (p_is : trace_of p ≡ w) (q : RunnerInside) (is : q.seat.me ≡ (member w.who w.seen ∷ [], [])) → (q.who ≡ p.who) × (q.opening ≡ p.opening) × (q.epoch ≡ p.epoch)
+pub same_again : (p : RunnerInside) (w : Trace) (sound : IsSoundRunner p) (p_is : trace_of p ≡ w) (q : RunnerInside) (is : q.seat.me ≡ (witness w.who w.seen ∷ [], [])) → (q.who ≡ p.who) × (q.opening ≡ p.opening) × (q.epoch ≡ p.epoch)
     → q.seat.table_id ≡ w.table → IsSoundRunner q × (trace_of q ≡ w)
 same_again p w sound p_is q is fields table =
     let seen : seen_of q ≡ w.seen = seen_in q.seat.me w.who w.seen [] is in
@@ -161,7 +161,7 @@ same_again p w sound p_is q is fields table =
     let shape : q.opening.shape ≡ w.shape = ap (λ (o : Opening). o.shape) fields.1 ∙ ap (λ (v : Trace). v.shape) p_is in
     let passes : q.opening.passes ≡ w.passes = ap (λ (o : Opening). o.passes) fields.1 ∙ ap (λ (v : Trace). v.passes) p_is in (
       record {
-        alone = is ∙ (λ i. (member (sym who i) (sym seen i) ∷ [], []));
+        alone = is ∙ (λ i. (witness (sym who i) (sym seen i) ∷ [], []));
         low = subst (λ (x : ℕ × Opening). x.0 < x.1.passes) (λ i. (sym fields.0 i, sym fields.1 i)) sound.low;
         shape = subst (λ (o : Opening). IsShape o.shape) (sym fields.1) sound.shape;
         is_run = subst (λ (x : Opening × List Event). IsRun x.0.shape x.0.passes x.1) (λ i. (sym fields.1 i, sym was i)) sound.is_run;

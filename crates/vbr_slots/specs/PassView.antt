@@ -4,6 +4,7 @@ use Rattle.vbr_slots.specs.declared.pass.Pass.TheInside.{Inside}
 use Rattle.vbr_slots.specs.Pools.{OwnPool}
 use Rattle.vbr_slots.specs.Views.{PassView, knows}
 
+-- what contracts see
 abbrev pub view_of : Inside → PassView
 view_of p = record { trace = p.runner; pool = p.pool.items; hand = p.hand }
 

@@ -3,6 +3,7 @@ use Rattle.std.specs.Prelude.{◌+◌, ◌≤◌, length, drop}
 use Rattle.vbr_slots.specs.declared.pool.Pool.TheInside.{Inside}
 use Rattle.vbr_slots.specs.Pools.{PoolView}
 
+-- what contracts see: those that have not left
 abbrev pub pool_of : Inside → PoolView
 pool_of p = record { items = drop p.first p.cells.items }
 

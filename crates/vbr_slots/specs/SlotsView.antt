@@ -5,6 +5,7 @@ use Rattle.vbr_words.specs.Places.{words_in}
 use Rattle.vbr_slots.specs.declared.slots.Slots.TheInside.{Inside}
 use Rattle.vbr_slots.specs.Views.{TableView}
 
+-- what contracts see
 abbrev pub table_of : Inside → TableView
 table_of t = record { table = t.table.shared.table_id; shape = t.opening.shape; passes = t.opening.passes }
 

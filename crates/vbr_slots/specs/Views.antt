@@ -31,10 +31,11 @@ pub record TableView : Type 0 where
   pub shape : Dimensions
   pub passes : ℕ
 
--- a pass that has seen nothing
+-- the trace of a pass that has seen nothing
 abbrev pub new_trace : TableView → ℕ → Trace
 new_trace t who = record { table = t.table; shape = t.shape; passes = t.passes; who = who; seen = [] }
 
+-- a pass that has seen nothing
 abbrev pub new_pass : TableView → ℕ → PassView
 new_pass t who = record { trace = new_trace t who; pool = []; hand = None }
 
@@ -60,6 +61,7 @@ epoch_after _ found epoch = epoch
 abbrev pub KeepsPool : PassView → PassView → Type 0
 KeepsPool p q = (q.pool ≡ p.pool) × (q.hand ≡ p.hand)
 
+-- a step of a pass, as an event
 abbrev pub event_of : ℕ → Step → Event
 event_of who step = record { pass = who; step = step }
 
@@ -72,8 +74,8 @@ abbrev pub steps_of : Trace → ℕ
 steps_of p = steps_in p.who p.seen
 
 -- a number of steps, up to the greatest number that a count holds
-abbrev pub counted : ℕ → ℕ
-counted steps = min steps (2 ^ 64 - 1)
+abbrev pub counted_steps : ℕ → ℕ
+counted_steps steps = min steps (2 ^ 64 - 1)
 
 -- the pass made the step: after all that it had seen and what others did since, which the core accepted as a run; it was shown r; and it knows what the core has it learn from that
 pub record Did (step : Step) (p q : Trace) (r : ℕ) : Type 0 where

@@ -1,6 +1,6 @@
 //! A runner, and the count of its steps.
 ghost use Rattle.std.specs.Prelude.{◌≡◌, ◌+◌};
-ghost use Rattle.vbr_slots.specs.Views.{counted};
+ghost use Rattle.vbr_slots.specs.Views.{counted_steps};
 
 use crate::runner::Runner;
 use std::marker::Model;
@@ -27,7 +27,7 @@ impl Model for Counted {
 // A count after so many more steps; it stays at the greatest number.
 #[inline]
 pub(crate) fn steps_after(steps: u64, more: u32) -> u64
-    ensures { result ≡ counted (steps + more) }
+    ensures { result ≡ counted_steps (steps + more) }
 {
     steps.saturating_add(u64::from(more))
 }

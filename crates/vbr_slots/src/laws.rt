@@ -2,7 +2,7 @@
 ghost use Rattle.std.specs.Prelude.{List};
 ghost use Rattle.atomic_table.specs.Table.{State};
 ghost use Rattle.vbr_words.specs.Dimensions.{IsShape};
-ghost use Rattle.vbr_slots.specs.declared.rule.Member.{Member};
+ghost use Rattle.vbr_slots.specs.declared.rule.Witness.{Witness};
 ghost use Rattle.vbr_slots.specs.declared.rule.Opening.{Opening};
 ghost use Rattle.vbr_slots.specs.Rule.{Kept};
 ghost use Rattle.vbr_slots.specs.Running.{IsRunning};
@@ -10,5 +10,5 @@ ghost use Rattle.vbr_slots.specs.Running.{IsRunning};
 /// A law: whatever meets the rule of the table, as the table does before and after every atomic
 /// step, is the state of a safe run of the core.
 pub fn the_table_is_a_run()
-    ensures { (opening : Opening) (s : State (Unit {0}) (List Member)) → IsShape opening.shape → Kept opening s → IsRunning opening s }
+    ensures { (opening : Opening) (s : State (Unit {0}) (List Witness)) → IsShape opening.shape → Kept opening s → IsRunning opening s }
 {}

@@ -30,9 +30,9 @@ pub enum OpenError {
 
 impl fmt::Display for OpenError {
     ghost use Rattle.std.specs.Prelude.{Some};
-    ghost use Rattle.vbr_slots.specs.Messages.{error_text};
+    ghost use Rattle.vbr_slots.specs.Messages.{open_error_text};
 
-    ghost output = { λ e. Some (error_text e) };
+    ghost output = { λ e. Some (open_error_text e) };
 
     fn fmt<W: fmt::Write>(&self, f: &mut fmt::Formatter<W>) -> fmt::Result {
         match self {

@@ -5,7 +5,7 @@ ghost use Rattle.vbr_core.specs.Acceptance.{IsFree};
 ghost use Rattle.vbr_core.specs.Runs.{IsRun};
 ghost use Rattle.vbr_slots.specs.PassLaw.{PassLaw};
 ghost use Rattle.vbr_slots.specs.Pools.{OwnPool, hand_without, without};
-ghost use Rattle.vbr_slots.specs.Views.{counted, knows, steps_of};
+ghost use Rattle.vbr_slots.specs.Views.{counted_steps, knows, steps_of};
 
 use crate::counted::Counted;
 use crate::pool::Pool;
@@ -61,7 +61,7 @@ impl Pass {
     /// in what it has seen.
     #[inline]
     pub fn steps(&self) -> u64
-        ensures { result ≡ counted (steps_of self.now.trace) }
+        ensures { result ≡ counted_steps (steps_of self.now.trace) }
     {
         self.runner.steps
     }

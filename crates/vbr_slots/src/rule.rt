@@ -13,20 +13,20 @@ pub struct Opening {
 }
 
 /// What a seat knows of one pass: its number, and the events of the run that it has seen.
-pub struct Member {
+pub struct Witness {
     pub who: u32,
     pub seen: LinkedList<Event>,
 }
 
 /// The rule: the table is the state of a run of the core.
-pub struct IsRun;
+pub struct RunRule;
 
-impl TableRule<(), LinkedList<Member>, Opening> for IsRun {
-    ghost use Rattle.vbr_slots.specs.Rule.{Kept, first_members};
+impl TableRule<(), LinkedList<Witness>, Opening> for RunRule {
+    ghost use Rattle.vbr_slots.specs.Rule.{Kept, first_witnesses};
 
     ghost holds = { Kept };
 
-    ghost first = { first_members };
+    ghost first = { first_witnesses };
 }
 
 /// Which event a step is, at which table. Each call picks it.
@@ -52,25 +52,25 @@ pub struct Does<E> {
     event: PhantomData<E>,
 }
 
-impl<E: Naming> Play<(), LinkedList<Member>> for Does<E> {
+impl<E: Naming> Play<(), LinkedList<Witness>> for Does<E> {
     ghost use Rattle.vbr_slots.specs.Rule.{Told};
 
     ghost then = { λ _. Told E.opening E.event };
 }
 
-/// A new seat, which has no member.
+/// A new seat, which has no witness.
 pub struct Nobody;
 
-impl Play<(), LinkedList<Member>> for Nobody {
+impl Play<(), LinkedList<Witness>> for Nobody {
     ghost use Rattle.std.specs.Prelude.{◌≡◌, []};
 
     ghost then = { λ _ _ _ n. n.0 ≡ [] };
 }
 
-/// The first member stays, and the others go.
+/// The first witness stays, and the others go.
 pub struct First;
 
-impl Split<LinkedList<Member>> for First {
+impl Split<LinkedList<Witness>> for First {
     ghost use Rattle.vbr_slots.specs.Rule.{head_of, tail_of};
 
     ghost left = { head_of };
@@ -78,10 +78,10 @@ impl Split<LinkedList<Member>> for First {
     ghost right = { tail_of };
 }
 
-/// All members go.
+/// All witnesses go.
 pub struct Whole;
 
-impl Split<LinkedList<Member>> for Whole {
+impl Split<LinkedList<Witness>> for Whole {
     ghost use Rattle.std.specs.Prelude.{[]};
 
     ghost left = { λ _. [] };
@@ -89,10 +89,10 @@ impl Split<LinkedList<Member>> for Whole {
     ghost right = { λ v. v };
 }
 
-/// The members of both seats.
+/// The witnesses of both seats.
 pub struct Both;
 
-impl Join<LinkedList<Member>> for Both {
+impl Join<LinkedList<Witness>> for Both {
     ghost use Rattle.std.specs.Prelude.{[], ◌++◌};
 
     ghost both = { λ v w. v ++ w };

@@ -2,7 +2,7 @@
 ghost use Rattle.std.specs.Prelude.{◌≡◌};
 ghost use Rattle.vbr_slots.specs.Views.{epoch_after, knows};
 
-use crate::rule::{Member, Opening};
+use crate::rule::{Opening, Witness};
 use atomic_table::Seat;
 use std::collections::LinkedList;
 use std::marker::Model;
@@ -12,7 +12,7 @@ use vbr_core::Step;
 /// read.
 #[derive(Drop)]
 pub struct Runner {
-    pub(crate) seat: Seat<(), LinkedList<Member>>,
+    pub(crate) seat: Seat<(), LinkedList<Witness>>,
     pub(crate) opening: Opening,
     pub(crate) who: u32,
     pub(crate) epoch: u64,

@@ -1,7 +1,7 @@
 //! The table.
 ghost use Rattle.std.specs.Prelude.{◌≡◌};
 
-use crate::rule::{IsRun, Member, Opening};
+use crate::rule::{Opening, RunRule, Witness};
 use atomic_table::Table;
 use std::alloc::Global;
 use std::collections::LinkedList;
@@ -11,7 +11,7 @@ use vbr_words::Shape;
 /// The words of a set, shared by the passes that were opened with it.
 #[derive(Drop)]
 pub struct Slots {
-    pub(crate) table: Table<(), LinkedList<Member>, Opening, IsRun, Global>,
+    pub(crate) table: Table<(), LinkedList<Witness>, Opening, RunRule, Global>,
     pub(crate) opening: Opening,
 }
 

@@ -11,7 +11,7 @@ use Rattle.vbr_core.specs.Runs as machine
 use Rattle.vbr_core.specs.Runs.{world_after}
 use Rattle.vbr_core.specs.Safety.{IsSafe}
 use Rattle.vbr_core.specs.declared.event.Event.{Event}
-use Rattle.vbr_transcript.specs.Calls.{Outcome, answered, lines_by, lines_up_to, outcomes_by, outcomes_up_to}
+use Rattle.vbr_transcript.specs.Calls.{Outcome, answered_calls, lines_by, lines_up_to, outcomes_by, outcomes_up_to}
 use Rattle.vbr_transcript.specs.Merging.{replies_by, IsMerged}
 use Rattle.vbr_script.specs.Scripts.{ArePhased}
 use Rattle.vbr_transcript.specs.Phases.{HaveCalled, HavePlayed}
@@ -55,16 +55,16 @@ of_worker_up_to phases workers who phase lines own replies phased merged =
     ∙ ap (λ (some : List Line). zip some (replies_by who own)) (sym (lines_by-up_to who phase lines))
 
 -- where each worker has called these lines, and there are no others, the calls are those of outcomes that are theirs
-own_order : (shape : Dimensions) (workers who : ℕ) (seen : List Event) (lines : List Line) (own : List (List Reply)) (outcomes : List Outcome) → machine.IsRun shape workers seen → HaveCalled shape workers lines own seen → All (λ line. line.worker < workers) lines → outcomes_by who outcomes ≡ zip (lines_by who lines) (replies_by who own) → calls_by who (world_after shape seen).calls ≡ calls_by who (answered outcomes)
+own_order : (shape : Dimensions) (workers who : ℕ) (seen : List Event) (lines : List Line) (own : List (List Reply)) (outcomes : List Outcome) → machine.IsRun shape workers seen → HaveCalled shape workers lines own seen → All (λ line. line.worker < workers) lines → outcomes_by who outcomes ≡ zip (lines_by who lines) (replies_by who own) → calls_by who (world_after shape seen).calls ≡ calls_by who (answered_calls outcomes)
 own_order shape workers who seen lines own outcomes is_run called below of_worker = elim (cases_lt who workers) [
-  | inl one ↦ called who one ∙ sym (calls_by-answered who outcomes ∙ ap answered of_worker)
+  | inl one ↦ called who one ∙ sym (calls_by-answered who outcomes ∙ ap answered_calls of_worker)
   | inr none ↦
       let no_lines : zip (lines_by who lines) (replies_by who own) ≡ [] = ap (λ (some : List Line). zip some (replies_by who own)) (none_beyond workers who lines none below) in
-      no_calls_beyond shape workers who seen none is_run ∙ sym (calls_by-answered who outcomes ∙ ap answered (of_worker ∙ no_lines))
+      no_calls_beyond shape workers who seen none is_run ∙ sym (calls_by-answered who outcomes ∙ ap answered_calls (of_worker ∙ no_lines))
 ]
 
 -- each phase ends in the history
-ends : (shape : Dimensions) (workers phases phase : ℕ) (lines : List Line) (own : List (List Reply)) (replies : List Reply) (run : List Event) → ArePhased workers phases lines → IsMerged lines own replies → machine.IsRun shape workers run → HavePlayed shape workers phases lines own run → ((who : ℕ) → calls_by who (world_after shape run).calls ≡ calls_by who (answered (zip lines replies))) → EndsIn (world_after shape run).calls (zip lines replies) phase
+ends : (shape : Dimensions) (workers phases phase : ℕ) (lines : List Line) (own : List (List Reply)) (replies : List Reply) (run : List Event) → ArePhased workers phases lines → IsMerged lines own replies → machine.IsRun shape workers run → HavePlayed shape workers phases lines own run → ((who : ℕ) → calls_by who (world_after shape run).calls ≡ calls_by who (answered_calls (zip lines replies))) → EndsIn (world_after shape run).calls (zip lines replies) phase
 ends shape workers phases phase lines own replies run phased merged is_run played all = elim (cases_lt phase phases) [
   | inl before ↦
       let end = played.ends phase before in
@@ -81,7 +81,7 @@ ends shape workers phases phase lines own replies run phased merged is_run playe
         before = (world_after shape run).calls;
         after = [];
         whole = sym (append-nil (world_after shape run).calls);
-        own_order = λ who. all who ∙ ap (λ (some : List Outcome). calls_by who (answered some)) (sym whole);
+        own_order = λ who. all who ∙ ap (λ (some : List Outcome). calls_by who (answered_calls some)) (sym whole);
       }
 ]
 

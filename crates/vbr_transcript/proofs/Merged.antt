@@ -20,15 +20,15 @@ pub record IsMergedSoFar (lines : List Line) (own : List (List Reply)) (next : L
   pub own_order : (who : ℕ) → map (λ outcome. outcome.1) (outcomes_by who (zip (take i lines) merged)) ≡ take (get_or next who 0) (replies_by who own)
 
 -- a worker's lines so far are counted one more where the next line is its own
-counted : (who : ℕ) (lines : List Line) (i : ℕ) (line : Line) → i < length lines → get_or lines i line ≡ line → length (lines_by who (take (i + 1) lines)) ≡ length (lines_by who (take i lines)) + cond (eqb line.worker who) 1 0
-counted who lines i line inside is = rw (length-filter_more (λ (line : Line). eqb line.worker who) lines i line inside, is) refl
+lines_counted : (who : ℕ) (lines : List Line) (i : ℕ) (line : Line) → i < length lines → get_or lines i line ≡ line → length (lines_by who (take (i + 1) lines)) ≡ length (lines_by who (take i lines)) + cond (eqb line.worker who) 1 0
+lines_counted who lines i line inside is = rw (length-filter_more (λ (line : Line). eqb line.worker who) lines i line inside, is) refl
 
 -- the worker of the next line has a reply left
 has_reply : (lines : List Line) (own : List (List Reply)) (next : List ℕ) (merged : List Reply) (i : ℕ) (line : Line) → HaveReplies own lines → IsMergedSoFar lines own next merged i → i < length lines → get_or lines i line ≡ line → get_or next line.worker 0 < length (replies_by line.worker own)
 has_reply lines own next merged i line have so_far inside is =
     let mine : Line → Bool = λ (other : Line). eqb other.worker line.worker in
     let one : cond {A = ℕ} (eqb line.worker line.worker) 1 0 ≡ 1 = ap (λ (b : Bool). cond {A = ℕ} b 1 0) (eq-eqb line.worker line.worker refl) in
-    let more = counted line.worker lines i line inside is in
+    let more = lines_counted line.worker lines i line inside is in
     let most = sum_by-take-le (λ (line : Line). cond (mine line) 1 0) lines (i + 1) in
     let first = length-filter mine (take (i + 1) lines) in
     let all = length-filter mine lines in
@@ -73,11 +73,11 @@ merged_more lines own next merged i line reply have so_far inside is answered = 
         let here : get_or (set next line.worker (get_or next line.worker 0 + 1)) who 0 ≡ get_or next line.worker 0 + 1 = rw same (get_or-set_same next line.worker (get_or next line.worker 0 + 1) 0 seat) in
         let one : cond {A = ℕ} (eqb line.worker who) 1 0 ≡ 1 = rw (eq-eqb line.worker who (sym same)) refl in
         let before : get_or next line.worker 0 ≡ length (lines_by who (take i lines)) = rw same (so_far.taken line.worker) in
-        omega (arith, here, one, before, counted who lines i line inside is)
+        omega (arith, here, one, before, lines_counted who lines i line inside is)
     taken who (inr other) =
         let there : get_or (set next line.worker (get_or next line.worker 0 + 1)) who 0 ≡ get_or next who 0 = get_or-set_other next line.worker who (get_or next line.worker 0 + 1) 0 other in
         let none : cond {A = ℕ} (eqb line.worker who) 1 0 ≡ 0 = rw (ne_eqb line.worker who (λ same. other (sym same))) refl in
-        omega (arith, there, none, so_far.taken who, counted who lines i line inside is)
+        omega (arith, there, none, so_far.taken who, lines_counted who lines i line inside is)
 
     own_order : (who : ℕ) → (who ≡ line.worker) ⊎ (who ≢ line.worker) → map (λ (outcome : Outcome). outcome.1) (outcomes_by who (zip (take i lines) merged)) ++ cond (eqb line.worker who) (reply ∷ []) [] ≡ take (get_or (set next line.worker (get_or next line.worker 0 + 1)) who 0) (replies_by who own)
     own_order who (inl same) =

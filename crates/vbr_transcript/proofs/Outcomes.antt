@@ -8,7 +8,7 @@ use Rattle.std.specs.Prelude.{nat_le, zip, All}
 use Rattle.vbr_core.specs.History.{calls_by}
 use Rattle.vbr_core.specs.declared.history.Call.{Call}
 use Rattle.vbr_core.proofs.Lemmas.{calls_by-append}
-use Rattle.vbr_transcript.specs.Calls.{Outcome, answer_of, answered, lines_by, lines_up_to, outcomes_by, outcomes_up_to}
+use Rattle.vbr_transcript.specs.Calls.{Outcome, answer_of, answered_calls, lines_by, lines_up_to, outcomes_by, outcomes_up_to}
 use Rattle.vbr_script.specs.Scripts.{AscendFrom}
 use Rattle.vbr_script.specs.declared.script.Line.{Line}
 use Rattle.vbr_transcript.specs.declared.reply.Reply.{Reply}
@@ -31,15 +31,15 @@ calls_by-answer who line Spent = sym (none_kept (eqb line.worker who))
 calls_by-answer who line Tired = sym (none_kept (eqb line.worker who))
 
 -- an outcome that is kept, or not, before the rest
-answered-kept : (b : Bool) (outcome : Outcome) (rest : List Outcome) → cond b (answer_of outcome.0 outcome.1) [] ++ answered rest ≡ answered (cond b (outcome ∷ rest) rest)
+answered-kept : (b : Bool) (outcome : Outcome) (rest : List Outcome) → cond b (answer_of outcome.0 outcome.1) [] ++ answered_calls rest ≡ answered_calls (cond b (outcome ∷ rest) rest)
 answered-kept true outcome rest = refl
 answered-kept false outcome rest = refl
 
 -- the answered calls of a worker are those of its outcomes
-pub calls_by-answered : (who : ℕ) (outcomes : List Outcome) → calls_by who (answered outcomes) ≡ answered (outcomes_by who outcomes)
+pub calls_by-answered : (who : ℕ) (outcomes : List Outcome) → calls_by who (answered_calls outcomes) ≡ answered_calls (outcomes_by who outcomes)
 calls_by-answered who [] = refl
 calls_by-answered who (outcome ∷ outcomes) =
-    calls_by-append who (answer_of outcome.0 outcome.1) (answered outcomes)
+    calls_by-append who (answer_of outcome.0 outcome.1) (answered_calls outcomes)
     ∙ ap₂ (λ (a b : List Call). a ++ b) (calls_by-answer who outcome.0 outcome.1) (calls_by-answered who outcomes)
     ∙ answered-kept (eqb outcome.0.worker who) outcome (outcomes_by who outcomes)
 

@@ -10,18 +10,18 @@ abbrev pub Outcome : Type 0
 Outcome = Line × Reply
 
 -- an operation as a call that was answered so
-abbrev pub call_of : Line → Bool → Call
-call_of line answer = record { who = line.worker; op = line.op; key = line.key; reply = answer }
+abbrev pub call_of_line : Line → Bool → Call
+call_of_line line answer = record { who = line.worker; op = line.op; key = line.key; reply = answer }
 
 -- the call that an operation is where its reply answers it, and none where it was refused
 abbrev pub answer_of : Line → Reply → List Call
-answer_of line Yes = call_of line true ∷ []
-answer_of line No = call_of line false ∷ []
+answer_of line Yes = call_of_line line true ∷ []
+answer_of line No = call_of_line line false ∷ []
 answer_of line _ = []
 
 -- the answered operations as calls, in their order
-abbrev pub answered : List Outcome → List Call
-answered outcomes = flat_map (λ outcome. answer_of outcome.0 outcome.1) outcomes
+abbrev pub answered_calls : List Outcome → List Call
+answered_calls outcomes = flat_map (λ outcome. answer_of outcome.0 outcome.1) outcomes
 
 -- the lines of one worker, in their order
 abbrev pub lines_by : ℕ → List Line → List Line

@@ -4,7 +4,7 @@ use Rattle.vbr_words.specs.Dimensions.{Dimensions}
 use Rattle.vbr_core.specs.Calls.{own_calls}
 use Rattle.vbr_core.specs.Runs.{Begins, world_after}
 use Rattle.vbr_core.specs.declared.event.Event.{Event}
-use Rattle.vbr_transcript.specs.Calls.{answered, lines_by, lines_up_to}
+use Rattle.vbr_transcript.specs.Calls.{answered_calls, lines_by, lines_up_to}
 use Rattle.vbr_transcript.specs.Merging.{replies_by}
 use Rattle.vbr_transcript.specs.Runs.{MayBeAnswered}
 use Rattle.vbr_script.specs.declared.script.Line.{Line}
@@ -13,7 +13,7 @@ use Rattle.vbr_transcript.specs.declared.reply.Reply.{Reply}
 -- the calls of each worker after these events are those of its lines, as its replies answer them
 abbrev pub HaveCalled : Dimensions → ℕ → List Line → List (List Reply) → List Event → Type 0
 HaveCalled shape workers lines own seen =
-    (who : ℕ) → who < workers → own_calls shape seen who ≡ answered (zip (lines_by who lines) (replies_by who own))
+    (who : ℕ) → who < workers → own_calls shape seen who ≡ answered_calls (zip (lines_by who lines) (replies_by who own))
 
 -- a phase ends within a run: at some point of it each worker has called its lines of the phases up to this one, and no more
 pub record EndsWithin (shape : Dimensions) (workers : ℕ) (lines : List Line) (own : List (List Reply)) (run : List Event) (phase : ℕ) : Type 0 where

@@ -10,7 +10,7 @@ use Rattle.vbr_core.specs.declared.event.Event.{Event}
 use Rattle.vbr_core.specs.declared.history.Call.{Call}
 use Rattle.vbr_core.specs.declared.history.Op.{Op}
 use Rattle.vbr_core.specs.declared.history.Op.TheVariants.{Insert, Remove, Has}
-use Rattle.vbr_transcript.specs.Calls.{Outcome, answered, outcomes_up_to}
+use Rattle.vbr_transcript.specs.Calls.{Outcome, answered_calls, outcomes_up_to}
 use Rattle.vbr_script.specs.declared.script.Line.{Line}
 use Rattle.vbr_transcript.specs.declared.reply.Reply.{Reply}
 use Rattle.vbr_transcript.specs.declared.reply.Reply.TheVariants.{Yes, No, Full, Spent}
@@ -23,12 +23,12 @@ pub record EndsIn (history : List Call) (outcomes : List Outcome) (phase : ℕ) 
   pub before : List Call
   pub after : List Call
   pub whole : history ≡ before ++ after
-  pub own_order : (who : ℕ) → calls_by who before ≡ calls_by who (answered (outcomes_up_to phase outcomes))
+  pub own_order : (who : ℕ) → calls_by who before ≡ calls_by who (answered_calls (outcomes_up_to phase outcomes))
 
 -- a history explains outcomes: it is legal from the empty set, it has just the answered operations as its calls, those of each worker in script order, and each phase ends before the next
 pub record Explains (history : List Call) (outcomes : List Outcome) : Type 0 where
   pub legal : IsLegal no_keys history
-  pub own_order : (who : ℕ) → calls_by who history ≡ calls_by who (answered outcomes)
+  pub own_order : (who : ℕ) → calls_by who history ≡ calls_by who (answered_calls outcomes)
   pub phases : (phase : ℕ) → EndsIn history outcomes phase
 
 -- ---- refusals

@@ -5,7 +5,8 @@ use Rattle.vbr_words.specs.declared.shape.TheConstants.{MAX_BUCKETS, MAX_EPOCH}
 use Rattle.vbr_words.specs.declared.shape.ShapeError.{ShapeError}
 use Rattle.vbr_words.specs.declared.shape.ShapeError.TheVariants.{Slots, Buckets, LastEpoch}
 
-abbrev pub error_text : ShapeError → List ℕ
-error_text Slots = codes "the number of slots is not from 1 to " ++ decimal MAX_SLOTS
-error_text Buckets = codes "the number of buckets is not from 1 to " ++ decimal MAX_BUCKETS
-error_text LastEpoch = codes "the last epoch is not from 1 to " ++ decimal MAX_EPOCH
+-- what is printed of a shape that is refused
+abbrev pub shape_error_text : ShapeError → List ℕ
+shape_error_text Slots = codes "the number of slots is not from 1 to " ++ decimal MAX_SLOTS
+shape_error_text Buckets = codes "the number of buckets is not from 1 to " ++ decimal MAX_BUCKETS
+shape_error_text LastEpoch = codes "the last epoch is not from 1 to " ++ decimal MAX_EPOCH

@@ -47,9 +47,9 @@ pub enum ShapeError {
 
 impl fmt::Display for ShapeError {
     ghost use Rattle.std.specs.Prelude.{Some};
-    ghost use Rattle.vbr_words.specs.Messages.{error_text};
+    ghost use Rattle.vbr_words.specs.Messages.{shape_error_text};
 
-    ghost output = { λ e. Some (error_text e) };
+    ghost output = { λ e. Some (shape_error_text e) };
 
     fn fmt<W: fmt::Write>(&self, f: &mut fmt::Formatter<W>) -> fmt::Result {
         match self {

@@ -7,7 +7,7 @@ ghost use Rattle.vbr_core.specs.Acceptance.{Accepts};
 ghost use Rattle.vbr_core.specs.Learning.{learn};
 ghost use Rattle.vbr_core.specs.Machine as machine;
 ghost use Rattle.vbr_core.specs.Runs.{IsAccepted};
-ghost use Rattle.vbr_core.specs.Kept.{know_of, new_pass, world_of};
+ghost use Rattle.vbr_core.specs.Kept.{know_of, opening_pass, world_of};
 ghost use Rattle.vbr_core.specs.Making.{with_answer};
 
 use crate::event::{Event, Step};
@@ -53,11 +53,11 @@ fn learn_at(
 ) -> Result<(), AllocError>
     requires pass { event.pass < length passes.old.items }
     requires slots { AllByRecursion (λ pass. length pass.own ≡ shape.now.slots) passes.old.items }
-    requires accepted { Accepts shape.now (know_of (slice_index_or passes.old.items event.pass new_pass)) event.step }
+    requires accepted { Accepts shape.now (know_of (slice_index_or passes.old.items event.pass opening_pass)) event.step }
     requires epoch { event.step ≡ Step.ReadEpoch → found ≤ MAX_EPOCH }
     requires birth { (s : ℕ) → event.step ≡ Step.LoadBirth s → found ≤ MAX_EPOCH }
-    ensures learned { OnOk result ((λ p. know_of (slice_index_or passes.new.items p new_pass))
-        ≡ put (λ p. know_of (slice_index_or passes.old.items p new_pass)) event.pass (learn event.step found stamp (know_of (slice_index_or passes.old.items event.pass new_pass)))) }
+    ensures learned { OnOk result ((λ p. know_of (slice_index_or passes.new.items p opening_pass))
+        ≡ put (λ p. know_of (slice_index_or passes.old.items p opening_pass)) event.pass (learn event.step found stamp (know_of (slice_index_or passes.old.items event.pass opening_pass)))) }
     ensures refused { OnErr result (passes.new.items ≡ passes.old.items) }
     ensures slots { AllByRecursion (λ pass. length pass.own ≡ shape.now.slots) passes.new.items }
     ensures count { length passes.new.items ≡ length passes.old.items }

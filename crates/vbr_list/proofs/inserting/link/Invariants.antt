@@ -1,6 +1,6 @@
 use Rattle.std.proofs.Common.{◌-◌}
 use Rattle.vbr_slots.specs.Calls.{Quiet}
-use Rattle.vbr_pools.specs.Advances.{TakesNoSlot}
+use Rattle.vbr_pools.specs.KeptSlots.{TakesNoSlot}
 use Rattle.vbr_list.specs.Inserting.{CountsWithin, HasHandAndRoom}
 use Rattle.vbr_list.proofs.inserting.link.Given as goal
 use Rattle.vbr_list.proofs.Traversals.{IsFirst}

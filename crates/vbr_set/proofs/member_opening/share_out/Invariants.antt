@@ -8,5 +8,5 @@ use Rattle.vbr_set.proofs.Seats.{AreSeated}
 abbrev pub invariant-loop-pass : goal.invariant-loop-pass
 invariant-loop-pass l = record {
   made : l.members.items ++ map (λ pass. record { set = l.fn.set; pass = pass }) (into_iter_items l.pass-iterator) ≡ map (λ pass. record { set = l.fn.set; pass = pass }) l.fn.passes.items;
-  seated : AreSeated l.fn.set (arc_value l.common).places.items (into_iter_items l.pass-iterator) (into_iter_items l.seats);
+  seated : AreSeated l.fn.set (arc_value l.common).mailboxes.items (into_iter_items l.pass-iterator) (into_iter_items l.seats);
 }

@@ -2,7 +2,7 @@ use Rattle.std.proofs.Common.{[], ◌∷◌, ◌++◌, length, ap, ◌∙◌, su
 use Rattle.vbr_core.specs.Machine as machine
 use Rattle.vbr_core.specs.Runs.{IsRun, know_after}
 use Rattle.vbr_core.proofs.Lemmas.{is_run_first}
-use Rattle.vbr_slots.specs.Views.{TableView, counted, steps_in}
+use Rattle.vbr_slots.specs.Views.{TableView, counted_steps, steps_in}
 use Rattle.vbr_slots.specs.Words.{AreWordsOf}
 use Rattle.vbr_slots.proofs.Seats.{opens, splits_first, first_is, first_empty, others_next, new_passes-next}
 use Rattle.vbr_slots.proofs.slots.Slots.build.Goals as goal
@@ -37,7 +37,7 @@ invariant_of-counted c =
     let s = c.split_seat-next.ensures in
     let i = c.loop-who.invariant in
     let empty = first_empty c.loop-who.who c.args.opening.passes c.loop-who.seat.me c.split_seat-next.new.seat.me c.split_seat-next.result.me c.loop-who-test.true i.1 s.2 s.4 in
-    record { steps = ap (λ es. counted (steps_in c.loop-who.who es)) (sym empty) }
+    record { steps = ap (λ es. counted_steps (steps_in c.loop-who.who es)) (sym empty) }
 
 pub loop-who-preserved : goal.loop-who-preserved
 loop-who-preserved c =

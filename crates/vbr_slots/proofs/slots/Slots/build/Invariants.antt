@@ -1,10 +1,10 @@
 use Rattle.std.proofs.Common.{◌≡◌, ◌-◌, []}
-use Rattle.vbr_slots.specs.Rule.{members}
+use Rattle.vbr_slots.specs.Rule.{witnesses}
 use Rattle.vbr_slots.specs.Views.{new_passes}
 use Rattle.vbr_slots.proofs.slots.Slots.build.Given as goal
 
 abbrev pub invariant-loop-who : goal.invariant-loop-who
 invariant-loop-who l =
     (l.seat.table_id ≡ l.table.shared.table_id)
-    × (l.seat.me ≡ (members l.who (l.opening.passes - l.who), []))
+    × (l.seat.me ≡ (witnesses l.who (l.opening.passes - l.who), []))
     × (l.passes.items ≡ new_passes (record { table = l.table.shared.table_id; shape = l.opening.shape; passes = l.opening.passes }) 0 l.who)

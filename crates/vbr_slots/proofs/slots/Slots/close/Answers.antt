@@ -4,7 +4,7 @@ use Rattle.vbr_slots.specs.Closing.{AllOf}
 use Rattle.vbr_slots.specs.Views.{Trace, PassView}
 use Rattle.vbr_slots.proofs.Seats.{enters, joins}
 use Rattle.vbr_slots.proofs.Steps.{known, wide}
-use Rattle.vbr_slots.proofs.Closings.{members_of, one_of, members_of-snoc, none_left, ends}
+use Rattle.vbr_slots.proofs.Closings.{witnesses_of, one_of, witnesses_of-snoc, none_left, ends}
 use Rattle.vbr_slots.proofs.slots.Slots.close.Goals as goal
 
 pub load_new_seat-seat-requires : goal.load_new_seat-seat-requires
@@ -23,7 +23,7 @@ loop-pass-preserved c =
     let i = c.loop-pass.invariant in
     let all = sym (ap (λ ps. c.loop-pass.yielded ++ ps) c.in-Some.ensures.steps.0) ∙ i.2 in (
       c.join_seat.ensures.0 ∙ i.0,
-      c.join_seat.ensures.2 ∙ (λ k. ((i.1 k).0 ++ (known c.runner.inside c.in-Some.pass.trace c.runner.invariant (c.runner.view_is ∙ c.counted.view_is ∙ ap (λ (w : PassView). w.trace) c.pass.view_is) k).0, (i.1 k).1)) ∙ sym (ap (λ ms. (ms, [])) (members_of-snoc c.loop-pass.yielded c.in-Some.pass)),
+      c.join_seat.ensures.2 ∙ (λ k. ((i.1 k).0 ++ (known c.runner.inside c.in-Some.pass.trace c.runner.invariant (c.runner.view_is ∙ c.counted.view_is ∙ ap (λ (w : PassView). w.trace) c.pass.view_is) k).0, (i.1 k).1)) ∙ sym (ap (λ ms. (ms, [])) (witnesses_of-snoc c.loop-pass.yielded c.in-Some.pass)),
       append_assoc c.loop-pass.yielded (c.in-Some.pass ∷ []) (into_iter_items c.next.new.self) ∙ all,
     )
 
@@ -32,4 +32,4 @@ returns-clause-ok c =
     let i = c.loop-pass.invariant in
     let whole = none_left c.loop-pass.yielded (into_iter_items c.loop-pass.pass-iterator) c.args.passes.items (sym c.loop-pass.pass-iterator.rest.ok.0 ∙ c.in-None.ensures.steps.0) i.2 in
     rw c.words_of.ensures
-    (ends c.self.inside c.args.self c.self.invariant c.self.view_is _ c.loop-pass.seat.me c.args.passes.items (i.1 ∙ ap (λ ps. (members_of ps, [])) whole) _ _ c.close_with.ensures.values.2)
+    (ends c.self.inside c.args.self c.self.invariant c.self.view_is _ c.loop-pass.seat.me c.args.passes.items (i.1 ∙ ap (λ ps. (witnesses_of ps, [])) whole) _ _ c.close_with.ensures.values.2)

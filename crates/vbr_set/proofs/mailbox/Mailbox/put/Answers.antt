@@ -1,6 +1,6 @@
 use Rattle.std.proofs.Common.{rules}
-use Rattle.vbr_set.proofs.Places.{opens, lays}
-use Rattle.vbr_set.proofs.place.Place.put.Goals as goal
+use Rattle.vbr_set.proofs.Mailboxes.{opens, lays}
+use Rattle.vbr_set.proofs.mailbox.Mailbox.put.Goals as goal
 
 pub store-requires : goal.store-requires
 store-requires c = (search rules, search rules, opens _ _ _ _ c.args.self.now.sized.1 c.requires.seat.1 c.requires.seat.2)

@@ -1,24 +1,24 @@
-//! A place for one pass of a set to come back to.
+//! A mailbox for one pass of a set to come back to.
 ghost use Rattle.std.specs.Prelude.{◌≡◌, [], None, Some, IfOk, IfSome};
-ghost use Rattle.vbr_set.specs.Places.{IsIdle};
+ghost use Rattle.vbr_set.specs.Mailboxes.{IsIdle};
 
 use crate::set::VbrSet;
 use atomic_table::{Play, Seat, Table, TableRule};
 use std::alloc::{AllocError, Global};
 use vbr_slots::Pass;
 
-/// What the one seat of a place knows: None at first, then that the slot is out with it, and then
+/// What the one seat of a mailbox knows: None at first, then that the slot is out with it, and then
 /// which pass lies in the slot. No value of it is made.
 pub type Knows = Option<Option<Pass>>;
 
-/// The rule of a place, whose word is 1 once a pass was laid into it.
+/// The rule of a mailbox, whose word is 1 once a pass was laid into it.
 pub struct HoldsOne;
 
 impl TableRule<Option<Pass>, Knows, VbrSet> for HoldsOne {
     ghost use Rattle.std.specs.Prelude.{None};
-    ghost use Rattle.vbr_set.specs.Places.{IsPlace};
+    ghost use Rattle.vbr_set.specs.Mailboxes.{IsMailbox};
 
-    ghost holds = { IsPlace };
+    ghost holds = { IsMailbox };
 
     ghost first = { λ _. None };
 }
@@ -42,27 +42,27 @@ impl Play<Option<Pass>, Knows> for Lays {
     ghost then = { λ _ before _ after. (pass : PassView) → before.1 ≡ (0, Some pass) ∷ [] → after ≡ (Some (Some pass), []) };
 }
 
-/// A place for one pass of a set.
+/// A mailbox for one pass of a set.
 #[derive(Drop)]
-pub struct Place {
+pub struct Mailbox {
     pub(crate) table: Table<Option<Pass>, Knows, VbrSet, HoldsOne, Global>,
     ghost sized: { (table.shared.table_id.words ≡ 1) × (table.shared.table_id.slots ≡ 1) },
 }
 
-impl Place {
-    /// An empty place, and the right to lay a pass into it.
+impl Mailbox {
+    /// An empty mailbox, and the right to lay a pass into it.
     pub(crate) fn new(
         alloc: Global,
         set: &VbrSet,
-    ) -> Result<(Place, Seat<Option<Pass>, Knows>), AllocError>
+    ) -> Result<(Mailbox, Seat<Option<Pass>, Knows>), AllocError>
         ensures set { IfOk result (λ r. r.0.table.shared.key ≡ set.now) }
         ensures seat { IfOk result (λ r. (r.1.table_id ≡ r.0.table.shared.table_id) × (r.1.id ≡ 0) × (r.1.me ≡ (None, []))) }
     {
         let (table, seat) = Table::vacant(alloc, &[0], 1, set)?;
-        Ok((Place { table }, seat))
+        Ok((Mailbox { table }, seat))
     }
 
-    /// Lays a pass into the place.
+    /// Lays a pass into the mailbox.
     pub(crate) fn put(&self, seat: &mut Seat<Option<Pass>, Knows>, pass: Pass)
         requires seat { (seat.old.table_id ≡ self.now.table.shared.table_id) × (seat.old.id ≡ 0) × (seat.old.me ≡ (None, [])) }
         requires ready { IsIdle self.now.table.shared.key pass }
@@ -81,7 +81,7 @@ impl Place {
         requires laid { IfSome seat.me.0 (λ held. ¬ (held ≡ None)) × ¬ (seat.me.0 ≡ None) }
         ensures { Some (Some result) ≡ seat.me.0 }
     {
-        let Place { table } = self;
+        let Mailbox { table } = self;
         let mut closed = table.close_with(seat);
         let held = closed.take(0);
         closed.free();
@@ -89,11 +89,11 @@ impl Place {
         pass
     }
 
-    /// The pass that was laid into the place, if any was.
+    /// The pass that was laid into the mailbox, if any was.
     pub(crate) fn into_pass(self) -> Option<Pass>
         ensures { IfSome result (IsIdle self.table.shared.key) }
     {
-        let Place { table } = self;
+        let Mailbox { table } = self;
         let mut closed = table.close();
         let word = closed.word(0);
         let held = closed.take(0);

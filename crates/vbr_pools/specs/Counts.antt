@@ -1,0 +1,28 @@
+-- How many steps of a kind a pass has made: those that would advance the epoch, and those that raise a flag.
+use Rattle.std.specs.Prelude.{ℕ, ◌==◌, ◌&&◌, Bool, true, false, count_by}
+use Rattle.vbr_core.specs.declared.event.Event.{Event}
+use Rattle.vbr_core.specs.declared.event.Step.{Step}
+use Rattle.vbr_core.specs.declared.event.Step.TheVariants.{Advance, Raise}
+use Rattle.vbr_slots.specs.Views.{Trace}
+
+-- whether a step would advance the epoch
+abbrev pub is_advance : Step → Bool
+is_advance (Advance from) = true
+is_advance _ = false
+
+-- whether a step raises a flag
+abbrev pub is_raise : Step → Bool
+is_raise (Raise slot) = true
+is_raise _ = false
+
+-- how many of the steps that the pass has made are of a kind
+abbrev pub made_of : (Step → Bool) → Trace → ℕ
+made_of is p = count_by (λ (e : Event). (e.pass == p.who) && is e.step) p.seen
+
+-- how many of the steps that the pass has made would advance the epoch
+abbrev pub advances : Trace → ℕ
+advances p = made_of is_advance p
+
+-- how many flags the pass has raised: how often it put a slot into the shared pool
+abbrev pub flags_raised : Trace → ℕ
+flags_raised p = made_of is_raise p
