@@ -14,7 +14,7 @@ use Rattle.vbr_core.specs.declared.history.Op.{Op}
 use Rattle.vbr_core.proofs.Lemmas.{begins_for_begins, begins_trans, others_leave_calls}
 use Rattle.vbr_slots.specs.Closing.{EachSeen}
 use Rattle.vbr_slots.specs.Views.{Trace, TableView}
-use Rattle.vbr_transcript.specs.Calls.{Outcome, answered, lines_by}
+use Rattle.vbr_transcript.specs.Calls.{Outcome, answered_calls, lines_by}
 use Rattle.vbr_player.specs.Ending.{passes_of}
 use Rattle.vbr_transcript.specs.Merging.{replies_by, HaveReplies}
 use Rattle.vbr_transcript.specs.Phases.{EndsWithin, HavePlayed}
@@ -55,13 +55,13 @@ is_at set script run n (worker ∷ workers) numbered played seen (suc i) inside 
     (is_at set script run (suc n) workers numbered.1 (λ k d below. played (suc k) d (omega arith)) seen.1 i (omega arith))
 
 -- its calls in the run are its answered lines
-called_at : (set : TableView) (script : List Line) (run : List Event) (who : ℕ) (own : List Reply) → IsAt set script run who own → own_calls set.shape run who ≡ answered (zip (lines_by who script) own)
+called_at : (set : TableView) (script : List Line) (run : List Event) (who : ℕ) (own : List Reply) → IsAt set script run who own → own_calls set.shape run who ≡ answered_calls (zip (lines_by who script) own)
 called_at set script run who own at =
     let trace = at.worker.caller.pass.trace in
     let rest = at.seen in
     let calls : own_calls set.shape run trace.who ≡ own_calls set.shape trace.seen trace.who = ap (λ (events : List Event). own_calls set.shape events trace.who) rest.1 ∙ others_leave_calls set.shape trace.seen rest.0 trace.who rest.2 in
-    let made : own_calls set.shape trace.seen trace.who ≡ answered (zip (lines_by trace.who script) at.worker.replies.items) = (λ i. own_calls (sym at.played.of.1 i) trace.seen trace.who) ∙ at.played.calls in
-    subst (λ (k : ℕ × List Reply). own_calls set.shape run k.0 ≡ answered (zip (lines_by k.0 script) k.1)) (λ i. (at.number i, at.replies i)) (calls ∙ made)
+    let made : own_calls set.shape trace.seen trace.who ≡ answered_calls (zip (lines_by trace.who script) at.worker.replies.items) = (λ i. own_calls (sym at.played.of.1 i) trace.seen trace.who) ∙ at.played.calls in
+    subst (λ (k : ℕ × List Reply). own_calls set.shape run k.0 ≡ answered_calls (zip (lines_by k.0 script) k.1)) (λ i. (at.number i, at.replies i)) (calls ∙ made)
 
 -- what a reply tells of its pass at a moment allows the reply at the end
 may_be_answered : (p : Trace) (run : List Event) (op : Op) (reply : Reply) → Begins p.seen run → IsSafe p.shape run → TellsReply p op reply → MayBeAnswered p.shape.last_epoch (world_after p.shape run).epoch op reply

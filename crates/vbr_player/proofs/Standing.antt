@@ -15,7 +15,7 @@ use Rattle.vbr_core.specs.declared.history.Call.{Call}
 use Rattle.vbr_core.proofs.Lemmas.{begins_trans, calls_by-append}
 use Rattle.vbr_slots.specs.Calls.{made_by}
 use Rattle.vbr_slots.specs.Views.{TableView}
-use Rattle.vbr_transcript.specs.Calls.{Outcome, answered, lines_by, lines_up_to}
+use Rattle.vbr_transcript.specs.Calls.{Outcome, answered_calls, lines_by, lines_up_to}
 use Rattle.vbr_player.specs.Meeting.{AreOfOne, HasSeenMore, Meets, PlayedAndMet}
 use Rattle.vbr_transcript.specs.Merging.{replies_by}
 use Rattle.vbr_player.specs.Standing.{replies_of, AreNumberedFrom, HasPlayed, HasEnded, Stand}
@@ -47,13 +47,13 @@ played_more set script front slice w v has played =
     let lines = front ++ slice in
     let told = λ (outcome : Outcome). TellsReply v.caller.pass.trace outcome.0.op outcome.1 in
     let replied : length (w.replies.items ++ played.more) ≡ length (lines_by who lines) = replied_more who front slice w.replies.items played.more has.one_each played.one_each in
-    let called : made_by v.caller.pass.trace ≡ answered (zip (lines_by who lines) (w.replies.items ++ played.more)) = called_more who front slice w.replies.items played.more (made_by w.caller.pass.trace) (made_by v.caller.pass.trace) has.one_each has.calls played.calls in
+    let called : made_by v.caller.pass.trace ≡ answered_calls (zip (lines_by who lines) (w.replies.items ++ played.more)) = called_more who front slice w.replies.items played.more (made_by w.caller.pass.trace) (made_by v.caller.pass.trace) has.one_each has.calls played.calls in
     let outcomes : zip (lines_by who lines) (w.replies.items ++ played.more) ≡ zip (lines_by who front) w.replies.items ++ zip (lines_by who slice) played.more =
     ap (λ (own : List Line). zip own (w.replies.items ++ played.more)) (lines_by-append who front slice) ∙ zip-append (lines_by who front) (lines_by who slice) w.replies.items played.more has.one_each in
     let early : All told (zip (lines_by who front) w.replies.items) = all_tell_on (zip (lines_by who front) w.replies.items) played.same played.seen has.tells in
     let tells : All told (zip (lines_by who lines) (w.replies.items ++ played.more)) = subst (All told) (sym outcomes) (All-append told (zip (lines_by who front) w.replies.items) (zip (lines_by who slice) played.more) early played.tells) in
     let are : (who, w.replies.items ++ played.more) ≡ (v.caller.pass.trace.who, v.replies.items) = λ i. (sym same i, sym played.replies i) in
-    let P : ℕ × List Reply → Type 0 = λ k. (length k.1 ≡ length (lines_by k.0 lines)) × (made_by v.caller.pass.trace ≡ answered (zip (lines_by k.0 lines) k.1)) × All told (zip (lines_by k.0 lines) k.1) in
+    let P : ℕ × List Reply → Type 0 = λ k. (length k.1 ≡ length (lines_by k.0 lines)) × (made_by v.caller.pass.trace ≡ answered_calls (zip (lines_by k.0 lines) k.1)) × All told (zip (lines_by k.0 lines) k.1) in
     let now = subst P are (replied, called, tells) in
     let enough : length (lines_by v.caller.pass.trace.who script) ≡ length (lines_by who script) = ap (λ (k : ℕ). length (lines_by k script)) same in
     let had = has.room in let grows = played.room in
@@ -73,7 +73,7 @@ played_looks set script lines v u has looks =
     let told = λ (outcome : Outcome). TellsReply u.caller.pass.trace outcome.0.op outcome.1 in
     let tells : All told (zip (lines_by who lines) v.replies.items) = all_tell_on (zip (lines_by who lines) v.replies.items) looks.same looks.seen has.tells in
     let are : (who, v.replies) ≡ (u.caller.pass.trace.who, u.replies) = λ i. (sym looks.same.who i, sym looks.replies i) in
-    let P : ℕ × Vec Reply Global → Type 0 = λ k. (length k.1.items ≡ length (lines_by k.0 lines)) × (made_by u.caller.pass.trace ≡ answered (zip (lines_by k.0 lines) k.1.items)) × All told (zip (lines_by k.0 lines) k.1.items) × (length (lines_by k.0 script) ≤ vec_capacity k.1) in
+    let P : ℕ × Vec Reply Global → Type 0 = λ k. (length k.1.items ≡ length (lines_by k.0 lines)) × (made_by u.caller.pass.trace ≡ answered_calls (zip (lines_by k.0 lines) k.1.items)) × All told (zip (lines_by k.0 lines) k.1.items) × (length (lines_by k.0 script) ≤ vec_capacity k.1) in
     let now = subst P are (has.one_each, looks.calls ∙ has.calls, tells, has.room) in
     record {
       set_is = looks.set ∙ has.set_is;
@@ -150,7 +150,7 @@ ended_later set script phase ws us grow ended =
       called = λ who inside.
           let more = more_replies ws us who (omega arith) grow in
           let own = lines_by who (lines_up_to phase script) in
-          ended.called who (omega arith) ∙ ap answered (sym (ap (λ (rs : List Reply). zip own rs) more.1 ∙ zip_longer own (replies_by who (replies_of ws)) more.0 (ended.replied who (omega arith))));
+          ended.called who (omega arith) ∙ ap answered_calls (sym (ap (λ (rs : List Reply). zip own rs) more.1 ∙ zip_longer own (replies_by who (replies_of ws)) more.0 (ended.replied who (omega arith))));
     }
 
 -- nothing stands between a list and itself
@@ -171,17 +171,17 @@ calls_between shape who before moment after from to same =
     none_between (own_calls shape before who) (calls_by who first.0) (calls_by who then.0) (own_calls shape moment who) front (sym same ∙ back)
 
 -- a worker that has met has called its lines at the moment of the meeting
-one_called : (set : TableView) (script lines : List Line) (moment : List Event) (v u : Worker) (who : ℕ) → u.caller.pass.trace.who ≡ who → HasPlayed set script lines u → HasSeenMore v u → Begins v.caller.pass.trace.seen moment → Begins moment u.caller.pass.trace.seen → own_calls set.shape moment who ≡ answered (zip (lines_by who lines) u.replies.items)
+one_called : (set : TableView) (script lines : List Line) (moment : List Event) (v u : Worker) (who : ℕ) → u.caller.pass.trace.who ≡ who → HasPlayed set script lines u → HasSeenMore v u → Begins v.caller.pass.trace.seen moment → Begins moment u.caller.pass.trace.seen → own_calls set.shape moment who ≡ answered_calls (zip (lines_by who lines) u.replies.items)
 one_called set script lines moment v u who number has looks from to =
     let shape : u.caller.pass.trace.shape ≡ set.shape = has.of.1 in
     let at_last : own_calls u.caller.pass.trace.shape u.caller.pass.trace.seen u.caller.pass.trace.who ≡ own_calls set.shape u.caller.pass.trace.seen who = ap₂ (λ (d : Dimensions) (k : ℕ). own_calls d u.caller.pass.trace.seen k) shape number in
     let at_first : own_calls v.caller.pass.trace.shape v.caller.pass.trace.seen v.caller.pass.trace.who ≡ own_calls set.shape v.caller.pass.trace.seen who = ap₂ (λ (d : Dimensions) (k : ℕ). own_calls d v.caller.pass.trace.seen k) (sym looks.same.shape ∙ shape) (sym looks.same.who ∙ number) in
     let same : own_calls set.shape u.caller.pass.trace.seen who ≡ own_calls set.shape v.caller.pass.trace.seen who = sym at_last ∙ looks.calls ∙ at_first in
-    let then : own_calls set.shape u.caller.pass.trace.seen who ≡ answered (zip (lines_by who lines) u.replies.items) = sym at_last ∙ has.calls ∙ ap (λ (k : ℕ). answered (zip (lines_by k lines) u.replies.items)) number in
+    let then : own_calls set.shape u.caller.pass.trace.seen who ≡ answered_calls (zip (lines_by who lines) u.replies.items) = sym at_last ∙ has.calls ∙ ap (λ (k : ℕ). answered_calls (zip (lines_by k lines) u.replies.items)) number in
     calls_between set.shape who v.caller.pass.trace.seen moment u.caller.pass.trace.seen from to same ∙ sym same ∙ then
 
 -- and so have all
-all_called : (set : TableView) (script lines : List Line) (moment : List Event) (n : ℕ) (vs us : List Worker) → AreNumberedFrom n us → All (HasPlayed set script lines) us → AllZip HasSeenMore vs us → All (λ v. Begins v.caller.pass.trace.seen moment) vs → All (λ u. Begins moment u.caller.pass.trace.seen) us → (i : ℕ) → i < length us → own_calls set.shape moment (n + i) ≡ answered (zip (lines_by (n + i) lines) (replies_by i (replies_of us)))
+all_called : (set : TableView) (script lines : List Line) (moment : List Event) (n : ℕ) (vs us : List Worker) → AreNumberedFrom n us → All (HasPlayed set script lines) us → AllZip HasSeenMore vs us → All (λ v. Begins v.caller.pass.trace.seen moment) vs → All (λ u. Begins moment u.caller.pass.trace.seen) us → (i : ℕ) → i < length us → own_calls set.shape moment (n + i) ≡ answered_calls (zip (lines_by (n + i) lines) (replies_by i (replies_of us)))
 all_called set script lines moment n vs [] numbered played looks from to i inside = absurd (omega arith)
 all_called set script lines moment n [] (u ∷ us) numbered played looks from to i inside = absurd looks
 all_called set script lines moment n (v ∷ vs) (u ∷ us) numbered played looks from to zero inside =
@@ -189,7 +189,7 @@ all_called set script lines moment n (v ∷ vs) (u ∷ us) numbered played looks
     one_called set script lines moment v u (n + 0) number (All-head (HasPlayed set script lines) u us played) looks.0 (All-head (λ (w : Worker). Begins w.caller.pass.trace.seen moment) v vs from) (All-head (λ (w : Worker). Begins moment w.caller.pass.trace.seen) u us to)
 all_called set script lines moment n (v ∷ vs) (u ∷ us) numbered played looks from to (suc i) inside =
     let same : suc n + i ≡ n + suc i = omega arith in
-    subst (λ (k : ℕ). own_calls set.shape moment k ≡ answered (zip (lines_by k lines) (replies_by i (replies_of us)))) same
+    subst (λ (k : ℕ). own_calls set.shape moment k ≡ answered_calls (zip (lines_by k lines) (replies_by i (replies_of us)))) same
     (all_called set script lines moment (suc n) vs us numbered.1 (All-tail (HasPlayed set script lines) u us played) looks.1 (All-tail (λ (w : Worker). Begins w.caller.pass.trace.seen moment) v vs from) (All-tail (λ (w : Worker). Begins moment w.caller.pass.trace.seen) u us to) i (omega arith))
 
 -- a worker has as many replies as lines
@@ -215,7 +215,7 @@ has_ended set script lines phase vs us are numbered played meets =
           omega arith;
       called = λ who inside.
           let zero_who : 0 + who ≡ who = omega arith in
-          subst (λ (k : ℕ × List Line). own_calls set.shape meets.moment k.0 ≡ answered (zip (lines_by k.0 k.1) (replies_by who (replies_of us)))) (λ i. (zero_who i, sym are i)) (all_called set script lines meets.moment 0 vs us numbered played meets.looks meets.from meets.to who inside);
+          subst (λ (k : ℕ × List Line). own_calls set.shape meets.moment k.0 ≡ answered_calls (zip (lines_by k.0 k.1) (replies_by who (replies_of us)))) (λ i. (zero_who i, sym are i)) (all_called set script lines meets.moment 0 vs us numbered played meets.looks meets.from meets.to who inside);
     }
 
 -- ---- the next phase

@@ -13,7 +13,7 @@ use Rattle.vbr_core.proofs.Lemmas.{begins_refl, begins_trans}
 use Rattle.vbr_slots.specs.Calls.{IsSame, made_by}
 use Rattle.vbr_slots.specs.Views.{Trace}
 use Rattle.vbr_slots.proofs.Lemmas.{same_on, same_refl}
-use Rattle.vbr_transcript.specs.Calls.{Outcome, answer_of, answered, lines_by}
+use Rattle.vbr_transcript.specs.Calls.{Outcome, answer_of, answered_calls, lines_by}
 use Rattle.vbr_player.specs.Working.{TellsReply, Replied, Played, HasRoom}
 use Rattle.vbr_script.specs.declared.script.Line.{Line}
 use Rattle.vbr_transcript.specs.declared.reply.Reply.{Reply}
@@ -52,7 +52,7 @@ pub outcomes-append : (who : ℕ) (lines more : List Line) (xs ys : List Reply) 
 outcomes-append who lines more xs ys same =
     ap (λ (own : List Line). zip own (xs ++ ys)) (lines_by-append who lines more) ∙ zip-append (lines_by who lines) (lines_by who more) xs ys same
 
-pub answered-append : (xs ys : List Outcome) → answered (xs ++ ys) ≡ answered xs ++ answered ys
+pub answered-append : (xs ys : List Outcome) → answered_calls (xs ++ ys) ≡ answered_calls xs ++ answered_calls ys
 answered-append xs ys = flat_map-append (λ (outcome : Outcome). answer_of outcome.0 outcome.1) xs ys
 
 -- ---- what was played
@@ -84,7 +84,7 @@ played_own line reply p q own replied more room =
       more = reply ∷ [];
       replies = more;
       one_each = ap length (sym mine);
-      calls = replied.calls ∙ ap (λ calls. made_by p.caller.pass.trace ++ calls) (sym (append-nil (answer_of line reply)) ∙ ap (λ (lines : List Line). answered (zip lines (reply ∷ []))) (sym mine));
+      calls = replied.calls ∙ ap (λ calls. made_by p.caller.pass.trace ++ calls) (sym (append-nil (answer_of line reply)) ∙ ap (λ (lines : List Line). answered_calls (zip lines (reply ∷ []))) (sym mine));
       tells = subst (λ (lines : List Line). All told (zip lines (reply ∷ []))) (sym mine) (All-cons told (line, reply) [] replied.tells (All-nil told));
       room = room;
     }
@@ -101,7 +101,7 @@ played_other line p other =
       more = [];
       replies = sym (append-nil p.replies.items);
       one_each = ap length (sym none);
-      calls = sym (append-nil (made_by p.caller.pass.trace)) ∙ ap (λ (lines : List Line). made_by p.caller.pass.trace ++ answered (zip lines [])) (sym none);
+      calls = sym (append-nil (made_by p.caller.pass.trace)) ∙ ap (λ (lines : List Line). made_by p.caller.pass.trace ++ answered_calls (zip lines [])) (sym none);
       tells = subst (λ (lines : List Line). All told (zip {X = Reply} lines [])) (sym none) (All-nil told);
       room = omega arith;
     }
@@ -115,7 +115,7 @@ played_on lines more p q r first then =
     let same : q.caller.pass.trace.who ≡ who = first.same.who in
     let both : zip (lines_by who (lines ++ more)) (first.more ++ then.more) ≡ zip (lines_by who lines) first.more ++ zip (lines_by who more) then.more = outcomes-append who lines more first.more then.more first.one_each in
     let lengths : length then.more ≡ length (lines_by who more) = then.one_each ∙ ap (λ (w : ℕ). length (lines_by w more)) same in
-    let calls : made_by r.caller.pass.trace ≡ made_by q.caller.pass.trace ++ answered (zip (lines_by who more) then.more) = then.calls ∙ ap (λ (w : ℕ). made_by q.caller.pass.trace ++ answered (zip (lines_by w more) then.more)) same in
+    let calls : made_by r.caller.pass.trace ≡ made_by q.caller.pass.trace ++ answered_calls (zip (lines_by who more) then.more) = then.calls ∙ ap (λ (w : ℕ). made_by q.caller.pass.trace ++ answered_calls (zip (lines_by w more) then.more)) same in
     let early : All told (zip (lines_by who lines) first.more) = all_tell_on (zip (lines_by who lines) first.more) then.same then.seen first.tells in
     let late : All told (zip (lines_by who more) then.more) = subst (λ (w : ℕ). All told (zip (lines_by w more) then.more)) same then.tells in
     record {
@@ -126,9 +126,9 @@ played_on lines more p q r first then =
       replies = then.replies ∙ ap (λ (rs : List Reply). rs ++ then.more) first.replies ∙ append_assoc p.replies.items first.more then.more;
       one_each = length-append first.more then.more ∙ ap₂ (λ (a b : ℕ). a + b) first.one_each lengths ∙ sym (length-append (lines_by who lines) (lines_by who more)) ∙ ap length (sym (lines_by-append who lines more));
       calls =
-          calls ∙ ap (λ cs. cs ++ answered (zip (lines_by who more) then.more)) first.calls
-          ∙ append_assoc (made_by p.caller.pass.trace) (answered (zip (lines_by who lines) first.more)) (answered (zip (lines_by who more) then.more))
-          ∙ ap (λ cs. made_by p.caller.pass.trace ++ cs) (sym (answered-append (zip (lines_by who lines) first.more) (zip (lines_by who more) then.more)) ∙ ap answered (sym both));
+          calls ∙ ap (λ cs. cs ++ answered_calls (zip (lines_by who more) then.more)) first.calls
+          ∙ append_assoc (made_by p.caller.pass.trace) (answered_calls (zip (lines_by who lines) first.more)) (answered_calls (zip (lines_by who more) then.more))
+          ∙ ap (λ cs. made_by p.caller.pass.trace ++ cs) (sym (answered-append (zip (lines_by who lines) first.more) (zip (lines_by who more) then.more)) ∙ ap answered_calls (sym both));
       tells = subst (λ (outcomes : List Outcome). All told outcomes) (sym both) (All-append told (zip (lines_by who lines) first.more) (zip (lines_by who more) then.more) early late);
       room = let a = first.room in let b = then.room in omega arith;
     }

@@ -5,7 +5,7 @@ use Rattle.vbr_core.specs.Runs.{Begins}
 use Rattle.vbr_core.specs.declared.event.Event.{Event}
 use Rattle.vbr_slots.specs.Calls.{made_by}
 use Rattle.vbr_slots.specs.Views.{PassView, TableView, IsOf}
-use Rattle.vbr_transcript.specs.Calls.{answered, lines_by, lines_up_to}
+use Rattle.vbr_transcript.specs.Calls.{answered_calls, lines_by, lines_up_to}
 use Rattle.vbr_transcript.specs.Merging.{replies_by}
 use Rattle.vbr_transcript.specs.Phases.{HaveCalled}
 use Rattle.vbr_player.specs.Working.{TellsReply}
@@ -27,7 +27,7 @@ pub record HasPlayed (set : TableView) (script lines : List Line) (worker : Work
   pub set_is : worker.caller.set ≡ set
   pub of : IsOf worker.caller.pass.trace set
   pub one_each : length worker.replies.items ≡ length (lines_by worker.caller.pass.trace.who lines)
-  pub calls : made_by worker.caller.pass.trace ≡ answered (zip (lines_by worker.caller.pass.trace.who lines) worker.replies.items)
+  pub calls : made_by worker.caller.pass.trace ≡ answered_calls (zip (lines_by worker.caller.pass.trace.who lines) worker.replies.items)
   pub tells : All (λ outcome. TellsReply worker.caller.pass.trace outcome.0.op outcome.1) (zip (lines_by worker.caller.pass.trace.who lines) worker.replies.items)
   pub room : length (lines_by worker.caller.pass.trace.who script) ≤ vec_capacity worker.replies
 

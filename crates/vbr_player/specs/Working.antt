@@ -10,7 +10,7 @@ use Rattle.vbr_slots.specs.Views.{Trace}
 use Rattle.vbr_list.specs.declared.refusal.Refusal.{Refusal}
 use Rattle.vbr_list.specs.declared.refusal.Refusal.TheVariants.{OutOfSteps, NoSlot, EpochSpent}
 use Rattle.vbr_set.specs.Members.{MemberView}
-use Rattle.vbr_transcript.specs.Calls.{answer_of, answered, lines_by}
+use Rattle.vbr_transcript.specs.Calls.{answer_of, answered_calls, lines_by}
 use Rattle.vbr_script.specs.declared.script.Line.{Line}
 use Rattle.vbr_transcript.specs.declared.reply.Reply.{Reply}
 use Rattle.vbr_transcript.specs.declared.reply.Reply.TheVariants.{Yes, No, Full, Spent, Tired}
@@ -54,7 +54,7 @@ pub record Played (lines : List Line) (p q : Worker) : Type 0 where
   pub more : List Reply
   pub replies : q.replies.items ≡ p.replies.items ++ more
   pub one_each : length more ≡ length (lines_by p.caller.pass.trace.who lines)
-  pub calls : made_by q.caller.pass.trace ≡ made_by p.caller.pass.trace ++ answered (zip (lines_by p.caller.pass.trace.who lines) more)
+  pub calls : made_by q.caller.pass.trace ≡ made_by p.caller.pass.trace ++ answered_calls (zip (lines_by p.caller.pass.trace.who lines) more)
   pub tells : All (λ outcome. TellsReply q.caller.pass.trace outcome.0.op outcome.1) (zip (lines_by p.caller.pass.trace.who lines) more)
   pub room : vec_capacity p.replies ≤ vec_capacity q.replies
 
