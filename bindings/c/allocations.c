@@ -44,7 +44,7 @@ static long failed_opens, failed_closes;
 /* A set is opened, used and closed while the nth allocation is refused. 1: none was, 0: one was. */
 static int round_with(long n, int *done) {
     vbr_handle handle[3] = {{0}};
-    vbr_totals totals = {0, 0, 0, 0};
+    vbr_totals report = {0, 0, 0, 0};
     uint64_t keys[8] = {0};
     *done = 0;
     allowed = n;
@@ -57,23 +57,23 @@ static int round_with(long n, int *done) {
         return 0;
     }
     CHECK(vbr_insert(&handle[1], 7, 1000) == VBR_YES && vbr_insert(&handle[0], 6, 1000) == VBR_YES);
-    CHECK(vbr_close(&handle[0], keys, 8, &totals) == VBR_NO && vbr_close(&handle[2], keys, 8, &totals) == VBR_NO);
-    code = vbr_close(&handle[1], keys, 8, &totals);
+    CHECK(vbr_close(&handle[0], keys, 8, &report) == VBR_NO && vbr_close(&handle[2], keys, 8, &report) == VBR_NO);
+    code = vbr_close(&handle[1], keys, 8, &report);
     if (code == VBR_NO_MEMORY) {
         failed_closes++;
-        CHECK(keys[0] == 0 && vbr_close(&handle[1], keys, 8, &totals) == (stays_short ? VBR_NO_MEMORY : VBR_YES));
+        CHECK(keys[0] == 0 && vbr_close(&handle[1], keys, 8, &report) == (stays_short ? VBR_NO_MEMORY : VBR_YES));
         if (stays_short) { /* the handle is full: it makes calls, and is closed once there is memory */
             CHECK(vbr_has(&handle[1], 7, 1000) == VBR_YES && vbr_remove(&handle[1], 6, 1000) == VBR_YES);
             CHECK(vbr_insert(&handle[1], 6, 1000) == VBR_YES);
             allowed = -1;
-            CHECK(vbr_close(&handle[1], keys, 8, &totals) == VBR_YES);
+            CHECK(vbr_close(&handle[1], keys, 8, &report) == VBR_YES);
         }
     } else {
         CHECK(code == VBR_YES);
         *done = allowed >= 0;
     }
     allowed = -1;
-    CHECK(totals.live == 2 && keys[0] == 6 && keys[1] == 7 && blocks == 0);
+    CHECK(report.live == 2 && keys[0] == 6 && keys[1] == 7 && blocks == 0);
     CHECK(vbr_has(&handle[1], 7, 1000) == VBR_EMPTY);
     return 0;
 }

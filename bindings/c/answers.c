@@ -7,14 +7,14 @@
 #define CHECK(x) do { if (!(x)) { fprintf(stderr, "answers.c:%d: %s\n", __LINE__, #x); return 1; } } while (0)
 
 static uint64_t keys[4];
-static vbr_totals totals;
+static vbr_totals report;
 
 static int empty_handles(void) {
     vbr_handle none = {0};
     CHECK(vbr_insert(&none, 1, BUDGET) == VBR_EMPTY);
     CHECK(vbr_remove(&none, 1, BUDGET) == VBR_EMPTY);
     CHECK(vbr_has(&none, 1, BUDGET) == VBR_EMPTY);
-    CHECK(vbr_close(&none, keys, 4, &totals) == VBR_EMPTY);
+    CHECK(vbr_close(&none, keys, 4, &report) == VBR_EMPTY);
     vbr_drop(&none);
     return 0;
 }
@@ -33,10 +33,10 @@ static int refused_openings(void) {
     CHECK(vbr_open(&many[7], 1, 8, 8, 1000) == VBR_NO);
     CHECK(vbr_open(many, 64, 8, 8, 1000) == VBR_IN_USE);
     CHECK(vbr_has(&many[6], 1, BUDGET) == VBR_EMPTY && vbr_has(&many[7], 1, BUDGET) == VBR_NO);
-    CHECK(vbr_close(&many[7], keys, 0, &totals) == VBR_YES);
+    CHECK(vbr_close(&many[7], keys, 0, &report) == VBR_YES);
     CHECK(vbr_open(many, 64, VBR_MAX_SLOTS, VBR_MAX_BUCKETS, VBR_MAX_EPOCH) == VBR_NO);
-    for (int i = 0; i < 63; i++) CHECK(vbr_close(&many[i], keys, 4, &totals) == VBR_NO);
-    CHECK(vbr_close(&many[63], keys, 4, &totals) == VBR_YES && totals.free == VBR_MAX_SLOTS);
+    for (int i = 0; i < 63; i++) CHECK(vbr_close(&many[i], keys, 4, &report) == VBR_NO);
+    CHECK(vbr_close(&many[63], keys, 4, &report) == VBR_YES && report.free == VBR_MAX_SLOTS);
     return 0;
 }
 
@@ -49,10 +49,10 @@ static int calls_and_closes(void) {
     CHECK(vbr_insert(&two[1], 9, BUDGET) == VBR_NO_SLOT && vbr_has(&two[0], 7, 1) == VBR_OUT_OF_STEPS);
     CHECK(vbr_insert(&two[0], 9, 1) == VBR_OUT_OF_STEPS && vbr_remove(&two[0], 9, 1) == VBR_OUT_OF_STEPS);
     keys[0] = keys[1] = 99;
-    CHECK(vbr_close(&two[0], keys, 4, &totals) == VBR_NO && keys[0] == 99);
-    CHECK(vbr_close(&two[0], keys, 4, &totals) == VBR_EMPTY && keys[0] == 99);
-    CHECK(vbr_close(&two[1], keys, 1, &totals) == VBR_YES && keys[0] == 5 && keys[1] == 99);
-    CHECK(totals.live == 2 && totals.marked == 0 && totals.free == 0 && totals.epoch == 1);
+    CHECK(vbr_close(&two[0], keys, 4, &report) == VBR_NO && keys[0] == 99);
+    CHECK(vbr_close(&two[0], keys, 4, &report) == VBR_EMPTY && keys[0] == 99);
+    CHECK(vbr_close(&two[1], keys, 1, &report) == VBR_YES && keys[0] == 5 && keys[1] == 99);
+    CHECK(report.live == 2 && report.marked == 0 && report.free == 0 && report.epoch == 1);
     return 0;
 }
 
@@ -65,7 +65,7 @@ static int spent_epoch(void) {
         code = vbr_insert(&one, 1, BUDGET);
     }
     CHECK(code == VBR_EPOCH_SPENT);
-    CHECK(vbr_close(&one, keys, 0, &totals) == VBR_YES && totals.live == 0);
+    CHECK(vbr_close(&one, keys, 0, &report) == VBR_YES && report.live == 0);
     return 0;
 }
 
@@ -75,10 +75,10 @@ static int dropped_handles(void) {
     CHECK(vbr_insert(&three[0], 3, BUDGET) == VBR_YES);
     vbr_drop(&three[0]);
     CHECK(vbr_has(&three[0], 3, BUDGET) == VBR_EMPTY && vbr_has(&three[1], 3, BUDGET) == VBR_YES);
-    CHECK(vbr_close(&three[1], keys, 4, &totals) == VBR_NO);
+    CHECK(vbr_close(&three[1], keys, 4, &report) == VBR_NO);
     keys[0] = 99;
-    CHECK(vbr_close(&three[2], keys, 4, &totals) == VBR_LOST && keys[0] == 99);
-    CHECK(vbr_close(&three[2], keys, 4, &totals) == VBR_EMPTY);
+    CHECK(vbr_close(&three[2], keys, 4, &report) == VBR_LOST && keys[0] == 99);
+    CHECK(vbr_close(&three[2], keys, 4, &report) == VBR_EMPTY);
     CHECK(vbr_open(three, 3, 8, 2, 100) == VBR_NO);
     for (int i = 0; i < 3; i++) vbr_drop(&three[i]);
     return 0;

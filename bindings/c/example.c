@@ -5,15 +5,15 @@
 
 int main(void) {
     vbr_handle handle[2] = {{0}};
-    vbr_totals totals;
+    vbr_totals report;
     uint64_t keys[8];
     if (vbr_open(handle, 2, 8, 4, 1000000) != VBR_NO) return 1;
     int32_t added = vbr_insert(&handle[0], 5, 1000);         /* VBR_YES: 5 was absent */
     int32_t there = vbr_has(&handle[1], 5, 1000);            /* VBR_YES, from another thread too */
-    int32_t first = vbr_close(&handle[0], keys, 8, &totals); /* VBR_NO: the other handle is open */
-    int32_t last = vbr_close(&handle[1], keys, 8, &totals);  /* VBR_YES: totals.live is 1, keys[0] is 5 */
+    int32_t first = vbr_close(&handle[0], keys, 8, &report); /* VBR_NO: the other handle is open */
+    int32_t last = vbr_close(&handle[1], keys, 8, &report);  /* VBR_YES: report.live is 1, keys[0] is 5 */
     if (added != VBR_YES || there != VBR_YES || first != VBR_NO || last != VBR_YES) return 2;
-    if (totals.live != 1 || keys[0] != 5) return 3;
+    if (report.live != 1 || keys[0] != 5) return 3;
     puts("example in C: passed");
     return 0;
 }

@@ -22,7 +22,7 @@ int32_t __real_vbr_open(vbr_handle *handles, size_t count, uint32_t slots, uint3
 int32_t __real_vbr_insert(vbr_handle *handle, uint64_t key, uint32_t budget);
 int32_t __real_vbr_remove(vbr_handle *handle, uint64_t key, uint32_t budget);
 int32_t __real_vbr_has(vbr_handle *handle, uint64_t key, uint32_t budget);
-int32_t __real_vbr_close(vbr_handle *handle, uint64_t *keys, size_t room, vbr_totals *totals);
+int32_t __real_vbr_close(vbr_handle *handle, uint64_t *keys, size_t room, vbr_totals *report);
 
 static atomic_int number = -1;
 static atomic_uint calls;
@@ -69,9 +69,9 @@ int32_t __wrap_vbr_has(vbr_handle *handle, uint64_t key, uint32_t budget) {
     return answer == VBR_YES && now(4) ? VBR_NO : answer;
 }
 
-int32_t __wrap_vbr_close(vbr_handle *handle, uint64_t *keys, size_t room, vbr_totals *totals) {
-    int32_t answer = __real_vbr_close(handle, keys, room, totals);
-    if (answer == VBR_YES && fault() == 5 && totals->live > 0) totals->live--, totals->free++;
-    if (answer == VBR_YES && fault() == 6) totals->epoch = 0;
+int32_t __wrap_vbr_close(vbr_handle *handle, uint64_t *keys, size_t room, vbr_totals *report) {
+    int32_t answer = __real_vbr_close(handle, keys, room, report);
+    if (answer == VBR_YES && fault() == 5 && report->live > 0) report->live--, report->free++;
+    if (answer == VBR_YES && fault() == 6) report->epoch = 0;
     return answer;
 }

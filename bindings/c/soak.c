@@ -184,19 +184,19 @@ static int by_number(const void *a, const void *b) {
 }
 
 /* Compares the report with the keys that the answers leave. */
-static int check_report(const struct round *r, const vbr_totals *totals, const uint64_t *keys) {
+static int check_report(const struct round *r, const vbr_totals *report, const uint64_t *keys) {
     static uint64_t want[MAX_KEYS];
     uint32_t count = 0;
     for (uint32_t i = 0; i < r->keys; i++)
         if (is_in(i)) want[count++] = key_of(r, i);
     qsort(want, count, sizeof want[0], by_number);
-    if (totals->live != count) return failed(r, sets, "the report has another number of keys", 0);
+    if (report->live != count) return failed(r, sets, "the report has another number of keys", 0);
     for (uint32_t i = 0; i < count; i++)
         if (keys[i] != want[i]) return failed(r, sets, "the report has other keys", i);
-    if (totals->live + totals->marked + totals->free != r->slots) return failed(r, sets, "slots are lost", 0);
-    if (totals->epoch < 1 || totals->epoch > r->last_epoch) return failed(r, sets, "an epoch out of range", 0);
+    if (report->live + report->marked + report->free != r->slots) return failed(r, sets, "slots are lost", 0);
+    if (report->epoch < 1 || report->epoch > r->last_epoch) return failed(r, sets, "an epoch out of range", 0);
     for (int i = 0; i < THREADS; i++)
-        if (workers[i].refused[3] && totals->epoch != r->last_epoch)
+        if (workers[i].refused[3] && report->epoch != r->last_epoch)
             return failed(r, sets, "an epoch was said to be spent, and is not", 0);
     return 0;
 }
@@ -204,7 +204,7 @@ static int check_report(const struct round *r, const vbr_totals *totals, const u
 /* Looks every key up, closes the set, and checks the report. */
 static int finish(const struct round *r, vbr_handle *handles, int count) {
     static uint64_t keys[MAX_KEYS];
-    vbr_totals totals;
+    vbr_totals report;
     for (uint32_t i = 0; i < r->keys; i++) {
         int sum = is_in(i);
         if (sum != 0 && sum != 1) return failed(r, sets, "the answers do not balance", i);
@@ -213,10 +213,10 @@ static int finish(const struct round *r, vbr_handle *handles, int count) {
     }
     if (r->drops) vbr_drop(&handles[0]);
     for (int i = r->drops; i < count - 1; i++)
-        if (vbr_close(&handles[i], keys, MAX_KEYS, &totals) != VBR_NO) return failed(r, sets, "a close was not the last", 0);
-    int32_t last = vbr_close(&handles[count - 1], keys, MAX_KEYS, &totals);
+        if (vbr_close(&handles[i], keys, MAX_KEYS, &report) != VBR_NO) return failed(r, sets, "a close was not the last", 0);
+    int32_t last = vbr_close(&handles[count - 1], keys, MAX_KEYS, &report);
     if (last != (r->drops ? VBR_LOST : VBR_YES)) return failed(r, sets, "the last close", 0);
-    return r->drops ? 0 : check_report(r, &totals, keys);
+    return r->drops ? 0 : check_report(r, &report, keys);
 }
 
 /* One set from its opening to its closing. */

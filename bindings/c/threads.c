@@ -46,7 +46,7 @@ int main(int count, char **words) {
     vbr_handle handles[THREADS] = {{0}};
     pthread_t threads[THREADS];
     uint64_t keys[KEYS];
-    vbr_totals totals;
+    vbr_totals report;
     uint32_t want = 0;
     CHECK(vbr_open(handles, THREADS, SLOTS, 16, VBR_MAX_EPOCH) == VBR_NO);
     for (int i = 0; i < THREADS; i++) {
@@ -63,9 +63,9 @@ int main(int count, char **words) {
         CHECK(vbr_has(&workers[key % THREADS].handle, (uint64_t)key, BUDGET) == sum);
         want += (uint32_t)sum;
     }
-    for (int i = 0; i < THREADS - 1; i++) CHECK(vbr_close(&workers[i].handle, keys, KEYS, &totals) == VBR_NO);
-    CHECK(vbr_close(&workers[THREADS - 1].handle, keys, KEYS, &totals) == VBR_YES);
-    CHECK(totals.live == want && totals.live + totals.marked + totals.free == SLOTS);
+    for (int i = 0; i < THREADS - 1; i++) CHECK(vbr_close(&workers[i].handle, keys, KEYS, &report) == VBR_NO);
+    CHECK(vbr_close(&workers[THREADS - 1].handle, keys, KEYS, &report) == VBR_YES);
+    CHECK(report.live == want && report.live + report.marked + report.free == SLOTS);
     for (uint32_t i = 0; i < want; i++) CHECK(left(workers, (int)keys[i]) == 1 && (i == 0 || keys[i - 1] < keys[i]));
     printf("four threads in C: passed, %u keys left\n", want);
     return 0;

@@ -3,13 +3,13 @@
    Ten lines:
 
        vbr_handle handle[2] = {{0}};
-       vbr_totals totals;
+       vbr_totals report;
        uint64_t keys[8];
        if (vbr_open(handle, 2, 8, 4, 1000000) != VBR_NO) return 1;
        vbr_insert(&handle[0], 5, 1000);               // VBR_YES: 5 was absent
        vbr_has(&handle[1], 5, 1000);                  // VBR_YES, from another thread too
-       vbr_close(&handle[0], keys, 8, &totals);       // VBR_NO: the other handle is open
-       vbr_close(&handle[1], keys, 8, &totals);       // VBR_YES: totals.live is 1, keys[0] is 5
+       vbr_close(&handle[0], keys, 8, &report);       // VBR_NO: the other handle is open
+       vbr_close(&handle[1], keys, 8, &report);       // VBR_YES: report.live is 1, keys[0] is 5
 
    Link with -lvbr (`pkg-config --cflags --libs vbr`). The library needs nothing but malloc, realloc and
    free; each block is to be aligned as these align it, to 16 bytes.
@@ -100,10 +100,10 @@ int32_t vbr_remove(vbr_handle *handle, uint64_t key, uint32_t budget); /* yes: i
 int32_t vbr_has(vbr_handle *handle, uint64_t key, uint32_t budget);    /* yes: it is there */
 
 /* Gives the pass back and leaves the handle empty: VBR_NO while others of its set are open. The last one
-   ends the set: VBR_YES, with the totals and the first of the keys, ascending, as many as there is
+   ends the set: VBR_YES, with the report and the first of the keys, ascending, as many as there is
    room for. Only then is anything written, and only then is memory needed, which is freed again.
    VBR_NO_MEMORY leaves the handle full: close it again, drop it, or go on with it. */
-int32_t vbr_close(vbr_handle *handle, uint64_t *keys, size_t room, vbr_totals *totals);
+int32_t vbr_close(vbr_handle *handle, uint64_t *keys, size_t room, vbr_totals *report);
 
 /* Gives a handle up, empty or full, and leaves it empty. Its pass is lost, so the last close of its set
    answers VBR_LOST. It needs no memory. */

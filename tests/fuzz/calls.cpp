@@ -247,32 +247,32 @@ private:
     void close(size_t cell, size_t room) {
         uint64_t keys[MOST_KEYS + 1];
         std::fill(std::begin(keys), std::end(keys), 0xabcdefu);
-        vbr_totals totals = {77, 77, 77, 77};
+        vbr_totals report = {77, 77, 77, 77};
         std::shared_ptr<Model> m = models[cell];
         int want = !m ? VBR_EMPTY : m->open > 1 ? VBR_NO : m->lost ? VBR_LOST : VBR_YES;
         refused_one = false;
-        int answer = vbr_close(&cells[cell], keys, room, &totals);
+        int answer = vbr_close(&cells[cell], keys, room, &report);
         allowed = -1;
         bool short_of = m && m->open == 1 && answer == VBR_NO_MEMORY && refused_one;
         if (answer != want && !short_of) fail("the answer of vbr_close");
         saw(5, answer, m ? (m->keys.size() > room) | (m->all_marked > 0) << 1 | (m->keys.empty()) << 2 : 0);
-        bool untouched = totals.epoch == 77 && totals.live == 77 && totals.marked == 77 && totals.free == 77;
+        bool untouched = report.epoch == 77 && report.live == 77 && report.marked == 77 && report.free == 77;
         if (answer != VBR_YES && (!untouched || keys[0] != 0xabcdefu)) fail("vbr_close wrote without a report");
-        if (answer == VBR_YES) check_report(*m, totals, keys, room);
+        if (answer == VBR_YES) check_report(*m, report, keys, room);
         if (m && !short_of) m->open--, models[cell] = nullptr;
     }
 
-    static void check_report(const Model &m, const vbr_totals &totals, const uint64_t *keys, size_t room) {
+    static void check_report(const Model &m, const vbr_totals &report, const uint64_t *keys, size_t room) {
         size_t count = 0;
         for (uint64_t key : m.keys) {
             if (count == room) break;
             if (keys[count++] != key) fail("a key of the report");
         }
         if (keys[count] != 0xabcdefu) fail("more keys than there are, or than there is room for");
-        if (totals.live != m.keys.size()) fail("the number of keys of the report");
-        if (totals.marked > m.all_marked) fail("more marked nodes than removes could leave");
-        if (uint64_t{totals.live} + totals.marked + totals.free != m.slots) fail("slots are lost");
-        if (totals.epoch < 1 || totals.epoch > m.last_epoch || totals.epoch > 1 + m.inserts) fail("the epoch of the report");
+        if (report.live != m.keys.size()) fail("the number of keys of the report");
+        if (report.marked > m.all_marked) fail("more marked nodes than removes could leave");
+        if (uint64_t{report.live} + report.marked + report.free != m.slots) fail("slots are lost");
+        if (report.epoch < 1 || report.epoch > m.last_epoch || report.epoch > 1 + m.inserts) fail("the epoch of the report");
     }
 
     void drop(size_t cell) {

@@ -53,7 +53,7 @@ struct Raw(*mut c_void);
 
 #[repr(C)]
 #[derive(Default)]
-struct Totals {
+struct ReportNumbers {
     epoch: u64,
     live: u32,
     marked: u32,
@@ -65,7 +65,7 @@ extern "C" {
     fn vbr_insert(handle: *mut Raw, key: u64, budget: u32) -> i32;
     fn vbr_remove(handle: *mut Raw, key: u64, budget: u32) -> i32;
     fn vbr_has(handle: *mut Raw, key: u64, budget: u32) -> i32;
-    fn vbr_close(handle: *mut Raw, keys: *mut u64, room: usize, totals: *mut Totals) -> i32;
+    fn vbr_close(handle: *mut Raw, keys: *mut u64, room: usize, told: *mut ReportNumbers) -> i32;
     fn vbr_drop(handle: *mut Raw);
 }
 
@@ -211,13 +211,13 @@ impl Handle {
             return Err(CloseError::Memory(self));
         }
         keys.resize(self.slots as usize, 0);
-        let mut totals = Totals::default();
+        let mut told = ReportNumbers::default();
         // SAFETY: `&mut` is exclusive, and `keys` has as much room as is told.
-        match unsafe { vbr_close(&mut self.raw, keys.as_mut_ptr(), keys.len(), &mut totals) } {
+        match unsafe { vbr_close(&mut self.raw, keys.as_mut_ptr(), keys.len(), &mut told) } {
             0 => Ok(None),
             1 => {
-                keys.truncate(totals.live as usize);
-                let Totals { epoch, live: _, marked, free } = totals;
+                keys.truncate(told.live as usize);
+                let ReportNumbers { epoch, live: _, marked, free } = told;
                 Ok(Some(Report { keys, epoch, marked, free }))
             }
             -8 => Err(CloseError::Memory(self)),

@@ -36,7 +36,7 @@ module _ (p : PassView) (sound : PassLaw p) where
   pub slot_in : (s : ℕ) → IsHeldSlot (knows p.trace) s → s < p.trace.shape.slots
   slot_in s h = held_in p.trace.shape p.trace.passes p.trace.seen sound.shape sound.is_run p.trace.who s h
 
-  -- and is held by look-ups
+  -- and is held by searches
   pub slot_found : (s : ℕ) → IsHeldSlot (knows p.trace) s → IsTrue (holds (knows p.trace).checked s)
   slot_found s h = (known_accepts p.trace.shape p.trace.passes p.trace.seen sound.shape sound.is_run p.trace.who (LoadBirth s) (record { in_shape = slot_in s h; owned = tt; known = h; in_range = tt; below_last = tt })).held
 

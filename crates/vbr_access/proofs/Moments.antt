@@ -5,7 +5,7 @@ use Rattle.std.proofs.lemmas.Bool.{cases_Bool, ne_eqb, eq-eqb}
 use Rattle.vbr_words.specs.Dimensions.{Dimensions, IsShape}
 use Rattle.vbr_words.specs.Words.{link_of}
 use Rattle.vbr_words.specs.declared.place.At.{At}
-use Rattle.vbr_core.specs.Keys.{no_keys}
+use Rattle.vbr_core.specs.Opened.{opening_keys}
 use Rattle.vbr_core.specs.History.{set_after}
 use Rattle.vbr_core.specs.Knowledge.{Know}
 use Rattle.vbr_core.specs.Machine.{link_at, found}
@@ -160,7 +160,7 @@ module _ {p q : Trace} (held : Held) (shape : IsShape p.shape) (same : IsSame p 
   was_present key k = record {
     moment = read.stood.moment;
     within = read.stood.within;
-    was = ap (λ (s : Dimensions). set_after no_keys (world_after s read.stood.moment).calls key) (sym same.shape) ∙ present_at_load q.shape q.passes read.stood.moment q.seen shape_now read.stood.within.is_run q.who held.at (link_of held.word) was_shown key k;
+    was = ap (λ (s : Dimensions). set_after (opening_keys s) (world_after s read.stood.moment).calls key) (sym same.shape) ∙ present_at_load q.shape q.passes read.stood.moment q.seen shape_now read.stood.within.is_run q.who held.at (link_of held.word) was_shown key k;
   }
 
   -- a key that stands behind a place whose unmarked link was read, and before what the link names, wasn't
@@ -168,5 +168,5 @@ module _ {p q : Trace} (held : Held) (shape : IsShape p.shape) (same : IsSame p 
   was_absent key i j = record {
     moment = read.stood.moment;
     within = read.stood.within;
-    was = ap (λ (s : Dimensions). set_after no_keys (world_after s read.stood.moment).calls key) (sym same.shape) ∙ absent_at_load q.shape q.passes read.stood.moment q.seen shape_now read.stood.within.is_run q.who held.at (link_of held.word) was_shown key i j;
+    was = ap (λ (s : Dimensions). set_after (opening_keys s) (world_after s read.stood.moment).calls key) (sym same.shape) ∙ absent_at_load q.shape q.passes read.stood.moment q.seen shape_now read.stood.within.is_run q.who held.at (link_of held.word) was_shown key i j;
   }

@@ -113,7 +113,7 @@ module _ (shape : Dimensions) (passes : ℕ) (run : List Event) (is : IsShape sh
   read_in : (read : Read) → Knows (know_after shape run p) read → IsReadIn shape read
   read_in read k =
       let P : Read → Type 0 = IsReadIn shape in
-      All-contains P (know_after shape run p).checked read (All-from_recursion P (know_after shape run p).checked (reads_on shape passes opening run (λ p. record { checked = tt; pending = tt }) ok p).checked) k.among
+      All-contains P (know_after shape run p).checked read (All-from_recursion P (know_after shape run p).checked (reads_on shape passes (opening shape) run (λ p. record { checked = tt; pending = tt }) ok p).checked) k.among
 
   -- the place of a known link
   pub link_in : (at : At) (link : Link) → Knows (know_after shape run p) (LinkAt at link) → IsAtIn shape at

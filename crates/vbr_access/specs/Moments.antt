@@ -3,7 +3,7 @@ use Rattle.std.specs.Prelude.{◌≡◌, ℕ, Bool, List, [], ◌∷◌, ◌++�
 use Rattle.vbr_words.specs.Words.{link_of}
 use Rattle.vbr_words.specs.declared.place.At.{At}
 use Rattle.vbr_words.specs.declared.place.At.TheVariants.{Slot}
-use Rattle.vbr_core.specs.Keys.{no_keys}
+use Rattle.vbr_core.specs.Opened.{opening_keys}
 use Rattle.vbr_core.specs.History.{set_after}
 use Rattle.vbr_core.specs.Machine.{link_at, found}
 use Rattle.vbr_core.specs.Membership.{IsHeldPlace}
@@ -50,4 +50,4 @@ pub record WasFound (p q : Trace) (at : At) (word : ℕ) : Type 0 where
 pub record WasSo (p q : Trace) (key : ℕ) (present : Bool) : Type 0 where
   pub moment : List Event
   pub within : Moment p q moment
-  pub was : set_after no_keys (world_after p.shape moment).calls key ≡ present
+  pub was : set_after (opening_keys p.shape) (world_after p.shape moment).calls key ≡ present

@@ -16,7 +16,7 @@ birth_steps None = 0
 birth_steps (Some s) = 2
 
 -- the steps of an unlinking: those of reading the birth of what the marked link names, and one more unless the epoch has moved
-abbrev pub unlink_steps : Option ℕ → Result (UnlinkedView × Held) Rollback → ℕ
-unlink_steps next (Err (EpochMoved now)) = birth_steps next
-unlink_steps next (Err (LostExchange found)) = birth_steps next + 1
-unlink_steps next (Ok r) = birth_steps next + 1
+abbrev pub steps_to_unlink : Option ℕ → Result (UnlinkedView × Held) Rollback → ℕ
+steps_to_unlink next (Err (EpochMoved now)) = birth_steps next
+steps_to_unlink next (Err (LostExchange found)) = birth_steps next + 1
+steps_to_unlink next (Ok r) = birth_steps next + 1

@@ -13,7 +13,7 @@ ghost use Rattle.vbr_access.specs.Keeping.{Keeps, KeepsOwn, Unlinks};
 ghost use Rattle.vbr_access.specs.Moments.{IsRead};
 ghost use Rattle.vbr_access.specs.Rollbacks.{IsMoved, IsMovedOrLost};
 ghost use Rattle.vbr_access.specs.Soundness.{HasSafeRun};
-ghost use Rattle.vbr_access.specs.Steps.{birth_steps, unlink_steps};
+ghost use Rattle.vbr_access.specs.Steps.{birth_steps, steps_to_unlink};
 
 use crate::held::{Held, Marked};
 use crate::links::link_to;
@@ -72,7 +72,7 @@ pub fn unlink(
     requires marked { IsMarked (knows pass.old.trace) marked }
     requires names { Names pred.now marked.slot }
     ensures quiet { Quiet pass.old.trace pass.new.trace }
-    ensures took { Took pass.old.trace pass.new.trace (unlink_steps (link_of marked.word).slot result) }
+    ensures took { Took pass.old.trace pass.new.trace (steps_to_unlink (link_of marked.word).slot result) }
     ensures own { KeepsOwn pass.old pass.new }
     ensures unlinks { IfOk result (λ r. Unlinks marked.slot pass.old pass.new) }
     ensures keeps { IfOk result (λ r. Keeps (knows pass.old.trace) (knows pass.new.trace)) }

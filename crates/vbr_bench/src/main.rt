@@ -3,7 +3,7 @@
 //! have to be as many as the answers say.
 #![tactic(auto)]
 
-mod gate;
+mod latch;
 mod measure;
 mod options;
 mod random;
@@ -26,8 +26,8 @@ use table::{print_header, print_row};
 use workload::workloads;
 
 fn main(rt: HostRuntime) -> anyhow::Result<ExitCode> {
-    let words = env::args(&rt)?.collect::<Vec<String>>(rt.alloc())?;
-    match read_options(rt.alloc(), &words) {
+    let arguments = env::args(&rt)?.collect::<Vec<String>>(rt.alloc())?;
+    match read_options(rt.alloc(), &arguments) {
         Ok(options) => {
             run(&rt, rt.alloc(), &options)?;
             Ok(ExitCode::SUCCESS)

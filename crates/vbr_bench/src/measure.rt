@@ -1,9 +1,9 @@
 //! Measuring a workload: runs of it, each on a fresh set.
-use crate::gate::Gate;
+use crate::latch::Latch;
 use crate::options::Options;
-use crate::threads::{Outcome, run_threads};
+use crate::threads::{Measured, run_threads};
 use crate::times::Times;
-use crate::worker::{BUDGET, Task};
+use crate::worker::{BUDGET, Work};
 use crate::workload::Workload;
 use anyhow::{Context, bail, ensure};
 use std::alloc::Global;
@@ -46,18 +46,18 @@ fn run_once<R: Threads + Wait + Clock + Sync>(
         bail!("there is no member")
     };
     let before = prefill(first, workload.range)?;
-    let gate = Gate::new();
-    let task = Task {
+    let latch = Latch::new();
+    let work = Work {
         workload,
         operations,
         run,
-        gate: &gate,
+        latch: &latch,
     };
-    let Outcome {
+    let Measured {
         members,
         tally,
         time,
-    } = run_threads(rt, alloc, &task, members)?;
+    } = run_threads(rt, alloc, &work, members)?;
     ensure!(tally.refused == 0, "{} calls were refused", tally.refused);
     let after = keys_left(alloc, members)?;
     ensure!(

@@ -51,9 +51,9 @@ pub struct Options {
     pub untimed: bool,
 }
 
-/// Reads the options from the words, of which the first is the program's name. The error is `clap`'s,
-/// which tells what is wrong with the words, or has the help.
-pub fn read_options(alloc: Global, words: &[String]) -> Result<Options, Error> {
+/// Reads the options from the arguments, of which the first is the program's name. The error is `clap`'s,
+/// which tells what is wrong with the arguments, or has the help.
+pub fn read_options(alloc: Global, arguments: &[String]) -> Result<Options, Error> {
     let operations = number(alloc, "operations", OPERATIONS_HELP, MAX_OPERATIONS);
     let repeats = number(alloc, "repeats", REPEATS_HELP, MAX_REPEATS);
     let matches = Command::new(alloc, "vbr_bench")
@@ -62,9 +62,9 @@ pub fn read_options(alloc: Global, words: &[String]) -> Result<Options, Error> {
         .after_help(HELP)
         .arg(operations)?
         .arg(repeats)?
-        .arg(flag(alloc, "short", SHORT_HELP))?
-        .arg(flag(alloc, "untimed", UNTIMED_HELP))?
-        .try_get_matches_from(words)?;
+        .arg(switch(alloc, "short", SHORT_HELP))?
+        .arg(switch(alloc, "untimed", UNTIMED_HELP))?
+        .try_get_matches_from(arguments)?;
     Ok(options_of(&matches))
 }
 
@@ -79,7 +79,7 @@ fn number<'a>(alloc: Global, name: &'a str, help: &'a str, most: u32) -> Arg<'a>
 }
 
 // An option that is given or not.
-fn flag<'a>(alloc: Global, name: &'a str, help: &'a str) -> Arg<'a> {
+fn switch<'a>(alloc: Global, name: &'a str, help: &'a str) -> Arg<'a> {
     Arg::new(alloc, name)
         .long(name)
         .help(help)

@@ -1,6 +1,6 @@
 //! The threads of a run: they are started, let go together, and joined.
 use crate::tally::Tally;
-use crate::worker::{Finish, Task, work};
+use crate::worker::{Finish, Work, do_work};
 use std::alloc::Global;
 use std::rt::Clock;
 use std::sync::Wait;
@@ -11,7 +11,7 @@ use vbr_set::Member;
 
 /// What the threads of a run bring back.
 #[derive(Drop)]
-pub struct Outcome {
+pub struct Measured {
     /// Their members.
     pub members: Vec<Member>,
     /// What all their calls were answered.
@@ -22,37 +22,37 @@ pub struct Outcome {
 
 type Running = JoinHandle<io::Result<Finish>>;
 
-/// Has each member make the calls of a task in a thread of its own.
+/// Has each member do its work in a thread of its own.
 pub fn run_threads<R: Threads + Wait + Clock + Sync>(
     rt: &R,
     alloc: Global,
-    task: &Task,
+    work: &Work,
     members: Vec<Member>,
-) -> anyhow::Result<Outcome> {
-    let Task {
+) -> anyhow::Result<Measured> {
+    let Work {
         workload,
         operations,
         run,
-        gate,
-    } = *task;
+        latch,
+    } = *work;
     thread::scope(
         thread::scope_env(),
         rt,
-        move |scope| -> anyhow::Result<Outcome> {
-            let task = Task {
+        move |scope| -> anyhow::Result<Measured> {
+            let work = Work {
                 workload,
                 operations,
                 run,
-                gate,
+                latch,
             };
-            let running = match start_all(scope, rt, alloc, &task, members) {
+            let running = match start_all(scope, rt, alloc, &work, members) {
                 Ok(running) => running,
                 Err(error) => {
-                    gate.cancel();
+                    latch.cancel();
                     return Err(error);
                 }
             };
-            let start = gate.open(rt, workload.threads)?;
+            let start = latch.open(rt, workload.threads)?;
             join_all(rt, alloc, running, start)
         },
     )
@@ -63,12 +63,12 @@ fn start_all<'s, 'e, R: Wait + Clock + Sync>(
     scope: &'s Scope<'s, &'e ()>,
     rt: &'e R,
     alloc: Global,
-    task: &Task<'e>,
+    work: &Work<'e>,
     members: Vec<Member>,
 ) -> anyhow::Result<Vec<Running>> {
     let mut running = Vec::with_capacity(alloc, members.len())?;
     for member in members {
-        running.push(start(scope, rt, task, member)?)?;
+        running.push(start(scope, rt, work, member)?)?;
     }
     Ok(running)
 }
@@ -77,23 +77,23 @@ fn start_all<'s, 'e, R: Wait + Clock + Sync>(
 fn start<'s, 'e, R: Wait + Clock + Sync>(
     scope: &'s Scope<'s, &'e ()>,
     rt: &'e R,
-    task: &Task<'e>,
+    work: &Work<'e>,
     member: Member,
 ) -> anyhow::Result<Running> {
-    let Task {
+    let Work {
         workload,
         operations,
         run,
-        gate,
-    } = *task;
+        latch,
+    } = *work;
     let worker = move || {
-        let task = Task {
+        let work = Work {
             workload,
             operations,
             run,
-            gate,
+            latch,
         };
-        work(rt, &task, member)
+        do_work(rt, &work, member)
     };
     match scope.spawn(worker) {
         Ok(running) => Ok(running),
@@ -107,7 +107,7 @@ fn join_all<R: Threads>(
     alloc: Global,
     running: Vec<Running>,
     start: Instant,
-) -> anyhow::Result<Outcome> {
+) -> anyhow::Result<Measured> {
     let mut members = Vec::with_capacity(alloc, running.len())?;
     let mut tally = Tally::NONE;
     let mut last = start;
@@ -117,7 +117,7 @@ fn join_all<R: Threads>(
         tally = tally.and(finish.tally);
         last = last.max(finish.end);
     }
-    Ok(Outcome {
+    Ok(Measured {
         members,
         tally,
         time: last.duration_since(start),

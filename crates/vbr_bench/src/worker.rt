@@ -1,5 +1,5 @@
 //! What one thread does.
-use crate::gate::Gate;
+use crate::latch::Latch;
 use crate::random::Random;
 use crate::tally::Tally;
 use crate::workload::Workload;
@@ -15,7 +15,7 @@ pub const BUDGET: u32 = 1_000_000;
 
 /// What the threads of a run share.
 #[derive(Clone, Copy)]
-pub struct Task<'t> {
+pub struct Work<'t> {
     /// What is measured.
     pub workload: Workload,
     /// How many calls each thread makes.
@@ -23,7 +23,7 @@ pub struct Task<'t> {
     /// The number of the run, from which each thread has its random numbers.
     pub run: u32,
     /// Where they start.
-    pub gate: &'t Gate,
+    pub latch: &'t Latch,
 }
 
 /// What a thread brings back.
@@ -39,23 +39,23 @@ pub struct Finish {
 
 /// Waits for the common start, makes the calls of one thread, and tells when they ended. It fails
 /// where the start is cancelled or the clock can't be read.
-pub fn work<R: Wait + Clock>(rt: &R, task: &Task, mut member: Member) -> io::Result<Finish> {
-    let random = Random::new(u64::from(task.run) * 64 + u64::from(member.pass().who()));
-    if !task.gate.pass(rt) {
+pub fn do_work<R: Wait + Clock>(rt: &R, work: &Work, mut member: Member) -> io::Result<Finish> {
+    let random = Random::new(u64::from(work.run) * 64 + u64::from(member.pass().who()));
+    if !work.latch.pass(rt) {
         return Err(io::Error::from(io::ErrorKind::Interrupted));
     }
-    let tally = make_calls(task, &mut member, random);
+    let tally = make_calls(work, &mut member, random);
     let end = Instant::now(rt)?;
     Ok(Finish { member, tally, end })
 }
 
 // Makes the calls, and counts their answers. This is what is measured.
-fn make_calls(task: &Task, member: &mut Member, mut random: Random) -> Tally {
-    let Task {
+fn make_calls(work: &Work, member: &mut Member, mut random: Random) -> Tally {
+    let Work {
         workload,
         operations,
         ..
-    } = *task;
+    } = *work;
     let mut tally = Tally::NONE;
     for _ in 0..operations {
         let op = workload.mix.op_at(random.below(100));

@@ -8,7 +8,7 @@ use Rattle.vbr_words.specs.Words.{word_of, link_of}
 use Rattle.vbr_words.specs.declared.link.Link.{Link}
 use Rattle.vbr_words.specs.declared.place.At.{At}
 use Rattle.vbr_words.specs.declared.place.At.TheVariants.{Head, Slot}
-use Rattle.vbr_core.specs.Keys.{no_keys}
+use Rattle.vbr_core.specs.Opened.{opening_keys}
 use Rattle.vbr_core.specs.History.{set_after}
 use Rattle.vbr_core.specs.Links.{marked}
 use Rattle.vbr_core.specs.Knowledge.{Know}
@@ -102,27 +102,27 @@ module _ {shape : Dimensions} {a b : Incarnations} {know : Know} {notes : Notes}
   before_then (Some t) None key h s = tt
   before_then (Some t) (Some n) key h s = let k = key_then t n s.0 h s.1 in (let u = s.2 in omega arith)
 
-  module _ (tells : Tells a) (at : At) (of : Option ℕ) (link : Link) (held : IsHeldAt a know.epoch at of) (shown : link_shown_at a at ≡ link) (unmarked : link.mark ≡ false) (known : Knows know (LinkAt at link)) where
+  module _ (tells : Tells shape a) (at : At) (of : Option ℕ) (link : Link) (held : IsHeldAt a know.epoch at of) (shown : link_shown_at a at ≡ link) (unmarked : link.mark ≡ false) (known : Knows know (LinkAt at link)) where
     opened : (n : Option ℕ) × IsPair a at of n × IsHeldNext a know.epoch link.slot n
     opened = held_open then know.epoch at of link held shown unmarked ((good_link noted at link known).2.version)
 
     -- the key of the place was there
-    pub key_was_there : (key : ℕ) → KeyAt know at key → set_after no_keys a.calls key ≡ true
+    pub key_was_there : (key : ℕ) → KeyAt know at key → set_after (opening_keys shape) a.calls key ≡ true
     key_was_there key k = go at of held (opened.1) k
       where
-        go : (at : At) (of : Option ℕ) → IsHeldAt a know.epoch at of → IsPair a at of opened.0 → KeyAt know at key → set_after no_keys a.calls key ≡ true
+        go : (at : At) (of : Option ℕ) → IsHeldAt a know.epoch at of → IsPair a at of opened.0 → KeyAt know at key → set_after (opening_keys shape) a.calls key ≡ true
         go (Head b) of h p k = absurd k
         go (Slot s) None h p k = absurd h
         go (Slot s) (Some c) h p k = let q = key_then s c key h k in rw (← q) (tells.there c (pair_open a (Slot s) (Some c) opened.0 p).0)
 
     -- a key between the place and what the link names wasn't
-    pub no_key_was_there : (key : ℕ) → StandsBehind shape know at key → StandsBefore know key link.slot → set_after no_keys a.calls key ≡ false
-    no_key_was_there key behind before = go (cases_Bool (set_after no_keys a.calls key))
+    pub no_key_was_there : (key : ℕ) → StandsBehind shape know at key → StandsBefore know key link.slot → set_after (opening_keys shape) a.calls key ≡ false
+    no_key_was_there key behind before = go (cases_Bool (set_after (opening_keys shape) a.calls key))
       where
         p : IsOpen a (before_of at of) × (next_of a (before_of at of) ≡ opened.0)
         p = pair_open a at of opened.0 opened.1
 
-        go : (set_after no_keys a.calls key ≡ true) ⊎ (set_after no_keys a.calls key ≡ false) → set_after no_keys a.calls key ≡ false
+        go : (set_after (opening_keys shape) a.calls key ≡ true) ⊎ (set_after (opening_keys shape) a.calls key ≡ false) → set_after (opening_keys shape) a.calls key ≡ false
         go (inr f) = f
         go (inl t) =
             let u = tells.only key t in
@@ -148,11 +148,11 @@ module _ {shape : Dimensions} {v w : World} {a b : Incarnations} {early late : �
   shows = sym (stands v a at then.image) ∙ shown
 
   -- a key that is known at the place now was in the set then
-  pub present_at_load : (key : ℕ) → KeyAt (w.know p) at key → set_after no_keys v.calls key ≡ true
+  pub present_at_load : (key : ℕ) → KeyAt (w.know p) at key → set_after (opening_keys shape) v.calls key ≡ true
   present_at_load key k = rw then.calls (key_was_there then.sound grown now.sound (now.knows p) low then.tells at there.0 link there.1 shows unmarked known key k)
 
   -- a key that stands behind the place and before what the link names, by what is known now, wasn't in the set then
-  pub absent_at_load : (key : ℕ) → StandsBehind shape (w.know p) at key → StandsBefore (w.know p) key link.slot → set_after no_keys v.calls key ≡ false
+  pub absent_at_load : (key : ℕ) → StandsBehind shape (w.know p) at key → StandsBefore (w.know p) key link.slot → set_after (opening_keys shape) v.calls key ≡ false
   absent_at_load key i j = rw then.calls (no_key_was_there then.sound grown now.sound (now.knows p) low then.tells at there.0 link there.1 shows unmarked known key i j)
 
 -- ---- in one world
@@ -163,14 +163,14 @@ module _ {shape : Dimensions} {w : World} {a : Incarnations} {notes : ℕ → No
   here = good_link (now.knows p) at link known
 
   still : Grows a a
-  still = grows_after shape no_keys a [] now.sound tt
+  still = grows_after shape (opening_keys shape) a [] now.sound tt
 
   -- a key that is known at the place is in the set
-  pub present_now : (key : ℕ) → KeyAt (w.know p) at key → set_after no_keys w.calls key ≡ true
+  pub present_now : (key : ℕ) → KeyAt (w.know p) at key → set_after (opening_keys shape) w.calls key ≡ true
   present_now key k = rw now.calls (key_was_there now.sound still now.sound (now.knows p) (now.knows p).epoch now.tells at here.0 link here.2.place (sym (stands w a at now.image) ∙ shown) unmarked known key k)
 
   -- a key that stands behind the place and before what the link names isn't
-  pub absent_now : (key : ℕ) → StandsBehind shape (w.know p) at key → StandsBefore (w.know p) key link.slot → set_after no_keys w.calls key ≡ false
+  pub absent_now : (key : ℕ) → StandsBehind shape (w.know p) at key → StandsBefore (w.know p) key link.slot → set_after (opening_keys shape) w.calls key ≡ false
   absent_now key i j = rw now.calls (no_key_was_there now.sound still now.sound (now.knows p) (now.knows p).epoch now.tells at here.0 link here.2.place (sym (stands w a at now.image) ∙ shown) unmarked known key i j)
 
 -- ---- confirming loads
@@ -185,6 +185,6 @@ pub link_found_at : {shape : Dimensions} {w : World} {a : Incarnations} {notes :
 link_found_at {shape} {w} {a} g at word q = stands w a at g.image ∙ sym (link_read g at) ∙ ap link_of (sym (found_at shape w at) ∙ q)
 
 -- where a confirming load of a slot finds the word that it expects, each key that is known at the slot is in the set
-pub confirmed_present : {shape : Dimensions} {w : World} {a : Incarnations} {notes : ℕ → Notes} → Agrees shape w a notes → (p : ℕ) (op : Op) (s expected key : ℕ) → Accepts shape (w.know p) (ConfirmPresent op s expected) → found shape w (ConfirmPresent op s expected) ≡ expected → Knows (w.know p) (KeyOf s key) → set_after no_keys w.calls key ≡ true
+pub confirmed_present : {shape : Dimensions} {w : World} {a : Incarnations} {notes : ℕ → Notes} → Agrees shape w a notes → (p : ℕ) (op : Op) (s expected key : ℕ) → Accepts shape (w.know p) (ConfirmPresent op s expected) → found shape w (ConfirmPresent op s expected) ≡ expected → Knows (w.know p) (KeyOf s key) → set_after (opening_keys shape) w.calls key ≡ true
 confirmed_present {shape} {w} g p op s expected key ok q k =
     present_now g p (Slot s) (link_of expected) (record { among = link_among (w.know p).checked (Slot s) (link_of expected) ok.held.0 }) ok.in_range.0 (link_found_at g (Slot s) expected q) key k

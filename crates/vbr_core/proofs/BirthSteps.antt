@@ -5,7 +5,7 @@ use Rattle.std.proofs.lemmas.Bool.{cases_eq}
 use Rattle.vbr_words.specs.Dimensions.{Dimensions}
 use Rattle.vbr_words.specs.Words.{IsLink}
 use Rattle.vbr_core.specs.Put.{put}
-use Rattle.vbr_core.specs.Keys.{no_keys}
+use Rattle.vbr_core.specs.Opened.{opening_keys}
 use Rattle.vbr_core.specs.Links.{marked}
 use Rattle.vbr_core.specs.Acceptance.{Accepts, MayBear, stamp_in}
 use Rattle.vbr_core.specs.Learning.{with_own}
@@ -55,7 +55,7 @@ step_store_stamp shape w a notes p s stamp g ok =
     let own = Some (Free stamp) in
     let i = g.image in
     let slot : a.slot c ≡ s = (g.sound.slots.last_born s c x.last).1 in
-    let al : Allowed shape no_keys a p (Stamps c stamp) = rw x.state (refl, (let y = x.seen ok.in_range.0 in let z = ok.in_range.1 in omega arith), (let y = (g.knows p).epoch in let z = ok.in_range.1 in omega arith)) in (
+    let al : Allowed shape (opening_keys shape) a p (Stamps c stamp) = rw x.state (refl, (let y = x.seen ok.in_range.0 in let z = ok.in_range.1 in omega arith), (let y = (g.knows p).epoch in let z = ok.in_range.1 in omega arith)) in (
       (al, tt),
       agrees_next shape w v a notes (put notes p (notes p)) p (Stamps c stamp) g al
           (fits_kept a b refl refl refl refl g.fits)
@@ -68,7 +68,7 @@ step_store_stamp shape w a notes p s stamp g ok =
             stamp = λ k. rw slot (puts_same w.stamp a.stamp s stamp i.stamp k);
             place = i.place;
           })
-          (knows_own b w.know notes p s own (knows_on g.sound (grows shape no_keys a p (Stamps c stamp) g.sound al) w.know notes g.knows))
+          (knows_own b w.know notes p s own (knows_on g.sound (grows shape (opening_keys shape) a p (Stamps c stamp) g.sound al) w.know notes g.knows))
           (owns_changed a b w.know p s (with_own (w.know p) s own) refl (λ k ne. put_other (w.know p).own s own k ne)
           (own_not_of p (a.place s) x.place)
           (own_not_of p (a.place s) x.place)
@@ -83,7 +83,7 @@ step_store_stamp shape w a notes p s stamp g ok =
 -- all that agrees but what is known of one slot
 record AgreesAway (shape : Dimensions) (w : World) (a : Incarnations) (notes : ℕ → Notes) (p s : ℕ) : Type 0 where
   sound : Sound shape a
-  tells : Tells a
+  tells : Tells shape a
   fits : Fits shape a
   image : IsImage w a
   knows : AllKnowRight a w.know notes
@@ -102,7 +102,7 @@ born_world w p s birth stamp =
       births = counted w.births;
     }
 
-born : (shape : Dimensions) (w : World) (a : Incarnations) (notes : ℕ → Notes) (p s birth stamp : ℕ) → AgreesAway shape w a notes p s → birth ≤ (w.know p).epoch → s < shape.slots → a.stamp s ≡ stamp → Allowed shape no_keys a p (Bears s birth) →
+born : (shape : Dimensions) (w : World) (a : Incarnations) (notes : ℕ → Notes) (p s birth stamp : ℕ) → AgreesAway shape w a notes p s → birth ≤ (w.know p).epoch → s < shape.slots → a.stamp s ≡ stamp → Allowed shape (opening_keys shape) a p (Bears s birth) →
     Agrees shape (born_world w p s birth stamp) (becomes shape a p (Bears s birth)) (put notes p (notes p))
 born shape w a notes p s birth stamp g le in_shape es al =
     let z = becomes shape a p (Bears s birth) in
@@ -110,7 +110,7 @@ born shape w a notes p s birth stamp g le in_shape es al =
     let i = g.image in
     let own = Some (InHand stamp birth None None) in
     record {
-      sound = sound_kept shape no_keys a p (Bears s birth) g.sound al;
+      sound = sound_kept shape (opening_keys shape) a p (Bears s birth) g.sound al;
       tells = tells_kept shape a p (Bears s birth) g.sound g.tells al;
       fits = record {
         is_shape = g.fits.is_shape;
@@ -127,7 +127,7 @@ born shape w a notes p s birth stamp g le in_shape es al =
         stamp = i.stamp;
         place = puts_same w.place a.place s (Hand p) i.place;
       };
-      knows = knows_own z w.know notes p s own (knows_on g.sound (grows shape no_keys a p (Bears s birth) g.sound al) w.know notes g.knows);
+      knows = knows_own z w.know notes p s own (knows_on g.sound (grows shape (opening_keys shape) a p (Bears s birth) g.sound al) w.know notes g.knows);
       owns = owns_moved a z w.know p s (with_own (w.know p) s own) refl (λ k ne. put_other (w.know p).own s own k ne) g.others
           (hand_not_of p (put a.place s (Hand p) s) (put_here a.place s (Hand p)))
           (λ k ne. record {
@@ -198,7 +198,7 @@ given_up shape w a notes p s g last st place =
     let b = becomes shape a p (GivesUp c) in
     let i = g.image in
     record {
-      sound = sound_kept shape no_keys a p (GivesUp c) g.sound st;
+      sound = sound_kept shape (opening_keys shape) a p (GivesUp c) g.sound st;
       tells = tells_kept shape a p (GivesUp c) g.sound g.tells st;
       fits = fits_kept a b refl refl refl refl g.fits;
       image = record {
@@ -210,7 +210,7 @@ given_up shape w a notes p s g last st place =
         stamp = i.stamp;
         place = i.place;
       };
-      knows = knows_on g.sound (grows shape no_keys a p (GivesUp c) g.sound st) w.know notes g.knows;
+      knows = knows_on g.sound (grows shape (opening_keys shape) a p (GivesUp c) g.sound st) w.know notes g.knows;
       away = λ q v ne. slot_kept a b q (w.know q).epoch (w.know q).epoch v ((w.know q).own v) (omega arith)
           (record { place = refl; last = refl; stamp = refl; untouched = λ d e. record { state = put_other a.state c GivenUp d (lasts_differ g.sound.slots v s c d ne last e); birth = refl; key = refl; is_keyed = refl; link = refl; is_aimed = refl } })
           (g.owns q v);
@@ -232,7 +232,7 @@ step_store_birth shape w a notes p s birth g ok = go ((w.know p).own s) refl ok.
     go None e o h lt = absurd o
     go (Some (Unlinked seen)) e o h lt = absurd o
     go (Some (Free stamp)) e o h lt =
-        let al : Allowed shape no_keys a p (Bears s birth) = (rw h.0 (refl, h.1), (let u = h.2 in omega arith), below) in
+        let al : Allowed shape (opening_keys shape) a p (Bears s birth) = (rw h.0 (refl, h.1), (let u = h.2 in omega arith), below) in
         rw e (
           (al, tt),
           born shape w a notes p s birth stamp (record {
@@ -250,5 +250,5 @@ step_store_birth shape w a notes p s birth g ok = go ((w.know p).own s) refl ok.
     go (Some (InHand stamp before key link)) e o h lt =
         let x = hand_facts a p s (w.know p).epoch (Some (InHand stamp before key link)) h tt in
         let y = given_up shape w a notes p s g x.last x.state x.place in
-        let al : Allowed shape no_keys (becomes shape a p (GivesUp (last_in a s))) p (Bears s birth) = (rw (x.place, x.last) (refl, put_here a.state (last_in a s) GivenUp), (let u = h.2 in omega arith), below) in
+        let al : Allowed shape (opening_keys shape) (becomes shape a p (GivesUp (last_in a s))) p (Bears s birth) = (rw (x.place, x.last) (refl, put_here a.state (last_in a s) GivenUp), (let u = h.2 in omega arith), below) in
         rw e ((x.state, (al, tt)), born shape w (becomes shape a p (GivesUp (last_in a s))) notes p s birth stamp y low ok.in_shape h.2 al)

@@ -7,7 +7,7 @@ use Rattle.vbr_words.specs.Words.{word_of}
 use Rattle.vbr_words.specs.declared.place.At.{At}
 use Rattle.vbr_words.specs.declared.place.At.TheVariants.{Slot}
 use Rattle.vbr_core.specs.Put.{put}
-use Rattle.vbr_core.specs.Keys.{no_keys}
+use Rattle.vbr_core.specs.Opened.{opening_keys}
 use Rattle.vbr_core.specs.History.{reply_of, set_after}
 use Rattle.vbr_core.specs.Knowledge.{key_in}
 use Rattle.vbr_core.specs.Acceptance.{Accepts}
@@ -23,17 +23,17 @@ use Rattle.vbr_core.specs.declared.history.Op.{Op}
 use Rattle.vbr_core.specs.declared.history.Op.TheVariants.{Insert, Remove, Has}
 use Rattle.vbr_core.specs.declared.event.Step.TheVariants.{ConfirmPresent, ConfirmAbsent}
 use Rattle.vbr_core.proofs.Growth.{grows}
-use Rattle.vbr_core.proofs.Lookups.{key_is}
+use Rattle.vbr_core.proofs.Searches.{key_is}
 use Rattle.vbr_core.proofs.Noted.{knows_on, knows_same}
 use Rattle.vbr_core.proofs.OwnSlots.{owns_kept}
 use Rattle.vbr_core.proofs.Shown.{image_kept, fits_kept}
-use Rattle.vbr_core.proofs.Meetings.{meets_now}
+use Rattle.vbr_core.proofs.StandingLinks.{link_stands}
 use Rattle.vbr_core.proofs.Steps.{StepAgrees, agrees_next, agrees_still}
 pub use Rattle.vbr_core.proofs.AtLoads.{found_at}
 use Rattle.vbr_core.proofs.MarkedChains.{confirmed_absent}
 
 -- a call that changes nothing
-answer_allowed : (shape : Dimensions) (w : World) (a : Incarnations) (notes : ℕ → Notes) (p : ℕ) (call : Call) → Agrees shape w a notes → Allowed shape no_keys a p (Answers call) →
+answer_allowed : (shape : Dimensions) (w : World) (a : Incarnations) (notes : ℕ → Notes) (p : ℕ) (call : Call) → Agrees shape w a notes → Allowed shape (opening_keys shape) a p (Answers call) →
     Agrees shape (record w { calls = w.calls ++ call ∷ [] }) (becomes shape a p (Answers call)) (put notes p (notes p))
 answer_allowed shape w a notes p call g al =
     let b = becomes shape a p (Answers call) in
@@ -41,7 +41,7 @@ answer_allowed shape w a notes p call g al =
     agrees_next shape w v a notes (put notes p (notes p)) p (Answers call) g al
     (fits_kept a b refl refl refl refl g.fits)
     (image_kept v w a b g.image.epoch refl refl refl refl refl g.image.place refl refl refl refl refl refl refl refl refl g.image)
-    (knows_same b w.know notes p (knows_on g.sound (grows shape no_keys a p (Answers call) g.sound al) w.know notes g.knows))
+    (knows_same b w.know notes p (knows_on g.sound (grows shape (opening_keys shape) a p (Answers call) g.sound al) w.know notes g.knows))
     (owns_kept a b w.know (λ v. record { place = refl; last = refl; stamp = refl; untouched = λ c _. record { state = refl; birth = refl; key = refl; is_keyed = refl; link = refl; is_aimed = refl } }) g.owns)
     (ap (λ l. l ++ call ∷ []) g.calls) g.births
 
@@ -61,11 +61,11 @@ step_confirm_present shape w a notes p op s expected g ok = go (cases_Bool (word
     go : ((word_of (w.link s) == expected) ≡ true) ⊎ ((word_of (w.link s) == expected) ≡ false) → StepAgrees shape w a notes p (ConfirmPresent op s expected)
     go (inr f) = rw f (tt, agrees_still shape w a notes p g)
     go (inl t) =
-        let m = meets_now shape w a notes p g (Slot s) expected ok.held.0 ok.in_range.0 (eqb-true (word_of (w.link s)) expected t) in
+        let m = link_stands shape w a notes p g (Slot s) expected ok.held.0 ok.in_range.0 (eqb-true (word_of (w.link s)) expected t) in
         let key = unwrap_or (key_in (w.know p).checked s) 0 in
         let k : key ≡ a.key (last_in a s) = key_is g.sound.slots (w.know p).epoch (notes p).checked (w.know p).checked s (last_in a s) (g.knows p).checked_reads (g.knows p).checked m.held ok.held.1 in
         let call : Call = record { who = p; op = op; key = key; reply = present_reply op } in
-        let al : Allowed shape no_keys a p (Answers call) = (refl, nothing op ok.in_range.1, reply op (set_after no_keys a.calls) key ok.in_range.1 (rw k (g.tells.there (last_in a s) m.is_open))) in
+        let al : Allowed shape (opening_keys shape) a p (Answers call) = (refl, nothing op ok.in_range.1, reply op (set_after (opening_keys shape) a.calls) key ok.in_range.1 (rw k (g.tells.there (last_in a s) m.is_open))) in
         rw t ((al, tt), answer_allowed shape w a notes p call g al)
 
 pub step_confirm_absent : (shape : Dimensions) (w : World) (a : Incarnations) (notes : ℕ → Notes) (p : ℕ) (op : Op) (key : ℕ) (at : At) (expected : ℕ) → Agrees shape w a notes → Accepts shape (w.know p) (ConfirmAbsent op key at expected) → StepAgrees shape w a notes p (ConfirmAbsent op key at expected)
@@ -85,7 +85,7 @@ step_confirm_absent shape w a notes p op key at expected g ok = go (cases_Bool (
     go (inr f) = rw (found_at shape w at, f) (tt, agrees_still shape w a notes p g)
     go (inl t) =
         let q : machine.found shape w (ConfirmAbsent op key at expected) ≡ expected = found_at shape w at ∙ eqb-true (word_of (machine.link_at w at)) expected t in
-        let ab : set_after no_keys a.calls key ≡ false = sym (ap (λ calls. set_after no_keys calls key) g.calls) ∙ confirmed_absent g p op key at expected ok q in
+        let ab : set_after (opening_keys shape) a.calls key ≡ false = sym (ap (λ calls. set_after (opening_keys shape) calls key) g.calls) ∙ confirmed_absent g p op key at expected ok q in
         let call : Call = record { who = p; op = op; key = key; reply = false } in
-        let al : Allowed shape no_keys a p (Answers call) = (refl, nothing op, reply op (set_after no_keys a.calls) key ok.in_range.1 ab) in
+        let al : Allowed shape (opening_keys shape) a p (Answers call) = (refl, nothing op, reply op (set_after (opening_keys shape) a.calls) key ok.in_range.1 ab) in
         rw (found_at shape w at, t) ((al, tt), answer_allowed shape w a notes p call g al)

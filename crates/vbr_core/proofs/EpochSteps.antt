@@ -4,7 +4,7 @@ use Rattle.std.specs.Prelude.{◌⊎◌, ◌==◌}
 use Rattle.std.proofs.lemmas.Bool.{cases_eq, cases_Bool, eqb-true}
 use Rattle.vbr_words.specs.Dimensions.{Dimensions}
 use Rattle.vbr_core.specs.Put.{put}
-use Rattle.vbr_core.specs.Keys.{no_keys}
+use Rattle.vbr_core.specs.Opened.{opening_keys}
 use Rattle.vbr_core.specs.Knowledge.{Know}
 use Rattle.vbr_core.specs.Acceptance.{Accepts}
 use Rattle.vbr_core.specs.Learning.{read_epoch, reread}
@@ -71,7 +71,7 @@ step_advance shape w a notes p from g ok = go (cases_Bool (w.epoch == from))
           agrees_next shape w (record w { epoch = w.epoch + 1 }) a notes (put notes p (notes p)) p Advances g al
               (record { is_shape = g.fits.is_shape; epoch = omega arith; slot = g.fits.slot; link = g.fits.link })
               (image_kept (record w { epoch = w.epoch + 1 }) w a b (ap (λ e. e + 1) g.image.epoch) refl refl refl refl refl g.image.place refl refl refl refl refl refl refl refl refl g.image)
-              (knows_same b w.know notes p (knows_on g.sound (grows shape no_keys a p Advances g.sound al) w.know notes g.knows))
+              (knows_same b w.know notes p (knows_on g.sound (grows shape (opening_keys shape) a p Advances g.sound al) w.know notes g.knows))
               (owns_kept a b w.know (λ v. record { place = refl; last = refl; stamp = refl; untouched = λ c _. record { state = refl; birth = refl; key = refl; is_keyed = refl; link = refl; is_aimed = refl } }) g.owns)
               g.calls g.births,
         )

@@ -2,11 +2,12 @@
 use Rattle.std.proofs.Common.{◌≡◌, ℕ, List, [], ◌∷◌, ◌++◌, refl, ap, sym, ◌∙◌}
 use Rattle.vbr_words.specs.Dimensions.{Dimensions, IsShape}
 use Rattle.vbr_core.specs.Put.{put}
-use Rattle.vbr_core.specs.Keys.{Keys, no_keys}
+use Rattle.vbr_core.specs.Keys.{Keys}
+use Rattle.vbr_core.specs.Opened.{opening_keys}
 use Rattle.vbr_core.specs.Acceptance.{Accepts}
 use Rattle.vbr_core.specs.Machine.{World, opening, after}
 use Rattle.vbr_core.specs.Runs.{AreAccepted, world_from, world_after, IsRun}
-use Rattle.vbr_core.specs.Incarnations.{Incarnations, nothing_yet}
+use Rattle.vbr_core.specs.Incarnations.{Incarnations, at_opening}
 use Rattle.vbr_core.specs.Chronicles.{Entry, IsLawful, becomes, incarnations_from}
 use Rattle.vbr_core.specs.Sound.{Grows}
 use Rattle.vbr_core.specs.Notes.{Notes, no_notes, notes_with}
@@ -28,7 +29,7 @@ use Rattle.vbr_core.proofs.Unlinking.{step_unlink}
 
 -- every accepted step adds what is lawful and keeps the agreement
 pub step_agrees : (shape : Dimensions) (w : World) (a : Incarnations) (notes : ℕ → Notes) (p : ℕ) (step : Step) → Agrees shape w a notes → Accepts shape (w.know p) step →
-    IsLawful shape no_keys a (happens shape w a p step)
+    IsLawful shape (opening_keys shape) a (happens shape w a p step)
     × Agrees shape (after shape w p step) (incarnations_from shape a (happens shape w a p step)) (put notes p (notes_with shape w (incarnations_from shape a (happens shape w a p step)) p step (notes p)))
 step_agrees shape w a notes p ReadEpoch g ok = step_read_epoch shape w a notes p g
 step_agrees shape w a notes p (Advance from) g ok = step_advance shape w a notes p from g ok
@@ -62,7 +63,7 @@ lawful-append shape keys a (x ∷ xs) ys l m = (l.0, lawful-append shape keys (b
 
 -- accepted events add what is lawful and keep the agreement
 pub runs_agree : (shape : Dimensions) (passes : ℕ) (w : World) (a : Incarnations) (notes : ℕ → Notes) (events : List Event) → Agrees shape w a notes → AreAccepted shape passes w events →
-    IsLawful shape no_keys a (chronicle_from shape w a events) × Agrees shape (world_from shape w events) (incarnations_from shape a (chronicle_from shape w a events)) (notes_from shape w a notes events)
+    IsLawful shape (opening_keys shape) a (chronicle_from shape w a events) × Agrees shape (world_from shape w events) (incarnations_from shape a (chronicle_from shape w a events)) (notes_from shape w a notes events)
 runs_agree shape passes w a notes [] g ok = (tt, g)
 runs_agree shape passes w a notes (event ∷ events) g ok =
     let p = event.pass in
@@ -71,17 +72,17 @@ runs_agree shape passes w a notes (event ∷ events) g ok =
     let new = put notes p (notes_with shape w b p event.step (notes p)) in
     let one = step_agrees shape w a notes p event.step g ok.0.1 in
     let rest = runs_agree shape passes v b new events one.1 ok.1 in (
-      lawful-append shape no_keys a (happens shape w a p event.step) (chronicle_from shape v b events) one.0 rest.0,
+      lawful-append shape (opening_keys shape) a (happens shape w a p event.step) (chronicle_from shape v b events) one.0 rest.0,
       rw (incarnations_from-append shape a (happens shape w a p event.step) (chronicle_from shape v b events)) rest.1,
     )
 
 -- after a run the world, the incarnations and the notes agree
 pub run_agrees : (shape : Dimensions) (passes : ℕ) (run : List Event) → IsShape shape → IsRun shape passes run → Agrees shape (world_after shape run) (incarnations_after shape run) (notes_after shape run)
-run_agrees shape passes run is ok = (runs_agree shape passes opening nothing_yet (λ p. no_notes) run (agrees_at_first shape is) ok).1
+run_agrees shape passes run is ok = (runs_agree shape passes (opening shape) (at_opening shape) (λ p. no_notes) run (agrees_at_first shape is) ok).1
 
 -- its chronicle is lawful
-pub run_lawful : (shape : Dimensions) (passes : ℕ) (run : List Event) → IsShape shape → IsRun shape passes run → IsLawful shape no_keys nothing_yet (chronicle shape run)
-run_lawful shape passes run is ok = (runs_agree shape passes opening nothing_yet (λ p. no_notes) run (agrees_at_first shape is) ok).0
+pub run_lawful : (shape : Dimensions) (passes : ℕ) (run : List Event) → IsShape shape → IsRun shape passes run → IsLawful shape (opening_keys shape) (at_opening shape) (chronicle shape run)
+run_lawful shape passes run is ok = (runs_agree shape passes (opening shape) (at_opening shape) (λ p. no_notes) run (agrees_at_first shape is) ok).0
 
 -- ---- runs in two parts
 
@@ -98,7 +99,7 @@ incarnations-append shape w a (x ∷ xs) ys =
 -- the incarnations after one more event
 pub incarnations_after-snoc : (shape : Dimensions) (run : List Event) (event : Event) → incarnations_after shape (run ++ event ∷ []) ≡ incarnations_with shape (world_after shape run) (incarnations_after shape run) event
 incarnations_after-snoc shape run event =
-    incarnations-append shape opening nothing_yet run (event ∷ [])
+    incarnations-append shape (opening shape) (at_opening shape) run (event ∷ [])
     ∙ incarnations_from-append shape (incarnations_after shape run) (happens shape (world_after shape run) (incarnations_after shape run) event.pass event.step) []
 
 notes-append : (shape : Dimensions) (w : World) (a : Incarnations) (notes : ℕ → Notes) (xs ys : List Event) →
@@ -114,12 +115,12 @@ notes-append shape w a notes (x ∷ xs) ys =
 -- what was there after a beginning of a run stays to its end
 pub run_grows : (shape : Dimensions) (passes : ℕ) (xs ys : List Event) → IsShape shape → IsRun shape passes (xs ++ ys) → Grows (incarnations_after shape xs) (incarnations_after shape (xs ++ ys))
 run_grows shape passes xs ys is ok =
-    let parts = accepted_parts shape passes opening xs ys ok in
-    let one = runs_agree shape passes opening nothing_yet (λ p. no_notes) xs (agrees_at_first shape is) parts.0 in
+    let parts = accepted_parts shape passes (opening shape) xs ys ok in
+    let one = runs_agree shape passes (opening shape) (at_opening shape) (λ p. no_notes) xs (agrees_at_first shape is) parts.0 in
     let a = incarnations_after shape xs in
     let two = runs_agree shape passes (world_after shape xs) a (notes_after shape xs) ys one.1 parts.1 in
-    let grown : Grows a (incarnations_from shape a (chronicle_from shape (world_after shape xs) a ys)) = grows_after shape no_keys a (chronicle_from shape (world_after shape xs) a ys) one.1.sound two.0 in
-    rw (incarnations-append shape opening nothing_yet xs ys) grown
+    let grown : Grows a (incarnations_from shape a (chronicle_from shape (world_after shape xs) a ys)) = grows_after shape (opening_keys shape) a (chronicle_from shape (world_after shape xs) a ys) one.1.sound two.0 in
+    rw (incarnations-append shape (opening shape) (at_opening shape) xs ys) grown
   where
     accepted_parts : (shape : Dimensions) (passes : ℕ) (w : World) (xs ys : List Event) → AreAccepted shape passes w (xs ++ ys) → AreAccepted shape passes w xs × AreAccepted shape passes (world_from shape w xs) ys
     accepted_parts shape passes w [] ys ok = (tt, ok)

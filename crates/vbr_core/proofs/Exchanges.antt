@@ -27,7 +27,7 @@ use Rattle.vbr_core.specs.declared.knowledge.SlotPlace.TheVariants.{Hand}
 use Rattle.vbr_core.proofs.Puts.{put_here, put_other}
 use Rattle.vbr_core.proofs.OwnSlots.{lasts_differ}
 use Rattle.vbr_core.proofs.Shown.{to_next_same, link_kept}
-use Rattle.vbr_core.proofs.Meetings.{node_at, birth_there}
+use Rattle.vbr_core.proofs.StandingLinks.{node_at, birth_there}
 
 -- one link was exchanged
 pub exchanged : (w : World) (a b : Incarnations) (pred : At) (new : Link) → IsImage w a → link_shown_at b pred ≡ new → ((at : At) → at ≢ pred → link_shown_at b at ≡ link_shown_at a at) → (at : At) → machine.link_at (with_link_at w pred new) at ≡ link_shown_at b at

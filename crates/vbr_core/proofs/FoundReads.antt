@@ -1,4 +1,4 @@
--- What a look-up finds is among the reads, and where a read is among them, a look-up finds one.
+-- What a search finds is among the reads, and where a read is among them, a search finds one.
 use Rattle.std.proofs.Common.{◌≡◌, ℕ, Bool, true, false, List, [], ◌∷◌, Option, Some, None, refl, arith, sym, ap, ◌∙◌, inl, inr, ⊎_elim}
 use Rattle.std.specs.Prelude.{◌⊎◌, ◌==◌, ◌&&◌, if◌then◌else◌, IsSome}
 use Rattle.std.specs.List.{Contains}
@@ -11,7 +11,7 @@ use Rattle.vbr_core.specs.Links.{same_slot, same_mark, same_link}
 use Rattle.vbr_core.specs.Knowledge.{same_at, knows_link, birth_in, key_in, marked_in, names, holds}
 use Rattle.vbr_core.specs.declared.knowledge.Read.{Read}
 use Rattle.vbr_core.specs.declared.knowledge.Read.TheVariants.{LinkAt, BirthOf, KeyOf}
-use Rattle.vbr_core.proofs.Lookups.{same_link_true, same_at_true}
+use Rattle.vbr_core.proofs.Searches.{same_link_true, same_at_true}
 
 -- ---- members of a list
 
@@ -105,7 +105,7 @@ holds_among (LinkAt at link ∷ reads) s q = elim (cases_Bool (names link.slot s
 
 -- ---- what is among the reads is found
 
--- a look-up that passes one more read finds what it found before, or that read
+-- a search that passes one more read finds what it found before, or that read
 found_more : (test : Bool) (b : Bool) → b ≡ true → (if test then true else b) ≡ true
 found_more true b q = refl
 found_more false b q = q

@@ -1,4 +1,4 @@
--- What a pass holds: a checked link met again stands for the same pair, a load gives a good read, and good reads stay good.
+-- What a pass holds: a checked link found again stands for the same pair, a load gives a good read, and good reads stay good.
 use Rattle.std.proofs.Common.{◌≡◌, ℕ, ◌<◌, ◌≤◌, false, max, List, [], ◌∷◌, Option, Some, None, refl, arith, sym, subst, ap, ◌∙◌, inl, inr}
 use Rattle.std.specs.Prelude.{◌⊎◌}
 use Rattle.std.specs.List.{AllByRecursion}
@@ -18,7 +18,7 @@ use Rattle.vbr_core.specs.declared.knowledge.Read.TheVariants.{LinkAt, BirthOf, 
 use Rattle.vbr_core.proofs.Slots.{late_inserted, late_born, one_late, late_last, listed_late, listed_last, shows}
 use Rattle.vbr_core.proofs.Lists.{next_listed}
 
--- ---- a link that is met again
+-- ---- a link that is found again
 
 -- a link by which m is named, with a version no greater than the epoch, names the one that is held
 same_next : {shape : Dimensions} {a : Incarnations} → Sound shape a → (e holder : ℕ) (o n : Option ℕ) (link : Link) → ((m : ℕ) → o ≡ Some m → IsListed (a.state m)) → link_to_next a holder o ≡ link → link.version ≤ e → IsHeldNext a e link.slot n → o ≡ n

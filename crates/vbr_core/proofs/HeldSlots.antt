@@ -17,7 +17,7 @@ use Rattle.vbr_core.specs.declared.event.Step.{Step}
 use Rattle.vbr_core.specs.declared.event.Step.TheVariants.{ReadEpoch, Advance, LoadStamp, StoreStamp, Raise, TakeFlag, StoreBirth, StoreKey, StoreLink, LoadLink, LoadBirth, LoadKey, Publish, Mark, Unlink, ConfirmPresent, ConfirmAbsent}
 use Rattle.vbr_core.specs.declared.knowledge.Read.{Read}
 use Rattle.vbr_core.specs.declared.knowledge.Read.TheVariants.{LinkAt, BirthOf, KeyOf}
-use Rattle.vbr_core.proofs.Lookups.{same_at_true}
+use Rattle.vbr_core.proofs.Searches.{same_at_true}
 
 -- the place that a read is of is held
 abbrev pub IsOfHeldPlace : List Read → Read → Type 0

@@ -1,5 +1,5 @@
 -- What the lists that a program keeps stand for, at opening and after one entry is set.
-use Rattle.std.proofs.Common.{◌≡◌, ℕ, ◌<◌, ◌≤◌, List, [], length, get_or, set, replicate, ◌⊎◌, inl, inr, refl, sym, ap, ◌∙◌, arith}
+use Rattle.std.proofs.Common.{◌≡◌, ℕ, ◌<◌, ◌≤◌, List, [], length, get_or, set, replicate, None, ◌⊎◌, inl, inr, refl, sym, ap, ◌∙◌, arith}
 use Rattle.std.proofs.lemmas.Bool.{cases_lt}
 use Rattle.std.proofs.lemmas.List.{get_or_read, get_or_past}
 use Rattle.std.specs.List.{AllByRecursion}
@@ -11,11 +11,14 @@ use Rattle.vbr_words.specs.declared.place.At.{At}
 use Rattle.vbr_words.specs.declared.place.At.TheVariants.{Head, Slot}
 use Rattle.vbr_core.specs.Put.{put}
 use Rattle.vbr_core.specs.Knowledge.{Know}
-use Rattle.vbr_core.specs.Links.{empty_head, opening_link}
-use Rattle.vbr_core.specs.Machine.{World, knows_nothing, opening, with_link_at}
+use Rattle.vbr_core.specs.Links.{opening_link, link_to}
+use Rattle.vbr_core.specs.Machine.{World, knows_nothing, with_link_at}
+use Rattle.vbr_core.specs.Making.{opening_from}
+use Rattle.vbr_core.specs.Opened.{key_count}
 use Rattle.vbr_core.specs.Kept.{KeptPass, KeptWorld, IsWhole, know_of, opening_pass, world_of}
 use Rattle.vbr_core.specs.declared.knowledge.SlotPlace.{SlotPlace}
 use Rattle.vbr_core.specs.declared.knowledge.SlotPlace.TheVariants.{Shared}
+use Rattle.vbr_core.proofs.OpenedWorlds.{opening_none}
 use Rattle.vbr_core.proofs.KeptLists.{read_replicate, read_set, all_at}
 
 -- the word that is kept at a head is that of its link
@@ -34,14 +37,14 @@ know_opened slots passes new = λ k p. at p (cases_lt p (length passes)) k
     at p (inl lt) = (all_at (λ pass. (know_of pass ≡ knows_nothing) × (length pass.own ≡ slots)) passes p opening_pass new lt).0
     at p (inr ge) = rw (get_or_past passes p opening_pass ge) refl
 
--- the lists of an empty set stand for the world at opening
-pub opened : (kept : KeptWorld) (buckets slots own : ℕ) → kept.epoch ≡ 1 → kept.heads ≡ replicate buckets 0 → kept.links ≡ replicate slots MARK → kept.birth ≡ replicate slots 0 → kept.stamps ≡ replicate slots 0 → kept.keys ≡ replicate slots 0 → kept.places ≡ replicate slots Shared → AllByRecursion (λ pass. (know_of pass ≡ knows_nothing) × (length pass.own ≡ own)) kept.passes → kept.births ≡ 0 → kept.calls ≡ [] → world_of kept ≡ opening
+-- the lists of an empty set stand for the world at opening where no key is linked yet
+pub opened : (kept : KeptWorld) (buckets slots own : ℕ) → kept.epoch ≡ 1 → kept.heads ≡ replicate buckets 0 → kept.links ≡ replicate slots MARK → kept.birth ≡ replicate slots 0 → kept.stamps ≡ replicate slots 0 → kept.keys ≡ replicate slots 0 → kept.places ≡ replicate slots Shared → AllByRecursion (λ pass. (know_of pass ≡ knows_nothing) × (length pass.own ≡ own)) kept.passes → kept.births ≡ 0 → kept.calls ≡ [] → world_of kept ≡ opening_from kept.shape (key_count kept.shape)
 unfolding link_of
 opened kept buckets slots own epoch heads links birth stamps keys places new births calls =
     ap world_of (λ i. record kept { epoch = epoch i; heads = heads i; links = links i; birth = birth i; stamps = stamps i; keys = keys i; places = places i; births = births i; calls = calls i })
     ∙ (λ i. record {
       epoch = 1;
-      head = read_replicate link_of buckets 0 0 empty_head refl refl i;
+      head = read_replicate link_of buckets 0 0 (link_to None 0 0) refl refl i;
       link = read_replicate link_of slots MARK MARK opening_link refl refl i;
       birth = read_replicate (λ n. n) slots 0 0 0 refl refl i;
       stamp = read_replicate (λ n. n) slots 0 0 0 refl refl i;
@@ -51,6 +54,7 @@ opened kept buckets slots own epoch heads links birth stamps keys places new bir
       births = 0;
       calls = [];
     })
+    ∙ sym (opening_none kept.shape)
 
 -- a slot is put where it now is
 pub slot_put : (kept : KeptWorld) (s : ℕ) (place : SlotPlace) → IsWhole kept → s < kept.shape.slots → world_of (record kept { places = set kept.places s place }) ≡ record (world_of kept) { place = put (world_of kept).place s place }

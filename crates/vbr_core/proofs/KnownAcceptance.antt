@@ -1,4 +1,4 @@
--- Acceptance by membership and acceptance by look-ups say the same of what a pass knows along a run, and both write the same link.
+-- Acceptance by membership and acceptance by searches say the same of what a pass knows along a run, and both write the same link.
 use Rattle.std.proofs.Common.{◌≡◌, ℕ, ◌<◌, true, List, Option, Some, None, refl, arith, sym, subst, ap, ◌∙◌}
 use Rattle.std.specs.Prelude.{IsSome, unwrap_or}
 use Rattle.vbr_words.specs.Dimensions.{Dimensions}
@@ -8,7 +8,7 @@ use Rattle.vbr_words.specs.declared.place.At.{At}
 use Rattle.vbr_words.specs.declared.place.At.TheVariants.{Head, Slot}
 use Rattle.vbr_core.specs.Links.{link_to}
 use Rattle.vbr_core.specs.Knowledge.{Know, knows_link, birth_in, key_in, marked_in, holds, holds_at, birth_at, birth_of}
-use Rattle.vbr_core.specs.Acceptance.{bucket_of, KnowsKeyAt, KnowsKeyOf, after_turns, MeetsKey, next_of_marked, HasChecked, IsBehind, IsBefore, MeetsAbove, MayPublish, IsInRange, Accepts}
+use Rattle.vbr_core.specs.Acceptance.{bucket_of, KnowsKeyAt, KnowsKeyOf, after_turns, LeadsToKey, next_of_marked, HasChecked, IsBehind, IsBefore, LeadsAbove, MayPublish, IsInRange, Accepts}
 use Rattle.vbr_core.specs.Learning.{link_written, call_of, present_reply, birth_in_hand}
 use Rattle.vbr_core.specs.Membership.{Knows, IsHeldSlot, IsHeldPlace, BirthAt, BirthNamed, StandsBehind, StandsBefore, StandsBeforeOn, IsUnlinkLink, WritesLink, IsKnown, MayPublishKnown, IsInRangeKnown, AcceptsKnown}
 use Rattle.vbr_core.specs.Incarnations.{Incarnations}
@@ -24,7 +24,7 @@ use Rattle.vbr_core.specs.declared.knowledge.Holding.{Holding}
 use Rattle.vbr_core.specs.declared.knowledge.Holding.TheVariants.{Free, Unlinked, InHand}
 use Rattle.vbr_core.specs.declared.knowledge.Read.{Read}
 use Rattle.vbr_core.proofs.MarkedWalks.{walk_led, led_walk}
-use Rattle.vbr_core.proofs.Lookups.{birth_is, key_is}
+use Rattle.vbr_core.proofs.Searches.{birth_is, key_is}
 use Rattle.vbr_core.proofs.FoundReads.{link_among, birth_among, marked_among, holds_among, link_there, birth_there, key_there, marked_there, holds_there}
 use Rattle.vbr_core.proofs.KnownReads.{key_known, behind_known, before_known, birth_held, key_held, one_mark}
 
@@ -59,7 +59,7 @@ birth_named_known : (know : Know) (v : Option ℕ) → IsSome (birth_of know.che
 birth_named_known know None h = refl
 birth_named_known know (Some s) h = birth_known know s h
 
--- the link that an unlinking writes by look-ups is one that it writes by what is known
+-- the link that an unlinking writes by searches is one that it writes by what is known
 unlink_known : (know : Know) (pred : At) (expected s : ℕ) → IsSome (marked_in know.checked s) → IsSome (birth_at know.checked pred) → IsSome (birth_of know.checked (next_of_marked (marked_in know.checked s))) → IsUnlinkLink know pred s (link_written know (Unlink pred expected s))
 unlink_known know pred expected s m b n =
     let x = some_is (marked_in know.checked s) m in
@@ -101,7 +101,7 @@ ready_known shape know pred expected (Some (InHand stamp birth (Some key) (Some 
   before_known know key expected.slot n r.2,
 )
 
--- a key that stands before a slot by a look-up stands before a checked key of it
+-- a key that stands before a slot by a search stands before a checked key of it
 key_found : (reads : List Read) (key : ℕ) (v : Option ℕ) → IsBefore reads key v → KnowsKeyOf reads v
 key_found reads key None i = tt
 key_found reads key (Some s) i = go (key_in reads s) i
@@ -111,7 +111,7 @@ key_found reads key (Some s) i = go (key_in reads s) i
     go (Some k) i = refl
 
 -- a key stands before what known marked links lead to, if it stands before what a walk comes to
-before_on : (know : Know) (key : ℕ) (link : Link) (most : ℕ) → MeetsAbove most know.checked key link.slot → StandsBeforeOn know key link
+before_on : (know : Know) (key : ℕ) (link : Link) (most : ℕ) → LeadsAbove most know.checked key link.slot → StandsBeforeOn know key link
 before_on know key link most m =
     let led = walk_led know link m.turns in
     let P : Option ℕ → Type 0 = StandsBefore know key in
@@ -122,14 +122,14 @@ range_known shape know (Publish pred expected s) h r = (r.0, ready_known shape k
 range_known shape know (ConfirmAbsent op key at expected) h r = (r.0, r.1, behind_known know shape at key h.1 r.2, before_on know key (link_of expected) shape.slots r.3)
 range_known shape know step h r = r
 
--- what is accepted by look-ups is accepted by membership
+-- what is accepted by searches is accepted by membership
 pub accepts_known : {shape : Dimensions} {know : Know} {step : Step} → Accepts shape know step → AcceptsKnown shape know step
 accepts_known {shape} {know} {step} ok = record { in_shape = ok.in_shape; owned = ok.owned; known = held_known shape know step ok.held; in_range = range_known shape know step ok.held ok.in_range; below_last = ok.below_last }
 
 -- ---- what is known is looked up
 
 module _ {shape : Dimensions} {a : Incarnations} {know : Know} {notes : Notes} (sound : Sound shape a) (noted : IsNoted a know notes) where
-  -- a look-up of a key finds any known key
+  -- a search of a key finds any known key
   pub key_looked_up : (s key : ℕ) → Knows know (KeyOf s key) → unwrap_or (key_in know.checked s) 0 ≡ key
   key_looked_up s key k =
       let x = key_held noted s key k in
@@ -156,14 +156,14 @@ module _ {shape : Dimensions} {a : Incarnations} {know : Know} {notes : Notes} (
   birth_named_there None birth k = refl
   birth_named_there (Some s) birth k = birth_there know.checked s birth k.among
 
-  -- a look-up of a marked link finds one that names what any known marked link names
+  -- a search of a marked link finds one that names what any known marked link names
   mark_is : (s : ℕ) (link : Link) → Knows know (LinkAt (Slot s) link) → link.mark ≡ true → next_of_marked (marked_in know.checked s) ≡ link.slot
   mark_is s link k m =
       let x = some_is (marked_in know.checked s) (marked_there know.checked s link k.among m) in
       let y = marked_among know.checked s x.0 x.1 in
       ap next_of_marked x.1 ∙ one_mark sound noted s x.0 link (record { among = y.0 }) k y.1 m
 
-  -- the link that a step writes by look-ups is the one that it writes by any known births and marked link
+  -- the link that a step writes by searches is the one that it writes by any known births and marked link
   pub written_is : (step : Step) (new : Link) → WritesLink know step new → link_written know step ≡ new
   written_is (StoreLink s next) new h = ap (λ n. link_to next (birth_in_hand (know.own s)) n) (birth_named_is next h.0 h.1) ∙ sym h.2
   written_is (Publish pred expected s) new h = ap (λ n. link_to (Some s) n (birth_in_hand (know.own s))) (birth_at_is pred h.0 h.1) ∙ sym h.2
@@ -209,7 +209,7 @@ module _ {shape : Dimensions} {a : Incarnations} {know : Know} {notes : Notes} (
   link_held : (at : At) (link : Link) → Knows know (LinkAt at link) → knows_link know.checked at link ≡ true
   link_held at link k = link_there know.checked at link k.among
 
-  -- a slot in hand that is ready by what is known is so by look-ups, and the reads that it asks for are checked
+  -- a slot in hand that is ready by what is known is so by searches, and the reads that it asks for are checked
   ready_is : (pred : At) (expected : Link) (own : Option Holding) → MayPublishKnown shape know pred expected own →
       MayPublish shape know.checked pred expected own × KnowsKeyAt know.checked pred × KnowsKeyOf know.checked expected.slot × IsSome (birth_of know.checked expected.slot)
   ready_is pred expected None r = absurd r
@@ -225,14 +225,14 @@ module _ {shape : Dimensions} {a : Incarnations} {know : Know} {notes : Notes} (
   )
 
   -- where a key stands before what known marked links lead to, a walk comes to a checked key, and to one before which the key stands
-  meets_key : Fits shape a → (key : ℕ) (link : Link) → StandsBeforeOn know key link → MeetsKey shape.slots know.checked link.slot
-  meets_key fits key link on =
+  leads_to_key : Fits shape a → (key : ℕ) (link : Link) → StandsBeforeOn know key link → LeadsToKey shape.slots know.checked link.slot
+  leads_to_key fits key link on =
       let w = led_walk sound fits noted link on.last on.leads in
       let P : Option ℕ → Type 0 = KnowsKeyOf know.checked in
       record { turns = w.0; within = w.1; known = subst P (sym w.2) (before_there key on.last.slot on.before) }
 
-  meets_above : Fits shape a → (key : ℕ) (link : Link) → StandsBeforeOn know key link → MeetsAbove shape.slots know.checked key link.slot
-  meets_above fits key link on =
+  leads_above : Fits shape a → (key : ℕ) (link : Link) → StandsBeforeOn know key link → LeadsAbove shape.slots know.checked key link.slot
+  leads_above fits key link on =
       let w = led_walk sound fits noted link on.last on.leads in
       let P : Option ℕ → Type 0 = IsBefore know.checked key in
       record { turns = w.0; within = w.1; before = subst P (sym w.2) (before_is key on.last.slot on.before) }
@@ -253,14 +253,14 @@ module _ {shape : Dimensions} {a : Incarnations} {know : Know} {notes : Notes} (
         rw (mark_is s u.frozen u.known u.is_marked) (birth_named_there u.frozen.slot u.next_birth u.next_known),
       )
   held_is fits (ConfirmPresent op s expected) k r = (link_held (Slot s) (link_of expected) k.0, key_there know.checked s k.1.0 k.1.1.among)
-  held_is fits (ConfirmAbsent op key at expected) k r = (link_held at (link_of expected) k, behind_there at key r.2, meets_key fits key (link_of expected) r.3)
+  held_is fits (ConfirmAbsent op key at expected) k r = (link_held at (link_of expected) k, behind_there at key r.2, leads_to_key fits key (link_of expected) r.3)
   held_is fits step k r = tt
 
   range_is : Fits shape a → (step : Step) → IsInRangeKnown shape know step → IsInRange shape know step
   range_is fits (Publish pred expected s) r = (r.0, (ready_is pred (link_of expected) (know.own s) r.1).0)
-  range_is fits (ConfirmAbsent op key at expected) r = (r.0, r.1, behind_is at key r.2, meets_above fits key (link_of expected) r.3)
+  range_is fits (ConfirmAbsent op key at expected) r = (r.0, r.1, behind_is at key r.2, leads_above fits key (link_of expected) r.3)
   range_is fits step r = r
 
-  -- what is accepted by membership is accepted by look-ups
+  -- what is accepted by membership is accepted by searches
   pub known_accepts : Fits shape a → {step : Step} → AcceptsKnown shape know step → Accepts shape know step
   known_accepts fits {step} ok = record { in_shape = ok.in_shape; owned = ok.owned; held = held_is fits step ok.known ok.in_range; in_range = range_is fits step ok.in_range; below_last = ok.below_last }

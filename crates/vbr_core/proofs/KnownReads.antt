@@ -1,4 +1,4 @@
--- What is known by membership: each known read is of an incarnation that the pass holds, and what a look-up finds is any known one.
+-- What is known by membership: each known read is of an incarnation that the pass holds, and what a search finds is any known one.
 use Rattle.std.proofs.Common.{◌≡◌, ℕ, true, false, List, [], ◌∷◌, Option, Some, None, refl, sym, subst, ap, ◌∙◌, inl, inr, ⊎_elim}
 use Rattle.std.specs.Prelude.{◌⊎◌, IsSome, unwrap_or}
 use Rattle.std.specs.List.{AllByRecursion, Contains}
@@ -117,7 +117,7 @@ key_known know s h = go (key_in know.checked s) refl h
     go None q h = absurd (cc)
     go (Some key) q h = record { among = key_among know.checked s key q }
 
--- a key that stands behind a place by look-ups does so by what is known
+-- a key that stands behind a place by searches does so by what is known
 pub behind_known : (know : Know) (shape : Dimensions) (at : At) (key : ℕ) → KnowsKeyAt know.checked at → IsBehind shape know.checked at key → StandsBehind shape know at key
 behind_known know shape (Head b) key h i = i
 behind_known know shape (Slot s) key h i = (unwrap_or (key_in know.checked s) 0, key_known know s h, i.0, i.1)

@@ -7,7 +7,7 @@ pub use Rattle.vbr_core.proofs.Branches.{by_both}
 -- The lists of the buckets: what follows a listed incarnation is listed, no two stand before the same one, keys are different, and no key lies between neighbours.
 pub use Rattle.vbr_core.proofs.Lists.{keys_differ, next_listed}
 -- Nodes of one list, by their slots, and how many of them stand behind a place: from a place to its successor they are one fewer.
-pub use Rattle.vbr_core.proofs.ListedNodes.{in_list_from, in_list_is, one_slot, stands_in, stands_key, stands_there}
+pub use Rattle.vbr_core.proofs.ListedNodes.{in_list_from, in_list_is, slot_is_one, stands_in, stands_key, stands_there}
 -- The confirming loads.
 pub use Rattle.vbr_core.proofs.ConfirmSteps.{found_at}
 -- Along every run the world, the incarnations and the notes agree, and the chronicle is lawful.
@@ -27,7 +27,7 @@ pub use Rattle.vbr_core.proofs.OwnedSlots.{stamp_known, taken_unowned, unlinked_
 pub use Rattle.vbr_core.proofs.SafeRuns.{every_run}
 -- The events of one pass in the chronicle of a run: what others do adds none, and its own step adds what happens by it.
 pub use Rattle.vbr_core.proofs.OwnEntries.{others_leave_entries, own_entries-snoc}
--- What is known by membership: each known read is of an incarnation that the pass holds, and what a look-up finds is any known one.
+-- What is known by membership: each known read is of an incarnation that the pass holds, and what a search finds is any known one.
 pub use Rattle.vbr_core.proofs.KnownReads.{birth_held, slot_held}
 -- What runs say to the layers above: of what a pass knows by membership, of the keys that were in the set when a link was loaded, and of chains of marked links.
 pub use Rattle.vbr_core.proofs.RunForms.{absent_at_load, confirmed_call_is, head_unmarked, held_in_bucket, known_accepts, link_held, link_loaded}
@@ -39,3 +39,5 @@ pub use Rattle.vbr_core.proofs.ListedRuns.{stamp_leaves, stamp_links, unlink_mak
 pub use Rattle.vbr_core.proofs.ListedGrowth.{calls_or_adds_none}
 -- The link of a place that a pass holds unmarked, while the pass fills a slot in its hand.
 pub use Rattle.vbr_core.proofs.ListedLinks.{key_leaves_links, link_leaves_links}
+-- What the lists stand for while the keys that a world opens with are linked: a world that opens with none is the bare one.
+pub use Rattle.vbr_core.proofs.OpenedWorlds.{bare, opening_bare}

@@ -9,6 +9,7 @@ mod ListedNodes
 mod ListsAfter
 mod InsertedLists
 mod UnlinkedLists
+mod OpeningKeys
 mod SoundAfter
 mod ToldCalls
 mod Growth
@@ -17,12 +18,12 @@ mod Noted
 mod OwnSlots
 mod Shown
 mod Steps
-mod Lookups
+mod Searches
 mod EpochSteps
 mod OwnerSteps
 mod BirthSteps
 mod LoadSteps
-mod Meetings
+mod StandingLinks
 mod ConfirmSteps
 mod MarkSteps
 mod Exchanges
@@ -60,11 +61,12 @@ mod ReachedWorlds
 mod WorkedLists
 mod WorkedChronicles
 mod WorkedRefusals
-mod WorkedLookups
+mod WorkedLookUps
 mod NamedKeys
 mod WorkedSafety
 mod KeptLists
 mod KeptPasses
+mod OpenedWorlds
 mod KeptWorlds
 mod Learned
 mod MadeSteps

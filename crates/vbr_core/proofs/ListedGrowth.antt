@@ -13,7 +13,7 @@ use Rattle.vbr_core.specs.Calls.{calls_added}
 use Rattle.vbr_core.specs.Chronicles.{Entry, Advances, Gains, Probes, Keyed, Aims, Inserts, Raises, Removes, Stamps, Unlinks, Answers, Allowed, becomes, incarnations_from, IsLawful}
 use Rattle.vbr_core.specs.Images.{key_shown}
 use Rattle.vbr_core.specs.Incarnations.{Marked, Incarnations, last_in}
-use Rattle.vbr_core.specs.Keys.{no_keys}
+use Rattle.vbr_core.specs.Opened.{opening_keys}
 use Rattle.vbr_core.specs.Learning.{call_of, link_written}
 use Rattle.vbr_core.specs.Machine.{found}
 use Rattle.vbr_core.specs.Nodes.{behind, is_behind, is_listed, state_shown}
@@ -32,7 +32,7 @@ use Rattle.vbr_core.proofs.Puts.{put_here, put_other}
 -- ---- one event
 
 -- a key that is stored in a slot in hand is none of a list
-keyed_none : (shape : Dimensions) (a : Incarnations) (pass c key bucket h : ℕ) → Allowed shape no_keys a pass (Keyed c key) → behind shape (becomes shape a pass (Keyed c key)) bucket (Head h) ≡ behind shape a bucket (Head h)
+keyed_none : (shape : Dimensions) (a : Incarnations) (pass c key bucket h : ℕ) → Allowed shape (opening_keys shape) a pass (Keyed c key) → behind shape (becomes shape a pass (Keyed c key)) bucket (Head h) ≡ behind shape a bucket (Head h)
 keyed_none shape a pass c key bucket h al = count_same (is_behind shape (becomes shape a pass (Keyed c key)) bucket (Head h)) (is_behind shape a bucket (Head h)) shape.slots (λ s l. same (a.last s))
   where
     in_bucket : Incarnations → Option ℕ → Bool
@@ -52,7 +52,7 @@ keyed_none shape a pass c key bucket h al = count_same (is_behind shape (becomes
         go (inr ne) = ap (λ k. (is_listed (a.state d) && (bucket_of shape k == bucket)) && true) (put_other a.key c key d ne)
 
 -- a marking leaves the node in its list
-removes_none : (shape : Dimensions) (a : Incarnations) (pass c bucket : ℕ) (at : At) → Allowed shape no_keys a pass (Removes c) → behind shape (becomes shape a pass (Removes c)) bucket at ≡ behind shape a bucket at
+removes_none : (shape : Dimensions) (a : Incarnations) (pass c bucket : ℕ) (at : At) → Allowed shape (opening_keys shape) a pass (Removes c) → behind shape (becomes shape a pass (Removes c)) bucket at ≡ behind shape a bucket at
 removes_none shape a pass c bucket at al = behind_same shape a (becomes shape a pass (Removes c)) bucket at (λ s. same (a.last s)) refl refl
   where
     same : (l : Option ℕ) → is_listed (state_shown (becomes shape a pass (Removes c)) l) ≡ is_listed (state_shown a l)
@@ -90,7 +90,7 @@ module _ (shape : Dimensions) (passes : ℕ) (run : List Event) (is : IsShape sh
   confirmed true (Some call) = same (just p (Answers call)) refl
   confirmed false call = same [] refl
 
-  one : (step : Step) → calls_added shape (world_after shape run) p step ≡ [] → IsLawful shape no_keys (incarnations_after shape run) (happens shape (world_after shape run) (incarnations_after shape run) p step) →
+  one : (step : Step) → calls_added shape (world_after shape run) p step ≡ [] → IsLawful shape (opening_keys shape) (incarnations_after shape run) (happens shape (world_after shape run) (incarnations_after shape run) p step) →
       behind shape (incarnations_from shape (incarnations_after shape run) (happens shape (world_after shape run) (incarnations_after shape run) p step)) bucket (Head h) ≤ behind shape (incarnations_after shape run) bucket (Head h)
   one ReadEpoch n l = same [] refl
   one (LoadStamp s) n l = same [] refl
@@ -98,7 +98,7 @@ module _ (shape : Dimensions) (passes : ℕ) (run : List Event) (is : IsShape sh
   one (LoadBirth s) n l = same [] refl
   one (LoadKey s) n l = same [] refl
   one (Advance from) n l = either_adds_none shape a bucket h (found shape (world_after shape run) (Advance from) == from) (just p Advances) [] (same (just p Advances) refl) (same [] refl)
-  one (StoreStamp s stamp) n l = same (just p (Stamps (last_in a s) stamp)) (stamps_none shape no_keys a p (last_in a s) stamp bucket (Head h) l.0)
+  one (StoreStamp s stamp) n l = same (just p (Stamps (last_in a s) stamp)) (stamps_none shape (opening_keys shape) a p (last_in a s) stamp bucket (Head h) l.0)
   one (Raise s) n l = same (just p (Raises s)) refl
   one (TakeFlag s) n l = either_adds_none shape a bucket h (has_flag (found shape (world_after shape run) (TakeFlag s)) s) (just p (Gains s)) (just p (Probes s)) (same (just p (Gains s)) refl) (same (just p (Probes s)) refl)
   one (StoreBirth s birth) n l = same (born_in a p s birth ((know_after shape run p).own s)) (birth_leaves shape a p s birth bucket h ((know_after shape run p).own s) (run_agrees shape passes run is ok).sound l)
@@ -111,7 +111,7 @@ module _ (shape : Dimensions) (passes : ℕ) (run : List Event) (is : IsShape sh
       published false n = same [] refl
   one (Mark s expected) n l = marked (found shape (world_after shape run) (Mark s expected) == expected) l
     where
-      marked : (t : Bool) → IsLawful shape no_keys a (if t then just p (Removes (last_in a s)) else []) → AddsNoNode shape (incarnations_after shape run) bucket h (if t then just p (Removes (last_in a s)) else [])
+      marked : (t : Bool) → IsLawful shape (opening_keys shape) a (if t then just p (Removes (last_in a s)) else []) → AddsNoNode shape (incarnations_after shape run) bucket h (if t then just p (Removes (last_in a s)) else [])
       marked true l = same (just p (Removes (last_in a s))) (removes_none shape a p (last_in a s) bucket (Head h) l.0)
       marked false l = same [] refl
   one (Unlink pred expected s) n l = either_adds_none shape a bucket h (found shape (world_after shape run) (Unlink pred expected s) == expected) (just p (Unlinks (last_in a s) (before_at a pred))) [] (unlinks_add_none shape a p bucket (last_in a s) (before_at a pred) (Head h)) (same [] refl)

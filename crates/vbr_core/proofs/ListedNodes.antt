@@ -88,8 +88,8 @@ pub in_list_is : {shape : Dimensions} {a : Incarnations} {bucket s c : ℕ} → 
 in_list_is {shape} n = and_from _ _ (stands_listed n.stands) (eq-eqb _ _ (ap (bucket_of shape) (stands_key n.stands) ∙ n.of_bucket))
 
 -- a node stands in one slot
-pub one_slot : {shape : Dimensions} {a : Incarnations} → Sound shape a → (s t c : ℕ) → Stands a s c → Stands a t c → s ≡ t
-one_slot sound s t c here there = sym ((sound.slots.last_born s c here.last).1) ∙ (sound.slots.last_born t c there.last).1
+pub slot_is_one : {shape : Dimensions} {a : Incarnations} → Sound shape a → (s t c : ℕ) → Stands a s c → Stands a t c → s ≡ t
+slot_is_one sound s t c here there = sym ((sound.slots.last_born s c here.last).1) ∙ (sound.slots.last_born t c there.last).1
 
 -- ---- from a place to its successor
 
@@ -207,7 +207,7 @@ one_fewer {shape} {a} sound fits bucket at n next =
         go (inr outside) = and_left _ _ outside ∙ sym (and_left _ _ outside)
         go (inl inside) =
             let node = in_list_from shape a bucket s inside in
-            let other : node.0 ≢ n = λ e. ne (one_slot sound s (a.slot n) n (subst (λ (d : ℕ). Stands a s d) e node.1.stands) st) in
+            let other : node.0 ≢ n = λ e. ne (slot_is_one sound s (a.slot n) n (subst (λ (d : ℕ). Stands a s d) e node.1.stands) st) in
             ap (λ b. is_in_list shape a bucket s && b)
             (ap (is_above a at) (stands_key node.1.stands)
             ∙ next.others node.0 node.1.stands.listed node.1.of_bucket other

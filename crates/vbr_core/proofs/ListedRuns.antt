@@ -9,7 +9,7 @@ use Rattle.vbr_words.specs.declared.place.At.TheVariants.{Head, Slot}
 use Rattle.vbr_core.specs.Acceptance.{bucket_of, Accepts}
 use Rattle.vbr_core.specs.Machine.{found}
 use Rattle.vbr_core.specs.Membership.{Knows, HeldIn}
-use Rattle.vbr_core.specs.Keys.{no_keys}
+use Rattle.vbr_core.specs.Opened.{opening_keys}
 use Rattle.vbr_core.specs.Runs.{IsRun, world_after, know_after}
 use Rattle.vbr_core.specs.Incarnations.{Incarnations, last_in}
 use Rattle.vbr_core.specs.Images.{link_shown_at, key_shown}
@@ -118,14 +118,14 @@ module _ (shape : Dimensions) (passes : ℕ) (run : List Event) (is : IsShape sh
   abbrev b : Incarnations
   b = incarnations_after shape run
 
-  lawful : (step : Step) → Accepts shape (know_after shape run p) step → IsLawful shape no_keys (incarnations_after shape run) (happens shape (world_after shape run) (incarnations_after shape run) p step)
+  lawful : (step : Step) → Accepts shape (know_after shape run p) step → IsLawful shape (opening_keys shape) (incarnations_after shape run) (happens shape (world_after shape run) (incarnations_after shape run) p step)
   lawful step accepts = (step_agrees shape (world_after shape run) b (notes_after shape run) p step (run_agrees shape passes run is ok) accepts).0
 
   -- a stamp leaves as many nodes behind each place
   pub stamp_leaves : (s stamp bucket : ℕ) (at : At) → Accepts shape (know_after shape run p) (StoreStamp s stamp) → behind shape (incarnations_after shape (run ++ (record { pass = p; step = StoreStamp s stamp }) ∷ [])) bucket at ≡ behind shape (incarnations_after shape run) bucket at
   stamp_leaves s stamp bucket at accepts =
       ap (λ a. behind shape a bucket at) (incarnations_after-snoc shape run (record { pass = p; step = StoreStamp s stamp }))
-      ∙ stamps_none shape no_keys b p (last_in b s) stamp bucket at (lawful (StoreStamp s stamp) accepts).0
+      ∙ stamps_none shape (opening_keys shape) b p (last_in b s) stamp bucket at (lawful (StoreStamp s stamp) accepts).0
 
   -- and so does the return of a slot to the shared pool
   pub raise_leaves : (s bucket : ℕ) (at : At) → behind shape (incarnations_after shape (run ++ (record { pass = p; step = Raise s }) ∷ [])) bucket at ≡ behind shape (incarnations_after shape run) bucket at
@@ -165,7 +165,7 @@ module _ (shape : Dimensions) (passes : ℕ) (run : List Event) (is : IsShape sh
   pub stamp_links : (s stamp : ℕ) (at : At) → Accepts shape (know_after shape run p) (StoreStamp s stamp) → link_shown_at (incarnations_after shape (run ++ (record { pass = p; step = StoreStamp s stamp }) ∷ [])) at ≡ link_shown_at (incarnations_after shape run) at
   stamp_links s stamp at accepts =
       ap (λ a. link_shown_at a at) (incarnations_after-snoc shape run (record { pass = p; step = StoreStamp s stamp }))
-      ∙ stamps_links shape no_keys b p (last_in b s) stamp at (lawful (StoreStamp s stamp) accepts).0
+      ∙ stamps_links shape (opening_keys shape) b p (last_in b s) stamp at (lawful (StoreStamp s stamp) accepts).0
 
   pub raise_links : (s : ℕ) (at : At) → link_shown_at (incarnations_after shape (run ++ (record { pass = p; step = Raise s }) ∷ [])) at ≡ link_shown_at (incarnations_after shape run) at
   raise_links s at = ap (λ a. link_shown_at a at) (incarnations_after-snoc shape run (record { pass = p; step = Raise s }))
@@ -173,11 +173,11 @@ module _ (shape : Dimensions) (passes : ℕ) (run : List Event) (is : IsShape sh
 -- ---- a birth
 
 -- a birth leaves as many nodes in each list
-pub birth_leaves : (shape : Dimensions) (a : Incarnations) (p s birth bucket h : ℕ) (holding : Option Holding) → Sound shape a → IsLawful shape no_keys a (born_in a p s birth holding) → behind shape (incarnations_from shape a (born_in a p s birth holding)) bucket (Head h) ≡ behind shape a bucket (Head h)
-birth_leaves shape a p s birth bucket h None sound l = bears_none shape no_keys a p s birth bucket h sound l.0
-birth_leaves shape a p s birth bucket h (Some (Free stamp)) sound l = bears_none shape no_keys a p s birth bucket h sound l.0
-birth_leaves shape a p s birth bucket h (Some (Unlinked reread)) sound l = bears_none shape no_keys a p s birth bucket h sound l.0
+pub birth_leaves : (shape : Dimensions) (a : Incarnations) (p s birth bucket h : ℕ) (holding : Option Holding) → Sound shape a → IsLawful shape (opening_keys shape) a (born_in a p s birth holding) → behind shape (incarnations_from shape a (born_in a p s birth holding)) bucket (Head h) ≡ behind shape a bucket (Head h)
+birth_leaves shape a p s birth bucket h None sound l = bears_none shape (opening_keys shape) a p s birth bucket h sound l.0
+birth_leaves shape a p s birth bucket h (Some (Free stamp)) sound l = bears_none shape (opening_keys shape) a p s birth bucket h sound l.0
+birth_leaves shape a p s birth bucket h (Some (Unlinked reread)) sound l = bears_none shape (opening_keys shape) a p s birth bucket h sound l.0
 birth_leaves shape a p s birth bucket h (Some (InHand stamp before key link)) sound l =
     let c = becomes shape a p (GivesUp (last_in a s)) in
-    bears_none shape no_keys c p s birth bucket h (sound_kept shape no_keys a p (GivesUp (last_in a s)) sound l.0) l.1.0
-    ∙ gives_up_none shape no_keys a p (last_in a s) bucket (Head h) l.0
+    bears_none shape (opening_keys shape) c p s birth bucket h (sound_kept shape (opening_keys shape) a p (GivesUp (last_in a s)) sound l.0) l.1.0
+    ∙ gives_up_none shape (opening_keys shape) a p (last_in a s) bucket (Head h) l.0

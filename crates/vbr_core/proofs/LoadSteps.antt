@@ -20,7 +20,7 @@ use Rattle.vbr_core.specs.declared.event.Step.TheVariants.{LoadLink, LoadBirth, 
 use Rattle.vbr_core.specs.declared.knowledge.Read.{Read}
 use Rattle.vbr_core.specs.declared.knowledge.Read.TheVariants.{LinkAt, BirthOf, KeyOf}
 use Rattle.vbr_core.proofs.HeldReads.{held_last, load_head, load_slot}
-use Rattle.vbr_core.proofs.Lookups.{held_found}
+use Rattle.vbr_core.proofs.Searches.{held_found}
 use Rattle.vbr_core.proofs.Noted.{knows_put, noted_pending}
 use Rattle.vbr_core.proofs.OwnSlots.{owns_beside}
 use Rattle.vbr_core.proofs.Shown.{image_kept, image_fits, stands}

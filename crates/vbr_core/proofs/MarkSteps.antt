@@ -8,7 +8,7 @@ use Rattle.vbr_words.specs.declared.link.Link.{Link}
 use Rattle.vbr_words.specs.declared.place.At.{At}
 use Rattle.vbr_words.specs.declared.place.At.TheVariants.{Slot}
 use Rattle.vbr_core.specs.Put.{put}
-use Rattle.vbr_core.specs.Keys.{no_keys}
+use Rattle.vbr_core.specs.Opened.{opening_keys}
 use Rattle.vbr_core.specs.Links.{marked}
 use Rattle.vbr_core.specs.Knowledge.{key_in}
 use Rattle.vbr_core.specs.Acceptance.{Accepts}
@@ -28,12 +28,12 @@ use Rattle.vbr_core.specs.declared.knowledge.SlotPlace.TheVariants.{Shared, Own,
 use Rattle.vbr_core.proofs.Puts.{put_here, put_other}
 use Rattle.vbr_core.proofs.Growth.{grows}
 use Rattle.vbr_core.proofs.HeldReads.{stays_held, stays_next}
-use Rattle.vbr_core.proofs.Lookups.{key_is}
+use Rattle.vbr_core.proofs.Searches.{key_is}
 use Rattle.vbr_core.proofs.LoadSteps.{link_read}
 use Rattle.vbr_core.proofs.Noted.{knows_on, knows_put, noted_checked}
 use Rattle.vbr_core.proofs.OwnSlots.{not_owned, owns_changed, lasts_differ}
 use Rattle.vbr_core.proofs.Shown.{fits_kept, to_next_same, linked_same, link_kept, key_kept, birth_kept}
-use Rattle.vbr_core.proofs.Meetings.{Meets, meets_now}
+use Rattle.vbr_core.proofs.StandingLinks.{LinkStands, link_stands}
 use Rattle.vbr_core.proofs.Steps.{StepAgrees, agrees_next, agrees_still, at_put}
 
 -- the slot of a listed incarnation is no pass's
@@ -50,7 +50,7 @@ of_as a at e l of off names o h = rw o h
 pub step_mark : (shape : Dimensions) (w : World) (a : Incarnations) (notes : ℕ → Notes) (p s expected : ℕ) → Agrees shape w a notes → Accepts shape (w.know p) (Mark s expected) → StepAgrees shape w a notes p (Mark s expected)
 step_mark shape w a notes p s expected g ok = go (cases_Bool (word_of (w.link s) == expected))
   where
-    won : (link : Link) → Meets shape a (w.know p).epoch (w.know p).checked (Slot s) link → link_shown_at a (Slot s) ≡ link → (key : ℕ) → key ≡ a.key (last_in a s) →
+    won : (link : Link) → LinkStands shape a (w.know p).epoch (w.know p).checked (Slot s) link → link_shown_at a (Slot s) ≡ link → (key : ℕ) → key ≡ a.key (last_in a s) →
         Agrees shape (record w { know = put w.know p (with_checked (w.know p) (LinkAt (Slot s) (marked link) ∷ [])); link = put w.link s (marked link); calls = w.calls ++ record { who = p; op = Remove; key = key; reply = true } ∷ [] })
         (becomes shape a p (Removes (last_in a s))) (put notes p (with_won (becomes shape a p (Removes (last_in a s))) (notes p) (LinkAt (Slot s) (marked link) ∷ [])))
     won link m e key k =
@@ -64,7 +64,7 @@ step_mark shape w a notes p s expected g ok = go (cases_Bool (word_of (w.link s)
         let last : a.last s ≡ Some c = m.last in
         let shown : link ≡ link_to_next a (a.birth c) (a.next c) = sym e ∙ ap (link_shown a) last ∙ ap (link_in_state a c) al in
         let new : marked link ≡ link_shown b (a.last s) = ap marked (shown ∙ sym (linked_same a b refl refl c refl)) ∙ ap (link_in_state b c) (sym (put_here a.state c Marked)) ∙ ap (link_shown b) (sym last) in
-        let gr = grows shape no_keys a p (Removes c) g.sound al in
+        let gr = grows shape (opening_keys shape) a p (Removes c) g.sound al in
         let le = (g.knows p).epoch in
         let away = listed_not_of shape (a.place s) (a.state c) (a.key c) (g.sound.slots.placed c s last) (rw al tt) in
         let kn = knows_on g.sound gr w.know notes g.knows in
@@ -99,6 +99,6 @@ step_mark shape w a notes p s expected g ok = go (cases_Bool (word_of (w.link s)
     go (inr f) = rw f (tt, agrees_still shape w a notes p g)
     go (inl t) =
         let e = eqb-true (word_of (w.link s)) expected t in
-        let m = meets_now shape w a notes p g (Slot s) expected ok.held.0 ok.in_range e in
+        let m = link_stands shape w a notes p g (Slot s) expected ok.held.0 ok.in_range e in
         let k : unwrap_or (key_in (w.know p).checked s) 0 ≡ a.key (last_in a s) = key_is g.sound.slots (w.know p).epoch (notes p).checked (w.know p).checked s (last_in a s) (g.knows p).checked_reads (g.knows p).checked m.held ok.held.1 in
         rw t ((m.is_open, tt), won (link_of expected) m (sym (link_read g (Slot s)) ∙ ap link_of e) (unwrap_or (key_in (w.know p).checked s) 0) k)

@@ -7,7 +7,7 @@ use Rattle.vbr_words.specs.Words.{link_of}
 use Rattle.vbr_words.specs.declared.link.Link.{Link}
 use Rattle.vbr_words.specs.declared.place.At.{At}
 use Rattle.vbr_words.specs.declared.place.At.TheVariants.{Head, Slot}
-use Rattle.vbr_core.specs.Keys.{no_keys}
+use Rattle.vbr_core.specs.Opened.{opening_keys}
 use Rattle.vbr_core.specs.History.{set_after}
 use Rattle.vbr_core.specs.Knowledge.{Know}
 use Rattle.vbr_core.specs.Acceptance.{bucket_of, Accepts}
@@ -162,11 +162,11 @@ module _ {shape : Dimensions} {w : World} {a : Incarnations} {notes : ℕ → No
   marked_chain = let P : Before → Type 0 = λ before. Reaches a (w.know p).epoch (next_of a before) last in subst P (pair_before a at good.0 good.1 pair) reaches
 
   -- a key that stands behind the place and before what the last of these links names isn't in the set
-  pub absent_behind_marked : (key : ℕ) → StandsBehind shape (w.know p) at key → StandsBefore (w.know p) key last.slot → set_after no_keys w.calls key ≡ false
-  absent_behind_marked key i j = rw now.calls (go (cases_Bool (set_after no_keys a.calls key)))
+  pub absent_behind_marked : (key : ℕ) → StandsBehind shape (w.know p) at key → StandsBefore (w.know p) key last.slot → set_after (opening_keys shape) w.calls key ≡ false
+  absent_behind_marked key i j = rw now.calls (go (cases_Bool (set_after (opening_keys shape) a.calls key)))
     where
       still : Grows a a
-      still = grows_after shape no_keys a [] now.sound tt
+      still = grows_after shape (opening_keys shape) a [] now.sound tt
 
       behind : BelongsBehind shape a (before_of at good.0) key
       behind = behind_then now.sound still now.sound (now.knows p) (now.knows p).epoch at good.0 key good.2.place i
@@ -174,12 +174,12 @@ module _ {shape : Dimensions} {w : World} {a : Incarnations} {notes : ℕ → No
       before : BelongsBefore a key reaches.node
       before = before_then now.sound still now.sound (now.knows p) (now.knows p).epoch last.slot reaches.node key reaches.held j
 
-      go : (set_after no_keys a.calls key ≡ true) ⊎ (set_after no_keys a.calls key ≡ false) → set_after no_keys a.calls key ≡ false
+      go : (set_after (opening_keys shape) a.calls key ≡ true) ⊎ (set_after (opening_keys shape) a.calls key ≡ false) → set_after (opening_keys shape) a.calls key ≡ false
       go (inr f) = f
       go (inl t) = let u = now.tells.only key t in absurd (none_through_marked now.sound (before_of at good.0) key reaches.node opened.0 behind reaches.through before u.0 u.1 u.2)
 
 -- where a confirming load for a key finds the word that it expects, the key isn't in the set
-pub confirmed_absent : {shape : Dimensions} {w : World} {a : Incarnations} {notes : ℕ → Notes} → Agrees shape w a notes → (p : ℕ) (op : Op) (key : ℕ) (at : At) (expected : ℕ) → Accepts shape (w.know p) (ConfirmAbsent op key at expected) → machine.found shape w (ConfirmAbsent op key at expected) ≡ expected → set_after no_keys w.calls key ≡ false
+pub confirmed_absent : {shape : Dimensions} {w : World} {a : Incarnations} {notes : ℕ → Notes} → Agrees shape w a notes → (p : ℕ) (op : Op) (key : ℕ) (at : At) (expected : ℕ) → Accepts shape (w.know p) (ConfirmAbsent op key at expected) → machine.found shape w (ConfirmAbsent op key at expected) ≡ expected → set_after (opening_keys shape) w.calls key ≡ false
 confirmed_absent g p op key at expected ok q =
     let k = accepts_known ok in
     let on = k.in_range.3 in

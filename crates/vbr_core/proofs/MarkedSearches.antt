@@ -16,12 +16,12 @@ same_slot (Some s) (Some t) e = ap Some (eqb-true s t e)
 -- the premise: the search has come here in so many turns
 module _ (P : Option ℕ → Type 0) (reads : List Read) (next here : Option ℕ) (n : ℕ) (come : here ≡ after_turns reads n next) where
   -- what is asked for is here
-  pub met : (most : ℕ) → n ≤ most → P here → (turns : ℕ) × (turns ≤ most) × P (after_turns reads turns next)
-  met most le h = (n, le, subst P come h)
+  pub reached : (most : ℕ) → n ≤ most → P here → (turns : ℕ) × (turns ≤ most) × P (after_turns reads turns next)
+  reached most le h = (n, le, subst P come h)
 
-  -- it is here, if it is met in no more turns, and in no fewer
-  pub met_here : ((turns : ℕ) → turns < n → ¬ (P (after_turns reads turns next))) → (turns : ℕ) → turns ≤ n → P (after_turns reads turns next) → P here
-  met_here none turns le h = go (cases_lt turns n)
+  -- it is here, if it is reached in no more turns, and in no fewer
+  pub reached_here : ((turns : ℕ) → turns < n → ¬ (P (after_turns reads turns next))) → (turns : ℕ) → turns ≤ n → P (after_turns reads turns next) → P here
+  reached_here none turns le h = go (cases_lt turns n)
     where
       go : (turns < n) ⊎ (n ≤ turns) → P here
       go (inl lt) = absurd (none turns lt h)
@@ -29,7 +29,7 @@ module _ (P : Option ℕ → Type 0) (reads : List Read) (next here : Option ℕ
 
   -- it isn't here, nor was it before
   pub none_yet : ¬ (P here) → ((turns : ℕ) → turns < n → ¬ (P (after_turns reads turns next))) → (turns : ℕ) → turns < n + 1 → ¬ (P (after_turns reads turns next))
-  none_yet not none turns lt h = not (met_here none turns (omega arith) h)
+  none_yet not none turns lt h = not (reached_here none turns (omega arith) h)
 
   -- one turn more
   pub one_turn : past_marked reads here ≡ after_turns reads (n + 1) next
@@ -45,7 +45,7 @@ module _ (P : Option ℕ → Type 0) (reads : List Read) (next here : Option ℕ
     stays zero le = let e : n ≡ 0 = omega arith in let Q : ℕ → Type 0 = λ i. here ≡ after_turns reads i next in sym (subst Q e come)
     stays (suc turns) le = stays_on turns (stays turns) (cases_lt turns n) le
 
-    -- so what was never met isn't met later
+    -- so what was never reached isn't reached later
     pub never : ¬ (P here) → ((turns : ℕ) → turns < n → ¬ (P (after_turns reads turns next))) → (turns : ℕ) → ¬ (P (after_turns reads turns next))
     never not none turns h = go (cases_lt turns n)
       where

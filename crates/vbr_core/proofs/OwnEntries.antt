@@ -9,7 +9,7 @@ use Rattle.vbr_words.specs.Dimensions.{Dimensions}
 use Rattle.vbr_core.specs.Learning.{call_of}
 use Rattle.vbr_core.specs.Machine.{World, opening, found, after}
 use Rattle.vbr_core.specs.Runs.{world_from, world_after, NoneOf}
-use Rattle.vbr_core.specs.Incarnations.{Incarnations, nothing_yet}
+use Rattle.vbr_core.specs.Incarnations.{Incarnations, at_opening}
 use Rattle.vbr_core.specs.Chronicles.{Entry, incarnations_from, entries_by}
 use Rattle.vbr_core.specs.Accounts.{born_in, entry_of_call, happens, incarnations_with, chronicle_from, chronicle, incarnations_after, own_entries}
 use Rattle.vbr_core.specs.declared.history.Call.{Call}
@@ -91,7 +91,7 @@ others_add shape w a who (x ∷ xs) none =
 -- what others do adds no event of a pass
 pub others_leave_entries : (shape : Dimensions) (seen rest : List Event) (who : ℕ) → NoneOf who rest → own_entries shape (seen ++ rest) who ≡ own_entries shape seen who
 others_leave_entries shape seen rest who none =
-    ap (entries_by who) (chronicle_from-append shape opening nothing_yet seen rest)
+    ap (entries_by who) (chronicle_from-append shape (opening shape) (at_opening shape) seen rest)
     ∙ both who (chronicle shape seen) _
     ∙ ap (λ l. own_entries shape seen who ++ l) (others_add shape (world_after shape seen) (incarnations_after shape seen) who rest none)
     ∙ append-nil (own_entries shape seen who)
@@ -100,7 +100,7 @@ others_leave_entries shape seen rest who none =
 pub own_entries-snoc : (shape : Dimensions) (run : List Event) (event : Event) → own_entries shape (run ++ event ∷ []) event.pass ≡ own_entries shape run event.pass ++ happens shape (world_after shape run) (incarnations_after shape run) event.pass event.step
 own_entries-snoc shape run event =
     let now = happens shape (world_after shape run) (incarnations_after shape run) event.pass event.step in
-    ap (entries_by event.pass) (chronicle_from-append shape opening nothing_yet run (event ∷ []))
+    ap (entries_by event.pass) (chronicle_from-append shape (opening shape) (at_opening shape) run (event ∷ []))
     ∙ both event.pass (chronicle shape run) _
     ∙ ap (λ l. own_entries shape run event.pass ++ entries_by event.pass l) (append-nil now)
     ∙ ap (λ l. own_entries shape run event.pass ++ l) (all_own event.pass now (happens_by shape (world_after shape run) (incarnations_after shape run) event.pass event.step))

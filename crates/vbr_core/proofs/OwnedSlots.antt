@@ -14,7 +14,7 @@ use Rattle.vbr_core.specs.declared.knowledge.Holding.TheVariants.{Free, Unlinked
 use Rattle.vbr_core.specs.declared.knowledge.SlotPlace.{SlotPlace}
 use Rattle.vbr_core.specs.declared.knowledge.SlotPlace.TheVariants.{Shared, Own, Hand, Listed}
 use Rattle.vbr_core.proofs.OwnSlots.{not_owned}
-use Rattle.vbr_core.proofs.Meetings.{meets_now}
+use Rattle.vbr_core.proofs.StandingLinks.{link_stands}
 use Rattle.vbr_core.proofs.MarkSteps.{listed_not_of}
 use Rattle.vbr_core.proofs.UnlinkSteps.{facts}
 
@@ -32,7 +32,7 @@ taken_unowned shape w a notes p s g flag =
 -- nor is one that a pass unlinks
 pub unlinked_unowned : (shape : Dimensions) (w : World) (a : Incarnations) (notes : ℕ → Notes) (p : ℕ) (pred : At) (expected s : ℕ) → Agrees shape w a notes → Accepts shape (w.know p) (Unlink pred expected s) → word_of (link_at w pred) ≡ expected → (w.know p).own s ≡ None
 unlinked_unowned shape w a notes p pred expected s g ok found =
-    let m = meets_now shape w a notes p g pred expected ok.held.0 ok.in_range.0 found in
+    let m = link_stands shape w a notes p g pred expected ok.held.0 ok.in_range.0 found in
     let r = facts shape w a notes p pred expected s g ok m in
     let c = last_in a s in
     not_owned a p (w.know p).epoch ((w.know p).own s) (a.place s) (a.last s) (a.stamp s) (g.owns p s)

@@ -4,7 +4,7 @@ use Rattle.std.specs.Prelude.{unwrap_or}
 use Rattle.vbr_words.specs.Dimensions.{Dimensions}
 use Rattle.vbr_words.specs.Words.{IsLink}
 use Rattle.vbr_core.specs.Put.{put}
-use Rattle.vbr_core.specs.Keys.{no_keys}
+use Rattle.vbr_core.specs.Opened.{opening_keys}
 use Rattle.vbr_core.specs.Links.{link_to}
 use Rattle.vbr_core.specs.Knowledge.{Know, birth_of}
 use Rattle.vbr_core.specs.Acceptance.{Accepts, IsFree, IsNextIn}
@@ -24,7 +24,7 @@ use Rattle.vbr_core.specs.declared.knowledge.SlotPlace.TheVariants.{Shared, Own,
 use Rattle.vbr_core.proofs.Puts.{put_here, put_other}
 use Rattle.vbr_core.proofs.Growth.{grows}
 use Rattle.vbr_core.proofs.SlotFlags.{flag_told}
-use Rattle.vbr_core.proofs.Lookups.{birth_low}
+use Rattle.vbr_core.proofs.Searches.{birth_low}
 use Rattle.vbr_core.proofs.Noted.{knows_on, knows_own}
 use Rattle.vbr_core.proofs.OwnSlots.{IsSlotKept, owns_changed, lasts_differ}
 use Rattle.vbr_core.proofs.Shown.{image_kept, fits_kept, to_next_same, link_kept, key_kept, birth_kept}
@@ -50,7 +50,7 @@ step_raise shape w a notes p s g ok =
       agrees_next shape w v a notes (put notes p (notes p)) p (Raises s) g al
           (fits_kept a b refl refl refl refl g.fits)
           (image_kept v w a b g.image.epoch refl refl refl refl refl (puts_same w.place a.place s Shared g.image.place) refl refl refl refl refl refl refl refl refl g.image)
-          (knows_own b w.know notes p s None (knows_on g.sound (grows shape no_keys a p (Raises s) g.sound al) w.know notes g.knows))
+          (knows_own b w.know notes p s None (knows_on g.sound (grows shape (opening_keys shape) a p (Raises s) g.sound al) w.know notes g.knows))
           (owns_changed a b w.know p s (with_own (w.know p) s None) refl (λ i ne. put_other (w.know p).own s None i ne)
           (own_not_of p (a.place s) al.0)
           (λ q ne. rw (put_here a.place s Shared) tt)
@@ -87,7 +87,7 @@ step_take_flag shape w a notes p s g low = go (w.place s) refl
         agrees_next shape w v a notes (put notes p (notes p)) p (Gains s) g al
         (fits_kept a b refl refl refl refl g.fits)
         (image_kept v w a b g.image.epoch refl refl refl refl refl (puts_same w.place a.place s (Own p) g.image.place) refl refl refl refl refl refl refl refl refl g.image)
-        (knows_own b w.know notes p s (Some (Free (w.stamp s))) (knows_on g.sound (grows shape no_keys a p (Gains s) g.sound al) w.know notes g.knows))
+        (knows_own b w.know notes p s (Some (Free (w.stamp s))) (knows_on g.sound (grows shape (opening_keys shape) a p (Gains s) g.sound al) w.know notes g.knows))
         (owns_changed a b w.know p s x refl (λ i ne. put_other (w.know p).own s (Some (Free (w.stamp s))) i ne)
         (λ q ne. rw al tt)
         (own_not_of p (put a.place s (Own p) s) (put_here a.place s (Own p)))
@@ -125,7 +125,7 @@ step_store_key shape w a notes p s key g ok =
             stamp = i.stamp;
             place = i.place;
           })
-          (knows_own b w.know notes p s own (knows_on g.sound (grows shape no_keys a p (Keyed c key) g.sound x.state) w.know notes g.knows))
+          (knows_own b w.know notes p s own (knows_on g.sound (grows shape (opening_keys shape) a p (Keyed c key) g.sound x.state) w.know notes g.knows))
           (owns_changed a b w.know p s (with_own (w.know p) s own) refl (λ k ne. put_other (w.know p).own s own k ne)
           (hand_not_of p (a.place s) x.place)
           (hand_not_of p (a.place s) x.place)
@@ -153,7 +153,7 @@ step_store_link shape w a notes p s next g ok =
     let own = with_link ((w.know p).own s) link in
     let i = g.image in
     let birth : birth_in_hand ((w.know p).own s) ≡ a.birth c = ap birth_in_hand x.holding_is ∙ sym x.birth_is in
-    let al : Allowed shape no_keys a p (Aims c link) = (x.state, refl, (let z = birth in omega arith)) in (
+    let al : Allowed shape (opening_keys shape) a p (Aims c link) = (x.state, refl, (let z = birth in omega arith)) in (
       (al, tt),
       agrees_next shape w v a notes (put notes p (notes p)) p (Aims c link) g al
           (record {
@@ -171,7 +171,7 @@ step_store_link shape w a notes p s next g ok =
             stamp = i.stamp;
             place = i.place;
           })
-          (knows_own b w.know notes p s own (knows_on g.sound (grows shape no_keys a p (Aims c link) g.sound al) w.know notes g.knows))
+          (knows_own b w.know notes p s own (knows_on g.sound (grows shape (opening_keys shape) a p (Aims c link) g.sound al) w.know notes g.knows))
           (owns_changed a b w.know p s (with_own (w.know p) s own) refl (λ k ne. put_other (w.know p).own s own k ne)
           (hand_not_of p (a.place s) x.place)
           (hand_not_of p (a.place s) x.place)

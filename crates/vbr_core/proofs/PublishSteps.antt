@@ -4,7 +4,7 @@ use Rattle.vbr_words.specs.Dimensions.{Dimensions}
 use Rattle.vbr_words.specs.Words.{link_of}
 use Rattle.vbr_words.specs.declared.place.At.{At}
 use Rattle.vbr_words.specs.declared.place.At.TheVariants.{Head, Slot}
-use Rattle.vbr_core.specs.Keys.{no_keys}
+use Rattle.vbr_core.specs.Opened.{opening_keys}
 use Rattle.vbr_core.specs.Acceptance.{Accepts}
 use Rattle.vbr_core.specs.Learning.{link_written}
 use Rattle.vbr_core.specs.Machine.{World}
@@ -18,8 +18,8 @@ use Rattle.vbr_core.specs.Notes.{Notes}
 use Rattle.vbr_core.specs.declared.event.Step.TheVariants.{Publish}
 use Rattle.vbr_core.proofs.Puts.{put_here}
 use Rattle.vbr_core.proofs.Growth.{grows}
-use Rattle.vbr_core.proofs.Lookups.{birth_of_is}
-use Rattle.vbr_core.proofs.Meetings.{Meets, node_at, birth_there}
+use Rattle.vbr_core.proofs.Searches.{birth_of_is}
+use Rattle.vbr_core.proofs.StandingLinks.{LinkStands, node_at, birth_there}
 use Rattle.vbr_core.proofs.Exchanges.{ReadyFacts, ready_facts, inserted_there, inserted_here}
 
 pub slot_of_is : (a : Incarnations) (e : ℕ) (v n : Option ℕ) → IsHeldNext a e v n → v ≡ slot_shown a n
@@ -38,7 +38,7 @@ next_low a e None (Some n) h = absurd h
 next_low a e (Some v) None h = absurd h
 next_low a e (Some v) (Some n) h = h.birth
 
-module _ (shape : Dimensions) (w : World) (a : Incarnations) (notes : ℕ → Notes) (p : ℕ) (pred : At) (expected s : ℕ) (g : Agrees shape w a notes) (ok : Accepts shape (w.know p) (Publish pred expected s)) (m : Meets shape a (w.know p).epoch (w.know p).checked pred (link_of expected)) where
+module _ (shape : Dimensions) (w : World) (a : Incarnations) (notes : ℕ → Notes) (p : ℕ) (pred : At) (expected s : ℕ) (g : Agrees shape w a notes) (ok : Accepts shape (w.know p) (Publish pred expected s)) (m : LinkStands shape a (w.know p).epoch (w.know p).checked pred (link_of expected)) where
   pub ready : ReadyFacts shape a p s (w.know p).epoch (w.know p).checked pred (link_of expected) ((w.know p).own s)
   ready = ready_facts shape a p s (w.know p).epoch (w.know p).checked pred (link_of expected) ((w.know p).own s) (g.owns p s) ok.in_range.1
 
@@ -76,7 +76,7 @@ module _ (shape : Dimensions) (w : World) (a : Incarnations) (notes : ℕ → No
   old_links = inserted_there g.sound p (last_in a s) pred m.last may_insert
 
   pub gr : Grows a (becomes shape a p (Inserts (last_in a s) (before_at a pred)))
-  gr = grows shape no_keys a p (Inserts (last_in a s) (before_at a pred)) g.sound may_insert
+  gr = grows shape (opening_keys shape) a p (Inserts (last_in a s) (before_at a pred)) g.sound may_insert
 
   pub held_new : IsHeldIncarnation (becomes shape a p (Inserts (last_in a s) (before_at a pred))) (w.know p).epoch s (last_in a s)
   held_new = record { slot = slot_is; birth = ready.born; late = rw (put_here a.state (last_in a s) Linked) tt }

@@ -19,7 +19,7 @@ use Rattle.vbr_core.specs.declared.event.Step.TheVariants.{Publish}
 use Rattle.vbr_core.specs.declared.knowledge.Read.TheVariants.{LinkAt, BirthOf, KeyOf}
 use Rattle.vbr_core.proofs.Puts.{put_here, put_other}
 use Rattle.vbr_core.proofs.HeldReads.{stays_at, stays_next}
-use Rattle.vbr_core.proofs.Meetings.{Meets, node_at}
+use Rattle.vbr_core.proofs.StandingLinks.{LinkStands, node_at}
 use Rattle.vbr_core.proofs.PublishSteps.{ready, own_link, new_link, old_links, gr, held_new, birth_there_low, next_low}
 
 pub pair_as : (a : Incarnations) (at : At) (e : ℕ) (l : Link) (of off names named : Option ℕ) → of ≡ off → names ≡ named → IsGoodLink a e at l off named → IsGoodLink a e at l of names
@@ -42,7 +42,7 @@ next_new shape a p c q (Slot v) st o =
     let ne : c ≢ last_in a v = λ e. let y : a.state c ≡ Linked = rw e o in cc in
     put_other (put a.next c (a.next (last_in a v))) (last_in a v) (Some c) c ne ∙ put_here a.next c (a.next (last_in a v))
 
-module _ (shape : Dimensions) (w : World) (a : Incarnations) (notes : ℕ → Notes) (p : ℕ) (pred : At) (expected s : ℕ) (g : Agrees shape w a notes) (ok : Accepts shape (w.know p) (Publish pred expected s)) (m : Meets shape a (w.know p).epoch (w.know p).checked pred (link_of expected)) where
+module _ (shape : Dimensions) (w : World) (a : Incarnations) (notes : ℕ → Notes) (p : ℕ) (pred : At) (expected s : ℕ) (g : Agrees shape w a notes) (ok : Accepts shape (w.know p) (Publish pred expected s)) (m : LinkStands shape a (w.know p).epoch (w.know p).checked pred (link_of expected)) where
   pub goods : AllByRecursion (λ read. IsGood (becomes shape a p (Inserts (last_in a s) (before_at a pred))) (w.know p).epoch (note_of (becomes shape a p (Inserts (last_in a s) (before_at a pred))) read)) (reads_won (w.know p) (Publish pred expected s))
   goods =
       let c = last_in a s in

@@ -22,13 +22,13 @@ use Rattle.vbr_core.proofs.Puts.{put_here, put_other}
 use Rattle.vbr_core.proofs.Noted.{knows_on, knows_put, noted_beside, noted_checked}
 use Rattle.vbr_core.proofs.OwnSlots.{owns_changed, lasts_differ}
 use Rattle.vbr_core.proofs.Shown.{fits_kept, key_kept, birth_kept}
-use Rattle.vbr_core.proofs.Meetings.{Meets, meets_now}
+use Rattle.vbr_core.proofs.StandingLinks.{LinkStands, link_stands}
 use Rattle.vbr_core.proofs.Exchanges.{exchanged}
 use Rattle.vbr_core.proofs.PublishSteps.{ready, may_insert, slot_is, new_link, old_links, gr}
 use Rattle.vbr_core.proofs.PublishedNotes.{goods, shown}
 use Rattle.vbr_core.proofs.Steps.{StepAgrees, agrees_next, agrees_still, puts_same, hand_not_of}
 
-made : (shape : Dimensions) (w : World) (a : Incarnations) (notes : ℕ → Notes) (p : ℕ) (pred : At) (expected s : ℕ) (g : Agrees shape w a notes) (ok : Accepts shape (w.know p) (Publish pred expected s)) (m : Meets shape a (w.know p).epoch (w.know p).checked pred (link_of expected)) (v : World) →
+made : (shape : Dimensions) (w : World) (a : Incarnations) (notes : ℕ → Notes) (p : ℕ) (pred : At) (expected s : ℕ) (g : Agrees shape w a notes) (ok : Accepts shape (w.know p) (Publish pred expected s)) (m : LinkStands shape a (w.know p).epoch (w.know p).checked pred (link_of expected)) (v : World) →
     v.epoch ≡ w.epoch → ((k : ℕ) → v.head k ≡ machine.link_at (with_link_at w pred (link_written (w.know p) (Publish pred expected s))) (Head k)) → ((k : ℕ) → v.link k ≡ machine.link_at (with_link_at w pred (link_written (w.know p) (Publish pred expected s))) (Slot k)) →
     v.birth ≡ w.birth → v.key ≡ w.key → v.stamp ≡ w.stamp → v.place ≡ put w.place s (Listed (bucket_of shape (key_in_hand ((w.know p).own s)))) →
     v.know ≡ put w.know p (with_own (with_checked (w.know p) (reads_won (w.know p) (Publish pred expected s))) s None) → v.calls ≡ w.calls ++ record { who = p; op = Insert; key = key_in_hand ((w.know p).own s); reply = true } ∷ [] → v.births ≡ w.births →
@@ -75,12 +75,12 @@ step_publish shape w a notes p (Head h) expected s g ok = go (cases_Bool (word_o
     go : ((word_of (w.head h) == expected) ≡ true) ⊎ ((word_of (w.head h) == expected) ≡ false) → StepAgrees shape w a notes p (Publish (Head h) expected s)
     go (inr f) = rw f (tt, agrees_still shape w a notes p g)
     go (inl t) =
-        let m = meets_now shape w a notes p g (Head h) expected ok.held.0 ok.in_range.0 (eqb-true (word_of (w.head h)) expected t) in
+        let m = link_stands shape w a notes p g (Head h) expected ok.held.0 ok.in_range.0 (eqb-true (word_of (w.head h)) expected t) in
         rw t ((may_insert shape w a notes p (Head h) expected s g ok m, tt), made shape w a notes p (Head h) expected s g ok m _ refl (λ k. refl) (λ k. refl) refl refl refl refl refl refl refl)
 step_publish shape w a notes p (Slot q) expected s g ok = go (cases_Bool (word_of (w.link q) == expected))
   where
     go : ((word_of (w.link q) == expected) ≡ true) ⊎ ((word_of (w.link q) == expected) ≡ false) → StepAgrees shape w a notes p (Publish (Slot q) expected s)
     go (inr f) = rw f (tt, agrees_still shape w a notes p g)
     go (inl t) =
-        let m = meets_now shape w a notes p g (Slot q) expected ok.held.0 ok.in_range.0 (eqb-true (word_of (w.link q)) expected t) in
+        let m = link_stands shape w a notes p g (Slot q) expected ok.held.0 ok.in_range.0 (eqb-true (word_of (w.link q)) expected t) in
         rw t ((may_insert shape w a notes p (Slot q) expected s g ok m, tt), made shape w a notes p (Slot q) expected s g ok m _ refl (λ k. refl) (λ k. refl) refl refl refl refl refl refl refl)

@@ -1,7 +1,7 @@
 -- A world stays one that a run led to, and so its calls are legal.
 use Rattle.std.proofs.Common.{◌≡◌, ℕ, List, [], ◌∷◌, ◌++◌, length, Result, Ok, Err, OnOk, OnErr, sym, subst, ap, ◌∙◌}
 use Rattle.vbr_words.specs.Dimensions.{Dimensions}
-use Rattle.vbr_core.specs.Keys.{no_keys}
+use Rattle.vbr_core.specs.Opened.{opening_keys}
 use Rattle.vbr_core.specs.History.{IsLegal}
 use Rattle.vbr_core.specs.Machine.{World, after}
 use Rattle.vbr_core.specs.Runs.{IsAccepted, IsRun, world_after}
@@ -30,7 +30,7 @@ reached_step (Ok x) kept next event r ok is same shape passes = reached_next kep
 reached_step (Err x) kept next event r ok is same shape passes = rw same r
 
 -- the calls of a world that a run led to are legal
-pub reached_legal : (kept : KeptWorld) → IsReached kept → IsLegal no_keys kept.calls
+pub reached_legal : (kept : KeptWorld) → IsReached kept → IsLegal (opening_keys kept.shape) kept.calls
 reached_legal kept r =
     let safe = every_run kept.shape (length kept.passes) r.run r.shape r.is_run in
-    let P : List Call → Type 0 = IsLegal no_keys in subst P (sym (ap (λ w. w.calls) r.world)) safe.legal
+    let P : List Call → Type 0 = IsLegal (opening_keys kept.shape) in subst P (sym (ap (λ w. w.calls) r.world)) safe.legal

@@ -8,7 +8,7 @@ use Rattle.vbr_words.specs.declared.link.Link.{Link}
 use Rattle.vbr_words.specs.declared.place.At.{At}
 use Rattle.vbr_words.specs.declared.place.At.TheVariants.{Head, Slot}
 use Rattle.vbr_core.specs.Put.{put}
-use Rattle.vbr_core.specs.Keys.{no_keys}
+use Rattle.vbr_core.specs.Opened.{opening_keys}
 use Rattle.vbr_core.specs.History.{set_after}
 use Rattle.vbr_core.specs.Knowledge.{key_in, birth_in}
 use Rattle.vbr_core.specs.Acceptance.{bucket_of, Accepts}
@@ -17,7 +17,7 @@ use Rattle.vbr_core.specs.Machine.{World, opening, link_at, found, after}
 use Rattle.vbr_core.specs.Runs.{AreAccepted, IsRun, world_after, know_after}
 use Rattle.vbr_core.specs.Moments.{WasShown}
 use Rattle.vbr_core.specs.Membership.{Knows, IsHeldSlot, IsHeldPlace, HeldIn, LeadsTo, KeyAt, StandsBehind, StandsBefore, WritesLink, AcceptsKnown}
-use Rattle.vbr_core.specs.Incarnations.{Incarnations, nothing_yet}
+use Rattle.vbr_core.specs.Incarnations.{Incarnations, at_opening}
 use Rattle.vbr_core.specs.Chronicles.{incarnations_from}
 use Rattle.vbr_core.specs.Sound.{Grows}
 use Rattle.vbr_core.specs.Notes.{Notes, no_notes, notes_with}
@@ -56,7 +56,7 @@ ordered_from shape passes w a notes (event ∷ events) g o ok q =
     let b = incarnations_with shape w a event in
     let noted = notes_with shape w b p event.step (notes p) in
     let one = step_agrees shape w a notes p event.step g ok.0.1 in
-    let grown : Grows a b = grows_after shape no_keys a (happens shape w a p event.step) g.sound one.0 in
+    let grown : Grows a b = grows_after shape (opening_keys shape) a (happens shape w a p event.step) g.sound one.0 in
     let next : (j : ℕ) → AreOrdered shape b (put notes p noted j) =
     at_put (λ j n. AreOrdered shape b n) notes p noted (ordered_with one.1.sound (notes p) (ordered_on grown (notes p) (o p)) w p event.step) (λ j ne. ordered_on grown (notes j) (o j)) in
     rw (incarnations_from-append shape a (happens shape w a p event.step) (chronicle_from shape v b events)) (ordered_from shape passes v b (put notes p noted) events one.1 next ok.1 q)
@@ -68,9 +68,9 @@ module _ (shape : Dimensions) (passes : ℕ) (run : List Event) (is : IsShape sh
   agrees = run_agrees shape passes run is ok
 
   pub ordered : AreOrdered shape (incarnations_after shape run) (notes_after shape run p)
-  ordered = ordered_from shape passes opening nothing_yet (λ q. no_notes) run (agrees_at_first shape is) (λ q. record { pending = tt; checked = tt }) ok p
+  ordered = ordered_from shape passes (opening shape) (at_opening shape) (λ q. no_notes) run (agrees_at_first shape is) (λ q. record { pending = tt; checked = tt }) ok p
 
-  -- a known read is of a held place, by look-ups
+  -- a known read is of a held place, by searches
   of_held : (read : Read) → Knows (know_after shape run p) read → IsOfHeldPlace (know_after shape run p).checked read
   of_held read k =
       let P : Read → Type 0 = IsOfHeldPlace (know_after shape run p).checked in
@@ -87,7 +87,7 @@ module _ (shape : Dimensions) (passes : ℕ) (run : List Event) (is : IsShape sh
   pub one_mark : (s : ℕ) (x y : Link) → Knows (know_after shape run p) (LinkAt (Slot s) x) → Knows (know_after shape run p) (LinkAt (Slot s) y) → x.mark ≡ true → y.mark ≡ true → x.slot ≡ y.slot
   one_mark s x y k l i j = reads.one_mark agrees.sound (agrees.knows p) s x y k l i j
 
-  -- a look-up of a key or of a birth finds any known one
+  -- a search of a key or of a birth finds any known one
   pub key_looked_up : (s key : ℕ) → Knows (know_after shape run p) (KeyOf s key) → unwrap_or (key_in (know_after shape run p).checked s) 0 ≡ key
   key_looked_up s key k = acceptance.key_looked_up agrees.sound (agrees.knows p) s key k
 
@@ -135,16 +135,16 @@ module _ (shape : Dimensions) (passes : ℕ) (run : List Event) (is : IsShape sh
   link_loaded at = loads.link_found_at agrees at (found shape (world_after shape run) (LoadLink at)) refl
 
   -- where a confirming load of a slot finds the word that it expects, each key that is known at the slot is in the set
-  pub confirmed_present : (op : Op) (s expected key : ℕ) → Accepts shape (know_after shape run p) (ConfirmPresent op s expected) → found shape (world_after shape run) (ConfirmPresent op s expected) ≡ expected → Knows (know_after shape run p) (KeyOf s key) → set_after no_keys (world_after shape run).calls key ≡ true
+  pub confirmed_present : (op : Op) (s expected key : ℕ) → Accepts shape (know_after shape run p) (ConfirmPresent op s expected) → found shape (world_after shape run) (ConfirmPresent op s expected) ≡ expected → Knows (know_after shape run p) (KeyOf s key) → set_after (opening_keys shape) (world_after shape run).calls key ≡ true
   confirmed_present op s expected key accepts q k = loads.confirmed_present agrees p op s expected key accepts q k
 
   -- where a confirming load for a key finds the word that it expects, the key isn't in the set
-  pub confirmed_absent : (op : Op) (key : ℕ) (at : At) (expected : ℕ) → Accepts shape (know_after shape run p) (ConfirmAbsent op key at expected) → found shape (world_after shape run) (ConfirmAbsent op key at expected) ≡ expected → set_after no_keys (world_after shape run).calls key ≡ false
+  pub confirmed_absent : (op : Op) (key : ℕ) (at : At) (expected : ℕ) → Accepts shape (know_after shape run p) (ConfirmAbsent op key at expected) → found shape (world_after shape run) (ConfirmAbsent op key at expected) ≡ expected → set_after (opening_keys shape) (world_after shape run).calls key ≡ false
   confirmed_absent op key at expected accepts q = chains.confirmed_absent agrees p op key at expected accepts q
 
   -- a known unmarked link stands at its place, and known marked links lead on from it: a key that stands behind the place and before what the last of these links names isn't in the set
   pub absent_behind_marked : (at : At) (link last : Link) → Knows (know_after shape run p) (LinkAt at link) → link.mark ≡ false → link_at (world_after shape run) at ≡ link → LeadsTo (know_after shape run p) link last →
-      (key : ℕ) → StandsBehind shape (know_after shape run p) at key → StandsBefore (know_after shape run p) key last.slot → set_after no_keys (world_after shape run).calls key ≡ false
+      (key : ℕ) → StandsBehind shape (know_after shape run p) at key → StandsBefore (know_after shape run p) key last.slot → set_after (opening_keys shape) (world_after shape run).calls key ≡ false
   absent_behind_marked at link last k m q leads key i j = chains.absent_behind_marked agrees p at link last k m q leads key i j
 
 -- ---- at a moment of a run
@@ -160,9 +160,9 @@ module _ (shape : Dimensions) (passes : ℕ) (moment run : List Event) (is : IsS
   grown = let P : List Event → Type 0 = λ r. Grows (incarnations_after shape moment) (incarnations_after shape r) in subst P (sym was.begins.1) (run_grows shape passes moment was.begins.0 is ok_parts)
 
   -- a key that is known at the place at the end was in the set at that moment
-  pub present_at_load : (key : ℕ) → KeyAt (know_after shape run p) at key → set_after no_keys (world_after shape moment).calls key ≡ true
+  pub present_at_load : (key : ℕ) → KeyAt (know_after shape run p) at key → set_after (opening_keys shape) (world_after shape moment).calls key ≡ true
   present_at_load key k = loads.present_at_load then (run_agrees shape passes run is ok) grown p at link was.epoch was.held was.shown was.known was.unmarked key k
 
   -- a key that stands behind the place and before what the link names, by what is known at the end, wasn't in the set at that moment
-  pub absent_at_load : (key : ℕ) → StandsBehind shape (know_after shape run p) at key → StandsBefore (know_after shape run p) key link.slot → set_after no_keys (world_after shape moment).calls key ≡ false
+  pub absent_at_load : (key : ℕ) → StandsBehind shape (know_after shape run p) at key → StandsBefore (know_after shape run p) key link.slot → set_after (opening_keys shape) (world_after shape moment).calls key ≡ false
   absent_at_load key i j = loads.absent_at_load then (run_agrees shape passes run is ok) grown p at link was.epoch was.held was.shown was.known was.unmarked key i j

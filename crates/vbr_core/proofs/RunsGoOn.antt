@@ -30,7 +30,7 @@ world_from-append shape w [] ys = refl
 world_from-append shape w (x ∷ xs) ys = world_from-append shape (after shape w x.pass x.step) xs ys
 
 pub world_after-append : (shape : Dimensions) (xs ys : List Event) → world_after shape (xs ++ ys) ≡ world_from shape (world_after shape xs) ys
-world_after-append shape xs ys = world_from-append shape opening xs ys
+world_after-append shape xs ys = world_from-append shape (opening shape) xs ys
 
 pub world_after-snoc : (shape : Dimensions) (run : List Event) (event : Event) → world_after shape (run ++ event ∷ []) ≡ after shape (world_after shape run) event.pass event.step
 world_after-snoc shape run event = world_after-append shape run (event ∷ [])
@@ -54,14 +54,14 @@ is_run_first shape passes = tt
 
 -- a beginning of a run is a run
 pub is_run_before : (shape : Dimensions) (passes : ℕ) (xs ys : List Event) → IsRun shape passes (xs ++ ys) → IsRun shape passes xs
-is_run_before shape passes xs ys run = accepted_front shape passes opening xs ys run
+is_run_before shape passes xs ys run = accepted_front shape passes (opening shape) xs ys run
 
 -- a run goes on by events that are accepted after it
 pub is_run_append : (shape : Dimensions) (passes : ℕ) (xs ys : List Event) → IsRun shape passes xs → AreAccepted shape passes (world_after shape xs) ys → IsRun shape passes (xs ++ ys)
-is_run_append shape passes xs ys front back = accepted-append shape passes opening xs ys front back
+is_run_append shape passes xs ys front back = accepted-append shape passes (opening shape) xs ys front back
 
 pub is_run_after : (shape : Dimensions) (passes : ℕ) (xs ys : List Event) → IsRun shape passes (xs ++ ys) → AreAccepted shape passes (world_after shape xs) ys
-is_run_after shape passes xs ys run = accepted_back shape passes opening xs ys run
+is_run_after shape passes xs ys run = accepted_back shape passes (opening shape) xs ys run
 
 pub is_run_snoc : (shape : Dimensions) (passes : ℕ) (run : List Event) (event : Event) → IsRun shape passes run → IsAccepted shape passes (world_after shape run) event → IsRun shape passes (run ++ event ∷ [])
 is_run_snoc shape passes run event is_run accepted = is_run_append shape passes run (event ∷ []) is_run (accepted, tt)

@@ -47,7 +47,7 @@ reads_on shape passes w (event ∷ events) r ok p = reads_on shape passes (after
 
 -- after a run all reads of a pass are of places that it holds
 pub run_reads : (shape : Dimensions) (passes : ℕ) (run : List Event) → IsRun shape passes run → (p : ℕ) → ReadsHeldPlaces ((world_after shape run).know p)
-run_reads shape passes run ok = reads_on shape passes opening run (λ p. record { checked = tt; pending = tt }) ok
+run_reads shape passes run ok = reads_on shape passes (opening shape) run (λ p. record { checked = tt; pending = tt }) ok
 
 -- ---- what an owner knows
 

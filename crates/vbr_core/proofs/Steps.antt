@@ -1,54 +1,103 @@
 -- What it is that a step keeps the agreement, and the agreement at opening.
-use Rattle.std.proofs.Common.{◌≡◌, ◌≢◌, ℕ, ◌-◌, ◌^◌, ◌≤◌, min, Option, Some, None, refl, arith, sym, ap, ◌∙◌, inl, inr}
-use Rattle.std.specs.Prelude.{◌⊎◌}
-use Rattle.std.proofs.lemmas.Bool.{cases_eq}
+use Rattle.std.proofs.Common.{◌≡◌, ◌≢◌, ℕ, ◌-◌, ◌^◌, ◌<◌, ◌≤◌, min, Bool, true, false, Option, Some, None, refl, arith, sym, ap, ◌∙◌, inl, inr}
+use Rattle.std.specs.Prelude.{◌⊎◌, if◌then◌else◌}
+use Rattle.std.proofs.lemmas.List.{get_or_past}
+use Rattle.std.proofs.lemmas.Bool.{cases_eq, cond-true, cond-false}
 use Rattle.vbr_words.specs.Dimensions.{Dimensions, IsShape}
 use Rattle.vbr_core.specs.Put.{put}
-use Rattle.vbr_core.specs.Keys.{no_keys}
+use Rattle.vbr_core.specs.Opened.{opening_keys, key_count, is_keyed_at_opening, key_number, opening_birth, first_key, key_behind, link_to_key, link_at_opening}
 use Rattle.vbr_core.specs.Machine.{World, opening, after}
-use Rattle.vbr_core.specs.Incarnations.{Incarnations, nothing_yet, last_in}
+use Rattle.vbr_core.specs.Incarnations.{Incarnations, opening_last, at_opening, last_in}
 use Rattle.vbr_core.specs.Incarnations as state
-use Rattle.vbr_core.specs.Images.{IsImage}
+use Rattle.vbr_core.specs.Images.{birth_shown, key_shown, link_to_next, link_in_state, link_shown, IsImage}
 use Rattle.vbr_core.specs.Chronicles.{Happening, IsLawful, Allowed, becomes, incarnations_from}
 use Rattle.vbr_core.specs.Notes.{Notes, no_notes, notes_with}
 use Rattle.vbr_core.specs.Accounts.{happens}
-use Rattle.vbr_core.specs.Acceptance.{IsInHand, IsUnlinked, IsReread}
+use Rattle.vbr_core.specs.Acceptance.{bucket_of, IsInHand, IsUnlinked, IsReread}
 use Rattle.vbr_core.specs.Agreement.{IsNotOf, IsStored, OwnFits, AllKnowRight, Owns, Fits, Agrees}
 use Rattle.vbr_core.specs.declared.event.Step.{Step}
 use Rattle.vbr_core.specs.declared.knowledge.Holding.{Holding}
 use Rattle.vbr_core.specs.declared.knowledge.Holding.TheVariants.{Free, Unlinked, InHand}
 use Rattle.vbr_core.specs.declared.knowledge.SlotPlace.{SlotPlace}
-use Rattle.vbr_core.specs.declared.knowledge.SlotPlace.TheVariants.{Own, Hand}
+use Rattle.vbr_core.specs.declared.knowledge.SlotPlace.TheVariants.{Shared, Own, Hand, Listed}
 use Rattle.vbr_words.specs.declared.link.Link.{Link}
 use Rattle.vbr_core.proofs.Puts.{put_here, put_other}
-use Rattle.vbr_core.proofs.SoundAfter.{sound_at_first, sound_kept}
+use Rattle.vbr_core.proofs.OpeningKeys.{keyed_or_not}
+use Rattle.vbr_core.proofs.SoundAfter.{state_at_first, sound_at_first, sound_kept}
 use Rattle.vbr_core.proofs.ToldCalls.{tells_at_first, tells_kept}
 use Rattle.vbr_core.proofs.Noted.{knows_same}
 
 -- what an accepted step adds to the chronicle is lawful, and the world, the incarnations and the notes agree after it
 abbrev pub StepAgrees : Dimensions → World → Incarnations → (ℕ → Notes) → ℕ → Step → Type 0
 StepAgrees shape w a notes p step =
-    IsLawful shape no_keys a (happens shape w a p step)
+    IsLawful shape (opening_keys shape) a (happens shape w a p step)
     × Agrees shape (after shape w p step) (incarnations_from shape a (happens shape w a p step))
     (put notes p (notes_with shape w (incarnations_from shape a (happens shape w a p step)) p step (notes p)))
 
-pub agrees_at_first : (shape : Dimensions) → IsShape shape → Agrees shape opening nothing_yet (λ p. no_notes)
+-- the link of a key at opening
+link_at_first : (shape : Dimensions) (holder_birth : ℕ) (number : Option ℕ) → link_to_key shape holder_birth number ≡ link_to_next (at_opening shape) holder_birth number
+link_at_first shape holder_birth None = refl
+link_at_first shape holder_birth (Some number) = refl
+
+link_shown_at_first : (shape : Dimensions) (s : ℕ) → link_at_opening shape s ≡ link_shown (at_opening shape) (opening_last shape s)
+link_shown_at_first shape s = go (keyed_or_not shape s)
+  where
+    go : ((s < key_count shape) × (is_keyed_at_opening shape s ≡ true)) ⊎ ((key_count shape ≤ s) × (is_keyed_at_opening shape s ≡ false)) → link_at_opening shape s ≡ link_shown (at_opening shape) (opening_last shape s)
+    go (inl low) =
+        cond-true (is_keyed_at_opening shape s) _ _ low.1
+        ∙ link_at_first shape (opening_birth shape s) (key_behind shape s)
+        ∙ sym (ap (link_in_state (at_opening shape) s) (state_at_first shape s low.0))
+        ∙ sym (ap (link_shown (at_opening shape)) (cond-true (is_keyed_at_opening shape s) (Some s) None low.1))
+    go (inr high) = cond-false (is_keyed_at_opening shape s) _ _ high.1 ∙ sym (ap (link_shown (at_opening shape)) (cond-false (is_keyed_at_opening shape s) (Some s) None high.1))
+
+birth_shown_at_first : (shape : Dimensions) (s : ℕ) → opening_birth shape s ≡ birth_shown (at_opening shape) (opening_last shape s)
+birth_shown_at_first shape s = go (keyed_or_not shape s)
+  where
+    go : ((s < key_count shape) × (is_keyed_at_opening shape s ≡ true)) ⊎ ((key_count shape ≤ s) × (is_keyed_at_opening shape s ≡ false)) → opening_birth shape s ≡ birth_shown (at_opening shape) (opening_last shape s)
+    go (inl low) = sym (ap (birth_shown (at_opening shape)) (cond-true (is_keyed_at_opening shape s) (Some s) None low.1))
+    go (inr high) = cond-false (is_keyed_at_opening shape s) 1 0 high.1 ∙ sym (ap (birth_shown (at_opening shape)) (cond-false (is_keyed_at_opening shape s) (Some s) None high.1))
+
+key_shown_at_first : (shape : Dimensions) (s : ℕ) → key_number shape s ≡ key_shown (at_opening shape) (opening_last shape s)
+key_shown_at_first shape s = go (keyed_or_not shape s)
+  where
+    go : ((s < key_count shape) × (is_keyed_at_opening shape s ≡ true)) ⊎ ((key_count shape ≤ s) × (is_keyed_at_opening shape s ≡ false)) → key_number shape s ≡ key_shown (at_opening shape) (opening_last shape s)
+    go (inl low) = sym (ap (key_shown (at_opening shape)) (cond-true (is_keyed_at_opening shape s) (Some s) None low.1))
+    go (inr high) = get_or_past shape.keys s 0 high.0 ∙ sym (ap (key_shown (at_opening shape)) (cond-false (is_keyed_at_opening shape s) (Some s) None high.1))
+
+-- the words at opening are the image of the incarnations then
+image_at_first : (shape : Dimensions) → IsImage (opening shape) (at_opening shape)
+image_at_first shape = record {
+  epoch = refl;
+  head = λ b. link_at_first shape 0 (first_key shape b);
+  link = link_shown_at_first shape;
+  birth = birth_shown_at_first shape;
+  key = key_shown_at_first shape;
+  stamp = λ s. refl;
+  place = λ s. refl;
+}
+
+-- no pass owns a slot
+no_owner_at_first : (b : Bool) (bucket pass : ℕ) → IsNotOf pass (if b then Listed bucket else Shared)
+no_owner_at_first true bucket pass = tt
+no_owner_at_first false bucket pass = tt
+
+pub agrees_at_first : (shape : Dimensions) → IsShape shape → Agrees shape (opening shape) (at_opening shape) (λ p. no_notes)
 agrees_at_first shape is = record {
-  sound = sound_at_first shape;
-  tells = tells_at_first;
-  fits = record { is_shape = is; epoch = let u = is.some_epoch in omega arith; slot = λ c lt. absurd (omega arith); link = λ c. record { slot = tt; version = omega arith } };
-  image = record { epoch = refl; head = λ b. refl; link = λ s. refl; birth = λ s. refl; key = λ s. refl; stamp = λ s. refl; place = λ s. refl };
+  sound = sound_at_first shape is.ascending;
+  tells = tells_at_first shape;
+  fits = record { is_shape = is; epoch = let u = is.some_epoch in omega arith; slot = λ c low. let few = is.few in omega (arith, few); link = λ c. record { slot = tt; version = omega arith } };
+  image = image_at_first shape;
   knows = λ p. record { epoch = omega arith; checked_reads = refl; pending_reads = refl; checked_shown = tt; pending_shown = tt; checked = tt; pending = λ e. tt };
-  owns = λ p s. tt;
+  owns = λ p s. no_owner_at_first (is_keyed_at_opening shape s) (bucket_of shape (key_number shape s)) p;
   calls = refl;
-  births = omega arith;
+  births = let few = is.few in let slots = is.slots in omega (arith, few, slots);
 }
 
 -- after one allowed event
-pub agrees_next : (shape : Dimensions) (w v : World) (a : Incarnations) (notes new : ℕ → Notes) (p : ℕ) (what : Happening) → Agrees shape w a notes → Allowed shape no_keys a p what →
+pub agrees_next : (shape : Dimensions) (w v : World) (a : Incarnations) (notes new : ℕ → Notes) (p : ℕ) (what : Happening) → Agrees shape w a notes → Allowed shape (opening_keys shape) a p what →
     Fits shape (becomes shape a p what) → IsImage v (becomes shape a p what) → AllKnowRight (becomes shape a p what) v.know new → Owns (becomes shape a p what) v.know → v.calls ≡ (becomes shape a p what).calls → v.births ≡ min (becomes shape a p what).count (2 ^ 64 - 1) → Agrees shape v (becomes shape a p what) new
 agrees_next shape w v a notes new p what g al f i k o c n = record {
-  sound = sound_kept shape no_keys a p what g.sound al;
+  sound = sound_kept shape (opening_keys shape) a p what g.sound al;
   tells = tells_kept shape a p what g.sound g.tells al;
   fits = f;
   image = i;

@@ -5,9 +5,10 @@ use Rattle.std.proofs.lemmas.Bool.Decides.{nat_tests}
 use Rattle.std.proofs.lemmas.Bool.{cases_eq, cases_Bool}
 use Rattle.vbr_words.specs.Dimensions.{Dimensions}
 use Rattle.vbr_core.specs.Put.{put}
-use Rattle.vbr_core.specs.Keys.{Keys, no_keys}
+use Rattle.vbr_core.specs.Keys.{Keys}
+use Rattle.vbr_core.specs.Opened.{opening_keys}
 use Rattle.vbr_core.specs.History.{keys_after, set_after}
-use Rattle.vbr_core.specs.Incarnations.{Linked, Marked, Incarnations, nothing_yet}
+use Rattle.vbr_core.specs.Incarnations.{Linked, Marked, Incarnations, at_opening}
 use Rattle.vbr_core.specs.Chronicles.{Happening, Advances, Gains, Probes, Raises, GivesUp, Bears, Keyed, Aims, Inserts, Removes, Unlinks, Stamps, Answers, Before, Entry, MayInsert, ChangesNothing, Allowed, becomes, incarnations_from, IsLawful}
 use Rattle.vbr_core.specs.Sound.{Sound, Tells}
 use Rattle.vbr_core.specs.declared.history.Call.{Call}
@@ -15,57 +16,58 @@ use Rattle.vbr_core.specs.declared.history.Op.{Op}
 use Rattle.vbr_core.specs.declared.history.Op.TheVariants.{Insert, Remove, Has}
 use Rattle.vbr_core.proofs.Histories.{set_after-push, IsLegal-push}
 use Rattle.vbr_core.proofs.Lists.{no_key_between, keys_differ}
-use Rattle.vbr_core.proofs.SoundAfter.{sound_kept}
+use Rattle.vbr_core.proofs.OpeningKeys.{key_in_set, number_of}
+use Rattle.vbr_core.proofs.SoundAfter.{sound_kept, listed_at_first, state_at_first}
 
 -- where the calls, and the keys of what is linked, stay as they were
-same_calls : (a b : Incarnations) → Tells a → b.calls ≡ a.calls → ((c : ℕ) → b.state c ≡ Linked → (a.state c ≡ Linked) × (b.key c ≡ a.key c)) → ((c : ℕ) → a.state c ≡ Linked → (b.state c ≡ Linked) × (b.key c ≡ a.key c)) → Tells b
-same_calls a b t e f g = record {
+same_calls : (shape : Dimensions) (a b : Incarnations) → Tells shape a → b.calls ≡ a.calls → ((c : ℕ) → b.state c ≡ Linked → (a.state c ≡ Linked) × (b.key c ≡ a.key c)) → ((c : ℕ) → a.state c ≡ Linked → (b.state c ≡ Linked) × (b.key c ≡ a.key c)) → Tells shape b
+same_calls shape a b t e f g = record {
   legal = rw e t.legal;
   there = λ c h. rw (e, (f c h).1) (t.there c (f c h).0);
   only = λ k h. let u = t.only k (rw e at h) in (u.0, (g u.0 u.1).0, (g u.0 u.1).1 ∙ u.2);
 }
 
-tells_inserts : (shape : Dimensions) (a : Incarnations) (pass c : ℕ) (behind : Before) → Sound shape a → Tells a → MayInsert shape a pass c behind → Tells (becomes shape a pass (Inserts c behind))
+tells_inserts : (shape : Dimensions) (a : Incarnations) (pass c : ℕ) (behind : Before) → Sound shape a → Tells shape a → MayInsert shape a pass c behind → Tells shape (becomes shape a pass (Inserts c behind))
 tells_inserts shape a pass c behind s t h = record {
-  legal = IsLegal-push no_keys a.calls x t.legal (rw absent);
-  there = λ d l. rw (set_after-push no_keys a.calls x) (there d l (t.there d));
-  only = λ k l. only k (rw (set_after-push no_keys a.calls x) at l) (t.only k);
+  legal = IsLegal-push (opening_keys shape) a.calls x t.legal (rw absent);
+  there = λ d l. rw (set_after-push (opening_keys shape) a.calls x) (there d l (t.there d));
+  only = λ k l. only k (rw (set_after-push (opening_keys shape) a.calls x) at l) (t.only k);
 }
   where
     x : Call
     x = record { who = pass; op = Insert; key = a.key c; reply = true }
 
-    absent : set_after no_keys a.calls (a.key c) ≡ false
-    absent = go (cases_Bool (set_after no_keys a.calls (a.key c)))
+    absent : set_after (opening_keys shape) a.calls (a.key c) ≡ false
+    absent = go (cases_Bool (set_after (opening_keys shape) a.calls (a.key c)))
       where
-        go : (set_after no_keys a.calls (a.key c) ≡ true) ⊎ (set_after no_keys a.calls (a.key c) ≡ false) → set_after no_keys a.calls (a.key c) ≡ false
+        go : (set_after (opening_keys shape) a.calls (a.key c) ≡ true) ⊎ (set_after (opening_keys shape) a.calls (a.key c) ≡ false) → set_after (opening_keys shape) a.calls (a.key c) ≡ false
         go (inr e) = e
         go (inl e) = let u = t.only (a.key c) e in absurd (no_key_between s behind (a.key c) h.is_open h.above h.below u.0 (rw u.1 tt) u.2)
 
-    there : (d : ℕ) → put a.state c Linked d ≡ Linked → (a.state d ≡ Linked → set_after no_keys a.calls (a.key d) ≡ true) → put (set_after no_keys a.calls) (a.key c) true (a.key d) ≡ true
+    there : (d : ℕ) → put a.state c Linked d ≡ Linked → (a.state d ≡ Linked → set_after (opening_keys shape) a.calls (a.key d) ≡ true) → put (set_after (opening_keys shape) a.calls) (a.key c) true (a.key d) ≡ true
     there d l u = grind (arith, nat_tests)
 
-    only : (k : ℕ) → put (set_after no_keys a.calls) (a.key c) true k ≡ true → (set_after no_keys a.calls k ≡ true → (d : ℕ) × (a.state d ≡ Linked) × (a.key d ≡ k)) → (d : ℕ) × (put a.state c Linked d ≡ Linked) × (a.key d ≡ k)
+    only : (k : ℕ) → put (set_after (opening_keys shape) a.calls) (a.key c) true k ≡ true → (set_after (opening_keys shape) a.calls k ≡ true → (d : ℕ) × (a.state d ≡ Linked) × (a.key d ≡ k)) → (d : ℕ) × (put a.state c Linked d ≡ Linked) × (a.key d ≡ k)
     only k l u = go (cases_eq k (a.key c))
       where
         go : (k ≡ a.key c) ⊎ (k ≢ a.key c) → (d : ℕ) × (put a.state c Linked d ≡ Linked) × (a.key d ≡ k)
         go (inl e) = (c, grind (arith, nat_tests), sym e)
         go (inr ne) = let v = u (grind (arith, nat_tests)) in (v.0, let x = v.1 in grind (arith, nat_tests), v.2)
 
-tells_removes : (shape : Dimensions) (a : Incarnations) (pass c : ℕ) → Sound shape a → Tells a → a.state c ≡ Linked → Tells (becomes shape a pass (Removes c))
+tells_removes : (shape : Dimensions) (a : Incarnations) (pass c : ℕ) → Sound shape a → Tells shape a → a.state c ≡ Linked → Tells shape (becomes shape a pass (Removes c))
 tells_removes shape a pass c s t h = record {
-  legal = IsLegal-push no_keys a.calls x t.legal (sym (t.there c h));
-  there = λ d l. rw (set_after-push no_keys a.calls x) (there d l (t.there d) (λ ld e. keys_differ s c d (rw h tt) (rw ld tt) e));
-  only = λ k l. only k (rw (set_after-push no_keys a.calls x) at l) (t.only k);
+  legal = IsLegal-push (opening_keys shape) a.calls x t.legal (sym (t.there c h));
+  there = λ d l. rw (set_after-push (opening_keys shape) a.calls x) (there d l (t.there d) (λ ld e. keys_differ s c d (rw h tt) (rw ld tt) e));
+  only = λ k l. only k (rw (set_after-push (opening_keys shape) a.calls x) at l) (t.only k);
 }
   where
     x : Call
     x = record { who = pass; op = Remove; key = a.key c; reply = true }
 
-    there : (d : ℕ) → put a.state c Marked d ≡ Linked → (a.state d ≡ Linked → set_after no_keys a.calls (a.key d) ≡ true) → (a.state d ≡ Linked → a.key c ≡ a.key d → c ≡ d) → put (set_after no_keys a.calls) (a.key c) false (a.key d) ≡ true
+    there : (d : ℕ) → put a.state c Marked d ≡ Linked → (a.state d ≡ Linked → set_after (opening_keys shape) a.calls (a.key d) ≡ true) → (a.state d ≡ Linked → a.key c ≡ a.key d → c ≡ d) → put (set_after (opening_keys shape) a.calls) (a.key c) false (a.key d) ≡ true
     there d l u v = grind (arith, nat_tests)
 
-    only : (k : ℕ) → put (set_after no_keys a.calls) (a.key c) false k ≡ true → (set_after no_keys a.calls k ≡ true → (d : ℕ) × (a.state d ≡ Linked) × (a.key d ≡ k)) → (d : ℕ) × (put a.state c Marked d ≡ Linked) × (a.key d ≡ k)
+    only : (k : ℕ) → put (set_after (opening_keys shape) a.calls) (a.key c) false k ≡ true → (set_after (opening_keys shape) a.calls k ≡ true → (d : ℕ) × (a.state d ≡ Linked) × (a.key d ≡ k)) → (d : ℕ) × (put a.state c Marked d ≡ Linked) × (a.key d ≡ k)
     only k l u = let ne : k ≢ a.key c = grind (arith, nat_tests) in let v = u (grind (arith, nat_tests)) in (v.0, let y = v.1 in let z = v.2 in grind (arith, nat_tests), v.2)
 
 nothing_changes : (keys : Keys) (op : Op) (key : ℕ) (reply : Bool) → ChangesNothing op reply → keys_after keys op key reply ≡ keys
@@ -75,32 +77,36 @@ nothing_changes keys Remove key true h = absurd (cc)
 nothing_changes keys Remove key false h = refl
 nothing_changes keys Has key reply h = refl
 
-tells_answers : (shape : Dimensions) (a : Incarnations) (pass : ℕ) (x : Call) → Tells a → Allowed shape no_keys a pass (Answers x) → Tells (becomes shape a pass (Answers x))
+tells_answers : (shape : Dimensions) (a : Incarnations) (pass : ℕ) (x : Call) → Tells shape a → Allowed shape (opening_keys shape) a pass (Answers x) → Tells shape (becomes shape a pass (Answers x))
 tells_answers shape a pass x t h = record {
-  legal = IsLegal-push no_keys a.calls x t.legal h.2;
-  there = λ d l. rw (set_after-push no_keys a.calls x, nothing_changes (set_after no_keys a.calls) x.op x.key x.reply h.1) (t.there d l);
-  only = λ k l. t.only k (rw (set_after-push no_keys a.calls x, nothing_changes (set_after no_keys a.calls) x.op x.key x.reply h.1) at l);
+  legal = IsLegal-push (opening_keys shape) a.calls x t.legal h.2;
+  there = λ d l. rw (set_after-push (opening_keys shape) a.calls x, nothing_changes (set_after (opening_keys shape) a.calls) x.op x.key x.reply h.1) (t.there d l);
+  only = λ k l. t.only k (rw (set_after-push (opening_keys shape) a.calls x, nothing_changes (set_after (opening_keys shape) a.calls) x.op x.key x.reply h.1) at l);
 }
 
-pub tells_kept : (shape : Dimensions) (a : Incarnations) (pass : ℕ) (what : Happening) → Sound shape a → Tells a → Allowed shape no_keys a pass what → Tells (becomes shape a pass what)
-tells_kept shape a pass Advances s t h = same_calls a (becomes shape a pass Advances) t refl (λ c e. (e, refl)) (λ c e. (e, refl))
-tells_kept shape a pass (Gains v) s t h = same_calls a (becomes shape a pass (Gains v)) t refl (λ c e. (e, refl)) (λ c e. (e, refl))
+pub tells_kept : (shape : Dimensions) (a : Incarnations) (pass : ℕ) (what : Happening) → Sound shape a → Tells shape a → Allowed shape (opening_keys shape) a pass what → Tells shape (becomes shape a pass what)
+tells_kept shape a pass Advances s t h = same_calls shape a (becomes shape a pass Advances) t refl (λ c e. (e, refl)) (λ c e. (e, refl))
+tells_kept shape a pass (Gains v) s t h = same_calls shape a (becomes shape a pass (Gains v)) t refl (λ c e. (e, refl)) (λ c e. (e, refl))
 tells_kept shape a pass (Probes v) s t h = t
-tells_kept shape a pass (Raises v) s t h = same_calls a (becomes shape a pass (Raises v)) t refl (λ c e. (e, refl)) (λ c e. (e, refl))
-tells_kept shape a pass (GivesUp c) s t h = same_calls a (becomes shape a pass (GivesUp c)) t refl (λ d e. grind (arith, nat_tests)) (λ d e. grind (arith, nat_tests))
-tells_kept shape a pass (Bears v b) s t h = let z = s.slots.unborn a.count (omega arith) in same_calls a (becomes shape a pass (Bears v b)) t refl (λ d e. grind (arith, nat_tests)) (λ d e. grind (arith, nat_tests))
-tells_kept shape a pass (Keyed c key) s t h = same_calls a (becomes shape a pass (Keyed c key)) t refl (λ d e. grind (arith, nat_tests)) (λ d e. grind (arith, nat_tests))
-tells_kept shape a pass (Aims c link) s t h = same_calls a (becomes shape a pass (Aims c link)) t refl (λ c e. (e, refl)) (λ c e. (e, refl))
+tells_kept shape a pass (Raises v) s t h = same_calls shape a (becomes shape a pass (Raises v)) t refl (λ c e. (e, refl)) (λ c e. (e, refl))
+tells_kept shape a pass (GivesUp c) s t h = same_calls shape a (becomes shape a pass (GivesUp c)) t refl (λ d e. grind (arith, nat_tests)) (λ d e. grind (arith, nat_tests))
+tells_kept shape a pass (Bears v b) s t h = let z = s.slots.unborn a.count (omega arith) in same_calls shape a (becomes shape a pass (Bears v b)) t refl (λ d e. grind (arith, nat_tests)) (λ d e. grind (arith, nat_tests))
+tells_kept shape a pass (Keyed c key) s t h = same_calls shape a (becomes shape a pass (Keyed c key)) t refl (λ d e. grind (arith, nat_tests)) (λ d e. grind (arith, nat_tests))
+tells_kept shape a pass (Aims c link) s t h = same_calls shape a (becomes shape a pass (Aims c link)) t refl (λ c e. (e, refl)) (λ c e. (e, refl))
 tells_kept shape a pass (Inserts c behind) s t h = tells_inserts shape a pass c behind s t h
 tells_kept shape a pass (Removes c) s t h = tells_removes shape a pass c s t h
-tells_kept shape a pass (Unlinks c behind) s t h = let m = h.0 in same_calls a (becomes shape a pass (Unlinks c behind)) t refl (λ d e. grind (arith, nat_tests)) (λ d e. grind (arith, nat_tests))
-tells_kept shape a pass (Stamps c stamp) s t h = same_calls a (becomes shape a pass (Stamps c stamp)) t refl (λ d e. grind (arith, nat_tests)) (λ d e. grind (arith, nat_tests))
+tells_kept shape a pass (Unlinks c behind) s t h = let m = h.0 in same_calls shape a (becomes shape a pass (Unlinks c behind)) t refl (λ d e. grind (arith, nat_tests)) (λ d e. grind (arith, nat_tests))
+tells_kept shape a pass (Stamps c stamp) s t h = same_calls shape a (becomes shape a pass (Stamps c stamp)) t refl (λ d e. grind (arith, nat_tests)) (λ d e. grind (arith, nat_tests))
 tells_kept shape a pass (Answers x) s t h = tells_answers shape a pass x t h
 
-pub tells_at_first : Tells nothing_yet
-tells_at_first = record { legal = tt; there = λ c e. cc; only = λ key e. absurd (cc) }
+pub tells_at_first : (shape : Dimensions) → Tells shape (at_opening shape)
+tells_at_first shape = record {
+  legal = tt;
+  there = λ c e. key_in_set shape c (listed_at_first shape c (rw e tt));
+  only = λ key e. let x = number_of key shape.keys e in (x.0, state_at_first shape x.0 x.1, x.2);
+}
 
-pub tells_after : (shape : Dimensions) (a : Incarnations) (entries : List Entry) → Sound shape a → Tells a → IsLawful shape no_keys a entries → Tells (incarnations_from shape a entries)
+pub tells_after : (shape : Dimensions) (a : Incarnations) (entries : List Entry) → Sound shape a → Tells shape a → IsLawful shape (opening_keys shape) a entries → Tells shape (incarnations_from shape a entries)
 tells_after shape a [] s t l = t
 tells_after shape a (entry ∷ entries) s t l =
-    tells_after shape (becomes shape a entry.pass entry.what) entries (sound_kept shape no_keys a entry.pass entry.what s l.0) (tells_kept shape a entry.pass entry.what s t l.0) l.1
+    tells_after shape (becomes shape a entry.pass entry.what) entries (sound_kept shape (opening_keys shape) a entry.pass entry.what s l.0) (tells_kept shape a entry.pass entry.what s t l.0) l.1

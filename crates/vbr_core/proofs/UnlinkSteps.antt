@@ -9,7 +9,7 @@ use Rattle.vbr_words.specs.declared.link.Link.{Link}
 use Rattle.vbr_words.specs.declared.place.At.{At}
 use Rattle.vbr_words.specs.declared.place.At.TheVariants.{Head, Slot}
 use Rattle.vbr_core.specs.Put.{put}
-use Rattle.vbr_core.specs.Keys.{no_keys}
+use Rattle.vbr_core.specs.Opened.{opening_keys}
 use Rattle.vbr_core.specs.Links.{marked}
 use Rattle.vbr_core.specs.Knowledge.{marked_in}
 use Rattle.vbr_core.specs.Acceptance.{next_of_marked, Accepts}
@@ -28,8 +28,8 @@ use Rattle.vbr_core.proofs.Slots.{one_late, listed_last}
 use Rattle.vbr_core.proofs.Growth.{grows}
 use Rattle.vbr_core.proofs.OwnSlots.{lasts_differ}
 use Rattle.vbr_core.proofs.Shown.{to_next_same, linked_same, link_kept}
-use Rattle.vbr_core.proofs.Lookups.{marked_found, birth_of_is}
-use Rattle.vbr_core.proofs.Meetings.{Meets, node_at, birth_there}
+use Rattle.vbr_core.proofs.Searches.{marked_found, birth_of_is}
+use Rattle.vbr_core.proofs.StandingLinks.{LinkStands, node_at, birth_there}
 use Rattle.vbr_core.proofs.PublishSteps.{slot_of_is}
 
 -- ---- the links after an unlinking
@@ -91,7 +91,7 @@ pub record MarkedFacts (a : Incarnations) (s e : ℕ) (known : Option Link) : Ty
   pub next : IsHeldNext a e (next_of_marked known) (a.next (last_in a s))
 
 -- so it is where the link that stands at a place names the slot, and then this incarnation follows the place
-marked_facts : {shape : Dimensions} {a : Incarnations} → Sound shape a → (e : ℕ) (notes : List Note) (reads : List Read) (s : ℕ) (at : At) (link : Link) → reads ≡ reads_of notes → AllByRecursion (IsGood a e) notes → Meets shape a e reads at link → link.slot ≡ Some s → IsSome (marked_in reads s) →
+marked_facts : {shape : Dimensions} {a : Incarnations} → Sound shape a → (e : ℕ) (notes : List Note) (reads : List Read) (s : ℕ) (at : At) (link : Link) → reads ≡ reads_of notes → AllByRecursion (IsGood a e) notes → LinkStands shape a e reads at link → link.slot ≡ Some s → IsSome (marked_in reads s) →
     MarkedFacts a s e (marked_in reads s) × (next_of a (before_at a at) ≡ Some (last_in a s))
 marked_facts {shape} {a} snd e notes reads s at link q al m sl k = go (marked_in reads s) refl k
   where
@@ -118,7 +118,7 @@ marked_facts {shape} {a} snd e notes reads s at link q al m sl k = go (marked_in
         let c : last_in a s ≡ n.0 = rw la refl in
         (record { held = rw c n.2; last = la ∙ ap Some (sym c); state = rw c (both (a.state n.0) li (rw same at d.2)); next = rw (c, ← same, d.3) f.2.next }, n.1 ∙ ap Some (sym c))
 
-module _ (shape : Dimensions) (w : World) (a : Incarnations) (notes : ℕ → Notes) (p : ℕ) (pred : At) (expected s : ℕ) (g : Agrees shape w a notes) (ok : Accepts shape (w.know p) (Unlink pred expected s)) (m : Meets shape a (w.know p).epoch (w.know p).checked pred (link_of expected)) where
+module _ (shape : Dimensions) (w : World) (a : Incarnations) (notes : ℕ → Notes) (p : ℕ) (pred : At) (expected s : ℕ) (g : Agrees shape w a notes) (ok : Accepts shape (w.know p) (Unlink pred expected s)) (m : LinkStands shape a (w.know p).epoch (w.know p).checked pred (link_of expected)) where
   taken : MarkedFacts a s (w.know p).epoch (marked_in (w.know p).checked s) × (next_of a (before_at a pred) ≡ Some (last_in a s))
   taken = marked_facts g.sound (w.know p).epoch (notes p).checked (w.know p).checked s pred (link_of expected) (g.knows p).checked_reads (g.knows p).checked m ok.in_range.1 ok.held.1
 
@@ -126,7 +126,7 @@ module _ (shape : Dimensions) (w : World) (a : Incarnations) (notes : ℕ → No
   facts = taken.0
 
   -- what the step adds to the chronicle is allowed
-  pub may_unlink : Allowed shape no_keys a p (Unlinks (last_in a s) (before_at a pred))
+  pub may_unlink : Allowed shape (opening_keys shape) a p (Unlinks (last_in a s) (before_at a pred))
   may_unlink = (facts.state, m.is_open, taken.1)
 
   -- the link that the step writes, in the incarnations' terms
@@ -147,4 +147,4 @@ module _ (shape : Dimensions) (w : World) (a : Incarnations) (notes : ℕ → No
   old_links = unlinked_there g.sound p (last_in a s) pred m.last facts.state
 
   pub gr : Grows a (becomes shape a p (Unlinks (last_in a s) (before_at a pred)))
-  gr = grows shape no_keys a p (Unlinks (last_in a s) (before_at a pred)) g.sound may_unlink
+  gr = grows shape (opening_keys shape) a p (Unlinks (last_in a s) (before_at a pred)) g.sound may_unlink

@@ -28,7 +28,7 @@ use Rattle.vbr_core.proofs.HeldReads.{stays_at, stays_next}
 use Rattle.vbr_core.proofs.Noted.{knows_on, knows_put, noted_beside, noted_checked}
 use Rattle.vbr_core.proofs.OwnSlots.{owns_changed, lasts_differ}
 use Rattle.vbr_core.proofs.Shown.{fits_kept, key_kept, birth_kept}
-use Rattle.vbr_core.proofs.Meetings.{Meets, meets_now, node_at}
+use Rattle.vbr_core.proofs.StandingLinks.{LinkStands, link_stands, node_at}
 use Rattle.vbr_core.proofs.MarkSteps.{listed_not_of}
 use Rattle.vbr_core.proofs.Exchanges.{exchanged}
 use Rattle.vbr_core.proofs.PublishSteps.{birth_there_low, next_low}
@@ -36,7 +36,7 @@ use Rattle.vbr_core.proofs.PublishedNotes.{pair_as}
 use Rattle.vbr_core.proofs.UnlinkSteps.{last_behind, next_behind, facts, may_unlink, link_is, new_link, old_links, gr}
 use Rattle.vbr_core.proofs.Steps.{StepAgrees, agrees_next, agrees_still, puts_same, own_not_of}
 
-module _ (shape : Dimensions) (w : World) (a : Incarnations) (notes : ℕ → Notes) (p : ℕ) (pred : At) (expected s : ℕ) (g : Agrees shape w a notes) (ok : Accepts shape (w.know p) (Unlink pred expected s)) (m : Meets shape a (w.know p).epoch (w.know p).checked pred (link_of expected)) where
+module _ (shape : Dimensions) (w : World) (a : Incarnations) (notes : ℕ → Notes) (p : ℕ) (pred : At) (expected s : ℕ) (g : Agrees shape w a notes) (ok : Accepts shape (w.know p) (Unlink pred expected s)) (m : LinkStands shape a (w.know p).epoch (w.know p).checked pred (link_of expected)) where
   -- what the pass has checked by unlinking the node is good
   goods : AllByRecursion (λ read. IsGood (becomes shape a p (Unlinks (last_in a s) (before_at a pred))) (w.know p).epoch (note_of (becomes shape a p (Unlinks (last_in a s) (before_at a pred))) read)) (reads_won (w.know p) (Unlink pred expected s))
   goods =
@@ -61,7 +61,7 @@ module _ (shape : Dimensions) (w : World) (a : Incarnations) (notes : ℕ → No
   shown : AllByRecursion (λ read. read ≡ shown_at (becomes shape a p (Unlinks (last_in a s) (before_at a pred))) read) (reads_won (w.know p) (Unlink pred expected s))
   shown = (ap (LinkAt pred) (sym (new_link shape w a notes p pred expected s g ok m)), tt)
 
-made : (shape : Dimensions) (w : World) (a : Incarnations) (notes : ℕ → Notes) (p : ℕ) (pred : At) (expected s : ℕ) (g : Agrees shape w a notes) (ok : Accepts shape (w.know p) (Unlink pred expected s)) (m : Meets shape a (w.know p).epoch (w.know p).checked pred (link_of expected)) (v : World) →
+made : (shape : Dimensions) (w : World) (a : Incarnations) (notes : ℕ → Notes) (p : ℕ) (pred : At) (expected s : ℕ) (g : Agrees shape w a notes) (ok : Accepts shape (w.know p) (Unlink pred expected s)) (m : LinkStands shape a (w.know p).epoch (w.know p).checked pred (link_of expected)) (v : World) →
     v.epoch ≡ w.epoch → ((k : ℕ) → v.head k ≡ machine.link_at (with_link_at w pred (link_written (w.know p) (Unlink pred expected s))) (Head k)) → ((k : ℕ) → v.link k ≡ machine.link_at (with_link_at w pred (link_written (w.know p) (Unlink pred expected s))) (Slot k)) →
     v.birth ≡ w.birth → v.key ≡ w.key → v.stamp ≡ w.stamp → v.place ≡ put w.place s (Own p) →
     v.know ≡ put w.know p (with_own (with_checked (w.know p) (reads_won (w.know p) (Unlink pred expected s))) s (Some (Unlinked false))) → v.calls ≡ w.calls → v.births ≡ w.births →
@@ -108,12 +108,12 @@ step_unlink shape w a notes p (Head h) expected s g ok = go (cases_Bool (word_of
     go : ((word_of (w.head h) == expected) ≡ true) ⊎ ((word_of (w.head h) == expected) ≡ false) → StepAgrees shape w a notes p (Unlink (Head h) expected s)
     go (inr f) = rw f (tt, agrees_still shape w a notes p g)
     go (inl t) =
-        let m = meets_now shape w a notes p g (Head h) expected ok.held.0 ok.in_range.0 (eqb-true (word_of (w.head h)) expected t) in
+        let m = link_stands shape w a notes p g (Head h) expected ok.held.0 ok.in_range.0 (eqb-true (word_of (w.head h)) expected t) in
         rw t ((may_unlink shape w a notes p (Head h) expected s g ok m, tt), made shape w a notes p (Head h) expected s g ok m _ refl (λ k. refl) (λ k. refl) refl refl refl refl refl refl refl)
 step_unlink shape w a notes p (Slot q) expected s g ok = go (cases_Bool (word_of (w.link q) == expected))
   where
     go : ((word_of (w.link q) == expected) ≡ true) ⊎ ((word_of (w.link q) == expected) ≡ false) → StepAgrees shape w a notes p (Unlink (Slot q) expected s)
     go (inr f) = rw f (tt, agrees_still shape w a notes p g)
     go (inl t) =
-        let m = meets_now shape w a notes p g (Slot q) expected ok.held.0 ok.in_range.0 (eqb-true (word_of (w.link q)) expected t) in
+        let m = link_stands shape w a notes p g (Slot q) expected ok.held.0 ok.in_range.0 (eqb-true (word_of (w.link q)) expected t) in
         rw t ((may_unlink shape w a notes p (Slot q) expected s g ok m, tt), made shape w a notes p (Slot q) expected s g ok m _ refl (λ k. refl) (λ k. refl) refl refl refl refl refl refl refl)

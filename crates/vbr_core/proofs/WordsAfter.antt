@@ -31,7 +31,7 @@ use Rattle.vbr_core.specs.declared.knowledge.SlotPlace.TheVariants.{Shared, Own,
 use Rattle.vbr_core.proofs.Puts.{put_here, put_other}
 use Rattle.vbr_core.proofs.Slots.{listed_last}
 use Rattle.vbr_core.proofs.RunsGoOn.{world_after-snoc}
-use Rattle.vbr_core.proofs.Meetings.{Meets, meets_now}
+use Rattle.vbr_core.proofs.StandingLinks.{LinkStands, link_stands}
 use Rattle.vbr_core.proofs.SlotFlags.{flag_in, raised_word, taken_word, missed_word, same_word}
 
 -- ---- the place of a step
@@ -207,8 +207,8 @@ listed_unshared shape (Listed b) st key f l = refl
 next_unshared : (shape : Dimensions) (w : World) (a : Incarnations) (notes : ℕ → Notes) (p : ℕ) (pred : At) (expected s : ℕ) → Agrees shape w a notes → Accepts shape (w.know p) (Unlink pred expected s) → word_of (link_at w pred) ≡ expected → is_shared (w.place s) ≡ false
 next_unshared shape w a notes p pred expected s g ok e = ap is_shared (g.image.place s) ∙ go (next_of a (before_at a pred)) refl (rw ok.in_range.1 at m.next)
   where
-    m : Meets shape a (w.know p).epoch (w.know p).checked pred (link_of expected)
-    m = meets_now shape w a notes p g pred expected ok.held.0 ok.in_range.0 e
+    m : LinkStands shape a (w.know p).epoch (w.know p).checked pred (link_of expected)
+    m = link_stands shape w a notes p g pred expected ok.held.0 ok.in_range.0 e
 
     go : (n : Option ℕ) → next_of a (before_at a pred) ≡ n → IsHeldNext a (w.know p).epoch (Some s) n → is_shared (a.place s) ≡ false
     go None r h = absurd h

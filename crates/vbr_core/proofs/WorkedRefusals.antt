@@ -9,32 +9,32 @@ use Rattle.vbr_core.specs.Runs.{IsRun, Refuses, world_after}
 use Rattle.vbr_core.specs.declared.event.Step.TheVariants.{ReadEpoch, Advance, TakeFlag, StoreBirth, StoreKey, LoadKey}
 use Rattle.vbr_core.specs.declared.event.Effect.TheVariants.{Won, Lost}
 use Rattle.vbr_core.specs.declared.event.CoreRefusal.TheVariants.{NoSuchPass, NotOwned, NotHeld, OutOfRange, EpochLast}
-use Rattle.vbr_core.proofs.WorkedLists.{by, three_slots, reborn_slot, effects_from}
+use Rattle.vbr_core.proofs.WorkedLists.{by, shape_of_three, reborn_slot, effects_from}
 
 abbrev one_of_each : Dimensions
-one_of_each = record { slots = 1; buckets = 1; last_epoch = 1 }
+one_of_each = record { slots = 1; buckets = 1; last_epoch = 1; keys = [] }
 
-pub no_such_pass : Refuses one_of_each 1 opening (by 1 ReadEpoch) NoSuchPass
+pub no_such_pass : Refuses one_of_each 1 (opening one_of_each) (by 1 ReadEpoch) NoSuchPass
 unfolding bucket_of link_of word_of has_flag first_bits flag_word
 no_such_pass = search (rules, tests)
 
-pub key_of_a_slot_not_owned : Refuses one_of_each 1 opening (by 0 (StoreKey 0 5)) NotOwned
+pub key_of_a_slot_not_owned : Refuses one_of_each 1 (opening one_of_each) (by 0 (StoreKey 0 5)) NotOwned
 unfolding bucket_of link_of word_of has_flag first_bits flag_word
 key_of_a_slot_not_owned = search (rules, tests)
 
-pub key_of_a_slot_not_held : Refuses one_of_each 1 opening (by 0 (LoadKey 0)) NotHeld
+pub key_of_a_slot_not_held : Refuses one_of_each 1 (opening one_of_each) (by 0 (LoadKey 0)) NotHeld
 unfolding bucket_of link_of word_of has_flag first_bits flag_word
 key_of_a_slot_not_held = search (rules, tests)
 
-pub slot_outside : Refuses one_of_each 1 opening (by 0 (TakeFlag 1)) OutOfRange
+pub slot_outside : Refuses one_of_each 1 (opening one_of_each) (by 0 (TakeFlag 1)) OutOfRange
 unfolding bucket_of link_of word_of has_flag first_bits flag_word
 slot_outside = search (rules, tests)
 
-pub epoch_zero : Refuses one_of_each 1 opening (by 0 (Advance 0)) OutOfRange
+pub epoch_zero : Refuses one_of_each 1 (opening one_of_each) (by 0 (Advance 0)) OutOfRange
 unfolding bucket_of link_of word_of has_flag first_bits flag_word
 epoch_zero = search (rules, tests)
 
-pub last_epoch : Refuses one_of_each 1 opening (by 0 (Advance 1)) EpochLast
+pub last_epoch : Refuses one_of_each 1 (opening one_of_each) (by 0 (Advance 1)) EpochLast
 unfolding bucket_of link_of word_of has_flag first_bits flag_word
 last_epoch = search (rules, tests)
 
@@ -42,7 +42,7 @@ pub birth_above_the_epoch : Refuses one_of_each 1 (world_after one_of_each (by 0
 unfolding bucket_of link_of word_of has_flag first_bits flag_word
 birth_above_the_epoch = search (rules, tests)
 
-pub birth_at_the_stamp : Refuses three_slots 2 (world_after three_slots (take 32 reborn_slot)) (by 0 (StoreBirth 1 1)) OutOfRange
+pub birth_at_the_stamp : Refuses shape_of_three 2 (world_after shape_of_three (take 32 reborn_slot)) (by 0 (StoreBirth 1 1)) OutOfRange
 unfolding bucket_of link_of word_of has_flag first_bits flag_word
 birth_at_the_stamp = search (rules, tests)
 
@@ -50,6 +50,6 @@ pub flag_taken_twice : IsRun one_of_each 1 (by 0 (TakeFlag 0) ∷ by 0 (TakeFlag
 unfolding bucket_of link_of word_of has_flag first_bits flag_word
 flag_taken_twice = search (rules, tests)
 
-pub flag_taken_twice_effects : effects_from one_of_each opening (by 0 (TakeFlag 0) ∷ by 0 (TakeFlag 0) ∷ []) ≡ Won ∷ Lost 0 ∷ []
+pub flag_taken_twice_effects : effects_from one_of_each (opening one_of_each) (by 0 (TakeFlag 0) ∷ by 0 (TakeFlag 0) ∷ []) ≡ Won ∷ Lost 0 ∷ []
 unfolding bucket_of link_of word_of has_flag first_bits flag_word
 flag_taken_twice_effects = refl

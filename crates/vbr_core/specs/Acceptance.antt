@@ -117,7 +117,7 @@ after_turns reads zero next = next
 after_turns reads (suc turns) next = past_marked reads (after_turns reads turns next)
 
 -- in at most so many turns they lead to none, or to a slot whose key is checked
-pub record MeetsKey (most : ℕ) (reads : List Read) (next : Option ℕ) : Type 0 where
+pub record LeadsToKey (most : ℕ) (reads : List Read) (next : Option ℕ) : Type 0 where
   pub turns : ℕ
   pub within : turns ≤ most
   pub known : KnowsKeyOf reads (after_turns reads turns next)
@@ -145,7 +145,7 @@ HasChecked shape know (Unlink pred expected s) =
     × IsSome (birth_of know.checked (next_of_marked (marked_in know.checked s)))
 HasChecked shape know (ConfirmPresent op s expected) = IsTrue (knows_link know.checked (Slot s) (link_of expected)) × IsSome (key_in know.checked s)
 HasChecked shape know (ConfirmAbsent op key at expected) =
-    IsTrue (knows_link know.checked at (link_of expected)) × KnowsKeyAt know.checked at × MeetsKey shape.slots know.checked (link_of expected).slot
+    IsTrue (knows_link know.checked at (link_of expected)) × KnowsKeyAt know.checked at × LeadsToKey shape.slots know.checked (link_of expected).slot
 HasChecked shape know _ = Unit {0}
 
 -- ---- the numbers
@@ -161,7 +161,7 @@ IsBefore reads key None = Unit {0}
 IsBefore reads key (Some s) = key < unwrap_or (key_in reads s) 0
 
 -- in at most so many turns checked marked links lead from what a link names to none, or to a slot before which the key stands
-pub record MeetsAbove (most : ℕ) (reads : List Read) (key : ℕ) (next : Option ℕ) : Type 0 where
+pub record LeadsAbove (most : ℕ) (reads : List Read) (key : ℕ) (next : Option ℕ) : Type 0 where
   pub turns : ℕ
   pub within : turns ≤ most
   pub before : IsBefore reads key (after_turns reads turns next)
@@ -193,7 +193,7 @@ IsInRange shape know (Mark s expected) = (link_of expected).mark ≡ false
 IsInRange shape know (Unlink pred expected s) = ((link_of expected).mark ≡ false) × ((link_of expected).slot ≡ Some s)
 IsInRange shape know (ConfirmPresent op s expected) = ((link_of expected).mark ≡ false) × (op ≢ Remove)
 IsInRange shape know (ConfirmAbsent op key at expected) =
-    ((link_of expected).mark ≡ false) × (op ≢ Insert) × IsBehind shape know.checked at key × MeetsAbove shape.slots know.checked key (link_of expected).slot
+    ((link_of expected).mark ≡ false) × (op ≢ Insert) × IsBehind shape know.checked at key × LeadsAbove shape.slots know.checked key (link_of expected).slot
 IsInRange shape know _ = Unit {0}
 
 -- the epoch that the step would advance is below the last

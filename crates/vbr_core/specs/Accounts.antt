@@ -3,10 +3,10 @@ use Rattle.std.specs.Prelude.{ℕ, List, [], ◌∷◌, ◌++◌, Option, Some, 
 use Rattle.vbr_words.specs.Dimensions.{Dimensions}
 use Rattle.vbr_words.specs.Words.{link_of}
 use Rattle.vbr_core.specs.Put.{put}
-use Rattle.vbr_core.specs.Keys.{no_keys}
+use Rattle.vbr_core.specs.Opened.{opening_keys}
 use Rattle.vbr_core.specs.Learning.{succeeds, link_written, call_of}
 use Rattle.vbr_core.specs.Machine.{World, opening, found, after}
-use Rattle.vbr_core.specs.Incarnations.{Incarnations, nothing_yet, last_in}
+use Rattle.vbr_core.specs.Incarnations.{Incarnations, at_opening, last_in}
 use Rattle.vbr_core.specs.Chronicles.{Happening, Advances, Gains, Probes, Raises, GivesUp, Bears, Keyed, Aims, Inserts, Removes, Unlinks, Stamps, Answers, Entry, IsLawful, incarnations_from, entries_by}
 use Rattle.vbr_core.specs.Notes.{Notes, no_notes, before_at, notes_with, NamesLast, HoldsNext}
 use Rattle.vbr_core.specs.declared.history.Call.{Call}
@@ -74,15 +74,15 @@ notes_from shape w a notes (event ∷ events) =
 
 -- the chronicle of a run
 abbrev pub chronicle : Dimensions → List Event → List Entry
-chronicle shape run = chronicle_from shape opening nothing_yet run
+chronicle shape run = chronicle_from shape (opening shape) (at_opening shape) run
 
 -- the incarnations after a run
 abbrev pub incarnations_after : Dimensions → List Event → Incarnations
-incarnations_after shape run = incarnations_from shape nothing_yet (chronicle shape run)
+incarnations_after shape run = incarnations_from shape (at_opening shape) (chronicle shape run)
 
 -- the notes of a pass after a run
 abbrev pub notes_after : Dimensions → List Event → ℕ → Notes
-notes_after shape run pass = notes_from shape opening nothing_yet (λ p. no_notes) run pass
+notes_after shape run pass = notes_from shape (opening shape) (at_opening shape) (λ p. no_notes) run pass
 
 -- the events of a pass in the chronicle of a run
 abbrev pub own_entries : Dimensions → List Event → ℕ → List Entry
@@ -100,5 +100,5 @@ TakesHeldNext shape w a notes pass step = Unit {0}
 -- an exchange that finds its word is right: the incarnations that it names are the last of their slots, what it adds to the chronicle is lawful for them, and a publication's successor is the one held
 pub record IsRightExchange (shape : Dimensions) (w : World) (a : Incarnations) (notes : Notes) (pass : ℕ) (step : Step) : Type 0 where
   pub names : NamesLast a notes.checked step
-  pub lawful : IsLawful shape no_keys a (happens_if_found w a pass step)
+  pub lawful : IsLawful shape (opening_keys shape) a (happens_if_found w a pass step)
   pub successor : TakesHeldNext shape w a notes pass step

@@ -156,7 +156,7 @@ pub record Fits (shape : Dimensions) (a : Incarnations) : Type 0 where
 -- a world, the incarnations of its chronicle and the notes of its passes agree; the births are counted up to the greatest number
 pub record Agrees (shape : Dimensions) (w : World) (a : Incarnations) (notes : ℕ → Notes) : Type 0 where
   pub sound : Sound shape a
-  pub tells : Tells a
+  pub tells : Tells shape a
   pub fits : Fits shape a
   pub image : IsImage w a
   pub knows : AllKnowRight a w.know notes

@@ -1,10 +1,11 @@
 -- The incarnations of the slots: what a chronicle has made so far.
-use Rattle.std.specs.Prelude.{ℕ, ◌≤◌, Bool, false, List, [], Option, None, unwrap_or}
+use Rattle.std.specs.Prelude.{ℕ, ◌≤◌, Bool, List, [], Option, Some, None, unwrap_or, if◌then◌else◌}
+use Rattle.vbr_words.specs.Dimensions.{Dimensions}
 use Rattle.vbr_words.specs.declared.link.Link.{Link}
 use Rattle.vbr_core.specs.Links.{opening_link}
+use Rattle.vbr_core.specs.Opened.{key_count, is_keyed_at_opening, key_number, opening_birth, first_key, key_behind, opening_place}
 use Rattle.vbr_core.specs.declared.history.Call.{Call}
 use Rattle.vbr_core.specs.declared.knowledge.SlotPlace.{SlotPlace}
-use Rattle.vbr_core.specs.declared.knowledge.SlotPlace.TheVariants.{Shared}
 
 -- what has become of an incarnation: it is not born yet, in hand of a pass, given up, linked, marked, unlinked by a pass at an epoch, or stamped after it was unlinked at an epoch
 pub data State : Type 0 where
@@ -34,23 +35,31 @@ pub record Incarnations : Type 0 where
   pub stamp : ℕ → ℕ  -- of a slot
   pub calls : List Call
 
--- nothing was born yet
-abbrev pub nothing_yet : Incarnations
-nothing_yet =
+-- what has become of an incarnation at opening: those of the opening keys are linked
+abbrev pub opening_state : Dimensions → ℕ → State
+opening_state shape c = if is_keyed_at_opening shape c then Linked else Unborn
+
+-- the incarnation of a slot at opening, if it has one
+abbrev pub opening_last : Dimensions → ℕ → Option ℕ
+opening_last shape s = if is_keyed_at_opening shape s then Some s else None
+
+-- the incarnations at opening: one of each opening key, with its number, in the slot of that number
+abbrev pub at_opening : Dimensions → Incarnations
+at_opening shape =
     record {
       epoch = 1;
-      count = 0;
-      slot = λ c. 0;
-      birth = λ c. 0;
-      key = λ c. 0;
-      is_keyed = λ c. false;
+      count = key_count shape;
+      slot = λ c. c;
+      birth = opening_birth shape;
+      key = key_number shape;
+      is_keyed = is_keyed_at_opening shape;
       link = λ c. opening_link;
-      is_aimed = λ c. false;
-      next = λ c. None;
-      state = λ c. Unborn;
-      first = λ b. None;
-      last = λ s. None;
-      place = λ s. Shared;
+      is_aimed = is_keyed_at_opening shape;
+      next = key_behind shape;
+      state = opening_state shape;
+      first = first_key shape;
+      last = opening_last shape;
+      place = opening_place shape;
       stamp = λ s. 0;
       calls = [];
     }

@@ -16,6 +16,6 @@ abbrev pub keys_of : List ℕ → Keys
 keys_of listed key = list_any (nat_eq key) listed
 
 -- the list has just the keys of the set, ascending
-pub record Lists (listed : List ℕ) (keys : Keys) : Type 0 where
+pub record AreKeysOf (listed : List ℕ) (keys : Keys) : Type 0 where
   pub ascending : IsStrictlyIncreasing listed
   pub same : (key : ℕ) → keys_of listed key ≡ keys key

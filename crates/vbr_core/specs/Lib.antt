@@ -5,6 +5,7 @@ pub mod Links
 pub mod Knowledge
 pub mod Acceptance
 pub mod Learning
+pub mod Opened
 pub mod Membership
 pub mod Machine
 pub mod Loads

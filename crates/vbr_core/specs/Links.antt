@@ -6,10 +6,6 @@ use Rattle.vbr_words.specs.declared.link.Link.{Link}
 abbrev pub opening_link : Link
 opening_link = record { slot = None; mark = true; version = 0 }
 
--- the head of an empty bucket
-abbrev pub empty_head : Link
-empty_head = record { slot = None; mark = false; version = 0 }
-
 -- the unmarked link to a slot or to none; its version is the greater birth of its holder and of what it names
 abbrev pub link_to : Option ℕ → ℕ → ℕ → Link
 link_to slot holder_birth named_birth = record { slot = slot; mark = false; version = max holder_birth named_birth }

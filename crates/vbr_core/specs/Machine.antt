@@ -11,9 +11,9 @@ use Rattle.vbr_words.specs.declared.place.At.TheVariants.{Head, Slot}
 use Rattle.vbr_words.specs.declared.place.Place.{Place}
 use Rattle.vbr_words.specs.declared.place.Place.TheVariants as place
 use Rattle.vbr_core.specs.Put.{put}
-use Rattle.vbr_core.specs.Links.{opening_link, empty_head}
 use Rattle.vbr_core.specs.Knowledge.{Know}
 use Rattle.vbr_core.specs.Acceptance.{bucket_of}
+use Rattle.vbr_core.specs.Opened.{key_count, key_number, opening_birth, first_key, link_to_key, link_at_opening, opening_place}
 use Rattle.vbr_core.specs.Learning.{succeeds, link_written, key_written, learn, call_of}
 use Rattle.vbr_core.specs.declared.history.Call.{Call}
 use Rattle.vbr_core.specs.declared.event.Step.{Step}
@@ -39,18 +39,18 @@ abbrev pub knows_nothing : Know
 knows_nothing = record { epoch = 1; pending = []; checked = []; own = λ s. None }
 
 -- the world at opening
-abbrev pub opening : World
-opening =
+abbrev pub opening : Dimensions → World
+opening shape =
     record {
       epoch = 1;
-      head = λ b. empty_head;
-      link = λ s. opening_link;
-      birth = λ s. 0;
+      head = λ b. link_to_key shape 0 (first_key shape b);
+      link = link_at_opening shape;
+      birth = opening_birth shape;
       stamp = λ s. 0;
-      key = λ s. 0;
-      place = λ s. Shared;
+      key = key_number shape;
+      place = opening_place shape;
       know = λ p. knows_nothing;
-      births = 0;
+      births = key_count shape;
       calls = [];
     }
 

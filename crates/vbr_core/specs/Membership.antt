@@ -1,4 +1,4 @@
--- What a pass knows by membership: whatever is among its checked reads, and not only the first that a look-up finds.
+-- What a pass knows by membership: whatever is among its checked reads, and not only the first that a search finds.
 use Rattle.std.specs.Prelude.{◌≡◌, ◌≢◌, ℕ, ◌<◌, true, false, Option, Some, None}
 use Rattle.std.specs.List.{Contains}
 use Rattle.vbr_words.specs.Dimensions.{Dimensions}
@@ -133,7 +133,7 @@ IsInRangeKnown shape know (ConfirmAbsent op key at expected) =
     ((link_of expected).mark ≡ false) × (op ≢ Insert) × StandsBehind shape know at key × StandsBeforeOn know key (link_of expected)
 IsInRangeKnown shape know step = IsInRange shape know step
 
--- the core accepts the step of a pass that knows this: as acceptance by look-ups, but any known key, birth or marked link serves
+-- the core accepts the step of a pass that knows this: as acceptance by searches, but any known key, birth or marked link serves
 pub record AcceptsKnown (shape : Dimensions) (know : Know) (step : Step) : Type 0 where
   pub in_shape : IsInShape shape step
   pub owned : IsOwned know step

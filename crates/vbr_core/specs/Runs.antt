@@ -40,11 +40,11 @@ AreAccepted shape passes w (event ∷ events) = IsAccepted shape passes w event 
 
 -- a run is a list of events that are accepted from the opening on
 abbrev pub IsRun : Dimensions → ℕ → List Event → Type 0
-IsRun shape passes run = AreAccepted shape passes opening run
+IsRun shape passes run = AreAccepted shape passes (opening shape) run
 
 -- the world after a run
 abbrev pub world_after : Dimensions → List Event → World
-world_after shape run = world_from shape opening run
+world_after shape run = world_from shape (opening shape) run
 
 -- what a pass knows after a run
 abbrev pub know_after : Dimensions → List Event → ℕ → Know

@@ -3,13 +3,13 @@ use Rattle.std.specs.Prelude.{◌≡◌, ℕ, ◌-◌, ◌^◌, ◌≤◌, min, 
 use Rattle.vbr_words.specs.Dimensions.{Dimensions}
 use Rattle.vbr_words.specs.Words.{IsLink}
 use Rattle.vbr_words.specs.declared.place.At.{At}
-use Rattle.vbr_core.specs.Keys.{no_keys}
+use Rattle.vbr_core.specs.Opened.{opening_keys}
 use Rattle.vbr_core.specs.History.{IsLegal}
 use Rattle.vbr_core.specs.Knowledge.{Know, holds}
 use Rattle.vbr_core.specs.Learning.{effect_of}
 use Rattle.vbr_core.specs.Machine.{World, link_at, found}
 use Rattle.vbr_core.specs.Runs.{IsRun, world_after}
-use Rattle.vbr_core.specs.Incarnations.{State, Incarnations, nothing_yet}
+use Rattle.vbr_core.specs.Incarnations.{State, Incarnations, at_opening}
 use Rattle.vbr_core.specs.Incarnations as state
 use Rattle.vbr_core.specs.Images.{IsImage}
 use Rattle.vbr_core.specs.Chronicles.{IsLawful}
@@ -91,10 +91,10 @@ pub record KnowsRight (shape : Dimensions) (run : List Event) (pass : ℕ) : Typ
 
 -- a run is safe: its chronicle is lawful, and the words are its image; its calls are those of the chronicle, and legal; births are counted; the epoch is at most the last one, and each link fits into a word; what each pass knows is right; each slot is in exactly one place; each exchange of a link that an event wins is right; and no event bears in a slot whose last incarnation isn't over
 pub record IsSafe (shape : Dimensions) (run : List Event) : Type 0 where
-  pub lawful : IsLawful shape no_keys nothing_yet (chronicle shape run)
+  pub lawful : IsLawful shape (opening_keys shape) (at_opening shape) (chronicle shape run)
   pub image : IsImage (world_after shape run) (incarnations_after shape run)
   pub calls : (world_after shape run).calls ≡ (incarnations_after shape run).calls
-  pub legal : IsLegal no_keys (world_after shape run).calls
+  pub legal : IsLegal (opening_keys shape) (world_after shape run).calls
   pub births : (world_after shape run).births ≡ min (incarnations_after shape run).count (2 ^ 64 - 1)
   pub epoch : (world_after shape run).epoch ≤ shape.last_epoch
   pub links : (at : At) → IsLink (link_at (world_after shape run) at)

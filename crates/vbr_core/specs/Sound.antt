@@ -2,7 +2,7 @@
 use Rattle.std.specs.Prelude.{◌≡◌, ℕ, ◌<◌, ◌≤◌, true, Option, Some, None, ◌⊎◌}
 use Rattle.vbr_words.specs.Dimensions.{Dimensions}
 use Rattle.vbr_words.specs.declared.link.Link.{Link}
-use Rattle.vbr_core.specs.Keys.{no_keys}
+use Rattle.vbr_core.specs.Opened.{opening_keys}
 use Rattle.vbr_core.specs.History.{IsLegal, set_after}
 use Rattle.vbr_core.specs.Acceptance.{bucket_of}
 use Rattle.vbr_core.specs.Incarnations.{State, Unborn, InHand, GivenUp, Linked, Marked, Unlinked, Stamped, Incarnations, IsLate}
@@ -115,11 +115,11 @@ pub record Sound (shape : Dimensions) (a : Incarnations) : Type 0 where
 
 -- ---- the calls
 
--- the calls are legal from the empty set, and the set after them has just the keys of the linked incarnations
-pub record Tells (a : Incarnations) : Type 0 where
-  pub legal : IsLegal no_keys a.calls
-  pub there : (c : ℕ) → a.state c ≡ Linked → set_after no_keys a.calls (a.key c) ≡ true
-  pub only : (key : ℕ) → set_after no_keys a.calls key ≡ true → (c : ℕ) × (a.state c ≡ Linked) × (a.key c ≡ key)
+-- the calls are legal from the opening keys, and the set after them has just the keys of the linked incarnations
+pub record Tells (shape : Dimensions) (a : Incarnations) : Type 0 where
+  pub legal : IsLegal (opening_keys shape) a.calls
+  pub there : (c : ℕ) → a.state c ≡ Linked → set_after (opening_keys shape) a.calls (a.key c) ≡ true
+  pub only : (key : ℕ) → set_after (opening_keys shape) a.calls key ≡ true → (c : ℕ) × (a.state c ≡ Linked) × (a.key c ≡ key)
 
 -- ---- what stays
 

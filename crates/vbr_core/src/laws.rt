@@ -1,13 +1,15 @@
 //! The laws of chronicles and runs, in the order of the argument. Each function says its law in
 //! its contract, and does nothing.
 ghost use Rattle.std.specs.Prelude.{ℕ, ◌≡◌, ◌≢◌, ◌≤◌, ◌↔◌, true, false, List, ◌++◌, Option, Some};
+ghost use Rattle.std.specs.List.Sorted.{IsStrictlyIncreasing};
 ghost use Rattle.vbr_words.specs.Dimensions.{Dimensions, IsShape};
 ghost use Rattle.vbr_words.specs.Words.{link_of};
 ghost use Rattle.vbr_words.specs.declared.link.Link.{Link};
 ghost use Rattle.vbr_words.specs.declared.place.At.{At};
 ghost use Rattle.vbr_words.specs.declared.place.At.TheVariants.{Slot};
 ghost use Rattle.vbr_words.specs.declared.place.Place.{Place};
-ghost use Rattle.vbr_core.specs.Keys.{Keys, no_keys};
+ghost use Rattle.vbr_core.specs.Keys.{Keys};
+ghost use Rattle.vbr_core.specs.Opened.{opening_keys};
 ghost use Rattle.vbr_core.specs.History.{set_after};
 ghost use Rattle.vbr_core.specs.Knowledge.{Know};
 ghost use Rattle.vbr_core.specs.Acceptance.{Accepts, IsAtIn, IsBetween, bucket_of};
@@ -16,7 +18,7 @@ ghost use Rattle.vbr_core.specs.Machine.{World, after, found, word_at};
 ghost use Rattle.vbr_core.specs.Machine as machine;
 ghost use Rattle.vbr_core.specs.Membership.{Knows, HeldIn, LeadsTo, KeyAt, StandsBehind, StandsBefore, AcceptsKnown};
 ghost use Rattle.vbr_core.specs.Moments.{WasShown};
-ghost use Rattle.vbr_core.specs.Incarnations.{Incarnations, IsLate, nothing_yet};
+ghost use Rattle.vbr_core.specs.Incarnations.{Incarnations, IsLate, at_opening};
 ghost use Rattle.vbr_core.specs.Chronicles.{Entry, IsLawful, incarnations_from};
 ghost use Rattle.vbr_core.specs.Sound.{Grows, Sound, Tells};
 ghost use Rattle.vbr_core.specs.Images.{link_shown_at};
@@ -32,17 +34,17 @@ ghost use Rattle.vbr_core.specs.declared.history.Op.{Op};
 ghost use Rattle.vbr_core.specs.declared.history.Op.TheVariants.{Insert};
 ghost use Rattle.vbr_core.specs.declared.knowledge.Read.TheVariants.{LinkAt, KeyOf};
 
-/// A law: a lawful chronicle is sound.
+/// A law: a lawful chronicle is sound, where the opening keys ascend.
 pub fn lawful_is_sound()
-    ensures { (shape : Dimensions) (entries : List Entry) → IsLawful shape no_keys nothing_yet entries →
-        Sound shape (incarnations_from shape nothing_yet entries) }
+    ensures { (shape : Dimensions) (entries : List Entry) → IsStrictlyIncreasing shape.keys → IsLawful shape (opening_keys shape) (at_opening shape) entries →
+        Sound shape (incarnations_from shape (at_opening shape) entries) }
 {}
 
-/// A law: the calls of a lawful chronicle are legal from the empty set, and the set after them has
-/// just the keys of the linked incarnations.
+/// A law: the calls of a lawful chronicle are legal from the opening keys, where these ascend, and
+/// the set after them has just the keys of the linked incarnations.
 pub fn lawful_is_legal()
-    ensures { (shape : Dimensions) (entries : List Entry) → IsLawful shape no_keys nothing_yet entries →
-        Tells (incarnations_from shape nothing_yet entries) }
+    ensures { (shape : Dimensions) (entries : List Entry) → IsStrictlyIncreasing shape.keys → IsLawful shape (opening_keys shape) (at_opening shape) entries →
+        Tells shape (incarnations_from shape (at_opening shape) entries) }
 {}
 
 /// A law: as a lawful chronicle goes on, what was there stays.
@@ -129,7 +131,7 @@ pub fn others_leave_it_accepted()
 {}
 
 /// A law: after a run, acceptance may be told by any reads that a pass knows, and not only by those
-/// that a look-up finds first.
+/// that a search finds first.
 pub fn known_reads_agree()
     ensures { (shape : Dimensions) (passes : ℕ) (run : List Event) (pass : ℕ) (step : Step) → IsShape shape → IsRun shape passes run →
         AcceptsKnown shape (know_after shape run pass) step ↔ Accepts shape (know_after shape run pass) step }
@@ -147,7 +149,7 @@ pub fn held_in_bucket()
 pub fn present_at_load()
     ensures { (shape : Dimensions) (passes : ℕ) (moment run : List Event) (pass : ℕ) (at : At) (link : Link) (key : ℕ) → IsShape shape → IsRun shape passes run →
         WasShown shape moment run pass at link → KeyAt (know_after shape run pass) at key →
-        set_after no_keys (world_after shape moment).calls key ≡ true }
+        set_after (opening_keys shape) (world_after shape moment).calls key ≡ true }
 {}
 
 /// A law: in the same case, a key that stands behind the place, and before what the link names,
@@ -155,7 +157,7 @@ pub fn present_at_load()
 pub fn absent_at_load()
     ensures { (shape : Dimensions) (passes : ℕ) (moment run : List Event) (pass : ℕ) (at : At) (link : Link) (key : ℕ) → IsShape shape → IsRun shape passes run →
         WasShown shape moment run pass at link → StandsBehind shape (know_after shape run pass) at key → StandsBefore (know_after shape run pass) key link.slot →
-        set_after no_keys (world_after shape moment).calls key ≡ false }
+        set_after (opening_keys shape) (world_after shape moment).calls key ≡ false }
 {}
 
 /// A law: where a confirming load finds the word that it expects, the set at that moment has each
@@ -163,9 +165,9 @@ pub fn absent_at_load()
 pub fn confirmed_at_load()
     ensures { (shape : Dimensions) (passes : ℕ) (run : List Event) (pass : ℕ) (op : Op) (s key : ℕ) (at : At) (expected : ℕ) → IsShape shape → IsRun shape passes run →
         (Accepts shape (know_after shape run pass) (ConfirmPresent op s expected) → found shape (world_after shape run) (ConfirmPresent op s expected) ≡ expected →
-        Knows (know_after shape run pass) (KeyOf s key) → set_after no_keys (world_after shape run).calls key ≡ true)
+        Knows (know_after shape run pass) (KeyOf s key) → set_after (opening_keys shape) (world_after shape run).calls key ≡ true)
         × (Accepts shape (know_after shape run pass) (ConfirmAbsent op key at expected) → found shape (world_after shape run) (ConfirmAbsent op key at expected) ≡ expected →
-        set_after no_keys (world_after shape run).calls key ≡ false) }
+        set_after (opening_keys shape) (world_after shape run).calls key ≡ false) }
 {}
 
 /// A law: let an unmarked link that a pass knows stand at its place, and known marked links lead on
@@ -175,7 +177,7 @@ pub fn absent_behind_marked()
     ensures { (shape : Dimensions) (passes : ℕ) (run : List Event) (pass : ℕ) (at : At) (link last : Link) (key : ℕ) → IsShape shape → IsRun shape passes run →
         Knows (know_after shape run pass) (LinkAt at link) → link.mark ≡ false → machine.link_at (world_after shape run) at ≡ link → LeadsTo (know_after shape run pass) link last →
         StandsBehind shape (know_after shape run pass) at key → StandsBefore (know_after shape run pass) key last.slot →
-        set_after no_keys (world_after shape run).calls key ≡ false }
+        set_after (opening_keys shape) (world_after shape run).calls key ≡ false }
 {}
 
 /// A law: where a key stands between a place and the very node that its link names, if it names

@@ -1,7 +1,8 @@
 //! The core as a program: a world that makes steps one at a time, plain and exact.
-ghost use Rattle.std.specs.Prelude.{List, ◌≡◌, ◌<◌, ◌↔◌, length, ◌⊎◌, IfOk, IfErr, OnOk, OnErr, IsErrOf, Err};
+ghost use Rattle.std.specs.Prelude.{List, ◌≡◌, ◌<◌, ◌≤◌, ◌↔◌, length, ◌⊎◌, IfOk, IfErr, OnOk, OnErr, IsErrOf, Err};
+ghost use Rattle.std.specs.List.Sorted.{IsStrictlyIncreasing};
 ghost use Rattle.vbr_words.specs.Places.{IsIn};
-ghost use Rattle.vbr_core.specs.Keys.{no_keys};
+ghost use Rattle.vbr_core.specs.Opened.{opening_keys};
 ghost use Rattle.vbr_core.specs.History.{IsLegal};
 ghost use Rattle.vbr_core.specs.Learning as learning;
 ghost use Rattle.vbr_core.specs.Machine as machine;
@@ -17,6 +18,7 @@ mod lists;
 mod opening;
 mod passes;
 mod reads;
+mod shape;
 mod steps;
 mod writing;
 
@@ -78,14 +80,33 @@ impl World {
     /// and so many passes, from 1 to 64, know nothing. The refusals are tested in the order of
     /// [`WorldRefusal`].
     pub fn open(alloc: Global, shape: Shape, passes: u32) -> Result<World, WorldRefusal>
-        ensures opening { IfOk result (λ world. world_of world ≡ machine.opening) }
+        ensures opening { IfOk result (λ world. world_of world ≡ machine.opening shape) }
         ensures shape { IfOk result (λ world. (world.shape ≡ shape) × (length world.passes ≡ passes)) }
+        ensures passes { IsErrOf result WorldRefusal.Passes ↔ ((passes ≡ 0) ⊎ (64 < passes)) }
+    {
+        prove!(shape.slots() > 0);
+        World::open_with(alloc, shape, passes, &[])
+    }
+
+    /// The world that opens with these keys, ascending and at most as many as slots. Key number i,
+    /// from 0, stands in slot i, was born at epoch 1, and is linked in the list of its bucket; the
+    /// rest is as [`World::open`] has it, and so are the refusals.
+    pub fn open_with(
+        alloc: Global,
+        shape: Shape,
+        passes: u32,
+        keys: &[u64],
+    ) -> Result<World, WorldRefusal>
+        requires ascending { IsStrictlyIncreasing keys.now }
+        requires few { length keys.now ≤ shape.slots }
+        ensures opening { IfOk result (λ world. world_of world ≡ machine.opening (record shape { keys = keys.now })) }
+        ensures shape { IfOk result (λ world. (world.shape ≡ record shape { keys = keys.now }) × (length world.passes ≡ passes)) }
         ensures passes { IsErrOf result WorldRefusal.Passes ↔ ((passes ≡ 0) ⊎ (64 < passes)) }
     {
         if passes == 0 || passes > 64 {
             return Err(WorldRefusal::Passes);
         }
-        match Lists::empty(alloc, shape, passes) {
+        match Lists::opened(alloc, shape, passes, keys) {
             Ok(lists) => Ok(World { lists }),
             Err(_) => Err(WorldRefusal::NoMemory),
         }
@@ -113,10 +134,11 @@ impl World {
         let _ = self.lists.calls();
     }
 
-    /// The calls that were answered so far. They are a legal history of a set that opened empty.
+    /// The calls that were answered so far. They are a legal history of a set that opened with the
+    /// keys that the world opened with.
     pub fn calls(&self) -> &[Call]
         ensures calls { result.now ≡ (world_of self.now).calls }
-        ensures legal { IsLegal no_keys result.now }
+        ensures legal { IsLegal (opening_keys self.now.shape) result.now }
     {
         self.lists.calls()
     }

@@ -1,4 +1,4 @@
-//! The core's world: worked lists of events, refusals, and a fresh world.
+//! The core's world: worked lists of events, refusals, a fresh world, and one that opens with keys.
 ghost use Rattle.std.specs.Prelude.{◌≡◌, IfOk};
 
 use std::alloc::{AllocError, Global};
@@ -13,7 +13,8 @@ use vbr_words::{At, Place, Shape};
 
 // The word at a place of the world, which has this shape; none where the shape has no such place.
 fn word_at(world: &World, shape: Shape, place: Place) -> Option<u64>
-    requires { world.now.shape ≡ shape }
+    requires slots { world.now.shape.slots ≡ shape.slots }
+    requires buckets { world.now.shape.buckets ≡ shape.buckets }
 {
     let is_in = match place {
         Place::Epoch | Place::ShapeWord => true,
@@ -31,7 +32,8 @@ type Look = (usize, Place, u64);
 
 // Compares the words that are looked at behind so many rows, and tells how many these are.
 fn look(rt: &impl Abort, world: &World, shape: Shape, rows: usize, looks: &[Look]) -> usize
-    requires { world.now.shape ≡ shape }
+    requires slots { world.now.shape.slots ≡ shape.slots }
+    requires buckets { world.now.shape.buckets ≡ shape.buckets }
 {
     let mut looked = 0usize;
     for (at, place, word) in looks {
@@ -338,6 +340,39 @@ fn opens_fresh(rt: HostRuntime) -> Result<(), Fail> {
     ];
     let rows = [(0, Step::ReadEpoch, Effect::Value(1))];
     follow(&rt, rt.alloc(), Shape::new(1, 1, 10)?, &rows, &looks)?;
+    Ok(())
+}
+
+/// Key number i stands in slot i, linked in its bucket's list. The other slots are in the shared pool.
+#[test]
+fn opens_with_keys(rt: HostRuntime) -> Result<(), Fail> {
+    let shape = Shape::new(4, 2, 10)?;
+    let world = World::open_with(rt.alloc(), shape, 2, &[2, 5, 9])?;
+    let looks = [
+        (0, Place::Epoch, 1),
+        (0, Place::ShapeWord, 167_772_164),
+        (0, Place::Head(0), 33_554_433),
+        (0, Place::Head(1), 33_554_434),
+        (0, Place::LinkOf(0), 33_554_432),
+        (0, Place::Birth(0), 1),
+        (0, Place::Stamp(0), 0),
+        (0, Place::Key(0), 2),
+        (0, Place::LinkOf(1), 33_554_435),
+        (0, Place::Birth(1), 1),
+        (0, Place::Stamp(1), 0),
+        (0, Place::Key(1), 5),
+        (0, Place::LinkOf(2), 33_554_432),
+        (0, Place::Birth(2), 1),
+        (0, Place::Stamp(2), 0),
+        (0, Place::Key(2), 9),
+        (0, Place::LinkOf(3), 16_777_216),
+        (0, Place::Birth(3), 0),
+        (0, Place::Stamp(3), 0),
+        (0, Place::Key(3), 0),
+        (0, Place::Flags(0), 8),
+    ];
+    assert_eq!(rt; look(&rt, &world, shape, 0, &looks), 21);
+    assert_eq!(rt; world.incarnations(), 3);
     Ok(())
 }
 

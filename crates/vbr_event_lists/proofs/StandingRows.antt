@@ -11,7 +11,7 @@ use Rattle.vbr_core.specs.declared.event.Step.{Step}
 use Rattle.vbr_event_lists.specs.Worked.{AreWorked, names_link, others_of, many_epochs}
 use Rattle.vbr_event_lists.specs.declared.standing.TheConstants.{STANDING, STANDING_WORDS}
 
-pub standing : AreWorked many_epochs opening STANDING STANDING_WORDS
+pub standing : AreWorked many_epochs (opening many_epochs) STANDING STANDING_WORDS
 unfolding bucket_of link_of word_of has_flag first_bits flag_word
 standing = search (rules, tests)
 

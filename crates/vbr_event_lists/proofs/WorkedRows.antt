@@ -11,11 +11,11 @@ use Rattle.vbr_core.specs.declared.event.Step.{Step}
 use Rattle.vbr_event_lists.specs.Worked.{AreWorked, names_link, others_of, three_slots, one_slot}
 use Rattle.vbr_event_lists.specs.declared.lists.TheConstants.{REBORN_SLOT, SAME_WORD, TWO_HELPERS, REBORN_SLOT_WORDS, SAME_WORD_WORDS, TWO_HELPERS_WORDS}
 
-pub two_helpers : AreWorked one_slot opening TWO_HELPERS TWO_HELPERS_WORDS
+pub two_helpers : AreWorked one_slot (opening one_slot) TWO_HELPERS TWO_HELPERS_WORDS
 unfolding bucket_of link_of word_of has_flag first_bits flag_word
 two_helpers = search (rules, tests)
 
-pub reborn_slot : AreWorked three_slots opening REBORN_SLOT REBORN_SLOT_WORDS
+pub reborn_slot : AreWorked three_slots (opening three_slots) REBORN_SLOT REBORN_SLOT_WORDS
 unfolding bucket_of link_of word_of has_flag first_bits flag_word
 reborn_slot = search (rules, tests)
 
@@ -33,8 +33,8 @@ worked_in_two shape (suc n) (row ∷ rows) w words first later =
     (first.0, first.1, first.2, first.3, worked_in_two shape n rows (after shape w row.0 row.1) (if names_link row.1 then others_of words else words) first.4 later)
 
 -- in three parts, since the whole is too long for one search
-pub same_word : AreWorked three_slots opening SAME_WORD SAME_WORD_WORDS
+pub same_word : AreWorked three_slots (opening three_slots) SAME_WORD SAME_WORD_WORDS
 unfolding bucket_of link_of word_of has_flag first_bits flag_word
 same_word =
-    worked_in_two three_slots 18 SAME_WORD opening SAME_WORD_WORDS (search (rules, tests))
-    (worked_in_two three_slots 9 (drop 18 SAME_WORD) (left_after three_slots 18 SAME_WORD opening SAME_WORD_WORDS).0 (left_after three_slots 18 SAME_WORD opening SAME_WORD_WORDS).1 (search (rules, tests)) (search (rules, tests)))
+    worked_in_two three_slots 18 SAME_WORD (opening three_slots) SAME_WORD_WORDS (search (rules, tests))
+    (worked_in_two three_slots 9 (drop 18 SAME_WORD) (left_after three_slots 18 SAME_WORD (opening three_slots) SAME_WORD_WORDS).0 (left_after three_slots 18 SAME_WORD (opening three_slots) SAME_WORD_WORDS).1 (search (rules, tests)) (search (rules, tests)))

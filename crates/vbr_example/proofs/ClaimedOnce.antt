@@ -2,7 +2,8 @@
 use Rattle.std.proofs.Common.{◌≡◌, ℕ, ◌+◌, ◌≤◌, Bool, true, false, eqb, List, [], ◌∷◌, inl, inr, refl, ap, subst, ◌∙◌, arith}
 use Rattle.std.specs.Prelude.{◌≢◌, not, if◌then◌else◌, Result, Ok, Err, IfOk}
 use Rattle.std.proofs.lemmas.Bool.{cases_Bool, eqb-true, true≢false}
-use Rattle.vbr_core.specs.Keys.{Keys, no_keys}
+use Rattle.vbr_core.specs.Keys.{Keys}
+use Rattle.vbr_core.specs.Opened.{opening_keys}
 use Rattle.vbr_core.specs.History.{IsLegal, keys_after, reply_of}
 use Rattle.vbr_core.specs.declared.history.Call.{Call}
 use Rattle.vbr_core.specs.declared.history.Op.{Op}
@@ -16,6 +17,10 @@ use Rattle.vbr_example.specs.Claims.{claims_of, claims_in, RemoveNone, IsClaimed
 abbrev room : Bool → ℕ
 room true = 0
 room false = 1
+
+room_for_one : (b : Bool) → room b ≤ 1
+room_for_one true = omega arith
+room_for_one false = omega arith
 
 not_true : (b : Bool) → true ≡ not b → b ≡ false
 not_true false e = refl
@@ -46,7 +51,7 @@ at_most_once keys page (call ∷ calls) legal none =
 claimed_once : (m n : MemberView) (page : ℕ) (result : Bool) → Answers (record { who = m.pass.trace.who; op = Insert; key = page; reply = result }) m.pass.trace n.pass.trace → IsClaimedOnce m n page result
 claimed_once m n page result answers = record {
   own = answers.once;
-  once = λ none. at_most_once no_keys page _ answers.legal none;
+  once = λ none. let keys = opening_keys n.pass.trace.shape in let left = room_for_one (keys page) in let most = at_most_once keys page _ answers.legal none in omega (arith, left, most);
 }
 
 pub claimed : (m n : MemberView) (page : ℕ) (result : Result Bool Refusal) → IfOk result (λ reply. Answers (record { who = m.pass.trace.who; op = Insert; key = page; reply = reply }) m.pass.trace n.pass.trace) → IfOk result (IsClaimedOnce m n page)

@@ -7,6 +7,7 @@
 pub mod closing;
 pub mod handle;
 pub mod lends;
+pub mod numbers;
 pub mod opening;
 mod parts;
 

@@ -1,5 +1,5 @@
 //! Opening a set for handles.
-ghost use Rattle.std.specs.Prelude.{◌≡◌, true, false, length, map, Some, IfOk};
+ghost use Rattle.std.specs.Prelude.{◌≡◌, true, false, [], length, map, Some, IfOk};
 ghost use Rattle.vbr_handles.specs.Opening.{AreEmpty, Opens};
 
 use crate::handle::Handle;
@@ -27,7 +27,7 @@ pub fn open(
     buckets: u32,
     last_epoch: u64,
 ) -> Result<(), OpenRefusal>
-    ensures { Opens handles.old handles.new (record { slots = slots; buckets = buckets; last_epoch = last_epoch }) result }
+    ensures { Opens handles.old handles.new (record { slots = slots; buckets = buckets; last_epoch = last_epoch; keys = [] }) result }
 {
     if !are_empty(handles) {
         return Err(OpenRefusal::InUse);

@@ -9,7 +9,9 @@ use Rattle.vbr_pools.specs.KeptSlots.{TakesNoSlot}
 use Rattle.vbr_pools.specs.Steps.{CountsSteps, TookWithin}
 use Rattle.vbr_pools.proofs.Lemmas.{counts_none, counts_on, took_all}
 use Rattle.vbr_access.specs.Keeping.{KeepsOwn}
+use Rattle.vbr_list.specs.Calls.{IsSameCall}
 use Rattle.vbr_list.specs.Traversal.{Goes}
+use Rattle.vbr_list.specs.declared.call.Call.{Call}
 use Rattle.vbr_list.proofs.KeptHands.{hand_refl, hand_on, own_kept}
 use Rattle.vbr_list.proofs.Traversals.{Tries}
 
@@ -45,3 +47,14 @@ within_of used budget le counts = record { steps = used; within = le; took = too
 pub bucket_is : (a b : Dimensions) (bucket key : ℕ) → a ≡ b → bucket ≡ key % b.buckets → bucket ≡ bucket_of a key
 unfolding bucket_of
 bucket_is a b bucket key e f = f ∙ ap (λ (shape : Dimensions). key % shape.buckets) (sym e)
+
+-- a call stays the same one from piece to piece
+pub call_on : {b c d : Call} → IsSameCall b c → IsSameCall c d → IsSameCall b d
+call_on x y = record { pass = y.pass ∙ x.pass; slots = y.slots ∙ x.slots; key = y.key ∙ x.key; bucket = y.bucket ∙ x.bucket; budget = y.budget ∙ x.budget }
+
+pub call_refl : (c : Call) → IsSameCall c c
+call_refl c = record { pass = refl; slots = refl; key = refl; bucket = refl; budget = refl }
+
+-- the steps of a call are within the budget that it began with
+pub within_call : {c d : Call} → IsSameCall c d → d.used ≤ c.budget
+within_call {c} {d} x = let u = d.within in let e = x.budget in omega (arith, u, e)

@@ -4,7 +4,8 @@ use Rattle.std.specs.Prelude.{IfOk}
 use Rattle.vbr_words.specs.Dimensions.{Dimensions, IsShape}
 use Rattle.vbr_core.specs.Calls.{calls_added}
 use Rattle.vbr_core.specs.History.{IsLegal, calls_by, keys_after, reply_of, set_after}
-use Rattle.vbr_core.specs.Keys.{Keys, no_keys}
+use Rattle.vbr_core.specs.Keys.{Keys}
+use Rattle.vbr_core.specs.Opened.{opening_keys}
 use Rattle.vbr_core.specs.Machine.{World, opening, after}
 use Rattle.vbr_core.specs.Runs.{AreAccepted, IsRun, world_from}
 use Rattle.vbr_core.specs.declared.event.Event.{Event}
@@ -33,17 +34,18 @@ lone_from shape passes who w (x ∷ xs) one low ok same =
     ∙ sym (calls_after shape w x.pass x.step))
 
 -- so the calls of a lone pass are legal
-lone_legal : (p : Trace) → IsShape p.shape → p.who < p.passes → IsRun p.shape p.passes p.seen → p.passes ≡ 1 → IsLegal no_keys (made_by p)
+lone_legal : (p : Trace) → IsShape p.shape → p.who < p.passes → IsRun p.shape p.passes p.seen → p.passes ≡ 1 → IsLegal (opening_keys p.shape) (made_by p)
 lone_legal p shape low run one =
-    let all = lone_from p.shape p.passes p.who opening p.seen one low run refl in
-    subst (IsLegal no_keys) (sym all) (every_run p.shape p.passes p.seen shape run).legal
+    let all = lone_from p.shape p.passes p.who (opening p.shape) p.seen one low run refl in
+    subst (IsLegal (opening_keys p.shape)) (sym all) (every_run p.shape p.passes p.seen shape run).legal
 
 pub alone : {p q : Trace} {op : Op} {key : ℕ} {reply : Bool} → IsShape p.shape → p.who < p.passes → Made (record { who = p.who; op = op; key = key; reply = reply }) p q → AnswersAlone p op key reply
 alone {p} {q} {op} {key} {reply} shape low made one =
     let call : Call = record { who = p.who; op = op; key = key; reply = reply } in
     let low_now : q.who < q.passes = rw (made.same.who, made.same.passes) low in
     let legal = lone_legal q (let P : Dimensions → Type 0 = IsShape in subst P (sym made.same.shape) shape) low_now made.is_run (made.same.passes ∙ one) in
-    legal_last no_keys (made_by p) call (subst (IsLegal no_keys) made.calls legal)
+    let there = subst (λ (d : Dimensions). IsLegal (opening_keys d) (made_by q)) made.same.shape legal in
+    legal_last (opening_keys p.shape) (made_by p) call (subst (IsLegal (opening_keys p.shape)) made.calls there)
 
 -- an answer, if there is one
 pub each_alone : {E : Type 0} (p q : Trace) (op : Op) (key : ℕ) (answer : Result Bool E) → IsShape p.shape → p.who < p.passes → IfOk answer (λ reply. Made (record { who = p.who; op = op; key = key; reply = reply }) p q) → IfOk answer (λ reply. AnswersAlone p op key reply)

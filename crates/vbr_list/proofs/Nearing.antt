@@ -24,7 +24,8 @@ use Rattle.vbr_access.specs.declared.held.Marked.{Marked}
 use Rattle.vbr_access.specs.declared.rollback.Rollback.{Rollback}
 use Rattle.vbr_access.proofs.Lemmas.{fresh_kept}
 use Rattle.vbr_list.specs.Budgets.{listed_for}
-use Rattle.vbr_list.specs.Nearing.{StillAt, HelpsAlone, IsThere, Nears, FoundAlone, Passes, SeenAlone, ahead_for}
+use Rattle.vbr_list.specs.Nearing.{StillAt, HelpsAlone, IsThere, FoundAlone, SeenAlone, ahead_for}
+use Rattle.vbr_list.proofs.PaidPlaces.{Nears, Passes}
 use Rattle.vbr_list.specs.Places.{IsInside}
 use Rattle.vbr_list.proofs.Reaching.{slot_same}
 use Rattle.vbr_list.specs.declared.found.Found.{Found}

@@ -16,7 +16,7 @@ use Rattle.vbr_access.specs.Keeping.{Keeps}
 use Rattle.vbr_access.specs.declared.held.Held.{Held}
 use Rattle.vbr_access.specs.declared.held.Marked.{Marked}
 use Rattle.vbr_access.proofs.Lemmas.{held_in_kept, held_in_next, held_kept}
-use Rattle.vbr_list.specs.Nearing.{Passes}
+use Rattle.vbr_list.proofs.PaidPlaces.{Passes}
 use Rattle.vbr_list.specs.Places.{IsPred, IsCur, IsEnd, IsSight}
 use Rattle.vbr_list.specs.Traversal.{Goes, Observes}
 use Rattle.vbr_list.specs.declared.looking.Sight.TheVariants.{Present, Absent}

@@ -100,3 +100,9 @@ each_same p q op key (Err error) made quiet = quiet.same
 pub each_seen : {E : Type 0} (p q : Trace) (op : Op) (key : ℕ) (answer : Result Bool E) → IfOk answer (λ reply. Made (record { who = p.who; op = op; key = key; reply = reply }) p q) → IfErr answer (λ _. Quiet p q) → Begins p.seen q.seen × (IsRun p.shape p.passes p.seen → IsRun q.shape q.passes q.seen)
 each_seen p q op key (Ok reply) made quiet = (made.seen, λ _. made.is_run)
 each_seen p q op key (Err error) made quiet = (quiet.seen, quiet.is_run)
+
+-- a call that was prepared is refused for want of steps
+pub refused_second : (p q r : PassView) {b budget : ℕ} (key : ℕ) → CountsWithin p.trace q.trace 0 b budget → (refusal : Refusal) → InsertIsShort q r b budget refusal → IsRefused p r key budget refusal
+refused_second p q r key x (OutOfSteps used) y = record { took = took_all (counts_on x.counts y.counts.counts); within = y.counts.within.1; short = y.short }
+refused_second p q r key x NoSlot y = absurd y
+refused_second p q r key x (EpochSpent epoch) y = absurd y

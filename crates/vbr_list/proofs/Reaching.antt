@@ -22,7 +22,7 @@ use Rattle.vbr_access.specs.declared.held.Held.{Held}
 use Rattle.vbr_access.specs.declared.held.Marked.{Marked}
 use Rattle.vbr_access.proofs.Lemmas.{behind_kept, held_in_kept, held_in_next, held_kept, link_in, stood_after, stood_before}
 use Rattle.vbr_list.specs.Places.{IsInside, IsPred, IsCur}
-use Rattle.vbr_list.specs.Nearing.{Nears}
+use Rattle.vbr_list.proofs.PaidPlaces.{Nears}
 use Rattle.vbr_list.specs.Traversal.{Goes, HasComeTo}
 use Rattle.vbr_list.proofs.Going.{tries_on}
 use Rattle.vbr_list.proofs.Traversals.{Traverses}

@@ -9,7 +9,7 @@ use Rattle.vbr_list.specs.Places.{IsInside, IsPred}
 use Rattle.vbr_slots.specs.Alone.{IsAlone}
 use Rattle.vbr_slots.specs.Views.{PassView, knows}
 use Rattle.vbr_list.specs.Traversal.{Goes, HasComeTo, Observes}
-use Rattle.vbr_list.specs.Nearing.{Nears, Passes}
+use Rattle.vbr_list.proofs.PaidPlaces.{Nears, Passes}
 
 -- known marked links lead from a place before the key to another place of the list, or to itself
 pub record IsLook (shape : Dimensions) (know : Know) (key : ℕ) (pred here : Held) : Type 0 where

@@ -1,6 +1,6 @@
 -- The replies of a pass that is its table's only one.
 use Rattle.std.specs.Prelude.{◌≡◌, ℕ, Bool}
-use Rattle.vbr_core.specs.Keys.{no_keys}
+use Rattle.vbr_core.specs.Opened.{opening_keys}
 use Rattle.vbr_core.specs.History.{reply_of, set_after}
 use Rattle.vbr_core.specs.declared.history.Op.{Op}
 use Rattle.vbr_slots.specs.Calls.{made_by}
@@ -8,4 +8,4 @@ use Rattle.vbr_slots.specs.Views.{Trace}
 
 -- on a table with one pass the reply is that of a plain set which was given the calls of the pass before, and no others
 abbrev pub AnswersAlone : Trace → Op → ℕ → Bool → Type 0
-AnswersAlone p op key reply = p.passes ≡ 1 → reply ≡ reply_of (set_after no_keys (made_by p)) op key
+AnswersAlone p op key reply = p.passes ≡ 1 → reply ≡ reply_of (set_after (opening_keys p.shape) (made_by p)) op key

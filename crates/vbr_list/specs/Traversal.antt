@@ -9,8 +9,8 @@ use Rattle.vbr_access.specs.Held.{IsMarked, Names}
 use Rattle.vbr_access.specs.Moments.{Stood}
 use Rattle.vbr_access.specs.declared.held.Held.{Held}
 use Rattle.vbr_list.specs.Places.{IsPred, IsCur}
-use Rattle.vbr_list.specs.declared.traversal.Met.{Met}
-use Rattle.vbr_list.specs.declared.traversal.Met.TheVariants.{Smaller, Beyond, Marked}
+use Rattle.vbr_list.specs.declared.traversal.Visited.{Visited}
+use Rattle.vbr_list.specs.declared.traversal.Visited.TheVariants.{Smaller, Beyond, Marked}
 
 -- the slot in hand stays, with what is known of it, and so does a free place in the own pool; and it is what a call leaves that takes no slot
 pub record KeepsHand (p q : PassView) : Type 0 where
@@ -36,7 +36,7 @@ pub record Observes (p q : Trace) : Type 0 where
   pub adds_none : AddsNone p q
 
 -- what a visit met behind a place
-abbrev pub Visits : Trace → Trace → ℕ → Held → Met → Type 0
+abbrev pub Visits : Trace → Trace → ℕ → Held → Visited → Type 0
 Visits p q key pred (Smaller node) = HasComeTo p q key node
 Visits p q key pred (Beyond node present) = IsCur (knows q) key pred node present × Stood p q node
 Visits p q key pred (Marked marked) = IsMarked (knows q) marked × Names pred marked.slot

@@ -1,50 +1,43 @@
 //! Finding where a key stands.
 ghost use Rattle.std.specs.Prelude.{◌≡◌, ◌+◌, ◌*◌, ◌<◌, ◌≤◌, None, IfOk, IfErr, IfSome, IfNone};
-ghost use Rattle.vbr_core.specs.Acceptance.{bucket_of};
 ghost use Rattle.vbr_slots.specs.Alone.{IsAlone};
 ghost use Rattle.vbr_slots.specs.Calls.{Quiet, Took};
 ghost use Rattle.vbr_slots.specs.Views.{IsOf};
 ghost use Rattle.vbr_pools.specs.KeptSlots.{TakesNoSlot};
 ghost use Rattle.vbr_access.specs.Moments.{WasSo};
 ghost use Rattle.vbr_access.specs.Soundness.{HasSafeRun};
+ghost use Rattle.vbr_list.specs.Calls.{IsSameCall};
 ghost use Rattle.vbr_list.specs.Found.{IsFound};
 ghost use Rattle.vbr_list.specs.Budgets.{listed_for};
 ghost use Rattle.vbr_list.specs.Nearing.{FoundAlone};
 ghost use Rattle.vbr_list.specs.Refusals.{IsTired};
 ghost use Rattle.vbr_list.specs.Traversal.{Goes};
 
+use crate::call::Call;
 use crate::found::Found;
 use crate::refusal::Refusal;
-use crate::traversal::{Stop, traverse};
+use crate::traversal::Stop;
 use vbr_slots::{Pass, Slots};
 
-/// Traverses until it comes to the key; none where the budget has no room for one more piece.
-#[inline(always)]
-pub(crate) fn search(
-    slots: &Slots,
-    pass: &mut Pass,
-    key: u64,
-    bucket: u32,
-    budget: u32,
-    used: &mut u32,
-) -> Option<Found>
-    requires own { IsOf pass.old.trace slots.now }
-    requires bucket { bucket ≡ bucket_of pass.old.trace.shape key }
-    requires in_shape { bucket < slots.now.shape.buckets }
-    requires within { used.old ≤ budget }
-    ensures goes { Goes pass.old pass.new used.old used.new }
-    ensures within { (used.old ≤ used.new) × (used.new ≤ budget) }
-    ensures found { IfSome result (λ found. IsFound pass.old.trace pass.new.trace key found) }
-    ensures used { IfSome result (λ found. found.used ≡ used.new) }
-    ensures tired { IfNone result (budget < used.new + 8) }
-    ensures short { IfNone result (IsAlone pass.old.trace pass.new.trace → budget < used.old + 9 * listed_for pass.old.trace key + 11) }
-    ensures alone { IfSome result (λ found. IsAlone pass.old.trace pass.new.trace → FoundAlone pass.old.trace pass.new.trace key used.old used.new found) }
-{
-    loop {
-        match traverse(slots, pass, key, bucket, budget, used) {
-            Ok(found) => return Some(found),
-            Err(Stop::Again) => {}
-            Err(Stop::Tired) => return None,
+impl Call<'_> {
+    /// Traverses until it comes to the key; none where the budget has no room for one more piece.
+    #[inline(always)]
+    pub(crate) fn search(&mut self) -> Option<Found>
+        ensures call { IsSameCall self.old self.new }
+        ensures goes { Goes self.old.pass.now self.new.pass.now self.old.used self.new.used }
+        ensures more { self.old.used ≤ self.new.used }
+        ensures found { IfSome result (λ found. IsFound self.old.pass.now.trace self.new.pass.now.trace self.old.key found) }
+        ensures used { IfSome result (λ found. found.used ≡ self.new.used) }
+        ensures tired { IfNone result (self.old.budget < self.new.used + 8) }
+        ensures short { IfNone result (IsAlone self.old.pass.now.trace self.new.pass.now.trace → self.old.budget < self.old.used + 9 * listed_for self.old.pass.now.trace self.old.key + 11) }
+        ensures alone { IfSome result (λ found. IsAlone self.old.pass.now.trace self.new.pass.now.trace → FoundAlone self.old.pass.now.trace self.new.pass.now.trace self.old.key self.old.used self.new.used found) }
+    {
+        loop {
+            match self.traverse() {
+                Ok(found) => return Some(found),
+                Err(Stop::Again) => {}
+                Err(Stop::Tired) => return None,
+            }
         }
     }
 }
@@ -72,10 +65,16 @@ pub fn find(slots: &Slots, pass: &mut Pass, key: u64, budget: u32) -> Result<Fou
     ensures within { IfErr result (λ refusal. IsAlone pass.old.trace pass.new.trace → budget < 9 * listed_for pass.old.trace key + 11) }
 {
     pass.law();
-    let bucket = slots.shape().bucket_of(key);
-    let mut used = 0;
-    match search(slots, pass, key, bucket, budget, &mut used) {
+    let mut call = Call {
+        slots,
+        pass,
+        key,
+        bucket: slots.shape().bucket_of(key),
+        budget,
+        used: 0,
+    };
+    match call.search() {
         Some(found) => Ok(found),
-        None => Err(Refusal::OutOfSteps { used }),
+        None => Err(Refusal::OutOfSteps { used: call.used }),
     }
 }

@@ -1,9 +1,8 @@
 //! Inserts.
-ghost use Rattle.std.specs.Prelude.{◌≡◌, ◌≢◌, ℕ, ◌+◌, ◌*◌, ◌<◌, ◌≤◌, ◌^◌, true, false, [], length, None, IfOk, IfErr};
-ghost use Rattle.vbr_core.specs.Acceptance.{bucket_of};
+ghost use Rattle.std.specs.Prelude.{◌≡◌, ◌≢◌, ℕ, ◌+◌, ◌*◌, ◌<◌, ◌≤◌, true, false, [], length, None, IfOk, IfErr};
 ghost use Rattle.vbr_core.specs.declared.history.Op.TheVariants.{Insert};
 ghost use Rattle.vbr_pools.specs.Advances.{AdvancesWhereNeeded};
-ghost use Rattle.vbr_pools.specs.KeptSlots.{KeepsSlots, TakesNoSlot, SharesWhereFull};
+ghost use Rattle.vbr_pools.specs.KeptSlots.{HasStill, HasUnpublished, KeepsSlots, TakesNoSlot, SharesWhereFull};
 ghost use Rattle.vbr_pools.specs.Budgets.{most_to_take, steps_to_take};
 ghost use Rattle.vbr_pools.specs.Steps.{CountsSteps, TookWithin};
 ghost use Rattle.vbr_slots.specs.Alone.{IsAlone};
@@ -12,13 +11,14 @@ ghost use Rattle.vbr_slots.specs.Views.{IsOf, knows};
 ghost use Rattle.vbr_access.specs.Alone.{NextStands, StandsNow};
 ghost use Rattle.vbr_access.specs.Keeping.{KeepsOwn};
 ghost use Rattle.vbr_access.specs.Soundness.{HasSafeRun};
+ghost use Rattle.vbr_list.specs.Calls.{IsSameCall};
 ghost use Rattle.vbr_list.specs.Alone.{AnswersAlone};
 ghost use Rattle.vbr_list.specs.Budgets.{IsAnsweredOrSpent, LacksSteps, listed_for};
 ghost use Rattle.vbr_list.specs.Inserting.{CountsWithin, IsPrepared, HasHandAndRoom, InsertIsShort, RefusesInsert, TakesNone};
 ghost use Rattle.vbr_list.specs.Places.{Locates};
 ghost use Rattle.vbr_list.specs.Refusals.{IsRefused};
 
-use crate::finding::search;
+use crate::call::Call;
 use crate::found::Found;
 use crate::refusal::Refusal;
 use vbr_access::{Rollback, confirm_present, update};
@@ -27,178 +27,160 @@ use vbr_pools::budget::affords;
 use vbr_pools::{Hand, TakeRefusal, give_back, take_counted};
 use vbr_slots::{Pass, Slots};
 
-// Answers an insert with no, in one step, if the link of the node that was found is as it was read.
-#[inline]
-fn deny(slots: &Slots, pass: &mut Pass, key: u64, found: &Found) -> Result<(), Rollback>
-    requires own { IsOf pass.old.trace slots.now }
-    requires locates { Locates pass.old.trace.shape (knows pass.old.trace) key found.now }
-    requires present { found.now.present ≡ true }
-    ensures took { Took pass.old.trace pass.new.trace 1 }
-    ensures own { KeepsOwn pass.old pass.new }
-    ensures takes_no_slot { TakesNoSlot pass.old pass.new }
-    ensures made { IfOk result (λ _. Made (record { who = pass.old.trace.who; op = Insert; key = key; reply = false }) pass.old.trace pass.new.trace) }
-    ensures quiet { IfErr result (λ r. Quiet pass.old.trace pass.new.trace) }
-    ensures wins { IfErr result (λ r. NextStands pass.old.trace found.now.cur → IsAlone pass.old.trace pass.new.trace → ⊥) }
-{
-    let _key = key;
-    let Some(cur) = &found.cur else {
-        unreachable!()
-    };
-    confirm_present(slots, pass, Op::Insert, cur)
-}
-
-// Takes a slot with what is left of the budget.
-fn provide(slots: &Slots, pass: &mut Pass, budget: u32, used: &mut u32) -> Result<Hand, Refusal>
-    requires own { IsOf pass.old.trace slots.now }
-    requires empty_hand { pass.old.hand ≡ None }
-    requires within { used.old ≤ budget }
-    ensures quiet { Quiet pass.old.trace pass.new.trace }
-    ensures hand { IfOk result (λ hand. HasHandAndRoom pass.new hand) }
-    ensures counts { IfOk result (λ hand. CountsWithin pass.old.trace pass.new.trace used.old used.new budget) }
-    ensures empty_hand { IfErr result (λ refusal. pass.new.hand ≡ None) }
-    ensures steps { IfErr result (λ refusal. (since : ℕ) × CountsWithin pass.old.trace pass.new.trace used.old since budget) }
-    ensures refused { IfErr result (λ refusal. TakesNone pass.old pass.new used.old budget refusal) }
-    ensures advances { AdvancesWhereNeeded pass.old pass.new }
-    ensures kept { KeepsSlots pass.old pass.new }
-    ensures one { length pass.old.pool ≤ length pass.new.pool + 1 }
-    ensures shared { SharesWhereFull 2 pass.old pass.new }
-    ensures few { IfOk result (λ hand. IsAlone pass.old.trace pass.new.trace → used.new ≤ used.old + steps_to_take pass.old.trace.shape pass.old.pool) }
-    ensures enough { IfErr result (λ refusal. IsAlone pass.old.trace pass.new.trace → LacksSteps (used.old + steps_to_take pass.old.trace.shape pass.old.pool + 7) budget refusal) }
-{
-    match take_counted(slots, pass, budget - *used) {
-        Ok((hand, more)) => {
-            *used += more;
-            Ok(hand)
-        }
-        Err(TakeRefusal::OutOfSteps { used: more }) => Err(Refusal::OutOfSteps {
-            used: *used + more,
-        }),
-        Err(TakeRefusal::NoSlot) => Err(Refusal::NoSlot),
-        Err(TakeRefusal::EpochSpent { epoch }) => Err(Refusal::EpochSpent { epoch }),
-    }
-}
-
-// Looks for the key without a hand: a hand, once the key was found absent; or none, and the answer is
-// no.
-fn prepare(
-    slots: &Slots,
-    pass: &mut Pass,
-    key: u64,
-    bucket: u32,
-    budget: u32,
-    used: &mut u32,
-) -> Result<Option<Hand>, Refusal>
-    requires own { IsOf pass.old.trace slots.now }
-    requires empty_hand { pass.old.hand ≡ None }
-    requires bucket { bucket ≡ bucket_of pass.old.trace.shape key }
-    requires in_shape { bucket < slots.now.shape.buckets }
-    requires within { used.old ≤ budget }
-    ensures prepared { IfOk result (λ hand. IsPrepared pass.old pass.new key hand) }
-    ensures counts { IfOk result (λ hand. CountsWithin pass.old.trace pass.new.trace used.old used.new budget) }
-    ensures quiet { IfErr result (λ refusal. Quiet pass.old.trace pass.new.trace) }
-    ensures empty_hand { IfErr result (λ refusal. pass.new.hand ≡ None) }
-    ensures steps { IfErr result (λ refusal. (since : ℕ) × CountsWithin pass.old.trace pass.new.trace used.old since budget) }
-    ensures refused { IfErr result (λ refusal. RefusesInsert pass.old pass.new key used.old budget refusal) }
-    ensures advances { AdvancesWhereNeeded pass.old pass.new }
-    ensures kept { KeepsSlots pass.old pass.new }
-    ensures shared { SharesWhereFull 2 pass.old pass.new }
-    ensures few { IfOk result (λ hand. IsAlone pass.old.trace pass.new.trace → used.new ≤ used.old + 9 * listed_for pass.old.trace key + most_to_take pass.old.trace.shape pass.old.pool + 3) }
-    ensures enough { IfErr result (λ refusal. IsAlone pass.old.trace pass.new.trace → LacksSteps (used.old + 9 * listed_for pass.old.trace key + most_to_take pass.old.trace.shape pass.old.pool + 10) budget refusal) }
-{
-    pass.law();
-    loop {
-        let Some(found) = search(slots, pass, key, bucket, budget, used) else {
-            return Err(Refusal::OutOfSteps { used: *used });
+impl Call<'_> {
+    // Answers an insert with no, in one step, if the link of the node that was found is as it was read.
+    #[inline]
+    fn deny(&mut self, found: &Found) -> Result<(), Rollback>
+        requires locates { Locates self.old.pass.now.trace.shape (knows self.old.pass.now.trace) self.old.key found.now }
+        requires present { found.now.present ≡ true }
+        requires room { self.old.used + 8 ≤ self.old.budget }
+        ensures call { IsSameCall self.old self.new }
+        ensures took { Took self.old.pass.now.trace self.new.pass.now.trace 1 }
+        ensures used { self.new.used ≡ self.old.used + 1 }
+        ensures own { KeepsOwn self.old.pass.now self.new.pass.now }
+        ensures takes_no_slot { TakesNoSlot self.old.pass.now self.new.pass.now }
+        ensures made { IfOk result (λ _. Made (record { who = self.old.pass.now.trace.who; op = Insert; key = self.old.key; reply = false }) self.old.pass.now.trace self.new.pass.now.trace) }
+        ensures quiet { IfErr result (λ r. Quiet self.old.pass.now.trace self.new.pass.now.trace) }
+        ensures wins { IfErr result (λ r. NextStands self.old.pass.now.trace found.now.cur → IsAlone self.old.pass.now.trace self.new.pass.now.trace → ⊥) }
+    {
+        let Some(cur) = &found.cur else {
+            unreachable!()
         };
-        if !found.present {
-            let hand = provide(slots, pass, budget, used)?;
-            return Ok(Some(hand));
-        }
-        if !affords(budget, *used) {
-            return Err(Refusal::OutOfSteps { used: *used });
-        }
-        let denied = deny(slots, pass, key, &found);
-        *used += 1;
-        if denied.is_ok() {
-            return Ok(None);
-        }
+        self.used += 1;
+        confirm_present(self.slots, self.pass, Op::Insert, cur)
     }
-}
 
-// Answers an insert by what was found, with a slot in hand; else the hand comes back.
-#[inline]
-fn settle(
-    slots: &Slots,
-    pass: &mut Pass,
-    key: u64,
-    found: &Found,
-    hand: Hand,
-    used: &mut u32,
-) -> Result<bool, Hand>
-    requires own { IsOf pass.old.trace slots.now }
-    requires locates { Locates pass.old.trace.shape (knows pass.old.trace) key found.now }
-    requires hand { HasHandAndRoom pass.old hand }
-    requires room { used.old + 8 < 2 ^ 32 }
-    ensures counts { CountsSteps pass.old.trace pass.new.trace used.old used.new }
-    ensures used { (used.old < used.new) × (used.new ≤ used.old + 8) }
-    ensures made { IfOk result (λ reply. Made (record { who = pass.old.trace.who; op = Insert; key = key; reply = reply }) pass.old.trace pass.new.trace) }
-    ensures spent { IfOk result (λ reply. pass.new.hand ≡ None) }
-    ensures quiet { IfErr result (λ back. Quiet pass.old.trace pass.new.trace) }
-    ensures hand { IfErr result (λ back. HasHandAndRoom pass.new back) }
-    ensures takes_no_slot { TakesNoSlot pass.old pass.new }
-    ensures wins { IfErr result (λ back. StandsNow pass.old.trace found.now.pred → NextStands pass.old.trace found.now.cur → IsAlone pass.old.trace pass.new.trace → ⊥) }
-{
-    if found.present {
-        let denied = deny(slots, pass, key, found);
-        *used += 1;
-        if denied.is_err() {
-            return Err(hand);
+    // Takes a slot with what is left of the budget.
+    fn provide(&mut self) -> Result<Hand, Refusal>
+        requires empty_hand { self.old.pass.now.hand ≡ None }
+        ensures call { IsSameCall self.old self.new }
+        ensures quiet { Quiet self.old.pass.now.trace self.new.pass.now.trace }
+        ensures hand { IfOk result (λ hand. HasHandAndRoom self.new.pass.now hand) }
+        ensures counts { IfOk result (λ hand. CountsWithin self.old.pass.now.trace self.new.pass.now.trace self.old.used self.new.used self.old.budget) }
+        ensures empty_hand { IfErr result (λ refusal. self.new.pass.now.hand ≡ None) }
+        ensures steps { IfErr result (λ refusal. (since : ℕ) × CountsWithin self.old.pass.now.trace self.new.pass.now.trace self.old.used since self.old.budget) }
+        ensures refused { IfErr result (λ refusal. TakesNone self.old.pass.now self.new.pass.now self.old.used self.old.budget refusal) }
+        ensures advances { AdvancesWhereNeeded self.old.pass.now self.new.pass.now }
+        ensures kept { KeepsSlots self.old.pass.now self.new.pass.now }
+        ensures had { HasStill self.old.pass.now self.new.pass.now }
+        ensures one { length self.old.pass.now.pool ≤ length self.new.pass.now.pool + 1 }
+        ensures shared { SharesWhereFull 2 self.old.pass.now self.new.pass.now }
+        ensures few { IfOk result (λ hand. IsAlone self.old.pass.now.trace self.new.pass.now.trace → self.new.used ≤ self.old.used + steps_to_take self.old.pass.now.trace.shape self.old.pass.now.pool) }
+        ensures enough { IfErr result (λ refusal. IsAlone self.old.pass.now.trace self.new.pass.now.trace → LacksSteps (self.old.used + steps_to_take self.old.pass.now.trace.shape self.old.pass.now.pool + 7) self.old.budget refusal) }
+    {
+        match take_counted(self.slots, self.pass, self.budget - self.used) {
+            Ok((hand, more)) => {
+                self.used += more;
+                Ok(hand)
+            }
+            Err(TakeRefusal::OutOfSteps { used: more }) => Err(Refusal::OutOfSteps {
+                used: self.used + more,
+            }),
+            Err(TakeRefusal::NoSlot) => Err(Refusal::NoSlot),
+            Err(TakeRefusal::EpochSpent { epoch }) => Err(Refusal::EpochSpent { epoch }),
         }
-        give_back(pass, hand);
-        return Ok(false);
     }
-    *used += 3;
-    match update(slots, pass, &found.pred, found.cur.as_ref(), key, hand) {
-        Ok(()) => Ok(true),
-        Err((hand, _)) => Err(hand),
-    }
-}
 
-// Links the slot in hand, or answers no where the key has come meanwhile. The hand is spent.
-fn link(
-    slots: &Slots,
-    pass: &mut Pass,
-    key: u64,
-    bucket: u32,
-    budget: u32,
-    used: &mut u32,
-    mut hand: Hand,
-) -> Result<bool, Refusal>
-    requires own { IsOf pass.old.trace slots.now }
-    requires bucket { bucket ≡ bucket_of pass.old.trace.shape key }
-    requires in_shape { bucket < slots.now.shape.buckets }
-    requires within { used.old ≤ budget }
-    requires hand { HasHandAndRoom pass.old hand }
-    ensures made { IfOk result (λ reply. Made (record { who = pass.old.trace.who; op = Insert; key = key; reply = reply }) pass.old.trace pass.new.trace) }
-    ensures counts { IfOk result (λ reply. CountsWithin pass.old.trace pass.new.trace used.old used.new budget) }
-    ensures spent { pass.new.hand ≡ None }
-    ensures quiet { IfErr result (λ refusal. Quiet pass.old.trace pass.new.trace) }
-    ensures refused { IfErr result (λ refusal. InsertIsShort pass.old pass.new used.old budget refusal) }
-    ensures takes_no_slot { TakesNoSlot pass.old pass.new }
-    ensures short { IfErr result (λ refusal. IsAlone pass.old.trace pass.new.trace → budget < used.old + 9 * listed_for pass.old.trace key + 11) }
-{
-    loop {
-        let Some(found) = search(slots, pass, key, bucket, budget, used) else {
-            give_back(pass, hand);
-            return Err(Refusal::OutOfSteps { used: *used });
-        };
-        if !affords(budget, *used) {
-            give_back(pass, hand);
-            return Err(Refusal::OutOfSteps { used: *used });
+    // Looks for the key without a hand: a hand, once the key was found absent; or none, and the answer is
+    // no.
+    fn prepare(&mut self) -> Result<Option<Hand>, Refusal>
+        requires empty_hand { self.old.pass.now.hand ≡ None }
+        ensures call { IsSameCall self.old self.new }
+        ensures prepared { IfOk result (λ hand. IsPrepared self.old.pass.now self.new.pass.now self.old.key hand) }
+        ensures counts { IfOk result (λ hand. CountsWithin self.old.pass.now.trace self.new.pass.now.trace self.old.used self.new.used self.old.budget) }
+        ensures quiet { IfErr result (λ refusal. Quiet self.old.pass.now.trace self.new.pass.now.trace) }
+        ensures empty_hand { IfErr result (λ refusal. self.new.pass.now.hand ≡ None) }
+        ensures steps { IfErr result (λ refusal. (since : ℕ) × CountsWithin self.old.pass.now.trace self.new.pass.now.trace self.old.used since self.old.budget) }
+        ensures refused { IfErr result (λ refusal. RefusesInsert self.old.pass.now self.new.pass.now self.old.key self.old.used self.old.budget refusal) }
+        ensures advances { AdvancesWhereNeeded self.old.pass.now self.new.pass.now }
+        ensures kept { KeepsSlots self.old.pass.now self.new.pass.now }
+        ensures had { HasStill self.old.pass.now self.new.pass.now }
+        ensures shared { SharesWhereFull 2 self.old.pass.now self.new.pass.now }
+        ensures few { IfOk result (λ hand. IsAlone self.old.pass.now.trace self.new.pass.now.trace → self.new.used ≤ self.old.used + 9 * listed_for self.old.pass.now.trace self.old.key + most_to_take self.old.pass.now.trace.shape self.old.pass.now.pool + 3) }
+        ensures enough { IfErr result (λ refusal. IsAlone self.old.pass.now.trace self.new.pass.now.trace → LacksSteps (self.old.used + 9 * listed_for self.old.pass.now.trace self.old.key + most_to_take self.old.pass.now.trace.shape self.old.pass.now.pool + 10) self.old.budget refusal) }
+    {
+        self.pass.law();
+        loop {
+            let Some(found) = self.search() else {
+                return Err(Refusal::OutOfSteps { used: self.used });
+            };
+            if !found.present {
+                let hand = self.provide()?;
+                return Ok(Some(hand));
+            }
+            if !affords(self.budget, self.used) {
+                return Err(Refusal::OutOfSteps { used: self.used });
+            }
+            if self.deny(&found).is_ok() {
+                return Ok(None);
+            }
         }
-        match settle(slots, pass, key, &found, hand, used) {
-            Ok(reply) => return Ok(reply),
-            Err(back) => hand = back,
+    }
+
+    // Answers an insert by what was found, with a slot in hand; else the hand comes back.
+    #[inline]
+    fn settle_insert(&mut self, found: &Found, hand: Hand) -> Result<bool, Hand>
+        requires locates { Locates self.old.pass.now.trace.shape (knows self.old.pass.now.trace) self.old.key found.now }
+        requires hand { HasHandAndRoom self.old.pass.now hand }
+        requires room { self.old.used + 8 ≤ self.old.budget }
+        ensures call { IsSameCall self.old self.new }
+        ensures counts { CountsSteps self.old.pass.now.trace self.new.pass.now.trace self.old.used self.new.used }
+        ensures used { (self.old.used < self.new.used) × (self.new.used ≤ self.old.used + 8) }
+        ensures made { IfOk result (λ reply. Made (record { who = self.old.pass.now.trace.who; op = Insert; key = self.old.key; reply = reply }) self.old.pass.now.trace self.new.pass.now.trace) }
+        ensures spent { IfOk result (λ reply. self.new.pass.now.hand ≡ None) }
+        ensures quiet { IfErr result (λ back. Quiet self.old.pass.now.trace self.new.pass.now.trace) }
+        ensures hand { IfErr result (λ back. HasHandAndRoom self.new.pass.now back) }
+        ensures takes_no_slot { TakesNoSlot self.old.pass.now self.new.pass.now }
+        ensures had { HasUnpublished self.old.pass.now self.new.pass.now result }
+        ensures wins { IfErr result (λ back. StandsNow self.old.pass.now.trace found.now.pred → NextStands self.old.pass.now.trace found.now.cur → IsAlone self.old.pass.now.trace self.new.pass.now.trace → ⊥) }
+    {
+        if found.present {
+            if self.deny(found).is_err() {
+                return Err(hand);
+            }
+            give_back(self.pass, hand);
+            return Ok(false);
+        }
+        self.used += 3;
+        match update(
+            self.slots,
+            self.pass,
+            &found.pred,
+            found.cur.as_ref(),
+            self.key,
+            hand,
+        ) {
+            Ok(()) => Ok(true),
+            Err((hand, _)) => Err(hand),
+        }
+    }
+
+    // Links the slot in hand, or answers no where the key has come meanwhile. The hand is spent.
+    fn link(&mut self, mut hand: Hand) -> Result<bool, Refusal>
+        requires hand { HasHandAndRoom self.old.pass.now hand }
+        ensures call { IsSameCall self.old self.new }
+        ensures made { IfOk result (λ reply. Made (record { who = self.old.pass.now.trace.who; op = Insert; key = self.old.key; reply = reply }) self.old.pass.now.trace self.new.pass.now.trace) }
+        ensures counts { IfOk result (λ reply. CountsWithin self.old.pass.now.trace self.new.pass.now.trace self.old.used self.new.used self.old.budget) }
+        ensures spent { self.new.pass.now.hand ≡ None }
+        ensures quiet { IfErr result (λ refusal. Quiet self.old.pass.now.trace self.new.pass.now.trace) }
+        ensures refused { IfErr result (λ refusal. InsertIsShort self.old.pass.now self.new.pass.now self.old.used self.old.budget refusal) }
+        ensures takes_no_slot { TakesNoSlot self.old.pass.now self.new.pass.now }
+        ensures had { HasUnpublished self.old.pass.now self.new.pass.now result }
+        ensures short { IfErr result (λ refusal. IsAlone self.old.pass.now.trace self.new.pass.now.trace → self.old.budget < self.old.used + 9 * listed_for self.old.pass.now.trace self.old.key + 11) }
+    {
+        loop {
+            let Some(found) = self.search() else {
+                give_back(self.pass, hand);
+                return Err(Refusal::OutOfSteps { used: self.used });
+            };
+            if !affords(self.budget, self.used) {
+                give_back(self.pass, hand);
+                return Err(Refusal::OutOfSteps { used: self.used });
+            }
+            match self.settle_insert(&found, hand) {
+                Ok(reply) => return Ok(reply),
+                Err(back) => hand = back,
+            }
         }
     }
 }
@@ -225,6 +207,7 @@ pub fn insert(slots: &Slots, pass: &mut Pass, key: u64, budget: u32) -> Result<b
     ensures steps { TookWithin pass.old.trace pass.new.trace budget }
     ensures advances { AdvancesWhereNeeded pass.old pass.new }
     ensures kept { KeepsSlots pass.old pass.new }
+    ensures had { HasUnpublished pass.old pass.new result }
     ensures shared { SharesWhereFull 2 pass.old pass.new }
     ensures refused { IfErr result (λ refusal. IsRefused pass.old pass.new key budget refusal) }
     // Alone, it answers in so many steps, or finds no slot or the epoch spent.
@@ -233,10 +216,16 @@ pub fn insert(slots: &Slots, pass: &mut Pass, key: u64, budget: u32) -> Result<b
     ensures ready { pass.old.pool ≢ [] → IsAlone pass.old.trace pass.new.trace → 18 * listed_for pass.old.trace key + 82 ≤ budget → IsAnsweredOrSpent result }
 {
     pass.law();
-    let bucket = slots.shape().bucket_of(key);
-    let mut used = 0;
-    match prepare(slots, pass, key, bucket, budget, &mut used)? {
+    let mut call = Call {
+        slots,
+        pass,
+        key,
+        bucket: slots.shape().bucket_of(key),
+        budget,
+        used: 0,
+    };
+    match call.prepare()? {
         None => Ok(false),
-        Some(hand) => link(slots, pass, key, bucket, budget, &mut used, hand),
+        Some(hand) => call.link(hand),
     }
 }

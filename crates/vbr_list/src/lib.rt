@@ -7,6 +7,7 @@
 //! that finds the link still as it was read. Nothing rolls back past it.
 #![tactic(auto)]
 
+mod call;
 pub mod finding;
 pub mod found;
 pub mod inserting;

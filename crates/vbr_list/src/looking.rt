@@ -1,20 +1,20 @@
 //! Looking for a key by loads alone. Marked nodes are passed by their links: behind an unmarked link
 //! that stands they are marked for good, and their links don't change, so where they lead the list
 //! goes on.
-ghost use Rattle.std.specs.Prelude.{◌≡◌, ◌+◌, ◌*◌, ◌<◌, ◌≤◌, ◌^◌, IfOk, IfErr, IfSome, IfNone};
-ghost use Rattle.vbr_core.specs.Acceptance.{bucket_of};
+ghost use Rattle.std.specs.Prelude.{◌≡◌, ◌+◌, ◌*◌, ◌<◌, ◌≤◌, IfOk, IfErr, IfSome, IfNone};
 ghost use Rattle.vbr_slots.specs.Alone.{IsAlone};
-ghost use Rattle.vbr_slots.specs.Views.{IsOf, knows};
+ghost use Rattle.vbr_slots.specs.Views.{knows};
 ghost use Rattle.vbr_access.specs.Held.{held_of};
+ghost use Rattle.vbr_list.specs.Calls.{IsSameCall};
 ghost use Rattle.vbr_list.specs.Budgets.{listed_for};
 ghost use Rattle.vbr_list.specs.Nearing.{SeenAlone};
 ghost use Rattle.vbr_list.specs.Places.{IsSight};
 ghost use Rattle.vbr_list.specs.Traversal.{Goes, Observes};
 
-use crate::traversal::{Met, Stop, start, visit};
+use crate::call::Call;
+use crate::traversal::{Stop, Visited};
 use vbr_access::{Held, Marked};
 use vbr_pools::budget::affords;
-use vbr_slots::{Pass, Slots};
 use vbr_words::{At, decode};
 
 /// What a look-up came to.
@@ -28,7 +28,7 @@ pub(crate) enum Sight {
 
 // A marked node as a place to go on from.
 #[inline]
-fn place_of(marked: Marked) -> Held
+fn held_of(marked: Marked) -> Held
     ensures { result ≡ held_of marked }
 {
     Held {
@@ -39,83 +39,65 @@ fn place_of(marked: Marked) -> Held
     }
 }
 
-// One walk from the head to the key, past marked nodes.
-#[inline(always)]
-fn walk(
-    slots: &Slots,
-    pass: &mut Pass,
-    key: u64,
-    bucket: u32,
-    budget: u32,
-    used: &mut u32,
-) -> Result<Sight, Stop>
-    requires own { IsOf pass.old.trace slots.now }
-    requires bucket { bucket ≡ bucket_of pass.old.trace.shape key }
-    requires in_shape { bucket < slots.now.shape.buckets }
-    requires within { used.old ≤ budget }
-    ensures goes { Goes pass.old pass.new used.old used.new }
-    ensures observes { Observes pass.old.trace pass.new.trace }
-    ensures within { (used.old ≤ used.new) × (used.new ≤ budget) }
-    ensures again { IfErr result (λ stop. stop ≡ Stop.Again → used.old < used.new) }
-    ensures tired { IfErr result (λ stop. stop ≡ Stop.Tired → budget < used.new + 8) }
-    ensures sight { IfOk result (λ sight. IsSight pass.new.trace.shape (knows pass.new.trace) key sight) }
-    ensures still { IfErr result (λ stop. stop ≡ Stop.Again → IsAlone pass.old.trace pass.new.trace → ⊥) }
-    ensures short { IfErr result (λ stop. stop ≡ Stop.Tired → IsAlone pass.old.trace pass.new.trace → budget < used.old + 5 * listed_for pass.old.trace key + 11) }
-    ensures alone { IfOk result (λ sight. IsAlone pass.old.trace pass.new.trace → SeenAlone pass.old.trace pass.new.trace key used.old used.new sight) }
-{
-    if !affords(budget, *used) {
-        return Err(Stop::Tired);
-    }
-    let Ok(mut pred) = start(slots, pass, key, bucket, used) else {
-        return Err(Stop::Again);
-    };
-    let mut here = pred;
-    while decode(here.word).slot.is_some() {
-        if !affords(budget, *used) {
+impl Call<'_> {
+    // One walk from the head to the key, past marked nodes.
+    #[inline(always)]
+    fn walk(&mut self) -> Result<Sight, Stop>
+        ensures call { IsSameCall self.old self.new }
+        ensures goes { Goes self.old.pass.now self.new.pass.now self.old.used self.new.used }
+        ensures observes { Observes self.old.pass.now.trace self.new.pass.now.trace }
+        ensures more { self.old.used ≤ self.new.used }
+        ensures again { IfErr result (λ stop. stop ≡ Stop.Again → self.old.used < self.new.used) }
+        ensures tired { IfErr result (λ stop. stop ≡ Stop.Tired → self.old.budget < self.new.used + 8) }
+        ensures sight { IfOk result (λ sight. IsSight self.new.pass.now.trace.shape (knows self.new.pass.now.trace) self.old.key sight) }
+        ensures still { IfErr result (λ stop. stop ≡ Stop.Again → IsAlone self.old.pass.now.trace self.new.pass.now.trace → ⊥) }
+        ensures short { IfErr result (λ stop. stop ≡ Stop.Tired → IsAlone self.old.pass.now.trace self.new.pass.now.trace → self.old.budget < self.old.used + 5 * listed_for self.old.pass.now.trace self.old.key + 11) }
+        ensures alone { IfOk result (λ sight. IsAlone self.old.pass.now.trace self.new.pass.now.trace → SeenAlone self.old.pass.now.trace self.new.pass.now.trace self.old.key self.old.used self.new.used sight) }
+    {
+        if !affords(self.budget, self.used) {
             return Err(Stop::Tired);
         }
-        match visit(slots, pass, key, &here, used) {
-            Err(_) => return Err(Stop::Again),
-            Ok(Met::Marked(marked)) => here = place_of(marked),
-            Ok(Met::Smaller(node)) => {
-                pred = node;
-                here = node;
+        let Ok(mut pred) = self.start() else {
+            return Err(Stop::Again);
+        };
+        let mut here = pred;
+        while decode(here.word).slot.is_some() {
+            if !affords(self.budget, self.used) {
+                return Err(Stop::Tired);
             }
-            Ok(Met::Beyond(node, true)) => return Ok(Sight::Present(node)),
-            Ok(Met::Beyond(_, false)) => return Ok(Sight::Absent(pred)),
+            match self.visit(&here) {
+                Err(_) => return Err(Stop::Again),
+                Ok(Visited::Marked(marked)) => here = held_of(marked),
+                Ok(Visited::Smaller(node)) => {
+                    pred = node;
+                    here = node;
+                }
+                Ok(Visited::Beyond(node, true)) => return Ok(Sight::Present(node)),
+                Ok(Visited::Beyond(_, false)) => return Ok(Sight::Absent(pred)),
+            }
         }
+        Ok(Sight::Absent(pred))
     }
-    Ok(Sight::Absent(pred))
-}
 
-/// Looks until it comes to the key or to where it is absent; none where the budget has no room for
-/// one more piece.
-#[inline(always)]
-pub(crate) fn look(
-    slots: &Slots,
-    pass: &mut Pass,
-    key: u64,
-    bucket: u32,
-    budget: u32,
-    used: &mut u32,
-) -> Option<Sight>
-    requires own { IsOf pass.old.trace slots.now }
-    requires bucket { bucket ≡ bucket_of pass.old.trace.shape key }
-    requires in_shape { bucket < slots.now.shape.buckets }
-    requires within { used.old ≤ budget }
-    ensures goes { Goes pass.old pass.new used.old used.new }
-    ensures observes { Observes pass.old.trace pass.new.trace }
-    ensures within { (used.old ≤ used.new) × (used.new ≤ budget) }
-    ensures sight { IfSome result (λ sight. IsSight pass.new.trace.shape (knows pass.new.trace) key sight) }
-    ensures tired { IfNone result (budget < used.new + 8) }
-    ensures short { IfNone result (IsAlone pass.old.trace pass.new.trace → budget < used.old + 5 * listed_for pass.old.trace key + 11) }
-    ensures alone { IfSome result (λ sight. IsAlone pass.old.trace pass.new.trace → SeenAlone pass.old.trace pass.new.trace key used.old used.new sight) }
-{
-    loop {
-        match walk(slots, pass, key, bucket, budget, used) {
-            Ok(sight) => return Some(sight),
-            Err(Stop::Again) => {}
-            Err(Stop::Tired) => return None,
+    /// Looks until it comes to the key or to where it is absent; none where the budget has no room for
+    /// one more piece.
+    #[inline(always)]
+    pub(crate) fn look(&mut self) -> Option<Sight>
+        ensures call { IsSameCall self.old self.new }
+        ensures goes { Goes self.old.pass.now self.new.pass.now self.old.used self.new.used }
+        ensures observes { Observes self.old.pass.now.trace self.new.pass.now.trace }
+        ensures more { self.old.used ≤ self.new.used }
+        ensures sight { IfSome result (λ sight. IsSight self.new.pass.now.trace.shape (knows self.new.pass.now.trace) self.old.key sight) }
+        ensures tired { IfNone result (self.old.budget < self.new.used + 8) }
+        ensures short { IfNone result (IsAlone self.old.pass.now.trace self.new.pass.now.trace → self.old.budget < self.old.used + 5 * listed_for self.old.pass.now.trace self.old.key + 11) }
+        ensures alone { IfSome result (λ sight. IsAlone self.old.pass.now.trace self.new.pass.now.trace → SeenAlone self.old.pass.now.trace self.new.pass.now.trace self.old.key self.old.used self.new.used sight) }
+    {
+        loop {
+            match self.walk() {
+                Ok(sight) => return Some(sight),
+                Err(Stop::Again) => {}
+                Err(Stop::Tired) => return None,
+            }
         }
     }
 }

@@ -1,5 +1,5 @@
 //! Look-ups.
-ghost use Rattle.std.specs.Prelude.{◌≡◌, ◌+◌, ◌*◌, ◌<◌, None, IfOk, IfErr};
+ghost use Rattle.std.specs.Prelude.{◌≡◌, ◌+◌, ◌*◌, ◌<◌, ◌≤◌, None, IfOk, IfErr};
 ghost use Rattle.vbr_core.specs.declared.history.Op.TheVariants.{Has};
 ghost use Rattle.vbr_pools.specs.KeptSlots.{TakesNoSlot};
 ghost use Rattle.vbr_pools.specs.Steps.{TookWithin};
@@ -8,36 +8,43 @@ ghost use Rattle.vbr_slots.specs.Alone.{IsAlone};
 ghost use Rattle.vbr_slots.specs.Views.{IsOf, knows};
 ghost use Rattle.vbr_access.specs.Keeping.{KeepsOwn};
 ghost use Rattle.vbr_access.specs.Soundness.{HasSafeRun};
+ghost use Rattle.vbr_list.specs.Calls.{IsSameCall};
 ghost use Rattle.vbr_list.specs.Alone.{AnswersAlone};
 ghost use Rattle.vbr_list.specs.Budgets.{listed_for};
 ghost use Rattle.vbr_list.specs.Nearing.{SightStands};
 ghost use Rattle.vbr_list.specs.Places.{IsSight, held_in, is_present};
 ghost use Rattle.vbr_list.specs.Refusals.{IsTired};
 
-use crate::looking::{Sight, look};
+use crate::call::Call;
+use crate::looking::Sight;
 use crate::refusal::Refusal;
 use vbr_access::{Held, Rollback, confirm_look_up};
 use vbr_pools::budget::affords;
 use vbr_slots::{Pass, Slots};
 
-// Answers a look-up by what it came to, in one step, if the link that was read still stands there.
-#[inline(always)]
-fn answer(slots: &Slots, pass: &mut Pass, key: u64, sight: Sight) -> Result<bool, Rollback>
-    requires own { IsOf pass.old.trace slots.now }
-    requires sight { IsSight pass.old.trace.shape (knows pass.old.trace) key sight }
-    ensures took { Took pass.old.trace pass.new.trace 1 }
-    ensures own { KeepsOwn pass.old pass.new }
-    ensures takes_no_slot { TakesNoSlot pass.old pass.new }
-    ensures made { IfOk result (λ reply. Made (record { who = pass.old.trace.who; op = Has; key = key; reply = reply }) pass.old.trace pass.new.trace) }
-    ensures adds { IfOk result (λ reply. AddsAnswer (record { who = pass.old.trace.who; op = Has; key = key; reply = reply }) pass.old.trace pass.new.trace) }
-    ensures quiet { IfErr result (λ r. Quiet pass.old.trace pass.new.trace) }
-    ensures adds_none { IfErr result (λ r. AddsNone pass.old.trace pass.new.trace) }
-    ensures wins { IfErr result (λ r. SightStands pass.old.trace sight → IsAlone pass.old.trace pass.new.trace → ⊥) }
-    ensures only_loads { OnlyLoads pass.old.trace pass.new.trace }
-{
-    let (held, present) = told_by(sight);
-    confirm_look_up(slots, pass, key, &held, present)?;
-    Ok(present)
+impl Call<'_> {
+    // Answers a look-up by what it came to, in one step, if the link that was read still stands there.
+    #[inline(always)]
+    fn settle_look_up(&mut self, sight: Sight) -> Result<bool, Rollback>
+        requires sight { IsSight self.old.pass.now.trace.shape (knows self.old.pass.now.trace) self.old.key sight }
+        requires room { self.old.used + 8 ≤ self.old.budget }
+        ensures call { IsSameCall self.old self.new }
+        ensures took { Took self.old.pass.now.trace self.new.pass.now.trace 1 }
+        ensures used { self.new.used ≡ self.old.used + 1 }
+        ensures own { KeepsOwn self.old.pass.now self.new.pass.now }
+        ensures takes_no_slot { TakesNoSlot self.old.pass.now self.new.pass.now }
+        ensures made { IfOk result (λ reply. Made (record { who = self.old.pass.now.trace.who; op = Has; key = self.old.key; reply = reply }) self.old.pass.now.trace self.new.pass.now.trace) }
+        ensures adds { IfOk result (λ reply. AddsAnswer (record { who = self.old.pass.now.trace.who; op = Has; key = self.old.key; reply = reply }) self.old.pass.now.trace self.new.pass.now.trace) }
+        ensures quiet { IfErr result (λ r. Quiet self.old.pass.now.trace self.new.pass.now.trace) }
+        ensures adds_none { IfErr result (λ r. AddsNone self.old.pass.now.trace self.new.pass.now.trace) }
+        ensures wins { IfErr result (λ r. SightStands self.old.pass.now.trace sight → IsAlone self.old.pass.now.trace self.new.pass.now.trace → ⊥) }
+        ensures only_loads { OnlyLoads self.old.pass.now.trace self.new.pass.now.trace }
+    {
+        let (held, present) = told_by(sight);
+        self.used += 1;
+        confirm_look_up(self.slots, self.pass, self.key, &held, present)?;
+        Ok(present)
+    }
 }
 
 // What is held that tells, and whether it tells that the key is present.
@@ -81,18 +88,22 @@ pub fn has(slots: &Slots, pass: &mut Pass, key: u64, budget: u32) -> Result<bool
     ensures within { IfErr result (λ refusal. IsAlone pass.old.trace pass.new.trace → budget < 5 * listed_for pass.old.trace key + 11) }
 {
     pass.law();
-    let bucket = slots.shape().bucket_of(key);
-    let mut used = 0;
+    let mut call = Call {
+        slots,
+        pass,
+        key,
+        bucket: slots.shape().bucket_of(key),
+        budget,
+        used: 0,
+    };
     loop {
-        let Some(sight) = look(slots, pass, key, bucket, budget, &mut used) else {
-            return Err(Refusal::OutOfSteps { used });
+        let Some(sight) = call.look() else {
+            return Err(Refusal::OutOfSteps { used: call.used });
         };
-        if !affords(budget, used) {
-            return Err(Refusal::OutOfSteps { used });
+        if !affords(call.budget, call.used) {
+            return Err(Refusal::OutOfSteps { used: call.used });
         }
-        let reply = answer(slots, pass, key, sight);
-        used += 1;
-        if let Ok(reply) = reply {
+        if let Ok(reply) = call.settle_look_up(sight) {
             return Ok(reply);
         }
     }

@@ -1,5 +1,5 @@
 //! Removes.
-ghost use Rattle.std.specs.Prelude.{◌≡◌, ◌+◌, ◌*◌, ◌<◌, ◌≤◌, ◌^◌, true, None, IfOk, IfErr};
+ghost use Rattle.std.specs.Prelude.{◌≡◌, ◌+◌, ◌*◌, ◌<◌, ◌≤◌, true, None, IfOk, IfErr};
 ghost use Rattle.vbr_core.specs.declared.history.Op.TheVariants.{Remove};
 ghost use Rattle.vbr_pools.specs.KeptSlots.{TakesNoSlot};
 ghost use Rattle.vbr_pools.specs.Steps.{CountsSteps, TookWithin};
@@ -7,6 +7,7 @@ ghost use Rattle.vbr_slots.specs.Alone.{IsAlone};
 ghost use Rattle.vbr_slots.specs.Calls.{IsSame, Quiet, Made};
 ghost use Rattle.vbr_slots.specs.Views.{IsOf, knows};
 ghost use Rattle.vbr_access.specs.Soundness.{HasSafeRun};
+ghost use Rattle.vbr_list.specs.Calls.{IsSameCall};
 ghost use Rattle.vbr_list.specs.Alone.{AnswersAlone};
 ghost use Rattle.vbr_access.specs.Alone.{NextStands, StandsNow};
 ghost use Rattle.vbr_list.specs.Budgets.{listed_for};
@@ -14,76 +15,63 @@ ghost use Rattle.vbr_list.specs.Places.{Locates};
 ghost use Rattle.vbr_list.specs.Refusals.{IsTired};
 ghost use Rattle.vbr_list.specs.Traversal.{KeepsHand};
 
-use crate::finding::search;
+use crate::call::Call;
 use crate::found::Found;
 use crate::refusal::Refusal;
-use crate::traversal::help;
 use vbr_access::{Rollback, confirm_absent, mark};
 use vbr_core::Op;
 use vbr_pools::budget::affords;
 use vbr_slots::{Pass, Slots};
 
-// Marks the node that was found: the key is removed. Then unlinks and retires the node, if the budget
-// has room for that; else, or where that rolls back, the node is left to helpers.
-#[inline]
-fn take_out(
-    slots: &Slots,
-    pass: &mut Pass,
-    key: u64,
-    found: &Found,
-    budget: u32,
-    used: &mut u32,
-) -> Result<bool, Rollback>
-    requires own { IsOf pass.old.trace slots.now }
-    requires locates { Locates pass.old.trace.shape (knows pass.old.trace) key found.now }
-    requires present { found.now.present ≡ true }
-    requires room { used.old + 8 ≤ budget }
-    ensures made { IfOk result (λ reply. Made (record { who = pass.old.trace.who; op = Remove; key = key; reply = reply }) pass.old.trace pass.new.trace) }
-    ensures quiet { IfErr result (λ r. Quiet pass.old.trace pass.new.trace) }
-    ensures counts { CountsSteps pass.old.trace pass.new.trace used.old used.new }
-    ensures hand { KeepsHand pass.old pass.new }
-    ensures used { (used.old < used.new) × (used.new ≤ budget) }
-    ensures wins { IfErr result (λ r. StandsNow pass.old.trace found.now.pred → NextStands pass.old.trace found.now.cur → IsAlone pass.old.trace pass.new.trace → ⊥) }
-{
-    let Some(cur) = &found.cur else {
-        unreachable!()
-    };
-    let outcome = mark(slots, pass, cur);
-    *used += 1;
-    let marked = outcome?;
-    if affords(budget, *used) {
-        let _ = help(slots, pass, key, &found.pred, marked, used);
+impl Call<'_> {
+    // Marks the node that was found: the key is removed. Then unlinks and retires the node, if the budget
+    // has room for that; else, or where that rolls back, the node is left to helpers.
+    #[inline]
+    fn mark_and_unlink(&mut self, found: &Found) -> Result<bool, Rollback>
+        requires locates { Locates self.old.pass.now.trace.shape (knows self.old.pass.now.trace) self.old.key found.now }
+        requires present { found.now.present ≡ true }
+        requires room { self.old.used + 8 ≤ self.old.budget }
+        ensures call { IsSameCall self.old self.new }
+        ensures made { IfOk result (λ reply. Made (record { who = self.old.pass.now.trace.who; op = Remove; key = self.old.key; reply = reply }) self.old.pass.now.trace self.new.pass.now.trace) }
+        ensures quiet { IfErr result (λ r. Quiet self.old.pass.now.trace self.new.pass.now.trace) }
+        ensures counts { CountsSteps self.old.pass.now.trace self.new.pass.now.trace self.old.used self.new.used }
+        ensures hand { KeepsHand self.old.pass.now self.new.pass.now }
+        ensures used { (self.old.used < self.new.used) × (self.new.used ≤ self.old.budget) }
+        ensures wins { IfErr result (λ r. StandsNow self.old.pass.now.trace found.now.pred → NextStands self.old.pass.now.trace found.now.cur → IsAlone self.old.pass.now.trace self.new.pass.now.trace → ⊥) }
+    {
+        let Some(cur) = &found.cur else {
+            unreachable!()
+        };
+        let outcome = mark(self.slots, self.pass, cur);
+        self.used += 1;
+        let marked = outcome?;
+        if affords(self.budget, self.used) {
+            let _ = self.help(&found.pred, marked);
+        }
+        Ok(true)
     }
-    Ok(true)
-}
 
-// Answers a remove by what was found.
-#[inline]
-fn settle(
-    slots: &Slots,
-    pass: &mut Pass,
-    key: u64,
-    found: &Found,
-    budget: u32,
-    used: &mut u32,
-) -> Result<bool, Rollback>
-    requires own { IsOf pass.old.trace slots.now }
-    requires locates { Locates pass.old.trace.shape (knows pass.old.trace) key found.now }
-    requires room { used.old + 8 ≤ budget }
-    ensures made { IfOk result (λ reply. Made (record { who = pass.old.trace.who; op = Remove; key = key; reply = reply }) pass.old.trace pass.new.trace) }
-    ensures quiet { IfErr result (λ r. Quiet pass.old.trace pass.new.trace) }
-    ensures counts { CountsSteps pass.old.trace pass.new.trace used.old used.new }
-    ensures hand { KeepsHand pass.old pass.new }
-    ensures used { (used.old < used.new) × (used.new ≤ budget) }
-    ensures wins { IfErr result (λ r. StandsNow pass.old.trace found.now.pred → NextStands pass.old.trace found.now.cur → IsAlone pass.old.trace pass.new.trace → ⊥) }
-{
-    if found.present {
-        return take_out(slots, pass, key, found, budget, used);
+    // Answers a remove by what was found.
+    #[inline]
+    fn settle_remove(&mut self, found: &Found) -> Result<bool, Rollback>
+        requires locates { Locates self.old.pass.now.trace.shape (knows self.old.pass.now.trace) self.old.key found.now }
+        requires room { self.old.used + 8 ≤ self.old.budget }
+        ensures call { IsSameCall self.old self.new }
+        ensures made { IfOk result (λ reply. Made (record { who = self.old.pass.now.trace.who; op = Remove; key = self.old.key; reply = reply }) self.old.pass.now.trace self.new.pass.now.trace) }
+        ensures quiet { IfErr result (λ r. Quiet self.old.pass.now.trace self.new.pass.now.trace) }
+        ensures counts { CountsSteps self.old.pass.now.trace self.new.pass.now.trace self.old.used self.new.used }
+        ensures hand { KeepsHand self.old.pass.now self.new.pass.now }
+        ensures used { (self.old.used < self.new.used) × (self.new.used ≤ self.old.budget) }
+        ensures wins { IfErr result (λ r. StandsNow self.old.pass.now.trace found.now.pred → NextStands self.old.pass.now.trace found.now.cur → IsAlone self.old.pass.now.trace self.new.pass.now.trace → ⊥) }
+    {
+        if found.present {
+            return self.mark_and_unlink(found);
+        }
+        let outcome = confirm_absent(self.slots, self.pass, Op::Remove, self.key, &found.pred);
+        self.used += 1;
+        outcome?;
+        Ok(false)
     }
-    let outcome = confirm_absent(slots, pass, Op::Remove, key, &found.pred);
-    *used += 1;
-    outcome?;
-    Ok(false)
 }
 
 /// Takes a key out of the set, in at most `budget` steps, and says whether it was there. The answer's
@@ -110,17 +98,22 @@ pub fn remove(slots: &Slots, pass: &mut Pass, key: u64, budget: u32) -> Result<b
     ensures within { IfErr result (λ refusal. IsAlone pass.old.trace pass.new.trace → budget < 9 * listed_for pass.old.trace key + 11) }
 {
     pass.law();
-    let bucket = slots.shape().bucket_of(key);
-    let mut used = 0;
+    let mut call = Call {
+        slots,
+        pass,
+        key,
+        bucket: slots.shape().bucket_of(key),
+        budget,
+        used: 0,
+    };
     loop {
-        let Some(found) = search(slots, pass, key, bucket, budget, &mut used) else {
-            return Err(Refusal::OutOfSteps { used });
+        let Some(found) = call.search() else {
+            return Err(Refusal::OutOfSteps { used: call.used });
         };
-        if !affords(budget, used) {
-            return Err(Refusal::OutOfSteps { used });
+        if !affords(call.budget, call.used) {
+            return Err(Refusal::OutOfSteps { used: call.used });
         }
-        let reply = settle(slots, pass, key, &found, budget, &mut used);
-        if let Ok(reply) = reply {
+        if let Ok(reply) = call.settle_remove(&found) {
             return Ok(reply);
         }
     }

@@ -12,14 +12,14 @@ fn main(rt: HostRuntime) -> ExitCode {
         Ok(arguments) => arguments,
         Err(error) => return refused(&rt, &error),
     };
-    let words = match words_of(alloc, &arguments) {
-        Ok(words) => words,
+    let texts = match texts_of(alloc, &arguments) {
+        Ok(texts) => texts,
         Err(error) => return refused(&rt, &io::Error::from(error)),
     };
     let status = vbr_run::run(
         &rt,
         alloc,
-        &words,
+        &texts,
         &mut rt.stdin(),
         &mut rt.stdout(),
         &mut rt.stderr(),
@@ -33,8 +33,11 @@ fn arguments(rt: &HostRuntime) -> io::Result<Vec<String>> {
     Ok(arguments)
 }
 
-fn words_of<'a>(alloc: Global, arguments: &'a [String]) -> Result<Vec<&'a str>, AllocError> {
-    arguments.iter().map(|word| word.as_str()).collect(alloc)
+fn texts_of<'a>(alloc: Global, arguments: &'a [String]) -> Result<Vec<&'a str>, AllocError> {
+    arguments
+        .iter()
+        .map(|argument| argument.as_str())
+        .collect(alloc)
 }
 
 // The arguments couldn't be read: for want of memory, or since one is no text.

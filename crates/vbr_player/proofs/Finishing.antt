@@ -3,7 +3,8 @@ use Rattle.std.proofs.Common.{◌≡◌, ℕ, ◌<◌, List, [], ◌∷◌, map,
 use Rattle.std.specs.Prelude.{zip, All, Vec}
 use Rattle.std.specs.Global.{Global}
 use Rattle.std.proofs.lemmas.List.Elements.{All-head, All-tail}
-use Rattle.vbr_core.specs.Keys.{Lists, no_keys}
+use Rattle.vbr_core.specs.Keys.{AreKeysOf}
+use Rattle.vbr_core.specs.Opened.{opening_keys}
 use Rattle.vbr_core.specs.History.{set_after}
 use Rattle.vbr_core.specs.Runs.{world_after}
 use Rattle.vbr_slots.specs.Closing.{AllOf, EachSeen}
@@ -52,5 +53,5 @@ ended set script phases passes own replies report totals lines lent counted merg
     let seen : EachSeen closes.run (passes_of workers) = subst (EachSeen closes.run) played.passes_are closes.begins in
     let counted_so : (counted, merged) ≡ (script, replies) = λ i. (counted_are i, merged_is i) in
     let counts_so : Counts totals (zip script replies) = subst (λ (k : List Line × List Reply). Counts totals (zip k.0 k.1)) counted_so counts in
-    let listed : Lists totals.keys.items (set_after no_keys (world_after set.shape closes.run).calls) = subst (λ (ks : List ℕ). Lists ks (set_after no_keys (world_after set.shape closes.run).calls)) (sym keys) closes.reports.keys in
+    let listed : AreKeysOf totals.keys.items (set_after (opening_keys set.shape) (world_after set.shape closes.run).calls) = subst (λ (ks : List ℕ). AreKeysOf ks (set_after (opening_keys set.shape) (world_after set.shape closes.run).calls)) (sym keys) closes.reports.keys in
     run_of_workers set.shape set.passes phases script (replies_of workers) replies totals closes.run phased is_merged closes.is_run closes.safe (have_played set script set.passes phases workers closes.run some played.stand seen closes.safe) counts_so listed (epoch ∙ closes.reports.epoch)

@@ -24,7 +24,8 @@ use vbr_transcript::{Reply, RunError, Totals, WriteFault, layout, read_text, wri
 /// others have seen. In the end the set is closed.
 ///
 /// It takes memory for the text, the script, the replies and the output, and for the set. Each line is
-/// one call, of at most the config's budget of steps.
+/// one call, of at most the config's budget of steps; the meeting after a phase of w workers is 2(w - 1)
+/// steps.
 ///
 /// # Errors
 ///

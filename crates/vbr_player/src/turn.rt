@@ -13,12 +13,12 @@ use vbr_transcript::RunError;
 
 /// That a worker will have played these lines.
 #[derive(Drop)]
-pub struct Plays<'l> {
+pub struct WillPlay<'l> {
     pub before: Snapshot<Worker<'l>>,
     pub lines: &'l [Line],
 }
 
-impl<'l> Promise<Worker<'l>> for Plays<'l> {
+impl<'l> Promise<Worker<'l>> for WillPlay<'l> {
     ghost kept_by = { λ p r. Played p.lines.now p.before.value r };
 }
 
@@ -26,7 +26,7 @@ impl<'l> Promise<Worker<'l>> for Plays<'l> {
 #[derive(Drop)]
 pub enum Turn<'l> {
     /// It plays its lines in a thread of its own.
-    Started(PromisedHandle<Worker<'l>, Plays<'l>>),
+    Started(PromisedHandle<Worker<'l>, WillPlay<'l>>),
     /// It has no lines, and so has played them.
     Done(Worker<'l>),
 }
@@ -61,12 +61,12 @@ pub fn end<'l, R: Threads>(rt: &R, turn: Turn<'l>) -> Worker<'l>
 fn start<'s, 'e, G: Gate + Sync>(
     scope: &'s Scope<'s, &'e ()>,
     task: Task<'e, G>,
-) -> Result<PromisedHandle<Worker<'e>, Plays<'e>>, RunError>
+) -> Result<PromisedHandle<Worker<'e>, WillPlay<'e>>, RunError>
     ensures before { IfOk result (λ started. started.promise.before.value ≡ task.entry.worker) }
     ensures lines { IfOk result (λ started. started.promise.lines.now ≡ task.entry.part.lines.now) }
     ensures fault { IfErr result (λ error. error ≡ RunError.Worker) }
 {
-    let promise = Plays {
+    let promise = WillPlay {
         before: Snapshot::of(&task.worker),
         lines: task.part.lines,
     };

@@ -24,23 +24,8 @@ use Rattle.vbr_slots.specs.Rule.{one_if}
 use Rattle.vbr_slots.specs.Views.{Trace, PassView, Did, KeepsPool, knows, event_of}
 use Rattle.vbr_slots.proofs.Lemmas.{did_moment, moment_after}
 use Rattle.vbr_pools.specs.Advances.{AdvancesOnce, AdvancesWhereNeeded}
-use Rattle.vbr_pools.specs.Counts.{is_advance, is_raise, made_of, advances, flags_raised}
+use Rattle.vbr_pools.specs.Counts.{is_advance, is_raise, is_unlink, advances_or_gives, made_of, advances, flags_raised}
 use Rattle.vbr_pools.specs.KeptSlots.{HasSlot, CouldTake, HasFree, StampsUnlinked, KeepsSlots, PoolGrows, SharesWhereFull, TakesNoSlot}
-
--- whether a step may advance the epoch, give its pass a slot that it may give birth in or has to stamp, or raise a flag
-abbrev advances_or_gives : Step → Bool
-advances_or_gives (Advance from) = true
-advances_or_gives (StoreStamp s stamp) = true
-advances_or_gives (Raise s) = true
-advances_or_gives (TakeFlag s) = true
-advances_or_gives (StoreBirth s birth) = true
-advances_or_gives (Unlink pred expected s) = true
-advances_or_gives _ = false
-
--- whether a step may unlink a slot
-abbrev is_unlink : Step → Bool
-is_unlink (Unlink pred expected s) = true
-is_unlink _ = false
 
 abbrev made_in : (Step → Bool) → ℕ → List Event → ℕ
 made_in is who events = count_by (λ (e : Event). (e.pass == who) && is e.step) events

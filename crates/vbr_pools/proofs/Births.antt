@@ -13,7 +13,7 @@ use Rattle.vbr_slots.specs.Pools.{without}
 use Rattle.vbr_slots.specs.Views.{PassView, Did, knows}
 use Rattle.vbr_slots.proofs.Lemmas.{did_quiet}
 use Rattle.vbr_pools.specs.Hands.{HandView}
-use Rattle.vbr_pools.specs.Pieces.{IsBelow, IsBorn}
+use Rattle.vbr_pools.specs.Pieces.{IsStampedBelow, IsBorn}
 use Rattle.vbr_pools.specs.KeptSlots.{HasSlot, HasFree}
 use Rattle.vbr_pools.proofs.Advancing.{did_stamps, nobody, same_advances, same_flags}
 use Rattle.vbr_pools.proofs.Counting.{counts_one}
@@ -45,7 +45,7 @@ module _ (p q : PassView) (slot : ℕ) (d : Did (StoreBirth slot (knows p.trace)
       stays other (inl c) = inl (subst (λ (l : List ℕ). Contains l s) (sym pool) (stays_in slot p.pool s other c))
       stays other (inr e) = nobody p.hand s empty e
 
-  pub is_born : (budget used : ℕ) (hand : HandView) → p.hand ≡ None → IsBelow p (knows p.trace).epoch (Some slot) → used + 8 ≤ budget → length p.pool ≤ 64 → AllPairs ◌≢◌ p.pool → q.pool ≡ without slot p.pool → q.hand ≡ Some slot → hand ≡ record { slot = slot; birth = (knows q.trace).epoch } → IsBorn p q slot budget used hand
+  pub is_born : (budget used : ℕ) (hand : HandView) → p.hand ≡ None → IsStampedBelow p (knows p.trace).epoch (Some slot) → used + 8 ≤ budget → length p.pool ≤ 64 → AllPairs ◌≢◌ p.pool → q.pool ≡ without slot p.pool → q.hand ≡ Some slot → hand ≡ record { slot = slot; birth = (knows q.trace).epoch } → IsBorn p q slot budget used hand
   is_born budget used hand empty below room most apart pool in_hand is = subst (IsBorn p q slot budget used) (sym is) (record {
     quiet = did_quiet d (λ know. refl);
     uses = record { counts = counts_one used d; within = omega arith; at_most = omega arith };

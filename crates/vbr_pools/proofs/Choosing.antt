@@ -12,7 +12,7 @@ use Rattle.vbr_slots.specs.Views.{PassView, KeepsPool, Did, knows}
 use Rattle.vbr_slots.proofs.Lemmas.{did_quiet, quiet_on}
 use Rattle.vbr_pools.specs.Advances.{AdvancesOnce}
 use Rattle.vbr_pools.specs.KeptSlots.{HasSlot, KeepsSlots, SharesWhereFull, TakesNoSlot}
-use Rattle.vbr_pools.specs.Pieces.{Uses, NoRoom, TakeIsShort, Stops, ShowsSpent, IsBelow, IsScanned, IsChosen}
+use Rattle.vbr_pools.specs.Pieces.{Uses, NoRoom, TakeIsShort, Stops, ShowsSpent, IsStampedBelow, IsScanned, IsChosen}
 use Rattle.vbr_pools.specs.Refusals.{AllStamped}
 use Rattle.vbr_pools.specs.Steps.{CountsSteps}
 use Rattle.vbr_pools.specs.Taking.{IsOldest}
@@ -21,7 +21,7 @@ use Rattle.vbr_pools.specs.declared.refusal.TakeRefusal.TheVariants.{OutOfSteps,
 use Rattle.vbr_pools.proofs.Advancing.{same_advances, same_flags, nobody, keeps_on, keeps_known, none_on, did_none, once, once_after, once_before}
 use Rattle.vbr_pools.proofs.Counting.{counts_one, counts_on, uses_on, uses_more}
 use Rattle.vbr_pools.proofs.Moments.{epoch_told}
-use Rattle.vbr_pools.proofs.Raising.{stamps_reread, stamps_low, read_above}
+use Rattle.vbr_pools.proofs.EpochReads.{stamps_reread, stamps_low, read_above}
 
 -- a pool with no slot is empty
 some_slot : (pool : List ℕ) → pool ≢ [] → 0 < length pool
@@ -65,7 +65,7 @@ module _ (p q r : PassView) (e budget used : ℕ) (read : Did ReadEpoch p.trace 
     pub chosen_then : (slot : ℕ) → found ≡ Some slot → IsChosen p r budget used slot since
     chosen_then slot is = record {
       uses = uses_more (length p.pool + 3) (omega arith) uses;
-      below = subst (λ (x : ℕ × Option ℕ). IsBelow r x.0 x.1) (λ i. (sym last_read i, is i)) scanned.below;
+      below = subst (λ (x : ℕ × Option ℕ). IsStampedBelow r x.0 x.1) (λ i. (sym last_read i, is i)) scanned.below;
     }
 
     pub full_then : budget < since + 8 → NoRoom p r budget used (length p.pool + 1) since
@@ -76,7 +76,7 @@ module _ (p q r : PassView) (e budget used : ℕ) (read : Did ReadEpoch p.trace 
       may slot has = (All-contains (IsPooled r.trace.shape (knows r.trace)) r.pool slot own.pooled has).1
 
       high : (slot : ℕ) → Contains r.pool slot → e ≤ stamp_in ((knows r.trace).own slot)
-      high slot has = All-contains (λ (s : ℕ). e ≤ stamp_in ((knows r.trace).own s)) r.pool slot (subst (IsBelow r e) none scanned.below) has
+      high slot has = All-contains (λ (s : ℕ). e ≤ stamp_in ((knows r.trace).own s)) r.pool slot (subst (IsStampedBelow r e) none scanned.below) has
 
       low : (slot : ℕ) → Contains r.pool slot → stamp_in ((knows r.trace).own slot) ≤ e
       low slot has =

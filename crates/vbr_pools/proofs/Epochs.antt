@@ -8,7 +8,7 @@ use Rattle.vbr_words.specs.Flags.{has_flag}
 use Rattle.vbr_core.specs.Acceptance.{Accepts, MayBear, stamp_in}
 use Rattle.vbr_core.specs.Accounts.{incarnations_after, notes_after, incarnations_with}
 use Rattle.vbr_core.specs.Agreement.{Agrees}
-use Rattle.vbr_core.specs.Incarnations.{Incarnations, nothing_yet}
+use Rattle.vbr_core.specs.Incarnations.{Incarnations, at_opening}
 use Rattle.vbr_core.specs.Knowledge.{Know}
 use Rattle.vbr_core.specs.Machine.{World, opening, found, stamp_shown, after}
 use Rattle.vbr_core.specs.Notes.{Notes, no_notes, notes_with}
@@ -30,41 +30,41 @@ record IsTimely (w : World) : Type 0 where
   read : (p : ℕ) → 1 ≤ (w.know p).epoch
 
 -- the epoch and the stamps
-abbrev times : World → ℕ × (ℕ → ℕ)
-times w = (w.epoch, w.stamp)
+abbrev epoch_and_stamps : World → ℕ × (ℕ → ℕ)
+epoch_and_stamps w = (w.epoch, w.stamp)
 
 -- the epoch is no smaller, and no stamp is above it
 abbrev Later : World → World → Type 0
 Later w v = (w.epoch ≤ v.epoch) × ((s : ℕ) → v.stamp s ≤ v.epoch)
 
-same_times : (w v : World) → times v ≡ times w → IsTimely w → Later w v
-same_times w v e t = subst (λ (x : ℕ × (ℕ → ℕ)). (w.epoch ≤ x.0) × ((s : ℕ) → x.1 s ≤ x.0)) (sym e) (omega arith, t.stamps)
+same_epoch_and_stamps : (w v : World) → epoch_and_stamps v ≡ epoch_and_stamps w → IsTimely w → Later w v
+same_epoch_and_stamps w v e t = subst (λ (x : ℕ × (ℕ → ℕ)). (w.epoch ≤ x.0) × ((s : ℕ) → x.1 s ≤ x.0)) (sym e) (omega arith, t.stamps)
 
 -- one step advances the epoch by 1 or leaves it, and stamps with no greater one
 later : (shape : Dimensions) (w : World) (p : ℕ) (step : Step) → IsTimely w → (w.know p).epoch ≤ w.epoch → Accepts shape (w.know p) step → Later w (after shape w p step)
-later shape w p ReadEpoch t low ok = same_times w (after shape w p ReadEpoch) refl t
+later shape w p ReadEpoch t low ok = same_epoch_and_stamps w (after shape w p ReadEpoch) refl t
 later shape w p (Advance from) t low ok =
     ⊎_elim (λ (x : (w.epoch == from) ≡ true). rw x (omega arith, λ s. let y = t.stamps s in omega arith)) (λ (x : (w.epoch == from) ≡ false). rw x (omega arith, t.stamps)) (cases_Bool (w.epoch == from))
-later shape w p (LoadStamp s) t low ok = same_times w w refl t
+later shape w p (LoadStamp s) t low ok = same_epoch_and_stamps w w refl t
 later shape w p (StoreStamp s stamp) t low ok = (
   omega arith,
   λ v. ⊎_elim (λ (x : v ≡ s). subst (λ (n : ℕ). n ≤ w.epoch) (sym (ap (put w.stamp s stamp) x ∙ put_here w.stamp s stamp)) (let e = ok.in_range.1 in omega arith)) (λ (x : v ≢ s). subst (λ (n : ℕ). n ≤ w.epoch) (sym (put_other w.stamp s stamp v x)) (t.stamps v)) (cases_eq v s),
 )
-later shape w p (Raise s) t low ok = same_times w (after shape w p (Raise s)) refl t
-later shape w p (TakeFlag s) t low ok = same_times w (after shape w p (TakeFlag s)) (by_both (has_flag (found shape w (TakeFlag s)) s) times _ w (times w) refl refl) t
-later shape w p (StoreBirth s birth) t low ok = same_times w (after shape w p (StoreBirth s birth)) refl t
-later shape w p (StoreKey s key) t low ok = same_times w (after shape w p (StoreKey s key)) refl t
-later shape w p (StoreLink s next) t low ok = same_times w (after shape w p (StoreLink s next)) refl t
-later shape w p (LoadLink at) t low ok = same_times w (after shape w p (LoadLink at)) refl t
-later shape w p (LoadBirth s) t low ok = same_times w (after shape w p (LoadBirth s)) refl t
-later shape w p (LoadKey s) t low ok = same_times w (after shape w p (LoadKey s)) refl t
-later shape w p (Publish (Head b) expected s) t low ok = same_times w (after shape w p (Publish (Head b) expected s)) (by_both (word_of (w.head b) == expected) times _ w (times w) refl refl) t
-later shape w p (Publish (Slot v) expected s) t low ok = same_times w (after shape w p (Publish (Slot v) expected s)) (by_both (word_of (w.link v) == expected) times _ w (times w) refl refl) t
-later shape w p (Mark s expected) t low ok = same_times w (after shape w p (Mark s expected)) (by_both (word_of (w.link s) == expected) times _ w (times w) refl refl) t
-later shape w p (Unlink (Head b) expected s) t low ok = same_times w (after shape w p (Unlink (Head b) expected s)) (by_both (word_of (w.head b) == expected) times _ w (times w) refl refl) t
-later shape w p (Unlink (Slot v) expected s) t low ok = same_times w (after shape w p (Unlink (Slot v) expected s)) (by_both (word_of (w.link v) == expected) times _ w (times w) refl refl) t
-later shape w p (ConfirmPresent op s expected) t low ok = same_times w (after shape w p (ConfirmPresent op s expected)) (by_both (word_of (w.link s) == expected) times _ w (times w) refl refl) t
-later shape w p (ConfirmAbsent op key at expected) t low ok = same_times w (after shape w p (ConfirmAbsent op key at expected)) (by_both (found shape w (ConfirmAbsent op key at expected) == expected) times _ w (times w) refl refl) t
+later shape w p (Raise s) t low ok = same_epoch_and_stamps w (after shape w p (Raise s)) refl t
+later shape w p (TakeFlag s) t low ok = same_epoch_and_stamps w (after shape w p (TakeFlag s)) (by_both (has_flag (found shape w (TakeFlag s)) s) epoch_and_stamps _ w (epoch_and_stamps w) refl refl) t
+later shape w p (StoreBirth s birth) t low ok = same_epoch_and_stamps w (after shape w p (StoreBirth s birth)) refl t
+later shape w p (StoreKey s key) t low ok = same_epoch_and_stamps w (after shape w p (StoreKey s key)) refl t
+later shape w p (StoreLink s next) t low ok = same_epoch_and_stamps w (after shape w p (StoreLink s next)) refl t
+later shape w p (LoadLink at) t low ok = same_epoch_and_stamps w (after shape w p (LoadLink at)) refl t
+later shape w p (LoadBirth s) t low ok = same_epoch_and_stamps w (after shape w p (LoadBirth s)) refl t
+later shape w p (LoadKey s) t low ok = same_epoch_and_stamps w (after shape w p (LoadKey s)) refl t
+later shape w p (Publish (Head b) expected s) t low ok = same_epoch_and_stamps w (after shape w p (Publish (Head b) expected s)) (by_both (word_of (w.head b) == expected) epoch_and_stamps _ w (epoch_and_stamps w) refl refl) t
+later shape w p (Publish (Slot v) expected s) t low ok = same_epoch_and_stamps w (after shape w p (Publish (Slot v) expected s)) (by_both (word_of (w.link v) == expected) epoch_and_stamps _ w (epoch_and_stamps w) refl refl) t
+later shape w p (Mark s expected) t low ok = same_epoch_and_stamps w (after shape w p (Mark s expected)) (by_both (word_of (w.link s) == expected) epoch_and_stamps _ w (epoch_and_stamps w) refl refl) t
+later shape w p (Unlink (Head b) expected s) t low ok = same_epoch_and_stamps w (after shape w p (Unlink (Head b) expected s)) (by_both (word_of (w.head b) == expected) epoch_and_stamps _ w (epoch_and_stamps w) refl refl) t
+later shape w p (Unlink (Slot v) expected s) t low ok = same_epoch_and_stamps w (after shape w p (Unlink (Slot v) expected s)) (by_both (word_of (w.link v) == expected) epoch_and_stamps _ w (epoch_and_stamps w) refl refl) t
+later shape w p (ConfirmPresent op s expected) t low ok = same_epoch_and_stamps w (after shape w p (ConfirmPresent op s expected)) (by_both (word_of (w.link s) == expected) epoch_and_stamps _ w (epoch_and_stamps w) refl refl) t
+later shape w p (ConfirmAbsent op key at expected) t low ok = same_epoch_and_stamps w (after shape w p (ConfirmAbsent op key at expected)) (by_both (found shape w (ConfirmAbsent op key at expected) == expected) epoch_and_stamps _ w (epoch_and_stamps w) refl refl) t
 
 -- the epoch that is read in a timely world is at least 1
 some_read : (shape : Dimensions) (w : World) (step : Step) (e : ℕ) → IsTimely w → 1 ≤ e → 1 ≤ epoch_after step (found shape w step) e
@@ -116,11 +116,11 @@ timely_from shape passes w a notes (event ∷ events) g ok t =
     let there = rest.1 in
     (rest.0, omega arith)
 
-timely_first : IsTimely opening
-timely_first = record { stamps = λ s. omega arith; some = omega arith; read = λ p. omega arith }
+timely_first : (shape : Dimensions) → IsTimely (opening shape)
+timely_first shape = record { stamps = λ s. omega arith; some = omega arith; read = λ p. omega arith }
 
 timely : (shape : Dimensions) (passes : ℕ) (run : List Event) → IsShape shape → IsRun shape passes run → IsTimely (world_after shape run)
-timely shape passes run is ok = (timely_from shape passes opening nothing_yet (λ p. no_notes) run (run_agrees shape passes [] is (is_run_first shape passes)) ok timely_first).0
+timely shape passes run is ok = (timely_from shape passes (opening shape) (at_opening shape) (λ p. no_notes) run (run_agrees shape passes [] is (is_run_first shape passes)) ok (timely_first shape)).0
 
 -- the epoch only rises
 pub epoch_rises : (shape : Dimensions) (passes : ℕ) (xs ys : List Event) → IsShape shape → IsRun shape passes (xs ++ ys) → (world_after shape xs).epoch ≤ (world_after shape (xs ++ ys)).epoch

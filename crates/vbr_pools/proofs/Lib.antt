@@ -6,10 +6,11 @@ mod AloneRetirement
 mod Counting
 mod Advancing
 mod Scanning
-mod AloneClaiming
-mod Claiming
+mod AloneWinning
+mod Winning
 mod Births
-mod Raising
+mod EpochReads
 mod Choosing
 mod Takings
+mod HadSlots
 pub mod Lemmas

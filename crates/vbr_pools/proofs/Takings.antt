@@ -11,7 +11,7 @@ use Rattle.vbr_slots.proofs.Lemmas.{alone_first, quiet_on, quiet_refl}
 use Rattle.vbr_pools.specs.Advances.{AdvancesWhereNeeded}
 use Rattle.vbr_pools.specs.KeptSlots.{KeepsSlots, SharesWhereFull, TakesNoSlot}
 use Rattle.vbr_pools.specs.Hands.{HandView}
-use Rattle.vbr_pools.specs.Budgets.{NeedsMore, steps_to_claim, steps_to_take}
+use Rattle.vbr_pools.specs.Budgets.{NeedsMore, steps_to_win, steps_to_take}
 use Rattle.vbr_pools.specs.Pieces.{Uses, TakeIsShort, Stops, HasSlots, IsChosen, IsBorn}
 use Rattle.vbr_pools.specs.Refusals.{HadRoom, TakeIsRefused, LeavesPool}
 use Rattle.vbr_pools.specs.SharedPool.{CameByFlag}
@@ -25,9 +25,9 @@ use Rattle.vbr_pools.proofs.Moments.{came_before}
 
 -- ---- how many steps
 
--- the steps of a claim, and those that are made at most for a slot of the own pool, are at most those of a call that takes a slot
-claimed_few : (p q : PassView) (budget used : ℕ) → HasSlots p q budget used → (p.pool ≡ [] → used ≤ steps_to_claim p.trace.shape) → used + (length q.pool + 4) ≤ steps_to_take p.trace.shape p.pool
-claimed_few p q budget used begun few = ⊎_elim own shared begun.claimed
+-- the steps to win a slot, and those that are made at most for a slot of the own pool, are at most those of a call that takes a slot
+won_few : (p q : PassView) (budget used : ℕ) → HasSlots p q budget used → (p.pool ≡ [] → used ≤ steps_to_win p.trace.shape) → used + (length q.pool + 4) ≤ steps_to_take p.trace.shape p.pool
+won_few p q budget used begun few = ⊎_elim own shared begun.won
   where
     at_most : (pool : List ℕ) → pool ≢ [] → used ≡ 0 → length q.pool ≤ POOL → used + (length q.pool + 4) ≤ steps_to_take p.trace.shape pool
     at_most [] some none room = absurd (some refl)
@@ -43,19 +43,19 @@ claimed_few p q budget used begun few = ⊎_elim own shared begun.claimed
         let most = few x.0 in
         subst P (sym x.0) (omega (arith, one, most))
 
--- a claim that was refused for want of steps
-pub claim_enough : (p : PassView) (budget : ℕ) (refusal : TakeRefusal) → p.pool ≡ [] → NeedsMore (steps_to_claim p.trace.shape) budget refusal → NeedsMore (steps_to_take p.trace.shape p.pool) budget refusal
-claim_enough p budget (OutOfSteps used) empty short =
+-- a slot that was not won for want of steps
+pub win_enough : (p : PassView) (budget : ℕ) (refusal : TakeRefusal) → p.pool ≡ [] → NeedsMore (steps_to_win p.trace.shape) budget refusal → NeedsMore (steps_to_take p.trace.shape p.pool) budget refusal
+win_enough p budget (OutOfSteps used) empty short =
     let P : List ℕ → Type 0 = λ pool. budget < steps_to_take p.trace.shape pool + 7 in
     subst P (sym empty) (omega (arith, short))
-claim_enough p budget NoSlot empty short = tt
-claim_enough p budget (EpochSpent epoch) empty short = tt
+win_enough p budget NoSlot empty short = tt
+win_enough p budget (EpochSpent epoch) empty short = tt
 
--- a claim is never refused for a spent epoch, since the own pool is empty then
-pub claim_room : (p q : PassView) (budget : ℕ) (refusal : TakeRefusal) → p.pool ≡ [] → KeepsPool p q → TakeIsRefused p q budget refusal → HadRoom p q budget refusal
-claim_room p q budget (OutOfSteps used) empty keeps refused = tt
-claim_room p q budget NoSlot empty keeps refused = tt
-claim_room p q budget (EpochSpent epoch) empty keeps refused = absurd (refused.some (keeps.0 ∙ empty))
+-- to win a slot is never refused for a spent epoch, since the own pool is empty then
+pub win_room : (p q : PassView) (budget : ℕ) (refusal : TakeRefusal) → p.pool ≡ [] → KeepsPool p q → TakeIsRefused p q budget refusal → HadRoom p q budget refusal
+win_room p q budget (OutOfSteps used) empty keeps refused = tt
+win_room p q budget NoSlot empty keeps refused = tt
+win_room p q budget (EpochSpent epoch) empty keeps refused = absurd (refused.some (keeps.0 ∙ empty))
 
 -- ---- the pieces
 
@@ -67,7 +67,7 @@ module _ (p q r : PassView) (budget used : ℕ) (first : Quiet p.trace q.trace) 
   pub leaves : LeavesPool p r
   leaves =
       ⊎_elim (λ (x : (q.pool ≡ p.pool) × (p.pool ≢ []) × (used ≡ 0)). inl (keeps.0 ∙ x.0))
-      (λ (x : (p.pool ≡ []) × (slot : ℕ) × (q.pool ≡ slot ∷ []) × CameByFlag p.trace q.trace slot). inr (x.0, x.1, keeps.0 ∙ x.2, came_before x.3 quiet)) begun.claimed
+      (λ (x : (p.pool ≡ []) × (slot : ℕ) × (q.pool ≡ slot ∷ []) × CameByFlag p.trace q.trace slot). inr (x.0, x.1, keeps.0 ∙ x.2, came_before x.3 quiet)) begun.won
 
   pub advances_all : AdvancesWhereNeeded q r → AdvancesWhereNeeded p r
   advances_all = needed_after {p = p} {q = q} {r = r} first none
@@ -91,9 +91,9 @@ module _ (p q r : PassView) (budget used : ℕ) (first : Quiet p.trace q.trace) 
   stops_within most NoSlot s = absurd s
   stops_within most (EpochSpent e) s = took_within (uses_on begun.uses s.uses)
 
-  pub stops_enough : (refusal : TakeRefusal) → (p.pool ≡ [] → IsAlone p.trace q.trace → used ≤ steps_to_claim p.trace.shape) → Stops q r budget used (length q.pool + 1) refusal → IsAlone p.trace r.trace → NeedsMore (steps_to_take p.trace.shape p.pool) budget refusal
+  pub stops_enough : (refusal : TakeRefusal) → (p.pool ≡ [] → IsAlone p.trace q.trace → used ≤ steps_to_win p.trace.shape) → Stops q r budget used (length q.pool + 1) refusal → IsAlone p.trace r.trace → NeedsMore (steps_to_take p.trace.shape p.pool) budget refusal
   stops_enough (OutOfSteps n) few s alone =
-      let most = claimed_few p q budget used begun (λ empty. few empty (alone_first {p = p.trace} {q = q.trace} {r = r.trace} first.seen quiet.seen alone)) in
+      let most = won_few p q budget used begun (λ empty. few empty (alone_first {p = p.trace} {q = q.trace} {r = r.trace} first.seen quiet.seen alone)) in
       let short = s.short in
       let made = s.uses.at_most in
       omega (arith, most, short, made)
@@ -117,13 +117,13 @@ module _ (p q r : PassView) (budget used : ℕ) (first : Quiet p.trace q.trace) 
     from birth more oldest =
         ⊎_elim (λ (x : (q.pool ≡ p.pool) × (p.pool ≢ []) × (used ≡ 0)). inl (subst (λ (l : List ℕ). IsOldest (knows t.trace) l slot birth) (keeps.0 ∙ x.0) oldest))
         (λ (x : (p.pool ≡ []) × (s : ℕ) × (q.pool ≡ s ∷ []) × CameByFlag p.trace q.trace s).
-        inr (x.0, subst (CameByFlag p.trace t.trace) (one x.1 (subst (λ (l : List ℕ). Contains l slot) (keeps.0 ∙ x.2) chosen.below.0)) (came_before x.3 (quiet_on quiet more)))) begun.claimed
+        inr (x.0, subst (CameByFlag p.trace t.trace) (one x.1 (subst (λ (l : List ℕ). Contains l slot) (keeps.0 ∙ x.2) chosen.below.0)) (came_before x.3 (quiet_on quiet more)))) begun.won
 
     rest : t.pool ≡ without slot r.pool → t.pool ≡ without slot p.pool
     rest is =
         ⊎_elim (λ (x : (q.pool ≡ p.pool) × (p.pool ≢ []) × (used ≡ 0)). is ∙ ap (without slot) (keeps.0 ∙ x.0))
         (λ (x : (p.pool ≡ []) × (s : ℕ) × (q.pool ≡ s ∷ []) × CameByFlag p.trace q.trace s).
-        is ∙ ap (without slot) (keeps.0 ∙ x.2) ∙ gone x.1 (one x.1 (subst (λ (l : List ℕ). Contains l slot) (keeps.0 ∙ x.2) chosen.below.0)) ∙ sym (ap (without slot) x.0)) begun.claimed
+        is ∙ ap (without slot) (keeps.0 ∙ x.2) ∙ gone x.1 (one x.1 (subst (λ (l : List ℕ). Contains l slot) (keeps.0 ∙ x.2) chosen.below.0)) ∙ sym (ap (without slot) x.0)) begun.won
 
     pub taken : (hand : HandView) → IsBorn r t slot budget since hand → IsTaken p t hand
     taken hand born = subst (λ (s : ℕ). (IsOldest (knows t.trace) p.pool s hand.birth ⊎ ((p.pool ≡ []) × CameByFlag p.trace t.trace s)) → (stamp_in ((knows t.trace).own s) < hand.birth) → (t.pool ≡ without s p.pool) → IsTaken p t hand) born.slot
@@ -158,20 +158,20 @@ module _ (p q r : PassView) (budget used : ℕ) (first : Quiet p.trace q.trace) 
           go (Err refusal) born is = tt
 
       -- what was used before the birth, by a pass that was alone
-      chosen_few : (p.pool ≡ [] → IsAlone p.trace q.trace → used ≤ steps_to_claim p.trace.shape) → IsAlone p.trace t.trace → since + 1 ≤ steps_to_take p.trace.shape p.pool
+      chosen_few : (p.pool ≡ [] → IsAlone p.trace q.trace → used ≤ steps_to_win p.trace.shape) → IsAlone p.trace t.trace → since + 1 ≤ steps_to_take p.trace.shape p.pool
       chosen_few few alone =
-          let most = claimed_few p q budget used begun (λ empty. few empty (alone_first {p = p.trace} {q = q.trace} {r = r.trace} first.seen quiet.seen (alone_first {p = p.trace} {q = r.trace} {r = t.trace} quiet_all.seen quiet_last.seen alone))) in
+          let most = won_few p q budget used begun (λ empty. few empty (alone_first {p = p.trace} {q = q.trace} {r = r.trace} first.seen quiet.seen (alone_first {p = p.trace} {q = r.trace} {r = t.trace} quiet_all.seen quiet_last.seen alone))) in
           let made = chosen.uses.at_most in
           omega (arith, most, made)
 
-      pub ends_few : (p.pool ≡ [] → IsAlone p.trace q.trace → used ≤ steps_to_claim p.trace.shape) → IfOk result (λ b. b.1 ≡ since + 1) → IfOk result (λ b. IsAlone p.trace t.trace → b.1 ≤ steps_to_take p.trace.shape p.pool)
+      pub ends_few : (p.pool ≡ [] → IsAlone p.trace q.trace → used ≤ steps_to_win p.trace.shape) → IfOk result (λ b. b.1 ≡ since + 1) → IfOk result (λ b. IsAlone p.trace t.trace → b.1 ≤ steps_to_take p.trace.shape p.pool)
       ends_few few used_is = go result used_is
         where
           go : (x : Result (HandView × ℕ) TakeRefusal) → IfOk x (λ b. b.1 ≡ since + 1) → IfOk x (λ b. IsAlone p.trace t.trace → b.1 ≤ steps_to_take p.trace.shape p.pool)
           go (Ok b) is = λ alone. let m = chosen_few few alone in omega (arith, m, is)
           go (Err refusal) is = tt
 
-      pub ends_enough : (p.pool ≡ [] → IsAlone p.trace q.trace → used ≤ steps_to_claim p.trace.shape) → IfErr result (λ refusal. IsAlone p.trace t.trace → NeedsMore (steps_to_take p.trace.shape p.pool) budget refusal)
+      pub ends_enough : (p.pool ≡ [] → IsAlone p.trace q.trace → used ≤ steps_to_win p.trace.shape) → IfErr result (λ refusal. IsAlone p.trace t.trace → NeedsMore (steps_to_take p.trace.shape p.pool) budget refusal)
       ends_enough few = go result refused
         where
           go : (x : Result (HandView × ℕ) TakeRefusal) → IfErr x (λ refusal. TakeIsShort r t budget since 0 refusal) → IfErr x (λ refusal. IsAlone p.trace t.trace → NeedsMore (steps_to_take p.trace.shape p.pool) budget refusal)

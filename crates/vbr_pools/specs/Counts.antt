@@ -1,8 +1,8 @@
--- How many steps of a kind a pass has made: those that would advance the epoch, and those that raise a flag.
+-- Kinds of steps, and how many of a kind a pass has made: those that would advance the epoch, and those that raise a flag.
 use Rattle.std.specs.Prelude.{ℕ, ◌==◌, ◌&&◌, Bool, true, false, count_by}
 use Rattle.vbr_core.specs.declared.event.Event.{Event}
 use Rattle.vbr_core.specs.declared.event.Step.{Step}
-use Rattle.vbr_core.specs.declared.event.Step.TheVariants.{Advance, Raise}
+use Rattle.vbr_core.specs.declared.event.Step.TheVariants.{Advance, StoreStamp, Raise, TakeFlag, StoreBirth, Unlink}
 use Rattle.vbr_slots.specs.Views.{Trace}
 
 -- whether a step would advance the epoch
@@ -14,6 +14,21 @@ is_advance _ = false
 abbrev pub is_raise : Step → Bool
 is_raise (Raise slot) = true
 is_raise _ = false
+
+-- whether a step may advance the epoch, give its pass a slot that it may give birth in or has to stamp, or raise a flag
+abbrev pub advances_or_gives : Step → Bool
+advances_or_gives (Advance from) = true
+advances_or_gives (StoreStamp s stamp) = true
+advances_or_gives (Raise s) = true
+advances_or_gives (TakeFlag s) = true
+advances_or_gives (StoreBirth s birth) = true
+advances_or_gives (Unlink pred expected s) = true
+advances_or_gives _ = false
+
+-- whether a step may unlink a slot
+abbrev pub is_unlink : Step → Bool
+is_unlink (Unlink pred expected s) = true
+is_unlink _ = false
 
 -- how many of the steps that the pass has made are of a kind
 abbrev pub made_of : (Step → Bool) → Trace → ℕ

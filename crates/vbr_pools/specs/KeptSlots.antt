@@ -1,5 +1,5 @@
 -- What a call keeps of the slots of its pass.
-use Rattle.std.specs.Prelude.{◌≡◌, ℕ, ◌+◌, ◌≤◌, List, ◌++◌, length, Some, Contains, ◌⊎◌}
+use Rattle.std.specs.Prelude.{◌≡◌, ◌≢◌, ℕ, ◌+◌, ◌≤◌, Bool, true, List, ◌++◌, length, Result, Ok, Some, Contains, ◌⊎◌}
 use Rattle.vbr_core.specs.Acceptance.{IsUnlinked, MayBear}
 use Rattle.vbr_core.specs.Knowledge.{Know}
 use Rattle.vbr_slots.specs.declared.pass.TheConstants.{POOL}
@@ -9,6 +9,19 @@ use Rattle.vbr_pools.specs.Counts.{advances, flags_raised}
 -- a slot in the own pool of the pass, or in its hand
 abbrev pub HasSlot : PassView → ℕ → Type 0
 HasSlot pass slot = Contains pass.pool slot ⊎ (pass.hand ≡ Some slot)
+
+-- each slot that the pass had, in its own pool or in its hand, it has still
+abbrev pub HasStill : PassView → PassView → Type 0
+HasStill p q = (slot : ℕ) → HasSlot p slot → HasSlot q slot
+
+-- each slot that the pass had it has still, but for one
+abbrev pub HasAllButOne : PassView → PassView → Type 0
+HasAllButOne p q = (one : ℕ) × ((slot : ℕ) → HasSlot p slot → slot ≢ one → HasSlot q slot)
+
+-- each slot that the pass had it has still, but for the one that it published, if the key was added
+abbrev pub HasUnpublished : {E : Type 0} → PassView → PassView → Result Bool E → Type 0
+HasUnpublished p q (Ok true) = HasAllButOne p q
+HasUnpublished p q answer = HasStill p q
 
 -- a slot that the pass could take at a moment of a call, by what it knows then: it may give birth there, and did not keep the slot outside its pool when the call began
 abbrev pub CouldTake : PassView → Know → ℕ → Type 0

@@ -45,32 +45,32 @@ Stops p q budget before most NoSlot = ⊥
 Stops p q budget before most (EpochSpent epoch) = ShowsSpent p q budget before most epoch
 
 -- the own pool is as it was, which had slots, and no step was made; or it was empty, and has one slot, which came by its flag
-abbrev pub IsClaimed : PassView → PassView → ℕ → Type 0
-IsClaimed p q used =
+abbrev pub IsWon : PassView → PassView → ℕ → Type 0
+IsWon p q used =
     ((q.pool ≡ p.pool) × (p.pool ≢ []) × (used ≡ 0)) ⊎ ((p.pool ≡ []) × (slot : ℕ) × (q.pool ≡ slot ∷ []) × CameByFlag p.trace q.trace slot)
 
 -- the own pool has slots
 pub record HasSlots (p q : PassView) (budget used : ℕ) : Type 0 where
   pub uses : Uses p q budget 0 used budget
   pub hand : q.hand ≡ None
-  pub claimed : IsClaimed p q used
+  pub won : IsWon p q used
   pub some : q.pool ≢ []
   pub room : length q.pool ≤ POOL
 
 -- the oldest slot of the own pool that is stamped below an epoch, or that there is none
-abbrev pub IsBelow : PassView → ℕ → Option ℕ → Type 0
-IsBelow q epoch None = All (λ slot. epoch ≤ stamp_in ((knows q.trace).own slot)) q.pool
-IsBelow q epoch (Some slot) = Contains q.pool slot × (stamp_in ((knows q.trace).own slot) < epoch) × IsOldest (knows q.trace) q.pool slot epoch
+abbrev pub IsStampedBelow : PassView → ℕ → Option ℕ → Type 0
+IsStampedBelow q epoch None = All (λ slot. epoch ≤ stamp_in ((knows q.trace).own slot)) q.pool
+IsStampedBelow q epoch (Some slot) = Contains q.pool slot × (stamp_in ((knows q.trace).own slot) < epoch) × IsOldest (knows q.trace) q.pool slot epoch
 
 -- the own pool was looked through for a slot that is stamped below an epoch
 pub record IsScanned (p q : PassView) (epoch budget before : ℕ) (found : Option ℕ) (since : ℕ) : Type 0 where
   pub uses : Uses p q budget before since (length p.pool)
-  pub below : IsBelow q epoch found
+  pub below : IsStampedBelow q epoch found
 
 -- the slot is the oldest one of the own pool that is stamped below the epoch that the pass read last
 pub record IsChosen (p q : PassView) (budget before slot since : ℕ) : Type 0 where
   pub uses : Uses p q budget before since (length p.pool + 3)
-  pub below : IsBelow q (knows q.trace).epoch (Some slot)
+  pub below : IsStampedBelow q (knows q.trace).epoch (Some slot)
 
 -- the slot is in hand, and an incarnation was born there at the epoch that the pass read last; the other slots of the pass stay its own
 pub record IsBorn (p q : PassView) (chosen budget before : ℕ) (hand : HandView) : Type 0 where

@@ -18,6 +18,6 @@ pub fn give_back(pass: &mut Pass, hand: Hand)
     ensures hand { pass.new.hand ≡ None }
     ensures kept { KeepsSlots pass.old pass.new }
 {
-    let _pool = pass.pool();
+    pass.law();
     pass.keep(hand.into_slot());
 }

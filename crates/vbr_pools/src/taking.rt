@@ -6,8 +6,8 @@ ghost use Rattle.vbr_slots.specs.Pools.{OwnPool};
 ghost use Rattle.vbr_slots.specs.Views.{IsOf, KeepsPool, knows};
 ghost use Rattle.vbr_pools.specs.Advances.{AdvancesWhereNeeded};
 ghost use Rattle.vbr_pools.specs.KeptSlots.{KeepsSlots, TakesNoSlot, SharesWhereFull};
-ghost use Rattle.vbr_pools.specs.Budgets.{NeedsMore, steps_to_claim, steps_to_take};
-ghost use Rattle.vbr_pools.specs.Pieces.{HasSlots, IsBelow, IsBorn, IsChosen, IsScanned, TakeIsShort, Stops};
+ghost use Rattle.vbr_pools.specs.Budgets.{NeedsMore, steps_to_win, steps_to_take};
+ghost use Rattle.vbr_pools.specs.Pieces.{HasSlots, IsStampedBelow, IsBorn, IsChosen, IsScanned, TakeIsShort, Stops};
 ghost use Rattle.vbr_pools.specs.Refusals.{HadRoom, TakeIsRefused, LeavesPool, IsTakenOrSpent};
 ghost use Rattle.vbr_pools.specs.Steps.{TookWithin};
 ghost use Rattle.vbr_pools.specs.Taking.{IsTaken};
@@ -75,7 +75,7 @@ pub fn take_counted(slots: &Slots, pass: &mut Pass, budget: u32) -> Result<(Hand
     ensures few { IfOk result (λ r. IsAlone pass.old.trace pass.new.trace → r.1 ≤ steps_to_take pass.old.trace.shape pass.old.pool) }
     ensures enough { IfErr result (λ refusal. IsAlone pass.old.trace pass.new.trace → NeedsMore (steps_to_take pass.old.trace.shape pass.old.pool) budget refusal) }
 {
-    let used = claim(slots, pass, budget)?;
+    let used = win_slot(slots, pass, budget)?;
     let (slot, used) = choose(slots, pass, budget, used)?;
     bear(slots, pass, slot, budget, used)
 }
@@ -83,7 +83,7 @@ pub fn take_counted(slots: &Slots, pass: &mut Pass, budget: u32) -> Result<(Hand
 // Sees to it that the own pool has a slot: if it is empty, takes the first one out of the shared pool.
 // It probes the first slot of each flag word, and then the lowest whose flag it found there, until the
 // word has none. Returns how many steps were used.
-fn claim(slots: &Slots, pass: &mut Pass, budget: u32) -> Result<u32, TakeRefusal>
+fn win_slot(slots: &Slots, pass: &mut Pass, budget: u32) -> Result<u32, TakeRefusal>
     requires own { IsOf pass.old.trace slots.now }
     requires empty_hand { pass.old.hand ≡ None }
     ensures quiet { Quiet pass.old.trace pass.new.trace }
@@ -93,8 +93,8 @@ fn claim(slots: &Slots, pass: &mut Pass, budget: u32) -> Result<u32, TakeRefusal
     ensures refused { IfErr result (λ refusal. TakeIsRefused pass.old pass.new budget refusal) }
     ensures steps { IfErr result (λ refusal. TookWithin pass.old.trace pass.new.trace budget) }
     ensures pool { IfErr result (λ refusal. KeepsPool pass.old pass.new) }
-    ensures few { IfOk result (λ used. pass.old.pool ≡ [] → IsAlone pass.old.trace pass.new.trace → used ≤ steps_to_claim pass.old.trace.shape) }
-    ensures enough { IfErr result (λ refusal. IsAlone pass.old.trace pass.new.trace → NeedsMore (steps_to_claim pass.old.trace.shape) budget refusal) }
+    ensures few { IfOk result (λ used. pass.old.pool ≡ [] → IsAlone pass.old.trace pass.new.trace → used ≤ steps_to_win pass.old.trace.shape) }
+    ensures enough { IfErr result (λ refusal. IsAlone pass.old.trace pass.new.trace → NeedsMore (steps_to_win pass.old.trace.shape) budget refusal) }
 {
     if !pass.pool().is_empty() {
         return Ok(0);
@@ -109,7 +109,7 @@ fn claim(slots: &Slots, pass: &mut Pass, budget: u32) -> Result<u32, TakeRefusal
         probes += 1;
         match slots.take_flag(pass, slot) {
             Ok(()) => {
-                let _pool = pass.pool();
+                pass.law();
                 pass.keep(slot);
                 return Ok(probes);
             }
@@ -198,7 +198,7 @@ fn bear(
 ) -> Result<(Hand, u32), TakeRefusal>
     requires own { IsOf pass.old.trace slots.now }
     requires within { used ≤ budget }
-    requires below { IsBelow pass.old (knows pass.old.trace).epoch (Some slot) }
+    requires below { IsStampedBelow pass.old (knows pass.old.trace).epoch (Some slot) }
     requires empty_hand { pass.old.hand ≡ None }
     ensures ok { IfOk result (λ r. IsBorn pass.old pass.new slot budget used r.0) }
     ensures used { IfOk result (λ r. r.1 ≡ used + 1) }

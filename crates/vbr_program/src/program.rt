@@ -14,7 +14,7 @@ use std::io::{Read, Write};
 use std::sync::Wait;
 use std::thread::Threads;
 use vbr_player::{NoGate, play};
-use vbr_settings::{Refusal, read_options};
+use vbr_settings::{OptionsError, read_options};
 use vbr_transcript::{RunError, WriteFault, write_pieces, write_whole};
 
 /// The exit status of a run that was done.
@@ -32,7 +32,7 @@ pub const DEVICE_FAULT: u8 = 4;
 /// The exit status where there was no memory, or no thread for a worker.
 pub const NO_RESOURCES: u8 = 5;
 
-/// The program's body: reads the options from the words, of which the first is the program's name,
+/// The program's body: reads the options from the arguments, of which the first is the program's name,
 /// plays the script that the reader gives, and answers the exit status. A fault is told in one line
 /// on `errors`; an error of `errors` itself is ignored. A fault in the options comes before a shape
 /// that is none, and both before anything is read; for a fault in the options `clap`'s text is
@@ -44,7 +44,7 @@ pub const NO_RESOURCES: u8 = 5;
 /// let status = vbr_run::run(
 ///     &rt,
 ///     alloc,
-///     &words,
+///     &texts,
 ///     &mut rt.stdin(),
 ///     &mut rt.stdout(),
 ///     &mut rt.stderr(),
@@ -54,32 +54,32 @@ pub const NO_RESOURCES: u8 = 5;
 pub fn run<T: Threads + Wait, R: Read, W: Write, E: Write>(
     rt: &T,
     alloc: Global,
-    words: &[&str],
+    arguments: &[&str],
     reader: &mut R,
     writer: &mut W,
     errors: &mut E,
 ) -> u8
-    ensures played { AreOptions (map (λ word. word.now) words.now) → shape_fault (settings_of (map (λ word. word.now) words.now)) ≡ None →
-        IsPlayed (settings_of (map (λ word. word.now) words.now)) (R.remaining reader.old) (W.contents writer.old) (W.contents writer.new) (E.contents errors.old) (E.contents errors.new) result }
-    ensures unshaped { (error : ShapeError) → AreOptions (map (λ word. word.now) words.now) → shape_fault (settings_of (map (λ word. word.now) words.now)) ≡ Some error →
+    ensures played { AreOptions (map (λ argument. argument.now) arguments.now) → shape_fault (settings_of (map (λ argument. argument.now) arguments.now)) ≡ None →
+        IsPlayed (settings_of (map (λ argument. argument.now) arguments.now)) (R.remaining reader.old) (W.contents writer.old) (W.contents writer.new) (E.contents errors.old) (E.contents errors.new) result }
+    ensures unshaped { (error : ShapeError) → AreOptions (map (λ argument. argument.now) arguments.now) → shape_fault (settings_of (map (λ argument. argument.now) arguments.now)) ≡ Some error →
         IsUnshaped error (W.contents writer.old) (W.contents writer.new) (E.contents errors.old) (E.contents errors.new) result
         ⊎ LacksMemory (W.contents writer.old) (W.contents writer.new) (E.contents errors.old) (E.contents errors.new) result }
-    ensures others { IsPlayed (settings_of (map (λ word. word.now) words.now)) (R.remaining reader.old) (W.contents writer.old) (W.contents writer.new) (E.contents errors.old) (E.contents errors.new) result
+    ensures others { IsPlayed (settings_of (map (λ argument. argument.now) arguments.now)) (R.remaining reader.old) (W.contents writer.old) (W.contents writer.new) (E.contents errors.old) (E.contents errors.new) result
         ⊎ (Helps (W.contents writer.old) (W.contents writer.new) result ⊎ IsFault (W.contents writer.old) (W.contents writer.new) result) }
     ensures unread { result ≡ USAGE → reader.new ≡ reader.old }
 {
-    match read_options(alloc, words) {
+    match read_options(alloc, arguments) {
         Ok(config) => match play(rt, alloc, config, reader, writer, &NoGate) {
             Ok(_totals) => DONE,
             Err(error) => report(errors, error),
         },
-        Err(Refusal::Unshaped(error)) => report_shape(errors, error),
-        Err(Refusal::Usage(refusal)) => show(alloc, &refusal, writer, errors),
+        Err(OptionsError::Unshaped(error)) => report_shape(errors, error),
+        Err(OptionsError::Usage(refusal)) => show(alloc, &refusal, writer, errors),
     }
 }
 
 // Shows what `clap` answers in place of the options: the help, the version, or what is wrong with the
-// words.
+// arguments.
 fn show<W: Write, E: Write>(
     alloc: Global,
     refusal: &clap::Error,

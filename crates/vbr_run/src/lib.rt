@@ -1,5 +1,7 @@
 //! The player of scripts under one name: it reads a script of calls of a set, plays it on worker
-//! threads, and prints replies and totals.
+//! threads, and prints replies and totals. The set is `vbr_set`: Michael's list-based set (Michael
+//! 2002) over slots that are used again by Version Based Reclamation (Sheffi, Herlihy and Petrank
+//! 2021).
 //!
 //! [`parse_script`] reads a script, [`play`] plays one over any reader and writer, and [`run`] is the
 //! body of the program, with its options and exit statuses. What they do stands in the crates that
@@ -13,7 +15,8 @@
 //! ```
 //!
 //! Each line of a script is one call of the set, by the member of its worker, with the budget of the
-//! config. A call that is refused is told as `full`, `spent` or `tired`, and the run goes on. A run that
+//! config: at most so many steps, and 2(w - 1) steps more after each phase of w workers, which then
+//! meet. A call that is refused is told as `full`, `spent` or `tired`, and the run goes on. A run that
 //! isn't done is a [`RunError`]: for a faulty script, a failing reader, want of memory or of a thread
 //! nothing was written; a failing writer has a beginning of the output.
 #![tactic(auto)]

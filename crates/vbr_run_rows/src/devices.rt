@@ -178,14 +178,14 @@ fn a_flush_that_fails_is_a_write_fault(rt: HostRuntime) {
 /// A writer of standard error that fails is ignored.
 #[test]
 fn failing_errors_are_ignored(rt: HostRuntime) {
-    let words = ["vbr_run"];
+    let arguments = ["vbr_run"];
     let mut reader = b"0 insert".as_slice();
     let mut output = Vec::new(rt.alloc());
     let mut errors = SmallWriter::new(rt.alloc(), 9, AtEnd::Fails);
     let status = vbr_run::run(
         &rt,
         rt.alloc(),
-        words.as_slice(),
+        arguments.as_slice(),
         &mut reader,
         &mut output,
         &mut errors,

@@ -105,15 +105,15 @@ const CALLS: [(u32, Reply); 4] = [
 /// A gate that counts how often it is rightly told of each line of the script, before its call and
 /// behind it.
 #[derive(Drop)]
-struct Witness {
+struct Recorder {
     begun: [AtomicU32; 4],
     answered: [AtomicU32; 4],
     was_misled: AtomicBool,
 }
 
-impl Witness {
+impl Recorder {
     fn new() -> Self {
-        Witness {
+        Recorder {
             begun: counts(),
             answered: counts(),
             was_misled: AtomicBool::new(false),
@@ -140,7 +140,7 @@ fn counts() -> [AtomicU32; 4] {
     ]
 }
 
-impl Gate for Witness {
+impl Gate for Recorder {
     fn before(&self, worker: u32, line: u64) {
         let call = CALLS.get(line as usize);
         let is_right = matches!(call, Some((who, _)) if *who == worker);
@@ -157,7 +157,7 @@ impl Gate for Witness {
 /// Each worker tells of each of its lines once before the call and once behind it, with its reply.
 #[test]
 fn a_gate_is_told_of_each_call(rt: HostRuntime) -> Result<(), Fail> {
-    let gate = Witness::new();
+    let gate = Recorder::new();
     play_at(&rt, rt.alloc(), SCRIPT, &gate)?;
     assert!(rt; !gate.was_misled.load(Ordering::SeqCst));
     for count in gate.begun.iter().chain(gate.answered.iter()) {

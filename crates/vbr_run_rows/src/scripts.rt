@@ -134,7 +134,7 @@ fn has_a_greatest_number_of_sync_lines(rt: HostRuntime) -> Result<(), Fail> {
 }
 
 #[test]
-fn tells_words_before_too_many(rt: HostRuntime) -> Result<(), Fail> {
+fn tells_tokens_before_too_many(rt: HostRuntime) -> Result<(), Fail> {
     let mut text = lines_of(rt.alloc(), b"sync\n", 10_000)?;
     text.extend_from_slice(b"sync 0")?;
     assert_eq!(rt; fault_of(rt.alloc(), &text, 1), Some((10_001, 1)));

@@ -8,7 +8,7 @@ use Rattle.vbr_script.specs.declared.script.Line.{Line}
 use Rattle.vbr_script.specs.declared.script.Meaning.{Meaning}
 use Rattle.vbr_script.specs.declared.script.Meaning.TheVariants.{Blank, Sync, Asks, Faulty}
 use Rattle.vbr_script.specs.declared.script.TheConstants.{MAX_OPERATIONS, MAX_SYNCS}
-use Rattle.vbr_script.specs.Text.{lines_of, words_of}
+use Rattle.vbr_script.specs.Text.{lines_of, tokens_of}
 use Rattle.vbr_script.specs.Grammar.{meaning_of}
 use Rattle.vbr_script.specs.Scripts.{limited, all_limited, operations_from, first_fault_from, is_sync, script_of, phases_of, first_fault}
 
@@ -16,9 +16,9 @@ use Rattle.vbr_script.specs.Scripts.{limited, all_limited, operations_from, firs
 pub one_more : (line : Meaning) (lines : List Meaning) → count_by is_sync (line ∷ lines) ≡ cond (is_sync line) 1 0 + count_by is_sync lines
 one_more line lines = sum_by-cons (λ line. cond (is_sync line) 1 0) line lines
 
--- what lines of words mean
+-- what lines of tokens mean
 abbrev pub all_meanings : ℕ → List (List ℕ) → List Meaning
-all_meanings workers lines = map (λ line. meaning_of workers (words_of line)) lines
+all_meanings workers lines = map (λ line. meaning_of workers (tokens_of line)) lines
 
 -- ---- one line in front of others
 
@@ -51,7 +51,7 @@ pub record HasRead (workers : ℕ) (text : List ℕ) (lines : List Line) (phase 
   pub few_syncs : phase ≤ MAX_SYNCS
 
 -- the first of the lines of a text that are left
-pub first_left : (workers : ℕ) (text : List ℕ) (lines : List Line) (phase number : ℕ) (rest line after : List ℕ) → lines_of rest ≡ line ∷ lines_of after → HasRead workers text lines phase number (all_meanings workers (lines_of rest)) → HasRead workers text lines phase number (meaning_of workers (words_of line) ∷ all_meanings workers (lines_of after))
+pub first_left : (workers : ℕ) (text : List ℕ) (lines : List Line) (phase number : ℕ) (rest line after : List ℕ) → lines_of rest ≡ line ∷ lines_of after → HasRead workers text lines phase number (all_meanings workers (lines_of rest)) → HasRead workers text lines phase number (meaning_of workers (tokens_of line) ∷ all_meanings workers (lines_of after))
 first_left workers text lines phase number rest line after is read = rw is at read
 
 pub read_blank : (workers : ℕ) (text : List ℕ) (lines : List Line) (phase number : ℕ) (line : Meaning) (left : List Meaning) → HasRead workers text lines phase number (line ∷ left) → limited (length lines) phase line ≡ Blank → HasRead workers text lines phase (number + 1) left

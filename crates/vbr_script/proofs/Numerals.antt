@@ -27,10 +27,10 @@ and-false digits value limit large = grind (arith, nat_tests)
 large : (limit value byte : ℕ) (bytes : List ℕ) → is_ascii_digit byte ≡ true → limit ≤ value * 10 + (byte - 48) → number_after limit value (byte ∷ bytes) ≡ None
 large limit value byte bytes is reached = rw (is, digit_value-is byte is, and-false (all_ascii_digits bytes) (digits_value_after 10 (value * 10 + (byte - 48)) bytes) limit (omega (arith, digits-ge (value * 10 + (byte - 48)) bytes))) refl
 
--- the same of the bytes of a word from an index on
-pub number_after-large : (limit value : ℕ) (word : List ℕ) (i : ℕ) → i < length word → is_ascii_digit (get_or word i 0) ≡ true → limit ≤ value * 10 + (get_or word i 0 - 48) → number_after limit value (drop i word) ≡ None
-number_after-large limit value word i inside is reached = rw (drop-cons word i 0) (large limit value (get_or word i 0) (drop (suc i) word) is reached)
+-- the same of the bytes of a token from an index on
+pub number_after-large : (limit value : ℕ) (token : List ℕ) (i : ℕ) → i < length token → is_ascii_digit (get_or token i 0) ≡ true → limit ≤ value * 10 + (get_or token i 0 - 48) → number_after limit value (drop i token) ≡ None
+number_after-large limit value token i inside is reached = rw (drop-cons token i 0) (large limit value (get_or token i 0) (drop (suc i) token) is reached)
 
 -- after the last digit the number is the value
-pub number_after-end : (limit value : ℕ) (word : List ℕ) (i : ℕ) → length word ≤ i → value < limit → number_after limit value (drop i word) ≡ Some value
-number_after-end limit value word i past small = rw (drop_all i word past) (grind (arith, nat_tests))
+pub number_after-end : (limit value : ℕ) (token : List ℕ) (i : ℕ) → length token ≤ i → value < limit → number_after limit value (drop i token) ≡ Some value
+number_after-end limit value token i past small = rw (drop_all i token past) (grind (arith, nat_tests))

@@ -11,9 +11,9 @@ use Rattle.vbr_script.specs.declared.script.ScriptFault.TheVariants.{Words, TooM
 use Rattle.vbr_script.specs.declared.script.Meaning.{Meaning}
 use Rattle.vbr_script.specs.declared.script.Meaning.TheVariants.{Blank, Sync, Asks, Faulty}
 use Rattle.vbr_script.specs.declared.script.TheConstants.{MAX_OPERATIONS, MAX_SYNCS}
-use Rattle.vbr_script.specs.Text.{lines_of, words_of}
+use Rattle.vbr_script.specs.Text.{lines_of, tokens_of}
 use Rattle.vbr_script.specs.Number.{number_below}
-use Rattle.vbr_script.specs.Grammar.{operation_of, meaning_of_words, meaning_of, lone_word}
+use Rattle.vbr_script.specs.Grammar.{operation_of, meaning_of_tokens, meaning_of, lone_token}
 use Rattle.vbr_script.specs.Scripts.{all_limited, operations_from, is_sync, meanings_of, script_of, phases_of, AscendFrom, ArePhased}
 use Rattle.vbr_script.proofs.LinesRead.{one_more}
 
@@ -24,36 +24,36 @@ abbrev IsOfWorker : ℕ → Meaning → Type 0
 IsOfWorker workers (Asks worker op key) = worker < workers
 IsOfWorker workers _ = Unit {0}
 
-number_is_below : (limit : ℕ) (word : List ℕ) (n : ℕ) → number_below limit word ≡ Some n → n < limit
-number_is_below limit word n is = grind (arith, nat_tests)
+number_is_below : (limit : ℕ) (token : List ℕ) (n : ℕ) → number_below limit token ≡ Some n → n < limit
+number_is_below limit token n is = grind (arith, nat_tests)
 
--- what three words mean is of a worker below the limit
-request : (workers : ℕ) (worker : Option ℕ) (op : Option Op) (key : Option ℕ) → ((n : ℕ) → worker ≡ Some n → n < workers) → IsOfWorker workers (meaning_of_words worker op key)
+-- what three tokens mean is of a worker below the limit
+request : (workers : ℕ) (worker : Option ℕ) (op : Option Op) (key : Option ℕ) → ((n : ℕ) → worker ≡ Some n → n < workers) → IsOfWorker workers (meaning_of_tokens worker op key)
 request workers None op key below = tt
 request workers (Some n) None key below = tt
 request workers (Some n) (Some op) None below = tt
 request workers (Some n) (Some op) (Some key) below = below n refl
 
-lone : (workers : ℕ) (word : List ℕ) → IsOfWorker workers (lone_word word)
-unfolding lone_word
-lone workers word = at (bytes_eq word (codes "sync"))
+lone : (workers : ℕ) (token : List ℕ) → IsOfWorker workers (lone_token token)
+unfolding lone_token
+lone workers token = at (bytes_eq token (codes "sync"))
   where
     at : (is : Bool) → IsOfWorker workers (if is then Sync else Faulty Words)
     at true = tt
     at false = tt
 
--- so are the words of each line
-words : (workers : ℕ) (line : List (List ℕ)) → IsOfWorker workers (meaning_of workers line)
-words workers [] = tt
-words workers (word ∷ []) = lone workers word
-words workers (worker ∷ op ∷ []) = tt
-words workers (worker ∷ op ∷ key ∷ []) = request workers (number_below workers worker) (operation_of op) (number_below (2 ^ 64) key) (number_is_below workers worker)
-words workers (worker ∷ op ∷ key ∷ more ∷ rest) = tt
+-- so are the tokens of each line
+tokens : (workers : ℕ) (line : List (List ℕ)) → IsOfWorker workers (meaning_of workers line)
+tokens workers [] = tt
+tokens workers (token ∷ []) = lone workers token
+tokens workers (worker ∷ op ∷ []) = tt
+tokens workers (worker ∷ op ∷ key ∷ []) = request workers (number_below workers worker) (operation_of op) (number_below (2 ^ 64) key) (number_is_below workers worker)
+tokens workers (worker ∷ op ∷ key ∷ more ∷ rest) = tt
 
 -- and those of all lines
-all_words : (workers : ℕ) (lines : List (List ℕ)) → AllByRecursion (IsOfWorker workers) (map (λ line. meaning_of workers (words_of line)) lines)
-all_words workers [] = tt
-all_words workers (line ∷ lines) = (words workers (words_of line), all_words workers lines)
+all_tokens : (workers : ℕ) (lines : List (List ℕ)) → AllByRecursion (IsOfWorker workers) (map (λ line. meaning_of workers (tokens_of line)) lines)
+all_tokens workers [] = tt
+all_tokens workers (line ∷ lines) = (tokens workers (tokens_of line), all_tokens workers lines)
 
 of_workers : (workers : ℕ) (lines : List Meaning) (operations syncs phase : ℕ) → AllByRecursion (IsOfWorker workers) lines → All (λ line. line.worker < workers) (operations_from phase (all_limited operations syncs lines))
 of_workers workers [] operations syncs phase all = All-nil (λ line. line.worker < workers)
@@ -112,7 +112,7 @@ pub phased : (workers : ℕ) (text : List ℕ) → ArePhased workers (phases_of 
 phased workers text =
     let lie = lie_from (meanings_of workers text) 0 in
     record {
-      workers_below = of_workers workers (map (λ line. meaning_of workers (words_of line)) (lines_of text)) 0 0 0 (all_words workers (lines_of text));
+      workers_below = of_workers workers (map (λ line. meaning_of workers (tokens_of line)) (lines_of text)) 0 0 0 (all_tokens workers (lines_of text));
       phases_below = All-weaker (λ line. line.phase ≤ 0 + count_by is_sync (meanings_of workers text)) (λ line. line.phase < phases_of workers text) (λ line high. omega arith) (script_of workers text) lie.below;
       ascend = lie.ascend;
     }

@@ -6,7 +6,7 @@ use Rattle.vbr_script.specs.declared.script.ScriptFault.TheVariants.{TooMany}
 use Rattle.vbr_script.specs.declared.script.Meaning.{Meaning}
 use Rattle.vbr_script.specs.declared.script.Meaning.TheVariants.{Blank, Sync, Asks, Faulty}
 use Rattle.vbr_script.specs.declared.script.TheConstants.{MAX_OPERATIONS, MAX_SYNCS}
-use Rattle.vbr_script.specs.Text.{lines_of, words_of}
+use Rattle.vbr_script.specs.Text.{lines_of, tokens_of}
 use Rattle.vbr_script.specs.Grammar.{meaning_of}
 
 -- what a line means behind so many operations and `sync` lines: one more operation or `sync` line than a script may have is faulty
@@ -24,7 +24,7 @@ all_limited operations syncs (line ∷ lines) = line ∷ all_limited operations 
 
 -- what each line of a text means behind so many operations and `sync` lines, in order
 abbrev pub meanings_behind : ℕ → ℕ → ℕ → List ℕ → List Meaning
-meanings_behind operations syncs workers text = all_limited operations syncs (map (λ line. meaning_of workers (words_of line)) (lines_of text))
+meanings_behind operations syncs workers text = all_limited operations syncs (map (λ line. meaning_of workers (tokens_of line)) (lines_of text))
 
 -- what each line of a text means, in order
 abbrev pub meanings_of : ℕ → List ℕ → List Meaning

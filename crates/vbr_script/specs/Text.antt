@@ -1,4 +1,4 @@
--- The lines of a text of bytes, and the words of a line.
+-- The lines of a text of bytes, and the tokens of a line.
 use Rattle.std.specs.Prelude.{ℕ, Bool, not, ◌||◌, ◌==◌, List, length, map, filter}
 use Rattle.std.specs.List.{slice_split}
 use Rattle.std.specs.Str.Lines.{strip_carriage_return}
@@ -15,6 +15,6 @@ is_blank byte = (byte == 32) || (byte == 9)
 abbrev pub lines_of : List ℕ → List (List ℕ)
 lines_of text = map strip_carriage_return (slice_split is_line_feed text)
 
--- the words of a line: what stands between its blanks, where that isn't empty
-abbrev pub words_of : List ℕ → List (List ℕ)
-words_of line = filter (λ word. not (length word == 0)) (slice_split is_blank line)
+-- the tokens of a line: what stands between its blanks, where that isn't empty
+abbrev pub tokens_of : List ℕ → List (List ℕ)
+tokens_of line = filter (λ token. not (length token == 0)) (slice_split is_blank line)

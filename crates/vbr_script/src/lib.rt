@@ -1,7 +1,7 @@
 //! Scripts of calls of a set: what a text of bytes means as a script, its first fault, and the
 //! parser.
 //!
-//! [`parse_script`] goes over the bytes once, line by line and each line word by word.
+//! [`parse_script`] goes over the bytes once, line by line and each line token by token.
 #![tactic(auto)]
 
 mod number;

@@ -2,15 +2,15 @@
 ghost use Rattle.std.specs.Prelude.{◌≡◌, ◌^◌};
 ghost use Rattle.vbr_script.specs.Number.{number_below};
 
-// The number that a word spells: one or more digits and nothing else, below 2^64.
-pub fn number(word: &[u8]) -> Option<u64>
-    ensures { result ≡ number_below (2 ^ 64) word.now }
+// The number that a token spells: one or more digits and nothing else, below 2^64.
+pub fn number(token: &[u8]) -> Option<u64>
+    ensures { result ≡ number_below (2 ^ 64) token.now }
 {
-    if word.is_empty() {
+    if token.is_empty() {
         return None;
     }
     let mut value: u64 = 0;
-    for byte in word {
+    for byte in token {
         if !byte.is_ascii_digit() {
             return None;
         }

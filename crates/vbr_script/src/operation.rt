@@ -4,16 +4,16 @@ ghost use Rattle.vbr_script.specs.Grammar.{operation_of};
 
 use vbr_core::Op;
 
-// The operation that a word names.
+// The operation that a token names.
 #[tactic(auto, unfolding(crate::specs::Grammar::operation_of))]
-pub fn operation(word: &[u8]) -> Option<Op>
-    ensures { result ≡ operation_of word.now }
+pub fn operation(token: &[u8]) -> Option<Op>
+    ensures { result ≡ operation_of token.now }
 {
-    if word == b"insert".as_slice() {
+    if token == b"insert".as_slice() {
         Some(Op::Insert)
-    } else if word == b"remove".as_slice() {
+    } else if token == b"remove".as_slice() {
         Some(Op::Remove)
-    } else if word == b"has".as_slice() {
+    } else if token == b"has".as_slice() {
         Some(Op::Has)
     } else {
         None

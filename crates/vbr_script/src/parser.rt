@@ -1,8 +1,8 @@
-//! The parser: line by line, each line word by word.
+//! The parser: line by line, each line token by token.
 ghost use Rattle.std.specs.Prelude.{◌≡◌, ◌≤◌, ◌<◌, ◌+◌, ◌^◌, ℕ, List, ◌++◌, ◌∷◌, [], Some, None, length, vec_len, IfOk, OnOk, IsErrOf};
-ghost use Rattle.vbr_script.specs.Text.{words_of};
+ghost use Rattle.vbr_script.specs.Text.{tokens_of};
 ghost use Rattle.vbr_script.specs.Number.{number_below};
-ghost use Rattle.vbr_script.specs.Grammar.{meaning_of, lone_word};
+ghost use Rattle.vbr_script.specs.Grammar.{meaning_of, lone_token};
 ghost use Rattle.vbr_script.specs.Scripts.{script_of, phases_of, first_fault, limited, ArePhased};
 ghost use Rattle.vbr_script.specs.declared.script.ScriptFault.{ScriptFault};
 ghost use Rattle.vbr_script.specs.declared.script.TheConstants.{MAX_OPERATIONS, MAX_SYNCS};
@@ -10,12 +10,17 @@ ghost use Rattle.vbr_script.specs.declared.script.TheConstants.{MAX_OPERATIONS, 
 use crate::number::number;
 use crate::operation::operation;
 use crate::script::{Line, MAX_OPERATIONS, MAX_SYNCS, Meaning, Script, ScriptError, ScriptFault};
-use crate::text::{first_line, first_word};
+use crate::text::{first_line, first_token};
 use std::alloc::Global;
 
-/// Reads a script for so many workers. A text that is none gives its first faulty line and what is
-/// wrong with it; memory is the one other error, and it is answered at the line whose growth was
-/// refused. It goes over the bytes once.
+/// Reads a script for so many workers. It goes over the bytes once, and reaches no set.
+///
+/// # Errors
+///
+/// Nothing is kept then.
+///
+/// - Fault: the text's first faulty line, counted from 1, and what is wrong with it.
+/// - Memory: there was none for one more operation; no line before it is faulty.
 ///
 /// # Example
 ///
@@ -76,20 +81,20 @@ fn limited(meaning: Meaning, operations: usize, syncs: u32) -> Meaning
     }
 }
 
-// What the words of a line mean to a script for so many workers.
+// What the tokens of a line mean to a script for so many workers.
 fn meaning(line: &[u8], workers: u32) -> Meaning
-    ensures { result ≡ meaning_of workers (words_of line.now) }
+    ensures { result ≡ meaning_of workers (tokens_of line.now) }
 {
-    let Some((worker, rest)) = first_word(line) else {
+    let Some((worker, rest)) = first_token(line) else {
         return Meaning::Blank;
     };
-    let Some((name, rest)) = first_word(rest) else {
-        return lone_word(worker);
+    let Some((name, rest)) = first_token(rest) else {
+        return lone_token(worker);
     };
-    let Some((key, rest)) = first_word(rest) else {
+    let Some((key, rest)) = first_token(rest) else {
         return Meaning::Faulty(ScriptFault::Words);
     };
-    if first_word(rest).is_some() {
+    if first_token(rest).is_some() {
         return Meaning::Faulty(ScriptFault::Words);
     }
     let Some(worker) = worker_number(worker, workers) else {
@@ -104,23 +109,23 @@ fn meaning(line: &[u8], workers: u32) -> Meaning
     Meaning::Asks(worker, op, key)
 }
 
-// What a word alone on its line means.
-#[tactic(auto, unfolding(crate::specs::Grammar::lone_word))]
-fn lone_word(word: &[u8]) -> Meaning
-    ensures { result ≡ lone_word word.now }
+// What a token alone on its line means.
+#[tactic(auto, unfolding(crate::specs::Grammar::lone_token))]
+fn lone_token(token: &[u8]) -> Meaning
+    ensures { result ≡ lone_token token.now }
 {
-    if word == b"sync".as_slice() {
+    if token == b"sync".as_slice() {
         Meaning::Sync
     } else {
         Meaning::Faulty(ScriptFault::Words)
     }
 }
 
-// The worker that a word names, if there is one of that number.
-fn worker_number(word: &[u8], workers: u32) -> Option<u32>
-    ensures { result ≡ number_below workers word.now }
+// The worker that a token names, if there is one of that number.
+fn worker_number(token: &[u8], workers: u32) -> Option<u32>
+    ensures { result ≡ number_below workers token.now }
 {
-    let worker = number(word)?;
+    let worker = number(token)?;
     if worker < u64::from(workers) {
         Some(worker as u32)
     } else {

@@ -3,7 +3,7 @@ use thiserror::Error;
 use vbr_core::Op;
 
 /// One operation of a script.
-#[derive(Clone, Copy, Debug, PartialEq, Eq, Hash)]
+#[derive(Clone, Copy, Debug, PartialEq, Eq)]
 pub struct Line {
     /// The phase that it is played in, from 0: the number of `sync` lines before it.
     pub phase: u32,
@@ -32,18 +32,18 @@ pub struct Script {
 }
 
 /// What is wrong with a line. The tests are made in this order.
-#[derive(Clone, Copy, Debug, PartialEq, Eq, Hash, Error)]
+#[derive(Clone, Copy, Debug, PartialEq, Eq, Error)]
 pub enum ScriptFault {
-    /// The line has neither three words nor the one word `sync`.
+    /// The line has neither three tokens nor the one token `sync`.
     #[error("a line is a worker, an operation and a key, or `sync` alone")]
     Words,
-    /// The first word is no number, or not one below the number of workers.
+    /// The first token is no number, or not one below the number of workers.
     #[error("no such worker")]
     Worker,
-    /// The second word is no operation.
+    /// The second token is no operation.
     #[error("no such operation: insert, remove and has are known")]
     Operation,
-    /// The third word is no number, or one above the greatest key.
+    /// The third token is no number, or one above the greatest key.
     #[error("a key is a number from 0 to 18446744073709551615")]
     Key,
     /// With this line there are more operations than `MAX_OPERATIONS`, or more `sync` lines than
@@ -70,10 +70,10 @@ impl ScriptFault {
     }
 }
 
-/// What the words of a line mean by themselves.
-#[derive(Clone, Copy, Debug, PartialEq, Eq, Hash)]
+/// What the tokens of a line mean by themselves.
+#[derive(Clone, Copy, Debug, PartialEq, Eq)]
 pub enum Meaning {
-    /// The line has no words.
+    /// The line has no tokens.
     Blank,
     /// The line ends a phase.
     Sync,
@@ -84,7 +84,7 @@ pub enum Meaning {
 }
 
 /// Why a text gave no script.
-#[derive(Clone, Copy, Debug, PartialEq, Eq, Hash, Error)]
+#[derive(Clone, Copy, Debug, PartialEq, Eq, Error)]
 pub enum ScriptError {
     /// The first faulty line, counted from 1 with blank lines counted too, and its fault.
     #[error("line {line}: {kind}")]

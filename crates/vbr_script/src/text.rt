@@ -1,7 +1,7 @@
-// The lines of a text and the words of a line, one at a time.
+// The lines of a text and the tokens of a line, one at a time.
 ghost use Rattle.std.specs.Prelude.{◌≡◌, ◌<◌, false, [], ◌∷◌, length, slice_index, MatchOption};
 ghost use Rattle.std.specs.Str.Lines.{strip_carriage_return};
-ghost use Rattle.vbr_script.specs.Text.{is_blank, lines_of, words_of};
+ghost use Rattle.vbr_script.specs.Text.{is_blank, lines_of, tokens_of};
 
 use memchr::memchr;
 
@@ -25,10 +25,10 @@ fn without_return(line: &[u8]) -> &[u8]
     }
 }
 
-// The first word of a line, and the line after it.
-pub fn first_word(line: &[u8]) -> Option<(&[u8], &[u8])>
-    ensures { MatchOption result (words_of line.now ≡ [])
-        (λ found. words_of line.now ≡ found.0.now ∷ words_of found.1.now) }
+// The first token of a line, and the line after it.
+pub fn first_token(line: &[u8]) -> Option<(&[u8], &[u8])>
+    ensures { MatchOption result (tokens_of line.now ≡ [])
+        (λ found. tokens_of line.now ≡ found.0.now ∷ tokens_of found.1.now) }
 {
     let line = without_blanks(line);
     if line.is_empty() {
@@ -40,7 +40,7 @@ pub fn first_word(line: &[u8]) -> Option<(&[u8], &[u8])>
 
 // The line from its first byte on that is no blank.
 fn without_blanks(line: &[u8]) -> &[u8]
-    ensures words { words_of result.now ≡ words_of line.now }
+    ensures tokens { tokens_of result.now ≡ tokens_of line.now }
     ensures front { 0 < length result.now → is_blank (slice_index result.now 0) ≡ false }
 {
     let mut rest = line;

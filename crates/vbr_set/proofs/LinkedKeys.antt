@@ -14,7 +14,8 @@ use Rattle.vbr_core.specs.Accounts.{incarnations_after}
 use Rattle.vbr_core.specs.Agreement.{Fits}
 use Rattle.vbr_core.specs.History.{set_after}
 use Rattle.vbr_core.specs.Incarnations.{State, Unborn, InHand, GivenUp, Linked, Marked, Unlinked, Stamped, Incarnations}
-use Rattle.vbr_core.specs.Keys.{Lists, no_keys}
+use Rattle.vbr_core.specs.Keys.{AreKeysOf}
+use Rattle.vbr_core.specs.Opened.{opening_keys}
 use Rattle.vbr_core.specs.Sound.{IsListed, Sound, Tells}
 use Rattle.vbr_core.specs.declared.event.Event.{Event}
 use Rattle.vbr_core.specs.declared.history.Call.{Call}
@@ -122,23 +123,23 @@ same_tests false true f g = g refl
 same_tests false false f g = refl
 
 -- the linked nodes of the slots of the shape have just the keys of the set
-set_is : {shape : Dimensions} {a : Incarnations} → Sound shape a → Fits shape a → Tells a → (key : ℕ) → list_any (nat_eq key) (linked_keys a shape.slots) ≡ set_after no_keys a.calls key
+set_is : {shape : Dimensions} {a : Incarnations} → Sound shape a → Fits shape a → Tells shape a → (key : ℕ) → list_any (nat_eq key) (linked_keys a shape.slots) ≡ set_after (opening_keys shape) a.calls key
 set_is {shape} {a} sound fits tells key = same_tests _ _ there only
   where
-    there : list_any (nat_eq key) (linked_keys a shape.slots) ≡ true → set_after no_keys a.calls key ≡ true
+    there : list_any (nat_eq key) (linked_keys a shape.slots) ≡ true → set_after (opening_keys shape) a.calls key ≡ true
     there e =
         let h = has_from a shape.slots key e in
         let c = linked_in a h.slot h.linked in
-        ap (set_after no_keys a.calls) (sym h.is ∙ stands_key c.1.stands) ∙ tells.there c.0 c.1.linked
+        ap (set_after (opening_keys shape) a.calls) (sym h.is ∙ stands_key c.1.stands) ∙ tells.there c.0 c.1.linked
 
-    only : set_after no_keys a.calls key ≡ true → list_any (nat_eq key) (linked_keys a shape.slots) ≡ true
+    only : set_after (opening_keys shape) a.calls key ≡ true → list_any (nat_eq key) (linked_keys a shape.slots) ≡ true
     only e =
         let c = tells.only key e in
         let at = stands_there sound fits c.0 (subst IsListed (sym c.1) tt) in
         has_is a shape.slots key (record { slot = a.slot c.0; low = at.0; linked = ap is_linked (stands_state at.1 ∙ c.1); is = stands_key at.1 ∙ c.2 })
 
 -- sorted, they are the list of the set
-pub lists_keys : {shape : Dimensions} {words : List ℕ} {run : List Event} → AreAfter shape words run → (keys sorted : List ℕ) → keys ≡ linked_keys (incarnations_after shape run) shape.slots → IsPermutation keys sorted → IsSorted nat_cmp sorted → Lists sorted (set_after no_keys (calls_of shape run))
+pub lists_keys : {shape : Dimensions} {words : List ℕ} {run : List Event} → AreAfter shape words run → (keys sorted : List ℕ) → keys ≡ linked_keys (incarnations_after shape run) shape.slots → IsPermutation keys sorted → IsSorted nat_cmp sorted → AreKeysOf sorted (set_after (opening_keys shape) (calls_of shape run))
 lists_keys {shape} {words} {run} x keys sorted are moved up =
     let a = incarnations_after shape run in
     let g = agrees x in
@@ -149,5 +150,5 @@ lists_keys {shape} {words} {run} x keys sorted are moved up =
           sym (list_any-IsPermutation (nat_eq key) keys sorted moved)
           ∙ ap (list_any (nat_eq key)) are
           ∙ set_is g.sound g.fits g.tells key
-          ∙ ap (λ (calls : List Call). set_after no_keys calls key) (sym g.calls);
+          ∙ ap (λ (calls : List Call). set_after (opening_keys shape) calls key) (sym g.calls);
     }

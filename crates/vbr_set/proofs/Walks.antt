@@ -16,7 +16,7 @@ use Rattle.vbr_core.specs.Images.{slot_shown}
 use Rattle.vbr_core.specs.Incarnations.{Incarnations}
 use Rattle.vbr_core.specs.Sound.{IsApart, IsFrom, IsListed, Sound}
 use Rattle.vbr_core.specs.declared.event.Event.{Event}
-use Rattle.vbr_core.proofs.Lemmas.{in_list_from, in_list_is, next_listed, one_slot, stands_key, stands_there}
+use Rattle.vbr_core.proofs.Lemmas.{in_list_from, in_list_is, next_listed, slot_is_one, stands_key, stands_there}
 use Rattle.vbr_core.specs.Nodes.{state_in, is_in_list, is_listed, key_in_slot, Stands, InList}
 use Rattle.vbr_set.specs.Walking.{AreAfter, NotesList, NotesLists, is_noted}
 use Rattle.vbr_set.proofs.ShownNodes.{agrees, key_read, link_read, next_of_node}
@@ -147,7 +147,7 @@ module _ {shape : Dimensions} {a : Incarnations} (sound : Sound shape a) (fits :
       go (inr outside) = and_left _ _ outside ∙ sym (and_left _ _ outside)
       go (inl inside) =
           let node = in_list_from shape a bucket s inside in
-          let other : node.0 ≢ c = λ e. ne (one_slot sound s t c (subst (λ (d : ℕ). Stands a s d) e node.1.stands) here.stands) in
+          let other : node.0 ≢ c = λ e. ne (slot_is_one sound s t c (subst (λ (d : ℕ). Stands a s d) e node.1.stands) here.stands) in
           ap (λ b. is_in_list shape a bucket s && b)
           ((λ i. nat_lt (stands_key node.1.stands i) (stands_key here.stands i))
           ∙ apart_keys a c node.0 (a.next c) other (sound.lists.apart c node.0 here.stands.listed node.1.stands.listed (here.of_bucket ∙ sym node.1.of_bucket)) up

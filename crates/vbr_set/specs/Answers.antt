@@ -1,6 +1,6 @@
 -- What a call that was answered leaves: one legal history, in which it stands.
 use Rattle.std.specs.Prelude.{◌≡◌, [], ◌∷◌, ◌++◌}
-use Rattle.vbr_core.specs.Keys.{no_keys}
+use Rattle.vbr_core.specs.Opened.{opening_keys}
 use Rattle.vbr_core.specs.History.{IsLegal}
 use Rattle.vbr_core.specs.Runs.{IsRun, Begins}
 use Rattle.vbr_core.specs.Safety.{IsSafe}
@@ -9,12 +9,12 @@ use Rattle.vbr_slots.specs.Calls.{IsSame, made_by}
 use Rattle.vbr_slots.specs.Views.{Trace}
 use Rattle.vbr_set.specs.Histories.{calls_of, ExchangesAreRight, ReadsAreRight}
 
--- the pass has then seen a run that begins with all that it had seen; the calls of this run, of all passes, are a legal history of a set that opened empty; the pass's own calls in it are those that it had made, and then this one; each exchange of a link that was won in it, and each checked read, was of the incarnations that the pass held, and none of an earlier incarnation of their slots
+-- the pass has then seen a run that begins with all that it had seen; the calls of this run, of all passes, are a legal history of a set that opened with the keys of the shape; the pass's own calls in it are those that it had made, and then this one; each exchange of a link that was won in it, and each checked read, was of the incarnations that the pass held, and none of an earlier incarnation of their slots
 pub record Answers (call : Call) (p q : Trace) : Type 0 where
   pub same : IsSame p q
   pub begins : Begins p.seen q.seen
   pub is_run : IsRun q.shape q.passes q.seen
-  pub legal : IsLegal no_keys (calls_of q.shape q.seen)
+  pub legal : IsLegal (opening_keys q.shape) (calls_of q.shape q.seen)
   pub once : made_by q ≡ made_by p ++ call ∷ []
   pub exchanges : ExchangesAreRight q.shape q.seen
   pub reads : ReadsAreRight q.shape q.seen

@@ -1,7 +1,8 @@
 -- How a set ends, and what the report tells of that.
 use Rattle.std.specs.Prelude.{◌≡◌, ◌+◌, List, [], ◌∷◌, length}
 use Rattle.vbr_words.specs.Dimensions.{Dimensions}
-use Rattle.vbr_core.specs.Keys.{Lists, no_keys}
+use Rattle.vbr_core.specs.Keys.{AreKeysOf}
+use Rattle.vbr_core.specs.Opened.{opening_keys}
 use Rattle.vbr_core.specs.History.{IsLegal, set_after}
 use Rattle.vbr_core.specs.Runs.{IsRun, world_after}
 use Rattle.vbr_core.specs.Calls.{own_calls}
@@ -14,9 +15,9 @@ use Rattle.vbr_set.specs.Histories.{calls_of}
 use Rattle.vbr_core.specs.Nodes.{linked_after, marked_after}
 use Rattle.vbr_set.specs.declared.report.Report.{Report}
 
--- the report tells the keys that the calls of a run leave in a set that opened empty, ascending; the epoch; how many nodes are linked, one for each key; how many are marked and still in a list; and how many slots have neither
+-- the report tells the keys that the calls of a run leave in a set that opened with the keys of the shape, ascending; the epoch; how many nodes are linked, one for each key; how many are marked and still in a list; and how many slots have neither
 pub record Reports (shape : Dimensions) (run : List Event) (report : Report) : Type 0 where
-  pub keys : Lists report.keys.items (set_after no_keys (calls_of shape run))
+  pub keys : AreKeysOf report.keys.items (set_after (opening_keys shape) (calls_of shape run))
   pub epoch : report.epoch ≡ (world_after shape run).epoch
   pub live : report.live ≡ linked_after shape run
   pub one_each : length report.keys.items ≡ report.live
@@ -34,6 +35,6 @@ pub record Closes (t : TableView) (passes : List PassView) (report : Report) : T
   pub is_run : IsRun t.shape t.passes run
   pub begins : EachSeen run passes
   pub made : EachMade t.shape run passes
-  pub legal : IsLegal no_keys (calls_of t.shape run)
+  pub legal : IsLegal (opening_keys t.shape) (calls_of t.shape run)
   pub safe : IsSafe t.shape run
   pub reports : Reports t.shape run report

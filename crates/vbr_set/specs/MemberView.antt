@@ -2,7 +2,7 @@
 use Rattle.std.specs.Prelude.{◌≡◌, None}
 use Rattle.vbr_slots.specs.Views.{IsOf}
 use Rattle.vbr_set.specs.Members.{MemberView}
-use Rattle.vbr_set.specs.Sharing.{set_shared, IsPlaced}
+use Rattle.vbr_set.specs.Sharing.{set_shared, CanComeBack}
 use Rattle.vbr_set.specs.declared.member.Member.TheInside.{Inside}
 
 -- what contracts see
@@ -13,4 +13,4 @@ member_view m = record { set = set_shared m.share; pass = m.pass }
 pub record IsMember (m : Inside) : Type 0 where
   pub own : IsOf m.pass.trace (set_shared m.share)
   pub empty_hand : m.pass.hand ≡ None
-  pub placed : IsPlaced m.share m.pass.trace.who
+  pub comes_back : CanComeBack m.share m.pass.trace.who

@@ -7,7 +7,7 @@ use Rattle.vbr_slots.specs.Alone.{IsAlone}
 use Rattle.vbr_slots.specs.Calls.{AddsAnswer, AddsNone, IsSame, OnlyLoads, Quiet}
 use Rattle.vbr_slots.specs.Views.{PassView, TableView, new_passes}
 use Rattle.vbr_pools.specs.Advances.{AdvancesWhereNeeded}
-use Rattle.vbr_pools.specs.KeptSlots.{KeepsSlots, TakesNoSlot, SharesWhereFull}
+use Rattle.vbr_pools.specs.KeptSlots.{HasUnpublished, KeepsSlots, TakesNoSlot, SharesWhereFull}
 use Rattle.vbr_pools.specs.Budgets.{most_to_take}
 use Rattle.vbr_pools.specs.Steps.{TookWithin}
 use Rattle.vbr_access.specs.Soundness.{HasSafeRun}
@@ -33,10 +33,11 @@ pub record AreNew (shape : Dimensions) (count : ℕ) (members : List MemberView)
   pub counted : set.passes ≡ count
   pub are : members ≡ new_members set count
 
--- what an insert promises besides: it advances the epoch only where that is needed, loses no slot, puts one into the shared pool only where its own has no more than two places left, and is refused where it must be; alone it has steps enough with a budget that is known before, and with a slot in the own pool it is answered, unless the epoch is spent
+-- what an insert promises besides: it advances the epoch only where that is needed, loses no slot, has each that it had but for the one that it published, puts one into the shared pool only where its own has no more than two places left, and is refused where it must be; alone it has steps enough with a budget that is known before, and with a slot in the own pool it is answered, unless the epoch is spent
 pub record SparesInsert (p q : PassView) (key budget : ℕ) (answer : Result Bool Refusal) : Type 0 where
   pub advances : AdvancesWhereNeeded p q
   pub kept : KeepsSlots p q
+  pub had : HasUnpublished p q answer
   pub shared : SharesWhereFull 2 p q
   pub refused : IfErr answer (IsRefused p q key budget)
   pub within : IfErr answer (λ refusal. IsAlone p.trace q.trace → LacksSteps (18 * listed_for p.trace key + most_to_take p.trace.shape p.pool + 14) budget refusal)

@@ -1,6 +1,7 @@
 -- What the contracts of the set name of the crates below it, for crates that list `vbr_set` alone.
 pub use Rattle.vbr_words.specs.Dimensions.{Dimensions, IsShape}
-pub use Rattle.vbr_core.specs.Keys.{Keys, Lists, no_keys}
+pub use Rattle.vbr_core.specs.Keys.{Keys, AreKeysOf, no_keys}
+pub use Rattle.vbr_core.specs.Opened.{opening_keys}
 pub use Rattle.vbr_core.specs.History.{IsLegal, calls_by, keys_after, reply_of, set_after}
 pub use Rattle.vbr_core.specs.Runs.{Begins, BeginsFor, IsRun, world_after}
 pub use Rattle.vbr_core.specs.Calls.{own_calls}
@@ -16,7 +17,7 @@ pub use Rattle.vbr_slots.specs.Calls.{AddsAnswer, AddsNone, IsSame, OnlyLoads, Q
 pub use Rattle.vbr_slots.specs.Closing.{AllOf, EachSeen, HandsBack, IsMissing}
 pub use Rattle.vbr_slots.specs.Views.{Did, IsOf, KeepsPool, PassView, TableView, Trace, new_pass, new_passes}
 pub use Rattle.vbr_pools.specs.Advances.{AdvancesWhereNeeded}
-pub use Rattle.vbr_pools.specs.KeptSlots.{KeepsSlots, TakesNoSlot, SharesWhereFull}
+pub use Rattle.vbr_pools.specs.KeptSlots.{HasUnpublished, KeepsSlots, TakesNoSlot, SharesWhereFull}
 pub use Rattle.vbr_pools.specs.Budgets.{most_to_take}
 pub use Rattle.vbr_pools.specs.Steps.{TookWithin}
 pub use Rattle.vbr_access.specs.Soundness.{HasSafeRun}

@@ -40,7 +40,7 @@ abbrev pub AreOthers : TableView → List PassView → Type 0
 AreOthers set passes = set.passes ≡ 1 → passes ≡ []
 
 -- a pass with this number can come back to the others, or the others have come back; a pass that was opened alone has the set
-abbrev pub IsPlaced : Share → ℕ → Type 0
-IsPlaced (Among common seat) who = IsSeatOf (arc_value common).mailboxes.items who seat.table_id seat.id seat.me × HasOthers (arc_value common).set
-IsPlaced (Alone set mailboxes) who = AreMailboxesOf set mailboxes.items × HasOthers set
-IsPlaced (Gathered set passes) who = ArePassesOf set passes.items × AreOthers set passes.items
+abbrev pub CanComeBack : Share → ℕ → Type 0
+CanComeBack (Among common seat) who = IsSeatOf (arc_value common).mailboxes.items who seat.table_id seat.id seat.me × HasOthers (arc_value common).set
+CanComeBack (Alone set mailboxes) who = AreMailboxesOf set mailboxes.items × HasOthers set
+CanComeBack (Gathered set passes) who = ArePassesOf set passes.items × AreOthers set passes.items

@@ -2,7 +2,7 @@
 ghost use Rattle.std.specs.Prelude.{◌≡◌, ◌≢◌, ◌+◌, ◌*◌, ◌<◌, ◌≤◌, [], None, IfOk, IfErr};
 ghost use Rattle.vbr_core.specs.declared.history.Op.TheVariants.{Insert, Remove, Has};
 ghost use Rattle.vbr_pools.specs.Advances.{AdvancesWhereNeeded};
-ghost use Rattle.vbr_pools.specs.KeptSlots.{KeepsSlots, TakesNoSlot, SharesWhereFull};
+ghost use Rattle.vbr_pools.specs.KeptSlots.{HasUnpublished, KeepsSlots, TakesNoSlot, SharesWhereFull};
 ghost use Rattle.vbr_pools.specs.Budgets.{most_to_take};
 ghost use Rattle.vbr_pools.specs.Steps.{TookWithin};
 ghost use Rattle.vbr_slots.specs.Alone.{IsAlone};
@@ -41,8 +41,8 @@ impl VbrSet {
     ///
     /// # Example
     ///
-    /// ```rattle file=crates/vbr_set/src/member_calls.rt
-    /// self.share.set().insert(&mut self.pass, key, budget)
+    /// ```rattle file=crates/vbr_set/src/set_ref_calls.rt
+    /// self.set.insert(&mut self.pass, key, budget)
     /// ```
     #[inline]
     pub fn insert(&self, pass: &mut Pass, key: u64, budget: u32) -> Result<bool, Refusal>
@@ -57,6 +57,7 @@ impl VbrSet {
         ensures steps { TookWithin pass.old.trace pass.new.trace budget }
         ensures advances { AdvancesWhereNeeded pass.old pass.new }
         ensures kept { KeepsSlots pass.old pass.new }
+        ensures had { HasUnpublished pass.old pass.new result }
         ensures shared { SharesWhereFull 2 pass.old pass.new }
         ensures refused { IfErr result (λ refusal. IsRefused pass.old pass.new key budget refusal) }
         // Alone, it answers in so many steps, or finds no slot or the epoch spent.
@@ -85,8 +86,8 @@ impl VbrSet {
     ///
     /// # Example
     ///
-    /// ```rattle file=crates/vbr_set/src/member_calls.rt
-    /// self.share.set().remove(&mut self.pass, key, budget)
+    /// ```rattle file=crates/vbr_set/src/set_ref_calls.rt
+    /// self.set.remove(&mut self.pass, key, budget)
     /// ```
     #[inline]
     pub fn remove(&self, pass: &mut Pass, key: u64, budget: u32) -> Result<bool, Refusal>
@@ -112,7 +113,9 @@ impl VbrSet {
     /// call.
     ///
     /// A look-up writes nothing that another thread can see: each of its steps is a load. It passes a
-    /// removed node that is still in its list in three steps, and leaves it to inserts and removes.
+    /// removed node that is still in its list in three steps, and leaves it to inserts and removes. So
+    /// it differs from the search of Michael 2002, which unlinks such nodes; its reads are checked as in
+    /// Sheffi, Herlihy and Petrank 2021.
     ///
     /// While the other passes stand still, a budget of 5n + 11 is enough, with n nodes in the key's
     /// bucket.
@@ -125,8 +128,8 @@ impl VbrSet {
     ///
     /// # Example
     ///
-    /// ```rattle file=crates/vbr_set/src/member_calls.rt
-    /// self.share.set().has(&mut self.pass, key, budget)
+    /// ```rattle file=crates/vbr_set/src/set_ref_calls.rt
+    /// self.set.has(&mut self.pass, key, budget)
     /// ```
     #[inline]
     pub fn has(&self, pass: &mut Pass, key: u64, budget: u32) -> Result<bool, Refusal>

@@ -22,7 +22,8 @@ impl VbrSet {
     /// calls that it has made.
     ///
     /// It goes once over the buckets and once over the slots, and takes 9 bytes for each slot, and the
-    /// words once more while it runs.
+    /// words once more while it runs. It has all passes, so no other call runs, and it has no budget.
+    /// That the marked nodes which it meets aren't in the set is Michael's (Michael 2002).
     ///
     /// # Errors
     ///

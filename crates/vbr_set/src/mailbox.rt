@@ -9,12 +9,12 @@ use vbr_slots::Pass;
 
 /// What the one seat of a mailbox knows: None at first, then that the slot is out with it, and then
 /// which pass lies in the slot. No value of it is made.
-pub type Knows = Option<Option<Pass>>;
+pub type SeatKnows = Option<Option<Pass>>;
 
 /// The rule of a mailbox, whose word is 1 once a pass was laid into it.
 pub struct HoldsOne;
 
-impl TableRule<Option<Pass>, Knows, VbrSet> for HoldsOne {
+impl TableRule<Option<Pass>, SeatKnows, VbrSet> for HoldsOne {
     ghost use Rattle.std.specs.Prelude.{None};
     ghost use Rattle.vbr_set.specs.Mailboxes.{IsMailbox};
 
@@ -24,9 +24,9 @@ impl TableRule<Option<Pass>, Knows, VbrSet> for HoldsOne {
 }
 
 /// Taking the slot, which is empty.
-pub struct Opens;
+pub struct TakesEmpty;
 
-impl Play<Option<Pass>, Knows> for Opens {
+impl Play<Option<Pass>, SeatKnows> for TakesEmpty {
     ghost use Rattle.std.specs.Prelude.{◌≡◌, [], ◌∷◌, None, Some};
 
     ghost then = { λ _ _ _ after. after ≡ (Some None, (0, None) ∷ []) };
@@ -35,7 +35,7 @@ impl Play<Option<Pass>, Knows> for Opens {
 /// Giving the slot back, with a pass in it.
 pub struct Lays;
 
-impl Play<Option<Pass>, Knows> for Lays {
+impl Play<Option<Pass>, SeatKnows> for Lays {
     ghost use Rattle.std.specs.Prelude.{◌≡◌, [], ◌∷◌, Some};
     ghost use Rattle.vbr_slots.specs.Views.{PassView};
 
@@ -45,7 +45,7 @@ impl Play<Option<Pass>, Knows> for Lays {
 /// A mailbox for one pass of a set.
 #[derive(Drop)]
 pub struct Mailbox {
-    pub(crate) table: Table<Option<Pass>, Knows, VbrSet, HoldsOne, Global>,
+    pub(crate) table: Table<Option<Pass>, SeatKnows, VbrSet, HoldsOne, Global>,
     ghost sized: { (table.shared.table_id.words ≡ 1) × (table.shared.table_id.slots ≡ 1) },
 }
 
@@ -54,7 +54,7 @@ impl Mailbox {
     pub(crate) fn new(
         alloc: Global,
         set: &VbrSet,
-    ) -> Result<(Mailbox, Seat<Option<Pass>, Knows>), AllocError>
+    ) -> Result<(Mailbox, Seat<Option<Pass>, SeatKnows>), AllocError>
         ensures set { IfOk result (λ r. r.0.table.shared.key ≡ set.now) }
         ensures seat { IfOk result (λ r. (r.1.table_id ≡ r.0.table.shared.table_id) × (r.1.id ≡ 0) × (r.1.me ≡ (None, []))) }
     {
@@ -63,29 +63,29 @@ impl Mailbox {
     }
 
     /// Lays a pass into the mailbox.
-    pub(crate) fn put(&self, seat: &mut Seat<Option<Pass>, Knows>, pass: Pass)
+    pub(crate) fn put(&self, seat: &mut Seat<Option<Pass>, SeatKnows>, pass: Pass)
         requires seat { (seat.old.table_id ≡ self.now.table.shared.table_id) × (seat.old.id ≡ 0) × (seat.old.me ≡ (None, [])) }
         requires ready { IsIdle self.now.table.shared.key pass }
         ensures same { (seat.new.table_id ≡ seat.old.table_id) × (seat.new.id ≡ 0) }
         ensures laid { seat.new.me ≡ (Some (Some pass), []) }
     {
         let shared = &self.table.shared;
-        shared.store::<Opens>(seat, 0, 0);
+        shared.store::<TakesEmpty>(seat, 0, 0);
         drop(shared.exchange(seat, 0, Some(pass)));
         shared.store::<Lays>(seat, 0, 1);
     }
 
     /// The pass that was laid with this seat.
-    pub(crate) fn into_own(self, seat: Seat<Option<Pass>, Knows>) -> Pass
+    pub(crate) fn into_own(self, seat: Seat<Option<Pass>, SeatKnows>) -> Pass
         requires seat { (seat.table_id ≡ self.table.shared.table_id) × (seat.id ≡ 0) }
-        requires laid { IfSome seat.me.0 (λ held. ¬ (held ≡ None)) × ¬ (seat.me.0 ≡ None) }
+        requires laid { IfSome seat.me.0 (λ laid. ¬ (laid ≡ None)) × ¬ (seat.me.0 ≡ None) }
         ensures { Some (Some result) ≡ seat.me.0 }
     {
         let Mailbox { table } = self;
         let mut closed = table.close_with(seat);
-        let held = closed.take(0);
+        let laid = closed.take(0);
         closed.free();
-        let Some(pass) = held else { unreachable!() };
+        let Some(pass) = laid else { unreachable!() };
         pass
     }
 
@@ -96,8 +96,8 @@ impl Mailbox {
         let Mailbox { table } = self;
         let mut closed = table.close();
         let word = closed.word(0);
-        let held = closed.take(0);
+        let laid = closed.take(0);
         closed.free();
-        if word == 1 { held } else { None }
+        if word == 1 { laid } else { None }
     }
 }

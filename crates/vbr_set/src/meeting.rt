@@ -12,12 +12,13 @@ use vbr_slots::Pass;
 impl VbrSet {
     /// Lets the pass see all that the other has seen: the two then share one legal history, in which
     /// the other has just the calls that it has made. It is one step, a load of the epoch, counted for
-    /// the pass; the other stays as it was. It can't fail.
+    /// the pass; the other stays as it was. It can't fail. The papers have no such call: without it two
+    /// passes are promised no history that both share before the set is closed.
     ///
     /// # Example
     ///
-    /// ```rattle file=crates/vbr_set/src/member_meeting.rt
-    /// self.share.set().meet(&mut self.pass, &mut other.pass);
+    /// ```rattle file=crates/vbr_set/src/set_ref_calls.rt
+    /// self.set.meet(&mut self.pass, &mut other.pass);
     /// ```
     #[inline]
     pub fn meet(&self, pass: &mut Pass, other: &mut Pass)

@@ -8,7 +8,7 @@ ghost use Rattle.vbr_set.specs.Sharing.{AreOthers, ArePassesOf, AreMailboxesOf, 
 
 use crate::common::Common;
 use crate::end_error::EndError;
-use crate::mailbox::{Knows, Mailbox};
+use crate::mailbox::{Mailbox, SeatKnows};
 use crate::member::Member;
 use crate::report::Report;
 use crate::set::VbrSet;
@@ -24,7 +24,7 @@ impl Member {
     /// member of a set that was opened for one is always the last.
     ///
     /// Only the last member needs memory: 9 bytes for each slot, for the report, and the words once
-    /// more while it runs.
+    /// more while it runs. A close has no budget, and makes no call of the set.
     ///
     /// # Errors
     ///
@@ -71,7 +71,7 @@ impl Member {
 // of the other passes, and its pass again.
 fn leave(
     common: Arc<Common, Global>,
-    mut seat: Seat<Option<Pass>, Knows>,
+    mut seat: Seat<Option<Pass>, SeatKnows>,
     pass: Pass,
 ) -> Option<(VbrSet, Vec<Mailbox>, Pass)>
     requires ready { IsIdle (arc_value common).set pass }

@@ -12,6 +12,13 @@ impl Member {
     /// Lets the member see all that another of its set has seen: [`VbrSet::meet`] by their passes. It is
     /// one step, and can't fail. `a.meet(&mut b)` lets `a` see what `b` has seen.
     ///
+    /// # Example
+    ///
+    /// ```rattle file=crates/vbr_set_rows/src/members.rt
+    /// let answer = one.insert(key, 100);
+    /// other.meet(one);
+    /// ```
+    ///
     /// [`VbrSet::meet`]: crate::VbrSet::meet
     #[inline]
     pub fn meet(&mut self, other: &mut Member)

@@ -4,10 +4,10 @@ ghost use Rattle.vbr_slots.specs.Views.{IsOf, new_passes};
 ghost use Rattle.vbr_set.specs.MemberView.{IsMember};
 ghost use Rattle.vbr_set.specs.Members.{AreNew};
 ghost use Rattle.vbr_set.specs.Seats.{AreSeats};
-ghost use Rattle.vbr_set.specs.Sharing.{HasOthers, IsPlaced, set_shared};
+ghost use Rattle.vbr_set.specs.Sharing.{HasOthers, CanComeBack, set_shared};
 
 use crate::common::Common;
-use crate::mailbox::{Knows, Mailbox};
+use crate::mailbox::{Mailbox, SeatKnows};
 use crate::member::Member;
 use crate::set::VbrSet;
 use crate::share::Share;
@@ -22,12 +22,15 @@ impl Member {
     /// which begin with 0. They have seen nothing. No call takes memory later, but for the close of
     /// the last member.
     ///
-    /// Besides what [`VbrSet::open`] takes, each member takes about 1,200 bytes.
+    /// Besides what [`VbrSet::open`] takes, each member takes about 1,200 bytes. No pass has made a step
+    /// then.
     ///
     /// # Errors
     ///
-    /// They are tested in the order of [`OpenError`]: a number of passes that is 0 or above 64, and
-    /// want of memory. Nothing is kept then.
+    /// They are tested in this order, and nothing is kept then.
+    ///
+    /// - Passes: the number of passes is 0 or above 64.
+    /// - Memory: there is no room for the words or the members.
     ///
     /// # Example
     ///
@@ -49,7 +52,7 @@ impl Member {
     pub(crate) fn of(share: Share, pass: Pass) -> Member
         requires own { IsOf pass.trace (set_shared share) }
         requires empty_hand { pass.hand ≡ None }
-        requires placed { IsPlaced share pass.trace.who }
+        requires comes_back { CanComeBack share pass.trace.who }
         ensures { result ≡ record { set = set_shared share; pass = pass } }
     {
         Member {
@@ -66,7 +69,7 @@ fn make_mailboxes(
     alloc: Global,
     set: &VbrSet,
     count: usize,
-) -> Result<(Vec<Mailbox>, Vec<Seat<Option<Pass>, Knows>>), AllocError>
+) -> Result<(Vec<Mailbox>, Vec<Seat<Option<Pass>, SeatKnows>>), AllocError>
     ensures mailboxes { IfOk result (λ r. All (λ mailbox. mailbox.table.shared.key ≡ set.now) r.0.items) }
     ensures seats { IfOk result (λ r. AreSeats r.0.items 0 r.1.items) }
     ensures count { IfOk result (λ r. length r.1.items ≡ count) }

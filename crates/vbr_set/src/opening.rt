@@ -11,12 +11,16 @@ impl VbrSet {
     /// Opens an empty set, with so many passes, from 1 to 64. They stand in the order of their
     /// numbers, which begin with 0, and have seen nothing. No call takes memory later, but for
     /// [`VbrSet::close`]. It takes 8 * (2 + buckets + 4 * slots + slots / 64) bytes, the last part
-    /// rounded up, 320 for each pass, and the words once more while it runs.
+    /// rounded up, 320 for each pass, and the words once more while it runs. No pass has made a step
+    /// then. Each slot is in the shared pool, which the passes take from and put back into (Sheffi,
+    /// Herlihy and Petrank 2021).
     ///
     /// # Errors
     ///
-    /// They are tested in the order of [`OpenError`]: a number of passes that is 0 or above 64, and
-    /// want of memory. Nothing is kept then.
+    /// They are tested in this order, and nothing is kept then.
+    ///
+    /// - Passes: the number of passes is 0 or above 64.
+    /// - Memory: there is no room for the words or the passes.
     ///
     /// # Example
     ///

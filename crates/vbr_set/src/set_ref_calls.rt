@@ -15,7 +15,8 @@ use vbr_slots::Pass;
 use vbr_words::Shape;
 
 impl VbrSet {
-    /// Puts a pass beside a reference to its set. From here on its calls ask nothing of their caller.
+    /// Puts a pass beside a reference to its set. From here on its calls ask nothing of their caller. It
+    /// makes no step, and can't fail.
     ///
     /// # Example
     ///
@@ -34,8 +35,13 @@ impl VbrSet {
 
 impl<'s> VbrSetRef<'s> {
     /// Adds a key, in at most `budget` steps, and says whether it was absent: [`VbrSet::insert`],
-    /// which says what it costs and when it is refused. After a refusal the pass has made no call, and
-    /// can go on at once.
+    /// which has the source. While the other passes stand still, 18n + slots + 82 steps are enough, with
+    /// n nodes in the key's bucket.
+    ///
+    /// # Errors
+    ///
+    /// OutOfSteps, NoSlot and EpochSpent, as there. After each the pass has made no call, and can go on
+    /// at once.
     ///
     /// # Example
     ///
@@ -50,7 +56,12 @@ impl<'s> VbrSetRef<'s> {
     }
 
     /// Takes a key out, in at most `budget` steps, and says whether it was there: [`VbrSet::remove`],
-    /// which says what it costs. OutOfSteps is its one refusal; the pass has made no call then.
+    /// which has the source. While the other passes stand still, 9n + 11 steps are enough, with n nodes in
+    /// the key's bucket.
+    ///
+    /// # Errors
+    ///
+    /// OutOfSteps alone. The pass has made no call then, and can go on at once.
     ///
     /// # Example
     ///
@@ -64,8 +75,13 @@ impl<'s> VbrSetRef<'s> {
         self.set.remove(&mut self.pass, key, budget)
     }
 
-    /// Whether a key is in the set, in at most `budget` steps: [`VbrSet::has`]. It only loads words.
-    /// OutOfSteps is its one refusal; the pass has made no call then.
+    /// Whether a key is in the set, in at most `budget` steps: [`VbrSet::has`], which has the source. It
+    /// only loads words. While the other passes stand still, 5n + 11 steps are enough, with n nodes in the
+    /// key's bucket.
+    ///
+    /// # Errors
+    ///
+    /// OutOfSteps alone. The pass has made no call then, and can go on at once.
     ///
     /// # Example
     ///
@@ -118,7 +134,7 @@ impl<'s> VbrSetRef<'s> {
         &self.pass
     }
 
-    /// Gives its pass back, as [`VbrSet::close`] takes it.
+    /// Gives its pass back, as [`VbrSet::close`] takes it. It makes no step, and can't fail.
     ///
     /// # Example
     ///

@@ -1,6 +1,6 @@
 //! What a member has of its set.
 use crate::common::Common;
-use crate::mailbox::{Knows, Mailbox};
+use crate::mailbox::{Mailbox, SeatKnows};
 use crate::set::VbrSet;
 use atomic_table::Seat;
 use std::alloc::Global;
@@ -11,7 +11,7 @@ use vbr_slots::Pass;
 #[derive(Drop)]
 pub enum Share {
     /// A share of it, with the right to lay its pass into its mailbox.
-    Among(Arc<Common, Global>, Seat<Option<Pass>, Knows>),
+    Among(Arc<Common, Global>, Seat<Option<Pass>, SeatKnows>),
     /// All of it, with the mailboxes of the other passes, after a close that found no memory.
     Alone(VbrSet, Vec<Mailbox>),
     /// All of it, with the other passes, after a close that found no memory later on; or with none,

@@ -20,7 +20,7 @@ use Rattle.clap.specs.declared.builder.value_parser.ValueParser.TheVariants as v
 use Rattle.clap.specs.declared.parser.matches.Found.{Found}
 use Rattle.clap.specs.declared.parser.matches.ArgMatches.{ArgMatches}
 use Rattle.clap.proofs.WalkLemmas.{both, one_text-rows}
-use Rattle.vbr_settings.specs.Options.{number_option, flag, options, command_line, HasNumber, number_among, IsFlag, AreComplete}
+use Rattle.vbr_settings.specs.Options.{number_option, switch, options, command_line, HasNumber, number_among, IsSwitch, AreComplete}
 use Rattle.vbr_settings.specs.declared.config.TheConstants.{MAX_WORKERS}
 use Rattle.vbr_settings.proofs.OptionValues.{its_number}
 use Rattle.vbr_settings.proofs.OptionsRead.{none_in, StandsAlone, stands_alone, IsOption, TakesValue, text_of, flag_text}
@@ -179,12 +179,12 @@ numbered_at old m p rules k d name least most default has inside is small =
       high = rw number got.2.3;
     }
 
--- a flag has no text but yes or no
-flag_at : (old : Command) (m : ArgMatches) (p : IsParsedFrom old m) (rules : List Rule) (k : ℕ) (d : Arg) (name : Text) → HasRules old rules → k < length rules → slice_index_or rules k (rule_of d) ≡ flag name → IsFlag name (rows_of (found_of m))
-flag_at old m p rules k d name has inside is =
+-- a switch has no text but yes or no
+switch_at : (old : Command) (m : ArgMatches) (p : IsParsedFrom old m) (rules : List Rule) (k : ℕ) (d : Arg) (name : Text) → HasRules old rules → k < length rules → slice_index_or rules k (rule_of d) ≡ switch name → IsSwitch name (rows_of (found_of m))
+switch_at old m p rules k d name has inside is =
     let a : Arg = slice_index_or (args_of old) k d in
     let f : Found = found_of m in
-    let here : rule_of a ≡ flag name = sym (rule_at old rules k d (rule_of d) has inside) ∙ is in
+    let here : rule_of a ≡ switch name = sym (rule_at old rules k d (rule_of d) has inside) ∙ is in
     let option : IsOption old k a value.Bool = option_at old rules k d value.Bool has inside (ap (λ (r : Rule). r.parser) is) in
     let got = flag_text old m p k a option (plain_of old rules has) has.globals in
     subst (λ (o : Option Text). IfSome o (λ text. (bytes_eq text (codes "true") || bytes_eq text (codes "false")) ≡ true)) (one_text-rows f name) (subst (λ (id : Text). IfSome (one_text f id) (λ text. (bytes_eq text (codes "true") || bytes_eq text (codes "false")) ≡ true)) (ap (λ (r : Rule). r.id) here) got)
@@ -204,7 +204,7 @@ has_options old is =
       globals = false_of (out-Command old).has_globals globals.0;
     }
 
--- the matches that the program's command makes of words
+-- the matches that the program's command makes of arguments
 pub complete : (old : Command) (m : ArgMatches) → app_of old ≡ command_line → IsParsedFrom old m → AreComplete (rows_of (found_of m))
 complete old m is p = at (args_of old) refl
   where
@@ -228,7 +228,7 @@ complete old m is p = at (args_of old) refl
           buckets = buckets.number;
           last_epoch = last_epoch.number;
           budget = budget.number;
-          epoch = flag_at old m p options 5 d (codes "epoch") has (omega arith) refl;
+          epoch = switch_at old m p options 5 d (codes "epoch") has (omega arith) refl;
           some_worker = workers.low;
           few_workers = workers.high;
           small_slots = slots.high;

@@ -81,7 +81,7 @@ rules_of old m p k a parser option j y inside at same =
     subst (λ (b : Arg). SameRules b y) option.here (same_rules_by_id old m p k a option.inside unique own j y inside at is)
 
 -- what the entry of an option holds: values that its parser accepts, read as the parser says
-record Holds (option : ValueParser) (x : MatchedArg) : Type 0 where
+record HoldsValue (option : ValueParser) (x : MatchedArg) : Type 0 where
   accepts : All (λ v. Accepts false option v.now) x.vals.items
   reading : x.reading ≡ reading_of option
 
@@ -90,7 +90,7 @@ accepted a y parser text rules reads exact is =
     let same : parser_of y ≡ parser = ap parser_of_value (rules.parser parser reads) in
     subst (λ (b : Bool). Accepts b parser text) (rules.ignore_case ∙ exact) (subst (λ (q : ValueParser). Accepts y.ignore_case q text) same is)
 
-held : (old : Command) (m : ArgMatches) (p : IsParsedFrom old m) (k : ℕ) (a : Arg) (parser : ValueParser) (e : Entry) (x : MatchedArg) → IsOption old k a parser → groups_of p.built ≡ [] → EntryPasses p.built e → e.1 ≡ x → e.0.now ≡ a.id.now → Holds parser x
+held : (old : Command) (m : ArgMatches) (p : IsParsedFrom old m) (k : ℕ) (a : Arg) (parser : ValueParser) (e : Entry) (x : MatchedArg) → IsOption old k a parser → groups_of p.built ≡ [] → EntryPasses p.built e → e.1 ≡ x → e.0.now ≡ a.id.now → HoldsValue parser x
 held old m p k a parser e x option no_groups passes same name =
     let no_group : e.1.is_group ≡ true → ⊥ = λ group. elim (passes.3 group) [
       | inl empty ↦ option.named (sym name ∙ empty)
@@ -190,7 +190,7 @@ text_of old m p k a parser option takes plain globals = at (matched_of (found_of
         let read : one_text (found_of m) a.id.now ≡ option_map (λ s. read_as (reading_of parser) s.now) (slice_get x.vals.items 0) = rw (is, holds.reading) refl in
         (first.0, read ∙ first.1, first.2)
 
--- a flag that has a text has one that its parser accepts
+-- a switch that has a text has one that its parser accepts
 pub flag_text : (old : Command) (m : ArgMatches) (p : IsParsedFrom old m) (k : ℕ) (a : Arg) → IsOption old k a value.Bool → IsPlain old → (out-Command old).has_globals ≡ false → IfSome (one_text (found_of m) a.id.now) (λ text. Accepts false value.Bool text)
 flag_text old m p k a option plain globals = at (matched_of (found_of m) a.id.now) refl
   where

@@ -1,4 +1,4 @@
--- The command line of the program, in the words of `clap`.
+-- The command line of the program, as `clap` has it.
 use Rattle.std.specs.Prelude.{◌≡◌, ◌≤◌, ℕ, Bool, true, false, ◌||◌, List, [], ◌∷◌, ◌++◌, fold, Option, Some, IfSome, codes}
 use Rattle.std.specs.Option.{option_map_or}
 use Rattle.std.specs.Str.{bytes_eq}
@@ -11,8 +11,8 @@ use Rattle.vbr_settings.specs.declared.config.TheConstants.{MAX_WORKERS}
 use Rattle.vbr_words.specs.Shapes.{shape_error}
 use Rattle.vbr_words.specs.declared.shape.ShapeError.{ShapeError}
 use Rattle.vbr_settings.specs.Settings.{Settings}
-use Rattle.vbr_settings.specs.declared.options.Refusal.{Refusal}
-use Rattle.vbr_settings.specs.declared.options.Refusal.TheVariants as refusal
+use Rattle.vbr_settings.specs.declared.options.OptionsError.{OptionsError}
+use Rattle.vbr_settings.specs.declared.options.OptionsError.TheVariants as options_error
 
 -- an option that takes a number between two limits, and is this number where it isn't given
 abbrev pub number_option : Text → ℕ → ℕ → Text → Rule
@@ -25,8 +25,8 @@ number_option name least most default = record (new_rule name) {
 }
 
 -- an option that is given or not
-abbrev pub flag : Text → Rule
-flag name = record (new_rule name) { long = Some name; action = Some SetTrue; parser = Some value.Bool }
+abbrev pub switch : Text → Rule
+switch name = record (new_rule name) { long = Some name; action = Some SetTrue; parser = Some value.Bool }
 
 -- the options that give the set's shape
 abbrev pub shape_options : List Rule
@@ -42,7 +42,7 @@ options =
     number_option (codes "workers") 1 MAX_WORKERS (codes "1")
     ∷ shape_options
     ++ number_option (codes "budget") 0 4294967295 (codes "100000")
-    ∷ flag (codes "epoch")
+    ∷ switch (codes "epoch")
     ∷ []
 
 -- a command that can be asked for its version
@@ -53,9 +53,9 @@ with_version app = record app { top = record app.top { has_version = true } }
 unfoldable pub command_line : App
 command_line = fold with_rule (with_version (new_app (codes "vbr_run"))) options
 
--- the words, of which the first is the program's name, are options that the command takes
+-- the arguments, of which the first is the program's name, are options that the command takes
 unfoldable pub AreOptions : List Text → Type 0
-AreOptions words = takes command_line words ≡ true
+AreOptions arguments = takes command_line arguments ≡ true
 
 -- ---- what a command line gives
 
@@ -63,7 +63,7 @@ AreOptions words = takes command_line words ≡ true
 unfoldable pub number_among : Text → List Row → ℕ
 number_among name rows = option_map_or (λ text. digits_value 10 (without_leading_plus text)) (one_of name rows) 0
 
--- whether a flag is given among the matches of a command line
+-- whether a switch is given among the matches of a command line
 unfoldable pub is_among : Text → List Row → Bool
 is_among name rows = option_map_or (λ text. bytes_eq text (codes "true")) (one_of name rows) false
 
@@ -74,6 +74,7 @@ settings_among rows = record {
     slots = number_among (codes "slots") rows;
     buckets = number_among (codes "buckets") rows;
     last_epoch = number_among (codes "last-epoch") rows;
+    keys = [];
   };
   workers = number_among (codes "workers") rows;
   budget = number_among (codes "budget") rows;
@@ -82,7 +83,7 @@ settings_among rows = record {
 
 -- the settings that a command line gives, each option with what is given for it, or else with its own value
 unfoldable pub settings_of : List Text → Settings
-settings_of words = settings_among (matches_of command_line words)
+settings_of arguments = settings_among (matches_of command_line arguments)
 
 -- what is wrong with the shape of settings
 abbrev pub shape_fault : Settings → Option ShapeError
@@ -94,25 +95,25 @@ shape_fault settings = shape_error settings.shape.slots settings.shape.buckets s
 abbrev pub HasNumber : Text → List Row → Type 0
 HasNumber name rows = (text : Text) × (one_of name rows ≡ Some text) × IsUnsignedIn 0 18446744073709551615 text
 
--- a flag has no text but yes or no
-abbrev pub IsFlag : Text → List Row → Type 0
-IsFlag name rows = IfSome (one_of name rows) (λ text. (bytes_eq text (codes "true") || bytes_eq text (codes "false")) ≡ true)
+-- a switch has no text but yes or no
+abbrev pub IsSwitch : Text → List Row → Type 0
+IsSwitch name rows = IfSome (one_of name rows) (λ text. (bytes_eq text (codes "true") || bytes_eq text (codes "false")) ≡ true)
 
--- matches have a number for each option, within its limits, and the flag
+-- matches have a number for each option, within its limits, and the switch
 pub record AreComplete (rows : List Row) : Type 0 where
   pub workers : HasNumber (codes "workers") rows
   pub slots : HasNumber (codes "slots") rows
   pub buckets : HasNumber (codes "buckets") rows
   pub last_epoch : HasNumber (codes "last-epoch") rows
   pub budget : HasNumber (codes "budget") rows
-  pub epoch : IsFlag (codes "epoch") rows
+  pub epoch : IsSwitch (codes "epoch") rows
   pub some_worker : 1 ≤ number_among (codes "workers") rows
   pub few_workers : number_among (codes "workers") rows ≤ MAX_WORKERS
   pub small_slots : number_among (codes "slots") rows ≤ 4294967295
   pub small_buckets : number_among (codes "buckets") rows ≤ 4294967295
   pub small_budget : number_among (codes "budget") rows ≤ 4294967295
 
--- why a command line gives no options to play with: what `clap` answers, which for words that it takes is want of memory alone, or a shape that is none
-abbrev pub IsRefusalOf : List Text → Refusal → Type 0
-IsRefusalOf words (refusal.Usage error) = AreOptions words → kind_of error ≡ OutOfMemory
-IsRefusalOf words (refusal.Unshaped error) = shape_fault (settings_of words) ≡ Some error
+-- why a command line gives no options to play with: what `clap` answers, which for arguments that it takes is want of memory alone, or a shape that is none
+abbrev pub IsOptionsErrorOf : List Text → OptionsError → Type 0
+IsOptionsErrorOf arguments (options_error.Usage error) = AreOptions arguments → kind_of error ≡ OutOfMemory
+IsOptionsErrorOf arguments (options_error.Unshaped error) = shape_fault (settings_of arguments) ≡ Some error

@@ -10,7 +10,7 @@ use vbr_words::Shape;
 pub const MAX_WORKERS: u32 = 16;
 
 /// How a script is played.
-#[derive(Clone, Copy, Debug, PartialEq, Eq, Hash)]
+#[derive(Clone, Copy, Debug, PartialEq, Eq)]
 pub struct Config {
     shape: Shape,
     workers: u32,
@@ -31,7 +31,7 @@ impl Model for Config {
 }
 
 /// Why a script can't be played so.
-#[derive(Clone, Copy, Debug, PartialEq, Eq, Hash, Error)]
+#[derive(Clone, Copy, Debug, PartialEq, Eq, Error)]
 pub enum ConfigError {
     /// The number of workers is 0 or above `MAX_WORKERS`.
     #[error("the number of workers is not from 1 to {MAX_WORKERS}")]
@@ -40,8 +40,17 @@ pub enum ConfigError {
 
 impl Config {
     /// Plays on a set of this shape, by so many workers, with a budget of so many steps for each
-    /// call, and tells the set's last epoch or not. The one refusal is that of the number of
-    /// workers.
+    /// call, and tells the set's epoch in the end or not. It reaches no set and takes no memory.
+    ///
+    /// # Errors
+    ///
+    /// - Workers: the number of workers is 0 or above 16.
+    ///
+    /// # Example
+    ///
+    /// ```rattle file=crates/vbr_example/src/main.rt
+    /// let config = Config::new(Shape::new(64, 16, MAX_EPOCH)?, 3, 100_000, false)?;
+    /// ```
     pub fn new(shape: Shape, workers: u32, budget: u32, epoch: bool) -> Result<Self, ConfigError>
         ensures { MatchResult result
             (λ config. (config_error workers ≡ None) × (config ≡ record { shape = shape; workers = workers; budget = budget; epoch = epoch }))

@@ -2,8 +2,8 @@
 ghost use Rattle.std.specs.Prelude.{◌≡◌, ◌⊎◌, ℕ, List, [], ◌∷◌, Some, true, false, IfOk, IfErr, MatchResult, map, fold, codes};
 ghost use Rattle.clap.specs.Words.{app_of, rule_of, rows_of, found_of, with_rule, kind_of};
 ghost use Rattle.vbr_words.specs.declared.shape.TheConstants.{MAX_EPOCH};
-ghost use Rattle.vbr_settings.specs.Options.{AreOptions, number_option, flag, shape_options, command_line, settings_of, settings_among, number_among, is_among, HasNumber, IsFlag, AreComplete, shape_fault, IsRefusalOf};
-ghost use Rattle.vbr_settings.specs.declared.options.Refusal.TheVariants.{Usage, Unshaped};
+ghost use Rattle.vbr_settings.specs.Options.{AreOptions, number_option, switch, shape_options, command_line, settings_of, settings_among, number_among, is_among, HasNumber, IsSwitch, AreComplete, shape_fault, IsOptionsErrorOf};
+ghost use Rattle.vbr_settings.specs.declared.options.OptionsError.TheVariants.{Usage, Unshaped};
 
 use crate::config::{Config, MAX_WORKERS};
 use clap::builder::ValueParser;
@@ -94,36 +94,36 @@ const MOST: u64 = u32::MAX as u64;
 
 /// Why there are no options to play with.
 #[derive(Drop)]
-pub enum Refusal {
-    /// The words are at fault, or ask for the help, or there was no memory for them.
+pub enum OptionsError {
+    /// The arguments are at fault, or ask for the help, or there was no memory for them.
     Usage(Error),
     /// The numbers that they give are no shape.
     Unshaped(ShapeError),
 }
 
-impl From<Error> for Refusal {
+impl From<Error> for OptionsError {
     ghost from_gives = { λ error refusal. refusal ≡ Usage error };
 
     fn from(error: Error) -> Self {
-        Refusal::Usage(error)
+        OptionsError::Usage(error)
     }
 }
 
-impl From<ShapeError> for Refusal {
+impl From<ShapeError> for OptionsError {
     ghost from_gives = { λ error refusal. refusal ≡ Unshaped error };
 
     fn from(error: ShapeError) -> Self {
-        Refusal::Unshaped(error)
+        OptionsError::Unshaped(error)
     }
 }
 
-/// Reads the options: how the script is to be played, or what is to be told in its place. Words that
+/// Reads the options: how the script is to be played, or what is to be told in its place. Arguments that
 /// the command takes lack nothing but a shape, or memory.
-pub fn read_options(alloc: Global, words: &[&str]) -> Result<Config, Refusal>
-    ensures ok { IfOk result (λ config. config ≡ settings_of (map (λ word. word.now) words.entry.now)) }
-    ensures refusal { IfErr result (IsRefusalOf (map (λ word. word.now) words.entry.now)) }
+pub fn read_options(alloc: Global, arguments: &[&str]) -> Result<Config, OptionsError>
+    ensures ok { IfOk result (λ config. config ≡ settings_of (map (λ argument. argument.now) arguments.entry.now)) }
+    ensures error { IfErr result (IsOptionsErrorOf (map (λ argument. argument.now) arguments.entry.now)) }
 {
-    let matches = command(alloc)?.try_get_matches_from(words)?;
+    let matches = command(alloc)?.try_get_matches_from(arguments)?;
     Ok(config_of(&matches)?)
 }
 
@@ -131,9 +131,9 @@ pub fn read_options(alloc: Global, words: &[&str]) -> Result<Config, Refusal>
 /// option its own value, and each option may be given.
 pub fn knows_its_options()
     ensures name_alone { (name : List ℕ) → AreOptions (name ∷ [])
-        × (settings_of (name ∷ []) ≡ record { shape = record { slots = 1024; buckets = 16; last_epoch = MAX_EPOCH }; workers = 1; budget = 100000; epoch = false }) }
+        × (settings_of (name ∷ []) ≡ record { shape = record { slots = 1024; buckets = 16; last_epoch = MAX_EPOCH; keys = [] }; workers = 1; budget = 100000; epoch = false }) }
     ensures all_given { (name : List ℕ) → AreOptions (name ∷ codes "--workers" ∷ codes "4" ∷ codes "--slots" ∷ codes "512" ∷ codes "--buckets=8" ∷ codes "--last-epoch" ∷ codes "7" ∷ codes "--budget" ∷ codes "1000000" ∷ codes "--epoch" ∷ [])
-        × (settings_of (name ∷ codes "--workers" ∷ codes "4" ∷ codes "--slots" ∷ codes "512" ∷ codes "--buckets=8" ∷ codes "--last-epoch" ∷ codes "7" ∷ codes "--budget" ∷ codes "1000000" ∷ codes "--epoch" ∷ []) ≡ record { shape = record { slots = 512; buckets = 8; last_epoch = 7 }; workers = 4; budget = 1000000; epoch = true }) }
+        × (settings_of (name ∷ codes "--workers" ∷ codes "4" ∷ codes "--slots" ∷ codes "512" ∷ codes "--buckets=8" ∷ codes "--last-epoch" ∷ codes "7" ∷ codes "--budget" ∷ codes "1000000" ∷ codes "--epoch" ∷ []) ≡ record { shape = record { slots = 512; buckets = 8; last_epoch = 7; keys = [] }; workers = 4; budget = 1000000; epoch = true }) }
 {}
 
 // The command, with its options.
@@ -156,7 +156,7 @@ fn command<'a>(alloc: Global) -> Result<Command<'a>, Error>
     );
     let command = with_shape(alloc, command.arg(workers)?)?;
     let budget = number(alloc, "budget", BUDGET_HELP, 0, MOST, "100000");
-    let epoch = flag(alloc, "epoch", EPOCH_HELP);
+    let epoch = switch(alloc, "epoch", EPOCH_HELP);
     Ok(command.arg(budget)?.arg(epoch)?)
 }
 
@@ -200,8 +200,8 @@ fn number<'a>(
 }
 
 // An option that is given or not.
-fn flag<'a>(alloc: Global, name: &'a str, help: &'a str) -> Arg<'a>
-    ensures rule { rule_of result ≡ flag name.entry.now }
+fn switch<'a>(alloc: Global, name: &'a str, help: &'a str) -> Arg<'a>
+    ensures rule { rule_of result ≡ switch name.entry.now }
     ensures local { result.global ≡ false }
 {
     Arg::new(alloc, name)
@@ -245,9 +245,9 @@ fn number_of(matches: &ArgMatches, name: &str) -> u64
     matches.get_one(name).unwrap()
 }
 
-// Whether a flag is given.
+// Whether a switch is given.
 fn is_given(matches: &ArgMatches, name: &str) -> bool
-    requires { IsFlag name.now (rows_of (found_of matches.now)) }
+    requires { IsSwitch name.now (rows_of (found_of matches.now)) }
     ensures { result ≡ is_among name.now (rows_of (found_of matches.now)) }
 {
     matches.get_flag(name)

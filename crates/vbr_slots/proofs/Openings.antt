@@ -1,5 +1,5 @@
 -- The words at the opening, laid one place at a time.
-use Rattle.std.proofs.Common.{◌≡◌, ◌≢◌, ℕ, zero, suc, ◌+◌, ◌<◌, nat_lt, Bool, true, false, List, length, set, get_or, replicate, if◌then◌else◌, refl, sym, ap, ◌∙◌, length-set, get_or-set_other, get_or-set_same, arith}
+use Rattle.std.proofs.Common.{◌≡◌, ◌≢◌, ℕ, zero, suc, ◌+◌, ◌<◌, nat_lt, Bool, true, false, List, [], None, length, set, get_or, replicate, if◌then◌else◌, refl, sym, subst, ap, ◌∙◌, length-set, get_or-set_other, get_or-set_same, arith}
 use Rattle.std.specs.Prelude.{◌&&◌}
 use Rattle.std.proofs.lemmas.Bool.Decides.{nat_tests}
 use Rattle.std.proofs.lemmas.List.{length-replicate}
@@ -13,8 +13,10 @@ use Rattle.vbr_words.specs.declared.link.TheConstants.{MARK}
 use Rattle.vbr_words.specs.declared.place.Place.{Place}
 use Rattle.vbr_words.specs.declared.place.Place.TheVariants.{Epoch, ShapeWord, Head, LinkOf, Birth, Stamp, Key, Flags}
 use Rattle.vbr_words.proofs.Lemmas.{flag_word_same, index_of-lt, same_place}
-use Rattle.vbr_core.specs.Links.{opening_link, empty_head}
+use Rattle.vbr_core.specs.Links.{opening_link, link_to}
+use Rattle.vbr_core.specs.Machine.{World}
 use Rattle.vbr_core.specs.Machine as machine
+use Rattle.vbr_core.proofs.Lemmas.{bare, opening_bare}
 use Rattle.vbr_slots.specs.Words.{AreWordsOf}
 
 -- the words once the epoch, the shape, so many links and so many flag words are laid
@@ -115,7 +117,7 @@ blank_link : word_of opening_link ≡ MARK
 unfolding word_of
 blank_link = refl
 
-blank_head : word_of empty_head ≡ 0
+blank_head : word_of (link_to None 0 0) ≡ 0
 unfolding word_of
 blank_head = refl
 
@@ -124,10 +126,10 @@ and_true true = refl
 and_true false = refl
 
 -- all links and all flag words
-pub laid_all : (shape : Dimensions) (words : List ℕ) → AreLaid shape (laid shape shape.slots (flag_words shape.slots)) words → AreWordsOf shape machine.opening words
-laid_all shape words are = record { count = are.count; each = each }
+pub laid_all : (shape : Dimensions) (words : List ℕ) → shape.keys ≡ [] → AreLaid shape (laid shape shape.slots (flag_words shape.slots)) words → AreWordsOf shape (machine.opening shape) words
+laid_all shape words none are = subst (λ (w : World). AreWordsOf shape w words) (sym (opening_bare shape none)) (record { count = are.count; each = each })
   where
-    each : (place : Place) → IsIn shape place → get_or words (index_of shape place) 0 ≡ machine.word_at shape machine.opening place
+    each : (place : Place) → IsIn shape place → get_or words (index_of shape place) 0 ≡ machine.word_at shape bare place
     each Epoch here = are.each Epoch here
     each ShapeWord here = are.each ShapeWord here
     each (Head b) here = are.each (Head b) here ∙ sym blank_head
@@ -138,4 +140,4 @@ laid_all shape words are = record { count = are.count; each = each }
     each (Flags number) here =
         are.each (Flags number) here
         ∙ below number (flag_words shape.slots) (flag_word (λ s. nat_lt s shape.slots) number) 0 here
-        ∙ flag_word_same (λ s. nat_lt s shape.slots) (machine.is_flagged shape machine.opening) number (λ s _. and_true (nat_lt s shape.slots))
+        ∙ flag_word_same (λ s. nat_lt s shape.slots) (machine.is_flagged shape bare) number (λ s _. and_true (nat_lt s shape.slots))

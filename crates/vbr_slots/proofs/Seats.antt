@@ -25,7 +25,7 @@ begin_all : (k n : ℕ) → EachBegins [] (witnesses k n)
 begin_all k zero = tt
 begin_all k (suc n) = (([], refl, tt), begin_all (suc k) n)
 
-pub opens : (opening : Opening) (words : List ℕ) → AreWordsOf opening.shape machine.opening words → Kept opening (table_opening words [] (first_witnesses opening))
+pub opens : (opening : Opening) (words : List ℕ) → AreWordsOf opening.shape (machine.opening opening.shape) words → Kept opening (table_opening words [] (first_witnesses opening))
 opens opening words are = record {
   run = [];
   is_run = is_run_first opening.shape opening.passes;

@@ -32,6 +32,7 @@ module _ {T : Type 0} where
   HandsBack (Missing t ps) table passes = (t ≡ table) × (ps.items ≡ passes)
   HandsBack (Memory t ps) table passes = (t ≡ table) × (ps.items ≡ passes)
 
+  -- passes are missing; the other error is that there is no memory
   abbrev pub IsMissing : CloseError T → Type 0
   IsMissing (Missing t ps) = Unit {0}
   IsMissing (Memory t ps) = ⊥

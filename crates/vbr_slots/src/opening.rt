@@ -47,7 +47,7 @@ impl Error for OpenError {}
 // The words at the opening: the epoch is 1, the shape's word stands, each slot has the opening link
 // and is in the shared pool, so its flag is set, and all other words are 0.
 fn opening_words(alloc: Global, shape: &Shape) -> Result<Vec<u64>, AllocError>
-    ensures words { IfOk result (λ words. AreWordsOf shape.now machine.opening words.items) }
+    ensures words { IfOk result (λ words. AreWordsOf shape.now (machine.opening shape.now) words.items) }
     ensures shape { OnOk result (IsShape shape.now) }
 {
     let mut words = vec![in alloc; 0; word_count(shape)]?;

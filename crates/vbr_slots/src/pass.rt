@@ -117,15 +117,15 @@ impl Pass {
         ensures pool { self.new.pool ≡ without slot self.old.pool }
         ensures hand { self.new.hand ≡ self.old.hand }
     {
-        if let Some(at) = place_of(self.pool.as_slice(), slot) {
+        if let Some(at) = position_in(self.pool.as_slice(), slot) {
             self.pool.remove(at);
         }
     }
 }
 
-// The place of a slot in a pool.
+// The position of a slot in a pool.
 #[inline]
-fn place_of(pool: &[u32], slot: u32) -> Option<usize>
+fn position_in(pool: &[u32], slot: u32) -> Option<usize>
     ensures { result ≡ position_from (λ x. x == slot) 0 pool.now }
 {
     pool.iter().position(|pooled| *pooled == slot)

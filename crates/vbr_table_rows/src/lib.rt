@@ -1,10 +1,12 @@
-//! Tests of the running table, of pools and of checked access, from outside.
+//! Tests of the running table, of pools, of checked access and of the list, from outside.
 #![tactic(auto)]
 
 #[cfg(test)]
 mod access;
 #[cfg(test)]
 mod flag_words;
+#[cfg(test)]
+mod list;
 #[cfg(test)]
 mod listed_calls;
 #[cfg(test)]

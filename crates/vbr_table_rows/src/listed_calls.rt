@@ -60,7 +60,7 @@ fn take(rt: &impl Abort, slots: &Slots, pass: &mut Pass, slot: u32)
 }
 
 // Makes a step by the call of its kind. In the lists each slot that is reached for is in the shared
-// pool, and each epoch that is raised is the expected one.
+// pool, and each epoch that is advanced is the expected one.
 fn call(rt: &impl Abort, slots: &Slots, pass: &mut Pass, step: Step, new: u64) -> Effect
     requires { May slots.now pass.old.trace step new }
     ensures { Learned step pass.old.trace pass.new.trace result }
@@ -197,7 +197,7 @@ fn words_after(
     rows: &[Row],
     words: &[u64],
 ) -> Option<Vec<u64>>
-    requires { AreWorked shape opening rows.now words.now }
+    requires { AreWorked shape (opening shape) rows.now words.now }
 {
     let (slots, mut a, mut b) = open_two(alloc, shape)?;
     follow(rt, &slots, &mut a, &mut b, rows, words);

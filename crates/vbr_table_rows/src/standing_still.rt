@@ -24,7 +24,7 @@ fn table_after(
     rows: &[Row],
     words: &[u64],
 ) -> Option<(Slots, Pass, Pass)>
-    requires { AreWorked shape opening rows.now words.now }
+    requires { AreWorked shape (opening shape) rows.now words.now }
     ensures shape { IfSome result (λ r. r.0.shape ≡ shape) }
     ensures own { IfSome result (λ r. IsOf r.1.trace r.0 × IsOf r.2.trace r.0) }
 {
@@ -150,7 +150,7 @@ fn behind_a_raised_slot(rt: HostRuntime) -> Result<(), Fail> {
 }
 
 #[test]
-fn behind_a_raised_epoch(rt: HostRuntime) -> Result<(), Fail> {
+fn behind_an_advance(rt: HostRuntime) -> Result<(), Fail> {
     stand_behind(&rt, rt.alloc(), 29)
 }
 
@@ -178,7 +178,7 @@ fn expect_full_pool(rt: &impl Abort, pass: &Pass) {
 }
 
 /// A pass keeps 63 of the slots that it unlinked, and gives the next one to the shared pool; the first
-/// that it takes again is the oldest, in an epoch that it raises.
+/// that it takes again is the oldest, in an epoch to which it advances.
 #[test]
 fn sixty_four_slots_filled_and_emptied(rt: HostRuntime) -> Result<(), Fail> {
     let (slots, mut passes) = open(rt.alloc(), Shape::new(64, 1, 10)?, 1)?;

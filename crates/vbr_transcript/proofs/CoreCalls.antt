@@ -35,7 +35,7 @@ none_beyond shape passes who w (event ∷ events) beyond accepted = (λ same. om
 
 -- so it has no calls
 pub no_calls_beyond : (shape : Dimensions) (passes who : ℕ) (run : List Event) → passes ≤ who → IsRun shape passes run → own_calls shape run who ≡ []
-no_calls_beyond shape passes who run beyond is_run = others_leave_calls shape [] run who (none_beyond shape passes who opening run beyond is_run)
+no_calls_beyond shape passes who run beyond is_run = others_leave_calls shape [] run who (none_beyond shape passes who (opening shape) run beyond is_run)
 
 -- ---- the epoch
 

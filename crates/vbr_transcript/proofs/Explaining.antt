@@ -5,7 +5,8 @@ use Rattle.std.proofs.lemmas.Bool.Decides.{nat_tests}
 use Rattle.std.proofs.lemmas.List.Elements.{All-nil, All-cons, All-head, All-tail, All-filter}
 use Rattle.std.specs.Prelude.{nat_le, zip, All}
 use Rattle.vbr_words.specs.Dimensions.{Dimensions}
-use Rattle.vbr_core.specs.Keys.{no_keys, Lists}
+use Rattle.vbr_core.specs.Keys.{AreKeysOf}
+use Rattle.vbr_core.specs.Opened.{opening_keys}
 use Rattle.vbr_core.specs.History.{calls_by, set_after}
 use Rattle.vbr_core.specs.Runs as machine
 use Rattle.vbr_core.specs.Runs.{world_after}
@@ -86,7 +87,7 @@ ends shape workers phases phase lines own replies run phased merged is_run playe
 ]
 
 -- what the workers have played by a safe run is a run of the script, with the replies that they have merged
-pub run_of_workers : (shape : Dimensions) (workers phases : ℕ) (lines : List Line) (own : List (List Reply)) (replies : List Reply) (totals : Totals) (run : List Event) → ArePhased workers phases lines → IsMerged lines own replies → machine.IsRun shape workers run → IsSafe shape run → HavePlayed shape workers phases lines own run → Counts totals (zip lines replies) → Lists totals.keys.items (set_after no_keys (world_after shape run).calls) → totals.epoch ≡ (world_after shape run).epoch → IsScriptRun shape workers lines replies totals
+pub run_of_workers : (shape : Dimensions) (workers phases : ℕ) (lines : List Line) (own : List (List Reply)) (replies : List Reply) (totals : Totals) (run : List Event) → ArePhased workers phases lines → IsMerged lines own replies → machine.IsRun shape workers run → IsSafe shape run → HavePlayed shape workers phases lines own run → Counts totals (zip lines replies) → AreKeysOf totals.keys.items (set_after (opening_keys shape) (world_after shape run).calls) → totals.epoch ≡ (world_after shape run).epoch → IsScriptRun shape workers lines replies totals
 run_of_workers shape workers phases lines own replies totals run phased merged is_run safe played counts keys epoch =
     let of_worker = λ (who : ℕ). outcomes_by-own who lines replies (replies_by who own) merged.one_each (merged.own_order who) in
     let all = λ (who : ℕ). own_order shape workers who run lines own (zip lines replies) is_run played.called phased.workers_below (of_worker who) in

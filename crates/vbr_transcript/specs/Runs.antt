@@ -1,7 +1,8 @@
 -- A run of a script: a reply for each of its operations, and totals, that the calls of one run of the core explain.
 use Rattle.std.specs.Prelude.{◌≡◌, ℕ, Bool, true, false, ◌&&◌, List, ◌++◌, length, zip, All, count_by}
 use Rattle.vbr_words.specs.Dimensions.{Dimensions}
-use Rattle.vbr_core.specs.Keys.{no_keys, Lists}
+use Rattle.vbr_core.specs.Keys.{Keys, AreKeysOf}
+use Rattle.vbr_core.specs.Opened.{opening_keys}
 use Rattle.vbr_core.specs.History.{IsLegal, set_after, calls_by}
 use Rattle.vbr_core.specs.Runs as machine
 use Rattle.vbr_core.specs.Runs.{world_after}
@@ -25,9 +26,9 @@ pub record EndsIn (history : List Call) (outcomes : List Outcome) (phase : ℕ) 
   pub whole : history ≡ before ++ after
   pub own_order : (who : ℕ) → calls_by who before ≡ calls_by who (answered_calls (outcomes_up_to phase outcomes))
 
--- a history explains outcomes: it is legal from the empty set, it has just the answered operations as its calls, those of each worker in script order, and each phase ends before the next
-pub record Explains (history : List Call) (outcomes : List Outcome) : Type 0 where
-  pub legal : IsLegal no_keys history
+-- a history explains outcomes, from an opening set: it is legal from there, it has just the answered operations as its calls, those of each worker in script order, and each phase ends before the next
+pub record Explains (keys : Keys) (history : List Call) (outcomes : List Outcome) : Type 0 where
+  pub legal : IsLegal keys history
   pub own_order : (who : ℕ) → calls_by who history ≡ calls_by who (answered_calls outcomes)
   pub phases : (phase : ℕ) → EndsIn history outcomes phase
 
@@ -82,8 +83,8 @@ pub record IsScriptRun (shape : Dimensions) (workers : ℕ) (lines : List Line) 
   pub run : List Event
   pub is_run : machine.IsRun shape workers run
   pub safe : IsSafe shape run
-  pub explains : Explains (world_after shape run).calls (zip lines replies)
+  pub explains : Explains (opening_keys shape) (world_after shape run).calls (zip lines replies)
   pub refusals : All (λ outcome. MayBeAnswered shape.last_epoch totals.epoch outcome.0.op outcome.1) (zip lines replies)
   pub counts : Counts totals (zip lines replies)
-  pub keys : Lists totals.keys.items (set_after no_keys (world_after shape run).calls)
+  pub keys : AreKeysOf totals.keys.items (set_after (opening_keys shape) (world_after shape run).calls)
   pub epoch : totals.epoch ≡ (world_after shape run).epoch

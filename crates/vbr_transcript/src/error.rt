@@ -4,7 +4,7 @@ use thiserror::Error;
 use vbr_script::{ScriptError, ScriptFault};
 
 /// Why a run wasn't done.
-#[derive(Clone, Copy, Debug, PartialEq, Eq, Hash, Error)]
+#[derive(Clone, Copy, Debug, PartialEq, Eq, Error)]
 pub enum RunError {
     /// The text is no script: its first faulty line, counted from 1, and what is wrong with it.
     #[error("line {line}: {kind}")]

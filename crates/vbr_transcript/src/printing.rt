@@ -64,11 +64,11 @@ fn push_epoch(text: &mut Vec<u8>, asked: bool, epoch: u64) -> Result<(), AllocEr
     Ok(())
 }
 
-// A line with a word and a number.
-fn push_count(text: &mut Vec<u8>, word: &[u8], count: u64) -> Result<(), AllocError>
-    ensures { OnOk result (text.new.items ≡ text.old.items ++ line (word.now ++ spaced count)) }
+// A line with a name and a number.
+fn push_count(text: &mut Vec<u8>, name: &[u8], count: u64) -> Result<(), AllocError>
+    ensures { OnOk result (text.new.items ≡ text.old.items ++ line (name.now ++ spaced count)) }
 {
-    text.extend_from_slice(word)?;
+    text.extend_from_slice(name)?;
     push_spaced(text, count)?;
     text.push(b'\n')?;
     Ok(())
@@ -94,10 +94,10 @@ fn push_spaced(text: &mut Vec<u8>, n: u64) -> Result<(), AllocError>
     text.extend_from_slice(buffer.format(n).as_bytes())
 }
 
-fn push_line(text: &mut Vec<u8>, word: &[u8]) -> Result<(), AllocError>
-    ensures { OnOk result (text.new.items ≡ text.old.items ++ line word.now) }
+fn push_line(text: &mut Vec<u8>, content: &[u8]) -> Result<(), AllocError>
+    ensures { OnOk result (text.new.items ≡ text.old.items ++ line content.now) }
 {
-    text.extend_from_slice(word)?;
+    text.extend_from_slice(content)?;
     text.push(b'\n')?;
     Ok(())
 }

@@ -1,7 +1,7 @@
 //! What a line of a script is answered.
 
 /// What a line of a script was answered.
-#[derive(Clone, Copy, Debug, PartialEq, Eq, Hash)]
+#[derive(Clone, Copy, Debug, PartialEq, Eq)]
 pub enum Reply {
     /// The set's answer is yes.
     Yes,

@@ -7,7 +7,7 @@ ghost use Rattle.vbr_transcript.specs.Writing.{AppendsSome};
 use std::io::Write;
 
 /// A write that failed, or took nothing.
-#[derive(Clone, Copy, Debug, PartialEq, Eq, Hash)]
+#[derive(Clone, Copy, Debug, PartialEq, Eq)]
 pub struct WriteFault;
 
 // Writes all of the text. After a fault the writer holds a beginning of it.

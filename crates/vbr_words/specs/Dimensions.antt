@@ -1,15 +1,17 @@
 -- The shape of a set, as contracts see it.
-use Rattle.std.specs.Prelude.{ℕ, ◌<◌, ◌≤◌}
+use Rattle.std.specs.Prelude.{ℕ, ◌<◌, ◌≤◌, List, length}
+use Rattle.std.specs.List.Sorted.{IsStrictlyIncreasing}
 use Rattle.vbr_words.specs.declared.link.TheConstants.{MAX_SLOTS}
 use Rattle.vbr_words.specs.declared.shape.TheConstants.{MAX_BUCKETS, MAX_EPOCH}
 
--- the number of slots, the number of buckets, and the last epoch
+-- the number of slots, the number of buckets, the last epoch, and the keys that the set opens with
 pub record Dimensions : Type 0 where
   pub slots : ℕ
   pub buckets : ℕ
   pub last_epoch : ℕ
+  pub keys : List ℕ
 
--- none of them is 0, and none is above the greatest that words have room for
+-- none of the numbers is 0, and none is above the greatest that words have room for; the keys ascend, and each has a slot
 pub record IsShape (shape : Dimensions) : Type 0 where
   pub some_slot : 0 < shape.slots
   pub slots : shape.slots ≤ MAX_SLOTS
@@ -17,3 +19,5 @@ pub record IsShape (shape : Dimensions) : Type 0 where
   pub buckets : shape.buckets ≤ MAX_BUCKETS
   pub some_epoch : 0 < shape.last_epoch
   pub last_epoch : shape.last_epoch ≤ MAX_EPOCH
+  pub ascending : IsStrictlyIncreasing shape.keys
+  pub few : length shape.keys ≤ shape.slots

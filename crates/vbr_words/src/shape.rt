@@ -1,5 +1,5 @@
 //! The shape of a set: how many slots and buckets it has, and its last epoch.
-ghost use Rattle.std.specs.Prelude.{◌≡◌, ◌<◌, ◌%◌, Some, None, MatchResult};
+ghost use Rattle.std.specs.Prelude.{◌≡◌, ◌<◌, ◌%◌, [], Some, None, MatchResult};
 ghost use Rattle.vbr_words.specs.Dimensions.{IsShape};
 ghost use Rattle.vbr_words.specs.Shapes.{shape_error};
 
@@ -23,13 +23,14 @@ pub struct Shape {
 }
 
 impl Model for Shape {
+    ghost use Rattle.std.specs.Prelude.{[]};
     ghost use Rattle.vbr_words.specs.Dimensions.{Dimensions, IsShape};
 
     ghost Value = { Dimensions };
 
-    ghost view = { λ s. record { slots = s.slots; buckets = s.buckets; last_epoch = s.last_epoch } };
+    ghost view = { λ s. record { slots = s.slots; buckets = s.buckets; last_epoch = s.last_epoch; keys = [] } };
 
-    ghost invariant = { λ s. IsShape (record { slots = s.slots; buckets = s.buckets; last_epoch = s.last_epoch }) };
+    ghost invariant = { λ s. IsShape (record { slots = s.slots; buckets = s.buckets; last_epoch = s.last_epoch; keys = [] }) };
 
     ghost inverse = { λ d. record { slots = d.slots; buckets = d.buckets; last_epoch = d.last_epoch } };
 }
@@ -68,7 +69,7 @@ impl Shape {
     /// The shape of these numbers, or what is wrong with the first faulty one.
     pub fn new(slots: u32, buckets: u32, last_epoch: u64) -> Result<Self, ShapeError>
         ensures { MatchResult result
-            (λ shape. (shape_error slots buckets last_epoch ≡ None) × (shape ≡ record { slots = slots; buckets = buckets; last_epoch = last_epoch }))
+            (λ shape. (shape_error slots buckets last_epoch ≡ None) × (shape ≡ record { slots = slots; buckets = buckets; last_epoch = last_epoch; keys = [] }))
             (λ error. shape_error slots buckets last_epoch ≡ Some error) }
     {
         if slots == 0 || slots > MAX_SLOTS {
@@ -92,6 +93,7 @@ impl Shape {
     pub fn slots(&self) -> u32
         ensures slots { result ≡ self.now.slots }
         ensures shape { IsShape self.now }
+        ensures keys { self.now.keys ≡ [] }
     {
         self.slots
     }

@@ -13,8 +13,8 @@ ghost use Rattle.vbr_core.specs.Making.{with_answer};
 use crate::event::{Event, Step};
 use crate::world::lists::Lists;
 use crate::world::passes::PassState;
+use crate::world::shape::KeyedShape;
 use std::alloc::AllocError;
-use vbr_words::Shape;
 
 impl Lists {
     // The pass learns from an accepted step, and the call of a step that succeeds is kept. All
@@ -46,7 +46,7 @@ impl Lists {
 // The pass of an event learns from its step.
 fn learn_at(
     passes: &mut Vec<PassState>,
-    shape: &Shape,
+    shape: &KeyedShape,
     event: Event,
     found: u64,
     stamp: u64,

@@ -11,16 +11,17 @@ use crate::event::{CoreRefusal, Effect, Event};
 use crate::history::Call;
 use crate::knowledge::SlotPlace;
 use crate::world::passes::PassState;
-use crate::world::steps::{effect_of, place_of, succeeds};
+use crate::world::shape::KeyedShape;
+use crate::world::steps::{effect_of, place_of_step, succeeds};
 use std::marker::Model;
+use vbr_words::Place;
 use vbr_words::flags::FLAGS;
 use vbr_words::link::MARK;
-use vbr_words::{Place, Shape};
 
 // The words and places of a set, what each of its passes knows, and the calls that were answered.
 #[derive(Debug, Drop)]
 pub struct Lists {
-    pub(super) shape: Shape,
+    pub(super) shape: KeyedShape,
     pub(super) epoch: u64,
     pub(super) heads: Vec<u64>,
     pub(super) links: Vec<u64>,
@@ -55,7 +56,7 @@ impl Lists {
         ensures stays { (self.new.shape ≡ self.old.shape) × (length self.new.passes ≡ length self.old.passes) }
     {
         self.check(event)?;
-        let found = self.word(place_of(event.step));
+        let found = self.word(place_of_step(event.step));
         let link = self.link_written(event);
         let key = self.key_written(event);
         self.law_of_room(event);

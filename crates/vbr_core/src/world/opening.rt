@@ -1,20 +1,47 @@
 // The world at opening.
-ghost use Rattle.std.specs.Prelude.{◌≡◌, length, IfOk};
+ghost use Rattle.std.specs.Prelude.{◌≡◌, ◌<◌, ◌≤◌, length, IfOk};
 ghost use Rattle.std.specs.List.{AllByRecursion};
+ghost use Rattle.std.specs.List.Sorted.{IsStrictlyIncreasing};
+ghost use Rattle.vbr_words.specs.Words.{IsLink};
 ghost use Rattle.vbr_core.specs.Machine.{knows_nothing, opening};
+ghost use Rattle.vbr_core.specs.Making.{opening_from, with_key_ahead};
 ghost use Rattle.vbr_core.specs.Kept.{know_of, world_of};
 
 use crate::knowledge::SlotPlace;
 use crate::world::lists::Lists;
-use crate::world::passes::PassState;
+use crate::world::passes::{PassState, link_to};
+use crate::world::shape::KeyedShape;
 use std::alloc::{AllocError, Global};
-use vbr_words::Shape;
-use vbr_words::link::MARK;
+use vbr_words::link::{MARK, MAX_SLOTS};
+use vbr_words::{At, Link, Shape, decode, encode};
 
 impl Lists {
-    // Every slot in the shared pool, and passes that know nothing.
-    pub(super) fn empty(alloc: Global, shape: Shape, passes: u32) -> Result<Lists, AllocError>
-        ensures opening { IfOk result (λ lists. world_of lists ≡ opening) }
+    // The world that opens with these keys: they are linked from the last one on, so that each
+    // finds the next of its bucket at the head of the list.
+    pub(super) fn opened(
+        alloc: Global,
+        shape: Shape,
+        passes: u32,
+        keys: &[u64],
+    ) -> Result<Lists, AllocError>
+        requires ascending { IsStrictlyIncreasing keys.now }
+        requires few { length keys.now ≤ shape.slots }
+        ensures opening { IfOk result (λ lists. world_of lists ≡ opening (record shape { keys = keys.now })) }
+        ensures shape { IfOk result (λ lists. (lists.shape ≡ record shape { keys = keys.now }) × (length lists.passes ≡ passes)) }
+    {
+        let keyed = KeyedShape::new(alloc, shape, keys)?;
+        let mut lists = Lists::empty(alloc, keyed, passes)?;
+        let mut number = keys.len();
+        while number > 0 {
+            number -= 1;
+            lists.link_key(number as u32, keys[number]);
+        }
+        Ok(lists)
+    }
+
+    // Every slot in the shared pool, and passes that know nothing: no key is linked yet.
+    fn empty(alloc: Global, shape: KeyedShape, passes: u32) -> Result<Lists, AllocError>
+        ensures opening { IfOk result (λ lists. world_of lists ≡ opening_from shape (length shape.keys)) }
         ensures shape { IfOk result (λ lists. (lists.shape ≡ shape) × (length lists.passes ≡ passes)) }
     {
         let buckets = shape.buckets() as usize;
@@ -39,6 +66,34 @@ impl Lists {
             births: 0,
             calls: Vec::new(alloc),
         })
+    }
+
+    // Links a key that the world opens with, ahead of the others of its bucket. The version of the
+    // head is the birth of what it names.
+    fn link_key(&mut self, number: u32, key: u64)
+        requires { number < self.old.shape.slots }
+        ensures written { world_of self.new ≡ with_key_ahead self.old.shape number key (world_of self.old) }
+        ensures stays { (self.new.shape ≡ self.old.shape) × (length self.new.passes ≡ length self.old.passes) }
+    {
+        prove!(self.shape.slots() <= MAX_SLOTS);
+        let bucket = self.bucket_of(key);
+        let head = self.head(bucket);
+        let link = link_to(head.slot, 1, head.version);
+        let first = link_to(Some(number), 0, 1);
+        self.put_link(At::Slot(number), encode(link));
+        self.put_link(At::Head(bucket), encode(first));
+        self.store_birth(number, 1);
+        self.store_key(number, key);
+        self.put_slot(number, SlotPlace::Listed(bucket));
+    }
+
+    // The link at the head of a bucket.
+    fn head(&self, bucket: u32) -> Link
+        requires { bucket < self.now.shape.buckets }
+        ensures head { result ≡ (world_of self.now).head bucket }
+        ensures fits { IsLink result }
+    {
+        decode(self.heads[bucket as usize])
     }
 }
 

@@ -5,7 +5,7 @@ ghost use Rattle.vbr_words.specs.declared.link.TheConstants.{MAX_SLOTS};
 ghost use Rattle.vbr_words.specs.declared.shape.TheConstants.{MAX_EPOCH};
 ghost use Rattle.vbr_core.specs.Links.{link_to, marked};
 ghost use Rattle.vbr_core.specs.Knowledge.{knows_link, marked_in, birth_at, birth_of, key_in};
-ghost use Rattle.vbr_core.specs.Acceptance.{IsInShape, IsOwned, HasChecked, IsInRange, Accepts, KnowsKeyAt, KnowsKeyOf, MeetsKey, stamp_in, MayPublish, IsBehind, IsBefore, MeetsAbove, next_of_marked};
+ghost use Rattle.vbr_core.specs.Acceptance.{IsInShape, IsOwned, HasChecked, IsInRange, Accepts, KnowsKeyAt, KnowsKeyOf, LeadsToKey, stamp_in, MayPublish, IsBehind, IsBefore, LeadsAbove, next_of_marked};
 ghost use Rattle.vbr_core.specs.Learning.{key_in_hand, link_written, call_of};
 ghost use Rattle.vbr_core.specs.Machine.{knows_nothing};
 ghost use Rattle.vbr_core.specs.Kept.{know_of, FitsHolding};
@@ -15,11 +15,12 @@ mod learning;
 use crate::event::Step;
 use crate::history::{Call, Op};
 use crate::knowledge::{Holding, Read};
+use crate::world::shape::KeyedShape;
 use crate::world::{holdings, reads};
 use std::alloc::{AllocError, Global};
 use std::marker::Model;
 use vbr_words::link::MAX_SLOTS;
-use vbr_words::{At, Link, Shape, decode, encode, version_of};
+use vbr_words::{At, Link, decode, encode, version_of};
 
 /// What the world keeps of a pass.
 #[derive(Debug, Drop)]
@@ -41,7 +42,7 @@ impl Model for PassState {
 }
 
 // The unmarked link to a slot or to none.
-fn link_to(next: Option<u32>, holder_birth: u64, named_birth: u64) -> Link
+pub fn link_to(next: Option<u32>, holder_birth: u64, named_birth: u64) -> Link
     requires next { IfSome next (λ slot. slot < MAX_SLOTS) }
     requires holder { holder_birth ≤ MAX_EPOCH }
     requires named { named_birth ≤ MAX_EPOCH }
@@ -120,7 +121,7 @@ impl PassState {
     }
 
     // Whether the pass owns the slot in the way that the step asks.
-    pub fn owns(&self, shape: &Shape, step: Step) -> bool
+    pub fn owns(&self, shape: &KeyedShape, step: Step) -> bool
         requires slots { length self.now.own ≡ shape.now.slots }
         requires in_shape { IsInShape shape.now step }
         ensures { IsTrue result ↔ IsOwned (know_of self.now) step }
@@ -157,13 +158,13 @@ impl PassState {
 
     // Whether the link that a place was read with and the key there are checked, and marked links
     // lead on from it to a checked key, or to none.
-    fn holds_way(&self, shape: &Shape, at: At, expected: u64) -> bool
-        ensures { IsTrue result ↔ (IsTrue (knows_link self.now.checked at (link_of expected)) × KnowsKeyAt self.now.checked at × MeetsKey shape.now.slots self.now.checked (link_of expected).slot) }
+    fn holds_way(&self, shape: &KeyedShape, at: At, expected: u64) -> bool
+        ensures { IsTrue result ↔ (IsTrue (knows_link self.now.checked at (link_of expected)) × KnowsKeyAt self.now.checked at × LeadsToKey shape.now.slots self.now.checked (link_of expected).slot) }
     {
         let link = decode(expected);
         reads::knows_link(&self.checked, at, link)
             && reads::knows_key_at(&self.checked, at)
-            && reads::meets_key(&self.checked, shape.slots(), link.slot)
+            && reads::leads_to_key(&self.checked, shape.slots(), link.slot)
     }
 
     // Whether the births on both sides of a link are checked.
@@ -183,7 +184,7 @@ impl PassState {
     }
 
     // Whether the reads that the step asks for are checked.
-    pub fn holds(&self, shape: &Shape, step: Step) -> bool
+    pub fn holds(&self, shape: &KeyedShape, step: Step) -> bool
         ensures { IsTrue result ↔ HasChecked shape.now (know_of self.now) step }
     {
         match step {
@@ -209,7 +210,7 @@ impl PassState {
     }
 
     // Whether a slot is in hand and ready to stand behind a place, before what the link there names.
-    fn is_ready(&self, shape: &Shape, pred: At, expected: Link, slot: u32) -> bool
+    fn is_ready(&self, shape: &KeyedShape, pred: At, expected: Link, slot: u32) -> bool
         requires { slot < length self.now.own }
         ensures { IsTrue result ↔ MayPublish shape.now self.now.checked pred expected (slice_index_or self.now.own slot None) }
     {
@@ -226,7 +227,7 @@ impl PassState {
     }
 
     // Whether a key stands behind a place and before what a link names.
-    fn is_between(&self, shape: &Shape, at: At, key: u64, next: Option<u32>) -> bool
+    fn is_between(&self, shape: &KeyedShape, at: At, key: u64, next: Option<u32>) -> bool
         ensures { IsTrue result ↔ (IsBehind shape.now self.now.checked at key × IsBefore self.now.checked key next) }
     {
         reads::is_behind(shape, &self.checked, at, key)
@@ -235,15 +236,15 @@ impl PassState {
 
     // Whether a key stands behind a place, and before a slot to which marked links lead from what a
     // link names, or before none.
-    fn is_on_way(&self, shape: &Shape, at: At, key: u64, next: Option<u32>) -> bool
-        ensures { IsTrue result ↔ (IsBehind shape.now self.now.checked at key × MeetsAbove shape.now.slots self.now.checked key next) }
+    fn is_on_way(&self, shape: &KeyedShape, at: At, key: u64, next: Option<u32>) -> bool
+        ensures { IsTrue result ↔ (IsBehind shape.now self.now.checked at key × LeadsAbove shape.now.slots self.now.checked key next) }
     {
         reads::is_behind(shape, &self.checked, at, key)
-            && reads::meets_above(&self.checked, shape.slots(), key, next)
+            && reads::leads_above(&self.checked, shape.slots(), key, next)
     }
 
     // Whether the step's numbers are in range.
-    pub fn is_in_range(&self, shape: &Shape, step: Step) -> bool
+    pub fn is_in_range(&self, shape: &KeyedShape, step: Step) -> bool
         requires slots { length self.now.own ≡ shape.now.slots }
         requires in_shape { IsInShape shape.now step }
         ensures { IsTrue result ↔ IsInRange shape.now (know_of self.now) step }
@@ -286,7 +287,7 @@ impl PassState {
     }
 
     // The link that the step writes.
-    fn new_link(&self, shape: &Shape, step: Step) -> Link
+    fn new_link(&self, shape: &KeyedShape, step: Step) -> Link
         requires slots { length self.now.own ≡ shape.now.slots }
         requires accepted { Accepts shape.now (know_of self.now) step }
         ensures link { result ≡ link_written (know_of self.now) step }
@@ -312,7 +313,7 @@ impl PassState {
     }
 
     // The word of the link that the step writes.
-    pub fn link_written(&self, shape: &Shape, step: Step) -> u64
+    pub fn link_written(&self, shape: &KeyedShape, step: Step) -> u64
         requires slots { length self.now.own ≡ shape.now.slots }
         requires accepted { Accepts shape.now (know_of self.now) step }
         ensures word { result ≡ word_of (link_written (know_of self.now) step) }
@@ -337,7 +338,7 @@ impl PassState {
     }
 
     // The call of the step, if it makes one where it succeeds.
-    pub fn call(&self, who: u32, shape: &Shape, step: Step) -> Option<Call>
+    pub fn call(&self, who: u32, shape: &KeyedShape, step: Step) -> Option<Call>
         requires slots { length self.now.own ≡ shape.now.slots }
         requires in_shape { IsInShape shape.now step }
         ensures { result ≡ call_of who (know_of self.now) step }

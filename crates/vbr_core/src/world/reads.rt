@@ -1,10 +1,11 @@
 // Looking through reads.
 ghost use Rattle.std.specs.Prelude.{◌≡◌, ◌↔◌, IsTrue};
 ghost use Rattle.vbr_core.specs.Knowledge.{knows_link, birth_in, key_in, marked_in, holds, holds_at, birth_at, birth_of};
-ghost use Rattle.vbr_core.specs.Acceptance.{IsNextHeld, KnowsKeyAt, KnowsKeyOf, past_marked, MeetsKey, IsBehind, IsBefore, MeetsAbove, next_of_marked};
+ghost use Rattle.vbr_core.specs.Acceptance.{IsNextHeld, KnowsKeyAt, KnowsKeyOf, past_marked, LeadsToKey, IsBehind, IsBefore, LeadsAbove, next_of_marked};
 
 use crate::knowledge::Read;
-use vbr_words::{At, Link, Shape};
+use crate::world::shape::KeyedShape;
+use vbr_words::{At, Link};
 
 // Whether a link is among the reads at a place.
 pub fn knows_link(reads: &[Read], at: At, link: Link) -> bool
@@ -148,7 +149,7 @@ pub fn next_of_marked(reads: &[Read], slot: u32) -> Option<u32>
 
 // Whether the key stands behind a place: in its bucket, and above its key if it is a slot.
 #[tactic(auto, unfolding(crate::specs::Acceptance::bucket_of))]
-pub fn is_behind(shape: &Shape, reads: &[Read], at: At, key: u64) -> bool
+pub fn is_behind(shape: &KeyedShape, reads: &[Read], at: At, key: u64) -> bool
     ensures { IsTrue result ↔ IsBehind shape.now reads.now at key }
 {
     match at {
@@ -184,8 +185,8 @@ pub fn past_marked(reads: &[Read], next: Option<u32>) -> Option<u32>
 
 // Whether in at most so many turns marked links lead from what a link names to none, or to a slot
 // whose key is among the reads. The walk ends where it stands still.
-pub fn meets_key(reads: &[Read], most: u32, next: Option<u32>) -> bool
-    ensures { IsTrue result ↔ MeetsKey most reads.now next }
+pub fn leads_to_key(reads: &[Read], most: u32, next: Option<u32>) -> bool
+    ensures { IsTrue result ↔ LeadsToKey most reads.now next }
 {
     let mut here = next;
     for _ in 0..most {
@@ -203,8 +204,8 @@ pub fn meets_key(reads: &[Read], most: u32, next: Option<u32>) -> bool
 
 // Whether in at most so many turns marked links lead from what a link names to none, or to a slot
 // before which the key stands. The walk ends where it stands still.
-pub fn meets_above(reads: &[Read], most: u32, key: u64, next: Option<u32>) -> bool
-    ensures { IsTrue result ↔ MeetsAbove most reads.now key next }
+pub fn leads_above(reads: &[Read], most: u32, key: u64, next: Option<u32>) -> bool
+    ensures { IsTrue result ↔ LeadsAbove most reads.now key next }
 {
     let mut here = next;
     for _ in 0..most {

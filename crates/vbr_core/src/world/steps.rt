@@ -8,11 +8,12 @@ ghost use Rattle.vbr_core.specs.Making.{exchanged, taken, confirmed};
 
 use crate::event::{Effect, Step};
 use crate::history::Op;
+use crate::world::shape::KeyedShape;
 use vbr_words::flags::{has_flag, word_of_flag};
-use vbr_words::{At, Place, Shape};
+use vbr_words::{At, Place};
 
 // Whether a place of a link word is one of the shape.
-fn is_at_in(shape: &Shape, at: At) -> bool
+fn is_at_in(shape: &KeyedShape, at: At) -> bool
     ensures { IsTrue result ↔ IsAtIn shape.now at }
 {
     match at {
@@ -22,7 +23,7 @@ fn is_at_in(shape: &Shape, at: At) -> bool
 }
 
 // Whether what a link names, if anything, is a slot of the shape.
-fn is_next_in(shape: &Shape, next: Option<u32>) -> bool
+fn is_next_in(shape: &KeyedShape, next: Option<u32>) -> bool
     ensures { IsTrue result ↔ IsNextIn shape.now next }
 {
     match next {
@@ -32,7 +33,7 @@ fn is_next_in(shape: &Shape, next: Option<u32>) -> bool
 }
 
 // Whether the slots and places that the step's fields name are those of the shape.
-pub fn is_in_shape(shape: &Shape, step: Step) -> bool
+pub fn is_in_shape(shape: &KeyedShape, step: Step) -> bool
     ensures { IsTrue result ↔ IsInShape shape.now step }
 {
     match step {
@@ -56,7 +57,7 @@ pub fn is_in_shape(shape: &Shape, step: Step) -> bool
 }
 
 // Whether the epoch that the step would advance is below the last.
-pub fn is_below_last(shape: &Shape, step: Step) -> bool
+pub fn is_below_last(shape: &KeyedShape, step: Step) -> bool
     ensures { IsTrue result ↔ IsBelowLast shape.now step }
 {
     match step {
@@ -76,7 +77,7 @@ fn place_of_at(at: At) -> Place
 }
 
 // The place of the one word that a step loads, stores or exchanges.
-pub fn place_of(step: Step) -> Place
+pub fn place_of_step(step: Step) -> Place
     ensures { result ≡ place_of_step step }
 {
     match step {

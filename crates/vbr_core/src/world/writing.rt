@@ -24,7 +24,7 @@ impl Lists {
     }
 
     // Writes the word of a link.
-    fn put_link(&mut self, at: At, link: u64)
+    pub(super) fn put_link(&mut self, at: At, link: u64)
         requires { IsAtIn self.old.shape at }
         ensures written { world_of self.new ≡ with_link_at (world_of self.old) at (link_of link) }
         ensures stays { (self.new.shape ≡ self.old.shape) × (length self.new.passes ≡ length self.old.passes) }
@@ -45,7 +45,7 @@ impl Lists {
     }
 
     // Stores the key of a slot.
-    fn store_key(&mut self, slot: u32, key: u64)
+    pub(super) fn store_key(&mut self, slot: u32, key: u64)
         requires { slot < self.old.shape.slots }
         ensures written { world_of self.new ≡ record (world_of self.old) { key = put (world_of self.old).key slot key } }
         ensures stays { (self.new.shape ≡ self.old.shape) × (length self.new.passes ≡ length self.old.passes) }
@@ -54,7 +54,7 @@ impl Lists {
     }
 
     // Puts a slot where it now is.
-    fn put_slot(&mut self, slot: u32, place: SlotPlace)
+    pub(super) fn put_slot(&mut self, slot: u32, place: SlotPlace)
         requires { slot < self.old.shape.slots }
         ensures written { world_of self.new ≡ record (world_of self.old) { place = put (world_of self.old).place slot place } }
         ensures stays { (self.new.shape ≡ self.old.shape) × (length self.new.passes ≡ length self.old.passes) }
@@ -81,7 +81,7 @@ impl Lists {
     }
 
     // Stores the birth of a slot, and counts it.
-    fn store_birth(&mut self, slot: u32, birth: u64)
+    pub(super) fn store_birth(&mut self, slot: u32, birth: u64)
         requires slot { slot < self.old.shape.slots }
         requires birth { birth ≤ MAX_EPOCH }
         ensures written { world_of self.new ≡ record (world_of self.old) { birth = put (world_of self.old).birth slot birth; births = counted (world_of self.old).births } }
@@ -125,8 +125,9 @@ impl Lists {
     }
 
     // The bucket of a key.
-    fn bucket_of(&self, key: u64) -> u32
-        ensures { result ≡ bucket_of self.now.shape key }
+    pub(super) fn bucket_of(&self, key: u64) -> u32
+        ensures bucket { result ≡ bucket_of self.now.shape key }
+        ensures in_shape { result < self.now.shape.buckets }
     {
         self.shape.bucket_of(key)
     }

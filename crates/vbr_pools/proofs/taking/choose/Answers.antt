@@ -7,7 +7,7 @@ use Rattle.vbr_pools.proofs.Choosing.{kept_raised, none_read, shared_raised, sho
 use Rattle.vbr_pools.proofs.Counting.{no_room}
 use Rattle.vbr_pools.proofs.Epochs.{read_some, read_in_shape}
 use Rattle.vbr_pools.proofs.Moments.{epoch_told}
-use Rattle.vbr_pools.proofs.Raising.{tried}
+use Rattle.vbr_pools.proofs.EpochReads.{tried}
 use Rattle.vbr_pools.proofs.taking.choose.Goals as goal
 
 none_left : (o : Option ℕ) → ((x : ℕ) → o ≡ Some x → ⊥) → o ≡ None

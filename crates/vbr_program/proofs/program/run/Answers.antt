@@ -5,7 +5,7 @@ use Rattle.vbr_transcript.specs.declared.error.RunError.TheVariants.{Memory}
 use Rattle.vbr_program.proofs.program.run.Goals as goal
 
 pub returns-in-Err-Usage-clause-played : goal.returns-in-Err-Usage-clause-played
-returns-in-Err-Usage-clause-played g c passed shaped = let refused = rw c.in-Err-Usage.field-0-is at c.in-Err-Usage.ensures.refusal in let lacks = c.show.ensures.memory (refused passed) in (Err Memory, lacks.1, (lacks.0, lacks.2))
+returns-in-Err-Usage-clause-played g c passed shaped = let refused = rw c.in-Err-Usage.field-0-is at c.in-Err-Usage.ensures.error in let lacks = c.show.ensures.memory (refused passed) in (Err Memory, lacks.1, (lacks.0, lacks.2))
 
 pub returns-in-Err-Usage-clause-others : goal.returns-in-Err-Usage-clause-others
 returns-in-Err-Usage-clause-others g c = elim c.show.ensures.others [

@@ -1,6 +1,6 @@
 -- One more line was read; and the script that a text is, is phased.
 use Rattle.std.proofs.Common.{◌≡◌, ◌+◌, ◌∙◌, ◌++◌, ◌∷◌, [], length, rules, arith}
-use Rattle.vbr_script.specs.Text.{lines_of, words_of}
+use Rattle.vbr_script.specs.Text.{lines_of, tokens_of}
 use Rattle.vbr_script.specs.Grammar.{meaning_of}
 use Rattle.vbr_script.specs.Scripts.{script_of, phases_of, limited}
 use Rattle.vbr_script.proofs.LinesRead.{HasRead, all_meanings, first_left, read_blank, read_sync, read_asks}
@@ -12,7 +12,7 @@ pub loop-phase-preserved : goal.loop-phase-preserved
 loop-phase-preserved c =
     let inv = c.loop-phase.invariant in
     let told = rw c.in-Some.is at c.first_line.ensures in
-    let means : limited (length c.loop-phase.lines.items) c.loop-phase.phase (meaning_of c.args.workers (words_of c.first_line.result.0.now)) ≡ c.limited.result = search rules in
+    let means : limited (length c.loop-phase.lines.items) c.loop-phase.phase (meaning_of c.args.workers (tokens_of c.first_line.result.0.now)) ≡ c.limited.result = search rules in
     let before = first_left _ _ _ _ _ c.loop-phase.rest.now c.first_line.result.0.now c.in-Some.text.now told.0 (record { operations = inv.lines; phases = inv.phases; fault = inv.fault; few_operations = inv.few_operations; few_syncs = inv.few_syncs }) in
     let after : HasRead c.args.workers c.args.text.now c.match-limited.lines.items c.match-limited.phase (c.loop-phase.number + 1) (all_meanings c.args.workers (lines_of c.in-Some.text.now)) = elim c.match-limited.branch [
       | in-Blank w ↦ rw (w.lines-is, w.phase-is) (read_blank _ _ _ _ _ _ _ before (means ∙ w.in-Blank.is))

@@ -3,7 +3,7 @@ use Rattle.std.proofs.Common.{◌≡◌, ap, ap₂, ◌∙◌, rules, codes}
 use Rattle.std.specs.Prelude.{fold}
 use Rattle.clap.specs.Words.{App, app_of, rule_of, with_rule, new_app}
 use Rattle.clap.specs.Simple.{app_of_fields}
-use Rattle.vbr_settings.specs.Options.{number_option, flag, shape_options, with_version, command_line}
+use Rattle.vbr_settings.specs.Options.{number_option, switch, shape_options, with_version, command_line}
 use Rattle.vbr_settings.specs.declared.config.TheConstants.{MAX_WORKERS}
 use Rattle.vbr_settings.proofs.options.command.Goals as goal
 
@@ -14,8 +14,8 @@ returns-clause-options c =
     let none : app_of c.after_help-command.result ≡ with_version (new_app (codes "vbr_run")) = ap app_of_fields c.after_help-command.ensures ∙ ap app_of_fields c.about.ensures ∙ ap app_of_fields c.version.ensures ∙ ap with_version named in
     let workers : rule_of c.number-workers.result ≡ number_option (codes "workers") 1 MAX_WORKERS (codes "1") = search rules in
     let budget : rule_of c.number-budget.result ≡ number_option (codes "budget") 0 4294967295 (codes "100000") = search rules in
-    let epoch : rule_of c.flag-epoch.result ≡ flag (codes "epoch") = search rules in
+    let epoch : rule_of c.switch-epoch.result ≡ switch (codes "epoch") = search rules in
     let one = c.in_ok-arg.ensures.shape c.number-workers.ensures.local ∙ ap₂ with_rule none workers in
     let shaped = c.in_ok-command.ensures.options ∙ ap (λ (app : App). fold with_rule app shape_options) one in
     let five = c.in_ok-arg-2.ensures.shape c.number-budget.ensures.local ∙ ap₂ with_rule shaped budget in
-    c.in_ok-arg-3.ensures.shape c.flag-epoch.ensures.local ∙ ap₂ with_rule five epoch
+    c.in_ok-arg-3.ensures.shape c.switch-epoch.ensures.local ∙ ap₂ with_rule five epoch

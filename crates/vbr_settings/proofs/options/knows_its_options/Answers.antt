@@ -1,4 +1,4 @@
--- `clap`'s definition computes at these words.
+-- `clap`'s definition computes at these arguments.
 use Rattle.std.proofs.Common.{refl}
 use Rattle.clap.proofs.OnLiterals.{clap_on_literals}
 use Rattle.vbr_settings.specs.Options.{command_line, AreOptions, number_among, is_among, settings_of}

@@ -10,4 +10,4 @@ use Rattle.vbr_table_rows.proofs.listed_calls.a_word_comes_back.Goals as goal
 pub words_after-requires : goal.words_after-requires
 words_after-requires g c =
     let shape : c.in_ok-shape.shape ≡ three_slots = search rules in
-    subst (λ (d : Dimensions). AreWorked d opening SAME_WORD SAME_WORD_WORDS) (sym shape) same_word
+    subst (λ (d : Dimensions). AreWorked d (opening d) SAME_WORD SAME_WORD_WORDS) (sym shape) same_word

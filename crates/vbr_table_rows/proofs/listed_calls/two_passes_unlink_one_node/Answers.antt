@@ -10,4 +10,4 @@ use Rattle.vbr_table_rows.proofs.listed_calls.two_passes_unlink_one_node.Goals a
 pub words_after-requires : goal.words_after-requires
 words_after-requires g c =
     let shape : c.in_ok-shape.shape ≡ one_slot = search rules in
-    subst (λ (d : Dimensions). AreWorked d opening TWO_HELPERS TWO_HELPERS_WORDS) (sym shape) two_helpers
+    subst (λ (d : Dimensions). AreWorked d (opening d) TWO_HELPERS TWO_HELPERS_WORDS) (sym shape) two_helpers

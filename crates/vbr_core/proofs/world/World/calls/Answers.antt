@@ -2,4 +2,4 @@ use Rattle.vbr_core.proofs.ReachedWorlds.{reached_legal}
 use Rattle.vbr_core.proofs.world.World.calls.Goals as goal
 
 pub returns-clause-legal : goal.returns-clause-legal
-returns-clause-legal c = rw c.calls.ensures (reached_legal c.self.inside.lists c.self.invariant)
+returns-clause-legal c = rw (c.calls.ensures, ← c.self.view_is) (reached_legal c.self.inside.lists c.self.invariant)

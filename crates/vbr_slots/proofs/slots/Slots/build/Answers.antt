@@ -8,7 +8,7 @@ use Rattle.vbr_slots.proofs.Seats.{opens, splits_first, first_is, first_empty, o
 use Rattle.vbr_slots.proofs.slots.Slots.build.Goals as goal
 
 pub of_words-requires : goal.of_words-requires
-of_words-requires c = opens c.args.opening c.as_slice.result.now (subst (AreWordsOf c.args.opening.shape machine.opening) (sym c.as_slice.ensures.value) c.in_ok-words.ensures.words)
+of_words-requires c = opens c.args.opening c.as_slice.result.now (subst (AreWordsOf c.args.opening.shape (machine.opening c.args.opening.shape)) (sym c.as_slice.ensures.value) c.in_ok-words.ensures.words)
 
 pub split_seat-next-requires : goal.split_seat-next-requires
 split_seat-next-requires c =

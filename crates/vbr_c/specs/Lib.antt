@@ -1,4 +1,0 @@
-pub mod Codes
-pub mod Opening
-pub mod Calls
-pub mod Closing

@@ -1,0 +1,13 @@
+use Rattle.std.proofs.Common.{◌-◌}
+use Rattle.vbr_slots.specs.Calls.{Quiet}
+use Rattle.vbr_pools.specs.KeptSlots.{HasStill, TakesNoSlot}
+use Rattle.vbr_list.specs.Inserting.{CountsWithin, HasHandAndRoom}
+use Rattle.vbr_list.specs.Calls.{IsSameCall}
+use Rattle.vbr_list.proofs.call.Call.link.Given as goal
+use Rattle.vbr_list.proofs.Traversals.{IsFirst}
+
+abbrev pub invariant-loop-found : goal.invariant-loop-found
+invariant-loop-found l = IsSameCall l.fn.self l.self × Quiet l.fn.self.pass.now.trace l.self.pass.now.trace × CountsWithin l.fn.self.pass.now.trace l.self.pass.now.trace l.fn.self.used l.self.used l.fn.self.budget × TakesNoSlot l.fn.self.pass.now l.self.pass.now × HasHandAndRoom l.self.pass.now l.hand × HasStill l.fn.self.pass.now l.self.pass.now × IsFirst l.fn.self.pass.now l.self.pass.now l.fn.self.used l.self.used
+
+abbrev pub decreases-loop-found : goal.decreases-loop-found
+decreases-loop-found l = l.self.budget - l.self.used

@@ -1,8 +1,0 @@
-use Rattle.vbr_slots.specs.Views.{knows}
-use Rattle.vbr_list.proofs.Passing.{before_named}
-use Rattle.vbr_list.proofs.removing.settle.Goals as goal
-
-pub confirm_absent-outcome-requires-clause-before : goal.confirm_absent-outcome-requires-clause-before
-confirm_absent-outcome-requires-clause-before c =
-    let f = c.args.found.now in
-    before_named (knows c.args.pass.now.trace) c.args.key f.pred f.cur f.present c.requires.locates.end c.if-found.false

@@ -1,5 +1,0 @@
-//! Tests of the list of one bucket, from outside.
-#![tactic(auto)]
-
-#[cfg(test)]
-mod list;

@@ -1,0 +1,62 @@
+-- The slots that a pass has, in its own pool or in its hand, from piece to piece of a call.
+use Rattle.std.proofs.Common.{◌≡◌, ◌≢◌, ℕ, ◌+◌, List, [], ◌∷◌, ◌++◌, Bool, true, false, Some, None, sym, ◌∙◌, subst, inl, inr, ⊎_elim, arith}
+use Rattle.std.specs.Prelude.{◌⊎◌, Contains, Result, Ok, Err}
+use Rattle.std.proofs.lemmas.Bool.{cases_eq}
+use Rattle.std.proofs.lemmas.List.Elements.{Contains-append_left, Contains-append_right}
+use Rattle.vbr_slots.specs.Views.{PassView}
+use Rattle.vbr_pools.specs.Hands.{HandView, IsHandOf}
+use Rattle.vbr_pools.specs.KeptSlots.{HasSlot, HasStill, HasAllButOne, HasUnpublished, PoolGrows}
+use Rattle.vbr_pools.specs.Refusals.{LeavesPool}
+use Rattle.vbr_pools.specs.Taking.{IsTaken}
+use Rattle.vbr_pools.proofs.PoolLists.{stays_in}
+
+pub had_refl : (p : PassView) → HasStill p p
+had_refl p slot has = has
+
+pub had_on : (p q r : PassView) → HasStill p q → HasStill q r → HasStill p r
+had_on p q r first then slot has = then slot (first slot has)
+
+-- a pool that grows, beside the same hand
+pub had_grown : (p q : PassView) → PoolGrows p q → q.hand ≡ p.hand → HasStill p q
+had_grown p q grows same slot (inl in_pool) = inl (subst (λ (l : List ℕ). Contains l slot) (sym grows.1) (Contains-append_left p.pool grows.0 slot in_pool))
+had_grown p q grows same slot (inr in_hand) = inr (same ∙ in_hand)
+
+-- a slot of the pool comes into the hand
+pub had_taken : {p q : PassView} {hand : HandView} → p.hand ≡ None → IsTaken p q hand → HasStill p q
+had_taken {p} {q} {hand} none taken slot (inl in_pool) = go (cases_eq slot hand.slot)
+  where
+    go : (slot ≡ hand.slot) ⊎ (slot ≢ hand.slot) → HasSlot q slot
+    go (inl is) = inr (let h = taken.in_hand.slot in cc)
+    go (inr other) = inl (subst (λ (l : List ℕ). Contains l slot) (sym taken.rest) (stays_in hand.slot p.pool slot other in_pool))
+had_taken {p} {q} {hand} none taken slot (inr in_hand) = absurd (cc)
+
+-- no slot comes into the hand
+pub had_left : (p q : PassView) → p.hand ≡ None → LeavesPool p q → HasStill p q
+had_left p q none (inl same) slot (inl in_pool) = inl (subst (λ (l : List ℕ). Contains l slot) (sym same) in_pool)
+had_left p q none (inr claimed) slot (inl in_pool) = let in_none : Contains [] slot = subst (λ (l : List ℕ). Contains l slot) claimed.0 in_pool in let low = in_none.1 in absurd (omega arith)
+had_left p q none left slot (inr in_hand) = absurd (cc)
+
+-- the slot in hand goes back into the pool
+pub had_back : (p q : PassView) (kept : ℕ) → p.hand ≡ Some kept → q.pool ≡ p.pool ++ kept ∷ [] → HasStill p q
+had_back p q kept hand back slot (inl in_pool) = inl (subst (λ (l : List ℕ). Contains l slot) (sym back) (Contains-append_left p.pool (kept ∷ []) slot in_pool))
+had_back p q kept hand back slot (inr in_hand) =
+    let is : kept ≡ slot = cc in
+    inl (subst (λ (l : List ℕ). Contains l slot) (sym back) (Contains-append_right p.pool (kept ∷ []) slot (0, omega arith, is)))
+
+-- the slot in hand is published
+pub had_spent : (p q : PassView) (spent : ℕ) → p.hand ≡ Some spent → q.pool ≡ p.pool → HasAllButOne p q
+had_spent p q spent hand same = (spent, go)
+  where
+    go : (slot : ℕ) → HasSlot p slot → slot ≢ spent → HasSlot q slot
+    go slot (inl in_pool) other = inl (subst (λ (l : List ℕ). Contains l slot) (sym same) in_pool)
+    go slot (inr in_hand) other = absurd (other cc)
+
+-- a call behind what was kept before it
+pub had_then : {E : Type 0} (p q r : PassView) (answer : Result Bool E) → HasStill p q → HasUnpublished q r answer → HasUnpublished p r answer
+had_then p q r (Ok true) first then = (then.0, λ slot has other. then.1 slot (first slot has) other)
+had_then p q r (Ok false) first then = λ slot has. then slot (first slot has)
+had_then p q r (Err error) first then = λ slot has. then slot (first slot has)
+
+-- a call that is refused publishes none
+pub had_error : {E : Type 0} (p q : PassView) (answer : Result Bool E) (error : E) → answer ≡ Err error → HasStill p q → HasUnpublished p q answer
+had_error {E} p q answer error is has = subst (λ (a : Result Bool E). HasUnpublished p q a) (sym is) has

@@ -1,0 +1,40 @@
+//! Two members of a set, one of which meets the other.
+ghost use Rattle.std.specs.Prelude.{◌≡◌, IfSome};
+ghost use Rattle.vbr_set.specs.Meetings.{Shares};
+
+use std::alloc::Global;
+use std::test::Fail;
+use vbr_set::{Member, Refusal, Shape};
+
+// The two members of a set.
+fn open_two(alloc: Global) -> Option<(Member, Member)>
+    ensures { IfSome result (λ r. r.1.set ≡ r.0.set) }
+{
+    let shape = Shape::new(2, 1, 10).ok()?;
+    let mut members = Member::open(alloc, shape, 2).ok()?;
+    let second = members.pop()?;
+    let first = members.pop()?;
+    Some((first, second))
+}
+
+// One member adds a key, and then another meets it: so the other has seen the insert.
+fn add_and_show(one: &mut Member, other: &mut Member, key: u64) -> Result<bool, Refusal>
+    requires { other.old.set ≡ one.old.set }
+    ensures { Shares other.old.pass.trace one.new.pass.trace other.new.pass.trace }
+{
+    let answer = one.insert(key, 100);
+    other.meet(one);
+    answer
+}
+
+/// What a member did before another meets it, the other has then seen. The meeting is one step.
+#[test]
+fn a_member_sees_what_another_did(rt: HostRuntime) -> Result<(), Fail> {
+    let Some((mut one, mut other)) = open_two(rt.alloc()) else {
+        panic!(rt; "no memory")
+    };
+    assert!(rt; add_and_show(&mut one, &mut other, 7)?);
+    assert_eq!(rt; other.pass().steps(), 1);
+    assert_eq!(rt; other.insert(7, 100), Ok(false));
+    Ok(())
+}
