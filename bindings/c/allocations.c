@@ -39,16 +39,18 @@ void __wrap_free(void *block) {
     __real_free(block);
 }
 
+static int keyed; /* whether the set is opened with its keys */
 static long failed_opens, failed_closes;
 
 /* A set is opened, used and closed while the nth allocation is refused. 1: none was, 0: one was. */
 static int round_with(long n, int *done) {
     vbr_handle handle[3] = {{0}};
     vbr_totals report = {0, 0, 0, 0};
+    static const uint64_t opening[2] = {6, 7};
     uint64_t keys[8] = {0};
     *done = 0;
     allowed = n;
-    int32_t code = vbr_open(handle, 3, 8, 2, 100);
+    int32_t code = keyed ? vbr_open_with(handle, 3, 8, 2, 100, opening, 2) : vbr_open(handle, 3, 8, 2, 100);
     if (code != VBR_NO) {
         allowed = -1;
         CHECK(code == VBR_NO_MEMORY && blocks == 0);
@@ -56,7 +58,8 @@ static int round_with(long n, int *done) {
         failed_opens++;
         return 0;
     }
-    CHECK(vbr_insert(&handle[1], 7, 1000) == VBR_YES && vbr_insert(&handle[0], 6, 1000) == VBR_YES);
+    int32_t added = keyed ? VBR_NO : VBR_YES;
+    CHECK(vbr_insert(&handle[1], 7, 1000) == added && vbr_insert(&handle[0], 6, 1000) == added);
     CHECK(vbr_close(&handle[0], keys, 8, &report) == VBR_NO && vbr_close(&handle[2], keys, 8, &report) == VBR_NO);
     code = vbr_close(&handle[1], keys, 8, &report);
     if (code == VBR_NO_MEMORY) {
@@ -79,8 +82,10 @@ static int round_with(long n, int *done) {
 }
 
 int main(void) {
-    for (stays_short = 0; stays_short < 2; stays_short++) {
+    for (int turn = 0; turn < 4; turn++) {
         int done = 0;
+        stays_short = turn % 2;
+        keyed = turn / 2;
         for (long n = 0; !done; n++)
             if (round_with(n, &done)) return 1;
     }

@@ -56,6 +56,38 @@ static int calls_and_closes(void) {
     return 0;
 }
 
+static int refused_keys(void) {
+    static const uint64_t some[3] = {2, 5, 9}, equal[2] = {5, 5}, falling[3] = {5, 9, 2};
+    static vbr_handle many[65];
+    CHECK(vbr_open_with(many, 2, 0, 2, 10, some, 3) == VBR_BAD_SHAPE);
+    CHECK(vbr_open_with(many, 0, 4, 2, 10, some, 3) == VBR_BAD_COUNT);
+    CHECK(vbr_open_with(many, 65, 4, 2, 10, equal, 2) == VBR_BAD_COUNT);
+    CHECK(vbr_open_with(many, 64, 4, 2, 10, equal, 2) == VBR_BAD_KEYS);
+    CHECK(vbr_open_with(many, 2, 4, 2, 10, falling, 3) == VBR_BAD_KEYS);
+    CHECK(vbr_open_with(many, 2, 2, 2, 10, some, 3) == VBR_BAD_KEYS);
+    for (int i = 0; i < 65; i++) CHECK(vbr_has(&many[i], 5, BUDGET) == VBR_EMPTY);
+    return 0;
+}
+
+static int opened_with_keys(void) {
+    static const uint64_t some[3] = {2, 5, 9}, ends[2] = {0, UINT64_MAX}, equal[2] = {5, 5};
+    vbr_handle two[2] = {{0}};
+    CHECK(vbr_open_with(two, 2, 4, 2, 10, some, 3) == VBR_NO);
+    CHECK(vbr_open_with(two, 2, 4, 2, 10, equal, 2) == VBR_IN_USE);
+    for (int i = 0; i < 3; i++) CHECK(vbr_has(&two[i % 2], some[i], BUDGET) == VBR_YES);
+    CHECK(vbr_has(&two[0], 3, BUDGET) == VBR_NO && vbr_insert(&two[0], 5, BUDGET) == VBR_NO);
+    CHECK(vbr_insert(&two[0], 7, BUDGET) == VBR_YES && vbr_insert(&two[0], 8, BUDGET) == VBR_NO_SLOT);
+    CHECK(vbr_remove(&two[1], 9, BUDGET) == VBR_YES);
+    CHECK(vbr_close(&two[1], keys, 4, &report) == VBR_NO && vbr_close(&two[0], keys, 4, &report) == VBR_YES);
+    CHECK(report.live == 3 && report.epoch == 1 && keys[0] == 2 && keys[1] == 5 && keys[2] == 7);
+    CHECK(vbr_open_with(two, 1, 2, 1, 1, ends, 2) == VBR_NO);
+    CHECK(vbr_close(&two[0], keys, 4, &report) == VBR_YES && report.live == 2 && report.free == 0);
+    CHECK(keys[0] == 0 && keys[1] == UINT64_MAX);
+    CHECK(vbr_open_with(two, 1, 2, 1, 1, some, 0) == VBR_NO);
+    CHECK(vbr_close(&two[0], keys, 4, &report) == VBR_YES && report.live == 0 && report.free == 2);
+    return 0;
+}
+
 static int spent_epoch(void) {
     vbr_handle one = {0};
     CHECK(vbr_open(&one, 1, 1, 1, 1) == VBR_NO);
@@ -85,7 +117,8 @@ static int dropped_handles(void) {
 }
 
 int main(void) {
-    if (empty_handles() || refused_openings() || calls_and_closes() || spent_epoch() || dropped_handles())
+    if (empty_handles() || refused_openings() || refused_keys() || opened_with_keys() || calls_and_closes() ||
+        spent_epoch() || dropped_handles())
         return 1;
     puts("answers in C: passed");
     return 0;

@@ -1,5 +1,5 @@
 /* The library with one fault, whose number FAULT names in the environment: what looks for faults has to find it. Link with
-   -Wl,--wrap=vbr_open,--wrap=vbr_insert,--wrap=vbr_remove,--wrap=vbr_has,--wrap=vbr_close
+   -Wl,--wrap=vbr_open,--wrap=vbr_open_with,--wrap=vbr_insert,--wrap=vbr_remove,--wrap=vbr_has,--wrap=vbr_close
 
     1 an insert now and then answers yes for a key that is there
     2 a remove now and then removes nothing, and answers yes
@@ -11,14 +11,17 @@
     8 a call is refused with a budget that is promised to be enough
     9 an opening tests the handles last
    10 a refused opening keeps memory
+   11 an opening with several keys leaves out the last one
 
-   One thread alone can't see the seventh, and four threads don't look for the last three. */
+   One thread alone can't see the seventh, and four threads don't look for the eighth, ninth and tenth. */
 #include "vbr.h"
 
 #include <stdatomic.h>
 #include <stdlib.h>
 
 int32_t __real_vbr_open(vbr_handle *handles, size_t count, uint32_t slots, uint32_t buckets, uint64_t last_epoch);
+int32_t __real_vbr_open_with(vbr_handle *handles, size_t count, uint32_t slots, uint32_t buckets, uint64_t last_epoch,
+                             const uint64_t *keys, size_t key_count);
 int32_t __real_vbr_insert(vbr_handle *handle, uint64_t key, uint32_t budget);
 int32_t __real_vbr_remove(vbr_handle *handle, uint64_t key, uint32_t budget);
 int32_t __real_vbr_has(vbr_handle *handle, uint64_t key, uint32_t budget);
@@ -44,6 +47,12 @@ int32_t __wrap_vbr_open(vbr_handle *handles, size_t count, uint32_t slots, uint3
     int32_t answer = __real_vbr_open(handles, count, slots, buckets, last_epoch);
     if (fault() == 10 && answer == VBR_IN_USE) kept = realloc(kept, 1);
     return answer;
+}
+
+int32_t __wrap_vbr_open_with(vbr_handle *handles, size_t count, uint32_t slots, uint32_t buckets, uint64_t last_epoch,
+                             const uint64_t *keys, size_t key_count) {
+    if (fault() == 11 && key_count > 1) key_count--;
+    return __real_vbr_open_with(handles, count, slots, buckets, last_epoch, keys, key_count);
 }
 
 int32_t __wrap_vbr_insert(vbr_handle *handle, uint64_t key, uint32_t budget) {

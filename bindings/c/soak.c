@@ -7,7 +7,8 @@
    makes at least that many calls, and tells on standard error how far it is. Each set is one round. Keys are shared
    by all threads, but for some that one thread alone inserts and removes: each answer on those is known. At the end of
    a round every key is in the set exactly if more inserts than removes of it were answered yes; it is looked up, and
-   looked for in the report. Then the keys of the report are carried over into the next set, or a fresh one begins. */
+   looked for in the report. Then the keys of the report are carried over into the next set, which opens with them or
+   gets them by inserts, or a fresh one begins. */
 #define _POSIX_C_SOURCE 200809L
 #include "vbr.h"
 
@@ -152,10 +153,36 @@ static struct round plan(uint64_t *random, const struct round *old, int carries)
     return r;
 }
 
-/* Puts the keys of the last set into the one that was opened, and lets the handles that stand still take slots. */
-static const char *begin(const struct round *r, vbr_handle *handles) {
+static int by_number(const void *a, const void *b) {
+    uint64_t x = *(const uint64_t *)a, y = *(const uint64_t *)b;
+    return x < y ? -1 : x > y;
+}
+
+/* The keys of the numbers that pass a test, ascending, and how many they are. */
+static uint32_t keys_in(const struct round *r, int (*test)(uint32_t), uint64_t *keys) {
+    uint32_t count = 0;
     for (uint32_t i = 0; i < r->keys; i++)
-        if (held[i] && vbr_insert(&handles[0], key_of(r, i), AMPLE) != VBR_YES) return "a key could not be carried over";
+        if (test(i)) keys[count++] = key_of(r, i);
+    qsort(keys, count, sizeof keys[0], by_number);
+    return count;
+}
+
+static int was_held(uint32_t number) { return held[number]; }
+
+/* Opens a set, with the keys of the last one or without any. */
+static int32_t open_set(const struct round *r, vbr_handle *handles, int count, int with_keys) {
+    static uint64_t keys[MAX_KEYS];
+    if (!with_keys) return vbr_open(handles, (size_t)count, r->slots, r->buckets, r->last_epoch);
+    uint32_t key_count = keys_in(r, was_held, keys);
+    return vbr_open_with(handles, (size_t)count, r->slots, r->buckets, r->last_epoch, keys, key_count);
+}
+
+/* Sees that the keys of the last set are in the one that was opened with them, or puts them into it, and lets the
+   handles that stand still take slots. */
+static const char *begin(const struct round *r, vbr_handle *handles, int with_keys) {
+    for (uint32_t i = 0; i < r->keys; i++)
+        if (held[i] && vbr_insert(&handles[0], key_of(r, i), AMPLE) != (with_keys ? VBR_NO : VBR_YES))
+            return "a key could not be carried over";
     for (int h = THREADS; r->with_still && h < THREADS + STILL; h++)
         for (uint32_t i = 0; i < 16 && i < r->keys; i++) {
             if (held[i]) continue;
@@ -178,18 +205,10 @@ static void stall_threads(uint64_t *random, pthread_t *threads) {
     }
 }
 
-static int by_number(const void *a, const void *b) {
-    uint64_t x = *(const uint64_t *)a, y = *(const uint64_t *)b;
-    return x < y ? -1 : x > y;
-}
-
 /* Compares the report with the keys that the answers leave. */
 static int check_report(const struct round *r, const vbr_totals *report, const uint64_t *keys) {
     static uint64_t want[MAX_KEYS];
-    uint32_t count = 0;
-    for (uint32_t i = 0; i < r->keys; i++)
-        if (is_in(i)) want[count++] = key_of(r, i);
-    qsort(want, count, sizeof want[0], by_number);
+    uint32_t count = keys_in(r, is_in, want);
     if (report->live != count) return failed(r, sets, "the report has another number of keys", 0);
     for (uint32_t i = 0; i < count; i++)
         if (keys[i] != want[i]) return failed(r, sets, "the report has other keys", i);
@@ -222,12 +241,11 @@ static int finish(const struct round *r, vbr_handle *handles, int count) {
 /* One set from its opening to its closing. */
 static int play(struct round *r, uint64_t *random, long *made) {
     vbr_handle handles[THREADS + STILL] = {{0}};
-    int count = THREADS + (r->with_still ? STILL : 0);
+    int count = THREADS + (r->with_still ? STILL : 0), with_keys = next(random) & 1;
     pthread_t threads[THREADS];
     sets++;
-    if (vbr_open(handles, (size_t)count, r->slots, r->buckets, r->last_epoch) != VBR_NO)
-        return failed(r, sets, "the set could not be opened", 0);
-    const char *wrong = begin(r, handles);
+    if (open_set(r, handles, count, with_keys) != VBR_NO) return failed(r, sets, "the set could not be opened", 0);
+    const char *wrong = begin(r, handles, with_keys);
     if (wrong) return failed(r, sets, wrong, 0);
     atomic_store(&working, THREADS);
     for (int i = 0; i < THREADS; i++) {

@@ -44,7 +44,8 @@
    handle than keys. With as many buckets as keys a bucket has about one node; a power of two is
    found by a mask in place of a division. Only inserts advance the epoch, and once the last one is
    spent inserts of absent keys may be refused: the greatest lasts fifteen hours at ten million inserts
-   a second. The numbers are 1 to VBR_MAX_SLOTS slots, 1 to VBR_MAX_BUCKETS buckets, and 1 to
+   a second. Before it is spent a set is renewed: close all its handles, and open one with the keys of
+   the report by vbr_open_with, at epoch 1. The numbers are 1 to VBR_MAX_SLOTS slots, 1 to VBR_MAX_BUCKETS buckets, and 1 to
    VBR_MAX_EPOCH as the last epoch; the most slots and buckets take 540 million bytes. */
 #ifndef VBR_H
 #define VBR_H
@@ -73,7 +74,9 @@ enum {
     VBR_BAD_SHAPE = -6,    /* open: slots, buckets or last_epoch is out of range; nothing was done */
     VBR_BAD_COUNT = -7,    /* open: count is not from 1 to 64; nothing was done */
     VBR_NO_MEMORY = -8,    /* open: nothing was done; close: it is the last and stays as it was */
-    VBR_LOST = -9          /* close: it was the last, but a handle was dropped; the set is gone */
+    VBR_LOST = -9,         /* close: it was the last, but a handle was dropped; the set is gone */
+    VBR_BAD_KEYS = -10     /* open_with: the keys do not ascend, or there are more than slots; nothing
+                              was done */
 };
 
 /* A handle to a set, or {0}. */
@@ -93,6 +96,13 @@ typedef struct vbr_totals {
    VBR_BAD_COUNT or VBR_NO_MEMORY, tested in this order, and the handles are as they were. */
 int32_t vbr_open(vbr_handle *handles, size_t count, uint32_t slots, uint32_t buckets,
                  uint64_t last_epoch);
+
+/* Opens a set of `key_count` keys, which ascend, each above the one before, and fills the handles as
+   vbr_open does: VBR_NO. Else VBR_IN_USE, VBR_BAD_SHAPE, VBR_BAD_COUNT, VBR_BAD_KEYS or VBR_NO_MEMORY,
+   tested in this order, and the handles are as they were. The epoch is 1. It takes the memory of
+   vbr_open, and 8 bytes for each key while it runs, and goes once over the keys. */
+int32_t vbr_open_with(vbr_handle *handles, size_t count, uint32_t slots, uint32_t buckets,
+                      uint64_t last_epoch, const uint64_t *keys, size_t key_count);
 
 /* VBR_YES or VBR_NO, or a refusal. They take no memory and never wait. */
 int32_t vbr_insert(vbr_handle *handle, uint64_t key, uint32_t budget); /* yes: it was absent */

@@ -120,10 +120,10 @@ private:
             case 5: case 6: case 7: return call(REMOVE, cell(), key());
             case 8: case 9: return call(HAS, cell(), key());
             case 10: return burst(cell(), key(), byte());
-            case 11: case 12: return open(cell());
+            case 11: case 12: return open(cell(), x & 32);
             case 13: return close(cell(), byte() % MOST_KEYS);
             case 14: return drop(cell());
-            default: allowed = byte() % 8; return x & 16 ? open(cell()) : close(cell(), MOST_KEYS);
+            default: allowed = byte() % 8; return x & 16 ? open(cell(), x & 32) : close(cell(), MOST_KEYS);
         }
     }
 
@@ -151,7 +151,23 @@ private:
         return x < 128 ? VBR_MAX_EPOCH : x < 240 ? 1 + x % 20 : some[x % 4];
     }
 
-    void open(size_t from) {
+    // Keys to open a set with: mostly they ascend.
+    std::vector<uint64_t> opening_keys() {
+        uint8_t x = byte();
+        std::vector<uint64_t> keys(x % 24);
+        for (uint64_t &key : keys) key = this->key();
+        if (x < 224) {
+            std::sort(keys.begin(), keys.end());
+            keys.erase(std::unique(keys.begin(), keys.end()), keys.end());
+        }
+        return keys;
+    }
+
+    static bool ascend(const std::vector<uint64_t> &keys) {
+        return std::adjacent_find(keys.begin(), keys.end(), [](uint64_t a, uint64_t b) { return a >= b; }) == keys.end();
+    }
+
+    void open(size_t from, bool with_keys) {
         uint64_t s = slots(), b = buckets(), e = last_epoch();
         uint8_t x = byte();
         size_t count = x < 200 ? 1 + x % 4 : x < 250 ? x % CELLS : 0;
@@ -159,17 +175,25 @@ private:
         bool in_use = false;
         for (size_t i = from; i < from + count; i++) in_use |= models[i] != nullptr;
         bool bad = s < 1 || s > VBR_MAX_SLOTS || b < 1 || b > VBR_MAX_BUCKETS || e < 1 || e > VBR_MAX_EPOCH;
-        int want = in_use ? VBR_IN_USE : bad ? VBR_BAD_SHAPE : count < 1 || count > 64 ? VBR_BAD_COUNT : VBR_NO;
+        std::vector<uint64_t> keys = with_keys ? opening_keys() : std::vector<uint64_t>();
+        int want = in_use                             ? VBR_IN_USE
+                   : bad                              ? VBR_BAD_SHAPE
+                   : count < 1 || count > 64          ? VBR_BAD_COUNT
+                   : keys.size() > s || !ascend(keys) ? VBR_BAD_KEYS
+                                                      : VBR_NO;
         refused_one = false;
         long before = blocks;
-        int answer = vbr_open(&cells[from], count, static_cast<uint32_t>(s), static_cast<uint32_t>(b), e);
+        uint32_t slots = static_cast<uint32_t>(s), buckets = static_cast<uint32_t>(b);
+        int answer = with_keys ? vbr_open_with(&cells[from], count, slots, buckets, e, keys.data(), keys.size())
+                               : vbr_open(&cells[from], count, slots, buckets, e);
         allowed = -1;
-        if (answer != want && !(want == VBR_NO && answer == VBR_NO_MEMORY && refused_one)) fail("the answer of vbr_open");
-        if (answer != VBR_NO && blocks != before) fail("vbr_open kept memory");
-        saw(1, answer, (count > 1) * 2 + refused_one);
+        if (answer != want && !(want == VBR_NO && answer == VBR_NO_MEMORY && refused_one)) fail("the answer of an opening");
+        if (answer != VBR_NO && blocks != before) fail("an opening kept memory");
+        saw(with_keys ? 7 : 1, answer, keys.size() << 2 | (count > 1) * 2 | refused_one);
         if (answer != VBR_NO) return;
         auto model = std::make_shared<Model>();
-        model->slots = static_cast<uint32_t>(s), model->buckets = static_cast<uint32_t>(b), model->last_epoch = e;
+        model->keys.insert(keys.begin(), keys.end());
+        model->slots = slots, model->buckets = buckets, model->last_epoch = e;
         model->handles = model->open = count;
         for (size_t i = from; i < from + count; i++) models[i] = model;
     }
@@ -296,8 +320,9 @@ static std::vector<uint64_t> play(const std::string &input) {
 
 static std::string fresh(fuzz::Random &random) {
     std::string input;
-    // most begin with an opening of some handles, so that there is something to call
-    if (!random.once_in(8)) input = {11, 0, static_cast<char>(random.below(256)), static_cast<char>(random.below(240)),
+    // most begin with an opening of some handles, a third of them with keys, so that there is something to call
+    char opening = random.once_in(3) ? 43 : 11;
+    if (!random.once_in(8)) input = {opening, 0, static_cast<char>(random.below(256)), static_cast<char>(random.below(240)),
                                      static_cast<char>(random.below(240)), static_cast<char>(random.below(200))};
     size_t size = random.below(160);
     while (input.size() < size) input += static_cast<char>(random.below(256));

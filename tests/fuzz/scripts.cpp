@@ -196,7 +196,7 @@ static Script script_of(const std::string &text, uint64_t workers) {
             if (!key) return faulty(4);
             script.lines.push_back({*worker, words[1], *key});
             script.inserts += words[1] == "insert";
-        } else if (!words.empty() && !(words.size() == 1 && words[0] == "sync")) {
+        } else if (!words.empty() && !(words.size() == 1 && (words[0] == "sync" || words[0] == "renew"))) {
             return faulty(1);
         }
         if (end == text.size()) return script;
@@ -358,7 +358,7 @@ static std::string random_script(fuzz::Random &random, uint64_t workers) {
     std::string script;
     uint64_t keys = 1 + random.below(12), lines = random.below(random.once_in(20) ? 200 : 30);
     for (uint64_t i = 0; i < lines; i++) {
-        if (random.once_in(10)) script += "sync";
+        if (random.once_in(10)) script += random.once_in(4) ? "renew" : "sync";
         else if (random.once_in(200)) script += random.one_of(faults);
         else if (!random.once_in(25))
             script += std::to_string(random.below(workers)) + (random.once_in(10) ? "\t " : " ") + random.one_of(operations) + ' ' +

@@ -62,6 +62,15 @@ struct ReportNumbers {
 
 extern "C" {
     fn vbr_open(handles: *mut Raw, count: usize, slots: u32, buckets: u32, last_epoch: u64) -> i32;
+    fn vbr_open_with(
+        handles: *mut Raw,
+        count: usize,
+        slots: u32,
+        buckets: u32,
+        last_epoch: u64,
+        keys: *const u64,
+        key_count: usize,
+    ) -> i32;
     fn vbr_insert(handle: *mut Raw, key: u64, budget: u32) -> i32;
     fn vbr_remove(handle: *mut Raw, key: u64, budget: u32) -> i32;
     fn vbr_has(handle: *mut Raw, key: u64, budget: u32) -> i32;
@@ -110,24 +119,65 @@ impl Set {
     ///
     /// The errors are tested in the order of [`OpenError`], and nothing is kept then.
     pub fn open(shape: Shape, handles: usize) -> Result<Vec<Handle>, OpenError> {
-        let mut raw: [Raw; MAX_HANDLES] = [const { Raw(null_mut()) }; MAX_HANDLES];
-        let mut opened = Vec::new();
-        if opened.try_reserve_exact(handles.min(MAX_HANDLES)).is_err() {
-            return Err(OpenError::Memory);
-        }
-        // The library reads no handle of an opening whose count is out of range.
-        let count = if handles > MAX_HANDLES { 0 } else { handles };
-        // SAFETY: `raw` has `count` empty handles, which nothing else reaches.
-        let code = unsafe { vbr_open(raw.as_mut_ptr(), count, shape.slots, shape.buckets, shape.last_epoch) };
-        match code {
-            0 => {}
-            -6 => return Err(OpenError::Shape),
-            -7 => return Err(OpenError::Handles),
-            _ => return Err(OpenError::Memory),
-        }
-        opened.extend(raw.into_iter().take(count).map(|raw| Handle { raw, slots: shape.slots }));
-        Ok(opened)
+        // SAFETY: the pointer has `count` empty handles, which nothing else reaches.
+        open_by(shape, handles, |raw, count| unsafe {
+            vbr_open(raw, count, shape.slots, shape.buckets, shape.last_epoch)
+        })
     }
+
+    /// Opens a set of these keys, which ascend, each above the one before, at epoch 1. It takes the memory
+    /// of [`Set::open`], and 8 bytes for each key while it runs, and goes once over the keys.
+    ///
+    /// So a set is renewed before its last epoch is spent: its handles are closed, and a set is opened with
+    /// the keys of the report.
+    ///
+    /// ```
+    /// use vbr::{Refusal, Set, Shape};
+    ///
+    /// let shape = Shape::new(8, 2, 20);
+    /// let mut handle = Set::open(shape, 1)?.remove(0);
+    /// handle.insert(5, 1_000)?;
+    /// while handle.insert(7, 1_000) != Err(Refusal::EpochSpent) {
+    ///     handle.remove(7, 1_000)?;
+    /// }
+    /// let report = handle.close()?.expect("the only handle");
+    /// let mut renewed = Set::open_with(shape, 1, &report.keys)?.remove(0);
+    /// assert!(renewed.has(5, 1_000)?);
+    /// assert!(renewed.insert(7, 1_000)?);
+    /// # Ok::<(), Box<dyn std::error::Error>>(())
+    /// ```
+    ///
+    /// # Errors
+    ///
+    /// Those of [`Set::open`], and [`OpenError::Keys`]. They are tested in the order of [`OpenError`], and
+    /// nothing is kept then.
+    pub fn open_with(shape: Shape, handles: usize, keys: &[u64]) -> Result<Vec<Handle>, OpenError> {
+        // SAFETY: the pointer has `count` empty handles, which nothing else reaches, and `keys` has as many
+        // keys as are told.
+        open_by(shape, handles, |raw, count| unsafe {
+            vbr_open_with(raw, count, shape.slots, shape.buckets, shape.last_epoch, keys.as_ptr(), keys.len())
+        })
+    }
+}
+
+// The handles that a call of the library opens, which is given empty ones and their number.
+fn open_by(shape: Shape, handles: usize, open: impl FnOnce(*mut Raw, usize) -> i32) -> Result<Vec<Handle>, OpenError> {
+    let mut raw: [Raw; MAX_HANDLES] = [const { Raw(null_mut()) }; MAX_HANDLES];
+    let mut opened = Vec::new();
+    if opened.try_reserve_exact(handles.min(MAX_HANDLES)).is_err() {
+        return Err(OpenError::Memory);
+    }
+    // The library reads no handle of an opening whose count is out of range.
+    let count = if handles > MAX_HANDLES { 0 } else { handles };
+    match open(raw.as_mut_ptr(), count) {
+        0 => {}
+        -6 => return Err(OpenError::Shape),
+        -7 => return Err(OpenError::Handles),
+        -10 => return Err(OpenError::Keys),
+        _ => return Err(OpenError::Memory),
+    }
+    opened.extend(raw.into_iter().take(count).map(|raw| Handle { raw, slots: shape.slots }));
+    Ok(opened)
 }
 
 /// A handle to a set: a pass, the right of one thread at a time to make calls, and a share of the set.
@@ -270,6 +320,8 @@ pub enum OpenError {
     Shape,
     /// The number of handles is not from 1 to 64.
     Handles,
+    /// The keys don't ascend, each above the one before, or there are more of them than slots.
+    Keys,
     /// There is no memory.
     Memory,
 }
@@ -299,6 +351,7 @@ impl fmt::Display for OpenError {
         f.write_str(match self {
             OpenError::Shape => "a number of the shape is out of range",
             OpenError::Handles => "the number of handles is not from 1 to 64",
+            OpenError::Keys => "the keys do not ascend, or there are more than slots",
             OpenError::Memory => "there is no memory for the set",
         })
     }

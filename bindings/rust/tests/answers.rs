@@ -15,6 +15,31 @@ fn openings() {
 }
 
 #[test]
+fn openings_with_keys() {
+    let shape = Shape::new(4, 2, 10);
+    for keys in [[5, 5, 6], [2, 9, 5], [9, 5, 2]] {
+        assert_eq!(Set::open_with(shape, 2, &keys).unwrap_err(), OpenError::Keys);
+    }
+    assert_eq!(Set::open_with(Shape::new(2, 2, 10), 2, &[2, 5, 9]).unwrap_err(), OpenError::Keys);
+    assert_eq!(Set::open_with(Shape::new(0, 2, 10), 2, &[2, 5, 9]).unwrap_err(), OpenError::Shape);
+    for handles in [0, 65, usize::MAX] {
+        assert_eq!(Set::open_with(shape, handles, &[2, 5, 9]).unwrap_err(), OpenError::Handles);
+    }
+    let mut handles = Set::open_with(shape, 2, &[2, 5, 9]).expect("a set");
+    for key in [2, 5, 9] {
+        assert_eq!(handles[0].has(key, BUDGET), Ok(true));
+        assert_eq!(handles[1].insert(key, BUDGET), Ok(false));
+    }
+    assert_eq!(handles[0].has(3, BUDGET), Ok(false));
+    let last = handles.pop().expect("two handles");
+    assert!(handles.pop().expect("two handles").close().expect("a pass given back").is_none());
+    let report = last.close().expect("a report").expect("the last handle");
+    assert_eq!((report.keys, report.epoch, report.marked, report.free), (vec![2, 5, 9], 1, 0, 1));
+    let none = Set::open_with(shape, 1, &[]).expect("a set").remove(0).close().expect("a report").expect("the only handle");
+    assert_eq!((none.keys, none.free), (vec![], 4));
+}
+
+#[test]
 fn calls() {
     let mut handles = Set::open(Shape::new(1, 1, 1), 2).expect("a set");
     assert_eq!(handles[0].insert(5, BUDGET), Ok(true));

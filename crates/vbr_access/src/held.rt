@@ -6,14 +6,14 @@ ghost use Rattle.vbr_access.specs.Held.{IsUnmarkedOrHead, held_of};
 use vbr_words::{At, decode};
 
 /// A checkpoint: the epoch that a pass read, to which it rolls back.
-#[derive(Clone, Copy, Debug, PartialEq, Eq, Hash)]
+#[derive(Clone, Copy, Debug, PartialEq, Eq)]
 pub struct Checkpoint {
     /// The epoch.
     pub epoch: u64,
 }
 
 /// A head, or an incarnation in a slot, with its checked link word and the epoch of its checkpoint.
-#[derive(Clone, Copy, Debug, PartialEq, Eq, Hash)]
+#[derive(Clone, Copy, Debug, PartialEq, Eq)]
 pub struct Held {
     /// The place of the link word.
     pub at: At,
@@ -27,7 +27,7 @@ pub struct Held {
 
 /// A marked node: an incarnation in a slot, with its checked marked link word and the epoch of its
 /// checkpoint.
-#[derive(Clone, Copy, Debug, PartialEq, Eq, Hash)]
+#[derive(Clone, Copy, Debug, PartialEq, Eq)]
 pub struct Marked {
     /// The slot.
     pub slot: u32,

@@ -3,7 +3,7 @@ use std::error::Error;
 use std::fmt;
 
 /// Why a call rolls back: the caller begins again at a checkpoint.
-#[derive(Clone, Copy, Debug, PartialEq, Eq, Hash)]
+#[derive(Clone, Copy, Debug, PartialEq, Eq)]
 pub enum Rollback {
     /// The epoch is another one: nothing is held any more but the heads.
     EpochMoved {

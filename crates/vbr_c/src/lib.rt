@@ -20,12 +20,12 @@
 ghost use Rattle.std.specs.Prelude.{◌≡◌, None};
 ghost use Rattle.vbr_core.specs.declared.history.Op.TheVariants.{Insert, Remove, Has};
 ghost use Rattle.vbr_handles.specs.Calls.{TellsCall};
-ghost use Rattle.vbr_handles.specs.OpeningCodes.{TellsOpening};
+ghost use Rattle.vbr_handles.specs.OpeningCodes.{TellsOpening, TellsOpeningWith};
 ghost use Rattle.vbr_handles.specs.Reports.{TellsClose};
 
 use std::alloc::Global;
 pub use vbr_handles::numbers::ReportNumbers;
-use vbr_handles::{Handle, numbers};
+use vbr_handles::{Handle, ShapeNumbers, numbers};
 
 /// Opens an empty set, with a pass for each of the handles, which are empty: 0. No pass has made a step
 /// then.
@@ -47,6 +47,36 @@ pub extern "C" fn vbr_open(
     ensures { TellsOpening handles.old handles.new slots buckets last_epoch result }
 {
     numbers::open(alloc, handles, slots, buckets, last_epoch)
+}
+
+/// Opens a set of these keys, with a pass for each of the handles, which are empty: 0. The keys ascend,
+/// each above the one before. The epoch is 1, and no pass has made a step then. A set whose epoch is
+/// nearly spent is renewed by closing it and opening one with the keys of its report.
+///
+/// Refusals, tested in this order, which leave the handles as they were: -5, one of the handles isn't
+/// empty; -6, the numbers are no shape; -7, the number of handles is 0 or above 64; -10, the keys don't
+/// ascend, or there are more than slots; -8, no memory.
+///
+/// ```c file=bindings/c/renewal.c
+/// if (vbr_open_with(handle, HANDLES, SLOTS, BUCKETS, LAST_EPOCH, keys, report.live) != VBR_NO) return 1;
+/// ```
+#[unsafe(no_mangle)]
+pub extern "C" fn vbr_open_with(
+    alloc: Global,
+    handles: &mut [Handle],
+    slots: u32,
+    buckets: u32,
+    last_epoch: u64,
+    keys: &[u64],
+) -> i32
+    ensures { TellsOpeningWith handles.old handles.new (record { slots = slots; buckets = buckets; last_epoch = last_epoch; keys = keys.now }) result }
+{
+    let numbers = ShapeNumbers {
+        slots,
+        buckets,
+        last_epoch,
+    };
+    numbers::open_with(alloc, handles, numbers, keys)
 }
 
 /// Adds a key: 1 if it was absent, 0 if it was there. It makes at most `budget` steps. While the other

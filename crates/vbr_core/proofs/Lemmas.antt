@@ -13,7 +13,7 @@ pub use Rattle.vbr_core.proofs.ConfirmSteps.{found_at}
 -- Along every run the world, the incarnations and the notes agree, and the chronicle is lawful.
 pub use Rattle.vbr_core.proofs.EveryRun.{run_agrees, step_agrees}
 -- What a flag word tells of a slot of the shape, and what a step on a flag leaves there.
-pub use Rattle.vbr_core.proofs.SlotFlags.{flag_shared, flag_won, unflagged, word_told}
+pub use Rattle.vbr_core.proofs.SlotFlags.{flag_in, flag_shared, flag_won, same_word, taken_word, unflagged, word_told}
 -- Runs go on: what more events do to the world, and that the events of others leave what a pass knows, may do and has called.
 pub use Rattle.vbr_core.proofs.RunsGoOn.{added_own, begins_for-snoc, begins_for_begins, begins_for_know, begins_for_refl, begins_refl, begins_run}
 pub use Rattle.vbr_core.proofs.RunsGoOn.{begins_trans, calls_after, calls_by-append, is_run_after, is_run_after_others, is_run_before, is_run_first}
@@ -39,5 +39,7 @@ pub use Rattle.vbr_core.proofs.ListedRuns.{stamp_leaves, stamp_links, unlink_mak
 pub use Rattle.vbr_core.proofs.ListedGrowth.{calls_or_adds_none}
 -- The link of a place that a pass holds unmarked, while the pass fills a slot in its hand.
 pub use Rattle.vbr_core.proofs.ListedLinks.{key_leaves_links, link_leaves_links}
--- What the lists stand for while the keys that a world opens with are linked: a world that opens with none is the bare one.
-pub use Rattle.vbr_core.proofs.OpenedWorlds.{bare, opening_bare}
+-- What the lists stand for while the keys that a world opens with are linked, from the last on: the bare world before the first, and all of them after the last. A world that opens with none is the bare one.
+pub use Rattle.vbr_core.proofs.OpenedWorlds.{bare, opening_all, opening_bare, opening_none, opening_step}
+-- The first key of a bucket, from a number on.
+pub use Rattle.vbr_core.proofs.OpeningKeys.{FirstOrNone, IsFirst, first_or_none}

@@ -8,7 +8,7 @@ use Rattle.vbr_words.specs.declared.place.At.TheVariants.{Head, Slot}
 use Rattle.vbr_core.specs.Put.{put}
 use Rattle.vbr_core.specs.Acceptance.{bucket_of}
 use Rattle.vbr_core.specs.Links.{opening_link, link_to}
-use Rattle.vbr_core.specs.Opened.{key_count, is_keyed_at_opening, key_number, opening_birth, first_number, is_key_of, first_from, key_behind, birth_named, link_to_key, link_at_opening, opening_place}
+use Rattle.vbr_core.specs.Opened.{key_count, has_opening_key, key_number, opening_birth, first_number, is_key_of, first_from, key_behind, birth_named, link_to_key, link_at_opening, opening_place}
 use Rattle.vbr_core.specs.Machine.{World, knows_nothing, opening, counted, with_link_at}
 use Rattle.vbr_core.specs.Making.{linked_from, opening_from, with_key_ahead}
 use Rattle.vbr_core.specs.declared.knowledge.SlotPlace.TheVariants.{Shared, Listed}
@@ -48,14 +48,14 @@ max_of_zero : (n : ℕ) → max 0 n ≡ n
 max_of_zero n = omega arith
 
 born_first : (shape : Dimensions) (n : ℕ) → n < key_count shape → opening_birth shape n ≡ 1
-born_first shape n low = cond-true (is_keyed_at_opening shape n) 1 0 (lt-ltb n (key_count shape) low)
+born_first shape n low = cond-true (has_opening_key shape n) 1 0 (lt-ltb n (key_count shape) low)
 
 -- the link of a key, from that at the head before it is linked
 link_next : (shape : Dimensions) (n : ℕ) → n < key_count shape → link_to (key_behind shape n) 1 (max 0 (birth_named shape (key_behind shape n))) ≡ link_at_opening shape n
 link_next shape n low =
     ap (link_to (key_behind shape n) 1) (max_of_zero (birth_named shape (key_behind shape n)))
     ∙ ap (λ birth. link_to_key shape birth (key_behind shape n)) (sym (born_first shape n low))
-    ∙ sym (cond-true (is_keyed_at_opening shape n) _ opening_link (lt-ltb n (key_count shape) low))
+    ∙ sym (cond-true (has_opening_key shape n) _ opening_link (lt-ltb n (key_count shape) low))
 
 -- the heads once one more key is linked
 head_next : (shape : Dimensions) (n : ℕ) → n < key_count shape → ◌≡◌ {A = ℕ → Link} (λ b. link_to_key shape 0 (first_from shape b n)) (put (λ b. link_to_key shape 0 (first_from shape b (suc n))) (bucket_of shape (key_number shape n)) (link_to (Some n) 0 1))
@@ -93,7 +93,7 @@ opening_next shape n low few = sym (λ i. record (opening shape) {
   link = from_next opening_link (link_at_opening shape) n _ (link_next shape n low) i;
   birth = from_next 0 (opening_birth shape) n 1 (sym (born_first shape n low)) i;
   key = from_next 0 (key_number shape) n (key_number shape n) refl i;
-  place = from_next Shared (opening_place shape) n (Listed (bucket_of shape (key_number shape n))) (sym (cond-true (is_keyed_at_opening shape n) _ Shared (lt-ltb n (key_count shape) low))) i;
+  place = from_next Shared (opening_place shape) n (Listed (bucket_of shape (key_number shape n))) (sym (cond-true (has_opening_key shape n) _ Shared (lt-ltb n (key_count shape) low))) i;
   births = count i;
 })
   where
@@ -149,10 +149,10 @@ key_linked shape number key bucket w a b c d e head link first in_bucket is_head
 pub opening_none : (shape : Dimensions) → opening_from shape (key_count shape) ≡ bare
 opening_none shape = λ i. record (opening shape) {
   head = λ b. link_to_key shape 0 (first_number (is_key_of shape b) (key_count shape) (none i));
-  link = from_last opening_link (link_at_opening shape) (key_count shape) (λ s past. cond-false (is_keyed_at_opening shape s) _ opening_link (le-ltb s (key_count shape) past)) i;
-  birth = from_last 0 (opening_birth shape) (key_count shape) (λ s past. cond-false (is_keyed_at_opening shape s) 1 0 (le-ltb s (key_count shape) past)) i;
+  link = from_last opening_link (link_at_opening shape) (key_count shape) (λ s past. cond-false (has_opening_key shape s) _ opening_link (le-ltb s (key_count shape) past)) i;
+  birth = from_last 0 (opening_birth shape) (key_count shape) (λ s past. cond-false (has_opening_key shape s) 1 0 (le-ltb s (key_count shape) past)) i;
   key = from_last 0 (key_number shape) (key_count shape) (λ s past. get_or_past shape.keys s 0 past) i;
-  place = from_last Shared (opening_place shape) (key_count shape) (λ s past. cond-false (is_keyed_at_opening shape s) _ Shared (le-ltb s (key_count shape) past)) i;
+  place = from_last Shared (opening_place shape) (key_count shape) (λ s past. cond-false (has_opening_key shape s) _ Shared (le-ltb s (key_count shape) past)) i;
   births = none i;
 }
   where

@@ -7,7 +7,7 @@ use Rattle.std.proofs.lemmas.Bool.{cases_Bool, cases_eq, cases_lt, eqb-true, eq-
 use Rattle.std.proofs.lemmas.List.Folds.{list_any_at}
 use Rattle.vbr_words.specs.Dimensions.{Dimensions}
 use Rattle.vbr_core.specs.Acceptance.{bucket_of}
-use Rattle.vbr_core.specs.Opened.{key_count, is_keyed_at_opening, key_number, first_number, is_key_of, first_key, key_behind}
+use Rattle.vbr_core.specs.Opened.{key_count, has_opening_key, key_number, first_number, is_key_of, first_key, key_behind}
 
 -- ---- the first number that passes a test
 
@@ -64,10 +64,10 @@ first_is test from limit m (Some n) is e = let same : n ≡ m = cc in rw same at
 -- ---- opening keys
 
 -- a number is that of a key, or of none
-pub keyed_or_not : (shape : Dimensions) (c : ℕ) → ((c < key_count shape) × (is_keyed_at_opening shape c ≡ true)) ⊎ ((key_count shape ≤ c) × (is_keyed_at_opening shape c ≡ false))
-keyed_or_not shape c = go (cases_lt c (key_count shape))
+pub opens_with_one_or_none : (shape : Dimensions) (c : ℕ) → ((c < key_count shape) × (has_opening_key shape c ≡ true)) ⊎ ((key_count shape ≤ c) × (has_opening_key shape c ≡ false))
+opens_with_one_or_none shape c = go (cases_lt c (key_count shape))
   where
-    go : (c < key_count shape) ⊎ (key_count shape ≤ c) → ((c < key_count shape) × (is_keyed_at_opening shape c ≡ true)) ⊎ ((key_count shape ≤ c) × (is_keyed_at_opening shape c ≡ false))
+    go : (c < key_count shape) ⊎ (key_count shape ≤ c) → ((c < key_count shape) × (has_opening_key shape c ≡ true)) ⊎ ((key_count shape ≤ c) × (has_opening_key shape c ≡ false))
     go (inl low) = inl (low, lt-ltb c (key_count shape) low)
     go (inr high) = inr (high, le-ltb c (key_count shape) high)
 

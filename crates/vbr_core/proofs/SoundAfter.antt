@@ -6,12 +6,12 @@ use Rattle.std.proofs.lemmas.Bool.{cases_eq, cases_lt, lt-ltb, le-ltb}
 use Rattle.vbr_words.specs.Dimensions.{Dimensions}
 use Rattle.vbr_core.specs.Keys.{Keys}
 use Rattle.vbr_core.specs.Acceptance.{bucket_of}
-use Rattle.vbr_core.specs.Opened.{key_count, is_keyed_at_opening, key_number, key_behind}
+use Rattle.vbr_core.specs.Opened.{key_count, has_opening_key, key_number, key_behind}
 use Rattle.vbr_core.specs.Incarnations.{Unborn, Linked, Incarnations, opening_state, opening_last, at_opening}
 use Rattle.vbr_core.specs.Chronicles.{Happening, Advances, Gains, Probes, Raises, GivesUp, Bears, Keyed, Aims, Inserts, Removes, Unlinks, Stamps, Answers, AtHead, AtNode, Entry, Allowed, becomes, incarnations_from, IsLawful}
 use Rattle.vbr_core.specs.Sound.{IsListed, TimesFit, StampFits, IsUnused, IsApart, ListsSound, Sound}
 use Rattle.vbr_core.specs.declared.knowledge.SlotPlace.TheVariants.{Shared, Listed}
-use Rattle.vbr_core.proofs.OpeningKeys.{keyed_or_not, rises, first_key_is, first_key_up_to, key_behind_is, key_behind_up_to}
+use Rattle.vbr_core.proofs.OpeningKeys.{opens_with_one_or_none, rises, first_key_is, first_key_up_to, key_behind_is, key_behind_up_to}
 use Rattle.vbr_core.proofs.SlotsAfter.{slots_kept}
 use Rattle.vbr_core.proofs.ListsAfter.{lists_advances, lists_gains, lists_raises, lists_gives_up, lists_bears, lists_keyed, lists_aims, lists_removes, lists_stamps, lists_answers}
 use Rattle.vbr_core.proofs.InsertedLists.{lists_inserts_at_head, lists_inserts_at_node}
@@ -56,18 +56,18 @@ born_at_first true = omega arith
 born_at_first false = omega arith
 
 -- the last incarnation of a slot is that of the key with its number
-last_at_first : (shape : Dimensions) (s c : ℕ) → opening_last shape s ≡ Some c → (c < key_count shape) × (is_keyed_at_opening shape c ≡ true) × (c ≡ s)
-last_at_first shape s c e = go (keyed_or_not shape s)
+last_at_first : (shape : Dimensions) (s c : ℕ) → opening_last shape s ≡ Some c → (c < key_count shape) × (has_opening_key shape c ≡ true) × (c ≡ s)
+last_at_first shape s c e = go (opens_with_one_or_none shape s)
   where
-    go : ((s < key_count shape) × (is_keyed_at_opening shape s ≡ true)) ⊎ ((key_count shape ≤ s) × (is_keyed_at_opening shape s ≡ false)) → (c < key_count shape) × (is_keyed_at_opening shape c ≡ true) × (c ≡ s)
+    go : ((s < key_count shape) × (has_opening_key shape s ≡ true)) ⊎ ((key_count shape ≤ s) × (has_opening_key shape s ≡ false)) → (c < key_count shape) × (has_opening_key shape c ≡ true) × (c ≡ s)
     go (inl low) = let some : Some s ≡ Some c = rw low.1 at e in let same : s ≡ c = cc in (rw (sym same) low.0, rw (sym same) low.1, sym same)
     go (inr high) = let none : None ≡ Some c = rw high.1 at e in absurd (cc)
 
 -- what isn't unborn is the incarnation of a key
 linked_at_first : (shape : Dimensions) (c : ℕ) → (opening_state shape c ≡ Unborn → ⊥) → c < key_count shape
-linked_at_first shape c some = go (keyed_or_not shape c)
+linked_at_first shape c some = go (opens_with_one_or_none shape c)
   where
-    go : ((c < key_count shape) × (is_keyed_at_opening shape c ≡ true)) ⊎ ((key_count shape ≤ c) × (is_keyed_at_opening shape c ≡ false)) → c < key_count shape
+    go : ((c < key_count shape) × (has_opening_key shape c ≡ true)) ⊎ ((key_count shape ≤ c) × (has_opening_key shape c ≡ false)) → c < key_count shape
     go (inl low) = low.0
     go (inr high) = absurd (some (rw high.1 refl))
 
@@ -101,11 +101,11 @@ sound_at_first shape up = record {
     has_last = λ c low. (c, rw (lt-ltb c (key_count shape) low) refl, omega arith);
     unborn = λ c high. rw (le-ltb c (key_count shape) high) refl;
     passed = λ c d l m e. absurd (omega (arith, e));
-    born = λ c low. born_at_first (is_keyed_at_opening shape c);
-    times = λ c. times_at_first (is_keyed_at_opening shape c);
-    stamps = λ c. stamps_at_first (is_keyed_at_opening shape c);
+    born = λ c low. born_at_first (has_opening_key shape c);
+    times = λ c. times_at_first (has_opening_key shape c);
+    stamps = λ c. stamps_at_first (has_opening_key shape c);
     links = λ c s e. let x = last_at_first shape s c e in rw x.1 tt;
-    unused = λ s e. unused_at_first (is_keyed_at_opening shape s) s (bucket_of shape (key_number shape s)) e;
+    unused = λ s e. unused_at_first (has_opening_key shape s) s (bucket_of shape (key_number shape s)) e;
     placed = λ c s e. let x = last_at_first shape s c e in rw (sym x.2, x.1) refl;
   };
   lists = record {

@@ -5,7 +5,7 @@ use Rattle.std.proofs.lemmas.List.{get_or_past}
 use Rattle.std.proofs.lemmas.Bool.{cases_eq, cond-true, cond-false}
 use Rattle.vbr_words.specs.Dimensions.{Dimensions, IsShape}
 use Rattle.vbr_core.specs.Put.{put}
-use Rattle.vbr_core.specs.Opened.{opening_keys, key_count, is_keyed_at_opening, key_number, opening_birth, first_key, key_behind, link_to_key, link_at_opening}
+use Rattle.vbr_core.specs.Opened.{opening_keys, key_count, has_opening_key, key_number, opening_birth, first_key, key_behind, link_to_key, link_at_opening}
 use Rattle.vbr_core.specs.Machine.{World, opening, after}
 use Rattle.vbr_core.specs.Incarnations.{Incarnations, opening_last, at_opening, last_in}
 use Rattle.vbr_core.specs.Incarnations as state
@@ -22,7 +22,7 @@ use Rattle.vbr_core.specs.declared.knowledge.SlotPlace.{SlotPlace}
 use Rattle.vbr_core.specs.declared.knowledge.SlotPlace.TheVariants.{Shared, Own, Hand, Listed}
 use Rattle.vbr_words.specs.declared.link.Link.{Link}
 use Rattle.vbr_core.proofs.Puts.{put_here, put_other}
-use Rattle.vbr_core.proofs.OpeningKeys.{keyed_or_not}
+use Rattle.vbr_core.proofs.OpeningKeys.{opens_with_one_or_none}
 use Rattle.vbr_core.proofs.SoundAfter.{state_at_first, sound_at_first, sound_kept}
 use Rattle.vbr_core.proofs.ToldCalls.{tells_at_first, tells_kept}
 use Rattle.vbr_core.proofs.Noted.{knows_same}
@@ -40,29 +40,29 @@ link_at_first shape holder_birth None = refl
 link_at_first shape holder_birth (Some number) = refl
 
 link_shown_at_first : (shape : Dimensions) (s : ℕ) → link_at_opening shape s ≡ link_shown (at_opening shape) (opening_last shape s)
-link_shown_at_first shape s = go (keyed_or_not shape s)
+link_shown_at_first shape s = go (opens_with_one_or_none shape s)
   where
-    go : ((s < key_count shape) × (is_keyed_at_opening shape s ≡ true)) ⊎ ((key_count shape ≤ s) × (is_keyed_at_opening shape s ≡ false)) → link_at_opening shape s ≡ link_shown (at_opening shape) (opening_last shape s)
+    go : ((s < key_count shape) × (has_opening_key shape s ≡ true)) ⊎ ((key_count shape ≤ s) × (has_opening_key shape s ≡ false)) → link_at_opening shape s ≡ link_shown (at_opening shape) (opening_last shape s)
     go (inl low) =
-        cond-true (is_keyed_at_opening shape s) _ _ low.1
+        cond-true (has_opening_key shape s) _ _ low.1
         ∙ link_at_first shape (opening_birth shape s) (key_behind shape s)
         ∙ sym (ap (link_in_state (at_opening shape) s) (state_at_first shape s low.0))
-        ∙ sym (ap (link_shown (at_opening shape)) (cond-true (is_keyed_at_opening shape s) (Some s) None low.1))
-    go (inr high) = cond-false (is_keyed_at_opening shape s) _ _ high.1 ∙ sym (ap (link_shown (at_opening shape)) (cond-false (is_keyed_at_opening shape s) (Some s) None high.1))
+        ∙ sym (ap (link_shown (at_opening shape)) (cond-true (has_opening_key shape s) (Some s) None low.1))
+    go (inr high) = cond-false (has_opening_key shape s) _ _ high.1 ∙ sym (ap (link_shown (at_opening shape)) (cond-false (has_opening_key shape s) (Some s) None high.1))
 
 birth_shown_at_first : (shape : Dimensions) (s : ℕ) → opening_birth shape s ≡ birth_shown (at_opening shape) (opening_last shape s)
-birth_shown_at_first shape s = go (keyed_or_not shape s)
+birth_shown_at_first shape s = go (opens_with_one_or_none shape s)
   where
-    go : ((s < key_count shape) × (is_keyed_at_opening shape s ≡ true)) ⊎ ((key_count shape ≤ s) × (is_keyed_at_opening shape s ≡ false)) → opening_birth shape s ≡ birth_shown (at_opening shape) (opening_last shape s)
-    go (inl low) = sym (ap (birth_shown (at_opening shape)) (cond-true (is_keyed_at_opening shape s) (Some s) None low.1))
-    go (inr high) = cond-false (is_keyed_at_opening shape s) 1 0 high.1 ∙ sym (ap (birth_shown (at_opening shape)) (cond-false (is_keyed_at_opening shape s) (Some s) None high.1))
+    go : ((s < key_count shape) × (has_opening_key shape s ≡ true)) ⊎ ((key_count shape ≤ s) × (has_opening_key shape s ≡ false)) → opening_birth shape s ≡ birth_shown (at_opening shape) (opening_last shape s)
+    go (inl low) = sym (ap (birth_shown (at_opening shape)) (cond-true (has_opening_key shape s) (Some s) None low.1))
+    go (inr high) = cond-false (has_opening_key shape s) 1 0 high.1 ∙ sym (ap (birth_shown (at_opening shape)) (cond-false (has_opening_key shape s) (Some s) None high.1))
 
 key_shown_at_first : (shape : Dimensions) (s : ℕ) → key_number shape s ≡ key_shown (at_opening shape) (opening_last shape s)
-key_shown_at_first shape s = go (keyed_or_not shape s)
+key_shown_at_first shape s = go (opens_with_one_or_none shape s)
   where
-    go : ((s < key_count shape) × (is_keyed_at_opening shape s ≡ true)) ⊎ ((key_count shape ≤ s) × (is_keyed_at_opening shape s ≡ false)) → key_number shape s ≡ key_shown (at_opening shape) (opening_last shape s)
-    go (inl low) = sym (ap (key_shown (at_opening shape)) (cond-true (is_keyed_at_opening shape s) (Some s) None low.1))
-    go (inr high) = get_or_past shape.keys s 0 high.0 ∙ sym (ap (key_shown (at_opening shape)) (cond-false (is_keyed_at_opening shape s) (Some s) None high.1))
+    go : ((s < key_count shape) × (has_opening_key shape s ≡ true)) ⊎ ((key_count shape ≤ s) × (has_opening_key shape s ≡ false)) → key_number shape s ≡ key_shown (at_opening shape) (opening_last shape s)
+    go (inl low) = sym (ap (key_shown (at_opening shape)) (cond-true (has_opening_key shape s) (Some s) None low.1))
+    go (inr high) = get_or_past shape.keys s 0 high.0 ∙ sym (ap (key_shown (at_opening shape)) (cond-false (has_opening_key shape s) (Some s) None high.1))
 
 -- the words at opening are the image of the incarnations then
 image_at_first : (shape : Dimensions) → IsImage (opening shape) (at_opening shape)
@@ -88,7 +88,7 @@ agrees_at_first shape is = record {
   fits = record { is_shape = is; epoch = let u = is.some_epoch in omega arith; slot = λ c low. let few = is.few in omega (arith, few); link = λ c. record { slot = tt; version = omega arith } };
   image = image_at_first shape;
   knows = λ p. record { epoch = omega arith; checked_reads = refl; pending_reads = refl; checked_shown = tt; pending_shown = tt; checked = tt; pending = λ e. tt };
-  owns = λ p s. no_owner_at_first (is_keyed_at_opening shape s) (bucket_of shape (key_number shape s)) p;
+  owns = λ p s. no_owner_at_first (has_opening_key shape s) (bucket_of shape (key_number shape s)) p;
   calls = refl;
   births = let few = is.few in let slots = is.slots in omega (arith, few, slots);
 }

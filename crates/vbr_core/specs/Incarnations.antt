@@ -3,7 +3,7 @@ use Rattle.std.specs.Prelude.{ℕ, ◌≤◌, Bool, List, [], Option, Some, None
 use Rattle.vbr_words.specs.Dimensions.{Dimensions}
 use Rattle.vbr_words.specs.declared.link.Link.{Link}
 use Rattle.vbr_core.specs.Links.{opening_link}
-use Rattle.vbr_core.specs.Opened.{key_count, is_keyed_at_opening, key_number, opening_birth, first_key, key_behind, opening_place}
+use Rattle.vbr_core.specs.Opened.{key_count, has_opening_key, key_number, opening_birth, first_key, key_behind, opening_place}
 use Rattle.vbr_core.specs.declared.history.Call.{Call}
 use Rattle.vbr_core.specs.declared.knowledge.SlotPlace.{SlotPlace}
 
@@ -37,11 +37,11 @@ pub record Incarnations : Type 0 where
 
 -- what has become of an incarnation at opening: those of the opening keys are linked
 abbrev pub opening_state : Dimensions → ℕ → State
-opening_state shape c = if is_keyed_at_opening shape c then Linked else Unborn
+opening_state shape c = if has_opening_key shape c then Linked else Unborn
 
 -- the incarnation of a slot at opening, if it has one
 abbrev pub opening_last : Dimensions → ℕ → Option ℕ
-opening_last shape s = if is_keyed_at_opening shape s then Some s else None
+opening_last shape s = if has_opening_key shape s then Some s else None
 
 -- the incarnations at opening: one of each opening key, with its number, in the slot of that number
 abbrev pub at_opening : Dimensions → Incarnations
@@ -52,9 +52,9 @@ at_opening shape =
       slot = λ c. c;
       birth = opening_birth shape;
       key = key_number shape;
-      is_keyed = is_keyed_at_opening shape;
+      is_keyed = has_opening_key shape;
       link = λ c. opening_link;
-      is_aimed = is_keyed_at_opening shape;
+      is_aimed = has_opening_key shape;
       next = key_behind shape;
       state = opening_state shape;
       first = first_key shape;

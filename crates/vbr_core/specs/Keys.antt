@@ -1,15 +1,11 @@
 -- A set of keys is the test that tells which keys are in it.
-use Rattle.std.specs.Prelude.{◌≡◌, ℕ, Bool, false, List, nat_eq}
+use Rattle.std.specs.Prelude.{◌≡◌, ℕ, Bool, List, nat_eq}
 use Rattle.std.specs.List.{list_any}
 use Rattle.std.specs.List.Sorted.{IsStrictlyIncreasing}
 
 -- a set of keys, as the test that tells which are in it
 abbrev pub Keys : Type 0
 Keys = ℕ → Bool
-
--- no key
-abbrev pub no_keys : Keys
-no_keys key = false
 
 -- the keys of a list
 abbrev pub keys_of : List ℕ → Keys

@@ -17,8 +17,8 @@ abbrev pub key_count : Dimensions → ℕ
 key_count shape = length shape.keys
 
 -- whether a slot has one: that of its own number
-abbrev pub is_keyed_at_opening : Dimensions → ℕ → Bool
-is_keyed_at_opening shape s = nat_lt s (key_count shape)
+abbrev pub has_opening_key : Dimensions → ℕ → Bool
+has_opening_key shape s = nat_lt s (key_count shape)
 
 -- the key with a number, 0 for none
 abbrev pub key_number : Dimensions → ℕ → ℕ
@@ -26,7 +26,7 @@ key_number shape number = slice_index_or shape.keys number 0
 
 -- its birth, 0 for none
 abbrev pub opening_birth : Dimensions → ℕ → ℕ
-opening_birth shape number = if is_keyed_at_opening shape number then 1 else 0
+opening_birth shape number = if has_opening_key shape number then 1 else 0
 
 -- ---- the lists of the buckets
 
@@ -64,8 +64,8 @@ link_to_key shape holder_birth number = link_to number holder_birth (birth_named
 
 -- the link of a slot
 abbrev pub link_at_opening : Dimensions → ℕ → Link
-link_at_opening shape s = if is_keyed_at_opening shape s then link_to_key shape (opening_birth shape s) (key_behind shape s) else opening_link
+link_at_opening shape s = if has_opening_key shape s then link_to_key shape (opening_birth shape s) (key_behind shape s) else opening_link
 
 -- where a slot is: in the list of its key's bucket, or in the shared pool where it has none
 abbrev pub opening_place : Dimensions → ℕ → SlotPlace
-opening_place shape s = if is_keyed_at_opening shape s then Listed (bucket_of shape (key_number shape s)) else Shared
+opening_place shape s = if has_opening_key shape s then Listed (bucket_of shape (key_number shape s)) else Shared

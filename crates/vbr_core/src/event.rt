@@ -140,17 +140,14 @@ impl fmt::Display for CoreRefusal {
     ghost output = { λ e. Some (step_text e) };
 
     fn fmt<W: fmt::Write>(&self, f: &mut fmt::Formatter<W>) -> fmt::Result {
-        match self {
-            CoreRefusal::NoSuchPass => write!(f, "there is no pass of that number"),
-            CoreRefusal::NotOwned => write!(f, "the pass doesn't own the slot so"),
-            CoreRefusal::NotHeld => write!(
-                f,
-                "the pass hasn't checked a read that the step asks for"
-            ),
-            CoreRefusal::OutOfRange => write!(f, "a number of the step is out of range"),
-            CoreRefusal::EpochLast => write!(f, "the epoch is the last one"),
-            CoreRefusal::NoMemory => write!(f, "there is no memory for the step"),
-        }
+        f.write_str(match self {
+            CoreRefusal::NoSuchPass => "there is no pass of that number",
+            CoreRefusal::NotOwned => "the pass doesn't own the slot so",
+            CoreRefusal::NotHeld => "the pass hasn't checked a read that the step asks for",
+            CoreRefusal::OutOfRange => "a number of the step is out of range",
+            CoreRefusal::EpochLast => "the epoch is the last one",
+            CoreRefusal::NoMemory => "there is no memory for the step",
+        })
     }
 }
 

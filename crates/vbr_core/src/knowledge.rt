@@ -2,7 +2,7 @@
 use vbr_words::{At, Link};
 
 /// A read of a word of the set.
-#[derive(Clone, Copy, Debug, PartialEq, Eq)]
+#[derive(Clone, Copy)]
 pub enum Read {
     /// The link at a place.
     LinkAt(At, Link),
@@ -13,7 +13,7 @@ pub enum Read {
 }
 
 /// What a pass knows of a slot that it owns.
-#[derive(Clone, Copy, Debug, PartialEq, Eq)]
+#[derive(Clone, Copy)]
 pub enum Holding {
     /// Free to be born in or to be raised, with its stamp, an epoch.
     Free(u64),

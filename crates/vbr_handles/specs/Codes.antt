@@ -20,13 +20,14 @@ call_code (Err (EpochSpent epoch)) = negsuc 2
 abbrev pub empty_code : ℤ
 empty_code = negsuc 3
 
--- of an opening: 0 done, -5 a handle is in use, -6 a bad shape, -7 a bad count, -8 no memory
+-- of an opening: 0 done, -5 a handle is in use, -6 a bad shape, -7 a bad count, -8 no memory, -10 bad keys
 abbrev pub open_code : Result (Unit {0}) OpenRefusal → ℤ
 open_code (Ok done) = pos 0
 open_code (Err opening.InUse) = negsuc 4
 open_code (Err opening.Shape) = negsuc 5
 open_code (Err opening.Passes) = negsuc 6
 open_code (Err opening.Memory) = negsuc 7
+open_code (Err opening.Keys) = negsuc 9
 
 -- of a close: 0 given back, 1 ended, -4 empty, -8 no memory, -9 a pass was lost
 abbrev pub close_code : Result (Option Report) CloseRefusal → ℤ

@@ -1,11 +1,12 @@
 -- What an opening of handles answers, and what it leaves in them.
-use Rattle.std.specs.Prelude.{◌≡◌, ℕ, ◌<◌, ◌⊎◌, All, List, length, map, None, Some, Result, Ok, Err}
+use Rattle.std.specs.Prelude.{◌≡◌, ℕ, ◌<◌, ◌≤◌, ◌⊎◌, All, List, [], length, map, None, Some, Result, Ok, Err}
+use Rattle.std.specs.List.Sorted.{IsStrictlyIncreasing}
 use Rattle.vbr_words.specs.Dimensions.{Dimensions, IsShape}
 use Rattle.vbr_slots.specs.Views.{TableView}
 use Rattle.vbr_set.specs.Members.{new_members}
 use Rattle.vbr_handles.specs.declared.handle.Handle.{Handle}
 use Rattle.vbr_handles.specs.declared.opening.OpenRefusal.{OpenRefusal}
-use Rattle.vbr_handles.specs.declared.opening.OpenRefusal.TheVariants.{InUse, Shape, Passes, Memory}
+use Rattle.vbr_handles.specs.declared.opening.OpenRefusal.TheVariants.{InUse, Shape, Passes, Keys, Memory}
 
 -- no handle has a member
 abbrev pub AreEmpty : List Handle → Type 0
@@ -15,6 +16,14 @@ AreEmpty handles = All (λ handle. handle.member ≡ None) handles
 abbrev pub IsBadCount : ℕ → Type 0
 IsBadCount count = (count ≡ 0) ⊎ (64 < count)
 
+-- the numbers of a shape are in range
+abbrev pub AreInRange : Dimensions → Type 0
+AreInRange shape = IsShape (record shape { keys = [] })
+
+-- its keys ascend, each above the one before, and each has a slot
+abbrev pub HasOpeningKeys : Dimensions → Type 0
+HasOpeningKeys shape = IsStrictlyIncreasing shape.keys × (length shape.keys ≤ shape.slots)
+
 -- each handle is full, all are of one set of the shape, which was opened with so many passes, and each has the fresh pass of its number
 pub record AreOpened (shape : Dimensions) (handles : List Handle) : Type 0 where
   pub set : TableView
@@ -22,10 +31,11 @@ pub record AreOpened (shape : Dimensions) (handles : List Handle) : Type 0 where
   pub counted : set.passes ≡ length handles
   pub members : map (λ handle. handle.member) handles ≡ map Some (new_members set (length handles))
 
--- the handles are opened where they were empty and the numbers are in range; and else they are as they were, and the answer is the first test that failed
+-- the handles are opened where they were empty, the numbers are in range and the keys ascend; and else they are as they were, and the answer is the first test that failed
 abbrev pub Opens : List Handle → List Handle → Dimensions → Result (Unit {0}) OpenRefusal → Type 0
-Opens before after shape (Ok done) = AreEmpty before × IsShape shape × ¬ (IsBadCount (length before)) × AreOpened shape after
+Opens before after shape (Ok done) = AreEmpty before × AreInRange shape × ¬ (IsBadCount (length before)) × HasOpeningKeys shape × AreOpened shape after
 Opens before after shape (Err InUse) = (after ≡ before) × ¬ (AreEmpty before)
-Opens before after shape (Err Shape) = (after ≡ before) × AreEmpty before × ¬ (IsShape shape)
-Opens before after shape (Err Passes) = (after ≡ before) × AreEmpty before × IsShape shape × IsBadCount (length before)
-Opens before after shape (Err Memory) = (after ≡ before) × AreEmpty before × IsShape shape × ¬ (IsBadCount (length before))
+Opens before after shape (Err Shape) = (after ≡ before) × AreEmpty before × ¬ (AreInRange shape)
+Opens before after shape (Err Passes) = (after ≡ before) × AreEmpty before × AreInRange shape × IsBadCount (length before)
+Opens before after shape (Err Keys) = (after ≡ before) × AreEmpty before × AreInRange shape × ¬ (IsBadCount (length before)) × ¬ (HasOpeningKeys shape)
+Opens before after shape (Err Memory) = (after ≡ before) × AreEmpty before × AreInRange shape × ¬ (IsBadCount (length before)) × HasOpeningKeys shape

@@ -13,4 +13,4 @@ mod parts;
 
 pub use closing::{CloseRefusal, abandon, close};
 pub use handle::Handle;
-pub use opening::{OpenRefusal, open};
+pub use opening::{OpenRefusal, ShapeNumbers, open, open_with};

@@ -4,12 +4,12 @@ ghost use Rattle.std.specs.Prelude.{◌≡◌};
 ghost use Rattle.vbr_core.specs.declared.history.Op.TheVariants.{Insert, Remove, Has};
 ghost use Rattle.vbr_handles.specs.Codes.{call_code, close_code, open_code};
 ghost use Rattle.vbr_handles.specs.Calls.{TellsCall};
-ghost use Rattle.vbr_handles.specs.OpeningCodes.{TellsOpening};
+ghost use Rattle.vbr_handles.specs.OpeningCodes.{TellsOpening, TellsOpeningWith};
 ghost use Rattle.vbr_handles.specs.Reports.{IsTold, TellsClose};
 
 use crate::closing::CloseRefusal;
 use crate::handle::Handle;
-use crate::opening::OpenRefusal;
+use crate::opening::{OpenRefusal, ShapeNumbers};
 use std::alloc::Global;
 use vbr_set::{Refusal, Report};
 
@@ -35,6 +35,8 @@ const NO_MEMORY: i32 = -8;
 
 const LOST: i32 = -9;
 
+const BAD_KEYS: i32 = -10;
+
 /// What a closed set held.
 #[repr(C)]
 #[derive(Clone, Copy)]
@@ -54,6 +56,13 @@ pub fn open(alloc: Global, handles: &mut [Handle], slots: u32, buckets: u32, las
     ensures { TellsOpening handles.old handles.new slots buckets last_epoch result }
 {
     open_code(crate::opening::open(alloc, handles, slots, buckets, last_epoch))
+}
+
+/// Opens a set of these keys for handles, as [`crate::open_with`] does.
+pub fn open_with(alloc: Global, handles: &mut [Handle], numbers: ShapeNumbers, keys: &[u64]) -> i32
+    ensures { TellsOpeningWith handles.old handles.new (record { slots = numbers.slots; buckets = numbers.buckets; last_epoch = numbers.last_epoch; keys = keys.now }) result }
+{
+    open_code(crate::opening::open_with(alloc, handles, numbers, keys))
 }
 
 /// Adds a key by the member of a handle.
@@ -119,6 +128,7 @@ fn open_code(answer: Result<(), OpenRefusal>) -> i32
         Err(OpenRefusal::InUse) => IN_USE,
         Err(OpenRefusal::Shape) => BAD_SHAPE,
         Err(OpenRefusal::Passes) => BAD_COUNT,
+        Err(OpenRefusal::Keys) => BAD_KEYS,
         Err(OpenRefusal::Memory) => NO_MEMORY,
     }
 }

@@ -1,5 +1,5 @@
 -- Pieces one after another: they make no call, their steps add up, and the slot in hand stays.
-use Rattle.std.proofs.Common.{◌≡◌, ℕ, ◌+◌, ◌%◌, ◌≤◌, refl, sym, ap, ◌∙◌, subst, arith}
+use Rattle.std.proofs.Common.{◌≡◌, ℕ, ◌+◌, ◌%◌, ◌≤◌, [], refl, sym, ap, ◌∙◌, subst, arith}
 use Rattle.vbr_words.specs.Dimensions.{Dimensions}
 use Rattle.vbr_core.specs.Acceptance.{bucket_of}
 use Rattle.vbr_slots.specs.Calls.{IsSame, Quiet, Took}
@@ -9,9 +9,10 @@ use Rattle.vbr_pools.specs.KeptSlots.{TakesNoSlot}
 use Rattle.vbr_pools.specs.Steps.{CountsSteps, TookWithin}
 use Rattle.vbr_pools.proofs.Lemmas.{counts_none, counts_on, took_all}
 use Rattle.vbr_access.specs.Keeping.{KeepsOwn}
-use Rattle.vbr_list.specs.Calls.{IsSameCall}
+use Rattle.vbr_list.specs.Calls.{IsSameCall, IsSameLook}
 use Rattle.vbr_list.specs.Traversal.{Goes}
 use Rattle.vbr_list.specs.declared.call.Call.{Call}
+use Rattle.vbr_list.specs.declared.look.Look.{Look}
 use Rattle.vbr_list.proofs.KeptHands.{hand_refl, hand_on, own_kept}
 use Rattle.vbr_list.proofs.Traversals.{Tries}
 
@@ -44,9 +45,9 @@ pub within_of : {p q : Trace} (used budget : ℕ) → used ≤ budget → Counts
 within_of used budget le counts = record { steps = used; within = le; took = took_all counts }
 
 -- the bucket of a key is that of the table's shape
-pub bucket_is : (a b : Dimensions) (bucket key : ℕ) → a ≡ b → bucket ≡ key % b.buckets → bucket ≡ bucket_of a key
+pub bucket_is : (a b bare : Dimensions) (bucket key : ℕ) → a ≡ b → bare ≡ record b { keys = [] } → bucket ≡ key % bare.buckets → bucket ≡ bucket_of a key
 unfolding bucket_of
-bucket_is a b bucket key e f = f ∙ ap (λ (shape : Dimensions). key % shape.buckets) (sym e)
+bucket_is a b bare bucket key e g f = f ∙ ap (λ (shape : Dimensions). key % shape.buckets) g ∙ ap (λ (shape : Dimensions). key % shape.buckets) (sym e)
 
 -- a call stays the same one from piece to piece
 pub call_on : {b c d : Call} → IsSameCall b c → IsSameCall c d → IsSameCall b d
@@ -58,3 +59,14 @@ call_refl c = record { pass = refl; slots = refl; key = refl; bucket = refl; bud
 -- the steps of a call are within the budget that it began with
 pub within_call : {c d : Call} → IsSameCall c d → d.used ≤ c.budget
 within_call {c} {d} x = let u = d.within in let e = x.budget in omega (arith, u, e)
+
+-- and so does a look-up
+pub look_on : {b c d : Look} → IsSameLook b c → IsSameLook c d → IsSameLook b d
+look_on x y = record { pass = y.pass ∙ x.pass; slots = y.slots ∙ x.slots; key = y.key ∙ x.key; bucket = y.bucket ∙ x.bucket; budget = y.budget ∙ x.budget }
+
+pub look_refl : (c : Look) → IsSameLook c c
+look_refl c = record { pass = refl; slots = refl; key = refl; bucket = refl; budget = refl }
+
+-- the steps of a look-up are within the budget that it began with
+pub within_look : {c d : Look} → IsSameLook c d → d.used ≤ c.budget
+within_look {c} {d} x = let u = d.within in let e = x.budget in omega (arith, u, e)

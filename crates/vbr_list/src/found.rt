@@ -2,7 +2,7 @@
 use vbr_access::Held;
 
 /// Where a key stands, or would stand, in the list of its bucket.
-#[derive(Clone, Copy, Debug, PartialEq, Eq, Hash)]
+#[derive(Clone, Copy, Debug, PartialEq, Eq)]
 pub struct Found {
     /// The last place before the key: the head, or a node with a smaller key.
     pub pred: Held,

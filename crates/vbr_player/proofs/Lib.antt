@@ -8,4 +8,5 @@ mod Phasing
 mod NewWorkers
 mod PlayedWhole
 mod Finishing
+mod Spans
 mod Zips

@@ -1,16 +1,21 @@
 -- New workers stand before the first phase.
-use Rattle.std.proofs.Common.{◌≡◌, ℕ, zero, suc, List, [], ◌∷◌, ◌++◌, length, refl, sym, ap, subst, ◌∙◌, arith}
+use Rattle.std.proofs.Common.{◌≡◌, ℕ, zero, suc, ◌+◌, ◌≤◌, get_or, List, [], ◌∷◌, ◌++◌, length, refl, sym, ap, subst, ◌∙◌, arith}
 use Rattle.std.specs.Prelude.{All, None}
 use Rattle.std.specs.List.{AllZip}
 use Rattle.std.proofs.lemmas.List.Elements.{All-nil, All-cons}
+use Rattle.vbr_core.specs.Runs.{Begins}
+use Rattle.vbr_core.specs.declared.event.Event.{Event}
 use Rattle.vbr_slots.specs.Views.{PassView, TableView, IsOf, new_pass, new_passes}
 use Rattle.vbr_slots.specs.Calls.{made_by}
 use Rattle.vbr_set.specs.Members.{MemberView}
-use Rattle.vbr_transcript.specs.Calls.{Outcome, lines_by}
+use Rattle.vbr_transcript.specs.Calls.{Outcome, lines_by, lines_up_to}
+use Rattle.vbr_script.specs.Scripts.{AscendFrom}
+use Rattle.vbr_transcript.proofs.Lemmas.{ascend_lower}
 use Rattle.vbr_player.specs.Standing.{AreNumberedFrom, HasPlayed, IsNew, Stand}
 use Rattle.vbr_player.specs.Working.{TellsReply}
 use Rattle.vbr_script.specs.declared.script.Line.{Line}
 use Rattle.vbr_player.specs.declared.worker.Worker.{Worker}
+use Rattle.vbr_player.proofs.Slices.{lines_up_to-front}
 use Rattle.vbr_player.proofs.Starting.{one_behind}
 
 -- each new pass is of its set, and has no slot in hand
@@ -51,3 +56,22 @@ pub new_stand : (set : TableView) (script : List Line) (passes : List PassView) 
 new_stand set script passes n workers is are =
     let all = all_played set script 0 n workers (subst (λ (ps : List PassView). AllZip (IsNew set script) ps workers) is are) in
     record { count_is = all.0; numbered = all.1; played = all.2; ended = λ phase none. absurd (omega arith) }
+
+-- behind phases that have no lines they stand too
+pub stand_from : (set : TableView) (script : List Line) (from count : ℕ) (workers : List Worker) → AscendFrom from script → Stand set script [] count 0 workers → Stand set script [] count from workers
+stand_from set script from count workers up stand = record {
+  count_is = stand.count_is;
+  numbered = stand.numbered;
+  played = stand.played;
+  ended = λ phase before.
+      let none : lines_up_to phase script ≡ [] = lines_up_to-front phase [] script (All-nil (λ (line : Line). line.phase ≤ phase)) (ascend_lower (phase + 1) from script (omega arith) up) in
+      record {
+        seen = [];
+        begins = λ k d inside. begins_nothing (get_or workers k d).caller.pass.trace.seen;
+        replied = λ who inside. rw none (omega arith);
+        called = λ who inside. rw none refl;
+      };
+}
+  where
+    begins_nothing : (events : List Event) → Begins [] events
+    begins_nothing events = (events, refl)

@@ -1,6 +1,6 @@
 -- The lines of the next phase, behind those of the phases before.
-use Rattle.std.proofs.Common.{◌≡◌, ℕ, ◌+◌, ◌-◌, ◌<◌, ◌≤◌, eqb, List, [], ◌++◌, length, take, drop, sym, ap, subst, ◌∙◌, arith, append-nil, length-drop}
-use Rattle.std.specs.Prelude.{All}
+use Rattle.std.proofs.Common.{◌≡◌, ℕ, ◌+◌, ◌-◌, ◌<◌, ◌≤◌, List, [], ◌++◌, length, take, drop, sym, ap, subst, ◌∙◌, arith, append-nil, length-drop}
+use Rattle.std.specs.Prelude.{nat_le, All}
 use Rattle.std.specs.List.{prefix_len}
 use Rattle.std.proofs.Math.Seq.{take-add}
 use Rattle.std.proofs.lemmas.List.{drop-drop, take_all, take-append-drop}
@@ -24,12 +24,12 @@ pub record Cuts (script : List Line) (first n phase : ℕ) : Type 0 where
   pub early : All (λ line. line.phase < phase + 1) (take (first + n) script)
   pub later : AscendFrom (phase + 1) (drop (first + n) script)
 
-pub cuts : (script : List Line) (first n phase : ℕ) → n ≡ prefix_len (λ line. eqb line.phase phase) (drop first script) → All (λ line. line.phase < phase) (take first script) → AscendFrom phase (drop first script) → Cuts script first n phase
+pub cuts : (script : List Line) (first n phase : ℕ) → n ≡ prefix_len (λ line. nat_le line.phase phase) (drop first script) → All (λ line. line.phase < phase) (take first script) → AscendFrom phase (drop first script) → Cuts script first n phase
 cuts script first n phase is early up =
     let front = take first script in
     let rest = drop first script in
     let slice = take n rest in
-    let next = next_phase phase rest up in
+    let next = next_phase phase phase rest up in
     let within : All (λ line. line.phase ≤ phase) slice = subst (λ (k : ℕ). All (λ line. line.phase ≤ phase) (take k rest)) (sym is) next.0 in
     let dropped : drop (first + n) script ≡ drop n rest = sym (drop-drop n first script) in
     let beyond : AscendFrom (phase + 1) (drop (first + n) script) = subst (λ (lines : List Line). AscendFrom (phase + 1) lines) (sym dropped) (subst (λ (k : ℕ). AscendFrom (phase + 1) (drop k rest)) (sym is) next.1) in

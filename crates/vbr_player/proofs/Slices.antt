@@ -37,26 +37,25 @@ replied_more who front back old more same as_many = rw lines_by-append (omega (a
 -- ---- the slice of a phase
 
 -- lines that ascend from a phase are all of it or later ones
-all_from : (from low : ℕ) (lines : List Line) → low ≤ from → AscendFrom from lines → All (λ line. low ≤ line.phase) lines
+pub all_from : (from low : ℕ) (lines : List Line) → low ≤ from → AscendFrom from lines → All (λ line. low ≤ line.phase) lines
 all_from from low [] below up = All-nil (λ (line : Line). low ≤ line.phase)
 all_from from low (line ∷ lines) below up = All-cons (λ (line : Line). low ≤ line.phase) line lines (omega (arith, below, up.0)) (all_from line.phase low lines (omega (arith, below, up.0)) up.1)
 
--- what lines from a phase on are cut into: the first of them, of this phase, and those after it
+-- what lines are cut into: the first of them, of the phases up to one, and those of later phases
 abbrev pub CutsAt : ℕ → List Line → ℕ → Type 0
 CutsAt phase rest n = All (λ line. line.phase ≤ phase) (take n rest) × AscendFrom (phase + 1) (drop n rest)
 
--- they are cut where the first line of another phase stands
-pub next_phase : (phase : ℕ) (rest : List Line) → AscendFrom phase rest → CutsAt phase rest (prefix_len (λ line. eqb line.phase phase) rest)
-next_phase phase [] up = (All-nil (λ (line : Line). line.phase ≤ phase), tt)
-next_phase phase (line ∷ lines) up = elim (cases_Bool (eqb line.phase phase)) [
+-- they are cut where the first line of a later phase stands
+pub next_phase : (phase from : ℕ) (rest : List Line) → AscendFrom from rest → CutsAt phase rest (prefix_len (λ line. nat_le line.phase phase) rest)
+next_phase phase from [] up = (All-nil (λ (line : Line). line.phase ≤ phase), tt)
+next_phase phase from (line ∷ lines) up = elim (cases_Bool (nat_le line.phase phase)) [
   | inl this ↦
-      let same : line.phase ≡ phase = eqb-true line.phase phase this in
-      let rest = next_phase phase lines (subst (λ (from : ℕ). AscendFrom from lines) same up.1) in
-      let len : suc (prefix_len (λ (line : Line). eqb line.phase phase) lines) ≡ prefix_len (λ (line : Line). eqb line.phase phase) (line ∷ lines) = rw this (omega arith) in
-      subst (CutsAt phase (line ∷ lines)) len (All-cons (λ (line : Line). line.phase ≤ phase) line _ (omega (arith, same)) rest.0, rest.1)
+      let low : line.phase ≤ phase = grind (arith, nat_tests) in
+      let rest = next_phase phase line.phase lines up.1 in
+      let len : suc (prefix_len (λ (line : Line). nat_le line.phase phase) lines) ≡ prefix_len (λ (line : Line). nat_le line.phase phase) (line ∷ lines) = rw this (omega arith) in
+      subst (CutsAt phase (line ∷ lines)) len (All-cons (λ (line : Line). line.phase ≤ phase) line _ low rest.0, rest.1)
   | inr other ↦
-      let len : 0 ≡ prefix_len (λ (line : Line). eqb line.phase phase) (line ∷ lines) = rw other refl in
-      let first : phase ≤ line.phase = up.0 in
+      let len : 0 ≡ prefix_len (λ (line : Line). nat_le line.phase phase) (line ∷ lines) = rw other refl in
       let past : phase + 1 ≤ line.phase = grind (arith, nat_tests) in
       subst (CutsAt phase (line ∷ lines)) len (All-nil (λ (line : Line). line.phase ≤ phase), (past, up.1))
 ]

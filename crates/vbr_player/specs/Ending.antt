@@ -1,4 +1,4 @@
--- What the workers bring to the end of a run.
+-- What the workers bring to the end of a set.
 use Rattle.std.specs.Prelude.{◌≡◌, ℕ, List, map}
 use Rattle.vbr_slots.specs.Views.{PassView, TableView}
 use Rattle.vbr_player.specs.Standing.{replies_of, Stand}
@@ -10,7 +10,7 @@ use Rattle.vbr_player.specs.declared.worker.Worker.{Worker}
 abbrev pub passes_of : List Worker → List PassView
 passes_of workers = map (λ worker. worker.caller.pass) workers
 
--- the passes and the replies are those of workers, one for each pass of a set, that have played a whole script
+-- the passes and the replies are those of workers, one for each pass of a set, that have played lines, all of them in so many phases
 pub record PlayedWhole (set : TableView) (script : List Line) (phases : ℕ) (passes : List PassView) (replies : List (List Reply)) : Type 0 where
   pub workers : List Worker
   pub stand : Stand set script script set.passes phases workers

@@ -3,4 +3,5 @@ pub mod Starting
 pub mod Meeting
 pub mod Standing
 pub mod Ending
+pub mod Spans
 pub mod Playing

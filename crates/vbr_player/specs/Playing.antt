@@ -1,7 +1,7 @@
 -- What the player does with a reader and a writer.
 use Rattle.std.specs.Prelude.{◌≡◌, ℕ, List, Option, Some, None, Result, Ok, Err}
 use Rattle.std.specs.Io.KnownBytes.{Keeps, Appends}
-use Rattle.vbr_script.specs.Scripts.{first_fault, script_of}
+use Rattle.vbr_script.specs.Scripts.{first_fault, renewals_of, script_of}
 use Rattle.vbr_transcript.specs.Reading.{IsInput}
 use Rattle.vbr_transcript.specs.Runs.{IsScriptRun}
 use Rattle.vbr_transcript.specs.Layout.{layout_of}
@@ -16,7 +16,7 @@ use Rattle.vbr_settings.specs.Settings.{Settings}
 abbrev pub Prints : Settings → List ℕ → Totals → List ℕ → Type 0
 Prints settings text totals output =
     (replies : List Reply) × (first_fault settings.workers text ≡ None)
-    × IsScriptRun settings.shape settings.workers (script_of settings.workers text) replies totals
+    × IsScriptRun settings.shape settings.workers (renewals_of settings.workers text) (script_of settings.workers text) replies totals
     × (output ≡ layout_of settings.epoch replies totals)
 
 -- want of memory, or of a thread for a worker

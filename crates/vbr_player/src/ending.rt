@@ -1,38 +1,53 @@
-// The end of a run: its replies in script order, and its totals.
-ghost use Rattle.std.specs.Prelude.{◌≡◌, ◌<◌, [], map, IfOk, IfErr};
-ghost use Rattle.vbr_player.specs.Ending.{PlayedWhole, passes_of};
-ghost use Rattle.vbr_transcript.specs.Runs.{IsScriptRun};
-ghost use Rattle.vbr_script.specs.Scripts.{ArePhased};
+// The end of a set of a script: its replies in script order, and the set that follows it or its report.
+ghost use Rattle.std.specs.Prelude.{◌≡◌, length, map, IfOk, IfErr};
+ghost use Rattle.vbr_slots.specs.Closing.{AllOf};
+ghost use Rattle.vbr_slots.specs.Views.{new_passes};
+ghost use Rattle.vbr_set.specs.Closing.{Closes};
+ghost use Rattle.vbr_set.specs.Renewing.{Renews};
+ghost use Rattle.vbr_transcript.specs.Merging.{HaveReplies, IsMerged};
+ghost use Rattle.vbr_player.specs.Ending.{passes_of};
 ghost use Rattle.vbr_player.specs.Standing.{replies_of};
 
 use crate::worker::Worker;
 use std::alloc::{AllocError, Global};
-use vbr_script::Script;
-use vbr_set::{CloseError, Pass, VbrSet};
-use vbr_transcript::{Reply, RunError, Totals, merge, totals_of};
+use vbr_script::Line;
+use vbr_set::{CloseError, Pass, RenewError, Report, VbrSet};
+use vbr_transcript::{Reply, RunError, merge};
 
-// Closes the set, puts the replies together, and counts. The vector for the replies has room for all.
-pub fn finish(
-    alloc: Global,
-    set: VbrSet,
-    script: &Script,
-    passes: Vec<Pass>,
-    own: Vec<Vec<Reply>>,
-    mut replies: Vec<Reply>,
-) -> Result<(Vec<Reply>, Totals), RunError>
-    requires phased { ArePhased set.passes script.now.phases script.now.lines.items }
-    requires some { 0 < set.passes }
-    requires played { PlayedWhole set script.now.lines.items script.now.phases passes.items (map (λ replies. replies.items) own.items) }
-    requires empty { replies.items ≡ [] }
-    ensures run { IfOk result (λ ended. IsScriptRun set.shape set.passes script.now.lines.items ended.0.items ended.1) }
+// The replies that workers have to these lines, in script order.
+pub fn merged(alloc: Global, lines: &[Line], own: Vec<Vec<Reply>>) -> Result<Vec<Reply>, AllocError>
+    requires { HaveReplies (map (λ replies. replies.items) own.items) lines.now }
+    ensures { IfOk result (λ replies. IsMerged lines.now (map (λ replies. replies.items) own.items) replies.items) }
+{
+    let mut replies = Vec::with_capacity(alloc, lines.len())?;
+    merge(alloc, lines, &own, &mut replies)?;
+    Ok(replies)
+}
+
+// Closes a set, and opens the one that follows it.
+pub fn renew(alloc: Global, set: VbrSet, passes: Vec<Pass>) -> Result<(VbrSet, Vec<Pass>), RunError>
+    requires all { AllOf set passes.items }
+    requires count { length passes.items ≡ set.passes }
+    ensures renewed { IfOk result (λ next. Renews set passes.items next.0) }
+    ensures passes { IfOk result (λ next. next.1.items ≡ new_passes next.0 0 next.0.passes) }
     ensures memory { IfErr result (λ error. error ≡ RunError.Memory) }
 {
-    merge(alloc, &script.lines, &own, &mut replies)?;
+    match set.renew(alloc, passes) {
+        Ok(next) => Ok(next),
+        Err(RenewError::Missing(_, _)) => unreachable!(),
+        Err(RenewError::Memory(_, _) | RenewError::Closed(_)) => Err(RunError::Memory),
+    }
+}
+
+// Closes a set.
+pub fn close(alloc: Global, set: VbrSet, passes: Vec<Pass>) -> Result<Report, RunError>
+    requires all { AllOf set passes.items }
+    requires count { length passes.items ≡ set.passes }
+    ensures closes { IfOk result (λ report. Closes set passes.items report) }
+    ensures memory { IfErr result (λ error. error ≡ RunError.Memory) }
+{
     match set.close(alloc, passes) {
-        Ok(report) => {
-            let totals = totals_of(&script.lines, &replies, report.keys, report.epoch);
-            Ok((replies, totals))
-        }
+        Ok(report) => Ok(report),
         Err(CloseError::Missing(_, _)) => unreachable!(),
         Err(CloseError::Memory(_, _)) => Err(RunError::Memory),
     }

@@ -2,8 +2,8 @@
 //! and writes what it was answered.
 //!
 //! A set is opened with a worker for each pass; they play phase after phase, and meet after each;
-//! in the end the set is closed, and the replies and totals are those of one run. [`play`] is the
-//! whole.
+//! where the script says so, the set is renewed, and they go on over the new one; in the end the set
+//! is closed, and the replies and totals are those of one run. [`play`] is the whole.
 #![tactic(auto)]
 
 mod ending;
@@ -14,6 +14,7 @@ mod part;
 mod phase;
 mod phases;
 pub mod playing;
+mod sets;
 mod turn;
 mod worker;
 

@@ -1,5 +1,5 @@
 // What a worker is given to play.
-ghost use Rattle.std.specs.Prelude.{◌≡◌, ◌+◌, ◌<◌, ◌^◌, length};
+ghost use Rattle.std.specs.Prelude.{◌≡◌, ◌+◌, ◌-◌, ◌<◌, ◌≤◌, ◌^◌, length, take, drop};
 ghost use Rattle.vbr_player.specs.Working.{HasRoom};
 
 use crate::worker::Worker;
@@ -30,6 +30,33 @@ impl<'p, G> Clone for Part<'p, G> {
 }
 
 impl<'p, G> Copy for Part<'p, G> {}
+
+impl<'p, G> Part<'p, G> {
+    // Its lines from an index on and up to another, which isn't among them.
+    pub fn slice(&self, first: usize, end: usize) -> Part<'p, G>
+        requires order { first ≤ end }
+        requires inside { end ≤ length self.now.lines.now }
+        ensures { result.lines.now ≡ take (end - first) (drop first self.now.lines.now) }
+    {
+        Part {
+            lines: &self.lines[first..end],
+            first: self.first + first as u64,
+            budget: self.budget,
+            gate: self.gate,
+        }
+    }
+}
+
+/// The lines of a script that are played on one set, with their phases.
+#[derive(Drop)]
+pub struct Span<'p, G> {
+    /// The lines.
+    pub part: Part<'p, G>,
+    /// The first of the phases.
+    pub from: u32,
+    /// The first phase behind them.
+    pub to: u32,
+}
 
 /// A worker, and the lines among which are those that it is to play. It has room for the replies.
 #[derive(Drop)]

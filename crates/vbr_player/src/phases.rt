@@ -1,15 +1,15 @@
-// The phases of a script.
-ghost use Rattle.std.specs.Prelude.{◌≡◌, ◌==◌, ◌≤◌, length, map, IfOk, IfErr};
+// The phases that are played on one set.
+ghost use Rattle.std.specs.Prelude.{◌≡◌, ◌≤◌, nat_le, length, map, IfOk, IfErr};
 ghost use Rattle.std.specs.List.{prefix_len};
 ghost use Rattle.vbr_slots.specs.Views.{new_passes};
-ghost use Rattle.vbr_script.specs.Scripts.{ArePhased};
 ghost use Rattle.vbr_player.specs.Ending.{PlayedWhole};
 ghost use Rattle.vbr_player.specs.Playing.{IsWant};
+ghost use Rattle.vbr_player.specs.Spans.{IsSpan};
 
 use crate::ending::take_apart;
 use crate::gate::Gate;
 use crate::opening::workers_of;
-use crate::part::Part;
+use crate::part::Span;
 use crate::phase::play_phase;
 use std::alloc::Global;
 use std::sync::Wait;
@@ -18,41 +18,35 @@ use vbr_script::Line;
 use vbr_set::{Pass, VbrSet};
 use vbr_transcript::{Reply, RunError};
 
-// Plays all lines of a script, which has so many phases, on a new set: by a worker for each of its
-// passes, one phase after the other. It gives the passes and the replies of the workers.
+// Plays all lines of a span on a new set: by a worker for each of its passes, one phase after the
+// other. It gives the passes and the replies of the workers.
 pub fn play_phases<'e, R: Threads + Wait, G: Gate + Sync>(
     rt: &'e R,
     alloc: Global,
     set: &'e VbrSet,
     passes: Vec<Pass>,
-    whole: Part<'e, G>,
-    phases: u32,
+    span: Span<'e, G>,
 ) -> Result<(Vec<Pass>, Vec<Vec<Reply>>), RunError>
-    requires phased { ArePhased set.now.passes phases whole.lines.now }
+    requires span { IsSpan set.now.passes span.from span.to span.part.lines.now }
     requires new { passes.items ≡ new_passes set.now 0 set.now.passes }
-    ensures played { IfOk result (λ parts. PlayedWhole set.now whole.entry.lines.now phases parts.0.items (map (λ replies. replies.items) parts.1.items)) }
+    ensures played { IfOk result (λ parts. PlayedWhole set.now span.entry.part.lines.now span.entry.to parts.0.items (map (λ replies. replies.items) parts.1.items)) }
     ensures fault { IfErr result IsWant }
 {
+    let whole = span.part;
     let mut workers = workers_of(alloc, set, whole.lines, passes)?;
     let mut first = 0;
-    for number in 0..phases {
-        let end = first + count_of(&whole.lines[first..], number);
-        let part = Part {
-            lines: &whole.lines[first..end],
-            first: first as u64,
-            budget: whole.budget,
-            gate: whole.gate,
-        };
-        workers = play_phase(rt, alloc, part, workers)?;
+    for number in span.from..span.to {
+        let end = first + count_up_to(&whole.lines[first..], number);
+        workers = play_phase(rt, alloc, whole.slice(first, end), workers)?;
         first = end;
     }
     Ok(take_apart(alloc, workers)?)
 }
 
-// How many of the first lines are of a phase.
-fn count_of(lines: &[Line], phase: u32) -> usize
-    ensures count { result ≡ prefix_len (λ line. line.phase == phase) lines.now }
+// How many of the first lines are of the phases up to one.
+pub fn count_up_to(lines: &[Line], phase: u32) -> usize
+    ensures count { result ≡ prefix_len (λ line. nat_le line.phase phase) lines.now }
     ensures inside { result ≤ length lines.now }
 {
-    lines.iter().take_while(|line| line.phase == phase).count()
+    lines.iter().take_while(|line| line.phase <= phase).count()
 }

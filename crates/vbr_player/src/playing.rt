@@ -1,27 +1,31 @@
 //! The player.
-ghost use Rattle.std.specs.Prelude.{◌≡◌, IfOk, IfErr};
+ghost use Rattle.std.specs.Prelude.{◌≡◌, ◌+◌, ◌≤◌, IfOk, IfErr};
 ghost use Rattle.vbr_player.specs.Playing.{Plays, Prints, IsFaultOf, IsWant};
 ghost use Rattle.vbr_transcript.specs.Runs.{IsScriptRun};
-ghost use Rattle.vbr_script.specs.Scripts.{ArePhased};
+ghost use Rattle.vbr_script.specs.Scripts.{ArePhased, AreRenewalsFrom};
+ghost use Rattle.vbr_script.specs.declared.script.TheConstants.{MAX_SYNCS};
 
-use crate::ending::finish;
 use crate::gate::Gate;
 use crate::opening::open;
 use crate::part::Part;
-use crate::phases::play_phases;
+use crate::sets::play_sets;
 use std::alloc::Global;
 use std::io::{Read, Write};
 use std::sync::Wait;
 use std::thread::Threads;
 use vbr_script::{Script, parse_script};
 use vbr_settings::Config;
-use vbr_transcript::{Reply, RunError, Totals, WriteFault, layout, read_text, write_whole};
+use vbr_transcript::{
+    Reply, RunError, Totals, WriteFault, layout, read_text, totals_of, write_whole,
+};
 
 /// Reads a script to its end, plays it, and writes the replies and the totals.
 ///
 /// The phases are played one after the other. In each, every worker that has lines of the phase plays
 /// them in order, on a thread of its own; they are joined, and then each worker sees all that the
-/// others have seen. In the end the set is closed.
+/// others have seen. Behind a phase that ends with `renew` the set is closed, and one is opened with
+/// its keys, at epoch 1, which the workers go on over; that takes memory and time in proportion to
+/// the slots, and the keys are sorted. In the end the set is closed.
 ///
 /// It takes memory for the text, the script, the replies and the output, and for the set. Each line is
 /// one call, of at most the config's budget of steps; the meeting after a phase of w workers is 2(w - 1)
@@ -88,18 +92,20 @@ fn play_script<RT: Threads + Wait, G: Gate + Sync>(
     script: &Script,
     gate: &G,
 ) -> Result<(Vec<Reply>, Totals), RunError>
-    requires { ArePhased config.now.workers script.now.phases script.now.lines.items }
-    ensures run { IfOk result (λ played. IsScriptRun config.now.shape config.now.workers script.now.lines.items played.0.items played.1) }
+    requires phased { ArePhased config.now.workers script.now.phases script.now.lines.items }
+    requires renewed { AreRenewalsFrom 0 script.now.phases script.now.renewals.items }
+    requires few { script.now.phases ≤ MAX_SYNCS + 1 }
+    ensures run { IfOk result (λ played. IsScriptRun config.now.shape config.now.workers script.now.renewals.items script.now.lines.items played.0.items played.1) }
     ensures fault { IfErr result IsWant }
 {
-    let replies = Vec::with_capacity(alloc, script.lines.len())?;
-    let (set, passes) = open(alloc, config)?;
+    let opened = open(alloc, config)?;
     let whole = Part {
         lines: &script.lines,
         first: 0,
         budget: config.budget(),
         gate,
     };
-    let (passes, own) = play_phases(rt, alloc, &set, passes, whole, script.phases)?;
-    finish(alloc, set, script, passes, own, replies)
+    let (replies, report) = play_sets(rt, alloc, opened, whole, script)?;
+    let totals = totals_of(&script.lines, &replies, report.keys, report.epoch);
+    Ok((replies, totals))
 }

@@ -92,8 +92,9 @@ fn workers_run_at_the_same_time(rt: HostRuntime) -> Result<(), Fail> {
     Ok(())
 }
 
-// A script of two phases; of each of its operations the worker, and what it is answered.
-const SCRIPT: &[u8] = b"0 insert 1\n1 insert 2\nsync\n1 has 1\n0 remove 5\n";
+// A script of three phases, on a set and a renewed one; of each of its operations the worker, and what
+// it is answered.
+const SCRIPT: &[u8] = b"0 insert 1\n1 insert 2\nsync\n1 has 1\nrenew\n0 remove 5\n";
 
 const CALLS: [(u32, Reply); 4] = [
     (0, Reply::Yes),

@@ -92,12 +92,28 @@ fn counts_phases_by_sync_lines(rt: HostRuntime) -> Result<(), Fail> {
 }
 
 #[test]
+fn counts_phases_by_renewals_too(rt: HostRuntime) -> Result<(), Fail> {
+    let text = b"0 insert 5\nrenew\n1 has 5\nsync\nrenew\nrenew\n";
+    let script = parsed(rt.alloc(), text, 2)?;
+    assert_eq!(rt; script.lines.len(), 2);
+    assert_eq!(rt; script.lines[1].phase, 1);
+    assert_eq!(rt; script.phases, 5);
+    assert_eq!(rt; script.renewals.as_slice(), [0, 2, 3].as_slice());
+
+    let syncs = parsed(rt.alloc(), b"0 insert 5\nsync\n", 1)?;
+    assert!(rt; syncs.renewals.is_empty());
+    Ok(())
+}
+
+#[test]
 fn tells_the_first_test_that_fails(rt: HostRuntime) {
     let rows = [
         (b"0 insert +5".as_slice(), 4),
         (b"0 insert 5 6".as_slice(), 1),
         (b"sync 0".as_slice(), 1),
         (b"Sync".as_slice(), 1),
+        (b"renew 0".as_slice(), 1),
+        (b"renew renew renew".as_slice(), 2),
         (b"x insert 5".as_slice(), 2),
         (b"9 drop x".as_slice(), 2),
         (b"sync sync sync".as_slice(), 2),
@@ -130,6 +146,12 @@ fn has_a_greatest_number_of_sync_lines(rt: HostRuntime) -> Result<(), Fail> {
     assert_eq!(rt; fault_of(rt.alloc(), &text, 1), Some((10_003, 5)));
     let more = lines_of(rt.alloc(), b"sync\n", 10_001)?;
     assert_eq!(rt; fault_of(rt.alloc(), &more, 1), Some((10_001, 5)));
+
+    let mut mixed = lines_of(rt.alloc(), b"sync\nrenew\n", 5_000)?;
+    let script = parsed(rt.alloc(), &mixed, 1)?;
+    assert_eq!(rt; script.renewals.len(), 5_000);
+    mixed.extend_from_slice(b"renew")?;
+    assert_eq!(rt; fault_of(rt.alloc(), &mixed, 1), Some((10_001, 5)));
     Ok(())
 }
 

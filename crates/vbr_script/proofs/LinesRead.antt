@@ -6,15 +6,15 @@ use Rattle.std.proofs.lemmas.List.Sums.{sum_by-cons}
 use Rattle.vbr_core.specs.declared.history.Op.{Op}
 use Rattle.vbr_script.specs.declared.script.Line.{Line}
 use Rattle.vbr_script.specs.declared.script.Meaning.{Meaning}
-use Rattle.vbr_script.specs.declared.script.Meaning.TheVariants.{Blank, Sync, Asks, Faulty}
+use Rattle.vbr_script.specs.declared.script.Meaning.TheVariants.{Blank, Sync, Renew, Asks, Faulty}
 use Rattle.vbr_script.specs.declared.script.TheConstants.{MAX_OPERATIONS, MAX_SYNCS}
 use Rattle.vbr_script.specs.Text.{lines_of, tokens_of}
 use Rattle.vbr_script.specs.Grammar.{meaning_of}
-use Rattle.vbr_script.specs.Scripts.{limited, all_limited, operations_from, first_fault_from, is_sync, script_of, phases_of, first_fault}
+use Rattle.vbr_script.specs.Scripts.{limited, all_limited, operations_from, renewals_from, first_fault_from, ends_phase, script_of, phases_of, renewals_of, first_fault}
 
--- one more line counts where it is `sync`
-pub one_more : (line : Meaning) (lines : List Meaning) → count_by is_sync (line ∷ lines) ≡ cond (is_sync line) 1 0 + count_by is_sync lines
-one_more line lines = sum_by-cons (λ line. cond (is_sync line) 1 0) line lines
+-- one more line counts where it ends a phase
+pub one_more : (line : Meaning) (lines : List Meaning) → count_by ends_phase (line ∷ lines) ≡ cond (ends_phase line) 1 0 + count_by ends_phase lines
+one_more line lines = sum_by-cons (λ line. cond (ends_phase line) 1 0) line lines
 
 -- what lines of tokens mean
 abbrev pub all_meanings : ℕ → List (List ℕ) → List Meaning
@@ -26,63 +26,89 @@ blank : (operations syncs : ℕ) (line : Meaning) (lines : List Meaning) → lim
 blank operations syncs Blank lines is = refl
 blank operations syncs (Faulty kind) lines is = cc
 blank operations syncs Sync lines is = grind (arith, nat_tests)
+blank operations syncs Renew lines is = grind (arith, nat_tests)
 blank operations syncs (Asks worker op key) lines is = grind (arith, nat_tests)
 
 sync : (operations syncs : ℕ) (line : Meaning) (lines : List Meaning) → limited operations syncs line ≡ Sync → (syncs < MAX_SYNCS) × (all_limited operations syncs (line ∷ lines) ≡ Sync ∷ all_limited operations (syncs + 1) lines)
 sync operations syncs Blank lines is = cc
 sync operations syncs (Faulty kind) lines is = cc
 sync operations syncs Sync lines is = grind (arith, nat_tests)
+sync operations syncs Renew lines is = grind (arith, nat_tests)
 sync operations syncs (Asks worker op key) lines is = grind (arith, nat_tests)
+
+renew : (operations syncs : ℕ) (line : Meaning) (lines : List Meaning) → limited operations syncs line ≡ Renew → (syncs < MAX_SYNCS) × (all_limited operations syncs (line ∷ lines) ≡ Renew ∷ all_limited operations (syncs + 1) lines)
+renew operations syncs Blank lines is = cc
+renew operations syncs (Faulty kind) lines is = cc
+renew operations syncs Sync lines is = grind (arith, nat_tests)
+renew operations syncs Renew lines is = grind (arith, nat_tests)
+renew operations syncs (Asks worker op key) lines is = grind (arith, nat_tests)
 
 asks : (operations syncs : ℕ) (line : Meaning) (lines : List Meaning) (worker : ℕ) (op : Op) (key : ℕ) → limited operations syncs line ≡ Asks worker op key → (operations < MAX_OPERATIONS) × (all_limited operations syncs (line ∷ lines) ≡ Asks worker op key ∷ all_limited (operations + 1) syncs lines)
 asks operations syncs Blank lines worker op key is = cc
 asks operations syncs (Faulty kind) lines worker op key is = cc
 asks operations syncs Sync lines worker op key is = grind (arith, nat_tests)
+asks operations syncs Renew lines worker op key is = grind (arith, nat_tests)
 asks operations syncs (Asks w o k) lines worker op key is = grind (arith, nat_tests)
 
 -- ---- what was read
 
--- of the lines of a text these operations, this phase and this number of a line were read, and these lines are left
-pub record HasRead (workers : ℕ) (text : List ℕ) (lines : List Line) (phase number : ℕ) (left : List Meaning) : Type 0 where
+-- of the lines of a text these operations and renewals, this phase and this number of a line were read, and these lines are left
+pub record HasRead (workers : ℕ) (text : List ℕ) (lines : List Line) (renewals : List ℕ) (phase number : ℕ) (left : List Meaning) : Type 0 where
   pub operations : lines ++ operations_from phase (all_limited (length lines) phase left) ≡ script_of workers text
-  pub phases : phase + count_by is_sync (all_limited (length lines) phase left) + 1 ≡ phases_of workers text
+  pub renewed : renewals ++ renewals_from phase (all_limited (length lines) phase left) ≡ renewals_of workers text
+  pub phases : phase + count_by ends_phase (all_limited (length lines) phase left) + 1 ≡ phases_of workers text
   pub fault : first_fault_from number (all_limited (length lines) phase left) ≡ first_fault workers text
   pub few_operations : length lines ≤ MAX_OPERATIONS
   pub few_syncs : phase ≤ MAX_SYNCS
 
 -- the first of the lines of a text that are left
-pub first_left : (workers : ℕ) (text : List ℕ) (lines : List Line) (phase number : ℕ) (rest line after : List ℕ) → lines_of rest ≡ line ∷ lines_of after → HasRead workers text lines phase number (all_meanings workers (lines_of rest)) → HasRead workers text lines phase number (meaning_of workers (tokens_of line) ∷ all_meanings workers (lines_of after))
-first_left workers text lines phase number rest line after is read = rw is at read
+pub first_left : (workers : ℕ) (text : List ℕ) (lines : List Line) (renewals : List ℕ) (phase number : ℕ) (rest line after : List ℕ) → lines_of rest ≡ line ∷ lines_of after → HasRead workers text lines renewals phase number (all_meanings workers (lines_of rest)) → HasRead workers text lines renewals phase number (meaning_of workers (tokens_of line) ∷ all_meanings workers (lines_of after))
+first_left workers text lines renewals phase number rest line after is read = rw is at read
 
-pub read_blank : (workers : ℕ) (text : List ℕ) (lines : List Line) (phase number : ℕ) (line : Meaning) (left : List Meaning) → HasRead workers text lines phase number (line ∷ left) → limited (length lines) phase line ≡ Blank → HasRead workers text lines phase (number + 1) left
-read_blank workers text lines phase number line left read is =
+pub read_blank : (workers : ℕ) (text : List ℕ) (lines : List Line) (renewals : List ℕ) (phase number : ℕ) (line : Meaning) (left : List Meaning) → HasRead workers text lines renewals phase number (line ∷ left) → limited (length lines) phase line ≡ Blank → HasRead workers text lines renewals phase (number + 1) left
+read_blank workers text lines renewals phase number line left read is =
     let here = blank (length lines) phase line left is in
     record {
       operations = rw here at read.operations;
+      renewed = rw here at read.renewed;
       phases = omega (arith, rw (here, one_more Blank (all_limited (length lines) phase left)) at read.phases);
       fault = rw here at read.fault;
       few_operations = read.few_operations;
       few_syncs = read.few_syncs;
     }
 
-pub read_sync : (workers : ℕ) (text : List ℕ) (lines : List Line) (phase number : ℕ) (line : Meaning) (left : List Meaning) → HasRead workers text lines phase number (line ∷ left) → limited (length lines) phase line ≡ Sync → HasRead workers text lines (phase + 1) (number + 1) left
-read_sync workers text lines phase number line left read is =
+pub read_sync : (workers : ℕ) (text : List ℕ) (lines : List Line) (renewals : List ℕ) (phase number : ℕ) (line : Meaning) (left : List Meaning) → HasRead workers text lines renewals phase number (line ∷ left) → limited (length lines) phase line ≡ Sync → HasRead workers text lines renewals (phase + 1) (number + 1) left
+read_sync workers text lines renewals phase number line left read is =
     let here = sync (length lines) phase line left is in
     record {
       operations = rw here.1 at read.operations;
+      renewed = rw here.1 at read.renewed;
       phases = omega (arith, rw (here.1, one_more Sync (all_limited (length lines) (phase + 1) left)) at read.phases);
       fault = rw here.1 at read.fault;
       few_operations = read.few_operations;
       few_syncs = omega (arith, here.0);
     }
 
-pub read_asks : (workers : ℕ) (text : List ℕ) (lines : List Line) (phase number : ℕ) (line : Meaning) (left : List Meaning) (worker : ℕ) (op : Op) (key : ℕ) → HasRead workers text lines phase number (line ∷ left) → limited (length lines) phase line ≡ Asks worker op key → HasRead workers text (lines ++ record { phase = phase; worker = worker; op = op; key = key } ∷ []) phase (number + 1) left
-read_asks workers text lines phase number line left worker op key read is =
+pub read_renew : (workers : ℕ) (text : List ℕ) (lines : List Line) (renewals : List ℕ) (phase number : ℕ) (line : Meaning) (left : List Meaning) → HasRead workers text lines renewals phase number (line ∷ left) → limited (length lines) phase line ≡ Renew → HasRead workers text lines (renewals ++ phase ∷ []) (phase + 1) (number + 1) left
+read_renew workers text lines renewals phase number line left read is =
+    let here = renew (length lines) phase line left is in
+    record {
+      operations = rw here.1 at read.operations;
+      renewed = rw append_assoc (rw here.1 at read.renewed);
+      phases = omega (arith, rw (here.1, one_more Renew (all_limited (length lines) (phase + 1) left)) at read.phases);
+      fault = rw here.1 at read.fault;
+      few_operations = read.few_operations;
+      few_syncs = omega (arith, here.0);
+    }
+
+pub read_asks : (workers : ℕ) (text : List ℕ) (lines : List Line) (renewals : List ℕ) (phase number : ℕ) (line : Meaning) (left : List Meaning) (worker : ℕ) (op : Op) (key : ℕ) → HasRead workers text lines renewals phase number (line ∷ left) → limited (length lines) phase line ≡ Asks worker op key → HasRead workers text (lines ++ record { phase = phase; worker = worker; op = op; key = key } ∷ []) renewals phase (number + 1) left
+read_asks workers text lines renewals phase number line left worker op key read is =
     let here = asks (length lines) phase line left worker op key is in
     let one : Line = record { phase = phase; worker = worker; op = op; key = key } in
     let longer : length (lines ++ one ∷ []) ≡ length lines + 1 = length-append lines (one ∷ []) in
     record {
       operations = rw (longer, append_assoc) (rw here.1 at read.operations);
+      renewed = rw longer (rw here.1 at read.renewed);
       phases = rw longer (omega (arith, rw (here.1, one_more (Asks worker op key) (all_limited (length lines + 1) phase left)) at read.phases));
       fault = rw longer (rw here.1 at read.fault);
       few_operations = rw longer (omega (arith, here.0));

@@ -9,12 +9,12 @@ use Rattle.vbr_core.specs.declared.history.Op.{Op}
 use Rattle.vbr_script.specs.declared.script.Line.{Line}
 use Rattle.vbr_script.specs.declared.script.ScriptFault.TheVariants.{Words, TooMany}
 use Rattle.vbr_script.specs.declared.script.Meaning.{Meaning}
-use Rattle.vbr_script.specs.declared.script.Meaning.TheVariants.{Blank, Sync, Asks, Faulty}
+use Rattle.vbr_script.specs.declared.script.Meaning.TheVariants.{Blank, Sync, Renew, Asks, Faulty}
 use Rattle.vbr_script.specs.declared.script.TheConstants.{MAX_OPERATIONS, MAX_SYNCS}
 use Rattle.vbr_script.specs.Text.{lines_of, tokens_of}
 use Rattle.vbr_script.specs.Number.{number_below}
 use Rattle.vbr_script.specs.Grammar.{operation_of, meaning_of_tokens, meaning_of, lone_token}
-use Rattle.vbr_script.specs.Scripts.{all_limited, operations_from, is_sync, meanings_of, script_of, phases_of, AscendFrom, ArePhased}
+use Rattle.vbr_script.specs.Scripts.{all_limited, operations_from, ends_phase, meanings_of, script_of, phases_of, renewals_from, renewals_of, AscendFrom, ArePhased, AreRenewalsFrom}
 use Rattle.vbr_script.proofs.LinesRead.{one_more}
 
 -- ---- workers
@@ -36,11 +36,12 @@ request workers (Some n) (Some op) (Some key) below = below n refl
 
 lone : (workers : ℕ) (token : List ℕ) → IsOfWorker workers (lone_token token)
 unfolding lone_token
-lone workers token = at (bytes_eq token (codes "sync"))
+lone workers token = at (bytes_eq token (codes "sync")) (bytes_eq token (codes "renew"))
   where
-    at : (is : Bool) → IsOfWorker workers (if is then Sync else Faulty Words)
-    at true = tt
-    at false = tt
+    at : (sync renew : Bool) → IsOfWorker workers (if sync then Sync else (if renew then Renew else Faulty Words))
+    at true renew = tt
+    at false true = tt
+    at false false = tt
 
 -- so are the tokens of each line
 tokens : (workers : ℕ) (line : List (List ℕ)) → IsOfWorker workers (meaning_of workers line)
@@ -62,6 +63,11 @@ of_workers workers (Faulty kind ∷ lines) operations syncs phase all = All-nil 
 of_workers workers (Sync ∷ lines) operations syncs phase all = at (nat_lt syncs MAX_SYNCS) (of_workers workers lines operations (syncs + 1) (phase + 1) all.1)
   where
     at : (fits : Bool) → All (λ line. line.worker < workers) (operations_from (phase + 1) (all_limited operations (syncs + 1) lines)) → All (λ line. line.worker < workers) (operations_from phase ((if fits then Sync else Faulty TooMany) ∷ all_limited operations (syncs + 1) lines))
+    at true rest = rest
+    at false rest = All-nil (λ line. line.worker < workers)
+of_workers workers (Renew ∷ lines) operations syncs phase all = at (nat_lt syncs MAX_SYNCS) (of_workers workers lines operations (syncs + 1) (phase + 1) all.1)
+  where
+    at : (fits : Bool) → All (λ line. line.worker < workers) (operations_from (phase + 1) (all_limited operations (syncs + 1) lines)) → All (λ line. line.worker < workers) (operations_from phase ((if fits then Renew else Faulty TooMany) ∷ all_limited operations (syncs + 1) lines))
     at true rest = rest
     at false rest = All-nil (λ line. line.worker < workers)
 of_workers workers (Asks worker op key ∷ lines) operations syncs phase all = at (nat_lt operations MAX_OPERATIONS) (of_workers workers lines (operations + 1) syncs phase all.1)
@@ -99,12 +105,32 @@ later_lie phase more less lines one rest = record {
   ascend = ascend_lower phase (phase + 1) lines (omega arith) rest.ascend;
 }
 
-lie_from : (lines : List Meaning) (phase : ℕ) → LieFrom phase (count_by is_sync lines) (operations_from phase lines)
+lie_from : (lines : List Meaning) (phase : ℕ) → LieFrom phase (count_by ends_phase lines) (operations_from phase lines)
 lie_from [] phase = none_lie phase 0
 lie_from (Blank ∷ lines) phase = rw (one_more Blank lines) (as_many phase _ _ _ (omega arith) (lie_from lines phase))
 lie_from (Sync ∷ lines) phase = rw (one_more Sync lines) (later_lie phase _ _ _ (omega arith) (lie_from lines (phase + 1)))
+lie_from (Renew ∷ lines) phase = rw (one_more Renew lines) (later_lie phase _ _ _ (omega arith) (lie_from lines (phase + 1)))
 lie_from (Asks worker op key ∷ lines) phase = rw (one_more (Asks worker op key) lines) (one_lies phase _ (record { phase = phase; worker = worker; op = op; key = key }) (operations_from phase lines) refl (as_many phase _ _ _ (omega arith) (lie_from lines phase)))
-lie_from (Faulty kind ∷ lines) phase = none_lie phase (count_by is_sync (Faulty kind ∷ lines))
+lie_from (Faulty kind ∷ lines) phase = none_lie phase (count_by ends_phase (Faulty kind ∷ lines))
+
+-- ---- renewals
+
+-- renewals from a later phase on are such from an earlier one
+renewals_lower : (low high phases : ℕ) (renewals : List ℕ) → low ≤ high → AreRenewalsFrom high phases renewals → AreRenewalsFrom low phases renewals
+renewals_lower low high phases [] lower rest = tt
+renewals_lower low high phases (renewal ∷ renewals) lower rest = (omega (arith, rest.0), rest.1, rest.2)
+
+-- the lines from a phase on renew the set behind phases that aren't the last
+renew_from : (lines : List Meaning) (phase phases : ℕ) → phase + count_by ends_phase lines < phases → AreRenewalsFrom phase phases (renewals_from phase lines)
+renew_from [] phase phases inside = tt
+renew_from (Blank ∷ lines) phase phases inside = renew_from lines phase phases (omega (arith, one_more Blank lines))
+renew_from (Sync ∷ lines) phase phases inside = renewals_lower phase (phase + 1) phases (renewals_from (phase + 1) lines) (omega arith) (renew_from lines (phase + 1) phases (omega (arith, one_more Sync lines)))
+renew_from (Renew ∷ lines) phase phases inside = (omega arith, omega (arith, one_more Renew lines), renew_from lines (phase + 1) phases (omega (arith, one_more Renew lines)))
+renew_from (Asks worker op key ∷ lines) phase phases inside = renew_from lines phase phases (omega (arith, one_more (Asks worker op key) lines))
+renew_from (Faulty kind ∷ lines) phase phases inside = tt
+
+pub renewed : (workers : ℕ) (text : List ℕ) → AreRenewalsFrom 0 (phases_of workers text) (renewals_of workers text)
+renewed workers text = renew_from (meanings_of workers text) 0 (phases_of workers text) (omega arith)
 
 -- ---- both
 
@@ -113,6 +139,6 @@ phased workers text =
     let lie = lie_from (meanings_of workers text) 0 in
     record {
       workers_below = of_workers workers (map (λ line. meaning_of workers (tokens_of line)) (lines_of text)) 0 0 0 (all_tokens workers (lines_of text));
-      phases_below = All-weaker (λ line. line.phase ≤ 0 + count_by is_sync (meanings_of workers text)) (λ line. line.phase < phases_of workers text) (λ line high. omega arith) (script_of workers text) lie.below;
+      phases_below = All-weaker (λ line. line.phase ≤ 0 + count_by ends_phase (meanings_of workers text)) (λ line. line.phase < phases_of workers text) (λ line high. omega arith) (script_of workers text) lie.below;
       ascend = lie.ascend;
     }

@@ -6,7 +6,7 @@ use Rattle.vbr_core.specs.declared.history.Op.TheVariants.{Insert, Remove, Has}
 use Rattle.vbr_script.specs.declared.script.ScriptFault.{ScriptFault}
 use Rattle.vbr_script.specs.declared.script.ScriptFault.TheVariants as fault
 use Rattle.vbr_script.specs.declared.script.Meaning.{Meaning}
-use Rattle.vbr_script.specs.declared.script.Meaning.TheVariants.{Blank, Sync, Asks, Faulty}
+use Rattle.vbr_script.specs.declared.script.Meaning.TheVariants.{Blank, Sync, Renew, Asks, Faulty}
 use Rattle.vbr_script.specs.Number.{number_below}
 
 -- the operation that a token names
@@ -26,7 +26,10 @@ meaning_of_tokens (Some worker) (Some operation) (Some key) = Asks worker operat
 
 -- what a token alone on its line means
 unfoldable pub lone_token : List ℕ → Meaning
-lone_token token = if bytes_eq token (codes "sync") then Sync else Faulty fault.Words
+lone_token token =
+    if bytes_eq token (codes "sync") then Sync
+    else (if bytes_eq token (codes "renew") then Renew
+    else Faulty fault.Words)
 
 -- what the tokens of a line mean to a script for so many workers
 abbrev pub meaning_of : ℕ → List (List ℕ) → Meaning

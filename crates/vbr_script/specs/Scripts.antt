@@ -4,25 +4,27 @@ use Rattle.vbr_script.specs.declared.script.Line.{Line}
 use Rattle.vbr_script.specs.declared.script.ScriptFault.{ScriptFault}
 use Rattle.vbr_script.specs.declared.script.ScriptFault.TheVariants.{TooMany}
 use Rattle.vbr_script.specs.declared.script.Meaning.{Meaning}
-use Rattle.vbr_script.specs.declared.script.Meaning.TheVariants.{Blank, Sync, Asks, Faulty}
+use Rattle.vbr_script.specs.declared.script.Meaning.TheVariants.{Blank, Sync, Renew, Asks, Faulty}
 use Rattle.vbr_script.specs.declared.script.TheConstants.{MAX_OPERATIONS, MAX_SYNCS}
 use Rattle.vbr_script.specs.Text.{lines_of, tokens_of}
 use Rattle.vbr_script.specs.Grammar.{meaning_of}
 
--- what a line means behind so many operations and `sync` lines: one more operation or `sync` line than a script may have is faulty
+-- what a line means behind so many operations and lines that end a phase: one more of either than a script may have is faulty
 abbrev pub limited : ℕ → ℕ → Meaning → Meaning
 limited operations syncs (Asks worker op key) = if nat_lt operations MAX_OPERATIONS then Asks worker op key else Faulty TooMany
 limited operations syncs Sync = if nat_lt syncs MAX_SYNCS then Sync else Faulty TooMany
+limited operations syncs Renew = if nat_lt syncs MAX_SYNCS then Renew else Faulty TooMany
 limited operations syncs line = line
 
--- what lines mean behind so many operations and `sync` lines
+-- what lines mean behind so many operations and lines that end a phase
 abbrev pub all_limited : ℕ → ℕ → List Meaning → List Meaning
 all_limited operations syncs [] = []
 all_limited operations syncs (Asks worker op key ∷ lines) = limited operations syncs (Asks worker op key) ∷ all_limited (operations + 1) syncs lines
 all_limited operations syncs (Sync ∷ lines) = limited operations syncs Sync ∷ all_limited operations (syncs + 1) lines
+all_limited operations syncs (Renew ∷ lines) = limited operations syncs Renew ∷ all_limited operations (syncs + 1) lines
 all_limited operations syncs (line ∷ lines) = line ∷ all_limited operations syncs lines
 
--- what each line of a text means behind so many operations and `sync` lines, in order
+-- what each line of a text means behind so many operations and lines that end a phase, in order
 abbrev pub meanings_behind : ℕ → ℕ → ℕ → List ℕ → List Meaning
 meanings_behind operations syncs workers text = all_limited operations syncs (map (λ line. meaning_of workers (tokens_of line)) (lines_of text))
 
@@ -30,13 +32,23 @@ meanings_behind operations syncs workers text = all_limited operations syncs (ma
 abbrev pub meanings_of : ℕ → List ℕ → List Meaning
 meanings_of workers text = meanings_behind 0 0 workers text
 
--- the operations that lines ask for, in order, up to the first faulty line; the phase of each is the number of `sync` lines before it, counted on from a number
+-- the operations that lines ask for, in order, up to the first faulty line; the phase of each is the number of lines before it that end a phase, counted on from a number
 abbrev pub operations_from : ℕ → List Meaning → List Line
 operations_from phase [] = []
 operations_from phase (Blank ∷ lines) = operations_from phase lines
 operations_from phase (Sync ∷ lines) = operations_from (phase + 1) lines
+operations_from phase (Renew ∷ lines) = operations_from (phase + 1) lines
 operations_from phase (Asks worker op key ∷ lines) = record { phase = phase; worker = worker; op = op; key = key } ∷ operations_from phase lines
 operations_from phase (Faulty fault ∷ lines) = []
+
+-- the phases that end with `renew`, in order, up to the first faulty line; phases are counted on from a number
+abbrev pub renewals_from : ℕ → List Meaning → List ℕ
+renewals_from phase [] = []
+renewals_from phase (Blank ∷ lines) = renewals_from phase lines
+renewals_from phase (Sync ∷ lines) = renewals_from (phase + 1) lines
+renewals_from phase (Renew ∷ lines) = phase ∷ renewals_from (phase + 1) lines
+renewals_from phase (Asks worker op key ∷ lines) = renewals_from phase lines
+renewals_from phase (Faulty fault ∷ lines) = []
 
 -- the first faulty line, where lines are counted on from a number, and its fault
 abbrev pub first_fault_from : ℕ → List Meaning → Option (ℕ × ScriptFault)
@@ -44,18 +56,23 @@ first_fault_from number [] = None
 first_fault_from number (Faulty fault ∷ lines) = Some (number, fault)
 first_fault_from number (_ ∷ lines) = first_fault_from (number + 1) lines
 
--- whether a line is `sync`
-abbrev pub is_sync : Meaning → Bool
-is_sync Sync = true
-is_sync _ = false
+-- whether a line ends a phase
+abbrev pub ends_phase : Meaning → Bool
+ends_phase Sync = true
+ends_phase Renew = true
+ends_phase _ = false
 
 -- the operations of a text
 abbrev pub script_of : ℕ → List ℕ → List Line
 script_of workers text = operations_from 0 (meanings_of workers text)
 
--- how many phases a text has: one more than it has `sync` lines
+-- the phases of a text that end with `renew`
+abbrev pub renewals_of : ℕ → List ℕ → List ℕ
+renewals_of workers text = renewals_from 0 (meanings_of workers text)
+
+-- how many phases a text has: one more than it has lines that end a phase
 abbrev pub phases_of : ℕ → List ℕ → ℕ
-phases_of workers text = count_by is_sync (meanings_of workers text) + 1
+phases_of workers text = count_by ends_phase (meanings_of workers text) + 1
 
 -- the first fault of a text: the number of its line, from 1, and what is wrong with it
 abbrev pub first_fault : ℕ → List ℕ → Option (ℕ × ScriptFault)
@@ -71,3 +88,8 @@ pub record ArePhased (workers phases : ℕ) (lines : List Line) : Type 0 where
   pub workers_below : All (λ line. line.worker < workers) lines
   pub phases_below : All (λ line. line.phase < phases) lines
   pub ascend : AscendFrom 0 lines
+
+-- these phases, each behind the one before and not the last of so many, from a phase on
+abbrev pub AreRenewalsFrom : ℕ → ℕ → List ℕ → Type 0
+AreRenewalsFrom phase phases [] = Unit {0}
+AreRenewalsFrom phase phases (renewal ∷ renewals) = (phase ≤ renewal) × (renewal + 1 < phases) × AreRenewalsFrom (renewal + 1) phases renewals

@@ -3,7 +3,7 @@ ghost use Rattle.std.specs.Prelude.{◌≡◌, ◌≤◌, ◌<◌, ◌+◌, ◌^
 ghost use Rattle.vbr_script.specs.Text.{tokens_of};
 ghost use Rattle.vbr_script.specs.Number.{number_below};
 ghost use Rattle.vbr_script.specs.Grammar.{meaning_of, lone_token};
-ghost use Rattle.vbr_script.specs.Scripts.{script_of, phases_of, first_fault, limited, ArePhased};
+ghost use Rattle.vbr_script.specs.Scripts.{script_of, phases_of, renewals_of, first_fault, limited, ArePhased, AreRenewalsFrom};
 ghost use Rattle.vbr_script.specs.declared.script.ScriptFault.{ScriptFault};
 ghost use Rattle.vbr_script.specs.declared.script.TheConstants.{MAX_OPERATIONS, MAX_SYNCS};
 
@@ -20,7 +20,7 @@ use std::alloc::Global;
 /// Nothing is kept then.
 ///
 /// - Fault: the text's first faulty line, counted from 1, and what is wrong with it.
-/// - Memory: there was none for one more operation; no line before it is faulty.
+/// - Memory: there was none for one more operation or renewal; no line before it is faulty.
 ///
 /// # Example
 ///
@@ -30,14 +30,17 @@ use std::alloc::Global;
 pub fn parse_script(alloc: Global, text: &[u8], workers: u32) -> Result<Script, ScriptError>
     ensures lines { IfOk result (λ script. script.lines.items ≡ script_of workers text.now) }
     ensures phases { IfOk result (λ script. script.phases ≡ phases_of workers text.now) }
+    ensures renewals { IfOk result (λ script. script.renewals.items ≡ renewals_of workers text.now) }
     ensures phased { IfOk result (λ script. ArePhased workers script.phases script.lines.items) }
+    ensures renewed { IfOk result (λ script. AreRenewalsFrom 0 script.phases script.renewals.items) }
     ensures limits { IfOk result (λ script. (length script.lines.items ≤ MAX_OPERATIONS) × (script.phases ≤ MAX_SYNCS + 1)) }
     ensures faultless { OnOk result (first_fault workers text.now ≡ None) }
     ensures fault { (line : ℕ) (kind : ScriptFault) → IsErrOf result (ScriptError.Fault line kind) →
         first_fault workers text.now ≡ Some (line, kind) }
-    ensures memory_only_for_an_operation { IsErrOf result ScriptError.Memory → 0 < length (script_of workers text.now) }
+    ensures memory_only_for_a_line { IsErrOf result ScriptError.Memory → 0 < length (script_of workers text.now) + length (renewals_of workers text.now) }
 {
     let mut lines = Vec::new(alloc);
+    let mut renewals = Vec::new(alloc);
     let mut phase: u32 = 0;
     let mut number: u64 = 1;
     let mut rest = text;
@@ -46,6 +49,10 @@ pub fn parse_script(alloc: Global, text: &[u8], workers: u32) -> Result<Script, 
         match limited(meaning(line, workers), lines.len(), phase) {
             Meaning::Blank => {}
             Meaning::Sync => phase += 1,
+            Meaning::Renew => {
+                renewals.push(phase).map_err(|_| ScriptError::Memory)?;
+                phase += 1;
+            }
             Meaning::Asks(worker, op, key) => {
                 let line = Line {
                     phase,
@@ -61,14 +68,19 @@ pub fn parse_script(alloc: Global, text: &[u8], workers: u32) -> Result<Script, 
             Some(text) => rest = text,
             None => {
                 let phases = phase + 1;
-                return Ok(Script { lines, phases });
+                return Ok(Script {
+                    lines,
+                    phases,
+                    renewals,
+                });
             }
         }
         number += 1;
     }
 }
 
-// What a line means behind so many operations and `sync` lines: one past the limits is faulty.
+// What a line means behind so many operations and lines that end a phase: one past the limits is
+// faulty.
 fn limited(meaning: Meaning, operations: usize, syncs: u32) -> Meaning
     ensures { result ≡ limited operations syncs meaning }
 {
@@ -76,7 +88,9 @@ fn limited(meaning: Meaning, operations: usize, syncs: u32) -> Meaning
         Meaning::Asks(..) if operations >= MAX_OPERATIONS => {
             Meaning::Faulty(ScriptFault::TooMany)
         }
-        Meaning::Sync if syncs >= MAX_SYNCS => Meaning::Faulty(ScriptFault::TooMany),
+        Meaning::Sync | Meaning::Renew if syncs >= MAX_SYNCS => {
+            Meaning::Faulty(ScriptFault::TooMany)
+        }
         meaning => meaning,
     }
 }
@@ -116,6 +130,8 @@ fn lone_token(token: &[u8]) -> Meaning
 {
     if token == b"sync".as_slice() {
         Meaning::Sync
+    } else if token == b"renew".as_slice() {
+        Meaning::Renew
     } else {
         Meaning::Faulty(ScriptFault::Words)
     }

@@ -5,7 +5,7 @@ use vbr_core::Op;
 /// One operation of a script.
 #[derive(Clone, Copy, Debug, PartialEq, Eq)]
 pub struct Line {
-    /// The phase that it is played in, from 0: the number of `sync` lines before it.
+    /// The phase that it is played in, from 0: the number of `sync` and `renew` lines before it.
     pub phase: u32,
     /// The worker that plays it, from 0.
     pub worker: u32,
@@ -18,24 +18,27 @@ pub struct Line {
 /// The greatest number of operations in a script.
 pub const MAX_OPERATIONS: usize = 1_000_000;
 
-/// The greatest number of `sync` lines in a script.
+/// The greatest number of `sync` and `renew` lines in a script.
 pub const MAX_SYNCS: u32 = 10_000;
 
-/// A script: its operations in order, and how many phases they are played in. A `sync` line ends a
-/// phase: each operation before it is played before any behind it.
+/// A script: its operations in order, how many phases they are played in, and behind which of them
+/// the set is renewed. A `sync` or `renew` line ends a phase: each operation before it is played
+/// before any behind it.
 #[derive(Debug, Drop)]
 pub struct Script {
     /// The operations, in the order of the text.
     pub lines: Vec<Line>,
-    /// The number of phases: one more than there are `sync` lines.
+    /// The number of phases: one more than there are `sync` and `renew` lines.
     pub phases: u32,
+    /// The phases that end with a `renew` line, from 0 and ascending.
+    pub renewals: Vec<u32>,
 }
 
 /// What is wrong with a line. The tests are made in this order.
 #[derive(Clone, Copy, Debug, PartialEq, Eq, Error)]
 pub enum ScriptFault {
-    /// The line has neither three tokens nor the one token `sync`.
-    #[error("a line is a worker, an operation and a key, or `sync` alone")]
+    /// The line has neither three tokens nor the one token `sync` or `renew`.
+    #[error("a line is a worker, an operation and a key, or `sync` or `renew` alone")]
     Words,
     /// The first token is no number, or not one below the number of workers.
     #[error("no such worker")]
@@ -46,9 +49,9 @@ pub enum ScriptFault {
     /// The third token is no number, or one above the greatest key.
     #[error("a key is a number from 0 to 18446744073709551615")]
     Key,
-    /// With this line there are more operations than `MAX_OPERATIONS`, or more `sync` lines than
-    /// `MAX_SYNCS`.
-    #[error("a script has at most {MAX_OPERATIONS} operations and {MAX_SYNCS} `sync` lines")]
+    /// With this line there are more operations than `MAX_OPERATIONS`, or more `sync` and `renew`
+    /// lines than `MAX_SYNCS`.
+    #[error("a script has at most {MAX_OPERATIONS} operations and {MAX_SYNCS} `sync` and `renew` lines")]
     TooMany,
 }
 
@@ -77,6 +80,8 @@ pub enum Meaning {
     Blank,
     /// The line ends a phase.
     Sync,
+    /// The line ends a phase, and the set is renewed.
+    Renew,
     /// The worker, the operation and the key that the line asks for.
     Asks(u32, Op, u64),
     /// What is wrong with the line.

@@ -1,6 +1,5 @@
 -- The report of the words that a table ended with is that of the run that they are the words of.
-use Rattle.std.proofs.Common.{◌≡◌, ℕ, List, [], ◌∷◌, ◌++◌, take, length, sym, ap, ◌∙◌}
-use Rattle.std.proofs.Math.Seq.{take-append_seam}
+use Rattle.std.proofs.Common.{ℕ, List, [], ◌∷◌, sym, ap, ◌∙◌}
 use Rattle.vbr_words.specs.Dimensions.{Dimensions, IsShape}
 use Rattle.vbr_core.specs.Calls.{own_calls}
 use Rattle.vbr_core.specs.declared.event.Event.{Event}
@@ -10,10 +9,6 @@ use Rattle.vbr_set.specs.Closing.{Closes, EachMade, Reports}
 use Rattle.vbr_set.specs.Walking.{AreAfter}
 use Rattle.vbr_set.specs.declared.report.Report.{Report}
 use Rattle.vbr_set.proofs.Histories.{calls_made}
-
--- a list that was written back in front of nothing else
-pub whole : {A : Type 0} (n : ℕ) (xs rest : List A) → n ≡ length xs → take n (xs ++ rest) ≡ xs
-whole n xs rest is = ap (λ (m : ℕ). take m (xs ++ rest)) is ∙ take-append_seam xs rest
 
 -- of each pass the calls of the run are those that it has made
 each_made : (t : TableView) (run : List Event) (passes : List PassView) → AllOf t passes → EachSeen run passes → EachMade t.shape run passes

@@ -2,6 +2,8 @@ pub mod Histories
 pub mod Answers
 pub mod Meetings
 pub mod Closing
+pub mod Renewing
+pub mod Messages
 pub mod Walking
 pub mod Mailboxes
 pub mod Members

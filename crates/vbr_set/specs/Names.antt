@@ -1,6 +1,6 @@
 -- What the contracts of the set name of the crates below it, for crates that list `vbr_set` alone.
 pub use Rattle.vbr_words.specs.Dimensions.{Dimensions, IsShape}
-pub use Rattle.vbr_core.specs.Keys.{Keys, AreKeysOf, no_keys}
+pub use Rattle.vbr_core.specs.Keys.{Keys, AreKeysOf}
 pub use Rattle.vbr_core.specs.Opened.{opening_keys}
 pub use Rattle.vbr_core.specs.History.{IsLegal, calls_by, keys_after, reply_of, set_after}
 pub use Rattle.vbr_core.specs.Runs.{Begins, BeginsFor, IsRun, world_after}

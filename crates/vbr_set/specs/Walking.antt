@@ -7,6 +7,10 @@ use Rattle.vbr_core.specs.declared.event.Event.{Event}
 use Rattle.vbr_slots.specs.Words.{AreWordsOf}
 use Rattle.vbr_core.specs.Nodes.{state_in, is_linked, is_listed, is_in_list, key_in_slot}
 
+-- a shape with keys that a set of it opened with
+abbrev pub keyed : Dimensions → List ℕ → Dimensions
+keyed shape keys = record shape { keys = keys }
+
 -- the words are those of the world after a run of a shape
 pub record AreAfter (shape : Dimensions) (words : List ℕ) (run : List Event) : Type 0 where
   pub passes : ℕ

@@ -7,7 +7,7 @@ ghost use Rattle.vbr_slots.specs.Closing.{AllOf, HandsBack, IsMissing};
 ghost use Rattle.vbr_words.specs.Places.{words_in};
 ghost use Rattle.vbr_set.specs.Closing.{Closes, Reports};
 ghost use Rattle.vbr_core.specs.Nodes.{linked_after, marked_after};
-ghost use Rattle.vbr_set.specs.Walking.{AreAfter, NotesLists, linked_keys, is_noted};
+ghost use Rattle.vbr_set.specs.Walking.{AreAfter, NotesLists, is_noted, keyed, linked_keys};
 
 use crate::report::Report;
 use crate::set::VbrSet;
@@ -17,9 +17,9 @@ use vbr_slots::{CloseError, Pass};
 use vbr_words::{Place, Shape, decode, place_index};
 
 impl VbrSet {
-    /// Ends the set and tells what is in it: the keys that the calls of all passes leave in a set that
-    /// opened empty, in one legal history, which begins with what each pass has seen and has just the
-    /// calls that it has made.
+    /// Ends the set and tells what is in it: the keys that the calls of all passes leave in a set with
+    /// the keys that it opened with, in one legal history, which begins with what each pass has seen and
+    /// has just the calls that it has made.
     ///
     /// It goes once over the buckets and once over the slots, and takes 9 bytes for each slot, and the
     /// words once more while it runs. It has all passes, so no other call runs, and it has no budget.
@@ -78,9 +78,9 @@ fn gather(shape: &Shape, words: &[u64], notes: &[bool], keys: &mut Vec<u64>) -> 
     requires room { (keys.old.items ≡ []) × (shape.now.slots ≤ vec_capacity keys.old) }
     ensures fit { result.0 + result.1 ≤ shape.now.slots }
     ensures each { length keys.new.items ≡ result.0 }
-    ensures gathered { (run : List Event) → AreAfter shape.now words.now run → NotesLists shape.now (incarnations_after shape.now run) notes.now →
-        (keys.new.items ≡ linked_keys (incarnations_after shape.now run) shape.now.slots)
-        × (result.0 ≡ linked_after shape.now run) × (result.1 ≡ marked_after shape.now run) }
+    ensures gathered { (opening : List ℕ) (run : List Event) → AreAfter (keyed shape.now opening) words.now run → NotesLists (keyed shape.now opening) (incarnations_after (keyed shape.now opening) run) notes.now →
+        (keys.new.items ≡ linked_keys (incarnations_after (keyed shape.now opening) run) shape.now.slots)
+        × (result.0 ≡ linked_after (keyed shape.now opening) run) × (result.1 ≡ marked_after (keyed shape.now opening) run) }
 {
     let mut live = 0;
     let mut marked = 0;
@@ -103,10 +103,10 @@ fn gather(shape: &Shape, words: &[u64], notes: &[bool], keys: &mut Vec<u64>) -> 
 
 // What the words of a closed table tell.
 fn report_of(shape: &Shape, words: &[u64], mut notes: Vec<bool>, mut keys: Vec<u64>) -> Report
-    requires run { (run : List Event) × AreAfter shape.now words.now run }
+    requires run { (opening : List ℕ) × (run : List Event) × AreAfter (keyed shape.now opening) words.now run }
     requires notes { (length notes.items ≡ shape.now.slots) × ((s : ℕ) → is_noted notes.items s ≡ false) }
     requires room { (keys.items ≡ []) × (shape.now.slots ≤ vec_capacity keys) }
-    ensures { (run : List Event) → AreAfter shape.now words.now run → Reports shape.now run result }
+    ensures { (opening : List ℕ) (run : List Event) → AreAfter (keyed shape.now opening) words.now run → Reports (keyed shape.now opening) run result }
 {
     note_lists(shape, words, &mut notes);
     let (live, marked) = gather(shape, words, &notes, &mut keys);

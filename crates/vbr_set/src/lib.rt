@@ -8,6 +8,9 @@
 //! steps. A look-up writes nothing that another thread can see. [`Member::close`] gives a member back,
 //! and the last one is told what is in the set.
 //!
+//! A set may open with keys ([`Member::open_with`]), as those of the report: so one whose epoch comes near
+//! its last goes on in a fresh set.
+//!
 //! What a member has seen has one legal history of a set. A call that is answered stands in it, once,
 //! behind the calls that the member had made before; members that meet ([`Member::meet`]) share one
 //! history.
@@ -27,8 +30,9 @@
 //!
 //! Where the set is to be borrowed, [`VbrSet::open`] gives the set and its passes apart.
 //! [`VbrSet::with_pass`] makes a [`VbrSetRef`] of a pass, with the calls of a member, and
-//! [`VbrSet::close`] takes all passes back and tells one report of them. The calls of [`VbrSet`]
-//! itself take a pass, and ask that it is one of the set with no slot in hand.
+//! [`VbrSet::close`] takes all passes back and tells one report of them, and [`VbrSet::renew`] opens a
+//! fresh set with the keys at once. The calls of [`VbrSet`] itself take a pass, and ask that it is one of
+//! the set with no slot in hand.
 #![tactic(auto)]
 
 pub mod calls;
@@ -43,6 +47,8 @@ pub mod member_closing;
 pub mod member_meeting;
 pub mod member_opening;
 pub mod opening;
+pub mod renew_error;
+pub mod renewing;
 pub mod report;
 pub mod set;
 pub mod set_ref;
@@ -53,6 +59,7 @@ mod walking;
 
 pub use end_error::EndError;
 pub use member::Member;
+pub use renew_error::RenewError;
 pub use report::Report;
 pub use set::VbrSet;
 pub use set_ref::VbrSetRef;

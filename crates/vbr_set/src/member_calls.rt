@@ -1,5 +1,5 @@
 //! The calls of a member.
-ghost use Rattle.std.specs.Prelude.{◌≡◌};
+ghost use Rattle.std.specs.Prelude.{◌≡◌, []};
 ghost use Rattle.vbr_core.specs.declared.history.Op.TheVariants.{Insert, Remove, Has};
 ghost use Rattle.vbr_set.specs.MemberView.{IsMember};
 ghost use Rattle.vbr_set.specs.Sharing.{CanComeBack, set_shared};
@@ -80,10 +80,10 @@ impl Member {
         self.share.set().has(&mut self.pass, key, budget)
     }
 
-    /// The shape of its set.
+    /// The shape of its set, without the keys that the set opened with.
     #[inline]
     pub fn shape(&self) -> Shape
-        ensures { result ≡ self.now.set.shape }
+        ensures { result ≡ record self.now.set.shape { keys = [] } }
     {
         self.share.set().shape()
     }

@@ -1,5 +1,6 @@
 //! Opening a set for members.
-ghost use Rattle.std.specs.Prelude.{◌≡◌, ◌<◌, ◌↔◌, ◌⊎◌, All, length, map, IfOk, IsErrOf, None};
+ghost use Rattle.std.specs.Prelude.{◌≡◌, ◌<◌, ◌≤◌, ◌↔◌, ◌⊎◌, All, length, map, IfOk, IsErrOf, None};
+ghost use Rattle.std.specs.List.Sorted.{IsStrictlyIncreasing};
 ghost use Rattle.vbr_slots.specs.Views.{IsOf, new_passes};
 ghost use Rattle.vbr_set.specs.MemberView.{IsMember};
 ghost use Rattle.vbr_set.specs.Members.{AreNew};
@@ -41,7 +42,40 @@ impl Member {
         ensures members { IfOk result (λ members. AreNew shape passes members.items) }
         ensures refused { IsErrOf result OpenError.Passes ↔ ((passes ≡ 0) ⊎ (64 < passes)) }
     {
-        let (set, opened) = VbrSet::open(alloc, shape, passes)?;
+        let _slots = shape.slots();
+        Member::open_with(alloc, shape, passes, &[])
+    }
+
+    /// Opens a set that has these keys and gives its members, as [`Member::open`] does for an empty one.
+    /// The keys come ascending, each once, and there are no more of them than slots. The report of the
+    /// last member's [`Member::close`] has such keys, so with them a set goes on with a fresh epoch.
+    ///
+    /// Time and memory are those of [`VbrSet::open_with`], and about 1,200 bytes for each member.
+    ///
+    /// # Errors
+    ///
+    /// They are tested in this order, and nothing is kept then.
+    ///
+    /// - Passes: the number of passes is 0 or above 64.
+    /// - Memory: there is no room for the words, the keys or the members.
+    ///
+    /// # Example
+    ///
+    /// ```rattle file=crates/vbr_set_rows/src/renewals.rt
+    /// let members = Member::open_with(alloc, shape, 2, &report.keys)?;
+    /// ```
+    pub fn open_with(
+        alloc: Global,
+        shape: Shape,
+        passes: u32,
+        keys: &[u64],
+    ) -> Result<Vec<Member>, OpenError>
+        requires ascending { IsStrictlyIncreasing keys.now }
+        requires few { length keys.now ≤ shape.slots }
+        ensures members { IfOk result (λ members. AreNew (record shape { keys = keys.now }) passes members.items) }
+        ensures refused { IsErrOf result OpenError.Passes ↔ ((passes ≡ 0) ⊎ (64 < passes)) }
+    {
+        let (set, opened) = VbrSet::open_with(alloc, shape, passes, keys)?;
         match hand_out(alloc, set, opened) {
             Ok(members) => Ok(members),
             Err(_) => Err(OpenError::Memory),

@@ -1,5 +1,5 @@
 //! The set.
-ghost use Rattle.std.specs.Prelude.{◌≡◌};
+ghost use Rattle.std.specs.Prelude.{◌≡◌, []};
 
 use std::marker::Model;
 use vbr_slots::Slots;
@@ -25,10 +25,10 @@ impl Model for VbrSet {
 }
 
 impl VbrSet {
-    /// Its shape.
+    /// Its shape, without the keys that it opened with.
     #[inline]
     pub fn shape(&self) -> Shape
-        ensures { result ≡ self.now.shape }
+        ensures { result ≡ record self.now.shape { keys = [] } }
     {
         self.slots.shape()
     }

@@ -1,5 +1,5 @@
 //! The calls of a pass with a reference to its set.
-ghost use Rattle.std.specs.Prelude.{◌≡◌, ℕ, None};
+ghost use Rattle.std.specs.Prelude.{◌≡◌, ℕ, [], None};
 ghost use Rattle.vbr_core.specs.Runs.{BeginsFor};
 ghost use Rattle.vbr_core.specs.declared.event.Step.TheVariants.{ReadEpoch};
 ghost use Rattle.vbr_core.specs.declared.history.Op.TheVariants.{Insert, Remove, Has};
@@ -117,10 +117,10 @@ impl<'s> VbrSetRef<'s> {
         self.set.meet(&mut self.pass, &mut other.pass);
     }
 
-    /// The shape of its set.
+    /// The shape of its set, without the keys that the set opened with.
     #[inline]
     pub fn shape(&self) -> Shape
-        ensures { result ≡ self.now.set.shape }
+        ensures { result ≡ record self.now.set.shape { keys = [] } }
     {
         self.set.shape()
     }

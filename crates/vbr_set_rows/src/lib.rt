@@ -6,6 +6,8 @@ mod members;
 #[cfg(test)]
 mod refusals;
 #[cfg(test)]
+mod renewals;
+#[cfg(test)]
 mod set;
 #[cfg(test)]
 mod seventy_slots;

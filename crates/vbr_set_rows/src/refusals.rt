@@ -2,6 +2,7 @@
 //! was, and give what it should when it is made again. `tests/calls` runs each of them with each
 //! allocation refused in turn.
 mod plain_set;
+mod renewal;
 mod round;
 mod script;
 mod set;

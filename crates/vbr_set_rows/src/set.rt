@@ -34,7 +34,7 @@ pub fn open_two(alloc: Global, shape: Shape) -> Option<(VbrSet, Pass, Pass)>
 }
 
 // Closes a set. What found no memory left all as it was, so it is tried again.
-fn close(set: VbrSet, alloc: Global, passes: Vec<Pass>) -> Result<Report, CloseError<VbrSet>>
+pub fn close(set: VbrSet, alloc: Global, passes: Vec<Pass>) -> Result<Report, CloseError<VbrSet>>
     requires { AllOf set passes.items }
     ensures ok { IfOk result (λ report. Closes set passes.items report) }
     ensures back { IfErr result (λ e. HandsBack e set passes.items) }

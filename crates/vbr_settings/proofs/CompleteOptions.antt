@@ -23,7 +23,7 @@ use Rattle.clap.proofs.WalkLemmas.{both, one_text-rows}
 use Rattle.vbr_settings.specs.Options.{number_option, switch, options, command_line, HasNumber, number_among, IsSwitch, AreComplete}
 use Rattle.vbr_settings.specs.declared.config.TheConstants.{MAX_WORKERS}
 use Rattle.vbr_settings.proofs.OptionValues.{its_number}
-use Rattle.vbr_settings.proofs.OptionsRead.{none_in, StandsAlone, stands_alone, IsOption, TakesValue, text_of, flag_text}
+use Rattle.vbr_settings.proofs.OptionsRead.{none_in, StandsAlone, stands_alone, IsOption, TakesValue, text_of, switch_text}
 
 -- ---- tests of a list of rules
 
@@ -186,7 +186,7 @@ switch_at old m p rules k d name has inside is =
     let f : Found = found_of m in
     let here : rule_of a ≡ switch name = sym (rule_at old rules k d (rule_of d) has inside) ∙ is in
     let option : IsOption old k a value.Bool = option_at old rules k d value.Bool has inside (ap (λ (r : Rule). r.parser) is) in
-    let got = flag_text old m p k a option (plain_of old rules has) has.globals in
+    let got = switch_text old m p k a option (plain_of old rules has) has.globals in
     subst (λ (o : Option Text). IfSome o (λ text. (bytes_eq text (codes "true") || bytes_eq text (codes "false")) ≡ true)) (one_text-rows f name) (subst (λ (id : Text). IfSome (one_text f id) (λ text. (bytes_eq text (codes "true") || bytes_eq text (codes "false")) ≡ true)) (ap (λ (r : Rule). r.id) here) got)
 
 has_options : (old : Command) → app_of old ≡ command_line → HasRules old options

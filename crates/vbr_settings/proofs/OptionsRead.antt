@@ -191,8 +191,8 @@ text_of old m p k a parser option takes plain globals = at (matched_of (found_of
         (first.0, read ∙ first.1, first.2)
 
 -- a switch that has a text has one that its parser accepts
-pub flag_text : (old : Command) (m : ArgMatches) (p : IsParsedFrom old m) (k : ℕ) (a : Arg) → IsOption old k a value.Bool → IsPlain old → (out-Command old).has_globals ≡ false → IfSome (one_text (found_of m) a.id.now) (λ text. Accepts false value.Bool text)
-flag_text old m p k a option plain globals = at (matched_of (found_of m) a.id.now) refl
+pub switch_text : (old : Command) (m : ArgMatches) (p : IsParsedFrom old m) (k : ℕ) (a : Arg) → IsOption old k a value.Bool → IsPlain old → (out-Command old).has_globals ≡ false → IfSome (one_text (found_of m) a.id.now) (λ text. Accepts false value.Bool text)
+switch_text old m p k a option plain globals = at (matched_of (found_of m) a.id.now) refl
   where
     first : (how : Reading) (values : List (Bor (List ℕ))) → how ≡ reading.AsWritten → All (λ v. Accepts false value.Bool v.now) values → IfSome (option_map (λ s. read_as how s.now) (slice_get values 0)) (λ text. Accepts false value.Bool text)
     first how [] written accepts = tt

@@ -28,7 +28,10 @@ tabs; lines without words are skipped.
 
 Each worker plays its lines in order, on a thread of its own. A line that is
 sync alone ends a phase: the workers go on once all have played their lines of
-it, and each has then seen what the others did.
+it, and each has then seen what the others did. A line that is renew alone ends a
+phase too, and then the set is renewed: it is closed, and one is opened with its
+keys, at epoch 1. That takes time in proportion to the slots, of which the keys
+are a part.
 
 The output has a line for each operation, in script order: yes or no. An insert
 is answered yes where the key was absent, a remove and a has where it was
@@ -49,11 +52,11 @@ write fault, which leaves a beginning of the output.
        3  --last-epoch isn't from 1 to 549755813887
   3  vbr_run: script fault N at line M
        the first faulty line, from 1, lines without words counted, and its first fault:
-       1  it has neither three words nor the one word sync
+       1  it has neither three words nor the one word sync or renew
        2  WORKER is no number below the number of workers
        3  OPERATION is none of the three
        4  KEY is no number from 0 to 18446744073709551615
-       5  it is one operation above 1000000, or one sync line above 10000
+       5  it is one operation above 1000000, or one line above 10000 that ends a phase
   4  vbr_run: read fault
        standard input failed, is closed, is a directory, or has above 67108864 bytes
      vbr_run: write fault

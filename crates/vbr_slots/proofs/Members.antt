@@ -38,16 +38,16 @@ times-set who (v ∷ vs) (suc i) a b at = let more = times-set who vs i a b at i
 pub times-first : (m : Witness) (ms : List Witness) → times m.who (m ∷ ms) ≡ 1 + times m.who ms
 times-first m ms = ap (λ (t : Bool). one_if t + times m.who ms) (eq-eqb m.who m.who refl)
 
-times-below : (who k n : ℕ) → who < k → times who (witnesses k n) ≡ 0
-times-below who k zero low = refl
-times-below who k (suc n) low =
+times-below : (keys : List ℕ) (who k n : ℕ) → who < k → times who (witnesses keys k n) ≡ 0
+times-below keys who k zero low = refl
+times-below keys who k (suc n) low =
     let here : one_if (k == who) ≡ 0 = ap one_if (ne_eqb k who (λ is. omega arith)) in
-    let more = times-below who (suc k) n (omega arith) in
+    let more = times-below keys who (suc k) n (omega arith) in
     omega arith
 
 -- no number stands twice at the opening
-pub times-members : (who k n : ℕ) → times who (witnesses k n) ≤ 1
-times-members who k zero = omega arith
-times-members who k (suc n) = dite (ℕ_discrete k who)
-    (λ is. let here : one_if (k == who) ≡ 1 = ap one_if (eq-eqb k who is) in let rest = times-below who (suc k) n (omega arith) in omega arith)
-    (λ not. let here : one_if (k == who) ≡ 0 = ap one_if (ne_eqb k who not) in let rest = times-members who (suc k) n in omega arith)
+pub times-members : (keys : List ℕ) (who k n : ℕ) → times who (witnesses keys k n) ≤ 1
+times-members keys who k zero = omega arith
+times-members keys who k (suc n) = dite (ℕ_discrete k who)
+    (λ is. let here : one_if (k == who) ≡ 1 = ap one_if (eq-eqb k who is) in let rest = times-below keys who (suc k) n (omega arith) in omega arith)
+    (λ not. let here : one_if (k == who) ≡ 0 = ap one_if (ne_eqb k who not) in let rest = times-members keys who (suc k) n in omega arith)

@@ -1,23 +1,31 @@
--- The words at the opening, laid one place at a time.
-use Rattle.std.proofs.Common.{◌≡◌, ◌≢◌, ℕ, zero, suc, ◌+◌, ◌<◌, nat_lt, Bool, true, false, List, [], None, length, set, get_or, replicate, if◌then◌else◌, refl, sym, subst, ap, ◌∙◌, length-set, get_or-set_other, get_or-set_same, arith}
-use Rattle.std.specs.Prelude.{◌&&◌}
+-- The words at the opening, laid one place at a time: those of the bare world, and then a key after the other.
+use Rattle.std.proofs.Common.{◌≡◌, ◌≢◌, ℕ, zero, suc, ◌+◌, ◌-◌, ◌<◌, nat_lt, ◌≤◌, Bool, true, false, List, Option, Some, None, ◌++◌, length, take, set, get_or, replicate, if◌then◌else◌, refl, sym, subst, ap, ◌∙◌, length-set, get_or-set_other, get_or-set_same, arith}
+use Rattle.std.specs.Prelude.{◌&&◌, bit_and}
+use Rattle.std.proofs.Math.Seq.{take-append_seam}
 use Rattle.std.proofs.lemmas.Bool.Decides.{nat_tests}
 use Rattle.std.proofs.lemmas.List.{length-replicate}
 use mathlib.Core.Logic.{dite}
 use native.Mathlib.Decide.{ℕ_discrete}
 use Rattle.vbr_words.specs.Dimensions.{Dimensions}
-use Rattle.vbr_words.specs.Words.{word_of}
-use Rattle.vbr_words.specs.Flags.{flag_words, flag_word}
+use Rattle.vbr_words.specs.Words.{IsLink, word_of}
+use Rattle.vbr_words.specs.Flags.{word_of_flag, all_but, flag_words, flag_word}
 use Rattle.vbr_words.specs.Places.{IsIn, index_of, words_in}
-use Rattle.vbr_words.specs.declared.link.TheConstants.{MARK}
+use Rattle.vbr_words.specs.declared.link.TheConstants.{MARK, MAX_SLOTS, MAX_VERSION}
+use Rattle.vbr_words.specs.declared.link.Link.{Link}
+use Rattle.vbr_words.specs.declared.place.At.TheVariants as at
 use Rattle.vbr_words.specs.declared.place.Place.{Place}
 use Rattle.vbr_words.specs.declared.place.Place.TheVariants.{Epoch, ShapeWord, Head, LinkOf, Birth, Stamp, Key, Flags}
 use Rattle.vbr_words.proofs.Lemmas.{flag_word_same, index_of-lt, same_place}
+use Rattle.vbr_core.specs.Put.{put}
+use Rattle.vbr_core.specs.Acceptance.{bucket_of}
 use Rattle.vbr_core.specs.Links.{opening_link, link_to}
-use Rattle.vbr_core.specs.Machine.{World}
+use Rattle.vbr_core.specs.Opened.{key_count, is_key_of, first_from, link_to_key}
+use Rattle.vbr_core.specs.Machine.{World, with_link_at, counted}
 use Rattle.vbr_core.specs.Machine as machine
-use Rattle.vbr_core.proofs.Lemmas.{bare, opening_bare}
-use Rattle.vbr_slots.specs.Words.{AreWordsOf}
+use Rattle.vbr_core.specs.Making.{opening_from, with_key_ahead}
+use Rattle.vbr_core.specs.declared.knowledge.SlotPlace.TheVariants.{Listed}
+use Rattle.vbr_core.proofs.Lemmas.{FirstOrNone, bare, first_or_none, flag_in, opening_none, put_here, put_other, same_word, taken_word}
+use Rattle.vbr_slots.specs.Words.{AreWordsOf, HeadsFit}
 
 -- the words once the epoch, the shape, so many links and so many flag words are laid
 abbrev pub laid : Dimensions → ℕ → ℕ → Place → ℕ
@@ -70,6 +78,10 @@ laid_first shape words is =
     each ws first second other (Stamp s) here = other _ (omega arith)
     each ws first second other (Key s) here = other _ (omega arith)
     each ws first second other (Flags number) here = other _ (omega arith) ∙ sym (not_below number (flag_word (λ s. nat_lt s shape.slots) number) 0)
+
+-- a list that was written back in front of nothing else
+pub whole : {A : Type 0} (n : ℕ) (xs rest : List A) → n ≡ length xs → take n (xs ++ rest) ≡ xs
+whole n xs rest is = ap (λ (m : ℕ). take m (xs ++ rest)) is ∙ take-append_seam xs rest
 
 -- one more word, at a place
 laid_at : (shape : Dimensions) (before after : Place → ℕ) (words : List ℕ) (place : Place) (value : ℕ) → IsIn shape place → after place ≡ value → ((q : Place) → q ≢ place → after q ≡ before q) → AreLaid shape before words → AreLaid shape after (set words (index_of shape place) value)
@@ -125,9 +137,9 @@ and_true : (b : Bool) → b ≡ (b && true)
 and_true true = refl
 and_true false = refl
 
--- all links and all flag words
-pub laid_all : (shape : Dimensions) (words : List ℕ) → shape.keys ≡ [] → AreLaid shape (laid shape shape.slots (flag_words shape.slots)) words → AreWordsOf shape (machine.opening shape) words
-laid_all shape words none are = subst (λ (w : World). AreWordsOf shape w words) (sym (opening_bare shape none)) (record { count = are.count; each = each })
+-- all links and all flag words: no key is linked yet
+pub laid_all : (shape : Dimensions) (words : List ℕ) → AreLaid shape (laid shape shape.slots (flag_words shape.slots)) words → (keys : List ℕ) → AreWordsOf (record shape { keys = keys }) (opening_from (record shape { keys = keys }) (length keys)) words
+laid_all shape words are keys = subst (λ (w : World). AreWordsOf (record shape { keys = keys }) w words) (sym (opening_none (record shape { keys = keys }))) (record { count = are.count; each = each })
   where
     each : (place : Place) → IsIn shape place → get_or words (index_of shape place) 0 ≡ machine.word_at shape bare place
     each Epoch here = are.each Epoch here
@@ -141,3 +153,122 @@ laid_all shape words none are = subst (λ (w : World). AreWordsOf shape w words)
         are.each (Flags number) here
         ∙ below number (flag_words shape.slots) (flag_word (λ s. nat_lt s shape.slots) number) 0 here
         ∙ flag_word_same (λ s. nat_lt s shape.slots) (machine.is_flagged shape bare) number (λ s _. and_true (nat_lt s shape.slots))
+
+-- ---- one more key
+
+-- one more word of a world
+written_at : (shape : Dimensions) (w v : World) (words : List ℕ) (place : Place) (i value : ℕ) → i ≡ index_of shape place → IsIn shape place → machine.word_at shape v place ≡ value → ((q : Place) → q ≢ place → machine.word_at shape v q ≡ machine.word_at shape w q)
+    → AreWordsOf shape w words → AreWordsOf shape v (set words i value)
+written_at shape w v words place i value at here is others are =
+    let laid_on = laid_at shape (machine.word_at shape w) (machine.word_at shape v) words place value here is others (record { count = are.count; each = are.each }) in
+    subst (λ (j : ℕ). AreWordsOf shape v (set words j value)) (sym at) (record { count = laid_on.count; each = laid_on.each })
+
+module _ (shape : Dimensions) (w : World) (words : List ℕ) (are : AreWordsOf shape w words) where
+  link_laid : (s i value : ℕ) (link : Link) → i ≡ index_of shape (LinkOf s) → s < shape.slots → value ≡ word_of link → AreWordsOf shape (with_link_at w (at.Slot s) link) (set words i value)
+  link_laid s i value link place low is = written_at shape w (with_link_at w (at.Slot s) link) words (LinkOf s) i value place low (ap word_of (put_here w.link s link) ∙ sym is) others are
+    where
+      others : (q : Place) → q ≢ LinkOf s → machine.word_at shape (with_link_at w (at.Slot s) link) q ≡ machine.word_at shape w q
+      others Epoch ne = refl
+      others ShapeWord ne = refl
+      others (Head b) ne = refl
+      others (LinkOf t) ne = ap word_of (put_other w.link s link t (λ e. ne (ap LinkOf e)))
+      others (Birth t) ne = refl
+      others (Stamp t) ne = refl
+      others (Key t) ne = refl
+      others (Flags number) ne = refl
+
+  head_laid : (b i value : ℕ) (link : Link) → i ≡ index_of shape (Head b) → b < shape.buckets → value ≡ word_of link → AreWordsOf shape (with_link_at w (at.Head b) link) (set words i value)
+  head_laid b i value link place low is = written_at shape w (with_link_at w (at.Head b) link) words (Head b) i value place low (ap word_of (put_here w.head b link) ∙ sym is) others are
+    where
+      others : (q : Place) → q ≢ Head b → machine.word_at shape (with_link_at w (at.Head b) link) q ≡ machine.word_at shape w q
+      others Epoch ne = refl
+      others ShapeWord ne = refl
+      others (Head c) ne = ap word_of (put_other w.head b link c (λ e. ne (ap Head e)))
+      others (LinkOf t) ne = refl
+      others (Birth t) ne = refl
+      others (Stamp t) ne = refl
+      others (Key t) ne = refl
+      others (Flags number) ne = refl
+
+  birth_laid : (s i : ℕ) → i ≡ index_of shape (Birth s) → s < shape.slots → AreWordsOf shape (record w { birth = put w.birth s 1; births = counted w.births }) (set words i 1)
+  birth_laid s i place low = written_at shape w (record w { birth = put w.birth s 1; births = counted w.births }) words (Birth s) i 1 place low (put_here w.birth s 1) others are
+    where
+      others : (q : Place) → q ≢ Birth s → machine.word_at shape (record w { birth = put w.birth s 1; births = counted w.births }) q ≡ machine.word_at shape w q
+      others Epoch ne = refl
+      others ShapeWord ne = refl
+      others (Head b) ne = refl
+      others (LinkOf t) ne = refl
+      others (Birth t) ne = put_other w.birth s 1 t (λ e. ne (ap Birth e))
+      others (Stamp t) ne = refl
+      others (Key t) ne = refl
+      others (Flags number) ne = refl
+
+  key_laid : (s i key : ℕ) → i ≡ index_of shape (Key s) → s < shape.slots → AreWordsOf shape (record w { key = put w.key s key }) (set words i key)
+  key_laid s i key place low = written_at shape w (record w { key = put w.key s key }) words (Key s) i key place low (put_here w.key s key) others are
+    where
+      others : (q : Place) → q ≢ Key s → machine.word_at shape (record w { key = put w.key s key }) q ≡ machine.word_at shape w q
+      others Epoch ne = refl
+      others ShapeWord ne = refl
+      others (Head b) ne = refl
+      others (LinkOf t) ne = refl
+      others (Birth t) ne = refl
+      others (Stamp t) ne = refl
+      others (Key t) ne = put_other w.key s key t (λ e. ne (ap Key e))
+      others (Flags number) ne = refl
+
+  -- a slot comes into a list, and its flag is cleared
+  flag_laid : (s b i f bits : ℕ) → i ≡ index_of shape (Flags f) → f ≡ word_of_flag s → bits ≡ all_but s → s < shape.slots → AreWordsOf shape (record w { place = put w.place s (Listed b) }) (set words i (bit_and (get_or words i 0) bits))
+  flag_laid s b i f bits place number clear low =
+      written_at shape w (record w { place = put w.place s (Listed b) }) words (Flags (word_of_flag s)) i _ here (flag_in shape s low)
+      (taken_word shape w (record w { place = put w.place s (Listed b) }) s (Listed b) refl refl ∙ (λ k. bit_and (sym found k) (sym clear k))) others are
+    where
+      here : i ≡ index_of shape (Flags (word_of_flag s))
+      here = place ∙ ap (λ (n : ℕ). index_of shape (Flags n)) number
+
+      found : get_or words i 0 ≡ machine.word_at shape w (Flags (word_of_flag s))
+      found = ap (λ (j : ℕ). get_or words j 0) here ∙ are.each (Flags (word_of_flag s)) (flag_in shape s low)
+
+      others : (q : Place) → q ≢ Flags (word_of_flag s) → machine.word_at shape (record w { place = put w.place s (Listed b) }) q ≡ machine.word_at shape w q
+      others Epoch ne = refl
+      others ShapeWord ne = refl
+      others (Head c) ne = refl
+      others (LinkOf t) ne = refl
+      others (Birth t) ne = refl
+      others (Stamp t) ne = refl
+      others (Key t) ne = refl
+      others (Flags number) ne =
+          same_word shape (record w { place = put w.place s (Listed b) }) w number
+          (λ t is. ap machine.is_shared (put_other w.place s (Listed b) t (λ e. ne (ap Flags (sym is ∙ ap word_of_flag e)))))
+
+-- where the words of the link of a slot, of the head, of the birth, of the key and of the flags stand
+pub record KeyIndices (shape : Dimensions) (number bucket link head birth key flags : ℕ) : Type 0 where
+  pub link_at : link ≡ index_of shape (LinkOf number)
+  pub head_at : head ≡ index_of shape (Head bucket)
+  pub birth_at : birth ≡ index_of shape (Birth number)
+  pub key_at : key ≡ index_of shape (Key number)
+  pub flags_at : flags ≡ index_of shape (Flags (word_of_flag number))
+
+-- a key is linked ahead of the others of its bucket
+pub key_ahead : (shape : Dimensions) (w : World) (words : List ℕ) (number key link first bits i j k m n : ℕ) → AreWordsOf shape w words → KeyIndices shape number (bucket_of shape key) i j k m n → number < shape.slots → bucket_of shape key < shape.buckets
+    → link ≡ word_of (link_to (w.head (bucket_of shape key)).slot 1 (w.head (bucket_of shape key)).version) → first ≡ word_of (link_to (Some number) 0 1) → bits ≡ all_but number
+    → AreWordsOf shape (with_key_ahead shape number key w) (set (set (set (set (set words i link) j first) k 1) m key) n (bit_and (get_or (set (set (set (set words i link) j first) k 1) m key) n 0) bits))
+key_ahead shape w words number key link first bits i j k m n are at low in_shape link_is first_is clear =
+    let b = bucket_of shape key in
+    let one = link_laid shape w words are number i link _ at.link_at low link_is in
+    let two = head_laid shape _ _ one b j first _ at.head_at in_shape first_is in
+    let three = birth_laid shape _ _ two number k at.birth_at low in
+    let four = key_laid shape _ _ three number m key at.key_at low in
+    flag_laid shape _ _ four number b n (word_of_flag number) bits at.flags_at refl clear low
+
+-- ---- heads
+
+-- each head names a slot of the shape or none
+pub heads_fit : (shape : Dimensions) (from : ℕ) → from ≤ key_count shape → key_count shape ≤ MAX_SLOTS → HeadsFit (opening_from shape from)
+heads_fit shape from low few b = at (first_from shape b from) (first_or_none (is_key_of shape b) from (key_count shape - from))
+  where
+    at : (first : Option ℕ) → FirstOrNone (is_key_of shape b) from (from + (key_count shape - from)) first → IsLink (link_to_key shape 0 first)
+    at None none = record { slot = tt; version = omega arith }
+    at (Some m) is = record { slot = (let high = is.high in omega (arith, high)); version = version }
+      where
+        version : (link_to_key shape 0 (Some m)).version ≤ MAX_VERSION
+        version = grind (arith, nat_tests)

@@ -18,10 +18,10 @@ use Rattle.vbr_slots.specs.declared.rule.Witness.{Witness}
 use Rattle.vbr_slots.specs.declared.rule.Opening.{Opening}
 use Rattle.vbr_slots.specs.declared.runner.Runner.TheInside.{Inside as RunnerInside}
 use Rattle.vbr_slots.specs.declared.slots.Slots.TheInside.{Inside as SlotsInside}
-use Rattle.vbr_slots.specs.Rule.{Kept, Told, Shows, witness, first_seen, head_of, tail_of, EachBegins}
+use Rattle.vbr_slots.specs.Rule.{Kept, Told, Shows, witness, first_keys, first_seen, head_of, tail_of, EachBegins}
 use Rattle.vbr_slots.specs.Views.{Trace, TableView, IsOf, Did, knows, event_of, epoch_after, steps_in}
-use Rattle.vbr_slots.specs.RunnerView.{trace_of, seen_of, IsSoundRunner}
-use Rattle.vbr_slots.specs.SlotsView.{table_of, IsBuilt}
+use Rattle.vbr_slots.specs.RunnerView.{shape_of, trace_of, seen_of, IsSoundRunner}
+use Rattle.vbr_slots.specs.SlotsView.{shape_in, table_of, IsBuilt}
 use Rattle.vbr_slots.proofs.Calls.{steps_next}
 use Rattle.vbr_slots.proofs.Keeps.{plays_as}
 use Rattle.vbr_slots.proofs.Learning.{epoch_learned}
@@ -31,14 +31,14 @@ abbrev pub Sat : Type 0
 Sat = Me (Unit {0}) (List Witness)
 
 -- the seat of a runner
-pub known : (p : RunnerInside) (w : Trace) → IsSoundRunner p → trace_of p ≡ w → p.seat.me ≡ (witness w.who w.seen ∷ [], [])
-known p w sound is = sound.alone ∙ ap (λ (v : Trace). (witness v.who v.seen ∷ [], [])) is
+pub known : (p : RunnerInside) (w : Trace) → IsSoundRunner p → trace_of p ≡ w → p.seat.me ≡ (witness w.shape.keys w.who w.seen ∷ [], [])
+known p w sound is = sound.alone ∙ ap (λ (v : Trace). (witness v.shape.keys v.who v.seen ∷ [], [])) is
 
 pub low_of : (p : RunnerInside) (w : Trace) → IsSoundRunner p → trace_of p ≡ w → w.who < w.passes
 low_of p w sound is = subst (λ (v : Trace). v.who < v.passes) is sound.low
 
-pub seen_in : (me : Sat) (who : ℕ) (seen : List Event) (others : List Witness) → me ≡ (witness who seen ∷ others, []) → first_seen me.0 ≡ seen
-seen_in me who seen others is = ap (λ (m : Sat). first_seen m.0) is
+pub seen_in : (me : Sat) (v : Witness) (others : List Witness) → me ≡ (v ∷ others, []) → first_seen me.0 ≡ v.seen
+seen_in me v others is = ap (λ (m : Sat). first_seen m.0) is
 
 -- what a table was opened with
 abbrev pub opening_of : TableView → Opening
@@ -46,7 +46,7 @@ opening_of t = record { shape = t.shape; passes = t.passes }
 
 -- what a step on the word asks
 pub asks : (t : SlotsInside) (table : TableView) → IsBuilt t → table_of t ≡ table → (w : Trace) → w.who < w.passes → IsOf w table → (z : TableId) → z ≡ w.table → (id : ℕ) (me : Sat) (others : List Witness)
-    → me ≡ (witness w.who w.seen ∷ others, []) → (step : Step) (e : Event) (opening : Opening) → (e ≡ event_of w.who step) × (opening ≡ opening_of table) → (place : Place) (word : ℕ) (f g : ℕ → ℕ) → word ≡ index_of t.opening.shape place → place ≡ place_of_step step
+    → me ≡ (witness w.shape.keys w.who w.seen ∷ others, []) → (step : Step) (e : Event) (opening : Opening) → (e ≡ event_of w.who step) × (opening ≡ opening_of table) → (place : Place) (word : ℕ) (f g : ℕ → ℕ) → word ≡ index_of t.opening.shape place → place ≡ place_of_step step
     → ((n : ℕ) → f n ≡ word_made (access_of (knows w) step) n) → ((n : ℕ) → Shows step (g n) n) → Accepts table.shape (knows w) step
     → (z ≡ t.table.shared.table_id) × (word < t.table.shared.table_id.words) × Allows (Kept t.table.shared.key) t.table.shared.table_id.slots id me word f (λ r. Told opening e me (g r))
 asks t table built t_is w low own z z_is id me others is step e opening named place word f g at_place place_is does same ok =
@@ -54,7 +54,7 @@ asks t table built t_is w low own z z_is id me others is step e opening named pl
     let o : Opening = record { shape = w.shape; passes = w.passes } in
     let mine : o ≡ opening_of table = λ i. record { shape = own.1 i; passes = own.2 i } in
     let here : o ≡ t.table.shared.key = mine ∙ sym (ap opening_of t_is) ∙ sym built.key in
-    let shape : w.shape ≡ t.opening.shape = own.1 ∙ sym (ap (λ (q : TableView). q.shape) t_is) in
+    let shape : w.shape ≡ shape_in t = own.1 ∙ sym (ap (λ (q : TableView). q.shape) t_is) in
     let accepted : Accepts w.shape (knows w) step = subst (λ (x : Dimensions). Accepts x (knows w) step) (sym own.1) ok in
     let at : word ≡ index_of w.shape (place_of_step step) = at_place ∙ (λ i. index_of (sym shape i) (place_is i)) in
     let size : words_in w.shape ≡ t.table.shared.table_id.words = ap words_in shape ∙ sym built.words in
@@ -72,19 +72,19 @@ pub record Done (w : Trace) (step : Step) (r : ℕ) (others : List Witness) (n :
   pub none : NoneOf w.who rest
   pub run : List Event
   pub run_is : run ≡ (w.seen ++ rest) ++ event_of w.who step ∷ []
-  pub now : n ≡ (witness w.who run ∷ others, [])
+  pub now : n ≡ (witness w.shape.keys w.who run ∷ others, [])
   pub is_run : IsRun w.shape w.passes run
   pub shows : Shows step r (found w.shape (world_after w.shape (w.seen ++ rest)) step)
   pub know : know_after w.shape run w.who ≡ learn step r (stamp_shown (world_after w.shape (w.seen ++ rest)) step) (knows w)
   pub mates : EachBegins run others
 
-pub done : (w : Trace) (table : TableView) → IsOf w table → (me n : Sat) (others : List Witness) → me ≡ (witness w.who w.seen ∷ others, []) → (step : Step) (e : Event) (opening : Opening) → (e ≡ event_of w.who step) × (opening ≡ opening_of table)
+pub done : (w : Trace) (table : TableView) → IsOf w table → (me n : Sat) (others : List Witness) → me ≡ (witness w.shape.keys w.who w.seen ∷ others, []) → (step : Step) (e : Event) (opening : Opening) → (e ≡ event_of w.who step) × (opening ≡ opening_of table)
     → (r : ℕ) → Told opening e me r n → Done w step r others n
 done w table own me n others is step e opening named r told =
     let d : Event = event_of w.who step in
     let o : Opening = record { shape = w.shape; passes = w.passes } in
     let mine : opening_of table ≡ o = λ i. record { shape = sym own.1 i; passes = sym own.2 i } in
-    let here : Told o d (witness w.who w.seen ∷ others, []) r n = subst (λ (x : Opening × Event × Sat). Told x.0 x.1 x.2 r n) (λ i. ((named.1 ∙ mine) i, named.0 i, is i)) told in record {
+    let here : Told o d (witness w.shape.keys w.who w.seen ∷ others, []) r n = subst (λ (x : Opening × Event × Sat). Told x.0 x.1 x.2 r n) (λ i. ((named.1 ∙ mine) i, named.0 i, is i)) told in record {
       rest = here.rest;
       none = here.none;
       run = (w.seen ++ here.rest) ++ d ∷ [];
@@ -96,17 +96,23 @@ done w table own me n others is step e opening named r told =
       mates = here.others;
     }
 
+-- a runner that has kept its opening and the keys of its seat is of the same shape
+same_shape : (p : RunnerInside) (w : Trace) → trace_of p ≡ w → (opening : Opening) → opening ≡ p.opening → (me : Sat) (v : Witness) (others : List Witness) → me ≡ (v ∷ others, []) → v.keys ≡ w.shape.keys → record opening.shape { keys = first_keys me.0 } ≡ w.shape
+same_shape p w p_is opening opening_is me v others is keys =
+    (λ i. record (opening_is i).shape { keys = (ap (λ (m : Sat). first_keys m.0) is ∙ keys) i })
+    ∙ (λ i. record (ap (λ (v : Trace). v.shape) p_is i) { keys = w.shape.keys })
+
 -- the runner after the step, in a seat of its own
-module _ (p : RunnerInside) (w : Trace) (sound : IsSoundRunner p) (p_is : trace_of p ≡ w) (step : Step) (r : ℕ) (others : List Witness) (n : Sat) (end : Done w step r others n) (q : RunnerInside) (is : q.seat.me ≡ (witness w.who end.run ∷ [], []))
+module _ (p : RunnerInside) (w : Trace) (sound : IsSoundRunner p) (p_is : trace_of p ≡ w) (step : Step) (r : ℕ) (others : List Witness) (n : Sat) (end : Done w step r others n) (q : RunnerInside) (is : q.seat.me ≡ (witness w.shape.keys w.who end.run ∷ [], []))
     (fields : (q.who ≡ p.who) × (q.opening ≡ p.opening) × (q.epoch ≡ epoch_after step r p.epoch)) where
   seen_now : seen_of q ≡ end.run
-  seen_now = seen_in q.seat.me w.who end.run [] is
+  seen_now = seen_in q.seat.me _ [] is
 
   who_is : q.who ≡ w.who
   who_is = fields.0 ∙ ap (λ (v : Trace). v.who) p_is
 
-  shape_is : q.opening.shape ≡ w.shape
-  shape_is = ap (λ (o : Opening). o.shape) fields.1 ∙ ap (λ (v : Trace). v.shape) p_is
+  shape_is : shape_of q ≡ w.shape
+  shape_is = same_shape p w p_is q.opening fields.1 q.seat.me _ [] is refl
 
   passes_is : q.opening.passes ≡ w.passes
   passes_is = ap (λ (o : Opening). o.passes) fields.1 ∙ ap (λ (v : Trace). v.passes) p_is
@@ -114,14 +120,14 @@ module _ (p : RunnerInside) (w : Trace) (sound : IsSoundRunner p) (p_is : trace_
   abbrev know : Know
   know = learn step r (stamp_shown (world_after w.shape (w.seen ++ end.rest)) step) (knows w)
 
-  know_is : know_after q.opening.shape (seen_of q) q.who ≡ know
+  know_is : know_after (shape_of q) (seen_of q) q.who ≡ know
   know_is = (λ i. know_after (shape_is i) (seen_now i) (who_is i)) ∙ end.know
 
   pub stays_sound : IsSoundRunner q
   stays_sound = record {
-    alone = is ∙ (λ i. (witness (sym who_is i) (sym seen_now i) ∷ [], []));
+    alone = is ∙ (λ i. (witness (sym shape_is i).keys (sym who_is i) (sym seen_now i) ∷ [], []));
     low = subst (λ (x : ℕ × Opening). x.0 < x.1.passes) (λ i. (sym fields.0 i, sym fields.1 i)) sound.low;
-    shape = subst (λ (o : Opening). IsShape o.shape) (sym fields.1) sound.shape;
+    shape = subst IsShape (ap (λ (v : Trace). v.shape) p_is ∙ sym shape_is) sound.shape;
     is_run = subst (λ (x : Dimensions × ℕ × List Event). IsRun x.0 x.1 x.2) (λ i. (sym shape_is i, sym passes_is i, sym seen_now i)) end.is_run;
     epoch = fields.2 ∙ ap (epoch_after step r) (sound.epoch ∙ ap (λ (v : Trace). (knows v).epoch) p_is) ∙ sym (epoch_learned step r _ (knows w)) ∙ sym (ap (λ (k : Know). k.epoch) know_is);
   }
@@ -139,10 +145,8 @@ module _ (p : RunnerInside) (w : Trace) (sound : IsSoundRunner p) (p_is : trace_
   }
 
 -- two seats made one
-pub together : (p : ℕ) (seen : List Event) (o : ℕ) (theirs : List Event) (pm om given pm' : Sat) → pm ≡ (witness p seen ∷ [], []) → om ≡ (witness o theirs ∷ [], []) → given ≡ (om.0, []) → pm' ≡ (pm.0 ++ given.0, pm.1)
-    → pm' ≡ (witness p seen ∷ witness o theirs ∷ [], [])
-together p seen o theirs pm om given pm' is_p is_o from into =
-    into ∙ (λ i. ((is_p i).0 ++ (from i).0, (is_p i).1)) ∙ ap (λ (m : Sat). (witness p seen ∷ m.0, [])) is_o
+pub together : (u v : Witness) (pm om given pm' : Sat) → pm ≡ (u ∷ [], []) → om ≡ (v ∷ [], []) → given ≡ (om.0, []) → pm' ≡ (pm.0 ++ given.0, pm.1) → pm' ≡ (u ∷ v ∷ [], [])
+together u v pm om given pm' is_p is_o from into = into ∙ (λ i. ((is_p i).0 ++ (from i).0, (is_p i).1)) ∙ ap (λ (m : Sat). (u ∷ m.0, [])) is_o
 
 -- a seat of two cut in two
 pub left_alone : (m m' : Sat) (v : Witness) (vs : List Witness) → m ≡ (v ∷ vs, []) → m' ≡ (head_of m.0, m.1) → m' ≡ (v ∷ [], [])
@@ -152,20 +156,21 @@ pub right_rest : (m m' : Sat) (v : Witness) (vs : List Witness) → m ≡ (v ∷
 right_rest m m' v vs is right = right ∙ ap (λ (x : Sat). (tail_of x.0, [])) is
 
 -- a runner that has its seat back is what it was
-pub same_again : (p : RunnerInside) (w : Trace) (sound : IsSoundRunner p) (p_is : trace_of p ≡ w) (q : RunnerInside) (is : q.seat.me ≡ (witness w.who w.seen ∷ [], [])) → (q.who ≡ p.who) × (q.opening ≡ p.opening) × (q.epoch ≡ p.epoch)
+pub same_again : (p : RunnerInside) (w : Trace) (sound : IsSoundRunner p) (p_is : trace_of p ≡ w) (q : RunnerInside) (is : q.seat.me ≡ (witness w.shape.keys w.who w.seen ∷ [], [])) → (q.who ≡ p.who) × (q.opening ≡ p.opening) × (q.epoch ≡ p.epoch)
     → q.seat.table_id ≡ w.table → IsSoundRunner q × (trace_of q ≡ w)
 same_again p w sound p_is q is fields table =
-    let seen : seen_of q ≡ w.seen = seen_in q.seat.me w.who w.seen [] is in
+    let seen : seen_of q ≡ w.seen = seen_in q.seat.me _ [] is in
     let was : seen_of q ≡ seen_of p = seen ∙ sym (ap (λ (v : Trace). v.seen) p_is) in
     let who : q.who ≡ w.who = fields.0 ∙ ap (λ (v : Trace). v.who) p_is in
-    let shape : q.opening.shape ≡ w.shape = ap (λ (o : Opening). o.shape) fields.1 ∙ ap (λ (v : Trace). v.shape) p_is in
+    let shape : shape_of q ≡ w.shape = same_shape p w p_is q.opening fields.1 q.seat.me _ [] is refl in
+    let shape_was : shape_of q ≡ shape_of p = shape ∙ sym (ap (λ (v : Trace). v.shape) p_is) in
     let passes : q.opening.passes ≡ w.passes = ap (λ (o : Opening). o.passes) fields.1 ∙ ap (λ (v : Trace). v.passes) p_is in (
       record {
-        alone = is ∙ (λ i. (witness (sym who i) (sym seen i) ∷ [], []));
+        alone = is ∙ (λ i. (witness (sym shape i).keys (sym who i) (sym seen i) ∷ [], []));
         low = subst (λ (x : ℕ × Opening). x.0 < x.1.passes) (λ i. (sym fields.0 i, sym fields.1 i)) sound.low;
-        shape = subst (λ (o : Opening). IsShape o.shape) (sym fields.1) sound.shape;
-        is_run = subst (λ (x : Opening × List Event). IsRun x.0.shape x.0.passes x.1) (λ i. (sym fields.1 i, sym was i)) sound.is_run;
-        epoch = fields.2 ∙ sound.epoch ∙ sym (λ i. (know_after (fields.1 i).shape (was i) (fields.0 i)).epoch);
+        shape = subst IsShape (sym shape_was) sound.shape;
+        is_run = subst (λ (x : Dimensions × ℕ × List Event). IsRun x.0 x.1 x.2) (λ i. (sym shape_was i, (sym fields.1 i).passes, sym was i)) sound.is_run;
+        epoch = fields.2 ∙ sound.epoch ∙ sym (λ i. (know_after (shape_was i) (was i) (fields.0 i)).epoch);
       },
       (λ i. record { table = table i; shape = shape i; passes = passes i; who = who i; seen = seen i }),
     )

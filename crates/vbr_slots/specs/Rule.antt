@@ -16,18 +16,18 @@ use Rattle.vbr_slots.specs.Words.{AreWordsOf}
 
 -- ---- witnesses of seats
 
--- a pass, by its number, with what it has seen
-abbrev pub witness : ℕ → List Event → Witness
-witness who seen = record { who = who; seen = seen }
+-- a pass of a table that opened with these keys, by its number, with what it has seen
+abbrev pub witness : List ℕ → ℕ → List Event → Witness
+witness keys who seen = record { keys = keys; who = who; seen = seen }
 
 -- so many witnesses from a number on, which have seen nothing
-abbrev pub witnesses : ℕ → ℕ → List Witness
-witnesses k zero = []
-witnesses k (suc n) = witness k [] ∷ witnesses (suc k) n
+abbrev pub witnesses : List ℕ → ℕ → ℕ → List Witness
+witnesses keys k zero = []
+witnesses keys k (suc n) = witness keys k [] ∷ witnesses keys (suc k) n
 
 -- the witnesses of the first seat: all passes
 abbrev pub first_witnesses : Opening → List Witness
-first_witnesses opening = witnesses 0 opening.passes
+first_witnesses opening = witnesses opening.shape.keys 0 opening.passes
 
 -- the first witness alone
 abbrev pub head_of : List Witness → List Witness
@@ -43,6 +43,11 @@ tail_of (m ∷ ms) = ms
 abbrev pub first_seen : List Witness → List Event
 first_seen [] = []
 first_seen (m ∷ ms) = m.seen
+
+-- the keys that the table of the first witness opened with
+abbrev pub first_keys : List Witness → List ℕ
+first_keys [] = []
+first_keys (m ∷ ms) = m.keys
 
 -- what each witness has seen begins the run and has all its own events
 abbrev pub EachBegins : List Event → List Witness → Type 0
@@ -99,11 +104,11 @@ pub record Shows (step : Step) (r n : ℕ) : Type 0 where
   pub answers : effect_of step r ≡ effect_of step n
   pub teaches : (stamp : ℕ) (know : Know) → learn step r stamp know ≡ learn step n stamp know
 
--- what a step at the table tells: the first witness of the seat did the event, after what it had seen and what others did since; it was shown r; and the other witnesses of the seat still begin the run
+-- what a step at the table tells: the first witness of the seat did the event, after what it had seen and what others did since, and is of a table that opened with these keys; it was shown r; and the other witnesses of the seat still begin the run
 pub record Told (opening : Opening) (e : Event) (m : Me (Unit {0}) (List Witness)) (r : ℕ) (n : Me (Unit {0}) (List Witness)) : Type 0 where
   pub rest : List Event
   pub none : NoneOf e.pass rest
-  pub now : n ≡ (witness e.pass ((first_seen m.0 ++ rest) ++ e ∷ []) ∷ tail_of m.0, m.1)
+  pub now : n ≡ (witness opening.shape.keys e.pass ((first_seen m.0 ++ rest) ++ e ∷ []) ∷ tail_of m.0, m.1)
   pub is_run : IsRun opening.shape opening.passes ((first_seen m.0 ++ rest) ++ e ∷ [])
   pub shows : Shows e.step r (found opening.shape (world_after opening.shape (first_seen m.0 ++ rest)) e.step)
   pub others : EachBegins ((first_seen m.0 ++ rest) ++ e ∷ []) (tail_of m.0)

@@ -2,6 +2,7 @@
 use Rattle.std.specs.Prelude.{◌≡◌, ℕ, List, length, slice_index}
 use Rattle.vbr_words.specs.Dimensions.{Dimensions}
 use Rattle.vbr_words.specs.Places.{IsIn, index_of, words_in}
+use Rattle.vbr_words.specs.Words.{IsLink}
 use Rattle.vbr_words.specs.declared.place.Place.{Place}
 use Rattle.vbr_core.specs.Machine.{World, word_at}
 
@@ -9,3 +10,7 @@ use Rattle.vbr_core.specs.Machine.{World, word_at}
 pub record AreWordsOf (shape : Dimensions) (w : World) (words : List ℕ) : Type 0 where
   pub count : length words ≡ words_in shape
   pub each : (place : Place) → IsIn shape place → slice_index words (index_of shape place) ≡ word_at shape w place
+
+-- the links at the heads of the buckets fit their words
+abbrev pub HeadsFit : World → Type 0
+HeadsFit w = (bucket : ℕ) → IsLink (w.head bucket)

@@ -1,23 +1,20 @@
 //! Opening a table.
-ghost use Rattle.std.specs.Prelude.{◌≡◌, ◌<◌, ◌↔◌, ◌⊎◌, IfOk, OnOk, IsErrOf};
-ghost use Rattle.vbr_words.specs.Dimensions.{IsShape};
-ghost use Rattle.vbr_core.specs.Machine as machine;
+ghost use Rattle.std.specs.Prelude.{◌≡◌, ◌<◌, ◌≤◌, ◌↔◌, ◌⊎◌, length, IfOk, IsErrOf};
+ghost use Rattle.std.specs.List.Sorted.{IsStrictlyIncreasing};
 ghost use Rattle.vbr_slots.specs.Views.{new_passes};
-ghost use Rattle.vbr_slots.specs.Words.{AreWordsOf};
 
-use crate::counted::Counted;
+use crate::laying::opening_words;
 use crate::pass::Pass;
 use crate::pool::Pool;
-use crate::rule::{First, Opening};
+use crate::rule::{First, Opening, OpeningWithKeys};
 use crate::runner::Runner;
 use crate::slots::Slots;
+use crate::stepper::Stepper;
 use atomic_table::Table;
 use std::alloc::{AllocError, Global};
 use std::error::Error;
 use std::fmt;
-use vbr_words::flags::{flag_words, full_flags};
-use vbr_words::link::MARK;
-use vbr_words::{Place, Shape, place_index, word_count};
+use vbr_words::Shape;
 
 /// Why a table isn't opened. The tests are made in this order.
 #[derive(Clone, Copy, Debug, PartialEq, Eq, Hash)]
@@ -44,28 +41,9 @@ impl fmt::Display for OpenError {
 
 impl Error for OpenError {}
 
-// The words at the opening: the epoch is 1, the shape's word stands, each slot has the opening link
-// and is in the shared pool, so its flag is set, and all other words are 0.
-fn opening_words(alloc: Global, shape: &Shape) -> Result<Vec<u64>, AllocError>
-    ensures words { IfOk result (λ words. AreWordsOf shape.now (machine.opening shape.now) words.items) }
-    ensures shape { OnOk result (IsShape shape.now) }
-{
-    let mut words = vec![in alloc; 0; word_count(shape)]?;
-    words[place_index(shape, Place::Epoch)] = 1;
-    words[place_index(shape, Place::ShapeWord)] = u64::from(shape.slots())
-        + MARK * shape.last_epoch();
-    for slot in 0..shape.slots() {
-        words[place_index(shape, Place::LinkOf(slot))] = MARK;
-    }
-    for number in 0..flag_words(shape) {
-        words[place_index(shape, Place::Flags(number))] = full_flags(shape, number);
-    }
-    Ok(words)
-}
-
 impl Slots {
     /// Opens a table in the state of a fresh world of the core, with so many passes, from 1 to 64. They
-    /// stand in the order of their numbers, which begin with 0.
+    /// stand in the order of their numbers, which begin with 0. It is [`Slots::open_with`] without a key.
     ///
     /// The refusals are tested in the order of [`OpenError`], and nothing is kept then.
     pub fn open(alloc: Global, shape: Shape, passes: u32) -> Result<(Slots, Vec<Pass>), OpenError>
@@ -73,22 +51,54 @@ impl Slots {
         ensures passes { IfOk result (λ r. r.1.items ≡ new_passes r.0 0 passes) }
         ensures refused { IsErrOf result OpenError.Passes ↔ ((passes ≡ 0) ⊎ (64 < passes)) }
     {
+        let _slots = shape.slots();
+        Slots::open_with(alloc, shape, passes, &[])
+    }
+
+    /// Opens a table with these keys, in the state of a world of the core that opens with them: key
+    /// number i, from 0, stands in slot i, linked in the list of its bucket, and the other slots are in
+    /// the shared pool. The passes are those of [`Slots::open`].
+    ///
+    /// It takes time in proportion to the numbers of words and of keys, and a copy of the keys while it
+    /// runs, 8 bytes for each. No pass has made a step then.
+    ///
+    /// The refusals are tested in the order of [`OpenError`], and nothing is kept then.
+    pub fn open_with(
+        alloc: Global,
+        shape: Shape,
+        passes: u32,
+        keys: &[u64],
+    ) -> Result<(Slots, Vec<Pass>), OpenError>
+        requires ascending { IsStrictlyIncreasing keys.now }
+        requires few { length keys.now ≤ shape.slots }
+        ensures table { IfOk result (λ r. (r.0.shape ≡ record shape { keys = keys.now }) × (r.0.passes ≡ passes)) }
+        ensures passes { IfOk result (λ r. r.1.items ≡ new_passes r.0 0 passes) }
+        ensures refused { IsErrOf result OpenError.Passes ↔ ((passes ≡ 0) ⊎ (64 < passes)) }
+    {
         if passes == 0 || passes > 64 {
             return Err(OpenError::Passes);
         }
-        match Slots::build(alloc, Opening { shape, passes }) {
+        match Slots::build(alloc, Opening { shape, passes }, keys) {
             Ok(opened) => Ok(opened),
             Err(_) => Err(OpenError::Memory),
         }
     }
 
-    fn build(alloc: Global, opening: Opening) -> Result<(Slots, Vec<Pass>), AllocError>
-        ensures table { IfOk result (λ r. (r.0.shape ≡ opening.shape) × (r.0.passes ≡ opening.passes)) }
+    fn build(
+        alloc: Global,
+        opening: Opening,
+        keys: &[u64],
+    ) -> Result<(Slots, Vec<Pass>), AllocError>
+        requires ascending { IsStrictlyIncreasing keys.now }
+        requires few { length keys.now ≤ opening.shape.slots }
+        requires passes { (0 < opening.passes) × (opening.passes ≤ 64) }
+        ensures table { IfOk result (λ r. (r.0.shape ≡ record opening.shape { keys = keys.now }) × (r.0.passes ≡ opening.passes)) }
         ensures passes { IfOk result (λ r. r.1.items ≡ new_passes r.0 0 opening.passes) }
     {
-        let words = opening_words(alloc, &opening.shape)?;
+        let words = opening_words(alloc, &opening.shape, keys)?;
+        let whole = OpeningWithKeys::new(alloc, opening, keys)?;
         let mut passes = Vec::with_capacity(alloc, opening.passes as usize)?;
-        let (table, mut seat) = Table::of_words(alloc, words.as_slice(), &opening)?;
+        let (table, mut seat) = Table::of_words(alloc, words.as_slice(), &whole)?;
         for who in 0..opening.passes {
             let next = table.shared.split_seat::<First>(&mut seat);
             let runner = Runner {
@@ -97,12 +107,12 @@ impl Slots {
                 who,
                 epoch: 1,
             };
-            let counted = Counted { runner, steps: 0 };
-            passes.push(Pass {
-                runner: counted,
+            let stepper = Stepper {
+                runner,
                 pool: Pool::new(),
                 hand: None,
-            })?;
+            };
+            passes.push(Pass { stepper, steps: 0 })?;
             seat = next;
         }
         Ok((Slots { table, opening }, passes))

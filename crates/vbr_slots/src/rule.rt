@@ -1,7 +1,11 @@
-//! The rule of the table, and what its steps tell. No value of these types is made but `Opening`.
+//! The rule of the table, and what its steps tell. No value of these types is made but `Opening` and
+//! `OpeningWithKeys`.
+ghost use Rattle.std.specs.Prelude.{◌≡◌, IfOk};
+
 use atomic_table::{Join, Play, Split, TableRule};
+use std::alloc::{AllocError, Global};
 use std::collections::LinkedList;
-use std::marker::{Brand, PhantomData};
+use std::marker::{Brand, Model, PhantomData};
 use vbr_core::Event;
 use vbr_words::Shape;
 
@@ -12,8 +16,44 @@ pub struct Opening {
     pub passes: u32,
 }
 
-/// What a seat knows of one pass: its number, and the events of the run that it has seen.
+/// What a table is opened with, and the keys that it opens with. The rule of the table goes by it, and
+/// once the table stands nothing of it is kept.
+#[derive(Drop)]
+pub struct OpeningWithKeys {
+    opening: Opening,
+    keys: Vec<u64>,
+}
+
+impl Model for OpeningWithKeys {
+    ghost use Rattle.vbr_slots.specs.declared.rule.Opening.{Opening};
+
+    ghost Value = { Opening };
+
+    ghost view = { λ o. record { shape = record o.opening.shape { keys = o.keys.items }; passes = o.opening.passes } };
+}
+
+impl OpeningWithKeys {
+    // The opening with a copy of these keys.
+    pub(crate) fn new(
+        alloc: Global,
+        opening: Opening,
+        keys: &[u64],
+    ) -> Result<OpeningWithKeys, AllocError>
+        ensures { IfOk result (λ whole. whole ≡ record { shape = record opening.shape { keys = keys.now }; passes = opening.passes }) }
+    {
+        let mut copy = Vec::new(alloc);
+        copy.extend_from_slice(keys)?;
+        Ok(OpeningWithKeys {
+            opening,
+            keys: copy,
+        })
+    }
+}
+
+/// What a seat knows of one pass: the keys that its table opened with, its number, and the events of
+/// the run that it has seen.
 pub struct Witness {
+    pub keys: LinkedList<u64>,
     pub who: u32,
     pub seen: LinkedList<Event>,
 }
@@ -21,7 +61,7 @@ pub struct Witness {
 /// The rule: the table is the state of a run of the core.
 pub struct RunRule;
 
-impl TableRule<(), LinkedList<Witness>, Opening> for RunRule {
+impl TableRule<(), LinkedList<Witness>, OpeningWithKeys> for RunRule {
     ghost use Rattle.vbr_slots.specs.Rule.{Kept, first_witnesses};
 
     ghost holds = { Kept };

@@ -1,7 +1,8 @@
 //! The table.
-ghost use Rattle.std.specs.Prelude.{◌≡◌};
+ghost use Rattle.std.specs.Prelude.{◌≡◌, ◌<◌, ◌≤◌, []};
+ghost use Rattle.vbr_words.specs.Dimensions.{IsShape};
 
-use crate::rule::{Opening, RunRule, Witness};
+use crate::rule::{Opening, OpeningWithKeys, RunRule, Witness};
 use atomic_table::Table;
 use std::alloc::Global;
 use std::collections::LinkedList;
@@ -11,7 +12,7 @@ use vbr_words::Shape;
 /// The words of a set, shared by the passes that were opened with it.
 #[derive(Drop)]
 pub struct Slots {
-    pub(crate) table: Table<(), LinkedList<Witness>, Opening, RunRule, Global>,
+    pub(crate) table: Table<(), LinkedList<Witness>, OpeningWithKeys, RunRule, Global>,
     pub(crate) opening: Opening,
 }
 
@@ -28,11 +29,23 @@ impl Model for Slots {
 }
 
 impl Slots {
-    /// Its shape.
+    /// Its shape, without the keys that it opened with.
     #[inline]
     pub fn shape(&self) -> Shape
-        ensures { result ≡ self.now.shape }
+        ensures bare { result ≡ record self.now.shape { keys = [] } }
+        ensures is_shape { IsShape self.now.shape }
     {
+        let _slots = self.opening.shape.slots();
         self.opening.shape
+    }
+
+    /// How many passes it was opened with, from 1 to 64.
+    #[inline]
+    pub fn passes(&self) -> u32
+        ensures passes { result ≡ self.now.passes }
+        ensures some { 0 < result }
+        ensures few { result ≤ 64 }
+    {
+        self.opening.passes
     }
 }

@@ -1,4 +1,5 @@
-//! Tests of the running table, of pools, of checked access and of the list, from outside.
+//! Tests of words, the plain set and the machine, and of the running table, pools, checked access and
+//! the list, from outside.
 #![tactic(auto)]
 
 #[cfg(test)]
@@ -10,6 +11,8 @@ mod list;
 #[cfg(test)]
 mod listed_calls;
 #[cfg(test)]
+mod plain_set;
+#[cfg(test)]
 mod pools;
 #[cfg(test)]
 mod retiring;
@@ -17,3 +20,7 @@ mod retiring;
 mod running_table;
 #[cfg(test)]
 mod standing_still;
+#[cfg(test)]
+mod words;
+#[cfg(test)]
+mod world;

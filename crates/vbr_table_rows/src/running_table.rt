@@ -1,5 +1,5 @@
 //! The running table: rows call by call, refusals that hand all back, and two threads.
-ghost use Rattle.std.specs.Prelude.{◌≡◌, ◌≢◌, ◌<◌, [], ◌∷◌, None, IfOk, IfErr, IfSome};
+ghost use Rattle.std.specs.Prelude.{◌≡◌, ◌≢◌, ◌<◌, ◌≤◌, [], ◌∷◌, None, IfOk, IfErr, IfSome};
 ghost use Rattle.vbr_core.specs.declared.event.Step.TheVariants.{TakeFlag};
 ghost use Rattle.vbr_slots.specs.Closing.{AllOf, Ends, HandsBack};
 ghost use Rattle.vbr_slots.specs.Views.{IsOf, event_of, new_pass, new_passes};
@@ -195,6 +195,51 @@ fn opens_and_closes(rt: HostRuntime) -> Result<(), Fail> {
                 [1, 167_772_161, 0, 16_777_216, 0, 0, 0, 1].as_slice()
             )
         }
+        Err(_) => panic!(rt; "not closed"),
+    }
+    Ok(())
+}
+
+// Opens a table with three keys. What found no memory left nothing, so it is tried again.
+fn open_with_three(alloc: Global, shape: Shape) -> Result<(Slots, Vec<Pass>), OpenError>
+    requires { 3 ≤ shape.slots }
+    ensures { IfOk result (λ r. r.1.items ≡ new_passes r.0 0 2) }
+{
+    match Slots::open_with(alloc, shape, 2, &[2, 5, 9]) {
+        Err(OpenError::Memory) => Slots::open_with(alloc, shape, 2, &[2, 5, 9]),
+        opened => opened,
+    }
+}
+
+/// Key number i stands in slot i, linked in its bucket's list. The other slots are in the shared pool.
+#[test]
+fn opens_with_keys(rt: HostRuntime) -> Result<(), Fail> {
+    let (slots, passes) = open_with_three(rt.alloc(), Shape::new(4, 2, 10)?)?;
+    let wanted = [
+        1,
+        167_772_164,
+        33_554_433,
+        33_554_434,
+        33_554_432,
+        1,
+        0,
+        2,
+        33_554_435,
+        1,
+        0,
+        5,
+        33_554_432,
+        1,
+        0,
+        9,
+        16_777_216,
+        0,
+        0,
+        0,
+        8,
+    ];
+    match close(slots, rt.alloc(), passes) {
+        Ok(words) => assert_eq!(rt; words.as_slice(), wanted.as_slice()),
         Err(_) => panic!(rt; "not closed"),
     }
     Ok(())

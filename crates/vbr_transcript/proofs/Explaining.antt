@@ -1,13 +1,11 @@
--- What the workers have played, put together in script order, is a run of the script.
+-- What the workers have played on a set, put together in script order, are its outcomes.
 use Rattle.std.proofs.Common.{◌≡◌, ◌≢◌, ℕ, ◌<◌, ◌≤◌, true, eqb, List, [], ◌∷◌, inl, inr, sym, ap, subst, ◌∙◌, arith, append-nil}
 use Rattle.std.proofs.lemmas.Bool.{cases_lt, ne_eqb}
 use Rattle.std.proofs.lemmas.Bool.Decides.{nat_tests}
 use Rattle.std.proofs.lemmas.List.Elements.{All-nil, All-cons, All-head, All-tail, All-filter}
 use Rattle.std.specs.Prelude.{nat_le, zip, All}
 use Rattle.vbr_words.specs.Dimensions.{Dimensions}
-use Rattle.vbr_core.specs.Keys.{AreKeysOf}
-use Rattle.vbr_core.specs.Opened.{opening_keys}
-use Rattle.vbr_core.specs.History.{calls_by, set_after}
+use Rattle.vbr_core.specs.History.{calls_by}
 use Rattle.vbr_core.specs.Runs as machine
 use Rattle.vbr_core.specs.Runs.{world_after}
 use Rattle.vbr_core.specs.Safety.{IsSafe}
@@ -16,17 +14,16 @@ use Rattle.vbr_transcript.specs.Calls.{Outcome, answered_calls, lines_by, lines_
 use Rattle.vbr_transcript.specs.Merging.{replies_by, IsMerged}
 use Rattle.vbr_script.specs.Scripts.{ArePhased}
 use Rattle.vbr_transcript.specs.Phases.{HaveCalled, HavePlayed}
-use Rattle.vbr_transcript.specs.Runs.{EndsIn, MayBeAnswered, Counts, IsScriptRun}
+use Rattle.vbr_transcript.specs.Runs.{EndsIn, MayBeAnswered, IsSetRun}
 use Rattle.vbr_script.specs.declared.script.Line.{Line}
 use Rattle.vbr_transcript.specs.declared.reply.Reply.{Reply}
-use Rattle.vbr_transcript.specs.declared.totals.Totals.{Totals}
 use Rattle.vbr_core.proofs.Lemmas.{begins_run}
 use Rattle.vbr_transcript.proofs.CoreCalls.{calls_begin, no_calls_beyond}
 use Rattle.vbr_transcript.proofs.Filters.{filter_all, filter_none}
 use Rattle.vbr_transcript.proofs.Outcomes.{calls_by-answered, outcomes_by-own, all_outcomes, lines_by-ascend, outcomes_up_to-zip, lines_by-up_to, outcomes_by-up_to}
 
 -- what holds of each line holds of the line of each outcome
-all_lines : (P : Line → Type 0) (lines : List Line) (replies : List Reply) → All P lines → All (λ outcome. P outcome.0) (zip lines replies)
+pub all_lines : (P : Line → Type 0) (lines : List Line) (replies : List Reply) → All P lines → All (λ outcome. P outcome.0) (zip lines replies)
 all_lines P [] replies all = All-nil (λ (o : Outcome). P o.0)
 all_lines P (line ∷ lines) [] all = All-nil (λ (o : Outcome). P o.0)
 all_lines P (line ∷ lines) (reply ∷ replies) all = All-cons (λ (o : Outcome). P o.0) (line, reply) (zip lines replies) (All-head P line lines all) (all_lines P lines replies (All-tail P line lines all))
@@ -86,15 +83,13 @@ ends shape workers phases phase lines own replies run phased merged is_run playe
       }
 ]
 
--- what the workers have played by a safe run is a run of the script, with the replies that they have merged
-pub run_of_workers : (shape : Dimensions) (workers phases : ℕ) (lines : List Line) (own : List (List Reply)) (replies : List Reply) (totals : Totals) (run : List Event) → ArePhased workers phases lines → IsMerged lines own replies → machine.IsRun shape workers run → IsSafe shape run → HavePlayed shape workers phases lines own run → Counts totals (zip lines replies) → AreKeysOf totals.keys.items (set_after (opening_keys shape) (world_after shape run).calls) → totals.epoch ≡ (world_after shape run).epoch → IsScriptRun shape workers lines replies totals
-run_of_workers shape workers phases lines own replies totals run phased merged is_run safe played counts keys epoch =
+-- what the workers have played by a safe run are the outcomes of one set, with the replies that they have merged
+pub set_run_of_workers : (shape : Dimensions) (workers phases : ℕ) (lines : List Line) (own : List (List Reply)) (replies : List Reply) (run : List Event) → ArePhased workers phases lines → IsMerged lines own replies → machine.IsRun shape workers run → IsSafe shape run → HavePlayed shape workers phases lines own run → IsSetRun shape workers (zip lines replies) run
+set_run_of_workers shape workers phases lines own replies run phased merged is_run safe played =
     let of_worker = λ (who : ℕ). outcomes_by-own who lines replies (replies_by who own) merged.one_each (merged.own_order who) in
     let all = λ (who : ℕ). own_order shape workers who run lines own (zip lines replies) is_run played.called phased.workers_below (of_worker who) in
-    let may = λ (outcome : Outcome). MayBeAnswered shape.last_epoch totals.epoch outcome.0.op outcome.1 in
+    let may = λ (outcome : Outcome). MayBeAnswered shape.last_epoch (world_after shape run).epoch outcome.0.op outcome.1 in
     record {
-      one_each = merged.one_each;
-      run = run;
       is_run = is_run;
       safe = safe;
       explains = record {
@@ -102,8 +97,5 @@ run_of_workers shape workers phases lines own replies totals run phased merged i
         own_order = all;
         phases = λ phase. ends shape workers phases phase lines own replies run phased merged is_run played all;
       };
-      refusals = all_outcomes may workers (zip lines replies) (all_lines (λ (line : Line). line.worker < workers) lines replies phased.workers_below) (λ who below. subst (λ (epoch : ℕ). All (λ outcome. MayBeAnswered shape.last_epoch epoch outcome.0.op outcome.1) (outcomes_by who (zip lines replies))) (sym epoch) (subst (All (λ outcome. MayBeAnswered shape.last_epoch (world_after shape run).epoch outcome.0.op outcome.1)) (sym (of_worker who)) (played.answers who below)));
-      counts = counts;
-      keys = keys;
-      epoch = epoch;
+      refusals = all_outcomes may workers (zip lines replies) (all_lines (λ (line : Line). line.worker < workers) lines replies phased.workers_below) (λ who below. subst (All may) (sym (of_worker who)) (played.answers who below));
     }

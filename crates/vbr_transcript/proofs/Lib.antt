@@ -3,5 +3,6 @@ mod CoreCalls
 mod Filters
 mod Outcomes
 mod Explaining
+mod Renewing
 mod Merged
 pub mod Lemmas

@@ -74,7 +74,7 @@ all_outcomes P workers (outcome ∷ outcomes) within own =
 -- ---- phases
 
 -- lines that ascend from a phase ascend from an earlier one
-ascend_lower : (low high : ℕ) (lines : List Line) → low ≤ high → AscendFrom high lines → AscendFrom low lines
+pub ascend_lower : (low high : ℕ) (lines : List Line) → low ≤ high → AscendFrom high lines → AscendFrom low lines
 ascend_lower low high [] below up = tt
 ascend_lower low high (line ∷ lines) below up = (omega (arith, up.0), up.1)
 

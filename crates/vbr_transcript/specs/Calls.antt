@@ -1,5 +1,5 @@
 -- What the operations of a script were answered, and the calls that they are.
-use Rattle.std.specs.Prelude.{ℕ, Bool, true, false, ◌==◌, nat_le, List, [], ◌∷◌, filter, flat_map}
+use Rattle.std.specs.Prelude.{ℕ, Bool, true, false, ◌==◌, nat_le, nat_lt, List, [], ◌∷◌, filter, flat_map}
 use Rattle.vbr_core.specs.declared.history.Call.{Call}
 use Rattle.vbr_script.specs.declared.script.Line.{Line}
 use Rattle.vbr_transcript.specs.declared.reply.Reply.{Reply}
@@ -38,3 +38,7 @@ outcomes_by who outcomes = filter (λ outcome. outcome.0.worker == who) outcomes
 -- the outcomes of the phases up to one, in their order
 abbrev pub outcomes_up_to : ℕ → List Outcome → List Outcome
 outcomes_up_to phase outcomes = filter (λ outcome. nat_le outcome.0.phase phase) outcomes
+
+-- the outcomes of the phases behind one, in their order
+abbrev pub outcomes_past : ℕ → List Outcome → List Outcome
+outcomes_past phase outcomes = filter (λ outcome. nat_lt phase outcome.0.phase) outcomes

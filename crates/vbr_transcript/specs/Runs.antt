@@ -1,5 +1,5 @@
--- A run of a script: a reply for each of its operations, and totals, that the calls of one run of the core explain.
-use Rattle.std.specs.Prelude.{◌≡◌, ℕ, Bool, true, false, ◌&&◌, List, ◌++◌, length, zip, All, count_by}
+-- A run of a script: a reply for each of its operations, and totals, that the calls of one run of the core for each of its sets explain.
+use Rattle.std.specs.Prelude.{◌≡◌, ℕ, Bool, true, false, ◌&&◌, List, [], ◌∷◌, ◌++◌, length, zip, All, count_by}
 use Rattle.vbr_words.specs.Dimensions.{Dimensions}
 use Rattle.vbr_core.specs.Keys.{Keys, AreKeysOf}
 use Rattle.vbr_core.specs.Opened.{opening_keys}
@@ -11,7 +11,7 @@ use Rattle.vbr_core.specs.declared.event.Event.{Event}
 use Rattle.vbr_core.specs.declared.history.Call.{Call}
 use Rattle.vbr_core.specs.declared.history.Op.{Op}
 use Rattle.vbr_core.specs.declared.history.Op.TheVariants.{Insert, Remove, Has}
-use Rattle.vbr_transcript.specs.Calls.{Outcome, answered_calls, outcomes_up_to}
+use Rattle.vbr_transcript.specs.Calls.{Outcome, answered_calls, outcomes_up_to, outcomes_past}
 use Rattle.vbr_script.specs.declared.script.Line.{Line}
 use Rattle.vbr_transcript.specs.declared.reply.Reply.{Reply}
 use Rattle.vbr_transcript.specs.declared.reply.Reply.TheVariants.{Yes, No, Full, Spent}
@@ -75,16 +75,36 @@ pub record Counts (totals : Totals) (outcomes : List Outcome) : Type 0 where
   pub found : totals.found ≡ count_by (is_yes_to Has) outcomes
   pub refused : totals.refused ≡ count_by is_refused outcomes
 
--- ---- the run
+-- ---- the sets
 
--- replies and totals of a run of a script on a set of this shape, with so many workers: each line has a reply; a safe run of the core, whose passes are the workers, has the calls that explain the replies; its epoch, and the keys that its calls leave, are those of the totals
-pub record IsScriptRun (shape : Dimensions) (workers : ℕ) (lines : List Line) (replies : List Reply) (totals : Totals) : Type 0 where
-  pub one_each : length replies ≡ length lines
-  pub run : List Event
+-- these outcomes are those of one set: a safe run of the core, whose passes are the workers, has the calls that explain them, and none is a refusal that a set at the run's epoch doesn't give
+pub record IsSetRun (shape : Dimensions) (workers : ℕ) (outcomes : List Outcome) (run : List Event) : Type 0 where
   pub is_run : machine.IsRun shape workers run
   pub safe : IsSafe shape run
-  pub explains : Explains (opening_keys shape) (world_after shape run).calls (zip lines replies)
-  pub refusals : All (λ outcome. MayBeAnswered shape.last_epoch totals.epoch outcome.0.op outcome.1) (zip lines replies)
+  pub explains : Explains (opening_keys shape) (world_after shape run).calls outcomes
+  pub refusals : All (λ outcome. MayBeAnswered shape.last_epoch (world_after shape run).epoch outcome.0.op outcome.1) outcomes
+
+-- outcomes are those of sets, one after the other: behind the phase of each renewal the set is closed, and the next is opened with the keys that its calls left. The history is the calls of all sets in their order, and the epoch is that of the last
+abbrev pub AreOfSets : Dimensions → ℕ → List ℕ → List Outcome → List Call → ℕ → Type 0
+AreOfSets shape workers [] outcomes history epoch =
+    (run : List Event) × IsSetRun shape workers outcomes run × (history ≡ (world_after shape run).calls) × (epoch ≡ (world_after shape run).epoch)
+AreOfSets shape workers (renewal ∷ renewals) outcomes history epoch =
+    (run : List Event) × IsSetRun shape workers (outcomes_up_to renewal outcomes) run
+    × (keys : List ℕ) × AreKeysOf keys (set_after (opening_keys shape) (world_after shape run).calls)
+    × (later : List Call) × AreOfSets (record shape { keys = keys }) workers renewals (outcomes_past renewal outcomes) later epoch
+    × (history ≡ (world_after shape run).calls ++ later)
+
+-- sets give these outcomes: one history of all of them explains the outcomes, from the keys of the first; the keys that it leaves, and the epoch of the last set, are these
+pub record AreExplained (shape : Dimensions) (workers : ℕ) (renewals : List ℕ) (outcomes : List Outcome) (listed : List ℕ) (epoch : ℕ) : Type 0 where
+  pub history : List Call
+  pub sets : AreOfSets shape workers renewals outcomes history epoch
+  pub explains : Explains (opening_keys shape) history outcomes
+  pub keys : AreKeysOf listed (set_after (opening_keys shape) history)
+
+-- ---- the run
+
+-- replies and totals of a run of a script, with so many workers, on a set of this shape that is renewed behind these phases: each line has a reply; sets give these outcomes, with the keys and the epoch of the totals, which count the outcomes
+pub record IsScriptRun (shape : Dimensions) (workers : ℕ) (renewals : List ℕ) (lines : List Line) (replies : List Reply) (totals : Totals) : Type 0 where
+  pub one_each : length replies ≡ length lines
+  pub explained : AreExplained shape workers renewals (zip lines replies) totals.keys.items totals.epoch
   pub counts : Counts totals (zip lines replies)
-  pub keys : AreKeysOf totals.keys.items (set_after (opening_keys shape) (world_after shape run).calls)
-  pub epoch : totals.epoch ≡ (world_after shape run).epoch

@@ -12,6 +12,7 @@ use crate::event::{CoreRefusal, Event, Step};
 use crate::history::Call;
 use crate::world::lists::Lists;
 use crate::world::steps::{is_below_last, is_in_shape, succeeds};
+use vbr_words::shape::MAX_EPOCH;
 
 impl Lists {
     // Accepts an event, or says why not.
@@ -41,23 +42,16 @@ impl Lists {
         Ok(())
     }
 
-    // A law: the words have room for what an accepted step writes where it succeeds. A birth is an
-    // epoch that the pass has read.
-    pub(super) fn law_of_room(&self, event: Event)
+    // The word of the link that an accepted step writes. The words have room for what the step writes
+    // where it succeeds: a birth is an epoch that the pass has read.
+    pub(super) fn link_written(&self, event: Event) -> u64
         requires { IsAccepted self.now.shape (length self.now.passes) (world_of self.now) event }
-        ensures { succeeds event.step (machine.found self.now.shape (world_of self.now) event.step) ≡ true →
+        ensures link { link_of result ≡ link_written ((world_of self.now).know event.pass) event.step }
+        ensures room { succeeds event.step (machine.found self.now.shape (world_of self.now) event.step) ≡ true →
             WordsHaveRoom self.now.shape self.now.epoch event.step }
     {
         let pass = &self.passes[event.pass as usize];
-        let _ = pass.epoch();
-    }
-
-    // The word of the link that an accepted step writes.
-    pub(super) fn link_written(&self, event: Event) -> u64
-        requires { IsAccepted self.now.shape (length self.now.passes) (world_of self.now) event }
-        ensures { link_of result ≡ link_written ((world_of self.now).know event.pass) event.step }
-    {
-        let pass = &self.passes[event.pass as usize];
+        prove!(pass.epoch() <= MAX_EPOCH);
         pass.link_written(&self.shape, event.step)
     }
 

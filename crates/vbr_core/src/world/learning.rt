@@ -13,7 +13,7 @@ ghost use Rattle.vbr_core.specs.Making.{with_answer};
 use crate::event::{Event, Step};
 use crate::world::lists::Lists;
 use crate::world::passes::PassState;
-use crate::world::shape::KeyedShape;
+use crate::world::shape::OpeningShape;
 use std::alloc::AllocError;
 
 impl Lists {
@@ -46,7 +46,7 @@ impl Lists {
 // The pass of an event learns from its step.
 fn learn_at(
     passes: &mut Vec<PassState>,
-    shape: &KeyedShape,
+    shape: &OpeningShape,
     event: Event,
     found: u64,
     stamp: u64,

@@ -11,7 +11,7 @@ use crate::event::{CoreRefusal, Effect, Event};
 use crate::history::Call;
 use crate::knowledge::SlotPlace;
 use crate::world::passes::PassState;
-use crate::world::shape::KeyedShape;
+use crate::world::shape::OpeningShape;
 use crate::world::steps::{effect_of, place_of_step, succeeds};
 use std::marker::Model;
 use vbr_words::Place;
@@ -19,9 +19,9 @@ use vbr_words::flags::FLAGS;
 use vbr_words::link::MARK;
 
 // The words and places of a set, what each of its passes knows, and the calls that were answered.
-#[derive(Debug, Drop)]
+#[derive(Drop)]
 pub struct Lists {
-    pub(super) shape: KeyedShape,
+    pub(super) shape: OpeningShape,
     pub(super) epoch: u64,
     pub(super) heads: Vec<u64>,
     pub(super) links: Vec<u64>,
@@ -59,7 +59,6 @@ impl Lists {
         let found = self.word(place_of_step(event.step));
         let link = self.link_written(event);
         let key = self.key_written(event);
-        self.law_of_room(event);
         let Ok(()) = self.learn(event, found) else {
             return Err(CoreRefusal::NoMemory);
         };

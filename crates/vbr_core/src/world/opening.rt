@@ -10,7 +10,7 @@ ghost use Rattle.vbr_core.specs.Kept.{know_of, world_of};
 use crate::knowledge::SlotPlace;
 use crate::world::lists::Lists;
 use crate::world::passes::{PassState, link_to};
-use crate::world::shape::KeyedShape;
+use crate::world::shape::OpeningShape;
 use std::alloc::{AllocError, Global};
 use vbr_words::link::{MARK, MAX_SLOTS};
 use vbr_words::{At, Link, Shape, decode, encode};
@@ -29,8 +29,8 @@ impl Lists {
         ensures opening { IfOk result (λ lists. world_of lists ≡ opening (record shape { keys = keys.now })) }
         ensures shape { IfOk result (λ lists. (lists.shape ≡ record shape { keys = keys.now }) × (length lists.passes ≡ passes)) }
     {
-        let keyed = KeyedShape::new(alloc, shape, keys)?;
-        let mut lists = Lists::empty(alloc, keyed, passes)?;
+        let opening = OpeningShape::new(alloc, shape, keys)?;
+        let mut lists = Lists::empty(alloc, opening, passes)?;
         let mut number = keys.len();
         while number > 0 {
             number -= 1;
@@ -40,7 +40,7 @@ impl Lists {
     }
 
     // Every slot in the shared pool, and passes that know nothing: no key is linked yet.
-    fn empty(alloc: Global, shape: KeyedShape, passes: u32) -> Result<Lists, AllocError>
+    fn empty(alloc: Global, shape: OpeningShape, passes: u32) -> Result<Lists, AllocError>
         ensures opening { IfOk result (λ lists. world_of lists ≡ opening_from shape (length shape.keys)) }
         ensures shape { IfOk result (λ lists. (lists.shape ≡ shape) × (length lists.passes ≡ passes)) }
     {

@@ -15,7 +15,7 @@ mod learning;
 use crate::event::Step;
 use crate::history::{Call, Op};
 use crate::knowledge::{Holding, Read};
-use crate::world::shape::KeyedShape;
+use crate::world::shape::OpeningShape;
 use crate::world::{holdings, reads};
 use std::alloc::{AllocError, Global};
 use std::marker::Model;
@@ -23,7 +23,7 @@ use vbr_words::link::MAX_SLOTS;
 use vbr_words::{At, Link, decode, encode, version_of};
 
 /// What the world keeps of a pass.
-#[derive(Debug, Drop)]
+#[derive(Drop)]
 pub struct PassState {
     epoch: u64,
     pending: Vec<Read>,
@@ -121,7 +121,7 @@ impl PassState {
     }
 
     // Whether the pass owns the slot in the way that the step asks.
-    pub fn owns(&self, shape: &KeyedShape, step: Step) -> bool
+    pub fn owns(&self, shape: &OpeningShape, step: Step) -> bool
         requires slots { length self.now.own ≡ shape.now.slots }
         requires in_shape { IsInShape shape.now step }
         ensures { IsTrue result ↔ IsOwned (know_of self.now) step }
@@ -158,7 +158,7 @@ impl PassState {
 
     // Whether the link that a place was read with and the key there are checked, and marked links
     // lead on from it to a checked key, or to none.
-    fn holds_way(&self, shape: &KeyedShape, at: At, expected: u64) -> bool
+    fn holds_way(&self, shape: &OpeningShape, at: At, expected: u64) -> bool
         ensures { IsTrue result ↔ (IsTrue (knows_link self.now.checked at (link_of expected)) × KnowsKeyAt self.now.checked at × LeadsToKey shape.now.slots self.now.checked (link_of expected).slot) }
     {
         let link = decode(expected);
@@ -184,7 +184,7 @@ impl PassState {
     }
 
     // Whether the reads that the step asks for are checked.
-    pub fn holds(&self, shape: &KeyedShape, step: Step) -> bool
+    pub fn holds(&self, shape: &OpeningShape, step: Step) -> bool
         ensures { IsTrue result ↔ HasChecked shape.now (know_of self.now) step }
     {
         match step {
@@ -210,7 +210,7 @@ impl PassState {
     }
 
     // Whether a slot is in hand and ready to stand behind a place, before what the link there names.
-    fn is_ready(&self, shape: &KeyedShape, pred: At, expected: Link, slot: u32) -> bool
+    fn is_ready(&self, shape: &OpeningShape, pred: At, expected: Link, slot: u32) -> bool
         requires { slot < length self.now.own }
         ensures { IsTrue result ↔ MayPublish shape.now self.now.checked pred expected (slice_index_or self.now.own slot None) }
     {
@@ -227,7 +227,7 @@ impl PassState {
     }
 
     // Whether a key stands behind a place and before what a link names.
-    fn is_between(&self, shape: &KeyedShape, at: At, key: u64, next: Option<u32>) -> bool
+    fn is_between(&self, shape: &OpeningShape, at: At, key: u64, next: Option<u32>) -> bool
         ensures { IsTrue result ↔ (IsBehind shape.now self.now.checked at key × IsBefore self.now.checked key next) }
     {
         reads::is_behind(shape, &self.checked, at, key)
@@ -236,7 +236,7 @@ impl PassState {
 
     // Whether a key stands behind a place, and before a slot to which marked links lead from what a
     // link names, or before none.
-    fn is_on_way(&self, shape: &KeyedShape, at: At, key: u64, next: Option<u32>) -> bool
+    fn is_on_way(&self, shape: &OpeningShape, at: At, key: u64, next: Option<u32>) -> bool
         ensures { IsTrue result ↔ (IsBehind shape.now self.now.checked at key × LeadsAbove shape.now.slots self.now.checked key next) }
     {
         reads::is_behind(shape, &self.checked, at, key)
@@ -244,7 +244,7 @@ impl PassState {
     }
 
     // Whether the step's numbers are in range.
-    pub fn is_in_range(&self, shape: &KeyedShape, step: Step) -> bool
+    pub fn is_in_range(&self, shape: &OpeningShape, step: Step) -> bool
         requires slots { length self.now.own ≡ shape.now.slots }
         requires in_shape { IsInShape shape.now step }
         ensures { IsTrue result ↔ IsInRange shape.now (know_of self.now) step }
@@ -287,7 +287,7 @@ impl PassState {
     }
 
     // The link that the step writes.
-    fn new_link(&self, shape: &KeyedShape, step: Step) -> Link
+    fn new_link(&self, shape: &OpeningShape, step: Step) -> Link
         requires slots { length self.now.own ≡ shape.now.slots }
         requires accepted { Accepts shape.now (know_of self.now) step }
         ensures link { result ≡ link_written (know_of self.now) step }
@@ -313,7 +313,7 @@ impl PassState {
     }
 
     // The word of the link that the step writes.
-    pub fn link_written(&self, shape: &KeyedShape, step: Step) -> u64
+    pub fn link_written(&self, shape: &OpeningShape, step: Step) -> u64
         requires slots { length self.now.own ≡ shape.now.slots }
         requires accepted { Accepts shape.now (know_of self.now) step }
         ensures word { result ≡ word_of (link_written (know_of self.now) step) }
@@ -338,7 +338,7 @@ impl PassState {
     }
 
     // The call of the step, if it makes one where it succeeds.
-    pub fn call(&self, who: u32, shape: &KeyedShape, step: Step) -> Option<Call>
+    pub fn call(&self, who: u32, shape: &OpeningShape, step: Step) -> Option<Call>
         requires slots { length self.now.own ≡ shape.now.slots }
         requires in_shape { IsInShape shape.now step }
         ensures { result ≡ call_of who (know_of self.now) step }

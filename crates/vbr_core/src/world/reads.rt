@@ -4,7 +4,7 @@ ghost use Rattle.vbr_core.specs.Knowledge.{knows_link, birth_in, key_in, marked_
 ghost use Rattle.vbr_core.specs.Acceptance.{IsNextHeld, KnowsKeyAt, KnowsKeyOf, past_marked, LeadsToKey, IsBehind, IsBefore, LeadsAbove, next_of_marked};
 
 use crate::knowledge::Read;
-use crate::world::shape::KeyedShape;
+use crate::world::shape::OpeningShape;
 use vbr_words::{At, Link};
 
 // Whether a link is among the reads at a place.
@@ -149,7 +149,7 @@ pub fn next_of_marked(reads: &[Read], slot: u32) -> Option<u32>
 
 // Whether the key stands behind a place: in its bucket, and above its key if it is a slot.
 #[tactic(auto, unfolding(crate::specs::Acceptance::bucket_of))]
-pub fn is_behind(shape: &KeyedShape, reads: &[Read], at: At, key: u64) -> bool
+pub fn is_behind(shape: &OpeningShape, reads: &[Read], at: At, key: u64) -> bool
     ensures { IsTrue result ↔ IsBehind shape.now reads.now at key }
 {
     match at {

@@ -8,13 +8,13 @@ use std::marker::Model;
 use vbr_words::Shape;
 
 // A shape, and the keys that a world of it opens with.
-#[derive(Debug, Drop)]
-pub struct KeyedShape {
+#[derive(Drop)]
+pub struct OpeningShape {
     shape: Shape,
     keys: Vec<u64>,
 }
 
-impl Model for KeyedShape {
+impl Model for OpeningShape {
     ghost use Rattle.vbr_words.specs.Dimensions.{Dimensions, IsShape};
 
     ghost Value = { Dimensions };
@@ -24,17 +24,17 @@ impl Model for KeyedShape {
     ghost invariant = { λ s. IsShape (record s.shape { keys = s.keys.items }) };
 }
 
-impl KeyedShape {
+impl OpeningShape {
     // The shape with a copy of these keys.
     pub fn new(alloc: Global, shape: Shape, keys: &[u64]) -> Result<Self, AllocError>
         requires ascending { IsStrictlyIncreasing keys.now }
         requires few { length keys.now ≤ shape.slots }
-        ensures { IfOk result (λ keyed. keyed ≡ record shape { keys = keys.now }) }
+        ensures { IfOk result (λ opening. opening ≡ record shape { keys = keys.now }) }
     {
         prove!(shape.slots() > 0);
         let mut copy = Vec::new(alloc);
         copy.extend_from_slice(keys)?;
-        Ok(KeyedShape { shape, keys: copy })
+        Ok(OpeningShape { shape, keys: copy })
     }
 
     // The number of slots.

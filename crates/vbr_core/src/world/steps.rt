@@ -8,12 +8,12 @@ ghost use Rattle.vbr_core.specs.Making.{exchanged, taken, confirmed};
 
 use crate::event::{Effect, Step};
 use crate::history::Op;
-use crate::world::shape::KeyedShape;
+use crate::world::shape::OpeningShape;
 use vbr_words::flags::{has_flag, word_of_flag};
 use vbr_words::{At, Place};
 
 // Whether a place of a link word is one of the shape.
-fn is_at_in(shape: &KeyedShape, at: At) -> bool
+fn is_at_in(shape: &OpeningShape, at: At) -> bool
     ensures { IsTrue result ↔ IsAtIn shape.now at }
 {
     match at {
@@ -23,7 +23,7 @@ fn is_at_in(shape: &KeyedShape, at: At) -> bool
 }
 
 // Whether what a link names, if anything, is a slot of the shape.
-fn is_next_in(shape: &KeyedShape, next: Option<u32>) -> bool
+fn is_next_in(shape: &OpeningShape, next: Option<u32>) -> bool
     ensures { IsTrue result ↔ IsNextIn shape.now next }
 {
     match next {
@@ -33,7 +33,7 @@ fn is_next_in(shape: &KeyedShape, next: Option<u32>) -> bool
 }
 
 // Whether the slots and places that the step's fields name are those of the shape.
-pub fn is_in_shape(shape: &KeyedShape, step: Step) -> bool
+pub fn is_in_shape(shape: &OpeningShape, step: Step) -> bool
     ensures { IsTrue result ↔ IsInShape shape.now step }
 {
     match step {
@@ -57,7 +57,7 @@ pub fn is_in_shape(shape: &KeyedShape, step: Step) -> bool
 }
 
 // Whether the epoch that the step would advance is below the last.
-pub fn is_below_last(shape: &KeyedShape, step: Step) -> bool
+pub fn is_below_last(shape: &OpeningShape, step: Step) -> bool
     ensures { IsTrue result ↔ IsBelowLast shape.now step }
 {
     match step {

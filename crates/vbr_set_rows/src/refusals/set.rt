@@ -1,5 +1,5 @@
 //! The set.
-ghost use Rattle.std.specs.Prelude.{◌≡◌, None, IfSome};
+ghost use Rattle.std.specs.Prelude.{◌≡◌, ◌≤◌, None, IfSome};
 ghost use Rattle.vbr_slots.specs.Closing.{AllOf};
 ghost use Rattle.vbr_slots.specs.Views.{new_passes};
 
@@ -8,8 +8,9 @@ use std::alloc::Global;
 use vbr_set::{CloseError, OpenError, Pass, Report, Shape, VbrSet};
 
 // A set with its two passes, and whether memory was refused.
-fn open(alloc: Global, shape: Shape) -> Option<(VbrSet, Vec<Pass>, bool)>
-    ensures { IfSome result (λ r. r.1.items ≡ new_passes r.0 0 2) }
+pub fn open(alloc: Global, shape: Shape) -> Option<(VbrSet, Vec<Pass>, bool)>
+    ensures count { IfSome result (λ r. r.0.passes ≡ 2) }
+    ensures passes { IfSome result (λ r. r.1.items ≡ new_passes r.0 0 2) }
 {
     match VbrSet::open(alloc, shape, 2) {
         Ok((set, passes)) => Some((set, passes, false)),
@@ -22,7 +23,7 @@ fn open(alloc: Global, shape: Shape) -> Option<(VbrSet, Vec<Pass>, bool)>
 }
 
 // The report of a set that is closed, and whether memory was refused.
-fn close(set: VbrSet, alloc: Global, passes: Vec<Pass>) -> Option<(Report, bool)>
+pub fn close(set: VbrSet, alloc: Global, passes: Vec<Pass>) -> Option<(Report, bool)>
     requires { AllOf set passes.items }
 {
     match set.close(alloc, passes) {
@@ -44,6 +45,40 @@ fn opens_and_closes(alloc: Global) -> Option<bool> {
     let is_told = report.keys.as_slice() == [2].as_slice()
         && (report.epoch, report.live, report.marked, report.free) == (2, 1, 0, 0);
     (is_answered && is_told).then_some(refused | refused_close)
+}
+
+// A set with three keys and its two passes, and whether memory was refused.
+fn open_with_three(alloc: Global, shape: Shape) -> Option<(VbrSet, Vec<Pass>, bool)>
+    requires { 3 ≤ shape.slots }
+    ensures { IfSome result (λ r. r.1.items ≡ new_passes r.0 0 2) }
+{
+    match VbrSet::open_with(alloc, shape, 2, &[2, 5, 9]) {
+        Ok((set, passes)) => Some((set, passes, false)),
+        Err(OpenError::Memory) => {
+            let (set, passes) = VbrSet::open_with(alloc, shape, 2, &[2, 5, 9]).ok()?;
+            Some((set, passes, true))
+        }
+        Err(OpenError::Passes) => None,
+    }
+}
+
+// Whether a report is that of three keys in four slots.
+pub fn has_three(report: &Report) -> bool {
+    report.keys.as_slice() == [2, 5, 9].as_slice()
+        && (report.epoch, report.live, report.marked, report.free) == (1, 3, 0, 1)
+}
+
+// Opens a set with three keys, and closes it at once.
+fn opens_with_three_and_closes(alloc: Global) -> Option<bool> {
+    let shape = Shape::new(4, 2, 10).ok()?;
+    let (set, passes, refused) = open_with_three(alloc, shape)?;
+    let (report, refused_close) = close(set, alloc, passes)?;
+    has_three(&report).then_some(refused | refused_close)
+}
+
+#[test]
+fn set_opens_with_three_and_closes(rt: HostRuntime) {
+    is_right(&rt, opens_with_three_and_closes(rt.alloc()));
 }
 
 #[test]

@@ -1,5 +1,5 @@
 //! The running table.
-ghost use Rattle.std.specs.Prelude.{◌≡◌, IfSome};
+ghost use Rattle.std.specs.Prelude.{◌≡◌, ◌≤◌, IfSome};
 ghost use Rattle.vbr_slots.specs.Closing.{AllOf};
 
 use crate::refusals::round::is_right;
@@ -39,6 +39,52 @@ fn opens_and_closes(alloc: Global) -> Option<bool> {
     let (words, refused_close) = close(slots, alloc, passes)?;
     let wanted = [1, 167_772_161, 0, 16_777_216, 0, 0, 0, 1];
     (words.as_slice() == wanted.as_slice()).then_some(refused | refused_close)
+}
+
+// A table with three keys and its pass, and whether memory was refused.
+fn open_with_three(alloc: Global, shape: Shape) -> Option<(Slots, Vec<Pass>, bool)>
+    requires { 3 ≤ shape.slots }
+    ensures { IfSome result (λ r. AllOf r.0 r.1.items) }
+{
+    match Slots::open_with(alloc, shape, 1, &[2, 5, 9]) {
+        Ok((slots, passes)) => Some((slots, passes, false)),
+        Err(OpenError::Memory) => {
+            let (slots, passes) = Slots::open_with(alloc, shape, 1, &[2, 5, 9]).ok()?;
+            Some((slots, passes, true))
+        }
+        Err(OpenError::Passes) => None,
+    }
+}
+
+// Opens a table with three keys, and closes it at once.
+fn opens_with_three_and_closes(alloc: Global) -> Option<bool> {
+    let shape = Shape::new(3, 1, 10).ok()?;
+    let (slots, passes, refused) = open_with_three(alloc, shape)?;
+    let (words, refused_close) = close(slots, alloc, passes)?;
+    let wanted = [
+        1,
+        167_772_163,
+        33_554_433,
+        33_554_434,
+        1,
+        0,
+        2,
+        33_554_435,
+        1,
+        0,
+        5,
+        33_554_432,
+        1,
+        0,
+        9,
+        0,
+    ];
+    (words.as_slice() == wanted.as_slice()).then_some(refused | refused_close)
+}
+
+#[test]
+fn table_opens_with_three_and_closes(rt: HostRuntime) {
+    is_right(&rt, opens_with_three_and_closes(rt.alloc()));
 }
 
 #[test]

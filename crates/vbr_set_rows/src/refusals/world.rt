@@ -30,6 +30,19 @@ fn step(world: &mut World, event: Event, effect: Effect) -> Option<bool> {
     (answer == Ok(effect)).then_some(refused)
 }
 
+// Opens a world with three keys, which it has whether or not memory was refused.
+fn opens_with_three(alloc: Global) -> Option<bool> {
+    let shape = Shape::new(4, 2, 10).ok()?;
+    let (world, refused) = match World::open_with(alloc, shape, 2, &[2, 5, 9]) {
+        Ok(world) => (world, false),
+        Err(WorldRefusal::NoMemory) => {
+            (World::open_with(alloc, shape, 2, &[2, 5, 9]).ok()?, true)
+        }
+        Err(WorldRefusal::Passes) => return None,
+    };
+    (world.incarnations() == 3).then_some(refused)
+}
+
 // Opens a world, and steps through a worked list.
 fn opens_and_steps(alloc: Global) -> Option<bool> {
     let shape = Shape::new(3, 1, 10).ok()?;
@@ -79,6 +92,11 @@ fn replays(alloc: Global) -> Option<bool> {
 #[test]
 fn world_opens_and_steps(rt: HostRuntime) {
     is_right(&rt, opens_and_steps(rt.alloc()));
+}
+
+#[test]
+fn world_opens_with_three(rt: HostRuntime) {
+    is_right(&rt, opens_with_three(rt.alloc()));
 }
 
 #[test]

@@ -4,6 +4,7 @@ use Rattle.std.proofs.lemmas.List.{take_all}
 use Rattle.vbr_core.specs.Runs.{IsRun}
 use Rattle.vbr_core.specs.Kept.{world_of}
 use Rattle.vbr_core.proofs.Replayed.{run_push, run_stops}
+use Rattle.vbr_core.proofs.SafeRuns.{every_run}
 use Rattle.vbr_core.proofs.world.replay.Goals as goal
 
 pub returns-in-Err-clause-stops : goal.returns-in-Err-clause-stops
@@ -28,4 +29,4 @@ pub returns-clause-safe : goal.returns-clause-safe
 returns-clause-safe c =
     let all : take c.loop-index.index c.args.events.now ≡ c.args.events.now = take_all c.loop-index.index c.args.events.now c.loop-index-test.false in
     let run : IsRun c.args.shape c.args.passes c.args.events.now = rw all at c.loop-index.invariant.run in
-    rw (c.loop-index.invariant.shape, c.loop-index.invariant.passes) at (c.law_of_safety.ensures c.args.events.now) run
+    every_run c.args.shape c.args.passes c.args.events.now c.slots.ensures.shape run

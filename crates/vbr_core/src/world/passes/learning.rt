@@ -11,7 +11,7 @@ use crate::event::Step;
 use crate::knowledge::{Holding, Read};
 use crate::world::holdings;
 use crate::world::passes::PassState;
-use crate::world::shape::KeyedShape;
+use crate::world::shape::OpeningShape;
 use std::alloc::AllocError;
 use vbr_words::flags::has_flag;
 use vbr_words::{At, Link, decode};
@@ -180,7 +180,7 @@ impl PassState {
     }
 
     // The link of a slot in hand that is ready to be published.
-    fn link_in_hand(&self, shape: &KeyedShape, pred: At, expected: u64, slot: u32) -> Link
+    fn link_in_hand(&self, shape: &OpeningShape, pred: At, expected: u64, slot: u32) -> Link
         requires slot { slot < length self.now.own }
         requires ready { MayPublish shape.now self.now.checked pred (link_of expected) (slice_index_or self.now.own slot None) }
         ensures link { result ≡ link_in_hand (slice_index_or self.now.own slot None) }
@@ -192,7 +192,7 @@ impl PassState {
     // The publication of a slot in hand has succeeded.
     fn learn_publish(
         &mut self,
-        shape: &KeyedShape,
+        shape: &OpeningShape,
         pred: At,
         expected: u64,
         slot: u32,
@@ -224,7 +224,12 @@ impl PassState {
     }
 
     // The removal of a node has succeeded.
-    fn learn_mark(&mut self, shape: &KeyedShape, slot: u32, expected: u64) -> Result<(), AllocError>
+    fn learn_mark(
+        &mut self,
+        shape: &OpeningShape,
+        slot: u32,
+        expected: u64,
+    ) -> Result<(), AllocError>
         requires slots { length self.old.own ≡ shape.now.slots }
         requires accepted { Accepts shape.now (know_of self.old) (Step.Mark slot expected) }
         ensures learned { OnOk result (know_of self.new ≡ learn (Step.Mark slot expected) expected 0 (know_of self.old)) }
@@ -238,7 +243,7 @@ impl PassState {
     // The unlinking of a node has succeeded.
     fn learn_unlink(
         &mut self,
-        shape: &KeyedShape,
+        shape: &OpeningShape,
         pred: At,
         expected: u64,
         slot: u32,
@@ -266,7 +271,7 @@ impl PassState {
     // Where memory is refused nothing is learned.
     pub fn learn(
         &mut self,
-        shape: &KeyedShape,
+        shape: &OpeningShape,
         step: Step,
         found: u64,
         stamp: u64,

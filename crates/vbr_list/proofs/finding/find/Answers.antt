@@ -1,4 +1,4 @@
-use Rattle.std.proofs.Common.{rules, ◌≡◌, sym, ◌∙◌}
+use Rattle.std.proofs.Common.{rules, ◌≡◌}
 use Rattle.vbr_list.proofs.Going.{bucket_is}
 use Rattle.vbr_list.proofs.Moments.{was_so}
 use Rattle.vbr_access.proofs.Lemmas.{quiet_safe}
@@ -20,4 +20,4 @@ returns-in-None-clause-safe c =
     rw same (quiet_safe c.args.pass.now c.law.ensures c.search.ensures.goes.quiet)
 
 pub invariant_of-call-clause-of_key : goal.invariant_of-call-clause-of_key
-invariant_of-call-clause-of_key c = bucket_is c.args.pass.now.trace.shape c.shape.result c.bucket_of.result c.args.key (c.requires.own.1 ∙ sym c.shape.ensures) c.bucket_of.ensures.bucket
+invariant_of-call-clause-of_key c = bucket_is c.args.pass.now.trace.shape _ c.shape.result c.bucket_of.result c.args.key c.requires.own.1 c.shape.ensures.bare c.bucket_of.ensures.bucket

@@ -1,5 +1,5 @@
 use Rattle.std.proofs.lemmas.Result.{err_from_is_err_and}
-use Rattle.std.proofs.Common.{rules, ◌≡◌, ◌+◌, ◌*◌, ◌<◌, [], sym, ◌∙◌, arith}
+use Rattle.std.proofs.Common.{rules, ◌≡◌, ◌+◌, ◌*◌, ◌<◌, [], arith}
 use Rattle.vbr_core.specs.declared.history.Op.TheVariants.{Insert}
 use Rattle.vbr_slots.proofs.Lemmas.{alone_first, alone_then, same_on}
 use Rattle.vbr_pools.proofs.Lemmas.{had_error, had_then, keeps_on, longer, needed_before, shared_on, shares_more}
@@ -131,7 +131,7 @@ returns-in_err-prepare-clause-refused c =
     rw (p.1, p.2) (refused_first c.args.pass.now c.prepare.new.self.pass.now c.args.key c.args.budget c.in_err-prepare.field-0.0 c.in_err-prepare.ensures.refused))
 
 pub invariant_of-call-clause-of_key : goal.invariant_of-call-clause-of_key
-invariant_of-call-clause-of_key c = bucket_is c.args.pass.now.trace.shape c.shape.result c.bucket_of.result c.args.key (c.requires.own.1 ∙ sym c.shape.ensures) c.bucket_of.ensures.bucket
+invariant_of-call-clause-of_key c = bucket_is c.args.pass.now.trace.shape _ c.shape.result c.bucket_of.result c.args.key c.requires.own.1 c.shape.ensures.bare c.bucket_of.ensures.bucket
 
 pub returns-in-Some-clause-refused : goal.returns-in-Some-clause-refused
 returns-in-Some-clause-refused c =

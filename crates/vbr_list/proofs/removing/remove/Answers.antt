@@ -112,7 +112,7 @@ returns-in-Ok-clause-safe c =
     rw same (made_safe c.args.pass.now c.law.ensures (made_since (quiet_on c.loop-found.invariant.3.goes.quiet c.search.ensures.goes.quiet) (rw (c.search.ensures.call.key ∙ c.loop-found.invariant.0.key ∙ c.loop-found.invariant.1) at c.in-Ok.ensures.made)))
 
 pub invariant_of-call-clause-of_key : goal.invariant_of-call-clause-of_key
-invariant_of-call-clause-of_key c = bucket_is c.args.pass.now.trace.shape c.shape.result c.bucket_of.result c.args.key (c.requires.own.1 ∙ sym c.shape.ensures) c.bucket_of.ensures.bucket
+invariant_of-call-clause-of_key c = bucket_is c.args.pass.now.trace.shape _ c.shape.result c.bucket_of.result c.args.key c.requires.own.1 c.shape.ensures.bare c.bucket_of.ensures.bucket
 
 pub returns-in-Ok-clause-made : goal.returns-in-Ok-clause-made
 returns-in-Ok-clause-made c =

@@ -50,16 +50,16 @@ returns-then-not-affords-2-clause-refused c = full_then c.args.pass.now c.read_e
 pub returns-then-epoch-last_epoch-clause-refused : goal.returns-then-epoch-last_epoch-clause-refused
 returns-then-epoch-last_epoch-clause-refused c =
     let quiet = quiet_on (did_quiet c.read_epoch-epoch.ensures.step (λ know. refl)) c.scan.ensures.quiet in
-    let shapes : c.shape.result ≡ c.scan.new.pass.trace.shape = c.shape.ensures ∙ sym c.requires.own.1 ∙ sym quiet.same.shape in
-    let is : IsShape c.scan.new.pass.trace.shape = subst IsShape shapes c.last_epoch.ensures.shape in
+    let shapes : c.args.slots.now.shape ≡ c.scan.new.pass.trace.shape = sym c.requires.own.1 ∙ sym quiet.same.shape in
+    let is : IsShape c.scan.new.pass.trace.shape = subst IsShape shapes c.shape.ensures.is_shape in
     let some : c.scan.new.pass.pool ≢ [] = λ none. c.requires.some (sym (c.scan.ensures.pool.0 ∙ c.read_epoch-epoch.ensures.pool.0) ∙ none) in
-    spent_then c.args.pass.now c.read_epoch-epoch.new.pass c.scan.new.pass c.read_epoch-epoch.result c.args.budget c.args.used c.read_epoch-epoch.ensures.step (c.affords.ensures.0 c.if-not-affords.false) c.scan.ensures.quiet c.scan.ensures.known c.read_epoch-epoch.ensures.pool.0 c.in_ok-found.found c.in_ok-found.used c.in_ok-found.ensures.ok (none_left c.in_ok-found.found c.in_default.not-Some) c.scan.ensures.own is some (c.if-epoch-last_epoch.true ∙ c.last_epoch.ensures.last_epoch ∙ ap (λ (d : Dimensions). d.last_epoch) shapes) (c.affords-2.ensures.0 c.if-not-affords-2.false)
+    spent_then c.args.pass.now c.read_epoch-epoch.new.pass c.scan.new.pass c.read_epoch-epoch.result c.args.budget c.args.used c.read_epoch-epoch.ensures.step (c.affords.ensures.0 c.if-not-affords.false) c.scan.ensures.quiet c.scan.ensures.known c.read_epoch-epoch.ensures.pool.0 c.in_ok-found.found c.in_ok-found.used c.in_ok-found.ensures.ok (none_left c.in_ok-found.found c.in_default.not-Some) c.scan.ensures.own is some (c.if-epoch-last_epoch.true ∙ c.last_epoch.ensures.last_epoch ∙ ap (λ (d : Dimensions). d.last_epoch) c.shape.ensures.bare ∙ ap (λ (d : Dimensions). d.last_epoch) shapes) (c.affords-2.ensures.0 c.if-not-affords-2.false)
 
 pub advance-requires-clause-some : goal.advance-requires-clause-some
 advance-requires-clause-some c =
     let q = c.read_epoch-epoch.new.pass.trace in
-    let shapes : c.shape.result ≡ q.shape = c.shape.ensures ∙ sym c.requires.own.1 ∙ sym (did_same c.read_epoch-epoch.ensures.step).shape in
-    let is : IsShape q.shape = subst IsShape shapes c.last_epoch.ensures.shape in
+    let shapes : c.args.slots.now.shape ≡ q.shape = sym c.requires.own.1 ∙ sym (did_same c.read_epoch-epoch.ensures.step).shape in
+    let is : IsShape q.shape = subst IsShape shapes c.shape.ensures.is_shape in
     let told = epoch_told c.read_epoch-epoch.ensures.step in
     let some = read_some q.shape q.passes q.seen q.who is (did_run c.read_epoch-epoch.ensures.step) in
     omega arith
@@ -67,20 +67,20 @@ advance-requires-clause-some c =
 pub advance-requires-clause-below_last : goal.advance-requires-clause-below_last
 advance-requires-clause-below_last c =
     let q = c.read_epoch-epoch.new.pass.trace in
-    let shapes : c.shape.result ≡ q.shape = c.shape.ensures ∙ sym c.requires.own.1 ∙ sym (did_same c.read_epoch-epoch.ensures.step).shape in
-    let is : IsShape q.shape = subst IsShape shapes c.last_epoch.ensures.shape in
+    let shapes : c.args.slots.now.shape ≡ q.shape = sym c.requires.own.1 ∙ sym (did_same c.read_epoch-epoch.ensures.step).shape in
+    let is : IsShape q.shape = subst IsShape shapes c.shape.ensures.is_shape in
     let told = epoch_told c.read_epoch-epoch.ensures.step in
     let low = read_in_shape q.shape q.passes q.seen q.who is (did_run c.read_epoch-epoch.ensures.step) in
-    let last : c.last_epoch.result ≡ q.shape.last_epoch = c.last_epoch.ensures.last_epoch ∙ ap (λ (d : Dimensions). d.last_epoch) shapes in
-    let here : c.shape.result.last_epoch ≡ c.args.slots.now.shape.last_epoch = ap (λ (d : Dimensions). d.last_epoch) c.shape.ensures in
+    let last : c.last_epoch.result ≡ q.shape.last_epoch = c.last_epoch.ensures.last_epoch ∙ ap (λ (d : Dimensions). d.last_epoch) c.shape.ensures.bare ∙ ap (λ (d : Dimensions). d.last_epoch) shapes in
+    let here : c.shape.result.last_epoch ≡ c.args.slots.now.shape.last_epoch = ap (λ (d : Dimensions). d.last_epoch) c.shape.ensures.bare in
     let other = c.if-epoch-last_epoch.false in
     omega arith
 
 pub returns-clause-quiet : goal.returns-clause-quiet
 returns-clause-quiet c =
     let quiet = quiet_on (did_quiet c.read_epoch-epoch.ensures.step (λ know. refl)) c.scan.ensures.quiet in
-    let shapes : c.shape.result ≡ c.scan.new.pass.trace.shape = c.shape.ensures ∙ sym c.requires.own.1 ∙ sym quiet.same.shape in
-    let is : IsShape c.scan.new.pass.trace.shape = subst IsShape shapes c.last_epoch.ensures.shape in
+    let shapes : c.args.slots.now.shape ≡ c.scan.new.pass.trace.shape = sym c.requires.own.1 ∙ sym quiet.same.shape in
+    let is : IsShape c.scan.new.pass.trace.shape = subst IsShape shapes c.shape.ensures.is_shape in
     let some : c.scan.new.pass.pool ≢ [] = λ none. c.requires.some (sym (c.scan.ensures.pool.0 ∙ c.read_epoch-epoch.ensures.pool.0) ∙ none) in
     let raise = tried c.advance.result c.advance.ensures.step in
     raised_quiet c.args.pass.now c.read_epoch-epoch.new.pass c.scan.new.pass c.read_epoch-epoch.result c.args.budget c.args.used c.read_epoch-epoch.ensures.step (c.affords.ensures.0 c.if-not-affords.false) c.scan.ensures.quiet c.scan.ensures.known c.read_epoch-epoch.ensures.pool.0 c.in_ok-found.found c.in_ok-found.used c.in_ok-found.ensures.ok (none_left c.in_ok-found.found c.in_default.not-Some) c.scan.ensures.own is c.advance.new.pass c.read_epoch.new.pass raise.0 c.read_epoch.result raise.1 c.read_epoch.ensures.step c.advance.ensures.pool c.read_epoch.ensures.pool (c.scan.ensures.pool.1 ∙ c.read_epoch-epoch.ensures.pool.1 ∙ c.requires.empty_hand)
@@ -88,8 +88,8 @@ returns-clause-quiet c =
 pub returns-clause-ok : goal.returns-clause-ok
 returns-clause-ok c =
     let quiet = quiet_on (did_quiet c.read_epoch-epoch.ensures.step (λ know. refl)) c.scan.ensures.quiet in
-    let shapes : c.shape.result ≡ c.scan.new.pass.trace.shape = c.shape.ensures ∙ sym c.requires.own.1 ∙ sym quiet.same.shape in
-    let is : IsShape c.scan.new.pass.trace.shape = subst IsShape shapes c.last_epoch.ensures.shape in
+    let shapes : c.args.slots.now.shape ≡ c.scan.new.pass.trace.shape = sym c.requires.own.1 ∙ sym quiet.same.shape in
+    let is : IsShape c.scan.new.pass.trace.shape = subst IsShape shapes c.shape.ensures.is_shape in
     let some : c.scan.new.pass.pool ≢ [] = λ none. c.requires.some (sym (c.scan.ensures.pool.0 ∙ c.read_epoch-epoch.ensures.pool.0) ∙ none) in
     let raise = tried c.advance.result c.advance.ensures.step in
     raised_chosen c.args.pass.now c.read_epoch-epoch.new.pass c.scan.new.pass c.read_epoch-epoch.result c.args.budget c.args.used c.read_epoch-epoch.ensures.step (c.affords.ensures.0 c.if-not-affords.false) c.scan.ensures.quiet c.scan.ensures.known c.read_epoch-epoch.ensures.pool.0 c.in_ok-found.found c.in_ok-found.used c.in_ok-found.ensures.ok (none_left c.in_ok-found.found c.in_default.not-Some) c.scan.ensures.own is c.advance.new.pass c.read_epoch.new.pass raise.0 c.read_epoch.result raise.1 c.read_epoch.ensures.step c.advance.ensures.pool c.read_epoch.ensures.pool (c.scan.ensures.pool.1 ∙ c.read_epoch-epoch.ensures.pool.1 ∙ c.requires.empty_hand) c.pool.result.now c.pool.ensures.pool some (c.affords-2.ensures.0 c.if-not-affords-2.false)
@@ -97,8 +97,8 @@ returns-clause-ok c =
 pub returns-clause-advances : goal.returns-clause-advances
 returns-clause-advances c =
     let quiet = quiet_on (did_quiet c.read_epoch-epoch.ensures.step (λ know. refl)) c.scan.ensures.quiet in
-    let shapes : c.shape.result ≡ c.scan.new.pass.trace.shape = c.shape.ensures ∙ sym c.requires.own.1 ∙ sym quiet.same.shape in
-    let is : IsShape c.scan.new.pass.trace.shape = subst IsShape shapes c.last_epoch.ensures.shape in
+    let shapes : c.args.slots.now.shape ≡ c.scan.new.pass.trace.shape = sym c.requires.own.1 ∙ sym quiet.same.shape in
+    let is : IsShape c.scan.new.pass.trace.shape = subst IsShape shapes c.shape.ensures.is_shape in
     let some : c.scan.new.pass.pool ≢ [] = λ none. c.requires.some (sym (c.scan.ensures.pool.0 ∙ c.read_epoch-epoch.ensures.pool.0) ∙ none) in
     let raise = tried c.advance.result c.advance.ensures.step in
     inr (raised_once c.args.pass.now c.read_epoch-epoch.new.pass c.scan.new.pass c.read_epoch-epoch.result c.args.budget c.args.used c.read_epoch-epoch.ensures.step (c.affords.ensures.0 c.if-not-affords.false) c.scan.ensures.quiet c.scan.ensures.known c.read_epoch-epoch.ensures.pool.0 c.in_ok-found.found c.in_ok-found.used c.in_ok-found.ensures.ok (none_left c.in_ok-found.found c.in_default.not-Some) c.scan.ensures.own is c.advance.new.pass c.read_epoch.new.pass raise.0 c.read_epoch.result raise.1 c.read_epoch.ensures.step c.advance.ensures.pool c.read_epoch.ensures.pool (c.scan.ensures.pool.1 ∙ c.read_epoch-epoch.ensures.pool.1 ∙ c.requires.empty_hand) c.read_epoch-epoch.ensures.pool c.scan.ensures.takes_no_slot)

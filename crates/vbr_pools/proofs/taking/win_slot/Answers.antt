@@ -15,7 +15,7 @@ returns-in-Ok-clause-takes_no_slot c =
 
 pub returns-in-Ok-clause-ok : goal.returns-in-Ok-clause-ok
 returns-in-Ok-clause-ok c =
-    let slots : c.slots.result ≡ c.args.pass.now.trace.shape.slots = c.slots.ensures.slots ∙ ap (λ (shape : Dimensions). shape.slots) (c.shape.ensures ∙ sym c.requires.own.1) in
+    let slots : c.slots.result ≡ c.args.pass.now.trace.shape.slots = c.slots.ensures.slots ∙ ap (λ (shape : Dimensions). shape.slots) c.shape.ensures.bare ∙ sym (ap (λ (shape : Dimensions). shape.slots) c.requires.own.1) in
     let low = subst (λ (n : ℕ). c.loop-slot.slot < n) slots c.loop-slot-test.true in
     let empty = sym c.pool.ensures.pool ∙ none_in c.pool.result.now (sym c.is_empty.ensures ∙ c.if-not-is_empty.false) in
     win_done c.loop-slot.invariant low empty c.requires.empty_hand (c.affords.ensures.0 c.if-not-affords.false) c.in-Ok.ensures.step.1 c.in-Ok.ensures.step.2 c.in-Ok.ensures.pool c.keep.ensures.trace c.keep.ensures.pool c.keep.ensures.hand
@@ -25,7 +25,7 @@ loop-slot-preserved c = win_next c.loop-slot.invariant (c.affords.ensures.0 c.if
 
 pub returns-then-not-affords-clause-enough : goal.returns-then-not-affords-clause-enough
 returns-then-not-affords-clause-enough c =
-    let slots : c.slots.result ≡ c.args.pass.now.trace.shape.slots = c.slots.ensures.slots ∙ ap (λ (shape : Dimensions). shape.slots) (c.shape.ensures ∙ sym c.requires.own.1) in
+    let slots : c.slots.result ≡ c.args.pass.now.trace.shape.slots = c.slots.ensures.slots ∙ ap (λ (shape : Dimensions). shape.slots) c.shape.ensures.bare ∙ sym (ap (λ (shape : Dimensions). shape.slots) c.requires.own.1) in
     let low = subst (λ (n : ℕ). c.loop-slot.slot < n) slots c.loop-slot-test.true in
     λ alone. win_short c.loop-slot.invariant low (unaffordable c.args.budget c.loop-slot.probes (λ fits. (let f = sym (c.affords.ensures.1 fits) ∙ c.if-not-affords.true in absurd (cc)))) alone
   where
@@ -34,6 +34,6 @@ returns-then-not-affords-clause-enough c =
 
 pub returns-in-Ok-clause-few : goal.returns-in-Ok-clause-few
 returns-in-Ok-clause-few c =
-    let slots : c.slots.result ≡ c.args.pass.now.trace.shape.slots = c.slots.ensures.slots ∙ ap (λ (shape : Dimensions). shape.slots) (c.shape.ensures ∙ sym c.requires.own.1) in
+    let slots : c.slots.result ≡ c.args.pass.now.trace.shape.slots = c.slots.ensures.slots ∙ ap (λ (shape : Dimensions). shape.slots) c.shape.ensures.bare ∙ sym (ap (λ (shape : Dimensions). shape.slots) c.requires.own.1) in
     let low = subst (λ (n : ℕ). c.loop-slot.slot < n) slots c.loop-slot-test.true in
     λ empty alone. win_few c.loop-slot.invariant low c.in-Ok.ensures.step.1 (subst (IsAlone c.args.pass.now.trace) c.keep.ensures.trace alone)

@@ -2,10 +2,10 @@
 use Rattle.std.proofs.Common.{◌≡◌, ◌+◌, ◌∙◌, ◌++◌, ◌∷◌, [], length, rules, arith}
 use Rattle.vbr_script.specs.Text.{lines_of, tokens_of}
 use Rattle.vbr_script.specs.Grammar.{meaning_of}
-use Rattle.vbr_script.specs.Scripts.{script_of, phases_of, limited}
-use Rattle.vbr_script.proofs.LinesRead.{HasRead, all_meanings, first_left, read_blank, read_sync, read_asks}
-use Rattle.vbr_script.proofs.PhasedScripts.{phased}
-use Rattle.vbr_script.proofs.parser.parse_script.Goals.{in-Blank, in-Sync, in-Asks+in_ok-map_err-in-Asks}
+use Rattle.vbr_script.specs.Scripts.{script_of, phases_of, renewals_of, limited}
+use Rattle.vbr_script.proofs.LinesRead.{HasRead, all_meanings, first_left, read_blank, read_sync, read_renew, read_asks}
+use Rattle.vbr_script.proofs.PhasedScripts.{phased, renewed}
+use Rattle.vbr_script.proofs.parser.parse_script.Goals.{in-Blank, in-Sync, in-Renew+in_ok-map_err-in-Renew, in-Asks+in_ok-map_err-in-Asks}
 use Rattle.vbr_script.proofs.parser.parse_script.Goals as goal
 
 pub loop-phase-preserved : goal.loop-phase-preserved
@@ -13,17 +13,21 @@ loop-phase-preserved c =
     let inv = c.loop-phase.invariant in
     let told = rw c.in-Some.is at c.first_line.ensures in
     let means : limited (length c.loop-phase.lines.items) c.loop-phase.phase (meaning_of c.args.workers (tokens_of c.first_line.result.0.now)) ≡ c.limited.result = search rules in
-    let before = first_left _ _ _ _ _ c.loop-phase.rest.now c.first_line.result.0.now c.in-Some.text.now told.0 (record { operations = inv.lines; phases = inv.phases; fault = inv.fault; few_operations = inv.few_operations; few_syncs = inv.few_syncs }) in
-    let after : HasRead c.args.workers c.args.text.now c.match-limited.lines.items c.match-limited.phase (c.loop-phase.number + 1) (all_meanings c.args.workers (lines_of c.in-Some.text.now)) = elim c.match-limited.branch [
-      | in-Blank w ↦ rw (w.lines-is, w.phase-is) (read_blank _ _ _ _ _ _ _ before (means ∙ w.in-Blank.is))
-      | in-Sync w ↦ rw (w.lines-is, w.phase-is) (read_sync _ _ _ _ _ _ _ before (means ∙ w.in-Sync.is))
+    let before = first_left _ _ _ _ _ _ c.loop-phase.rest.now c.first_line.result.0.now c.in-Some.text.now told.0 (record { operations = inv.lines; renewed = inv.renewals; phases = inv.phases; fault = inv.fault; few_operations = inv.few_operations; few_syncs = inv.few_syncs }) in
+    let after : HasRead c.args.workers c.args.text.now c.match-limited.lines.items c.match-limited.renewals.items c.match-limited.phase (c.loop-phase.number + 1) (all_meanings c.args.workers (lines_of c.in-Some.text.now)) = elim c.match-limited.branch [
+      | in-Blank w ↦ rw (w.lines-is, w.renewals-is, w.phase-is) (read_blank _ _ _ _ _ _ _ _ before (means ∙ w.in-Blank.is))
+      | in-Sync w ↦ rw (w.lines-is, w.renewals-is, w.phase-is) (read_sync _ _ _ _ _ _ _ _ before (means ∙ w.in-Sync.is))
+      | in-Renew+in_ok-map_err-in-Renew w ↦
+          let pushed : w.push.new.self.items ≡ c.loop-phase.renewals.items ++ c.loop-phase.phase ∷ [] = search rules in
+          rw (w.lines-is, w.renewals-is, w.phase-is, pushed) (read_renew _ _ _ _ _ _ _ _ before (means ∙ w.in-Renew.is))
       | in-Asks+in_ok-map_err-in-Asks w ↦
           let asked = w.in-Asks in
-          let pushed : w.push.new.self.items ≡ c.loop-phase.lines.items ++ record { phase = c.loop-phase.phase; worker = asked.worker; op = asked.op; key = asked.key } ∷ [] = search rules in
-          rw (w.lines-is, w.phase-is, pushed) (read_asks _ _ _ _ _ _ _ _ _ _ before (means ∙ asked.is))
+          let pushed : w.push-in-Asks.new.self.items ≡ c.loop-phase.lines.items ++ record { phase = c.loop-phase.phase; worker = asked.worker; op = asked.op; key = asked.key } ∷ [] = search rules in
+          rw (w.lines-is, w.renewals-is, w.phase-is, pushed) (read_asks _ _ _ _ _ _ _ _ _ _ _ before (means ∙ asked.is))
     ] in
     record {
       lines = after.operations;
+      renewals = after.renewed;
       phases = after.phases;
       fault = after.fault;
       few_operations = after.few_operations;
@@ -36,3 +40,9 @@ returns-in-None-clause-phased c =
     let lines : c.match-limited.lines.items ≡ script_of c.args.workers c.args.text.now = search rules in
     let phases : c.match-limited.phase + 1 ≡ phases_of c.args.workers c.args.text.now = search rules in
     rw (lines, phases) (phased c.args.workers c.args.text.now)
+
+pub returns-in-None-clause-renewed : goal.returns-in-None-clause-renewed
+returns-in-None-clause-renewed c =
+    let renewals : c.match-limited.renewals.items ≡ renewals_of c.args.workers c.args.text.now = search rules in
+    let phases : c.match-limited.phase + 1 ≡ phases_of c.args.workers c.args.text.now = search rules in
+    rw (renewals, phases) (renewed c.args.workers c.args.text.now)

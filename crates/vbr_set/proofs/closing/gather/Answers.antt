@@ -5,6 +5,7 @@ use Rattle.std.proofs.lemmas.List.{length_push}
 use Rattle.vbr_words.specs.Words.{link_of}
 use Rattle.vbr_words.specs.declared.link.Link.{Link}
 use Rattle.vbr_core.specs.Accounts.{incarnations_after}
+use Rattle.vbr_set.specs.Walking.{keyed}
 use Rattle.vbr_set.proofs.Gathering.{Gathered, gathered_as, gathered_linked, gathered_marked, gathered_skip}
 use Rattle.vbr_set.proofs.closing.gather.Goals as goal
 use Rattle.vbr_set.proofs.closing.gather.Goals.{then-decode, else-decode+in-Ok}
@@ -13,7 +14,7 @@ pub loop-slot-preserved-then-not-notes-slot : goal.loop-slot-preserved-then-not-
 loop-slot-preserved-then-not-notes-slot c =
     let low : c.loop-slot.slot < c.args.shape.now.slots = (let l = c.loop-slot-test.true in let e = c.slots-slot-end.ensures.slots in omega arith) in
     let i = c.loop-slot.invariant in record {
-      gathered = λ run x lists. gathered_skip c.args.shape.now c.args.notes.now lists low c.if-not-notes-slot.true (i.gathered run x lists);
+      gathered = λ keys run x lists. gathered_skip (keyed c.args.shape.now keys) c.args.notes.now lists low c.if-not-notes-slot.true (i.gathered keys run x lists);
       few = (let f = i.few in omega arith);
       collected = i.collected;
       room = i.room;
@@ -28,17 +29,17 @@ loop-slot-preserved c =
     let mark = sym (ap (λ (l : Link). l.mark) link) in
     elim c.if-decode.branch [
       | then-decode w ↦ record {
-        gathered = λ run x lists.
+        gathered = λ keys run x lists.
             gathered_as (ap (λ v. v.items) w.keys-is) w.live-is w.marked-is
-            (gathered_marked c.args.notes.now x lists low c.if-not-notes-slot.false (mark ∙ w.if-decode.true) (i.gathered run x lists));
+            (gathered_marked c.args.notes.now x lists low c.if-not-notes-slot.false (mark ∙ w.if-decode.true) (i.gathered keys run x lists));
         few = (let f = i.few in let l = w.live-is in let m = w.marked-is in omega arith);
         collected = ap (λ v. length v.items) w.keys-is ∙ i.collected ∙ sym w.live-is;
         room = (let e = ap vec_capacity w.keys-is in let r = i.room in omega arith);
       }
       | else-decode+in-Ok w ↦ record {
-        gathered = λ run x lists.
+        gathered = λ keys run x lists.
             gathered_as (ap (λ v. v.items) w.keys-is ∙ w.in-Ok.ensures.items ∙ ap (λ (k : ℕ). c.loop-slot.keys.items ++ slice_index words k ∷ []) w.place_index-else-decode.ensures.index) w.live-is w.marked-is
-            (gathered_linked c.args.notes.now x lists low c.if-not-notes-slot.false (mark ∙ w.if-decode.false) (i.gathered run x lists));
+            (gathered_linked c.args.notes.now x lists low c.if-not-notes-slot.false (mark ∙ w.if-decode.false) (i.gathered keys run x lists));
         few = (let f = i.few in let l = w.live-is in let m = w.marked-is in omega arith);
         collected = ap (λ v. length v.items) w.keys-is ∙ ap length w.in-Ok.ensures.items ∙ length_push c.loop-slot.keys.items _ ∙ ap (λ n. n + 1) i.collected ∙ sym w.live-is;
         room = (let e = ap vec_capacity w.keys-is in let more = w.in-Ok.ensures.capacity in let r = i.room in omega arith);
@@ -46,10 +47,10 @@ loop-slot-preserved c =
     ]
 
 pub returns-clause-gathered : goal.returns-clause-gathered
-returns-clause-gathered c = λ run x lists.
+returns-clause-gathered c = λ keys run x lists.
     let low = c.loop-slot-test.false in
     let high = c.loop-slot.auto.slot-end in
     let end = c.slots-slot-end.ensures.slots in
     let all : c.loop-slot.slot ≡ c.args.shape.now.slots = omega (arith, low, high, end) in
-    let g = subst (λ (s : ℕ). Gathered (incarnations_after c.args.shape.now run) s c.loop-slot.keys.items c.loop-slot.live c.loop-slot.marked) all (c.loop-slot.invariant.gathered run x lists) in
+    let g = subst (λ (s : ℕ). Gathered (incarnations_after (keyed c.args.shape.now keys) run) s c.loop-slot.keys.items c.loop-slot.live c.loop-slot.marked) all (c.loop-slot.invariant.gathered keys run x lists) in
     (g.keys_are, g.live_is, g.marked_is)

@@ -3,17 +3,17 @@ use Rattle.std.specs.Prelude.{slice_index}
 use Rattle.std.proofs.lemmas.List.Sorted.{length_permutation}
 use Rattle.vbr_words.specs.declared.place.Place.TheVariants as place
 use Rattle.vbr_core.specs.Accounts.{incarnations_after}
-use Rattle.vbr_set.specs.Walking.{NotesLists}
-use Rattle.vbr_set.proofs.Closings.{whole}
+use Rattle.vbr_slots.proofs.Lemmas.{whole}
+use Rattle.vbr_set.specs.Walking.{NotesLists, keyed}
 use Rattle.vbr_set.proofs.LinkedKeys.{lists_keys}
 use Rattle.vbr_set.proofs.closing.report_of.Goals as goal
 
 pub returns : goal.returns
-returns c = λ run x.
-    let shape = c.args.shape.now in
+returns c = λ keys run x.
+    let shape = keyed c.args.shape.now keys in
     let a = incarnations_after shape run in
     let long : c.args.notes.len ≡ length c.note_lists.new.notes = (let l = c.args.notes.ok in let k = c.note_lists.auto.notes in let m = c.deref_mut.ensures.len in omega arith) in
-    let g = c.gather-live.ensures.gathered run x (subst (λ (l : List Bool). NotesLists shape a l) (sym (c.deref.ensures.value ∙ whole c.args.notes.len c.note_lists.new.notes _ long)) (c.note_lists.ensures run x)) in
+    let g = c.gather-live.ensures.gathered keys run x (subst (λ (l : List Bool). NotesLists shape a l) (sym (c.deref.ensures.value ∙ whole c.args.notes.len c.note_lists.new.notes _ long)) (c.note_lists.ensures keys run x)) in
     record {
       keys = lists_keys x c.gather-live.new.keys.items c.sort_unstable.new.self.items g.0 c.sort_unstable.ensures.permutation c.sort_unstable.ensures.sorted;
       epoch = ap (slice_index c.args.words.now) c.place_index.ensures.index ∙ x.are.each place.Epoch tt;

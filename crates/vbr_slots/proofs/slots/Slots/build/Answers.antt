@@ -1,14 +1,20 @@
-use Rattle.std.proofs.Common.{[], ◌∷◌, ◌++◌, length, ap, ◌∙◌, subst, sym, arith, None}
+use Rattle.std.proofs.Common.{◌≡◌, ℕ, List, [], ◌∷◌, ◌++◌, length, ap, ◌∙◌, subst, sym, arith, rules, None}
+use Rattle.vbr_words.specs.Dimensions.{Dimensions, IsShape}
 use Rattle.vbr_core.specs.Machine as machine
 use Rattle.vbr_core.specs.Runs.{IsRun, know_after}
+use Rattle.vbr_core.specs.declared.event.Event.{Event}
 use Rattle.vbr_core.proofs.Lemmas.{is_run_first}
+use Rattle.vbr_slots.specs.declared.rule.Opening.{Opening}
+use Rattle.vbr_slots.specs.Rule.{first_keys}
 use Rattle.vbr_slots.specs.Views.{TableView, counted_steps, steps_in}
 use Rattle.vbr_slots.specs.Words.{AreWordsOf}
-use Rattle.vbr_slots.proofs.Seats.{opens, splits_first, first_is, first_empty, others_next, new_passes-next}
+use Rattle.vbr_slots.proofs.Seats.{opens, splits_first, first_is, first_has, first_empty, others_next, new_passes-next}
 use Rattle.vbr_slots.proofs.slots.Slots.build.Goals as goal
 
 pub of_words-requires : goal.of_words-requires
-of_words-requires c = opens c.args.opening c.as_slice.result.now (subst (AreWordsOf c.args.opening.shape (machine.opening c.args.opening.shape)) (sym c.as_slice.ensures.value) c.in_ok-words.ensures.words)
+of_words-requires c =
+    let is = c.in_ok-whole.ensures in
+    opens c.in_ok-whole.whole c.as_slice.result.now (subst (λ (x : Opening × List ℕ). AreWordsOf x.0.shape (machine.opening x.0.shape) x.1) (λ k. (sym is k, sym c.as_slice.ensures.value k)) c.in_ok-words.ensures.words)
 
 pub split_seat-next-requires : goal.split_seat-next-requires
 split_seat-next-requires c =
@@ -19,35 +25,56 @@ split_seat-next-requires c =
 
 pub invariant_of-runner : goal.invariant_of-runner
 invariant_of-runner c =
+    let shape : Dimensions = record c.args.opening.shape { keys = c.args.keys.now } in
     let s = c.split_seat-next.ensures in
     let who = c.loop-who.who in
     let i = c.loop-who.invariant in
-    let is = first_is who c.args.opening.passes c.loop-who.seat.me c.split_seat-next.new.seat.me c.split_seat-next.result.me c.loop-who-test.true i.1 s.2 s.4 in
-    let empty = first_empty who c.args.opening.passes c.loop-who.seat.me c.split_seat-next.new.seat.me c.split_seat-next.result.me c.loop-who-test.true i.1 s.2 s.4 in
+    let is = first_is c.args.keys.now who c.args.opening.passes c.loop-who.seat.me c.split_seat-next.new.seat.me c.split_seat-next.result.me c.loop-who-test.true i.1 s.2 s.4 in
+    let has = first_has c.args.keys.now who c.args.opening.passes c.loop-who.seat.me c.split_seat-next.new.seat.me c.split_seat-next.result.me c.loop-who-test.true i.1 s.2 s.4 in
+    let empty = first_empty c.args.keys.now who c.args.opening.passes c.loop-who.seat.me c.split_seat-next.new.seat.me c.split_seat-next.result.me c.loop-who-test.true i.1 s.2 s.4 in
+    let same : record shape { keys = c.args.keys.now } ≡ record c.args.opening.shape { keys = first_keys c.split_seat-next.new.seat.me.0 } = λ k. record c.args.opening.shape { keys = sym has k } in
     record {
       alone = is;
       low = c.loop-who-test.true;
-      shape = c.in_ok-words.ensures.shape;
-      is_run = subst (IsRun c.args.opening.shape c.args.opening.passes) (sym empty) (is_run_first c.args.opening.shape c.args.opening.passes);
-      epoch = sym (ap (λ es. (know_after c.args.opening.shape es who).epoch) empty);
+      shape = subst IsShape same c.in_ok-words.ensures.shape;
+      is_run = subst (λ (x : Dimensions × List Event). IsRun x.0 c.args.opening.passes x.1) (λ k. (same k, sym empty k)) (is_run_first shape c.args.opening.passes);
+      epoch = λ k. (know_after (same k) (sym empty k) who).epoch;
     }
 
-pub invariant_of-counted : goal.invariant_of-counted
-invariant_of-counted c =
+pub invariant_of-stepper : goal.invariant_of-stepper
+invariant_of-stepper c =
+    let shape : Dimensions = record c.args.opening.shape { keys = c.args.keys.now } in
     let s = c.split_seat-next.ensures in
     let i = c.loop-who.invariant in
-    let empty = first_empty c.loop-who.who c.args.opening.passes c.loop-who.seat.me c.split_seat-next.new.seat.me c.split_seat-next.result.me c.loop-who-test.true i.1 s.2 s.4 in
+    let has = first_has c.args.keys.now c.loop-who.who c.args.opening.passes c.loop-who.seat.me c.split_seat-next.new.seat.me c.split_seat-next.result.me c.loop-who-test.true i.1 s.2 s.4 in
+    let same : record shape { keys = c.args.keys.now } ≡ record c.args.opening.shape { keys = first_keys c.split_seat-next.new.seat.me.0 } = λ k. record c.args.opening.shape { keys = sym has k } in
+    record {
+      shape = subst IsShape same c.in_ok-words.ensures.shape;
+      pool = record {
+        pooled = search rules;
+        apart = search rules;
+        in_hand = tt;
+      };
+    }
+
+pub invariant_of-push : goal.invariant_of-push
+invariant_of-push c =
+    let s = c.split_seat-next.ensures in
+    let i = c.loop-who.invariant in
+    let empty = first_empty c.args.keys.now c.loop-who.who c.args.opening.passes c.loop-who.seat.me c.split_seat-next.new.seat.me c.split_seat-next.result.me c.loop-who-test.true i.1 s.2 s.4 in
     record { steps = ap (λ es. counted_steps (steps_in c.loop-who.who es)) (sym empty) }
 
 pub loop-who-preserved : goal.loop-who-preserved
 loop-who-preserved c =
+    let shape : Dimensions = record c.args.opening.shape { keys = c.args.keys.now } in
     let s = c.split_seat-next.ensures in
     let i = c.loop-who.invariant in
-    let table : TableView = record { table = c.in_ok-table.table.shared.table_id; shape = c.args.opening.shape; passes = c.args.opening.passes } in
-    let seen = first_empty c.loop-who.who c.args.opening.passes c.loop-who.seat.me c.split_seat-next.new.seat.me c.split_seat-next.result.me c.loop-who-test.true i.1 s.2 s.4 in (
+    let table : TableView = record { table = c.in_ok-table.table.shared.table_id; shape = shape; passes = c.args.opening.passes } in
+    let has = first_has c.args.keys.now c.loop-who.who c.args.opening.passes c.loop-who.seat.me c.split_seat-next.new.seat.me c.split_seat-next.result.me c.loop-who-test.true i.1 s.2 s.4 in
+    let seen = first_empty c.args.keys.now c.loop-who.who c.args.opening.passes c.loop-who.seat.me c.split_seat-next.new.seat.me c.split_seat-next.result.me c.loop-who-test.true i.1 s.2 s.4 in (
       s.3 ∙ i.0,
-      others_next c.loop-who.who c.args.opening.passes c.loop-who.seat.me c.split_seat-next.new.seat.me _ c.loop-who-test.true i.1 s.2 s.4,
+      others_next c.args.keys.now c.loop-who.who c.args.opening.passes c.loop-who.seat.me c.split_seat-next.new.seat.me _ c.loop-who-test.true i.1 s.2 s.4,
       c.in_ok-push.ensures.items
-          ∙ (λ k. i.2 k ++ record { trace = record { table = (s.0 ∙ i.0) k; shape = c.args.opening.shape; passes = c.args.opening.passes; who = c.loop-who.who; seen = seen k }; pool = c.new.ensures k; hand = None } ∷ [])
+          ∙ (λ k. i.2 k ++ record { trace = record { table = (s.0 ∙ i.0) k; shape = record c.args.opening.shape { keys = has k }; passes = c.args.opening.passes; who = c.loop-who.who; seen = seen k }; pool = c.new-in-loop-who.ensures k; hand = None } ∷ [])
           ∙ sym (new_passes-next table c.loop-who.who),
     )

@@ -1,0 +1,128 @@
+//! Answers by one more load of a link word.
+ghost use Rattle.std.specs.Prelude.{◌≡◌, ◌≢◌, ℕ, false, IfOk, IfErr};
+ghost use Rattle.vbr_words.specs.Words.{link_of};
+ghost use Rattle.vbr_core.specs.Learning.{present_reply};
+ghost use Rattle.vbr_core.specs.Membership.{KeyAt, StandsBehind, StandsBeforeOn};
+ghost use Rattle.vbr_core.specs.declared.history.Op.TheVariants.{Has, Insert, Remove};
+ghost use Rattle.vbr_slots.specs.Calls.{AddsAnswer, AddsNone, Quiet, Made, Took, OnlyLoads};
+ghost use Rattle.vbr_slots.specs.Alone.{IsAlone};
+ghost use Rattle.vbr_slots.specs.Views.{IsOf, knows};
+ghost use Rattle.vbr_pools.specs.KeptSlots.{TakesNoSlot};
+ghost use Rattle.vbr_access.specs.Alone.{StandsNow};
+ghost use Rattle.vbr_access.specs.Held.{IsHeld};
+ghost use Rattle.vbr_access.specs.Keeping.{Keeps, KeepsOwn};
+ghost use Rattle.vbr_access.specs.LookUps.{DecidesKey};
+ghost use Rattle.vbr_access.specs.Rollbacks.{IsLost};
+ghost use Rattle.vbr_access.specs.Soundness.{HasSafeRun};
+
+use crate::held::Held;
+use crate::rollback::Rollback;
+use vbr_core::Op;
+use vbr_slots::{Slots, Stepper};
+use vbr_words::At;
+
+/// As [`crate::confirm_present`].
+#[inline]
+pub fn confirm_present(
+    slots: &Slots,
+    pass: &mut Stepper,
+    op: Op,
+    held: &Held,
+) -> Result<(), Rollback>
+    requires own { IsOf pass.old.trace slots.now }
+    requires held { IsHeld (knows pass.old.trace) held.now }
+    requires key { (key : ℕ) × KeyAt (knows pass.old.trace) held.now.at key }
+    requires unmarked { (link_of held.now.word).mark ≡ false }
+    requires op { op ≢ Remove }
+    ensures took { Took pass.old.trace pass.new.trace 1 }
+    ensures own { KeepsOwn pass.old pass.new }
+    ensures takes_no_slot { TakesNoSlot pass.old pass.new }
+    ensures keeps { Keeps (knows pass.old.trace) (knows pass.new.trace) }
+    ensures made { IfOk result (λ _. (key : ℕ) → KeyAt (knows pass.old.trace) held.now.at key →
+        Made (record { who = pass.old.trace.who; op = op; key = key; reply = present_reply op }) pass.old.trace pass.new.trace) }
+    ensures quiet { IfErr result (λ r. Quiet pass.old.trace pass.new.trace) }
+    ensures adds { IfOk result (λ _. (key : ℕ) → KeyAt (knows pass.old.trace) held.now.at key →
+        AddsAnswer (record { who = pass.old.trace.who; op = op; key = key; reply = present_reply op }) pass.old.trace pass.new.trace) }
+    ensures adds_none { IfErr result (λ r. AddsNone pass.old.trace pass.new.trace) }
+    ensures only_loads { OnlyLoads pass.old.trace pass.new.trace }
+    ensures lost { IfErr result (λ r. IsLost pass.old.trace pass.new.trace held.now r) }
+    ensures safe { HasSafeRun pass.new.trace }
+    ensures wins { IfErr result (λ r. IsAlone pass.old.trace pass.new.trace → StandsNow pass.old.trace held.now → ⊥) }
+{
+    pass.law();
+    let At::Slot(slot) = held.at else {
+        unreachable!()
+    };
+    match pass.confirm_present(slots, op, slot, held.word) {
+        Ok(()) => Ok(()),
+        Err(found) => Err(Rollback::LostExchange { found }),
+    }
+}
+
+/// As [`crate::confirm_absent`].
+#[inline]
+pub fn confirm_absent(
+    slots: &Slots,
+    pass: &mut Stepper,
+    op: Op,
+    key: u64,
+    pred: &Held,
+) -> Result<(), Rollback>
+    requires own { IsOf pass.old.trace slots.now }
+    requires held { IsHeld (knows pass.old.trace) pred.now }
+    requires behind { StandsBehind pass.old.trace.shape (knows pass.old.trace) pred.now.at key }
+    requires before { StandsBeforeOn (knows pass.old.trace) key (link_of pred.now.word) }
+    requires unmarked { (link_of pred.now.word).mark ≡ false }
+    requires op { op ≢ Insert }
+    ensures took { Took pass.old.trace pass.new.trace 1 }
+    ensures own { KeepsOwn pass.old pass.new }
+    ensures takes_no_slot { TakesNoSlot pass.old pass.new }
+    ensures keeps { Keeps (knows pass.old.trace) (knows pass.new.trace) }
+    ensures made { IfOk result (λ _. Made (record { who = pass.old.trace.who; op = op; key = key; reply = false }) pass.old.trace pass.new.trace) }
+    ensures quiet { IfErr result (λ r. Quiet pass.old.trace pass.new.trace) }
+    ensures adds { IfOk result (λ _. AddsAnswer (record { who = pass.old.trace.who; op = op; key = key; reply = false }) pass.old.trace pass.new.trace) }
+    ensures adds_none { IfErr result (λ r. AddsNone pass.old.trace pass.new.trace) }
+    ensures only_loads { OnlyLoads pass.old.trace pass.new.trace }
+    ensures lost { IfErr result (λ r. IsLost pass.old.trace pass.new.trace pred.now r) }
+    ensures safe { HasSafeRun pass.new.trace }
+    ensures wins { IfErr result (λ r. IsAlone pass.old.trace pass.new.trace → StandsNow pass.old.trace pred.now → ⊥) }
+{
+    pass.law();
+    match pass.confirm_absent(slots, op, key, pred.at, pred.word) {
+        Ok(()) => Ok(()),
+        Err(found) => Err(Rollback::LostExchange { found }),
+    }
+}
+
+/// As [`crate::confirm_look_up`].
+#[inline]
+pub fn confirm_look_up(
+    slots: &Slots,
+    pass: &mut Stepper,
+    key: u64,
+    held: &Held,
+    present: bool,
+) -> Result<(), Rollback>
+    requires own { IsOf pass.old.trace slots.now }
+    requires held { IsHeld (knows pass.old.trace) held.now }
+    requires unmarked { (link_of held.now.word).mark ≡ false }
+    requires answers { DecidesKey pass.old.trace.shape (knows pass.old.trace) key held.now present }
+    ensures took { Took pass.old.trace pass.new.trace 1 }
+    ensures own { KeepsOwn pass.old pass.new }
+    ensures takes_no_slot { TakesNoSlot pass.old pass.new }
+    ensures keeps { Keeps (knows pass.old.trace) (knows pass.new.trace) }
+    ensures made { IfOk result (λ _. Made (record { who = pass.old.trace.who; op = Has; key = key; reply = present }) pass.old.trace pass.new.trace) }
+    ensures quiet { IfErr result (λ r. Quiet pass.old.trace pass.new.trace) }
+    ensures adds { IfOk result (λ _. AddsAnswer (record { who = pass.old.trace.who; op = Has; key = key; reply = present }) pass.old.trace pass.new.trace) }
+    ensures adds_none { IfErr result (λ r. AddsNone pass.old.trace pass.new.trace) }
+    ensures only_loads { OnlyLoads pass.old.trace pass.new.trace }
+    ensures lost { IfErr result (λ r. IsLost pass.old.trace pass.new.trace held.now r) }
+    ensures safe { HasSafeRun pass.new.trace }
+    ensures wins { IfErr result (λ r. IsAlone pass.old.trace pass.new.trace → StandsNow pass.old.trace held.now → ⊥) }
+{
+    pass.law();
+    match pass.confirm_look_up(slots, present, key, held.at, held.word) {
+        Ok(()) => Ok(()),
+        Err(found) => Err(Rollback::LostExchange { found }),
+    }
+}

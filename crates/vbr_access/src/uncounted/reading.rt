@@ -1,0 +1,154 @@
+//! Checkpoints and checked reads.
+ghost use Rattle.std.specs.Prelude.{◌≡◌, ◌<◌, ℕ, false, IfOk, IfErr};
+ghost use Rattle.vbr_words.specs.Words.{link_of};
+ghost use Rattle.vbr_words.specs.declared.place.At.TheVariants.{Head};
+ghost use Rattle.vbr_core.specs.Acceptance.{bucket_of};
+ghost use Rattle.vbr_core.specs.Membership.{KeyAt, HeldIn};
+ghost use Rattle.vbr_slots.specs.Calls.{AddsNone, Quiet, Took, OnlyLoads};
+ghost use Rattle.vbr_slots.specs.Alone.{IsAlone, IsFresh, nodes};
+ghost use Rattle.vbr_slots.specs.Views.{IsOf, knows};
+ghost use Rattle.vbr_pools.specs.KeptSlots.{TakesNoSlot};
+ghost use Rattle.vbr_access.specs.Alone.{NextStands, StandsNow};
+ghost use Rattle.vbr_access.specs.Held.{IsSlot, IsHeld};
+ghost use Rattle.vbr_access.specs.Keeping.{Keeps, KeepsOwn};
+ghost use Rattle.vbr_access.specs.Moments.{IsEpochRead, IsRead, IsNext};
+ghost use Rattle.vbr_access.specs.Rollbacks.{IsMoved};
+ghost use Rattle.vbr_access.specs.Soundness.{HasSafeRun};
+ghost use Rattle.vbr_access.specs.Steps.{next_steps};
+
+use crate::held::{Checkpoint, Held};
+use crate::rollback::Rollback;
+use vbr_slots::{Slots, Stepper};
+use vbr_words::{At, decode};
+
+/// As [`crate::checkpoint`].
+#[inline]
+pub fn checkpoint(slots: &Slots, pass: &mut Stepper) -> Checkpoint
+    requires { IsOf pass.old.trace slots.now }
+    ensures took { Took pass.old.trace pass.new.trace 1 }
+    ensures epoch { result.epoch ≡ (knows pass.new.trace).epoch }
+    ensures read { IsEpochRead pass.old.trace pass.new.trace result.epoch }
+    ensures quiet { Quiet pass.old.trace pass.new.trace }
+    ensures own { KeepsOwn pass.old pass.new }
+    ensures takes_no_slot { TakesNoSlot pass.old pass.new }
+    ensures adds_none { AddsNone pass.old.trace pass.new.trace }
+    ensures looks { IsAlone pass.old.trace pass.new.trace → nodes pass.new.trace ≡ nodes pass.old.trace }
+    ensures fresh { IsFresh pass.new.trace }
+    ensures safe { HasSafeRun pass.new.trace }
+    ensures only_loads { OnlyLoads pass.old.trace pass.new.trace }
+{
+    pass.law();
+    Checkpoint {
+        epoch: pass.read_epoch(slots),
+    }
+}
+
+/// As [`crate::first`].
+#[inline]
+pub fn first(
+    slots: &Slots,
+    pass: &mut Stepper,
+    point: &Checkpoint,
+    bucket: u32,
+) -> Result<Held, Rollback>
+    requires own { IsOf pass.old.trace slots.now }
+    requires point { point.now.epoch ≡ (knows pass.old.trace).epoch }
+    requires bucket { bucket < slots.now.shape.buckets }
+    ensures took { Took pass.old.trace pass.new.trace 2 }
+    ensures quiet { Quiet pass.old.trace pass.new.trace }
+    ensures own { KeepsOwn pass.old pass.new }
+    ensures takes_no_slot { TakesNoSlot pass.old pass.new }
+    ensures adds_none { AddsNone pass.old.trace pass.new.trace }
+    ensures only_loads { OnlyLoads pass.old.trace pass.new.trace }
+    ensures keeps { IfOk result (λ head. Keeps (knows pass.old.trace) (knows pass.new.trace)) }
+    ensures at { IfOk result (λ head. head.at ≡ Head bucket) }
+    ensures read { IfOk result (λ head. IsRead pass.old.trace pass.new.trace head) }
+    ensures unmarked { IfOk result (λ head. (link_of head.word).mark ≡ false) }
+    ensures moved { IfErr result (λ r. IsMoved pass.old.trace pass.new.trace r) }
+    ensures safe { HasSafeRun pass.new.trace }
+    ensures looks { IsAlone pass.old.trace pass.new.trace → nodes pass.new.trace ≡ nodes pass.old.trace }
+    ensures still { IfErr result (λ r. IsFresh pass.old.trace → IsAlone pass.old.trace pass.new.trace → ⊥) }
+    ensures stands { IfOk result (λ head. IsAlone pass.old.trace pass.new.trace → StandsNow pass.new.trace head) }
+{
+    pass.law();
+    let at = At::Head(bucket);
+    let before = pass.epoch();
+    let (word, now) = pass.read_link(slots, at);
+    if now != before {
+        return Err(Rollback::EpochMoved { now });
+    }
+    Ok(Held {
+        at,
+        birth: 0,
+        word,
+        epoch: now,
+    })
+}
+
+/// As [`crate::next`].
+#[inline]
+pub fn next(slots: &Slots, pass: &mut Stepper, held: &Held) -> Result<Option<Held>, Rollback>
+    requires own { IsOf pass.old.trace slots.now }
+    requires held { IsHeld (knows pass.old.trace) held.now }
+    ensures took { Took pass.old.trace pass.new.trace (next_steps (link_of held.now.word).slot) }
+    ensures quiet { Quiet pass.old.trace pass.new.trace }
+    ensures own { KeepsOwn pass.old pass.new }
+    ensures takes_no_slot { TakesNoSlot pass.old pass.new }
+    ensures adds_none { AddsNone pass.old.trace pass.new.trace }
+    ensures only_loads { OnlyLoads pass.old.trace pass.new.trace }
+    ensures keeps { IfOk result (λ next. Keeps (knows pass.old.trace) (knows pass.new.trace)) }
+    ensures read { IfOk result (λ next. IsNext pass.old.trace pass.new.trace held.now next) }
+    ensures moved { IfErr result (λ r. IsMoved pass.old.trace pass.new.trace r) }
+    ensures safe { HasSafeRun pass.new.trace }
+    ensures looks { IsAlone pass.old.trace pass.new.trace → nodes pass.new.trace ≡ nodes pass.old.trace }
+    ensures still { IfErr result (λ r. IsFresh pass.old.trace → IsAlone pass.old.trace pass.new.trace → ⊥) }
+    ensures stands { IfOk result (λ next. IsAlone pass.old.trace pass.new.trace → NextStands pass.new.trace next) }
+{
+    pass.law();
+    let Some(slot) = decode(held.word).slot else {
+        return Ok(None);
+    };
+    let before = pass.epoch();
+    let (birth, word, now) = pass.read_node(slots, slot);
+    if now != before {
+        return Err(Rollback::EpochMoved { now });
+    }
+    Ok(Some(Held {
+        at: At::Slot(slot),
+        birth,
+        word,
+        epoch: now,
+    }))
+}
+
+/// As [`crate::key_of`].
+#[inline]
+pub fn key_of(slots: &Slots, pass: &mut Stepper, node: &Held) -> Result<u64, Rollback>
+    requires own { IsOf pass.old.trace slots.now }
+    requires held { IsHeld (knows pass.old.trace) node.now }
+    requires slot { IsSlot node.now.at }
+    ensures took { Took pass.old.trace pass.new.trace 2 }
+    ensures quiet { Quiet pass.old.trace pass.new.trace }
+    ensures own { KeepsOwn pass.old pass.new }
+    ensures takes_no_slot { TakesNoSlot pass.old pass.new }
+    ensures adds_none { AddsNone pass.old.trace pass.new.trace }
+    ensures only_loads { OnlyLoads pass.old.trace pass.new.trace }
+    ensures keeps { IfOk result (λ key. Keeps (knows pass.old.trace) (knows pass.new.trace)) }
+    ensures key { IfOk result (λ key. KeyAt (knows pass.new.trace) node.now.at key) }
+    ensures bucket { IfOk result (λ key. (b : ℕ) → HeldIn (knows pass.old.trace) node.now.at b → bucket_of pass.old.trace.shape key ≡ b) }
+    ensures moved { IfErr result (λ r. IsMoved pass.old.trace pass.new.trace r) }
+    ensures safe { HasSafeRun pass.new.trace }
+    ensures looks { IsAlone pass.old.trace pass.new.trace → nodes pass.new.trace ≡ nodes pass.old.trace }
+    ensures still { IfErr result (λ r. IsFresh pass.old.trace → IsAlone pass.old.trace pass.new.trace → ⊥) }
+{
+    pass.law();
+    let At::Slot(slot) = node.at else {
+        unreachable!()
+    };
+    let before = pass.epoch();
+    let (key, now) = pass.read_key(slots, slot);
+    if now != before {
+        return Err(Rollback::EpochMoved { now });
+    }
+    Ok(key)
+}

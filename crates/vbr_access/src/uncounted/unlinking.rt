@@ -1,0 +1,108 @@
+//! Unlinking a marked node.
+ghost use Rattle.std.specs.Prelude.{◌≡◌, ◌≤◌, ℕ, false, IsSome, IfOk, IfErr};
+ghost use Rattle.vbr_words.specs.Words.{IsLink, link_of};
+ghost use Rattle.vbr_core.specs.Acceptance.{IsUnlinked};
+ghost use Rattle.vbr_core.specs.Membership.{BirthNamed};
+ghost use Rattle.vbr_slots.specs.Alone.{IsAlone, IsFresh, nodes};
+ghost use Rattle.vbr_slots.specs.Calls.{Quiet, Took};
+ghost use Rattle.vbr_slots.specs.Views.{IsOf, knows};
+ghost use Rattle.vbr_pools.specs.KeptSlots.{TakesNoSlot};
+ghost use Rattle.vbr_access.specs.Alone.{StandsNow, UnlinksAlone};
+ghost use Rattle.vbr_access.specs.Held.{IsHeld, IsMarked, Names};
+ghost use Rattle.vbr_access.specs.Keeping.{Keeps, KeepsOwn, Unlinks};
+ghost use Rattle.vbr_access.specs.Moments.{IsRead};
+ghost use Rattle.vbr_access.specs.Rollbacks.{IsMoved, IsMovedOrLost};
+ghost use Rattle.vbr_access.specs.Soundness.{HasSafeRun};
+ghost use Rattle.vbr_access.specs.Steps.{birth_steps, steps_to_unlink};
+
+use crate::held::{Held, Marked};
+use crate::links::link_to;
+use crate::rollback::Rollback;
+use vbr_pools::Unlinked;
+use vbr_slots::{Slots, Stepper};
+use vbr_words::decode;
+
+// The birth of what a marked link names, in two steps; 0 of none, without a step.
+#[inline]
+fn birth_behind(slots: &Slots, pass: &mut Stepper, marked: &Marked) -> Result<u64, Rollback>
+    requires own { IsOf pass.old.trace slots.now }
+    requires marked { IsMarked (knows pass.old.trace) marked.now }
+    ensures quiet { Quiet pass.old.trace pass.new.trace }
+    ensures took { Took pass.old.trace pass.new.trace (birth_steps (link_of marked.now.word).slot) }
+    ensures own { KeepsOwn pass.old pass.new }
+    ensures takes_no_slot { TakesNoSlot pass.old pass.new }
+    ensures keeps { IfOk result (λ birth. Keeps (knows pass.old.trace) (knows pass.new.trace)) }
+    ensures birth { IfOk result (λ birth. BirthNamed (knows pass.new.trace) (link_of marked.now.word).slot birth) }
+    ensures some { IfErr result (λ r. IsSome (link_of marked.now.word).slot) }
+    ensures safe { HasSafeRun pass.new.trace }
+    ensures moved { IfErr result (λ r. IsMoved pass.old.trace pass.new.trace r) }
+    ensures looks { IsAlone pass.old.trace pass.new.trace → nodes pass.new.trace ≡ nodes pass.old.trace }
+    ensures still { IfErr result (λ r. IsFresh pass.old.trace → IsAlone pass.old.trace pass.new.trace → ⊥) }
+{
+    pass.law();
+    let Some(slot) = decode(marked.word).slot else {
+        return Ok(0);
+    };
+    let birth = pass.load_birth(slots, slot);
+    let now = pass.read_epoch(slots);
+    if now != marked.epoch {
+        return Err(Rollback::EpochMoved { now });
+    }
+    Ok(birth)
+}
+
+/// As [`crate::unlink`].
+#[inline]
+pub fn unlink(
+    slots: &Slots,
+    pass: &mut Stepper,
+    pred: &Held,
+    marked: Marked,
+) -> Result<(Unlinked, Held), Rollback>
+    requires own { IsOf pass.old.trace slots.now }
+    requires pred { IsHeld (knows pass.old.trace) pred.now }
+    requires unmarked { (link_of pred.now.word).mark ≡ false }
+    requires marked { IsMarked (knows pass.old.trace) marked }
+    requires names { Names pred.now marked.slot }
+    ensures wins { IfErr result (λ r. IsFresh pass.old.trace → IsAlone pass.old.trace pass.new.trace → StandsNow pass.old.trace pred.now → ⊥) }
+    ensures took { Took pass.old.trace pass.new.trace (steps_to_unlink (link_of marked.word).slot result) }
+    ensures quiet { Quiet pass.old.trace pass.new.trace }
+    ensures own { KeepsOwn pass.old pass.new }
+    ensures unlinks { IfOk result (λ r. Unlinks marked.slot pass.old pass.new) }
+    ensures keeps { IfOk result (λ r. Keeps (knows pass.old.trace) (knows pass.new.trace)) }
+    ensures slot { IfOk result (λ r. r.0.slot ≡ marked.slot) }
+    ensures owned { IfOk result (λ r. IsUnlinked ((knows pass.new.trace).own marked.slot)) }
+    ensures at { IfOk result (λ r. r.1.at ≡ pred.now.at) }
+    ensures read { IfOk result (λ r. IsRead pass.old.trace pass.new.trace r.1) }
+    ensures still { IfOk result (λ r. (link_of r.1.word).mark ≡ false) }
+    ensures next { IfOk result (λ r. (link_of r.1.word).slot ≡ (link_of marked.word).slot) }
+    ensures takes_no_slot { IfErr result (λ r. TakesNoSlot pass.old pass.new) }
+    ensures rolled { IfErr result (λ r. IsMovedOrLost pass.old.trace pass.new.trace pred.now r) }
+    ensures safe { HasSafeRun pass.new.trace }
+    ensures alone { IfOk result (λ r. IsAlone pass.old.trace pass.new.trace → StandsNow pass.old.trace pred.now → UnlinksAlone pass.old.trace pass.new.trace pred.now r.1) }
+{
+    let next_birth = birth_behind(slots, pass, &marked)?;
+    pass.law();
+    let new = link_to(decode(marked.word).slot, pred.birth, next_birth);
+    match pass.unlink(slots, pred.at, pred.word, marked.slot, new) {
+        Ok(()) => {
+            pass.law();
+            let node = Unlinked::by(pass, marked.slot);
+            Ok((node, Held { word: new, ..*pred }))
+        }
+        Err(found) => Err(Rollback::LostExchange { found }),
+    }
+}
+
+/// How many steps an unlinking made, where the word of the marked link was this.
+#[inline]
+pub fn steps_to_unlink(word: u64, outcome: &Result<(Unlinked, Held), Rollback>) -> u32
+    ensures is { result ≡ steps_to_unlink (link_of word).slot outcome.now }
+    ensures few { result ≤ 3 }
+{
+    let loads = if decode(word).slot.is_some() { 2 } else { 0 };
+    match outcome {
+        Err(Rollback::EpochMoved { now: _ }) => loads,
+        _ => loads + 1,
+    }
+}

@@ -1,0 +1,162 @@
+-- From set to set: the lines of a span are cut off those that are left, and what one more set was asked stands in front of what the later ones are.
+use Rattle.std.proofs.Common.{◌≡◌, ℕ, zero, suc, ◌+◌, ◌-◌, ◌<◌, ◌≤◌, List, [], ◌∷◌, ◌++◌, length, take, drop, get_or, refl, sym, ap, subst, ◌∙◌, append_assoc, arith, length-append, length-drop}
+use Rattle.std.specs.Prelude.{nat_le, zip, All}
+use Rattle.std.specs.List.{prefix_len}
+use Rattle.std.proofs.lemmas.List.{drop_all, drop-drop, length-take, take-append-drop}
+use Rattle.std.proofs.Math.Seq.{drop-cons}
+use Rattle.std.proofs.lemmas.List.Elements.{All-drop, All-take}
+use Rattle.vbr_words.specs.Dimensions.{Dimensions}
+use Rattle.vbr_slots.specs.Views.{TableView}
+use Rattle.vbr_set.specs.declared.report.Report.{Report}
+use Rattle.vbr_script.specs.Scripts.{ArePhased, AreRenewalsFrom, AscendFrom}
+use Rattle.vbr_script.specs.declared.script.Line.{Line}
+use Rattle.vbr_transcript.specs.Calls.{Outcome}
+use Rattle.vbr_transcript.specs.Runs.{AreExplained}
+use Rattle.vbr_transcript.specs.declared.reply.Reply.{Reply}
+use Rattle.vbr_transcript.proofs.Lemmas.{all_lines, ascend_lower, last_set, one_more_set, zip-append}
+use Rattle.vbr_player.specs.Spans.{HasPlayedSpan, IsFollowed, IsSpan}
+use Rattle.vbr_player.proofs.Phasing.{rest_of, slice_of}
+use Rattle.vbr_player.proofs.Slices.{all_from, next_phase}
+
+-- ---- the lines of a span
+
+ascend_take : (from n : ℕ) (lines : List Line) → AscendFrom from lines → AscendFrom from (take n lines)
+ascend_take from zero lines up = tt
+ascend_take from (suc n) [] up = tt
+ascend_take from (suc n) (line ∷ lines) up = (up.0, ascend_take line.phase n lines up.1)
+
+-- the next lines, of the phases up to one, are cut off those that are left
+pub record CutsSpan (script : List Line) (first n phase : ℕ) : Type 0 where
+  pub rest : drop first script ≡ take n (drop first script) ++ drop (first + n) script
+  pub early : All (λ line. line.phase ≤ phase) (take n (drop first script))
+  pub late : AscendFrom (phase + 1) (drop (first + n) script)
+
+pub cuts_span : (script : List Line) (first n from phase : ℕ) → n ≡ prefix_len (λ line. nat_le line.phase phase) (drop first script) → AscendFrom from (drop first script) → CutsSpan script first n phase
+cuts_span script first n from phase is up =
+    let rest = drop first script in
+    let next = next_phase phase from rest up in
+    let dropped : drop n rest ≡ drop (first + n) script = drop-drop n first script in
+    record {
+      rest = sym (take-append-drop n rest) ∙ ap (λ (lines : List Line). take n rest ++ lines) dropped;
+      early = subst (λ (k : ℕ). All (λ line. line.phase ≤ phase) (take k rest)) (sym is) next.0;
+      late = subst (λ (lines : List Line). AscendFrom (phase + 1) lines) dropped (subst (λ (k : ℕ). AscendFrom (phase + 1) (drop k rest)) (sym is) next.1);
+    }
+
+-- they are counted among those that are left
+pub next_cut : (script : List Line) (first n from phase : ℕ) → n ≡ prefix_len (λ line. nat_le line.phase phase) (take (length script - first) (drop first script)) → AscendFrom from (drop first script) → CutsSpan script first n phase
+next_cut script first n from phase count up = cuts_span script first n from phase (count ∙ ap (prefix_len (λ (line : Line). nat_le line.phase phase)) (rest_of script first)) up
+
+-- they are a span
+pub is_span : (workers phases : ℕ) (script : List Line) (first n from phase : ℕ) → ArePhased workers phases script → AscendFrom from (drop first script) → CutsSpan script first n phase → from ≤ phase → IsSpan workers from (phase + 1) (take (first + n - first) (drop first script))
+is_span workers phases script first n from phase phased up cut order =
+    let ascend : AscendFrom from (take n (drop first script)) = ascend_take from n (drop first script) up in
+    subst (IsSpan workers from (phase + 1)) (sym (slice_of script first n)) (record {
+      order = omega arith;
+      phased = record {
+        workers_below = All-take (λ (line : Line). line.worker < workers) n (drop first script) (All-drop (λ (line : Line). line.worker < workers) first script phased.workers_below);
+        phases_below = λ k d inside. let low = cut.early k d inside in omega arith;
+        ascend = ascend_lower 0 from (take n (drop first script)) (omega arith) ascend;
+      };
+      ascend = ascend;
+    })
+
+-- all that are left are one too
+pub is_last_span : (workers phases : ℕ) (script : List Line) (first from : ℕ) → ArePhased workers phases script → AscendFrom from (drop first script) → from ≤ phases → IsSpan workers from phases (take (length script - first) (drop first script))
+is_last_span workers phases script first from phased up order =
+    subst (IsSpan workers from phases) (sym (rest_of script first)) (record {
+      order = order;
+      phased = record {
+        workers_below = All-drop (λ (line : Line). line.worker < workers) first script phased.workers_below;
+        phases_below = All-drop (λ (line : Line). line.phase < phases) first script phased.phases_below;
+        ascend = ascend_lower 0 from (drop first script) (omega arith) up;
+      };
+      ascend = up;
+    })
+
+-- ---- set after set
+
+-- the first lines of a script were played on sets, of which this is the one that is played next: whatever it and those behind it are asked completes what all are asked
+pub record HavePlayedSets (opened : TableView) (script : List Line) (renewals : List ℕ) (phases : ℕ) (set : TableView) (first phase i : ℕ) (replies : List Reply) : Type 0 where
+  pub inside : first ≤ length script
+  pub long : length replies ≡ first
+  pub workers : set.passes ≡ opened.passes
+  pub later : AscendFrom phase (drop first script)
+  pub order : phase ≤ phases
+  pub renewed : AreRenewalsFrom phase phases (drop i renewals)
+  pub goes : (rest : List Reply) (listed : List ℕ) (epoch : ℕ) → AreExplained set.shape set.passes (drop i renewals) (zip (drop first script) rest) listed epoch → AreExplained opened.shape opened.passes renewals (zip script (replies ++ rest)) listed epoch
+
+pub none_played : (opened : TableView) (script : List Line) (renewals : List ℕ) (phases : ℕ) → ArePhased opened.passes phases script → AreRenewalsFrom 0 phases renewals → HavePlayedSets opened script renewals phases opened 0 0 0 []
+none_played opened script renewals phases phased renewed = record {
+  inside = omega arith;
+  long = refl;
+  workers = refl;
+  later = phased.ascend;
+  order = omega arith;
+  renewed = renewed;
+  goes = λ rest listed epoch explained. explained;
+}
+
+-- the next renewal
+pub renewal_here : (renewals lent : List ℕ) (i : ℕ) → lent ≡ renewals → i < length lent → drop i renewals ≡ get_or lent i 0 ∷ drop (i + 1) renewals
+renewal_here renewals lent i same inside =
+    let within : i < length renewals = subst (λ (some : List ℕ). i < length some) same inside in
+    let next : suc i ≡ i + 1 = omega arith in
+    drop-cons renewals i 0 within ∙ ap (λ (k : ℕ). get_or renewals i 0 ∷ drop k renewals) next ∙ ap (λ (some : List ℕ). get_or some i 0 ∷ drop (i + 1) renewals) (sym same)
+
+-- none is left
+pub no_renewal : (renewals lent : List ℕ) (i : ℕ) → lent ≡ renewals → length lent ≤ i → drop i renewals ≡ []
+no_renewal renewals lent i same past = drop_all i renewals (subst (λ (some : List ℕ). length some ≤ i) same past)
+
+-- it is behind the phases so far, and not the last phase
+pub renewal_in : (opened : TableView) (script : List Line) (renewals : List ℕ) (phases : ℕ) (set : TableView) (first phase i renewal : ℕ) (replies : List Reply) → drop i renewals ≡ renewal ∷ drop (i + 1) renewals → HavePlayedSets opened script renewals phases set first phase i replies → (phase ≤ renewal) × (renewal + 1 < phases)
+renewal_in opened script renewals phases set first phase i renewal replies here so_far =
+    let renewed : AreRenewalsFrom phase phases (renewal ∷ drop (i + 1) renewals) = subst (AreRenewalsFrom phase phases) here so_far.renewed in
+    (renewed.0, renewed.1)
+
+-- the phases and the workers are those of the set
+pub phased_here : (opened : TableView) (script : List Line) (renewals : List ℕ) (phases : ℕ) (set : TableView) (first phase i : ℕ) (replies : List Reply) → ArePhased opened.passes phases script → HavePlayedSets opened script renewals phases set first phase i replies → ArePhased set.passes phases script
+phased_here opened script renewals phases set first phase i replies phased so_far = subst (λ (workers : ℕ). ArePhased workers phases script) (sym so_far.workers) phased
+
+-- what a set was asked goes on with what the next ones are
+goes_on : (set next : TableView) (renewal : ℕ) (renewals : List ℕ) (script : List Line) (first n : ℕ) (more rest : List Reply) (listed : List ℕ) (epoch : ℕ) → CutsSpan script first n renewal → IsFollowed set (take n (drop first script)) more next → AreExplained next.shape next.passes renewals (zip (drop (first + n) script) rest) listed epoch → AreExplained set.shape set.passes (renewal ∷ renewals) (zip (drop first script) (more ++ rest)) listed epoch
+goes_on set next renewal renewals script first n more rest listed epoch cut followed explained =
+    let slice = take n (drop first script) in
+    let back = drop (first + n) script in
+    let played = followed.played in
+    let follows : (next.shape, next.passes) ≡ (record set.shape { keys = followed.report.keys.items }, set.passes) = λ i. (followed.shape i, followed.passes i) in
+    let then : AreExplained (record set.shape { keys = followed.report.keys.items }) set.passes renewals (zip back rest) listed epoch = subst (λ (k : Dimensions × ℕ). AreExplained k.0 k.1 renewals (zip back rest) listed epoch) follows explained in
+    let late : All (λ line. renewal < line.phase) back = λ k d inside. let high = all_from (renewal + 1) (renewal + 1) back (omega arith) cut.late k d inside in omega arith in
+    let outcomes : zip (drop first script) (more ++ rest) ≡ zip slice more ++ zip back rest = ap (λ (lines : List Line). zip lines (more ++ rest)) cut.rest ∙ zip-append slice back more rest played.one_each in
+    subst (λ (some : List Outcome). AreExplained set.shape set.passes (renewal ∷ renewals) some listed epoch) (sym outcomes)
+    (one_more_set set.shape set.passes renewal renewals (zip slice more) (zip back rest) played.run followed.report.keys.items listed epoch (all_lines (λ (line : Line). line.phase ≤ renewal) slice more cut.early) (all_lines (λ (line : Line). renewal < line.phase) back rest late) played.of_set played.keys then)
+
+-- one more set was played
+pub one_more_played : (opened : TableView) (script : List Line) (renewals : List ℕ) (phases : ℕ) (set next : TableView) (first phase i n renewal : ℕ) (replies more : List Reply) → drop i renewals ≡ renewal ∷ drop (i + 1) renewals → first + n ≤ length script → CutsSpan script first n renewal → HavePlayedSets opened script renewals phases set first phase i replies → IsFollowed set (take (first + n - first) (drop first script)) more next → HavePlayedSets opened script renewals phases next (first + n) (renewal + 1) (i + 1) (replies ++ more)
+one_more_played opened script renewals phases set next first phase i n renewal replies more here inside cut so_far told =
+    let followed : IsFollowed set (take n (drop first script)) more next = subst (λ (lines : List Line). IsFollowed set lines more next) (slice_of script first n) told in
+    let slice : length (take n (drop first script)) ≡ n = length-take_inside script first n inside in
+    let renewed : AreRenewalsFrom phase phases (renewal ∷ drop (i + 1) renewals) = subst (AreRenewalsFrom phase phases) here so_far.renewed in
+    record {
+      inside = inside;
+      long = omega (arith, length-append replies more, so_far.long, followed.played.one_each, slice);
+      workers = followed.passes ∙ so_far.workers;
+      later = cut.late;
+      order = omega (arith, renewed.1);
+      renewed = renewed.2;
+      goes = λ rest listed epoch explained.
+          let whole = goes_on set next renewal (drop (i + 1) renewals) script first n more rest listed epoch cut followed explained in
+          let here_too = subst (λ (some : List ℕ). AreExplained set.shape set.passes some (zip (drop first script) (more ++ rest)) listed epoch) (sym here) whole in
+          subst (λ (some : List Reply). AreExplained opened.shape opened.passes renewals (zip script some) listed epoch) (sym (append_assoc replies more rest)) (so_far.goes (more ++ rest) listed epoch here_too);
+    }
+  where
+    length-take_inside : (lines : List Line) (first n : ℕ) → first + n ≤ length lines → length (take n (drop first lines)) ≡ n
+    length-take_inside lines first n inside = omega (arith, length-take n (drop first lines), length-drop first lines)
+
+-- the last set was played
+pub all_sets : (opened : TableView) (script : List Line) (renewals : List ℕ) (phases : ℕ) (set : TableView) (first phase i : ℕ) (replies more : List Reply) (report : Report) → drop i renewals ≡ [] → HavePlayedSets opened script renewals phases set first phase i replies → HasPlayedSpan set (take (length script - first) (drop first script)) more report → (length (replies ++ more) ≡ length script) × AreExplained opened.shape opened.passes renewals (zip script (replies ++ more)) report.keys.items report.epoch
+all_sets opened script renewals phases set first phase i replies more report none so_far told =
+    let played : HasPlayedSpan set (drop first script) more report = subst (λ (lines : List Line). HasPlayedSpan set lines more report) (rest_of script first) told in
+    let last = last_set set.shape set.passes (zip (drop first script) more) played.run report.keys.items report.epoch played.of_set played.keys played.epoch in (
+      (let inside = so_far.inside in omega (arith, length-append replies more, so_far.long, played.one_each, length-drop first script)),
+      so_far.goes more report.keys.items report.epoch (subst (λ (some : List ℕ). AreExplained set.shape set.passes some (zip (drop first script) more) report.keys.items report.epoch) (sym none) last),
+    )

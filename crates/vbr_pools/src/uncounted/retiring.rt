@@ -1,0 +1,41 @@
+//! Retiring an unlinked slot.
+ghost use Rattle.std.specs.Prelude.{◌≡◌};
+ghost use Rattle.vbr_core.specs.Acceptance.{IsUnlinked};
+ghost use Rattle.vbr_slots.specs.Alone.{IsAlone, IsFresh, LeavesLists};
+ghost use Rattle.vbr_slots.specs.Calls.{Quiet, Took};
+ghost use Rattle.vbr_slots.specs.Views.{IsOf, knows};
+ghost use Rattle.vbr_pools.specs.KeptSlots.{TakesNoSlot};
+ghost use Rattle.vbr_pools.specs.Retiring.{Stamps, is_kept, know_retired, pool_retired, steps_to_retire};
+
+use crate::unlinked::Unlinked;
+use vbr_slots::pass::POOL;
+use vbr_slots::{Slots, Stepper};
+
+/// As [`crate::retire`].
+#[inline]
+pub fn retire(slots: &Slots, pass: &mut Stepper, unlinked: Unlinked) -> u32
+    requires own { IsOf pass.old.trace slots.now }
+    requires unlinked { IsUnlinked ((knows pass.old.trace).own unlinked.slot) }
+    ensures steps { Took pass.old.trace pass.new.trace result }
+    ensures quiet { Quiet pass.old.trace pass.new.trace }
+    ensures takes_no_slot { TakesNoSlot pass.old pass.new }
+    ensures count { result ≡ steps_to_retire pass.old.pool }
+    ensures stamped { Stamps pass.old.trace pass.new.trace unlinked.slot (knows pass.new.trace).epoch }
+    ensures known { knows pass.new.trace ≡ know_retired (knows pass.old.trace) (knows pass.new.trace).epoch unlinked.slot (is_kept pass.old.pool) }
+    ensures pool { pass.new.pool ≡ pool_retired pass.old.pool unlinked.slot }
+    ensures hand { pass.new.hand ≡ pass.old.hand }
+    ensures alone { IsAlone pass.old.trace pass.new.trace → LeavesLists pass.old.trace pass.new.trace × IsFresh pass.new.trace }
+{
+    pass.law();
+    let slot = unlinked.into_slot();
+    let kept = pass.pool().len() < POOL - 1;
+    pass.read_epoch(slots);
+    pass.store_stamp(slots, slot);
+    if kept {
+        pass.keep(slot);
+        2
+    } else {
+        pass.raise(slots, slot);
+        3
+    }
+}

@@ -1,0 +1,26 @@
+-- How a set is renewed: it is closed, and a fresh one opens with the keys that it had.
+use Rattle.std.specs.Prelude.{◌≡◌, List}
+use Rattle.vbr_slots.specs.Views.{PassView, TableView}
+use Rattle.vbr_set.specs.Closing.{Closes}
+use Rattle.vbr_set.specs.declared.renew_error.RenewError.{RenewError}
+use Rattle.vbr_set.specs.declared.renew_error.RenewError.TheVariants.{Missing, Memory, Closed}
+use Rattle.vbr_set.specs.declared.report.Report.{Report}
+
+-- the set is closed, with the report that its close gives, and the new set opens with the keys of this report: those that the calls of all passes leave in the old one; its shape is else the same, and so is its number of passes
+pub record Renews (set : TableView) (passes : List PassView) (new : TableView) : Type 0 where
+  pub report : Report
+  pub closes : Closes set passes report
+  pub shape : new.shape ≡ record set.shape { keys = report.keys.items }
+  pub count : new.passes ≡ set.passes
+
+-- where a renewal is refused, the set and the passes come back as they were; or the set is closed, and the report is that of its close
+abbrev pub IsUnrenewed : RenewError → TableView → List PassView → Type 0
+IsUnrenewed (Missing t ps) set passes = (t ≡ set) × (ps.items ≡ passes)
+IsUnrenewed (Memory t ps) set passes = (t ≡ set) × (ps.items ≡ passes)
+IsUnrenewed (Closed report) set passes = Closes set passes report
+
+-- passes are missing; the other errors are that there is no memory
+abbrev pub LacksPasses : RenewError → Type 0
+LacksPasses (Missing t ps) = Unit {0}
+LacksPasses (Memory t ps) = ⊥
+LacksPasses (Closed report) = ⊥

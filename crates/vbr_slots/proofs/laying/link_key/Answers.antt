@@ -1,0 +1,33 @@
+-- The head is read as it stands, and the five words are those of the key that is linked ahead of it.
+use Rattle.std.proofs.Common.{◌≡◌, ◌<◌, max, false, ap, ◌∙◌, subst}
+use Rattle.std.specs.Prelude.{slice_index_or}
+use Rattle.vbr_words.specs.Dimensions.{Dimensions}
+use Rattle.vbr_words.specs.Words.{word_of, link_of}
+use Rattle.vbr_words.specs.Places.{index_of}
+use Rattle.vbr_words.specs.declared.place.Place.TheVariants.{Head, Flags}
+use Rattle.vbr_words.proofs.Lemmas.{link_of-word_of}
+use Rattle.vbr_core.specs.Acceptance.{bucket_of}
+use Rattle.vbr_slots.proofs.Openings.{KeyIndices, key_ahead}
+use Rattle.vbr_slots.proofs.laying.link_key.Goals as goal
+
+pub returns : goal.returns
+unfolding bucket_of
+returns c = λ keys w fit are.
+    let shape : Dimensions = record c.args.shape.now { keys = keys } in
+    let bucket = c.bucket_of.ensures.bucket in
+    let in_shape : bucket_of shape c.args.key < shape.buckets = subst (λ b. b < shape.buckets) bucket c.bucket_of.ensures.in_shape in
+    let head_at : c.place_index-head.result ≡ index_of shape (Head (bucket_of shape c.args.key)) = c.place_index-head.ensures.index ∙ ap (λ b. index_of shape (Head b)) bucket in
+    let read : c.decode-first.result ≡ w.head (bucket_of shape c.args.key) =
+    c.decode-first.ensures.link
+    ∙ ap link_of (ap (λ i. slice_index_or c.args.words.now i 0) head_at ∙ are.each (Head (bucket_of shape c.args.key)) in_shape)
+    ∙ link_of-word_of _ (fit (bucket_of shape c.args.key)) in
+    let at : KeyIndices shape c.args.number (bucket_of shape c.args.key) c.place_index.result c.place_index-head.result c.place_index-2.result c.place_index-3.result c.place_index-4.result = record {
+      link_at = c.place_index.ensures.index;
+      head_at = head_at;
+      birth_at = c.place_index-2.ensures.index;
+      key_at = c.place_index-3.ensures.index;
+      flags_at = c.place_index-4.ensures.index ∙ ap (λ n. index_of shape (Flags n)) c.word_of_flag.ensures;
+    } in
+    key_ahead shape w c.args.words.now c.args.number c.args.key c.encode.result c.encode-2.result c.all_but.result _ _ _ _ _ are at c.requires.number in_shape
+    (c.encode.ensures ∙ (λ i. word_of (record { slot = (read i).slot; mark = false; version = (c.version_of.ensures ∙ (λ k. max 1 (read k).version)) i })))
+    c.encode-2.ensures c.all_but.ensures

@@ -1,0 +1,14 @@
+-- The keys from a number on are linked.
+use Rattle.std.proofs.Common.{◌≤◌, length}
+use Rattle.vbr_core.specs.Making.{opening_from}
+use Rattle.vbr_slots.specs.Words.{AreWordsOf}
+use Rattle.vbr_slots.proofs.laying.opening_words.Given as goal
+
+abbrev pub invariant-loop-number : goal.invariant-loop-number
+invariant-loop-number l = record {
+  low : l.number ≤ length l.keys;
+  words : AreWordsOf (record l.shape { keys = l.keys }) (opening_from (record l.shape { keys = l.keys }) l.number) l.words.items;
+}
+
+abbrev pub decreases-loop-number : goal.decreases-loop-number
+decreases-loop-number l = l.number

@@ -1,0 +1,159 @@
+-- Sets that follow one another: what one was asked, and behind it what the next ones were, are the outcomes of all.
+use Rattle.std.proofs.Common.{◌≡◌, ℕ, ◌<◌, ◌≤◌, true, false, List, [], ◌∷◌, ◌++◌, inl, inr, refl, sym, ap, ap₂, subst, ◌∙◌, append_assoc, append-nil, arith}
+use Rattle.std.proofs.lemmas.Bool.{cases_lt}
+use Rattle.std.proofs.lemmas.Bool.Decides.{nat_tests}
+use Rattle.std.proofs.lemmas.List.Concat.{flat_map-append}
+use Rattle.std.proofs.lemmas.List.Elements.{filter-append}
+use Rattle.std.specs.Prelude.{nat_le, nat_lt, All}
+use Rattle.vbr_words.specs.Dimensions.{Dimensions}
+use Rattle.vbr_core.specs.Keys.{Keys, keys_of, AreKeysOf}
+use Rattle.vbr_core.specs.Opened.{opening_keys}
+use Rattle.vbr_core.specs.History.{IsLegal, keys_after, set_after, calls_by}
+use Rattle.vbr_core.specs.Runs.{world_after}
+use Rattle.vbr_core.specs.declared.event.Event.{Event}
+use Rattle.vbr_core.specs.declared.history.Call.{Call}
+use Rattle.vbr_core.proofs.Lemmas.{calls_by-append}
+use Rattle.vbr_transcript.specs.Calls.{Outcome, answer_of, answered_calls, outcomes_up_to, outcomes_past}
+use Rattle.vbr_transcript.specs.Runs.{EndsIn, Explains, IsSetRun, AreOfSets, AreExplained}
+use Rattle.vbr_transcript.proofs.Filters.{filter_all, filter_none}
+
+-- ---- histories, end to end
+
+set_after-append : (keys : Keys) (calls more : List Call) → set_after keys (calls ++ more) ≡ set_after (set_after keys calls) more
+set_after-append keys [] more = refl
+set_after-append keys (call ∷ calls) more = set_after-append (keys_after keys call.op call.key call.reply) calls more
+
+legal-append : (keys : Keys) (calls more : List Call) → IsLegal keys calls → IsLegal (set_after keys calls) more → IsLegal keys (calls ++ more)
+legal-append keys [] more first then = then
+legal-append keys (call ∷ calls) more first then = (first.0, legal-append (keys_after keys call.op call.key call.reply) calls more first.1 then)
+
+-- the keys of a list that has just the keys of a set are that set
+same_keys : (listed : List ℕ) (keys : Keys) → AreKeysOf listed keys → keys_of listed ≡ keys
+same_keys listed keys are = λ i key. are.same key i
+
+-- ---- outcomes, cut at a phase
+
+abbrev UpTo : ℕ → List Outcome → Type 0
+UpTo phase outcomes = All (λ outcome. outcome.0.phase ≤ phase) outcomes
+
+abbrev Past : ℕ → List Outcome → Type 0
+Past phase outcomes = All (λ outcome. phase < outcome.0.phase) outcomes
+
+all_up_to : (low phase : ℕ) (outcomes : List Outcome) → low ≤ phase → UpTo low outcomes → outcomes_up_to phase outcomes ≡ outcomes
+all_up_to low phase outcomes within early = filter_all (λ (outcome : Outcome). nat_le outcome.0.phase phase) outcomes (λ k d inside. yes (early k d inside))
+  where
+    yes : {n : ℕ} → n ≤ low → nat_le n phase ≡ true
+    yes small = grind (arith, nat_tests)
+
+none_up_to : (phase high : ℕ) (outcomes : List Outcome) → phase ≤ high → Past high outcomes → outcomes_up_to phase outcomes ≡ []
+none_up_to phase high outcomes within late = filter_none (λ (outcome : Outcome). nat_le outcome.0.phase phase) outcomes (λ k d inside. no (late k d inside))
+  where
+    no : {n : ℕ} → high < n → nat_le n phase ≡ false
+    no large = grind (arith, nat_tests)
+
+none_past : (phase : ℕ) (outcomes : List Outcome) → UpTo phase outcomes → outcomes_past phase outcomes ≡ []
+none_past phase outcomes early = filter_none (λ (outcome : Outcome). nat_lt phase outcome.0.phase) outcomes (λ k d inside. no (early k d inside))
+  where
+    no : {n : ℕ} → n ≤ phase → nat_lt phase n ≡ false
+    no small = grind (arith, nat_tests)
+
+all_past : (phase : ℕ) (outcomes : List Outcome) → Past phase outcomes → outcomes_past phase outcomes ≡ outcomes
+all_past phase outcomes late = filter_all (λ (outcome : Outcome). nat_lt phase outcome.0.phase) outcomes (λ k d inside. yes (late k d inside))
+  where
+    yes : {n : ℕ} → phase < n → nat_lt phase n ≡ true
+    yes large = grind (arith, nat_tests)
+
+-- the outcomes up to a phase, of those up to a later one and those behind it
+up_to_early : (phase cut : ℕ) (front back : List Outcome) → phase ≤ cut → Past cut back → outcomes_up_to phase (front ++ back) ≡ outcomes_up_to phase front
+up_to_early phase cut front back within late =
+    filter-append (λ (outcome : Outcome). nat_le outcome.0.phase phase) front back
+    ∙ ap (λ (rest : List Outcome). outcomes_up_to phase front ++ rest) (none_up_to phase cut back within late)
+    ∙ append-nil (outcomes_up_to phase front)
+
+up_to_late : (phase cut : ℕ) (front back : List Outcome) → cut ≤ phase → UpTo cut front → outcomes_up_to phase (front ++ back) ≡ front ++ outcomes_up_to phase back
+up_to_late phase cut front back within early =
+    filter-append (λ (outcome : Outcome). nat_le outcome.0.phase phase) front back
+    ∙ ap (λ (first : List Outcome). first ++ outcomes_up_to phase back) (all_up_to cut phase front within early)
+
+-- both parts of outcomes that are cut at a phase
+cut_front : (cut : ℕ) (front back : List Outcome) → UpTo cut front → Past cut back → outcomes_up_to cut (front ++ back) ≡ front
+cut_front cut front back early late = up_to_early cut cut front back (omega arith) late ∙ all_up_to cut cut front (omega arith) early
+
+cut_back : (cut : ℕ) (front back : List Outcome) → UpTo cut front → Past cut back → outcomes_past cut (front ++ back) ≡ back
+cut_back cut front back early late =
+    filter-append (λ (outcome : Outcome). nat_lt cut outcome.0.phase) front back
+    ∙ ap₂ (λ (a b : List Outcome). a ++ b) (none_past cut front early) (all_past cut back late)
+
+-- ---- explanations, end to end
+
+-- the calls of a worker in two histories are those of the outcomes that each explains
+own_order-append : (who : ℕ) (calls more : List Call) (front back : List Outcome) → calls_by who calls ≡ calls_by who (answered_calls front) → calls_by who more ≡ calls_by who (answered_calls back) → calls_by who (calls ++ more) ≡ calls_by who (answered_calls (front ++ back))
+own_order-append who calls more front back first then =
+    calls_by-append who calls more
+    ∙ ap₂ (λ (a b : List Call). a ++ b) first then
+    ∙ sym (calls_by-append who (answered_calls front) (answered_calls back))
+    ∙ ap (calls_by who) (sym (flat_map-append (λ (outcome : Outcome). answer_of outcome.0 outcome.1) front back))
+
+-- a phase that ends in the first history ends in both
+ends_early : (calls more : List Call) (front back : List Outcome) (phase cut : ℕ) → phase ≤ cut → Past cut back → EndsIn calls front phase → EndsIn (calls ++ more) (front ++ back) phase
+ends_early calls more front back phase cut within late end = record {
+  before = end.before;
+  after = end.after ++ more;
+  whole = ap (λ (some : List Call). some ++ more) end.whole ∙ append_assoc end.before end.after more;
+  own_order = λ who. end.own_order who ∙ ap (λ (some : List Outcome). calls_by who (answered_calls some)) (sym (up_to_early phase cut front back within late));
+}
+
+-- and so does one that ends in the second
+ends_late : (calls more : List Call) (front back : List Outcome) (phase cut : ℕ) → cut ≤ phase → UpTo cut front → ((who : ℕ) → calls_by who calls ≡ calls_by who (answered_calls front)) → EndsIn more back phase → EndsIn (calls ++ more) (front ++ back) phase
+ends_late calls more front back phase cut within early first end = record {
+  before = calls ++ end.before;
+  after = end.after;
+  whole = ap (λ (some : List Call). calls ++ some) end.whole ∙ sym (append_assoc calls end.before end.after);
+  own_order = λ who. own_order-append who calls end.before front (outcomes_up_to phase back) (first who) (end.own_order who) ∙ ap (λ (some : List Outcome). calls_by who (answered_calls some)) (sym (up_to_late phase cut front back within early));
+}
+
+-- the second history begins with what the first leaves
+explains-append : (keys : Keys) (calls more : List Call) (front back : List Outcome) (cut : ℕ) → UpTo cut front → Past cut back → Explains keys calls front → Explains (set_after keys calls) more back → Explains keys (calls ++ more) (front ++ back)
+explains-append keys calls more front back cut early late first then = record {
+  legal = legal-append keys calls more first.legal then.legal;
+  own_order = λ who. own_order-append who calls more front back (first.own_order who) (then.own_order who);
+  phases = λ phase. elim (cases_lt cut phase) [
+    | inl past ↦ ends_late calls more front back phase cut (omega arith) early first.own_order (then.phases phase)
+    | inr within ↦ ends_early calls more front back phase cut within late (first.phases phase)
+  ];
+}
+
+-- ---- sets
+
+-- what the last set was asked, with the keys that it leaves
+pub last_set : (shape : Dimensions) (workers : ℕ) (outcomes : List Outcome) (run : List Event) (listed : List ℕ) (epoch : ℕ) → IsSetRun shape workers outcomes run → AreKeysOf listed (set_after (opening_keys shape) (world_after shape run).calls) → epoch ≡ (world_after shape run).epoch → AreExplained shape workers [] outcomes listed epoch
+last_set shape workers outcomes run listed epoch of_set keys last = record {
+  history = (world_after shape run).calls;
+  sets = (run, of_set, refl, last);
+  explains = of_set.explains;
+  keys = keys;
+}
+
+-- what a set was asked, and behind the phase of its renewal what the later ones were
+pub one_more_set : (shape : Dimensions) (workers renewal : ℕ) (renewals : List ℕ) (front back : List Outcome) (run : List Event) (keys listed : List ℕ) (epoch : ℕ)
+    → All (λ outcome. outcome.0.phase ≤ renewal) front → All (λ outcome. renewal < outcome.0.phase) back → IsSetRun shape workers front run → AreKeysOf keys (set_after (opening_keys shape) (world_after shape run).calls)
+    → AreExplained (record shape { keys = keys }) workers renewals back listed epoch → AreExplained shape workers (renewal ∷ renewals) (front ++ back) listed epoch
+one_more_set shape workers renewal renewals front back run keys listed epoch early late of_set are rest =
+    let calls = (world_after shape run).calls in
+    let opens : keys_of keys ≡ set_after (opening_keys shape) calls = same_keys keys (set_after (opening_keys shape) calls) are in
+    let then : Explains (set_after (opening_keys shape) calls) rest.history back = subst (λ (some : Keys). Explains some rest.history back) opens rest.explains in
+    let left : AreKeysOf listed (set_after (set_after (opening_keys shape) calls) rest.history) = subst (λ (some : Keys). AreKeysOf listed (set_after some rest.history)) opens rest.keys in
+    record {
+      history = calls ++ rest.history;
+      sets = (
+        run,
+        subst (λ (some : List Outcome). IsSetRun shape workers some run) (sym (cut_front renewal front back early late)) of_set,
+        keys,
+        are,
+        rest.history,
+        subst (λ (some : List Outcome). AreOfSets (record shape { keys = keys }) workers renewals some rest.history epoch) (sym (cut_back renewal front back early late)) rest.sets,
+        refl,
+      );
+      explains = explains-append (opening_keys shape) calls rest.history front back renewal early late of_set.explains then;
+      keys = subst (AreKeysOf listed) (sym (set_after-append (opening_keys shape) calls rest.history)) left;
+    }
