@@ -16,7 +16,6 @@ ghost use Rattle.vbr_access.specs.Soundness.{HasSafeRun};
 
 use crate::held::{Held, Marked};
 use crate::rollback::Rollback;
-use crate::uncounted;
 use vbr_slots::{Pass, Slots};
 use vbr_words::{At, with_mark};
 
@@ -43,5 +42,17 @@ pub fn mark(slots: &Slots, pass: &mut Pass, held: &Held) -> Result<Marked, Rollb
     ensures safe { HasSafeRun pass.new.trace }
     ensures wins { IfErr result (λ r. IsAlone pass.old.trace pass.new.trace → StandsNow pass.old.trace held.now → ⊥) }
 {
-    pass.during(|stepper| (uncounted::mark(slots, stepper, held), 1))
+    pass.law();
+    let At::Slot(slot) = held.at else {
+        unreachable!()
+    };
+    match slots.mark(pass, slot, held.word) {
+        Ok(()) => Ok(Marked {
+            slot,
+            birth: held.birth,
+            word: with_mark(held.word),
+            epoch: held.epoch,
+        }),
+        Err(found) => Err(Rollback::LostExchange { found }),
+    }
 }

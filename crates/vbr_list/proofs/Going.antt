@@ -9,10 +9,9 @@ use Rattle.vbr_pools.specs.KeptSlots.{TakesNoSlot}
 use Rattle.vbr_pools.specs.Steps.{CountsSteps, TookWithin}
 use Rattle.vbr_pools.proofs.Lemmas.{counts_none, counts_on, took_all}
 use Rattle.vbr_access.specs.Keeping.{KeepsOwn}
-use Rattle.vbr_list.specs.Calls.{IsSameCall, IsSameLook}
+use Rattle.vbr_list.specs.Calls.{IsSameCall}
 use Rattle.vbr_list.specs.Traversal.{Goes}
 use Rattle.vbr_list.specs.declared.call.Call.{Call}
-use Rattle.vbr_list.specs.declared.look.Look.{Look}
 use Rattle.vbr_list.proofs.KeptHands.{hand_refl, hand_on, own_kept}
 use Rattle.vbr_list.proofs.Traversals.{Tries}
 
@@ -59,14 +58,3 @@ call_refl c = record { pass = refl; slots = refl; key = refl; bucket = refl; bud
 -- the steps of a call are within the budget that it began with
 pub within_call : {c d : Call} → IsSameCall c d → d.used ≤ c.budget
 within_call {c} {d} x = let u = d.within in let e = x.budget in omega (arith, u, e)
-
--- and so does a look-up
-pub look_on : {b c d : Look} → IsSameLook b c → IsSameLook c d → IsSameLook b d
-look_on x y = record { pass = y.pass ∙ x.pass; slots = y.slots ∙ x.slots; key = y.key ∙ x.key; bucket = y.bucket ∙ x.bucket; budget = y.budget ∙ x.budget }
-
-pub look_refl : (c : Look) → IsSameLook c c
-look_refl c = record { pass = refl; slots = refl; key = refl; bucket = refl; budget = refl }
-
--- the steps of a look-up are within the budget that it began with
-pub within_look : {c d : Look} → IsSameLook c d → d.used ≤ c.budget
-within_look {c} {d} x = let u = d.within in let e = x.budget in omega (arith, u, e)

@@ -11,7 +11,6 @@ mod call;
 pub mod finding;
 pub mod found;
 pub mod inserting;
-mod look;
 mod looking;
 pub mod looking_up;
 pub mod refusal;

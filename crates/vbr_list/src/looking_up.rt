@@ -8,28 +8,27 @@ ghost use Rattle.vbr_slots.specs.Alone.{IsAlone};
 ghost use Rattle.vbr_slots.specs.Views.{IsOf, knows};
 ghost use Rattle.vbr_access.specs.Keeping.{KeepsOwn};
 ghost use Rattle.vbr_access.specs.Soundness.{HasSafeRun};
-ghost use Rattle.vbr_list.specs.Calls.{IsSameLook};
+ghost use Rattle.vbr_list.specs.Calls.{IsSameCall};
 ghost use Rattle.vbr_list.specs.Alone.{AnswersAlone};
 ghost use Rattle.vbr_list.specs.Budgets.{listed_for};
 ghost use Rattle.vbr_list.specs.Nearing.{SightStands};
 ghost use Rattle.vbr_list.specs.Places.{IsSight, held_in, is_present};
 ghost use Rattle.vbr_list.specs.Refusals.{IsTired};
 
-use crate::look::Look;
+use crate::call::Call;
 use crate::looking::Sight;
 use crate::refusal::Refusal;
-use vbr_access::uncounted::confirm_look_up;
-use vbr_access::{Held, Rollback};
+use vbr_access::{Held, Rollback, confirm_look_up};
 use vbr_pools::budget::affords;
-use vbr_slots::{Pass, Slots, Stepper};
+use vbr_slots::{Pass, Slots};
 
-impl Look<'_> {
+impl Call<'_> {
     // Answers a look-up by what it came to, in one step, if the link that was read still stands there.
     #[inline(always)]
     fn settle_look_up(&mut self, sight: Sight) -> Result<bool, Rollback>
         requires sight { IsSight self.old.pass.now.trace.shape (knows self.old.pass.now.trace) self.old.key sight }
         requires room { self.old.used + 8 ≤ self.old.budget }
-        ensures call { IsSameLook self.old self.new }
+        ensures call { IsSameCall self.old self.new }
         ensures took { Took self.old.pass.now.trace self.new.pass.now.trace 1 }
         ensures used { self.new.used ≡ self.old.used + 1 }
         ensures own { KeepsOwn self.old.pass.now self.new.pass.now }
@@ -88,31 +87,8 @@ pub fn has(slots: &Slots, pass: &mut Pass, key: u64, budget: u32) -> Result<bool
     // Alone, it answers in so many steps.
     ensures within { IfErr result (λ refusal. IsAlone pass.old.trace pass.new.trace → budget < 5 * listed_for pass.old.trace key + 11) }
 {
-    pass.during(|stepper| look_up(slots, stepper, key, budget))
-}
-
-// As `has`, by the stepper, which counts no step; and how many steps were made.
-fn look_up(slots: &Slots, pass: &mut Stepper, key: u64, budget: u32) -> (Result<bool, Refusal>, u32)
-    requires own { IsOf pass.old.trace slots.now }
-    requires empty_hand { pass.old.hand ≡ None }
-    ensures took { Took pass.old.trace pass.new.trace result.1 }
-    ensures same { IsSame pass.old.trace pass.new.trace }
-    ensures made { IfOk result.0 (λ reply. Made (record { who = pass.old.trace.who; op = Has; key = key; reply = reply }) pass.old.trace pass.new.trace) }
-    ensures adds { IfOk result.0 (λ reply. AddsAnswer (record { who = pass.old.trace.who; op = Has; key = key; reply = reply }) pass.old.trace pass.new.trace) }
-    ensures alone { IfOk result.0 (λ reply. AnswersAlone pass.old.trace Has key reply) }
-    ensures quiet { IfErr result.0 (λ refusal. Quiet pass.old.trace pass.new.trace) }
-    ensures adds_none { IfErr result.0 (λ refusal. AddsNone pass.old.trace pass.new.trace) }
-    ensures only_loads { OnlyLoads pass.old.trace pass.new.trace }
-    ensures safe { HasSafeRun pass.new.trace }
-    ensures hand { pass.new.hand ≡ None }
-    ensures steps { TookWithin pass.old.trace pass.new.trace budget }
-    ensures takes_no_slot { TakesNoSlot pass.old pass.new }
-    ensures refused { IfErr result.0 (λ refusal. IsTired pass.old pass.new budget refusal) }
-    // Alone, it answers in so many steps.
-    ensures within { IfErr result.0 (λ refusal. IsAlone pass.old.trace pass.new.trace → budget < 5 * listed_for pass.old.trace key + 11) }
-{
     pass.law();
-    let mut call = Look {
+    let mut call = Call {
         slots,
         pass,
         key,
@@ -122,13 +98,13 @@ fn look_up(slots: &Slots, pass: &mut Stepper, key: u64, budget: u32) -> (Result<
     };
     loop {
         let Some(sight) = call.look() else {
-            return (Err(Refusal::OutOfSteps { used: call.used }), call.used);
+            return Err(Refusal::OutOfSteps { used: call.used });
         };
         if !affords(call.budget, call.used) {
-            return (Err(Refusal::OutOfSteps { used: call.used }), call.used);
+            return Err(Refusal::OutOfSteps { used: call.used });
         }
         if let Ok(reply) = call.settle_look_up(sight) {
-            return (Ok(reply), call.used);
+            return Ok(reply);
         }
     }
 }

@@ -12,7 +12,6 @@ pub mod hand;
 pub mod refusal;
 pub mod retiring;
 pub mod taking;
-pub mod uncounted;
 pub mod unlinked;
 
 pub use giving_back::give_back;

@@ -5,7 +5,7 @@ pub mod Views
 pub mod Pools
 pub mod PoolView
 pub mod RunnerView
-pub mod StepperView
+pub mod CountedView
 pub mod PassView
 pub mod SlotsView
 pub mod Closing
@@ -15,4 +15,3 @@ pub mod LookUps
 pub mod Alone
 pub mod Messages
 pub mod PassLaw
-pub mod Lending

@@ -35,7 +35,11 @@ impl Slots {
             (λ found. Did (ConfirmPresent op slot expected) pass.old.trace pass.new.trace found × (found ≢ expected)) }
         ensures pool { KeepsPool pass.old pass.new }
     {
-        pass.during(|stepper| (stepper.confirm_present(self, op, slot, expected), 1))
+        let step = Step::ConfirmPresent { op, slot, expected };
+        match self.load(&mut pass.runner, step, Place::LinkOf(slot)) {
+            found if found == expected => Ok(()),
+            found => Err(found),
+        }
     }
 
     /// Answers a look-up or a remove, in one step, a load: if the link word at a place is still
@@ -60,7 +64,16 @@ impl Slots {
             (λ found. Did (ConfirmAbsent op key at expected) pass.old.trace pass.new.trace found × (found ≢ expected)) }
         ensures pool { KeepsPool pass.old pass.new }
     {
-        pass.during(|stepper| (stepper.confirm_absent(self, op, key, at, expected), 1))
+        let step = Step::ConfirmAbsent {
+            op,
+            key,
+            at,
+            expected,
+        };
+        match self.load(&mut pass.runner, step, place_of_link(at)) {
+            found if found == expected => Ok(()),
+            found => Err(found),
+        }
     }
 
     /// Answers a look-up of a key, in one step: it is present, if the link word at its node is
@@ -83,6 +96,27 @@ impl Slots {
             (λ found. Did (look_up present key at expected) pass.old.trace pass.new.trace found × (found ≢ expected)) }
         ensures pool { KeepsPool pass.old pass.new }
     {
-        pass.during(|stepper| (stepper.confirm_look_up(self, present, key, at, expected), 1))
+        let step = step_of_look_up(present, key, at, expected);
+        match self.load_at(&mut pass.runner, step, at) {
+            found if found == expected => Ok(()),
+            found => Err(found),
+        }
+    }
+}
+
+// The step that answers a look-up.
+#[inline]
+fn step_of_look_up(present: bool, key: u64, at: At, expected: u64) -> Step
+    ensures { result ≡ look_up present key at expected }
+{
+    let op = Op::Has;
+    match at {
+        At::Slot(slot) if present => Step::ConfirmPresent { op, slot, expected },
+        _ => Step::ConfirmAbsent {
+            op,
+            key,
+            at,
+            expected,
+        },
     }
 }

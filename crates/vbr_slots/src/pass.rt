@@ -1,15 +1,14 @@
 //! A pass: the right to make steps under one number.
-ghost use Rattle.std.specs.Fn.{FnOnceReturnsAtMut, FnOnceTakesAtMut};
-ghost use Rattle.std.specs.Prelude.{◌≡◌, ◌<◌, ◌≤◌, ◌⊎◌, ℕ, [], ◌∷◌, ◌+◌, ◌++◌, length, Some, Contains};
+ghost use Rattle.std.specs.List.{position_from};
+ghost use Rattle.std.specs.Prelude.{◌≡◌, ◌==◌, ◌<◌, ◌≤◌, ◌⊎◌, [], ◌∷◌, ◌++◌, length, Some, Contains};
 ghost use Rattle.vbr_core.specs.Acceptance.{IsFree};
 ghost use Rattle.vbr_core.specs.Runs.{IsRun};
-ghost use Rattle.vbr_slots.specs.Calls.{Took};
-ghost use Rattle.vbr_slots.specs.Lending.{ReturnsWith, TakesWith};
 ghost use Rattle.vbr_slots.specs.PassLaw.{PassLaw};
-ghost use Rattle.vbr_slots.specs.Pools.{OwnPool, hand_without};
-ghost use Rattle.vbr_slots.specs.Views.{PassView, counted_steps, knows, steps_of};
+ghost use Rattle.vbr_slots.specs.Pools.{OwnPool, hand_without, without};
+ghost use Rattle.vbr_slots.specs.Views.{counted_steps, knows, steps_of};
 
-use crate::stepper::Stepper;
+use crate::counted::Counted;
+use crate::pool::Pool;
 use std::marker::Model;
 
 /// How many slots the own pool of a pass has room for.
@@ -21,8 +20,9 @@ pub const POOL: usize = 64;
 /// A pass that is dropped takes its own slots out for good, and its table can't be closed any more.
 #[derive(Drop)]
 pub struct Pass {
-    pub(crate) stepper: Stepper,
-    pub(crate) steps: u64,
+    pub(crate) runner: Counted,
+    pub(crate) pool: Pool,
+    pub(crate) hand: Option<u32>,
 }
 
 impl Model for Pass {
@@ -30,11 +30,11 @@ impl Model for Pass {
 
     ghost Value = { PassView };
 
-    ghost use Rattle.vbr_slots.specs.PassView.{lent_of, IsExact};
+    ghost use Rattle.vbr_slots.specs.PassView.{view_of, IsWell};
 
-    ghost view = { lent_of };
+    ghost view = { view_of };
 
-    ghost invariant = { IsExact };
+    ghost invariant = { IsWell };
 }
 
 impl Pass {
@@ -45,7 +45,7 @@ impl Pass {
         ensures low { result < self.now.trace.passes }
         ensures is_run { IsRun self.now.trace.shape self.now.trace.passes self.now.trace.seen }
     {
-        self.stepper.who()
+        self.runner.runner.who
     }
 
     /// The law of passes: what always holds of one, for the proofs of its callers. It does nothing.
@@ -53,7 +53,8 @@ impl Pass {
     pub fn law(&self)
         ensures { PassLaw self.now }
     {
-        self.stepper.law();
+        let _who = self.who();
+        let _pool = &self.pool;
     }
 
     /// How many steps it has made since the opening, counted up to the greatest number: its own events
@@ -62,7 +63,7 @@ impl Pass {
     pub fn steps(&self) -> u64
         ensures { result ≡ counted_steps (steps_of self.now.trace) }
     {
-        self.steps
+        self.runner.steps
     }
 
     /// The last epoch that it read; 1 at the opening.
@@ -70,7 +71,7 @@ impl Pass {
     pub fn epoch(&self) -> u64
         ensures { result ≡ (knows self.now.trace).epoch }
     {
-        self.stepper.epoch()
+        self.runner.runner.epoch
     }
 
     /// Its own pool, the oldest slot first.
@@ -80,7 +81,7 @@ impl Pass {
         ensures own { OwnPool self.now.trace.shape (knows self.now.trace) self.now.pool self.now.hand }
         ensures room { length self.now.pool ≤ POOL }
     {
-        self.stepper.pool()
+        self.pool.as_slice()
     }
 
     /// The slot in its hand: born by it, and neither published nor given back.
@@ -88,7 +89,7 @@ impl Pass {
     pub fn in_hand(&self) -> Option<u32>
         ensures { result ≡ self.now.hand }
     {
-        self.stepper.in_hand()
+        self.hand
     }
 
     /// Puts a slot at the end of its own pool: one that it owns and that is free, or the one in its
@@ -103,43 +104,29 @@ impl Pass {
         ensures pool { self.new.pool ≡ self.old.pool ++ slot ∷ [] }
         ensures hand { self.new.hand ≡ hand_without slot self.old.hand }
     {
-        self.stepper.keep(slot);
+        if self.hand == Some(slot) {
+            self.hand = None;
+        }
+        self.pool.push(slot);
     }
 
-    /// Lends what makes its steps, and then counts once how many the work tells that it made: its result
-    /// is what the work gives beside that number.
+    // Takes a slot out of its own pool, if it is there.
     #[inline]
-    pub fn during<R, W: FnOnce(&mut Stepper) -> (R, u32)>(&mut self, work: W) -> R
-        requires takes { FnOnceTakesAtMut W.FnOnce work self.old }
-        requires counts { (r : _) (q : PassView) → FnOnceReturnsAtMut W.FnOnce work self.old r q → Took self.old.trace q.trace r.1 }
-        ensures { (used : ℕ) × Took self.old.trace self.new.trace used × FnOnceReturnsAtMut W.FnOnce work self.old (result, used) self.new }
+    pub(crate) fn leave_pool(&mut self, slot: u32)
+        ensures trace { self.new.trace ≡ self.old.trace }
+        ensures pool { self.new.pool ≡ without slot self.old.pool }
+        ensures hand { self.new.hand ≡ self.old.hand }
     {
-        let (result, used) = work(&mut self.stepper);
-        self.steps = steps_after(self.steps, used);
-        result
-    }
-
-    /// As [`Pass::during`], for work that takes a value for good.
-    #[inline]
-    pub fn during_with<A, R, W: FnOnce(&mut Stepper, A) -> (R, u32)>(
-        &mut self,
-        given: A,
-        work: W,
-    ) -> R
-        requires takes { TakesWith W.FnOnce work self.old given }
-        requires counts { (r : _) (q : PassView) → ReturnsWith W.FnOnce work self.old given r q → Took self.old.trace q.trace r.1 }
-        ensures { (used : ℕ) × Took self.old.trace self.new.trace used × ReturnsWith W.FnOnce work self.old given (result, used) self.new }
-    {
-        let (result, used) = work(&mut self.stepper, given);
-        self.steps = steps_after(self.steps, used);
-        result
+        if let Some(at) = position_in(self.pool.as_slice(), slot) {
+            self.pool.remove(at);
+        }
     }
 }
 
-// A count after so many more steps; it stays at the greatest number.
+// The position of a slot in a pool.
 #[inline]
-pub(crate) fn steps_after(steps: u64, more: u32) -> u64
-    ensures { result ≡ counted_steps (steps + more) }
+fn position_in(pool: &[u32], slot: u32) -> Option<usize>
+    ensures { result ≡ position_from (λ x. x == slot) 0 pool.now }
 {
-    steps.saturating_add(u64::from(more))
+    pool.iter().position(|pooled| *pooled == slot)
 }

@@ -1,4 +1,4 @@
-use Rattle.std.proofs.Common.{rules, ◌≡◌}
+use Rattle.std.proofs.Common.{rules, ◌≡◌, sym, ◌∙◌}
 use Rattle.vbr_list.proofs.Going.{bucket_is}
 use Rattle.vbr_list.proofs.Moments.{was_so}
 use Rattle.vbr_access.proofs.Lemmas.{quiet_safe}

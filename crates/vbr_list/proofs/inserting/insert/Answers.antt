@@ -1,5 +1,5 @@
 use Rattle.std.proofs.lemmas.Result.{err_from_is_err_and}
-use Rattle.std.proofs.Common.{rules, ◌≡◌, ◌+◌, ◌*◌, ◌<◌, [], arith}
+use Rattle.std.proofs.Common.{rules, ◌≡◌, ◌+◌, ◌*◌, ◌<◌, [], sym, ◌∙◌, arith}
 use Rattle.vbr_core.specs.declared.history.Op.TheVariants.{Insert}
 use Rattle.vbr_slots.proofs.Lemmas.{alone_first, alone_then, same_on}
 use Rattle.vbr_pools.proofs.Lemmas.{had_error, had_then, keeps_on, longer, needed_before, shared_on, shares_more}

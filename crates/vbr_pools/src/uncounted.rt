@@ -1,7 +1,0 @@
-//! The pools by a stepper, which counts no step: for calls that go on, and count their steps once for
-//! all. Each is as the call of the same name in this crate, which counts its own.
-pub mod giving_back;
-pub mod retiring;
-
-pub use giving_back::give_back;
-pub use retiring::retire;
