@@ -49,11 +49,13 @@ build: kit
 	@echo 'the proved program: $(PROGRAM)'
 
 # One archive: the library, and the kit's calls of malloc, realloc and free.
+# Its three calls on keys begin at a cache line: where their loops lie by chance was worth up to 7 % either way.
 lib: kit
 	@mkdir -p $(dir $(LIBRARY))
 	@RT='$(RT)' tools/library $(AFTER_GATE) > target/lib.log 2>&1 || { cat target/lib.log >&2; exit 1; }
 	@rm -f $(LIBRARY)
 	@printf 'CREATE $(LIBRARY)\nADDLIB crates/vbr_c/out/libvbr_c.a\nADDLIB %s/c/liblibc_c.a\nSAVE\nEND\n' "$$(dirname "$$($(RT) doc)")" | ar -M
+	@objcopy $(foreach it,has insert remove,--set-section-alignment .text.vbr_$(it)=64) $(LIBRARY)
 	@echo 'the proved library: $(LIBRARY), with $(HEADER)'
 
 install: build lib

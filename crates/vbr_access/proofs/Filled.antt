@@ -68,9 +68,6 @@ keeps_owned know later s holding is = rw is (record { epoch = refl; reads = λ r
 pub key_stored_keeps : {p q : Trace} {s key r : ℕ} → Did (StoreKey s key) p q r → Keeps (knows p) (knows q)
 key_stored_keeps d = keeps_owned _ _ _ _ d.know
 
-pub link_stored_keeps : {p q : Trace} {s r : ℕ} {next : Option ℕ} → Did (StoreLink s next) p q r → Keeps (knows p) (knows q)
-link_stored_keeps d = keeps_owned _ _ _ _ d.know
-
 -- the birth in hand once the key is stored
 pub keyed_hand : {p q : Trace} {s key r birth : ℕ} → Did (StoreKey s key) p q r → IsInHand ((knows p).own s) → birth_in_hand ((knows p).own s) ≡ birth → IsInHand ((knows q).own s) × (birth_in_hand ((knows q).own s) ≡ birth)
 keyed_hand {p} {q} {s} {key} {r} {birth} d is same =

@@ -8,9 +8,8 @@ use Rattle.vbr_core.specs.declared.knowledge.Read.TheVariants.{LinkAt}
 use Rattle.vbr_words.specs.Dimensions.{Dimensions}
 use Rattle.vbr_words.specs.Words.{link_of}
 use Rattle.std.proofs.Common.{Option, None}
-use Rattle.vbr_slots.specs.Views.{PassView}
 use Rattle.vbr_access.specs.Held.{IsHeld, IsMarked, held_of}
-use Rattle.vbr_access.specs.Keeping.{Keeps, KeepsOwn}
+use Rattle.vbr_access.specs.Keeping.{Keeps}
 use Rattle.vbr_access.specs.declared.held.Held.{Held}
 use Rattle.vbr_access.specs.declared.held.Marked.{Marked}
 
@@ -19,9 +18,6 @@ keeps_refl know = record { epoch = refl; reads = λ read k. k }
 
 pub keeps_on : {a b c : Know} → Keeps a b → Keeps b c → Keeps a c
 keeps_on x y = record { epoch = y.epoch ∙ x.epoch; reads = λ read k. y.reads read (x.reads read k) }
-
-pub keeps_own_on : {p q r : PassView} → KeepsOwn p q → KeepsOwn q r → KeepsOwn p r
-keeps_own_on x y = record { pool = y.pool ∙ x.pool; hand = y.hand ∙ x.hand; in_hand = λ s h. y.in_hand s (x.hand ∙ h) ∙ x.in_hand s h }
 
 -- ---- what is held
 

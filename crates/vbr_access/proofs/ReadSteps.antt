@@ -1,5 +1,5 @@
 -- What the steps teach that read: loads are pending, and are checked where the epoch hasn't moved.
-use Rattle.std.proofs.Common.{◌≡◌, ◌≢◌, ℕ, true, false, [], ◌∷◌, ◌++◌, refl, ap, ◌∙◌, eq-eqb, arith}
+use Rattle.std.proofs.Common.{◌≡◌, ◌≢◌, ℕ, true, false, [], ◌∷◌, ◌++◌, refl, ◌∙◌, eq-eqb, arith}
 use Rattle.std.specs.Prelude.{◌==◌}
 use Rattle.std.specs.List.{Contains}
 use Rattle.std.proofs.lemmas.Bool.{ne_eqb}
@@ -43,9 +43,6 @@ module _ {p q : Trace} {s birth : ℕ} (d : Did (LoadBirth s) p q birth) where
   pub birth_loaded_keeps : Keeps (knows p) (knows q)
   birth_loaded_keeps = pending_keeps _ _ _ d.know
 
-  pub birth_loaded_checked : (knows q).checked ≡ (knows p).checked
-  birth_loaded_checked = ap (λ (k : Know). k.checked) d.know
-
   pub birth_loaded : Contains (knows q).pending (BirthOf s birth)
   birth_loaded = pending_new _ _ _ d.know
 
@@ -71,7 +68,3 @@ module _ {p q : Trace} {epoch : ℕ} (d : Did ReadEpoch p q epoch) where
 
   pub unmoved_checks : epoch ≡ (knows p).epoch → (r : Read) → Contains (knows p).pending r → Knows (knows q) r
   unmoved_checks same r m = rw (d.know ∙ unmoved (knows p) epoch same) (record { among = Contains-append_right (knows p).checked (knows p).pending r m })
-
-  -- another leaves nothing
-  pub moved_forgets : epoch ≢ (knows p).epoch → ((knows q).epoch ≡ epoch) × ((knows q).pending ≡ []) × ((knows q).checked ≡ [])
-  moved_forgets other = rw (d.know ∙ moved (knows p) epoch other) (refl, refl, refl)

@@ -1,14 +1,13 @@
 -- An unlinking behind a held place of a marked node that the place's link names.
-use Rattle.std.proofs.Common.{◌≡◌, ℕ, false, Option, refl, sym, ◌∙◌, subst}
+use Rattle.std.proofs.Common.{◌≡◌, ℕ, false, refl, sym, ◌∙◌}
 use Rattle.vbr_words.specs.Words.{IsLink, link_of}
 use Rattle.vbr_words.specs.declared.link.Link.{Link}
 use Rattle.vbr_words.specs.declared.place.At.{At}
-use Rattle.vbr_core.specs.Acceptance.{Accepts, IsUnlinked}
+use Rattle.vbr_core.specs.Acceptance.{Accepts}
 use Rattle.vbr_core.specs.Links.{link_to}
 use Rattle.vbr_core.specs.Learning.{link_written}
 use Rattle.vbr_core.specs.Membership.{BirthNamed, IsUnlinkLink}
 use Rattle.vbr_core.specs.declared.event.Step.TheVariants.{Unlink}
-use Rattle.vbr_core.specs.declared.knowledge.Holding.{Holding}
 use Rattle.vbr_slots.specs.Calls.{Quiet}
 use Rattle.vbr_slots.specs.Views.{Trace, PassView, Did, knows}
 use Rattle.vbr_slots.proofs.Lemmas.{did_quiet}
@@ -21,7 +20,7 @@ use Rattle.vbr_access.proofs.Accepted.{place_held, unlink_accepted, unlink_write
 use Rattle.vbr_access.proofs.Keeping.{place_kept, birth_kept}
 use Rattle.vbr_access.proofs.Moments.{stood_after}
 use Rattle.vbr_access.proofs.UnlinkedLinks.{stood_at_end}
-use Rattle.vbr_access.proofs.WonExchanges.{unlink_keeps, unlink_known, unlink_owns}
+use Rattle.vbr_access.proofs.WonExchanges.{unlink_keeps, unlink_known}
 use Rattle.vbr_access.proofs.WrittenLinks.{unlink_link, fits, birth_at_low, birth_named_low}
 
 pub unlink_quiet : {p q : Trace} {pred : At} {expected s r : ℕ} → Did (Unlink pred expected s) p q r → Quiet p q
@@ -52,6 +51,3 @@ module _ (p : PassView) (sound : PassLaw p) (pred : Held) (marked : Marked) (lin
 -- an unlinking that came after what is quiet
 pub read_after : {p q r : Trace} {held : Held} → Quiet p q → IsRead q r held → IsRead p r held
 read_after a x = record { known = x.known; stood = stood_after a.same a.seen x.stood }
-
-pub unlinked_own : {p q : Trace} {pred : At} {expected s : ℕ} → Did (Unlink pred expected s) p q expected → IsUnlinked ((knows q).own s)
-unlinked_own d = let P : Option Holding → Type 0 = IsUnlinked in subst P (sym (unlink_owns d)) tt

@@ -17,6 +17,7 @@ ghost use Rattle.vbr_access.specs.Soundness.{HasSafeRun};
 
 use crate::held::Held;
 use crate::rollback::Rollback;
+use crate::uncounted;
 use vbr_core::Op;
 use vbr_slots::{Pass, Slots};
 use vbr_words::At;
@@ -46,14 +47,7 @@ pub fn confirm_present(slots: &Slots, pass: &mut Pass, op: Op, held: &Held) -> R
     ensures safe { HasSafeRun pass.new.trace }
     ensures wins { IfErr result (λ r. IsAlone pass.old.trace pass.new.trace → StandsNow pass.old.trace held.now → ⊥) }
 {
-    pass.law();
-    let At::Slot(slot) = held.at else {
-        unreachable!()
-    };
-    match slots.confirm_present(pass, op, slot, held.word) {
-        Ok(()) => Ok(()),
-        Err(found) => Err(Rollback::LostExchange { found }),
-    }
+    pass.at(slots, |at| (uncounted::confirm_present(at, op, held), 1))
 }
 
 /// Answers, in one step, that a key is absent: a look-up or a remove with no. It would stand behind
@@ -87,11 +81,10 @@ pub fn confirm_absent(
     ensures safe { HasSafeRun pass.new.trace }
     ensures wins { IfErr result (λ r. IsAlone pass.old.trace pass.new.trace → StandsNow pass.old.trace pred.now → ⊥) }
 {
-    pass.law();
-    match slots.confirm_absent(pass, op, key, pred.at, pred.word) {
-        Ok(()) => Ok(()),
-        Err(found) => Err(Rollback::LostExchange { found }),
-    }
+    pass.at(
+        slots,
+        |at| (uncounted::confirm_absent(at, op, key, pred), 1),
+    )
 }
 
 /// Answers a look-up, in one step, by what is held: the key is present there; or it is absent, and
@@ -124,9 +117,8 @@ pub fn confirm_look_up(
     ensures safe { HasSafeRun pass.new.trace }
     ensures wins { IfErr result (λ r. IsAlone pass.old.trace pass.new.trace → StandsNow pass.old.trace held.now → ⊥) }
 {
-    pass.law();
-    match slots.confirm_look_up(pass, present, key, held.at, held.word) {
-        Ok(()) => Ok(()),
-        Err(found) => Err(Rollback::LostExchange { found }),
-    }
+    pass.at(
+        slots,
+        |at| (uncounted::confirm_look_up(at, key, held, present), 1),
+    )
 }

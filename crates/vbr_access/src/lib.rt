@@ -13,6 +13,7 @@ mod links;
 pub mod marking;
 pub mod reading;
 pub mod rollback;
+pub mod uncounted;
 pub mod unlinking;
 pub mod updating;
 

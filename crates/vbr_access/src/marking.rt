@@ -16,6 +16,7 @@ ghost use Rattle.vbr_access.specs.Soundness.{HasSafeRun};
 
 use crate::held::{Held, Marked};
 use crate::rollback::Rollback;
+use crate::uncounted;
 use vbr_slots::{Pass, Slots};
 use vbr_words::{At, with_mark};
 
@@ -42,17 +43,5 @@ pub fn mark(slots: &Slots, pass: &mut Pass, held: &Held) -> Result<Marked, Rollb
     ensures safe { HasSafeRun pass.new.trace }
     ensures wins { IfErr result (λ r. IsAlone pass.old.trace pass.new.trace → StandsNow pass.old.trace held.now → ⊥) }
 {
-    pass.law();
-    let At::Slot(slot) = held.at else {
-        unreachable!()
-    };
-    match slots.mark(pass, slot, held.word) {
-        Ok(()) => Ok(Marked {
-            slot,
-            birth: held.birth,
-            word: with_mark(held.word),
-            epoch: held.epoch,
-        }),
-        Err(found) => Err(Rollback::LostExchange { found }),
-    }
+    pass.at(slots, |at| (uncounted::mark(at, held), 1))
 }

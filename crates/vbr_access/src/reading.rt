@@ -18,6 +18,7 @@ ghost use Rattle.vbr_access.specs.Steps.{next_steps};
 
 use crate::held::{Checkpoint, Held};
 use crate::rollback::Rollback;
+use crate::uncounted;
 use vbr_slots::{Pass, Slots};
 use vbr_words::{At, decode};
 
@@ -37,10 +38,7 @@ pub fn checkpoint(slots: &Slots, pass: &mut Pass) -> Checkpoint
     ensures safe { HasSafeRun pass.new.trace }
     ensures only_loads { OnlyLoads pass.old.trace pass.new.trace }
 {
-    pass.law();
-    Checkpoint {
-        epoch: slots.read_epoch(pass),
-    }
+    pass.at(slots, |at| (uncounted::checkpoint(at), 1))
 }
 
 /// Reads the head of a bucket, in two steps.
@@ -73,19 +71,7 @@ pub fn first(
     ensures still { IfErr result (λ r. IsFresh pass.old.trace → IsAlone pass.old.trace pass.new.trace → ⊥) }
     ensures stands { IfOk result (λ head. IsAlone pass.old.trace pass.new.trace → StandsNow pass.new.trace head) }
 {
-    pass.law();
-    let at = At::Head(bucket);
-    let before = pass.epoch();
-    let (word, now) = slots.read_link(pass, at);
-    if now != before {
-        return Err(Rollback::EpochMoved { now });
-    }
-    Ok(Held {
-        at,
-        birth: 0,
-        word,
-        epoch: now,
-    })
+    pass.at(slots, |at| (uncounted::first(at, point, bucket), 2))
 }
 
 /// Reads the node that a link names, in three steps; a link to none needs no step, and gives none.
@@ -109,21 +95,8 @@ pub fn next(slots: &Slots, pass: &mut Pass, held: &Held) -> Result<Option<Held>,
     ensures still { IfErr result (λ r. IsFresh pass.old.trace → IsAlone pass.old.trace pass.new.trace → ⊥) }
     ensures stands { IfOk result (λ next. IsAlone pass.old.trace pass.new.trace → NextStands pass.new.trace next) }
 {
-    pass.law();
-    let Some(slot) = decode(held.word).slot else {
-        return Ok(None);
-    };
-    let before = pass.epoch();
-    let (birth, word, now) = slots.read_node(pass, slot);
-    if now != before {
-        return Err(Rollback::EpochMoved { now });
-    }
-    Ok(Some(Held {
-        at: At::Slot(slot),
-        birth,
-        word,
-        epoch: now,
-    }))
+    let used = steps_to_read_next(held);
+    pass.at(slots, |at| (uncounted::next(at, held), used))
 }
 
 /// Reads the key of a node, in two steps.
@@ -148,14 +121,17 @@ pub fn key_of(slots: &Slots, pass: &mut Pass, node: &Held) -> Result<u64, Rollba
     ensures looks { IsAlone pass.old.trace pass.new.trace → nodes pass.new.trace ≡ nodes pass.old.trace }
     ensures still { IfErr result (λ r. IsFresh pass.old.trace → IsAlone pass.old.trace pass.new.trace → ⊥) }
 {
-    pass.law();
-    let At::Slot(slot) = node.at else {
-        unreachable!()
-    };
-    let before = pass.epoch();
-    let (key, now) = slots.read_key(pass, slot);
-    if now != before {
-        return Err(Rollback::EpochMoved { now });
+    pass.at(slots, |at| (uncounted::key_of(at, node), 2))
+}
+
+// How many steps it takes to read what the link that is held names.
+#[inline]
+fn steps_to_read_next(held: &Held) -> u32
+    ensures { result ≡ next_steps (link_of held.now.word).slot }
+{
+    if decode(held.word).slot.is_some() {
+        3
+    } else {
+        0
     }
-    Ok(key)
 }

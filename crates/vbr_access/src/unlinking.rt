@@ -18,38 +18,10 @@ ghost use Rattle.vbr_access.specs.Steps.{birth_steps, steps_to_unlink};
 use crate::held::{Held, Marked};
 use crate::links::link_to;
 use crate::rollback::Rollback;
+use crate::uncounted;
 use vbr_pools::Unlinked;
 use vbr_slots::{Pass, Slots};
 use vbr_words::decode;
-
-// The birth of what a marked link names, in two steps; 0 of none, without a step.
-#[inline]
-fn birth_behind(slots: &Slots, pass: &mut Pass, marked: &Marked) -> Result<u64, Rollback>
-    requires own { IsOf pass.old.trace slots.now }
-    requires marked { IsMarked (knows pass.old.trace) marked.now }
-    ensures quiet { Quiet pass.old.trace pass.new.trace }
-    ensures took { Took pass.old.trace pass.new.trace (birth_steps (link_of marked.now.word).slot) }
-    ensures own { KeepsOwn pass.old pass.new }
-    ensures takes_no_slot { TakesNoSlot pass.old pass.new }
-    ensures keeps { IfOk result (λ birth. Keeps (knows pass.old.trace) (knows pass.new.trace)) }
-    ensures birth { IfOk result (λ birth. BirthNamed (knows pass.new.trace) (link_of marked.now.word).slot birth) }
-    ensures some { IfErr result (λ r. IsSome (link_of marked.now.word).slot) }
-    ensures safe { HasSafeRun pass.new.trace }
-    ensures moved { IfErr result (λ r. IsMoved pass.old.trace pass.new.trace r) }
-    ensures looks { IsAlone pass.old.trace pass.new.trace → nodes pass.new.trace ≡ nodes pass.old.trace }
-    ensures still { IfErr result (λ r. IsFresh pass.old.trace → IsAlone pass.old.trace pass.new.trace → ⊥) }
-{
-    pass.law();
-    let Some(slot) = decode(marked.word).slot else {
-        return Ok(0);
-    };
-    let birth = slots.load_birth(pass, slot);
-    let now = slots.read_epoch(pass);
-    if now != marked.epoch {
-        return Err(Rollback::EpochMoved { now });
-    }
-    Ok(birth)
-}
 
 /// Unlinks a marked node behind `pred`, whose link names it: the slot is the pass's, to be retired,
 /// and `pred` comes back with its new link, which names what the marked link named. It does so only
@@ -88,15 +60,9 @@ pub fn unlink(
     ensures wins { IfErr result (λ r. IsFresh pass.old.trace → IsAlone pass.old.trace pass.new.trace → StandsNow pass.old.trace pred.now → ⊥) }
     ensures alone { IfOk result (λ r. IsAlone pass.old.trace pass.new.trace → StandsNow pass.old.trace pred.now → UnlinksAlone pass.old.trace pass.new.trace pred.now r.1) }
 {
-    let next_birth = birth_behind(slots, pass, &marked)?;
-    pass.law();
-    let new = link_to(decode(marked.word).slot, pred.birth, next_birth);
-    match slots.unlink(pass, pred.at, pred.word, marked.slot, new) {
-        Ok(()) => {
-            pass.law();
-            let node = Unlinked::of(pass, marked.slot);
-            Ok((node, Held { word: new, ..*pred }))
-        }
-        Err(found) => Err(Rollback::LostExchange { found }),
-    }
+    pass.at(slots, |at| {
+        let outcome = uncounted::unlink(at, pred, marked);
+        let used = uncounted::steps_to_unlink(marked.word, &outcome);
+        (outcome, used)
+    })
 }

@@ -18,46 +18,10 @@ ghost use Rattle.vbr_access.specs.Soundness.{HasSafeRun};
 use crate::held::Held;
 use crate::links::link_to;
 use crate::rollback::Rollback;
+use crate::uncounted;
 use vbr_pools::Hand;
 use vbr_slots::{Pass, Slots};
 use vbr_words::decode;
-
-// The birth of the node that the link of `pred` names; 0 of none.
-#[inline]
-fn birth_named(pass: &Pass, pred: &Held, succ: Option<&Held>) -> u64
-    requires { IsSucc (knows pass.now.trace) pred.now succ }
-    ensures { BirthNamed (knows pass.now.trace) (link_of pred.now.word).slot result }
-{
-    let _pass = pass;
-    match succ {
-        Some(node) => node.birth,
-        None => 0,
-    }
-}
-
-// Stores the key of the slot in hand, and the link to what the link of `pred` names, in two steps.
-#[inline]
-fn fill(slots: &Slots, pass: &mut Pass, hand: &Hand, key: u64, pred: &Held, birth: u64)
-    requires own { IsOf pass.old.trace slots.now }
-    requires hand { IsHandOf pass.old hand.now }
-    requires pred { IsHeld (knows pass.old.trace) pred.now }
-    requires birth { BirthNamed (knows pass.old.trace) (link_of pred.now.word).slot birth }
-    ensures quiet { Quiet pass.old.trace pass.new.trace }
-    ensures took { Took pass.old.trace pass.new.trace 2 }
-    ensures keeps { Keeps (knows pass.old.trace) (knows pass.new.trace) }
-    ensures pool { KeepsPool pass.old pass.new }
-    ensures takes_no_slot { TakesNoSlot pass.old pass.new }
-    ensures filled { let link = link_to (link_of pred.now.word).slot hand.now.birth birth in
-        IsFilled ((knows pass.new.trace).own hand.now.slot) hand.now.birth key link }
-    ensures stands { IsAlone pass.old.trace pass.new.trace → (link_of pred.now.word).mark ≡ false → StandsNow pass.old.trace pred.now → StandsNow pass.new.trace pred.now }
-{
-    let slot = hand.slot();
-    pass.law();
-    slots.store_key(pass, slot, key);
-    pass.law();
-    let link = link_to(decode(pred.word).slot, hand.birth(), birth);
-    slots.store_link(pass, slot, link);
-}
 
 /// Links the slot in hand with this key between `pred` and `succ`, in three steps: the pass has
 /// inserted the key. `succ` is the node that the link of `pred` names, if it names one. It does so
@@ -92,16 +56,7 @@ pub fn update(
     ensures safe { HasSafeRun pass.new.trace }
     ensures wins { IfErr result (λ r. IsAlone pass.old.trace pass.new.trace → StandsNow pass.old.trace pred.now → ⊥) }
 {
-    let birth = birth_named(pass, pred, succ);
-    fill(slots, pass, &hand, key, pred, birth);
-    pass.law();
-    let slot = hand.slot();
-    let new = link_to(Some(slot), pred.birth, hand.birth());
-    match slots.publish(pass, pred.at, pred.word, slot, new) {
-        Ok(()) => {
-            hand.spent(pass);
-            Ok(())
-        }
-        Err(found) => Err((hand, Rollback::LostExchange { found })),
-    }
+    pass.at_with(slots, (hand, succ), |at, (hand, succ)| {
+        (uncounted::update(at, pred, succ, key, hand), 3)
+    })
 }

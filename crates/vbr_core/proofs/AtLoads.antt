@@ -169,10 +169,6 @@ module _ {shape : Dimensions} {w : World} {a : Incarnations} {notes : ℕ → No
   pub present_now : (key : ℕ) → KeyAt (w.know p) at key → set_after (opening_keys shape) w.calls key ≡ true
   present_now key k = rw now.calls (key_was_there now.sound still now.sound (now.knows p) (now.knows p).epoch now.tells at here.0 link here.2.place (sym (stands w a at now.image) ∙ shown) unmarked known key k)
 
-  -- a key that stands behind the place and before what the link names isn't
-  pub absent_now : (key : ℕ) → StandsBehind shape (w.know p) at key → StandsBefore (w.know p) key link.slot → set_after (opening_keys shape) w.calls key ≡ false
-  absent_now key i j = rw now.calls (no_key_was_there now.sound still now.sound (now.knows p) (now.knows p).epoch now.tells at here.0 link here.2.place (sym (stands w a at now.image) ∙ shown) unmarked known key i j)
-
 -- ---- confirming loads
 
 -- the word at the place of a link

@@ -157,10 +157,6 @@ module _ {shape : Dimensions} {w : World} {a : Incarnations} {notes : ℕ → No
       next_listed_of (AtHead b) o m q = (now.sound.lists.first_in b m q).0
       next_listed_of (AtNode c) o m q = next_listed now.sound c m q (rw o tt)
 
-  -- what stands at the place is followed through marked nodes by the one that the last of these links names
-  pub marked_chain : Reaches a (w.know p).epoch (next_of a (before_at a at)) last
-  marked_chain = let P : Before → Type 0 = λ before. Reaches a (w.know p).epoch (next_of a before) last in subst P (pair_before a at good.0 good.1 pair) reaches
-
   -- a key that stands behind the place and before what the last of these links names isn't in the set
   pub absent_behind_marked : (key : ℕ) → StandsBehind shape (w.know p) at key → StandsBefore (w.know p) key last.slot → set_after (opening_keys shape) w.calls key ≡ false
   absent_behind_marked key i j = rw now.calls (go (cases_Bool (set_after (opening_keys shape) a.calls key)))

@@ -74,9 +74,6 @@ is_run_last shape passes run event is_run = (is_run_after shape passes run (even
 pub begins_refl : (run : List Event) → Begins run run
 begins_refl run = ([], sym (append-nil run))
 
-pub begins_more : (run more : List Event) → Begins run (run ++ more)
-begins_more run more = (more, refl)
-
 pub begins_trans : (xs ys zs : List Event) → Begins xs ys → Begins ys zs → Begins xs zs
 begins_trans xs ys zs first second = (first.0 ++ second.0, second.1 ∙ ap (λ l. l ++ second.0) first.1 ∙ append_assoc xs first.0 second.0)
 

@@ -1,5 +1,5 @@
 -- The words after a step: the word at its place is that of its operation, and no other word changes.
-use Rattle.std.proofs.Common.{◌≡◌, ◌≢◌, ℕ, ◌+◌, Bool, true, false, List, [], ◌∷◌, ◌++◌, Option, Some, None, cond, refl, sym, ap, ◌∙◌, inl, inr, arith}
+use Rattle.std.proofs.Common.{◌≡◌, ◌≢◌, ℕ, ◌+◌, Bool, true, false, [], ◌∷◌, ◌++◌, Option, Some, None, cond, refl, sym, ap, ◌∙◌, inl, inr, arith}
 use Rattle.std.specs.Prelude.{◌⊎◌, ◌==◌, bit_and}
 use Rattle.std.proofs.lemmas.Bool.{cases_eq, eqb-true}
 use Rattle.vbr_words.specs.Dimensions.{Dimensions}
@@ -15,13 +15,11 @@ use Rattle.vbr_core.specs.Put.{put}
 use Rattle.vbr_core.specs.Acceptance.{IsAtIn, IsInShape, MayBear, IsInHand, Accepts}
 use Rattle.vbr_core.specs.Learning.{link_written}
 use Rattle.vbr_core.specs.Machine.{World, link_at, is_shared, word_at, place_of_step, access_of, word_made, found, with_learning, after}
-use Rattle.vbr_core.specs.Runs.{IsAccepted, world_after, know_after}
 use Rattle.vbr_core.specs.Incarnations.{State, Incarnations}
 use Rattle.vbr_core.specs.Chronicles.{next_of}
 use Rattle.vbr_core.specs.Sound.{IsListed, PlaceFits}
 use Rattle.vbr_core.specs.Notes.{Notes, before_at}
 use Rattle.vbr_core.specs.Agreement.{IsHeldNext, OwnFits, Agrees}
-use Rattle.vbr_core.specs.declared.event.Event.{Event}
 use Rattle.vbr_core.specs.declared.event.Step.{Step}
 use Rattle.vbr_core.specs.declared.event.Step.TheVariants.{ReadEpoch, Advance, LoadStamp, StoreStamp, Raise, TakeFlag, StoreBirth, StoreKey, StoreLink, LoadLink, LoadBirth, LoadKey, Publish, Mark, Unlink, ConfirmPresent, ConfirmAbsent}
 use Rattle.vbr_core.specs.declared.knowledge.Holding.{Holding}
@@ -30,7 +28,6 @@ use Rattle.vbr_core.specs.declared.knowledge.SlotPlace.{SlotPlace}
 use Rattle.vbr_core.specs.declared.knowledge.SlotPlace.TheVariants.{Shared, Own, Hand, Listed}
 use Rattle.vbr_core.proofs.Puts.{put_here, put_other}
 use Rattle.vbr_core.proofs.Slots.{listed_last}
-use Rattle.vbr_core.proofs.RunsGoOn.{world_after-snoc}
 use Rattle.vbr_core.proofs.StandingLinks.{LinkStands, link_stands}
 use Rattle.vbr_core.proofs.SlotFlags.{flag_in, raised_word, taken_word, missed_word, same_word}
 
@@ -227,13 +224,3 @@ moves_unshared shape w a notes p _ g ok = tt
 -- an accepted step leaves the words elsewhere
 pub word_elsewhere : (shape : Dimensions) (w : World) (a : Incarnations) (notes : ℕ → Notes) (p : ℕ) (step : Step) (q : Place) → Agrees shape w a notes → Accepts shape (w.know p) step → q ≢ place_of_step step → word_at shape (after shape w p step) q ≡ word_at shape w q
 word_elsewhere shape w a notes p step q g ok ne = word_elsewhere_if shape w p step q (moves_unshared shape w a notes p step g ok) ne
-
--- ---- along a run
-
--- the word at the place of one more event, from what its pass knows
-pub word_here-snoc : (shape : Dimensions) (run : List Event) (event : Event) → IsInShape shape event.step → word_at shape (world_after shape (run ++ event ∷ [])) (place_of_step event.step) ≡ word_made (access_of (know_after shape run event.pass) event.step) (found shape (world_after shape run) event.step)
-word_here-snoc shape run event here = ap (λ v. word_at shape v (place_of_step event.step)) (world_after-snoc shape run event) ∙ word_here shape (world_after shape run) event.pass event.step here
-
--- and the words elsewhere
-pub word_elsewhere-snoc : (shape : Dimensions) (passes : ℕ) (a : Incarnations) (notes : ℕ → Notes) (run : List Event) (event : Event) (q : Place) → Agrees shape (world_after shape run) a notes → IsAccepted shape passes (world_after shape run) event → q ≢ place_of_step event.step → word_at shape (world_after shape (run ++ event ∷ [])) q ≡ word_at shape (world_after shape run) q
-word_elsewhere-snoc shape passes a notes run event q g accepted ne = ap (λ v. word_at shape v q) (world_after-snoc shape run event) ∙ word_elsewhere shape (world_after shape run) a notes event.pass event.step q g accepted.1 ne

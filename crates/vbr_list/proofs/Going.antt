@@ -1,5 +1,6 @@
 -- Pieces one after another: they make no call, their steps add up, and the slot in hand stays.
-use Rattle.std.proofs.Common.{◌≡◌, ℕ, ◌+◌, ◌%◌, ◌≤◌, [], refl, sym, ap, ◌∙◌, subst, arith}
+use Rattle.std.proofs.Common.{◌≡◌, ℕ, ◌+◌, ◌%◌, ◌≤◌, [], Result, Ok, Err, refl, sym, ap, ◌∙◌, subst, arith}
+use Rattle.std.specs.Prelude.{IfOk}
 use Rattle.vbr_words.specs.Dimensions.{Dimensions}
 use Rattle.vbr_core.specs.Acceptance.{bucket_of}
 use Rattle.vbr_slots.specs.Calls.{IsSame, Quiet, Took}
@@ -50,11 +51,16 @@ bucket_is a b bare bucket key e g f = f ∙ ap (λ (shape : Dimensions). key % s
 
 -- a call stays the same one from piece to piece
 pub call_on : {b c d : Call} → IsSameCall b c → IsSameCall c d → IsSameCall b d
-call_on x y = record { pass = y.pass ∙ x.pass; slots = y.slots ∙ x.slots; key = y.key ∙ x.key; bucket = y.bucket ∙ x.bucket; budget = y.budget ∙ x.budget }
+call_on x y = record { at = record { pass = y.at.pass ∙ x.at.pass; slots = y.at.slots ∙ x.at.slots }; key = y.key ∙ x.key; bucket = y.bucket ∙ x.bucket; budget = y.budget ∙ x.budget }
 
 pub call_refl : (c : Call) → IsSameCall c c
-call_refl c = record { pass = refl; slots = refl; key = refl; bucket = refl; budget = refl }
+call_refl c = record { at = record { pass = refl; slots = refl }; key = refl; bucket = refl; budget = refl }
 
 -- the steps of a call are within the budget that it began with
 pub within_call : {c d : Call} → IsSameCall c d → d.used ≤ c.budget
 within_call {c} {d} x = let u = d.within in let e = x.budget in omega (arith, u, e)
+
+-- what follows of each value is so of the value that was given
+pub ok_as : {T E : Type 0} {P Q : T → Type 0} (x : Result T E) → ((value : T) → P value → Q value) → IfOk x P → IfOk x Q
+ok_as (Ok value) f p = f value p
+ok_as (Err error) f p = tt

@@ -5,7 +5,7 @@ use Rattle.std.specs.Result.{is_ok}
 use Rattle.vbr_words.specs.Dimensions.{Dimensions}
 use Rattle.vbr_core.specs.Runs.{Begins, IsRun}
 use Rattle.vbr_core.specs.declared.history.Op.{Op}
-use Rattle.vbr_slots.specs.Calls.{IsSame, Quiet, Made}
+use Rattle.vbr_slots.specs.Calls.{IsSame, Quiet, Made, Took}
 use Rattle.vbr_slots.specs.Views.{Trace, PassView}
 use Rattle.vbr_slots.proofs.Lemmas.{made_on}
 use Rattle.vbr_pools.specs.Refusals.{IsSpent, LeavesRoom}
@@ -31,11 +31,8 @@ pub within_same : {p q r : Trace} {a b budget : ℕ} → r ≡ q → CountsWithi
 within_same {p} {q} {r} {a} {b} e x = record { counts = subst (λ (t : Trace). CountsSteps p t a b) (sym e) x.counts; within = x.within }
 
 -- a call with what is left of the budget
-pub within_rest : {p q : Trace} (used budget : ℕ) → used ≤ budget → TookWithin p q (budget - used) → (since : ℕ) × CountsWithin p q used since budget
-within_rest used budget le x = let h = x.within in (used + x.steps, record { counts = counts_step used x.steps x.took; within = (omega arith, omega arith) })
-
-pub within_after : {p q r : Trace} {a b budget : ℕ} → CountsWithin p q a b budget → (since : ℕ) × CountsWithin q r b since budget → (since : ℕ) × CountsWithin p r a since budget
-within_after x y = (y.0, within_on x y.1.counts y.1.within.0 y.1.within.1)
+pub within_rest : {p q : Trace} (used budget made : ℕ) → used ≤ budget → made ≤ budget - used → Took p q made → CountsWithin p q used (used + made) budget
+within_rest used budget made le fits took = record { counts = counts_step used made took; within = (omega arith, omega arith) }
 
 -- ---- refusals
 
@@ -65,15 +62,8 @@ refused_first p q key budget (EpochSpent epoch) x = record { absent = x.0; spent
 pub spent_rest : (p q : PassView) (used budget epoch : ℕ) → used ≤ budget → IsSpent q epoch → LeavesRoom p q (budget - used) → InsertShowsSpent p q used budget epoch
 spent_rest p q used budget epoch le spent left = let h = left.room in record { spent = spent; since = used + left.steps; counts = record { counts = counts_step used left.steps left.took; within = (omega arith, omega arith) }; room = omega arith }
 
--- the second part of an insert makes so many steps
-pub within_second : (q r : PassView) {b budget : ℕ} (c : ℕ) (answer : Result Bool Refusal) → IfOk answer (λ _. CountsWithin q.trace r.trace b c budget) → IfErr answer (λ refusal. InsertIsShort q r b budget refusal) → (since : ℕ) × CountsWithin q.trace r.trace b since budget
-within_second q r c (Ok reply) x y = (c, x)
-within_second q r c (Err (OutOfSteps used)) x y = (used, y.counts)
-within_second q r c (Err NoSlot) x y = absurd y
-within_second q r c (Err (EpochSpent epoch)) x y = absurd y
-
-pub within_all : {p q : Trace} {budget : ℕ} → (since : ℕ) × CountsWithin p q 0 since budget → TookWithin p q budget
-within_all x = record { steps = x.0; within = x.1.within.1; took = took_all x.1.counts }
+pub within_all : {p q : Trace} {since budget : ℕ} → CountsWithin p q 0 since budget → TookWithin p q budget
+within_all {p} {q} {since} x = record { steps = since; within = x.within.1; took = took_all x.counts }
 
 -- ---- an answer
 

@@ -1,22 +1,20 @@
 //! A call in progress.
 ghost use Rattle.std.specs.Prelude.{◌≡◌, ◌<◌, ◌≤◌};
 ghost use Rattle.vbr_core.specs.Acceptance.{bucket_of};
-ghost use Rattle.vbr_slots.specs.Views.{IsOf};
 
-use vbr_slots::{Pass, Slots};
+use vbr_slots::AtTable;
 
-/// A call in progress: at which table, by which pass and for which key, in what bucket that is, and
-/// how many steps of its budget are used. Its methods are the pieces of calls.
+/// A call in progress: the pass at its table, for which key, in what bucket that is, and how many
+/// steps of its budget are used. Its methods are the pieces of calls. Nothing counts its steps in the
+/// pass until it ends.
 #[derive(Drop)]
 pub(crate) struct Call<'c> {
-    pub(crate) slots: &'c Slots,
-    pub(crate) pass: &'c mut Pass,
+    pub(crate) at: AtTable<'c>,
     pub(crate) key: u64,
     pub(crate) bucket: u32,
     pub(crate) budget: u32,
     pub(crate) used: u32,
-    ghost own: { IsOf pass.now.trace slots.now },
-    ghost of_key: { bucket ≡ bucket_of pass.now.trace.shape key },
-    ghost in_shape: { bucket < slots.now.shape.buckets },
+    ghost of_key: { bucket ≡ bucket_of at.pass.now.trace.shape key },
+    ghost in_shape: { bucket < at.slots.now.shape.buckets },
     ghost within: { used ≤ budget },
 }

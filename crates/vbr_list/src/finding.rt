@@ -1,6 +1,7 @@
 //! Finding where a key stands.
 ghost use Rattle.std.specs.Prelude.{◌≡◌, ◌+◌, ◌*◌, ◌<◌, ◌≤◌, None, IfOk, IfErr, IfSome, IfNone};
 ghost use Rattle.vbr_slots.specs.Alone.{IsAlone};
+ghost use Rattle.vbr_slots.specs.AtTables.{IsSameTable};
 ghost use Rattle.vbr_slots.specs.Calls.{Quiet, Took};
 ghost use Rattle.vbr_slots.specs.Views.{IsOf};
 ghost use Rattle.vbr_pools.specs.KeptSlots.{TakesNoSlot};
@@ -17,20 +18,20 @@ use crate::call::Call;
 use crate::found::Found;
 use crate::refusal::Refusal;
 use crate::traversal::Stop;
-use vbr_slots::{Pass, Slots};
+use vbr_slots::{AtTable, Pass, Slots};
 
 impl Call<'_> {
     /// Traverses until it comes to the key; none where the budget has no room for one more piece.
     #[inline(always)]
     pub(crate) fn search(&mut self) -> Option<Found>
         ensures call { IsSameCall self.old self.new }
-        ensures goes { Goes self.old.pass.now self.new.pass.now self.old.used self.new.used }
+        ensures goes { Goes self.old.at.pass.now self.new.at.pass.now self.old.used self.new.used }
         ensures more { self.old.used ≤ self.new.used }
-        ensures found { IfSome result (λ found. IsFound self.old.pass.now.trace self.new.pass.now.trace self.old.key found) }
+        ensures found { IfSome result (λ found. IsFound self.old.at.pass.now.trace self.new.at.pass.now.trace self.old.key found) }
         ensures used { IfSome result (λ found. found.used ≡ self.new.used) }
         ensures tired { IfNone result (self.old.budget < self.new.used + 8) }
-        ensures short { IfNone result (IsAlone self.old.pass.now.trace self.new.pass.now.trace → self.old.budget < self.old.used + 9 * listed_for self.old.pass.now.trace self.old.key + 11) }
-        ensures alone { IfSome result (λ found. IsAlone self.old.pass.now.trace self.new.pass.now.trace → FoundAlone self.old.pass.now.trace self.new.pass.now.trace self.old.key self.old.used self.new.used found) }
+        ensures short { IfNone result (IsAlone self.old.at.pass.now.trace self.new.at.pass.now.trace → self.old.budget < self.old.used + 9 * listed_for self.old.at.pass.now.trace self.old.key + 11) }
+        ensures alone { IfSome result (λ found. IsAlone self.old.at.pass.now.trace self.new.at.pass.now.trace → FoundAlone self.old.at.pass.now.trace self.new.at.pass.now.trace self.old.key self.old.used self.new.used found) }
     {
         loop {
             match self.traverse() {
@@ -64,17 +65,38 @@ pub fn find(slots: &Slots, pass: &mut Pass, key: u64, budget: u32) -> Result<Fou
     // Alone, it finds the key in so many steps.
     ensures within { IfErr result (λ refusal. IsAlone pass.old.trace pass.new.trace → budget < 9 * listed_for pass.old.trace key + 11) }
 {
-    pass.law();
+    pass.at(slots, |at| find_by(at, key, budget))
+}
+
+// As `find`, where no step is counted; and how many steps were made.
+fn find_by(at: &mut AtTable<'_>, key: u64, budget: u32) -> (Result<Found, Refusal>, u32)
+    requires empty_hand { at.old.pass.now.hand ≡ None }
+    ensures table { IsSameTable at.old at.new }
+    ensures took { Took at.old.pass.now.trace at.new.pass.now.trace result.1 }
+    ensures quiet { Quiet at.old.pass.now.trace at.new.pass.now.trace }
+    ensures safe { HasSafeRun at.new.pass.now.trace }
+    ensures hand { at.new.pass.now.hand ≡ None }
+    ensures found { IfOk result.0 (λ found. IsFound at.old.pass.now.trace at.new.pass.now.trace key found) }
+    ensures was_so { IfOk result.0 (λ found. WasSo at.old.pass.now.trace at.new.pass.now.trace key found.present) }
+    ensures steps { IfOk result.0 (λ found. (found.used ≤ budget) × Took at.old.pass.now.trace at.new.pass.now.trace found.used) }
+    ensures takes_no_slot { TakesNoSlot at.old.pass.now at.new.pass.now }
+    ensures refused { IfErr result.0 (λ refusal. IsTired at.old.pass.now at.new.pass.now budget refusal) }
+    // Alone, it finds the key in so many steps.
+    ensures within { IfErr result.0 (λ refusal. IsAlone at.old.pass.now.trace at.new.pass.now.trace → budget < 9 * listed_for at.old.pass.now.trace key + 11) }
+{
+    at.law();
     let mut call = Call {
-        slots,
-        pass,
+        at: AtTable {
+            slots: at.slots,
+            pass: at.pass,
+        },
         key,
-        bucket: slots.shape().bucket_of(key),
+        bucket: at.slots.shape().bucket_of(key),
         budget,
         used: 0,
     };
     match call.search() {
-        Some(found) => Ok(found),
-        None => Err(Refusal::OutOfSteps { used: call.used }),
+        Some(found) => (Ok(found), call.used),
+        None => (Err(Refusal::OutOfSteps { used: call.used }), call.used),
     }
 }

@@ -6,6 +6,7 @@ ghost use Rattle.vbr_pools.specs.KeptSlots.{HasStill, HasUnpublished, KeepsSlots
 ghost use Rattle.vbr_pools.specs.Budgets.{most_to_take, steps_to_take};
 ghost use Rattle.vbr_pools.specs.Steps.{CountsSteps, TookWithin};
 ghost use Rattle.vbr_slots.specs.Alone.{IsAlone};
+ghost use Rattle.vbr_slots.specs.AtTables.{IsSameTable};
 ghost use Rattle.vbr_slots.specs.Calls.{IsSame, Quiet, Made, Took};
 ghost use Rattle.vbr_slots.specs.Views.{IsOf, knows};
 ghost use Rattle.vbr_access.specs.Alone.{NextStands, StandsNow};
@@ -21,85 +22,87 @@ ghost use Rattle.vbr_list.specs.Refusals.{IsRefused};
 use crate::call::Call;
 use crate::found::Found;
 use crate::refusal::Refusal;
-use vbr_access::{Rollback, confirm_present, update};
+use vbr_access::Rollback;
+use vbr_access::uncounted::{confirm_present, update};
 use vbr_core::Op;
 use vbr_pools::budget::affords;
-use vbr_pools::{Hand, TakeRefusal, give_back, take_counted};
-use vbr_slots::{Pass, Slots};
+use vbr_pools::uncounted::{give_back, take};
+use vbr_pools::{Hand, TakeRefusal};
+use vbr_slots::{AtTable, Pass, Slots};
 
 impl Call<'_> {
     // Answers an insert with no, in one step, if the link of the node that was found is as it was read.
     #[inline]
     fn deny(&mut self, found: &Found) -> Result<(), Rollback>
-        requires locates { Locates self.old.pass.now.trace.shape (knows self.old.pass.now.trace) self.old.key found.now }
+        requires locates { Locates self.old.at.pass.now.trace.shape (knows self.old.at.pass.now.trace) self.old.key found.now }
         requires present { found.now.present ≡ true }
         requires room { self.old.used + 8 ≤ self.old.budget }
         ensures call { IsSameCall self.old self.new }
-        ensures took { Took self.old.pass.now.trace self.new.pass.now.trace 1 }
+        ensures took { Took self.old.at.pass.now.trace self.new.at.pass.now.trace 1 }
         ensures used { self.new.used ≡ self.old.used + 1 }
-        ensures own { KeepsOwn self.old.pass.now self.new.pass.now }
-        ensures takes_no_slot { TakesNoSlot self.old.pass.now self.new.pass.now }
-        ensures made { IfOk result (λ _. Made (record { who = self.old.pass.now.trace.who; op = Insert; key = self.old.key; reply = false }) self.old.pass.now.trace self.new.pass.now.trace) }
-        ensures quiet { IfErr result (λ r. Quiet self.old.pass.now.trace self.new.pass.now.trace) }
-        ensures wins { IfErr result (λ r. NextStands self.old.pass.now.trace found.now.cur → IsAlone self.old.pass.now.trace self.new.pass.now.trace → ⊥) }
+        ensures own { KeepsOwn self.old.at.pass.now self.new.at.pass.now }
+        ensures takes_no_slot { TakesNoSlot self.old.at.pass.now self.new.at.pass.now }
+        ensures made { IfOk result (λ _. Made (record { who = self.old.at.pass.now.trace.who; op = Insert; key = self.old.key; reply = false }) self.old.at.pass.now.trace self.new.at.pass.now.trace) }
+        ensures quiet { IfErr result (λ r. Quiet self.old.at.pass.now.trace self.new.at.pass.now.trace) }
+        ensures wins { IfErr result (λ r. NextStands self.old.at.pass.now.trace found.now.cur → IsAlone self.old.at.pass.now.trace self.new.at.pass.now.trace → ⊥) }
     {
         let Some(cur) = &found.cur else {
             unreachable!()
         };
         self.used += 1;
-        confirm_present(self.slots, self.pass, Op::Insert, cur)
+        confirm_present(&mut self.at, Op::Insert, cur)
     }
 
     // Takes a slot with what is left of the budget.
     fn provide(&mut self) -> Result<Hand, Refusal>
-        requires empty_hand { self.old.pass.now.hand ≡ None }
+        requires empty_hand { self.old.at.pass.now.hand ≡ None }
         ensures call { IsSameCall self.old self.new }
-        ensures quiet { Quiet self.old.pass.now.trace self.new.pass.now.trace }
-        ensures hand { IfOk result (λ hand. HasHandAndRoom self.new.pass.now hand) }
-        ensures counts { IfOk result (λ hand. CountsWithin self.old.pass.now.trace self.new.pass.now.trace self.old.used self.new.used self.old.budget) }
-        ensures empty_hand { IfErr result (λ refusal. self.new.pass.now.hand ≡ None) }
-        ensures steps { IfErr result (λ refusal. (since : ℕ) × CountsWithin self.old.pass.now.trace self.new.pass.now.trace self.old.used since self.old.budget) }
-        ensures refused { IfErr result (λ refusal. TakesNone self.old.pass.now self.new.pass.now self.old.used self.old.budget refusal) }
-        ensures advances { AdvancesWhereNeeded self.old.pass.now self.new.pass.now }
-        ensures kept { KeepsSlots self.old.pass.now self.new.pass.now }
-        ensures had { HasStill self.old.pass.now self.new.pass.now }
-        ensures one { length self.old.pass.now.pool ≤ length self.new.pass.now.pool + 1 }
-        ensures shared { SharesWhereFull 2 self.old.pass.now self.new.pass.now }
-        ensures few { IfOk result (λ hand. IsAlone self.old.pass.now.trace self.new.pass.now.trace → self.new.used ≤ self.old.used + steps_to_take self.old.pass.now.trace.shape self.old.pass.now.pool) }
-        ensures enough { IfErr result (λ refusal. IsAlone self.old.pass.now.trace self.new.pass.now.trace → LacksSteps (self.old.used + steps_to_take self.old.pass.now.trace.shape self.old.pass.now.pool + 7) self.old.budget refusal) }
+        ensures quiet { Quiet self.old.at.pass.now.trace self.new.at.pass.now.trace }
+        ensures hand { IfOk result (λ hand. HasHandAndRoom self.new.at.pass.now hand) }
+        ensures counts { CountsWithin self.old.at.pass.now.trace self.new.at.pass.now.trace self.old.used self.new.used self.old.budget }
+        ensures empty_hand { IfErr result (λ refusal. self.new.at.pass.now.hand ≡ None) }
+        ensures refused { IfErr result (λ refusal. TakesNone self.old.at.pass.now self.new.at.pass.now self.old.used self.old.budget refusal) }
+        ensures advances { AdvancesWhereNeeded self.old.at.pass.now self.new.at.pass.now }
+        ensures kept { KeepsSlots self.old.at.pass.now self.new.at.pass.now }
+        ensures had { HasStill self.old.at.pass.now self.new.at.pass.now }
+        ensures one { length self.old.at.pass.now.pool ≤ length self.new.at.pass.now.pool + 1 }
+        ensures shared { SharesWhereFull 2 self.old.at.pass.now self.new.at.pass.now }
+        ensures few { IfOk result (λ hand. IsAlone self.old.at.pass.now.trace self.new.at.pass.now.trace → self.new.used ≤ self.old.used + steps_to_take self.old.at.pass.now.trace.shape self.old.at.pass.now.pool) }
+        ensures enough { IfErr result (λ refusal. IsAlone self.old.at.pass.now.trace self.new.at.pass.now.trace → LacksSteps (self.old.used + steps_to_take self.old.at.pass.now.trace.shape self.old.at.pass.now.pool + 7) self.old.budget refusal) }
     {
-        match take_counted(self.slots, self.pass, self.budget - self.used) {
-            Ok((hand, more)) => {
-                self.used += more;
-                Ok(hand)
-            }
-            Err(TakeRefusal::OutOfSteps { used: more }) => Err(Refusal::OutOfSteps {
-                used: self.used + more,
-            }),
-            Err(TakeRefusal::NoSlot) => Err(Refusal::NoSlot),
-            Err(TakeRefusal::EpochSpent { epoch }) => Err(Refusal::EpochSpent { epoch }),
+        let before = self.used;
+        let (outcome, made) = take(&mut self.at, self.budget - before);
+        self.used += made;
+        match outcome {
+            Ok(hand) => Ok(hand),
+            Err(refusal) => match refusal {
+                TakeRefusal::OutOfSteps { used: more } => Err(Refusal::OutOfSteps {
+                    used: before + more,
+                }),
+                TakeRefusal::NoSlot => Err(Refusal::NoSlot),
+                TakeRefusal::EpochSpent { epoch } => Err(Refusal::EpochSpent { epoch }),
+            },
         }
     }
 
     // Looks for the key without a hand: a hand, once the key was found absent; or none, and the answer is
     // no.
     fn prepare(&mut self) -> Result<Option<Hand>, Refusal>
-        requires empty_hand { self.old.pass.now.hand ≡ None }
+        requires empty_hand { self.old.at.pass.now.hand ≡ None }
         ensures call { IsSameCall self.old self.new }
-        ensures prepared { IfOk result (λ hand. IsPrepared self.old.pass.now self.new.pass.now self.old.key hand) }
-        ensures counts { IfOk result (λ hand. CountsWithin self.old.pass.now.trace self.new.pass.now.trace self.old.used self.new.used self.old.budget) }
-        ensures quiet { IfErr result (λ refusal. Quiet self.old.pass.now.trace self.new.pass.now.trace) }
-        ensures empty_hand { IfErr result (λ refusal. self.new.pass.now.hand ≡ None) }
-        ensures steps { IfErr result (λ refusal. (since : ℕ) × CountsWithin self.old.pass.now.trace self.new.pass.now.trace self.old.used since self.old.budget) }
-        ensures refused { IfErr result (λ refusal. RefusesInsert self.old.pass.now self.new.pass.now self.old.key self.old.used self.old.budget refusal) }
-        ensures advances { AdvancesWhereNeeded self.old.pass.now self.new.pass.now }
-        ensures kept { KeepsSlots self.old.pass.now self.new.pass.now }
-        ensures had { HasStill self.old.pass.now self.new.pass.now }
-        ensures shared { SharesWhereFull 2 self.old.pass.now self.new.pass.now }
-        ensures few { IfOk result (λ hand. IsAlone self.old.pass.now.trace self.new.pass.now.trace → self.new.used ≤ self.old.used + 9 * listed_for self.old.pass.now.trace self.old.key + most_to_take self.old.pass.now.trace.shape self.old.pass.now.pool + 3) }
-        ensures enough { IfErr result (λ refusal. IsAlone self.old.pass.now.trace self.new.pass.now.trace → LacksSteps (self.old.used + 9 * listed_for self.old.pass.now.trace self.old.key + most_to_take self.old.pass.now.trace.shape self.old.pass.now.pool + 10) self.old.budget refusal) }
+        ensures prepared { IfOk result (λ hand. IsPrepared self.old.at.pass.now self.new.at.pass.now self.old.key hand) }
+        ensures counts { CountsWithin self.old.at.pass.now.trace self.new.at.pass.now.trace self.old.used self.new.used self.old.budget }
+        ensures quiet { IfErr result (λ refusal. Quiet self.old.at.pass.now.trace self.new.at.pass.now.trace) }
+        ensures empty_hand { IfErr result (λ refusal. self.new.at.pass.now.hand ≡ None) }
+        ensures refused { IfErr result (λ refusal. RefusesInsert self.old.at.pass.now self.new.at.pass.now self.old.key self.old.used self.old.budget refusal) }
+        ensures advances { AdvancesWhereNeeded self.old.at.pass.now self.new.at.pass.now }
+        ensures kept { KeepsSlots self.old.at.pass.now self.new.at.pass.now }
+        ensures had { HasStill self.old.at.pass.now self.new.at.pass.now }
+        ensures shared { SharesWhereFull 2 self.old.at.pass.now self.new.at.pass.now }
+        ensures few { IfOk result (λ hand. IsAlone self.old.at.pass.now.trace self.new.at.pass.now.trace → self.new.used ≤ self.old.used + 9 * listed_for self.old.at.pass.now.trace self.old.key + most_to_take self.old.at.pass.now.trace.shape self.old.at.pass.now.pool + 3) }
+        ensures enough { IfErr result (λ refusal. IsAlone self.old.at.pass.now.trace self.new.at.pass.now.trace → LacksSteps (self.old.used + 9 * listed_for self.old.at.pass.now.trace self.old.key + most_to_take self.old.at.pass.now.trace.shape self.old.at.pass.now.pool + 10) self.old.budget refusal) }
     {
-        self.pass.law();
+        self.at.law();
         loop {
             let Some(found) = self.search() else {
                 return Err(Refusal::OutOfSteps { used: self.used });
@@ -120,31 +123,30 @@ impl Call<'_> {
     // Answers an insert by what was found, with a slot in hand; else the hand comes back.
     #[inline]
     fn settle_insert(&mut self, found: &Found, hand: Hand) -> Result<bool, Hand>
-        requires locates { Locates self.old.pass.now.trace.shape (knows self.old.pass.now.trace) self.old.key found.now }
-        requires hand { HasHandAndRoom self.old.pass.now hand }
+        requires locates { Locates self.old.at.pass.now.trace.shape (knows self.old.at.pass.now.trace) self.old.key found.now }
+        requires hand { HasHandAndRoom self.old.at.pass.now hand }
         requires room { self.old.used + 8 ≤ self.old.budget }
         ensures call { IsSameCall self.old self.new }
-        ensures counts { CountsSteps self.old.pass.now.trace self.new.pass.now.trace self.old.used self.new.used }
+        ensures counts { CountsSteps self.old.at.pass.now.trace self.new.at.pass.now.trace self.old.used self.new.used }
         ensures used { (self.old.used < self.new.used) × (self.new.used ≤ self.old.used + 8) }
-        ensures made { IfOk result (λ reply. Made (record { who = self.old.pass.now.trace.who; op = Insert; key = self.old.key; reply = reply }) self.old.pass.now.trace self.new.pass.now.trace) }
-        ensures spent { IfOk result (λ reply. self.new.pass.now.hand ≡ None) }
-        ensures quiet { IfErr result (λ back. Quiet self.old.pass.now.trace self.new.pass.now.trace) }
-        ensures hand { IfErr result (λ back. HasHandAndRoom self.new.pass.now back) }
-        ensures takes_no_slot { TakesNoSlot self.old.pass.now self.new.pass.now }
-        ensures had { HasUnpublished self.old.pass.now self.new.pass.now result }
-        ensures wins { IfErr result (λ back. StandsNow self.old.pass.now.trace found.now.pred → NextStands self.old.pass.now.trace found.now.cur → IsAlone self.old.pass.now.trace self.new.pass.now.trace → ⊥) }
+        ensures made { IfOk result (λ reply. Made (record { who = self.old.at.pass.now.trace.who; op = Insert; key = self.old.key; reply = reply }) self.old.at.pass.now.trace self.new.at.pass.now.trace) }
+        ensures spent { IfOk result (λ reply. self.new.at.pass.now.hand ≡ None) }
+        ensures quiet { IfErr result (λ back. Quiet self.old.at.pass.now.trace self.new.at.pass.now.trace) }
+        ensures hand { IfErr result (λ back. HasHandAndRoom self.new.at.pass.now back) }
+        ensures takes_no_slot { TakesNoSlot self.old.at.pass.now self.new.at.pass.now }
+        ensures had { HasUnpublished self.old.at.pass.now self.new.at.pass.now result }
+        ensures wins { IfErr result (λ back. StandsNow self.old.at.pass.now.trace found.now.pred → NextStands self.old.at.pass.now.trace found.now.cur → IsAlone self.old.at.pass.now.trace self.new.at.pass.now.trace → ⊥) }
     {
         if found.present {
             if self.deny(found).is_err() {
                 return Err(hand);
             }
-            give_back(self.pass, hand);
+            give_back(&mut self.at, hand);
             return Ok(false);
         }
         self.used += 3;
         match update(
-            self.slots,
-            self.pass,
+            &mut self.at,
             &found.pred,
             found.cur.as_ref(),
             self.key,
@@ -157,24 +159,24 @@ impl Call<'_> {
 
     // Links the slot in hand, or answers no where the key has come meanwhile. The hand is spent.
     fn link(&mut self, mut hand: Hand) -> Result<bool, Refusal>
-        requires hand { HasHandAndRoom self.old.pass.now hand }
+        requires hand { HasHandAndRoom self.old.at.pass.now hand }
         ensures call { IsSameCall self.old self.new }
-        ensures made { IfOk result (λ reply. Made (record { who = self.old.pass.now.trace.who; op = Insert; key = self.old.key; reply = reply }) self.old.pass.now.trace self.new.pass.now.trace) }
-        ensures counts { IfOk result (λ reply. CountsWithin self.old.pass.now.trace self.new.pass.now.trace self.old.used self.new.used self.old.budget) }
-        ensures spent { self.new.pass.now.hand ≡ None }
-        ensures quiet { IfErr result (λ refusal. Quiet self.old.pass.now.trace self.new.pass.now.trace) }
-        ensures refused { IfErr result (λ refusal. InsertIsShort self.old.pass.now self.new.pass.now self.old.used self.old.budget refusal) }
-        ensures takes_no_slot { TakesNoSlot self.old.pass.now self.new.pass.now }
-        ensures had { HasUnpublished self.old.pass.now self.new.pass.now result }
-        ensures short { IfErr result (λ refusal. IsAlone self.old.pass.now.trace self.new.pass.now.trace → self.old.budget < self.old.used + 9 * listed_for self.old.pass.now.trace self.old.key + 11) }
+        ensures made { IfOk result (λ reply. Made (record { who = self.old.at.pass.now.trace.who; op = Insert; key = self.old.key; reply = reply }) self.old.at.pass.now.trace self.new.at.pass.now.trace) }
+        ensures counts { CountsWithin self.old.at.pass.now.trace self.new.at.pass.now.trace self.old.used self.new.used self.old.budget }
+        ensures spent { self.new.at.pass.now.hand ≡ None }
+        ensures quiet { IfErr result (λ refusal. Quiet self.old.at.pass.now.trace self.new.at.pass.now.trace) }
+        ensures refused { IfErr result (λ refusal. InsertIsShort self.old.at.pass.now self.new.at.pass.now self.old.used self.old.budget refusal) }
+        ensures takes_no_slot { TakesNoSlot self.old.at.pass.now self.new.at.pass.now }
+        ensures had { HasUnpublished self.old.at.pass.now self.new.at.pass.now result }
+        ensures short { IfErr result (λ refusal. IsAlone self.old.at.pass.now.trace self.new.at.pass.now.trace → self.old.budget < self.old.used + 9 * listed_for self.old.at.pass.now.trace self.old.key + 11) }
     {
         loop {
             let Some(found) = self.search() else {
-                give_back(self.pass, hand);
+                give_back(&mut self.at, hand);
                 return Err(Refusal::OutOfSteps { used: self.used });
             };
             if !affords(self.budget, self.used) {
-                give_back(self.pass, hand);
+                give_back(&mut self.at, hand);
                 return Err(Refusal::OutOfSteps { used: self.used });
             }
             match self.settle_insert(&found, hand) {
@@ -215,17 +217,45 @@ pub fn insert(slots: &Slots, pass: &mut Pass, key: u64, budget: u32) -> Result<b
     // With a slot in the own pool, whatever others hold while they stand still.
     ensures ready { pass.old.pool ≢ [] → IsAlone pass.old.trace pass.new.trace → 18 * listed_for pass.old.trace key + 82 ≤ budget → IsAnsweredOrSpent result }
 {
-    pass.law();
+    pass.at(slots, |at| insert_by(at, key, budget))
+}
+
+// As `insert`, where no step is counted; and how many steps were made.
+fn insert_by(at: &mut AtTable<'_>, key: u64, budget: u32) -> (Result<bool, Refusal>, u32)
+    requires empty_hand { at.old.pass.now.hand ≡ None }
+    ensures table { IsSameTable at.old at.new }
+    ensures shared { SharesWhereFull 2 at.old.pass.now at.new.pass.now }
+    ensures advances { AdvancesWhereNeeded at.old.pass.now at.new.pass.now }
+    // Alone, it answers in so many steps, or finds no slot or the epoch spent.
+    ensures within { IfErr result.0 (λ refusal. IsAlone at.old.pass.now.trace at.new.pass.now.trace → LacksSteps (18 * listed_for at.old.pass.now.trace key + most_to_take at.old.pass.now.trace.shape at.old.pass.now.pool + 14) budget refusal) }
+    ensures took { Took at.old.pass.now.trace at.new.pass.now.trace result.1 }
+    ensures same { IsSame at.old.pass.now.trace at.new.pass.now.trace }
+    ensures made { IfOk result.0 (λ reply. Made (record { who = at.old.pass.now.trace.who; op = Insert; key = key; reply = reply }) at.old.pass.now.trace at.new.pass.now.trace) }
+    ensures alone { IfOk result.0 (λ reply. AnswersAlone at.old.pass.now.trace Insert key reply) }
+    ensures quiet { IfErr result.0 (λ refusal. Quiet at.old.pass.now.trace at.new.pass.now.trace) }
+    ensures safe { HasSafeRun at.new.pass.now.trace }
+    ensures hand { at.new.pass.now.hand ≡ None }
+    ensures steps { TookWithin at.old.pass.now.trace at.new.pass.now.trace budget }
+    ensures kept { KeepsSlots at.old.pass.now at.new.pass.now }
+    ensures had { HasUnpublished at.old.pass.now at.new.pass.now result.0 }
+    ensures refused { IfErr result.0 (λ refusal. IsRefused at.old.pass.now at.new.pass.now key budget refusal) }
+    // With a slot in the own pool, whatever others hold while they stand still.
+    ensures ready { at.old.pass.now.pool ≢ [] → IsAlone at.old.pass.now.trace at.new.pass.now.trace → 18 * listed_for at.old.pass.now.trace key + 82 ≤ budget → IsAnsweredOrSpent result.0 }
+{
+    at.law();
     let mut call = Call {
-        slots,
-        pass,
+        at: AtTable {
+            slots: at.slots,
+            pass: at.pass,
+        },
         key,
-        bucket: slots.shape().bucket_of(key),
+        bucket: at.slots.shape().bucket_of(key),
         budget,
         used: 0,
     };
-    match call.prepare()? {
-        None => Ok(false),
-        Some(hand) => call.link(hand),
+    match call.prepare() {
+        Err(refusal) => (Err(refusal), call.used),
+        Ok(None) => (Ok(false), call.used),
+        Ok(Some(hand)) => (call.link(hand), call.used),
     }
 }

@@ -10,6 +10,7 @@
 mod call;
 pub mod finding;
 pub mod found;
+mod helping;
 pub mod inserting;
 mod looking;
 pub mod looking_up;

@@ -44,15 +44,15 @@ impl Call<'_> {
     #[inline(always)]
     fn walk(&mut self) -> Result<Sight, Stop>
         ensures call { IsSameCall self.old self.new }
-        ensures goes { Goes self.old.pass.now self.new.pass.now self.old.used self.new.used }
-        ensures observes { Observes self.old.pass.now.trace self.new.pass.now.trace }
+        ensures goes { Goes self.old.at.pass.now self.new.at.pass.now self.old.used self.new.used }
+        ensures observes { Observes self.old.at.pass.now.trace self.new.at.pass.now.trace }
         ensures more { self.old.used ≤ self.new.used }
         ensures again { IfErr result (λ stop. stop ≡ Stop.Again → self.old.used < self.new.used) }
         ensures tired { IfErr result (λ stop. stop ≡ Stop.Tired → self.old.budget < self.new.used + 8) }
-        ensures sight { IfOk result (λ sight. IsSight self.new.pass.now.trace.shape (knows self.new.pass.now.trace) self.old.key sight) }
-        ensures still { IfErr result (λ stop. stop ≡ Stop.Again → IsAlone self.old.pass.now.trace self.new.pass.now.trace → ⊥) }
-        ensures short { IfErr result (λ stop. stop ≡ Stop.Tired → IsAlone self.old.pass.now.trace self.new.pass.now.trace → self.old.budget < self.old.used + 5 * listed_for self.old.pass.now.trace self.old.key + 11) }
-        ensures alone { IfOk result (λ sight. IsAlone self.old.pass.now.trace self.new.pass.now.trace → SeenAlone self.old.pass.now.trace self.new.pass.now.trace self.old.key self.old.used self.new.used sight) }
+        ensures sight { IfOk result (λ sight. IsSight self.new.at.pass.now.trace.shape (knows self.new.at.pass.now.trace) self.old.key sight) }
+        ensures still { IfErr result (λ stop. stop ≡ Stop.Again → IsAlone self.old.at.pass.now.trace self.new.at.pass.now.trace → ⊥) }
+        ensures short { IfErr result (λ stop. stop ≡ Stop.Tired → IsAlone self.old.at.pass.now.trace self.new.at.pass.now.trace → self.old.budget < self.old.used + 5 * listed_for self.old.at.pass.now.trace self.old.key + 11) }
+        ensures alone { IfOk result (λ sight. IsAlone self.old.at.pass.now.trace self.new.at.pass.now.trace → SeenAlone self.old.at.pass.now.trace self.new.at.pass.now.trace self.old.key self.old.used self.new.used sight) }
     {
         if !affords(self.budget, self.used) {
             return Err(Stop::Tired);
@@ -84,13 +84,13 @@ impl Call<'_> {
     #[inline(always)]
     pub(crate) fn look(&mut self) -> Option<Sight>
         ensures call { IsSameCall self.old self.new }
-        ensures goes { Goes self.old.pass.now self.new.pass.now self.old.used self.new.used }
-        ensures observes { Observes self.old.pass.now.trace self.new.pass.now.trace }
+        ensures goes { Goes self.old.at.pass.now self.new.at.pass.now self.old.used self.new.used }
+        ensures observes { Observes self.old.at.pass.now.trace self.new.at.pass.now.trace }
         ensures more { self.old.used ≤ self.new.used }
-        ensures sight { IfSome result (λ sight. IsSight self.new.pass.now.trace.shape (knows self.new.pass.now.trace) self.old.key sight) }
+        ensures sight { IfSome result (λ sight. IsSight self.new.at.pass.now.trace.shape (knows self.new.at.pass.now.trace) self.old.key sight) }
         ensures tired { IfNone result (self.old.budget < self.new.used + 8) }
-        ensures short { IfNone result (IsAlone self.old.pass.now.trace self.new.pass.now.trace → self.old.budget < self.old.used + 5 * listed_for self.old.pass.now.trace self.old.key + 11) }
-        ensures alone { IfSome result (λ sight. IsAlone self.old.pass.now.trace self.new.pass.now.trace → SeenAlone self.old.pass.now.trace self.new.pass.now.trace self.old.key self.old.used self.new.used sight) }
+        ensures short { IfNone result (IsAlone self.old.at.pass.now.trace self.new.at.pass.now.trace → self.old.budget < self.old.used + 5 * listed_for self.old.at.pass.now.trace self.old.key + 11) }
+        ensures alone { IfSome result (λ sight. IsAlone self.old.at.pass.now.trace self.new.at.pass.now.trace → SeenAlone self.old.at.pass.now.trace self.new.at.pass.now.trace self.old.key self.old.used self.new.used sight) }
     {
         loop {
             match self.walk() {

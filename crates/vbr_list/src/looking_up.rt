@@ -3,6 +3,7 @@ ghost use Rattle.std.specs.Prelude.{◌≡◌, ◌+◌, ◌*◌, ◌<◌, ◌≤
 ghost use Rattle.vbr_core.specs.declared.history.Op.TheVariants.{Has};
 ghost use Rattle.vbr_pools.specs.KeptSlots.{TakesNoSlot};
 ghost use Rattle.vbr_pools.specs.Steps.{TookWithin};
+ghost use Rattle.vbr_slots.specs.AtTables.{IsSameTable};
 ghost use Rattle.vbr_slots.specs.Calls.{AddsAnswer, AddsNone, IsSame, Quiet, Made, Took, OnlyLoads};
 ghost use Rattle.vbr_slots.specs.Alone.{IsAlone};
 ghost use Rattle.vbr_slots.specs.Views.{IsOf, knows};
@@ -18,31 +19,32 @@ ghost use Rattle.vbr_list.specs.Refusals.{IsTired};
 use crate::call::Call;
 use crate::looking::Sight;
 use crate::refusal::Refusal;
-use vbr_access::{Held, Rollback, confirm_look_up};
+use vbr_access::uncounted::confirm_look_up;
+use vbr_access::{Held, Rollback};
 use vbr_pools::budget::affords;
-use vbr_slots::{Pass, Slots};
+use vbr_slots::{AtTable, Pass, Slots};
 
 impl Call<'_> {
     // Answers a look-up by what it came to, in one step, if the link that was read still stands there.
     #[inline(always)]
     fn settle_look_up(&mut self, sight: Sight) -> Result<bool, Rollback>
-        requires sight { IsSight self.old.pass.now.trace.shape (knows self.old.pass.now.trace) self.old.key sight }
+        requires sight { IsSight self.old.at.pass.now.trace.shape (knows self.old.at.pass.now.trace) self.old.key sight }
         requires room { self.old.used + 8 ≤ self.old.budget }
         ensures call { IsSameCall self.old self.new }
-        ensures took { Took self.old.pass.now.trace self.new.pass.now.trace 1 }
+        ensures took { Took self.old.at.pass.now.trace self.new.at.pass.now.trace 1 }
         ensures used { self.new.used ≡ self.old.used + 1 }
-        ensures own { KeepsOwn self.old.pass.now self.new.pass.now }
-        ensures takes_no_slot { TakesNoSlot self.old.pass.now self.new.pass.now }
-        ensures made { IfOk result (λ reply. Made (record { who = self.old.pass.now.trace.who; op = Has; key = self.old.key; reply = reply }) self.old.pass.now.trace self.new.pass.now.trace) }
-        ensures adds { IfOk result (λ reply. AddsAnswer (record { who = self.old.pass.now.trace.who; op = Has; key = self.old.key; reply = reply }) self.old.pass.now.trace self.new.pass.now.trace) }
-        ensures quiet { IfErr result (λ r. Quiet self.old.pass.now.trace self.new.pass.now.trace) }
-        ensures adds_none { IfErr result (λ r. AddsNone self.old.pass.now.trace self.new.pass.now.trace) }
-        ensures wins { IfErr result (λ r. SightStands self.old.pass.now.trace sight → IsAlone self.old.pass.now.trace self.new.pass.now.trace → ⊥) }
-        ensures only_loads { OnlyLoads self.old.pass.now.trace self.new.pass.now.trace }
+        ensures own { KeepsOwn self.old.at.pass.now self.new.at.pass.now }
+        ensures takes_no_slot { TakesNoSlot self.old.at.pass.now self.new.at.pass.now }
+        ensures made { IfOk result (λ reply. Made (record { who = self.old.at.pass.now.trace.who; op = Has; key = self.old.key; reply = reply }) self.old.at.pass.now.trace self.new.at.pass.now.trace) }
+        ensures adds { IfOk result (λ reply. AddsAnswer (record { who = self.old.at.pass.now.trace.who; op = Has; key = self.old.key; reply = reply }) self.old.at.pass.now.trace self.new.at.pass.now.trace) }
+        ensures quiet { IfErr result (λ r. Quiet self.old.at.pass.now.trace self.new.at.pass.now.trace) }
+        ensures adds_none { IfErr result (λ r. AddsNone self.old.at.pass.now.trace self.new.at.pass.now.trace) }
+        ensures wins { IfErr result (λ r. SightStands self.old.at.pass.now.trace sight → IsAlone self.old.at.pass.now.trace self.new.at.pass.now.trace → ⊥) }
+        ensures only_loads { OnlyLoads self.old.at.pass.now.trace self.new.at.pass.now.trace }
     {
         let (held, present) = told_by(sight);
         self.used += 1;
-        confirm_look_up(self.slots, self.pass, self.key, &held, present)?;
+        confirm_look_up(&mut self.at, self.key, &held, present)?;
         Ok(present)
     }
 }
@@ -87,24 +89,49 @@ pub fn has(slots: &Slots, pass: &mut Pass, key: u64, budget: u32) -> Result<bool
     // Alone, it answers in so many steps.
     ensures within { IfErr result (λ refusal. IsAlone pass.old.trace pass.new.trace → budget < 5 * listed_for pass.old.trace key + 11) }
 {
-    pass.law();
+    pass.at(slots, |at| look_up(at, key, budget))
+}
+
+// As `has`, where no step is counted; and how many steps were made.
+fn look_up(at: &mut AtTable<'_>, key: u64, budget: u32) -> (Result<bool, Refusal>, u32)
+    requires empty_hand { at.old.pass.now.hand ≡ None }
+    ensures table { IsSameTable at.old at.new }
+    ensures took { Took at.old.pass.now.trace at.new.pass.now.trace result.1 }
+    ensures same { IsSame at.old.pass.now.trace at.new.pass.now.trace }
+    ensures made { IfOk result.0 (λ reply. Made (record { who = at.old.pass.now.trace.who; op = Has; key = key; reply = reply }) at.old.pass.now.trace at.new.pass.now.trace) }
+    ensures adds { IfOk result.0 (λ reply. AddsAnswer (record { who = at.old.pass.now.trace.who; op = Has; key = key; reply = reply }) at.old.pass.now.trace at.new.pass.now.trace) }
+    ensures alone { IfOk result.0 (λ reply. AnswersAlone at.old.pass.now.trace Has key reply) }
+    ensures quiet { IfErr result.0 (λ refusal. Quiet at.old.pass.now.trace at.new.pass.now.trace) }
+    ensures adds_none { IfErr result.0 (λ refusal. AddsNone at.old.pass.now.trace at.new.pass.now.trace) }
+    ensures only_loads { OnlyLoads at.old.pass.now.trace at.new.pass.now.trace }
+    ensures safe { HasSafeRun at.new.pass.now.trace }
+    ensures hand { at.new.pass.now.hand ≡ None }
+    ensures steps { TookWithin at.old.pass.now.trace at.new.pass.now.trace budget }
+    ensures takes_no_slot { TakesNoSlot at.old.pass.now at.new.pass.now }
+    ensures refused { IfErr result.0 (λ refusal. IsTired at.old.pass.now at.new.pass.now budget refusal) }
+    // Alone, it answers in so many steps.
+    ensures within { IfErr result.0 (λ refusal. IsAlone at.old.pass.now.trace at.new.pass.now.trace → budget < 5 * listed_for at.old.pass.now.trace key + 11) }
+{
+    at.law();
     let mut call = Call {
-        slots,
-        pass,
+        at: AtTable {
+            slots: at.slots,
+            pass: at.pass,
+        },
         key,
-        bucket: slots.shape().bucket_of(key),
+        bucket: at.slots.shape().bucket_of(key),
         budget,
         used: 0,
     };
     loop {
         let Some(sight) = call.look() else {
-            return Err(Refusal::OutOfSteps { used: call.used });
+            return (Err(Refusal::OutOfSteps { used: call.used }), call.used);
         };
         if !affords(call.budget, call.used) {
-            return Err(Refusal::OutOfSteps { used: call.used });
+            return (Err(Refusal::OutOfSteps { used: call.used }), call.used);
         }
         if let Ok(reply) = call.settle_look_up(sight) {
-            return Ok(reply);
+            return (Ok(reply), call.used);
         }
     }
 }

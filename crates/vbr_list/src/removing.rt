@@ -4,7 +4,8 @@ ghost use Rattle.vbr_core.specs.declared.history.Op.TheVariants.{Remove};
 ghost use Rattle.vbr_pools.specs.KeptSlots.{TakesNoSlot};
 ghost use Rattle.vbr_pools.specs.Steps.{CountsSteps, TookWithin};
 ghost use Rattle.vbr_slots.specs.Alone.{IsAlone};
-ghost use Rattle.vbr_slots.specs.Calls.{IsSame, Quiet, Made};
+ghost use Rattle.vbr_slots.specs.AtTables.{IsSameTable};
+ghost use Rattle.vbr_slots.specs.Calls.{IsSame, Quiet, Made, Took};
 ghost use Rattle.vbr_slots.specs.Views.{IsOf, knows};
 ghost use Rattle.vbr_access.specs.Soundness.{HasSafeRun};
 ghost use Rattle.vbr_list.specs.Calls.{IsSameCall};
@@ -17,36 +18,39 @@ ghost use Rattle.vbr_list.specs.Traversal.{KeepsHand};
 
 use crate::call::Call;
 use crate::found::Found;
+use crate::helping::help;
 use crate::refusal::Refusal;
-use vbr_access::{Rollback, confirm_absent, mark};
+use vbr_access::Rollback;
+use vbr_access::uncounted::{confirm_absent, mark};
 use vbr_core::Op;
 use vbr_pools::budget::affords;
-use vbr_slots::{Pass, Slots};
+use vbr_slots::{AtTable, Pass, Slots};
 
 impl Call<'_> {
     // Marks the node that was found: the key is removed. Then unlinks and retires the node, if the budget
     // has room for that; else, or where that rolls back, the node is left to helpers.
     #[inline]
     fn mark_and_unlink(&mut self, found: &Found) -> Result<bool, Rollback>
-        requires locates { Locates self.old.pass.now.trace.shape (knows self.old.pass.now.trace) self.old.key found.now }
+        requires locates { Locates self.old.at.pass.now.trace.shape (knows self.old.at.pass.now.trace) self.old.key found.now }
         requires present { found.now.present ≡ true }
         requires room { self.old.used + 8 ≤ self.old.budget }
         ensures call { IsSameCall self.old self.new }
-        ensures made { IfOk result (λ reply. Made (record { who = self.old.pass.now.trace.who; op = Remove; key = self.old.key; reply = reply }) self.old.pass.now.trace self.new.pass.now.trace) }
-        ensures quiet { IfErr result (λ r. Quiet self.old.pass.now.trace self.new.pass.now.trace) }
-        ensures counts { CountsSteps self.old.pass.now.trace self.new.pass.now.trace self.old.used self.new.used }
-        ensures hand { KeepsHand self.old.pass.now self.new.pass.now }
+        ensures made { IfOk result (λ reply. Made (record { who = self.old.at.pass.now.trace.who; op = Remove; key = self.old.key; reply = reply }) self.old.at.pass.now.trace self.new.at.pass.now.trace) }
+        ensures quiet { IfErr result (λ r. Quiet self.old.at.pass.now.trace self.new.at.pass.now.trace) }
+        ensures counts { CountsSteps self.old.at.pass.now.trace self.new.at.pass.now.trace self.old.used self.new.used }
+        ensures hand { KeepsHand self.old.at.pass.now self.new.at.pass.now }
         ensures used { (self.old.used < self.new.used) × (self.new.used ≤ self.old.budget) }
-        ensures wins { IfErr result (λ r. StandsNow self.old.pass.now.trace found.now.pred → NextStands self.old.pass.now.trace found.now.cur → IsAlone self.old.pass.now.trace self.new.pass.now.trace → ⊥) }
+        ensures wins { IfErr result (λ r. StandsNow self.old.at.pass.now.trace found.now.pred → NextStands self.old.at.pass.now.trace found.now.cur → IsAlone self.old.at.pass.now.trace self.new.at.pass.now.trace → ⊥) }
     {
         let Some(cur) = &found.cur else {
             unreachable!()
         };
-        let outcome = mark(self.slots, self.pass, cur);
+        let outcome = mark(&mut self.at, cur);
         self.used += 1;
         let marked = outcome?;
         if affords(self.budget, self.used) {
-            let _ = self.help(&found.pred, marked);
+            let (_, made) = help(&mut self.at, &found.pred, marked);
+            self.used += made;
         }
         Ok(true)
     }
@@ -54,20 +58,20 @@ impl Call<'_> {
     // Answers a remove by what was found.
     #[inline]
     fn settle_remove(&mut self, found: &Found) -> Result<bool, Rollback>
-        requires locates { Locates self.old.pass.now.trace.shape (knows self.old.pass.now.trace) self.old.key found.now }
+        requires locates { Locates self.old.at.pass.now.trace.shape (knows self.old.at.pass.now.trace) self.old.key found.now }
         requires room { self.old.used + 8 ≤ self.old.budget }
         ensures call { IsSameCall self.old self.new }
-        ensures made { IfOk result (λ reply. Made (record { who = self.old.pass.now.trace.who; op = Remove; key = self.old.key; reply = reply }) self.old.pass.now.trace self.new.pass.now.trace) }
-        ensures quiet { IfErr result (λ r. Quiet self.old.pass.now.trace self.new.pass.now.trace) }
-        ensures counts { CountsSteps self.old.pass.now.trace self.new.pass.now.trace self.old.used self.new.used }
-        ensures hand { KeepsHand self.old.pass.now self.new.pass.now }
+        ensures made { IfOk result (λ reply. Made (record { who = self.old.at.pass.now.trace.who; op = Remove; key = self.old.key; reply = reply }) self.old.at.pass.now.trace self.new.at.pass.now.trace) }
+        ensures quiet { IfErr result (λ r. Quiet self.old.at.pass.now.trace self.new.at.pass.now.trace) }
+        ensures counts { CountsSteps self.old.at.pass.now.trace self.new.at.pass.now.trace self.old.used self.new.used }
+        ensures hand { KeepsHand self.old.at.pass.now self.new.at.pass.now }
         ensures used { (self.old.used < self.new.used) × (self.new.used ≤ self.old.budget) }
-        ensures wins { IfErr result (λ r. StandsNow self.old.pass.now.trace found.now.pred → NextStands self.old.pass.now.trace found.now.cur → IsAlone self.old.pass.now.trace self.new.pass.now.trace → ⊥) }
+        ensures wins { IfErr result (λ r. StandsNow self.old.at.pass.now.trace found.now.pred → NextStands self.old.at.pass.now.trace found.now.cur → IsAlone self.old.at.pass.now.trace self.new.at.pass.now.trace → ⊥) }
     {
         if found.present {
             return self.mark_and_unlink(found);
         }
-        let outcome = confirm_absent(self.slots, self.pass, Op::Remove, self.key, &found.pred);
+        let outcome = confirm_absent(&mut self.at, Op::Remove, self.key, &found.pred);
         self.used += 1;
         outcome?;
         Ok(false)
@@ -97,24 +101,46 @@ pub fn remove(slots: &Slots, pass: &mut Pass, key: u64, budget: u32) -> Result<b
     // Alone, it answers in so many steps.
     ensures within { IfErr result (λ refusal. IsAlone pass.old.trace pass.new.trace → budget < 9 * listed_for pass.old.trace key + 11) }
 {
-    pass.law();
+    pass.at(slots, |at| remove_by(at, key, budget))
+}
+
+// As `remove`, where no step is counted; and how many steps were made.
+fn remove_by(at: &mut AtTable<'_>, key: u64, budget: u32) -> (Result<bool, Refusal>, u32)
+    requires empty_hand { at.old.pass.now.hand ≡ None }
+    ensures table { IsSameTable at.old at.new }
+    ensures took { Took at.old.pass.now.trace at.new.pass.now.trace result.1 }
+    ensures same { IsSame at.old.pass.now.trace at.new.pass.now.trace }
+    ensures made { IfOk result.0 (λ reply. Made (record { who = at.old.pass.now.trace.who; op = Remove; key = key; reply = reply }) at.old.pass.now.trace at.new.pass.now.trace) }
+    ensures alone { IfOk result.0 (λ reply. AnswersAlone at.old.pass.now.trace Remove key reply) }
+    ensures quiet { IfErr result.0 (λ refusal. Quiet at.old.pass.now.trace at.new.pass.now.trace) }
+    ensures safe { HasSafeRun at.new.pass.now.trace }
+    ensures hand { at.new.pass.now.hand ≡ None }
+    ensures steps { TookWithin at.old.pass.now.trace at.new.pass.now.trace budget }
+    ensures takes_no_slot { TakesNoSlot at.old.pass.now at.new.pass.now }
+    ensures refused { IfErr result.0 (λ refusal. IsTired at.old.pass.now at.new.pass.now budget refusal) }
+    // Alone, it answers in so many steps.
+    ensures within { IfErr result.0 (λ refusal. IsAlone at.old.pass.now.trace at.new.pass.now.trace → budget < 9 * listed_for at.old.pass.now.trace key + 11) }
+{
+    at.law();
     let mut call = Call {
-        slots,
-        pass,
+        at: AtTable {
+            slots: at.slots,
+            pass: at.pass,
+        },
         key,
-        bucket: slots.shape().bucket_of(key),
+        bucket: at.slots.shape().bucket_of(key),
         budget,
         used: 0,
     };
     loop {
         let Some(found) = call.search() else {
-            return Err(Refusal::OutOfSteps { used: call.used });
+            return (Err(Refusal::OutOfSteps { used: call.used }), call.used);
         };
         if !affords(call.budget, call.used) {
-            return Err(Refusal::OutOfSteps { used: call.used });
+            return (Err(Refusal::OutOfSteps { used: call.used }), call.used);
         }
         if let Ok(reply) = call.settle_remove(&found) {
-            return Ok(reply);
+            return (Ok(reply), call.used);
         }
     }
 }

@@ -100,20 +100,6 @@ free_pool p q pool may s h = subst (λ (x : List ℕ × Option ℕ). Contains x.
 pub keeps_known : (p q : PassView) → KeepsPool p q → ((s : ℕ) → (knows q.trace).own s ≡ (knows p.trace).own s) → KeepsSlots p q
 keeps_known p q pool same = record { free = free_pool p q pool (λ s m. subst MayBear (same s) m); stamped = λ s u. subst IsUnlinked (same s) u }
 
--- a slot that goes from the hand into the pool
-pub keeps_back : (p q : PassView) (slot : ℕ) → p.hand ≡ Some slot → q.trace ≡ p.trace → q.pool ≡ p.pool ++ slot ∷ [] → KeepsSlots p q
-keeps_back p q slot hand same pool = record {
-  free = λ s h. stays s (h.1 (subst (λ (t : Trace). MayBear ((knows t).own s)) same h.0));
-  stamped = λ s u. subst (λ (t : Trace). IsUnlinked ((knows t).own s)) same u;
-}
-  where
-    in_pool : (s : ℕ) → Contains (p.pool ++ slot ∷ []) s → HasSlot q s
-    in_pool s c = inl (subst (λ (l : List ℕ). Contains l s) (sym pool) c)
-
-    stays : (s : ℕ) → HasSlot p s → HasSlot q s
-    stays s (inl c) = in_pool s (Contains-append_left p.pool (slot ∷ []) s c)
-    stays s (inr e) = let is : slot ≡ s = cc in in_pool s (Contains-append_right p.pool (slot ∷ []) s (0, omega arith, is))
-
 -- ---- the own pool, and the shared one
 
 pub grows_same : (p q : PassView) → q.pool ≡ p.pool → PoolGrows p q

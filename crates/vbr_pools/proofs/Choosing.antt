@@ -53,6 +53,9 @@ module _ (p q r : PassView) (e budget used : ℕ) (read : Did ReadEpoch p.trace 
   last_read : (knows r.trace).epoch ≡ e
   last_read = ap (λ (k : Know). k.epoch) known ∙ epoch_told read
 
+  pub told_then : (since : ℕ) → Uses q r budget (used + 1) since (length q.pool) → Uses p r budget used since (length p.pool + 1)
+  told_then since uses = uses_more (length p.pool + 1) (let e = long in omega arith) (uses_on first uses)
+
   pub short_then : (refusal : TakeRefusal) → TakeIsShort q r budget (used + 1) (length q.pool) refusal → Stops p r budget used (length p.pool + 1) refusal
   short_then (OutOfSteps n) s = record { uses = uses_more (length p.pool + 1) (let e = long in omega arith) (uses_on first s.uses); short = s.short }
   short_then NoSlot s = s
@@ -67,6 +70,9 @@ module _ (p q r : PassView) (e budget used : ℕ) (read : Did ReadEpoch p.trace 
       uses = uses_more (length p.pool + 3) (omega arith) uses;
       below = subst (λ (x : ℕ × Option ℕ). IsStampedBelow r x.0 x.1) (λ i. (sym last_read i, is i)) scanned.below;
     }
+
+    pub told_full : Uses p r budget used since (length p.pool + 1)
+    told_full = uses
 
     pub full_then : budget < since + 8 → NoRoom p r budget used (length p.pool + 1) since
     full_then short = record { uses = uses; short = short }

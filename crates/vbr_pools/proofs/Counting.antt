@@ -6,7 +6,7 @@ use Rattle.vbr_slots.specs.Calls.{Took}
 use Rattle.vbr_slots.specs.Views.{Trace, PassView, Did}
 use Rattle.vbr_slots.proofs.Lemmas.{did_took, took_none, took_on}
 use Rattle.vbr_pools.specs.Pieces.{Uses}
-use Rattle.vbr_pools.specs.Steps.{CountsSteps, TookWithin}
+use Rattle.vbr_pools.specs.Steps.{CountsSteps}
 
 pub counts_none : (p : Trace) (n : ℕ) → CountsSteps p p n n
 counts_none p n = record { steps = 0; sum = omega arith; took = took_none p }
@@ -29,9 +29,6 @@ uses_more n le x = record { counts = x.counts; within = x.within; at_most = (let
 -- counted from none
 pub took_all : {p q : Trace} {used : ℕ} → CountsSteps p q 0 used → Took p q used
 took_all {p} {q} {used} x = subst (Took p q) (let e = x.sum in omega arith) x.took
-
-pub took_within : {p q : PassView} {budget used most : ℕ} → Uses p q budget 0 used most → TookWithin p.trace q.trace budget
-took_within {p} {q} {budget} {used} x = record { steps = used; within = x.within; took = took_all x.counts }
 
 -- a budget that doesn't afford a piece has no room for it
 pub no_room : (used budget : ℕ) (b : Bool) → b ≡ false → (used + 8 ≤ budget → b ≡ true) → budget < used + 8

@@ -1,10 +1,10 @@
 -- The slots that a pass has, in its own pool or in its hand, from piece to piece of a call.
-use Rattle.std.proofs.Common.{◌≡◌, ◌≢◌, ℕ, ◌+◌, List, [], ◌∷◌, ◌++◌, Bool, true, false, Some, None, sym, ◌∙◌, subst, inl, inr, ⊎_elim, arith}
+use Rattle.std.proofs.Common.{◌≡◌, ◌≢◌, ℕ, List, [], ◌∷◌, ◌++◌, Bool, true, false, Some, None, sym, ◌∙◌, subst, inl, inr, arith}
 use Rattle.std.specs.Prelude.{◌⊎◌, Contains, Result, Ok, Err}
 use Rattle.std.proofs.lemmas.Bool.{cases_eq}
 use Rattle.std.proofs.lemmas.List.Elements.{Contains-append_left, Contains-append_right}
 use Rattle.vbr_slots.specs.Views.{PassView}
-use Rattle.vbr_pools.specs.Hands.{HandView, IsHandOf}
+use Rattle.vbr_pools.specs.Hands.{HandView}
 use Rattle.vbr_pools.specs.KeptSlots.{HasSlot, HasStill, HasAllButOne, HasUnpublished, PoolGrows}
 use Rattle.vbr_pools.specs.Refusals.{LeavesPool}
 use Rattle.vbr_pools.specs.Taking.{IsTaken}

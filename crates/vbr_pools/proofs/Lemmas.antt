@@ -10,3 +10,5 @@ pub use Rattle.vbr_pools.proofs.Advancing.{needed_before, none_back, none_known,
 pub use Rattle.vbr_pools.proofs.Advancing.{shared_taken, shares_more, some_grown}
 -- The slots that a pass has, from piece to piece of a call.
 pub use Rattle.vbr_pools.proofs.HadSlots.{had_back, had_error, had_grown, had_left, had_on, had_refl, had_spent, had_taken, had_then}
+-- What is told of a pass that was lent.
+pub use Rattle.vbr_pools.proofs.Lent.{as_told}

@@ -13,4 +13,5 @@ mod EpochReads
 mod Choosing
 mod Takings
 mod HadSlots
+mod Lent
 pub mod Lemmas

@@ -15,12 +15,11 @@ use Rattle.vbr_pools.specs.Budgets.{NeedsMore, steps_to_win, steps_to_take}
 use Rattle.vbr_pools.specs.Pieces.{Uses, TakeIsShort, Stops, HasSlots, IsChosen, IsBorn}
 use Rattle.vbr_pools.specs.Refusals.{HadRoom, TakeIsRefused, LeavesPool}
 use Rattle.vbr_pools.specs.SharedPool.{CameByFlag}
-use Rattle.vbr_pools.specs.Steps.{TookWithin}
 use Rattle.vbr_pools.specs.Taking.{IsOldest, IsTaken}
 use Rattle.vbr_pools.specs.declared.refusal.TakeRefusal.{TakeRefusal}
 use Rattle.vbr_pools.specs.declared.refusal.TakeRefusal.TheVariants.{OutOfSteps, NoSlot, EpochSpent}
 use Rattle.vbr_pools.proofs.Advancing.{keeps_on, longer, needed_after, needed_before, shared_on, shares_more}
-use Rattle.vbr_pools.proofs.Counting.{uses_on, took_all, took_within}
+use Rattle.vbr_pools.proofs.Counting.{uses_on, took_all}
 use Rattle.vbr_pools.proofs.Moments.{came_before}
 
 -- ---- how many steps
@@ -86,10 +85,8 @@ module _ (p q r : PassView) (budget used : ℕ) (first : Quiet p.trace q.trace) 
   pub one_all : length p.pool ≤ length r.pool + 1
   one_all = let low = longer p q none.grows in let e = ap length keeps.0 in omega arith
 
-  pub stops_within : (most : ℕ) (refusal : TakeRefusal) → Stops q r budget used most refusal → TookWithin p.trace r.trace budget
-  stops_within most (OutOfSteps n) s = took_within (uses_on begun.uses s.uses)
-  stops_within most NoSlot s = absurd s
-  stops_within most (EpochSpent e) s = took_within (uses_on begun.uses s.uses)
+  pub stops_told : (most since : ℕ) → Uses q r budget used since most → (since ≤ budget) × Took p.trace r.trace since
+  stops_told most since uses = (uses.within, took_all (uses_on begun.uses uses).counts)
 
   pub stops_enough : (refusal : TakeRefusal) → (p.pool ≡ [] → IsAlone p.trace q.trace → used ≤ steps_to_win p.trace.shape) → Stops q r budget used (length q.pool + 1) refusal → IsAlone p.trace r.trace → NeedsMore (steps_to_take p.trace.shape p.pool) budget refusal
   stops_enough (OutOfSteps n) few s alone =
@@ -130,30 +127,28 @@ module _ (p q r : PassView) (budget used : ℕ) (first : Quiet p.trace q.trace) 
         (λ come above left. record { from = come; in_hand = born.in_hand; birth = born.birth; above = above; rest = left; room = born.room })
         (from hand.birth born.quiet born.oldest) born.above (rest born.rest)
 
-    module _ (result : Result (HandView × ℕ) TakeRefusal) (ok : IfOk result (λ b. IsBorn r t slot budget since b.0)) (refused : IfErr result (λ refusal. TakeIsShort r t budget since 0 refusal)) (still : OnErr result (t ≡ r)) where
+    module _ (result : Result (HandView × ℕ) (TakeRefusal × ℕ)) (ok : IfOk result (λ b. IsBorn r t slot budget since b.0)) (refused : IfErr result (λ e. TakeIsShort r t budget since 0 e.0)) (still : OnErr result (t ≡ r)) where
       quiet_last : Quiet r.trace t.trace
       quiet_last = go result ok still
         where
-          go : (x : Result (HandView × ℕ) TakeRefusal) → IfOk x (λ b. IsBorn r t slot budget since b.0) → OnErr x (t ≡ r) → Quiet r.trace t.trace
+          go : (x : Result (HandView × ℕ) (TakeRefusal × ℕ)) → IfOk x (λ b. IsBorn r t slot budget since b.0) → OnErr x (t ≡ r) → Quiet r.trace t.trace
           go (Ok b) born same = born.quiet
           go (Err refusal) born same = subst (λ (x : PassView). Quiet r.trace x.trace) (sym same) (quiet_refl r.trace)
 
       pub ends_quiet : Quiet p.trace t.trace
       ends_quiet = quiet_on quiet_all quiet_last
 
-      pub ends_within : TookWithin p.trace t.trace budget
-      ends_within = go result ok refused
+      pub ends_told : IfErr result (λ e. Uses r t budget since e.1 0) → IfErr result (λ e. (e.1 ≤ budget) × Took p.trace t.trace e.1)
+      ends_told told = go result told
         where
-          go : (x : Result (HandView × ℕ) TakeRefusal) → IfOk x (λ b. IsBorn r t slot budget since b.0) → IfErr x (λ refusal. TakeIsShort r t budget since 0 refusal) → TookWithin p.trace t.trace budget
-          go (Ok b) born short = took_within (uses_on all_uses born.uses)
-          go (Err (OutOfSteps n)) born short = took_within (uses_on all_uses short.uses)
-          go (Err NoSlot) born short = absurd short
-          go (Err (EpochSpent e)) born short = absurd short
+          go : (x : Result (HandView × ℕ) (TakeRefusal × ℕ)) → IfErr x (λ e. Uses r t budget since e.1 0) → IfErr x (λ e. (e.1 ≤ budget) × Took p.trace t.trace e.1)
+          go (Ok b) uses = tt
+          go (Err e) uses = (uses.within, took_all (uses_on all_uses uses).counts)
 
       pub ends_counted : IfOk result (λ b. b.1 ≡ since + 1) → IfOk result (λ b. (b.1 ≤ budget) × Took p.trace t.trace b.1)
       ends_counted used = go result ok used
         where
-          go : (x : Result (HandView × ℕ) TakeRefusal) → IfOk x (λ b. IsBorn r t slot budget since b.0) → IfOk x (λ b. b.1 ≡ since + 1) → IfOk x (λ b. (b.1 ≤ budget) × Took p.trace t.trace b.1)
+          go : (x : Result (HandView × ℕ) (TakeRefusal × ℕ)) → IfOk x (λ b. IsBorn r t slot budget since b.0) → IfOk x (λ b. b.1 ≡ since + 1) → IfOk x (λ b. (b.1 ≤ budget) × Took p.trace t.trace b.1)
           go (Ok b) born is = subst (λ (n : ℕ). (n ≤ budget) × Took p.trace t.trace n) (sym is) (born.uses.within, took_all (uses_on all_uses born.uses).counts)
           go (Err refusal) born is = tt
 
@@ -167,41 +162,44 @@ module _ (p q r : PassView) (budget used : ℕ) (first : Quiet p.trace q.trace) 
       pub ends_few : (p.pool ≡ [] → IsAlone p.trace q.trace → used ≤ steps_to_win p.trace.shape) → IfOk result (λ b. b.1 ≡ since + 1) → IfOk result (λ b. IsAlone p.trace t.trace → b.1 ≤ steps_to_take p.trace.shape p.pool)
       ends_few few used_is = go result used_is
         where
-          go : (x : Result (HandView × ℕ) TakeRefusal) → IfOk x (λ b. b.1 ≡ since + 1) → IfOk x (λ b. IsAlone p.trace t.trace → b.1 ≤ steps_to_take p.trace.shape p.pool)
+          go : (x : Result (HandView × ℕ) (TakeRefusal × ℕ)) → IfOk x (λ b. b.1 ≡ since + 1) → IfOk x (λ b. IsAlone p.trace t.trace → b.1 ≤ steps_to_take p.trace.shape p.pool)
           go (Ok b) is = λ alone. let m = chosen_few few alone in omega (arith, m, is)
           go (Err refusal) is = tt
 
-      pub ends_enough : (p.pool ≡ [] → IsAlone p.trace q.trace → used ≤ steps_to_win p.trace.shape) → IfErr result (λ refusal. IsAlone p.trace t.trace → NeedsMore (steps_to_take p.trace.shape p.pool) budget refusal)
+      pub ends_enough : (p.pool ≡ [] → IsAlone p.trace q.trace → used ≤ steps_to_win p.trace.shape) → IfErr result (λ e. IsAlone p.trace t.trace → NeedsMore (steps_to_take p.trace.shape p.pool) budget e.0)
       ends_enough few = go result refused
         where
-          go : (x : Result (HandView × ℕ) TakeRefusal) → IfErr x (λ refusal. TakeIsShort r t budget since 0 refusal) → IfErr x (λ refusal. IsAlone p.trace t.trace → NeedsMore (steps_to_take p.trace.shape p.pool) budget refusal)
-          go (Ok b) short = tt
-          go (Err (OutOfSteps n)) short = λ alone.
+          short_of : (refusal : TakeRefusal) → TakeIsShort r t budget since 0 refusal → IsAlone p.trace t.trace → NeedsMore (steps_to_take p.trace.shape p.pool) budget refusal
+          short_of (OutOfSteps n) short = λ alone.
               let m = chosen_few few alone in
               let s = short.short in
               let u = short.uses.at_most in
               omega (arith, m, s, u)
-          go (Err NoSlot) short = absurd short
-          go (Err (EpochSpent e)) short = absurd short
+          short_of NoSlot short = absurd short
+          short_of (EpochSpent e) short = absurd short
+
+          go : (x : Result (HandView × ℕ) (TakeRefusal × ℕ)) → IfErr x (λ e. TakeIsShort r t budget since 0 e.0) → IfErr x (λ e. IsAlone p.trace t.trace → NeedsMore (steps_to_take p.trace.shape p.pool) budget e.0)
+          go (Ok b) short = tt
+          go (Err e) short = short_of e.0 short
 
       pub ends_taken : IfOk result (λ b. IsTaken p t b.0)
       ends_taken = go result ok
         where
-          go : (x : Result (HandView × ℕ) TakeRefusal) → IfOk x (λ b. IsBorn r t slot budget since b.0) → IfOk x (λ b. IsTaken p t b.0)
+          go : (x : Result (HandView × ℕ) (TakeRefusal × ℕ)) → IfOk x (λ b. IsBorn r t slot budget since b.0) → IfOk x (λ b. IsTaken p t b.0)
           go (Ok b) born = taken b.0 born
           go (Err refusal) born = tt
 
-      pub ends_left : IfErr result (λ refusal. LeavesPool p t)
+      pub ends_left : IfErr result (λ e. LeavesPool p t)
       ends_left = go result still
         where
-          go : (x : Result (HandView × ℕ) TakeRefusal) → OnErr x (t ≡ r) → IfErr x (λ refusal. LeavesPool p t)
+          go : (x : Result (HandView × ℕ) (TakeRefusal × ℕ)) → OnErr x (t ≡ r) → IfErr x (λ e. LeavesPool p t)
           go (Ok b) same = tt
           go (Err refusal) same = subst (LeavesPool p) (sym same) leaves
 
       pub ends_kept : KeepsSlots q r → KeepsSlots p t
       ends_kept stays = go result ok still
         where
-          go : (x : Result (HandView × ℕ) TakeRefusal) → IfOk x (λ b. IsBorn r t slot budget since b.0) → OnErr x (t ≡ r) → KeepsSlots p t
+          go : (x : Result (HandView × ℕ) (TakeRefusal × ℕ)) → IfOk x (λ b. IsBorn r t slot budget since b.0) → OnErr x (t ≡ r) → KeepsSlots p t
           go (Ok b) born same = keeps_on p r t (kept_all stays) born.kept
           go (Err refusal) born same = subst (KeepsSlots p) (sym same) (kept_all stays)
 
@@ -212,30 +210,33 @@ module _ (p q r : PassView) (budget used : ℕ) (first : Quiet p.trace q.trace) 
           born_then (inl same) born = inl (born.flags ∙ same)
           born_then (inr full) born = inr (let one = born.one in omega (arith, full, one))
 
-          go : (x : Result (HandView × ℕ) TakeRefusal) → IfOk x (λ b. IsBorn r t slot budget since b.0) → OnErr x (t ≡ r) → SharesWhereFull 2 p t
+          go : (x : Result (HandView × ℕ) (TakeRefusal × ℕ)) → IfOk x (λ b. IsBorn r t slot budget since b.0) → OnErr x (t ≡ r) → SharesWhereFull 2 p t
           go (Ok b) born same = born_then (shared_all then) born
           go (Err refusal) born same = subst (SharesWhereFull 2 p) (sym same) (shares_more p r (shared_all then))
 
       pub ends_one : length p.pool ≤ length t.pool + 1
       ends_one = go result ok still
         where
-          go : (x : Result (HandView × ℕ) TakeRefusal) → IfOk x (λ b. IsBorn r t slot budget since b.0) → OnErr x (t ≡ r) → length p.pool ≤ length t.pool + 1
+          go : (x : Result (HandView × ℕ) (TakeRefusal × ℕ)) → IfOk x (λ b. IsBorn r t slot budget since b.0) → OnErr x (t ≡ r) → length p.pool ≤ length t.pool + 1
           go (Ok b) born same = let low = longer p q none.grows in let e = ap length keeps.0 in let one = born.one in omega (arith, low, e, one)
           go (Err refusal) born same = subst (λ (x : PassView). length p.pool ≤ length x.pool + 1) (sym same) one_all
 
-      pub ends_room : IfErr result (λ refusal. HadRoom p t budget refusal)
+      pub ends_room : IfErr result (λ e. HadRoom p t budget e.0)
       ends_room = go result refused
         where
-          go : (x : Result (HandView × ℕ) TakeRefusal) → IfErr x (λ refusal. TakeIsShort r t budget since 0 refusal) → IfErr x (λ refusal. HadRoom p t budget refusal)
+          room_of : (refusal : TakeRefusal) → TakeIsShort r t budget since 0 refusal → HadRoom p t budget refusal
+          room_of (OutOfSteps n) short = tt
+          room_of NoSlot short = tt
+          room_of (EpochSpent e) short = absurd short
+
+          go : (x : Result (HandView × ℕ) (TakeRefusal × ℕ)) → IfErr x (λ e. TakeIsShort r t budget since 0 e.0) → IfErr x (λ e. HadRoom p t budget e.0)
           go (Ok b) short = tt
-          go (Err (OutOfSteps n)) short = tt
-          go (Err NoSlot) short = tt
-          go (Err (EpochSpent e)) short = absurd short
+          go (Err e) short = room_of e.0 short
 
       pub ends_advances : AdvancesWhereNeeded q r → AdvancesWhereNeeded p t
       ends_advances before = go result ok still
         where
-          go : (x : Result (HandView × ℕ) TakeRefusal) → IfOk x (λ b. IsBorn r t slot budget since b.0) → OnErr x (t ≡ r) → AdvancesWhereNeeded p t
+          go : (x : Result (HandView × ℕ) (TakeRefusal × ℕ)) → IfOk x (λ b. IsBorn r t slot budget since b.0) → OnErr x (t ≡ r) → AdvancesWhereNeeded p t
           go (Ok b) born same = needed_before {p = p} {q = r} {r = t} (advances_all before) born.quiet.seen born.quiet.is_run born.advances
           go (Err refusal) born same = subst (AdvancesWhereNeeded p) (sym same) (advances_all before)
 

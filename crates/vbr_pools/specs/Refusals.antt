@@ -1,5 +1,5 @@
 -- When a call takes no slot, and what it leaves.
-use Rattle.std.specs.Prelude.{◌≡◌, ◌≢◌, ℕ, ◌+◌, ◌<◌, ◌≤◌, [], ◌∷◌, All, Result, Ok, Err, ◌⊎◌}
+use Rattle.std.specs.Prelude.{◌≡◌, ◌≢◌, ℕ, ◌+◌, ◌<◌, ◌≤◌, [], ◌∷◌, All, Result, ◌⊎◌, IfErr}
 use Rattle.vbr_core.specs.Acceptance.{stamp_in}
 use Rattle.vbr_slots.specs.Calls.{Took}
 use Rattle.vbr_slots.specs.Views.{PassView, knows}
@@ -52,8 +52,11 @@ HadRoom p q budget (EpochSpent epoch) = LeavesRoom p q budget
 abbrev pub LeavesPool : PassView → PassView → Type 0
 LeavesPool p q = (q.pool ≡ p.pool) ⊎ ((p.pool ≡ []) × (slot : ℕ) × (q.pool ≡ slot ∷ []) × CameByFlag p.trace q.trace slot)
 
+-- a refusal tells that the epoch is spent
+abbrev pub TellsSpent : TakeRefusal → Type 0
+TellsSpent (EpochSpent epoch) = Unit {0}
+TellsSpent _ = ⊥
+
 -- a slot was taken, or the epoch is spent
 abbrev pub IsTakenOrSpent : {A : Type 0} → Result A TakeRefusal → Type 0
-IsTakenOrSpent (Ok taken) = Unit {0}
-IsTakenOrSpent (Err (EpochSpent epoch)) = Unit {0}
-IsTakenOrSpent _ = ⊥
+IsTakenOrSpent outcome = IfErr outcome TellsSpent

@@ -2,7 +2,7 @@
 ghost use Rattle.std.specs.Prelude.{◌≡◌, ◌≢◌, Some};
 
 use std::marker::Model;
-use vbr_slots::Pass;
+use vbr_slots::{Pass, Stepper};
 
 /// A slot in the hand of a pass, with the birth of the incarnation that the pass made there. It must
 /// be spent: by a publication and [`Hand::spent`], or by [`crate::give_back`].
@@ -41,6 +41,15 @@ impl Hand {
     /// Ends a hand whose slot isn't in the hand of the pass any more, since it was published.
     #[inline]
     pub fn spent(self, pass: &Pass)
+        requires { pass.now.hand ≢ Some self.slot }
+    {
+        let _pass = pass;
+        let Hand { slot: _, birth: _ } = self;
+    }
+
+    /// As [`Hand::spent`], by the stepper of the pass.
+    #[inline]
+    pub fn spent_by(self, pass: &Stepper)
         requires { pass.now.hand ≢ Some self.slot }
     {
         let _pass = pass;

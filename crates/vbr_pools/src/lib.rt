@@ -12,11 +12,12 @@ pub mod hand;
 pub mod refusal;
 pub mod retiring;
 pub mod taking;
+pub mod uncounted;
 pub mod unlinked;
 
 pub use giving_back::give_back;
 pub use hand::Hand;
 pub use refusal::TakeRefusal;
 pub use retiring::retire;
-pub use taking::{take, take_counted};
+pub use taking::take;
 pub use unlinked::Unlinked;

@@ -7,8 +7,8 @@ ghost use Rattle.vbr_slots.specs.Views.{IsOf, knows};
 ghost use Rattle.vbr_pools.specs.KeptSlots.{TakesNoSlot};
 ghost use Rattle.vbr_pools.specs.Retiring.{Stamps, is_kept, know_retired, pool_retired, steps_to_retire};
 
+use crate::uncounted;
 use crate::unlinked::Unlinked;
-use vbr_slots::pass::POOL;
 use vbr_slots::{Pass, Slots};
 
 /// Stamps a slot that the pass unlinked with an epoch that it reads now, and so after the unlinking,
@@ -29,16 +29,8 @@ pub fn retire(slots: &Slots, pass: &mut Pass, unlinked: Unlinked) -> u32
     ensures hand { pass.new.hand ≡ pass.old.hand }
     ensures alone { IsAlone pass.old.trace pass.new.trace → LeavesLists pass.old.trace pass.new.trace × IsFresh pass.new.trace }
 {
-    pass.law();
-    let slot = unlinked.into_slot();
-    let kept = pass.pool().len() < POOL - 1;
-    slots.read_epoch(pass);
-    slots.store_stamp(pass, slot);
-    if kept {
-        pass.keep(slot);
-        2
-    } else {
-        slots.raise(pass, slot);
-        3
-    }
+    pass.at_with(slots, unlinked, |at, unlinked| {
+        let used = uncounted::retire(at, unlinked);
+        (used, used)
+    })
 }

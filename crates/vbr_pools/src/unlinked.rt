@@ -4,7 +4,7 @@ ghost use Rattle.vbr_core.specs.Acceptance.{IsUnlinked};
 ghost use Rattle.vbr_slots.specs.Views.{knows};
 
 use std::marker::Model;
-use vbr_slots::Pass;
+use vbr_slots::{Pass, Stepper};
 
 /// A slot that a pass unlinked and has not stamped since. It must be spent, by [`crate::retire`].
 pub struct Unlinked {
@@ -25,6 +25,16 @@ impl Unlinked {
     /// A slot that the pass unlinked and has not stamped since.
     #[inline]
     pub fn of(pass: &Pass, slot: u32) -> Unlinked
+        requires { IsUnlinked ((knows pass.now.trace).own slot) }
+        ensures { result ≡ record { slot = slot } }
+    {
+        let _pass = pass;
+        Unlinked { slot }
+    }
+
+    /// As [`Unlinked::of`], by the stepper of the pass.
+    #[inline]
+    pub fn by(pass: &Stepper, slot: u32) -> Unlinked
         requires { IsUnlinked ((knows pass.now.trace).own slot) }
         ensures { result ≡ record { slot = slot } }
     {

@@ -86,9 +86,9 @@ did_run {step} {p} {q} d = rw (d.same.1, d.same.2) d.is_run
 pub did_took : {step : Step} {p q : Trace} {r : ℕ} → Did step p q r → Took p q 1
 did_took d = record { made = d.steps }
 
--- the count that a pass keeps, after one more step
-pub count_next : {step : Step} {p q : Trace} {r : ℕ} (old new : ℕ) → old ≡ counted_steps (steps_of p) → new ≡ counted_steps (old + 1) → Did step p q r → new ≡ counted_steps (steps_of q)
-count_next old new is more d = let took = (did_took d).made in omega (arith, is, more, took)
+-- the count that a pass keeps, after so many more steps
+pub count_on : {p q : Trace} (old new more : ℕ) → old ≡ counted_steps (steps_of p) → new ≡ counted_steps (old + more) → Took p q more → new ≡ counted_steps (steps_of q)
+count_on old new more is after took = let made = took.made in omega (arith, is, after, made)
 
 -- the moment just before a step
 pub did_moment : {step : Step} {p q : Trace} {r : ℕ} (d : Did step p q r) → Moment p q (p.seen ++ d.rest)

@@ -5,7 +5,7 @@ pub mod Views
 pub mod Pools
 pub mod PoolView
 pub mod RunnerView
-pub mod CountedView
+pub mod StepperView
 pub mod PassView
 pub mod SlotsView
 pub mod Closing
@@ -15,3 +15,5 @@ pub mod LookUps
 pub mod Alone
 pub mod Messages
 pub mod PassLaw
+pub mod Lending
+pub mod AtTables

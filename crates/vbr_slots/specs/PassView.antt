@@ -1,14 +1,12 @@
 -- What contracts see of a pass, and its invariant.
-use Rattle.vbr_words.specs.Dimensions.{IsShape}
+use Rattle.std.specs.Prelude.{◌≡◌}
 use Rattle.vbr_slots.specs.declared.pass.Pass.TheInside.{Inside}
-use Rattle.vbr_slots.specs.Pools.{OwnPool}
-use Rattle.vbr_slots.specs.Views.{PassView, knows}
+use Rattle.vbr_slots.specs.Views.{PassView, counted_steps, steps_of}
 
--- what contracts see
-abbrev pub view_of : Inside → PassView
-view_of p = record { trace = p.runner; pool = p.pool.items; hand = p.hand }
+-- what contracts see: what its stepper shows
+abbrev pub lent_of : Inside → PassView
+lent_of p = p.stepper
 
--- its shape is a shape, and its pool and its hand are as it knows its slots
-pub record IsWell (p : Inside) : Type 0 where
-  pub shape : IsShape p.runner.shape
-  pub pool : OwnPool p.runner.shape (knows p.runner) p.pool.items p.hand
+-- the count is that of the steps which the pass has made
+pub record IsExact (p : Inside) : Type 0 where
+  pub steps : p.steps ≡ counted_steps (steps_of p.stepper.trace)

@@ -27,11 +27,7 @@ impl Slots {
         ensures pool { pass.new.pool ≡ without slot pass.old.pool }
         ensures hand { pass.new.hand ≡ Some slot }
     {
-        pass.leave_pool(slot);
-        let birth = pass.epoch();
-        let step = Step::StoreBirth { slot, birth };
-        self.store(&mut pass.runner, step, Place::Birth(slot), birth);
-        pass.hand = Some(slot);
+        pass.during(|stepper| (stepper.store_birth(self, slot), 1))
     }
 
     /// Stores the key of the incarnation in hand, in one step.
@@ -42,8 +38,7 @@ impl Slots {
         ensures step { Did (StoreKey slot key) pass.old.trace pass.new.trace key }
         ensures pool { KeepsPool pass.old pass.new }
     {
-        let step = Step::StoreKey { slot, key };
-        self.store(&mut pass.runner, step, Place::Key(slot), key);
+        pass.during(|stepper| (stepper.store_key(self, slot, key), 1))
     }
 
     /// Stores the link word of the incarnation in hand, in one step: unmarked, to none or to a held
@@ -58,8 +53,6 @@ impl Slots {
         ensures step { Did (StoreLink slot (link_of word).slot) pass.old.trace pass.new.trace word }
         ensures pool { KeepsPool pass.old pass.new }
     {
-        let next = decode(word).slot;
-        let step = Step::StoreLink { slot, next };
-        self.store(&mut pass.runner, step, Place::LinkOf(slot), word);
+        pass.during(|stepper| (stepper.store_link(self, slot, word), 1))
     }
 }

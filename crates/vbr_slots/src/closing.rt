@@ -5,11 +5,11 @@ ghost use Rattle.std.specs.Mem.Slots.{slots_items, slots_len, IsFull};
 ghost use Rattle.vbr_slots.specs.Closing.{AllOf, Ends, HandsBack, IsMissing};
 
 use crate::close_error::CloseError;
-use crate::counted::Counted;
 use crate::pass::Pass;
 use crate::rule::{Both, Nobody};
 use crate::runner::Runner;
 use crate::slots::Slots;
+use crate::stepper::Stepper;
 use atomic_table::Closed;
 use std::alloc::Global;
 
@@ -36,12 +36,12 @@ impl Slots {
         let Slots { table, opening: _ } = self;
         let (_, mut seat) = table.shared.load_new_seat::<Nobody>(0);
         for pass in passes {
-            let Pass {
-                runner: counted,
+            let Pass { stepper, steps: _ } = pass;
+            let Stepper {
+                runner,
                 pool: _,
                 hand: _,
-            } = pass;
-            let Counted { runner, steps: _ } = counted;
+            } = stepper;
             let Runner {
                 seat: other,
                 opening: _,

@@ -35,11 +35,7 @@ impl Slots {
             (λ found. Did (ConfirmPresent op slot expected) pass.old.trace pass.new.trace found × (found ≢ expected)) }
         ensures pool { KeepsPool pass.old pass.new }
     {
-        let step = Step::ConfirmPresent { op, slot, expected };
-        match self.load(&mut pass.runner, step, Place::LinkOf(slot)) {
-            found if found == expected => Ok(()),
-            found => Err(found),
-        }
+        pass.during(|stepper| (stepper.confirm_present(self, op, slot, expected), 1))
     }
 
     /// Answers a look-up or a remove, in one step, a load: if the link word at a place is still
@@ -64,16 +60,7 @@ impl Slots {
             (λ found. Did (ConfirmAbsent op key at expected) pass.old.trace pass.new.trace found × (found ≢ expected)) }
         ensures pool { KeepsPool pass.old pass.new }
     {
-        let step = Step::ConfirmAbsent {
-            op,
-            key,
-            at,
-            expected,
-        };
-        match self.load(&mut pass.runner, step, place_of_link(at)) {
-            found if found == expected => Ok(()),
-            found => Err(found),
-        }
+        pass.during(|stepper| (stepper.confirm_absent(self, op, key, at, expected), 1))
     }
 
     /// Answers a look-up of a key, in one step: it is present, if the link word at its node is
@@ -96,27 +83,6 @@ impl Slots {
             (λ found. Did (look_up present key at expected) pass.old.trace pass.new.trace found × (found ≢ expected)) }
         ensures pool { KeepsPool pass.old pass.new }
     {
-        let step = step_of_look_up(present, key, at, expected);
-        match self.load_at(&mut pass.runner, step, at) {
-            found if found == expected => Ok(()),
-            found => Err(found),
-        }
-    }
-}
-
-// The step that answers a look-up.
-#[inline]
-fn step_of_look_up(present: bool, key: u64, at: At, expected: u64) -> Step
-    ensures { result ≡ look_up present key at expected }
-{
-    let op = Op::Has;
-    match at {
-        At::Slot(slot) if present => Step::ConfirmPresent { op, slot, expected },
-        _ => Step::ConfirmAbsent {
-            op,
-            key,
-            at,
-            expected,
-        },
+        pass.during(|stepper| (stepper.confirm_look_up(self, present, key, at, expected), 1))
     }
 }

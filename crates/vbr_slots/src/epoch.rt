@@ -17,7 +17,7 @@ impl Slots {
         ensures step { Did ReadEpoch pass.old.trace pass.new.trace result }
         ensures pool { KeepsPool pass.old pass.new }
     {
-        self.load(&mut pass.runner, Step::ReadEpoch, Place::Epoch)
+        pass.during(|stepper| (stepper.read_epoch(self), 1))
     }
 
     /// Advances the epoch by 1, if it is `from`, in one step, and says whether it was.
@@ -31,7 +31,6 @@ impl Slots {
             ((found : ℕ) × Did (Advance from) pass.old.trace pass.new.trace found × (found ≢ from)) }
         ensures pool { KeepsPool pass.old pass.new }
     {
-        let step = Step::Advance { from };
-        self.exchange(&mut pass.runner, step, Place::Epoch, from, from + 1) == from
+        pass.during(|stepper| (stepper.advance(self, from), 1))
     }
 }

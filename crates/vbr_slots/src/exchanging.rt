@@ -39,18 +39,7 @@ impl Slots {
         ensures err { OnErr result (pass.new.hand ≡ pass.old.hand) }
         ensures pool { pass.new.pool ≡ pass.old.pool }
     {
-        let step = Step::Publish {
-            pred,
-            expected,
-            slot,
-        };
-        let hand = pass.hand.take();
-        let found = self.exchange(&mut pass.runner, step, place_of_link(pred), expected, new);
-        if found == expected {
-            return Ok(());
-        }
-        pass.hand = hand;
-        Err(found)
+        pass.during(|stepper| (stepper.publish(self, pred, expected, slot, new), 1))
     }
 
     /// Marks a node, in one step, if its link word is `expected`: the pass has removed its key.
@@ -66,13 +55,7 @@ impl Slots {
             (λ found. Did (Mark slot expected) pass.old.trace pass.new.trace found × (found ≢ expected)) }
         ensures pool { KeepsPool pass.old pass.new }
     {
-        let step = Step::Mark { slot, expected };
-        let new = with_mark(expected);
-        let place = Place::LinkOf(slot);
-        match self.exchange(&mut pass.runner, step, place, expected, new) {
-            found if found == expected => Ok(()),
-            found => Err(found),
-        }
+        pass.during(|stepper| (stepper.mark(self, slot, expected), 1))
     }
 
     /// Unlinks a marked node behind `pred`, in one step, if the word there is `expected`: it
@@ -98,15 +81,6 @@ impl Slots {
             (λ found. Did (Unlink pred expected slot) pass.old.trace pass.new.trace found × (found ≢ expected)) }
         ensures pool { KeepsPool pass.old pass.new }
     {
-        let step = Step::Unlink {
-            pred,
-            expected,
-            slot,
-        };
-        let place = place_of_link(pred);
-        match self.exchange(&mut pass.runner, step, place, expected, new) {
-            found if found == expected => Ok(()),
-            found => Err(found),
-        }
+        pass.during(|stepper| (stepper.unlink(self, pred, expected, slot, new), 1))
     }
 }

@@ -7,11 +7,11 @@
 //! an `&`.
 #![tactic(auto)]
 
+pub mod at_table;
 pub mod bearing;
 pub mod close_error;
 pub mod closing;
 pub mod confirming;
-mod counted;
 pub mod epoch;
 pub mod exchanging;
 pub mod laws;
@@ -26,9 +26,13 @@ pub mod reading;
 mod rule;
 mod runner;
 pub mod slots;
+pub mod stepper;
 mod stepping;
+pub mod uncounted;
 
+pub use at_table::AtTable;
 pub use close_error::CloseError;
 pub use opening::OpenError;
 pub use pass::Pass;
 pub use slots::Slots;
+pub use stepper::Stepper;

@@ -22,7 +22,7 @@ impl Slots {
         ensures step { Did (LoadLink at) pass.old.trace pass.new.trace result }
         ensures pool { KeepsPool pass.old pass.new }
     {
-        self.load(&mut pass.runner, Step::LoadLink { at }, place_of_link(at))
+        pass.during(|stepper| (stepper.load_link(self, at), 1))
     }
 
     /// Loads the birth of a held slot, an epoch, in one step.
@@ -34,11 +34,7 @@ impl Slots {
         ensures step { Did (LoadBirth slot) pass.old.trace pass.new.trace result }
         ensures pool { KeepsPool pass.old pass.new }
     {
-        self.load(
-            &mut pass.runner,
-            Step::LoadBirth { slot },
-            Place::Birth(slot),
-        )
+        pass.during(|stepper| (stepper.load_birth(self, slot), 1))
     }
 
     /// Loads the key of a held slot, in one step.
@@ -50,6 +46,6 @@ impl Slots {
         ensures step { Did (LoadKey slot) pass.old.trace pass.new.trace result }
         ensures pool { KeepsPool pass.old pass.new }
     {
-        self.load(&mut pass.runner, Step::LoadKey { slot }, Place::Key(slot))
+        pass.during(|stepper| (stepper.load_key(self, slot), 1))
     }
 }

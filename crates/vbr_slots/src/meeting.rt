@@ -4,7 +4,7 @@ ghost use Rattle.vbr_core.specs.Runs.{BeginsFor};
 ghost use Rattle.vbr_core.specs.declared.event.Step.TheVariants.{ReadEpoch};
 ghost use Rattle.vbr_slots.specs.Views.{IsOf, Did, KeepsPool};
 
-use crate::pass::Pass;
+use crate::pass::{Pass, steps_after};
 use crate::slots::Slots;
 
 impl Slots {
@@ -20,6 +20,8 @@ impl Slots {
         ensures same { other.new ≡ other.old }
         ensures met { BeginsFor other.old.trace.who other.old.trace.seen pass.new.trace.seen }
     {
-        self.meet_runner(&mut pass.runner, &mut other.runner);
+        let steps = steps_after(pass.steps, 1);
+        pass.stepper.meet(self, &mut other.stepper);
+        pass.steps = steps;
     }
 }

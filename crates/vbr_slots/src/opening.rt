@@ -3,13 +3,13 @@ ghost use Rattle.std.specs.Prelude.{◌≡◌, ◌<◌, ◌≤◌, ◌↔◌, �
 ghost use Rattle.std.specs.List.Sorted.{IsStrictlyIncreasing};
 ghost use Rattle.vbr_slots.specs.Views.{new_passes};
 
-use crate::counted::Counted;
 use crate::laying::opening_words;
 use crate::pass::Pass;
 use crate::pool::Pool;
 use crate::rule::{First, Opening, OpeningWithKeys};
 use crate::runner::Runner;
 use crate::slots::Slots;
+use crate::stepper::Stepper;
 use atomic_table::Table;
 use std::alloc::{AllocError, Global};
 use std::error::Error;
@@ -107,12 +107,12 @@ impl Slots {
                 who,
                 epoch: 1,
             };
-            let counted = Counted { runner, steps: 0 };
-            passes.push(Pass {
-                runner: counted,
+            let stepper = Stepper {
+                runner,
                 pool: Pool::new(),
                 hand: None,
-            })?;
+            };
+            passes.push(Pass { stepper, steps: 0 })?;
             seat = next;
         }
         Ok((Slots { table, opening }, passes))

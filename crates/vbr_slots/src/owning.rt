@@ -23,11 +23,7 @@ impl Slots {
         ensures known { MayBear ((knows pass.old.trace).own slot) → result ≡ stamp_in ((knows pass.old.trace).own slot) }
         ensures pool { KeepsPool pass.old pass.new }
     {
-        self.load(
-            &mut pass.runner,
-            Step::LoadStamp { slot },
-            Place::Stamp(slot),
-        )
+        pass.during(|stepper| (stepper.load_stamp(self, slot), 1))
     }
 
     /// Stamps a slot that the pass unlinked, in one step, with the last epoch that it read, which
@@ -40,9 +36,7 @@ impl Slots {
         ensures step { let epoch = (knows pass.old.trace).epoch in Did (StoreStamp slot epoch) pass.old.trace pass.new.trace epoch }
         ensures pool { KeepsPool pass.old pass.new }
     {
-        let stamp = pass.epoch();
-        let step = Step::StoreStamp { slot, stamp };
-        self.store(&mut pass.runner, step, Place::Stamp(slot), stamp);
+        pass.during(|stepper| (stepper.store_stamp(self, slot), 1))
     }
 
     /// Puts a free slot of the pass into the shared pool, and takes it out of the pass's own pool if
@@ -56,9 +50,7 @@ impl Slots {
         ensures pool { pass.new.pool ≡ without slot pass.old.pool }
         ensures hand { pass.new.hand ≡ pass.old.hand }
     {
-        pass.leave_pool(slot);
-        let place = Place::Flags(word_of_flag(slot));
-        self.fetch_or(&mut pass.runner, Step::Raise { slot }, place, flag_of(slot));
+        pass.during(|stepper| (stepper.raise(self, slot), 1))
     }
 
     /// Takes a slot out of the shared pool, if it is there: one `&` clears its flag in the flag word,
@@ -74,12 +66,6 @@ impl Slots {
         ensures outside { OnOk result (¬ (Contains pass.new.pool slot)) }
         ensures pool { KeepsPool pass.old pass.new }
     {
-        let place = Place::Flags(word_of_flag(slot));
-        let step = Step::TakeFlag { slot };
-        let found = self.fetch_and(&mut pass.runner, step, place, all_but(slot));
-        if has_flag(found, slot) {
-            return Ok(());
-        }
-        Err(found)
+        pass.during(|stepper| (stepper.take_flag(self, slot), 1))
     }
 }

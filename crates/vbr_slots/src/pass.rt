@@ -1,14 +1,18 @@
 //! A pass: the right to make steps under one number.
-ghost use Rattle.std.specs.List.{position_from};
-ghost use Rattle.std.specs.Prelude.{◌≡◌, ◌==◌, ◌<◌, ◌≤◌, ◌⊎◌, [], ◌∷◌, ◌++◌, length, Some, Contains};
+ghost use Rattle.std.specs.Fn.{FnOnceReturnsAtMut, FnOnceTakesAtMut};
+ghost use Rattle.std.specs.Prelude.{◌≡◌, ◌<◌, ◌≤◌, ◌⊎◌, ℕ, [], ◌∷◌, ◌+◌, ◌++◌, length, Some, Contains};
 ghost use Rattle.vbr_core.specs.Acceptance.{IsFree};
 ghost use Rattle.vbr_core.specs.Runs.{IsRun};
+ghost use Rattle.vbr_slots.specs.AtTables.{IsSameTable};
+ghost use Rattle.vbr_slots.specs.Calls.{Took};
+ghost use Rattle.vbr_slots.specs.Lending.{ReturnsWith, TakesWith};
 ghost use Rattle.vbr_slots.specs.PassLaw.{PassLaw};
-ghost use Rattle.vbr_slots.specs.Pools.{OwnPool, hand_without, without};
-ghost use Rattle.vbr_slots.specs.Views.{counted_steps, knows, steps_of};
+ghost use Rattle.vbr_slots.specs.Pools.{OwnPool, hand_without};
+ghost use Rattle.vbr_slots.specs.Views.{IsOf, PassView, counted_steps, knows, steps_of};
 
-use crate::counted::Counted;
-use crate::pool::Pool;
+use crate::at_table::AtTable;
+use crate::slots::Slots;
+use crate::stepper::Stepper;
 use std::marker::Model;
 
 /// How many slots the own pool of a pass has room for.
@@ -20,9 +24,8 @@ pub const POOL: usize = 64;
 /// A pass that is dropped takes its own slots out for good, and its table can't be closed any more.
 #[derive(Drop)]
 pub struct Pass {
-    pub(crate) runner: Counted,
-    pub(crate) pool: Pool,
-    pub(crate) hand: Option<u32>,
+    pub(crate) stepper: Stepper,
+    pub(crate) steps: u64,
 }
 
 impl Model for Pass {
@@ -30,11 +33,11 @@ impl Model for Pass {
 
     ghost Value = { PassView };
 
-    ghost use Rattle.vbr_slots.specs.PassView.{view_of, IsWell};
+    ghost use Rattle.vbr_slots.specs.PassView.{lent_of, IsExact};
 
-    ghost view = { view_of };
+    ghost view = { lent_of };
 
-    ghost invariant = { IsWell };
+    ghost invariant = { IsExact };
 }
 
 impl Pass {
@@ -45,7 +48,7 @@ impl Pass {
         ensures low { result < self.now.trace.passes }
         ensures is_run { IsRun self.now.trace.shape self.now.trace.passes self.now.trace.seen }
     {
-        self.runner.runner.who
+        self.stepper.who()
     }
 
     /// The law of passes: what always holds of one, for the proofs of its callers. It does nothing.
@@ -53,8 +56,7 @@ impl Pass {
     pub fn law(&self)
         ensures { PassLaw self.now }
     {
-        let _who = self.who();
-        let _pool = &self.pool;
+        self.stepper.law();
     }
 
     /// How many steps it has made since the opening, counted up to the greatest number: its own events
@@ -63,7 +65,7 @@ impl Pass {
     pub fn steps(&self) -> u64
         ensures { result ≡ counted_steps (steps_of self.now.trace) }
     {
-        self.runner.steps
+        self.steps
     }
 
     /// The last epoch that it read; 1 at the opening.
@@ -71,7 +73,7 @@ impl Pass {
     pub fn epoch(&self) -> u64
         ensures { result ≡ (knows self.now.trace).epoch }
     {
-        self.runner.runner.epoch
+        self.stepper.epoch()
     }
 
     /// Its own pool, the oldest slot first.
@@ -81,7 +83,7 @@ impl Pass {
         ensures own { OwnPool self.now.trace.shape (knows self.now.trace) self.now.pool self.now.hand }
         ensures room { length self.now.pool ≤ POOL }
     {
-        self.pool.as_slice()
+        self.stepper.pool()
     }
 
     /// The slot in its hand: born by it, and neither published nor given back.
@@ -89,7 +91,7 @@ impl Pass {
     pub fn in_hand(&self) -> Option<u32>
         ensures { result ≡ self.now.hand }
     {
-        self.hand
+        self.stepper.in_hand()
     }
 
     /// Puts a slot at the end of its own pool: one that it owns and that is free, or the one in its
@@ -104,29 +106,67 @@ impl Pass {
         ensures pool { self.new.pool ≡ self.old.pool ++ slot ∷ [] }
         ensures hand { self.new.hand ≡ hand_without slot self.old.hand }
     {
-        if self.hand == Some(slot) {
-            self.hand = None;
-        }
-        self.pool.push(slot);
+        self.stepper.keep(slot);
     }
 
-    // Takes a slot out of its own pool, if it is there.
+    /// Lends what makes its steps, and then counts once how many the work tells that it made: its result
+    /// is what the work gives beside that number.
     #[inline]
-    pub(crate) fn leave_pool(&mut self, slot: u32)
-        ensures trace { self.new.trace ≡ self.old.trace }
-        ensures pool { self.new.pool ≡ without slot self.old.pool }
-        ensures hand { self.new.hand ≡ self.old.hand }
+    pub fn during<R, W: FnOnce(&mut Stepper) -> (R, u32)>(&mut self, work: W) -> R
+        requires takes { FnOnceTakesAtMut W.FnOnce work self.old }
+        requires counts { (r : _) (q : PassView) → FnOnceReturnsAtMut W.FnOnce work self.old r q → Took self.old.trace q.trace r.1 }
+        ensures { (used : ℕ) × Took self.old.trace self.new.trace used × FnOnceReturnsAtMut W.FnOnce work self.old (result, used) self.new }
     {
-        if let Some(at) = position_in(self.pool.as_slice(), slot) {
-            self.pool.remove(at);
-        }
+        let (result, used) = work(&mut self.stepper);
+        self.steps = steps_after(self.steps, used);
+        result
+    }
+
+    /// Lends what makes its steps together with their table, and then counts once how many the work tells
+    /// that it made: its result is what the work gives beside that number.
+    #[inline]
+    pub fn at<R, W: FnOnce(&mut AtTable<'_>) -> (R, u32)>(&mut self, slots: &Slots, work: W) -> R
+        requires own { IsOf self.old.trace slots.now }
+        requires takes { (at : AtTable) → at.slots.now ≡ slots.now → at.pass.now ≡ self.old → FnOnceTakesAtMut W.FnOnce work at }
+        requires counts { (at : AtTable) (r : _) (q : AtTable) → at.slots.now ≡ slots.now → at.pass.now ≡ self.old → FnOnceReturnsAtMut W.FnOnce work at r q → IsSameTable at q × Took self.old.trace q.pass.now.trace r.1 }
+        ensures { (at : AtTable) × (q : AtTable) × (used : ℕ) × (at.slots.now ≡ slots.now) × (at.pass.now ≡ self.old) × (q.pass.now ≡ self.new) × Took self.old.trace self.new.trace used × FnOnceReturnsAtMut W.FnOnce work at (result, used) q }
+    {
+        let mut at = AtTable {
+            slots,
+            pass: &mut self.stepper,
+        };
+        let (result, used) = work(&mut at);
+        self.steps = steps_after(self.steps, used);
+        result
+    }
+
+    /// As [`Pass::at`], for work that takes a value for good.
+    #[inline]
+    pub fn at_with<A, R, W: FnOnce(&mut AtTable<'_>, A) -> (R, u32)>(
+        &mut self,
+        slots: &Slots,
+        given: A,
+        work: W,
+    ) -> R
+        requires own { IsOf self.old.trace slots.now }
+        requires takes { (at : AtTable) → at.slots.now ≡ slots.now → at.pass.now ≡ self.old → TakesWith W.FnOnce work at given }
+        requires counts { (at : AtTable) (r : _) (q : AtTable) → at.slots.now ≡ slots.now → at.pass.now ≡ self.old → ReturnsWith W.FnOnce work at given r q → IsSameTable at q × Took self.old.trace q.pass.now.trace r.1 }
+        ensures { (at : AtTable) × (q : AtTable) × (used : ℕ) × (at.slots.now ≡ slots.now) × (at.pass.now ≡ self.old) × (q.pass.now ≡ self.new) × Took self.old.trace self.new.trace used × ReturnsWith W.FnOnce work at given (result, used) q }
+    {
+        let mut at = AtTable {
+            slots,
+            pass: &mut self.stepper,
+        };
+        let (result, used) = work(&mut at, given);
+        self.steps = steps_after(self.steps, used);
+        result
     }
 }
 
-// The position of a slot in a pool.
+// A count after so many more steps; it stays at the greatest number.
 #[inline]
-fn position_in(pool: &[u32], slot: u32) -> Option<usize>
-    ensures { result ≡ position_from (λ x. x == slot) 0 pool.now }
+pub(crate) fn steps_after(steps: u64, more: u32) -> u64
+    ensures { result ≡ counted_steps (steps + more) }
 {
-    pool.iter().position(|pooled| *pooled == slot)
+    steps.saturating_add(u64::from(more))
 }

@@ -82,8 +82,18 @@ impl Pool {
         if at == 0 {
             self.first += 1;
         } else {
-            self.cells.remove(self.first + at);
+            self.remove_moved(at);
         }
+    }
+
+    // As `remove`, where others stand before it: those behind it move.
+    #[inline(never)]
+    fn remove_moved(&mut self, at: usize)
+        requires { at < length self.old.items }
+        ensures items { self.new.items ≡ remove self.old.items at }
+    {
+        let _len = self.cells.len();
+        self.cells.remove(self.first + at);
     }
 }
 

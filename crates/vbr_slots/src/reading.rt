@@ -25,7 +25,7 @@ impl Slots {
         ensures reads { Reads (LoadLink at) pass.old pass.new result.0 result.1 }
         ensures pool { KeepsPool pass.old pass.new }
     {
-        self.load_and_epoch(&mut pass.runner, Step::LoadLink { at }, place_of_link(at))
+        pass.during(|stepper| (stepper.read_link(self, at), 2))
     }
 
     /// Loads the key of a held slot, and reads the epoch, in two steps: gives the key and the
@@ -38,7 +38,7 @@ impl Slots {
         ensures reads { Reads (LoadKey slot) pass.old pass.new result.0 result.1 }
         ensures pool { KeepsPool pass.old pass.new }
     {
-        self.load_and_epoch(&mut pass.runner, Step::LoadKey { slot }, Place::Key(slot))
+        pass.during(|stepper| (stepper.read_key(self, slot), 2))
     }
 
     /// Loads the birth and the link word of a held slot, and reads the epoch, in three steps: gives the
@@ -51,6 +51,6 @@ impl Slots {
         ensures reads { ReadsNode slot pass.old pass.new result.0 result.1 result.2 }
         ensures pool { KeepsPool pass.old pass.new }
     {
-        self.load_node(&mut pass.runner, slot)
+        pass.during(|stepper| (stepper.read_node(self, slot), 3))
     }
 }

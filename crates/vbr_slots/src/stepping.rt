@@ -15,7 +15,6 @@ ghost use Rattle.vbr_words.specs.declared.place.Place.TheVariants.{Epoch};
 ghost use Rattle.vbr_slots.specs.LookUps.{link_from};
 ghost use Rattle.vbr_slots.specs.Views.{IsOf, Did, Trace, knows, epoch_after, event_of};
 
-use crate::counted::{Counted, steps_after};
 use crate::rule::{Both, Does, First, Naming, Whole};
 use crate::runner::{Runner, keep_epoch, keep_epoch_found};
 use crate::slots::Slots;
@@ -65,16 +64,14 @@ impl Slots {
     }
 
     #[inline]
-    pub(crate) fn load_at(&self, counts: &mut Counted, step: Step, at: At) -> u64
-        requires own { IsOf counts.old self.now }
-        requires accepted { Accepts self.now.shape (knows counts.old) step }
+    pub(crate) fn load_at(&self, runner: &mut Runner, step: Step, at: At) -> u64
+        requires own { IsOf runner.old self.now }
+        requires accepted { Accepts self.now.shape (knows runner.old) step }
         requires place { places.place_of at ≡ place_of_step step }
-        requires access { access_of (knows counts.old) step ≡ Load }
-        ensures { Did step counts.old counts.new result }
+        requires access { access_of (knows runner.old) step ≡ Load }
+        ensures { Did step runner.old runner.new result }
     {
-        let found = self.load_at_as::<Brand>(&mut counts.runner, step, at);
-        counts.steps = steps_after(counts.steps, 1);
-        found
+        self.load_at_as::<Brand>(runner, step, at)
     }
 
     // One load, which is the step.
@@ -94,16 +91,14 @@ impl Slots {
     }
 
     #[inline]
-    pub(crate) fn load(&self, counts: &mut Counted, step: Step, place: Place) -> u64
-        requires own { IsOf counts.old self.now }
-        requires accepted { Accepts self.now.shape (knows counts.old) step }
+    pub(crate) fn load(&self, runner: &mut Runner, step: Step, place: Place) -> u64
+        requires own { IsOf runner.old self.now }
+        requires accepted { Accepts self.now.shape (knows runner.old) step }
         requires place { place ≡ place_of_step step }
-        requires access { access_of (knows counts.old) step ≡ Load }
-        ensures { Did step counts.old counts.new result }
+        requires access { access_of (knows runner.old) step ≡ Load }
+        ensures { Did step runner.old runner.new result }
     {
-        let found = self.load_as::<Brand>(&mut counts.runner, step, place);
-        counts.steps = steps_after(counts.steps, 1);
-        found
+        self.load_as::<Brand>(runner, step, place)
     }
 
     // One load of the epoch, which is the step. The runner read `before` last, which its caller looks up
@@ -124,48 +119,33 @@ impl Slots {
 
     // One load of another word than the epoch, and one of the epoch: two steps.
     #[inline]
-    pub(crate) fn load_and_epoch(
-        &self,
-        counts: &mut Counted,
-        step: Step,
-        place: Place,
-    ) -> (u64, u64)
-        requires own { IsOf counts.old self.now }
-        requires accepted { Accepts self.now.shape (knows counts.old) step }
+    pub(crate) fn load_and_epoch(&self, runner: &mut Runner, step: Step, place: Place) -> (u64, u64)
+        requires own { IsOf runner.old self.now }
+        requires accepted { Accepts self.now.shape (knows runner.old) step }
         requires place { place ≡ place_of_step step }
-        requires access { access_of (knows counts.old) step ≡ Load }
+        requires access { access_of (knows runner.old) step ≡ Load }
         requires stays { (found epoch : ℕ) → epoch_after step found epoch ≡ epoch }
-        ensures { (between : Trace) × Did step counts.old between result.0 × Did ReadEpoch between counts.new result.1 }
+        ensures { (between : Trace) × Did step runner.old between result.0 × Did ReadEpoch between runner.new result.1 }
     {
-        let before = counts.runner.epoch();
-        let found = self.load_as::<Brand>(&mut counts.runner, step, place);
-        let epoch = self.read_epoch_as::<Brand>(&mut counts.runner, before);
-        counts.steps = steps_after(counts.steps, 2);
+        let before = runner.epoch();
+        let found = self.load_as::<Brand>(runner, step, place);
+        let epoch = self.read_epoch_as::<Brand>(runner, before);
         (found, epoch)
     }
 
     // The loads of the birth and of the link word of a slot, and one of the epoch: three steps.
     #[inline]
-    pub(crate) fn load_node(&self, counts: &mut Counted, slot: u32) -> (u64, u64, u64)
-        requires own { IsOf counts.old self.now }
+    pub(crate) fn load_node(&self, runner: &mut Runner, slot: u32) -> (u64, u64, u64)
+        requires own { IsOf runner.old self.now }
         requires slot { slot < self.now.shape.slots }
-        requires held { IsTrue (holds (knows counts.old).checked slot) }
-        ensures { (born between : Trace) × Did (LoadBirth slot) counts.old born result.0 × Did (LoadLink (Slot slot)) born between result.1 × Did ReadEpoch between counts.new result.2 }
+        requires held { IsTrue (holds (knows runner.old).checked slot) }
+        ensures { (born between : Trace) × Did (LoadBirth slot) runner.old born result.0 × Did (LoadLink (Slot slot)) born between result.1 × Did ReadEpoch between runner.new result.2 }
     {
-        let before = counts.runner.epoch();
+        let before = runner.epoch();
         let at = At::Slot(slot);
-        let birth = self.load_as::<Brand>(
-            &mut counts.runner,
-            Step::LoadBirth { slot },
-            Place::Birth(slot),
-        );
-        let word = self.load_as::<Brand>(
-            &mut counts.runner,
-            Step::LoadLink { at },
-            Place::LinkOf(slot),
-        );
-        let epoch = self.read_epoch_as::<Brand>(&mut counts.runner, before);
-        counts.steps = steps_after(counts.steps, 3);
+        let birth = self.load_as::<Brand>(runner, Step::LoadBirth { slot }, Place::Birth(slot));
+        let word = self.load_as::<Brand>(runner, Step::LoadLink { at }, Place::LinkOf(slot));
+        let epoch = self.read_epoch_as::<Brand>(runner, before);
         (birth, word, epoch)
     }
 
@@ -187,15 +167,14 @@ impl Slots {
     }
 
     #[inline]
-    pub(crate) fn store(&self, counts: &mut Counted, step: Step, place: Place, new: u64)
-        requires own { IsOf counts.old self.now }
-        requires accepted { Accepts self.now.shape (knows counts.old) step }
+    pub(crate) fn store(&self, runner: &mut Runner, step: Step, place: Place, new: u64)
+        requires own { IsOf runner.old self.now }
+        requires accepted { Accepts self.now.shape (knows runner.old) step }
         requires place { place ≡ place_of_step step }
-        requires access { access_of (knows counts.old) step ≡ Store new }
-        ensures { Did step counts.old counts.new new }
+        requires access { access_of (knows runner.old) step ≡ Store new }
+        ensures { Did step runner.old runner.new new }
     {
-        self.store_as::<Brand>(&mut counts.runner, step, place, new);
-        counts.steps = steps_after(counts.steps, 1);
+        self.store_as::<Brand>(runner, step, place, new);
     }
 
     // One exchange of an expected word for a new one, which is the step. Returns what it found.
@@ -227,21 +206,19 @@ impl Slots {
     #[inline]
     pub(crate) fn exchange(
         &self,
-        counts: &mut Counted,
+        runner: &mut Runner,
         step: Step,
         place: Place,
         expected: u64,
         new: u64,
     ) -> u64
-        requires own { IsOf counts.old self.now }
-        requires accepted { Accepts self.now.shape (knows counts.old) step }
+        requires own { IsOf runner.old self.now }
+        requires accepted { Accepts self.now.shape (knows runner.old) step }
         requires place { place ≡ place_of_step step }
-        requires access { access_of (knows counts.old) step ≡ Exchange expected new }
-        ensures { Did step counts.old counts.new result }
+        requires access { access_of (knows runner.old) step ≡ Exchange expected new }
+        ensures { Did step runner.old runner.new result }
     {
-        let found = self.exchange_as::<Brand>(&mut counts.runner, step, place, expected, new);
-        counts.steps = steps_after(counts.steps, 1);
-        found
+        self.exchange_as::<Brand>(runner, step, place, expected, new)
     }
 
     // One `|` of the word with bits, which is the step. Returns the word that it found.
@@ -270,16 +247,14 @@ impl Slots {
     }
 
     #[inline]
-    pub(crate) fn fetch_or(&self, counts: &mut Counted, step: Step, place: Place, bits: u64) -> u64
-        requires own { IsOf counts.old self.now }
-        requires accepted { Accepts self.now.shape (knows counts.old) step }
+    pub(crate) fn fetch_or(&self, runner: &mut Runner, step: Step, place: Place, bits: u64) -> u64
+        requires own { IsOf runner.old self.now }
+        requires accepted { Accepts self.now.shape (knows runner.old) step }
         requires place { place ≡ place_of_step step }
-        requires access { access_of (knows counts.old) step ≡ FetchOr bits }
-        ensures { Did step counts.old counts.new result }
+        requires access { access_of (knows runner.old) step ≡ FetchOr bits }
+        ensures { Did step runner.old runner.new result }
     {
-        let found = self.fetch_or_as::<Brand>(&mut counts.runner, step, place, bits);
-        counts.steps = steps_after(counts.steps, 1);
-        found
+        self.fetch_or_as::<Brand>(runner, step, place, bits)
     }
 
     // One `&` of the word with bits, which is the step. Returns the word that it found.
@@ -308,16 +283,14 @@ impl Slots {
     }
 
     #[inline]
-    pub(crate) fn fetch_and(&self, counts: &mut Counted, step: Step, place: Place, bits: u64) -> u64
-        requires own { IsOf counts.old self.now }
-        requires accepted { Accepts self.now.shape (knows counts.old) step }
+    pub(crate) fn fetch_and(&self, runner: &mut Runner, step: Step, place: Place, bits: u64) -> u64
+        requires own { IsOf runner.old self.now }
+        requires accepted { Accepts self.now.shape (knows runner.old) step }
         requires place { place ≡ place_of_step step }
-        requires access { access_of (knows counts.old) step ≡ FetchAnd bits }
-        ensures { Did step counts.old counts.new result }
+        requires access { access_of (knows runner.old) step ≡ FetchAnd bits }
+        ensures { Did step runner.old runner.new result }
     {
-        let found = self.fetch_and_as::<Brand>(&mut counts.runner, step, place, bits);
-        counts.steps = steps_after(counts.steps, 1);
-        found
+        self.fetch_and_as::<Brand>(runner, step, place, bits)
     }
 
     // One load of the epoch, which is the step, while the other's seat is joined to the runner's.
@@ -344,15 +317,13 @@ impl Slots {
     }
 
     #[inline]
-    pub(crate) fn meet_runner(&self, counts: &mut Counted, other: &mut Counted) -> u64
-        requires own { IsOf counts.old self.now }
+    pub(crate) fn meet_runner(&self, runner: &mut Runner, other: &mut Runner) -> u64
+        requires own { IsOf runner.old self.now }
         requires other { IsOf other.old self.now }
-        ensures step { Did ReadEpoch counts.old counts.new result }
+        ensures step { Did ReadEpoch runner.old runner.new result }
         ensures same { other.new ≡ other.old }
-        ensures met { BeginsFor other.old.who other.old.seen counts.new.seen }
+        ensures met { BeginsFor other.old.who other.old.seen runner.new.seen }
     {
-        let found = self.meet_as::<Brand>(&mut counts.runner, &mut other.runner, Step::ReadEpoch);
-        counts.steps = steps_after(counts.steps, 1);
-        found
+        self.meet_as::<Brand>(runner, other, Step::ReadEpoch)
     }
 }

@@ -18,12 +18,12 @@ returns-in-Ok-clause-found c = found_since c.args.self.now.key c.in-Ok.found c.l
 pub loop-found-preserved : goal.loop-found-preserved
 loop-found-preserved c =
     let same = call_on c.loop-found.invariant.0 c.traverse.ensures.call in
-    (same, tries_on c.loop-found.invariant.1 c.traverse.ensures.goes c.traverse.ensures.more (within_call same), first_lost c.args.self.now.pass.now c.loop-found.self.pass.now c.traverse.new.self.pass.now c.loop-found.invariant.2 c.loop-found.invariant.1.goes.quiet c.traverse.ensures.goes.quiet (c.in-Err-Again.ensures.still c.in-Err-Again.field-0-is))
+    (same, tries_on c.loop-found.invariant.1 c.traverse.ensures.goes c.traverse.ensures.more (within_call same), first_lost c.args.self.now.at.pass.now c.loop-found.self.at.pass.now c.traverse.new.self.at.pass.now c.loop-found.invariant.2 c.loop-found.invariant.1.goes.quiet c.traverse.ensures.goes.quiet (c.in-Err-Again.ensures.still c.in-Err-Again.field-0-is))
 
 pub returns-in-Ok-clause-alone : goal.returns-in-Ok-clause-alone
 returns-in-Ok-clause-alone c = λ alone.
-    at_first (λ q since. FoundAlone q.trace c.traverse.new.self.pass.now.trace c.args.self.now.key since c.traverse.new.self.used c.in-Ok.found) c.args.self.now.pass.now c.loop-found.self.pass.now c.traverse.new.self.pass.now c.loop-found.invariant.2 c.loop-found.invariant.1.goes.quiet c.traverse.ensures.goes.quiet alone (rw c.loop-found.invariant.0.key at c.in-Ok.ensures.alone)
+    at_first (λ q since. FoundAlone q.trace c.traverse.new.self.at.pass.now.trace c.args.self.now.key since c.traverse.new.self.used c.in-Ok.found) c.args.self.now.at.pass.now c.loop-found.self.at.pass.now c.traverse.new.self.at.pass.now c.loop-found.invariant.2 c.loop-found.invariant.1.goes.quiet c.traverse.ensures.goes.quiet alone (rw c.loop-found.invariant.0.key at c.in-Ok.ensures.alone)
 
 pub returns-in-Err-Tired-clause-short : goal.returns-in-Err-Tired-clause-short
 returns-in-Err-Tired-clause-short c = λ alone.
-    at_first (λ q since. c.args.self.now.budget < since + 9 * listed_for q.trace c.args.self.now.key + 11) c.args.self.now.pass.now c.loop-found.self.pass.now c.traverse.new.self.pass.now c.loop-found.invariant.2 c.loop-found.invariant.1.goes.quiet c.traverse.ensures.goes.quiet alone (rw (c.loop-found.invariant.0.key, c.loop-found.invariant.0.budget) at c.in-Err-Tired.ensures.short c.in-Err-Tired.field-0-is)
+    at_first (λ q since. c.args.self.now.budget < since + 9 * listed_for q.trace c.args.self.now.key + 11) c.args.self.now.at.pass.now c.loop-found.self.at.pass.now c.traverse.new.self.at.pass.now c.loop-found.invariant.2 c.loop-found.invariant.1.goes.quiet c.traverse.ensures.goes.quiet alone (rw (c.loop-found.invariant.0.key, c.loop-found.invariant.0.budget) at c.in-Err-Tired.ensures.short c.in-Err-Tired.field-0-is)

@@ -9,18 +9,18 @@ use Rattle.vbr_list.proofs.call.Call.settle_look_up.Goals as goal
 
 pub confirm_look_up-requires-clause-held : goal.confirm_look_up-requires-clause-held
 confirm_look_up-requires-clause-held c =
-    let p = c.args.self.now.pass.now.trace in
+    let p = c.args.self.now.at.pass.now.trace in
     let P : Held → Type 0 = IsHeld (knows p) in
     subst P (sym c.told_by-present.ensures.held) (sight_held p.shape (knows p) c.args.self.now.key c.args.sight c.requires.sight)
 
 pub confirm_look_up-requires-clause-unmarked : goal.confirm_look_up-requires-clause-unmarked
 confirm_look_up-requires-clause-unmarked c =
-    let p = c.args.self.now.pass.now.trace in
+    let p = c.args.self.now.at.pass.now.trace in
     let P : Held → Type 0 = λ held. (link_of held.word).mark ≡ false in
     subst P (sym c.told_by-present.ensures.held) (sight_unmarked p.shape (knows p) c.args.self.now.key c.args.sight c.requires.sight)
 
 pub confirm_look_up-requires-clause-answers : goal.confirm_look_up-requires-clause-answers
 confirm_look_up-requires-clause-answers c =
-    let p = c.args.self.now.pass.now.trace in
+    let p = c.args.self.now.at.pass.now.trace in
     let P : Held × Bool → Type 0 = λ x. DecidesKey p.shape (knows p) c.args.self.now.key x.0 x.1 in
     subst P (λ i. (sym c.told_by-present.ensures.held i, sym c.told_by-present.ensures.present i)) (sight_answers p.shape (knows p) c.args.self.now.key c.args.sight c.requires.sight)

@@ -5,4 +5,4 @@ use Rattle.vbr_list.proofs.call.Call.settle_remove.Goals as goal
 pub confirm_absent-outcome-requires-clause-before : goal.confirm_absent-outcome-requires-clause-before
 confirm_absent-outcome-requires-clause-before c =
     let f = c.args.found.now in
-    before_named (knows c.args.self.now.pass.now.trace) c.args.self.now.key f.pred f.cur f.present c.requires.locates.end c.if-found.false
+    before_named (knows c.args.self.now.at.pass.now.trace) c.args.self.now.key f.pred f.cur f.present c.requires.locates.end c.if-found.false

@@ -28,7 +28,7 @@ returns-clause-goes c =
     let point = c.checkpoint-point.ensures in
     let head = c.first-head.ensures in
     let sum : c.args.self.now.used + 1 + 2 ≡ c.args.self.now.used + 3 = omega arith in
-    subst (λ (n : ℕ). Goes c.args.self.now.pass.now c.first-head.new.pass c.args.self.now.used n) sum
+    subst (λ (n : ℕ). Goes c.args.self.now.at.pass.now c.first-head.new.at.pass.now c.args.self.now.used n) sum
     (goes_on (goes_step c.args.self.now.used 1 point.quiet point.took point.own point.takes_no_slot) (goes_step (c.args.self.now.used + 1) 2 head.quiet head.took head.own head.takes_no_slot))
 
 pub returns-clause-looks : goal.returns-clause-looks

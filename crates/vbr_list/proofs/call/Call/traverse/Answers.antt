@@ -15,11 +15,11 @@ returns-then-not-affords-3-clause-goes c = goes_on c.loop-pred.invariant.1.tries
 pub returns-in-Ok-Beyond-clause-goes : goal.returns-in-Ok-Beyond-clause-goes
 returns-in-Ok-Beyond-clause-goes c = goes_on c.loop-pred.invariant.1.tries.goes c.visit.ensures.goes
 
-pub returns-in-Err-help_by_copy-clause-goes : goal.returns-in-Err-help_by_copy-clause-goes
-returns-in-Err-help_by_copy-clause-goes c = goes_on c.loop-pred.invariant.1.tries.goes (goes_on c.visit.ensures.goes c.help_by_copy.ensures.goes)
+pub returns-in-Err-help-clause-goes : goal.returns-in-Err-help-clause-goes
+returns-in-Err-help-clause-goes c = goes_on c.loop-pred.invariant.1.tries.goes (goes_on c.visit.ensures.goes c.help.ensures.goes)
 
-pub help_by_copy-requires-clause-pred : goal.help_by_copy-requires-clause-pred
-help_by_copy-requires-clause-pred c = rw (c.visit.ensures.call.key, c.loop-pred.invariant.0.key) (pred_on c.args.self.now.key c.loop-pred.pred c.visit.ensures.goes.quiet.same c.in-Ok-Marked.ensures.keeps c.loop-pred.invariant.1.reached.is)
+pub help-requires-clause-pred : goal.help-requires-clause-pred
+help-requires-clause-pred c = rw (c.visit.ensures.call.key, c.loop-pred.invariant.0.key) (pred_on c.args.self.now.key c.loop-pred.pred c.visit.ensures.goes.quiet.same c.in-Ok-Marked.ensures.keeps c.loop-pred.invariant.1.reached.is)
 
 pub loop-pred-preserved : goal.loop-pred-preserved
 loop-pred-preserved c =
@@ -29,9 +29,9 @@ loop-pred-preserved c =
     let v = c.in-Ok-Smaller.ensures in
     let m = rw (c.in-Ok-Smaller.field-0-is, c.loop-pred.invariant.0.key) at v.alone in
     let n : c.visit.new.self.used ≡ c.loop-pred.self.used + 5 = rw c.in-Ok-Smaller.field-0-is at v.count in
-    let p = c.args.self.now.pass.now.trace in
-    let q = c.loop-pred.self.pass.now.trace in
-    let r = c.visit.new.self.pass.now.trace in
+    let p = c.args.self.now.at.pass.now.trace in
+    let q = c.loop-pred.self.at.pass.now.trace in
+    let r = c.visit.new.self.at.pass.now.trace in
     let i = c.loop-pred.invariant.1 in
     let b = c.loop-pred.invariant.0.budget in (
       call_on c.loop-pred.invariant.0 c.visit.ensures.call,
@@ -43,21 +43,21 @@ loop-pred-preserved c =
           nears_visit p q r c.args.self.now.key c.args.self.now.used c.loop-pred.self.used c.visit.new.self.used c.loop-pred.pred c.in-Ok-Smaller.node near (c.visit.ensures.looks then) c.visit.ensures.goes.quiet.same.shape n (m near.keeps.fresh (inl i.reached.is.unmarked) near.keeps.stands then)),
     )
 
-pub loop-pred-preserved-in-Ok-help_by_copy : goal.loop-pred-preserved-in-Ok-help_by_copy
-loop-pred-preserved-in-Ok-help_by_copy c =
-    let s = rw (c.visit.ensures.call.key, c.loop-pred.invariant.0.key) at c.in-Ok-help_by_copy.ensures.pred in
+pub loop-pred-preserved-in-Ok-help : goal.loop-pred-preserved-in-Ok-help
+loop-pred-preserved-in-Ok-help c =
+    let s = rw (c.visit.ensures.call.key, c.loop-pred.invariant.0.key) at c.in-Ok-help.ensures.pred in
     let x = c.visit.ensures.used in
-    let y = c.help_by_copy.ensures.used in
+    let y = c.help.ensures.used in
     let z = c.affords-in-Ok-Marked.ensures.0 c.if-not-affords-3.false in
     let b = c.visit.ensures.call.budget in
     let d = c.loop-pred.invariant.0.budget in (
-      call_on c.loop-pred.invariant.0 (call_on c.visit.ensures.call c.help_by_copy.ensures.call),
-      traverses_on c.loop-pred.invariant.1 (goes_on c.visit.ensures.goes c.help_by_copy.ensures.goes) (omega (arith, x, y)) (omega (arith, y, z, b, d)) (record { is = s.is; stood = stood_since c.visit.ensures.goes.quiet s.stood })
+      call_on c.loop-pred.invariant.0 (call_on c.visit.ensures.call c.help.ensures.call),
+      traverses_on c.loop-pred.invariant.1 (goes_on c.visit.ensures.goes c.help.ensures.goes) (omega (arith, x, y)) (omega (arith, y, z, b, d)) (record { is = s.is; stood = stood_since c.visit.ensures.goes.quiet s.stood })
           (λ alone.
           let i = c.loop-pred.invariant.1 in
           let a = i.tries.goes.quiet in
           let v = c.visit.ensures.goes.quiet in
-          let h = c.help_by_copy.ensures.goes.quiet in
+          let h = c.help.ensures.goes.quiet in
           let near = i.nears (first_of a (quiet_on v h) alone) in
           let later = then_of a (quiet_on v h) alone in
           let one = first_of v h later in
@@ -65,8 +65,8 @@ loop-pred-preserved-in-Ok-help_by_copy c =
           let n : c.visit.new.self.used ≡ c.loop-pred.self.used + 3 = rw c.in-Ok-Marked.field-0-is at c.in-Ok-Marked.ensures.count in
           let l = c.visit.ensures.looks one in
           let met = m near.keeps.fresh (inl c.loop-pred.invariant.1.reached.is.unmarked) near.keeps.stands one in
-          nears_help c.args.self.now.pass.now.trace c.loop-pred.self.pass.now.trace c.visit.new.self.pass.now.trace c.help_by_copy.new.self.pass.now.trace c.args.self.now.key c.args.self.now.used c.loop-pred.self.used c.visit.new.self.used c.help_by_copy.new.self.used c.loop-pred.pred c.in-Ok-help_by_copy.place near l v.same.shape n c.help_by_copy.ensures.few
-          ((rw (c.visit.ensures.call.key, c.loop-pred.invariant.0.key) at c.in-Ok-help_by_copy.ensures.alone) met.0.fresh (stands_on c.loop-pred.self.pass.now.trace c.visit.new.self.pass.now.trace c.loop-pred.pred l near.keeps.stands) (then_of v h later))),
+          nears_help c.args.self.now.at.pass.now.trace c.loop-pred.self.at.pass.now.trace c.visit.new.self.at.pass.now.trace c.help.new.self.at.pass.now.trace c.args.self.now.key c.args.self.now.used c.loop-pred.self.used c.visit.new.self.used c.help.new.self.used c.loop-pred.pred c.in-Ok-help.place near l v.same.shape n c.help.ensures.few
+          ((rw (c.visit.ensures.call.key, c.loop-pred.invariant.0.key) at c.in-Ok-help.ensures.alone) met.0.fresh (stands_on c.loop-pred.self.at.pass.now.trace c.visit.new.self.at.pass.now.trace c.loop-pred.pred l near.keeps.stands) (then_of v h later))),
     )
 
 pub returns-in-Ok-Beyond-clause-found : goal.returns-in-Ok-Beyond-clause-found
@@ -97,17 +97,17 @@ returns-then-not-affords-3-clause-short c = λ e alone.
     let short : ¬ (c.visit.new.self.used + 8 ≤ c.visit.new.self.budget) = λ h. (let f = c.if-not-affords-3.true in let z = c.affords-in-Ok-Marked.ensures.1 h in let w : false ≡ true = sym f ∙ z in cc) in
     let e = c.visit.ensures.call.budget in let f = c.loop-pred.invariant.0.budget in omega (arith, some, paid, n, short, e, f)
 
-pub returns-in-Err-help_by_copy-clause-still : goal.returns-in-Err-help_by_copy-clause-still
-returns-in-Err-help_by_copy-clause-still c = λ e alone.
+pub returns-in-Err-help-clause-still : goal.returns-in-Err-help-clause-still
+returns-in-Err-help-clause-still c = λ e alone.
     let a = c.loop-pred.invariant.1.tries.goes.quiet in
     let v = c.visit.ensures.goes.quiet in
-    let h = c.help_by_copy.ensures.goes.quiet in
+    let h = c.help.ensures.goes.quiet in
     let near = c.loop-pred.invariant.1.nears (first_of a (quiet_on v h) alone) in
     let later = then_of a (quiet_on v h) alone in
     let one = first_of v h later in
     let m = rw (c.in-Ok-Marked.field-0-is, c.loop-pred.invariant.0.key) at c.in-Ok-Marked.ensures.alone in
     let met = m near.keeps.fresh (inl c.loop-pred.invariant.1.reached.is.unmarked) near.keeps.stands one in
-    c.in-Err-help_by_copy.ensures.still met.0.fresh (stands_on c.loop-pred.self.pass.now.trace c.visit.new.self.pass.now.trace c.loop-pred.pred (c.visit.ensures.looks one) near.keeps.stands) (then_of v h later)
+    c.in-Err-help.ensures.still met.0.fresh (stands_on c.loop-pred.self.at.pass.now.trace c.visit.new.self.at.pass.now.trace c.loop-pred.pred (c.visit.ensures.looks one) near.keeps.stands) (then_of v h later)
 
 pub returns-in-Ok-Beyond-clause-alone : goal.returns-in-Ok-Beyond-clause-alone
 returns-in-Ok-Beyond-clause-alone c = λ alone.
@@ -118,4 +118,4 @@ returns-in-Ok-Beyond-clause-alone c = λ alone.
     let then = then_of a v alone in
     let m = rw (c.in-Ok-Beyond.field-0-is, c.loop-pred.invariant.0.key) at c.in-Ok-Beyond.ensures.alone in
     let n : c.visit.new.self.used ≡ c.loop-pred.self.used + 5 = rw c.in-Ok-Beyond.field-0-is at c.in-Ok-Beyond.ensures.count in
-    found_beyond c.args.self.now.pass.now.trace c.loop-pred.self.pass.now.trace c.visit.new.self.pass.now.trace c.args.self.now.key c.args.self.now.used c.loop-pred.self.used c.visit.new.self.used c.loop-pred.pred c.in-Ok-Beyond.node _ near (c.visit.ensures.looks then) v.same.shape n (m near.keeps.fresh (inl i.reached.is.unmarked) near.keeps.stands then) refl refl
+    found_beyond c.args.self.now.at.pass.now.trace c.loop-pred.self.at.pass.now.trace c.visit.new.self.at.pass.now.trace c.args.self.now.key c.args.self.now.used c.loop-pred.self.used c.visit.new.self.used c.loop-pred.pred c.in-Ok-Beyond.node _ near (c.visit.ensures.looks then) v.same.shape n (m near.keeps.fresh (inl i.reached.is.unmarked) near.keeps.stands then) refl refl

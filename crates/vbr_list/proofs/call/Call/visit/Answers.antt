@@ -62,7 +62,7 @@ pub returns-in_err-here-clause-still : goal.returns-in_err-here-clause-still
 returns-in_err-here-clause-still c =
     let x = c.in_ok-node.ensures in
     let y = c.in_err-here.ensures in
-    either c.from_residual-in_err-here.result (λ fresh alone. y.still (fresh_kept c.args.self.now.pass.now.trace c.next-node.new.pass.trace (x.looks (first_of x.quiet y.quiet alone)) x.keeps fresh) (then_of x.quiet y.quiet alone))
+    either c.from_residual-in_err-here.result (λ fresh alone. y.still (fresh_kept c.args.self.now.at.pass.now.trace c.next-node.new.at.pass.now.trace (x.looks (first_of x.quiet y.quiet alone)) x.keeps fresh) (then_of x.quiet y.quiet alone))
 
 pub returns-then-here-self-clause-looks : goal.returns-then-here-self-clause-looks
 returns-then-here-self-clause-looks c = λ alone.
@@ -80,9 +80,9 @@ pub returns-then-here-self-clause-alone : goal.returns-then-here-self-clause-alo
 returns-then-here-self-clause-alone c = λ fresh there stands alone.
     let x = c.in_ok-node.ensures in
     let y = c.in_ok-here.ensures in
-    let p = c.args.self.now.pass.now in
-    let q = c.next-node.new.pass.trace in
-    let r = c.key_of-read.new.pass.trace in
+    let p = c.args.self.now.at.pass.now in
+    let q = c.next-node.new.at.pass.now.trace in
+    let r = c.key_of-read.new.at.pass.now.trace in
     let n = rw c.in-Some.is at x.read in
     let m = rw c.in-Some.is at x.stands in
     let first = first_of x.quiet y.quiet alone in
@@ -95,9 +95,9 @@ pub returns-else-here-self-clause-alone : goal.returns-else-here-self-clause-alo
 returns-else-here-self-clause-alone c = λ fresh there stands alone.
     let x = c.in_ok-node.ensures in
     let y = c.in_ok-here.ensures in
-    let p = c.args.self.now.pass.now in
-    let q = c.next-node.new.pass.trace in
-    let r = c.key_of-read.new.pass.trace in
+    let p = c.args.self.now.at.pass.now in
+    let q = c.next-node.new.at.pass.now.trace in
+    let r = c.key_of-read.new.at.pass.now.trace in
     let n = rw c.in-Some.is at x.read in
     let m = rw c.in-Some.is at x.stands in
     let first = first_of x.quiet y.quiet alone in
@@ -112,7 +112,7 @@ returns-in-Some-of-clause-alone c = λ fresh there stands alone.
     let n = rw c.in-Some.is at x.read in
     let m = rw c.in-Some.is at x.stands in
     let of = c.in-Some-of.ensures in
-    marked_alone c.args.self.now.pass.now c.law.ensures c.next-node.new.pass.trace c.args.self.now.key c.args.pred.now c.in-Some.node c.in-Some-of.marked x.quiet c.requires.pred there stands n of.0 (x.looks alone) x.keeps fresh (m alone)
+    marked_alone c.args.self.now.at.pass.now c.law.ensures c.next-node.new.at.pass.now.trace c.args.self.now.key c.args.pred.now c.in-Some.node c.in-Some-of.marked x.quiet c.requires.pred there stands n of.0 (x.looks alone) x.keeps fresh (m alone)
 
 pub returns-else-here-self-clause-observes : goal.returns-else-here-self-clause-observes
 returns-else-here-self-clause-observes c = observes_on (observed c.next-node.ensures.only_loads c.next-node.ensures.adds_none) (observed c.key_of-read.ensures.only_loads c.key_of-read.ensures.adds_none)

@@ -23,7 +23,7 @@ loop-here-init c =
         peeks = record { tries = record { goes = c.in-Ok.ensures.goes; within = (omega (arith, used), omega (arith, fits, used)) }; observes = c.in-Ok.ensures.observes };
         some = omega (arith, used);
         look = look_at c.in-Ok.ensures.pred.is;
-        passes = λ alone. passes_start c.args.self.now.pass.now.trace c.start.new.self.pass.now.trace c.args.self.now.bucket c.args.self.now.key c.args.self.now.used c.start.new.self.used c.in-Ok.pred (c.start.ensures.looks alone) c.start.ensures.goes.quiet.same.shape c.args.self.now.of_key c.start.ensures.used c.in-Ok.ensures.pred.is.unmarked (c.in-Ok.ensures.stands alone);
+        passes = λ alone. passes_start c.args.self.now.at.pass.now.trace c.start.new.self.at.pass.now.trace c.args.self.now.bucket c.args.self.now.key c.args.self.now.used c.start.new.self.used c.in-Ok.pred (c.start.ensures.looks alone) c.start.ensures.goes.quiet.same.shape c.args.self.now.of_key c.start.ensures.used c.in-Ok.ensures.pred.is.unmarked (c.in-Ok.ensures.stands alone);
       },
     )
 
@@ -38,7 +38,7 @@ loop-here-preserved-in-Ok-Marked c =
     let look = look_past c.args.self.now.key c.loop-here.pred c.loop-here.here c.in-Ok-Marked.marked c.visit.ensures.goes.quiet.same c.in-Ok-Marked.ensures.keeps c.loop-here.invariant.1.look met.0 met.1 in
     let b = c.loop-here.invariant.0.budget in (
       call_on c.loop-here.invariant.0 c.visit.ensures.call,
-      subst (λ (h : Held). Looks c.args.self.now.pass.now c.visit.new.self.pass.now c.args.self.now.key c.args.self.now.used c.visit.new.self.used c.args.self.now.budget c.loop-here.pred h) (sym c.held_of-here.ensures)
+      subst (λ (h : Held). Looks c.args.self.now.at.pass.now c.visit.new.self.at.pass.now c.args.self.now.key c.args.self.now.used c.visit.new.self.used c.args.self.now.budget c.loop-here.pred h) (sym c.held_of-here.ensures)
           (looks_on c.loop-here.invariant.1 c.visit.ensures.goes c.visit.ensures.observes (omega (arith, x)) (omega (arith, x, y, b)) look
           (λ alone.
           let i = c.loop-here.invariant.1 in
@@ -49,7 +49,7 @@ loop-here-preserved-in-Ok-Marked c =
           let m = rw (c.in-Ok-Marked.field-0-is, c.loop-here.invariant.0.key) at c.in-Ok-Marked.ensures.alone in
           let n : c.visit.new.self.used ≡ c.loop-here.self.used + 3 = rw c.in-Ok-Marked.field-0-is at c.in-Ok-Marked.ensures.count in
           let y = m near.place.fresh near.there near.place.stands then in
-          passes_marked c.args.self.now.pass.now.trace c.loop-here.self.pass.now.trace c.visit.new.self.pass.now.trace c.args.self.now.key c.args.self.now.used c.loop-here.self.used c.visit.new.self.used c.loop-here.pred c.loop-here.here (held_of c.in-Ok-Marked.marked) near (c.visit.ensures.looks then) y.0.fresh n y)),
+          passes_marked c.args.self.now.at.pass.now.trace c.loop-here.self.at.pass.now.trace c.visit.new.self.at.pass.now.trace c.args.self.now.key c.args.self.now.used c.loop-here.self.used c.visit.new.self.used c.loop-here.pred c.loop-here.here (held_of c.in-Ok-Marked.marked) near (c.visit.ensures.looks then) y.0.fresh n y)),
     )
 
 pub loop-here-preserved : goal.loop-here-preserved
@@ -67,7 +67,7 @@ loop-here-preserved c =
           let near = i.passes (first_of a v alone) in
           let m = rw (c.in-Ok-Smaller.field-0-is, c.loop-here.invariant.0.key) at c.in-Ok-Smaller.ensures.alone in
           let n : c.visit.new.self.used ≡ c.loop-here.self.used + 5 = rw c.in-Ok-Smaller.field-0-is at c.in-Ok-Smaller.ensures.count in
-          passes_smaller c.args.self.now.pass.now.trace c.loop-here.self.pass.now.trace c.visit.new.self.pass.now.trace c.args.self.now.key c.args.self.now.used c.loop-here.self.used c.visit.new.self.used c.loop-here.pred c.loop-here.here c.in-Ok-Smaller.node near n met.is.unmarked (m near.place.fresh near.there near.place.stands (then_of a v alone))),
+          passes_smaller c.args.self.now.at.pass.now.trace c.loop-here.self.at.pass.now.trace c.visit.new.self.at.pass.now.trace c.args.self.now.key c.args.self.now.used c.loop-here.self.used c.visit.new.self.used c.loop-here.pred c.loop-here.here c.in-Ok-Smaller.node near n met.is.unmarked (m near.place.fresh near.there near.place.stands (then_of a v alone))),
     )
 
 pub returns-in-Ok-Beyond-default-true-clause-goes :
@@ -82,7 +82,7 @@ pub returns-in-Ok-Beyond-default-true-clause-sight :
     goal.returns-in-Ok-Beyond-default-true-clause-sight
 returns-in-Ok-Beyond-default-true-clause-sight c =
     let met = rw (c.in-Ok-Beyond-default-true.field-0-is, c.in-Ok-Beyond-default-true.field-0-1-test, c.loop-here.invariant.0.key) at c.in-Ok-Beyond-default-true.ensures.met in
-    present_at c.visit.new.self.pass.now.trace.shape c.args.self.now.key c.loop-here.here c.in-Ok-Beyond-default-true.node met.0
+    present_at c.visit.new.self.at.pass.now.trace.shape c.args.self.now.key c.loop-here.here c.in-Ok-Beyond-default-true.node met.0
 
 pub returns-in-Ok-Beyond-default-false-clause-sight :
     goal.returns-in-Ok-Beyond-default-false-clause-sight
@@ -118,7 +118,7 @@ returns-in-Ok-Beyond-default-true-clause-alone c = λ alone.
     let near = c.loop-here.invariant.1.passes (first_of a v alone) in
     let m = rw (c.in-Ok-Beyond-default-true.field-0-is, c.loop-here.invariant.0.key) at c.in-Ok-Beyond-default-true.ensures.alone in
     let n : c.visit.new.self.used ≡ c.loop-here.self.used + 5 = rw c.in-Ok-Beyond-default-true.field-0-is at c.in-Ok-Beyond-default-true.ensures.count in
-    sight_present c.args.self.now.pass.now.trace c.loop-here.self.pass.now.trace c.visit.new.self.pass.now.trace c.args.self.now.key c.args.self.now.used c.loop-here.self.used c.visit.new.self.used c.loop-here.pred c.loop-here.here c.in-Ok-Beyond-default-true.node near n (m near.place.fresh near.there near.place.stands (then_of a v alone))
+    sight_present c.args.self.now.at.pass.now.trace c.loop-here.self.at.pass.now.trace c.visit.new.self.at.pass.now.trace c.args.self.now.key c.args.self.now.used c.loop-here.self.used c.visit.new.self.used c.loop-here.pred c.loop-here.here c.in-Ok-Beyond-default-true.node near n (m near.place.fresh near.there near.place.stands (then_of a v alone))
 
 pub returns-in-Ok-Beyond-default-false-clause-alone : goal.returns-in-Ok-Beyond-default-false-clause-alone
 returns-in-Ok-Beyond-default-false-clause-alone c = λ alone.
@@ -128,4 +128,4 @@ returns-in-Ok-Beyond-default-false-clause-alone c = λ alone.
     let then = then_of a v alone in
     let m = rw (c.in-Ok-Beyond-default-false.field-0-is, c.loop-here.invariant.0.key) at c.in-Ok-Beyond-default-false.ensures.alone in
     let n : c.visit.new.self.used ≡ c.loop-here.self.used + 5 = rw c.in-Ok-Beyond-default-false.field-0-is at c.in-Ok-Beyond-default-false.ensures.count in
-    sight_absent c.args.self.now.pass.now.trace c.loop-here.self.pass.now.trace c.visit.new.self.pass.now.trace c.args.self.now.key c.args.self.now.used c.loop-here.self.used c.visit.new.self.used c.loop-here.pred c.loop-here.here c.in-Ok-Beyond-default-false.field-0-0 near (c.visit.ensures.looks then) n (m near.place.fresh near.there near.place.stands then)
+    sight_absent c.args.self.now.at.pass.now.trace c.loop-here.self.at.pass.now.trace c.visit.new.self.at.pass.now.trace c.args.self.now.key c.args.self.now.used c.loop-here.self.used c.visit.new.self.used c.loop-here.pred c.loop-here.here c.in-Ok-Beyond-default-false.field-0-0 near (c.visit.ensures.looks then) n (m near.place.fresh near.there near.place.stands then)

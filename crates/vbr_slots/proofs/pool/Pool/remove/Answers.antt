@@ -1,7 +1,7 @@
 use Rattle.std.proofs.Common.{◌≡◌, ℕ, suc, ◌+◌, drop, refl, ap, ◌∙◌, arith}
 use Rattle.std.specs.List.{remove}
 use Rattle.vbr_slots.specs.Pools.{PoolView}
-use Rattle.vbr_slots.proofs.Moving.{first_left, later_left}
+use Rattle.vbr_slots.proofs.Moving.{first_left}
 use Rattle.vbr_slots.proofs.pool.Pool.remove.Goals as goal
 
 pub returns-then-at-eq0 : goal.returns-then-at-eq0
@@ -10,8 +10,3 @@ returns-then-at-eq0 c =
     let here : 0 ≡ c.args.at = omega (arith, c.if-at-eq0.true) in
     let on : p.first + 1 ≡ suc p.first = omega arith in
     record { items = ap (λ (n : ℕ). drop n p.cells.items) on ∙ first_left p.first p.cells.items ∙ ap (remove (drop p.first p.cells.items)) here ∙ ap (λ (v : PoolView). remove v.items c.args.at) c.self.view_is }
-
-pub returns-else-at-eq0 : goal.returns-else-at-eq0
-returns-else-at-eq0 c =
-    let p = c.self.inside in
-    record { items = ap (drop p.first) c.remove.ensures.items ∙ later_left p.first c.args.at _ p.cells.items refl c.self.invariant.left ∙ ap (λ (v : PoolView). remove v.items c.args.at) c.self.view_is }

@@ -41,15 +41,8 @@ invariant_of-runner c =
       epoch = λ k. (know_after (same k) (sym empty k) who).epoch;
     }
 
-pub invariant_of-counted : goal.invariant_of-counted
-invariant_of-counted c =
-    let s = c.split_seat-next.ensures in
-    let i = c.loop-who.invariant in
-    let empty = first_empty c.args.keys.now c.loop-who.who c.args.opening.passes c.loop-who.seat.me c.split_seat-next.new.seat.me c.split_seat-next.result.me c.loop-who-test.true i.1 s.2 s.4 in
-    record { steps = ap (λ es. counted_steps (steps_in c.loop-who.who es)) (sym empty) }
-
-pub invariant_of-push : goal.invariant_of-push
-invariant_of-push c =
+pub invariant_of-stepper : goal.invariant_of-stepper
+invariant_of-stepper c =
     let shape : Dimensions = record c.args.opening.shape { keys = c.args.keys.now } in
     let s = c.split_seat-next.ensures in
     let i = c.loop-who.invariant in
@@ -63,6 +56,13 @@ invariant_of-push c =
         in_hand = tt;
       };
     }
+
+pub invariant_of-push : goal.invariant_of-push
+invariant_of-push c =
+    let s = c.split_seat-next.ensures in
+    let i = c.loop-who.invariant in
+    let empty = first_empty c.args.keys.now c.loop-who.who c.args.opening.passes c.loop-who.seat.me c.split_seat-next.new.seat.me c.split_seat-next.result.me c.loop-who-test.true i.1 s.2 s.4 in
+    record { steps = ap (λ es. counted_steps (steps_in c.loop-who.who es)) (sym empty) }
 
 pub loop-who-preserved : goal.loop-who-preserved
 loop-who-preserved c =

@@ -1,0 +1,13 @@
+//! Checked access by a pass at its table, where no step is counted: for calls that go on, and count
+//! their steps once for all. Each is as the call of the same name in this crate, which counts its own.
+pub mod confirming;
+pub mod marking;
+pub mod reading;
+pub mod unlinking;
+pub mod updating;
+
+pub use confirming::{confirm_absent, confirm_look_up, confirm_present};
+pub use marking::mark;
+pub use reading::{checkpoint, first, key_of, next};
+pub use unlinking::{steps_to_unlink, unlink};
+pub use updating::update;

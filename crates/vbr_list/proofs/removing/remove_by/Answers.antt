@@ -1,0 +1,149 @@
+use Rattle.std.proofs.Common.{rules, sym, ◌∙◌, arith, ap}
+use Rattle.vbr_slots.proofs.Lemmas.{quiet_on, same_on}
+use Rattle.vbr_pools.proofs.Lemmas.{counts_on, none_on, took_all}
+use Rattle.vbr_words.specs.Dimensions.{Dimensions}
+use Rattle.vbr_list.proofs.Going.{bucket_is, call_on, goes_on, tries_on, within_call, within_of}
+use Rattle.vbr_list.proofs.LonePasses.{alone}
+use Rattle.std.proofs.Common.{◌≡◌, ◌+◌, ◌*◌, ◌<◌, ◌≤◌, true, false}
+use Rattle.vbr_list.specs.Budgets.{listed_for}
+use Rattle.vbr_list.proofs.Nearing.{at_first, first_lost, first_of, then_of}
+use Rattle.vbr_list.proofs.Preparing.{made_since}
+use Rattle.vbr_access.proofs.Lemmas.{made_safe, quiet_safe}
+use Rattle.vbr_list.proofs.removing.remove_by.Goals as goal
+
+pub returns-in_default-clause-steps : goal.returns-in_default-clause-steps
+returns-in_default-clause-steps c =
+    let same : c.at-1.given.0 ≡ c.search.new.self.at.pass.now = search rules in
+    rw same (within_of c.search.new.self.used c.args.budget (rw c.loop-found.invariant.2 at (within_call (call_on c.loop-found.invariant.0 c.search.ensures.call))) (goes_on c.loop-found.invariant.3.goes c.search.ensures.goes).counts)
+
+pub returns-then-not-affords-clause-quiet : goal.returns-then-not-affords-clause-quiet
+returns-then-not-affords-clause-quiet c =
+    let same : c.at-then-not-affords-1.given.0 ≡ c.search.new.self.at.pass.now = search rules in
+    rw same ((goes_on c.loop-found.invariant.3.goes c.search.ensures.goes).quiet)
+
+pub returns-then-not-affords-clause-steps : goal.returns-then-not-affords-clause-steps
+returns-then-not-affords-clause-steps c =
+    let same : c.at-then-not-affords-1.given.0 ≡ c.search.new.self.at.pass.now = search rules in
+    rw same (within_of c.search.new.self.used c.args.budget (rw c.loop-found.invariant.2 at (within_call (call_on c.loop-found.invariant.0 c.search.ensures.call))) (goes_on c.loop-found.invariant.3.goes c.search.ensures.goes).counts)
+
+pub returns-in-Ok-clause-steps : goal.returns-in-Ok-clause-steps
+returns-in-Ok-clause-steps c =
+    let same : c.at-in-Ok-1.given.0 ≡ c.settle_remove.new.self.at.pass.now = search rules in
+    rw same (within_of c.settle_remove.new.self.used c.args.budget (rw c.loop-found.invariant.2 at (within_call (call_on (call_on c.loop-found.invariant.0 c.search.ensures.call) c.settle_remove.ensures.call))) (counts_on (goes_on c.loop-found.invariant.3.goes c.search.ensures.goes).counts c.settle_remove.ensures.counts))
+
+pub loop-found-preserved : goal.loop-found-preserved
+loop-found-preserved c =
+    let s = c.settle_remove.ensures in
+    let found = tries_on c.loop-found.invariant.3 c.search.ensures.goes c.search.ensures.more (rw c.loop-found.invariant.2 at (within_call (call_on c.loop-found.invariant.0 c.search.ensures.call))) in
+    let low = s.used.0 in
+    let a = c.search.ensures.goes.quiet in
+    let b = c.in_default-settle_remove.ensures.quiet in
+    let same = call_on (call_on c.loop-found.invariant.0 c.search.ensures.call) c.settle_remove.ensures.call in (
+      same,
+      c.loop-found.invariant.1,
+      c.loop-found.invariant.2,
+      tries_on found (record { quiet = c.in_default-settle_remove.ensures.quiet; counts = s.counts; hand = s.hand }) (omega arith) (rw c.loop-found.invariant.2 at (within_call same)),
+      first_lost c.args.at.now.pass.now c.loop-found.call.at.pass.now c.settle_remove.new.self.at.pass.now c.loop-found.invariant.4 c.loop-found.invariant.3.goes.quiet (quiet_on a b)
+          (λ alone. let f = c.in-Some.ensures.alone (first_of a b alone) in c.in_default-settle_remove.ensures.wins f.pred.stands f.cur (then_of a b alone)),
+    )
+
+pub returns-in-Ok-clause-alone : goal.returns-in-Ok-clause-alone
+returns-in-Ok-clause-alone c =
+    alone c.law.ensures.shape c.law.ensures.low (made_since (quiet_on c.loop-found.invariant.3.goes.quiet c.search.ensures.goes.quiet) (rw (c.search.ensures.call.key ∙ c.loop-found.invariant.0.key ∙ c.loop-found.invariant.1) at c.in-Ok.ensures.made))
+
+pub returns-in_default-clause-same : goal.returns-in_default-clause-same
+returns-in_default-clause-same c =
+    let same : c.at-1.given.0 ≡ c.search.new.self.at.pass.now = search rules in
+    rw same ((quiet_on c.loop-found.invariant.3.goes.quiet c.search.ensures.goes.quiet).same)
+
+pub returns-then-not-affords-clause-same : goal.returns-then-not-affords-clause-same
+returns-then-not-affords-clause-same c =
+    let same : c.at-then-not-affords-1.given.0 ≡ c.search.new.self.at.pass.now = search rules in
+    rw same ((quiet_on c.loop-found.invariant.3.goes.quiet c.search.ensures.goes.quiet).same)
+
+pub returns-in-Ok-clause-same : goal.returns-in-Ok-clause-same
+returns-in-Ok-clause-same c =
+    let same : c.at-in-Ok-1.given.0 ≡ c.settle_remove.new.self.at.pass.now = search rules in
+    rw same (same_on (quiet_on c.loop-found.invariant.3.goes.quiet c.search.ensures.goes.quiet).same c.in-Ok.ensures.made.same)
+
+pub returns-in_default-clause-takes_no_slot : goal.returns-in_default-clause-takes_no_slot
+returns-in_default-clause-takes_no_slot c =
+    let same : c.at-1.given.0 ≡ c.search.new.self.at.pass.now = search rules in
+    rw same ((goes_on c.loop-found.invariant.3.goes c.search.ensures.goes).hand.takes_no_slot)
+
+pub returns-then-not-affords-clause-takes_no_slot : goal.returns-then-not-affords-clause-takes_no_slot
+returns-then-not-affords-clause-takes_no_slot c =
+    let same : c.at-then-not-affords-1.given.0 ≡ c.search.new.self.at.pass.now = search rules in
+    rw same ((goes_on c.loop-found.invariant.3.goes c.search.ensures.goes).hand.takes_no_slot)
+
+pub returns-in-Ok-clause-takes_no_slot : goal.returns-in-Ok-clause-takes_no_slot
+returns-in-Ok-clause-takes_no_slot c =
+    let same : c.at-in-Ok-1.given.0 ≡ c.settle_remove.new.self.at.pass.now = search rules in
+    rw same (none_on (goes_on c.loop-found.invariant.3.goes c.search.ensures.goes).hand.takes_no_slot c.settle_remove.ensures.hand.takes_no_slot)
+
+pub returns-in_default-clause-within : goal.returns-in_default-clause-within
+returns-in_default-clause-within c =
+    let same : c.at-1.given.0 ≡ c.search.new.self.at.pass.now = search rules in
+    rw same (λ alone.
+    let x : c.args.budget < 0 + 9 * listed_for c.args.at.now.pass.now.trace c.args.key + 11 = at_first (λ q since. c.args.budget < since + 9 * listed_for q.trace c.args.key + 11) c.args.at.now.pass.now c.loop-found.call.at.pass.now c.search.new.self.at.pass.now c.loop-found.invariant.4 c.loop-found.invariant.3.goes.quiet c.search.ensures.goes.quiet alone (rw ((c.loop-found.invariant.0.key ∙ c.loop-found.invariant.1), (c.loop-found.invariant.0.budget ∙ c.loop-found.invariant.2)) at c.in_default.ensures.short) in
+    omega (arith, x))
+
+pub returns-then-not-affords-clause-within : goal.returns-then-not-affords-clause-within
+returns-then-not-affords-clause-within c =
+    let same : c.at-then-not-affords-1.given.0 ≡ c.search.new.self.at.pass.now = search rules in
+    rw same (λ alone.
+    let short : ¬ (c.search.new.self.used + 8 ≤ c.search.new.self.budget) = λ h. (let f = c.if-not-affords.true in let z = c.affords.ensures.1 h in let w : false ≡ true = sym f ∙ z in cc) in
+    let x : c.args.budget < 0 + 9 * listed_for c.args.at.now.pass.now.trace c.args.key + 11 = at_first (λ q since. c.args.budget < since + 9 * listed_for q.trace c.args.key + 11) c.args.at.now.pass.now c.loop-found.call.at.pass.now c.search.new.self.at.pass.now c.loop-found.invariant.4 c.loop-found.invariant.3.goes.quiet c.search.ensures.goes.quiet alone
+    (λ then. let f = (rw (c.loop-found.invariant.0.key ∙ c.loop-found.invariant.1) at c.in-Some.ensures.alone then).paid in let e = (c.search.ensures.call.budget ∙ c.loop-found.invariant.0.budget ∙ c.loop-found.invariant.2) in omega (arith, f, short, e)) in
+    omega (arith, x))
+
+pub returns-in_default-clause-safe : goal.returns-in_default-clause-safe
+returns-in_default-clause-safe c =
+    let same : c.at-1.given.0 ≡ c.search.new.self.at.pass.now = search rules in
+    rw same (quiet_safe c.args.at.now.pass.now c.law.ensures (quiet_on c.loop-found.invariant.3.goes.quiet c.search.ensures.goes.quiet))
+
+pub returns-then-not-affords-clause-safe : goal.returns-then-not-affords-clause-safe
+returns-then-not-affords-clause-safe c =
+    let same : c.at-then-not-affords-1.given.0 ≡ c.search.new.self.at.pass.now = search rules in
+    rw same (quiet_safe c.args.at.now.pass.now c.law.ensures (quiet_on c.loop-found.invariant.3.goes.quiet c.search.ensures.goes.quiet))
+
+pub returns-in-Ok-clause-safe : goal.returns-in-Ok-clause-safe
+returns-in-Ok-clause-safe c =
+    let same : c.at-in-Ok-1.given.0 ≡ c.settle_remove.new.self.at.pass.now = search rules in
+    rw same (made_safe c.args.at.now.pass.now c.law.ensures (made_since (quiet_on c.loop-found.invariant.3.goes.quiet c.search.ensures.goes.quiet) (rw (c.search.ensures.call.key ∙ c.loop-found.invariant.0.key ∙ c.loop-found.invariant.1) at c.in-Ok.ensures.made)))
+
+pub invariant_of-call-2 : goal.invariant_of-call-2
+invariant_of-call-2 c = record {
+  of_key = bucket_is c.args.at.now.pass.now.trace.shape _ c.shape.result c.bucket_of.result c.args.key c.args.at.now.own.1 c.shape.ensures.bare c.bucket_of.ensures.bucket;
+  in_shape = let same = ap (λ (d : Dimensions). d.buckets) c.shape.ensures.bare in let low = c.bucket_of.ensures.in_shape in omega (arith, same, low);
+  within = omega arith;
+}
+
+pub returns-in-Ok-clause-made : goal.returns-in-Ok-clause-made
+returns-in-Ok-clause-made c =
+    let same : c.at-in-Ok-1.given.0 ≡ c.settle_remove.new.self.at.pass.now = search rules in
+    rw same (made_since (quiet_on c.loop-found.invariant.3.goes.quiet c.search.ensures.goes.quiet) (rw (c.search.ensures.call.key ∙ c.loop-found.invariant.0.key ∙ c.loop-found.invariant.1) at c.in-Ok.ensures.made))
+
+pub returns-in_default-clause-refused : goal.returns-in_default-clause-refused
+returns-in_default-clause-refused c =
+    let same : c.at-1.given.0 ≡ c.search.new.self.at.pass.now = search rules in
+    rw same (record {
+      took = took_all (goes_on c.loop-found.invariant.3.goes c.search.ensures.goes).counts;
+      within = rw c.loop-found.invariant.2 at (within_call (call_on c.loop-found.invariant.0 c.search.ensures.call));
+      short = rw (c.loop-found.invariant.0.budget ∙ c.loop-found.invariant.2) at c.in_default.ensures.tired;
+    })
+
+pub returns-in_default-clause-took : goal.returns-in_default-clause-took
+returns-in_default-clause-took c =
+    let same : c.at-1.given.0 ≡ c.search.new.self.at.pass.now = search rules in
+    rw same (took_all (goes_on c.loop-found.invariant.3.goes c.search.ensures.goes).counts)
+
+pub returns-then-not-affords-clause-took : goal.returns-then-not-affords-clause-took
+returns-then-not-affords-clause-took c =
+    let same : c.at-then-not-affords-1.given.0 ≡ c.search.new.self.at.pass.now = search rules in
+    rw same (took_all (goes_on c.loop-found.invariant.3.goes c.search.ensures.goes).counts)
+
+pub returns-in-Ok-clause-took : goal.returns-in-Ok-clause-took
+returns-in-Ok-clause-took c =
+    let same : c.at-in-Ok-1.given.0 ≡ c.settle_remove.new.self.at.pass.now = search rules in
+    rw same (took_all (counts_on (goes_on c.loop-found.invariant.3.goes c.search.ensures.goes).counts c.settle_remove.ensures.counts))

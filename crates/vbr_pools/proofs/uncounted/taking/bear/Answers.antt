@@ -1,0 +1,8 @@
+use Rattle.std.proofs.Common.{◌≡◌, ap, ◌∙◌}
+use Rattle.vbr_pools.proofs.Births.{is_born}
+use Rattle.vbr_pools.proofs.uncounted.taking.bear.Goals as goal
+
+pub returns-clause-ok : goal.returns-clause-ok
+returns-clause-ok c =
+    let hand : c.of.result ≡ record { slot = c.args.slot; birth = _ } = c.of.ensures ∙ ap (λ e. record { slot = c.args.slot; birth = e }) c.epoch.ensures in
+    is_born c.args.at.now.pass.now c.store_birth.new.self c.args.slot c.store_birth.ensures.step c.args.budget c.args.used c.of.result c.requires.empty_hand c.requires.below (c.affords.ensures.0 c.if-not-affords.false) c.pool-pool.ensures.room c.pool-pool.ensures.own.apart c.store_birth.ensures.pool c.store_birth.ensures.hand hand

@@ -1,0 +1,10 @@
+use Rattle.std.proofs.Common.{drop, refl, ap, ◌∙◌}
+use Rattle.std.specs.List.{remove}
+use Rattle.vbr_slots.specs.Pools.{PoolView}
+use Rattle.vbr_slots.proofs.Moving.{later_left}
+use Rattle.vbr_slots.proofs.pool.Pool.remove_moved.Goals as goal
+
+pub returns : goal.returns
+returns c =
+    let p = c.self.inside in
+    record { items = ap (drop p.first) c.remove.ensures.items ∙ later_left p.first c.args.at _ p.cells.items refl c.self.invariant.left ∙ ap (λ (v : PoolView). remove v.items c.args.at) c.self.view_is }

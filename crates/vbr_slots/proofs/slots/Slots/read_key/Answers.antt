@@ -1,6 +1,0 @@
-use Rattle.std.proofs.Common.{refl}
-use Rattle.vbr_slots.proofs.ReadsInRows.{reads}
-use Rattle.vbr_slots.proofs.slots.Slots.read_key.Goals as goal
-
-pub returns-clause-reads : goal.returns-clause-reads
-returns-clause-reads c = reads c.args.pass.now _ c.load_and_epoch.ensures.0 c.pass.view_is c.load_and_epoch.ensures.1 c.load_and_epoch.ensures.2 refl refl

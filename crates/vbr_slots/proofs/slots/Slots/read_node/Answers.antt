@@ -1,7 +1,0 @@
-use Rattle.std.proofs.Common.{refl}
-use Rattle.vbr_slots.proofs.ReadsInRows.{reads_node}
-use Rattle.vbr_slots.proofs.slots.Slots.read_node.Goals as goal
-
-pub returns-clause-reads : goal.returns-clause-reads
-returns-clause-reads c =
-    reads_node c.args.pass.now _ c.load_node.ensures.0 c.load_node.ensures.1 c.pass.view_is c.load_node.ensures.2 c.load_node.ensures.3 c.load_node.ensures.4 refl refl

@@ -1,0 +1,10 @@
+use Rattle.std.proofs.Common.{◌≡◌, subst}
+use Rattle.vbr_core.specs.Acceptance.{MayBear, stamp_in}
+use Rattle.vbr_slots.specs.Views.{PassView, knows}
+use Rattle.vbr_slots.proofs.Passes.{stamp_loaded}
+use Rattle.vbr_slots.proofs.stepper.Stepper.load_stamp.Goals as goal
+
+pub returns-clause-known : goal.returns-clause-known
+returns-clause-known c =
+    subst (λ (v : PassView). MayBear ((knows v.trace).own c.args.slot) → c.load.result ≡ stamp_in ((knows v.trace).own c.args.slot)) c.self.view_is
+    (stamp_loaded c.self.inside.runner c.load.new.runner c.args.slot c.load.result c.self.invariant.shape c.load.ensures)

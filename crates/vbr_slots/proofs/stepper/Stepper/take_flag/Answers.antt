@@ -1,0 +1,22 @@
+use Rattle.std.proofs.Common.{sym, ◌∙◌, subst}
+use Rattle.vbr_words.specs.Dimensions.{IsShape}
+use Rattle.vbr_core.specs.Acceptance.{MayBear}
+use Rattle.vbr_slots.specs.Views.{knows}
+use Rattle.vbr_slots.proofs.Passes.{taken_new, pool_taken}
+use Rattle.vbr_slots.proofs.Pools.{pooled_may}
+use Rattle.vbr_slots.proofs.stepper.Stepper.take_flag.Goals as goal
+
+pub invariant_of-self : goal.invariant_of-self
+invariant_of-self c =
+    let p = c.self.inside in
+    let d = c.fetch_and-found.ensures in
+    record {
+      shape = subst IsShape (sym d.same.1) c.self.invariant.shape;
+      pool = pool_taken p.runner c.fetch_and-found.new.runner c.args.slot c.fetch_and-found.result p.pool.items p.hand c.self.invariant.shape d c.self.invariant.pool;
+    }
+
+pub returns-then-has_flag-clause-outside : goal.returns-then-has_flag-clause-outside
+returns-then-has_flag-clause-outside c = λ has.
+    let p = c.self.inside in
+    let new = taken_new p.runner c.fetch_and-found.new.runner c.args.slot c.fetch_and-found.result c.self.invariant.shape c.fetch_and-found.ensures (sym c.has_flag.ensures ∙ c.if-has_flag.true) in
+    subst MayBear new (pooled_may p.runner.shape (knows p.runner) c.args.slot p.pool.items p.hand c.self.invariant.pool has)

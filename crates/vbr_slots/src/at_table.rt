@@ -1,0 +1,36 @@
+//! A pass at its table.
+ghost use Rattle.std.specs.Prelude.{◌≡◌};
+ghost use Rattle.vbr_slots.specs.PassLaw.{PassLaw};
+ghost use Rattle.vbr_slots.specs.Views.{IsOf, knows};
+
+use crate::slots::Slots;
+use crate::stepper::Stepper;
+
+/// A pass at its table, for a call: the table, and what makes the steps of the pass there. A pass lends
+/// it ([`crate::Pass::at`]), and counts the steps of the whole call at once.
+#[derive(Drop)]
+pub struct AtTable<'c> {
+    /// The table.
+    pub slots: &'c Slots,
+    /// What makes the steps of the pass.
+    pub pass: &'c mut Stepper,
+    ghost own: { IsOf pass.now.trace slots.now },
+}
+
+impl AtTable<'_> {
+    /// The law of passes, as [`crate::Pass::law`]. It does nothing.
+    #[inline]
+    pub fn law(&self)
+        ensures { PassLaw self.now.pass.now }
+    {
+        self.pass.law();
+    }
+
+    /// The last epoch that the pass read; 1 at the opening.
+    #[inline]
+    pub fn epoch(&self) -> u64
+        ensures { result ≡ (knows self.now.pass.now.trace).epoch }
+    {
+        self.pass.epoch()
+    }
+}

@@ -1,0 +1,62 @@
+//! The steps that make a new incarnation in a slot of the pass.
+ghost use Rattle.std.specs.Prelude.{◌≡◌, ◌<◌, Some};
+ghost use Rattle.vbr_words.specs.Words.{link_of, word_of};
+ghost use Rattle.vbr_core.specs.Acceptance.{MayBear, IsNextIn, IsNextHeld, stamp_in};
+ghost use Rattle.vbr_core.specs.Learning.{link_written};
+ghost use Rattle.vbr_core.specs.declared.event.Step.TheVariants.{StoreBirth, StoreKey, StoreLink};
+ghost use Rattle.vbr_slots.specs.Pools.{HasRoomFor, without};
+ghost use Rattle.vbr_slots.specs.Views.{IsOf, Did, KeepsPool, knows};
+
+use crate::slots::Slots;
+use crate::stepper::Stepper;
+use vbr_core::Step;
+use vbr_words::{Place, decode};
+
+impl Stepper {
+    /// As [`Slots::store_birth`].
+    #[inline]
+    pub fn store_birth(&mut self, slots: &Slots, slot: u32)
+        requires own { IsOf self.old.trace slots.now }
+        requires slot { slot < slots.now.shape.slots }
+        requires may_bear { MayBear ((knows self.old.trace).own slot) }
+        requires above_stamp { stamp_in ((knows self.old.trace).own slot) < (knows self.old.trace).epoch }
+        requires hand { HasRoomFor self.old.hand slot }
+        ensures step { let epoch = (knows self.old.trace).epoch in Did (StoreBirth slot epoch) self.old.trace self.new.trace epoch }
+        ensures pool { self.new.pool ≡ without slot self.old.pool }
+        ensures hand { self.new.hand ≡ Some slot }
+    {
+        self.leave_pool(slot);
+        let birth = self.epoch();
+        let step = Step::StoreBirth { slot, birth };
+        slots.store(&mut self.runner, step, Place::Birth(slot), birth);
+        self.hand = Some(slot);
+    }
+
+    /// As [`Slots::store_key`].
+    #[inline]
+    pub fn store_key(&mut self, slots: &Slots, slot: u32, key: u64)
+        requires own { IsOf self.old.trace slots.now }
+        requires in_hand { self.old.hand ≡ Some slot }
+        ensures step { Did (StoreKey slot key) self.old.trace self.new.trace key }
+        ensures pool { KeepsPool self.old self.new }
+    {
+        let step = Step::StoreKey { slot, key };
+        slots.store(&mut self.runner, step, Place::Key(slot), key);
+    }
+
+    /// As [`Slots::store_link`].
+    #[inline]
+    pub fn store_link(&mut self, slots: &Slots, slot: u32, word: u64)
+        requires own { IsOf self.old.trace slots.now }
+        requires in_hand { self.old.hand ≡ Some slot }
+        requires next_in { IsNextIn slots.now.shape (link_of word).slot }
+        requires next_held { IsNextHeld (knows self.old.trace).checked (link_of word).slot }
+        requires word { word ≡ word_of (link_written (knows self.old.trace) (StoreLink slot (link_of word).slot)) }
+        ensures step { Did (StoreLink slot (link_of word).slot) self.old.trace self.new.trace word }
+        ensures pool { KeepsPool self.old self.new }
+    {
+        let next = decode(word).slot;
+        let step = Step::StoreLink { slot, next };
+        slots.store(&mut self.runner, step, Place::LinkOf(slot), word);
+    }
+}

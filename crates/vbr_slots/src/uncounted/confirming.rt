@@ -1,0 +1,114 @@
+//! The steps that answer a call by one more load of a link word.
+ghost use Rattle.std.specs.Prelude.{◌≡◌, ◌≢◌, ◌<◌, false, MatchResult};
+ghost use Rattle.vbr_words.specs.Words.{link_of};
+ghost use Rattle.vbr_core.specs.Acceptance.{Accepts, IsAtIn, HasChecked, IsInRange};
+ghost use Rattle.vbr_core.specs.declared.event.Step.TheVariants.{ConfirmPresent, ConfirmAbsent};
+ghost use Rattle.vbr_core.specs.declared.history.Op.TheVariants.{Remove};
+ghost use Rattle.vbr_slots.specs.LookUps.{look_up};
+ghost use Rattle.vbr_slots.specs.Views.{IsOf, Did, KeepsPool, knows};
+
+use crate::slots::Slots;
+use crate::stepper::Stepper;
+use crate::stepping::place_of_link;
+use vbr_core::{Op, Step};
+use vbr_words::{At, Place};
+
+impl Stepper {
+    /// As [`Slots::confirm_present`].
+    #[inline]
+    pub fn confirm_present(
+        &mut self,
+        slots: &Slots,
+        op: Op,
+        slot: u32,
+        expected: u64,
+    ) -> Result<(), u64>
+        requires own { IsOf self.old.trace slots.now }
+        requires slot { slot < slots.now.shape.slots }
+        requires op { op ≢ Remove }
+        requires held { HasChecked slots.now.shape (knows self.old.trace) (ConfirmPresent op slot expected) }
+        requires unmarked { (link_of expected).mark ≡ false }
+        ensures step { MatchResult result
+            (λ _. Did (ConfirmPresent op slot expected) self.old.trace self.new.trace expected)
+            (λ found. Did (ConfirmPresent op slot expected) self.old.trace self.new.trace found × (found ≢ expected)) }
+        ensures pool { KeepsPool self.old self.new }
+    {
+        let step = Step::ConfirmPresent { op, slot, expected };
+        match slots.load(&mut self.runner, step, Place::LinkOf(slot)) {
+            found if found == expected => Ok(()),
+            found => Err(found),
+        }
+    }
+
+    /// As [`Slots::confirm_absent`].
+    #[inline]
+    pub fn confirm_absent(
+        &mut self,
+        slots: &Slots,
+        op: Op,
+        key: u64,
+        at: At,
+        expected: u64,
+    ) -> Result<(), u64>
+        requires own { IsOf self.old.trace slots.now }
+        requires at { IsAtIn slots.now.shape at }
+        requires held { HasChecked slots.now.shape (knows self.old.trace) (ConfirmAbsent op key at expected) }
+        requires in_range { IsInRange slots.now.shape (knows self.old.trace) (ConfirmAbsent op key at expected) }
+        ensures step { MatchResult result
+            (λ _. Did (ConfirmAbsent op key at expected) self.old.trace self.new.trace expected)
+            (λ found. Did (ConfirmAbsent op key at expected) self.old.trace self.new.trace found × (found ≢ expected)) }
+        ensures pool { KeepsPool self.old self.new }
+    {
+        let step = Step::ConfirmAbsent {
+            op,
+            key,
+            at,
+            expected,
+        };
+        match slots.load(&mut self.runner, step, place_of_link(at)) {
+            found if found == expected => Ok(()),
+            found => Err(found),
+        }
+    }
+
+    /// As [`Slots::confirm_look_up`].
+    #[inline]
+    pub fn confirm_look_up(
+        &mut self,
+        slots: &Slots,
+        present: bool,
+        key: u64,
+        at: At,
+        expected: u64,
+    ) -> Result<(), u64>
+        requires own { IsOf self.old.trace slots.now }
+        requires accepted { Accepts slots.now.shape (knows self.old.trace) (look_up present key at expected) }
+        ensures step { MatchResult result
+            (λ _. Did (look_up present key at expected) self.old.trace self.new.trace expected)
+            (λ found. Did (look_up present key at expected) self.old.trace self.new.trace found × (found ≢ expected)) }
+        ensures pool { KeepsPool self.old self.new }
+    {
+        let step = step_of_look_up(present, key, at, expected);
+        match slots.load_at(&mut self.runner, step, at) {
+            found if found == expected => Ok(()),
+            found => Err(found),
+        }
+    }
+}
+
+// The step that answers a look-up.
+#[inline]
+fn step_of_look_up(present: bool, key: u64, at: At, expected: u64) -> Step
+    ensures { result ≡ look_up present key at expected }
+{
+    let op = Op::Has;
+    match at {
+        At::Slot(slot) if present => Step::ConfirmPresent { op, slot, expected },
+        _ => Step::ConfirmAbsent {
+            op,
+            key,
+            at,
+            expected,
+        },
+    }
+}

@@ -1,0 +1,36 @@
+//! The steps on the epoch.
+ghost use Rattle.std.specs.Prelude.{◌≡◌, ◌≢◌, ℕ, ◌<◌, ◌≤◌, MatchBool};
+ghost use Rattle.vbr_core.specs.declared.event.Step.TheVariants.{ReadEpoch, Advance};
+ghost use Rattle.vbr_slots.specs.Views.{IsOf, Did, KeepsPool};
+
+use crate::slots::Slots;
+use crate::stepper::Stepper;
+use vbr_core::Step;
+use vbr_words::Place;
+
+impl Stepper {
+    /// As [`Slots::read_epoch`].
+    #[inline]
+    pub fn read_epoch(&mut self, slots: &Slots) -> u64
+        requires own { IsOf self.old.trace slots.now }
+        ensures step { Did ReadEpoch self.old.trace self.new.trace result }
+        ensures pool { KeepsPool self.old self.new }
+    {
+        slots.load(&mut self.runner, Step::ReadEpoch, Place::Epoch)
+    }
+
+    /// As [`Slots::advance`].
+    #[inline]
+    pub fn advance(&mut self, slots: &Slots, from: u64) -> bool
+        requires own { IsOf self.old.trace slots.now }
+        requires some { 1 ≤ from }
+        requires below_last { from < slots.now.shape.last_epoch }
+        ensures step { MatchBool result
+            (Did (Advance from) self.old.trace self.new.trace from)
+            ((found : ℕ) × Did (Advance from) self.old.trace self.new.trace found × (found ≢ from)) }
+        ensures pool { KeepsPool self.old self.new }
+    {
+        let step = Step::Advance { from };
+        slots.exchange(&mut self.runner, step, Place::Epoch, from, from + 1) == from
+    }
+}

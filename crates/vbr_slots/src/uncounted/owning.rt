@@ -1,0 +1,81 @@
+//! The steps that take a slot out of the shared pool, put it back, and read and store its stamp.
+ghost use Rattle.std.specs.Prelude.{◌≡◌, ℕ, ◌<◌, true, false, MatchResult, OnOk, IsSome, Contains};
+ghost use Rattle.vbr_words.specs.Flags.{has_flag};
+ghost use Rattle.vbr_core.specs.Acceptance.{IsFree, IsReread, MayBear, stamp_in};
+ghost use Rattle.vbr_core.specs.declared.event.Step.TheVariants.{LoadStamp, StoreStamp, Raise, TakeFlag};
+ghost use Rattle.vbr_slots.specs.Pools.{without};
+ghost use Rattle.vbr_slots.specs.Views.{IsOf, Did, KeepsPool, knows};
+
+use crate::slots::Slots;
+use crate::stepper::Stepper;
+use vbr_core::Step;
+use vbr_words::Place;
+use vbr_words::flags::{all_but, flag_of, has_flag, word_of_flag};
+
+impl Stepper {
+    /// As [`Slots::load_stamp`].
+    #[inline]
+    pub fn load_stamp(&mut self, slots: &Slots, slot: u32) -> u64
+        requires own { IsOf self.old.trace slots.now }
+        requires slot { slot < slots.now.shape.slots }
+        requires owned { IsSome ((knows self.old.trace).own slot) }
+        ensures step { Did (LoadStamp slot) self.old.trace self.new.trace result }
+        ensures known { MayBear ((knows self.old.trace).own slot) → result ≡ stamp_in ((knows self.old.trace).own slot) }
+        ensures pool { KeepsPool self.old self.new }
+    {
+        slots.load(
+            &mut self.runner,
+            Step::LoadStamp { slot },
+            Place::Stamp(slot),
+        )
+    }
+
+    /// As [`Slots::store_stamp`].
+    #[inline]
+    pub fn store_stamp(&mut self, slots: &Slots, slot: u32)
+        requires own { IsOf self.old.trace slots.now }
+        requires slot { slot < slots.now.shape.slots }
+        requires reread { IsReread ((knows self.old.trace).own slot) }
+        ensures step { let epoch = (knows self.old.trace).epoch in Did (StoreStamp slot epoch) self.old.trace self.new.trace epoch }
+        ensures pool { KeepsPool self.old self.new }
+    {
+        let stamp = self.epoch();
+        let step = Step::StoreStamp { slot, stamp };
+        slots.store(&mut self.runner, step, Place::Stamp(slot), stamp);
+    }
+
+    /// As [`Slots::raise`].
+    #[inline]
+    pub fn raise(&mut self, slots: &Slots, slot: u32)
+        requires own { IsOf self.old.trace slots.now }
+        requires slot { slot < slots.now.shape.slots }
+        requires free { IsFree ((knows self.old.trace).own slot) }
+        ensures step { (found : ℕ) × Did (Raise slot) self.old.trace self.new.trace found }
+        ensures pool { self.new.pool ≡ without slot self.old.pool }
+        ensures hand { self.new.hand ≡ self.old.hand }
+    {
+        self.leave_pool(slot);
+        let place = Place::Flags(word_of_flag(slot));
+        slots.fetch_or(&mut self.runner, Step::Raise { slot }, place, flag_of(slot));
+    }
+
+    /// As [`Slots::take_flag`].
+    #[inline]
+    pub fn take_flag(&mut self, slots: &Slots, slot: u32) -> Result<(), u64>
+        requires own { IsOf self.old.trace slots.now }
+        requires slot { slot < slots.now.shape.slots }
+        ensures step { MatchResult result
+            (λ taken. (found : ℕ) × Did (TakeFlag slot) self.old.trace self.new.trace found × (has_flag found slot ≡ true))
+            (λ found. Did (TakeFlag slot) self.old.trace self.new.trace found × (has_flag found slot ≡ false)) }
+        ensures outside { OnOk result (¬ (Contains self.new.pool slot)) }
+        ensures pool { KeepsPool self.old self.new }
+    {
+        let place = Place::Flags(word_of_flag(slot));
+        let step = Step::TakeFlag { slot };
+        let found = slots.fetch_and(&mut self.runner, step, place, all_but(slot));
+        if has_flag(found, slot) {
+            return Ok(());
+        }
+        Err(found)
+    }
+}

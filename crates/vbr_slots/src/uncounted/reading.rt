@@ -1,0 +1,52 @@
+//! Loads in a row that end with a read of the epoch. What they loaded is checked where the epoch is the
+//! one that the pass read before. Their steps are counted together.
+ghost use Rattle.std.specs.Prelude.{◌≡◌, ◌<◌, IsTrue};
+ghost use Rattle.vbr_core.specs.Acceptance.{IsAtIn};
+ghost use Rattle.vbr_core.specs.Knowledge.{holds, holds_at};
+ghost use Rattle.vbr_core.specs.declared.event.Step.TheVariants.{LoadLink, LoadKey};
+ghost use Rattle.vbr_slots.specs.Reads.{Reads, ReadsNode};
+ghost use Rattle.vbr_slots.specs.Views.{IsOf, KeepsPool, knows};
+
+use crate::slots::Slots;
+use crate::stepper::Stepper;
+use crate::stepping::place_of_link;
+use vbr_core::Step;
+use vbr_words::{At, Place};
+
+impl Stepper {
+    /// As [`Slots::read_link`].
+    #[inline]
+    pub fn read_link(&mut self, slots: &Slots, at: At) -> (u64, u64)
+        requires own { IsOf self.old.trace slots.now }
+        requires at { IsAtIn slots.now.shape at }
+        requires held { IsTrue (holds_at (knows self.old.trace).checked at) }
+        ensures reads { Reads (LoadLink at) self.old self.new result.0 result.1 }
+        ensures pool { KeepsPool self.old self.new }
+    {
+        slots.load_and_epoch(&mut self.runner, Step::LoadLink { at }, place_of_link(at))
+    }
+
+    /// As [`Slots::read_key`].
+    #[inline]
+    pub fn read_key(&mut self, slots: &Slots, slot: u32) -> (u64, u64)
+        requires own { IsOf self.old.trace slots.now }
+        requires slot { slot < slots.now.shape.slots }
+        requires held { IsTrue (holds (knows self.old.trace).checked slot) }
+        ensures reads { Reads (LoadKey slot) self.old self.new result.0 result.1 }
+        ensures pool { KeepsPool self.old self.new }
+    {
+        slots.load_and_epoch(&mut self.runner, Step::LoadKey { slot }, Place::Key(slot))
+    }
+
+    /// As [`Slots::read_node`].
+    #[inline]
+    pub fn read_node(&mut self, slots: &Slots, slot: u32) -> (u64, u64, u64)
+        requires own { IsOf self.old.trace slots.now }
+        requires slot { slot < slots.now.shape.slots }
+        requires held { IsTrue (holds (knows self.old.trace).checked slot) }
+        ensures reads { ReadsNode slot self.old self.new result.0 result.1 result.2 }
+        ensures pool { KeepsPool self.old self.new }
+    {
+        slots.load_node(&mut self.runner, slot)
+    }
+}
