@@ -5,7 +5,7 @@ use Rattle.std.proofs.lemmas.Bool.{cases_Bool}
 use Rattle.std.proofs.lemmas.Bool.Decides.{nat_tests}
 use Rattle.vbr_core.specs.Acceptance.{IsInHand, IsUnlinked}
 use Rattle.vbr_core.specs.Knowledge.{Know}
-use Rattle.vbr_core.specs.Learning.{birth_in_hand, read_epoch, reread}
+use Rattle.vbr_core.specs.Learning.{read_epoch, reread}
 use Rattle.vbr_core.specs.declared.knowledge.Holding.{Holding}
 use Rattle.vbr_core.specs.declared.knowledge.Holding.TheVariants.{Free, Unlinked, InHand}
 use Rattle.vbr_core.proofs.Lemmas.{put_here, put_other}
@@ -14,7 +14,6 @@ use Rattle.vbr_slots.specs.Pools.{OwnPool}
 use Rattle.vbr_slots.specs.Pools as pools
 use Rattle.vbr_slots.specs.Views.{PassView, knows}
 use Rattle.vbr_pools.specs.KeptSlots.{TakesNoSlot}
-use Rattle.vbr_pools.specs.Hands.{HandView, IsHandOf}
 use Rattle.vbr_pools.specs.Retiring.{is_kept, know_retired, pool_retired}
 use Rattle.vbr_pools.proofs.Lemmas.{none_on, none_refl}
 use Rattle.vbr_access.specs.Keeping.{KeepsOwn, Unlinks}
@@ -103,7 +102,3 @@ helped_hand {p} {q} {r} {slot} x u y known = record {
 }
 
 -- ---- the hand itself
-
--- the hand of a pass stays its hand
-pub hand_of_on : {p q : PassView} {hand : HandView} → IsHandOf p hand → KeepsHand p q → IsHandOf q hand
-hand_of_on {p} {q} {hand} x k = record { slot = k.hand ∙ x.slot; birth = ap birth_in_hand (k.in_hand hand.slot x.slot) ∙ x.birth }

@@ -21,9 +21,6 @@ use Rattle.vbr_list.proofs.Reaching.{stood_since, pred_on}
 
 -- ---- what was found
 
-pub end_found : {p r : Trace} (key used : ℕ) (pred : Held) → HasComeTo p r key pred → (link_of pred.word).slot ≡ None → IsFound p r key (record { pred = pred; cur = None; present = false; used = used })
-end_found key used pred x none = record { locates = record { pred = x.is; end = (none, refl) }; stood = x.stood; cur_stood = tt }
-
 pub cur_found : {p q r : Trace} (key used : ℕ) (pred cur : Held) (present : Bool) → HasComeTo p q key pred → Quiet p q → Quiet q r → Keeps (knows q) (knows r) → IsCur (knows r) key pred cur present → Stood q r cur →
     IsFound p r key (record { pred = pred; cur = Some cur; present = present; used = used })
 cur_found key used pred cur present x a b keeps y z = record {

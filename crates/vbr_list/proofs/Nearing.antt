@@ -1,5 +1,5 @@
 -- A pass that was alone comes nearer to the key, node by node.
-use Rattle.std.proofs.Common.{◌≡◌, ℕ, suc, ◌+◌, ◌≤◌, true, false, Option, Some, None, sym, ap, ◌∙◌, subst, arith, inl, inr}
+use Rattle.std.proofs.Common.{◌≡◌, ℕ, suc, ◌+◌, ◌≤◌, true, false, Option, Some, sym, ap, ◌∙◌, subst, arith, inl, inr}
 use Rattle.std.specs.Prelude.{Result, Ok, Err, IfOk, IfErr}
 use Rattle.vbr_words.specs.Dimensions.{Dimensions}
 use Rattle.vbr_words.specs.Words.{link_of}
@@ -70,9 +70,6 @@ one_behind p sound key pred x there stands s names =
 pub ahead_same : (p q : Trace) (key : ℕ) (at : At) → LeavesLists p q → q.shape ≡ p.shape → ahead q (bucket_of q.shape key) at ≡ ahead p (bucket_of p.shape key) at
 ahead_same p q key at l shape = ap (λ (s : Dimensions). ahead q (bucket_of s key) at) shape ∙ l.count (bucket_of p.shape key) at
 
-pub listed_same : (p q : Trace) (key : ℕ) → LeavesLists p q → q.shape ≡ p.shape → listed_for q key ≡ listed_for p key
-listed_same p q key l shape = ap (λ (s : Dimensions). ahead q (bucket_of s key) (Head (bucket_of s key))) shape ∙ l.count (bucket_of p.shape key) (Head (bucket_of p.shape key))
-
 pub visited : (p : PassView) → PassLaw p → (q r : Trace) (key : ℕ) (pred node : Held) → IsInside p.trace.shape (knows p.trace) key pred → IsThere p.trace pred → StandsNow p.trace pred → IsNext p.trace q pred (Some node) → LeavesLists p.trace r → r.shape ≡ p.trace.shape → ahead_for p.trace key pred ≡ suc (ahead_for r key node)
 visited p sound q r key pred node x there stands n l shape =
     one_behind p sound key pred x there stands n.0 n.1
@@ -98,11 +95,6 @@ either (Err e) p = p
 
 -- ---- from place to place
 
-pub nears_start : (p q : Trace) (bucket key before since : ℕ) (head : Held) → LeavesLists p q → q.shape ≡ p.shape → bucket ≡ bucket_of p.shape key → since ≡ before + 3 → StillAt q head × (head.at ≡ Head bucket) → Nears p q key before since head
-nears_start p q bucket key before since head l shape is sum x =
-    let a : ahead_for q key head ≡ listed_for p key = ahead_same p q key head.at l shape ∙ ap (ahead p (bucket_of p.shape key)) (x.1 ∙ ap Head is) in
-    record { keeps = x.0; paid = omega (arith, a, sum) }
-
 pub nears_visit : (p q r : Trace) (key before a b : ℕ) (pred node : Held) → Nears p q key before a pred → LeavesLists q r → r.shape ≡ q.shape → b ≡ a + 5 → StillAt r node × (ahead_for q key pred ≡ suc (ahead_for r key node)) → Nears p r key before b node
 nears_visit p q r key before a b pred node x l shape sum y =
     record { keeps = y.0; paid = (let u = x.paid in let v = y.1 in omega (arith, u, v, sum)) }
@@ -127,12 +119,6 @@ found_beyond p q r key before a b pred node found x l shape sum y is cur =
       cur = subst Q (sym cur) y.0.stands;
       paid = (let u = x.paid in let v = y.1 in omega (arith, u, v, sum));
     }
-
-pub found_end : (p q : Trace) (key before a : ℕ) (pred : Held) (found : Found) → Nears p q key before a pred → found.pred ≡ pred → found.cur ≡ None → FoundAlone p q key before a found
-found_end p q key before a pred found x is cur =
-    let P : Held → Type 0 = StillAt q in
-    let Q : Option Held → Type 0 = NextStands q in
-    record { pred = subst P (sym is) x.keeps; cur = subst Q (sym cur) tt; paid = (let u = x.paid in omega (arith, u)) }
 
 -- ---- past marked nodes
 
@@ -172,10 +158,6 @@ sight_present p q r key before a b pred here node x sum y = record { stands = y.
 -- at a node with a greater key
 pub sight_absent : (p q r : Trace) (key before a b : ℕ) (pred here node : Held) → Passes p q key before a pred here → LeavesLists q r → b ≡ a + 5 → StillAt r node × (ahead_for q key here ≡ suc (ahead_for r key node)) → SeenAlone p r key before b (Absent pred)
 sight_absent p q r key before a b pred here node x l sum y = record { stands = stands_on q r pred l x.last.stands; paid = (let u = x.paid in let v = y.1 in omega (arith, u, v, sum)) }
-
--- at the end of the list
-pub sight_end : (p q : Trace) (key before a : ℕ) (pred here : Held) → Passes p q key before a pred here → SeenAlone p q key before a (Absent pred)
-sight_end p q key before a pred here x = record { stands = x.last.stands; paid = (let u = x.paid in omega (arith, u)) }
 
 -- ---- again
 

@@ -5,7 +5,7 @@ use Rattle.std.specs.Result.{is_ok}
 use Rattle.vbr_words.specs.Dimensions.{Dimensions}
 use Rattle.vbr_core.specs.Runs.{Begins, IsRun}
 use Rattle.vbr_core.specs.declared.history.Op.{Op}
-use Rattle.vbr_slots.specs.Calls.{IsSame, Quiet, Made, Took}
+use Rattle.vbr_slots.specs.Calls.{IsSame, Quiet, Made}
 use Rattle.vbr_slots.specs.Views.{Trace, PassView}
 use Rattle.vbr_slots.proofs.Lemmas.{made_on}
 use Rattle.vbr_pools.specs.Refusals.{IsSpent, LeavesRoom}
@@ -29,10 +29,6 @@ within_on x y low high = record { counts = counts_on x.counts y; within = (let u
 -- they are those of a pass with the same trace
 pub within_same : {p q r : Trace} {a b budget : ℕ} → r ≡ q → CountsWithin p q a b budget → CountsWithin p r a b budget
 within_same {p} {q} {r} {a} {b} e x = record { counts = subst (λ (t : Trace). CountsSteps p t a b) (sym e) x.counts; within = x.within }
-
--- a call with what is left of the budget
-pub within_rest : {p q : Trace} (used budget made : ℕ) → used ≤ budget → made ≤ budget - used → Took p q made → CountsWithin p q used (used + made) budget
-within_rest used budget made le fits took = record { counts = counts_step used made took; within = (omega arith, omega arith) }
 
 -- ---- refusals
 

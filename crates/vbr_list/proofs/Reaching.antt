@@ -14,7 +14,7 @@ use Rattle.vbr_slots.specs.Calls.{IsSame, Quiet}
 use Rattle.vbr_slots.specs.Views.{Trace, TableView, PassView, IsOf, knows}
 use Rattle.vbr_slots.proofs.Lemmas.{quiet_on}
 use Rattle.vbr_pools.specs.Retiring.{know_retired}
-use Rattle.vbr_access.specs.Held.{IsSlot, IsHeld, IsMarked, Names, held_of}
+use Rattle.vbr_access.specs.Held.{IsSlot, IsMarked}
 use Rattle.vbr_access.specs.Keeping.{Keeps}
 use Rattle.vbr_access.specs.Moments.{Stood, IsRead, IsNext}
 use Rattle.vbr_slots.specs.PassLaw.{PassLaw}
@@ -98,13 +98,6 @@ node_unmarked pred node n f = f (let P : At → Type 0 = IsSlot in subst P (sym 
 
 pub slot_same : (s t : ℕ) → Slot s ≡ Slot t → t ≡ s
 slot_same s t e = cc
-
--- a marked node
-pub marked_met : {p q : Trace} (pred node : Held) (marked : Marked) → IsNext p q pred (Some node) → held_of marked ≡ node → (link_of marked.word).mark ≡ true → IsMarked (knows q) marked × Names pred marked.slot
-marked_met {p} {q} pred node marked n e m =
-    let P : Held → Type 0 = IsHeld (knows q) in
-    let s : n.0 ≡ marked.slot = slot_same marked.slot n.0 (ap (λ (h : Held). h.at) e ∙ n.2) in
-    (record { held = subst P (sym e) n.3.known; mark = m }, n.1 ∙ ap Some s)
 
 -- ---- a place whose marked node was unlinked
 

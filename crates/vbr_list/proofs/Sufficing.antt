@@ -11,7 +11,7 @@ use Rattle.vbr_slots.proofs.Lemmas.{quiet_adds_none}
 use Rattle.vbr_pools.specs.Budgets.{most_to_take, steps_to_take}
 use Rattle.vbr_slots.specs.PassLaw.{PassLaw}
 use Rattle.vbr_list.specs.Budgets.{IsAnsweredOrSpent, LacksSteps, listed_for}
-use Rattle.vbr_list.specs.Inserting.{InsertIsShort, RefusesInsert}
+use Rattle.vbr_list.specs.Inserting.{InsertIsShort}
 use Rattle.vbr_list.specs.declared.refusal.Refusal.{Refusal}
 use Rattle.vbr_list.specs.declared.refusal.Refusal.TheVariants.{OutOfSteps, NoSlot, EpochSpent}
 
@@ -47,12 +47,6 @@ pub lacks : (n budget : ℕ) (refusal : Refusal) → budget < n → LacksSteps n
 lacks n budget (OutOfSteps used) short = short
 lacks n budget NoSlot short = tt
 lacks n budget (EpochSpent epoch) short = tt
-
--- a refusal for want of a slot comes of an empty own pool
-pub refused_empty : (p q : PassView) (key before budget : ℕ) (refusal : Refusal) → RefusesInsert p q key before budget refusal → refusal ≡ NoSlot → p.pool ≡ []
-refused_empty p q key before budget (OutOfSteps used) x e = absurd (cc)
-refused_empty p q key before budget NoSlot x e = x.empty
-refused_empty p q key before budget (EpochSpent epoch) x e = absurd (cc)
 
 pub never_refused : (pool : List ℕ) (p q : PassView) (before budget : ℕ) (refusal : Refusal) → InsertIsShort p q before budget refusal → refusal ≡ NoSlot → pool ≡ []
 never_refused pool p q before budget (OutOfSteps used) x e = absurd (cc)

@@ -1,20 +1,19 @@
 -- A worker that plays on: what it played before and what it plays then make what it has played.
-use Rattle.std.proofs.Common.{◌≡◌, ℕ, ◌+◌, ◌<◌, ◌≤◌, eqb, List, [], ◌∷◌, ◌++◌, length, refl, sym, ap, ap₂, subst, ◌∙◌, append_assoc, append-nil, take, drop, get_or, arith, length-append, add-one}
+use Rattle.std.proofs.Common.{◌≡◌, ℕ, ◌+◌, ◌<◌, eqb, List, [], ◌∷◌, ◌++◌, length, refl, sym, ap, ap₂, subst, ◌∙◌, append_assoc, take, drop, get_or, arith, length-append, add-one}
 use Rattle.std.specs.Prelude.{zip, All, ◌≢◌}
-use Rattle.std.specs.Vec.{vec_capacity}
 use Rattle.std.proofs.lemmas.Bool.{eq-eqb, ne_eqb}
 use Rattle.std.proofs.lemmas.Grind.{flat_map-append}
-use Rattle.std.proofs.lemmas.List.{take_more, take_all, take-append-drop}
+use Rattle.std.proofs.lemmas.List.{take_more, take-append-drop}
 use Rattle.std.proofs.Math.Seq.{drop-cons}
-use Rattle.std.proofs.lemmas.List.Elements.{filter-append, All-append, All-nil, All-cons}
+use Rattle.std.proofs.lemmas.List.Elements.{filter-append, All-append}
 use Rattle.vbr_core.specs.Runs.{Begins}
 use Rattle.vbr_core.specs.declared.history.Op.{Op}
-use Rattle.vbr_core.proofs.Lemmas.{begins_refl, begins_trans}
+use Rattle.vbr_core.proofs.Lemmas.{begins_trans}
 use Rattle.vbr_slots.specs.Calls.{IsSame, made_by}
 use Rattle.vbr_slots.specs.Views.{Trace}
-use Rattle.vbr_slots.proofs.Lemmas.{same_on, same_refl}
+use Rattle.vbr_slots.proofs.Lemmas.{same_on}
 use Rattle.vbr_transcript.specs.Calls.{Outcome, answer_of, answered_calls, lines_by}
-use Rattle.vbr_player.specs.Working.{TellsReply, Replied, Played, HasRoom}
+use Rattle.vbr_player.specs.Working.{TellsReply, Played, HasRoom}
 use Rattle.vbr_script.specs.declared.script.Line.{Line}
 use Rattle.vbr_transcript.specs.declared.reply.Reply.{Reply}
 use Rattle.vbr_transcript.specs.declared.reply.Reply.TheVariants.{Yes, No, Full, Spent, Tired}
@@ -57,55 +56,6 @@ answered-append xs ys = flat_map-append (λ (outcome : Outcome). answer_of outco
 
 -- ---- what was played
 
--- nothing was played yet
-pub played_none : (p : Worker) → Played [] p p
-played_none p =
-    record {
-      set = refl;
-      same = same_refl p.caller.pass.trace;
-      seen = begins_refl p.caller.pass.trace.seen;
-      more = [];
-      replies = sym (append-nil p.replies.items);
-      one_each = refl;
-      calls = sym (append-nil (made_by p.caller.pass.trace));
-      tells = All-nil (λ (outcome : Outcome). TellsReply p.caller.pass.trace outcome.0.op outcome.1);
-      room = omega arith;
-    }
-
--- a line of its own was
-pub played_own : (line : Line) (reply : Reply) (p q : Worker) → line.worker ≡ p.caller.pass.trace.who → Replied line reply p.caller q.caller → q.replies.items ≡ p.replies.items ++ reply ∷ [] → vec_capacity p.replies ≤ vec_capacity q.replies → Played (line ∷ []) p q
-played_own line reply p q own replied more room =
-    let mine : lines_by p.caller.pass.trace.who (line ∷ []) ≡ line ∷ [] = own_line p.caller.pass.trace.who line own in
-    let told = λ (outcome : Outcome). TellsReply q.caller.pass.trace outcome.0.op outcome.1 in
-    record {
-      set = replied.set;
-      same = replied.same;
-      seen = replied.seen;
-      more = reply ∷ [];
-      replies = more;
-      one_each = ap length (sym mine);
-      calls = replied.calls ∙ ap (λ calls. made_by p.caller.pass.trace ++ calls) (sym (append-nil (answer_of line reply)) ∙ ap (λ (lines : List Line). answered_calls (zip lines (reply ∷ []))) (sym mine));
-      tells = subst (λ (lines : List Line). All told (zip lines (reply ∷ []))) (sym mine) (All-cons told (line, reply) [] replied.tells (All-nil told));
-      room = room;
-    }
-
--- a line of another worker was passed over
-pub played_other : (line : Line) (p : Worker) → line.worker ≢ p.caller.pass.trace.who → Played (line ∷ []) p p
-played_other line p other =
-    let none : lines_by p.caller.pass.trace.who (line ∷ []) ≡ [] = other_line p.caller.pass.trace.who line other in
-    let told = λ (outcome : Outcome). TellsReply p.caller.pass.trace outcome.0.op outcome.1 in
-    record {
-      set = refl;
-      same = same_refl p.caller.pass.trace;
-      seen = begins_refl p.caller.pass.trace.seen;
-      more = [];
-      replies = sym (append-nil p.replies.items);
-      one_each = ap length (sym none);
-      calls = sym (append-nil (made_by p.caller.pass.trace)) ∙ ap (λ (lines : List Line). made_by p.caller.pass.trace ++ answered_calls (zip lines [])) (sym none);
-      tells = subst (λ (lines : List Line). All told (zip {X = Reply} lines [])) (sym none) (All-nil told);
-      room = omega arith;
-    }
-
 -- some lines were, and then others
 pub played_on : (lines more : List Line) (p q r : Worker) → Played lines p q → Played more q r → Played (lines ++ more) p r
 played_on lines more p q r first then =
@@ -137,10 +87,6 @@ played_on lines more p q r first then =
 pub played_next : (lines : List Line) (i : ℕ) (d : Line) (p q r : Worker) → i < length lines → Played (take i lines) p q → Played (get_or lines i d ∷ []) q r → Played (take (i + 1) lines) p r
 played_next lines i d p q r inside first then =
     subst (λ (some : List Line). Played some p r) (sym (take_more lines i d inside)) (played_on (take i lines) (get_or lines i d ∷ []) p q r first then)
-
--- all were
-pub played_all : (lines : List Line) (i : ℕ) (p q : Worker) → length lines ≤ i → Played (take i lines) p q → Played lines p q
-played_all lines i p q all played = subst (λ (some : List Line). Played some p q) (take_all i lines all) played
 
 -- ---- room
 

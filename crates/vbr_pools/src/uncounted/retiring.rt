@@ -12,8 +12,9 @@ use crate::unlinked::Unlinked;
 use vbr_slots::AtTable;
 use vbr_slots::pass::POOL;
 
-/// As [`crate::retire`].
-#[inline]
+/// As [`crate::retire`]. It is compiled into its callers, so that what a call has in hand stays in
+/// registers.
+#[inline(always)]
 pub fn retire(at: &mut AtTable<'_>, unlinked: Unlinked) -> u32
     requires unlinked { IsUnlinked ((knows at.old.pass.now.trace).own unlinked.slot) }
     ensures table { IsSameTable at.old at.new }
