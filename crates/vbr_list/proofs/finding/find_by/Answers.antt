@@ -1,4 +1,4 @@
-use Rattle.std.proofs.Common.{rules, ◌≡◌, sym, ◌∙◌, ap, arith}
+use Rattle.std.proofs.Common.{rules, ◌≡◌, ap, arith}
 use Rattle.vbr_words.specs.Dimensions.{Dimensions}
 use Rattle.vbr_list.proofs.Going.{bucket_is}
 use Rattle.vbr_list.proofs.Moments.{was_so}

@@ -1,4 +1,4 @@
-use Rattle.std.proofs.Common.{rules, ap, ◌≡◌, ◌+◌, ◌*◌, ◌<◌, [], ◌∙◌, arith}
+use Rattle.std.proofs.Common.{rules, ap, ◌≡◌, ◌+◌, ◌*◌, ◌<◌, [], arith}
 use Rattle.vbr_words.specs.Dimensions.{Dimensions}
 use Rattle.vbr_core.specs.declared.history.Op.TheVariants.{Insert}
 use Rattle.vbr_slots.proofs.Lemmas.{alone_first, alone_then, same_on}

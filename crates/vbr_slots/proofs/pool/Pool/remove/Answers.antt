@@ -1,4 +1,4 @@
-use Rattle.std.proofs.Common.{◌≡◌, ℕ, suc, ◌+◌, drop, refl, ap, ◌∙◌, arith}
+use Rattle.std.proofs.Common.{◌≡◌, ℕ, suc, ◌+◌, drop, ap, ◌∙◌, arith}
 use Rattle.std.specs.List.{remove}
 use Rattle.vbr_slots.specs.Pools.{PoolView}
 use Rattle.vbr_slots.proofs.Moving.{first_left}
