@@ -1,23 +1,55 @@
-// The comparison: compare [--short] [--repeats N] [--operations N] [--check]. Checks each peer, and then prints a table
-// in CSV.
+// The comparison: compare [OPTIONS], of which docs/BENCHMARKS.md tells. Checks each peer, and then prints a table in CSV.
 #include "workload.hpp"
 
-#include <cstring>
+#include <iterator>
 #include <sys/wait.h>
-#include <unistd.h>
 
 namespace {
 
+using Count = unsigned long long;
+
 struct Options {
     bool only_checks = false;
-    uint64_t repeats = 5, operations = 200000;
-    std::vector<uint64_t> ranges{100, 10000, 100000};
+    uint64_t repeats = 5, again = 3, milliseconds = 200;
+    uint64_t operations = 0; // of each thread; 0: as many as fill the milliseconds
+    const char *log = nullptr;
+    uint64_t fill = 1000000; // keys; 0: no fill
+    std::vector<uint64_t> ranges{100, 10000, 100000, 1000000};
 };
 
-struct Row {
+// What is measured of one peer, and the runs that count.
+struct Cell {
     const Peer *peer;
     Workload workload;
-    std::vector<double> seconds;
+    std::vector<Run> runs;
+    uint64_t again = 0; // how often a disturbed run was made once more
+    double spent = 0;   // seconds that all runs took, with all that goes before and after the measured calls
+
+    bool is_slow() const { return spent > 20; }
+    std::string workload_name() const {
+        const Workload &w = workload;
+        if (w.is_fill()) return "fill=" + std::to_string(w.range);
+        return "range=" + std::to_string(w.range) + " mix=" + std::to_string(w.has) + "/" + std::to_string(w.insert) + "/" +
+               std::to_string(w.remove);
+    }
+    std::string name() const { return peer->name + ", " + workload_name() + ", threads=" + std::to_string(workload.threads); }
+
+    // The fastest that wasn't disturbed, if there is one.
+    const Run &best() const {
+        return *std::min_element(runs.begin(), runs.end(), [](const Run &a, const Run &b) {
+            bool a_great = a.disturbance.is_great(), b_great = b.disturbance.is_great();
+            return a_great != b_great ? b_great : a.seconds < b.seconds;
+        });
+    }
+    double median_seconds() const {
+        std::vector<double> seconds;
+        for (const Run &run : runs) seconds.push_back(run.seconds);
+        std::sort(seconds.begin(), seconds.end());
+        return seconds[seconds.size() / 2];
+    }
+    uint64_t disturbed() const {
+        return std::count_if(runs.begin(), runs.end(), [](const Run &run) { return run.disturbance.is_great(); });
+    }
 };
 
 // What a function gives in a process of its own, so that no peer finds what another has left in memory.
@@ -45,53 +77,171 @@ template <class T, class F> T in_a_process(const std::string &name, F f) {
 // Four threads on few keys: their answers are to balance.
 void check(const Peer &peer) {
     for (uint64_t range : {8u, 64u, 1000u}) {
-        Workload workload{range, 20, 40, 40, 4, 200000, 1};
+        Workload workload{range, 20, 40, 40, 4, 800000, 1};
         uint64_t wrong = in_a_process<uint64_t>(peer.name, [&] { return peer.wrong_keys(workload); });
         if (wrong != 0) {
             std::fprintf(stderr, "compare: %s: the answers do not balance for %llu of %llu keys\n", peer.name.c_str(),
-                         static_cast<unsigned long long>(wrong), static_cast<unsigned long long>(range));
+                         static_cast<Count>(wrong), static_cast<Count>(range));
             std::exit(1);
         }
     }
     std::fprintf(stderr, "compare: %s: the answers of four threads balance\n", peer.name.c_str());
 }
 
-std::vector<Row> rows(const Options &options) {
+Run measured(Cell &cell, const Workload &workload) {
+    auto start = std::chrono::steady_clock::now();
+    Run run = in_a_process<Run>(cell.name(), [&] { return cell.peer->measure(workload); });
+    if (workload.is_fill() && run.yes != workload.operations)
+        std::fprintf(stderr, "compare: %s: a fresh key was not inserted\n", cell.name().c_str()), std::exit(1);
+    cell.spent += std::chrono::duration<double>(std::chrono::steady_clock::now() - start).count();
+    return run;
+}
+
+// So many calls that a run takes about as long as it shall, by a short run that doesn't count.
+uint64_t fitting_operations(Cell &cell, uint64_t milliseconds) {
+    Workload trial = cell.workload;
+    trial.operations = 20000 * trial.threads;
+    double a_second = static_cast<double>(trial.operations) / measured(cell, trial).seconds;
+    double fitting = a_second * static_cast<double>(milliseconds) / 1000;
+    uint64_t operations = std::max<uint64_t>(trial.threads, static_cast<uint64_t>(fitting)), unit = 1;
+    while (operations / unit >= 100) unit *= 10;
+    return operations / unit * unit;
+}
+
+std::vector<Cell> cells(const Options &options) {
     static const unsigned mixes[][3] = {{100, 0, 0}, {90, 5, 5}, {50, 25, 25}, {0, 50, 50}};
-    std::vector<Row> rows;
+    std::vector<Cell> cells;
     for (uint64_t range : options.ranges)
         for (auto &mix : mixes)
             for (unsigned threads : {1u, 2u, 4u})
                 for (const Peer &peer : peers())
-                    rows.push_back({&peer, {range, mix[0], mix[1], mix[2], threads, options.operations, 0}, {}});
-    return rows;
+                    cells.push_back({&peer, {range, mix[0], mix[1], mix[2], threads, options.operations * threads, 0}, {}});
+    if (options.operations == 0) std::fputs("compare: finding how many calls a run shall have\n", stderr);
+    for (Cell &cell : cells)
+        if (options.operations == 0) cell.workload.operations = fitting_operations(cell, options.milliseconds);
+    for (unsigned threads : {1u, 2u, 4u})
+        for (const Peer &peer : peers())
+            if (options.fill) cells.push_back({&peer, {options.fill, 0, 0, 0, threads, options.fill, 0}, {}});
+    return cells;
 }
 
-void print(const std::vector<Row> &rows) {
-    std::puts("peer,workload,threads,operations,best_seconds,median_seconds");
-    for (const Row &row : rows) {
-        const Workload &w = row.workload;
-        std::vector<double> seconds = row.seconds;
-        std::sort(seconds.begin(), seconds.end());
-        std::printf("%s,range=%llu mix=%u/%u/%u,%u,%llu,%.6f,%.6f\n", row.peer->name.c_str(),
-                    static_cast<unsigned long long>(w.range), w.has, w.insert, w.remove, w.threads,
-                    static_cast<unsigned long long>(w.operations * w.threads), seconds.front(), seconds[seconds.size() / 2]);
+// Each run that is made, one a line.
+class Log {
+    FILE *file;
+
+public:
+    explicit Log(const char *name) : file(name ? std::fopen(name, "w") : nullptr) {
+        if (name && !file) std::perror(name), std::exit(1);
+        if (!file) return;
+        std::fputs("peer,workload,threads,operations,run,try,seconds,open_seconds,steal,others,disturbed\n", file);
+        std::fflush(file);
     }
+    ~Log() {
+        if (file) std::fclose(file);
+    }
+    void write(const Cell &cell, uint64_t at_try, const Run &run) {
+        if (!file) return;
+        const Workload &w = cell.workload;
+        std::fprintf(file, "%s,%s,%u,%llu,%llu,%llu,%.6f,%.6f,%.3f,%.3f,%d\n", cell.peer->name.c_str(),
+                     cell.workload_name().c_str(), w.threads, static_cast<Count>(w.operations), static_cast<Count>(w.run + 1),
+                     static_cast<Count>(at_try + 1), run.seconds, run.open_seconds, run.disturbance.steal,
+                     run.disturbance.others, run.disturbance.is_great());
+        std::fflush(file); // so that one may look at it meanwhile
+    }
+};
+
+// One run more of a cell; whether it is still disturbed. Of all tries the least disturbed one counts.
+bool try_cell(Cell &cell, uint64_t at_try, Log &log) {
+    Run run = measured(cell, cell.workload);
+    log.write(cell, at_try, run);
+    if (at_try == 0) cell.runs.push_back(run);
+    else if (run.disturbance.all() < cell.runs.back().disturbance.all()) cell.runs.back() = run;
+    cell.again += at_try > 0;
+    return cell.runs.back().disturbance.is_great();
+}
+
+// A run of each cell, and then those that were disturbed once more, some times over. Slow cells have one run.
+void measure_round(std::vector<Cell> &cells, uint64_t round, const Options &options, Log &log) {
+    std::vector<Cell *> due;
+    for (Cell &cell : cells) {
+        cell.workload.run = round;
+        if (round == 0 || !cell.is_slow()) due.push_back(&cell);
+    }
+    for (uint64_t at_try = 0; at_try <= options.again && !due.empty(); at_try++) {
+        std::vector<Cell *> disturbed;
+        for (Cell *cell : due)
+            if (try_cell(*cell, at_try, log)) disturbed.push_back(cell);
+        std::fprintf(stderr, "compare: run %llu of %llu, try %llu: %zu made, %zu of them disturbed\n",
+                     static_cast<Count>(round + 1), static_cast<Count>(options.repeats), static_cast<Count>(at_try + 1),
+                     due.size(), disturbed.size());
+        due.clear();
+        std::copy_if(disturbed.begin(), disturbed.end(), std::back_inserter(due), [](Cell *cell) { return !cell->is_slow(); });
+    }
+}
+
+void print(const std::vector<Cell> &cells) {
+    std::puts("peer,workload,threads,operations,best_seconds,median_seconds,open_seconds,steal,others,runs,disturbed,again");
+    for (const Cell &cell : cells) {
+        const Run &best = cell.best();
+        std::printf("%s,%s,%u,%llu,%.6f,%.6f,%.6f,%.3f,%.3f,%zu,%llu,%llu\n", cell.peer->name.c_str(), cell.workload_name().c_str(),
+                    cell.workload.threads, static_cast<Count>(cell.workload.operations), best.seconds, cell.median_seconds(),
+                    best.open_seconds, best.disturbance.steal, best.disturbance.others, cell.runs.size(),
+                    static_cast<Count>(cell.disturbed()), static_cast<Count>(cell.again));
+    }
+}
+
+// Tells on standard error what is not to be trusted.
+void warn(const std::vector<Cell> &cells) {
+    for (const Cell &cell : cells) {
+        if (cell.is_slow())
+            std::fprintf(stderr, "compare: slow: %s: its runs took %.0f s, so it has %zu\n", cell.name().c_str(), cell.spent,
+                         cell.runs.size());
+        if (cell.best().disturbance.is_great())
+            std::fprintf(stderr, "compare: disturbed in all runs: %s: other work had %.0f %% of the processors in the best\n",
+                         cell.name().c_str(), 100 * cell.best().disturbance.all());
+        if (cell.median_seconds() > 1.2 * cell.best().seconds)
+            std::fprintf(stderr, "compare: uneven: %s: the best run took %.1f ms, the median one %.1f ms\n", cell.name().c_str(),
+                         1000 * cell.best().seconds, 1000 * cell.median_seconds());
+    }
+}
+
+[[noreturn]] void usage() {
+    std::fputs("usage: compare [--short] [--ranges N,N] [--fill N] [--repeats N] [--again N] [--milliseconds N]\n"
+               "               [--operations N] [--log FILE] [--check]\n", stderr);
+    std::exit(2);
+}
+
+uint64_t number(const char *word, uint64_t least) {
+    char *end;
+    uint64_t number = std::strtoull(word, &end, 10);
+    if (end == word || *end || number < least) usage();
+    return number;
+}
+
+std::vector<uint64_t> numbers(const std::string &words) {
+    std::vector<uint64_t> numbers;
+    for (size_t at = 0, end = 0; end != std::string::npos; at = end + 1) {
+        end = words.find(',', at);
+        numbers.push_back(number(words.substr(at, end - at).c_str(), 1));
+    }
+    return numbers;
 }
 
 Options read(int count, char **words) {
     Options options;
     for (int i = 1; i < count; i++) {
-        auto number = [&] { return i + 1 < count ? std::strtoull(words[++i], nullptr, 10) : 0; };
-        if (!std::strcmp(words[i], "--check")) options.only_checks = true;
-        else if (!std::strcmp(words[i], "--short")) options.ranges = {100, 10000}, options.repeats = 3;
-        else if (!std::strcmp(words[i], "--repeats")) options.repeats = number();
-        else if (!std::strcmp(words[i], "--operations")) options.operations = number();
-        else options.repeats = 0;
-    }
-    if (options.repeats < 1 || options.operations < 1) {
-        std::fputs("usage: compare [--short] [--repeats N] [--operations N] [--check]\n", stderr);
-        std::exit(2);
+        std::string word = words[i];
+        auto value = [&] { return i + 1 < count ? words[++i] : (usage(), nullptr); };
+        if (word == "--check") options.only_checks = true;
+        else if (word == "--short") options.ranges = {100, 10000}, options.fill = 0, options.repeats = 3;
+        else if (word == "--ranges") options.ranges = numbers(value());
+        else if (word == "--fill") options.fill = number(value(), 0);
+        else if (word == "--repeats") options.repeats = number(value(), 1);
+        else if (word == "--again") options.again = number(value(), 0);
+        else if (word == "--milliseconds") options.milliseconds = number(value(), 1);
+        else if (word == "--operations") options.operations = number(value(), 1);
+        else if (word == "--log") options.log = value();
+        else usage();
     }
     return options;
 }
@@ -103,16 +253,11 @@ int main(int count, char **words) {
     std::sort(peers().begin(), peers().end(), [](const Peer &a, const Peer &b) { return a.name < b.name; });
     for (const Peer &peer : peers()) check(peer);
     if (options.only_checks) return 0;
-    std::vector<Row> table = rows(options);
-    // the repeats are the outermost loop: what disturbs the machine for a while disturbs all peers alike
-    for (uint64_t run = 0; run < options.repeats; run++) {
-        std::fprintf(stderr, "compare: run %llu of %llu\n", static_cast<unsigned long long>(run + 1),
-                     static_cast<unsigned long long>(options.repeats));
-        for (Row &row : table) {
-            row.workload.run = run;
-            row.seconds.push_back(in_a_process<double>(row.peer->name, [&] { return row.peer->measure(row.workload); }));
-        }
-    }
+    Log log(options.log);
+    std::vector<Cell> table = cells(options);
+    // the rounds are the outermost loop: what disturbs the machine for a while disturbs all peers alike
+    for (uint64_t round = 0; round < options.repeats; round++) measure_round(table, round, options, log);
     print(table);
+    warn(table);
     return 0;
 }

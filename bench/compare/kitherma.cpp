@@ -8,8 +8,8 @@ struct Kitherma {
     std::vector<vbr_handle> handles;
 
     explicit Kitherma(const Workload &w) : handles(w.threads) {
-        uint32_t slots = static_cast<uint32_t>(w.range + 128 * w.threads), buckets = static_cast<uint32_t>(w.buckets());
-        if (vbr_open(handles.data(), handles.size(), slots, buckets, VBR_MAX_EPOCH) != VBR_NO) refused();
+        uint32_t slots = static_cast<uint32_t>(w.range + 128 * w.threads);
+        if (vbr_open(handles.data(), handles.size(), slots, buckets(w), VBR_MAX_EPOCH) != VBR_NO) refused();
     }
     ~Kitherma() {
         for (vbr_handle &handle : handles) vbr_drop(&handle);
@@ -26,6 +26,9 @@ struct Kitherma {
 
 private:
     static constexpr uint32_t BUDGET = 1000000;
+
+    // As many as the peers have, up to the library's limit, which is a power of two too.
+    static uint32_t buckets(const Workload &w) { return static_cast<uint32_t>(std::min<size_t>(w.buckets(), VBR_MAX_BUCKETS)); }
 
     static bool answer(int32_t answer) {
         if (answer < 0) refused();

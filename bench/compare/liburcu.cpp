@@ -1,6 +1,7 @@
 // liburcu: its lock-free hash table, with a fixed number of buckets, whose nodes are reclaimed by RCU.
 #include "workload.hpp"
 
+#define _LGPL_SOURCE // its read lock is inlined
 #include <urcu.h>
 #include <urcu/rculfhash.h>
 

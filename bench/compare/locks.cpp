@@ -1,4 +1,4 @@
-// Locks round the hash set of the standard library.
+// Locks round the hash set of the standard library, which takes about as many buckets as keys.
 #include "workload.hpp"
 
 #include <mutex>
@@ -16,7 +16,7 @@ template <class Lock, class ReadGuard, unsigned PARTS> struct Locked {
     std::vector<Part> parts;
 
     explicit Locked(const Workload &w) : parts(PARTS) {
-        for (Part &part : parts) part.keys.reserve(w.buckets() / PARTS + 1);
+        for (Part &part : parts) part.keys.reserve(w.keys() / PARTS + 1);
     }
 
     struct Handle {

@@ -5,29 +5,35 @@
 //     bool insert(Handle &, uint64_t), remove(Handle &, uint64_t), has(Handle &, uint64_t);
 // and is named by PEER(name, P) in a file of its own.
 #pragma once
-#include <algorithm>
+#include "machine.hpp"
+
 #include <atomic>
-#include <chrono>
 #include <cstdint>
-#include <cstdio>
-#include <cstdlib>
 #include <string>
 #include <thread>
 #include <vector>
 
 struct Workload {
-    uint64_t range;               // how many keys there are; half of them are put in before
-    unsigned has, insert, remove; // of 100 calls
+    uint64_t range;               // how many keys there are
+    unsigned has, insert, remove; // of 100 calls; all 0: the fill, in which each key is inserted once
     unsigned threads;
-    uint64_t operations;          // of each thread
+    uint64_t operations;          // of all threads
     uint64_t run;                 // from which the random numbers come
 
-    // Of each set that has them: a power of two, and at least one for two keys that are put in before.
+    bool is_fill() const { return has + insert + remove == 0; }
+
+    // How many keys the set has as the calls are made: of a mix about half of them, which are put in before.
+    uint64_t keys() const { return is_fill() ? range : range / 2; }
+
+    // Of each set that has them: a power of two, and at least one for two keys.
     size_t buckets() const {
         size_t buckets = 1;
-        while (buckets < range / 4) buckets *= 2;
+        while (buckets < keys() / 2) buckets *= 2;
         return buckets;
     }
+
+    // Where the part of a thread begins, of the calls of all.
+    uint64_t begin_of(unsigned thread) const { return operations * thread / threads; }
 };
 
 // The key of number i: keys have no structure, so that each hash set may take a key as its own hash.
@@ -40,7 +46,7 @@ inline uint64_t key_of(uint64_t i) {
 }
 
 struct Identity {
-    size_t operator()(uint64_t key) const { return key; }
+    size_t operator()(uint64_t key) const noexcept { return key; }
 };
 
 class Random {
@@ -68,68 +74,107 @@ public:
     }
 };
 
-struct Tally {
-    uint64_t yes = 0;            // calls answered yes
-    std::vector<int> by_key;     // of each key: inserts answered yes, less removes; empty where nobody asks
+// What a thread notes. Each has cache lines of its own: a thread that writes here is not to hold up another.
+struct alignas(128) Notes {
+    std::chrono::steady_clock::time_point begin, end;
+    uint64_t yes = 0;         // calls answered yes
+    std::vector<int> by_key;  // of each key: inserts answered yes, less removes; empty where nobody asks
 };
 
-// The calls of one thread.
-template <class P> void make_calls(P &peer, typename P::Handle &handle, const Workload &w, Random random, Tally &tally) {
-    for (uint64_t i = 0; i < w.operations; i++) {
+// The calls of one thread; how many were answered yes.
+template <class P>
+uint64_t mixed_calls(P &peer, typename P::Handle &handle, const Workload &w, unsigned thread, std::vector<int> &by_key) {
+    Random random(w.run * 64 + thread);
+    uint64_t calls = w.begin_of(thread + 1) - w.begin_of(thread), yes = 0;
+    for (uint64_t i = 0; i < calls; i++) {
         uint64_t x = random.next(), number = (x >> 32) * w.range >> 32, place = (x & 0xffffff) * 100 >> 24;
         uint64_t key = key_of(number);
         if (place < w.has) {
-            tally.yes += peer.has(handle, key);
+            yes += peer.has(handle, key);
             continue;
         }
         bool inserts = place < w.has + w.insert;
-        bool yes = inserts ? peer.insert(handle, key) : peer.remove(handle, key);
-        tally.yes += yes;
-        if (yes && !tally.by_key.empty()) tally.by_key[number] += inserts ? 1 : -1;
+        bool changed = inserts ? peer.insert(handle, key) : peer.remove(handle, key);
+        yes += changed;
+        if (changed && !by_key.empty()) by_key[number] += inserts ? 1 : -1;
     }
+    return yes;
 }
 
-// Puts every other key in, lets all threads make their calls, and tells how many seconds these took.
-template <class P> double run_threads(P &peer, const Workload &w, std::vector<Tally> &tallies) {
-    using Clock = std::chrono::steady_clock;
-    Meeting ready(w.threads);
-    std::vector<std::thread> threads;
-    std::vector<Clock::time_point> begins(w.threads), ends(w.threads);
+// Of the fill: each thread inserts a part of the keys; how many were absent.
+template <class P> uint64_t fresh_inserts(P &peer, typename P::Handle &handle, const Workload &w, unsigned thread) {
+    uint64_t yes = 0;
+    for (uint64_t i = w.begin_of(thread); i < w.begin_of(thread + 1); i++) yes += peer.insert(handle, key_of(i));
+    return yes;
+}
+
+// Before a mix every other key is put in.
+template <class P> void put_in_before(P &peer, const Workload &w) {
+    if (w.is_fill()) return;
     std::thread([&] {
         typename P::Handle handle(peer, 0);
         for (uint64_t i = 0; i < w.range; i += 2) peer.insert(handle, key_of(i));
     }).join();
+}
+
+struct Run {
+    double seconds = 0;       // from the first thread's start to the last one's end
+    double open_seconds = 0;  // that the opening of the set took
+    uint64_t yes = 0;         // calls answered yes
+    Disturbance disturbance;
+};
+
+// Lets all threads make their calls.
+template <class P> Run run_threads(P &peer, const Workload &w, std::vector<Notes> &notes) {
+    using Clock = std::chrono::steady_clock;
+    Meeting ready(w.threads);
+    std::vector<std::thread> threads;
+    Watch watch;
     for (unsigned t = 0; t < w.threads; t++)
         threads.emplace_back([&, t] {
             typename P::Handle handle(peer, t);
             ready.wait();
-            begins[t] = Clock::now();
-            make_calls(peer, handle, w, Random(w.run * 64 + t), tallies[t]);
-            ends[t] = Clock::now();
+            notes[t].begin = Clock::now();
+            notes[t].yes = w.is_fill() ? fresh_inserts(peer, handle, w, t) : mixed_calls(peer, handle, w, t, notes[t].by_key);
+            notes[t].end = Clock::now();
         });
     for (std::thread &thread : threads) thread.join();
-    std::chrono::duration<double> time = *std::max_element(ends.begin(), ends.end()) - *std::min_element(begins.begin(), begins.end());
-    return time.count();
+    Run run;
+    run.disturbance = watch.seen();
+    Clock::time_point begin = notes[0].begin, end = notes[0].end;
+    for (const Notes &note : notes) {
+        begin = std::min(begin, note.begin);
+        end = std::max(end, note.end);
+        run.yes += note.yes;
+    }
+    run.seconds = std::chrono::duration<double>(end - begin).count();
+    return run;
 }
 
-template <class P> double measure(const Workload &w) {
+template <class P> Run measure(const Workload &w) {
+    auto start = std::chrono::steady_clock::now();
     P peer(w);
-    std::vector<Tally> tallies(w.threads);
-    return run_threads(peer, w, tallies);
+    std::chrono::duration<double> opening = std::chrono::steady_clock::now() - start;
+    put_in_before(peer, w);
+    std::vector<Notes> notes(w.threads);
+    Run run = run_threads(peer, w, notes);
+    run.open_seconds = opening.count();
+    return run;
 }
 
 // How many keys are in the set and shouldn't be, or should be and aren't, after calls of all threads.
 template <class P> uint64_t wrong_keys(const Workload &w) {
     P peer(w);
-    std::vector<Tally> tallies(w.threads);
-    for (Tally &tally : tallies) tally.by_key.resize(w.range);
-    run_threads(peer, w, tallies);
+    put_in_before(peer, w);
+    std::vector<Notes> notes(w.threads);
+    for (Notes &note : notes) note.by_key.resize(w.range);
+    run_threads(peer, w, notes);
     uint64_t wrong = 0;
     std::thread([&] {
         typename P::Handle handle(peer, 0);
         for (uint64_t i = 0; i < w.range; i++) {
             int sum = i % 2 == 0;
-            for (Tally &tally : tallies) sum += tally.by_key[i];
+            for (Notes &note : notes) sum += note.by_key[i];
             wrong += peer.has(handle, key_of(i)) != sum;
         }
     }).join();
@@ -138,7 +183,7 @@ template <class P> uint64_t wrong_keys(const Workload &w) {
 
 struct Peer {
     std::string name;
-    double (*measure)(const Workload &);
+    Run (*measure)(const Workload &);
     uint64_t (*wrong_keys)(const Workload &);
 };
 

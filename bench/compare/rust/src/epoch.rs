@@ -1,4 +1,5 @@
 //! Michael's hash set over crossbeam-epoch, as a Rust programmer would write it, for the comparison.
+use crate::Set;
 use crossbeam_epoch::{self as epoch, Atomic, Guard, Owned, Shared};
 use std::sync::atomic::Ordering::{AcqRel, Acquire, Relaxed, Release};
 
@@ -52,6 +53,12 @@ impl EpochSet {
             }
         }
         Some(Place { link, node, found: false })
+    }
+}
+
+impl Set for EpochSet {
+    fn open(buckets: usize, _keys: usize) -> EpochSet {
+        EpochSet { heads: (0..buckets).map(|_| Atomic::null()).collect() }
     }
 
     fn has(&self, key: u64) -> bool {
@@ -120,28 +127,4 @@ impl Drop for EpochSet {
             }
         }
     }
-}
-
-#[no_mangle]
-pub extern "C" fn epoch_set_open(buckets: usize) -> Box<EpochSet> {
-    let heads = (0..buckets.next_power_of_two()).map(|_| Atomic::null()).collect();
-    Box::new(EpochSet { heads })
-}
-
-#[no_mangle]
-pub extern "C" fn epoch_set_close(_set: Box<EpochSet>) {}
-
-#[no_mangle]
-pub extern "C" fn epoch_set_insert(set: &EpochSet, key: u64) -> bool {
-    set.insert(key)
-}
-
-#[no_mangle]
-pub extern "C" fn epoch_set_remove(set: &EpochSet, key: u64) -> bool {
-    set.remove(key)
-}
-
-#[no_mangle]
-pub extern "C" fn epoch_set_has(set: &EpochSet, key: u64) -> bool {
-    set.has(key)
 }
