@@ -41,12 +41,14 @@
    closing take as much as the words again while they run, and the last close 9 bytes more for each
    slot. A key in the set takes a slot, and so does a removed node that no handle has taken back
    yet; each handle may keep up to 64 free slots to itself. So open with 64 slots more for each
-   handle than keys. With as many buckets as keys a bucket has about one node; a power of two is
-   found by a mask in place of a division. Only inserts advance the epoch, and once the last one is
+   handle than keys. Open with as many buckets as keys, a power of two: a bucket then has about one
+   node, and takes 8 bytes. Keys are spread over the buckets by a multiplication, so keys with a
+   pattern (in sequence, multiples of a page, pointers) do no harm; keys that somebody chooses to fall
+   into one bucket do, and each call then passes them all. Only inserts advance the epoch, and once the last one is
    spent inserts of absent keys may be refused: the greatest lasts fifteen hours at ten million inserts
    a second. Before it is spent a set is renewed: close all its handles, and open one with the keys of
    the report by vbr_open_with, at epoch 1. The numbers are 1 to VBR_MAX_SLOTS slots, 1 to VBR_MAX_BUCKETS buckets, and 1 to
-   VBR_MAX_EPOCH as the last epoch; the most slots and buckets take 540 million bytes. */
+   VBR_MAX_EPOCH as the last epoch; the most slots and buckets take 673 million bytes. */
 #ifndef VBR_H
 #define VBR_H
 
@@ -58,7 +60,7 @@ extern "C" {
 #endif
 
 #define VBR_MAX_SLOTS 16777215u
-#define VBR_MAX_BUCKETS 65536u
+#define VBR_MAX_BUCKETS 16777216u
 #define VBR_MAX_EPOCH 549755813887ull
 #define VBR_MAX_HANDLES 64u
 

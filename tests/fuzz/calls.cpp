@@ -62,10 +62,13 @@ struct Model {
     std::map<uint64_t, uint64_t> marked;  // by bucket: how many removed nodes may still be in its list
     uint64_t all_marked = 0, inserts = 0;
 
+    // Where a key belongs: the upper half of its product with an odd number, as a part of the buckets.
+    uint64_t bucket_of(uint64_t key) const { return (key * 0x9E3779B97F4A7C15 >> 32) * buckets >> 32; }
+
     // How many nodes the bucket of a key has at most.
     uint64_t nodes(uint64_t key) const {
-        uint64_t bucket = key % buckets, count = 0;
-        for (uint64_t other : keys) count += other % buckets == bucket;
+        uint64_t bucket = bucket_of(key), count = 0;
+        for (uint64_t other : keys) count += bucket_of(other) == bucket;
         auto it = marked.find(bucket);
         return count + (it == marked.end() ? 0 : it->second);
     }
@@ -142,7 +145,7 @@ private:
         static const uint64_t some[] = {0, VBR_MAX_BUCKETS, VBR_MAX_BUCKETS + 1, UINT32_MAX};
         uint8_t x = byte();
         uint64_t buckets = x < 240 ? 1 + x % 9 : some[x % 4];
-        return buckets == VBR_MAX_BUCKETS && is_small(240) ? 1 : buckets;
+        return buckets == VBR_MAX_BUCKETS && (byte() < 250 || is_small(250)) ? 1 : buckets;
     }
 
     uint64_t last_epoch() {
@@ -237,7 +240,7 @@ private:
         if (kind == INSERT && answer == VBR_YES) m.keys.insert(key);
         if (kind == REMOVE && answer == VBR_YES) {
             m.keys.erase(key);
-            if (budget < most + 9) m.marked[key % m.buckets]++, m.all_marked++;  // its node may still be in the list
+            if (budget < most + 9) m.marked[m.bucket_of(key)]++, m.all_marked++;  // its node may still be in the list
         }
     }
 

@@ -118,7 +118,7 @@ struct Settings {
     uint64_t operator[](const char *name) const { return numbers.at(name); }
     int shape_fault() const {
         auto within = [&](const char *name, uint64_t most) { return numbers.at(name) >= 1 && numbers.at(name) <= most; };
-        return !within("slots", VBR_MAX_SLOTS) ? 1 : !within("buckets", VBR_MAX_BUCKETS) ? 2 : !within("last-epoch", VBR_MAX_EPOCH) ? 3 : 0;
+        return !within("slots", VBR_MAX_SLOTS) ? 1 : !within("buckets", 65536) ? 2 : !within("last-epoch", VBR_MAX_EPOCH) ? 3 : 0;
     }
 };
 

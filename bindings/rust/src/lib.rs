@@ -38,8 +38,9 @@ use core::ptr::null_mut;
 /// The greatest number of slots.
 pub const MAX_SLOTS: u32 = 16_777_215;
 
-/// The greatest number of buckets.
-pub const MAX_BUCKETS: u32 = 65_536;
+/// The greatest number of buckets. Open with as many as keys, a power of two: a bucket then has about one
+/// node, and takes 8 bytes.
+pub const MAX_BUCKETS: u32 = 16_777_216;
 
 /// The greatest last epoch.
 pub const MAX_EPOCH: u64 = 549_755_813_887;
@@ -83,6 +84,9 @@ extern "C" {
 /// A set takes `8 * (2 + buckets + 4 * slots + slots.div_ceil(64))` bytes for its words. A key takes a slot, and so does a
 /// removed node that no handle has taken back yet; each handle may keep up to 64 free slots to itself.
 /// The last epoch says how often slots can be used again before inserts are refused for good.
+///
+/// Keys are spread over the buckets by a multiplication, so keys with a pattern (in sequence, multiples of
+/// a page, pointers) do no harm; keys that somebody chooses to fall into one bucket do.
 #[derive(Clone, Copy, Debug, PartialEq, Eq, Hash)]
 pub struct Shape {
     /// From 1 to [`MAX_SLOTS`].

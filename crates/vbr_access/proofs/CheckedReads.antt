@@ -4,7 +4,7 @@ use Rattle.vbr_words.specs.Dimensions.{Dimensions, IsShape}
 use Rattle.vbr_words.specs.Words.{link_of}
 use Rattle.vbr_words.specs.declared.place.At.{At}
 use Rattle.vbr_words.specs.declared.place.At.TheVariants.{Head, Slot}
-use Rattle.vbr_core.specs.Acceptance.{bucket_of}
+use Rattle.vbr_words.specs.Buckets.{bucket_of}
 use Rattle.vbr_core.specs.Membership.{Knows, IsHeldSlot, HeldIn}
 use Rattle.vbr_core.specs.declared.event.Step.TheVariants.{ReadEpoch, LoadLink, LoadBirth, LoadKey}
 use Rattle.vbr_core.specs.declared.knowledge.Read.TheVariants.{LinkAt, BirthOf, KeyOf}

@@ -69,7 +69,7 @@ pub extern "C" fn vbr_open_with(
     last_epoch: u64,
     keys: &[u64],
 ) -> i32
-    ensures { TellsOpeningWith handles.old handles.new (record { slots = slots; buckets = buckets; last_epoch = last_epoch; keys = keys.now }) result }
+    ensures { TellsOpeningWith handles.old handles.new (record { slots = slots; buckets = buckets; spread = true; last_epoch = last_epoch; keys = keys.now }) result }
 {
     let numbers = ShapeNumbers {
         slots,

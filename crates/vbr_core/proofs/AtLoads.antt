@@ -15,7 +15,8 @@ use Rattle.vbr_core.specs.Knowledge.{Know}
 use Rattle.vbr_core.specs.Machine.{World, word_at, found}
 use Rattle.vbr_core.specs.Machine as machine
 use Rattle.vbr_core.specs.Membership.{Knows, IsHeldPlace, KeyAt, StandsBehind, StandsBefore}
-use Rattle.vbr_core.specs.Acceptance.{bucket_of, Accepts}
+use Rattle.vbr_words.specs.Buckets.{bucket_of}
+use Rattle.vbr_core.specs.Acceptance.{Accepts}
 use Rattle.vbr_core.specs.declared.history.Op.{Op}
 use Rattle.vbr_core.specs.declared.event.Step.TheVariants.{ConfirmPresent}
 use Rattle.vbr_core.specs.Incarnations.{State, Unborn, InHand, GivenUp, Linked, Marked, Unlinked, Stamped, Incarnations}

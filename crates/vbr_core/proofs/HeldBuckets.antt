@@ -7,7 +7,7 @@ use Rattle.vbr_words.specs.declared.link.Link.{Link}
 use Rattle.vbr_words.specs.declared.place.At.{At}
 use Rattle.vbr_words.specs.declared.place.At.TheVariants.{Head, Slot}
 use Rattle.vbr_core.specs.Knowledge.{Know}
-use Rattle.vbr_core.specs.Acceptance.{bucket_of}
+use Rattle.vbr_words.specs.Buckets.{bucket_of}
 use Rattle.vbr_core.specs.Learning.{reads_won, read_loaded}
 use Rattle.vbr_core.specs.Machine.{World, found}
 use Rattle.vbr_core.specs.Membership.{Knows, HeldIn, at_head, behind}

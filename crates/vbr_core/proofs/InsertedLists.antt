@@ -5,7 +5,7 @@ use Rattle.std.proofs.lemmas.Bool.Decides.{nat_tests}
 use Rattle.std.proofs.lemmas.Bool.{cases_eq}
 use Rattle.vbr_words.specs.Dimensions.{Dimensions}
 use Rattle.vbr_core.specs.Put.{put}
-use Rattle.vbr_core.specs.Acceptance.{bucket_of}
+use Rattle.vbr_words.specs.Buckets.{bucket_of}
 use Rattle.vbr_core.specs.Incarnations.{Linked, Incarnations}
 use Rattle.vbr_core.specs.Chronicles.{Inserts, AtHead, AtNode, BelongsBefore, MayInsert, becomes}
 use Rattle.vbr_core.specs.Sound.{IsListed, IsApart, ListsSound, Sound}

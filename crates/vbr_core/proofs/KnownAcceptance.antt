@@ -8,7 +8,8 @@ use Rattle.vbr_words.specs.declared.place.At.{At}
 use Rattle.vbr_words.specs.declared.place.At.TheVariants.{Head, Slot}
 use Rattle.vbr_core.specs.Links.{link_to}
 use Rattle.vbr_core.specs.Knowledge.{Know, knows_link, birth_in, key_in, marked_in, holds, holds_at, birth_at, birth_of}
-use Rattle.vbr_core.specs.Acceptance.{bucket_of, KnowsKeyAt, KnowsKeyOf, after_turns, LeadsToKey, next_of_marked, HasChecked, IsBehind, IsBefore, LeadsAbove, MayPublish, IsInRange, Accepts}
+use Rattle.vbr_words.specs.Buckets.{bucket_of}
+use Rattle.vbr_core.specs.Acceptance.{KnowsKeyAt, KnowsKeyOf, after_turns, LeadsToKey, next_of_marked, HasChecked, IsBehind, IsBefore, LeadsAbove, MayPublish, IsInRange, Accepts}
 use Rattle.vbr_core.specs.Learning.{link_written, call_of, present_reply, birth_in_hand}
 use Rattle.vbr_core.specs.Membership.{Knows, IsHeldSlot, IsHeldPlace, BirthAt, BirthNamed, StandsBehind, StandsBefore, StandsBeforeOn, IsUnlinkLink, WritesLink, IsKnown, MayPublishKnown, IsInRangeKnown, AcceptsKnown}
 use Rattle.vbr_core.specs.Incarnations.{Incarnations}

@@ -7,7 +7,8 @@ use Rattle.vbr_words.specs.Flags.{has_flag}
 use Rattle.vbr_words.specs.Dimensions.{Dimensions, IsShape}
 use Rattle.vbr_words.specs.declared.place.At.{At}
 use Rattle.vbr_words.specs.declared.place.At.TheVariants.{Head}
-use Rattle.vbr_core.specs.Acceptance.{bucket_of, Accepts}
+use Rattle.vbr_words.specs.Buckets.{bucket_of}
+use Rattle.vbr_core.specs.Acceptance.{Accepts}
 use Rattle.vbr_core.specs.Accounts.{incarnations_after, notes_after, happens, just, entry_of_call, born_in}
 use Rattle.vbr_core.specs.Calls.{calls_added}
 use Rattle.vbr_core.specs.Chronicles.{Entry, Advances, Gains, Probes, Keyed, Aims, Inserts, Raises, Removes, Stamps, Unlinks, Answers, Allowed, becomes, incarnations_from, IsLawful}

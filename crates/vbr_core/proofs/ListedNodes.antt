@@ -6,7 +6,7 @@ use Rattle.std.proofs.lemmas.Bool.Decides.{nat_tests}
 use Rattle.vbr_words.specs.Dimensions.{Dimensions}
 use Rattle.vbr_words.specs.declared.place.At.{At}
 use Rattle.vbr_words.specs.declared.place.At.TheVariants.{Head, Slot}
-use Rattle.vbr_core.specs.Acceptance.{bucket_of}
+use Rattle.vbr_words.specs.Buckets.{bucket_of}
 use Rattle.vbr_words.specs.declared.link.Link.{Link}
 use Rattle.vbr_core.specs.Agreement.{Fits, IsPair, IsGoodLink}
 use Rattle.vbr_core.specs.Images.{key_shown, link_in_state, link_shown, link_shown_at}

@@ -5,7 +5,7 @@ use Rattle.vbr_words.specs.Dimensions.{Dimensions}
 use Rattle.vbr_words.specs.declared.link.Link.{Link}
 use Rattle.vbr_core.specs.Put.{put}
 use Rattle.vbr_core.specs.Keys.{Keys}
-use Rattle.vbr_core.specs.Acceptance.{bucket_of}
+use Rattle.vbr_words.specs.Buckets.{bucket_of}
 use Rattle.vbr_core.specs.Incarnations.{State, Unborn, InHand, Linked, Marked, Incarnations}
 use Rattle.vbr_core.specs.Images.{key_shown}
 use Rattle.vbr_core.specs.Chronicles.{Advances, Gains, Raises, GivesUp, Bears, Keyed, Aims, Removes, Stamps, Answers, Allowed, becomes}

@@ -10,7 +10,8 @@ use Rattle.vbr_words.specs.declared.place.At.TheVariants.{Head, Slot}
 use Rattle.vbr_core.specs.Opened.{opening_keys}
 use Rattle.vbr_core.specs.History.{set_after}
 use Rattle.vbr_core.specs.Knowledge.{Know}
-use Rattle.vbr_core.specs.Acceptance.{bucket_of, Accepts}
+use Rattle.vbr_words.specs.Buckets.{bucket_of}
+use Rattle.vbr_core.specs.Acceptance.{Accepts}
 use Rattle.vbr_core.specs.Machine.{World}
 use Rattle.vbr_core.specs.Machine as machine
 use Rattle.vbr_core.specs.Membership.{Knows, LeadsTo, itself, onward, StandsBehind, StandsBefore}

@@ -6,7 +6,7 @@ use Rattle.vbr_words.specs.Dimensions.{Dimensions}
 use Rattle.vbr_words.specs.declared.link.Link.{Link}
 use Rattle.vbr_words.specs.declared.place.At.TheVariants.{Head, Slot}
 use Rattle.vbr_core.specs.Put.{put}
-use Rattle.vbr_core.specs.Acceptance.{bucket_of}
+use Rattle.vbr_words.specs.Buckets.{bucket_of}
 use Rattle.vbr_core.specs.Links.{opening_link, link_to}
 use Rattle.vbr_core.specs.Opened.{key_count, has_opening_key, key_number, opening_birth, first_number, is_key_of, first_from, key_behind, birth_named, link_to_key, link_at_opening, opening_place}
 use Rattle.vbr_core.specs.Machine.{World, knows_nothing, opening, counted, with_link_at}

@@ -4,7 +4,8 @@ use Rattle.std.specs.Prelude.{◌⊎◌}
 use Rattle.std.proofs.lemmas.Bool.{cases_lt}
 use Rattle.vbr_words.specs.Dimensions.{Dimensions, IsShape}
 use Rattle.vbr_words.specs.declared.link.Link.{Link}
-use Rattle.vbr_core.specs.Acceptance.{bucket_of}
+use Rattle.vbr_words.specs.Buckets.{bucket_of}
+use Rattle.vbr_words.proofs.Lemmas.{bucket_of-lt}
 use Rattle.vbr_core.specs.Machine.{World, after}
 use Rattle.vbr_core.specs.Runs.{AreAccepted, IsRun, world_after, know_after, NoneOf}
 use Rattle.vbr_core.specs.Incarnations.{State, Unborn, InHand, GivenUp, Linked, Marked, Unlinked, Stamped, Incarnations}
@@ -154,10 +155,6 @@ owner_low shape passes run p s place ok o is_of = go (cases_lt p passes)
     go (inl low) = low
     go (inr high) = absurd (is_of (rw (knows_none shape passes run p s high ok) at o))
 
-bucket_low : (shape : Dimensions) (key : ℕ) → IsShape shape → bucket_of shape key < shape.buckets
-unfolding bucket_of
-bucket_low shape key is = let some = is.some_bucket in omega arith
-
 module _ (shape : Dimensions) (passes : ℕ) (run : List Event) (is : IsShape shape) (ok : IsRun shape passes run) where
   abbrev w : World
   w = world_after shape run
@@ -182,7 +179,7 @@ module _ (shape : Dimensions) (passes : ℕ) (run : List Event) (is : IsShape sh
       let f = list_state shape b (a.state c) (a.key c) (rw e at (g.sound.slots.placed c s l)) in
       let slot = (g.sound.slots.last_born s c l).1 in
       let r = listed_reached shape w a g.sound g.image c f.0 in
-      (rw (← f.1) (bucket_low shape (a.key c) is), rw l f, rw (← f.1, ← slot) r)
+      (rw (← f.1) (bucket_of-lt shape (a.key c) is.some_bucket), rw l f, rw (← f.1, ← slot) r)
 
   -- each slot is in exactly one place
   pub are_placed : ArePlaced shape passes w a

@@ -7,7 +7,8 @@ use Rattle.vbr_words.specs.Words.{word_of, link_of}
 use Rattle.vbr_words.specs.declared.place.At.{At}
 use Rattle.vbr_words.specs.declared.place.At.TheVariants.{Head, Slot}
 use Rattle.vbr_core.specs.Put.{put}
-use Rattle.vbr_core.specs.Acceptance.{Accepts, bucket_of}
+use Rattle.vbr_words.specs.Buckets.{bucket_of}
+use Rattle.vbr_core.specs.Acceptance.{Accepts}
 use Rattle.vbr_core.specs.Learning.{with_own, with_checked, reads_won, link_written, key_in_hand}
 use Rattle.vbr_core.specs.Machine.{World, with_link_at}
 use Rattle.vbr_core.specs.Machine as machine

@@ -11,7 +11,8 @@ use Rattle.vbr_core.specs.Put.{put}
 use Rattle.vbr_core.specs.Opened.{opening_keys}
 use Rattle.vbr_core.specs.History.{set_after}
 use Rattle.vbr_core.specs.Knowledge.{key_in, birth_in}
-use Rattle.vbr_core.specs.Acceptance.{bucket_of, Accepts}
+use Rattle.vbr_words.specs.Buckets.{bucket_of}
+use Rattle.vbr_core.specs.Acceptance.{Accepts}
 use Rattle.vbr_core.specs.Learning.{link_written, call_of, present_reply}
 use Rattle.vbr_core.specs.Machine.{World, opening, link_at, found, after}
 use Rattle.vbr_core.specs.Runs.{AreAccepted, IsRun, world_after, know_after}

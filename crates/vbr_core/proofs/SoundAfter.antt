@@ -5,7 +5,7 @@ use Rattle.std.specs.List.Sorted.{IsStrictlyIncreasing}
 use Rattle.std.proofs.lemmas.Bool.{cases_eq, cases_lt, lt-ltb, le-ltb}
 use Rattle.vbr_words.specs.Dimensions.{Dimensions}
 use Rattle.vbr_core.specs.Keys.{Keys}
-use Rattle.vbr_core.specs.Acceptance.{bucket_of}
+use Rattle.vbr_words.specs.Buckets.{bucket_of}
 use Rattle.vbr_core.specs.Opened.{key_count, has_opening_key, key_number, key_behind}
 use Rattle.vbr_core.specs.Incarnations.{Unborn, Linked, Incarnations, opening_state, opening_last, at_opening}
 use Rattle.vbr_core.specs.Chronicles.{Happening, Advances, Gains, Probes, Raises, GivesUp, Bears, Keyed, Aims, Inserts, Removes, Unlinks, Stamps, Answers, AtHead, AtNode, Entry, Allowed, becomes, incarnations_from, IsLawful}

@@ -8,7 +8,8 @@ use Rattle.vbr_words.specs.declared.link.Link.{Link}
 use Rattle.vbr_words.specs.declared.place.At.{At}
 use Rattle.vbr_words.specs.declared.place.At.TheVariants.{Head, Slot}
 use Rattle.vbr_core.specs.Knowledge.{knows_link, birth_at}
-use Rattle.vbr_core.specs.Acceptance.{bucket_of, KnowsKeyAt, KnowsKeyOf, IsBehind, IsBefore}
+use Rattle.vbr_words.specs.Buckets.{bucket_of}
+use Rattle.vbr_core.specs.Acceptance.{KnowsKeyAt, KnowsKeyOf, IsBehind, IsBefore}
 use Rattle.vbr_core.specs.Machine.{World}
 use Rattle.vbr_core.specs.Machine as machine
 use Rattle.vbr_core.specs.Incarnations.{Incarnations, last_in}

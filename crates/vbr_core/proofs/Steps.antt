@@ -13,7 +13,8 @@ use Rattle.vbr_core.specs.Images.{birth_shown, key_shown, link_to_next, link_in_
 use Rattle.vbr_core.specs.Chronicles.{Happening, IsLawful, Allowed, becomes, incarnations_from}
 use Rattle.vbr_core.specs.Notes.{Notes, no_notes, notes_with}
 use Rattle.vbr_core.specs.Accounts.{happens}
-use Rattle.vbr_core.specs.Acceptance.{bucket_of, IsInHand, IsUnlinked, IsReread}
+use Rattle.vbr_words.specs.Buckets.{bucket_of}
+use Rattle.vbr_core.specs.Acceptance.{IsInHand, IsUnlinked, IsReread}
 use Rattle.vbr_core.specs.Agreement.{IsNotOf, IsStored, OwnFits, AllKnowRight, Owns, Fits, Agrees}
 use Rattle.vbr_core.specs.declared.event.Step.{Step}
 use Rattle.vbr_core.specs.declared.knowledge.Holding.{Holding}

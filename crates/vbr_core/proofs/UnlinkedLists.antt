@@ -6,7 +6,7 @@ use Rattle.std.proofs.lemmas.Bool.{cases_eq}
 use Rattle.vbr_words.specs.Dimensions.{Dimensions}
 use Rattle.vbr_core.specs.Put.{put}
 use Rattle.vbr_core.specs.Keys.{Keys}
-use Rattle.vbr_core.specs.Acceptance.{bucket_of}
+use Rattle.vbr_words.specs.Buckets.{bucket_of}
 use Rattle.vbr_core.specs.Incarnations.{Unlinked, Incarnations}
 use Rattle.vbr_core.specs.Chronicles.{Unlinks, AtHead, AtNode, Allowed, becomes}
 use Rattle.vbr_core.specs.Sound.{IsListed, IsApart, ListsSound, Sound}

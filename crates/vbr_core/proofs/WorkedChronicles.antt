@@ -5,7 +5,7 @@ use Rattle.vbr_words.specs.Flags.{has_flag, first_bits, flag_word}
 use Rattle.vbr_words.specs.Words.{word_of, link_of}
 use Rattle.vbr_words.specs.declared.place.At.TheVariants.{Head, Slot}
 use Rattle.vbr_core.specs.Opened.{opening_keys}
-use Rattle.vbr_core.specs.Acceptance.{bucket_of}
+use Rattle.vbr_words.specs.Buckets.{bucket_of}
 use Rattle.vbr_core.specs.Incarnations.{at_opening, Linked, Unlinked, Stamped, InHand}
 use Rattle.vbr_core.specs.Images.{link_shown_at, birth_shown, key_shown}
 use Rattle.vbr_core.specs.Chronicles.{Happening, Advances, Gains, Bears, Keyed, Aims, Inserts, Removes, Unlinks, Stamps, AtHead, Entry, IsLawful}

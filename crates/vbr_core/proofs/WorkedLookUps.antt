@@ -3,7 +3,7 @@ use Rattle.std.proofs.Common.{◌≡◌, true, false, [], ◌∷◌, ◌++◌, t
 use Rattle.vbr_words.specs.Flags.{has_flag, first_bits, flag_word}
 use Rattle.vbr_words.specs.Words.{word_of, link_of}
 use Rattle.vbr_words.specs.declared.place.At.TheVariants.{Head}
-use Rattle.vbr_core.specs.Acceptance.{bucket_of}
+use Rattle.vbr_words.specs.Buckets.{bucket_of}
 use Rattle.vbr_core.specs.Learning.{effect_of}
 use Rattle.vbr_core.specs.Machine.{found}
 use Rattle.vbr_core.specs.Runs.{IsAccepted, world_after}

@@ -1,9 +1,9 @@
 -- Each refusal of the core, computed once, on a shape of one slot, one bucket and one epoch, with one pass.
-use Rattle.std.proofs.Common.{◌≡◌, [], ◌∷◌, take, refl, rules, tests}
+use Rattle.std.proofs.Common.{◌≡◌, [], ◌∷◌, take, refl, rules, tests, false}
 use Rattle.vbr_words.specs.Dimensions.{Dimensions}
 use Rattle.vbr_words.specs.Flags.{has_flag, first_bits, flag_word}
 use Rattle.vbr_words.specs.Words.{word_of, link_of}
-use Rattle.vbr_core.specs.Acceptance.{bucket_of}
+use Rattle.vbr_words.specs.Buckets.{bucket_of}
 use Rattle.vbr_core.specs.Machine.{opening}
 use Rattle.vbr_core.specs.Runs.{IsRun, Refuses, world_after}
 use Rattle.vbr_core.specs.declared.event.Step.TheVariants.{ReadEpoch, Advance, TakeFlag, StoreBirth, StoreKey, LoadKey}
@@ -12,7 +12,7 @@ use Rattle.vbr_core.specs.declared.event.CoreRefusal.TheVariants.{NoSuchPass, No
 use Rattle.vbr_core.proofs.WorkedLists.{by, shape_of_three, reborn_slot, effects_from}
 
 abbrev one_of_each : Dimensions
-one_of_each = record { slots = 1; buckets = 1; last_epoch = 1; keys = [] }
+one_of_each = record { slots = 1; buckets = 1; spread = false; last_epoch = 1; keys = [] }
 
 pub no_such_pass : Refuses one_of_each 1 (opening one_of_each) (by 1 ReadEpoch) NoSuchPass
 unfolding bucket_of link_of word_of has_flag first_bits flag_word

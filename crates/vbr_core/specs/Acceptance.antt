@@ -1,5 +1,6 @@
 -- What each kind of step asks: of the shape, of what its pass knows, and of the step alone.
-use Rattle.std.specs.Prelude.{◌≡◌, ◌≢◌, ℕ, zero, suc, ◌%◌, ◌<◌, ◌≤◌, true, false, List, Option, Some, None, IsSome, IsTrue, unwrap_or}
+use Rattle.std.specs.Prelude.{◌≡◌, ◌≢◌, ℕ, zero, suc, ◌<◌, ◌≤◌, true, false, List, Option, Some, None, IsSome, IsTrue, unwrap_or}
+use Rattle.vbr_words.specs.Buckets.{bucket_of}
 use Rattle.vbr_words.specs.Dimensions.{Dimensions}
 use Rattle.vbr_words.specs.Words.{link_of}
 use Rattle.vbr_words.specs.declared.link.Link.{Link}
@@ -13,10 +14,6 @@ use Rattle.vbr_core.specs.declared.event.Step.TheVariants.{ReadEpoch, Advance, L
 use Rattle.vbr_core.specs.declared.knowledge.Read.{Read}
 use Rattle.vbr_core.specs.declared.knowledge.Holding.{Holding}
 use Rattle.vbr_core.specs.declared.knowledge.Holding.TheVariants.{Free, Unlinked, InHand}
-
--- the bucket of a key
-unfoldable pub bucket_of : Dimensions → ℕ → ℕ
-bucket_of shape key = key % shape.buckets
 
 -- ---- the shape
 

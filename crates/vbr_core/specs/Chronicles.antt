@@ -5,7 +5,7 @@ use Rattle.vbr_words.specs.declared.link.Link.{Link}
 use Rattle.vbr_core.specs.Put.{put}
 use Rattle.vbr_core.specs.Keys.{Keys}
 use Rattle.vbr_core.specs.History.{reply_of, set_after}
-use Rattle.vbr_core.specs.Acceptance.{bucket_of}
+use Rattle.vbr_words.specs.Buckets.{bucket_of}
 use Rattle.vbr_core.specs.Incarnations.{State, InHand, GivenUp, Linked, Marked, Unlinked, Stamped, Incarnations}
 use Rattle.vbr_core.specs.Images.{link_to_next, key_shown, link_shown}
 use Rattle.vbr_core.specs.declared.history.Call.{Call}

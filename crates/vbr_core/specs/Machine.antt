@@ -12,7 +12,7 @@ use Rattle.vbr_words.specs.declared.place.Place.{Place}
 use Rattle.vbr_words.specs.declared.place.Place.TheVariants as place
 use Rattle.vbr_core.specs.Put.{put}
 use Rattle.vbr_core.specs.Knowledge.{Know}
-use Rattle.vbr_core.specs.Acceptance.{bucket_of}
+use Rattle.vbr_words.specs.Buckets.{bucket_of}
 use Rattle.vbr_core.specs.Opened.{key_count, key_number, opening_birth, first_key, link_to_key, link_at_opening, opening_place}
 use Rattle.vbr_core.specs.Learning.{succeeds, link_written, key_written, learn, call_of}
 use Rattle.vbr_core.specs.declared.history.Call.{Call}

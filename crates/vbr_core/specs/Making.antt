@@ -6,7 +6,7 @@ use Rattle.vbr_words.specs.declared.shape.TheConstants.{MAX_EPOCH}
 use Rattle.vbr_core.specs.Learning.{succeeds, call_of}
 use Rattle.vbr_core.specs.Put.{put}
 use Rattle.vbr_core.specs.Links.{opening_link, link_to}
-use Rattle.vbr_core.specs.Acceptance.{bucket_of}
+use Rattle.vbr_words.specs.Buckets.{bucket_of}
 use Rattle.vbr_core.specs.Opened.{key_count, key_number, opening_birth, first_from, link_to_key, link_at_opening, opening_place}
 use Rattle.vbr_core.specs.Machine.{World, opening, counted, found, with_learning, with_call}
 use Rattle.vbr_core.specs.declared.event.Step.{Step}

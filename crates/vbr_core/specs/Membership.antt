@@ -8,7 +8,8 @@ use Rattle.vbr_words.specs.declared.place.At.{At}
 use Rattle.vbr_words.specs.declared.place.At.TheVariants.{Head, Slot}
 use Rattle.vbr_core.specs.Links.{link_to, marked}
 use Rattle.vbr_core.specs.Knowledge.{Know}
-use Rattle.vbr_core.specs.Acceptance.{bucket_of, IsInShape, IsOwned, IsInRange, IsBelowLast}
+use Rattle.vbr_words.specs.Buckets.{bucket_of}
+use Rattle.vbr_core.specs.Acceptance.{IsInShape, IsOwned, IsInRange, IsBelowLast}
 use Rattle.vbr_core.specs.Learning.{birth_in_hand}
 use Rattle.vbr_core.specs.declared.history.Op.TheVariants.{Insert}
 use Rattle.vbr_core.specs.declared.event.Step.{Step}

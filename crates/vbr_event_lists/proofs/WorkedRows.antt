@@ -4,7 +4,7 @@ use Rattle.std.specs.Prelude.{if◌then◌else◌}
 use Rattle.vbr_words.specs.Dimensions.{Dimensions}
 use Rattle.vbr_words.specs.Flags.{has_flag, first_bits, flag_word}
 use Rattle.vbr_words.specs.Words.{word_of, link_of}
-use Rattle.vbr_core.specs.Acceptance.{bucket_of}
+use Rattle.vbr_words.specs.Buckets.{bucket_of}
 use Rattle.vbr_core.specs.Machine.{World, after, opening}
 use Rattle.vbr_core.specs.declared.event.Effect.{Effect}
 use Rattle.vbr_core.specs.declared.event.Step.{Step}

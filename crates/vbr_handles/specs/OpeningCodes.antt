@@ -14,4 +14,4 @@ pub record TellsOpeningWith (before after : List Handle) (shape : Dimensions) (c
 
 -- the code is that of an answer to an opening with these numbers and no keys
 abbrev pub TellsOpening : List Handle → List Handle → ℕ → ℕ → ℕ → ℤ → Type 0
-TellsOpening before after slots buckets last_epoch code = TellsOpeningWith before after (record { slots = slots; buckets = buckets; last_epoch = last_epoch; keys = [] }) code
+TellsOpening before after slots buckets last_epoch code = TellsOpeningWith before after (record { slots = slots; buckets = buckets; spread = true; last_epoch = last_epoch; keys = [] }) code

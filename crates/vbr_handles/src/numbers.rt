@@ -60,7 +60,7 @@ pub fn open(alloc: Global, handles: &mut [Handle], slots: u32, buckets: u32, las
 
 /// Opens a set of these keys for handles, as [`crate::open_with`] does.
 pub fn open_with(alloc: Global, handles: &mut [Handle], numbers: ShapeNumbers, keys: &[u64]) -> i32
-    ensures { TellsOpeningWith handles.old handles.new (record { slots = numbers.slots; buckets = numbers.buckets; last_epoch = numbers.last_epoch; keys = keys.now }) result }
+    ensures { TellsOpeningWith handles.old handles.new (record { slots = numbers.slots; buckets = numbers.buckets; spread = true; last_epoch = numbers.last_epoch; keys = keys.now }) result }
 {
     open_code(crate::opening::open_with(alloc, handles, numbers, keys))
 }

@@ -1,6 +1,7 @@
 //! Opening a set for handles.
-ghost use Rattle.std.specs.Prelude.{◌≡◌, ◌≤◌, true, false, [], length, map, Some, IfOk};
+ghost use Rattle.std.specs.Prelude.{◌≡◌, ◌≤◌, true, false, [], length, map, None, Some, IfOk, IfSome};
 ghost use Rattle.std.specs.List.Sorted.{IsStrictlyIncreasing};
+ghost use Rattle.vbr_words.specs.Dimensions.{IsShape};
 ghost use Rattle.vbr_handles.specs.Opening.{AreEmpty, Opens};
 
 use crate::handle::Handle;
@@ -33,6 +34,17 @@ pub struct ShapeNumbers {
     pub last_epoch: u64,
 }
 
+impl ShapeNumbers {
+    // The shape of these numbers, with keys spread over the buckets; none, if one of them is out of range.
+    fn shape(self) -> Option<Shape>
+        ensures some { IfSome result (λ shape. shape ≡ record { slots = self.slots; buckets = self.buckets; spread = true; last_epoch = self.last_epoch; keys = [] }) }
+        ensures in_range { result ≡ None → ¬ (IsShape (record { slots = self.slots; buckets = self.buckets; spread = true; last_epoch = self.last_epoch; keys = [] })) }
+    {
+        let narrow = Shape::new(self.slots, 1, self.last_epoch).ok()?;
+        narrow.spread_over(self.buckets).ok()
+    }
+}
+
 /// Opens an empty set with a pass for each of the handles, in the order of the passes' numbers.
 pub fn open(
     alloc: Global,
@@ -41,7 +53,7 @@ pub fn open(
     buckets: u32,
     last_epoch: u64,
 ) -> Result<(), OpenRefusal>
-    ensures { Opens handles.old handles.new (record { slots = slots; buckets = buckets; last_epoch = last_epoch; keys = [] }) result }
+    ensures { Opens handles.old handles.new (record { slots = slots; buckets = buckets; spread = true; last_epoch = last_epoch; keys = [] }) result }
 {
     let numbers = ShapeNumbers {
         slots,
@@ -60,12 +72,12 @@ pub fn open_with(
     numbers: ShapeNumbers,
     keys: &[u64],
 ) -> Result<(), OpenRefusal>
-    ensures { Opens handles.old handles.new (record { slots = numbers.slots; buckets = numbers.buckets; last_epoch = numbers.last_epoch; keys = keys.now }) result }
+    ensures { Opens handles.old handles.new (record { slots = numbers.slots; buckets = numbers.buckets; spread = true; last_epoch = numbers.last_epoch; keys = keys.now }) result }
 {
     if !are_empty(handles) {
         return Err(OpenRefusal::InUse);
     }
-    let Ok(shape) = Shape::new(numbers.slots, numbers.buckets, numbers.last_epoch) else {
+    let Some(shape) = numbers.shape() else {
         return Err(OpenRefusal::Shape);
     };
     if handles.is_empty() || handles.len() > 64 {

@@ -2,7 +2,7 @@
 use Rattle.std.proofs.Common.{◌≡◌, ℕ, ◌+◌, ◌%◌, ◌≤◌, [], Result, Ok, Err, refl, sym, ap, ◌∙◌, subst, arith}
 use Rattle.std.specs.Prelude.{IfOk}
 use Rattle.vbr_words.specs.Dimensions.{Dimensions}
-use Rattle.vbr_core.specs.Acceptance.{bucket_of}
+use Rattle.vbr_words.specs.Buckets.{bucket_of}
 use Rattle.vbr_slots.specs.Calls.{IsSame, Quiet, Took}
 use Rattle.vbr_slots.specs.Views.{Trace, TableView, PassView, IsOf}
 use Rattle.vbr_slots.proofs.Lemmas.{quiet_on, quiet_refl}
@@ -45,9 +45,9 @@ pub within_of : {p q : Trace} (used budget : ℕ) → used ≤ budget → Counts
 within_of used budget le counts = record { steps = used; within = le; took = took_all counts }
 
 -- the bucket of a key is that of the table's shape
-pub bucket_is : (a b bare : Dimensions) (bucket key : ℕ) → a ≡ b → bare ≡ record b { keys = [] } → bucket ≡ key % bare.buckets → bucket ≡ bucket_of a key
+pub bucket_is : (a b bare : Dimensions) (bucket key : ℕ) → a ≡ b → bare ≡ record b { keys = [] } → bucket ≡ bucket_of bare key → bucket ≡ bucket_of a key
 unfolding bucket_of
-bucket_is a b bare bucket key e g f = f ∙ ap (λ (shape : Dimensions). key % shape.buckets) g ∙ ap (λ (shape : Dimensions). key % shape.buckets) (sym e)
+bucket_is a b bare bucket key e g f = f ∙ ap (λ (shape : Dimensions). bucket_of shape key) g ∙ ap (λ (shape : Dimensions). bucket_of shape key) (sym e)
 
 -- a call stays the same one from piece to piece
 pub call_on : {b c d : Call} → IsSameCall b c → IsSameCall c d → IsSameCall b d

@@ -3,7 +3,7 @@ use Rattle.std.proofs.Common.{◌≡◌, ◌≢◌, ℕ, ◌+◌, ◌*◌, ◌<�
 use Rattle.std.specs.Prelude.{IfErr}
 use Rattle.vbr_words.specs.Dimensions.{Dimensions}
 use Rattle.vbr_words.specs.declared.place.At.TheVariants.{Head}
-use Rattle.vbr_core.specs.Acceptance.{bucket_of}
+use Rattle.vbr_words.specs.Buckets.{bucket_of}
 use Rattle.vbr_slots.specs.Alone.{IsAlone, ahead}
 use Rattle.vbr_slots.specs.Calls.{Quiet}
 use Rattle.vbr_slots.specs.Views.{Trace, PassView}

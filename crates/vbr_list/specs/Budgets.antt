@@ -1,7 +1,7 @@
 -- The budgets that suffice a pass that is alone: it is refused for want of steps only below them.
 use Rattle.std.specs.Prelude.{ℕ, ◌<◌, Result, Ok, Err}
 use Rattle.vbr_words.specs.declared.place.At.TheVariants.{Head}
-use Rattle.vbr_core.specs.Acceptance.{bucket_of}
+use Rattle.vbr_words.specs.Buckets.{bucket_of}
 use Rattle.vbr_slots.specs.Alone.{ahead}
 use Rattle.vbr_slots.specs.Views.{Trace}
 use Rattle.vbr_list.specs.declared.refusal.Refusal.{Refusal}

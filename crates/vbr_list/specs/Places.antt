@@ -3,7 +3,7 @@ use Rattle.std.specs.Prelude.{◌≡◌, ℕ, ◌≤◌, ◌==◌, Bool, true, f
 use Rattle.vbr_words.specs.Dimensions.{Dimensions}
 use Rattle.vbr_words.specs.Words.{link_of}
 use Rattle.vbr_words.specs.declared.place.At.TheVariants.{Slot}
-use Rattle.vbr_core.specs.Acceptance.{bucket_of}
+use Rattle.vbr_words.specs.Buckets.{bucket_of}
 use Rattle.vbr_core.specs.Knowledge.{Know}
 use Rattle.vbr_core.specs.Membership.{KeyAt, HeldIn, StandsBehind, StandsBeforeOn}
 use Rattle.vbr_access.specs.Held.{IsHeld, Names}

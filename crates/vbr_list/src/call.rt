@@ -1,6 +1,6 @@
 //! A call in progress.
 ghost use Rattle.std.specs.Prelude.{◌≡◌, ◌<◌, ◌≤◌};
-ghost use Rattle.vbr_core.specs.Acceptance.{bucket_of};
+ghost use Rattle.vbr_words.specs.Buckets.{bucket_of};
 
 use vbr_slots::AtTable;
 

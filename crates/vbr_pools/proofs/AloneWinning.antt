@@ -1,7 +1,7 @@
 -- The shared pool, probed by a pass that is alone: it finds each flag word as it stood, and wins the first flag that it has seen set.
-use Rattle.std.proofs.Common.{◌≡◌, ℕ, ◌+◌, ◌*◌, ◌<◌, ◌≤◌, Bool, true, false, cond, List, ◌++◌, refl, sym, ap, ◌∙◌, subst, ◌⊎◌, inl, inr, ⊎_elim, arith}
+use Rattle.std.proofs.Common.{◌≡◌, ℕ, ◌+◌, ◌*◌, ◌≤◌, Bool, true, false, cond, List, ◌++◌, sym, ap, ◌∙◌, subst, ◌⊎◌, inl, inr, ⊎_elim, arith}
 use Rattle.vbr_words.specs.Dimensions.{Dimensions}
-use Rattle.vbr_words.specs.Flags.{word_of_flag, flag_words, has_flag, IsNextFlag}
+use Rattle.vbr_words.specs.Flags.{word_of_flag, has_flag, IsNextFlag}
 use Rattle.vbr_words.specs.declared.place.Place.TheVariants as place
 use Rattle.vbr_core.specs.Machine.{World, word_at, found}
 use Rattle.vbr_core.specs.Runs.{world_after}
@@ -17,9 +17,9 @@ use Rattle.vbr_pools.proofs.Moments.{flag_shown}
 abbrev pub flags_seen : Trace → ℕ → ℕ
 flags_seen q s = found q.shape (world_after q.shape q.seen) (TakeFlag s)
 
--- so many probes were made, one for each word before that of the next slot, and one more where its flag was seen set in that word
-abbrev pub Probed : Trace → ℕ → ℕ → Type 0
-Probed q used next = (used ≡ word_of_flag next) ⊎ ((used ≡ word_of_flag next + 1) × (has_flag (flags_seen q next) next ≡ true))
+-- so many probes were made since the word `from`, with so many words before slot 0 of this turn: no more than one for each word before that of the next slot, and one more where its flag was seen set in that word
+abbrev pub Probed : Trace → ℕ → ℕ → ℕ → ℕ → Type 0
+Probed q from turn used next = (from + used ≤ turn + word_of_flag next) ⊎ ((from + used ≤ turn + word_of_flag next + 1) × (has_flag (flags_seen q next) next ≡ true))
 
 module _ {q r : Trace} {slot n : ℕ} (d : Did (TakeFlag slot) q r n) (alone : IsAlone q r) (lost : has_flag n slot ≡ false) where
   -- the word that was found is the one that the pass had seen
@@ -46,22 +46,29 @@ module _ {q r : Trace} {slot n : ℕ} (d : Did (TakeFlag slot) q r n) (alone : I
   same_word : (s : ℕ) → word_of_flag s ≡ word_of_flag slot → flags_seen q s ≡ flags_seen q slot
   same_word s e = ap (λ (number : ℕ). word_at q.shape (world_after q.shape q.seen) (place.Flags number)) e
 
-  -- after a flag that is lost, either the next one was seen set in the same word, or the next word comes
-  pub probed_next : {used next : ℕ} → Probed q used slot → IsNextFlag n slot next → Probed r (used + 1) next
-  probed_next {used} {next} at then = ⊎_elim (λ (first : used ≡ word_of_flag slot). next_of first then.place) (λ (again : (used ≡ word_of_flag slot + 1) × (has_flag (flags_seen q slot) slot ≡ true)). absurd (torn (has_flag (flags_seen q slot) slot) again.1 unset)) at
+  -- a flag that is lost is the first that was tried in its word
+  pub probed_lost : (from turn used : ℕ) → Probed q from turn used slot → from + used ≤ turn + word_of_flag slot
+  probed_lost from turn used at = ⊎_elim (λ (first : from + used ≤ turn + word_of_flag slot). first) (λ (again : (from + used ≤ turn + word_of_flag slot + 1) × (has_flag (flags_seen q slot) slot ≡ true)). absurd (torn (has_flag (flags_seen q slot) slot) again.1 unset)) at
     where
       torn : (b : Bool) → b ≡ true → b ≡ false → ⊥
       torn true set clear = absurd (cc)
       torn false set clear = absurd (cc)
 
-      next_of : used ≡ word_of_flag slot → ((word_of_flag next ≡ word_of_flag slot) × (has_flag n next ≡ true)) ⊎ ((n ≡ 0) × (next ≡ 64 * (word_of_flag slot + 1))) → Probed r (used + 1) next
-      next_of first (inl here) = inr (ap (λ (m : ℕ). m + 1) (first ∙ sym here.0), subst (λ (w : ℕ). has_flag w next ≡ true) (word_seen ∙ sym (same_word next here.0) ∙ sym (flags_kept next)) here.1)
-      next_of first (inr past) = let e = past.1 in inl (omega (arith, first, e))
+  -- after it, either the next one was seen set in the same word, or the next word comes
+  pub probed_next : (from turn used next : ℕ) → Probed q from turn used slot → IsNextFlag n slot next → Probed r from turn (used + 1) next
+  probed_next from turn used next at then = next_of then.place
+    where
+      first : from + used ≤ turn + word_of_flag slot
+      first = probed_lost from turn used at
+
+      next_of : ((word_of_flag next ≡ word_of_flag slot) × (has_flag n next ≡ true)) ⊎ ((n ≡ 0) × (next ≡ 64 * (word_of_flag slot + 1))) → Probed r from turn (used + 1) next
+      next_of (inl here) = let same = here.0 in inr (omega (arith, first, same), subst (λ (w : ℕ). has_flag w next ≡ true) (word_seen ∙ sym (same_word next here.0) ∙ sym (flags_kept next)) here.1)
+      next_of (inr past) = let e = past.1 in inl (omega (arith, first, e))
 
 -- before the first probe
-pub probed_first : (p : Trace) → Probed p 0 0
-probed_first p = inl refl
+pub probed_first : (p : Trace) (start : ℕ) → Probed p (word_of_flag start) 0 0 start
+probed_first p start = inl (omega arith)
 
--- a probe of a slot of the shape comes after no more probes than there are flag words
-pub probed_few : (q : Trace) {used slot slots : ℕ} → Probed q used slot → slot < slots → used ≤ flag_words slots
-probed_few q {used} {slot} {slots} at low = ⊎_elim (λ (first : used ≡ word_of_flag slot). omega (arith, first, low)) (λ (again : (used ≡ word_of_flag slot + 1) × (has_flag (flags_seen q slot) slot ≡ true)). (let e = again.0 in omega (arith, e, low))) at
+-- no more probes were made than one for each word up to that of the next slot
+pub probed_few : (q : Trace) (from turn used slot : ℕ) → Probed q from turn used slot → from + used ≤ turn + word_of_flag slot + 1
+probed_few q from turn used slot at = ⊎_elim (λ (first : from + used ≤ turn + word_of_flag slot). omega (arith, first)) (λ (again : (from + used ≤ turn + word_of_flag slot + 1) × (has_flag (flags_seen q slot) slot ≡ true)). again.0) at

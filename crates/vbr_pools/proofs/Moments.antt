@@ -13,9 +13,10 @@ use Rattle.vbr_core.specs.declared.knowledge.SlotPlace.{SlotPlace}
 use Rattle.vbr_core.specs.declared.knowledge.SlotPlace.TheVariants.{Shared, Own, Hand, Listed}
 use Rattle.vbr_core.proofs.Lemmas.{begins_trans, flag_shared, flag_won, unflagged, word_told}
 use Rattle.vbr_slots.specs.Calls.{Quiet}
+use Rattle.vbr_slots.specs.Tried.{last_tried}
 use Rattle.vbr_slots.specs.Views.{Trace, Did, knows, event_of, epoch_after}
 use Rattle.vbr_slots.proofs.Lemmas.{did_moment, epoch_learned, moment_after, moment_before}
-use Rattle.vbr_pools.specs.SharedPool.{WasOutside, CameByFlag}
+use Rattle.vbr_pools.specs.SharedPool.{WasOutside, ComesBefore, CameByFlag}
 
 -- the epoch that a pass knows after a step
 pub epoch_told : {step : Step} {p q : Trace} {r : ℕ} → Did step p q r → (knows q).epoch ≡ epoch_after step r (knows p).epoch
@@ -62,10 +63,10 @@ pub missed_after : {p q r : Trace} {s : ℕ} → Quiet p q → WasOutside q r s 
 missed_after {p} {q} {r} {s} a b = record { moment = b.moment; is = moment_after a.seen b.is; outside = subst (λ (shape : Dimensions). (world_after shape b.moment).place s ≢ Shared) a.same.shape b.outside }
 
 pub came_before : {p q r : Trace} {s : ℕ} → CameByFlag p q s → Quiet q r → CameByFlag p r s
-came_before {p} {q} {r} {s} a b = record { moment = a.moment; is = moment_before a.is b; shared = a.shared; taken = begins_trans _ q.seen r.seen a.taken b.seen; first = λ t less. missed_before (a.first t less) b }
+came_before {p} {q} {r} {s} a b = record { moment = a.moment; is = moment_before a.is b; shared = a.shared; taken = begins_trans _ q.seen r.seen a.taken b.seen; first = λ t low less. missed_before (a.first t low less) b }
 
 -- the flag of a slot was taken, once those of the slots before it were lost
-pub came : {p q r : Trace} {s n : ℕ} → Quiet p q → Did (TakeFlag s) q r n → has_flag n s ≡ true → ((t : ℕ) → t < s → WasOutside p r t) → CameByFlag p r s
+pub came : {p q r : Trace} {s n : ℕ} → Quiet p q → Did (TakeFlag s) q r n → has_flag n s ≡ true → ((t : ℕ) → t < p.shape.slots → ComesBefore (word_of_flag (last_tried p)) t s → WasOutside p r t) → CameByFlag p r s
 came {p} {q} {r} {s} {n} a d set before =
     let moment = q.seen ++ d.rest in
     let here : (world_after q.shape moment).place s ≡ Shared = in_pool _ (flag_shared q.shape (world_after q.shape moment) s (flag_won s n (found q.shape (world_after q.shape moment) (TakeFlag s)) (flag_shown d) set)) in

@@ -17,7 +17,8 @@ use vbr_slots::{Pass, Slots};
 
 /// Takes a slot, and gives birth to a new incarnation there, above the slot's stamp: a slot of the
 /// own pool, the oldest that may be born in; or, where that pool is empty, the first of the shared
-/// pool. It waits for nobody.
+/// pool on a way once round its flag words, which begins where the pass looked last. It waits for
+/// nobody.
 ///
 /// The call makes at most `budget` steps. It goes in pieces, and tests before each whether the budget
 /// has room for it; if not, it answers OutOfSteps. It looks in the shared pool only where the own

@@ -9,7 +9,7 @@ use Rattle.vbr_words.specs.Words.{link_of}
 use Rattle.vbr_words.specs.declared.link.Link.{Link}
 use Rattle.vbr_words.specs.declared.place.At.TheVariants.{Head, Slot}
 use Rattle.vbr_words.specs.declared.place.Place.TheVariants as place
-use Rattle.vbr_core.specs.Acceptance.{bucket_of}
+use Rattle.vbr_words.specs.Buckets.{bucket_of}
 use Rattle.vbr_core.specs.Accounts.{incarnations_after}
 use Rattle.vbr_core.specs.Agreement.{Fits}
 use Rattle.vbr_core.specs.Images.{slot_shown}

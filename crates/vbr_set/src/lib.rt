@@ -67,5 +67,5 @@ pub use vbr_core::{Call, Op};
 pub use vbr_list::Refusal;
 pub use vbr_slots::{CloseError, OpenError, Pass};
 pub use vbr_words::link::MAX_SLOTS;
-pub use vbr_words::shape::{MAX_BUCKETS, MAX_EPOCH};
-pub use vbr_words::{Shape, ShapeError};
+pub use vbr_words::shape::{MAX_BUCKETS, MAX_EPOCH, MAX_SPREAD_BUCKETS};
+pub use vbr_words::{Shape, ShapeError, SpreadError};

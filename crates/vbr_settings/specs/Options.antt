@@ -73,6 +73,7 @@ settings_among rows = record {
   shape = record {
     slots = number_among (codes "slots") rows;
     buckets = number_among (codes "buckets") rows;
+    spread = false;
     last_epoch = number_among (codes "last-epoch") rows;
     keys = [];
   };

@@ -8,6 +8,7 @@ mod LookUps
 mod ReadsInRows
 mod Learning
 mod Steps
+mod Tried
 mod Seats
 mod Openings
 mod Closings

@@ -17,7 +17,7 @@ use Rattle.vbr_words.specs.declared.place.Place.{Place}
 use Rattle.vbr_words.specs.declared.place.Place.TheVariants.{Epoch, ShapeWord, Head, LinkOf, Birth, Stamp, Key, Flags}
 use Rattle.vbr_words.proofs.Lemmas.{flag_word_same, index_of-lt, same_place}
 use Rattle.vbr_core.specs.Put.{put}
-use Rattle.vbr_core.specs.Acceptance.{bucket_of}
+use Rattle.vbr_words.specs.Buckets.{bucket_of}
 use Rattle.vbr_core.specs.Links.{opening_link, link_to}
 use Rattle.vbr_core.specs.Opened.{key_count, is_key_of, first_from, link_to_key}
 use Rattle.vbr_core.specs.Machine.{World, with_link_at, counted}

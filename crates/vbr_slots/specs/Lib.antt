@@ -5,6 +5,7 @@ pub mod Views
 pub mod Pools
 pub mod PoolView
 pub mod RunnerView
+pub mod Tried
 pub mod StepperView
 pub mod PassView
 pub mod SlotsView

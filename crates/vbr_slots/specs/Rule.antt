@@ -97,7 +97,7 @@ no_event = record { pass = 0; step = ReadEpoch }
 
 -- an opening, where none was picked yet
 abbrev pub no_opening : Opening
-no_opening = record { shape = record { slots = 0; buckets = 0; last_epoch = 0; keys = [] }; passes = 0 }
+no_opening = record { shape = record { slots = 0; buckets = 0; spread = false; last_epoch = 0; keys = [] }; passes = 0 }
 
 -- to its pass, a step that was shown r answers and teaches what one answers and teaches that found n; a store is shown what it stores
 pub record Shows (step : Step) (r n : ℕ) : Type 0 where

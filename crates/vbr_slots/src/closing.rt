@@ -41,6 +41,7 @@ impl Slots {
                 runner,
                 pool: _,
                 hand: _,
+                tried: _,
             } = stepper;
             let Runner {
                 seat: other,

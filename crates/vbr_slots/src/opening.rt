@@ -111,6 +111,7 @@ impl Slots {
                 runner,
                 pool: Pool::new(),
                 hand: None,
+                tried: 0,
             };
             passes.push(Pass { stepper, steps: 0 })?;
             seat = next;

@@ -5,6 +5,7 @@ ghost use Rattle.vbr_core.specs.Acceptance.{IsFree};
 ghost use Rattle.vbr_core.specs.Runs.{IsRun};
 ghost use Rattle.vbr_slots.specs.PassLaw.{PassLaw};
 ghost use Rattle.vbr_slots.specs.Pools.{OwnPool, hand_without, without};
+ghost use Rattle.vbr_slots.specs.Tried.{last_tried};
 ghost use Rattle.vbr_slots.specs.Views.{knows};
 
 use crate::pass::POOL;
@@ -19,6 +20,7 @@ pub struct Stepper {
     pub(crate) runner: Runner,
     pub(crate) pool: Pool,
     pub(crate) hand: Option<u32>,
+    pub(crate) tried: u32,
 }
 
 impl Model for Stepper {
@@ -77,6 +79,15 @@ impl Stepper {
         ensures { result ≡ self.now.hand }
     {
         self.hand
+    }
+
+    /// The slot that it tried last to take out of the shared pool; 0 at the opening.
+    #[inline]
+    pub fn last_tried(&self) -> u32
+        ensures tried { result ≡ last_tried self.now.trace }
+        ensures low { result < self.now.trace.shape.slots }
+    {
+        self.tried
     }
 
     /// Puts a slot at the end of its own pool: one that it owns and that is free, or the one in its

@@ -23,14 +23,14 @@ fn seventy_flags_have_two_words(rt: HostRuntime) -> Result<(), Fail> {
     Ok(())
 }
 
-// Takes the first slots out of the shared pool, so many, and says whether all were there.
-fn take_first(slots: &Slots, pass: &mut Pass, count: u32) -> bool
+// Takes the slots from `first` up to `end` out of the shared pool, and says whether all were there.
+fn take_all(slots: &Slots, pass: &mut Pass, first: u32, end: u32) -> bool
     requires own { IsOf pass.old.trace slots.now }
-    requires count { count ≤ slots.now.shape.slots }
+    requires end { end ≤ slots.now.shape.slots }
     ensures own { IsOf pass.new.trace slots.now }
     ensures hand { pass.new.hand ≡ pass.old.hand }
 {
-    for slot in 0..count {
+    for slot in first..end {
         if slots.take_flag(pass, slot).is_err() {
             return false;
         }
@@ -49,7 +49,7 @@ fn closing_flags(alloc: Global, slots: Slots, first: Pass, second: Pass) -> Opti
 #[test]
 fn a_lost_flag_shows_the_others_of_its_word(rt: HostRuntime) {
     let (slots, mut a, mut b) = two_passes(&rt, rt.alloc(), 70, 10);
-    assert!(rt; take_first(&slots, &mut a, 2));
+    assert!(rt; take_all(&slots, &mut a, 0, 2));
     assert_eq!(rt; slots.take_flag(&mut b, 0), Err(18_446_744_073_709_551_612));
     let flags = closing_flags(rt.alloc(), slots, a, b);
     assert_eq!(rt; flags, Some((18_446_744_073_709_551_612, 63)));
@@ -67,7 +67,7 @@ fn take_behind(
     requires { count ≤ 70 }
 {
     let (slots, mut a, mut b) = two_passes(rt, alloc, 70, 10);
-    assert!(rt; take_first(&slots, &mut a, count));
+    assert!(rt; take_all(&slots, &mut a, 0, count));
     expect_taken(rt, &slots, &mut b, 100, wanted, steps);
     closing_flags(alloc, slots, a, b)
 }
@@ -88,6 +88,54 @@ fn an_empty_word_leads_to_the_next(rt: HostRuntime) {
 fn no_slot_is_past_the_last(rt: HostRuntime) {
     let flags = take_behind(&rt, rt.alloc(), 70, Err(TakeRefusal::NoSlot), 2);
     assert_eq!(rt; flags, Some((0, 0)));
+}
+
+// Pass 0 takes the slots from `first` up to 70, and pass 1 tries slot 66 and then takes one and gives it
+// back to its own pool: compares what pass 1 is told and how many steps that took.
+fn take_from_the_second_word(
+    rt: &impl Abort,
+    alloc: Global,
+    first: u32,
+    wanted: Result<(u32, u64), TakeRefusal>,
+    steps: u64,
+)
+    requires { first ≤ 70 }
+{
+    let (slots, mut a, mut b) = two_passes(rt, alloc, 70, 10);
+    assert!(rt; take_all(&slots, &mut a, first, 70));
+    assert_eq!(rt; slots.take_flag(&mut b, 66).is_ok(), first == 70);
+    expect_taken(rt, &slots, &mut b, 100, wanted, steps);
+}
+
+#[test]
+fn a_search_begins_with_the_word_that_was_tried_last(rt: HostRuntime) {
+    take_from_the_second_word(&rt, rt.alloc(), 70, Ok((64, 1)), 4);
+}
+
+#[test]
+fn behind_the_last_word_comes_the_first(rt: HostRuntime) {
+    take_from_the_second_word(&rt, rt.alloc(), 64, Ok((0, 1)), 5);
+}
+
+#[test]
+fn a_search_ends_where_it_began(rt: HostRuntime) {
+    take_from_the_second_word(&rt, rt.alloc(), 0, Err(TakeRefusal::NoSlot), 2);
+}
+
+/// A call that runs out of steps leaves the search where it was, and the next one goes on there: it makes
+/// two probes, where a search from the first word would make three.
+#[test]
+fn a_search_goes_on_where_it_stopped(rt: HostRuntime) {
+    let (slots, mut a, mut b) = two_passes(&rt, rt.alloc(), 70, 10);
+    assert!(rt; take_all(&slots, &mut a, 0, 69));
+    if slots.take_flag(&mut a, 69).is_err() {
+        panic!(rt; "not there")
+    }
+    assert!(rt; slots.take_flag(&mut b, 66).is_err());
+    let short = Err(TakeRefusal::OutOfSteps { used: 1 });
+    expect_taken(&rt, &slots, &mut b, 8, short, 1);
+    slots.raise(&mut a, 69);
+    expect_taken(&rt, &slots, &mut b, 100, Ok((69, 1)), 5);
 }
 
 /// A flag that is raised leaves those of its neighbours.

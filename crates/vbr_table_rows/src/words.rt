@@ -1,7 +1,8 @@
 //! Link words, shapes and the places of words.
 use std::test::Fail;
 use vbr_words::{
-    Link, Place, Shape, ShapeError, decode, encode, place_index, version_of, with_mark, word_count,
+    Link, Place, Shape, ShapeError, SpreadError, decode, encode, place_index, version_of,
+    with_mark, word_count,
 };
 
 const UNMARKED: Link = Link {
@@ -88,6 +89,51 @@ fn refuses_shapes(rt: HostRuntime) {
         let numbers = shape.map(|s| (s.slots(), s.buckets(), s.last_epoch()));
         assert_eq!(rt; numbers, answer);
     }
+}
+
+#[test]
+fn refuses_buckets_to_spread_over(rt: HostRuntime) -> Result<(), Fail> {
+    let shape = Shape::new(7, 3, 9)?;
+    for buckets in [0, 16_777_217, u32::MAX] {
+        assert_eq!(rt; shape.spread_over(buckets), Err(SpreadError));
+    }
+    let widest = shape.spread_over(16_777_216)?;
+    assert_eq!(rt;
+        (widest.slots(), widest.buckets(), widest.last_epoch()),
+        (7, 16_777_216, 9)
+    );
+    Ok(())
+}
+
+/// The buckets are worked by hand: key · 11400714819323198485 mod 2^64, its upper 32 bits, times the
+/// number of buckets, divided by 2^32.
+#[test]
+fn spreads_keys(rt: HostRuntime) -> Result<(), Fail> {
+    let shape = Shape::new(1, 1, 1)?;
+    let one = shape.spread_over(1)?;
+    let three = shape.spread_over(3)?;
+    let sixteen = shape.spread_over(16)?;
+    let widest = shape.spread_over(16_777_216)?;
+    let rows = [
+        (one, 3, 0),
+        (one, u64::MAX, 0),
+        (three, 0, 0),
+        (three, 1, 1),
+        (three, 2, 0),
+        (three, 3, 2),
+        (three, u64::MAX, 1),
+        (sixteen, 1, 9),
+        (sixteen, 2, 3),
+        (sixteen, 3, 13),
+        (sixteen, 4096, 7),
+        (widest, 1, 10_368_889),
+        (widest, 4096, 7_838_615),
+        (widest, u64::MAX, 6_408_326),
+    ];
+    for (shape, key, bucket) in rows {
+        assert_eq!(rt; shape.bucket_of(key), bucket, "{key}");
+    }
+    Ok(())
 }
 
 #[test]

@@ -1,5 +1,7 @@
 -- The lemmas of vbr_words that proofs of other crates cite: they import from here, and from no other module of its proofs.
 
+-- The bucket of a key is one of the shape.
+pub use Rattle.vbr_words.proofs.Buckets.{bucket_of-lt}
 -- A flag word has just the flags of the slots that are set; what sets or clears one flag; and which flag comes next.
 pub use Rattle.vbr_words.proofs.FlagWords.{first_bits-lt, flag_raised, flag_taken, flag_word_same, has_flag-flag_word}
 -- A place can be told from its index.

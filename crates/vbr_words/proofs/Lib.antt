@@ -1,3 +1,4 @@
+mod Buckets
 mod FlagWords
 mod Indices
 mod LinkWords

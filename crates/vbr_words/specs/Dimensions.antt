@@ -1,13 +1,14 @@
 -- The shape of a set, as contracts see it.
-use Rattle.std.specs.Prelude.{ℕ, ◌<◌, ◌≤◌, List, length}
+use Rattle.std.specs.Prelude.{ℕ, ◌<◌, ◌≤◌, Bool, List, length}
 use Rattle.std.specs.List.Sorted.{IsStrictlyIncreasing}
 use Rattle.vbr_words.specs.declared.link.TheConstants.{MAX_SLOTS}
-use Rattle.vbr_words.specs.declared.shape.TheConstants.{MAX_BUCKETS, MAX_EPOCH}
+use Rattle.vbr_words.specs.declared.shape.TheConstants.{MAX_SPREAD_BUCKETS, MAX_EPOCH}
 
--- the number of slots, the number of buckets, the last epoch, and the keys that the set opens with
+-- the number of slots, the number of buckets, whether keys are spread over them, the last epoch, and the keys that the set opens with
 pub record Dimensions : Type 0 where
   pub slots : ℕ
   pub buckets : ℕ
+  pub spread : Bool
   pub last_epoch : ℕ
   pub keys : List ℕ
 
@@ -16,7 +17,7 @@ pub record IsShape (shape : Dimensions) : Type 0 where
   pub some_slot : 0 < shape.slots
   pub slots : shape.slots ≤ MAX_SLOTS
   pub some_bucket : 0 < shape.buckets
-  pub buckets : shape.buckets ≤ MAX_BUCKETS
+  pub buckets : shape.buckets ≤ MAX_SPREAD_BUCKETS
   pub some_epoch : 0 < shape.last_epoch
   pub last_epoch : shape.last_epoch ≤ MAX_EPOCH
   pub ascending : IsStrictlyIncreasing shape.keys

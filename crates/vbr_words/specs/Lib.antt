@@ -1,4 +1,5 @@
 pub mod Dimensions
+pub mod Buckets
 pub mod Shapes
 pub mod Words
 pub mod Flags

@@ -9,4 +9,4 @@ pub mod shape;
 
 pub use link::{Link, decode, encode, version_of, with_mark};
 pub use place::{At, Place, place_index, word_count};
-pub use shape::{Shape, ShapeError};
+pub use shape::{Shape, ShapeError, SpreadError};

@@ -1,5 +1,7 @@
 //! The shape of a set: how many slots and buckets it has, and its last epoch.
-ghost use Rattle.std.specs.Prelude.{◌≡◌, ◌<◌, ◌%◌, [], Some, None, MatchResult};
+ghost use Rattle.std.specs.Prelude.{◌≡◌, ◌<◌, ◌≤◌, ◌^◌, ◌⊎◌, [], true, false, None, Some, MatchResult};
+ghost use Rattle.vbr_words.specs.declared.shape.TheConstants.{MAX_SPREAD_BUCKETS};
+ghost use Rattle.vbr_words.specs.Buckets.{bucket_of, mixed};
 ghost use Rattle.vbr_words.specs.Dimensions.{IsShape};
 ghost use Rattle.vbr_words.specs.Shapes.{shape_error};
 
@@ -8,18 +10,26 @@ use std::error::Error;
 use std::fmt;
 use std::marker::Model;
 
-/// The greatest number of buckets.
+/// The greatest number of buckets that [`Shape::new`] takes.
 pub const MAX_BUCKETS: u32 = 65_536;
+
+/// The greatest number of buckets that keys are spread over, by [`Shape::spread_over`].
+pub const MAX_SPREAD_BUCKETS: u32 = 16_777_216;
 
 /// The greatest last epoch: a version has to hold each epoch.
 pub const MAX_EPOCH: u64 = MAX_VERSION;
 
-/// How many slots and buckets a set has, and its last epoch. None of them is 0.
+/// What keys are multiplied by where they are spread: 2^64 divided by the golden ratio, an odd number.
+pub const MIXER: u64 = 0x9E37_79B9_7F4A_7C15;
+
+/// How many slots and buckets a set has, whether its keys are spread over the buckets, and its last
+/// epoch. None of the numbers is 0.
 #[derive(Clone, Copy, Debug, PartialEq, Eq, Hash)]
 pub struct Shape {
     slots: u32,
     buckets: u32,
     last_epoch: u64,
+    spread: bool,
 }
 
 impl Model for Shape {
@@ -28,11 +38,11 @@ impl Model for Shape {
 
     ghost Value = { Dimensions };
 
-    ghost view = { λ s. record { slots = s.slots; buckets = s.buckets; last_epoch = s.last_epoch; keys = [] } };
+    ghost view = { λ s. record { slots = s.slots; buckets = s.buckets; spread = s.spread; last_epoch = s.last_epoch; keys = [] } };
 
-    ghost invariant = { λ s. IsShape (record { slots = s.slots; buckets = s.buckets; last_epoch = s.last_epoch; keys = [] }) };
+    ghost invariant = { λ s. IsShape (record { slots = s.slots; buckets = s.buckets; spread = s.spread; last_epoch = s.last_epoch; keys = [] }) };
 
-    ghost inverse = { λ d. record { slots = d.slots; buckets = d.buckets; last_epoch = d.last_epoch } };
+    ghost inverse = { λ d. record { slots = d.slots; buckets = d.buckets; last_epoch = d.last_epoch; spread = d.spread } };
 }
 
 /// Why three numbers are no shape. The tests are made in this order.
@@ -65,11 +75,31 @@ impl fmt::Display for ShapeError {
 
 impl Error for ShapeError {}
 
+/// Keys can't be spread over so many buckets: the number is 0 or above `MAX_SPREAD_BUCKETS`.
+#[derive(Clone, Copy, Debug, PartialEq, Eq, Hash)]
+pub struct SpreadError;
+
+impl fmt::Display for SpreadError {
+    ghost use Rattle.std.specs.Prelude.{Some};
+    ghost use Rattle.vbr_words.specs.Messages.{spread_error_text};
+
+    ghost output = { λ e. Some spread_error_text };
+
+    fn fmt<W: fmt::Write>(&self, f: &mut fmt::Formatter<W>) -> fmt::Result {
+        write!(
+            f,
+            "the number of buckets is not from 1 to {MAX_SPREAD_BUCKETS}"
+        )
+    }
+}
+
+impl Error for SpreadError {}
+
 impl Shape {
     /// The shape of these numbers, or what is wrong with the first faulty one.
     pub fn new(slots: u32, buckets: u32, last_epoch: u64) -> Result<Self, ShapeError>
         ensures { MatchResult result
-            (λ shape. (shape_error slots buckets last_epoch ≡ None) × (shape ≡ record { slots = slots; buckets = buckets; last_epoch = last_epoch; keys = [] }))
+            (λ shape. (shape_error slots buckets last_epoch ≡ None) × (shape ≡ record { slots = slots; buckets = buckets; spread = false; last_epoch = last_epoch; keys = [] }))
             (λ error. shape_error slots buckets last_epoch ≡ Some error) }
     {
         if slots == 0 || slots > MAX_SLOTS {
@@ -85,6 +115,27 @@ impl Shape {
             slots,
             buckets,
             last_epoch,
+            spread: false,
+        })
+    }
+
+    /// The same shape with this many buckets, from 1 to `MAX_SPREAD_BUCKETS`, and keys spread over
+    /// them: the bucket of a key is found from a mixture of all its bits, so that keys with a pattern,
+    /// as multiples of a page, fall into all buckets alike. It takes two multiplications and no
+    /// division. Lists and reports stay in the order of keys. Against keys that somebody chooses to
+    /// fall into one bucket it does nothing.
+    pub fn spread_over(self, buckets: u32) -> Result<Self, SpreadError>
+        ensures { MatchResult result
+            (λ shape. (0 < buckets) × (buckets ≤ MAX_SPREAD_BUCKETS) × (shape ≡ record self { buckets = buckets; spread = true }))
+            (λ error. (buckets ≡ 0) ⊎ (MAX_SPREAD_BUCKETS < buckets)) }
+    {
+        if buckets == 0 || buckets > MAX_SPREAD_BUCKETS {
+            return Err(SpreadError);
+        }
+        Ok(Shape {
+            buckets,
+            spread: true,
+            ..self
         })
     }
 
@@ -116,17 +167,29 @@ impl Shape {
         self.last_epoch
     }
 
-    /// The bucket of a key: the key modulo the number of buckets.
+    /// The bucket of a key: the key modulo the number of buckets, or, where keys are spread, the bucket
+    /// that its mixed bits name.
     #[inline]
     pub fn bucket_of(&self, key: u64) -> u32
-        ensures bucket { result ≡ key % self.now.buckets }
+        ensures bucket { result ≡ bucket_of self.now key }
         ensures in_shape { result < self.now.buckets }
     {
         let buckets = u64::from(self.buckets);
-        if buckets.is_power_of_two() {
+        if self.spread {
+            (mixed(key) * buckets >> 32) as u32
+        } else if buckets.is_power_of_two() {
             (key & (buckets - 1)) as u32
         } else {
             (key % buckets) as u32
         }
     }
+}
+
+// The bits of a key, mixed: the upper half of a product.
+#[inline]
+fn mixed(key: u64) -> u64
+    ensures mixed { result ≡ mixed key }
+    ensures half { result < 2 ^ 32 }
+{
+    key.wrapping_mul(MIXER) >> 32
 }

@@ -2,7 +2,7 @@
 ghost use Rattle.std.specs.Prelude.{◌≡◌, ◌<◌, ℕ, false, IfOk, IfErr};
 ghost use Rattle.vbr_words.specs.Words.{link_of};
 ghost use Rattle.vbr_words.specs.declared.place.At.TheVariants.{Head};
-ghost use Rattle.vbr_core.specs.Acceptance.{bucket_of};
+ghost use Rattle.vbr_words.specs.Buckets.{bucket_of};
 ghost use Rattle.vbr_core.specs.Membership.{KeyAt, HeldIn};
 ghost use Rattle.vbr_slots.specs.AtTables.{IsSameTable};
 ghost use Rattle.vbr_slots.specs.Calls.{AddsNone, Quiet, Took, OnlyLoads};

@@ -148,7 +148,7 @@ pub fn next_of_marked(reads: &[Read], slot: u32) -> Option<u32>
 }
 
 // Whether the key stands behind a place: in its bucket, and above its key if it is a slot.
-#[tactic(auto, unfolding(crate::specs::Acceptance::bucket_of))]
+#[tactic(auto, unfolding(vbr_words::specs::Buckets::bucket_of))]
 pub fn is_behind(shape: &OpeningShape, reads: &[Read], at: At, key: u64) -> bool
     ensures { IsTrue result ↔ IsBehind shape.now reads.now at key }
 {

@@ -1,6 +1,7 @@
 // A shape with the keys that a world of it opens with.
-ghost use Rattle.std.specs.Prelude.{◌≡◌, ◌<◌, ◌≤◌, ◌%◌, length, IfOk};
+ghost use Rattle.std.specs.Prelude.{◌≡◌, ◌<◌, ◌≤◌, length, IfOk};
 ghost use Rattle.std.specs.List.Sorted.{IsStrictlyIncreasing};
+ghost use Rattle.vbr_words.specs.Buckets.{bucket_of};
 ghost use Rattle.vbr_words.specs.Dimensions.{IsShape};
 
 use std::alloc::{AllocError, Global};
@@ -63,7 +64,7 @@ impl OpeningShape {
 
     // The bucket of a key.
     pub fn bucket_of(&self, key: u64) -> u32
-        ensures bucket { result ≡ key % self.now.buckets }
+        ensures bucket { result ≡ bucket_of self.now key }
         ensures in_shape { result < self.now.buckets }
     {
         self.shape.bucket_of(key)

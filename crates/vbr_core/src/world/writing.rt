@@ -3,7 +3,8 @@ ghost use Rattle.std.specs.Prelude.{◌≡◌, ◌+◌, ◌<◌, ◌≤◌, leng
 ghost use Rattle.vbr_words.specs.Words.{link_of};
 ghost use Rattle.vbr_words.specs.declared.shape.TheConstants.{MAX_EPOCH};
 ghost use Rattle.vbr_core.specs.Put.{put};
-ghost use Rattle.vbr_core.specs.Acceptance.{IsAtIn, IsInShape, bucket_of};
+ghost use Rattle.vbr_words.specs.Buckets.{bucket_of};
+ghost use Rattle.vbr_core.specs.Acceptance.{IsAtIn, IsInShape};
 ghost use Rattle.vbr_core.specs.Machine.{counted, with_link_at, written};
 ghost use Rattle.vbr_core.specs.Making.{WordsHaveRoom};
 ghost use Rattle.vbr_core.specs.Kept.{world_of};

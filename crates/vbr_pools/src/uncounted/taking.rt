@@ -16,7 +16,7 @@ use crate::budget::affords;
 use crate::hand::Hand;
 use crate::refusal::TakeRefusal;
 use vbr_slots::AtTable;
-use vbr_words::flags::next_flag;
+use vbr_words::flags::{FLAGS, next_flag};
 
 /// As [`crate::take`], and tells how many steps it made.
 pub fn take(at: &mut AtTable<'_>, budget: u32) -> (Result<Hand, TakeRefusal>, u32)
@@ -73,9 +73,10 @@ fn take_on(at: &mut AtTable<'_>, budget: u32) -> Result<(Hand, u32), (TakeRefusa
     bear(at, slot, budget, used)
 }
 
-// Sees to it that the own pool has a slot: if it is empty, takes the first one out of the shared pool.
-// It probes the first slot of each flag word, and then the lowest whose flag it found there, until the
-// word has none. Returns how many steps were used.
+// Sees to it that the own pool has a slot: if it is empty, takes one out of the shared pool. It goes once
+// round the flag words, and begins with that of the slot that the pass tried last. It probes the first
+// slot of each, and then the lowest whose flag it found there, until the word has none. Returns how many
+// steps were used.
 fn win_slot(at: &mut AtTable<'_>, budget: u32) -> Result<u32, (TakeRefusal, u32)>
     requires empty_hand { at.old.pass.now.hand ≡ None }
     ensures table { IsSameTable at.old at.new }
@@ -93,9 +94,11 @@ fn win_slot(at: &mut AtTable<'_>, budget: u32) -> Result<u32, (TakeRefusal, u32)
         return Ok(0);
     }
     // Each probe is a step, and one that is lost shows the flags of sixty-four slots.
+    let start = at.pass.last_tried() / FLAGS * FLAGS;
     let mut probes = 0;
-    let mut slot = 0;
-    while slot < at.slots.shape().slots() {
+    let mut slot = start;
+    let mut end = at.slots.shape().slots();
+    while slot < end {
         if !affords(budget, probes) {
             return Err((TakeRefusal::OutOfSteps { used: probes }, probes));
         }
@@ -106,7 +109,13 @@ fn win_slot(at: &mut AtTable<'_>, budget: u32) -> Result<u32, (TakeRefusal, u32)
                 at.pass.keep(slot);
                 return Ok(probes);
             }
-            Err(found) => slot = next_flag(found, slot),
+            Err(found) => {
+                slot = next_flag(found, slot);
+                if slot >= at.slots.shape().slots() {
+                    slot = 0;
+                    end = start;
+                }
+            }
         }
     }
     Err((TakeRefusal::NoSlot, probes))

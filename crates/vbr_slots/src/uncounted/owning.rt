@@ -73,6 +73,7 @@ impl Stepper {
         let place = Place::Flags(word_of_flag(slot));
         let step = Step::TakeFlag { slot };
         let found = slots.fetch_and(&mut self.runner, step, place, all_but(slot));
+        self.tried = slot;
         if has_flag(found, slot) {
             return Ok(());
         }

@@ -63,6 +63,11 @@ returns-in-Ok-None-clause-safe c =
     let x = rw c.in-Ok-None.field-0-is at c.in-Ok-None.ensures.prepared in
     made_safe c.args.at.now.pass.now c.law.ensures x.0)
 
+pub returns-in-Ok-None-clause-steps : goal.returns-in-Ok-None-clause-steps
+returns-in-Ok-None-clause-steps c =
+    let same : c.at-in-Ok-None-1.given.0 ≡ c.prepare.new.self.at.pass.now = search rules in
+    rw same (within_all c.prepare.ensures.counts)
+
 pub returns-in-Ok-None-clause-had : goal.returns-in-Ok-None-clause-had
 returns-in-Ok-None-clause-had c =
     let same : c.at-in-Ok-None-1.given.0 ≡ c.prepare.new.self.at.pass.now = search rules in

@@ -6,7 +6,7 @@ use Rattle.vbr_words.specs.Words.{word_of, link_of}
 use Rattle.vbr_words.specs.Places.{index_of}
 use Rattle.vbr_words.specs.declared.place.Place.TheVariants.{Head, Flags}
 use Rattle.vbr_words.proofs.Lemmas.{link_of-word_of}
-use Rattle.vbr_core.specs.Acceptance.{bucket_of}
+use Rattle.vbr_words.specs.Buckets.{bucket_of}
 use Rattle.vbr_slots.proofs.Openings.{KeyIndices, key_ahead}
 use Rattle.vbr_slots.proofs.laying.link_key.Goals as goal
 

@@ -7,8 +7,10 @@ use Rattle.vbr_core.proofs.Lemmas.{is_run_first}
 use Rattle.vbr_slots.specs.declared.rule.Opening.{Opening}
 use Rattle.vbr_slots.specs.Rule.{first_keys}
 use Rattle.vbr_slots.specs.Views.{TableView, counted_steps, steps_in}
+use Rattle.vbr_slots.specs.Tried.{last_tried, tried_in}
 use Rattle.vbr_slots.specs.Words.{AreWordsOf}
 use Rattle.vbr_slots.proofs.Seats.{opens, splits_first, first_is, first_has, first_empty, others_next, new_passes-next}
+use Rattle.vbr_slots.proofs.Tried.{tried_none}
 use Rattle.vbr_slots.proofs.slots.Slots.build.Goals as goal
 
 pub of_words-requires : goal.of_words-requires
@@ -42,11 +44,13 @@ invariant_of-runner c =
     }
 
 pub invariant_of-stepper : goal.invariant_of-stepper
+unfolding last_tried
 invariant_of-stepper c =
     let shape : Dimensions = record c.args.opening.shape { keys = c.args.keys.now } in
     let s = c.split_seat-next.ensures in
     let i = c.loop-who.invariant in
     let has = first_has c.args.keys.now c.loop-who.who c.args.opening.passes c.loop-who.seat.me c.split_seat-next.new.seat.me c.split_seat-next.result.me c.loop-who-test.true i.1 s.2 s.4 in
+    let empty = first_empty c.args.keys.now c.loop-who.who c.args.opening.passes c.loop-who.seat.me c.split_seat-next.new.seat.me c.split_seat-next.result.me c.loop-who-test.true i.1 s.2 s.4 in
     let same : record shape { keys = c.args.keys.now } ≡ record c.args.opening.shape { keys = first_keys c.split_seat-next.new.seat.me.0 } = λ k. record c.args.opening.shape { keys = sym has k } in
     record {
       shape = subst IsShape same c.in_ok-words.ensures.shape;
@@ -55,6 +59,8 @@ invariant_of-stepper c =
         apart = search rules;
         in_hand = tt;
       };
+      tried = tried_none c.loop-who.who ∙ ap (λ (seen : List Event). tried_in c.loop-who.who seen 0) (sym empty);
+      low = (subst IsShape same c.in_ok-words.ensures.shape).some_slot;
     }
 
 pub invariant_of-push : goal.invariant_of-push

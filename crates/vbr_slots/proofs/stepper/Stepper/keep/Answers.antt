@@ -4,6 +4,7 @@ use Rattle.vbr_words.specs.Dimensions.{IsShape}
 use Rattle.vbr_core.specs.Acceptance.{MayBear, IsInHand}
 use Rattle.vbr_slots.specs.declared.stepper.Stepper.TheInside.{Inside}
 use Rattle.vbr_slots.specs.Pools.{OwnPool, hand_without}
+use Rattle.vbr_slots.specs.Tried.{last_tried}
 use Rattle.vbr_slots.specs.Views.{PassView, knows}
 use Rattle.vbr_slots.proofs.Pools.{joins, free_may, in_hand_may, held_in_hand, hand_kept}
 use Rattle.vbr_slots.proofs.stepper.Stepper.keep.Goals.{then-eq, else-eq}
@@ -26,5 +27,5 @@ invariant_of-self c =
     let joined : (slot < now.trace.shape.slots) → MayBear ((knows now.trace).own slot) → ¬ (Contains now.pool slot) → OwnPool p.runner.shape (knows p.runner) (p.pool.items ++ slot ∷ []) (hand_without slot p.hand)
     = subst (λ (v : PassView). (slot < v.trace.shape.slots) → MayBear ((knows v.trace).own slot) → ¬ (Contains v.pool slot) → OwnPool p.runner.shape (knows p.runner) (p.pool.items ++ slot ∷ []) (hand_without slot p.hand)) c.self.view_is
     (λ low may out. joins p.runner.shape (knows p.runner) slot p.pool.items p.hand low may out c.self.invariant.pool) in
-    let both = subst (λ (x : Inside × List ℕ). (IsShape x.0.runner.shape) × OwnPool x.0.runner.shape (knows x.0.runner) x.1 x.0.hand) (λ i. (sym inside i, sym items i)) (c.self.invariant.shape, joined c.requires.slot may c.requires.outside) in
-    record { shape = both.0; pool = both.1 }
+    let all = subst (λ (x : Inside × List ℕ). (IsShape x.0.runner.shape) × OwnPool x.0.runner.shape (knows x.0.runner) x.1 x.0.hand × (x.0.tried ≡ last_tried x.0.runner) × (x.0.tried < x.0.runner.shape.slots)) (λ i. (sym inside i, sym items i)) (c.self.invariant.shape, joined c.requires.slot may c.requires.outside, c.self.invariant.tried, c.self.invariant.low) in
+    record { shape = all.0; pool = all.1; tried = all.2; low = all.3 }

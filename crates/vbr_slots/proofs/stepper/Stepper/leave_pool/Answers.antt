@@ -17,6 +17,8 @@ invariant_of-self c =
     record {
       shape = c.self.invariant.shape;
       pool = subst (λ xs. OwnPool p.runner.shape (knows p.runner) xs p.hand) (sym (gone c)) (leaves p.runner.shape (knows p.runner) c.args.slot p.pool.items p.hand c.self.invariant.pool);
+      tried = c.self.invariant.tried;
+      low = c.self.invariant.low;
     }
 
 pub returns-in-Some-clause-pool : goal.returns-in-Some-clause-pool

@@ -1,8 +1,18 @@
-use Rattle.std.proofs.Common.{◌≡◌, subst}
+use Rattle.std.proofs.Common.{◌≡◌, subst, refl, rules}
 use Rattle.vbr_core.specs.Acceptance.{MayBear, stamp_in}
 use Rattle.vbr_slots.specs.Views.{PassView, knows}
 use Rattle.vbr_slots.proofs.Passes.{stamp_loaded}
+use Rattle.vbr_slots.proofs.Tried.{keeps_tried}
 use Rattle.vbr_slots.proofs.stepper.Stepper.load_stamp.Goals as goal
+
+pub invariant_of-self : goal.invariant_of-self
+invariant_of-self c =
+    record {
+      shape = search rules;
+      pool = search rules;
+      tried = keeps_tried c.load.ensures refl c.self.invariant.tried;
+      low = search rules;
+    }
 
 pub returns-clause-known : goal.returns-clause-known
 returns-clause-known c =

@@ -1,8 +1,18 @@
-use Rattle.std.proofs.Common.{sym, ap, ◌∙◌}
+use Rattle.std.proofs.Common.{sym, ap, ◌∙◌, refl, rules}
 use Rattle.vbr_words.specs.Words.{word_of}
 use Rattle.vbr_words.proofs.Lemmas.{word_of-link_of}
 use Rattle.vbr_core.specs.Machine.{Exchange}
+use Rattle.vbr_slots.proofs.Tried.{keeps_tried}
 use Rattle.vbr_slots.proofs.stepper.Stepper.mark.Goals as goal
+
+pub invariant_of-self : goal.invariant_of-self
+invariant_of-self c =
+    record {
+      shape = search rules;
+      pool = search rules;
+      tried = keeps_tried c.exchange-found.ensures refl c.self.invariant.tried;
+      low = search rules;
+    }
 
 pub exchange-found-requires-clause-access : goal.exchange-found-requires-clause-access
 exchange-found-requires-clause-access c = ap (Exchange c.args.expected) (ap word_of (sym c.with_mark-new.ensures) ∙ word_of-link_of c.with_mark-new.result)

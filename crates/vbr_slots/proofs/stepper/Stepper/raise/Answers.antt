@@ -1,10 +1,11 @@
-use Rattle.std.proofs.Common.{sym, ap, ◌∙◌, subst}
-use Rattle.std.specs.Prelude.{ℕ, List, Contains}
-use Rattle.vbr_words.specs.Dimensions.{IsShape}
+use Rattle.std.proofs.Common.{sym, ap, ◌∙◌, subst, refl}
+use Rattle.std.specs.Prelude.{ℕ, ◌<◌, List, Contains}
+use Rattle.vbr_words.specs.Dimensions.{Dimensions, IsShape}
 use Rattle.vbr_core.specs.Acceptance.{IsFree}
 use Rattle.vbr_slots.specs.Views.{Trace, PassView, knows}
 use Rattle.vbr_slots.proofs.Passes.{pool_raised}
 use Rattle.vbr_slots.proofs.Pools.{outside}
+use Rattle.vbr_slots.proofs.Tried.{keeps_tried}
 use Rattle.vbr_slots.proofs.stepper.Stepper.raise.Goals as goal
 
 pub invariant_of-self : goal.invariant_of-self
@@ -17,4 +18,6 @@ invariant_of-self c =
       shape = subst IsShape (sym d.same.1) c.self.invariant.shape;
       pool = pool_raised p.runner c.fetch_or.new.runner c.args.slot c.fetch_or.result p.pool.items p.hand d (subst (λ (t : Trace). IsFree ((knows t).own c.args.slot)) (sym trace) c.requires.free)
           (subst (λ (xs : List ℕ). ¬ (Contains xs c.args.slot)) (sym left) (outside c.args.slot c.args.self.now.pool)) c.self.invariant.pool;
+      tried = keeps_tried d refl c.self.invariant.tried;
+      low = subst (λ (s : Dimensions). p.tried < s.slots) (sym d.same.1) c.self.invariant.low;
     }

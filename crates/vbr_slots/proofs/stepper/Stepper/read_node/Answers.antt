@@ -1,6 +1,16 @@
-use Rattle.std.proofs.Common.{refl}
+use Rattle.std.proofs.Common.{refl, rules}
 use Rattle.vbr_slots.proofs.ReadsInRows.{reads_node}
+use Rattle.vbr_slots.proofs.Tried.{keeps_tried}
 use Rattle.vbr_slots.proofs.stepper.Stepper.read_node.Goals as goal
+
+pub invariant_of-self : goal.invariant_of-self
+invariant_of-self c =
+    record {
+      shape = search rules;
+      pool = search rules;
+      tried = keeps_tried c.load_node.ensures.4 refl (keeps_tried c.load_node.ensures.3 refl (keeps_tried c.load_node.ensures.2 refl c.self.invariant.tried));
+      low = search rules;
+    }
 
 pub returns-clause-reads : goal.returns-clause-reads
 returns-clause-reads c =

@@ -1,9 +1,10 @@
-use Rattle.std.proofs.Common.{ℕ, ◌<◌, sym, ap, ◌∙◌, subst}
+use Rattle.std.proofs.Common.{ℕ, ◌<◌, sym, ap, ◌∙◌, subst, refl}
 use Rattle.std.specs.Prelude.{List, Contains}
 use Rattle.vbr_words.specs.Dimensions.{Dimensions, IsShape}
 use Rattle.vbr_slots.specs.Views.{Trace, PassView}
 use Rattle.vbr_slots.proofs.Passes.{pool_born}
 use Rattle.vbr_slots.proofs.Pools.{outside}
+use Rattle.vbr_slots.proofs.Tried.{keeps_tried}
 use Rattle.vbr_slots.proofs.stepper.Stepper.store_birth.Goals as goal
 
 pub invariant_of-self : goal.invariant_of-self
@@ -17,4 +18,6 @@ invariant_of-self c =
       shape = subst IsShape (sym d.same.1) c.self.invariant.shape;
       pool = pool_born p.runner c.store.new.runner c.args.slot _ _ p.pool.items p.hand d (subst (λ (s : Dimensions). c.args.slot < s.slots) (sym shape) c.requires.slot)
           (subst (λ (xs : List ℕ). ¬ (Contains xs c.args.slot)) (sym left) (outside c.args.slot c.args.self.now.pool)) c.self.invariant.pool;
+      tried = keeps_tried d refl c.self.invariant.tried;
+      low = subst (λ (s : Dimensions). p.tried < s.slots) (sym d.same.1) c.self.invariant.low;
     }

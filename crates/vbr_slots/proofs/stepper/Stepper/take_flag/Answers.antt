@@ -1,9 +1,10 @@
-use Rattle.std.proofs.Common.{sym, ◌∙◌, subst}
-use Rattle.vbr_words.specs.Dimensions.{IsShape}
+use Rattle.std.proofs.Common.{◌<◌, sym, ap, ◌∙◌, subst}
+use Rattle.vbr_words.specs.Dimensions.{Dimensions, IsShape}
 use Rattle.vbr_core.specs.Acceptance.{MayBear}
-use Rattle.vbr_slots.specs.Views.{knows}
+use Rattle.vbr_slots.specs.Views.{PassView, knows}
 use Rattle.vbr_slots.proofs.Passes.{taken_new, pool_taken}
 use Rattle.vbr_slots.proofs.Pools.{pooled_may}
+use Rattle.vbr_slots.proofs.Tried.{did_tried}
 use Rattle.vbr_slots.proofs.stepper.Stepper.take_flag.Goals as goal
 
 pub invariant_of-self : goal.invariant_of-self
@@ -13,6 +14,19 @@ invariant_of-self c =
     record {
       shape = subst IsShape (sym d.same.1) c.self.invariant.shape;
       pool = pool_taken p.runner c.fetch_and-found.new.runner c.args.slot c.fetch_and-found.result p.pool.items p.hand c.self.invariant.shape d c.self.invariant.pool;
+      tried = sym (did_tried d);
+      low = subst (λ (s : Dimensions). c.args.slot < s.slots) (sym (d.same.1 ∙ ap (λ (v : PassView). v.trace.shape) c.self.view_is ∙ c.requires.own.1)) c.requires.slot;
+    }
+
+pub invariant_of-self-2 : goal.invariant_of-self-2
+invariant_of-self-2 c =
+    let p = c.self.inside in
+    let d = c.fetch_and-found.ensures in
+    record {
+      shape = subst IsShape (sym d.same.1) c.self.invariant.shape;
+      pool = pool_taken p.runner c.fetch_and-found.new.runner c.args.slot c.fetch_and-found.result p.pool.items p.hand c.self.invariant.shape d c.self.invariant.pool;
+      tried = sym (did_tried d);
+      low = subst (λ (s : Dimensions). c.args.slot < s.slots) (sym (d.same.1 ∙ ap (λ (v : PassView). v.trace.shape) c.self.view_is ∙ c.requires.own.1)) c.requires.slot;
     }
 
 pub returns-then-has_flag-clause-outside : goal.returns-then-has_flag-clause-outside

@@ -1,10 +1,11 @@
-use Rattle.std.proofs.Common.{sym, ap, subst}
+use Rattle.std.proofs.Common.{◌<◌, sym, ap, subst, refl}
 use Rattle.vbr_words.specs.Dimensions.{Dimensions, IsShape}
 use Rattle.vbr_core.specs.Acceptance.{Accepts}
 use Rattle.vbr_core.specs.declared.event.Step.{Step}
 use Rattle.vbr_core.specs.declared.event.Step.TheVariants.{Unlink}
 use Rattle.vbr_slots.specs.Views.{Trace, PassView, knows}
 use Rattle.vbr_slots.proofs.Passes.{pool_unlinked}
+use Rattle.vbr_slots.proofs.Tried.{keeps_tried}
 use Rattle.vbr_slots.proofs.stepper.Stepper.unlink.Goals as goal
 
 pub invariant_of-self : goal.invariant_of-self
@@ -19,4 +20,6 @@ invariant_of-self c =
     record {
       shape = subst IsShape (sym d.same.1) c.self.invariant.shape;
       pool = pool_unlinked p.runner c.exchange-found.new.runner c.args.pred c.args.expected c.args.slot c.exchange-found.result p.pool.items p.hand c.self.invariant.shape accepted d c.self.invariant.pool;
+      tried = keeps_tried d refl c.self.invariant.tried;
+      low = subst (λ (s : Dimensions). p.tried < s.slots) (sym d.same.1) c.self.invariant.low;
     }

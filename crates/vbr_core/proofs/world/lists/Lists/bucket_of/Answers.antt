@@ -1,6 +1,6 @@
 -- The shape tells the bucket of a key.
 use Rattle.std.proofs.Common.{rules}
-use Rattle.vbr_core.specs.Acceptance.{bucket_of}
+use Rattle.vbr_words.specs.Buckets.{bucket_of}
 use Rattle.vbr_core.proofs.world.lists.Lists.bucket_of.Goals as goal
 
 pub returns : goal.returns

@@ -1,0 +1,20 @@
+-- Which slot a pass tried last to take out of the shared pool.
+use Rattle.std.specs.Prelude.{ℕ, ◌==◌, if◌then◌else◌, List, [], ◌∷◌}
+use Rattle.vbr_core.specs.declared.event.Event.{Event}
+use Rattle.vbr_core.specs.declared.event.Step.{Step}
+use Rattle.vbr_core.specs.declared.event.Step.TheVariants.{TakeFlag}
+use Rattle.vbr_slots.specs.Views.{Trace}
+
+-- the slot that a step tries to take, if it is of that kind, else the one before
+abbrev pub tried_by : Step → ℕ → ℕ
+tried_by (TakeFlag slot) before = slot
+tried_by _ before = before
+
+-- the slot that the pass tried last in these events, else the one before
+unfoldable pub tried_in : ℕ → List Event → ℕ → ℕ
+tried_in who [] before = before
+tried_in who (e ∷ events) before = tried_in who events (if e.pass == who then tried_by e.step before else before)
+
+-- the slot that the pass tried last in all that it has seen; slot 0, if it tried none
+unfoldable pub last_tried : Trace → ℕ
+last_tried p = tried_in p.who p.seen 0
