@@ -12,8 +12,10 @@
     9 an opening tests the handles last
    10 a refused opening keeps memory
    11 an opening with several keys leaves out the last one
+   12 an insert takes effect only as its thread makes its next call
 
-   One thread alone can't see the seventh, and four threads don't look for the eighth, ninth and tenth. */
+   One thread alone can't see the seventh and the twelfth, and four threads don't look for the eighth, ninth and tenth. The
+   twelfth leaves each thread's own answers right: it shows only where the program orders calls of several. */
 #include "vbr.h"
 
 #include <stdatomic.h>
@@ -41,6 +43,17 @@ static int fault(void) {
 /* Whether this is the fault, and its turn has come: once in twenty calls. */
 static int now(int n) { return fault() == n && atomic_fetch_add(&calls, 1) % 20 == 19; }
 
+/* The insert that this thread has still to make, for the twelfth fault. */
+static _Thread_local struct {
+    vbr_handle *handle;
+    uint64_t key;
+} late;
+
+static void make_late(void) {
+    if (late.handle) __real_vbr_insert(late.handle, late.key, 1 << 20);
+    late.handle = NULL;
+}
+
 int32_t __wrap_vbr_open(vbr_handle *handles, size_t count, uint32_t slots, uint32_t buckets, uint64_t last_epoch) {
     static void *kept;
     if (fault() == 9 && (count < 1 || count > VBR_MAX_HANDLES)) return VBR_BAD_COUNT;
@@ -57,6 +70,12 @@ int32_t __wrap_vbr_open_with(vbr_handle *handles, size_t count, uint32_t slots, 
 
 int32_t __wrap_vbr_insert(vbr_handle *handle, uint64_t key, uint32_t budget) {
     if (fault() == 8 && budget < 100) return budget < 8 || !handle->owned ? __real_vbr_insert(handle, key, budget) : VBR_OUT_OF_STEPS;
+    make_late();
+    if (fault() == 12 && __real_vbr_has(handle, key, budget) == VBR_NO) {
+        late.handle = handle;
+        late.key = key;
+        return VBR_YES;
+    }
     int32_t answer = __real_vbr_insert(handle, key, budget);
     if (answer == VBR_NO && now(1)) return VBR_YES;
     if (answer == VBR_YES && now(3)) __real_vbr_remove(handle, key, budget);
@@ -64,6 +83,7 @@ int32_t __wrap_vbr_insert(vbr_handle *handle, uint64_t key, uint32_t budget) {
 }
 
 int32_t __wrap_vbr_remove(vbr_handle *handle, uint64_t key, uint32_t budget) {
+    make_late();
     if (now(2)) return __real_vbr_has(handle, key, budget);
     if (fault() == 7) {
         int32_t answer = __real_vbr_has(handle, key, budget);
@@ -74,11 +94,13 @@ int32_t __wrap_vbr_remove(vbr_handle *handle, uint64_t key, uint32_t budget) {
 }
 
 int32_t __wrap_vbr_has(vbr_handle *handle, uint64_t key, uint32_t budget) {
+    make_late();
     int32_t answer = __real_vbr_has(handle, key, budget);
     return answer == VBR_YES && now(4) ? VBR_NO : answer;
 }
 
 int32_t __wrap_vbr_close(vbr_handle *handle, uint64_t *keys, size_t room, vbr_totals *report) {
+    make_late();
     int32_t answer = __real_vbr_close(handle, keys, room, report);
     if (answer == VBR_YES && fault() == 5 && report->live > 0) report->live--, report->free++;
     if (answer == VBR_YES && fault() == 6) report->epoch = 0;

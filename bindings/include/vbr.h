@@ -27,6 +27,11 @@
    thread is handed over by a lock, by the start or the join of the thread, or by a seq_cst atomic. No
    function is for a signal handler, or for the child of a fork.
 
+   Order. Where a call returns before another one begins, by a mutex, a channel, a join, or a release and
+   an acquire of your program, it stands before that one in the history whose answers the later caller
+   gets: once you are told that a key was inserted, and nobody removes it, vbr_has answers VBR_YES. Calls
+   that your program does not order have some order, in one history of the set. A relaxed flag orders none.
+
    Budgets. A call makes at most `budget` steps, each one atomic operation on a word that the
    threads share, and never waits for another thread. A look-up makes loads alone, so it writes nothing
    that another thread can see. While the other handles make no step, wherever they stand still, a call

@@ -22,6 +22,10 @@
 //! # Ok::<(), Box<dyn std::error::Error>>(())
 //! ```
 //!
+//! Where a call returns before another one begins, by a lock, a channel, a join, or a release and an acquire, it
+//! stands before that one in the history whose answers the later caller gets: once a thread is told that a
+//! key was inserted, and nobody removes it, [`Handle::has`] answers yes.
+//!
 //! The exports of the library ask nothing of their caller but what the types here say: a handle is moved
 //! and never copied, and one call at a time has it (`&mut`).
 #![no_std]

@@ -1,17 +1,21 @@
 //! Each answer of the crate once.
-use vbr::{CloseError, OpenError, Refusal, Set, Shape, MAX_EPOCH, MAX_SLOTS};
+use vbr::{CloseError, OpenError, Refusal, Set, Shape, MAX_BUCKETS, MAX_EPOCH, MAX_SLOTS};
 
 const BUDGET: u32 = 100_000;
 
 #[test]
 fn openings() {
-    for shape in [Shape::new(0, 1, 1), Shape::new(MAX_SLOTS + 1, 1, 1), Shape::new(1, 0, 1), Shape::new(1, 1, MAX_EPOCH + 1)] {
+    let slots = [0, MAX_SLOTS + 1].map(|slots| Shape::new(slots, 1, 1));
+    let buckets = [0, MAX_BUCKETS + 1].map(|buckets| Shape::new(1, buckets, 1));
+    let epochs = [0, MAX_EPOCH + 1].map(|last_epoch| Shape::new(1, 1, last_epoch));
+    for shape in [slots, buckets, epochs].concat() {
         assert_eq!(Set::open(shape, 1).unwrap_err(), OpenError::Shape);
     }
     for handles in [0, 65, usize::MAX] {
         assert_eq!(Set::open(Shape::new(8, 1, 1), handles).unwrap_err(), OpenError::Handles);
     }
     assert_eq!(Set::open(Shape::new(8, 1, 1), 64).expect("a set").len(), 64);
+    assert_eq!(Set::open(Shape::new(8, MAX_BUCKETS, 1), 1).expect("a set").len(), 1);
 }
 
 #[test]

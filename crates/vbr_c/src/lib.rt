@@ -20,6 +20,7 @@
 ghost use Rattle.std.specs.Prelude.{◌≡◌, None};
 ghost use Rattle.vbr_core.specs.declared.history.Op.TheVariants.{Insert, Remove, Has};
 ghost use Rattle.vbr_handles.specs.Calls.{TellsCall};
+ghost use Rattle.vbr_handles.specs.Opening.{spread_shape};
 ghost use Rattle.vbr_handles.specs.OpeningCodes.{TellsOpening, TellsOpeningWith};
 ghost use Rattle.vbr_handles.specs.Reports.{TellsClose};
 
@@ -69,7 +70,7 @@ pub extern "C" fn vbr_open_with(
     last_epoch: u64,
     keys: &[u64],
 ) -> i32
-    ensures { TellsOpeningWith handles.old handles.new (record { slots = slots; buckets = buckets; spread = true; last_epoch = last_epoch; keys = keys.now }) result }
+    ensures { TellsOpeningWith handles.old handles.new (spread_shape slots buckets last_epoch keys.now) result }
 {
     let numbers = ShapeNumbers {
         slots,

@@ -1,1 +1,2 @@
 mod ClaimedOnce
+mod Found

@@ -1,8 +1,10 @@
-//! The program `vbr_example`: two ways to use the set. Workers in threads of their own share one and
-//! claim pages by it; and workers play a script that stands in a file.
+//! The program `vbr_example`: three ways to use the set. Workers in threads of their own share one and
+//! claim pages by it; one worker tells another of a page that it claimed; and workers play a script
+//! that stands in a file.
 #![tactic(auto)]
 
 mod claiming;
+mod telling;
 mod worker;
 
 use std::fs::File;
@@ -15,6 +17,9 @@ fn main(rt: HostRuntime) -> anyhow::Result<()> {
     for page in &report.keys {
         println!(rt; "{page}")?;
     }
+
+    let found = telling::tell_page(&rt, rt.alloc(), 34)?;
+    println!(rt; "A worker told another of page 34, which was found: {found}")?;
 
     let config = Config::new(Shape::new(64, 16, MAX_EPOCH)?, 3, 100_000, false)?;
     let mut script = File::open(&rt, "phases.script")?;

@@ -5,7 +5,7 @@ ghost use Rattle.vbr_example.specs.Claims.{IsClaimedOnce};
 use vbr_set::{Member, Refusal};
 
 /// The steps that a call may make: far more than any call needs on a set of this size.
-const BUDGET: u32 = 100_000;
+pub const BUDGET: u32 = 100_000;
 
 /// A worker that claims pages.
 #[derive(Drop)]

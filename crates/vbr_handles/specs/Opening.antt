@@ -1,5 +1,5 @@
 -- What an opening of handles answers, and what it leaves in them.
-use Rattle.std.specs.Prelude.{◌≡◌, ℕ, ◌<◌, ◌≤◌, ◌⊎◌, All, List, [], length, map, None, Some, Result, Ok, Err}
+use Rattle.std.specs.Prelude.{◌≡◌, ℕ, ◌<◌, ◌≤◌, ◌⊎◌, All, List, [], length, map, true, None, Some, Result, Ok, Err}
 use Rattle.std.specs.List.Sorted.{IsStrictlyIncreasing}
 use Rattle.vbr_words.specs.Dimensions.{Dimensions, IsShape}
 use Rattle.vbr_slots.specs.Views.{TableView}
@@ -7,6 +7,10 @@ use Rattle.vbr_set.specs.Members.{new_members}
 use Rattle.vbr_handles.specs.declared.handle.Handle.{Handle}
 use Rattle.vbr_handles.specs.declared.opening.OpenRefusal.{OpenRefusal}
 use Rattle.vbr_handles.specs.declared.opening.OpenRefusal.TheVariants.{InUse, Shape, Passes, Keys, Memory}
+
+-- the shape of these numbers with its keys spread over the buckets, which opens with these keys
+abbrev pub spread_shape : ℕ → ℕ → ℕ → List ℕ → Dimensions
+spread_shape slots buckets last_epoch keys = record { slots = slots; buckets = buckets; spread = true; last_epoch = last_epoch; keys = keys }
 
 -- no handle has a member
 abbrev pub AreEmpty : List Handle → Type 0

@@ -4,6 +4,7 @@ ghost use Rattle.std.specs.Prelude.{◌≡◌};
 ghost use Rattle.vbr_core.specs.declared.history.Op.TheVariants.{Insert, Remove, Has};
 ghost use Rattle.vbr_handles.specs.Codes.{call_code, close_code, open_code};
 ghost use Rattle.vbr_handles.specs.Calls.{TellsCall};
+ghost use Rattle.vbr_handles.specs.Opening.{spread_shape};
 ghost use Rattle.vbr_handles.specs.OpeningCodes.{TellsOpening, TellsOpeningWith};
 ghost use Rattle.vbr_handles.specs.Reports.{IsTold, TellsClose};
 
@@ -60,7 +61,7 @@ pub fn open(alloc: Global, handles: &mut [Handle], slots: u32, buckets: u32, las
 
 /// Opens a set of these keys for handles, as [`crate::open_with`] does.
 pub fn open_with(alloc: Global, handles: &mut [Handle], numbers: ShapeNumbers, keys: &[u64]) -> i32
-    ensures { TellsOpeningWith handles.old handles.new (record { slots = numbers.slots; buckets = numbers.buckets; spread = true; last_epoch = numbers.last_epoch; keys = keys.now }) result }
+    ensures { TellsOpeningWith handles.old handles.new (spread_shape numbers.slots numbers.buckets numbers.last_epoch keys.now) result }
 {
     open_code(crate::opening::open_with(alloc, handles, numbers, keys))
 }

@@ -2,7 +2,7 @@
 ghost use Rattle.std.specs.Prelude.{◌≡◌, ◌≤◌, true, false, [], length, map, None, Some, IfOk, IfSome};
 ghost use Rattle.std.specs.List.Sorted.{IsStrictlyIncreasing};
 ghost use Rattle.vbr_words.specs.Dimensions.{IsShape};
-ghost use Rattle.vbr_handles.specs.Opening.{AreEmpty, Opens};
+ghost use Rattle.vbr_handles.specs.Opening.{AreEmpty, Opens, spread_shape};
 
 use crate::handle::Handle;
 use std::alloc::{AllocError, Global};
@@ -37,8 +37,8 @@ pub struct ShapeNumbers {
 impl ShapeNumbers {
     // The shape of these numbers, with keys spread over the buckets; none, if one of them is out of range.
     fn shape(self) -> Option<Shape>
-        ensures some { IfSome result (λ shape. shape ≡ record { slots = self.slots; buckets = self.buckets; spread = true; last_epoch = self.last_epoch; keys = [] }) }
-        ensures in_range { result ≡ None → ¬ (IsShape (record { slots = self.slots; buckets = self.buckets; spread = true; last_epoch = self.last_epoch; keys = [] })) }
+        ensures some { IfSome result (λ shape. shape ≡ spread_shape self.slots self.buckets self.last_epoch []) }
+        ensures in_range { result ≡ None → ¬ (IsShape (spread_shape self.slots self.buckets self.last_epoch [])) }
     {
         let narrow = Shape::new(self.slots, 1, self.last_epoch).ok()?;
         narrow.spread_over(self.buckets).ok()
@@ -53,7 +53,7 @@ pub fn open(
     buckets: u32,
     last_epoch: u64,
 ) -> Result<(), OpenRefusal>
-    ensures { Opens handles.old handles.new (record { slots = slots; buckets = buckets; spread = true; last_epoch = last_epoch; keys = [] }) result }
+    ensures { Opens handles.old handles.new (spread_shape slots buckets last_epoch []) result }
 {
     let numbers = ShapeNumbers {
         slots,
@@ -72,7 +72,7 @@ pub fn open_with(
     numbers: ShapeNumbers,
     keys: &[u64],
 ) -> Result<(), OpenRefusal>
-    ensures { Opens handles.old handles.new (record { slots = numbers.slots; buckets = numbers.buckets; spread = true; last_epoch = numbers.last_epoch; keys = keys.now }) result }
+    ensures { Opens handles.old handles.new (spread_shape numbers.slots numbers.buckets numbers.last_epoch keys.now) result }
 {
     if !are_empty(handles) {
         return Err(OpenRefusal::InUse);

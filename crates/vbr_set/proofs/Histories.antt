@@ -17,7 +17,7 @@ use Rattle.vbr_set.specs.Answers.{Answers}
 use Rattle.vbr_set.specs.Histories.{ReadsAreRight}
 use Rattle.vbr_set.specs.Meetings.{Shares}
 
-shape_of : (p q : Dimensions) → q ≡ p → IsShape p → IsShape q
+pub shape_of : (p q : Dimensions) → q ≡ p → IsShape p → IsShape q
 shape_of p q is shape = let P : Dimensions → Type 0 = IsShape in subst P (sym is) shape
 
 -- each beginning of a run is a run, so its reads are right

@@ -1,4 +1,5 @@
 mod Histories
+mod CatchingUp
 mod ShownNodes
 mod Walks
 mod Gathering

@@ -10,6 +10,7 @@ use Rattle.vbr_words.specs.declared.link.Link.{Link}
 use Rattle.vbr_words.specs.declared.place.At.TheVariants.{Head, Slot}
 use Rattle.vbr_words.specs.declared.place.Place.TheVariants as place
 use Rattle.vbr_words.specs.Buckets.{bucket_of}
+use Rattle.vbr_words.proofs.Lemmas.{bucket_of-lt}
 use Rattle.vbr_core.specs.Accounts.{incarnations_after}
 use Rattle.vbr_core.specs.Agreement.{Fits}
 use Rattle.vbr_core.specs.Images.{slot_shown}
@@ -218,12 +219,8 @@ lists_next shape a bucket before now below list = record { notes_are = λ s low.
     both true k = grind (arith, nat_tests)
     both false k = refl
 
-bucket_in_shape : (shape : Dimensions) (key : ℕ) → 0 < shape.buckets → bucket_of shape key < shape.buckets
-unfolding bucket_of
-bucket_in_shape shape key some = omega arith
-
 pub lists_end : (shape : Dimensions) (a : Incarnations) (notes : List Bool) → NotedBelow shape a shape.buckets notes → 0 < shape.buckets → NotesLists shape a notes
-lists_end shape a notes below some s low = below.notes_are s low ∙ all (is_listed (state_in a s)) (bucket_in_shape shape (key_in_slot a s) some)
+lists_end shape a notes below some s low = below.notes_are s low ∙ all (is_listed (state_in a s)) (bucket_of-lt shape (key_in_slot a s) some)
   where
     all : (b : Bool) → bucket_of shape (key_in_slot a s) < shape.buckets → (b && nat_lt (bucket_of shape (key_in_slot a s)) shape.buckets) ≡ b
     all true lt = lt-ltb _ _ lt

@@ -1,6 +1,7 @@
 pub mod Histories
 pub mod Answers
 pub mod Meetings
+pub mod Tokens
 pub mod Closing
 pub mod Renewing
 pub mod Messages

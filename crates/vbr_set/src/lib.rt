@@ -13,7 +13,8 @@
 //!
 //! What a member has seen has one legal history of a set. A call that is answered stands in it, once,
 //! behind the calls that the member had made before; members that meet ([`Member::meet`]) share one
-//! history.
+//! history. [`Member::seen`] gives a token of what a member has seen, to be sent with whatever the program
+//! orders its threads by; each call of who takes it in by [`Member::catch_up`] stands behind all of that.
 //!
 //! From `crates/vbr_example`, whose workers claim pages in threads of their own:
 //!
@@ -39,6 +40,7 @@ pub mod calls;
 pub mod closing;
 mod common;
 pub mod end_error;
+pub mod laws;
 mod mailbox;
 pub mod meeting;
 pub mod member;
@@ -46,6 +48,7 @@ pub mod member_calls;
 pub mod member_closing;
 pub mod member_meeting;
 pub mod member_opening;
+pub mod member_tokens;
 pub mod opening;
 pub mod renew_error;
 pub mod renewing;
@@ -55,6 +58,7 @@ pub mod set_ref;
 pub mod set_ref_calls;
 mod share;
 mod sharing;
+pub mod tokens;
 mod walking;
 
 pub use end_error::EndError;
@@ -65,7 +69,7 @@ pub use set::VbrSet;
 pub use set_ref::VbrSetRef;
 pub use vbr_core::{Call, Op};
 pub use vbr_list::Refusal;
-pub use vbr_slots::{CloseError, OpenError, Pass};
+pub use vbr_slots::{CloseError, OpenError, Pass, Seen};
 pub use vbr_words::link::MAX_SLOTS;
 pub use vbr_words::shape::{MAX_BUCKETS, MAX_EPOCH, MAX_SPREAD_BUCKETS};
 pub use vbr_words::{Shape, ShapeError, SpreadError};

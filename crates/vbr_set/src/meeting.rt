@@ -12,8 +12,10 @@ use vbr_slots::Pass;
 impl VbrSet {
     /// Lets the pass see all that the other has seen: the two then share one legal history, in which
     /// the other has just the calls that it has made. It is one step, a load of the epoch, counted for
-    /// the pass; the other stays as it was. It can't fail. The papers have no such call: without it two
-    /// passes are promised no history that both share before the set is closed.
+    /// the pass; the other stays as it was. It can't fail. It alone says that the other has made no call
+    /// that isn't in that history; a token ([`VbrSet::seen`]) can't. The papers have no such call.
+    ///
+    /// [`VbrSet::seen`]: crate::VbrSet::seen
     ///
     /// # Example
     ///

@@ -7,11 +7,12 @@ ghost use Rattle.vbr_slots.specs.Views.{Did, IsOf, KeepsPool};
 ghost use Rattle.vbr_access.specs.Soundness.{HasSafeRun};
 ghost use Rattle.vbr_set.specs.Meetings.{Shares};
 ghost use Rattle.vbr_set.specs.Members.{Called};
+ghost use Rattle.vbr_set.specs.Tokens.{CatchesUp, IsTokenOf};
 
 use crate::set::VbrSet;
 use crate::set_ref::VbrSetRef;
 use vbr_list::Refusal;
-use vbr_slots::Pass;
+use vbr_slots::{Pass, Seen};
 use vbr_words::Shape;
 
 impl VbrSet {
@@ -115,6 +116,42 @@ impl<'s> VbrSetRef<'s> {
         ensures safe { HasSafeRun self.new.pass.trace }
     {
         self.set.meet(&mut self.pass, &mut other.pass);
+    }
+
+    /// A token of what the caller has seen, as [`Member::seen`]. It is no step, and can't fail.
+    ///
+    /// [`Member::seen`]: crate::Member::seen
+    #[inline]
+    pub fn seen(&mut self) -> Seen
+        ensures same { self.new ≡ self.old }
+        ensures tells { IsTokenOf self.old.set self.old.pass.trace result }
+    {
+        self.set.seen(&mut self.pass)
+    }
+
+    /// Another token that tells the same, as [`Member::seen_again`]. It is no step, and can't fail.
+    ///
+    /// [`Member::seen_again`]: crate::Member::seen_again
+    #[inline]
+    pub fn seen_again(&self, token: &mut Seen) -> Seen
+        requires { token.old.table ≡ self.now.set.table }
+        ensures same { token.new ≡ token.old }
+        ensures again { result ≡ token.old }
+    {
+        self.set.seen_again(token)
+    }
+
+    /// Lets the caller see all that a token of its set tells, which is spent, as [`Member::catch_up`]. It
+    /// is no step, and can't fail.
+    ///
+    /// [`Member::catch_up`]: crate::Member::catch_up
+    #[inline]
+    pub fn catch_up(&mut self, token: Seen)
+        requires { token.table ≡ self.old.set.table }
+        ensures set { self.new.set ≡ self.old.set }
+        ensures catches { CatchesUp self.old.set self.old.pass token self.new.pass }
+    {
+        self.set.catch_up(&mut self.pass, token);
     }
 
     /// The shape of its set, without the keys that the set opened with.

@@ -14,4 +14,6 @@ mod seventy_slots;
 #[cfg(test)]
 mod threads;
 #[cfg(test)]
+mod tokens;
+#[cfg(test)]
 mod worker;

@@ -7,7 +7,7 @@ use std::test::Fail;
 use vbr_set::{Member, Refusal, Shape};
 
 // The two members of a set.
-fn open_two(alloc: Global) -> Option<(Member, Member)>
+pub(crate) fn open_two(alloc: Global) -> Option<(Member, Member)>
     ensures { IfSome result (λ r. r.1.set ≡ r.0.set) }
 {
     let shape = Shape::new(2, 1, 10).ok()?;

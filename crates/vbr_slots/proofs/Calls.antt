@@ -72,6 +72,13 @@ steps_next who seen rest step none =
     let d : steps_in who (event_of who step ∷ []) ≡ 1 = ap (λ (b : Bool). 0 + cond b 1 0) (eq-eqb who who refl) in
     omega (arith, a, b, c, d)
 
+-- none more, where others did what was done
+pub steps_left : (who : ℕ) (seen rest : List Event) → NoneOf who rest → steps_in who (seen ++ rest) ≡ steps_in who seen
+steps_left who seen rest none =
+    let a : steps_in who (seen ++ rest) ≡ steps_in who seen + steps_in who rest = own_both who seen rest in
+    let b : steps_in who rest ≡ 0 = own_none who rest none in
+    omega (arith, a, b)
+
 -- ---- one step
 
 pub did_same : {step : Step} {p q : Trace} {r : ℕ} → Did step p q r → IsSame p q

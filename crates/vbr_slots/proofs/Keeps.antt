@@ -1,6 +1,7 @@
 -- A step of the core keeps the rule of the table.
 use Rattle.std.proofs.Common.{◌≡◌, ◌≢◌, ℕ, ◌<◌, List, [], ◌∷◌, ◌++◌, set, get_or, refl, sym, ap, ◌∙◌, subst, ⊎_elim, inl, inr, arith}
 use mathlib.Core.Option.{some}
+use Rattle.std.proofs.lemmas.List.{set-get_or}
 use lib.ListN.{get_elem?}
 use Rattle.atomic_table.specs.Table.{State as Standing, Me, keeps, Allows}
 use Rattle.atomic_table.proofs.Lists.{at_set}
@@ -10,12 +11,12 @@ use Rattle.vbr_core.specs.Acceptance.{Accepts}
 use Rattle.vbr_core.specs.Accounts.{incarnations_after, notes_after}
 use Rattle.vbr_core.specs.Knowledge.{Know}
 use Rattle.vbr_core.specs.Machine.{word_made, World, access_of, found, place_of_step}
-use Rattle.vbr_core.specs.Runs.{IsRun, world_after, know_after, NoneOf}
+use Rattle.vbr_core.specs.Runs.{BeginsFor, IsRun, world_after, know_after, NoneOf}
 use Rattle.vbr_core.specs.declared.event.Event.{Event}
 use Rattle.vbr_core.proofs.Lemmas.{begins_for_refl, is_run_after_others, others_leave_it_accepted, others_leave_know, place_in, run_agrees, world_after-snoc}
 use Rattle.vbr_slots.specs.declared.rule.Witness.{Witness}
 use Rattle.vbr_slots.specs.declared.rule.Opening.{Opening}
-use Rattle.vbr_slots.specs.Rule.{witness, EachBegins, times, Kept, Shows, Told}
+use Rattle.vbr_slots.specs.Rule.{witness, nobody, Caught, EachBegins, times, Kept, Shows, Told}
 use Rattle.vbr_slots.specs.Words.{AreWordsOf}
 use Rattle.vbr_slots.proofs.Members.{each_begins_more, two_in, one_in, times-set, times-first, times-members}
 use Rattle.vbr_slots.proofs.Sightings.{set_at}
@@ -38,27 +39,27 @@ module _ (opening : Opening) (is_shape : IsShape opening.shape) where
       (words_after shape (world_after shape run) (incarnations_after shape run) (notes_after shape run) e.pass e.step (run_agrees shape opening.passes run is_shape is_run) ok words are f does)
 
   -- no other seat has the number of the first witness
-  others_away : (s : St) (h : Kept opening s) (id j : ℕ) (m : Witness) (ms u : List Witness) → j ≢ id → get_elem? s.views id ≡ some (m ∷ ms) → get_elem? s.views j ≡ some u → times m.who u ≡ 0
-  others_away s h id j m ms u apart at bt =
+  others_away : (s : St) (h : Kept opening s) (id j : ℕ) (m : Witness) (ms u : List Witness) → m.who ≢ nobody → j ≢ id → get_elem? s.views id ≡ some (m ∷ ms) → get_elem? s.views j ≡ some u → times m.who u ≡ 0
+  others_away s h id j m ms u other apart at bt =
       let two = two_in m.who s.views id j (m ∷ ms) u apart at bt in
-      let all = h.counted m.who in
+      let all = h.counted m.who other in
       let most = times-members opening.shape.keys m.who 0 opening.passes in
       let first = times-first m ms in
       omega arith
 
-  mates_away : (s : St) (h : Kept opening s) (id : ℕ) (m : Witness) (ms : List Witness) → get_elem? s.views id ≡ some (m ∷ ms) → times m.who ms ≡ 0
-  mates_away s h id m ms at =
+  mates_away : (s : St) (h : Kept opening s) (id : ℕ) (m : Witness) (ms : List Witness) → m.who ≢ nobody → get_elem? s.views id ≡ some (m ∷ ms) → times m.who ms ≡ 0
+  mates_away s h id m ms other at =
       let one = one_in m.who s.views id (m ∷ ms) at in
-      let all = h.counted m.who in
+      let all = h.counted m.who other in
       let most = times-members opening.shape.keys m.who 0 opening.passes in
       let first = times-first m ms in
       omega arith
 
   -- the first witness of the seat takes the step
-  pub plays : (slots id : ℕ) (e : Event) (seen : List Event) (others : List Witness) (cs : List (ℕ × Unit {0})) (i : ℕ) (f g : ℕ → ℕ) → e.pass < opening.passes → i ≡ index_of opening.shape (place_of_step e.step)
+  pub plays : (slots id : ℕ) (e : Event) (seen : List Event) (others : List Witness) (cs : List (ℕ × Unit {0})) (i : ℕ) (f g : ℕ → ℕ) → e.pass < opening.passes → e.pass ≢ nobody → i ≡ index_of opening.shape (place_of_step e.step)
       → ((n : ℕ) → f n ≡ word_made (access_of (know_after opening.shape seen e.pass) e.step) n) → ((n : ℕ) → Shows e.step (g n) n) → Accepts opening.shape (know_after opening.shape seen e.pass) e.step
       → Allows (Kept opening) slots id (witness opening.shape.keys e.pass seen ∷ others, cs) i f (λ r. Told opening e (witness opening.shape.keys e.pass seen ∷ others, cs) (g r))
-  plays slots id e seen others cs i f g low place does same ok s h _ at _ =
+  plays slots id e seen others cs i f g low other place does same ok s h _ at _ =
       let shape = opening.shape in
       let mine = h.begins id (witness opening.shape.keys e.pass seen ∷ others) at in
       let rest : List Event = mine.0.0 in
@@ -74,7 +75,7 @@ module _ (opening : Opening) (is_shape : IsShape opening.shape) where
       let words : AreWordsOf shape (world_after shape run) s.words = subst (λ (r : List Event). AreWordsOf shape (world_after shape r) s.words) is h.words in
       let ok' : Accepts shape (know_after shape run e.pass) e.step = others_leave_it_accepted shape seen rest e.pass e.step none ok in
       let more = λ (u : List Witness) (away : times e.pass u ≡ 0) (b : EachBegins h.run u). each_begins_more run e u away (subst (λ r. EachBegins r u) is b) in
-      let theirs : EachBegins run' others = more others (mates_away s h id (witness opening.shape.keys e.pass seen) others at) mine.1 in (
+      let theirs : EachBegins run' others = more others (mates_away s h id (witness opening.shape.keys e.pass seen) others other at) mine.1 in (
         w,
         keeps,
         tt,
@@ -85,10 +86,10 @@ module _ (opening : Opening) (is_shape : IsShape opening.shape) where
           begins = λ j u bt.
               ⊎_elim
               (λ (x : (j ≡ id) × (w ≡ u)). subst (EachBegins run') x.1 (begins_for_refl e.pass run', theirs))
-              (λ (x : (j ≢ id) × (get_elem? s.views j ≡ some u)). more u (others_away s h id j (witness opening.shape.keys e.pass seen) others u x.0 at x.1) (h.begins j u x.1))
+              (λ (x : (j ≢ id) × (get_elem? s.views j ≡ some u)). more u (others_away s h id j (witness opening.shape.keys e.pass seen) others u other x.0 at x.1) (h.begins j u x.1))
               (at_set s.views id j w u bt);
-          seen = inr (id, w, set_at s.views id w (witness opening.shape.keys e.pass seen ∷ others) at, inl refl);
-          counted = λ who. let t = times-set who s.views id w (witness opening.shape.keys e.pass seen ∷ others) at in let all = h.counted who in omega arith;
+          seen = inr (id, w, set_at s.views id w (witness opening.shape.keys e.pass seen ∷ others) at, inl (other, refl));
+          counted = λ who else. let t = times-set who s.views id w (witness opening.shape.keys e.pass seen ∷ others) at in let all = h.counted who else in omega arith;
         },
         record {
           rest = rest;
@@ -104,8 +105,45 @@ module _ (opening : Opening) (is_shape : IsShape opening.shape) where
       shown words run are = ap (λ (j : ℕ). get_or words j 0) place ∙ are.each (place_of_step e.step) (place_in opening.shape e.step ok.in_shape)
 
   -- the same at a seat that is known to be so
-  pub plays_as : (slots id : ℕ) (e : Event) (seen : List Event) (others : List Witness) (cs : List (ℕ × Unit {0})) (me : Me (Unit {0}) V) (i : ℕ) (f g : ℕ → ℕ) → me ≡ (witness opening.shape.keys e.pass seen ∷ others, cs) → e.pass < opening.passes
+  pub plays_as : (slots id : ℕ) (e : Event) (seen : List Event) (others : List Witness) (cs : List (ℕ × Unit {0})) (me : Me (Unit {0}) V) (i : ℕ) (f g : ℕ → ℕ) → me ≡ (witness opening.shape.keys e.pass seen ∷ others, cs) → e.pass < opening.passes → e.pass ≢ nobody
       → i ≡ index_of opening.shape (place_of_step e.step) → ((n : ℕ) → f n ≡ word_made (access_of (know_after opening.shape seen e.pass) e.step) n) → ((n : ℕ) → Shows e.step (g n) n)
       → Accepts opening.shape (know_after opening.shape seen e.pass) e.step → Allows (Kept opening) slots id me i f (λ r. Told opening e me (g r))
-  plays_as slots id e seen others cs me i f g known low place does same ok =
-      subst (λ (m : Me (Unit {0}) V). Allows (Kept opening) slots id m i f (λ r. Told opening e m (g r))) (sym known) (plays slots id e seen others cs i f g low place does same ok)
+  plays_as slots id e seen others cs me i f g known low other place does same ok =
+      subst (λ (m : Me (Unit {0}) V). Allows (Kept opening) slots id m i f (λ r. Told opening e m (g r))) (sym known) (plays slots id e seen others cs i f g low other place does same ok)
+
+  -- the first witness of the seat catches up with the run, and those beside it, which are of tokens, are spent
+  pub catches : (slots id who : ℕ) (seen : List Event) (others : List Witness) (cs : List (ℕ × Unit {0})) (i : ℕ) → who ≢ nobody → ((number : ℕ) → number ≢ nobody → times number others ≡ 0)
+      → Allows (Kept opening) slots id (witness opening.shape.keys who seen ∷ others, cs) i (λ n. n) (λ _. Caught opening who (witness opening.shape.keys who seen ∷ others, cs))
+  catches slots id who seen others cs i apart spent s h _ at _ =
+      let shape = opening.shape in
+      let mine = h.begins id (witness opening.shape.keys who seen ∷ others) at in
+      let rest : List Event = mine.0.0 in
+      let is : h.run ≡ seen ++ rest = mine.0.1 in
+      let w : List Witness = witness opening.shape.keys who (seen ++ rest) ∷ [] in (
+        w,
+        keeps,
+        tt,
+        record {
+          run = h.run;
+          is_run = h.is_run;
+          words = subst (λ (words : List ℕ). AreWordsOf shape (world_after shape h.run) words) (sym (set-get_or s.words i 0)) h.words;
+          begins = λ j u bt.
+              ⊎_elim
+              (λ (x : (j ≡ id) × (w ≡ u)). subst (EachBegins h.run) x.1 (subst (λ (r : List Event). BeginsFor who r h.run) is (begins_for_refl who h.run), tt))
+              (λ (x : (j ≢ id) × (get_elem? s.views j ≡ some u)). h.begins j u x.1)
+              (at_set s.views id j w u bt);
+          seen = inr (id, w, set_at s.views id w (witness opening.shape.keys who seen ∷ others) at, inl (apart, sym is));
+          counted = λ number else. let t = times-set number s.views id w (witness opening.shape.keys who seen ∷ others) at in let all = h.counted number else in let none = spent number else in omega arith;
+        },
+        record {
+          rest = rest;
+          none = mine.0.2;
+          now = refl;
+          is_run = subst (IsRun shape opening.passes) is h.is_run;
+          others = subst (λ (r : List Event). EachBegins r others) is mine.1;
+        },
+      )
+
+  pub catches_as : (slots id who : ℕ) (seen : List Event) (others : List Witness) (me : Me (Unit {0}) V) (i : ℕ) → me ≡ (witness opening.shape.keys who seen ∷ others, []) → who ≢ nobody → ((number : ℕ) → number ≢ nobody → times number others ≡ 0)
+      → Allows (Kept opening) slots id me i (λ n. n) (λ _. Caught opening who me)
+  catches_as slots id who seen others me i known apart spent = subst (λ (m : Me (Unit {0}) V). Allows (Kept opening) slots id m i (λ n. n) (λ _. Caught opening who m)) (sym known) (catches slots id who seen others [] i apart spent)

@@ -1,14 +1,17 @@
 -- Members of seats: what they have seen of a longer run, and how often a number stands among them.
-use Rattle.std.proofs.Common.{◌≡◌, ◌≢◌, ℕ, zero, suc, ◌+◌, ◌<◌, ◌≤◌, ◌==◌, eq-eqb, ne_eqb, List, [], ◌∷◌, ◌++◌, set, refl, sym, ap, arith}
+use Rattle.std.proofs.Common.{◌≡◌, ◌≢◌, ℕ, zero, suc, ◌+◌, ◌<◌, ◌≤◌, ◌==◌, eq-eqb, ne_eqb, List, [], ◌∷◌, ◌++◌, set, refl, sym, ap, subst, arith}
 use mathlib.Core.Logic.{dite}
 use native.Mathlib.Decide.{ℕ_discrete}
 use mathlib.Core.Option.{some, some-ne-none, some-injective}
 use lib.ListN.{get_elem?}
 use Rattle.std.specs.Prelude.{Bool}
+use Rattle.vbr_words.specs.Dimensions.{Dimensions}
+use Rattle.vbr_core.specs.Machine.{World, after}
+use Rattle.vbr_core.specs.Runs.{AreAccepted, Begins, BeginsFor, IsRun, NoneOf}
 use Rattle.vbr_core.specs.declared.event.Event.{Event}
 use Rattle.vbr_core.proofs.Lemmas.{begins_for-snoc}
 use Rattle.vbr_slots.specs.declared.rule.Witness.{Witness}
-use Rattle.vbr_slots.specs.Rule.{EachBegins, witnesses, one_if, times, times_in}
+use Rattle.vbr_slots.specs.Rule.{EachBegins, witness, witnesses, nobody, one_if, times, times_in}
 
 pub each_begins_more : (run : List Event) (e : Event) (v : List Witness) → times e.pass v ≡ 0 → EachBegins run v → EachBegins (run ++ e ∷ []) v
 each_begins_more run e [] away b = tt
@@ -51,3 +54,22 @@ times-members keys who k zero = omega arith
 times-members keys who k (suc n) = dite (ℕ_discrete k who)
     (λ is. let here : one_if (k == who) ≡ 1 = ap one_if (eq-eqb k who is) in let rest = times-below keys who (suc k) n (omega arith) in omega arith)
     (λ not. let here : one_if (k == who) ≡ 0 = ap one_if (ne_eqb k who not) in let rest = times-members keys who (suc k) n in omega arith)
+
+-- ---- tokens
+
+-- a token has the number of no pass
+pub token_uncounted : (who : ℕ) (keys : List ℕ) (seen : List Event) → who ≢ nobody → times who (witness keys nobody seen ∷ []) ≡ 0
+token_uncounted who keys seen other = let none : one_if (nobody == who) ≡ 0 = ap one_if (ne_eqb nobody who (λ is. other (sym is))) in omega arith
+
+-- a number that no pass has has no event
+none_of : (shape : Dimensions) (passes who : ℕ) (w : World) (run : List Event) → passes ≤ who → AreAccepted shape passes w run → NoneOf who run
+none_of shape passes who w [] high ok = tt
+none_of shape passes who w (e ∷ es) high ok = ((λ is. let low : e.pass < passes = ok.0.0 in absurd (omega (arith, low, is, high))), none_of shape passes who (after shape w e.pass e.step) es high ok.1)
+
+none_behind : (who : ℕ) (xs ys : List Event) → NoneOf who (xs ++ ys) → NoneOf who ys
+none_behind who [] ys none = none
+none_behind who (x ∷ xs) ys none = none_behind who xs ys none.1
+
+-- so a beginning of a run has all of its events
+pub token_begins : (shape : Dimensions) (passes who : ℕ) (seen run : List Event) → passes ≤ who → IsRun shape passes run → Begins seen run → BeginsFor who seen run
+token_begins shape passes who seen run high is begins = (begins.0, begins.1, none_behind who seen begins.0 (subst (NoneOf who) begins.1 (none_of shape passes who _ run high is)))

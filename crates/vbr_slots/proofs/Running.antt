@@ -23,5 +23,5 @@ runs opening s is h = record {
   begins = h.begins;
   knows = λ j v at. each_knows opening.shape h.run v (h.begins j v at);
   seen = h.seen;
-  once = λ who. let all = h.counted who in let most = times-members opening.shape.keys who 0 opening.passes in omega arith;
+  once = λ who other. let all = h.counted who other in let most = times-members opening.shape.keys who 0 opening.passes in omega arith;
 }

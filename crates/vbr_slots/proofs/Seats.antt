@@ -1,18 +1,19 @@
 -- Seats that are opened, split and joined keep the rule.
-use Rattle.std.proofs.Common.{◌≡◌, ◌≢◌, ◌⊎◌, ℕ, zero, suc, ◌+◌, ◌-◌, ◌<◌, List, [], ◌∷◌, ◌++◌, set, refl, sym, ap, ◌∙◌, subst, ⊎_elim, inl, inr, arith}
+use Rattle.std.proofs.Common.{◌≡◌, ◌≢◌, ◌⊎◌, ℕ, zero, suc, ◌+◌, ◌-◌, ◌<◌, ◌≤◌, List, [], ◌∷◌, ◌++◌, set, refl, sym, ap, ◌∙◌, subst, ⊎_elim, inl, inr, arith}
 use mathlib.Core.Option.{some, some-ne-none, some-injective}
 use lib.ListN.{get_elem?}
 use Rattle.atomic_table.specs.Table.{State as Standing, opening as table_opening, Splits, Joins, Enters, Me}
 use Rattle.atomic_table.proofs.Lists.{at_set, at_snoc}
 use Rattle.vbr_core.specs.Machine as machine
+use Rattle.vbr_core.specs.Runs.{IsRun}
 use Rattle.vbr_core.specs.declared.event.Event.{Event}
 use Rattle.vbr_core.proofs.Lemmas.{is_run_first}
 use Rattle.vbr_slots.specs.declared.rule.Witness.{Witness}
 use Rattle.vbr_slots.specs.declared.rule.Opening.{Opening}
-use Rattle.vbr_slots.specs.Rule.{witness, witnesses, first_witnesses, head_of, tail_of, first_keys, first_seen, EachBegins, HasSeen, IsSeen, times, times_in, Kept}
+use Rattle.vbr_slots.specs.Rule.{witness, witnesses, nobody, noted, first_witnesses, head_of, tail_of, first_keys, first_seen, EachBegins, HasSeen, IsSeen, times, times_in, Kept}
 use Rattle.vbr_slots.specs.Views.{TableView, new_pass, new_passes}
 use Rattle.vbr_slots.specs.Words.{AreWordsOf}
-use Rattle.vbr_slots.proofs.Members.{times-set}
+use Rattle.vbr_slots.proofs.Members.{times-set, token_begins, token_uncounted}
 use Rattle.vbr_slots.proofs.Sightings.{seen_longer, seen_split, seen_join}
 
 abbrev V : Type 0
@@ -32,7 +33,7 @@ opens opening words are = record {
   words = are;
   begins = each;
   seen = inl refl;
-  counted = λ who. omega arith;
+  counted = λ who other. omega arith;
 }
   where
     each : (j : ℕ) (v : V) → get_elem? (first_witnesses opening ∷ []) j ≡ some v → EachBegins [] v
@@ -51,7 +52,7 @@ begins-append : (run : List Event) (v w : V) → EachBegins run v → EachBegins
 begins-append run [] w a b = b
 begins-append run (m ∷ ms) w a b = (a.0, begins-append run ms w a.1 b)
 
-pub splits : (opening : Opening) (id : ℕ) (v left right : V) → ((who : ℕ) → times who left + times who right ≡ times who v) → ((run : List Event) → EachBegins run v → EachBegins run left × EachBegins run right)
+pub splits : (opening : Opening) (id : ℕ) (v left right : V) → ((who : ℕ) → who ≢ nobody → times who left + times who right ≡ times who v) → ((run : List Event) → IsRun opening.shape opening.passes run → EachBegins run v → EachBegins run left × EachBegins run right)
     → ((run : List Event) → HasSeen run v → HasSeen run left ⊎ HasSeen run right) → Splits (Kept opening) id v left right
 splits opening id v left right count part sight s h at = record {
   run = h.run;
@@ -59,15 +60,15 @@ splits opening id v left right count part sight s h at = record {
   words = h.words;
   begins = λ j u bt.
       ⊎_elim
-      (λ was. ⊎_elim (λ (x : (j ≡ id) × (left ≡ u)). subst (EachBegins h.run) x.1 (part h.run (h.begins id v at)).0) (λ (x : (j ≢ id) × (get_elem? s.views j ≡ some u)). h.begins j u x.1) (at_set s.views id j left u was))
-      (λ (is : right ≡ u). subst (EachBegins h.run) is (part h.run (h.begins id v at)).1)
+      (λ was. ⊎_elim (λ (x : (j ≡ id) × (left ≡ u)). subst (EachBegins h.run) x.1 (part h.run h.is_run (h.begins id v at)).0) (λ (x : (j ≢ id) × (get_elem? s.views j ≡ some u)). h.begins j u x.1) (at_set s.views id j left u was))
+      (λ (is : right ≡ u). subst (EachBegins h.run) is (part h.run h.is_run (h.begins id v at)).1)
       (at_snoc (set s.views id left) right u j bt);
   seen = ⊎_elim inl (λ (x : IsSeen h.run s.views). inr (seen_split h.run s.views id v left right (sight h.run) at x)) h.seen;
-  counted = λ who.
+  counted = λ who other.
       let a = times_in-snoc who (set s.views id left) right in
       let b = times-set who s.views id left v at in
-      let c = count who in
-      let most = h.counted who in
+      let c = count who other in
+      let most = h.counted who other in
       omega arith;
 }
 
@@ -87,11 +88,11 @@ joins opening id v other w s h at two there =
           (at_set s.views id j (v ++ w) u x.1))
           (at_set (set s.views id (v ++ w)) other j [] u bt);
       seen = ⊎_elim inl (λ (x : IsSeen h.run s.views). inr (seen_join h.run s.views id v other w at two there x)) h.seen;
-      counted = λ who.
+      counted = λ who else.
           let a = times-set who s.views id (v ++ w) v at in
           let b = times-set who (set s.views id (v ++ w)) other [] w there in
           let c = times-append who v w in
-          let most = h.counted who in
+          let most = h.counted who else in
           omega arith;
     }
 
@@ -104,13 +105,13 @@ enters opening slots i s h _ _ = (
     words = h.words;
     begins = λ j u bt. ⊎_elim (h.begins j u) (λ (is : [] ≡ u). subst (EachBegins h.run) is tt) (at_snoc s.views [] u j bt);
     seen = ⊎_elim inl (λ (x : IsSeen h.run s.views). inr (seen_longer h.run s.views [] x)) h.seen;
-    counted = λ who. let a = times_in-snoc who s.views [] in let most = h.counted who in omega arith;
+    counted = λ who other. let a = times_in-snoc who s.views [] in let most = h.counted who other in omega arith;
   },
   refl,
 )
 
 pub splits_first : (opening : Opening) (id : ℕ) (v : V) → Splits (Kept opening) id v (head_of v) (tail_of v)
-splits_first opening id v = splits opening id v (head_of v) (tail_of v) (λ who. count who v) (λ run. part run v) (λ run. sight run v)
+splits_first opening id v = splits opening id v (head_of v) (tail_of v) (λ who _. count who v) (λ run _. part run v) (λ run. sight run v)
   where
     count : (who : ℕ) (u : V) → times who (head_of u) + times who (tail_of u) ≡ times who u
     count who [] = refl
@@ -126,7 +127,18 @@ splits_first opening id v = splits opening id v (head_of v) (tail_of v) (λ who.
     sight run (m ∷ ms) (inr h) = inr h
 
 pub splits_whole : (opening : Opening) (id : ℕ) (v : V) → Splits (Kept opening) id v [] v
-splits_whole opening id v = splits opening id v [] v (λ who. omega arith) (λ run b. (tt, b)) (λ run h. inr h)
+splits_whole opening id v = splits opening id v [] v (λ who _. omega arith) (λ run _ b. (tt, b)) (λ run h. inr h)
+
+-- a token beside a seat that stays: it tells what the first witness has seen
+pub splits_noted : (opening : Opening) (id : ℕ) (v : V) → opening.passes ≤ nobody → Splits (Kept opening) id v v (noted v)
+splits_noted opening id v few = splits opening id v v (noted v) count (λ run is b. (b, part run is v b)) (λ run h. inl h)
+  where
+    count : (who : ℕ) → who ≢ nobody → times who v + times who (noted v) ≡ times who v
+    count who other = let none = token_uncounted who (first_keys v) (first_seen v) other in omega arith
+
+    part : (run : List Event) → IsRun opening.shape opening.passes run → (u : V) → EachBegins run u → EachBegins run (noted u)
+    part run is [] b = (token_begins opening.shape opening.passes nobody [] run few is (run, refl), tt)
+    part run is (m ∷ ms) b = (token_begins opening.shape opening.passes nobody m.seen run few is (b.0.0, b.0.1), tt)
 
 -- the loop at the opening: the next seat goes to the pass of the number k
 module _ (keys : List ℕ) (k n : ℕ) (old new next : Me (Unit {0}) V) (low : k < n) (is : old ≡ (witnesses keys k (n - k), [])) (left : new ≡ (head_of old.0, old.1)) (right : next ≡ (tail_of old.0, [])) where

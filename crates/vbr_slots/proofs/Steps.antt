@@ -1,5 +1,5 @@
 -- A step of a runner at its table: what the table asks, and what the runner then knows.
-use Rattle.std.proofs.Common.{◌≡◌, ℕ, ◌<◌, List, [], ◌∷◌, ◌++◌, refl, sym, ap, ◌∙◌, subst, arith}
+use Rattle.std.proofs.Common.{◌≡◌, ◌≢◌, ℕ, ◌<◌, ◌≤◌, List, [], ◌∷◌, ◌++◌, refl, sym, ap, ◌∙◌, subst, arith}
 use Rattle.atomic_table.specs.Table.{Me, Allows}
 use Rattle.atomic_table.specs.Seated.{TableId}
 use Rattle.vbr_words.specs.Dimensions.{Dimensions, IsShape}
@@ -13,17 +13,19 @@ use Rattle.vbr_core.specs.Machine.{word_made, access_of, found, place_of_step, s
 use Rattle.vbr_core.specs.Runs.{IsRun, world_after, know_after, NoneOf}
 use Rattle.vbr_core.specs.declared.event.Event.{Event}
 use Rattle.vbr_core.specs.declared.event.Step.{Step}
-use Rattle.vbr_core.proofs.Lemmas.{know_after-snoc, place_in}
+use Rattle.vbr_core.specs.declared.event.Step.TheVariants.{ReadEpoch}
+use Rattle.vbr_core.proofs.Lemmas.{know_after-snoc, others_leave_know, place_in}
 use Rattle.vbr_slots.specs.declared.rule.Witness.{Witness}
 use Rattle.vbr_slots.specs.declared.rule.Opening.{Opening}
 use Rattle.vbr_slots.specs.declared.runner.Runner.TheInside.{Inside as RunnerInside}
 use Rattle.vbr_slots.specs.declared.slots.Slots.TheInside.{Inside as SlotsInside}
-use Rattle.vbr_slots.specs.Rule.{Kept, Told, Shows, witness, first_keys, first_seen, head_of, tail_of, EachBegins}
+use Rattle.vbr_slots.specs.Rule.{Kept, Told, Caught, Shows, witness, nobody, times, first_keys, first_seen, head_of, tail_of, EachBegins}
 use Rattle.vbr_slots.specs.Views.{Trace, TableView, IsOf, Did, knows, event_of, epoch_after, steps_in}
+use Rattle.vbr_slots.specs.Tokens.{Since}
 use Rattle.vbr_slots.specs.RunnerView.{shape_of, trace_of, seen_of, IsSoundRunner}
 use Rattle.vbr_slots.specs.SlotsView.{shape_in, table_of, IsBuilt}
-use Rattle.vbr_slots.proofs.Calls.{steps_next}
-use Rattle.vbr_slots.proofs.Keeps.{plays_as}
+use Rattle.vbr_slots.proofs.Calls.{steps_next, steps_left}
+use Rattle.vbr_slots.proofs.Keeps.{plays_as, catches_as}
 use Rattle.vbr_slots.proofs.Learning.{epoch_learned}
 
 -- a seat's view, and the slots of the table that it has taken
@@ -60,7 +62,9 @@ asks t table built t_is w low own z z_is id me others is step e opening named pl
     let size : words_in w.shape ≡ t.table.shared.table_id.words = ap words_in shape ∙ sym built.words in
     let in_table : index_of w.shape (place_of_step step) < words_in w.shape = index_of-lt w.shape (place_of_step step) (place_in w.shape step accepted.in_shape) in
     let is_shape : IsShape w.shape = subst IsShape (sym shape) built.shape in
-    let plain : Allows (Kept o) t.table.shared.table_id.slots id me word f (λ r. Told o d me (g r)) = plays_as o is_shape t.table.shared.table_id.slots id d w.seen others [] me word f g is low at does same accepted in (
+    let few : w.passes ≤ nobody = subst (λ (n : ℕ). n ≤ nobody) (ap (λ (q : TableView). q.passes) t_is ∙ sym own.2) built.few in
+    let apart : w.who ≢ nobody = λ same_number. absurd (omega (arith, low, few, same_number)) in
+    let plain : Allows (Kept o) t.table.shared.table_id.slots id me word f (λ r. Told o d me (g r)) = plays_as o is_shape t.table.shared.table_id.slots id d w.seen others [] me word f g is low apart at does same accepted in (
       z_is ∙ (own.0 ∙ sym (ap (λ (q : TableView). q.table) t_is)),
       omega (arith, at, size, in_table),
       subst (λ (x : Opening × Event × Opening). Allows (Kept x.0) t.table.shared.table_id.slots id me word f (λ r. Told x.2 x.1 me (g r))) (λ i. (here i, sym named.0 i, (mine ∙ sym named.1) i)) plain,
@@ -177,3 +181,95 @@ same_again p w sound p_is q is fields table =
 
 pub wide : (t : SlotsInside) → IsBuilt t → 0 < t.table.shared.table_id.words
 wide t built = let w = built.words in omega arith
+
+-- ---- tokens
+
+-- the number of tokens is above those of all passes
+pub none_has_it : (t : SlotsInside) → IsBuilt t → t.table.shared.key.passes ≤ nobody
+none_has_it t built = subst (λ (o : Opening). o.passes ≤ nobody) (sym built.key) built.few
+
+-- a seat that a token was joined to
+pub beside : (u : Witness) (vs : List Witness) (pm given pm' : Sat) → pm ≡ (u ∷ [], []) → given ≡ (vs, []) → pm' ≡ (pm.0 ++ given.0, pm.1) → pm' ≡ (u ∷ vs, [])
+beside u vs pm given pm' is_p from into = into ∙ (λ i. ((is_p i).0 ++ (from i).0, (is_p i).1))
+
+-- what catching up asks
+pub asks_to_catch : (t : SlotsInside) (table : TableView) → IsBuilt t → table_of t ≡ table → (w : Trace) → w.who < w.passes → IsOf w table → (z : TableId) → z ≡ w.table → (id : ℕ) (me : Sat) (others : List Witness) → me ≡ (witness w.shape.keys w.who w.seen ∷ others, [])
+    → ((number : ℕ) → number ≢ nobody → times number others ≡ 0) → (e : Event) (opening : Opening) → (e ≡ event_of w.who ReadEpoch) × (opening ≡ opening_of table)
+    → (z ≡ t.table.shared.table_id) × (0 < t.table.shared.table_id.words) × Allows (Kept t.table.shared.key) t.table.shared.table_id.slots id me 0 (λ n. n) (λ _. Caught opening e.pass me)
+asks_to_catch t table built t_is w low own z z_is id me others is spent e opening named =
+    let o : Opening = record { shape = w.shape; passes = w.passes } in
+    let mine : o ≡ opening_of table = λ i. record { shape = own.1 i; passes = own.2 i } in
+    let here : o ≡ t.table.shared.key = mine ∙ sym (ap opening_of t_is) ∙ sym built.key in
+    let shape : w.shape ≡ shape_in t = own.1 ∙ sym (ap (λ (q : TableView). q.shape) t_is) in
+    let is_shape : IsShape w.shape = subst IsShape (sym shape) built.shape in
+    let few : w.passes ≤ nobody = subst (λ (n : ℕ). n ≤ nobody) (ap (λ (q : TableView). q.passes) t_is ∙ sym own.2) built.few in
+    let apart : w.who ≢ nobody = λ same_number. absurd (omega (arith, low, few, same_number)) in
+    let plain : Allows (Kept o) t.table.shared.table_id.slots id me 0 (λ n. n) (λ _. Caught o w.who me) = catches_as o is_shape t.table.shared.table_id.slots id w.who w.seen others me 0 is apart spent in (
+      z_is ∙ (own.0 ∙ sym (ap (λ (q : TableView). q.table) t_is)),
+      wide t built,
+      subst (λ (x : Opening × Event × Opening). Allows (Kept x.0) t.table.shared.table_id.slots id me 0 (λ n. n) (λ _. Caught x.2 x.1.pass me)) (λ i. (here i, sym named.0 i, (mine ∙ sym named.1) i)) plain,
+    )
+
+-- what is known then
+pub record CaughtUp (w : Trace) (others : List Witness) (n : Sat) : Type 0 where
+  pub rest : List Event
+  pub none : NoneOf w.who rest
+  pub run : List Event
+  pub run_is : run ≡ w.seen ++ rest
+  pub now : n ≡ (witness w.shape.keys w.who run ∷ [], [])
+  pub is_run : IsRun w.shape w.passes run
+  pub mates : EachBegins run others
+
+pub caught_up : (w : Trace) (table : TableView) → IsOf w table → (me n : Sat) (others : List Witness) → me ≡ (witness w.shape.keys w.who w.seen ∷ others, []) → (e : Event) (opening : Opening) → (e ≡ event_of w.who ReadEpoch) × (opening ≡ opening_of table)
+    → Caught opening e.pass me n → CaughtUp w others n
+caught_up w table own me n others is e opening named caught =
+    let d : Event = event_of w.who ReadEpoch in
+    let o : Opening = record { shape = w.shape; passes = w.passes } in
+    let mine : opening_of table ≡ o = λ i. record { shape = sym own.1 i; passes = sym own.2 i } in
+    let here : Caught o w.who (witness w.shape.keys w.who w.seen ∷ others, []) n = subst (λ (x : Opening × Event × Sat). Caught x.0 x.1.pass x.2 n) (λ i. ((named.1 ∙ mine) i, named.0 i, is i)) caught in record {
+      rest = here.rest;
+      none = here.none;
+      run = w.seen ++ here.rest;
+      run_is = refl;
+      now = here.now;
+      is_run = here.is_run;
+      mates = here.others;
+    }
+
+-- the runner that caught up
+module _ (p : RunnerInside) (w : Trace) (sound : IsSoundRunner p) (p_is : trace_of p ≡ w) (others : List Witness) (n : Sat) (end : CaughtUp w others n) (q : RunnerInside) (is : q.seat.me ≡ (witness w.shape.keys w.who end.run ∷ [], []))
+    (fields : (q.who ≡ p.who) × (q.opening ≡ p.opening) × (q.epoch ≡ p.epoch)) where
+  seen_then : seen_of q ≡ end.run
+  seen_then = seen_in q.seat.me _ [] is
+
+  who_then : q.who ≡ w.who
+  who_then = fields.0 ∙ ap (λ (v : Trace). v.who) p_is
+
+  shape_then : shape_of q ≡ w.shape
+  shape_then = same_shape p w p_is q.opening fields.1 q.seat.me _ [] is refl
+
+  passes_then : q.opening.passes ≡ w.passes
+  passes_then = ap (λ (o : Opening). o.passes) fields.1 ∙ ap (λ (v : Trace). v.passes) p_is
+
+  know_then : know_after (shape_of q) (seen_of q) q.who ≡ knows w
+  know_then = (λ i. know_after (shape_then i) ((seen_then ∙ end.run_is) i) (who_then i)) ∙ others_leave_know w.shape w.seen end.rest w.who end.none
+
+  pub caught_sound : IsSoundRunner q
+  caught_sound = record {
+    alone = is ∙ (λ i. (witness (sym shape_then i).keys (sym who_then i) (sym seen_then i) ∷ [], []));
+    low = subst (λ (x : ℕ × Opening). x.0 < x.1.passes) (λ i. (sym fields.0 i, sym fields.1 i)) sound.low;
+    shape = subst IsShape (ap (λ (v : Trace). v.shape) p_is ∙ sym shape_then) sound.shape;
+    is_run = subst (λ (x : Dimensions × ℕ × List Event). IsRun x.0 x.1 x.2) (λ i. (sym shape_then i, sym passes_then i, sym seen_then i)) end.is_run;
+    epoch = fields.2 ∙ sound.epoch ∙ ap (λ (v : Trace). (knows v).epoch) p_is ∙ sym (ap (λ (k : Know). k.epoch) know_then);
+  }
+
+  pub since : q.seat.table_id ≡ p.seat.table_id → Since w (trace_of q)
+  since table = record {
+    rest = end.rest;
+    none = end.none;
+    seen = seen_then ∙ end.run_is;
+    is_run = subst (IsRun w.shape w.passes) (sym seen_then) end.is_run;
+    know = know_then;
+    same = (table ∙ ap (λ (v : Trace). v.table) p_is, shape_then, passes_then, who_then);
+    steps = (λ i. steps_in (who_then i) ((seen_then ∙ end.run_is) i)) ∙ steps_left w.who w.seen end.rest end.none;
+  }

@@ -8,6 +8,7 @@ use Rattle.vbr_core.specs.Runs.{NoneOf}
 use Rattle.vbr_core.specs.declared.event.Event.{Event}
 use Rattle.vbr_core.specs.declared.event.Step.{Step}
 use Rattle.vbr_slots.specs.LookUps.{look_up}
+use Rattle.vbr_slots.specs.Tokens.{Since}
 use Rattle.vbr_slots.specs.Tried.{last_tried, tried_by, tried_in}
 use Rattle.vbr_slots.specs.Views.{Trace, Did, event_of}
 
@@ -51,7 +52,17 @@ did_tried {step} {p} {q} d =
 pub keeps_tried : {step : Step} {p q : Trace} {r slot : ℕ} → Did step p q r → tried_by step (last_tried p) ≡ last_tried p → slot ≡ last_tried p → slot ≡ last_tried q
 keeps_tried d kind same = same ∙ sym kind ∙ sym (did_tried d)
 
--- nor does the answer of a look-up
+-- what others did leaves it
+pub since_tried : {p q : Trace} {slot : ℕ} → Since p q → slot ≡ last_tried p → slot ≡ last_tried q
+unfolding last_tried
+since_tried {p} {q} s same =
+    same
+    ∙ sym (tried_others p.who s.rest (tried_in p.who p.seen 0) s.none)
+    ∙ sym (tried_on p.who p.seen s.rest 0)
+    ∙ ap (λ (seen : List Event). tried_in p.who seen 0) (sym s.seen)
+    ∙ ap (λ (who : ℕ). tried_in who q.seen 0) (sym s.same.3)
+
+-- the answer of a look-up is of another kind
 pub look_up_tries_none : (present : Bool) (key : ℕ) (at : At) (expected before : ℕ) → tried_by (look_up present key at expected) before ≡ before
 look_up_tries_none true key (Head bucket) expected before = refl
 look_up_tries_none false key (Head bucket) expected before = refl

@@ -18,3 +18,5 @@ pub mod Messages
 pub mod PassLaw
 pub mod Lending
 pub mod AtTables
+pub mod Tokens
+pub mod TokenView

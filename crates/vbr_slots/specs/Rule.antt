@@ -1,5 +1,5 @@
--- The rule of the table: it is the state of a run of the core, and what each pass has seen begins this run and has all its own events.
-use Rattle.std.specs.Prelude.{◌≡◌, ◌⊎◌, ℕ, zero, suc, ◌+◌, ◌==◌, List, [], ◌∷◌, ◌++◌, Bool, true, false}
+-- The rule of the table: it is the state of a run of the core, and what each pass has seen begins this run and has all its own events; what a token tells begins this run too.
+use Rattle.std.specs.Prelude.{◌≡◌, ◌≢◌, ◌⊎◌, ℕ, zero, suc, ◌+◌, ◌==◌, List, [], ◌∷◌, ◌++◌, Bool, true, false}
 use mathlib.Core.Option.{some}
 use lib.ListN.{get_elem?}
 use Rattle.atomic_table.specs.Table.{State as Standing, Me}
@@ -49,17 +49,25 @@ abbrev pub first_keys : List Witness → List ℕ
 first_keys [] = []
 first_keys (m ∷ ms) = m.keys
 
+-- the number of the witness of a token: no pass has it, since a table has at most 64 passes
+abbrev pub nobody : ℕ
+nobody = 64
+
+-- the witness of a token that tells what the first witness has seen
+abbrev pub noted : List Witness → List Witness
+noted ms = witness (first_keys ms) nobody (first_seen ms) ∷ []
+
 -- what each witness has seen begins the run and has all its own events
 abbrev pub EachBegins : List Event → List Witness → Type 0
 EachBegins run [] = Unit {0}
 EachBegins run (m ∷ ms) = BeginsFor m.who m.seen run × EachBegins run ms
 
--- a witness of the seat has seen all of the run
+-- a witness of the seat, and none of a token, has seen all of the run
 abbrev pub HasSeen : List Event → List Witness → Type 0
 HasSeen run [] = ⊥
-HasSeen run (m ∷ ms) = (m.seen ≡ run) ⊎ HasSeen run ms
+HasSeen run (m ∷ ms) = ((m.who ≢ nobody) × (m.seen ≡ run)) ⊎ HasSeen run ms
 
--- a witness of some seat has seen all of the run
+-- a witness of some seat, and none of a token, has seen all of the run
 abbrev pub IsSeen : List Event → List (List Witness) → Type 0
 IsSeen run views = (j : ℕ) × (v : List Witness) × (get_elem? views j ≡ some v) × HasSeen run v
 
@@ -80,14 +88,14 @@ times_in who (v ∷ vs) = times who v + times_in who vs
 
 -- ---- the rule
 
--- the words are those of the world after a run; what each witness of each seat has seen begins this run and has all its own events; nothing has happened, or some witness has seen all of it; and each number stands as often in all seats as at the opening
+-- the words are those of the world after a run; what each witness of each seat has seen begins this run and has all its own events; nothing has happened, or some witness that is none of a token has seen all of it; and each number but that of tokens stands as often in all seats as at the opening
 pub record Kept (opening : Opening) (s : Standing (Unit {0}) (List Witness)) : Type 0 where
   pub run : List Event
   pub is_run : IsRun opening.shape opening.passes run
   pub words : AreWordsOf opening.shape (world_after opening.shape run) s.words
   pub begins : (j : ℕ) (v : List Witness) → get_elem? s.views j ≡ some v → EachBegins run v
   pub seen : (run ≡ []) ⊎ IsSeen run s.views
-  pub counted : (who : ℕ) → times_in who s.views ≡ times who (first_witnesses opening)
+  pub counted : (who : ℕ) → who ≢ nobody → times_in who s.views ≡ times who (first_witnesses opening)
 
 -- ---- steps
 
@@ -112,3 +120,11 @@ pub record Told (opening : Opening) (e : Event) (m : Me (Unit {0}) (List Witness
   pub is_run : IsRun opening.shape opening.passes ((first_seen m.0 ++ rest) ++ e ∷ [])
   pub shows : Shows e.step r (found opening.shape (world_after opening.shape (first_seen m.0 ++ rest)) e.step)
   pub others : EachBegins ((first_seen m.0 ++ rest) ++ e ∷ []) (tail_of m.0)
+
+-- what catching up tells, which is no event: the pass of the first witness has then seen all of the run, which goes on after what it had seen by events of others; the tokens beside it, which are then spent, begin that run
+pub record Caught (opening : Opening) (who : ℕ) (m n : Me (Unit {0}) (List Witness)) : Type 0 where
+  pub rest : List Event
+  pub none : NoneOf who rest
+  pub now : n ≡ (witness opening.shape.keys who (first_seen m.0 ++ rest) ∷ [], m.1)
+  pub is_run : IsRun opening.shape opening.passes (first_seen m.0 ++ rest)
+  pub others : EachBegins (first_seen m.0 ++ rest) (tail_of m.0)

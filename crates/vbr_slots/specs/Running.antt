@@ -1,5 +1,5 @@
 -- The state of a running table.
-use Rattle.std.specs.Prelude.{◌≡◌, ◌⊎◌, ℕ, ◌≤◌, List, [], ◌∷◌}
+use Rattle.std.specs.Prelude.{◌≡◌, ◌≢◌, ◌⊎◌, ℕ, ◌≤◌, List, [], ◌∷◌}
 use mathlib.Core.Option.{some}
 use lib.ListN.{get_elem?}
 use Rattle.atomic_table.specs.Table.{State as Standing}
@@ -9,7 +9,7 @@ use Rattle.vbr_core.specs.Safety.{IsSafe}
 use Rattle.vbr_core.specs.declared.event.Event.{Event}
 use Rattle.vbr_slots.specs.declared.rule.Witness.{Witness}
 use Rattle.vbr_slots.specs.declared.rule.Opening.{Opening}
-use Rattle.vbr_slots.specs.Rule.{EachBegins, IsSeen, times_in}
+use Rattle.vbr_slots.specs.Rule.{EachBegins, IsSeen, nobody, times_in}
 use Rattle.vbr_slots.specs.Words.{AreWordsOf}
 
 -- what each witness knows from what it has seen is what it knows in the world after the run
@@ -17,7 +17,7 @@ abbrev pub EachKnows : Dimensions → List Event → List Witness → Type 0
 EachKnows shape run [] = Unit {0}
 EachKnows shape run (m ∷ ms) = (know_after shape m.seen m.who ≡ know_after shape run m.who) × EachKnows shape run ms
 
--- the table is the state of a run of the core: the run is safe, so its chronicle is lawful, what each pass knows and owns agrees with it, and each incarnation that a pass holds is late for the pass's epoch; the words of the table are the words after the run, which are the image of its chronicle; what each pass has seen begins the run and has all its own events, and the pass knows from it what it knows after the run; the run is what some pass has seen, or nothing has happened; and no pass stands in two seats
+-- the table is the state of a run of the core: the run is safe, so its chronicle is lawful, what each pass knows and owns agrees with it, and each incarnation that a pass holds is late for the pass's epoch; the words of the table are the words after the run, which are the image of its chronicle; what each pass has seen begins the run and has all its own events, and the pass knows from it what it knows after the run; the run is what some pass has seen, or nothing has happened; and no pass stands in two seats, which may be said of every number but that of tokens
 pub record IsRunning (opening : Opening) (s : Standing (Unit {0}) (List Witness)) : Type 0 where
   pub run : List Event
   pub is_run : IsRun opening.shape opening.passes run
@@ -26,4 +26,4 @@ pub record IsRunning (opening : Opening) (s : Standing (Unit {0}) (List Witness)
   pub begins : (j : ℕ) (v : List Witness) → get_elem? s.views j ≡ some v → EachBegins run v
   pub knows : (j : ℕ) (v : List Witness) → get_elem? s.views j ≡ some v → EachKnows opening.shape run v
   pub seen : (run ≡ []) ⊎ IsSeen run s.views
-  pub once : (who : ℕ) → times_in who s.views ≤ 1
+  pub once : (who : ℕ) → who ≢ nobody → times_in who s.views ≤ 1

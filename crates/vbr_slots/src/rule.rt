@@ -98,6 +98,18 @@ impl<E: Naming> Play<(), LinkedList<Witness>> for Does<E> {
     ghost then = { λ _. Told E.opening E.event };
 }
 
+/// The pass of the event that `E` names sees all of the run, which is no event; the tokens beside it are
+/// spent.
+pub struct Catches<E> {
+    event: PhantomData<E>,
+}
+
+impl<E: Naming> Play<(), LinkedList<Witness>> for Catches<E> {
+    ghost use Rattle.vbr_slots.specs.Rule.{Caught};
+
+    ghost then = { λ _ m _ n. Caught E.opening E.event.pass m n };
+}
+
 /// A new seat, which has no witness.
 pub struct Nobody;
 
@@ -116,6 +128,17 @@ impl Split<LinkedList<Witness>> for First {
     ghost left = { head_of };
 
     ghost right = { tail_of };
+}
+
+/// The seat stays as it is, and a token goes: it tells what the first witness has seen.
+pub struct Note;
+
+impl Split<LinkedList<Witness>> for Note {
+    ghost use Rattle.vbr_slots.specs.Rule.{noted};
+
+    ghost left = { λ v. v };
+
+    ghost right = { noted };
 }
 
 /// All witnesses go.

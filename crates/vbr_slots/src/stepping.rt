@@ -6,17 +6,19 @@
 ghost use Rattle.std.specs.Prelude.{◌≡◌, ℕ, ◌<◌, ◌^◌, IsTrue};
 ghost use Rattle.vbr_core.specs.Acceptance.{Accepts};
 ghost use Rattle.vbr_core.specs.Machine.{Load, Store, Exchange, FetchOr, FetchAnd, access_of, place_of_step};
-ghost use Rattle.vbr_core.specs.Runs.{BeginsFor};
+ghost use Rattle.vbr_core.specs.Runs.{Begins, BeginsFor};
 ghost use Rattle.vbr_core.specs.Knowledge.{holds};
 ghost use Rattle.vbr_core.specs.declared.event.Step.TheVariants.{LoadBirth, LoadLink, ReadEpoch};
 ghost use Rattle.vbr_words.specs.Places as places;
 ghost use Rattle.vbr_words.specs.declared.place.At.TheVariants.{Slot};
 ghost use Rattle.vbr_words.specs.declared.place.Place.TheVariants.{Epoch};
 ghost use Rattle.vbr_slots.specs.LookUps.{link_from};
+ghost use Rattle.vbr_slots.specs.Tokens.{Since};
 ghost use Rattle.vbr_slots.specs.Views.{IsOf, Did, Trace, knows, epoch_after, event_of};
 
-use crate::rule::{Both, Does, First, Naming, Whole};
+use crate::rule::{Both, Catches, Does, First, Naming, Note, Whole};
 use crate::runner::{Runner, keep_epoch, keep_epoch_found};
+use crate::seen::Seen;
 use crate::slots::Slots;
 use std::marker::Brand;
 use vbr_core::Step;
@@ -325,5 +327,54 @@ impl Slots {
         ensures met { BeginsFor other.old.who other.old.seen runner.new.seen }
     {
         self.meet_as::<Brand>(runner, other, Step::ReadEpoch)
+    }
+
+    // A token of what the runner has seen, which stays as it was.
+    #[inline]
+    pub(crate) fn note_runner(&self, runner: &mut Runner) -> Seen
+        requires own { IsOf runner.old self.now }
+        ensures same { runner.new ≡ runner.old }
+        ensures table { result.table ≡ self.now.table }
+        ensures seen { result.seen ≡ runner.old.seen }
+    {
+        let seat = self.table.shared.split_seat::<Note>(&mut runner.seat);
+        Seen { seat }
+    }
+
+    // Another token that tells the same.
+    #[inline]
+    pub(crate) fn note_again(&self, token: &mut Seen) -> Seen
+        requires own { token.old.table ≡ self.now.table }
+        ensures same { token.new ≡ token.old }
+        ensures again { result ≡ token.old }
+    {
+        let seat = self.table.shared.split_seat::<Note>(&mut token.seat);
+        Seen { seat }
+    }
+
+    // The runner sees all of the run, and so what a token tells, which is spent. It is no step: the two
+    // loads are of the word 0, and nothing is kept of them.
+    #[inline]
+    fn catch_up_as<E: Naming>(&self, runner: &mut Runner, token: Seen)
+        requires named { (E.event ≡ event_of runner.old.who ReadEpoch) × (E.opening ≡ record { shape = self.now.shape; passes = self.now.passes }) }
+        requires own { IsOf runner.old self.now }
+        requires token { token.table ≡ self.now.table }
+        ensures since { Since runner.old runner.new }
+        ensures begins { Begins token.seen runner.new.seen }
+    {
+        let shared = &self.table.shared;
+        let Seen { seat: theirs } = token;
+        shared.join_seat::<Both>(&mut runner.seat, theirs);
+        shared.load::<Catches<E>>(&mut runner.seat, 0);
+    }
+
+    #[inline]
+    pub(crate) fn catch_up_runner(&self, runner: &mut Runner, token: Seen)
+        requires own { IsOf runner.old self.now }
+        requires token { token.table ≡ self.now.table }
+        ensures since { Since runner.old runner.new }
+        ensures begins { Begins token.seen runner.new.seen }
+    {
+        self.catch_up_as::<Brand>(runner, token);
     }
 }

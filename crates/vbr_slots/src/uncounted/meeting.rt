@@ -1,9 +1,11 @@
-//! The meeting of two passes.
+//! The meeting of two passes, and what a token tells.
 ghost use Rattle.std.specs.Prelude.{◌≡◌, ℕ};
-ghost use Rattle.vbr_core.specs.Runs.{BeginsFor};
+ghost use Rattle.vbr_core.specs.Runs.{Begins, BeginsFor};
 ghost use Rattle.vbr_core.specs.declared.event.Step.TheVariants.{ReadEpoch};
+ghost use Rattle.vbr_slots.specs.Tokens.{Since};
 ghost use Rattle.vbr_slots.specs.Views.{IsOf, Did, KeepsPool};
 
+use crate::seen::Seen;
 use crate::slots::Slots;
 use crate::stepper::Stepper;
 
@@ -19,5 +21,28 @@ impl Stepper {
         ensures met { BeginsFor other.old.trace.who other.old.trace.seen self.new.trace.seen }
     {
         slots.meet_runner(&mut self.runner, &mut other.runner);
+    }
+
+    /// As [`Slots::seen`].
+    #[inline]
+    pub fn seen(&mut self, slots: &Slots) -> Seen
+        requires own { IsOf self.old.trace slots.now }
+        ensures same { self.new ≡ self.old }
+        ensures table { result.table ≡ slots.now.table }
+        ensures seen { result.seen ≡ self.old.trace.seen }
+    {
+        slots.note_runner(&mut self.runner)
+    }
+
+    /// As [`Slots::catch_up`].
+    #[inline]
+    pub fn catch_up(&mut self, slots: &Slots, token: Seen)
+        requires own { IsOf self.old.trace slots.now }
+        requires token { token.table ≡ slots.now.table }
+        ensures since { Since self.old.trace self.new.trace }
+        ensures pool { KeepsPool self.old self.new }
+        ensures begins { Begins token.seen self.new.trace.seen }
+    {
+        slots.catch_up_runner(&mut self.runner, token);
     }
 }

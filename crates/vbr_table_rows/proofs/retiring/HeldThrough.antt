@@ -1,12 +1,12 @@
 -- What is held stays held through the calls of a test that answered, and a key stands behind the head of the one bucket.
-use Rattle.std.proofs.Common.{◌≡◌, ℕ, ◌%◌, refl, ap, ◌∙◌, sym, subst}
+use Rattle.std.proofs.Common.{◌≡◌, ℕ, refl, sym, subst, arith}
 use Rattle.std.specs.Prelude.{false, Result, Ok, IfOk}
-use Rattle.std.proofs.Math.Nat.{mod-one}
 use Rattle.vbr_words.specs.Dimensions.{Dimensions}
 use Rattle.vbr_words.specs.Words.{link_of}
 use Rattle.vbr_words.specs.declared.place.At.{At}
 use Rattle.vbr_words.specs.declared.place.At.TheVariants.{Head}
 use Rattle.vbr_words.specs.Buckets.{bucket_of}
+use Rattle.vbr_words.proofs.Lemmas.{bucket_of-lt}
 use Rattle.vbr_core.specs.Knowledge.{Know}
 use Rattle.vbr_core.specs.Membership.{StandsBehind}
 use Rattle.vbr_access.specs.Held.{IsHeld}
@@ -22,8 +22,7 @@ held_through {T} {E} {know} {later} held r x is keeps h =
 
 -- where there is one bucket, each key stands behind its head
 in_bucket : (shape : Dimensions) (key : ℕ) → shape.buckets ≡ 1 → bucket_of shape key ≡ 0
-unfolding bucket_of
-in_bucket shape key one = ap (λ (n : ℕ). key % n) one ∙ mod-one key
+in_bucket shape key one = let low = bucket_of-lt shape key (omega (arith, one)) in omega (arith, low, one)
 
 pub behind_head : (shape : Dimensions) (know : Know) (at : At) (key : ℕ) → at ≡ Head 0 → shape.buckets ≡ 1 → StandsBehind shape know at key
 behind_head shape know at key head one = let P : At → Type 0 = λ at. StandsBehind shape know at key in subst P (sym head) (in_bucket shape key one)

@@ -1,0 +1,71 @@
+-- What a token of what was seen tells, and what a pass has that caught up with one.
+use Rattle.std.specs.Prelude.{◌≡◌, List, [], ◌∷◌, ◌++◌}
+use Rattle.vbr_core.specs.Opened.{opening_keys}
+use Rattle.vbr_core.specs.Calls.{own_calls}
+use Rattle.vbr_core.specs.History.{IsLegal}
+use Rattle.vbr_core.specs.Runs.{Begins}
+use Rattle.vbr_core.specs.declared.history.Call.{Call}
+use Rattle.vbr_slots.specs.Calls.{IsSame, Quiet, made_by}
+use Rattle.vbr_slots.specs.Tokens.{SeenView, Since}
+use Rattle.vbr_slots.specs.Views.{IsOf, KeepsPool, PassView, TableView, Trace}
+use Rattle.vbr_access.specs.Soundness.{HasSafeRun}
+use Rattle.vbr_set.specs.Answers.{Answers}
+use Rattle.vbr_set.specs.Histories.{calls_of, ExchangesAreRight, ReadsAreRight}
+
+-- ---- histories
+
+-- a history begins with these calls
+abbrev pub BeginsWith : List Call → List Call → Type 0
+BeginsWith first calls = (more : List Call) × (calls ≡ first ++ more)
+
+-- a history begins with these calls, and the call stands in it behind all of them
+pub record Follows (first : List Call) (call : Call) (calls : List Call) : Type 0 where
+  pub between : List Call
+  pub more : List Call
+  pub stands : calls ≡ (first ++ between) ++ call ∷ more
+
+-- one call stands in a history before another
+pub record Precedes (one other : Call) (calls : List Call) : Type 0 where
+  pub first : List Call
+  pub between : List Call
+  pub more : List Call
+  pub stands : calls ≡ first ++ one ∷ (between ++ other ∷ more)
+
+-- ---- tokens
+
+-- the token is of the set and tells all that the pass has seen, which is of the same set; so the pass's calls in the history that it tells are just those that it has made
+pub record IsTokenOf (set : TableView) (p : Trace) (token : SeenView) : Type 0 where
+  pub pass : IsOf p set
+  pub table : token.table ≡ set.table
+  pub seen : token.seen ≡ p.seen
+  pub own : own_calls p.shape token.seen p.who ≡ made_by p
+
+-- each call that the pass is answered from now on stands behind all of these, in the legal history that it then has
+abbrev pub EachFollows : List Call → Trace → Type 0
+EachFollows first q = (call : Call) (r s : Trace) → IsSame q r → Begins q.seen r.seen → Answers call r s → Follows first call (calls_of s.shape s.seen)
+
+-- the pass, which is of the set, made no step and no call: it has seen what others did since, and knows and keeps what it knew and kept; what it has then seen is a safe run that begins with what the token tells; its calls are legal from the opening keys, and begin with those that the token tells; and each call that the pass is answered from now on stands behind all of these
+pub record CatchesUp (set : TableView) (p : PassView) (token : SeenView) (q : PassView) : Type 0 where
+  pub pass : IsOf q.trace set
+  pub since : Since p.trace q.trace
+  pub quiet : Quiet p.trace q.trace
+  pub pool : KeepsPool p q
+  pub begins : Begins token.seen q.trace.seen
+  pub legal : IsLegal (opening_keys q.trace.shape) (calls_of q.trace.shape q.trace.seen)
+  pub told : BeginsWith (calls_of q.trace.shape token.seen) (calls_of q.trace.shape q.trace.seen)
+  pub later : EachFollows (calls_of q.trace.shape token.seen) q.trace
+  pub exchanges : ExchangesAreRight q.trace.shape q.trace.seen
+  pub reads : ReadsAreRight q.trace.shape q.trace.seen
+  pub safe : HasSafeRun q.trace
+
+-- ---- chains
+
+-- each token behind the first was made by a caller that had by then seen all that the one before it tells
+abbrev pub IsChain : SeenView → List SeenView → Type 0
+IsChain first [] = Unit {0}
+IsChain first (next ∷ tokens) = (next.table ≡ first.table) × Begins first.seen next.seen × IsChain next tokens
+
+-- the last token of a chain
+abbrev pub end_of : SeenView → List SeenView → SeenView
+end_of first [] = first
+end_of first (next ∷ tokens) = end_of next tokens

@@ -1,0 +1,45 @@
+//! Tokens of what a pass has seen.
+ghost use Rattle.std.specs.Prelude.{◌≡◌};
+ghost use Rattle.vbr_slots.specs.Views.{IsOf};
+ghost use Rattle.vbr_set.specs.Tokens.{CatchesUp, IsTokenOf};
+
+use crate::set::VbrSet;
+use vbr_slots::{Pass, Seen};
+
+impl VbrSet {
+    /// A token of what the pass has seen, its answered calls among it. It is no step, and the pass stays
+    /// as it was; it costs one load, whose value is dropped. It can't fail.
+    #[inline]
+    pub fn seen(&self, pass: &mut Pass) -> Seen
+        requires own { IsOf pass.old.trace self.now }
+        ensures same { pass.new ≡ pass.old }
+        ensures tells { IsTokenOf self.now pass.old.trace result }
+    {
+        self.slots.seen(pass)
+    }
+
+    /// Another token that tells the same, for one more taker. It is no step; it costs one load, whose
+    /// value is dropped. It can't fail.
+    #[inline]
+    pub fn seen_again(&self, token: &mut Seen) -> Seen
+        requires own { token.old.table ≡ self.now.table }
+        ensures same { token.new ≡ token.old }
+        ensures again { result ≡ token.old }
+    {
+        self.slots.seen_again(token)
+    }
+
+    /// Lets the pass see all that was done before, and so all that the token tells, which is spent: each
+    /// call that the pass is answered from now on stands behind all calls that the token tells, in one
+    /// legal history. It is no step, and the pass knows what it knew; it costs two loads, whose values
+    /// are dropped. It can't fail. It asks that the token is of this set: a renewed set is another one.
+    #[inline]
+    pub fn catch_up(&self, pass: &mut Pass, token: Seen)
+        requires own { IsOf pass.old.trace self.now }
+        requires token { token.table ≡ self.now.table }
+        ensures catches { CatchesUp self.now pass.old token pass.new }
+    {
+        pass.law();
+        self.slots.catch_up(pass, token);
+    }
+}
