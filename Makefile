@@ -29,7 +29,7 @@ help:
 	@echo 'make bench               prove and run the measurements, in their short form, and print a CSV table'
 	@echo 'make bench BENCH=        the same in their full form; BENCH has the options of crates/vbr_bench'
 	@echo 'make plot                the same, and draw the table: target/bench.csv, target/bench.svg (needs gnuplot)'
-	@echo 'make compare             the library beside libcds, liburcu, crossbeam-epoch and locks (needs apt-get and gnuplot)'
+	@echo 'make compare             the library beside libcds, liburcu, crossbeam-epoch, dashmap and locks (needs apt-get and gnuplot)'
 	@echo 'make clean               remove what was built and what checks keep'
 
 kit:
