@@ -8,6 +8,9 @@ use std::test::Fail;
 use std::thread;
 use vbr_set::{Member, Refusal, Seen};
 
+// A token has no bytes: the prover shows it.
+const _: () = prove!(size_of::<Seen>() == 0);
+
 // One member adds a key, and tells by a token what it has then seen.
 fn add_and_tell(one: &mut Member, key: u64) -> (Result<bool, Refusal>, Seen)
     ensures set { one.new.set ≡ one.old.set }
