@@ -8,7 +8,7 @@ use std::test::Fail;
 use std::thread;
 use vbr_set::{Member, Refusal, Seen};
 
-// A token has no bytes: the prover shows it.
+// A token has no bytes: the check evaluates its size.
 const _: () = prove!(size_of::<Seen>() == 0);
 
 // One member adds a key, and tells by a token what it has then seen.
