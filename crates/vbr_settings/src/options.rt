@@ -124,6 +124,7 @@ impl From<ShapeError> for OptionsError {
 /// the command takes lack nothing but a shape, or memory.
 pub fn read_options(alloc: Global, arguments: &[&str]) -> Result<Config, OptionsError>
     ensures ok { IfOk result (λ config. config ≡ settings_of (map (λ argument. argument.now) arguments.entry.now)) }
+    ensures shaped { IfOk result (λ config. shape_fault (settings_of (map (λ argument. argument.now) arguments.entry.now)) ≡ None) }
     ensures error { IfErr result (IsOptionsErrorOf (map (λ argument. argument.now) arguments.entry.now)) }
 {
     let matches = command(alloc)?.try_get_matches_from(arguments)?;
@@ -218,7 +219,7 @@ fn switch<'a>(alloc: Global, name: &'a str, help: &'a str) -> Arg<'a>
 fn config_of(matches: &ArgMatches) -> Result<Config, ShapeError>
     requires { AreComplete (rows_of (found_of matches.now)) }
     ensures { MatchResult result
-        (λ config. config ≡ settings_among (rows_of (found_of matches.now)))
+        (λ config. (shape_fault (settings_among (rows_of (found_of matches.now))) ≡ None) × (config ≡ settings_among (rows_of (found_of matches.now))))
         (λ error. shape_fault (settings_among (rows_of (found_of matches.now))) ≡ Some error) }
 {
     let shape = shape_of(matches)?;
@@ -232,7 +233,7 @@ fn config_of(matches: &ArgMatches) -> Result<Config, ShapeError>
 fn shape_of(matches: &ArgMatches) -> Result<Shape, ShapeError>
     requires { AreComplete (rows_of (found_of matches.now)) }
     ensures { MatchResult result
-        (λ shape. shape ≡ (settings_among (rows_of (found_of matches.now))).shape)
+        (λ shape. (shape_fault (settings_among (rows_of (found_of matches.now))) ≡ None) × (shape ≡ (settings_among (rows_of (found_of matches.now))).shape))
         (λ error. shape_fault (settings_among (rows_of (found_of matches.now))) ≡ Some error) }
 {
     let slots = number_of(matches, "slots") as u32;

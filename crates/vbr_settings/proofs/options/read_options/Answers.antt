@@ -45,4 +45,9 @@ returns-in_err-config_of-clause-error c =
     of_error c.from_residual-in_err-config_of.result _ _ c.from_residual-in_err-config_of.ensures.1 (λ given told. unshaped _ c.in_err-config_of.field-0.0 given (sym (ap shape_fault same) ∙ c.in_err-config_of.ensures) told)
 
 pub returns-clause-ok : goal.returns-clause-ok
-returns-clause-ok c = c.in_ok-config_of.ensures ∙ settings c.in_ok-matches.matches (app_of c.in_ok-command.field-0) _ c.in_ok-command.ensures.options c.in_ok-matches.ensures.matches
+returns-clause-ok c = c.in_ok-config_of.ensures.1 ∙ settings c.in_ok-matches.matches (app_of c.in_ok-command.field-0) _ c.in_ok-command.ensures.options c.in_ok-matches.ensures.matches
+
+pub returns-clause-shaped : goal.returns-clause-shaped
+returns-clause-shaped c =
+    let same = settings c.in_ok-matches.matches (app_of c.in_ok-command.field-0) _ c.in_ok-command.ensures.options c.in_ok-matches.ensures.matches in
+    sym (ap shape_fault same) ∙ c.in_ok-config_of.ensures.0
