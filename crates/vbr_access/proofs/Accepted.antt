@@ -11,13 +11,14 @@ use Rattle.vbr_core.specs.Learning.{link_written}
 use Rattle.vbr_core.specs.Membership.{Knows, IsHeldSlot, IsHeldPlace, KeyAt, StandsBehind, StandsBeforeOn, IsUnlinkLink}
 use Rattle.vbr_core.specs.declared.event.Step.TheVariants.{LoadBirth, Mark, Unlink, ConfirmPresent, ConfirmAbsent}
 use Rattle.vbr_core.specs.declared.history.Op.{Op}
-use Rattle.vbr_core.specs.declared.history.Op.TheVariants.{Insert, Remove}
+use Rattle.vbr_core.specs.declared.history.Op.TheVariants.{Insert, Remove, Get}
 use Rattle.vbr_core.specs.declared.knowledge.Read.TheVariants.{LinkAt, KeyOf}
 use Rattle.vbr_core.proofs.Lemmas.{known_accepts, link_held, written_is}
 use Rattle.vbr_slots.specs.Views.{PassView, knows}
 use Rattle.vbr_access.specs.Held.{IsHeld, Names}
 use Rattle.vbr_slots.specs.PassLaw.{PassLaw}
 use Rattle.vbr_access.specs.declared.held.Held.{Held}
+use Rattle.vbr_access.proofs.NoValues.{no_value_known, no_value_for, op_in}
 use Rattle.vbr_access.proofs.PlacesInShape.{link_in, held_in}
 
 -- the slot that the link of what is held names is held
@@ -48,19 +49,31 @@ module _ (p : PassView) (sound : PassLaw p) where
       let R : At → Type 0 = λ i. KeyAt (knows p.trace) i k.0 in
       (subst P at (place_in held h), subst Q at h.link, (k.0, subst R at k.1))
 
-  pub mark_accepted : (held : Held) (s : ℕ) → IsHeld (knows p.trace) held → held.at ≡ Slot s → ((key : ℕ) × KeyAt (knows p.trace) held.at key) → (link_of held.word).mark ≡ false → Accepts p.trace.shape (knows p.trace) (Mark s held.word)
-  mark_accepted held s h at k unmarked =
+  pub mark_accepted : p.trace.shape.values ≡ false → (held : Held) (s : ℕ) → IsHeld (knows p.trace) held → held.at ≡ Slot s → ((key : ℕ) × KeyAt (knows p.trace) held.at key) → (link_of held.word).mark ≡ false → Accepts p.trace.shape (knows p.trace) (Mark s held.word)
+  mark_accepted bare held s h at k unmarked =
       let n = node held s h at k in
-      known_accepts p.trace.shape p.trace.passes p.trace.seen sound.shape sound.is_run p.trace.who (Mark s held.word) (record { in_shape = n.0; owned = tt; known = (n.1, n.2); in_range = unmarked; below_last = tt })
+      known_accepts p.trace.shape p.trace.passes p.trace.seen sound.shape sound.is_run p.trace.who (Mark s held.word) (record { in_shape = n.0; owned = tt; known = (n.1, n.2, no_value_known bare (knows p.trace) s); in_range = unmarked; below_last = tt })
 
-  pub present_accepted : (op : Op) (held : Held) (s : ℕ) → IsHeld (knows p.trace) held → held.at ≡ Slot s → ((key : ℕ) × KeyAt (knows p.trace) held.at key) → (link_of held.word).mark ≡ false → op ≢ Remove → Accepts p.trace.shape (knows p.trace) (ConfirmPresent op s held.word)
-  present_accepted op held s h at k unmarked not =
+  pub present_accepted : (op : Op) (held : Held) (s : ℕ) → IsHeld (knows p.trace) held → held.at ≡ Slot s → ((key : ℕ) × KeyAt (knows p.trace) held.at key) → (link_of held.word).mark ≡ false → op ≢ Remove → op ≢ Get → Accepts p.trace.shape (knows p.trace) (ConfirmPresent op s held.word)
+  present_accepted op held s h at k unmarked not other =
       let n = node held s h at k in
-      known_accepts p.trace.shape p.trace.passes p.trace.seen sound.shape sound.is_run p.trace.who (ConfirmPresent op s held.word) (record { in_shape = n.0; owned = tt; known = (n.1, n.2); in_range = (unmarked, not); below_last = tt })
+      known_accepts p.trace.shape p.trace.passes p.trace.seen sound.shape sound.is_run p.trace.who (ConfirmPresent op s held.word) (record {
+        in_shape = (n.0, op_in p.trace.shape op other);
+        owned = tt;
+        known = (n.1, n.2, no_value_for (knows p.trace) s op other);
+        in_range = (unmarked, not);
+        below_last = tt;
+      })
 
-  pub absent_accepted : (op : Op) (key : ℕ) (pred : Held) → IsHeld (knows p.trace) pred → StandsBehind p.trace.shape (knows p.trace) pred.at key → StandsBeforeOn (knows p.trace) key (link_of pred.word) → (link_of pred.word).mark ≡ false → op ≢ Insert → Accepts p.trace.shape (knows p.trace) (ConfirmAbsent op key pred.at pred.word)
-  absent_accepted op key pred h i j unmarked not =
-      known_accepts p.trace.shape p.trace.passes p.trace.seen sound.shape sound.is_run p.trace.who (ConfirmAbsent op key pred.at pred.word) (record { in_shape = place_in pred h; owned = tt; known = h.link; in_range = (unmarked, not, i, j); below_last = tt })
+  pub absent_accepted : (op : Op) (key : ℕ) (pred : Held) → IsHeld (knows p.trace) pred → StandsBehind p.trace.shape (knows p.trace) pred.at key → StandsBeforeOn (knows p.trace) key (link_of pred.word) → (link_of pred.word).mark ≡ false → op ≢ Insert → op ≢ Get → Accepts p.trace.shape (knows p.trace) (ConfirmAbsent op key pred.at pred.word)
+  absent_accepted op key pred h i j unmarked not other =
+      known_accepts p.trace.shape p.trace.passes p.trace.seen sound.shape sound.is_run p.trace.who (ConfirmAbsent op key pred.at pred.word) (record {
+        in_shape = (place_in pred h, op_in p.trace.shape op other);
+        owned = tt;
+        known = h.link;
+        in_range = (unmarked, not, i, j);
+        below_last = tt;
+      })
 
   -- an unlinking behind a place of a marked node that the place's link names
   pub unlink_accepted : (pred : Held) (s : ℕ) (new : Link) → IsHeld (knows p.trace) pred → (link_of pred.word).mark ≡ false → Names pred s → IsUnlinkLink (knows p.trace) pred.at s new → Accepts p.trace.shape (knows p.trace) (Unlink pred.at pred.word s)

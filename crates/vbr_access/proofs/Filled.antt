@@ -2,9 +2,11 @@
 use Rattle.std.proofs.Common.{◌≡◌, ℕ, ◌<◌, true, false, Option, Some, None, refl, sym, ap, ◌∙◌, subst}
 use Rattle.vbr_words.specs.Words.{link_of}
 use Rattle.vbr_words.specs.declared.link.Link.{Link}
+use Rattle.vbr_core.specs.History.{set_call}
 use Rattle.vbr_core.specs.Acceptance.{IsNextIn, IsInHand, Accepts}
 use Rattle.vbr_core.specs.Knowledge.{Know}
-use Rattle.vbr_core.specs.Learning.{with_key, with_link, with_own, link_written, birth_in_hand, key_in_hand}
+use Rattle.vbr_core.specs.Learning.{with_key, with_link, with_own, link_written, birth_in_hand, key_in_hand, value_in_hand}
+use Rattle.vbr_core.specs.Opened.{kept}
 use Rattle.vbr_core.specs.Links.{link_to}
 use Rattle.vbr_core.specs.Membership.{IsHeldSlot, IsNextKnown, BirthNamed, StandsBehind, StandsBefore, MayPublishKnown}
 use Rattle.vbr_core.specs.declared.event.Step.TheVariants.{StoreKey, StoreLink, Publish}
@@ -23,14 +25,15 @@ use Rattle.vbr_slots.specs.PassLaw.{PassLaw}
 use Rattle.vbr_access.specs.declared.held.Held.{Held}
 use Rattle.vbr_access.proofs.MadeCalls.{published}
 use Rattle.vbr_access.proofs.Accepted.{place_in, slot_in, named_slot}
+use Rattle.vbr_access.proofs.NoValues.{no_value_asked, none_kept}
 
 -- ---- what is in hand
 
-in_hand_is : (holding : Option Holding) → IsInHand holding → (stamp birth : ℕ) × (key : Option ℕ) × (link : Option Link) × (holding ≡ Some (InHand stamp birth key link))
+in_hand_is : (holding : Option Holding) → IsInHand holding → (stamp birth : ℕ) × (key value : Option ℕ) × (link : Option Link) × (holding ≡ Some (InHand stamp birth key value link))
 in_hand_is None is = absurd is
 in_hand_is (Some (Free stamp)) is = absurd is
 in_hand_is (Some (Unlinked reread)) is = absurd is
-in_hand_is (Some (InHand stamp birth key link)) is = (stamp, birth, key, link, refl)
+in_hand_is (Some (InHand stamp birth key value link)) is = (stamp, birth, key, value, link, refl)
 
 -- the slot of a hand is one of the shape, and in hand
 hand_in_hand : (p : PassView) → PassLaw p → (hand : HandView) → IsHandOf p hand → (hand.slot < p.trace.shape.slots) × IsInHand ((knows p.trace).own hand.slot)
@@ -46,13 +49,13 @@ hand_at p sound hand h s is =
     subst P (sym is) (o.0, o.1, h.birth)
 
 keyed : (holding : Option Holding) (key birth : ℕ) → IsInHand holding → birth_in_hand holding ≡ birth → IsInHand (with_key holding key) × (birth_in_hand (with_key holding key) ≡ birth)
-keyed holding key birth is same = let i = in_hand_is holding is in rw i.4 (tt, ap birth_in_hand (sym i.4) ∙ same)
+keyed holding key birth is same = let i = in_hand_is holding is in rw i.5 (tt, ap birth_in_hand (sym i.5) ∙ same)
 
 filled_is : (holding : Option Holding) (key birth : ℕ) (link : Link) → IsInHand holding → birth_in_hand holding ≡ birth → IsFilled (with_link (with_key holding key) link) birth key link
 filled_is holding key birth link is same =
     let i = in_hand_is holding is in
-    let b : i.1 ≡ birth = ap birth_in_hand (sym i.4) ∙ same in
-    (i.0, ap (λ (o : Option Holding). with_link (with_key o key) link) i.4 ∙ ap (λ (b : ℕ). Some (InHand i.0 b (Some key) (Some link))) b)
+    let b : i.1 ≡ birth = ap birth_in_hand (sym i.5) ∙ same in
+    (i.0, i.3, ap (λ (o : Option Holding). with_link (with_key o key) link) i.5 ∙ ap (λ (b : ℕ). Some (InHand i.0 b (Some key) i.3 (Some link))) b)
 
 -- ---- the two stores
 
@@ -112,33 +115,35 @@ filled {p} {q} {r} {s} {key} {birth} {one} {two} {next} {link} d e is same writt
     let second : (knows r).own s ≡ with_link ((knows q).own s) (link_written (knows q) (StoreLink s next)) = ap (λ (k : Know). k.own s) e.know ∙ put_here (knows q).own s _ in
     let now : (knows r).own s ≡ with_link (with_key ((knows p).own s) key) link = second ∙ (λ i. with_link (first i) (written i)) in
     let f = filled_is ((knows p).own s) key birth link is same in
-    (f.0, now ∙ f.1)
+    (f.0, f.1, now ∙ f.2)
 
 -- a slot that is filled is still in the hand
 pub hand_filled : (p : PassView) (hand : HandView) (key : ℕ) (link : Link) → p.hand ≡ Some hand.slot → IsFilled ((knows p.trace).own hand.slot) hand.birth key link → IsHandOf p hand
-hand_filled p hand key link is f = record { slot = is; birth = ap birth_in_hand f.1 }
+hand_filled p hand key link is f = record { slot = is; birth = ap birth_in_hand f.2 }
 
 -- ---- the publication
 
 module _ (p : PassView) (sound : PassLaw p) (pred : Held) (s key birth next : ℕ) (h : IsHeld (knows p.trace) pred) (f : IsFilled ((knows p.trace).own s) birth key (link_to (link_of pred.word).slot birth next)) where
   filled_hand : IsInHand ((knows p.trace).own s)
-  filled_hand = let P : Option Holding → Type 0 = IsInHand in subst P (sym f.1) tt
+  filled_hand = let P : Option Holding → Type 0 = IsInHand in subst P (sym f.2) tt
 
-  pub publish_accepted : (link_of pred.word).mark ≡ false → s < p.trace.shape.slots → BirthNamed (knows p.trace) (link_of pred.word).slot next → StandsBehind p.trace.shape (knows p.trace) pred.at key → StandsBefore (knows p.trace) key (link_of pred.word).slot → Accepts p.trace.shape (knows p.trace) (Publish pred.at pred.word s)
-  publish_accepted unmarked low k i j =
+  pub publish_accepted : p.trace.shape.values ≡ false → (link_of pred.word).mark ≡ false → s < p.trace.shape.slots → BirthNamed (knows p.trace) (link_of pred.word).slot next → StandsBehind p.trace.shape (knows p.trace) pred.at key → StandsBefore (knows p.trace) key (link_of pred.word).slot → Accepts p.trace.shape (knows p.trace) (Publish pred.at pred.word s)
+  publish_accepted bare unmarked low k i j =
       let P : Option Holding → Type 0 = MayPublishKnown p.trace.shape (knows p.trace) pred.at (link_of pred.word) in
       known_accepts p.trace.shape p.trace.passes p.trace.seen sound.shape sound.is_run p.trace.who (Publish pred.at pred.word s) (record {
         in_shape = (place_in p sound pred h, low);
         owned = filled_hand;
         known = (h.link, (pred.birth, h.birth));
-        in_range = (unmarked, subst P (sym f.1) ((next, k, refl), i, j));
+        in_range = (unmarked, subst P (sym f.2) ((next, k, refl), i, j, no_value_asked bare f.1));
         below_last = tt;
       })
 
   pub publish_writes : link_written (knows p.trace) (Publish pred.at pred.word s) ≡ link_to (Some s) pred.birth birth
   publish_writes =
       written_is p.trace.shape p.trace.passes p.trace.seen sound.shape sound.is_run p.trace.who (Publish pred.at pred.word s) (link_to (Some s) pred.birth (birth_in_hand ((knows p.trace).own s))) (pred.birth, h.birth, refl)
-      ∙ ap (λ (o : Option Holding). link_to (Some s) pred.birth (birth_in_hand o)) f.1
+      ∙ ap (λ (o : Option Holding). link_to (Some s) pred.birth (birth_in_hand o)) f.2
 
-  pub publish_made : {q : Trace} → Did (Publish pred.at pred.word s) p.trace q pred.word → Made (record { who = p.trace.who; op = Insert; key = key; reply = true }) p.trace q
-  publish_made d = published d _ (ap (λ (o : Option Holding). Some (record { who = p.trace.who; op = Insert; key = key_in_hand o; reply = true })) f.1)
+  pub publish_made : {q : Trace} → p.trace.shape.values ≡ false → Did (Publish pred.at pred.word s) p.trace q pred.word → Made (set_call p.trace.who Insert key true) p.trace q
+  publish_made bare d = published d _
+      (ap (λ (o : Option Holding). Some (record { who = p.trace.who; op = Insert; key = key_in_hand o; reply = true; value = kept p.trace.shape (value_in_hand o) })) f.2
+      ∙ ap (λ (v : Option ℕ). Some (record { who = p.trace.who; op = Insert; key = key; reply = true; value = v })) (none_kept p.trace.shape bare f.1))

@@ -13,6 +13,7 @@ mod WrittenLinks
 mod UnlinkedLinks
 mod Unlinks
 mod AloneExchanges
+mod NoValues
 mod NoneUnlinked
 mod LookUps
 mod Filled

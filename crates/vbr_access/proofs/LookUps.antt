@@ -3,12 +3,13 @@ use Rattle.std.proofs.Common.{◌≡◌, ◌≢◌, ℕ, Bool, true, false, ◌+
 use Rattle.vbr_words.specs.Words.{link_of}
 use Rattle.vbr_words.specs.declared.place.At.{At}
 use Rattle.vbr_words.specs.declared.place.At.TheVariants.{Head, Slot}
+use Rattle.vbr_core.specs.History.{set_call}
 use Rattle.vbr_core.specs.Acceptance.{Accepts}
 use Rattle.vbr_core.specs.Images.{link_shown_at}
 use Rattle.vbr_core.specs.Knowledge.{Know}
 use Rattle.vbr_core.specs.Membership.{KeyAt}
 use Rattle.vbr_core.specs.declared.event.Step.TheVariants.{ConfirmAbsent}
-use Rattle.vbr_core.specs.declared.history.Op.TheVariants.{Has, Insert, Remove}
+use Rattle.vbr_core.specs.declared.history.Op.TheVariants.{Has, Insert, Remove, Get}
 use Rattle.vbr_slots.specs.Alone.{IsAlone, nodes}
 use Rattle.vbr_slots.specs.Calls.{AddsAnswer, AddsNone, Made, OnlyLoads, Quiet}
 use Rattle.vbr_slots.specs.LookUps.{look_up}
@@ -36,6 +37,9 @@ no_remove e = absurd (cc)
 no_insert : Has ≢ Insert
 no_insert e = absurd (cc)
 
+no_get : Has ≢ Get
+no_get e = absurd (cc)
+
 known_keeps : {know later : Know} → later ≡ know → Keeps know later
 known_keeps {know} {later} is = rw is (keeps_refl know)
 
@@ -55,20 +59,20 @@ look_up_keeps present key at word d = keeps_at at present key word d
 
 module _ (p : PassView) (sound : PassLaw p) (key : ℕ) (held : Held) (h : IsHeld (knows p.trace) held) (unmarked : (link_of held.word).mark ≡ false) where
   accepted_at : (at : At) → held.at ≡ at → (present : Bool) → DecidesKey p.trace.shape (knows p.trace) key held present → Accepts p.trace.shape (knows p.trace) (look_up present key at held.word)
-  accepted_at (Slot s) e true a = present_accepted p sound Has held s h e (key, a.1) unmarked no_remove
+  accepted_at (Slot s) e true a = present_accepted p sound Has held s h e (key, a.1) unmarked no_remove no_get
   accepted_at (Head b) e true a = absurd (subst IsSlot e a.0)
-  accepted_at at e false a = subst (λ (x : At). Accepts p.trace.shape (knows p.trace) (ConfirmAbsent Has key x held.word)) e (absent_accepted p sound Has key held h a.0 a.1 unmarked no_insert)
+  accepted_at at e false a = subst (λ (x : At). Accepts p.trace.shape (knows p.trace) (ConfirmAbsent Has key x held.word)) e (absent_accepted p sound Has key held h a.0 a.1 unmarked no_insert no_get)
 
   pub look_up_accepted : (present : Bool) → DecidesKey p.trace.shape (knows p.trace) key held present → Accepts p.trace.shape (knows p.trace) (look_up present key held.at held.word)
   look_up_accepted present a = accepted_at held.at refl present a
 
 module _ (p : PassView) (q : Trace) (sound : PassLaw p) (key : ℕ) (held : Held) where
-  made_at : (at : At) → held.at ≡ at → (present : Bool) → DecidesKey p.trace.shape (knows p.trace) key held present → Did (look_up present key at held.word) p.trace q held.word → Made (record { who = p.trace.who; op = Has; key = key; reply = present }) p.trace q
-  made_at (Slot s) e true a d = present_made sound.shape sound.is_run d key (subst (λ (x : At). KeyAt (knows p.trace) x key) e a.1)
+  made_at : (at : At) → held.at ≡ at → (present : Bool) → DecidesKey p.trace.shape (knows p.trace) key held present → Did (look_up present key at held.word) p.trace q held.word → Made (set_call p.trace.who Has key present) p.trace q
+  made_at (Slot s) e true a d = present_made sound.shape sound.is_run no_get d key (subst (λ (x : At). KeyAt (knows p.trace) x key) e a.1)
   made_at (Head b) e true a d = absurd (subst IsSlot e a.0)
   made_at at e false a d = absent_made d
 
-  pub look_up_made : (present : Bool) → DecidesKey p.trace.shape (knows p.trace) key held present → Did (look_up present key held.at held.word) p.trace q held.word → Made (record { who = p.trace.who; op = Has; key = key; reply = present }) p.trace q
+  pub look_up_made : (present : Bool) → DecidesKey p.trace.shape (knows p.trace) key held present → Did (look_up present key held.at held.word) p.trace q held.word → Made (set_call p.trace.who Has key present) p.trace q
   look_up_made present a d = made_at held.at refl present a d
 
   failed_at : (at : At) (present : Bool) (found : ℕ) → Did (look_up present key at held.word) p.trace q found → found ≢ held.word → Quiet p.trace q
@@ -87,12 +91,12 @@ module _ (p : PassView) (q : Trace) (sound : PassLaw p) (key : ℕ) (held : Held
   pub look_up_lost : (present : Bool) (found : ℕ) → Did (look_up present key held.at held.word) p.trace q found → found ≢ held.word → IsLost p.trace q held (LostExchange found)
   look_up_lost present found d ne = (ne, lost_at held.at present found d ne, look_up_keeps present key held.at held.word d)
 
-  adds_at : (at : At) → held.at ≡ at → (present : Bool) → DecidesKey p.trace.shape (knows p.trace) key held present → Did (look_up present key at held.word) p.trace q held.word → AddsAnswer (record { who = p.trace.who; op = Has; key = key; reply = present }) p.trace q
-  adds_at (Slot s) e true a d = present_adds sound.shape sound.is_run d key (subst (λ (x : At). KeyAt (knows p.trace) x key) e a.1)
+  adds_at : (at : At) → held.at ≡ at → (present : Bool) → DecidesKey p.trace.shape (knows p.trace) key held present → Did (look_up present key at held.word) p.trace q held.word → AddsAnswer (set_call p.trace.who Has key present) p.trace q
+  adds_at (Slot s) e true a d = present_adds sound.shape sound.is_run no_get d key (subst (λ (x : At). KeyAt (knows p.trace) x key) e a.1)
   adds_at (Head b) e true a d = absurd (subst IsSlot e a.0)
   adds_at at e false a d = absent_adds d
 
-  pub look_up_adds : (present : Bool) → DecidesKey p.trace.shape (knows p.trace) key held present → Did (look_up present key held.at held.word) p.trace q held.word → AddsAnswer (record { who = p.trace.who; op = Has; key = key; reply = present }) p.trace q
+  pub look_up_adds : (present : Bool) → DecidesKey p.trace.shape (knows p.trace) key held present → Did (look_up present key held.at held.word) p.trace q held.word → AddsAnswer (set_call p.trace.who Has key present) p.trace q
   look_up_adds present a d = adds_at held.at refl present a d
 
   adds_none_at : (at : At) (present : Bool) (found : ℕ) → Did (look_up present key at held.word) p.trace q found → found ≢ held.word → AddsNone p.trace q

@@ -4,6 +4,7 @@ use Rattle.std.specs.Prelude.{◌==◌}
 use Rattle.std.proofs.lemmas.Bool.{ne_eqb}
 use Rattle.vbr_words.specs.Dimensions.{IsShape}
 use Rattle.vbr_words.specs.declared.place.At.{At}
+use Rattle.vbr_core.specs.History.{set_call}
 use Rattle.vbr_core.specs.Knowledge.{Know}
 use Rattle.vbr_core.specs.Learning.{call_of, present_reply, succeeds}
 use Rattle.vbr_core.specs.Machine.{found}
@@ -14,24 +15,25 @@ use Rattle.vbr_core.specs.declared.event.Step.{Step}
 use Rattle.vbr_core.specs.declared.event.Step.TheVariants.{Mark, ConfirmPresent, ConfirmAbsent, Publish}
 use Rattle.vbr_core.specs.declared.history.Call.{Call}
 use Rattle.vbr_core.specs.declared.history.Op.{Op}
-use Rattle.vbr_core.specs.declared.history.Op.TheVariants.{Remove}
+use Rattle.vbr_core.specs.declared.history.Op.TheVariants.{Remove, Get}
 use Rattle.vbr_core.specs.declared.knowledge.Read.TheVariants.{KeyOf}
 use Rattle.vbr_core.proofs.Lemmas.{confirmed_call_is, marked_call_is, others_leave_know}
 use Rattle.vbr_slots.specs.Calls.{Quiet, Made, made_by, entries_of, AddsNone, AddsAnswer}
 use Rattle.vbr_slots.specs.Views.{Trace, Did, knows}
 use Rattle.vbr_slots.proofs.Lemmas.{did_calls, did_entries, did_run, did_same, did_seen}
+use Rattle.vbr_access.proofs.NoValues.{none_kept, none_told}
 use Rattle.vbr_access.proofs.Moments.{won, lost, answers_same, unanswered}
 
 -- a step that succeeds makes its call
-succeeded : {step : Step} {p q : Trace} {r : ℕ} (d : Did step p q r) (call : Call) → succeeds step (found p.shape (world_after p.shape (p.seen ++ d.rest)) step) ≡ true → call_of p.who (knows p) step ≡ Some call → Made call p q
+succeeded : {step : Step} {p q : Trace} {r : ℕ} (d : Did step p q r) (call : Call) → succeeds step (found p.shape (world_after p.shape (p.seen ++ d.rest)) step) ≡ true → call_of p.shape p.who (knows p) step ≡ Some call → Made call p q
 succeeded {step} {p} {q} d call t c =
     let w = world_after p.shape (p.seen ++ d.rest) in
-    let one : call_of p.who (w.know p.who) step ≡ Some call = ap (λ (k : Know). call_of p.who k step) (others_leave_know p.shape p.seen d.rest p.who d.none) ∙ c in
+    let one : call_of p.shape p.who (w.know p.who) step ≡ Some call = ap (λ (k : Know). call_of p.shape p.who k step) (others_leave_know p.shape p.seen d.rest p.who d.none) ∙ c in
     record {
       same = did_same d;
       seen = did_seen d;
       is_run = did_run d;
-      calls = did_calls d ∙ ap (λ l. made_by p ++ l) (ap (λ (b : Bool). option_to_list (cond b (call_of p.who (w.know p.who) step) None)) t ∙ ap option_to_list one);
+      calls = did_calls d ∙ ap (λ l. made_by p ++ l) (ap (λ (b : Bool). option_to_list (cond b (call_of p.shape p.who (w.know p.who) step) None)) t ∙ ap option_to_list one);
     }
 
 -- and one that fails makes none
@@ -42,7 +44,7 @@ failed {step} {p} {q} d f =
       same = did_same d;
       seen = did_seen d;
       is_run = λ h. did_run d;
-      calls = did_calls d ∙ ap (λ l. made_by p ++ l) (ap (λ (b : Bool). option_to_list (cond b (call_of p.who (w.know p.who) step) None)) f) ∙ append-nil (made_by p);
+      calls = did_calls d ∙ ap (λ l. made_by p ++ l) (ap (λ (b : Bool). option_to_list (cond b (call_of p.shape p.who (w.know p.who) step) None)) f) ∙ append-nil (made_by p);
     }
 
 other : (expected r n : ℕ) → r ≢ expected → n ≡ r → (n == expected) ≡ false
@@ -50,57 +52,66 @@ other expected r n ne e = ne_eqb n expected (λ x. ne (sym e ∙ x))
 
 -- ---- a mark
 
-pub mark_made : {s expected : ℕ} {p q : Trace} → IsShape p.shape → IsRun p.shape p.passes p.seen → Did (Mark s expected) p q expected → (key : ℕ) → Knows (knows p) (KeyOf s key) → Made (record { who = p.who; op = Remove; key = key; reply = true }) p q
-mark_made {s} {expected} {p} {q} is run d key k =
-    succeeded d (record { who = p.who; op = Remove; key = key; reply = true }) (eq-eqb _ expected (won expected _ d.shows.answers)) (marked_call_is p.shape p.passes p.seen is run p.who s expected key k)
+pub mark_made : {s expected : ℕ} {p q : Trace} → IsShape p.shape → IsRun p.shape p.passes p.seen → p.shape.values ≡ false → Did (Mark s expected) p q expected → (key : ℕ) → Knows (knows p) (KeyOf s key) → Made (set_call p.who Remove key true) p q
+mark_made {s} {expected} {p} {q} is run bare d key k =
+    succeeded d (set_call p.who Remove key true) (eq-eqb _ expected (won expected _ d.shows.answers)) 
+    (marked_call_is p.shape p.passes p.seen is run p.who s expected key 0 k (λ has. absurd (cc)) ∙ ap (λ (v : Option ℕ). Some (record { who = p.who; op = Remove; key = key; reply = true; value = v })) (none_kept p.shape bare (Some 0)))
 
 pub mark_failed : {s expected found : ℕ} {p q : Trace} → Did (Mark s expected) p q found → found ≢ expected → Quiet p q
 mark_failed {s} {expected} {found} d ne = failed d (other expected found _ ne (lost expected found _ ne d.shows.answers))
 
 -- ---- confirming loads
 
-pub present_made : {op : Op} {s expected : ℕ} {p q : Trace} → IsShape p.shape → IsRun p.shape p.passes p.seen → Did (ConfirmPresent op s expected) p q expected → (key : ℕ) → Knows (knows p) (KeyOf s key) → Made (record { who = p.who; op = op; key = key; reply = present_reply op }) p q
-present_made {op} {s} {expected} {p} {q} is run d key k =
-    succeeded d (record { who = p.who; op = op; key = key; reply = present_reply op }) (eq-eqb _ expected (answers_same (present_reply op) expected _ d.shows.answers)) (confirmed_call_is p.shape p.passes p.seen is run p.who op s expected key k)
+-- the call of a key that is present, by an operation that asks for no value
+present_call : (op : Op) (s expected : ℕ) (p : Trace) → IsShape p.shape → IsRun p.shape p.passes p.seen → op ≢ Get → (key : ℕ) → Knows (knows p) (KeyOf s key) →
+    call_of p.shape p.who (knows p) (ConfirmPresent op s expected) ≡ Some (set_call p.who op key (present_reply op))
+present_call op s expected p is run other key k =
+    confirmed_call_is p.shape p.passes p.seen is run p.who op s expected key 0 k (λ get. absurd (other get))
+    ∙ ap (λ (v : Option ℕ). Some (record { who = p.who; op = op; key = key; reply = present_reply op; value = v })) (none_told op other (Some 0))
+
+pub present_made : {op : Op} {s expected : ℕ} {p q : Trace} → IsShape p.shape → IsRun p.shape p.passes p.seen → op ≢ Get → Did (ConfirmPresent op s expected) p q expected → (key : ℕ) → Knows (knows p) (KeyOf s key) → Made (set_call p.who op key (present_reply op)) p q
+present_made {op} {s} {expected} {p} {q} is run other d key k =
+    succeeded d (set_call p.who op key (present_reply op)) (eq-eqb _ expected (answers_same (present_reply op) expected _ d.shows.answers)) 
+    (present_call op s expected p is run other key k)
 
 pub present_failed : {op : Op} {s expected found : ℕ} {p q : Trace} → Did (ConfirmPresent op s expected) p q found → found ≢ expected → Quiet p q
 present_failed {op} {s} {expected} {found} d ne = failed d (other expected found _ ne (unanswered (present_reply op) expected found _ ne d.shows.answers))
 
-pub absent_made : {op : Op} {key : ℕ} {at : At} {expected : ℕ} {p q : Trace} → Did (ConfirmAbsent op key at expected) p q expected → Made (record { who = p.who; op = op; key = key; reply = false }) p q
-absent_made {op} {key} {at} {expected} {p} d = succeeded d (record { who = p.who; op = op; key = key; reply = false }) (eq-eqb _ expected (answers_same false expected _ d.shows.answers)) refl
+pub absent_made : {op : Op} {key : ℕ} {at : At} {expected : ℕ} {p q : Trace} → Did (ConfirmAbsent op key at expected) p q expected → Made (set_call p.who op key false) p q
+absent_made {op} {key} {at} {expected} {p} d = succeeded d (set_call p.who op key false) (eq-eqb _ expected (answers_same false expected _ d.shows.answers)) refl
 
 pub absent_failed : {op : Op} {key : ℕ} {at : At} {expected found : ℕ} {p q : Trace} → Did (ConfirmAbsent op key at expected) p q found → found ≢ expected → Quiet p q
 absent_failed {op} {key} {at} {expected} {found} d ne = failed d (other expected found _ ne (unanswered false expected found _ ne d.shows.answers))
 
 -- ---- what confirming loads add to the chronicle
 
-pub present_adds : {op : Op} {s expected : ℕ} {p q : Trace} → IsShape p.shape → IsRun p.shape p.passes p.seen → Did (ConfirmPresent op s expected) p q expected → (key : ℕ) → Knows (knows p) (KeyOf s key) → AddsAnswer (record { who = p.who; op = op; key = key; reply = present_reply op }) p q
-present_adds {op} {s} {expected} {p} {q} is run d key k =
+pub present_adds : {op : Op} {s expected : ℕ} {p q : Trace} → IsShape p.shape → IsRun p.shape p.passes p.seen → op ≢ Get → Did (ConfirmPresent op s expected) p q expected → (key : ℕ) → Knows (knows p) (KeyOf s key) → AddsAnswer (set_call p.who op key (present_reply op)) p q
+present_adds {op} {s} {expected} {p} {q} is run other d key k =
     let w = world_after p.shape (p.seen ++ d.rest) in
     let step : Step = ConfirmPresent op s expected in
-    let made = ap (λ (k : Know). call_of p.who k step) (others_leave_know p.shape p.seen d.rest p.who d.none) ∙ confirmed_call_is p.shape p.passes p.seen is run p.who op s expected key k in
+    let made = ap (λ (k : Know). call_of p.shape p.who k step) (others_leave_know p.shape p.seen d.rest p.who d.none) ∙ present_call op s expected p is run other key k in
     let t = eq-eqb _ expected (answers_same (present_reply op) expected _ d.shows.answers) in
-    record { entries = did_entries d ∙ ap (λ (b : Bool). entries_of p ++ cond b (entries.entry_of_call p.who (call_of p.who (w.know p.who) step)) []) t ∙ ap (λ (call : Option Call). entries_of p ++ entries.entry_of_call p.who call) made }
+    record { entries = did_entries d ∙ ap (λ (b : Bool). entries_of p ++ cond b (entries.entry_of_call p.who (call_of p.shape p.who (w.know p.who) step)) []) t ∙ ap (λ (call : Option Call). entries_of p ++ entries.entry_of_call p.who call) made }
 
 pub present_adds_none : {op : Op} {s expected found : ℕ} {p q : Trace} → Did (ConfirmPresent op s expected) p q found → found ≢ expected → AddsNone p q
 present_adds_none {op} {s} {expected} {found} {p} {q} d ne =
     let w = world_after p.shape (p.seen ++ d.rest) in
     let f = other expected found _ ne (unanswered (present_reply op) expected found _ ne d.shows.answers) in
-    record { entries = did_entries d ∙ ap (λ (b : Bool). entries_of p ++ cond b (entries.entry_of_call p.who (call_of p.who (w.know p.who) (ConfirmPresent op s expected))) []) f ∙ append-nil (entries_of p) }
+    record { entries = did_entries d ∙ ap (λ (b : Bool). entries_of p ++ cond b (entries.entry_of_call p.who (call_of p.shape p.who (w.know p.who) (ConfirmPresent op s expected))) []) f ∙ append-nil (entries_of p) }
 
-pub absent_adds : {op : Op} {key : ℕ} {at : At} {expected : ℕ} {p q : Trace} → Did (ConfirmAbsent op key at expected) p q expected → AddsAnswer (record { who = p.who; op = op; key = key; reply = false }) p q
+pub absent_adds : {op : Op} {key : ℕ} {at : At} {expected : ℕ} {p q : Trace} → Did (ConfirmAbsent op key at expected) p q expected → AddsAnswer (set_call p.who op key false) p q
 absent_adds {op} {key} {at} {expected} {p} d =
     let t = eq-eqb _ expected (answers_same false expected _ d.shows.answers) in
-    record { entries = did_entries d ∙ ap (λ (b : Bool). entries_of p ++ cond b (entries.entry_of_call p.who (Some (record { who = p.who; op = op; key = key; reply = false }))) []) t }
+    record { entries = did_entries d ∙ ap (λ (b : Bool). entries_of p ++ cond b (entries.entry_of_call p.who (Some (set_call p.who op key false))) []) t }
 
 pub absent_adds_none : {op : Op} {key : ℕ} {at : At} {expected found : ℕ} {p q : Trace} → Did (ConfirmAbsent op key at expected) p q found → found ≢ expected → AddsNone p q
 absent_adds_none {op} {key} {at} {expected} {found} {p} d ne =
     let f = other expected found _ ne (unanswered false expected found _ ne d.shows.answers) in
-    record { entries = did_entries d ∙ ap (λ (b : Bool). entries_of p ++ cond b (entries.entry_of_call p.who (Some (record { who = p.who; op = op; key = key; reply = false }))) []) f ∙ append-nil (entries_of p) }
+    record { entries = did_entries d ∙ ap (λ (b : Bool). entries_of p ++ cond b (entries.entry_of_call p.who (Some (set_call p.who op key false))) []) f ∙ append-nil (entries_of p) }
 
 -- ---- a publication
 
-pub published : {pred : At} {expected s : ℕ} {p q : Trace} → Did (Publish pred expected s) p q expected → (call : Call) → call_of p.who (knows p) (Publish pred expected s) ≡ Some call → Made call p q
+pub published : {pred : At} {expected s : ℕ} {p q : Trace} → Did (Publish pred expected s) p q expected → (call : Call) → call_of p.shape p.who (knows p) (Publish pred expected s) ≡ Some call → Made call p q
 published {pred} {expected} {s} d call c = succeeded d call (eq-eqb _ expected (won expected _ d.shows.answers)) c
 
 pub publish_failed : {pred : At} {expected s found : ℕ} {p q : Trace} → Did (Publish pred expected s) p q found → found ≢ expected → Quiet p q

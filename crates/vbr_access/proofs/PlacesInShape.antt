@@ -11,7 +11,7 @@ use Rattle.vbr_words.specs.declared.link.Link.{Link}
 use Rattle.vbr_words.specs.declared.place.At.{At}
 use Rattle.vbr_core.specs.Knowledge.{Know}
 use Rattle.vbr_core.specs.Acceptance.{IsAtIn, Accepts}
-use Rattle.vbr_core.specs.Learning.{read_epoch, with_pending, with_checked, reads_won, learn, birth_in_hand}
+use Rattle.vbr_core.specs.Learning.{read_epoch, with_pending, with_checked, reads_won, learn, birth_in_hand, value_in_hand, value_read}
 use Rattle.vbr_core.specs.Machine.{World, opening, found, stamp_shown, after}
 use Rattle.vbr_core.specs.Membership.{Knows, IsHeldSlot}
 use Rattle.vbr_core.specs.Runs.{AreAccepted, world_from, know_after, IsRun}
@@ -21,11 +21,11 @@ use Rattle.vbr_core.specs.Sound.{Sound}
 use Rattle.vbr_core.specs.Incarnations.{State, Incarnations, IsLate}
 use Rattle.vbr_core.specs.declared.event.Event.{Event}
 use Rattle.vbr_core.specs.declared.event.Step.{Step}
-use Rattle.vbr_core.specs.declared.event.Step.TheVariants.{ReadEpoch, Advance, LoadStamp, StoreStamp, Raise, TakeFlag, StoreBirth, StoreKey, StoreLink, LoadLink, LoadBirth, LoadKey, Publish, Mark, Unlink, ConfirmPresent, ConfirmAbsent}
+use Rattle.vbr_core.specs.declared.event.Step.TheVariants.{ReadEpoch, Advance, LoadStamp, StoreStamp, Raise, TakeFlag, StoreBirth, StoreKey, StoreValue, StoreLink, LoadLink, LoadBirth, LoadKey, LoadValue, Publish, Mark, Unlink, ConfirmPresent, ConfirmAbsent}
 use Rattle.vbr_core.specs.declared.knowledge.Holding.{Holding}
 use Rattle.vbr_core.specs.declared.knowledge.Holding.TheVariants.{Free, Unlinked, InHand}
 use Rattle.vbr_core.specs.declared.knowledge.Read.{Read}
-use Rattle.vbr_core.specs.declared.knowledge.Read.TheVariants.{LinkAt, BirthOf, KeyOf}
+use Rattle.vbr_core.specs.declared.knowledge.Read.TheVariants.{LinkAt, BirthOf, KeyOf, ValueOf}
 use Rattle.vbr_core.proofs.Lemmas.{birth_held, know_other, know_own, run_agrees, slot_held}
 
 -- a read is of a place of the shape
@@ -33,6 +33,7 @@ abbrev IsReadIn : Dimensions → Read → Type 0
 IsReadIn shape (LinkAt at link) = IsAtIn shape at
 IsReadIn shape (BirthOf s birth) = s < shape.slots
 IsReadIn shape (KeyOf s key) = s < shape.slots
+IsReadIn shape (ValueOf s value) = s < shape.slots
 
 -- all reads of a pass are
 record ReadsIn (shape : Dimensions) (know : Know) : Type 0 where
@@ -55,6 +56,11 @@ epoch_read shape know epoch r = elim (cases_Bool (epoch == know.epoch)) [
   | inr k ↦ rw k (record { checked = tt; pending = tt })
 ]
 
+-- the value that a publication tells, if one was stored
+value_won : (shape : Dimensions) (s : ℕ) (value : Option ℕ) → s < shape.slots → AllByRecursion (IsReadIn shape) (value_read s value)
+value_won shape s None low = tt
+value_won shape s (Some value) low = (low, tt)
+
 -- what a pass learns by an accepted step leaves all of its reads in the shape
 reads_learned : (shape : Dimensions) (know : Know) (step : Step) (found stamp : ℕ) → ReadsIn shape know → Accepts shape know step → ReadsIn shape (learn step found stamp know)
 reads_learned shape know ReadEpoch found stamp r ok = epoch_read shape know found r
@@ -68,12 +74,14 @@ reads_learned shape know (TakeFlag s) found stamp r ok = elim (cases_Bool (has_f
 ]
 reads_learned shape know (StoreBirth s birth) found stamp r ok = record { checked = r.checked; pending = r.pending }
 reads_learned shape know (StoreKey s key) found stamp r ok = record { checked = r.checked; pending = r.pending }
+reads_learned shape know (StoreValue s value) found stamp r ok = record { checked = r.checked; pending = r.pending }
 reads_learned shape know (StoreLink s next) found stamp r ok = record { checked = r.checked; pending = r.pending }
 reads_learned shape know (LoadLink at) found stamp r ok = pending_more shape know (LinkAt at (link_of found)) r ok.in_shape
 reads_learned shape know (LoadBirth s) found stamp r ok = pending_more shape know (BirthOf s found) r ok.in_shape
 reads_learned shape know (LoadKey s) found stamp r ok = pending_more shape know (KeyOf s found) r ok.in_shape
+reads_learned shape know (LoadValue s) found stamp r ok = pending_more shape know (ValueOf s found) r ok.in_shape.0
 reads_learned shape know (Publish pred expected s) found stamp r ok = elim (cases_Bool (found == expected)) [
-  | inl k ↦ let more = checked_more shape know (reads_won know (Publish pred expected s)) r (ok.in_shape.0, (ok.in_shape.1, (ok.in_shape.1, (ok.in_shape.1, tt)))) in rw k (record { checked = more.checked; pending = more.pending })
+  | inl k ↦ let more = checked_more shape know (reads_won know (Publish pred expected s)) r (ok.in_shape.0, (ok.in_shape.1, (ok.in_shape.1, (ok.in_shape.1, value_won shape s (value_in_hand (know.own s)) ok.in_shape.1)))) in rw k (record { checked = more.checked; pending = more.pending })
   | inr k ↦ rw k r
 ]
 reads_learned shape know (Mark s expected) found stamp r ok = elim (cases_Bool (found == expected)) [
@@ -143,4 +151,4 @@ module _ (shape : Dimensions) (passes : ℕ) (run : List Event) (is : IsShape sh
       go None fits = omega arith
       go (Some (Free stamp)) fits = omega arith
       go (Some (Unlinked reread)) fits = omega arith
-      go (Some (InHand stamp birth key link)) fits = let low = fits.1.born in let same = fits.1.birth_is in let high = epoch_in in omega (arith, low, same, high)
+      go (Some (InHand stamp birth key value link)) fits = let low = fits.1.born in let same = fits.1.birth_is in let high = epoch_in in omega (arith, low, same, high)

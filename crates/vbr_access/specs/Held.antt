@@ -46,6 +46,6 @@ abbrev pub IsSucc : Know → Held → Option (Bor Held) → Type 0
 IsSucc know pred None = (link_of pred.word).slot ≡ None
 IsSucc know pred (Some node) = IsHeld know node.now × ((s : ℕ) × Names pred s × (node.now.at ≡ Slot s))
 
--- a slot is in hand with this birth, and this key and link were stored since
+-- a slot is in hand with this birth, and this key and link were stored since; of its value nothing is said
 abbrev pub IsFilled : Option Holding → ℕ → ℕ → Link → Type 0
-IsFilled holding birth key link = (stamp : ℕ) × (holding ≡ Some (InHand stamp birth (Some key) (Some link)))
+IsFilled holding birth key link = (stamp : ℕ) × (value : Option ℕ) × (holding ≡ Some (InHand stamp birth (Some key) value (Some link)))

@@ -1,9 +1,10 @@
 //! Answers by one more load of a link word.
 ghost use Rattle.std.specs.Prelude.{◌≡◌, ◌≢◌, ℕ, false, IfOk, IfErr};
 ghost use Rattle.vbr_words.specs.Words.{link_of};
+ghost use Rattle.vbr_core.specs.History.{set_call};
 ghost use Rattle.vbr_core.specs.Learning.{present_reply};
 ghost use Rattle.vbr_core.specs.Membership.{KeyAt, StandsBehind, StandsBeforeOn};
-ghost use Rattle.vbr_core.specs.declared.history.Op.TheVariants.{Has, Insert, Remove};
+ghost use Rattle.vbr_core.specs.declared.history.Op.TheVariants.{Has, Insert, Remove, Get};
 ghost use Rattle.vbr_slots.specs.Calls.{AddsAnswer, AddsNone, Quiet, Made, Took, OnlyLoads};
 ghost use Rattle.vbr_slots.specs.Alone.{IsAlone};
 ghost use Rattle.vbr_slots.specs.Views.{IsOf, knows};
@@ -32,15 +33,16 @@ pub fn confirm_present(slots: &Slots, pass: &mut Pass, op: Op, held: &Held) -> R
     requires key { (key : ℕ) × KeyAt (knows pass.old.trace) held.now.at key }
     requires unmarked { (link_of held.now.word).mark ≡ false }
     requires op { op ≢ Remove }
+    requires no_get { op ≢ Get }
     ensures took { Took pass.old.trace pass.new.trace 1 }
     ensures own { KeepsOwn pass.old pass.new }
     ensures takes_no_slot { TakesNoSlot pass.old pass.new }
     ensures keeps { Keeps (knows pass.old.trace) (knows pass.new.trace) }
     ensures made { IfOk result (λ _. (key : ℕ) → KeyAt (knows pass.old.trace) held.now.at key →
-        Made (record { who = pass.old.trace.who; op = op; key = key; reply = present_reply op }) pass.old.trace pass.new.trace) }
+        Made (set_call pass.old.trace.who op key (present_reply op)) pass.old.trace pass.new.trace) }
     ensures quiet { IfErr result (λ r. Quiet pass.old.trace pass.new.trace) }
     ensures adds { IfOk result (λ _. (key : ℕ) → KeyAt (knows pass.old.trace) held.now.at key →
-        AddsAnswer (record { who = pass.old.trace.who; op = op; key = key; reply = present_reply op }) pass.old.trace pass.new.trace) }
+        AddsAnswer (set_call pass.old.trace.who op key (present_reply op)) pass.old.trace pass.new.trace) }
     ensures adds_none { IfErr result (λ r. AddsNone pass.old.trace pass.new.trace) }
     ensures only_loads { OnlyLoads pass.old.trace pass.new.trace }
     ensures lost { IfErr result (λ r. IsLost pass.old.trace pass.new.trace held.now r) }
@@ -68,13 +70,14 @@ pub fn confirm_absent(
     requires before { StandsBeforeOn (knows pass.old.trace) key (link_of pred.now.word) }
     requires unmarked { (link_of pred.now.word).mark ≡ false }
     requires op { op ≢ Insert }
+    requires no_get { op ≢ Get }
     ensures took { Took pass.old.trace pass.new.trace 1 }
     ensures own { KeepsOwn pass.old pass.new }
     ensures takes_no_slot { TakesNoSlot pass.old pass.new }
     ensures keeps { Keeps (knows pass.old.trace) (knows pass.new.trace) }
-    ensures made { IfOk result (λ _. Made (record { who = pass.old.trace.who; op = op; key = key; reply = false }) pass.old.trace pass.new.trace) }
+    ensures made { IfOk result (λ _. Made (set_call pass.old.trace.who op key false) pass.old.trace pass.new.trace) }
     ensures quiet { IfErr result (λ r. Quiet pass.old.trace pass.new.trace) }
-    ensures adds { IfOk result (λ _. AddsAnswer (record { who = pass.old.trace.who; op = op; key = key; reply = false }) pass.old.trace pass.new.trace) }
+    ensures adds { IfOk result (λ _. AddsAnswer (set_call pass.old.trace.who op key false) pass.old.trace pass.new.trace) }
     ensures adds_none { IfErr result (λ r. AddsNone pass.old.trace pass.new.trace) }
     ensures only_loads { OnlyLoads pass.old.trace pass.new.trace }
     ensures lost { IfErr result (λ r. IsLost pass.old.trace pass.new.trace pred.now r) }
@@ -108,9 +111,9 @@ pub fn confirm_look_up(
     ensures own { KeepsOwn pass.old pass.new }
     ensures takes_no_slot { TakesNoSlot pass.old pass.new }
     ensures keeps { Keeps (knows pass.old.trace) (knows pass.new.trace) }
-    ensures made { IfOk result (λ _. Made (record { who = pass.old.trace.who; op = Has; key = key; reply = present }) pass.old.trace pass.new.trace) }
+    ensures made { IfOk result (λ _. Made (set_call pass.old.trace.who Has key present) pass.old.trace pass.new.trace) }
     ensures quiet { IfErr result (λ r. Quiet pass.old.trace pass.new.trace) }
-    ensures adds { IfOk result (λ _. AddsAnswer (record { who = pass.old.trace.who; op = Has; key = key; reply = present }) pass.old.trace pass.new.trace) }
+    ensures adds { IfOk result (λ _. AddsAnswer (set_call pass.old.trace.who Has key present) pass.old.trace pass.new.trace) }
     ensures adds_none { IfErr result (λ r. AddsNone pass.old.trace pass.new.trace) }
     ensures only_loads { OnlyLoads pass.old.trace pass.new.trace }
     ensures lost { IfErr result (λ r. IsLost pass.old.trace pass.new.trace held.now r) }

@@ -1,6 +1,7 @@
 //! Marking a node: a remove.
 ghost use Rattle.std.specs.Prelude.{◌≡◌, ℕ, true, false, IfOk, IfErr};
 ghost use Rattle.vbr_words.specs.Words.{link_of};
+ghost use Rattle.vbr_core.specs.History.{set_call};
 ghost use Rattle.vbr_core.specs.Links.{marked};
 ghost use Rattle.vbr_core.specs.Membership.{KeyAt};
 ghost use Rattle.vbr_core.specs.declared.history.Op.TheVariants.{Remove};
@@ -29,12 +30,13 @@ pub fn mark(slots: &Slots, pass: &mut Pass, held: &Held) -> Result<Marked, Rollb
     requires held { IsHeld (knows pass.old.trace) held.now }
     requires key { (key : ℕ) × KeyAt (knows pass.old.trace) held.now.at key }
     requires unmarked { (link_of held.now.word).mark ≡ false }
+    requires bare { pass.old.trace.shape.values ≡ false }
     ensures took { Took pass.old.trace pass.new.trace 1 }
     ensures own { KeepsOwn pass.old pass.new }
     ensures takes_no_slot { TakesNoSlot pass.old pass.new }
     ensures keeps { Keeps (knows pass.old.trace) (knows pass.new.trace) }
     ensures made { IfOk result (λ _. (key : ℕ) → KeyAt (knows pass.old.trace) held.now.at key →
-        Made (record { who = pass.old.trace.who; op = Remove; key = key; reply = true }) pass.old.trace pass.new.trace) }
+        Made (set_call pass.old.trace.who Remove key true) pass.old.trace pass.new.trace) }
     ensures at { IfOk result (λ m. (held_of m).at ≡ held.now.at) }
     ensures link { IfOk result (λ m. link_of m.word ≡ marked (link_of held.now.word)) }
     ensures held { IfOk result (λ m. IsMarked (knows pass.new.trace) m) }

@@ -1,6 +1,7 @@
 //! Linking a new node: an insert.
 ghost use Rattle.std.specs.Prelude.{◌≡◌, true, false, None, IfOk, IfErr, OnOk};
 ghost use Rattle.vbr_words.specs.Words.{link_of};
+ghost use Rattle.vbr_core.specs.History.{set_call};
 ghost use Rattle.vbr_core.specs.Links.{link_to};
 ghost use Rattle.vbr_core.specs.Membership.{BirthNamed, StandsBehind, StandsBefore};
 ghost use Rattle.vbr_core.specs.declared.history.Op.TheVariants.{Insert};
@@ -39,6 +40,7 @@ pub fn update(
     requires own { IsOf pass.old.trace slots.now }
     requires pred { IsHeld (knows pass.old.trace) pred.now }
     requires unmarked { (link_of pred.now.word).mark ≡ false }
+    requires bare { pass.old.trace.shape.values ≡ false }
     requires succ { IsSucc (knows pass.old.trace) pred.now succ }
     requires behind { StandsBehind pass.old.trace.shape (knows pass.old.trace) pred.now.at key }
     requires before { StandsBefore (knows pass.old.trace) key (link_of pred.now.word).slot }
@@ -47,7 +49,7 @@ pub fn update(
     ensures keeps { Keeps (knows pass.old.trace) (knows pass.new.trace) }
     ensures pool { pass.new.pool ≡ pass.old.pool }
     ensures takes_no_slot { TakesNoSlot pass.old pass.new }
-    ensures made { IfOk result (λ _. Made (record { who = pass.old.trace.who; op = Insert; key = key; reply = true }) pass.old.trace pass.new.trace) }
+    ensures made { IfOk result (λ _. Made (set_call pass.old.trace.who Insert key true) pass.old.trace pass.new.trace) }
     ensures spent { OnOk result (pass.new.hand ≡ None) }
     ensures quiet { IfErr result (λ r. Quiet pass.old.trace pass.new.trace) }
     ensures lost { IfErr result (λ r. IsLost pass.old.trace pass.new.trace pred.now r.1) }

@@ -1,7 +1,7 @@
 -- How answers are counted.
 use Rattle.std.specs.Prelude.{ℕ, ◌+◌, ◌-◌, ◌^◌, min, Bool, true, false, Result, Ok, Err}
 use Rattle.vbr_core.specs.declared.history.Op.{Op}
-use Rattle.vbr_core.specs.declared.history.Op.TheVariants.{Insert, Remove, Has}
+use Rattle.vbr_core.specs.declared.history.Op.TheVariants.{Insert, Remove, Has, Get}
 use Rattle.vbr_list.specs.declared.refusal.Refusal.{Refusal}
 use Rattle.vbr_bench.specs.declared.tally.Tally.{Tally}
 
@@ -14,6 +14,7 @@ abbrev pub tallied : Op → Result Bool Refusal → Tally → Tally
 tallied Insert (Ok true) t = record t { inserted = counted_up t.inserted 1 }
 tallied Remove (Ok true) t = record t { removed = counted_up t.removed 1 }
 tallied Has (Ok true) t = record t { found = counted_up t.found 1 }
+tallied Get (Ok true) t = record t { found = counted_up t.found 1 }
 tallied op (Ok false) t = t
 tallied op (Err refusal) t = record t { refused = counted_up t.refused 1 }
 

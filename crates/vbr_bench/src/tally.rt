@@ -32,7 +32,7 @@ impl Tally {
             (Ok(false), _) => {}
             (Ok(true), Op::Insert) => self.inserted = self.inserted.saturating_add(1),
             (Ok(true), Op::Remove) => self.removed = self.removed.saturating_add(1),
-            (Ok(true), Op::Has) => self.found = self.found.saturating_add(1),
+            (Ok(true), Op::Has | Op::Get) => self.found = self.found.saturating_add(1),
             (Err(_), _) => self.refused = self.refused.saturating_add(1),
         }
     }

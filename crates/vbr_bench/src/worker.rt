@@ -71,6 +71,6 @@ fn call(member: &mut Member, op: Op, key: u64) -> Result<bool, Refusal> {
     match op {
         Op::Insert => member.insert(key, BUDGET),
         Op::Remove => member.remove(key, BUDGET),
-        Op::Has => member.has(key, BUDGET),
+        Op::Has | Op::Get => member.has(key, BUDGET),
     }
 }

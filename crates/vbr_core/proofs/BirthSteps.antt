@@ -12,7 +12,7 @@ use Rattle.vbr_core.specs.Learning.{with_own}
 use Rattle.vbr_core.specs.Machine.{World, after, counted}
 use Rattle.vbr_core.specs.Incarnations.{State, Unborn, Linked, Marked, GivenUp, Stamped, Incarnations, IsLate, last_in}
 use Rattle.vbr_core.specs.Incarnations as state
-use Rattle.vbr_core.specs.Images.{birth_shown, key_shown, link_shown, link_in_state, link_to_next, link_shown_at, IsImage}
+use Rattle.vbr_core.specs.Images.{birth_shown, key_shown, value_shown, link_shown, link_in_state, link_to_next, link_shown_at, IsImage}
 use Rattle.vbr_core.specs.Chronicles.{Allowed, GivesUp, Bears, Stamps, becomes, unlinked_at}
 use Rattle.vbr_core.specs.Sound.{Sound, Tells}
 use Rattle.vbr_core.specs.Notes.{Notes}
@@ -29,7 +29,7 @@ use Rattle.vbr_core.proofs.ToldCalls.{tells_kept}
 use Rattle.vbr_core.proofs.Growth.{grows}
 use Rattle.vbr_core.proofs.Noted.{knows_on, knows_own}
 use Rattle.vbr_core.proofs.OwnSlots.{slot_kept, not_owned, owns_moved, owns_changed, lasts_differ}
-use Rattle.vbr_core.proofs.Shown.{fits_kept, to_next_same, in_state_same, link_kept, key_kept, birth_kept, image_fits}
+use Rattle.vbr_core.proofs.Shown.{fits_kept, to_next_same, in_state_same, link_kept, key_kept, value_kept, birth_kept, image_fits}
 use Rattle.vbr_core.proofs.Steps.{StepAgrees, agrees_next, puts_same, at_put, hand_facts, unlinked_facts, own_not_of, hand_not_of}
 
 -- one state changes, and no link that is shown
@@ -65,6 +65,7 @@ step_store_stamp shape w a notes p s stamp g ok =
             link = λ k. i.link k ∙ moved_link a b c s refl refl refl refl refl (λ d ne. put_other a.state c (Stamped (unlinked_at (a.state c)) stamp) d ne) x.last (λ y d ne e. lasts_differ g.sound.slots y s c d ne x.last e) (ap (link_in_state b c) (put_here a.state c (Stamped (unlinked_at (a.state c)) stamp)) ∙ ap (link_in_state b c) (sym x.state)) k;
             birth = λ k. i.birth k ∙ sym (birth_kept a b (a.last k) (λ d _. refl));
             key = λ k. i.key k ∙ sym (key_kept a b (a.last k) (λ d _. refl));
+            value = λ k. i.value k ∙ sym (value_kept a b (a.last k) (λ d _. refl));
             stamp = λ k. rw slot (puts_same w.stamp a.stamp s stamp i.stamp k);
             place = i.place;
           })
@@ -72,7 +73,7 @@ step_store_stamp shape w a notes p s stamp g ok =
           (owns_changed a b w.know p s (with_own (w.know p) s own) refl (λ k ne. put_other (w.know p).own s own k ne)
           (own_not_of p (a.place s) x.place)
           (own_not_of p (a.place s) x.place)
-          (λ k ne. record { place = refl; last = refl; stamp = put_other a.stamp (a.slot c) stamp k (λ e. ne (e ∙ slot)); untouched = λ d e. let nd = lasts_differ g.sound.slots k s c d ne x.last e in record { state = put_other a.state c (Stamped (unlinked_at (a.state c)) stamp) d nd; birth = refl; key = refl; is_keyed = refl; link = refl; is_aimed = refl } })
+          (λ k ne. record { place = refl; last = refl; stamp = put_other a.stamp (a.slot c) stamp k (λ e. ne (e ∙ slot)); untouched = λ d e. let nd = lasts_differ g.sound.slots k s c d ne x.last e in record { state = put_other a.state c (Stamped (unlinked_at (a.state c)) stamp) d nd; birth = refl; key = refl; is_keyed = refl; value = refl; is_valued = refl; link = refl; is_aimed = refl } })
           (rw (put_here (w.know p).own s own) (x.place, rw x.last (rw (put_here a.state c (Stamped (unlinked_at (a.state c)) stamp)) tt), rw slot (put_here a.stamp s stamp)))
           g.owns)
           g.calls g.births,
@@ -96,7 +97,7 @@ record AgreesAway (shape : Dimensions) (w : World) (a : Incarnations) (notes : �
 abbrev born_world : World → ℕ → ℕ → ℕ → ℕ → World
 born_world w p s birth stamp =
     record w {
-      know = put w.know p (with_own (w.know p) s (Some (InHand stamp birth None None)));
+      know = put w.know p (with_own (w.know p) s (Some (InHand stamp birth None None None)));
       birth = put w.birth s birth;
       place = put w.place s (Hand p);
       births = counted w.births;
@@ -108,7 +109,7 @@ born shape w a notes p s birth stamp g le in_shape es al =
     let z = becomes shape a p (Bears s birth) in
     let c = a.count in
     let i = g.image in
-    let own = Some (InHand stamp birth None None) in
+    let own = Some (InHand stamp birth None None None) in
     record {
       sound = sound_kept shape (opening_keys shape) a p (Bears s birth) g.sound al;
       tells = tells_kept shape a p (Bears s birth) g.sound g.tells al;
@@ -124,6 +125,7 @@ born shape w a notes p s birth stamp g le in_shape es al =
         link = λ k. links k (cases_eq k s);
         birth = λ k. births k (cases_eq k s);
         key = λ k. keys k (cases_eq k s);
+        value = λ k. values k (cases_eq k s);
         stamp = i.stamp;
         place = puts_same w.place a.place s (Hand p) i.place;
       };
@@ -139,11 +141,13 @@ born shape w a notes p s birth stamp g le in_shape es al =
               birth = put_other a.birth c birth d nd;
               key = put_other a.key c (key_shown a (a.last s)) d nd;
               is_keyed = put_other a.is_keyed c false d nd;
+              value = put_other a.value c (value_shown a (a.last s)) d nd;
+              is_valued = put_other a.is_valued c false d nd;
               link = put_other a.link c (link_shown a (a.last s)) d nd;
               is_aimed = put_other a.is_aimed c false d nd;
             };
           })
-          (rw (put_here (w.know p).own s own) (put_here a.place s (Hand p), record { node = c; last_is = put_here a.last s (Some c); state = put_here a.state c (state.InHand p); born = rw (put_here a.birth c birth) le; birth_is = put_here a.birth c birth; keyed = put_here a.is_keyed c false; aimed = put_here a.is_aimed c false }, es))
+          (rw (put_here (w.know p).own s own) (put_here a.place s (Hand p), record { node = c; last_is = put_here a.last s (Some c); state = put_here a.state c (state.InHand p); born = rw (put_here a.birth c birth) le; birth_is = put_here a.birth c birth; keyed = put_here a.is_keyed c false; valued = put_here a.is_valued c false; aimed = put_here a.is_aimed c false }, es))
           g.away;
       calls = g.calls;
       births = let u = g.births in omega arith;
@@ -191,6 +195,10 @@ born shape w a notes p s birth stamp g le in_shape es al =
     keys v (inl e) = g.image.key v ∙ ap (λ i. key_shown a (a.last i)) e ∙ sym (put_here a.key a.count (key_shown a (a.last s))) ∙ ap (key_shown (becomes shape a p (Bears s birth))) (sym (put_here a.last s (Some a.count)) ∙ ap (put a.last s (Some a.count)) (sym e))
     keys v (inr ne) = g.image.key v ∙ sym (key_kept a (becomes shape a p (Bears s birth)) (a.last v) (λ d e. put_other a.key a.count (key_shown a (a.last s)) d (old v d e))) ∙ ap (key_shown (becomes shape a p (Bears s birth))) (sym (put_other a.last s (Some a.count) v ne))
 
+    values : (v : ℕ) → (v ≡ s) ⊎ (v ≢ s) → w.value v ≡ value_shown (becomes shape a p (Bears s birth)) (put a.last s (Some a.count) v)
+    values v (inl e) = g.image.value v ∙ ap (λ i. value_shown a (a.last i)) e ∙ sym (put_here a.value a.count (value_shown a (a.last s))) ∙ ap (value_shown (becomes shape a p (Bears s birth))) (sym (put_here a.last s (Some a.count)) ∙ ap (put a.last s (Some a.count)) (sym e))
+    values v (inr ne) = g.image.value v ∙ sym (value_kept a (becomes shape a p (Bears s birth)) (a.last v) (λ d e. put_other a.value a.count (value_shown a (a.last s)) d (old v d e))) ∙ ap (value_shown (becomes shape a p (Bears s birth))) (sym (put_other a.last s (Some a.count) v ne))
+
 -- what agrees once the incarnation in hand is given up
 given_up : (shape : Dimensions) (w : World) (a : Incarnations) (notes : ℕ → Notes) (p s : ℕ) → Agrees shape w a notes → a.last s ≡ Some (last_in a s) → a.state (last_in a s) ≡ state.InHand p → a.place s ≡ Hand p → AgreesAway shape w (becomes shape a p (GivesUp (last_in a s))) notes p s
 given_up shape w a notes p s g last st place =
@@ -207,12 +215,13 @@ given_up shape w a notes p s g last st place =
         link = λ k. i.link k ∙ moved_link a b c s refl refl refl refl refl (λ d ne. put_other a.state c GivenUp d ne) last (λ y d ne e. lasts_differ g.sound.slots y s c d ne last e) (ap (link_in_state b c) (put_here a.state c GivenUp) ∙ ap (link_in_state b c) (sym st)) k;
         birth = λ k. i.birth k ∙ sym (birth_kept a b (a.last k) (λ d _. refl));
         key = λ k. i.key k ∙ sym (key_kept a b (a.last k) (λ d _. refl));
+        value = λ k. i.value k ∙ sym (value_kept a b (a.last k) (λ d _. refl));
         stamp = i.stamp;
         place = i.place;
       };
       knows = knows_on g.sound (grows shape (opening_keys shape) a p (GivesUp c) g.sound st) w.know notes g.knows;
       away = λ q v ne. slot_kept a b q (w.know q).epoch (w.know q).epoch v ((w.know q).own v) (omega arith)
-          (record { place = refl; last = refl; stamp = refl; untouched = λ d e. record { state = put_other a.state c GivenUp d (lasts_differ g.sound.slots v s c d ne last e); birth = refl; key = refl; is_keyed = refl; link = refl; is_aimed = refl } })
+          (record { place = refl; last = refl; stamp = refl; untouched = λ d e. record { state = put_other a.state c GivenUp d (lasts_differ g.sound.slots v s c d ne last e); birth = refl; key = refl; is_keyed = refl; value = refl; is_valued = refl; link = refl; is_aimed = refl } })
           (g.owns q v);
       others = λ q ne. not_owned a q (w.know q).epoch ((w.know q).own s) (a.place s) (a.last s) (a.stamp s) (g.owns q s) (hand_not_of p (a.place s) place q ne);
       calls = g.calls;
@@ -247,8 +256,8 @@ step_store_birth shape w a notes p s birth g ok = go ((w.know p).own s) refl ok.
             births = g.births;
           }) low ok.in_shape h.2 al,
         )
-    go (Some (InHand stamp before key link)) e o h lt =
-        let x = hand_facts a p s (w.know p).epoch (Some (InHand stamp before key link)) h tt in
+    go (Some (InHand stamp before key value link)) e o h lt =
+        let x = hand_facts a p s (w.know p).epoch (Some (InHand stamp before key value link)) h tt in
         let y = given_up shape w a notes p s g x.last x.state x.place in
         let al : Allowed shape (opening_keys shape) (becomes shape a p (GivesUp (last_in a s))) p (Bears s birth) = (rw (x.place, x.last) (refl, put_here a.state (last_in a s) GivenUp), (let u = h.2 in omega arith), below) in
         rw e ((x.state, (al, tt)), born shape w (becomes shape a p (GivesUp (last_in a s))) notes p s birth stamp y low ok.in_shape h.2 al)

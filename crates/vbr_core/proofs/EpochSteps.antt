@@ -29,7 +29,7 @@ use Rattle.vbr_core.proofs.Steps.{StepAgrees, agrees_next, agrees_still}
 reread_fits : {shape : Dimensions} {a : Incarnations} → SlotsSound shape a → (p e f : ℕ) (holding : Option Holding) (place : SlotPlace) (last : Option ℕ) (stamp : ℕ) → f ≡ a.epoch → e ≤ f → OwnFits a p e holding place last stamp → OwnFits a p f (reread holding) place last stamp
 reread_fits s p e f None place last stamp q le h = h
 reread_fits s p e f (Some (Free known)) place last stamp q le h = h
-reread_fits {shape} {a} s p e f (Some (InHand known birth key link)) place last stamp q le h = own_kept a a p e f (Some (InHand known birth key link)) place last stamp le (λ c _. untouched_here a c) h
+reread_fits {shape} {a} s p e f (Some (InHand known birth key value link)) place last stamp q le h = own_kept a a p e f (Some (InHand known birth key value link)) place last stamp le (λ c _. untouched_here a c) h
 reread_fits {shape} {a} s p e f (Some (Unlinked seen)) place last stamp q le h = let x = h.1 in (h.0, record { node = x.node; last_is = x.last_is; at = x.at; state = x.state; seen = λ t. let u = rw x.state at (s.times x.node) in let v = u.1 in omega arith })
 
 owns_read : {shape : Dimensions} {a : Incarnations} → SlotsSound shape a → (know : ℕ → Know) (p epoch : ℕ) → epoch ≡ a.epoch → (know p).epoch ≤ a.epoch → Owns a know → Owns a (put know p (read_epoch (know p) epoch))
@@ -50,7 +50,7 @@ step_read_epoch shape w a notes p g = (
     sound = g.sound;
     tells = g.tells;
     fits = g.fits;
-    image = image_kept (after shape w p ReadEpoch) w a a g.image.epoch refl refl refl refl refl g.image.place refl refl refl refl refl refl refl refl refl g.image;
+    image = image_kept (after shape w p ReadEpoch) w a a g.image.epoch refl refl refl refl refl refl g.image.place refl refl refl refl refl refl refl refl refl refl g.image;
     knows = knows_put a w.know notes p (read_epoch (w.know p) w.epoch) (confirmed_notes (notes p) (w.epoch == (w.know p).epoch)) g.knows (noted_read a (w.know p) (notes p) w.epoch g.image.epoch (g.knows p));
     owns = owns_read g.sound.slots w.know p w.epoch g.image.epoch (g.knows p).epoch g.owns;
     calls = g.calls;
@@ -70,9 +70,9 @@ step_advance shape w a notes p from g ok = go (cases_Bool (w.epoch == from))
           (al, tt),
           agrees_next shape w (record w { epoch = w.epoch + 1 }) a notes (put notes p (notes p)) p Advances g al
               (record { is_shape = g.fits.is_shape; epoch = omega arith; slot = g.fits.slot; link = g.fits.link })
-              (image_kept (record w { epoch = w.epoch + 1 }) w a b (ap (λ e. e + 1) g.image.epoch) refl refl refl refl refl g.image.place refl refl refl refl refl refl refl refl refl g.image)
+              (image_kept (record w { epoch = w.epoch + 1 }) w a b (ap (λ e. e + 1) g.image.epoch) refl refl refl refl refl refl g.image.place refl refl refl refl refl refl refl refl refl refl g.image)
               (knows_same b w.know notes p (knows_on g.sound (grows shape (opening_keys shape) a p Advances g.sound al) w.know notes g.knows))
-              (owns_kept a b w.know (λ v. record { place = refl; last = refl; stamp = refl; untouched = λ c _. record { state = refl; birth = refl; key = refl; is_keyed = refl; link = refl; is_aimed = refl } }) g.owns)
+              (owns_kept a b w.know (λ v. record { place = refl; last = refl; stamp = refl; untouched = λ c _. record { state = refl; birth = refl; key = refl; is_keyed = refl; value = refl; is_valued = refl; link = refl; is_aimed = refl } }) g.owns)
               g.calls g.births,
         )
 

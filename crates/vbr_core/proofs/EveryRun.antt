@@ -15,13 +15,13 @@ use Rattle.vbr_core.specs.Accounts.{happens, incarnations_with, chronicle_from, 
 use Rattle.vbr_core.specs.Agreement.{Agrees}
 use Rattle.vbr_core.specs.declared.event.Event.{Event}
 use Rattle.vbr_core.specs.declared.event.Step.{Step}
-use Rattle.vbr_core.specs.declared.event.Step.TheVariants.{ReadEpoch, Advance, LoadStamp, StoreStamp, Raise, TakeFlag, StoreBirth, StoreKey, StoreLink, LoadLink, LoadBirth, LoadKey, Publish, Mark, Unlink, ConfirmPresent, ConfirmAbsent}
+use Rattle.vbr_core.specs.declared.event.Step.TheVariants.{ReadEpoch, Advance, LoadStamp, StoreStamp, Raise, TakeFlag, StoreBirth, StoreKey, StoreLink, LoadLink, LoadBirth, LoadKey, Publish, Mark, Unlink, ConfirmPresent, ConfirmAbsent, StoreValue, LoadValue}
 use Rattle.vbr_core.proofs.Growth.{grows_after}
 use Rattle.vbr_core.proofs.Steps.{agrees_at_first}
 use Rattle.vbr_core.proofs.EpochSteps.{step_read_epoch, step_advance, step_load_stamp}
-use Rattle.vbr_core.proofs.OwnerSteps.{step_raise, step_take_flag, step_store_key, step_store_link}
+use Rattle.vbr_core.proofs.OwnerSteps.{step_raise, step_take_flag, step_store_key, step_store_link, step_store_value}
 use Rattle.vbr_core.proofs.BirthSteps.{step_store_stamp, step_store_birth}
-use Rattle.vbr_core.proofs.LoadSteps.{step_load_link, step_load_birth, step_load_key}
+use Rattle.vbr_core.proofs.LoadSteps.{step_load_link, step_load_birth, step_load_key, step_load_value}
 use Rattle.vbr_core.proofs.ConfirmSteps.{step_confirm_present, step_confirm_absent}
 use Rattle.vbr_core.proofs.MarkSteps.{step_mark}
 use Rattle.vbr_core.proofs.Publishing.{step_publish}
@@ -39,10 +39,12 @@ step_agrees shape w a notes p (Raise s) g ok = step_raise shape w a notes p s g 
 step_agrees shape w a notes p (TakeFlag s) g ok = step_take_flag shape w a notes p s g ok.in_shape
 step_agrees shape w a notes p (StoreBirth s birth) g ok = step_store_birth shape w a notes p s birth g ok
 step_agrees shape w a notes p (StoreKey s key) g ok = step_store_key shape w a notes p s key g ok
+step_agrees shape w a notes p (StoreValue s value) g ok = step_store_value shape w a notes p s value g ok
 step_agrees shape w a notes p (StoreLink s next) g ok = step_store_link shape w a notes p s next g ok
 step_agrees shape w a notes p (LoadLink at) g ok = step_load_link shape w a notes p at g ok
 step_agrees shape w a notes p (LoadBirth s) g ok = step_load_birth shape w a notes p s g ok
 step_agrees shape w a notes p (LoadKey s) g ok = step_load_key shape w a notes p s g ok
+step_agrees shape w a notes p (LoadValue s) g ok = step_load_value shape w a notes p s g ok
 step_agrees shape w a notes p (Publish pred expected s) g ok = step_publish shape w a notes p pred expected s g ok
 step_agrees shape w a notes p (Mark s expected) g ok = step_mark shape w a notes p s expected g ok
 step_agrees shape w a notes p (Unlink pred expected s) g ok = step_unlink shape w a notes p pred expected s g ok

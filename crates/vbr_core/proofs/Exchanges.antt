@@ -8,12 +8,13 @@ use Rattle.vbr_words.specs.declared.place.At.{At}
 use Rattle.vbr_words.specs.declared.place.At.TheVariants.{Head, Slot}
 use Rattle.vbr_core.specs.Put.{put}
 use Rattle.vbr_core.specs.Links.{link_to}
+use Rattle.vbr_core.specs.Opened.{kept}
 use Rattle.vbr_core.specs.Machine.{World, with_link_at}
 use Rattle.vbr_core.specs.Machine as machine
 use Rattle.vbr_core.specs.Knowledge.{birth_of}
 use Rattle.vbr_core.specs.Acceptance.{MayPublish, IsBehind, IsBefore}
-use Rattle.vbr_core.specs.Learning.{birth_in_hand, key_in_hand, link_in_hand}
-use Rattle.vbr_core.specs.Incarnations.{Linked, Incarnations, last_in}
+use Rattle.vbr_core.specs.Learning.{birth_in_hand, key_in_hand, value_in_hand, link_in_hand}
+use Rattle.vbr_core.specs.Incarnations.{Linked, Incarnations, last_in, payload_of}
 use Rattle.vbr_core.specs.Incarnations as state
 use Rattle.vbr_core.specs.Images.{link_to_next, link_in_state, link_shown, link_shown_at, IsImage}
 use Rattle.vbr_core.specs.Chronicles.{Inserts, AtHead, AtNode, MayInsert, becomes}
@@ -27,6 +28,7 @@ use Rattle.vbr_core.specs.declared.knowledge.SlotPlace.TheVariants.{Hand}
 use Rattle.vbr_core.proofs.Puts.{put_here, put_other}
 use Rattle.vbr_core.proofs.OwnSlots.{lasts_differ}
 use Rattle.vbr_core.proofs.Shown.{to_next_same, link_kept}
+use Rattle.vbr_core.proofs.ValueReads.{stored_is, stored_there, stored_kept}
 use Rattle.vbr_core.proofs.StandingLinks.{node_at, birth_there}
 
 -- one link was exchanged
@@ -102,14 +104,17 @@ pub record ReadyFacts (shape : Dimensions) (a : Incarnations) (p s e : ℕ) (rea
   pub link_ready : a.link (last_in a s) ≡ link_to expected.slot (a.birth (last_in a s)) (unwrap_or (birth_of reads expected.slot) 0)
   pub behind : IsBehind shape reads pred (a.key (last_in a s))
   pub before : IsBefore reads (a.key (last_in a s)) expected.slot
+  pub value_is : (x : ℕ) → value_in_hand holding ≡ Some x → a.value (last_in a s) ≡ x
+  pub valued : shape.values ≡ true → a.is_valued (last_in a s) ≡ true
+  pub payload : kept shape (value_in_hand holding) ≡ payload_of shape a (last_in a s)
 
 pub ready_facts : (shape : Dimensions) (a : Incarnations) (p s e : ℕ) (reads : List Read) (pred : At) (expected : Link) (holding : Option Holding) → OwnFits a p e holding (a.place s) (a.last s) (a.stamp s) → MayPublish shape reads pred expected holding → ReadyFacts shape a p s e reads pred expected holding
 ready_facts shape a p s e reads pred expected None h r = absurd r
 ready_facts shape a p s e reads pred expected (Some (Free known)) h r = absurd r
 ready_facts shape a p s e reads pred expected (Some (Unlinked seen)) h r = absurd r
-ready_facts shape a p s e reads pred expected (Some (InHand known birth None link)) h r = absurd r
-ready_facts shape a p s e reads pred expected (Some (InHand known birth (Some key) None)) h r = absurd r
-ready_facts shape a p s e reads pred expected (Some (InHand known birth (Some key) (Some link))) h r =
+ready_facts shape a p s e reads pred expected (Some (InHand known birth None value link)) h r = absurd r
+ready_facts shape a p s e reads pred expected (Some (InHand known birth (Some key) value None)) h r = absurd r
+ready_facts shape a p s e reads pred expected (Some (InHand known birth (Some key) value (Some link))) h r =
     let x = h.1 in
     let l : last_in a s ≡ x.node = rw x.last_is refl in
     let b : a.birth (last_in a s) ≡ birth = ap a.birth l ∙ x.birth_is in
@@ -127,4 +132,7 @@ ready_facts shape a p s e reads pred expected (Some (InHand known birth (Some ke
       link_ready = ap a.link l ∙ x.aimed.1 ∙ r.0 ∙ ap (λ i. link_to expected.slot i (unwrap_or (birth_of reads expected.slot) 0)) (sym b);
       behind = rw k r.1;
       before = rw k r.2;
+      value_is = λ y e. ap a.value l ∙ stored_is (a.is_valued x.node) (a.value x.node) value x.valued y e;
+      valued = λ e. ap a.is_valued l ∙ stored_there shape.values (a.is_valued x.node) (a.value x.node) value r.3 x.valued e;
+      payload = stored_kept shape.values (a.is_valued x.node) (a.value x.node) value r.3 x.valued ∙ ap (λ n. kept shape (Some (a.value n))) (sym l);
     }

@@ -8,9 +8,9 @@ use Rattle.vbr_words.specs.declared.link.Link.{Link}
 use Rattle.vbr_words.specs.declared.place.At.{At}
 use Rattle.vbr_words.specs.declared.place.At.TheVariants.{Head, Slot}
 use Rattle.vbr_core.specs.Links.{same_slot, same_mark, same_link}
-use Rattle.vbr_core.specs.Knowledge.{same_at, knows_link, birth_in, key_in, marked_in, names, holds}
+use Rattle.vbr_core.specs.Knowledge.{same_at, knows_link, birth_in, key_in, marked_in, names, holds, value_in}
 use Rattle.vbr_core.specs.declared.knowledge.Read.{Read}
-use Rattle.vbr_core.specs.declared.knowledge.Read.TheVariants.{LinkAt, BirthOf, KeyOf}
+use Rattle.vbr_core.specs.declared.knowledge.Read.TheVariants.{LinkAt, BirthOf, KeyOf, ValueOf}
 use Rattle.vbr_core.proofs.Searches.{same_link_true, same_at_true}
 
 -- ---- members of a list
@@ -53,6 +53,7 @@ pub link_among : (reads : List Read) (at : At) (link : Link) → knows_link read
 link_among [] at link q = absurd (cc)
 link_among (BirthOf v b ∷ reads) at link q = there (BirthOf v b) (LinkAt at link) reads (link_among reads at link q)
 link_among (KeyOf v b ∷ reads) at link q = there (KeyOf v b) (LinkAt at link) reads (link_among reads at link q)
+link_among (ValueOf v b ∷ reads) at link q = there (ValueOf v b) (LinkAt at link) reads (link_among reads at link q)
 link_among (LinkAt at2 seen ∷ reads) at link q = elim (cases_Bool (same_at at2 at && same_link seen link)) [
   | inl k ↦ let u = and_parts (same_at at2 at) (same_link seen link) k in let e = same_at_true at2 at u.0 in let f = same_link_true seen link u.1 in here (LinkAt at2 seen) (LinkAt at link) reads (λ i. LinkAt (e i) (f i))
   | inr k ↦ there (LinkAt at2 seen) (LinkAt at link) reads (link_among reads at link (rw k at q))
@@ -62,6 +63,7 @@ pub birth_among : (reads : List Read) (s b : ℕ) → birth_in reads s ≡ Some 
 birth_among [] s b q = absurd (cc)
 birth_among (LinkAt at link ∷ reads) s b q = there (LinkAt at link) (BirthOf s b) reads (birth_among reads s b q)
 birth_among (KeyOf v d ∷ reads) s b q = there (KeyOf v d) (BirthOf s b) reads (birth_among reads s b q)
+birth_among (ValueOf v d ∷ reads) s b q = there (ValueOf v d) (BirthOf s b) reads (birth_among reads s b q)
 birth_among (BirthOf v d ∷ reads) s b q = elim (cases_eq v s) [
   | inl k ↦ let r : Some d ≡ Some b = rw (eq-eqb v s k) at q in let e : d ≡ b = cc in here (BirthOf v d) (BirthOf s b) reads (λ i. BirthOf (k i) (e i))
   | inr k ↦ there (BirthOf v d) (BirthOf s b) reads (birth_among reads s b (rw (ne_eqb v s k) at q))
@@ -71,15 +73,27 @@ pub key_among : (reads : List Read) (s b : ℕ) → key_in reads s ≡ Some b �
 key_among [] s b q = absurd (cc)
 key_among (LinkAt at link ∷ reads) s b q = there (LinkAt at link) (KeyOf s b) reads (key_among reads s b q)
 key_among (BirthOf v d ∷ reads) s b q = there (BirthOf v d) (KeyOf s b) reads (key_among reads s b q)
+key_among (ValueOf v d ∷ reads) s b q = there (ValueOf v d) (KeyOf s b) reads (key_among reads s b q)
 key_among (KeyOf v d ∷ reads) s b q = elim (cases_eq v s) [
   | inl k ↦ let r : Some d ≡ Some b = rw (eq-eqb v s k) at q in let e : d ≡ b = cc in here (KeyOf v d) (KeyOf s b) reads (λ i. KeyOf (k i) (e i))
   | inr k ↦ there (KeyOf v d) (KeyOf s b) reads (key_among reads s b (rw (ne_eqb v s k) at q))
+]
+
+pub value_among : (reads : List Read) (s b : ℕ) → value_in reads s ≡ Some b → Contains reads (ValueOf s b)
+value_among [] s b q = absurd (cc)
+value_among (LinkAt at link ∷ reads) s b q = there (LinkAt at link) (ValueOf s b) reads (value_among reads s b q)
+value_among (BirthOf v d ∷ reads) s b q = there (BirthOf v d) (ValueOf s b) reads (value_among reads s b q)
+value_among (KeyOf v d ∷ reads) s b q = there (KeyOf v d) (ValueOf s b) reads (value_among reads s b q)
+value_among (ValueOf v d ∷ reads) s b q = elim (cases_eq v s) [
+  | inl k ↦ let r : Some d ≡ Some b = rw (eq-eqb v s k) at q in let e : d ≡ b = cc in here (ValueOf v d) (ValueOf s b) reads (λ i. ValueOf (k i) (e i))
+  | inr k ↦ there (ValueOf v d) (ValueOf s b) reads (value_among reads s b (rw (ne_eqb v s k) at q))
 ]
 
 pub marked_among : (reads : List Read) (s : ℕ) (link : Link) → marked_in reads s ≡ Some link → Contains reads (LinkAt (Slot s) link) × (link.mark ≡ true)
 marked_among [] s link q = absurd (cc)
 marked_among (BirthOf v d ∷ reads) s link q = let x = marked_among reads s link q in (there (BirthOf v d) (LinkAt (Slot s) link) reads x.0, x.1)
 marked_among (KeyOf v d ∷ reads) s link q = let x = marked_among reads s link q in (there (KeyOf v d) (LinkAt (Slot s) link) reads x.0, x.1)
+marked_among (ValueOf v d ∷ reads) s link q = let x = marked_among reads s link q in (there (ValueOf v d) (LinkAt (Slot s) link) reads x.0, x.1)
 marked_among (LinkAt at seen ∷ reads) s link q = elim (cases_Bool (same_at at (Slot s) && seen.mark)) [
   | inl k ↦
       let u = and_parts (same_at at (Slot s)) seen.mark k in
@@ -98,6 +112,7 @@ pub holds_among : (reads : List Read) (s : ℕ) → holds reads s ≡ true → (
 holds_among [] s q = absurd (cc)
 holds_among (BirthOf v d ∷ reads) s q = let x = holds_among reads s q in (x.0, x.1, there (BirthOf v d) (LinkAt x.0 x.1) reads x.2, x.3)
 holds_among (KeyOf v d ∷ reads) s q = let x = holds_among reads s q in (x.0, x.1, there (KeyOf v d) (LinkAt x.0 x.1) reads x.2, x.3)
+holds_among (ValueOf v d ∷ reads) s q = let x = holds_among reads s q in (x.0, x.1, there (ValueOf v d) (LinkAt x.0 x.1) reads x.2, x.3)
 holds_among (LinkAt at link ∷ reads) s q = elim (cases_Bool (names link.slot s)) [
   | inl k ↦ (at, link, here (LinkAt at link) (LinkAt at link) reads refl, named link.slot s k)
   | inr k ↦ let x = holds_among reads s (rw k at q) in (x.0, x.1, there (LinkAt at link) (LinkAt x.0 x.1) reads x.2, x.3)
@@ -124,12 +139,14 @@ link_there (read ∷ reads) at link m = go read (first_or_later read (LinkAt at 
     go : (read : Read) → (read ≡ LinkAt at link) ⊎ Contains reads (LinkAt at link) → (Contains reads (LinkAt at link) → knows_link reads at link ≡ true) → knows_link (read ∷ reads) at link ≡ true
     go (BirthOf v d) (inl q) rest = absurd (cc)
     go (KeyOf v d) (inl q) rest = absurd (cc)
+    go (ValueOf v d) (inl q) rest = absurd (cc)
     go (LinkAt at2 seen) (inl q) rest =
         let e : at2 ≡ at = cc in
         let f : seen ≡ link = cc in
         rw (ap (λ x. same_at x at) e ∙ same_at_refl at, ap (λ x. same_link x link) f ∙ same_link_refl link) refl
     go (BirthOf v d) (inr n) rest = rest n
     go (KeyOf v d) (inr n) rest = rest n
+    go (ValueOf v d) (inr n) rest = rest n
     go (LinkAt at2 seen) (inr n) rest = found_more (same_at at2 at && same_link seen link) (knows_link reads at link) (rest n)
 
 pub birth_there : (reads : List Read) (s b : ℕ) → Contains reads (BirthOf s b) → IsSome (birth_in reads s)
@@ -139,9 +156,11 @@ birth_there (read ∷ reads) s b m = go read (first_or_later read (BirthOf s b) 
     go : (read : Read) → (read ≡ BirthOf s b) ⊎ Contains reads (BirthOf s b) → (Contains reads (BirthOf s b) → IsSome (birth_in reads s)) → IsSome (birth_in (read ∷ reads) s)
     go (LinkAt at link) (inl q) rest = absurd (cc)
     go (KeyOf v d) (inl q) rest = absurd (cc)
+    go (ValueOf v d) (inl q) rest = absurd (cc)
     go (BirthOf v d) (inl q) rest = let e : v ≡ s = cc in some_now (v == s) d (birth_in reads s) (eq-eqb v s e)
     go (LinkAt at link) (inr n) rest = rest n
     go (KeyOf v d) (inr n) rest = rest n
+    go (ValueOf v d) (inr n) rest = rest n
     go (BirthOf v d) (inr n) rest = some_more (v == s) d (birth_in reads s) (rest n)
 
 pub key_there : (reads : List Read) (s b : ℕ) → Contains reads (KeyOf s b) → IsSome (key_in reads s)
@@ -151,10 +170,26 @@ key_there (read ∷ reads) s b m = go read (first_or_later read (KeyOf s b) read
     go : (read : Read) → (read ≡ KeyOf s b) ⊎ Contains reads (KeyOf s b) → (Contains reads (KeyOf s b) → IsSome (key_in reads s)) → IsSome (key_in (read ∷ reads) s)
     go (LinkAt at link) (inl q) rest = absurd (cc)
     go (BirthOf v d) (inl q) rest = absurd (cc)
+    go (ValueOf v d) (inl q) rest = absurd (cc)
     go (KeyOf v d) (inl q) rest = let e : v ≡ s = cc in some_now (v == s) d (key_in reads s) (eq-eqb v s e)
     go (LinkAt at link) (inr n) rest = rest n
     go (BirthOf v d) (inr n) rest = rest n
+    go (ValueOf v d) (inr n) rest = rest n
     go (KeyOf v d) (inr n) rest = some_more (v == s) d (key_in reads s) (rest n)
+
+pub value_there : (reads : List Read) (s b : ℕ) → Contains reads (ValueOf s b) → IsSome (value_in reads s)
+value_there [] s b m = absurd (none_in (ValueOf s b) m)
+value_there (read ∷ reads) s b m = go read (first_or_later read (ValueOf s b) reads m) (λ n. value_there reads s b n)
+  where
+    go : (read : Read) → (read ≡ ValueOf s b) ⊎ Contains reads (ValueOf s b) → (Contains reads (ValueOf s b) → IsSome (value_in reads s)) → IsSome (value_in (read ∷ reads) s)
+    go (LinkAt at link) (inl q) rest = absurd (cc)
+    go (BirthOf v d) (inl q) rest = absurd (cc)
+    go (KeyOf v d) (inl q) rest = absurd (cc)
+    go (ValueOf v d) (inl q) rest = let e : v ≡ s = cc in some_now (v == s) d (value_in reads s) (eq-eqb v s e)
+    go (LinkAt at link) (inr n) rest = rest n
+    go (BirthOf v d) (inr n) rest = rest n
+    go (KeyOf v d) (inr n) rest = rest n
+    go (ValueOf v d) (inr n) rest = some_more (v == s) d (value_in reads s) (rest n)
 
 pub marked_there : (reads : List Read) (s : ℕ) (link : Link) → Contains reads (LinkAt (Slot s) link) → link.mark ≡ true → IsSome (marked_in reads s)
 marked_there [] s link m t = absurd (none_in (LinkAt (Slot s) link) m)
@@ -163,12 +198,14 @@ marked_there (read ∷ reads) s link m t = go read (first_or_later read (LinkAt 
     go : (read : Read) → (read ≡ LinkAt (Slot s) link) ⊎ Contains reads (LinkAt (Slot s) link) → (Contains reads (LinkAt (Slot s) link) → IsSome (marked_in reads s)) → IsSome (marked_in (read ∷ reads) s)
     go (BirthOf v d) (inl q) rest = absurd (cc)
     go (KeyOf v d) (inl q) rest = absurd (cc)
+    go (ValueOf v d) (inl q) rest = absurd (cc)
     go (LinkAt at seen) (inl q) rest =
         let e : at ≡ Slot s = cc in
         let f : seen ≡ link = cc in
         some_now (same_at at (Slot s) && seen.mark) seen (marked_in reads s) (rw (ap (λ x. same_at x (Slot s)) e ∙ same_at_refl (Slot s), ap (λ (l : Link). l.mark) f ∙ t) refl)
     go (BirthOf v d) (inr n) rest = rest n
     go (KeyOf v d) (inr n) rest = rest n
+    go (ValueOf v d) (inr n) rest = rest n
     go (LinkAt at seen) (inr n) rest = some_more (same_at at (Slot s) && seen.mark) seen (marked_in reads s) (rest n)
 
 pub holds_there : (reads : List Read) (s : ℕ) (at : At) (link : Link) → Contains reads (LinkAt at link) → link.slot ≡ Some s → holds reads s ≡ true
@@ -178,7 +215,9 @@ holds_there (read ∷ reads) s at link m t = go read (first_or_later read (LinkA
     go : (read : Read) → (read ≡ LinkAt at link) ⊎ Contains reads (LinkAt at link) → (Contains reads (LinkAt at link) → holds reads s ≡ true) → holds (read ∷ reads) s ≡ true
     go (BirthOf v d) (inl q) rest = absurd (cc)
     go (KeyOf v d) (inl q) rest = absurd (cc)
+    go (ValueOf v d) (inl q) rest = absurd (cc)
     go (LinkAt at2 seen) (inl q) rest = let f : seen ≡ link = cc in rw (ap (λ (l : Link). names l.slot s) f ∙ ap (λ v. names v s) t ∙ eq-eqb s s refl) refl
     go (BirthOf v d) (inr n) rest = rest n
     go (KeyOf v d) (inr n) rest = rest n
+    go (ValueOf v d) (inr n) rest = rest n
     go (LinkAt at2 seen) (inr n) rest = found_more (names seen.slot s) (holds reads s) (rest n)

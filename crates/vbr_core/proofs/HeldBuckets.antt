@@ -18,7 +18,7 @@ use Rattle.vbr_core.specs.Agreement.{IsHeldIncarnation, IsHeldAt, IsHeldNext, Is
 use Rattle.vbr_core.specs.declared.event.Step.{Step}
 use Rattle.vbr_core.specs.declared.event.Step.TheVariants.{ReadEpoch, Publish, Mark, Unlink}
 use Rattle.vbr_core.specs.declared.knowledge.Read.{Read}
-use Rattle.vbr_core.specs.declared.knowledge.Read.TheVariants.{LinkAt, BirthOf, KeyOf}
+use Rattle.vbr_core.specs.declared.knowledge.Read.TheVariants.{LinkAt, BirthOf, KeyOf, ValueOf}
 use Rattle.vbr_core.proofs.Slots.{late_inserted, listed_late}
 use Rattle.vbr_core.proofs.Growth.{inserted_stays}
 use Rattle.vbr_core.proofs.Noted.{all_both}
@@ -51,6 +51,7 @@ pub record AreOrdered (shape : Dimensions) (a : Incarnations) (notes : Notes) : 
 read_stays : (shape : Dimensions) {a b : Incarnations} → Grows a b → (read : Read) (of names : Option ℕ) → IsOrderedRead shape a read of names → IsOrderedRead shape b read of names
 read_stays shape g (BirthOf s birth) of names h = tt
 read_stays shape g (KeyOf s key) of names h = tt
+read_stays shape g (ValueOf s key) of names h = tt
 read_stays shape g (LinkAt (Head t) link) None None h = tt
 read_stays shape g (LinkAt (Head t) link) (Some c) None h = tt
 read_stays shape g (LinkAt (Head t) link) None (Some n) h = (inserted_stays g n h.0, ap (bucket_of shape) (g.key n h.0) ∙ h.1)
@@ -77,6 +78,7 @@ ordered_on {shape} g notes o = record { pending = notes_stay shape g notes.pendi
 ordered_note : {shape : Dimensions} {a : Incarnations} → Sound shape a → (read : Read) → IsOrdered shape a (note_of a read)
 ordered_note s (BirthOf v birth) = tt
 ordered_note s (KeyOf v key) = tt
+ordered_note s (ValueOf v key) = tt
 ordered_note {shape} {a} s (LinkAt (Head b) link) = go (a.first b) refl
   where
     go : (n : Option ℕ) → a.first b ≡ n → FollowsInOrder shape a (Head b) None n

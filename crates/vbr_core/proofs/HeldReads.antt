@@ -14,7 +14,7 @@ use Rattle.vbr_core.specs.Sound.{IsListed, IsPassed, TimesFit, StampFits, Sound,
 use Rattle.vbr_core.specs.Notes.{Note}
 use Rattle.vbr_core.specs.Agreement.{IsHeldIncarnation, IsHeldAt, IsHeldNext, IsFrozen, IsGoodLink, IsPair, IsLastOf, IsGoodRead, IsGood}
 use Rattle.vbr_core.specs.declared.knowledge.Read.{Read}
-use Rattle.vbr_core.specs.declared.knowledge.Read.TheVariants.{LinkAt, BirthOf, KeyOf}
+use Rattle.vbr_core.specs.declared.knowledge.Read.TheVariants.{LinkAt, BirthOf, KeyOf, ValueOf}
 use Rattle.vbr_core.proofs.Slots.{late_inserted, late_born, one_late, late_last, listed_late, listed_last, shows}
 use Rattle.vbr_core.proofs.Lists.{next_listed}
 
@@ -116,8 +116,10 @@ stays_good_read : {shape : Dimensions} {a b : Incarnations} → Sound shape a �
 stays_good_read s g e le (LinkAt at link) of names h = stays_good_link s g e le at link of names h
 stays_good_read s g e le (BirthOf v b) None names h = absurd h
 stays_good_read s g e le (KeyOf v b) None names h = absurd h
+stays_good_read s g e le (ValueOf v b) None names h = absurd h
 stays_good_read s g e le (BirthOf v b) (Some c) names h = (stays_held s g e v c le h.0, g.birth c (late_born s.slots c e h.0.late) ∙ h.1)
 stays_good_read {shape} {a} s g e le (KeyOf v b) (Some c) names h = (stays_held s g e v c le h.0, g.key c (late_inserted (a.state c) e h.0.late) ∙ h.1)
+stays_good_read {shape} {a} s g e le (ValueOf v b) (Some c) names h = (stays_held s g e v c le h.0, g.value c (late_inserted (a.state c) e h.0.late) ∙ h.1)
 
 -- good notes stay good as the chronicle goes on
 pub stays_good : {shape : Dimensions} {a b : Incarnations} → Sound shape a → Grows a b → (e : ℕ) → e ≤ a.epoch → (notes : List Note) → AllByRecursion (IsGood a e) notes → AllByRecursion (IsGood b e) notes

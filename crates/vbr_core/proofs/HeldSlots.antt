@@ -12,18 +12,20 @@ use Rattle.vbr_words.specs.declared.place.At.TheVariants.{Head, Slot}
 use Rattle.vbr_core.specs.Links.{same_link}
 use Rattle.vbr_core.specs.Knowledge.{Know, same_at, knows_link, names, holds, holds_at}
 use Rattle.vbr_core.specs.Acceptance.{Accepts}
-use Rattle.vbr_core.specs.Learning.{read_epoch, with_pending, with_checked, reads_won, learn}
+use Rattle.vbr_core.specs.Learning.{read_epoch, with_pending, with_checked, reads_won, learn, value_in_hand}
 use Rattle.vbr_core.specs.declared.event.Step.{Step}
-use Rattle.vbr_core.specs.declared.event.Step.TheVariants.{ReadEpoch, Advance, LoadStamp, StoreStamp, Raise, TakeFlag, StoreBirth, StoreKey, StoreLink, LoadLink, LoadBirth, LoadKey, Publish, Mark, Unlink, ConfirmPresent, ConfirmAbsent}
+use Rattle.vbr_core.specs.declared.event.Step.TheVariants.{ReadEpoch, Advance, LoadStamp, StoreStamp, Raise, TakeFlag, StoreBirth, StoreKey, StoreLink, LoadLink, LoadBirth, LoadKey, Publish, Mark, Unlink, ConfirmPresent, ConfirmAbsent, StoreValue, LoadValue}
 use Rattle.vbr_core.specs.declared.knowledge.Read.{Read}
-use Rattle.vbr_core.specs.declared.knowledge.Read.TheVariants.{LinkAt, BirthOf, KeyOf}
+use Rattle.vbr_core.specs.declared.knowledge.Read.TheVariants.{LinkAt, BirthOf, KeyOf, ValueOf}
 use Rattle.vbr_core.proofs.Searches.{same_at_true}
+use Rattle.vbr_core.proofs.ValueReads.{of_value}
 
 -- the place that a read is of is held
 abbrev pub IsOfHeldPlace : List Read → Read → Type 0
 IsOfHeldPlace checked (LinkAt at link) = IsTrue (holds_at checked at)
 IsOfHeldPlace checked (BirthOf s birth) = IsTrue (holds checked s)
 IsOfHeldPlace checked (KeyOf s key) = IsTrue (holds checked s)
+IsOfHeldPlace checked (ValueOf s key) = IsTrue (holds checked s)
 
 -- all reads of a pass are of places that it holds
 pub record ReadsHeldPlaces (know : Know) : Type 0 where
@@ -36,6 +38,7 @@ held_more : (xs ys : List Read) (s : ℕ) → holds xs s ≡ true → holds (xs 
 held_more [] ys s h = absurd (cc)
 held_more (BirthOf v b ∷ xs) ys s h = held_more xs ys s h
 held_more (KeyOf v b ∷ xs) ys s h = held_more xs ys s h
+held_more (ValueOf v b ∷ xs) ys s h = held_more xs ys s h
 held_more (LinkAt at link ∷ xs) ys s h = elim (cases_Bool (names link.slot s)) [
   | inl k ↦ rw k refl
   | inr k ↦ let r : holds xs s ≡ true = rw k at h in rw k (held_more xs ys s r)
@@ -45,6 +48,7 @@ held_later : (xs ys : List Read) (s : ℕ) → holds ys s ≡ true → holds (xs
 held_later [] ys s h = h
 held_later (BirthOf v b ∷ xs) ys s h = held_later xs ys s h
 held_later (KeyOf v b ∷ xs) ys s h = held_later xs ys s h
+held_later (ValueOf v b ∷ xs) ys s h = held_later xs ys s h
 held_later (LinkAt at link ∷ xs) ys s h = elim (cases_Bool (names link.slot s)) [
   | inl k ↦ rw k refl
   | inr k ↦ rw k (held_later xs ys s h)
@@ -58,6 +62,7 @@ of_held_more : (xs ys : List Read) (read : Read) → IsOfHeldPlace xs read → I
 of_held_more xs ys (LinkAt at link) h = held_at_more xs ys at h
 of_held_more xs ys (BirthOf s birth) h = held_more xs ys s h
 of_held_more xs ys (KeyOf s key) h = held_more xs ys s h
+of_held_more xs ys (ValueOf s key) h = held_more xs ys s h
 
 all_more : (xs ys reads : List Read) → AllByRecursion (IsOfHeldPlace xs) reads → AllByRecursion (IsOfHeldPlace (xs ++ ys)) reads
 all_more xs ys [] h = tt
@@ -93,6 +98,7 @@ pub link_held : (held reads : List Read) (at : At) (link : Link) → AllByRecurs
 link_held held [] at link r h = absurd (cc)
 link_held held (BirthOf v b ∷ reads) at link r h = link_held held reads at link r.1 h
 link_held held (KeyOf v b ∷ reads) at link r h = link_held held reads at link r.1 h
+link_held held (ValueOf v b ∷ reads) at link r h = link_held held reads at link r.1 h
 link_held held (LinkAt here seen ∷ reads) at link r h = elim (cases_Bool (same_at here at && same_link seen link)) [
   | inl k ↦ let u = and_parts (same_at here at) (same_link seen link) k in rw (← same_at_true here at u.0) r.0
   | inr k ↦ link_held held reads at link r.1 (rw k at h)
@@ -113,15 +119,17 @@ held_learned shape know (TakeFlag s) found stamp r ok = elim (cases_Bool (has_fl
 ]
 held_learned shape know (StoreBirth s birth) found stamp r ok = record { checked = r.checked; pending = r.pending }
 held_learned shape know (StoreKey s key) found stamp r ok = record { checked = r.checked; pending = r.pending }
+held_learned shape know (StoreValue s value) found stamp r ok = record { checked = r.checked; pending = r.pending }
 held_learned shape know (StoreLink s next) found stamp r ok = record { checked = r.checked; pending = r.pending }
 held_learned shape know (LoadLink at) found stamp r ok = pending_more know (LinkAt at (link_of found)) r ok.held
 held_learned shape know (LoadBirth s) found stamp r ok = pending_more know (BirthOf s found) r ok.held
 held_learned shape know (LoadKey s) found stamp r ok = pending_more know (KeyOf s found) r ok.held
+held_learned shape know (LoadValue s) found stamp r ok = pending_more know (ValueOf s found) r ok.held
 held_learned shape know (Publish pred expected s) found stamp r ok = elim (cases_Bool (found == expected)) [
   | inl k ↦
       let reads = reads_won know (Publish pred expected s) in
       let new : holds (know.checked ++ reads) s ≡ true = held_later know.checked reads s (rw (eq-eqb s s refl) refl) in
-      let more = checked_more know reads r (held_at_more know.checked reads pred (link_held know.checked know.checked pred (link_of expected) r.checked ok.held.0), (new, (new, (new, tt)))) in
+      let more = checked_more know reads r (held_at_more know.checked reads pred (link_held know.checked know.checked pred (link_of expected) r.checked ok.held.0), (new, (new, (new, of_value (IsOfHeldPlace (know.checked ++ reads)) s (value_in_hand (know.own s)) (λ x _. new))))) in
       rw k (record { checked = more.checked; pending = more.pending })
   | inr k ↦ rw k r
 ]

@@ -17,7 +17,7 @@ use Rattle.vbr_core.specs.Acceptance.{MayPublish, next_of_marked}
 use Rattle.vbr_core.specs.Learning.{link_in_hand, reread, read_epoch, with_own}
 use Rattle.vbr_core.specs.Kept.{KeptPass, know_of, FitsRead, FitsHolding}
 use Rattle.vbr_core.specs.declared.knowledge.Read.{Read}
-use Rattle.vbr_core.specs.declared.knowledge.Read.TheVariants.{LinkAt, BirthOf, KeyOf}
+use Rattle.vbr_core.specs.declared.knowledge.Read.TheVariants.{LinkAt, BirthOf, KeyOf, ValueOf}
 use Rattle.vbr_core.specs.declared.knowledge.Holding.{Holding}
 use Rattle.vbr_core.specs.declared.knowledge.Holding.TheVariants.{Free, Unlinked, InHand}
 
@@ -55,13 +55,14 @@ pub fits-reread : (holding : Option Holding) → FitsHolding holding → FitsHol
 fits-reread None fits = tt
 fits-reread (Some (Free stamp)) fits = tt
 fits-reread (Some (Unlinked seen)) fits = tt
-fits-reread (Some (InHand stamp birth key link)) fits = fits
+fits-reread (Some (InHand stamp birth key value link)) fits = fits
 
 -- a birth that is read has room
 pub birth_in-fits : (reads : List Read) (s : ℕ) → AllByRecursion FitsRead reads → unwrap_or (birth_in reads s) 0 ≤ MAX_EPOCH
 birth_in-fits [] s fits = omega arith
 birth_in-fits (LinkAt at link ∷ reads) s fits = birth_in-fits reads s fits.1
 birth_in-fits (KeyOf slot key ∷ reads) s fits = birth_in-fits reads s fits.1
+birth_in-fits (ValueOf slot key ∷ reads) s fits = birth_in-fits reads s fits.1
 birth_in-fits (BirthOf slot birth ∷ reads) s fits = elim (cases_eq slot s) [
   | inl e ↦ rw (eq-eqb slot s e) fits.0
   | inr ne ↦ rw (ne_eqb slot s ne) (birth_in-fits reads s fits.1)
@@ -87,11 +88,12 @@ pub next-fits : (reads : List Read) (s : ℕ) → AllByRecursion FitsRead reads 
 next-fits [] s fits = tt
 next-fits (BirthOf slot birth ∷ reads) s fits = next-fits reads s fits.1
 next-fits (KeyOf slot key ∷ reads) s fits = next-fits reads s fits.1
+next-fits (ValueOf slot key ∷ reads) s fits = next-fits reads s fits.1
 next-fits (LinkAt at link ∷ reads) s fits = next_of-if (same_at at (Slot s) && link.mark) link (marked_in reads s) fits.0 (next-fits reads s fits.1)
 
 -- a link in hand that is ready has room
 pub ready-fits : (shape : Dimensions) (reads : List Read) (pred : At) (expected : Link) (holding : Option Holding) → AllByRecursion FitsRead reads → FitsHolding holding → IsLink expected → MayPublish shape reads pred expected holding → IsLink (link_in_hand holding)
-ready-fits shape reads pred expected (Some (InHand stamp birth (Some key) (Some link))) all fits is ready = let named = birth_of-fits reads expected.slot all in rw ready.0 (record { slot = is.slot; version = omega (arith, named, fits) })
+ready-fits shape reads pred expected (Some (InHand stamp birth (Some key) value (Some link))) all fits is ready = let named = birth_of-fits reads expected.slot all in rw ready.0 (record { slot = is.slot; version = omega (arith, named, fits) })
 ready-fits shape reads pred expected holding all fits is ready = absurd ready
 
 -- ---- the epoch is read

@@ -1,10 +1,11 @@
 -- What the lists that a program keeps stand for, at opening and after one entry is set.
-use Rattle.std.proofs.Common.{◌≡◌, ℕ, ◌<◌, ◌≤◌, List, [], length, get_or, set, replicate, None, ◌⊎◌, inl, inr, refl, sym, ap, ◌∙◌, arith}
+use Rattle.std.proofs.Common.{◌≡◌, ℕ, zero, suc, ◌<◌, ◌≤◌, List, [], ◌∷◌, length, get_or, set, replicate, None, ◌⊎◌, inl, inr, refl, sym, ap, ◌∙◌, arith}
 use Rattle.std.proofs.lemmas.Bool.{cases_lt}
 use Rattle.std.proofs.lemmas.List.{get_or_read, get_or_past}
 use Rattle.std.specs.List.{AllByRecursion}
 use Rattle.vbr_words.specs.Words.{word_of, link_of}
 use Rattle.vbr_words.specs.declared.link.TheConstants.{MARK}
+use Rattle.vbr_words.specs.declared.shape.TheConstants.{MAX_EPOCH}
 use Rattle.vbr_words.proofs.Lemmas.{word_of-link_of}
 use Rattle.vbr_words.specs.declared.link.Link.{Link}
 use Rattle.vbr_words.specs.declared.place.At.{At}
@@ -37,11 +38,21 @@ know_opened slots passes new = λ k p. at p (cases_lt p (length passes)) k
     at p (inl lt) = (all_at (λ pass. (know_of pass ≡ knows_nothing) × (length pass.own ≡ slots)) passes p opening_pass new lt).0
     at p (inr ge) = rw (get_or_past passes p opening_pass ge) refl
 
+-- births that are 0 have room in words
+pub births_fit : (n : ℕ) → AllByRecursion (λ birth. birth ≤ MAX_EPOCH) (replicate n 0)
+births_fit zero = tt
+births_fit (suc n) = (omega arith, births_fit n)
+
+-- passes that know nothing have so many slots
+pub slots_known : (n slots : ℕ) (passes : List KeptPass) → n ≡ slots → AllByRecursion (λ pass. (know_of pass ≡ knows_nothing) × (length pass.own ≡ n)) passes → AllByRecursion (λ pass. length pass.own ≡ slots) passes
+slots_known n slots [] e new = tt
+slots_known n slots (pass ∷ passes) e new = (new.0.1 ∙ e, slots_known n slots passes e new.1)
+
 -- the lists of an empty set stand for the world at opening where no key is linked yet
-pub opened : (kept : KeptWorld) (buckets slots own : ℕ) → kept.epoch ≡ 1 → kept.heads ≡ replicate buckets 0 → kept.links ≡ replicate slots MARK → kept.birth ≡ replicate slots 0 → kept.stamps ≡ replicate slots 0 → kept.keys ≡ replicate slots 0 → kept.places ≡ replicate slots Shared → AllByRecursion (λ pass. (know_of pass ≡ knows_nothing) × (length pass.own ≡ own)) kept.passes → kept.births ≡ 0 → kept.calls ≡ [] → world_of kept ≡ opening_from kept.shape (key_count kept.shape)
+pub opened : (kept : KeptWorld) (buckets slots own : ℕ) → kept.epoch ≡ 1 → kept.heads ≡ replicate buckets 0 → kept.links ≡ replicate slots MARK → kept.birth ≡ replicate slots 0 → kept.stamps ≡ replicate slots 0 → kept.keys ≡ replicate slots 0 → kept.values ≡ replicate slots 0 → kept.places ≡ replicate slots Shared → AllByRecursion (λ pass. (know_of pass ≡ knows_nothing) × (length pass.own ≡ own)) kept.passes → kept.births ≡ 0 → kept.calls ≡ [] → world_of kept ≡ opening_from kept.shape (key_count kept.shape)
 unfolding link_of
-opened kept buckets slots own epoch heads links birth stamps keys places new births calls =
-    ap world_of (λ i. record kept { epoch = epoch i; heads = heads i; links = links i; birth = birth i; stamps = stamps i; keys = keys i; places = places i; births = births i; calls = calls i })
+opened kept buckets slots own epoch heads links birth stamps keys values places new births calls =
+    ap world_of (λ i. record kept { epoch = epoch i; heads = heads i; links = links i; birth = birth i; stamps = stamps i; keys = keys i; values = values i; places = places i; births = births i; calls = calls i })
     ∙ (λ i. record {
       epoch = 1;
       head = read_replicate link_of buckets 0 0 (link_to None 0 0) refl refl i;
@@ -49,6 +60,7 @@ opened kept buckets slots own epoch heads links birth stamps keys places new bir
       birth = read_replicate (λ n. n) slots 0 0 0 refl refl i;
       stamp = read_replicate (λ n. n) slots 0 0 0 refl refl i;
       key = read_replicate (λ n. n) slots 0 0 0 refl refl i;
+      value = read_replicate (λ n. n) slots 0 0 0 refl refl i;
       place = read_replicate (λ (place : SlotPlace). place) slots Shared Shared Shared refl refl i;
       know = know_opened own kept.passes new i;
       births = 0;

@@ -1,33 +1,35 @@
 -- Acceptance by membership and acceptance by searches say the same of what a pass knows along a run, and both write the same link.
-use Rattle.std.proofs.Common.{◌≡◌, ℕ, ◌<◌, true, List, Option, Some, None, refl, arith, sym, subst, ap, ◌∙◌}
-use Rattle.std.specs.Prelude.{IsSome, unwrap_or}
+use Rattle.std.proofs.Common.{◌≡◌, ℕ, ◌<◌, Bool, true, false, List, Option, Some, None, refl, arith, sym, subst, ap, ◌∙◌}
+use Rattle.std.specs.Prelude.{IsSome, unwrap_or, if◌then◌else◌}
 use Rattle.vbr_words.specs.Dimensions.{Dimensions}
 use Rattle.vbr_words.specs.Words.{link_of}
 use Rattle.vbr_words.specs.declared.link.Link.{Link}
 use Rattle.vbr_words.specs.declared.place.At.{At}
 use Rattle.vbr_words.specs.declared.place.At.TheVariants.{Head, Slot}
 use Rattle.vbr_core.specs.Links.{link_to}
-use Rattle.vbr_core.specs.Knowledge.{Know, knows_link, birth_in, key_in, marked_in, holds, holds_at, birth_at, birth_of}
 use Rattle.vbr_words.specs.Buckets.{bucket_of}
-use Rattle.vbr_core.specs.Acceptance.{KnowsKeyAt, KnowsKeyOf, after_turns, LeadsToKey, next_of_marked, HasChecked, IsBehind, IsBefore, LeadsAbove, MayPublish, IsInRange, Accepts}
-use Rattle.vbr_core.specs.Learning.{link_written, call_of, present_reply, birth_in_hand}
-use Rattle.vbr_core.specs.Membership.{Knows, IsHeldSlot, IsHeldPlace, BirthAt, BirthNamed, StandsBehind, StandsBefore, StandsBeforeOn, IsUnlinkLink, WritesLink, IsKnown, MayPublishKnown, IsInRangeKnown, AcceptsKnown}
+use Rattle.vbr_core.specs.Opened.{kept}
+use Rattle.vbr_core.specs.Knowledge.{Know, knows_link, birth_in, key_in, value_in, marked_in, holds, holds_at, birth_at, birth_of}
+use Rattle.vbr_core.specs.Acceptance.{KnowsKeyAt, KnowsKeyOf, after_turns, LeadsToKey, next_of_marked, HasValue, HasValueFor, HasChecked, IsBehind, IsBefore, LeadsAbove, MayPublish, IsInRange, Accepts}
+use Rattle.vbr_core.specs.Learning.{link_written, call_of, present_reply, present_value, birth_in_hand}
+use Rattle.vbr_core.specs.Membership.{Knows, IsHeldSlot, IsHeldPlace, BirthAt, BirthNamed, StandsBehind, StandsBefore, StandsBeforeOn, IsUnlinkLink, WritesLink, KnowsValue, KnowsValueFor, IsKnown, MayPublishKnown, IsInRangeKnown, AcceptsKnown}
 use Rattle.vbr_core.specs.Incarnations.{Incarnations}
 use Rattle.vbr_core.specs.Sound.{Sound}
 use Rattle.vbr_core.specs.Notes.{Notes}
 use Rattle.vbr_core.specs.Agreement.{IsNoted, Fits}
 use Rattle.vbr_core.specs.declared.history.Op.{Op}
-use Rattle.vbr_core.specs.declared.history.Op.TheVariants.{Remove}
+use Rattle.vbr_core.specs.declared.history.Op.TheVariants.{Insert, Remove, Has, Get}
 use Rattle.vbr_core.specs.declared.event.Step.{Step}
-use Rattle.vbr_core.specs.declared.event.Step.TheVariants.{StoreLink, LoadLink, LoadBirth, LoadKey, Publish, Mark, Unlink, ConfirmPresent, ConfirmAbsent}
-use Rattle.vbr_core.specs.declared.knowledge.Read.TheVariants.{LinkAt, BirthOf, KeyOf}
+use Rattle.vbr_core.specs.declared.event.Step.TheVariants.{StoreLink, LoadLink, LoadBirth, LoadKey, LoadValue, Publish, Mark, Unlink, ConfirmPresent, ConfirmAbsent}
+use Rattle.vbr_core.specs.declared.knowledge.Read.TheVariants.{LinkAt, BirthOf, KeyOf, ValueOf}
 use Rattle.vbr_core.specs.declared.knowledge.Holding.{Holding}
 use Rattle.vbr_core.specs.declared.knowledge.Holding.TheVariants.{Free, Unlinked, InHand}
 use Rattle.vbr_core.specs.declared.knowledge.Read.{Read}
 use Rattle.vbr_core.proofs.MarkedWalks.{walk_led, led_walk}
-use Rattle.vbr_core.proofs.Searches.{birth_is, key_is}
-use Rattle.vbr_core.proofs.FoundReads.{link_among, birth_among, marked_among, holds_among, link_there, birth_there, key_there, marked_there, holds_there}
-use Rattle.vbr_core.proofs.KnownReads.{key_known, behind_known, before_known, birth_held, key_held, one_mark}
+use Rattle.vbr_core.proofs.Searches.{birth_is, key_is, value_is}
+use Rattle.vbr_core.proofs.FoundReads.{link_among, birth_among, marked_among, holds_among, link_there, birth_there, key_there, value_there, marked_there, holds_there}
+use Rattle.vbr_core.proofs.KnownReads.{key_known, value_known, behind_known, before_known, birth_held, key_held, value_held, one_mark}
+use Rattle.vbr_core.proofs.ValueReads.{some_value}
 
 -- ---- what is looked up is known
 
@@ -77,16 +79,27 @@ unlink_known know pred expected s m b n =
       is = ap (λ v. link_to v (unwrap_or (birth_at know.checked pred) 0) (unwrap_or (birth_of know.checked v) 0)) e;
     }
 
-held_known : (shape : Dimensions) (know : Know) (step : Step) → HasChecked shape know step → IsKnown know step
+values_known : (t : Bool) (know : Know) (s : ℕ) → HasValue t (value_in know.checked s) → KnowsValue t know s
+values_known true know s h = (unwrap_or (value_in know.checked s) 0, value_known know s h)
+values_known false know s h = tt
+
+value_known_for : (op : Op) (know : Know) (s : ℕ) → HasValueFor op (value_in know.checked s) → KnowsValueFor op know s
+value_known_for Insert know s h = tt
+value_known_for Remove know s h = tt
+value_known_for Has know s h = tt
+value_known_for Get know s h = (unwrap_or (value_in know.checked s) 0, value_known know s h)
+
+held_known : (shape : Dimensions) (know : Know) (step : Step) → HasChecked shape know step → IsKnown shape know step
 held_known shape know (StoreLink s None) h = tt
 held_known shape know (StoreLink s (Some n)) h = (slot_known know n h.0, (unwrap_or (birth_in know.checked n) 0, birth_known know n h.1))
 held_known shape know (LoadLink at) h = place_known know at h
 held_known shape know (LoadBirth s) h = slot_known know s h
 held_known shape know (LoadKey s) h = slot_known know s h
+held_known shape know (LoadValue s) h = slot_known know s h
 held_known shape know (Publish pred expected s) h = (link_known know pred (link_of expected) h.0, (unwrap_or (birth_at know.checked pred) 0, birth_at_known know pred h.1.0))
-held_known shape know (Mark s expected) h = (link_known know (Slot s) (link_of expected) h.0, (unwrap_or (key_in know.checked s) 0, key_known know s h.1))
+held_known shape know (Mark s expected) h = (link_known know (Slot s) (link_of expected) h.0, (unwrap_or (key_in know.checked s) 0, key_known know s h.1), values_known shape.values know s h.2)
 held_known shape know (Unlink pred expected s) h = (link_known know pred (link_of expected) h.0, (link_written know (Unlink pred expected s), unlink_known know pred expected s h.1 h.2 h.3))
-held_known shape know (ConfirmPresent op s expected) h = (link_known know (Slot s) (link_of expected) h.0, (unwrap_or (key_in know.checked s) 0, key_known know s h.1))
+held_known shape know (ConfirmPresent op s expected) h = (link_known know (Slot s) (link_of expected) h.0, (unwrap_or (key_in know.checked s) 0, key_known know s h.1), value_known_for op know s h.2)
 held_known shape know (ConfirmAbsent op key at expected) h = link_known know at (link_of expected) h.0
 held_known shape know step h = tt
 
@@ -94,12 +107,13 @@ ready_known : (shape : Dimensions) (know : Know) (pred : At) (expected : Link) (
 ready_known shape know pred expected None k n b r = absurd r
 ready_known shape know pred expected (Some (Free stamp)) k n b r = absurd r
 ready_known shape know pred expected (Some (Unlinked reread)) k n b r = absurd r
-ready_known shape know pred expected (Some (InHand stamp birth None link)) k n b r = absurd r
-ready_known shape know pred expected (Some (InHand stamp birth (Some key) None)) k n b r = absurd r
-ready_known shape know pred expected (Some (InHand stamp birth (Some key) (Some link))) k n b r = (
+ready_known shape know pred expected (Some (InHand stamp birth None value link)) k n b r = absurd r
+ready_known shape know pred expected (Some (InHand stamp birth (Some key) value None)) k n b r = absurd r
+ready_known shape know pred expected (Some (InHand stamp birth (Some key) value (Some link))) k n b r = (
   (unwrap_or (birth_of know.checked expected.slot) 0, birth_named_known know expected.slot b, r.0),
   behind_known know shape pred key k r.1,
   before_known know key expected.slot n r.2,
+  r.3,
 )
 
 -- a key that stands before a slot by a search stands before a checked key of it
@@ -135,6 +149,13 @@ module _ {shape : Dimensions} {a : Incarnations} {know : Know} {notes : Notes} (
   key_looked_up s key k =
       let x = key_held noted s key k in
       key_is sound.slots know.epoch notes.checked know.checked s x.0 noted.checked_reads noted.checked x.1 (key_there know.checked s key k.among) ∙ x.2
+
+  -- and so does a search of a value
+  pub value_looked_up : (s value : ℕ) → Knows know (ValueOf s value) → value_in know.checked s ≡ Some value
+  value_looked_up s value k =
+      let x = value_held noted s value k in
+      let there = value_there know.checked s value k.among in
+      some_value (value_in know.checked s) value there (value_is sound.slots know.epoch notes.checked know.checked s x.0 noted.checked_reads noted.checked x.1 there ∙ x.2)
 
   pub birth_looked_up : (s birth : ℕ) → Knows know (BirthOf s birth) → unwrap_or (birth_in know.checked s) 0 ≡ birth
   birth_looked_up s birth k =
@@ -175,12 +196,22 @@ module _ {shape : Dimensions} {a : Incarnations} {know : Know} {notes : Notes} (
       (λ i. link_to (e i) (birth_at_is pred h.birth h.birth_known i) (n i)) ∙ sym h.is
   written_is step new h = absurd h
 
-  -- the calls of a mark and of a confirming load of a slot are of any known key
-  pub marked_call_is : (p s expected key : ℕ) → Knows know (KeyOf s key) → call_of p know (Mark s expected) ≡ Some (record { who = p; op = Remove; key = key; reply = true })
-  marked_call_is p s expected key k = ap (λ key. Some (record { who = p; op = Remove; key = key; reply = true })) (key_looked_up s key k)
+  -- the calls of a mark and of a confirming load of a slot are of any known key, and of any known value
+  values_kept : (t : Bool) (s value : ℕ) → (t ≡ true → Knows know (ValueOf s value)) → (if t then value_in know.checked s else None) ≡ (if t then Some value else None)
+  values_kept true s value k = value_looked_up s value (k refl)
+  values_kept false s value k = refl
 
-  pub confirmed_call_is : (p : ℕ) (op : Op) (s expected key : ℕ) → Knows know (KeyOf s key) → call_of p know (ConfirmPresent op s expected) ≡ Some (record { who = p; op = op; key = key; reply = present_reply op })
-  confirmed_call_is p op s expected key k = ap (λ key. Some (record { who = p; op = op; key = key; reply = present_reply op })) (key_looked_up s key k)
+  value_told : (op : Op) (s value : ℕ) → (op ≡ Get → Knows know (ValueOf s value)) → present_value op (value_in know.checked s) ≡ present_value op (Some value)
+  value_told Insert s value k = refl
+  value_told Remove s value k = refl
+  value_told Has s value k = refl
+  value_told Get s value k = value_looked_up s value (k refl)
+
+  pub marked_call_is : (p s expected key value : ℕ) → Knows know (KeyOf s key) → (shape.values ≡ true → Knows know (ValueOf s value)) → call_of shape p know (Mark s expected) ≡ Some (record { who = p; op = Remove; key = key; reply = true; value = kept shape (Some value) })
+  marked_call_is p s expected key value k v = λ i. Some (record { who = p; op = Remove; key = key_looked_up s key k i; reply = true; value = values_kept shape.values s value v i })
+
+  pub confirmed_call_is : (p : ℕ) (op : Op) (s expected key value : ℕ) → Knows know (KeyOf s key) → (op ≡ Get → Knows know (ValueOf s value)) → call_of shape p know (ConfirmPresent op s expected) ≡ Some (record { who = p; op = op; key = key; reply = present_reply op; value = present_value op (Some value) })
+  confirmed_call_is p op s expected key value k v = λ i. Some (record { who = p; op = op; key = key_looked_up s key k i; reply = present_reply op; value = value_told op s value v i })
 
   -- ---- acceptance
 
@@ -216,10 +247,10 @@ module _ {shape : Dimensions} {a : Incarnations} {know : Know} {notes : Notes} (
   ready_is pred expected None r = absurd r
   ready_is pred expected (Some (Free stamp)) r = absurd r
   ready_is pred expected (Some (Unlinked reread)) r = absurd r
-  ready_is pred expected (Some (InHand stamp birth None link)) r = absurd r
-  ready_is pred expected (Some (InHand stamp birth (Some key) None)) r = absurd r
-  ready_is pred expected (Some (InHand stamp birth (Some key) (Some link))) r = (
-    (r.0.2 ∙ ap (link_to expected.slot birth) (sym (birth_named_is expected.slot r.0.0 r.0.1)), behind_is pred key r.1, before_is key expected.slot r.2),
+  ready_is pred expected (Some (InHand stamp birth None value link)) r = absurd r
+  ready_is pred expected (Some (InHand stamp birth (Some key) value None)) r = absurd r
+  ready_is pred expected (Some (InHand stamp birth (Some key) value (Some link))) r = (
+    (r.0.2 ∙ ap (link_to expected.slot birth) (sym (birth_named_is expected.slot r.0.0 r.0.1)), behind_is pred key r.1, before_is key expected.slot r.2, r.3),
     behind_there pred key r.1,
     before_there key expected.slot r.2,
     birth_named_there expected.slot r.0.0 r.0.1,
@@ -238,14 +269,25 @@ module _ {shape : Dimensions} {a : Incarnations} {know : Know} {notes : Notes} (
       let P : Option ℕ → Type 0 = IsBefore know.checked key in
       record { turns = w.0; within = w.1; before = subst P (sym w.2) (before_is key on.last.slot on.before) }
 
-  held_is : Fits shape a → (step : Step) → IsKnown know step → IsInRangeKnown shape know step → HasChecked shape know step
+  values_there : (t : Bool) (s : ℕ) → KnowsValue t know s → HasValue t (value_in know.checked s)
+  values_there true s k = value_there know.checked s k.0 k.1.among
+  values_there false s k = tt
+
+  value_there_for : (op : Op) (s : ℕ) → KnowsValueFor op know s → HasValueFor op (value_in know.checked s)
+  value_there_for Insert s k = tt
+  value_there_for Remove s k = tt
+  value_there_for Has s k = tt
+  value_there_for Get s k = value_there know.checked s k.0 k.1.among
+
+  held_is : Fits shape a → (step : Step) → IsKnown shape know step → IsInRangeKnown shape know step → HasChecked shape know step
   held_is fits (StoreLink s None) k r = tt
   held_is fits (StoreLink s (Some n)) k r = (held_of_slot n k.0, birth_there know.checked n k.1.0 k.1.1.among)
   held_is fits (LoadLink at) k r = held_of_place at k
   held_is fits (LoadBirth s) k r = held_of_slot s k
   held_is fits (LoadKey s) k r = held_of_slot s k
+  held_is fits (LoadValue s) k r = held_of_slot s k
   held_is fits (Publish pred expected s) k r = let x = ready_is pred (link_of expected) (know.own s) r.1 in (link_held pred (link_of expected) k.0, (birth_at_there pred k.1.0 k.1.1, x.1), (x.3, x.2))
-  held_is fits (Mark s expected) k r = (link_held (Slot s) (link_of expected) k.0, key_there know.checked s k.1.0 k.1.1.among)
+  held_is fits (Mark s expected) k r = (link_held (Slot s) (link_of expected) k.0, key_there know.checked s k.1.0 k.1.1.among, values_there shape.values s k.2)
   held_is fits (Unlink pred expected s) k r =
       let u = k.1.1 in (
         link_held pred (link_of expected) k.0,
@@ -253,7 +295,7 @@ module _ {shape : Dimensions} {a : Incarnations} {know : Know} {notes : Notes} (
         birth_at_there pred u.birth u.birth_known,
         rw (mark_is s u.frozen u.known u.is_marked) (birth_named_there u.frozen.slot u.next_birth u.next_known),
       )
-  held_is fits (ConfirmPresent op s expected) k r = (link_held (Slot s) (link_of expected) k.0, key_there know.checked s k.1.0 k.1.1.among)
+  held_is fits (ConfirmPresent op s expected) k r = (link_held (Slot s) (link_of expected) k.0, key_there know.checked s k.1.0 k.1.1.among, value_there_for op s k.2)
   held_is fits (ConfirmAbsent op key at expected) k r = (link_held at (link_of expected) k, behind_there at key r.2, leads_to_key fits key (link_of expected) r.3)
   held_is fits step k r = tt
 

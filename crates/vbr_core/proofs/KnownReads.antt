@@ -7,7 +7,7 @@ use Rattle.vbr_words.specs.Dimensions.{Dimensions}
 use Rattle.vbr_words.specs.declared.link.Link.{Link}
 use Rattle.vbr_words.specs.declared.place.At.{At}
 use Rattle.vbr_words.specs.declared.place.At.TheVariants.{Head, Slot}
-use Rattle.vbr_core.specs.Knowledge.{Know, key_in, names}
+use Rattle.vbr_core.specs.Knowledge.{Know, key_in, names, value_in}
 use Rattle.vbr_core.specs.Acceptance.{KnowsKeyAt, KnowsKeyOf, IsBehind, IsBefore}
 use Rattle.vbr_core.specs.Membership.{StandsBehind, StandsBefore, Knows, IsHeldSlot}
 use Rattle.vbr_core.specs.Incarnations.{Incarnations}
@@ -16,9 +16,9 @@ use Rattle.vbr_core.specs.Sound.{Sound}
 use Rattle.vbr_core.specs.Notes.{Note, Notes}
 use Rattle.vbr_core.specs.Agreement.{IsHeldIncarnation, IsHeldNext, IsGoodLink, IsGoodRead, IsGood, reads_of, IsNoted}
 use Rattle.vbr_core.specs.declared.knowledge.Read.{Read}
-use Rattle.vbr_core.specs.declared.knowledge.Read.TheVariants.{LinkAt, BirthOf, KeyOf}
+use Rattle.vbr_core.specs.declared.knowledge.Read.TheVariants.{LinkAt, BirthOf, KeyOf, ValueOf}
 use Rattle.vbr_core.proofs.Slots.{one_late}
-use Rattle.vbr_core.proofs.FoundReads.{key_among, none_in, first_or_later}
+use Rattle.vbr_core.proofs.FoundReads.{key_among, none_in, first_or_later, value_among}
 
 -- a read of noted reads has a note, of which holds what holds of all notes
 pub note_of_known : (P : Note → Type 0) (notes : List Note) (read : Read) → Contains (reads_of notes) read → AllByRecursion P notes → (note : Note) × (note.read ≡ read) × P note
@@ -50,6 +50,13 @@ key_held {a} {know} {notes} k s key m = go (good_read k (KeyOf s key) m)
     go (None, names, h) = absurd h
     go (Some c, names, h) = (c, h.0, h.1)
 
+pub value_held : {a : Incarnations} {know : Know} {notes : Notes} → IsNoted a know notes → (s value : ℕ) → Knows know (ValueOf s value) → (c : ℕ) × IsHeldIncarnation a know.epoch s c × (a.value c ≡ value)
+value_held {a} {know} {notes} k s value m = go (good_read k (ValueOf s value) m)
+  where
+    go : ((of names : Option ℕ) × IsGoodRead a know.epoch (ValueOf s value) of names) → (c : ℕ) × IsHeldIncarnation a know.epoch s c × (a.value c ≡ value)
+    go (None, names, h) = absurd h
+    go (Some c, names, h) = (c, h.0, h.1)
+
 -- a held slot has an incarnation that is held there
 pub slot_held : {a : Incarnations} {know : Know} {notes : Notes} → IsNoted a know notes → (s : ℕ) → IsHeldSlot know s → (c : ℕ) × IsHeldIncarnation a know.epoch s c
 slot_held {a} {know} {notes} k s h = let g = good_link k h.at h.link h.known in go h.link.slot g.1 h.names g.2.next
@@ -69,12 +76,20 @@ one_held snd e s c d g h = one_late snd.slots c d e (g.slot ∙ sym h.slot) g.la
 pub known_key : {shape : Dimensions} {a : Incarnations} {know : Know} {notes : Notes} → Sound shape a → IsNoted a know notes → (s c key : ℕ) → IsHeldIncarnation a know.epoch s c → Knows know (KeyOf s key) → a.key c ≡ key
 known_key {shape} {a} {know} {notes} snd k s c key h m = let x = key_held k s key m in ap a.key (one_held snd know.epoch s c x.0 h x.1) ∙ x.2
 
+-- a known value of a slot is that of the incarnation held there
+pub known_value : {shape : Dimensions} {a : Incarnations} {know : Know} {notes : Notes} → Sound shape a → IsNoted a know notes → (s c value : ℕ) → IsHeldIncarnation a know.epoch s c → Knows know (ValueOf s value) → a.value c ≡ value
+known_value {shape} {a} {know} {notes} snd k s c value h m = let x = value_held k s value m in ap a.value (one_held snd know.epoch s c x.0 h x.1) ∙ x.2
+
 pub known_birth : {shape : Dimensions} {a : Incarnations} {know : Know} {notes : Notes} → Sound shape a → IsNoted a know notes → (s c birth : ℕ) → IsHeldIncarnation a know.epoch s c → Knows know (BirthOf s birth) → a.birth c ≡ birth
 known_birth {shape} {a} {know} {notes} snd k s c birth h m = let x = birth_held k s birth m in ap a.birth (one_held snd know.epoch s c x.0 h x.1) ∙ x.2
 
 -- a slot has one known key
 pub one_key : {shape : Dimensions} {a : Incarnations} {know : Know} {notes : Notes} → Sound shape a → IsNoted a know notes → (s i j : ℕ) → Knows know (KeyOf s i) → Knows know (KeyOf s j) → i ≡ j
 one_key snd k s i j m n = let x = key_held k s i m in sym x.2 ∙ known_key snd k s x.0 j x.1 n
+
+-- a slot has one known value
+pub one_value : {shape : Dimensions} {a : Incarnations} {know : Know} {notes : Notes} → Sound shape a → IsNoted a know notes → (s i j : ℕ) → Knows know (ValueOf s i) → Knows know (ValueOf s j) → i ≡ j
+one_value snd k s i j m n = let x = value_held k s i m in sym x.2 ∙ known_value snd k s x.0 j x.1 n
 
 -- a slot has one known birth
 pub one_birth : {shape : Dimensions} {a : Incarnations} {know : Know} {notes : Notes} → Sound shape a → IsNoted a know notes → (s i j : ℕ) → Knows know (BirthOf s i) → Knows know (BirthOf s j) → i ≡ j
@@ -116,6 +131,14 @@ key_known know s h = go (key_in know.checked s) refl h
     go : (o : Option ℕ) → key_in know.checked s ≡ o → IsSome o → Knows know (KeyOf s (unwrap_or o 0))
     go None q h = absurd (cc)
     go (Some key) q h = record { among = key_among know.checked s key q }
+
+-- a value that is looked up is known
+pub value_known : (know : Know) (s : ℕ) → IsSome (value_in know.checked s) → Knows know (ValueOf s (unwrap_or (value_in know.checked s) 0))
+value_known know s h = go (value_in know.checked s) refl h
+  where
+    go : (o : Option ℕ) → value_in know.checked s ≡ o → IsSome o → Knows know (ValueOf s (unwrap_or o 0))
+    go None q h = absurd (cc)
+    go (Some value) q h = record { among = value_among know.checked s value q }
 
 -- a key that stands behind a place by searches does so by what is known
 pub behind_known : (know : Know) (shape : Dimensions) (at : At) (key : ℕ) → KnowsKeyAt know.checked at → IsBehind shape know.checked at key → StandsBehind shape know at key

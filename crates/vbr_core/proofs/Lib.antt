@@ -1,5 +1,7 @@
 mod Histories
+mod AnsweredCalls
 mod PlainSets
+mod PlainMaps
 mod Puts
 mod Branches
 mod Slots
@@ -26,6 +28,9 @@ mod LoadSteps
 mod StandingLinks
 mod ConfirmSteps
 mod MarkSteps
+mod ValueReads
+mod MapHistories
+mod ToldValues
 mod Exchanges
 mod PublishSteps
 mod PublishedNotes
@@ -59,6 +64,7 @@ mod ListedGrowth
 mod ListedLinks
 mod ReachedWorlds
 mod WorkedLists
+mod WorkedMaps
 mod WorkedChronicles
 mod WorkedRefusals
 mod WorkedLookUps

@@ -11,7 +11,7 @@ use Rattle.vbr_words.specs.Buckets.{bucket_of}
 use Rattle.vbr_core.specs.Acceptance.{Accepts}
 use Rattle.vbr_core.specs.Accounts.{incarnations_after, notes_after, happens, just, entry_of_call, born_in}
 use Rattle.vbr_core.specs.Calls.{calls_added}
-use Rattle.vbr_core.specs.Chronicles.{Entry, Advances, Gains, Probes, Keyed, Aims, Inserts, Raises, Removes, Stamps, Unlinks, Answers, Allowed, becomes, incarnations_from, IsLawful}
+use Rattle.vbr_core.specs.Chronicles.{Entry, Advances, Gains, Probes, Keyed, Valued, Aims, Inserts, Raises, Removes, Stamps, Unlinks, Answers, Allowed, becomes, incarnations_from, IsLawful}
 use Rattle.vbr_core.specs.Images.{key_shown}
 use Rattle.vbr_core.specs.Incarnations.{Marked, Incarnations, last_in}
 use Rattle.vbr_core.specs.Opened.{opening_keys}
@@ -24,7 +24,7 @@ use Rattle.vbr_core.specs.Runs.{IsRun, world_after, know_after}
 use Rattle.vbr_core.specs.declared.event.Event.{Event}
 use Rattle.vbr_core.specs.declared.history.Call.{Call}
 use Rattle.vbr_core.specs.declared.event.Step.{Step}
-use Rattle.vbr_core.specs.declared.event.Step.TheVariants.{ReadEpoch, Advance, LoadStamp, StoreStamp, Raise, TakeFlag, StoreBirth, StoreKey, StoreLink, LoadLink, LoadBirth, LoadKey, Publish, Mark, Unlink, ConfirmPresent, ConfirmAbsent}
+use Rattle.vbr_core.specs.declared.event.Step.TheVariants.{ReadEpoch, Advance, LoadStamp, StoreStamp, Raise, TakeFlag, StoreBirth, StoreKey, StoreLink, LoadLink, LoadBirth, LoadKey, Publish, Mark, Unlink, ConfirmPresent, ConfirmAbsent, LoadValue, StoreValue}
 use Rattle.vbr_core.proofs.EveryRun.{incarnations_after-snoc, run_agrees, step_agrees}
 use Rattle.vbr_core.proofs.ListedNodes.{behind_same, count_same, stamps_none, unlinks_add_none}
 use Rattle.vbr_core.proofs.ListedRuns.{birth_leaves}
@@ -98,16 +98,18 @@ module _ (shape : Dimensions) (passes : ℕ) (run : List Event) (is : IsShape sh
   one (LoadLink at) n l = same [] refl
   one (LoadBirth s) n l = same [] refl
   one (LoadKey s) n l = same [] refl
+  one (LoadValue s) n l = same [] refl
   one (Advance from) n l = either_adds_none shape a bucket h (found shape (world_after shape run) (Advance from) == from) (just p Advances) [] (same (just p Advances) refl) (same [] refl)
   one (StoreStamp s stamp) n l = same (just p (Stamps (last_in a s) stamp)) (stamps_none shape (opening_keys shape) a p (last_in a s) stamp bucket (Head h) l.0)
   one (Raise s) n l = same (just p (Raises s)) refl
   one (TakeFlag s) n l = either_adds_none shape a bucket h (has_flag (found shape (world_after shape run) (TakeFlag s)) s) (just p (Gains s)) (just p (Probes s)) (same (just p (Gains s)) refl) (same (just p (Probes s)) refl)
   one (StoreBirth s birth) n l = same (born_in a p s birth ((know_after shape run p).own s)) (birth_leaves shape a p s birth bucket h ((know_after shape run p).own s) (run_agrees shape passes run is ok).sound l)
   one (StoreKey s key) n l = same (just p (Keyed (last_in a s) key)) (keyed_none shape a p (last_in a s) key bucket h l.0)
+  one (StoreValue s value) n l = same (just p (Valued (last_in a s) value)) refl
   one (StoreLink s next) n l = same (just p (Aims (last_in a s) (link_written (know_after shape run p) (StoreLink s next)))) refl
   one (Publish pred expected s) n l = published (found shape (world_after shape run) (Publish pred expected s) == expected) n
     where
-      published : (t : Bool) → option_to_list (if t then call_of p (know_after shape run p) (Publish pred expected s) else None) ≡ [] → AddsNoNode shape (incarnations_after shape run) bucket h (if t then just p (Inserts (last_in a s) (before_at a pred)) else [])
+      published : (t : Bool) → option_to_list (if t then call_of shape p (know_after shape run p) (Publish pred expected s) else None) ≡ [] → AddsNoNode shape (incarnations_after shape run) bucket h (if t then just p (Inserts (last_in a s) (before_at a pred)) else [])
       published true n = absurd (cc)
       published false n = same [] refl
   one (Mark s expected) n l = marked (found shape (world_after shape run) (Mark s expected) == expected) l
@@ -116,8 +118,8 @@ module _ (shape : Dimensions) (passes : ℕ) (run : List Event) (is : IsShape sh
       marked true l = same (just p (Removes (last_in a s))) (removes_none shape a p (last_in a s) bucket (Head h) l.0)
       marked false l = same [] refl
   one (Unlink pred expected s) n l = either_adds_none shape a bucket h (found shape (world_after shape run) (Unlink pred expected s) == expected) (just p (Unlinks (last_in a s) (before_at a pred))) [] (unlinks_add_none shape a p bucket (last_in a s) (before_at a pred) (Head h)) (same [] refl)
-  one (ConfirmPresent op s expected) n l = confirmed (found shape (world_after shape run) (ConfirmPresent op s expected) == expected) (call_of p (know_after shape run p) (ConfirmPresent op s expected))
-  one (ConfirmAbsent op key at expected) n l = confirmed (found shape (world_after shape run) (ConfirmAbsent op key at expected) == expected) (call_of p (know_after shape run p) (ConfirmAbsent op key at expected))
+  one (ConfirmPresent op s expected) n l = confirmed (found shape (world_after shape run) (ConfirmPresent op s expected) == expected) (call_of shape p (know_after shape run p) (ConfirmPresent op s expected))
+  one (ConfirmAbsent op key at expected) n l = confirmed (found shape (world_after shape run) (ConfirmAbsent op key at expected) == expected) (call_of shape p (know_after shape run p) (ConfirmAbsent op key at expected))
 
   -- a law: a step by which its pass makes no call adds no node to a list
   pub calls_or_adds_none : (step : Step) → Accepts shape (know_after shape run p) step → calls_added shape (world_after shape run) p step ≡ [] →

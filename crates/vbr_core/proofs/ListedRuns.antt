@@ -178,7 +178,7 @@ pub birth_leaves : (shape : Dimensions) (a : Incarnations) (p s birth bucket h :
 birth_leaves shape a p s birth bucket h None sound l = bears_none shape (opening_keys shape) a p s birth bucket h sound l.0
 birth_leaves shape a p s birth bucket h (Some (Free stamp)) sound l = bears_none shape (opening_keys shape) a p s birth bucket h sound l.0
 birth_leaves shape a p s birth bucket h (Some (Unlinked reread)) sound l = bears_none shape (opening_keys shape) a p s birth bucket h sound l.0
-birth_leaves shape a p s birth bucket h (Some (InHand stamp before key link)) sound l =
+birth_leaves shape a p s birth bucket h (Some (InHand stamp before key value link)) sound l =
     let c = becomes shape a p (GivesUp (last_in a s)) in
     bears_none shape (opening_keys shape) c p s birth bucket h (sound_kept shape (opening_keys shape) a p (GivesUp (last_in a s)) sound l.0) l.1.0
     ∙ gives_up_none shape (opening_keys shape) a p (last_in a s) bucket (Head h) l.0

@@ -8,7 +8,7 @@ use Rattle.vbr_core.specs.Keys.{Keys}
 use Rattle.vbr_words.specs.Buckets.{bucket_of}
 use Rattle.vbr_core.specs.Incarnations.{State, Unborn, InHand, Linked, Marked, Incarnations}
 use Rattle.vbr_core.specs.Images.{key_shown}
-use Rattle.vbr_core.specs.Chronicles.{Advances, Gains, Raises, GivesUp, Bears, Keyed, Aims, Removes, Stamps, Answers, Allowed, becomes}
+use Rattle.vbr_core.specs.Chronicles.{Advances, Gains, Raises, GivesUp, Bears, Keyed, Valued, Aims, Removes, Stamps, Answers, Allowed, becomes}
 use Rattle.vbr_core.specs.Sound.{IsListed, IsApart, ListsSound, Sound}
 use Rattle.vbr_core.specs.declared.history.Call.{Call}
 use Rattle.vbr_core.proofs.Puts.{put_other}
@@ -36,6 +36,9 @@ lists_raises shape a pass v s = lists_same shape a (becomes shape a pass (Raises
 
 pub lists_aims : (shape : Dimensions) (a : Incarnations) (pass c : ℕ) (link : Link) → Sound shape a → ListsSound shape (becomes shape a pass (Aims c link))
 lists_aims shape a pass c link s = lists_same shape a (becomes shape a pass (Aims c link)) s.lists refl refl refl refl
+
+pub lists_valued : (shape : Dimensions) (a : Incarnations) (pass c value : ℕ) → Sound shape a → ListsSound shape (becomes shape a pass (Valued c value))
+lists_valued shape a pass c value s = lists_same shape a (becomes shape a pass (Valued c value)) s.lists refl refl refl refl
 
 pub lists_answers : (shape : Dimensions) (a : Incarnations) (pass : ℕ) (call : Call) → Sound shape a → ListsSound shape (becomes shape a pass (Answers call))
 lists_answers shape a pass call s = lists_same shape a (becomes shape a pass (Answers call)) s.lists refl refl refl refl

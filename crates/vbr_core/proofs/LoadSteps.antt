@@ -13,12 +13,12 @@ use Rattle.vbr_core.specs.Learning.{with_pending}
 use Rattle.vbr_core.specs.Machine.{World}
 use Rattle.vbr_core.specs.Machine as machine
 use Rattle.vbr_core.specs.Incarnations.{Incarnations, last_in}
-use Rattle.vbr_core.specs.Images.{birth_shown, key_shown, link_shown_at}
+use Rattle.vbr_core.specs.Images.{birth_shown, key_shown, value_shown, link_shown_at}
 use Rattle.vbr_core.specs.Notes.{Notes, note_of, shown_at}
 use Rattle.vbr_core.specs.Agreement.{IsHeldIncarnation, IsGoodLink, IsOfHeldOne, IsGood, Agrees}
-use Rattle.vbr_core.specs.declared.event.Step.TheVariants.{LoadLink, LoadBirth, LoadKey}
+use Rattle.vbr_core.specs.declared.event.Step.TheVariants.{LoadLink, LoadBirth, LoadKey, LoadValue}
 use Rattle.vbr_core.specs.declared.knowledge.Read.{Read}
-use Rattle.vbr_core.specs.declared.knowledge.Read.TheVariants.{LinkAt, BirthOf, KeyOf}
+use Rattle.vbr_core.specs.declared.knowledge.Read.TheVariants.{LinkAt, BirthOf, KeyOf, ValueOf}
 use Rattle.vbr_core.proofs.HeldReads.{held_last, load_head, load_slot}
 use Rattle.vbr_core.proofs.Searches.{held_found}
 use Rattle.vbr_core.proofs.Noted.{knows_put, noted_pending}
@@ -33,7 +33,7 @@ loaded shape w a notes p read g is good = record {
   sound = g.sound;
   tells = g.tells;
   fits = g.fits;
-  image = image_kept (record w { know = put w.know p (with_pending (w.know p) read) }) w a a g.image.epoch refl refl refl refl refl g.image.place refl refl refl refl refl refl refl refl refl g.image;
+  image = image_kept (record w { know = put w.know p (with_pending (w.know p) read) }) w a a g.image.epoch refl refl refl refl refl refl g.image.place refl refl refl refl refl refl refl refl refl refl g.image;
   knows = knows_put a w.know notes p (with_pending (w.know p) read) (record (notes p) { pending = (notes p).pending ++ note_of a read ∷ [] }) g.knows (noted_pending a (w.know p) (notes p) (note_of a read) (g.knows p) is good);
   owns = owns_beside a w.know p (with_pending (w.know p) read) refl (λ v. refl) g.owns;
   calls = g.calls;
@@ -70,6 +70,13 @@ step_load_key shape w a notes p s g ok = (
   tt,
   loaded shape w a notes p (KeyOf s (w.key s)) g (ap (KeyOf s) (g.image.key s))
       (λ e. let h = held_now shape w a notes p s g ok.held e in one_as a s (w.know p).epoch a.epoch a.key (w.key s) (last_in a s) (a.last s) (sym e) h.1 h.0 (sym (g.image.key s ∙ ap (key_shown a) h.1))),
+)
+
+pub step_load_value : (shape : Dimensions) (w : World) (a : Incarnations) (notes : ℕ → Notes) (p s : ℕ) → Agrees shape w a notes → Accepts shape (w.know p) (LoadValue s) → StepAgrees shape w a notes p (LoadValue s)
+step_load_value shape w a notes p s g ok = (
+  tt,
+  loaded shape w a notes p (ValueOf s (w.value s)) g (ap (ValueOf s) (g.image.value s))
+      (λ e. let h = held_now shape w a notes p s g ok.held e in one_as a s (w.know p).epoch a.epoch a.value (w.value s) (last_in a s) (a.last s) (sym e) h.1 h.0 (sym (g.image.value s ∙ ap (value_shown a) h.1))),
 )
 
 -- the link of the word that stands at a place is that of the image

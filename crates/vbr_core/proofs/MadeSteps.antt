@@ -14,7 +14,7 @@ use Rattle.vbr_core.specs.Machine.{World, found, with_call, after, written}
 use Rattle.vbr_core.specs.Making.{with_answer, WordsHaveRoom}
 use Rattle.vbr_core.specs.Kept.{KeptPass, KeptWorld, IsWhole, opening_pass, world_of}
 use Rattle.vbr_core.specs.declared.event.Step.{Step}
-use Rattle.vbr_core.specs.declared.event.Step.TheVariants.{ReadEpoch, Advance, LoadStamp, StoreStamp, Raise, TakeFlag, StoreBirth, StoreKey, StoreLink, LoadLink, LoadBirth, LoadKey, Publish, Mark, Unlink, ConfirmPresent, ConfirmAbsent}
+use Rattle.vbr_core.specs.declared.event.Step.TheVariants.{ReadEpoch, Advance, LoadStamp, StoreStamp, Raise, TakeFlag, StoreBirth, StoreKey, StoreLink, LoadLink, LoadBirth, LoadKey, Publish, Mark, Unlink, ConfirmPresent, ConfirmAbsent, StoreValue, LoadValue}
 use Rattle.vbr_core.proofs.KeptLists.{put_here}
 
 -- a pass that learns nothing leaves the world as it is
@@ -31,18 +31,20 @@ made shape w p (Raise s) won = refl
 made shape w p (TakeFlag s) won = rw won refl
 made shape w p (StoreBirth s birth) won = refl
 made shape w p (StoreKey s key) won = refl
+made shape w p (StoreValue s value) won = refl
 made shape w p (StoreLink s next) won = refl
 made shape w p (LoadLink at) won = refl
 made shape w p (LoadBirth s) won = refl
 made shape w p (LoadKey s) won = refl
+made shape w p (LoadValue s) won = refl
 made shape w p (Publish (Head b) expected s) won = rw won refl
 made shape w p (Publish (Slot t) expected s) won = rw won refl
 made shape w p (Mark s expected) won = rw won refl
 made shape w p (Unlink (Head b) expected s) won = rw won refl
 made shape w p (Unlink (Slot t) expected s) won = rw won refl
-made shape w p (ConfirmPresent op s expected) won = rw won (ap (λ (v : World). with_call v (call_of p (w.know p) (ConfirmPresent op s expected))) (idle w p (w.know p) refl))
-made shape w p (ConfirmAbsent op key (Head b) expected) won = rw won (ap (λ (v : World). with_call v (call_of p (w.know p) (ConfirmAbsent op key (Head b) expected))) (idle w p (w.know p) refl))
-made shape w p (ConfirmAbsent op key (Slot t) expected) won = rw won (ap (λ (v : World). with_call v (call_of p (w.know p) (ConfirmAbsent op key (Slot t) expected))) (idle w p (w.know p) refl))
+made shape w p (ConfirmPresent op s expected) won = rw won (ap (λ (v : World). with_call v (call_of shape p (w.know p) (ConfirmPresent op s expected))) (idle w p (w.know p) refl))
+made shape w p (ConfirmAbsent op key (Head b) expected) won = rw won (ap (λ (v : World). with_call v (call_of shape p (w.know p) (ConfirmAbsent op key (Head b) expected))) (idle w p (w.know p) refl))
+made shape w p (ConfirmAbsent op key (Slot t) expected) won = rw won (ap (λ (v : World). with_call v (call_of shape p (w.know p) (ConfirmAbsent op key (Slot t) expected))) (idle w p (w.know p) refl))
 
 -- a step that was lost leaves the world as it is
 pub lost : (shape : Dimensions) (w : World) (p : ℕ) (step : Step) → succeeds step (found shape w step) ≡ false → with_answer shape w p step ≡ after shape w p step
@@ -62,10 +64,12 @@ lost shape w p (StoreStamp s stamp) gone = cc
 lost shape w p (Raise s) gone = cc
 lost shape w p (StoreBirth s birth) gone = cc
 lost shape w p (StoreKey s key) gone = cc
+lost shape w p (StoreValue s value) gone = cc
 lost shape w p (StoreLink s next) gone = cc
 lost shape w p (LoadLink at) gone = cc
 lost shape w p (LoadBirth s) gone = cc
 lost shape w p (LoadKey s) gone = cc
+lost shape w p (LoadValue s) gone = cc
 
 module _ (shape : Dimensions) (w : World) (p : ℕ) (step : Step) (word : ℕ) (learned : World) (is : word ≡ found shape w step) (learned_is : learned ≡ with_answer shape w p step) where
   -- a step that succeeds: its pass has learned, and then the words are written

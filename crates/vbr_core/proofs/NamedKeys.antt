@@ -4,15 +4,15 @@ use Rattle.vbr_words.specs.Dimensions.{Dimensions}
 use Rattle.vbr_words.specs.Words.{link_of}
 use Rattle.vbr_words.specs.declared.place.At.{At}
 use Rattle.vbr_core.specs.Knowledge.{Know}
-use Rattle.vbr_core.specs.Acceptance.{IsBetween, IsAtIn, Accepts}
+use Rattle.vbr_core.specs.Acceptance.{IsBetween, IsAtIn, IsOpIn, Accepts}
 use Rattle.vbr_core.specs.declared.history.Op.{Op}
 use Rattle.vbr_core.specs.declared.history.Op.TheVariants.{Insert}
 use Rattle.vbr_core.specs.declared.event.Step.TheVariants.{ConfirmAbsent}
 
-pub between_accepted : (shape : Dimensions) (know : Know) (op : Op) (key : ℕ) (at : At) (expected : ℕ) → IsAtIn shape at → op ≢ Insert → IsBetween shape know.checked key at (link_of expected) →
+pub between_accepted : (shape : Dimensions) (know : Know) (op : Op) (key : ℕ) (at : At) (expected : ℕ) → IsAtIn shape at → IsOpIn shape op → op ≢ Insert → IsBetween shape know.checked key at (link_of expected) →
     Accepts shape know (ConfirmAbsent op key at expected)
-between_accepted shape know op key at expected inside not between = record {
-  in_shape = inside;
+between_accepted shape know op key at expected inside asked not between = record {
+  in_shape = (inside, asked);
   owned = tt;
   held = (between.known, between.here, record { turns = 0; within = omega arith; known = between.there });
   in_range = (between.unmarked, not, between.behind, record { turns = 0; within = omega arith; before = between.before });

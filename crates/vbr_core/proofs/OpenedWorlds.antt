@@ -1,6 +1,7 @@
 -- What the lists stand for while the keys that a world opens with are linked, from the last on.
 use Rattle.std.proofs.Common.{◌≡◌, ◌≢◌, ℕ, suc, ◌-◌, ◌^◌, ◌<◌, ◌≤◌, max, nat_lt, [], length, Some, None, ◌⊎◌, inl, inr, refl, sym, ap, ◌∙◌, arith}
 use Rattle.std.proofs.lemmas.Bool.{cases_eq, cases_lt, cond-true, cond-false, lt-ltb, le-ltb, eq-eqb, ne_eqb}
+use Rattle.std.specs.Prelude.{slice_index_or}
 use Rattle.std.proofs.lemmas.List.{get_or_past}
 use Rattle.vbr_words.specs.Dimensions.{Dimensions}
 use Rattle.vbr_words.specs.declared.link.Link.{Link}
@@ -8,7 +9,7 @@ use Rattle.vbr_words.specs.declared.place.At.TheVariants.{Head, Slot}
 use Rattle.vbr_core.specs.Put.{put}
 use Rattle.vbr_words.specs.Buckets.{bucket_of}
 use Rattle.vbr_core.specs.Links.{opening_link, link_to}
-use Rattle.vbr_core.specs.Opened.{key_count, has_opening_key, key_number, opening_birth, first_number, is_key_of, first_from, key_behind, birth_named, link_to_key, link_at_opening, opening_place}
+use Rattle.vbr_core.specs.Opened.{key_count, has_opening_key, key_number, value_number, opening_birth, first_number, is_key_of, first_from, key_behind, birth_named, link_to_key, link_at_opening, opening_place}
 use Rattle.vbr_core.specs.Machine.{World, knows_nothing, opening, counted, with_link_at}
 use Rattle.vbr_core.specs.Making.{linked_from, opening_from, with_key_ahead}
 use Rattle.vbr_core.specs.declared.knowledge.SlotPlace.TheVariants.{Shared, Listed}
@@ -84,15 +85,16 @@ head_next shape n low = λ k b. at b (cases_eq b (bucket_of shape (key_number sh
 
 -- a world that opens with no key
 abbrev pub bare : World
-bare = record { epoch = 1; head = λ b. link_to None 0 0; link = λ s. opening_link; birth = λ s. 0; stamp = λ s. 0; key = λ s. 0; place = λ s. Shared; know = λ p. knows_nothing; births = 0; calls = [] }
+bare = record { epoch = 1; head = λ b. link_to None 0 0; link = λ s. opening_link; birth = λ s. 0; stamp = λ s. 0; key = λ s. 0; value = λ s. 0; place = λ s. Shared; know = λ p. knows_nothing; births = 0; calls = [] }
 
 -- one more key is linked
-pub opening_next : (shape : Dimensions) (n : ℕ) → n < key_count shape → key_count shape < 2 ^ 64 → with_key_ahead shape n (key_number shape n) (opening_from shape (suc n)) ≡ opening_from shape n
+pub opening_next : (shape : Dimensions) (n : ℕ) → n < key_count shape → key_count shape < 2 ^ 64 → with_key_ahead shape n (key_number shape n) (value_number shape n) (opening_from shape (suc n)) ≡ opening_from shape n
 opening_next shape n low few = sym (λ i. record (opening shape) {
   head = head_next shape n low i;
   link = from_next opening_link (link_at_opening shape) n _ (link_next shape n low) i;
   birth = from_next 0 (opening_birth shape) n 1 (sym (born_first shape n low)) i;
   key = from_next 0 (key_number shape) n (key_number shape n) refl i;
+  value = from_next 0 (value_number shape) n (value_number shape n) refl i;
   place = from_next Shared (opening_place shape) n (Listed (bucket_of shape (key_number shape n))) (sym (cond-true (has_opening_key shape n) _ Shared (lt-ltb n (key_count shape) low))) i;
   births = count i;
 })
@@ -106,6 +108,7 @@ opening_all shape = λ i. record (opening shape) {
   link = from_first opening_link (link_at_opening shape) i;
   birth = from_first 0 (opening_birth shape) i;
   key = from_first 0 (key_number shape) i;
+  value = from_first 0 (value_number shape) i;
   place = from_first Shared (opening_place shape) i;
   births = count i;
 }
@@ -114,27 +117,30 @@ opening_all shape = λ i. record (opening shape) {
     count = omega arith
 
 -- a step of the loop, which links the key before those that are linked
-pub opening_step : (shape here : Dimensions) (number n slot key : ℕ) (w v : World) → here ≡ shape → w ≡ opening_from shape number → number ≡ suc n → slot ≡ n → key ≡ key_number shape n → n < key_count shape → key_count shape < 2 ^ 64 → v ≡ with_key_ahead here slot key w → v ≡ opening_from shape n
-opening_step shape here number n slot key w v same is last at read low few made =
+pub opening_step : (shape here : Dimensions) (number n slot key value : ℕ) (w v : World) → here ≡ shape → w ≡ opening_from shape number → number ≡ suc n → slot ≡ n → key ≡ key_number shape n → value ≡ slice_index_or shape.payloads n 0 → n < key_count shape → key_count shape < 2 ^ 64 → v ≡ with_key_ahead here slot key value w → v ≡ opening_from shape n
+opening_step shape here number n slot key value w v same is last at read valued low few made =
     made
-    ∙ (λ i. with_key_ahead (same i) (at i) (read i) ((is ∙ ap (opening_from shape) last) i))
+    ∙ (λ i. with_key_ahead (same i) (at i) (read i) ((valued ∙ sym (cond-true (has_opening_key shape n) (slice_index_or shape.payloads n 0) 0 (lt-ltb n (key_count shape) low))) i) ((is ∙ ap (opening_from shape) last) i))
     ∙ opening_next shape n low few
 
 -- the writes that link a key
-pub key_linked : (shape : Dimensions) (number key bucket : ℕ) (w a b c d e : World) (head link first : Link) → bucket ≡ bucket_of shape key → head ≡ w.head bucket → link ≡ link_to head.slot 1 head.version → first ≡ link_to (Some number) 0 1 →
-    a ≡ with_link_at w (Slot number) link → b ≡ with_link_at a (Head bucket) first → c ≡ record b { birth = put b.birth number 1; births = counted b.births } → d ≡ record c { key = put c.key number key } → e ≡ record d { place = put d.place number (Listed bucket) } → e ≡ with_key_ahead shape number key w
-key_linked shape number key bucket w a b c d e head link first in_bucket is_head is_link is_first slot front birth keyed placed =
+pub key_linked : (shape : Dimensions) (number key value bucket : ℕ) (w a b c d f e : World) (head link first : Link) → bucket ≡ bucket_of shape key → head ≡ w.head bucket → link ≡ link_to head.slot 1 head.version → first ≡ link_to (Some number) 0 1 →
+    a ≡ with_link_at w (Slot number) link → b ≡ with_link_at a (Head bucket) first → c ≡ record b { birth = put b.birth number 1; births = counted b.births } → d ≡ record c { key = put c.key number key } → f ≡ record d { value = put d.value number value } → e ≡ record f { place = put f.place number (Listed bucket) } → e ≡ with_key_ahead shape number key value w
+key_linked shape number key value bucket w a b c d f e head link first in_bucket is_head is_link is_first slot front birth keyed valued placed =
     placed
     ∙ ap (λ (v : World). record v { place = put v.place number (Listed bucket) }) (
+    valued
+    ∙ ap (λ (v : World). record v { value = put v.value number value }) (
     keyed
     ∙ ap (λ (v : World). record v { key = put v.key number key }) (
     birth
-    ∙ ap (λ (v : World). record v { birth = put v.birth number 1; births = counted v.births }) (front ∙ ap (λ (v : World). with_link_at v (Head bucket) first) slot)))
+    ∙ ap (λ (v : World). record v { birth = put v.birth number 1; births = counted v.births }) (front ∙ ap (λ (v : World). with_link_at v (Head bucket) first) slot))))
     ∙ (λ i. record w {
       head = put w.head (in_bucket i) (is_first i);
       link = put w.link number (new_link i);
       birth = put w.birth number 1;
       key = put w.key number key;
+      value = put w.value number value;
       place = put w.place number (Listed (in_bucket i));
       births = counted w.births;
     })
@@ -152,6 +158,7 @@ opening_none shape = λ i. record (opening shape) {
   link = from_last opening_link (link_at_opening shape) (key_count shape) (λ s past. cond-false (has_opening_key shape s) _ opening_link (le-ltb s (key_count shape) past)) i;
   birth = from_last 0 (opening_birth shape) (key_count shape) (λ s past. cond-false (has_opening_key shape s) 1 0 (le-ltb s (key_count shape) past)) i;
   key = from_last 0 (key_number shape) (key_count shape) (λ s past. get_or_past shape.keys s 0 past) i;
+  value = from_last 0 (value_number shape) (key_count shape) (λ s past. cond-false (has_opening_key shape s) _ 0 (le-ltb s (key_count shape) past)) i;
   place = from_last Shared (opening_place shape) (key_count shape) (λ s past. cond-false (has_opening_key shape s) _ Shared (le-ltb s (key_count shape) past)) i;
   births = none i;
 }

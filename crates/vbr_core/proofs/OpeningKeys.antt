@@ -1,13 +1,13 @@
 -- The lists that opening keys make: which key is the first of a bucket, and which stands behind another.
 use Rattle.std.proofs.Common.{◌≡◌, ◌≢◌, ℕ, zero, suc, ◌+◌, ◌-◌, ◌<◌, ◌≤◌, Bool, true, false, List, [], ◌∷◌, length, get_or, Option, Some, None, refl, arith, sym, subst, ap, ◌∙◌, inl, inr}
-use Rattle.std.specs.Prelude.{◌⊎◌, nat_eq}
+use Rattle.std.specs.Prelude.{◌⊎◌, ◌==◌, nat_eq}
 use Rattle.std.specs.List.{list_any}
 use Rattle.std.specs.List.Sorted.{IsStrictlyIncreasing}
-use Rattle.std.proofs.lemmas.Bool.{cases_Bool, cases_eq, cases_lt, eqb-true, eq-eqb, lt-ltb, le-ltb}
+use Rattle.std.proofs.lemmas.Bool.{cases_Bool, cases_eq, cases_lt, eqb-true, eq-eqb, lt-ltb, le-ltb, ne_eqb, cond-true, cond-false}
 use Rattle.std.proofs.lemmas.List.Folds.{list_any_at}
 use Rattle.vbr_words.specs.Dimensions.{Dimensions}
 use Rattle.vbr_words.specs.Buckets.{bucket_of}
-use Rattle.vbr_core.specs.Opened.{key_count, has_opening_key, key_number, first_number, is_key_of, first_key, key_behind}
+use Rattle.vbr_core.specs.Opened.{key_count, has_opening_key, key_number, first_number, is_key_of, first_key, key_behind, number_in}
 
 -- ---- the first number that passes a test
 
@@ -124,3 +124,17 @@ number_of key (x ∷ xs) e = go (cases_Bool (nat_eq key x)) (number_of key xs)
     go : (nat_eq key x ≡ true) ⊎ (nat_eq key x ≡ false) → (list_any (nat_eq key) xs ≡ true → (c : ℕ) × (c < length xs) × (get_or xs c 0 ≡ key)) → (c : ℕ) × (c < length (x ∷ xs)) × (get_or (x ∷ xs) c 0 ≡ key)
     go (inl t) rest = (0, omega arith, sym (eqb-true key x t))
     go (inr f) rest = let later = rest (rw f at e) in (suc later.0, (let low = later.1 in omega (arith, low)), later.2)
+
+-- ---- the number of a key
+
+-- the number of a key in a list is where it is first
+first_is_number : (xs : List ℕ) (c key : ℕ) → c < length xs → get_or xs c 0 ≡ key → ((j : ℕ) → j < c → get_or xs j 0 ≢ key) → number_in xs key ≡ c
+first_is_number [] c key low e ne = absurd (omega arith)
+first_is_number (x ∷ xs) zero key low e ne = cond-true (x == key) 0 (suc (number_in xs key)) (eq-eqb x key e)
+first_is_number (x ∷ xs) (suc c) key low e ne =
+    cond-false (x == key) 0 (suc (number_in xs key)) (ne_eqb x key (ne 0 (omega arith)))
+    ∙ ap suc (first_is_number xs c key (omega (arith, low)) e (λ j less. ne (suc j) (omega (arith, less))))
+
+-- of ascending keys each has its own
+pub number_is : (xs : List ℕ) → IsStrictlyIncreasing xs → (c : ℕ) → c < length xs → number_in xs (get_or xs c 0) ≡ c
+number_is xs up c low = first_is_number xs c (get_or xs c 0) low refl (λ j less e. (let u = rises xs up j c less low in omega (arith, u, e)))

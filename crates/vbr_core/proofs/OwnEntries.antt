@@ -15,7 +15,7 @@ use Rattle.vbr_core.specs.Accounts.{born_in, entry_of_call, happens, incarnation
 use Rattle.vbr_core.specs.declared.history.Call.{Call}
 use Rattle.vbr_core.specs.declared.event.Event.{Event}
 use Rattle.vbr_core.specs.declared.event.Step.{Step}
-use Rattle.vbr_core.specs.declared.event.Step.TheVariants.{ReadEpoch, Advance, LoadStamp, StoreStamp, Raise, TakeFlag, StoreBirth, StoreKey, StoreLink, LoadLink, LoadBirth, LoadKey, Publish, Mark, Unlink, ConfirmPresent, ConfirmAbsent}
+use Rattle.vbr_core.specs.declared.event.Step.TheVariants.{ReadEpoch, Advance, LoadStamp, StoreStamp, Raise, TakeFlag, StoreBirth, StoreKey, StoreLink, LoadLink, LoadBirth, LoadKey, Publish, Mark, Unlink, ConfirmPresent, ConfirmAbsent, StoreValue, LoadValue}
 use Rattle.vbr_core.specs.declared.knowledge.Holding.{Holding}
 use Rattle.vbr_core.specs.declared.knowledge.Holding.TheVariants.{Free, Unlinked, InHand}
 use Rattle.vbr_core.proofs.EveryRun.{incarnations_from-append}
@@ -32,7 +32,7 @@ born_by : (a : Incarnations) (p s birth : ℕ) (own : Option Holding) → AreBy 
 born_by a p s birth None = (refl, tt)
 born_by a p s birth (Some (Free stamp)) = (refl, tt)
 born_by a p s birth (Some (Unlinked seen)) = (refl, tt)
-born_by a p s birth (Some (InHand stamp before key link)) = (refl, (refl, tt))
+born_by a p s birth (Some (InHand stamp before key value link)) = (refl, (refl, tt))
 
 answered_by : (p : ℕ) (made : Option Call) → AreBy p (entry_of_call p made)
 answered_by p None = tt
@@ -48,15 +48,17 @@ happens_by shape w a p (Raise s) = (refl, tt)
 happens_by shape w a p (TakeFlag s) = either_by p (has_flag (found shape w (TakeFlag s)) s) _ _ (refl, tt) (refl, tt)
 happens_by shape w a p (StoreBirth s birth) = born_by a p s birth ((w.know p).own s)
 happens_by shape w a p (StoreKey s key) = (refl, tt)
+happens_by shape w a p (StoreValue s value) = (refl, tt)
 happens_by shape w a p (StoreLink s next) = (refl, tt)
 happens_by shape w a p (LoadLink at) = tt
 happens_by shape w a p (LoadBirth s) = tt
 happens_by shape w a p (LoadKey s) = tt
+happens_by shape w a p (LoadValue s) = tt
 happens_by shape w a p (Publish pred expected s) = either_by p (found shape w (Publish pred expected s) == expected) _ _ (refl, tt) tt
 happens_by shape w a p (Mark s expected) = either_by p (found shape w (Mark s expected) == expected) _ _ (refl, tt) tt
 happens_by shape w a p (Unlink pred expected s) = either_by p (found shape w (Unlink pred expected s) == expected) _ _ (refl, tt) tt
-happens_by shape w a p (ConfirmPresent op s expected) = either_by p (found shape w (ConfirmPresent op s expected) == expected) _ _ (answered_by p (call_of p (w.know p) (ConfirmPresent op s expected))) tt
-happens_by shape w a p (ConfirmAbsent op key at expected) = either_by p (found shape w (ConfirmAbsent op key at expected) == expected) _ _ (answered_by p (call_of p (w.know p) (ConfirmAbsent op key at expected))) tt
+happens_by shape w a p (ConfirmPresent op s expected) = either_by p (found shape w (ConfirmPresent op s expected) == expected) _ _ (answered_by p (call_of shape p (w.know p) (ConfirmPresent op s expected))) tt
+happens_by shape w a p (ConfirmAbsent op key at expected) = either_by p (found shape w (ConfirmAbsent op key at expected) == expected) _ _ (answered_by p (call_of shape p (w.know p) (ConfirmAbsent op key at expected))) tt
 
 all_own : (p : ℕ) (entries : List Entry) → AreBy p entries → entries_by p entries ≡ entries
 all_own p [] h = refl

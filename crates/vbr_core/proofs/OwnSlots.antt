@@ -20,11 +20,13 @@ pub record IsUntouched (a b : Incarnations) (c : ℕ) : Type 0 where
   pub birth : b.birth c ≡ a.birth c
   pub key : b.key c ≡ a.key c
   pub is_keyed : b.is_keyed c ≡ a.is_keyed c
+  pub value : b.value c ≡ a.value c
+  pub is_valued : b.is_valued c ≡ a.is_valued c
   pub link : b.link c ≡ a.link c
   pub is_aimed : b.is_aimed c ≡ a.is_aimed c
 
 pub untouched_here : (a : Incarnations) (c : ℕ) → IsUntouched a a c
-untouched_here a c = record { state = refl; birth = refl; key = refl; is_keyed = refl; link = refl; is_aimed = refl }
+untouched_here a c = record { state = refl; birth = refl; key = refl; is_keyed = refl; value = refl; is_valued = refl; link = refl; is_aimed = refl }
 
 -- what is known of a slot stays where its last incarnation is untouched
 pub own_kept : (a b : Incarnations) (pass e f : ℕ) (holding : Option Holding) (place : SlotPlace) (last : Option ℕ) (stamp : ℕ) → e ≤ f → ((c : ℕ) → last ≡ Some c → IsUntouched a b c) → OwnFits a pass e holding place last stamp → OwnFits b pass f holding place last stamp
@@ -32,7 +34,7 @@ own_kept a b pass e f None place last stamp le k h = h
 own_kept a b pass e f (Some (Free known)) place None stamp le k h = h
 own_kept a b pass e f (Some (Free known)) place (Some c) stamp le k h = (h.0, rw ((k c refl).state) h.1, h.2)
 own_kept a b pass e f (Some (Unlinked reread)) place last stamp le k h = let x = h.1 in (h.0, record { node = x.node; last_is = x.last_is; at = x.at; state = (k x.node x.last_is).state ∙ x.state; seen = λ t. let u = x.seen t in omega arith })
-own_kept a b pass e f (Some (InHand known birth key link)) place last stamp le k h =
+own_kept a b pass e f (Some (InHand known birth key value link)) place last stamp le k h =
     let x = h.1 in
     let u = k x.node x.last_is in (
       h.0,
@@ -43,6 +45,7 @@ own_kept a b pass e f (Some (InHand known birth key link)) place last stamp le k
         born = rw u.birth (let y = x.born in omega arith);
         birth_is = u.birth ∙ x.birth_is;
         keyed = rw (u.is_keyed, u.key) x.keyed;
+        valued = rw (u.is_valued, u.value) x.valued;
         aimed = rw (u.is_aimed, u.link) x.aimed;
       },
       h.2,
@@ -53,7 +56,7 @@ pub not_owned : (a : Incarnations) (pass e : ℕ) (holding : Option Holding) (pl
 not_owned a pass e None place last stamp h n = refl
 not_owned a pass e (Some (Free known)) place last stamp h n = absurd (let u = h.0 in let m : IsNotOf pass (Own pass) = rw u at n in m refl)
 not_owned a pass e (Some (Unlinked reread)) place last stamp h n = absurd (let u = h.0 in let m : IsNotOf pass (Own pass) = rw u at n in m refl)
-not_owned a pass e (Some (InHand known birth key link)) place last stamp h n = absurd (let u = h.0 in let m : IsNotOf pass (Hand pass) = rw u at n in m refl)
+not_owned a pass e (Some (InHand known birth key value link)) place last stamp h n = absurd (let u = h.0 in let m : IsNotOf pass (Hand pass) = rw u at n in m refl)
 
 -- the place, the last incarnation and the stamp of a slot are as before, and the incarnation is untouched
 pub record IsSlotKept (a b : Incarnations) (v : ℕ) : Type 0 where

@@ -42,7 +42,7 @@ stamp_fits : (a : Incarnations) (pass epoch : ℕ) (holding : Option Holding) (p
 stamp_fits a pass epoch None place last stamp fits may = absurd may
 stamp_fits a pass epoch (Some (Free known)) place last stamp fits may = fits.2
 stamp_fits a pass epoch (Some (Unlinked reread)) place last stamp fits may = absurd may
-stamp_fits a pass epoch (Some (InHand known birth key link)) place last stamp fits may = fits.2
+stamp_fits a pass epoch (Some (InHand known birth key value link)) place last stamp fits may = fits.2
 
 -- the stamp that a pass knows of a slot that it may bear in is the stamp that stands there
 pub stamp_known : (shape : Dimensions) (w : World) (a : Incarnations) (notes : ℕ → Notes) (p s : ℕ) → Agrees shape w a notes → MayBear ((w.know p).own s) → w.stamp s ≡ stamp_in ((w.know p).own s)

@@ -8,15 +8,15 @@ use Rattle.vbr_core.specs.Opened.{opening_keys}
 use Rattle.vbr_core.specs.Links.{link_to}
 use Rattle.vbr_core.specs.Knowledge.{Know, birth_of}
 use Rattle.vbr_core.specs.Acceptance.{Accepts, IsFree, IsNextIn}
-use Rattle.vbr_core.specs.Learning.{with_own, with_key, with_link, link_written, birth_in_hand}
+use Rattle.vbr_core.specs.Learning.{with_own, with_key, with_value, with_link, link_written, birth_in_hand}
 use Rattle.vbr_core.specs.Machine.{World, after}
 use Rattle.vbr_core.specs.Incarnations.{State, Incarnations, last_in}
-use Rattle.vbr_core.specs.Images.{key_shown, link_shown}
-use Rattle.vbr_core.specs.Chronicles.{IsRetired, IsStamped, Allowed, Gains, Raises, Keyed, Aims, becomes}
+use Rattle.vbr_core.specs.Images.{key_shown, value_shown, link_shown}
+use Rattle.vbr_core.specs.Chronicles.{IsRetired, IsStamped, Allowed, Gains, Raises, Keyed, Valued, Aims, becomes}
 use Rattle.vbr_core.specs.Sound.{PlaceFits, SlotsSound}
 use Rattle.vbr_core.specs.Notes.{Notes}
 use Rattle.vbr_core.specs.Agreement.{IsNoted, OwnFits, Fits, Agrees}
-use Rattle.vbr_core.specs.declared.event.Step.TheVariants.{Raise, TakeFlag, StoreKey, StoreLink}
+use Rattle.vbr_core.specs.declared.event.Step.TheVariants.{Raise, TakeFlag, StoreKey, StoreValue, StoreLink}
 use Rattle.vbr_core.specs.declared.knowledge.Holding.{Holding}
 use Rattle.vbr_core.specs.declared.knowledge.Holding.TheVariants.{Free, Unlinked, InHand}
 use Rattle.vbr_core.specs.declared.knowledge.SlotPlace.{SlotPlace}
@@ -27,19 +27,19 @@ use Rattle.vbr_core.proofs.SlotFlags.{flag_told}
 use Rattle.vbr_core.proofs.Searches.{birth_low}
 use Rattle.vbr_core.proofs.Noted.{knows_on, knows_own}
 use Rattle.vbr_core.proofs.OwnSlots.{IsSlotKept, owns_changed, lasts_differ}
-use Rattle.vbr_core.proofs.Shown.{image_kept, fits_kept, to_next_same, link_kept, key_kept, birth_kept}
+use Rattle.vbr_core.proofs.Shown.{image_kept, fits_kept, to_next_same, link_kept, key_kept, value_kept, birth_kept}
 use Rattle.vbr_core.proofs.Steps.{StepAgrees, agrees_next, agrees_still, puts_same, at_put, hand_facts, own_not_of, hand_not_of}
 
 -- another slot where only the place of one has changed
 moved_beside : (a : Incarnations) (s v : ℕ) (place : SlotPlace) → v ≢ s → IsSlotKept a (record a { place = put a.place s place }) v
-moved_beside a s v place ne = record { place = put_other a.place s place v ne; last = refl; stamp = refl; untouched = λ c _. record { state = refl; birth = refl; key = refl; is_keyed = refl; link = refl; is_aimed = refl } }
+moved_beside a s v place ne = record { place = put_other a.place s place v ne; last = refl; stamp = refl; untouched = λ c _. record { state = refl; birth = refl; key = refl; is_keyed = refl; value = refl; is_valued = refl; link = refl; is_aimed = refl } }
 
 -- what is known of a free slot
 free_facts : (a : Incarnations) (p s e : ℕ) (holding : Option Holding) → OwnFits a p e holding (a.place s) (a.last s) (a.stamp s) → IsFree holding → (a.place s ≡ Own p) × IsRetired a (a.last s)
 free_facts a p s e None h o = absurd o
 free_facts a p s e (Some (Free known)) h o = (h.0, h.1)
 free_facts a p s e (Some (Unlinked seen)) h o = absurd o
-free_facts a p s e (Some (InHand known birth key link)) h o = absurd o
+free_facts a p s e (Some (InHand known birth key value link)) h o = absurd o
 
 pub step_raise : (shape : Dimensions) (w : World) (a : Incarnations) (notes : ℕ → Notes) (p s : ℕ) → Agrees shape w a notes → Accepts shape (w.know p) (Raise s) → StepAgrees shape w a notes p (Raise s)
 step_raise shape w a notes p s g ok =
@@ -49,7 +49,7 @@ step_raise shape w a notes p s g ok =
       (al, tt),
       agrees_next shape w v a notes (put notes p (notes p)) p (Raises s) g al
           (fits_kept a b refl refl refl refl g.fits)
-          (image_kept v w a b g.image.epoch refl refl refl refl refl (puts_same w.place a.place s Shared g.image.place) refl refl refl refl refl refl refl refl refl g.image)
+          (image_kept v w a b g.image.epoch refl refl refl refl refl refl (puts_same w.place a.place s Shared g.image.place) refl refl refl refl refl refl refl refl refl refl g.image)
           (knows_own b w.know notes p s None (knows_on g.sound (grows shape (opening_keys shape) a p (Raises s) g.sound al) w.know notes g.knows))
           (owns_changed a b w.know p s (with_own (w.know p) s None) refl (λ i ne. put_other (w.know p).own s None i ne)
           (own_not_of p (a.place s) al.0)
@@ -86,7 +86,7 @@ step_take_flag shape w a notes p s g low = go (w.place s) refl
         let v = record w { know = put w.know p x; place = put w.place s (Own p) } in
         agrees_next shape w v a notes (put notes p (notes p)) p (Gains s) g al
         (fits_kept a b refl refl refl refl g.fits)
-        (image_kept v w a b g.image.epoch refl refl refl refl refl (puts_same w.place a.place s (Own p) g.image.place) refl refl refl refl refl refl refl refl refl g.image)
+        (image_kept v w a b g.image.epoch refl refl refl refl refl refl (puts_same w.place a.place s (Own p) g.image.place) refl refl refl refl refl refl refl refl refl refl g.image)
         (knows_own b w.know notes p s (Some (Free (w.stamp s))) (knows_on g.sound (grows shape (opening_keys shape) a p (Gains s) g.sound al) w.know notes g.knows))
         (owns_changed a b w.know p s x refl (λ i ne. put_other (w.know p).own s (Some (Free (w.stamp s))) i ne)
         (λ q ne. rw al tt)
@@ -122,6 +122,7 @@ step_store_key shape w a notes p s key g ok =
             link = λ k. i.link k ∙ sym (link_kept a b refl refl (a.last k) (λ d _. (refl, refl, refl)));
             birth = λ k. i.birth k ∙ sym (birth_kept a b (a.last k) (λ d _. refl));
             key = at_put (λ k y. y ≡ key_shown b (a.last k)) w.key s key (rw x.last (sym (put_here a.key c key))) (λ k ne. i.key k ∙ sym (key_kept a b (a.last k) (λ d e. put_other a.key c key d (lasts_differ g.sound.slots k s c d ne x.last e))));
+            value = λ k. i.value k ∙ sym (value_kept a b (a.last k) (λ d _. refl));
             stamp = i.stamp;
             place = i.place;
           })
@@ -129,8 +130,39 @@ step_store_key shape w a notes p s key g ok =
           (owns_changed a b w.know p s (with_own (w.know p) s own) refl (λ k ne. put_other (w.know p).own s own k ne)
           (hand_not_of p (a.place s) x.place)
           (hand_not_of p (a.place s) x.place)
-          (λ k ne. record { place = refl; last = refl; stamp = refl; untouched = λ d e. let nd = lasts_differ g.sound.slots k s c d ne x.last e in record { state = refl; birth = refl; key = put_other a.key c key d nd; is_keyed = put_other a.is_keyed c true d nd; link = refl; is_aimed = refl } })
-          (rw (put_here (w.know p).own s own, x.holding_is) (x.place, record { node = c; last_is = x.last; state = x.state; born = x.born; birth_is = x.birth_is; keyed = (put_here a.is_keyed c true, put_here a.key c key); aimed = x.aimed }, x.stamp_is))
+          (λ k ne. record { place = refl; last = refl; stamp = refl; untouched = λ d e. let nd = lasts_differ g.sound.slots k s c d ne x.last e in record { state = refl; birth = refl; key = put_other a.key c key d nd; is_keyed = put_other a.is_keyed c true d nd; value = refl; is_valued = refl; link = refl; is_aimed = refl } })
+          (rw (put_here (w.know p).own s own, x.holding_is) (x.place, record { node = c; last_is = x.last; state = x.state; born = x.born; birth_is = x.birth_is; keyed = (put_here a.is_keyed c true, put_here a.key c key); valued = x.valued; aimed = x.aimed }, x.stamp_is))
+          g.owns)
+          g.calls g.births,
+    )
+
+pub step_store_value : (shape : Dimensions) (w : World) (a : Incarnations) (notes : ℕ → Notes) (p s value : ℕ) → Agrees shape w a notes → Accepts shape (w.know p) (StoreValue s value) → StepAgrees shape w a notes p (StoreValue s value)
+step_store_value shape w a notes p s value g ok =
+    let x = hand_facts a p s (w.know p).epoch ((w.know p).own s) (g.owns p s) ok.owned in
+    let c = last_in a s in
+    let b = becomes shape a p (Valued c value) in
+    let v = after shape w p (StoreValue s value) in
+    let own = with_value ((w.know p).own s) value in
+    let i = g.image in (
+      ((x.state, ok.in_shape.1), tt),
+      agrees_next shape w v a notes (put notes p (notes p)) p (Valued c value) g (x.state, ok.in_shape.1)
+          (fits_kept a b refl refl refl refl g.fits)
+          (record {
+            epoch = i.epoch;
+            head = λ k. i.head k ∙ sym (to_next_same a b refl refl 0 (a.first k));
+            link = λ k. i.link k ∙ sym (link_kept a b refl refl (a.last k) (λ d _. (refl, refl, refl)));
+            birth = λ k. i.birth k ∙ sym (birth_kept a b (a.last k) (λ d _. refl));
+            key = λ k. i.key k ∙ sym (key_kept a b (a.last k) (λ d _. refl));
+            value = at_put (λ k y. y ≡ value_shown b (a.last k)) w.value s value (rw x.last (sym (put_here a.value c value))) (λ k ne. i.value k ∙ sym (value_kept a b (a.last k) (λ d e. put_other a.value c value d (lasts_differ g.sound.slots k s c d ne x.last e))));
+            stamp = i.stamp;
+            place = i.place;
+          })
+          (knows_own b w.know notes p s own (knows_on g.sound (grows shape (opening_keys shape) a p (Valued c value) g.sound (x.state, ok.in_shape.1)) w.know notes g.knows))
+          (owns_changed a b w.know p s (with_own (w.know p) s own) refl (λ k ne. put_other (w.know p).own s own k ne)
+          (hand_not_of p (a.place s) x.place)
+          (hand_not_of p (a.place s) x.place)
+          (λ k ne. record { place = refl; last = refl; stamp = refl; untouched = λ d e. let nd = lasts_differ g.sound.slots k s c d ne x.last e in record { state = refl; birth = refl; key = refl; is_keyed = refl; value = put_other a.value c value d nd; is_valued = put_other a.is_valued c true d nd; link = refl; is_aimed = refl } })
+          (rw (put_here (w.know p).own s own, x.holding_is) (x.place, record { node = c; last_is = x.last; state = x.state; born = x.born; birth_is = x.birth_is; keyed = x.keyed; valued = (put_here a.is_valued c true, put_here a.value c value); aimed = x.aimed }, x.stamp_is))
           g.owns)
           g.calls g.births,
     )
@@ -168,6 +200,7 @@ step_store_link shape w a notes p s next g ok =
             link = at_put (λ k y. y ≡ link_shown b (a.last k)) w.link s link (rw (x.last, x.state) (sym (put_here a.link c link))) (λ k ne. i.link k ∙ sym (link_kept a b refl refl (a.last k) (λ d e. (refl, put_other a.link c link d (lasts_differ g.sound.slots k s c d ne x.last e), refl))));
             birth = λ k. i.birth k ∙ sym (birth_kept a b (a.last k) (λ d _. refl));
             key = λ k. i.key k ∙ sym (key_kept a b (a.last k) (λ d _. refl));
+            value = λ k. i.value k ∙ sym (value_kept a b (a.last k) (λ d _. refl));
             stamp = i.stamp;
             place = i.place;
           })
@@ -175,8 +208,8 @@ step_store_link shape w a notes p s next g ok =
           (owns_changed a b w.know p s (with_own (w.know p) s own) refl (λ k ne. put_other (w.know p).own s own k ne)
           (hand_not_of p (a.place s) x.place)
           (hand_not_of p (a.place s) x.place)
-          (λ k ne. record { place = refl; last = refl; stamp = refl; untouched = λ d e. let nd = lasts_differ g.sound.slots k s c d ne x.last e in record { state = refl; birth = refl; key = refl; is_keyed = refl; link = put_other a.link c link d nd; is_aimed = put_other a.is_aimed c true d nd } })
-          (rw (put_here (w.know p).own s own) (rw (ap (λ h. with_link h link) x.holding_is) (x.place, record { node = c; last_is = x.last; state = x.state; born = x.born; birth_is = x.birth_is; keyed = x.keyed; aimed = (put_here a.is_aimed c true, put_here a.link c link) }, x.stamp_is)))
+          (λ k ne. record { place = refl; last = refl; stamp = refl; untouched = λ d e. let nd = lasts_differ g.sound.slots k s c d ne x.last e in record { state = refl; birth = refl; key = refl; is_keyed = refl; value = refl; is_valued = refl; link = put_other a.link c link d nd; is_aimed = put_other a.is_aimed c true d nd } })
+          (rw (put_here (w.know p).own s own) (rw (ap (λ h. with_link h link) x.holding_is) (x.place, record { node = c; last_is = x.last; state = x.state; born = x.born; birth_is = x.birth_is; keyed = x.keyed; valued = x.valued; aimed = (put_here a.is_aimed c true, put_here a.link c link) }, x.stamp_is)))
           g.owns)
           g.calls g.births,
     )

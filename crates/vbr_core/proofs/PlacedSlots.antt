@@ -145,7 +145,7 @@ hand_state : (a : Incarnations) (p e : ℕ) (known : Option Holding) (last : Opt
 hand_state a p e None last stamp o = absurd (o refl)
 hand_state a p e (Some (holding.Free known)) last stamp o = absurd (let u = o.0 in cc)
 hand_state a p e (Some (holding.Unlinked reread)) last stamp o = absurd (let u = o.0 in cc)
-hand_state a p e (Some (holding.InHand known birth key link)) last stamp o = let x = o.1 in rw x.last_is x.state
+hand_state a p e (Some (holding.InHand known birth key value link)) last stamp o = let x = o.1 in rw x.last_is x.state
 
 -- a slot of a pass is of one that knows of it
 owner_low : (shape : Dimensions) (passes : ℕ) (run : List Event) (p s : ℕ) (place : SlotPlace) → IsRun shape passes run → OwnFits (incarnations_after shape run) p (know_after shape run p).epoch ((know_after shape run p).own s) place ((incarnations_after shape run).last s) ((incarnations_after shape run).stamp s) → (IsNotOf p place → ⊥) → p < passes

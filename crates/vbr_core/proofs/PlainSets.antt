@@ -11,7 +11,7 @@ use Rattle.vbr_core.specs.declared.history.Op.{Op}
 use Rattle.vbr_core.specs.declared.history.Op.TheVariants.{Insert, Remove}
 
 -- a query that compares equal to a number is that number
-at_is_eq : (q k : ℕ) → is_at (nat_cmp q) k ≡ nat_eq q k
+pub at_is_eq : (q k : ℕ) → is_at (nat_cmp q) k ≡ nat_eq q k
 at_is_eq q k = grind (arith, nat_tests)
 
 -- an ordered set has the keys of its list

@@ -59,6 +59,7 @@ module _ (shape : Dimensions) (w : World) (a : Incarnations) (notes : ℕ → No
     link = own_link;
     above = m.behind (a.key (last_in a s)) ok.held.1.1 ready.behind;
     below = m.before (a.key (last_in a s)) ok.held.2.1 ready.before;
+    valued = ready.valued;
   }
 
   pub slot_is : a.slot (last_in a s) ≡ s

@@ -8,17 +8,18 @@ use Rattle.vbr_words.specs.declared.place.At.{At}
 use Rattle.vbr_words.specs.declared.place.At.TheVariants.{Head, Slot}
 use Rattle.vbr_core.specs.Put.{put}
 use Rattle.vbr_core.specs.Acceptance.{Accepts}
-use Rattle.vbr_core.specs.Learning.{reads_won, link_written, birth_in_hand, key_in_hand, link_in_hand}
+use Rattle.vbr_core.specs.Learning.{reads_won, link_written, birth_in_hand, key_in_hand, value_in_hand, link_in_hand}
 use Rattle.vbr_core.specs.Machine.{World}
 use Rattle.vbr_core.specs.Incarnations.{Linked, InHand, Incarnations, last_in}
-use Rattle.vbr_core.specs.Images.{birth_shown, key_shown, link_in_state, link_shown}
+use Rattle.vbr_core.specs.Images.{birth_shown, key_shown, value_shown, link_in_state, link_shown}
 use Rattle.vbr_core.specs.Chronicles.{Inserts, IsOpen, next_of, becomes}
 use Rattle.vbr_core.specs.Notes.{Notes, before_at, last_at, shown_at, note_of}
 use Rattle.vbr_core.specs.Agreement.{IsHeldIncarnation, IsGoodLink, IsGood, IsOfHeldOne, Agrees}
 use Rattle.vbr_core.specs.declared.event.Step.TheVariants.{Publish}
-use Rattle.vbr_core.specs.declared.knowledge.Read.TheVariants.{LinkAt, BirthOf, KeyOf}
+use Rattle.vbr_core.specs.declared.knowledge.Read.TheVariants.{LinkAt, BirthOf, KeyOf, ValueOf}
 use Rattle.vbr_core.proofs.Puts.{put_here, put_other}
 use Rattle.vbr_core.proofs.HeldReads.{stays_at, stays_next}
+use Rattle.vbr_core.proofs.ValueReads.{of_value}
 use Rattle.vbr_core.proofs.StandingLinks.{LinkStands, node_at}
 use Rattle.vbr_core.proofs.PublishSteps.{ready, own_link, new_link, old_links, gr, held_new, birth_there_low, next_low}
 
@@ -73,7 +74,7 @@ module _ (shape : Dimensions) (w : World) (a : Incarnations) (notes : ℕ → No
                     next = rw (own_is ∙ r.link_ready) (stays_next g.sound grow e (link_of expected).slot (next_of a (before_at a pred)) le m.next);
                     frozen = λ z. let y = ap (λ (i : Link). i.mark) (own_is ∙ r.link_ready) in absurd (cc);
                   }),
-              tt,
+              of_value (λ read. IsGood b e (note_of b read)) s (value_in_hand own) (λ x q. one_as b s e a.value x c (a.last s) r.last h (r.value_is x q)),
             ),
           ),
         ),
@@ -92,7 +93,7 @@ module _ (shape : Dimensions) (w : World) (a : Incarnations) (notes : ℕ → No
             ap (KeyOf s) (r.key_is ∙ sym (ap (key_shown b) r.last)),
             (
               ap (LinkAt (Slot s)) (r.link_is ∙ sym (ap (link_in_state a c) r.state) ∙ sym (ap (link_shown a) r.last) ∙ sym (old_links shape w a notes p pred expected s g ok m (Slot s) other)),
-              tt,
+              of_value (λ read. read ≡ shown_at b read) s (value_in_hand ((w.know p).own s)) (λ x q. ap (ValueOf s) (sym (r.value_is x q) ∙ sym (ap (value_shown b) r.last))),
             ),
           ),
         ),

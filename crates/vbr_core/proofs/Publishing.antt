@@ -1,7 +1,7 @@
 -- The step that inserts a node keeps the agreement.
-use Rattle.std.proofs.Common.{◌≡◌, ℕ, true, false, [], ◌∷◌, ◌++◌, None, refl, sym, ap, ◌∙◌, inl, inr}
-use Rattle.std.specs.Prelude.{◌⊎◌, ◌==◌}
-use Rattle.std.proofs.lemmas.Bool.{cases_Bool, eqb-true}
+use Rattle.std.proofs.Common.{◌≡◌, ℕ, Bool, true, false, [], ◌∷◌, ◌++◌, None, refl, sym, ap, ◌∙◌}
+use Rattle.std.specs.Prelude.{◌==◌, if◌then◌else◌}
+use Rattle.std.proofs.lemmas.Bool.{eqb-true}
 use Rattle.vbr_words.specs.Dimensions.{Dimensions}
 use Rattle.vbr_words.specs.Words.{word_of, link_of}
 use Rattle.vbr_words.specs.declared.place.At.{At}
@@ -9,11 +9,13 @@ use Rattle.vbr_words.specs.declared.place.At.TheVariants.{Head, Slot}
 use Rattle.vbr_core.specs.Put.{put}
 use Rattle.vbr_words.specs.Buckets.{bucket_of}
 use Rattle.vbr_core.specs.Acceptance.{Accepts}
-use Rattle.vbr_core.specs.Learning.{with_own, with_checked, reads_won, link_written, key_in_hand}
+use Rattle.vbr_core.specs.Learning.{with_own, with_checked, reads_won, link_written, key_in_hand, value_in_hand}
+use Rattle.vbr_core.specs.Opened.{opening_keys, kept}
 use Rattle.vbr_core.specs.Machine.{World, with_link_at}
 use Rattle.vbr_core.specs.Machine as machine
 use Rattle.vbr_core.specs.Incarnations.{Linked, Incarnations, last_in}
-use Rattle.vbr_core.specs.Chronicles.{Inserts, becomes}
+use Rattle.vbr_core.specs.Chronicles.{Inserts, IsLawful, becomes, incarnations_from}
+use Rattle.vbr_core.specs.Accounts.{just}
 use Rattle.vbr_core.specs.Notes.{Notes, before_at, with_won}
 use Rattle.vbr_core.specs.Agreement.{Agrees}
 use Rattle.vbr_core.specs.declared.history.Op.TheVariants.{Insert}
@@ -22,19 +24,26 @@ use Rattle.vbr_core.specs.declared.knowledge.SlotPlace.TheVariants.{Listed}
 use Rattle.vbr_core.proofs.Puts.{put_here, put_other}
 use Rattle.vbr_core.proofs.Noted.{knows_on, knows_put, noted_beside, noted_checked}
 use Rattle.vbr_core.proofs.OwnSlots.{owns_changed, lasts_differ}
-use Rattle.vbr_core.proofs.Shown.{fits_kept, key_kept, birth_kept}
+use Rattle.vbr_core.proofs.Shown.{fits_kept, key_kept, value_kept, birth_kept}
 use Rattle.vbr_core.proofs.StandingLinks.{LinkStands, link_stands}
 use Rattle.vbr_core.proofs.Exchanges.{exchanged}
 use Rattle.vbr_core.proofs.PublishSteps.{ready, may_insert, slot_is, new_link, old_links, gr}
 use Rattle.vbr_core.proofs.PublishedNotes.{goods, shown}
 use Rattle.vbr_core.proofs.Steps.{StepAgrees, agrees_next, agrees_still, puts_same, hand_not_of}
 
+-- what a publication leaves, by whether it wins
+abbrev Published : Dimensions → World → (Bool → World) → Incarnations → (ℕ → Notes) → ℕ → At → ℕ → ℕ → Bool → Type 0
+Published shape w v a notes p pred expected s t =
+    let adds = if t then just p (Inserts (last_in a s) (before_at a pred)) else [] in
+    IsLawful shape (opening_keys shape) a adds
+    × Agrees shape (if t then v t else w) (incarnations_from shape a adds) (put notes p (if t then with_won (incarnations_from shape a adds) (notes p) (reads_won (w.know p) (Publish pred expected s)) else notes p))
+
 made : (shape : Dimensions) (w : World) (a : Incarnations) (notes : ℕ → Notes) (p : ℕ) (pred : At) (expected s : ℕ) (g : Agrees shape w a notes) (ok : Accepts shape (w.know p) (Publish pred expected s)) (m : LinkStands shape a (w.know p).epoch (w.know p).checked pred (link_of expected)) (v : World) →
     v.epoch ≡ w.epoch → ((k : ℕ) → v.head k ≡ machine.link_at (with_link_at w pred (link_written (w.know p) (Publish pred expected s))) (Head k)) → ((k : ℕ) → v.link k ≡ machine.link_at (with_link_at w pred (link_written (w.know p) (Publish pred expected s))) (Slot k)) →
-    v.birth ≡ w.birth → v.key ≡ w.key → v.stamp ≡ w.stamp → v.place ≡ put w.place s (Listed (bucket_of shape (key_in_hand ((w.know p).own s)))) →
-    v.know ≡ put w.know p (with_own (with_checked (w.know p) (reads_won (w.know p) (Publish pred expected s))) s None) → v.calls ≡ w.calls ++ record { who = p; op = Insert; key = key_in_hand ((w.know p).own s); reply = true } ∷ [] → v.births ≡ w.births →
+    v.birth ≡ w.birth → v.key ≡ w.key → v.value ≡ w.value → v.stamp ≡ w.stamp → v.place ≡ put w.place s (Listed (bucket_of shape (key_in_hand ((w.know p).own s)))) →
+    v.know ≡ put w.know p (with_own (with_checked (w.know p) (reads_won (w.know p) (Publish pred expected s))) s None) → v.calls ≡ w.calls ++ record { who = p; op = Insert; key = key_in_hand ((w.know p).own s); reply = true; value = kept shape (value_in_hand ((w.know p).own s)) } ∷ [] → v.births ≡ w.births →
     Agrees shape v (becomes shape a p (Inserts (last_in a s) (before_at a pred))) (put notes p (with_won (becomes shape a p (Inserts (last_in a s) (before_at a pred))) (notes p) (reads_won (w.know p) (Publish pred expected s))))
-made shape w a notes p pred expected s g ok m v ve vh vl vb vk vs vp vn vc vt =
+made shape w a notes p pred expected s g ok m v ve vh vl vb vk vw vs vp vn vc vt =
     let c = last_in a s in
     let b = becomes shape a p (Inserts c (before_at a pred)) in
     let i = g.image in
@@ -56,6 +65,7 @@ made shape w a notes p pred expected s g ok m v ve vh vl vb vk vs vp vn vc vt =
       link = λ k. vl k ∙ links (Slot k);
       birth = λ k. ap (λ f. f k) vb ∙ i.birth k ∙ sym (birth_kept a b (a.last k) (λ d _. refl));
       key = λ k. ap (λ f. f k) vk ∙ i.key k ∙ sym (key_kept a b (a.last k) (λ d _. refl));
+      value = λ k. ap (λ f. f k) vw ∙ i.value k ∙ sym (value_kept a b (a.last k) (λ d _. refl));
       stamp = λ k. ap (λ f. f k) vs ∙ i.stamp k;
       place = λ k. ap (λ f. f k) vp ∙ ap (λ j. put w.place s (Listed (bucket_of shape j)) k) r.key_is ∙ puts_same w.place a.place s listed i.place k ∙ sym (place k);
     })
@@ -64,24 +74,40 @@ made shape w a notes p pred expected s g ok m v ve vh vl vb vk vs vp vn vc vt =
     (rw vn (owns_changed a b w.know p s x refl (λ k ne. put_other (w.know p).own s None k ne)
     (hand_not_of p (a.place s) r.place)
     (λ q ne. rw (place s ∙ put_here a.place s listed) tt)
-    (λ k ne. record { place = place k ∙ put_other a.place s listed k ne; last = refl; stamp = refl; untouched = λ d e. record { state = put_other a.state c Linked d (lasts_differ g.sound.slots k s c d ne r.last e); birth = refl; key = refl; is_keyed = refl; link = refl; is_aimed = refl } })
+    (λ k ne. record { place = place k ∙ put_other a.place s listed k ne; last = refl; stamp = refl; untouched = λ d e. record { state = put_other a.state c Linked d (lasts_differ g.sound.slots k s c d ne r.last e); birth = refl; key = refl; is_keyed = refl; value = refl; is_valued = refl; link = refl; is_aimed = refl } })
     (rw (put_here (w.know p).own s None, place s ∙ put_here a.place s listed) tt)
     g.owns))
-    (vc ∙ ap (λ l. l ++ record { who = p; op = Insert; key = key_in_hand ((w.know p).own s); reply = true } ∷ []) g.calls ∙ ap (λ j. a.calls ++ record { who = p; op = Insert; key = j; reply = true } ∷ []) r.key_is)
+    (vc ∙ ap (λ l. l ++ record { who = p; op = Insert; key = key_in_hand ((w.know p).own s); reply = true; value = kept shape (value_in_hand ((w.know p).own s)) } ∷ []) g.calls ∙ (λ i. a.calls ++ record { who = p; op = Insert; key = r.key_is i; reply = true; value = r.payload i } ∷ []))
     (vt ∙ g.births)
 
 pub step_publish : (shape : Dimensions) (w : World) (a : Incarnations) (notes : ℕ → Notes) (p : ℕ) (pred : At) (expected s : ℕ) → Agrees shape w a notes → Accepts shape (w.know p) (Publish pred expected s) → StepAgrees shape w a notes p (Publish pred expected s)
-step_publish shape w a notes p (Head h) expected s g ok = go (cases_Bool (word_of (w.head h) == expected))
+step_publish shape w a notes p (Head h) expected s g ok = go (word_of (w.head h) == expected) refl
   where
-    go : ((word_of (w.head h) == expected) ≡ true) ⊎ ((word_of (w.head h) == expected) ≡ false) → StepAgrees shape w a notes p (Publish (Head h) expected s)
-    go (inr f) = rw f (tt, agrees_still shape w a notes p g)
-    go (inl t) =
+    v : Bool → World
+    v t = record w {
+      know = put w.know p (if t then with_own (with_checked (w.know p) (reads_won (w.know p) (Publish (Head h) expected s))) s None else w.know p);
+      head = put w.head h (link_written (w.know p) (Publish (Head h) expected s));
+      place = put w.place s (Listed (bucket_of shape (key_in_hand ((w.know p).own s))));
+      calls = w.calls ++ record { who = p; op = Insert; key = key_in_hand ((w.know p).own s); reply = true; value = kept shape (value_in_hand ((w.know p).own s)) } ∷ [];
+    }
+
+    go : (t : Bool) → (word_of (w.head h) == expected) ≡ t → Published shape w v a notes p (Head h) expected s t
+    go false f = (tt, agrees_still shape w a notes p g)
+    go true t =
         let m = link_stands shape w a notes p g (Head h) expected ok.held.0 ok.in_range.0 (eqb-true (word_of (w.head h)) expected t) in
-        rw t ((may_insert shape w a notes p (Head h) expected s g ok m, tt), made shape w a notes p (Head h) expected s g ok m _ refl (λ k. refl) (λ k. refl) refl refl refl refl refl refl refl)
-step_publish shape w a notes p (Slot q) expected s g ok = go (cases_Bool (word_of (w.link q) == expected))
+        ((may_insert shape w a notes p (Head h) expected s g ok m, tt), made shape w a notes p (Head h) expected s g ok m (v true) refl (λ k. refl) (λ k. refl) refl refl refl refl refl refl refl refl)
+step_publish shape w a notes p (Slot q) expected s g ok = go (word_of (w.link q) == expected) refl
   where
-    go : ((word_of (w.link q) == expected) ≡ true) ⊎ ((word_of (w.link q) == expected) ≡ false) → StepAgrees shape w a notes p (Publish (Slot q) expected s)
-    go (inr f) = rw f (tt, agrees_still shape w a notes p g)
-    go (inl t) =
+    v : Bool → World
+    v t = record w {
+      know = put w.know p (if t then with_own (with_checked (w.know p) (reads_won (w.know p) (Publish (Slot q) expected s))) s None else w.know p);
+      link = put w.link q (link_written (w.know p) (Publish (Slot q) expected s));
+      place = put w.place s (Listed (bucket_of shape (key_in_hand ((w.know p).own s))));
+      calls = w.calls ++ record { who = p; op = Insert; key = key_in_hand ((w.know p).own s); reply = true; value = kept shape (value_in_hand ((w.know p).own s)) } ∷ [];
+    }
+
+    go : (t : Bool) → (word_of (w.link q) == expected) ≡ t → Published shape w v a notes p (Slot q) expected s t
+    go false f = (tt, agrees_still shape w a notes p g)
+    go true t =
         let m = link_stands shape w a notes p g (Slot q) expected ok.held.0 ok.in_range.0 (eqb-true (word_of (w.link q)) expected t) in
-        rw t ((may_insert shape w a notes p (Slot q) expected s g ok m, tt), made shape w a notes p (Slot q) expected s g ok m _ refl (λ k. refl) (λ k. refl) refl refl refl refl refl refl refl)
+        ((may_insert shape w a notes p (Slot q) expected s g ok m, tt), made shape w a notes p (Slot q) expected s g ok m (v true) refl (λ k. refl) (λ k. refl) refl refl refl refl refl refl refl refl)

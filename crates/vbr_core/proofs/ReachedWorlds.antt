@@ -1,8 +1,8 @@
 -- A world stays one that a run led to, and so its calls are legal.
 use Rattle.std.proofs.Common.{◌≡◌, ℕ, List, [], ◌∷◌, ◌++◌, length, Result, Ok, Err, OnOk, OnErr, sym, subst, ap, ◌∙◌}
 use Rattle.vbr_words.specs.Dimensions.{Dimensions}
-use Rattle.vbr_core.specs.Opened.{opening_keys}
-use Rattle.vbr_core.specs.History.{IsLegal}
+use Rattle.vbr_core.specs.Opened.{opening_keys, opening_payloads}
+use Rattle.vbr_core.specs.History.{IsLegal, GiveStored}
 use Rattle.vbr_core.specs.Machine.{World, after}
 use Rattle.vbr_core.specs.Runs.{IsAccepted, IsRun, world_after}
 use Rattle.vbr_core.specs.Kept.{KeptWorld, world_of}
@@ -34,3 +34,9 @@ pub reached_legal : (kept : KeptWorld) → IsReached kept → IsLegal (opening_k
 reached_legal kept r =
     let safe = every_run kept.shape (length kept.passes) r.run r.shape r.is_run in
     let P : List Call → Type 0 = IsLegal (opening_keys kept.shape) in subst P (sym (ap (λ w. w.calls) r.world)) safe.legal
+
+-- and give the values that were stored
+pub reached_values : (kept : KeptWorld) → IsReached kept → GiveStored (opening_payloads kept.shape) kept.calls
+reached_values kept r =
+    let safe = every_run kept.shape (length kept.passes) r.run r.shape r.is_run in
+    let P : List Call → Type 0 = GiveStored (opening_payloads kept.shape) in subst P (sym (ap (λ w. w.calls) r.world)) safe.values

@@ -24,7 +24,7 @@ use Rattle.vbr_core.specs.declared.event.Effect.TheVariants.{Won, Lost}
 use Rattle.vbr_core.specs.declared.event.Step.{Step}
 use Rattle.vbr_core.specs.declared.event.Step.TheVariants.{Publish, Mark, Unlink}
 use Rattle.vbr_core.specs.declared.knowledge.Read.{Read}
-use Rattle.vbr_core.specs.declared.knowledge.Read.TheVariants.{LinkAt, BirthOf, KeyOf}
+use Rattle.vbr_core.specs.declared.knowledge.Read.TheVariants.{LinkAt, BirthOf, KeyOf, ValueOf}
 use Rattle.vbr_core.proofs.Puts.{put_here, put_other}
 use Rattle.vbr_core.proofs.Slots.{listed_last}
 use Rattle.vbr_core.proofs.Searches.{same_link_true}
@@ -42,6 +42,7 @@ link_names : (reads : List Read) (at : At) (link : Link) (t : ℕ) → knows_lin
 link_names [] at link t h e = absurd (cc)
 link_names (BirthOf v b ∷ reads) at link t h e = link_names reads at link t h e
 link_names (KeyOf v b ∷ reads) at link t h e = link_names reads at link t h e
+link_names (ValueOf v b ∷ reads) at link t h e = link_names reads at link t h e
 link_names (LinkAt here seen ∷ reads) at link t h e = elim (cases_Bool (names seen.slot t)) [
   | inl k ↦ rw k refl
   | inr k ↦ rw k (elim (cases_Bool (same_at here at && same_link seen link)) [

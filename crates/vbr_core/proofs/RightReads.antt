@@ -11,7 +11,7 @@ use Rattle.vbr_core.specs.Sound.{Sound}
 use Rattle.vbr_core.specs.Notes.{Note, Notes, IsAmong, LinkNames, Holds, HoldsJust, IsOfHeld, ReadsHeld, AreRightReads}
 use Rattle.vbr_core.specs.Agreement.{IsHeldIncarnation, IsHeldNext, IsGoodRead, IsGood, IsAsShown, reads_of, IsNoted}
 use Rattle.vbr_core.specs.declared.knowledge.Read.{Read}
-use Rattle.vbr_core.specs.declared.knowledge.Read.TheVariants.{LinkAt, BirthOf, KeyOf}
+use Rattle.vbr_core.specs.declared.knowledge.Read.TheVariants.{LinkAt, BirthOf, KeyOf, ValueOf}
 use Rattle.vbr_core.proofs.Slots.{one_late}
 use Rattle.vbr_core.proofs.HeldSlots.{IsOfHeldPlace, ReadsHeldPlaces}
 
@@ -28,6 +28,7 @@ moved a e s t c d p q h = let P : ℕ → Type 0 = λ i. IsHeldIncarnation a e i
 gives_held : (a : Incarnations) (e s c : ℕ) (read : Read) (of named : Option ℕ) → IsGoodRead a e read of named → LinkNames read s → named ≡ Some c → IsHeldIncarnation a e s c
 gives_held a e s c (BirthOf v b) of named g n q = absurd n
 gives_held a e s c (KeyOf v b) of named g n q = absurd n
+gives_held a e s c (ValueOf v b) of named g n q = absurd n
 gives_held a e s c (LinkAt at link) of named g n q = go link.slot named g.next n q
   where
     go : (o m : Option ℕ) → IsHeldNext a e o m → o ≡ Some s → m ≡ Some c → IsHeldIncarnation a e s c
@@ -62,6 +63,7 @@ holds_some a e (note ∷ notes) s q al = go note.read refl (λ r. let x = holds_
     go : (read : Read) → note.read ≡ read → (holds (reads_of notes) s ≡ true → (c : ℕ) × Holds (note ∷ notes) s c) → (c : ℕ) × Holds (note ∷ notes) s c
     go (BirthOf v b) r rest = rest (rw r at q)
     go (KeyOf v b) r rest = rest (rw r at q)
+    go (ValueOf v b) r rest = rest (rw r at q)
     go (LinkAt at link) r rest = elim (cases_Bool (names link.slot s)) [
       | inl k ↦
           let g : IsGoodRead a e (LinkAt at link) note.of note.names = rw r at al.0 in
@@ -94,7 +96,9 @@ reads_held snd e notes al (LinkAt (Slot s) link) (Some c) named q g = of_held sn
 reads_held snd e notes al (BirthOf s b) None named q g = absurd g
 reads_held snd e notes al (BirthOf s b) (Some c) named q g = of_held snd e notes al s c q g.0
 reads_held snd e notes al (KeyOf s b) None named q g = absurd g
+reads_held snd e notes al (ValueOf s b) None named q g = absurd g
 reads_held snd e notes al (KeyOf s b) (Some c) named q g = of_held snd e notes al s c q g.0
+reads_held snd e notes al (ValueOf s b) (Some c) named q g = of_held snd e notes al s c q g.0
 
 of_held_among : (checked : List Read) (note : Note) (notes : List Note) → AllByRecursion (IsOfHeldPlace checked) (reads_of notes) → IsAmong note notes → IsOfHeldPlace checked note.read
 of_held_among checked note [] h m = absurd m

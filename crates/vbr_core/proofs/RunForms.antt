@@ -8,12 +8,12 @@ use Rattle.vbr_words.specs.declared.link.Link.{Link}
 use Rattle.vbr_words.specs.declared.place.At.{At}
 use Rattle.vbr_words.specs.declared.place.At.TheVariants.{Head, Slot}
 use Rattle.vbr_core.specs.Put.{put}
-use Rattle.vbr_core.specs.Opened.{opening_keys}
+use Rattle.vbr_core.specs.Opened.{opening_keys, kept}
 use Rattle.vbr_core.specs.History.{set_after}
 use Rattle.vbr_core.specs.Knowledge.{key_in, birth_in}
 use Rattle.vbr_words.specs.Buckets.{bucket_of}
 use Rattle.vbr_core.specs.Acceptance.{Accepts}
-use Rattle.vbr_core.specs.Learning.{link_written, call_of, present_reply}
+use Rattle.vbr_core.specs.Learning.{link_written, call_of, present_reply, present_value}
 use Rattle.vbr_core.specs.Machine.{World, opening, link_at, found, after}
 use Rattle.vbr_core.specs.Runs.{AreAccepted, IsRun, world_after, know_after}
 use Rattle.vbr_core.specs.Moments.{WasShown}
@@ -28,9 +28,9 @@ use Rattle.vbr_core.specs.declared.event.Event.{Event}
 use Rattle.vbr_core.specs.declared.event.Step.{Step}
 use Rattle.vbr_core.specs.declared.event.Step.TheVariants.{LoadLink, Mark, ConfirmPresent, ConfirmAbsent}
 use Rattle.vbr_core.specs.declared.history.Op.{Op}
-use Rattle.vbr_core.specs.declared.history.Op.TheVariants.{Remove}
+use Rattle.vbr_core.specs.declared.history.Op.TheVariants.{Remove, Get}
 use Rattle.vbr_core.specs.declared.knowledge.Read.{Read}
-use Rattle.vbr_core.specs.declared.knowledge.Read.TheVariants.{LinkAt, BirthOf, KeyOf}
+use Rattle.vbr_core.specs.declared.knowledge.Read.TheVariants.{LinkAt, BirthOf, KeyOf, ValueOf}
 use Rattle.vbr_core.proofs.Growth.{grows_after}
 use Rattle.vbr_core.proofs.Steps.{agrees_at_first, at_put}
 use Rattle.vbr_core.proofs.KnownReads as reads
@@ -109,6 +109,9 @@ module _ (shape : Dimensions) (passes : ℕ) (run : List Event) (is : IsShape sh
   pub key_held : (s key : ℕ) → Knows (know_after shape run p) (KeyOf s key) → IsHeldSlot (know_after shape run p) s
   key_held s key k = slot_known (know_after shape run p) s (of_held (KeyOf s key) k)
 
+  pub value_held : (s value : ℕ) → Knows (know_after shape run p) (ValueOf s value) → IsHeldSlot (know_after shape run p) s
+  value_held s value k = slot_known (know_after shape run p) s (of_held (ValueOf s value) k)
+
   -- a known key of a slot that is held in a bucket is one of the bucket
   pub held_in_bucket : (s b key : ℕ) → HeldIn (know_after shape run p) (Slot s) b → Knows (know_after shape run p) (KeyOf s key) → bucket_of shape key ≡ b
   held_in_bucket s b key h k = buckets.held_in_bucket agrees.sound (agrees.knows p) ordered s b key h k
@@ -124,12 +127,14 @@ module _ (shape : Dimensions) (passes : ℕ) (run : List Event) (is : IsShape sh
   pub written_is : (step : Step) (new : Link) → WritesLink (know_after shape run p) step new → link_written (know_after shape run p) step ≡ new
   written_is step new h = acceptance.written_is agrees.sound (agrees.knows p) step new h
 
-  -- the calls of a mark and of a confirming load of a slot are of any known key
-  pub marked_call_is : (s expected key : ℕ) → Knows (know_after shape run p) (KeyOf s key) → call_of p (know_after shape run p) (Mark s expected) ≡ Some (record { who = p; op = Remove; key = key; reply = true })
-  marked_call_is s expected key k = acceptance.marked_call_is agrees.sound (agrees.knows p) p s expected key k
+  -- the calls of a mark and of a confirming load of a slot are of any known key, and of any known value
+  pub marked_call_is : (s expected key value : ℕ) → Knows (know_after shape run p) (KeyOf s key) → (shape.values ≡ true → Knows (know_after shape run p) (ValueOf s value)) →
+      call_of shape p (know_after shape run p) (Mark s expected) ≡ Some (record { who = p; op = Remove; key = key; reply = true; value = kept shape (Some value) })
+  marked_call_is s expected key value k v = acceptance.marked_call_is agrees.sound (agrees.knows p) p s expected key value k v
 
-  pub confirmed_call_is : (op : Op) (s expected key : ℕ) → Knows (know_after shape run p) (KeyOf s key) → call_of p (know_after shape run p) (ConfirmPresent op s expected) ≡ Some (record { who = p; op = op; key = key; reply = present_reply op })
-  confirmed_call_is op s expected key k = acceptance.confirmed_call_is agrees.sound (agrees.knows p) p op s expected key k
+  pub confirmed_call_is : (op : Op) (s expected key value : ℕ) → Knows (know_after shape run p) (KeyOf s key) → (op ≡ Get → Knows (know_after shape run p) (ValueOf s value)) →
+      call_of shape p (know_after shape run p) (ConfirmPresent op s expected) ≡ Some (record { who = p; op = op; key = key; reply = present_reply op; value = present_value op (Some value) })
+  confirmed_call_is op s expected key value k v = acceptance.confirmed_call_is agrees.sound (agrees.knows p) p op s expected key value k v
 
   -- the link that stands at a place is that of the word that a load finds there
   pub link_loaded : (at : At) → link_at (world_after shape run) at ≡ link_of (found shape (world_after shape run) (LoadLink at))

@@ -19,7 +19,7 @@ use Rattle.vbr_core.specs.Calls.{calls_added, own_calls}
 use Rattle.vbr_core.specs.declared.history.Call.{Call}
 use Rattle.vbr_core.specs.declared.event.Event.{Event}
 use Rattle.vbr_core.specs.declared.event.Step.{Step}
-use Rattle.vbr_core.specs.declared.event.Step.TheVariants.{ReadEpoch, Advance, LoadStamp, StoreStamp, Raise, TakeFlag, StoreBirth, StoreKey, StoreLink, LoadLink, LoadBirth, LoadKey, Publish, Mark, Unlink, ConfirmPresent, ConfirmAbsent}
+use Rattle.vbr_core.specs.declared.event.Step.TheVariants.{ReadEpoch, Advance, LoadStamp, StoreStamp, Raise, TakeFlag, StoreBirth, StoreKey, StoreLink, LoadLink, LoadBirth, LoadKey, Publish, Mark, Unlink, ConfirmPresent, ConfirmAbsent, StoreValue, LoadValue}
 use Rattle.vbr_core.proofs.Puts.{put_here, put_other}
 use Rattle.vbr_core.proofs.Branches.{by_both}
 
@@ -115,10 +115,12 @@ know_other shape w p q (Raise s) ne = put_other w.know q _ p ne
 know_other shape w p q (TakeFlag s) ne = by_both (has_flag (found shape w (TakeFlag s)) s) (λ v. v.know p) _ w (w.know p) (put_other w.know q _ p ne) refl
 know_other shape w p q (StoreBirth s birth) ne = put_other w.know q _ p ne
 know_other shape w p q (StoreKey s key) ne = put_other w.know q _ p ne
+know_other shape w p q (StoreValue s value) ne = put_other w.know q _ p ne
 know_other shape w p q (StoreLink s next) ne = put_other w.know q _ p ne
 know_other shape w p q (LoadLink at) ne = put_other w.know q _ p ne
 know_other shape w p q (LoadBirth s) ne = put_other w.know q _ p ne
 know_other shape w p q (LoadKey s) ne = put_other w.know q _ p ne
+know_other shape w p q (LoadValue s) ne = put_other w.know q _ p ne
 know_other shape w p q (Publish (Head b) expected s) ne = by_both (word_of (w.head b) == expected) (λ v. v.know p) _ w (w.know p) (put_other w.know q _ p ne) refl
 know_other shape w p q (Publish (Slot t) expected s) ne = by_both (word_of (w.link t) == expected) (λ v. v.know p) _ w (w.know p) (put_other w.know q _ p ne) refl
 know_other shape w p q (Mark s expected) ne = by_both (word_of (w.link s) == expected) (λ v. v.know p) _ w (w.know p) (put_other w.know q _ p ne) refl
@@ -142,10 +144,12 @@ know_own shape w p (Raise s) = put_here w.know p _
 know_own shape w p (TakeFlag s) = taught (has_flag (found shape w (TakeFlag s)) s) _ w p _ refl
 know_own shape w p (StoreBirth s birth) = put_here w.know p _
 know_own shape w p (StoreKey s key) = put_here w.know p _
+know_own shape w p (StoreValue s value) = put_here w.know p _
 know_own shape w p (StoreLink s next) = put_here w.know p _
 know_own shape w p (LoadLink at) = put_here w.know p _
 know_own shape w p (LoadBirth s) = put_here w.know p _
 know_own shape w p (LoadKey s) = put_here w.know p _
+know_own shape w p (LoadValue s) = put_here w.know p _
 know_own shape w p (Publish (Head b) expected s) = taught (word_of (w.head b) == expected) _ w p _ refl
 know_own shape w p (Publish (Slot t) expected s) = taught (word_of (w.link t) == expected) _ w p _ refl
 know_own shape w p (Mark s expected) = taught (word_of (w.link s) == expected) _ w p _ refl
@@ -207,10 +211,12 @@ calls_after shape w p (Raise s) = sym (append-nil w.calls)
 calls_after shape w p (TakeFlag s) = silent (has_flag (found shape w (TakeFlag s)) s) _ w refl
 calls_after shape w p (StoreBirth s birth) = sym (append-nil w.calls)
 calls_after shape w p (StoreKey s key) = sym (append-nil w.calls)
+calls_after shape w p (StoreValue s value) = sym (append-nil w.calls)
 calls_after shape w p (StoreLink s next) = sym (append-nil w.calls)
 calls_after shape w p (LoadLink at) = sym (append-nil w.calls)
 calls_after shape w p (LoadBirth s) = sym (append-nil w.calls)
 calls_after shape w p (LoadKey s) = sym (append-nil w.calls)
+calls_after shape w p (LoadValue s) = sym (append-nil w.calls)
 calls_after shape w p (Publish (Head b) expected s) = calling (word_of (w.head b) == expected) _ w _ refl
 calls_after shape w p (Publish (Slot t) expected s) = calling (word_of (w.link t) == expected) _ w _ refl
 calls_after shape w p (Mark s expected) = calling (word_of (w.link s) == expected) _ w _ refl
@@ -224,19 +230,19 @@ pub calls_by-append : (who : ℕ) (xs ys : List Call) → calls_by who (xs ++ ys
 calls_by-append who xs ys = filter-append (λ call. call.who == who) xs ys
 
 -- the call of a step is one of its pass
-called_by : (p : ℕ) (know : Know) (step : Step) → IfSome (call_of p know step) (λ call. call.who ≡ p)
-called_by p know (Publish pred expected s) = refl
-called_by p know (Mark s expected) = refl
-called_by p know (ConfirmPresent op s expected) = refl
-called_by p know (ConfirmAbsent op key at expected) = refl
-called_by p know _ = tt
+called_by : (shape : Dimensions) (p : ℕ) (know : Know) (step : Step) → IfSome (call_of shape p know step) (λ call. call.who ≡ p)
+called_by shape p know (Publish pred expected s) = refl
+called_by shape p know (Mark s expected) = refl
+called_by shape p know (ConfirmPresent op s expected) = refl
+called_by shape p know (ConfirmAbsent op key at expected) = refl
+called_by shape p know _ = tt
 
 if_made : (b : Bool) (p : ℕ) (made : Option Call) → IfSome made (λ call. call.who ≡ p) → IfSome (cond b made None) (λ call. call.who ≡ p)
 if_made true p made by = by
 if_made false p made by = tt
 
 made_by : (shape : Dimensions) (w : World) (p : ℕ) (step : Step) → IfSome (call_made shape w p step) (λ call. call.who ≡ p)
-made_by shape w p step = if_made (succeeds step (found shape w step)) p (call_of p (w.know p) step) (called_by p (w.know p) step)
+made_by shape w p step = if_made (succeeds step (found shape w step)) p (call_of shape p (w.know p) step) (called_by shape p (w.know p) step)
 
 listed_own : (p : ℕ) (made : Option Call) → IfSome made (λ call. call.who ≡ p) → calls_by p (option_to_list made) ≡ option_to_list made
 listed_own p None by = refl

@@ -10,14 +10,14 @@ use Rattle.vbr_core.specs.Acceptance.{MayBear, Accepts}
 use Rattle.vbr_core.specs.Machine.{World, opening, found, stamp_shown, after}
 use Rattle.vbr_core.specs.Runs.{IsAccepted, AreAccepted, world_from, world_after, IsRun}
 use Rattle.vbr_core.specs.Incarnations.{State, Incarnations}
-use Rattle.vbr_core.specs.Images.{birth_shown, key_shown, link_shown, IsImage}
+use Rattle.vbr_core.specs.Images.{birth_shown, key_shown, value_shown, link_shown, IsImage}
 use Rattle.vbr_core.specs.Chronicles.{IsStamped, IsRetired}
 use Rattle.vbr_core.specs.Accounts.{incarnations_after, notes_after}
 use Rattle.vbr_core.specs.Agreement.{IsNotOf, IsStored, OwnFits, Agrees}
 use Rattle.vbr_core.specs.Safety.{IsWordOf, IsOwnerRight, IsOver, IsLastOver, BearsAfter, IsSafe}
 use Rattle.vbr_core.specs.declared.event.Event.{Event}
 use Rattle.vbr_core.specs.declared.event.Step.{Step}
-use Rattle.vbr_core.specs.declared.event.Step.TheVariants.{ReadEpoch, Advance, LoadStamp, StoreStamp, Raise, TakeFlag, StoreBirth, StoreKey, StoreLink, LoadLink, LoadBirth, LoadKey, Publish, Mark, Unlink, ConfirmPresent, ConfirmAbsent}
+use Rattle.vbr_core.specs.declared.event.Step.TheVariants.{ReadEpoch, Advance, LoadStamp, StoreStamp, Raise, TakeFlag, StoreBirth, StoreKey, StoreLink, LoadLink, LoadBirth, LoadKey, Publish, Mark, Unlink, ConfirmPresent, ConfirmAbsent, StoreValue, LoadValue}
 use Rattle.vbr_core.specs.declared.knowledge.Holding.{Holding}
 use Rattle.vbr_core.specs.declared.knowledge.Holding.TheVariants.{Free, Unlinked, InHand}
 use Rattle.vbr_core.specs.declared.knowledge.SlotPlace.{SlotPlace}
@@ -59,10 +59,11 @@ owner_right : (w : World) (a : Incarnations) (p e s : ℕ) (holding : Option Hol
 owner_right w a p e s None i o = let P : SlotPlace → Type 0 = IsNotOf p in subst P (sym (i.place s)) o
 owner_right w a p e s (Some (Free stamp)) i o = (i.place s ∙ o.0, i.stamp s ∙ o.2)
 owner_right w a p e s (Some (Unlinked reread)) i o = i.place s ∙ o.0
-owner_right w a p e s (Some (InHand stamp birth key link)) i o =
+owner_right w a p e s (Some (InHand stamp birth key value link)) i o =
     let x = o.1 in
     let b : w.birth s ≡ a.birth x.node = i.birth s ∙ ap (birth_shown a) x.last_is in
     let k : w.key s ≡ a.key x.node = i.key s ∙ ap (key_shown a) x.last_is in
+    let v : w.value s ≡ a.value x.node = i.value s ∙ ap (value_shown a) x.last_is in
     let shown : link_shown a (Some x.node) ≡ a.link x.node = rw x.state refl in
     let l : w.link s ≡ a.link x.node = i.link s ∙ ap (link_shown a) x.last_is ∙ shown in (
       i.place s ∙ o.0,
@@ -70,6 +71,7 @@ owner_right w a p e s (Some (InHand stamp birth key link)) i o =
       b ∙ x.birth_is,
       word_of_stored (a.is_keyed x.node) (a.key x.node) (w.key s) key k x.keyed,
       word_of_stored (a.is_aimed x.node) (a.link x.node) (w.link s) link l x.aimed,
+      word_of_stored (a.is_valued x.node) (a.value x.node) (w.value s) value v x.valued,
     )
 
 -- ---- births
@@ -86,7 +88,7 @@ last_over a p e s (Some (Free stamp)) m o = go (a.last s) o.1
     go : (l : Option ℕ) → IsRetired a l → IsLastOver a p l
     go None r = tt
     go (Some c) r = retired_over (a.state c) p r
-last_over a p e s (Some (InHand stamp birth key link)) m o = let x = o.1 in rw (x.last_is, x.state) refl
+last_over a p e s (Some (InHand stamp birth key value link)) m o = let x = o.1 in rw (x.last_is, x.state) refl
 
 bears_after : (shape : Dimensions) (run : List Event) (p : ℕ) (step : Step) → Agrees shape (world_after shape run) (incarnations_after shape run) (notes_after shape run) → Accepts shape ((world_after shape run).know p) step → BearsAfter shape run p step
 bears_after shape run p (StoreBirth s birth) g ok = last_over (incarnations_after shape run) p ((world_after shape run).know p).epoch s (((world_after shape run).know p).own s) ok.owned (g.owns p s)
@@ -97,10 +99,12 @@ bears_after shape run p (StoreStamp s stamp) g ok = tt
 bears_after shape run p (Raise s) g ok = tt
 bears_after shape run p (TakeFlag s) g ok = tt
 bears_after shape run p (StoreKey s key) g ok = tt
+bears_after shape run p (StoreValue s value) g ok = tt
 bears_after shape run p (StoreLink s next) g ok = tt
 bears_after shape run p (LoadLink at) g ok = tt
 bears_after shape run p (LoadBirth s) g ok = tt
 bears_after shape run p (LoadKey s) g ok = tt
+bears_after shape run p (LoadValue s) g ok = tt
 bears_after shape run p (Publish pred expected s) g ok = tt
 bears_after shape run p (Mark s expected) g ok = tt
 bears_after shape run p (Unlink pred expected s) g ok = tt
@@ -127,6 +131,7 @@ every_run shape passes run is ok =
       image = g.image;
       calls = g.calls;
       legal = rw g.calls g.tells.legal;
+      values = rw g.calls g.tells.values;
       births = g.births;
       epoch = rw g.image.epoch g.fits.epoch;
       links = λ at. (let P : Link → Type 0 = IsLink in subst P (sym (stands w a at g.image)) (image_fits g.sound g.fits at));

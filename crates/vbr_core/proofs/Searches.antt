@@ -9,14 +9,14 @@ use Rattle.vbr_words.specs.declared.link.Link.{Link}
 use Rattle.vbr_words.specs.declared.place.At.{At}
 use Rattle.vbr_words.specs.declared.place.At.TheVariants.{Head, Slot}
 use Rattle.vbr_core.specs.Links.{same_slot, same_mark, same_link}
-use Rattle.vbr_core.specs.Knowledge.{same_at, knows_link, birth_in, key_in, marked_in, names, holds, birth_of}
+use Rattle.vbr_core.specs.Knowledge.{same_at, knows_link, birth_in, key_in, marked_in, names, holds, birth_of, value_in}
 use Rattle.vbr_core.specs.Incarnations.{Incarnations}
 use Rattle.vbr_core.specs.Images.{birth_shown}
 use Rattle.vbr_core.specs.Sound.{SlotsSound}
 use Rattle.vbr_core.specs.Notes.{Note}
 use Rattle.vbr_core.specs.Agreement.{IsHeldIncarnation, IsHeldNext, IsGoodLink, IsGoodRead, IsGood, reads_of}
 use Rattle.vbr_core.specs.declared.knowledge.Read.{Read}
-use Rattle.vbr_core.specs.declared.knowledge.Read.TheVariants.{LinkAt, BirthOf, KeyOf}
+use Rattle.vbr_core.specs.declared.knowledge.Read.TheVariants.{LinkAt, BirthOf, KeyOf, ValueOf}
 use Rattle.vbr_core.proofs.Slots.{one_late}
 
 -- ---- tests
@@ -55,6 +55,7 @@ birth_found a e (note ∷ notes) s b q g = go note.read note.of note.names g.0 q
     go : (read : Read) (of named : Option ℕ) → IsGoodRead a e read of named → birth_in (read ∷ reads_of notes) s ≡ Some b → (birth_in (reads_of notes) s ≡ Some b → (c : ℕ) × IsHeldIncarnation a e s c × (a.birth c ≡ b)) → (c : ℕ) × IsHeldIncarnation a e s c × (a.birth c ≡ b)
     go (LinkAt at link) of named h q rest = rest q
     go (KeyOf v k) of named h q rest = rest q
+    go (ValueOf v k) of named h q rest = rest q
     go (BirthOf v d) None named h q rest = absurd h
     go (BirthOf v d) (Some c) named h q rest = elim (cases_eq v s) [
       | inl k ↦ let r : Some d ≡ Some b = rw (eq-eqb v s k) at q in (c, moved a e s v c k h.0, h.1 ∙ cc)
@@ -69,8 +70,24 @@ key_found a e (note ∷ notes) s b q g = go note.read note.of note.names g.0 q (
     go : (read : Read) (of named : Option ℕ) → IsGoodRead a e read of named → key_in (read ∷ reads_of notes) s ≡ Some b → (key_in (reads_of notes) s ≡ Some b → (c : ℕ) × IsHeldIncarnation a e s c × (a.key c ≡ b)) → (c : ℕ) × IsHeldIncarnation a e s c × (a.key c ≡ b)
     go (LinkAt at link) of named h q rest = rest q
     go (BirthOf v k) of named h q rest = rest q
+    go (ValueOf v k) of named h q rest = rest q
     go (KeyOf v d) None named h q rest = absurd h
     go (KeyOf v d) (Some c) named h q rest = elim (cases_eq v s) [
+      | inl k ↦ let r : Some d ≡ Some b = rw (eq-eqb v s k) at q in (c, moved a e s v c k h.0, h.1 ∙ cc)
+      | inr k ↦ rest (rw (ne_eqb v s k) at q)
+    ]
+
+-- a value that is found is that of an incarnation held there
+pub value_found : (a : Incarnations) (e : ℕ) (notes : List Note) (s b : ℕ) → value_in (reads_of notes) s ≡ Some b → AllByRecursion (IsGood a e) notes → (c : ℕ) × IsHeldIncarnation a e s c × (a.value c ≡ b)
+value_found a e [] s b q g = absurd (cc)
+value_found a e (note ∷ notes) s b q g = go note.read note.of note.names g.0 q (λ r. value_found a e notes s b r g.1)
+  where
+    go : (read : Read) (of named : Option ℕ) → IsGoodRead a e read of named → value_in (read ∷ reads_of notes) s ≡ Some b → (value_in (reads_of notes) s ≡ Some b → (c : ℕ) × IsHeldIncarnation a e s c × (a.value c ≡ b)) → (c : ℕ) × IsHeldIncarnation a e s c × (a.value c ≡ b)
+    go (LinkAt at link) of named h q rest = rest q
+    go (BirthOf v k) of named h q rest = rest q
+    go (KeyOf v k) of named h q rest = rest q
+    go (ValueOf v d) None named h q rest = absurd h
+    go (ValueOf v d) (Some c) named h q rest = elim (cases_eq v s) [
       | inl k ↦ let r : Some d ≡ Some b = rw (eq-eqb v s k) at q in (c, moved a e s v c k h.0, h.1 ∙ cc)
       | inr k ↦ rest (rw (ne_eqb v s k) at q)
     ]
@@ -88,6 +105,7 @@ held_found a e (note ∷ notes) s q g = go note.read note.of note.names g.0 q (�
     go : (read : Read) (of named : Option ℕ) → IsGoodRead a e read of named → holds (read ∷ reads_of notes) s ≡ true → (holds (reads_of notes) s ≡ true → (c : ℕ) × IsHeldIncarnation a e s c) → (c : ℕ) × IsHeldIncarnation a e s c
     go (BirthOf v k) of named h q rest = rest q
     go (KeyOf v k) of named h q rest = rest q
+    go (ValueOf v k) of named h q rest = rest q
     go (LinkAt at link) of named h q rest = elim (cases_Bool (names link.slot s)) [
       | inl k ↦ named_held a e s link.slot named k h.next
       | inr k ↦ rest (rw k at q)
@@ -101,6 +119,7 @@ link_found a e (note ∷ notes) at link q g = go note.read note.of note.names g.
     go : (read : Read) (of named : Option ℕ) → IsGoodRead a e read of named → knows_link (read ∷ reads_of notes) at link ≡ true → (knows_link (reads_of notes) at link ≡ true → (of : Option ℕ) × (named : Option ℕ) × IsGoodLink a e at link of named) → (of : Option ℕ) × (named : Option ℕ) × IsGoodLink a e at link of named
     go (BirthOf v k) of named h q rest = rest q
     go (KeyOf v k) of named h q rest = rest q
+    go (ValueOf v k) of named h q rest = rest q
     go (LinkAt here seen) of named h q rest = elim (cases_Bool (same_at here at && same_link seen link)) [
       | inl k ↦ let u = and_parts (same_at here at) (same_link seen link) k in (of, named, rw (← same_at_true here at u.0, ← same_link_true seen link u.1) h)
       | inr k ↦ rest (rw k at q)
@@ -114,6 +133,7 @@ marked_found a e (note ∷ notes) s link q g = go note.read note.of note.names g
     go : (read : Read) (of named : Option ℕ) → IsGoodRead a e read of named → marked_in (read ∷ reads_of notes) s ≡ Some link → (marked_in (reads_of notes) s ≡ Some link → (of : Option ℕ) × (named : Option ℕ) × IsGoodLink a e (Slot s) link of named × (link.mark ≡ true)) → (of : Option ℕ) × (named : Option ℕ) × IsGoodLink a e (Slot s) link of named × (link.mark ≡ true)
     go (BirthOf v k) of named h q rest = rest q
     go (KeyOf v k) of named h q rest = rest q
+    go (ValueOf v k) of named h q rest = rest q
     go (LinkAt here seen) of named h q rest = elim (cases_Bool (same_at here (Slot s) && seen.mark)) [
       | inl k ↦ let u = and_parts (same_at here (Slot s)) seen.mark k in let r : Some seen ≡ Some link = rw k at q in let z : seen ≡ link = cc in (of, named, rw (← same_at_true here (Slot s) u.0, ← z) h, rw (← z) u.1)
       | inr k ↦ rest (rw k at q)
@@ -138,6 +158,15 @@ key_is {shape} {a} snd e notes reads s c q al h k = go (key_in reads s) refl k
     go (Some b) r k =
         let x = key_found a e notes s b (rw q at r) al in
         sym x.2 ∙ ap a.key (one_late snd x.0 c e (x.1.slot ∙ sym h.slot) x.1.late h.late x.1.birth h.birth)
+
+pub value_is : {shape : Dimensions} {a : Incarnations} → SlotsSound shape a → (e : ℕ) (notes : List Note) (reads : List Read) (s c : ℕ) → reads ≡ reads_of notes → AllByRecursion (IsGood a e) notes → IsHeldIncarnation a e s c → IsSome (value_in reads s) → unwrap_or (value_in reads s) 0 ≡ a.value c
+value_is {shape} {a} snd e notes reads s c q al h k = go (value_in reads s) refl k
+  where
+    go : (o : Option ℕ) → value_in reads s ≡ o → IsSome o → unwrap_or o 0 ≡ a.value c
+    go None r k = absurd (cc)
+    go (Some b) r k =
+        let x = value_found a e notes s b (rw q at r) al in
+        sym x.2 ∙ ap a.value (one_late snd x.0 c e (x.1.slot ∙ sym h.slot) x.1.late h.late x.1.birth h.birth)
 
 pub birth_of_is : {shape : Dimensions} {a : Incarnations} → SlotsSound shape a → (e : ℕ) (notes : List Note) (reads : List Read) (v n : Option ℕ) → reads ≡ reads_of notes → AllByRecursion (IsGood a e) notes → IsHeldNext a e v n → IsSome (birth_of reads v) → unwrap_or (birth_of reads v) 0 ≡ birth_shown a n
 birth_of_is snd e notes reads None None q al h k = refl

@@ -10,7 +10,7 @@ use Rattle.vbr_core.specs.Links.{marked}
 use Rattle.vbr_core.specs.Machine.{World}
 use Rattle.vbr_core.specs.Machine as machine
 use Rattle.vbr_core.specs.Incarnations.{State, Unborn, InHand, GivenUp, Linked, Marked, Unlinked, Stamped, Incarnations, IsLate}
-use Rattle.vbr_core.specs.Images.{birth_shown, key_shown, link_to_next, link_in_state, link_shown, link_shown_at, IsImage}
+use Rattle.vbr_core.specs.Images.{birth_shown, key_shown, value_shown, link_to_next, link_in_state, link_shown, link_shown_at, IsImage}
 use Rattle.vbr_core.specs.Sound.{Sound}
 use Rattle.vbr_core.specs.Agreement.{Fits}
 use Rattle.vbr_core.proofs.Slots.{late_born, listed_late}
@@ -41,19 +41,24 @@ pub key_kept : (a b : Incarnations) (l : Option ℕ) → ((c : ℕ) → l ≡ So
 key_kept a b None k = refl
 key_kept a b (Some c) k = k c refl
 
+pub value_kept : (a b : Incarnations) (l : Option ℕ) → ((c : ℕ) → l ≡ Some c → b.value c ≡ a.value c) → value_shown b l ≡ value_shown a l
+value_kept a b None k = refl
+value_kept a b (Some c) k = k c refl
+
 pub birth_kept : (a b : Incarnations) (l : Option ℕ) → ((c : ℕ) → l ≡ Some c → b.birth c ≡ a.birth c) → birth_shown b l ≡ birth_shown a l
 birth_kept a b None k = refl
 birth_kept a b (Some c) k = k c refl
 
 -- the image where no word changes but perhaps the epoch and places
-pub image_kept : (v w : World) (a b : Incarnations) → v.epoch ≡ b.epoch → v.head ≡ w.head → v.link ≡ w.link → v.birth ≡ w.birth → v.key ≡ w.key → v.stamp ≡ w.stamp → ((s : ℕ) → v.place s ≡ b.place s) →
-    b.slot ≡ a.slot → b.birth ≡ a.birth → b.key ≡ a.key → b.link ≡ a.link → b.next ≡ a.next → b.state ≡ a.state → b.first ≡ a.first → b.last ≡ a.last → b.stamp ≡ a.stamp → IsImage w a → IsImage v b
-image_kept v w a b e eh el eb ek et place asl abi ak ali an ast af ala ats i = record {
+pub image_kept : (v w : World) (a b : Incarnations) → v.epoch ≡ b.epoch → v.head ≡ w.head → v.link ≡ w.link → v.birth ≡ w.birth → v.key ≡ w.key → v.value ≡ w.value → v.stamp ≡ w.stamp → ((s : ℕ) → v.place s ≡ b.place s) →
+    b.slot ≡ a.slot → b.birth ≡ a.birth → b.key ≡ a.key → b.value ≡ a.value → b.link ≡ a.link → b.next ≡ a.next → b.state ≡ a.state → b.first ≡ a.first → b.last ≡ a.last → b.stamp ≡ a.stamp → IsImage w a → IsImage v b
+image_kept v w a b e eh el eb ek ev et place asl abi ak av ali an ast af ala ats i = record {
   epoch = e;
   head = λ k. ap (λ f. f k) eh ∙ i.head k ∙ sym (ap (λ f. link_to_next b 0 (f k)) af ∙ to_next_same a b asl abi 0 (a.first k));
   link = λ s. ap (λ f. f s) el ∙ i.link s ∙ sym (ap (λ f. link_shown b (f s)) ala ∙ link_kept a b asl abi (a.last s) (λ c q. (ap (λ f. f c) ast, ap (λ f. f c) ali, ap (λ f. f c) an)));
   birth = λ s. ap (λ f. f s) eb ∙ i.birth s ∙ sym (ap (λ f. birth_shown b (f s)) ala ∙ birth_kept a b (a.last s) (λ c q. ap (λ f. f c) abi));
   key = λ s. ap (λ f. f s) ek ∙ i.key s ∙ sym (ap (λ f. key_shown b (f s)) ala ∙ key_kept a b (a.last s) (λ c q. ap (λ f. f c) ak));
+  value = λ s. ap (λ f. f s) ev ∙ i.value s ∙ sym (ap (λ f. value_shown b (f s)) ala ∙ value_kept a b (a.last s) (λ c q. ap (λ f. f c) av));
   stamp = λ s. ap (λ f. f s) et ∙ i.stamp s ∙ sym (ap (λ f. f s) ats);
   place = place;
 }

@@ -8,7 +8,7 @@ use Rattle.vbr_words.specs.declared.link.Link.{Link}
 use Rattle.vbr_core.specs.Put.{put}
 use Rattle.vbr_core.specs.Keys.{Keys}
 use Rattle.vbr_core.specs.Incarnations.{State, Unborn, InHand, Stamped, Incarnations}
-use Rattle.vbr_core.specs.Chronicles.{Happening, Advances, Gains, Probes, Raises, GivesUp, Bears, Keyed, Aims, Inserts, Removes, Unlinks, Stamps, Answers, Before, MayBeBornIn, MayStamp, unlinked_at, Allowed, becomes}
+use Rattle.vbr_core.specs.Chronicles.{Happening, Advances, Gains, Probes, Raises, GivesUp, Bears, Keyed, Valued, Aims, Inserts, Removes, Unlinks, Stamps, Answers, Before, MayBeBornIn, MayStamp, unlinked_at, Allowed, becomes}
 use Rattle.vbr_core.specs.Sound.{IsPassed, TimesFit, StampFits, SlotsSound}
 use Rattle.vbr_core.specs.declared.history.Call.{Call}
 use Rattle.vbr_core.specs.declared.knowledge.SlotPlace.{SlotPlace}
@@ -82,6 +82,20 @@ slots_keyed shape keys a pass c key s h = record {
   links = s.links;
   unused = s.unused;
   placed = λ i p q. let u = s.placed i p q in grind (arith, nat_tests);
+}
+
+slots_valued : (shape : Dimensions) (a : Incarnations) (pass c value : ℕ) → SlotsSound shape a → SlotsSound shape (becomes shape a pass (Valued c value))
+slots_valued shape a pass c value s = record {
+  last_born = s.last_born;
+  has_last = s.has_last;
+  unborn = s.unborn;
+  passed = s.passed;
+  born = s.born;
+  times = s.times;
+  stamps = s.stamps;
+  links = s.links;
+  unused = s.unused;
+  placed = s.placed;
 }
 
 slots_aims : (shape : Dimensions) (keys : Keys) (a : Incarnations) (pass c : ℕ) (link : Link) → SlotsSound shape a → Allowed shape keys a pass (Aims c link) → SlotsSound shape (becomes shape a pass (Aims c link))
@@ -256,6 +270,7 @@ slots_kept shape keys a pass (Raises v) s h = slots_raises shape keys a pass v s
 slots_kept shape keys a pass (GivesUp c) s h = slots_gives_up shape keys a pass c s h
 slots_kept shape keys a pass (Bears v birth) s h = slots_bears shape keys a pass v birth s h
 slots_kept shape keys a pass (Keyed c key) s h = slots_keyed shape keys a pass c key s h
+slots_kept shape keys a pass (Valued c value) s h = slots_valued shape a pass c value s
 slots_kept shape keys a pass (Aims c link) s h = slots_aims shape keys a pass c link s h
 slots_kept shape keys a pass (Inserts c behind) s h = slots_inserts shape keys a pass c behind s h
 slots_kept shape keys a pass (Removes c) s h = slots_removes shape keys a pass c s h

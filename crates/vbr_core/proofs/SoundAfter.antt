@@ -8,12 +8,12 @@ use Rattle.vbr_core.specs.Keys.{Keys}
 use Rattle.vbr_words.specs.Buckets.{bucket_of}
 use Rattle.vbr_core.specs.Opened.{key_count, has_opening_key, key_number, key_behind}
 use Rattle.vbr_core.specs.Incarnations.{Unborn, Linked, Incarnations, opening_state, opening_last, at_opening}
-use Rattle.vbr_core.specs.Chronicles.{Happening, Advances, Gains, Probes, Raises, GivesUp, Bears, Keyed, Aims, Inserts, Removes, Unlinks, Stamps, Answers, AtHead, AtNode, Entry, Allowed, becomes, incarnations_from, IsLawful}
+use Rattle.vbr_core.specs.Chronicles.{Happening, Advances, Gains, Probes, Raises, GivesUp, Bears, Keyed, Valued, Aims, Inserts, Removes, Unlinks, Stamps, Answers, AtHead, AtNode, Entry, Allowed, becomes, incarnations_from, IsLawful}
 use Rattle.vbr_core.specs.Sound.{IsListed, TimesFit, StampFits, IsUnused, IsApart, ListsSound, Sound}
 use Rattle.vbr_core.specs.declared.knowledge.SlotPlace.TheVariants.{Shared, Listed}
 use Rattle.vbr_core.proofs.OpeningKeys.{opens_with_one_or_none, rises, first_key_is, first_key_up_to, key_behind_is, key_behind_up_to}
 use Rattle.vbr_core.proofs.SlotsAfter.{slots_kept}
-use Rattle.vbr_core.proofs.ListsAfter.{lists_advances, lists_gains, lists_raises, lists_gives_up, lists_bears, lists_keyed, lists_aims, lists_removes, lists_stamps, lists_answers}
+use Rattle.vbr_core.proofs.ListsAfter.{lists_advances, lists_gains, lists_raises, lists_gives_up, lists_bears, lists_keyed, lists_valued, lists_aims, lists_removes, lists_stamps, lists_answers}
 use Rattle.vbr_core.proofs.InsertedLists.{lists_inserts_at_head, lists_inserts_at_node}
 use Rattle.vbr_core.proofs.UnlinkedLists.{lists_unlinks_at_head, lists_unlinks_at_node}
 
@@ -25,6 +25,7 @@ lists_kept shape keys a pass (Raises v) s h = lists_raises shape a pass v s
 lists_kept shape keys a pass (GivesUp c) s h = lists_gives_up shape keys a pass c s h
 lists_kept shape keys a pass (Bears v birth) s h = lists_bears shape keys a pass v birth s h
 lists_kept shape keys a pass (Keyed c key) s h = lists_keyed shape keys a pass c key s h
+lists_kept shape keys a pass (Valued c value) s h = lists_valued shape a pass c value s
 lists_kept shape keys a pass (Aims c link) s h = lists_aims shape a pass c link s
 lists_kept shape keys a pass (Inserts c (AtHead b)) s h = lists_inserts_at_head shape a pass c b s h
 lists_kept shape keys a pass (Inserts c (AtNode p)) s h = lists_inserts_at_node shape a pass c p s h

@@ -5,11 +5,11 @@ use Rattle.std.proofs.lemmas.List.{get_or_past}
 use Rattle.std.proofs.lemmas.Bool.{cases_eq, cond-true, cond-false}
 use Rattle.vbr_words.specs.Dimensions.{Dimensions, IsShape}
 use Rattle.vbr_core.specs.Put.{put}
-use Rattle.vbr_core.specs.Opened.{opening_keys, key_count, has_opening_key, key_number, opening_birth, first_key, key_behind, link_to_key, link_at_opening}
+use Rattle.vbr_core.specs.Opened.{opening_keys, key_count, has_opening_key, key_number, value_number, opening_birth, first_key, key_behind, link_to_key, link_at_opening}
 use Rattle.vbr_core.specs.Machine.{World, opening, after}
 use Rattle.vbr_core.specs.Incarnations.{Incarnations, opening_last, at_opening, last_in}
 use Rattle.vbr_core.specs.Incarnations as state
-use Rattle.vbr_core.specs.Images.{birth_shown, key_shown, link_to_next, link_in_state, link_shown, IsImage}
+use Rattle.vbr_core.specs.Images.{birth_shown, key_shown, value_shown, link_to_next, link_in_state, link_shown, IsImage}
 use Rattle.vbr_core.specs.Chronicles.{Happening, IsLawful, Allowed, becomes, incarnations_from}
 use Rattle.vbr_core.specs.Notes.{Notes, no_notes, notes_with}
 use Rattle.vbr_core.specs.Accounts.{happens}
@@ -65,6 +65,13 @@ key_shown_at_first shape s = go (opens_with_one_or_none shape s)
     go (inl low) = sym (ap (key_shown (at_opening shape)) (cond-true (has_opening_key shape s) (Some s) None low.1))
     go (inr high) = get_or_past shape.keys s 0 high.0 ∙ sym (ap (key_shown (at_opening shape)) (cond-false (has_opening_key shape s) (Some s) None high.1))
 
+value_shown_at_first : (shape : Dimensions) (s : ℕ) → value_number shape s ≡ value_shown (at_opening shape) (opening_last shape s)
+value_shown_at_first shape s = go (opens_with_one_or_none shape s)
+  where
+    go : ((s < key_count shape) × (has_opening_key shape s ≡ true)) ⊎ ((key_count shape ≤ s) × (has_opening_key shape s ≡ false)) → value_number shape s ≡ value_shown (at_opening shape) (opening_last shape s)
+    go (inl low) = sym (ap (value_shown (at_opening shape)) (cond-true (has_opening_key shape s) (Some s) None low.1))
+    go (inr high) = cond-false (has_opening_key shape s) _ 0 high.1 ∙ sym (ap (value_shown (at_opening shape)) (cond-false (has_opening_key shape s) (Some s) None high.1))
+
 -- the words at opening are the image of the incarnations then
 image_at_first : (shape : Dimensions) → IsImage (opening shape) (at_opening shape)
 image_at_first shape = record {
@@ -73,6 +80,7 @@ image_at_first shape = record {
   link = link_shown_at_first shape;
   birth = birth_shown_at_first shape;
   key = key_shown_at_first shape;
+  value = value_shown_at_first shape;
   stamp = λ s. refl;
   place = λ s. refl;
 }
@@ -85,7 +93,7 @@ no_owner_at_first false bucket pass = tt
 pub agrees_at_first : (shape : Dimensions) → IsShape shape → Agrees shape (opening shape) (at_opening shape) (λ p. no_notes)
 agrees_at_first shape is = record {
   sound = sound_at_first shape is.ascending;
-  tells = tells_at_first shape;
+  tells = tells_at_first shape is.ascending;
   fits = record { is_shape = is; epoch = let u = is.some_epoch in omega arith; slot = λ c low. let few = is.few in omega (arith, few); link = λ c. record { slot = tt; version = omega arith } };
   image = image_at_first shape;
   knows = λ p. record { epoch = omega arith; checked_reads = refl; pending_reads = refl; checked_shown = tt; pending_shown = tt; checked = tt; pending = λ e. tt };
@@ -149,19 +157,21 @@ pub record HandFacts (a : Incarnations) (p s epoch : ℕ) (holding : Option Hold
   pub stamp : ℕ
   pub birth : ℕ
   pub key : Option ℕ
+  pub value : Option ℕ
   pub link : Option Link
-  pub holding_is : holding ≡ Some (InHand stamp birth key link)
+  pub holding_is : holding ≡ Some (InHand stamp birth key value link)
   pub stamp_is : a.stamp s ≡ stamp
   pub born : a.birth (last_in a s) ≤ epoch
   pub birth_is : a.birth (last_in a s) ≡ birth
   pub keyed : IsStored (a.is_keyed (last_in a s)) (a.key (last_in a s)) key
+  pub valued : IsStored (a.is_valued (last_in a s)) (a.value (last_in a s)) value
   pub aimed : IsStored (a.is_aimed (last_in a s)) (a.link (last_in a s)) link
 
 pub hand_facts : (a : Incarnations) (p s epoch : ℕ) (holding : Option Holding) → OwnFits a p epoch holding (a.place s) (a.last s) (a.stamp s) → IsInHand holding → HandFacts a p s epoch holding
 hand_facts a p s epoch None h o = absurd o
 hand_facts a p s epoch (Some (Free known)) h o = absurd o
 hand_facts a p s epoch (Some (Unlinked seen)) h o = absurd o
-hand_facts a p s epoch (Some (InHand known birth key link)) h o =
+hand_facts a p s epoch (Some (InHand known birth key value link)) h o =
     let x = h.1 in
     let l : last_in a s ≡ x.node = rw x.last_is refl in
     record {
@@ -171,12 +181,14 @@ hand_facts a p s epoch (Some (InHand known birth key link)) h o =
       stamp = known;
       birth = birth;
       key = key;
+      value = value;
       link = link;
       holding_is = refl;
       stamp_is = h.2;
       born = rw l x.born;
       birth_is = ap a.birth l ∙ x.birth_is;
       keyed = rw l x.keyed;
+      valued = rw l x.valued;
       aimed = rw l x.aimed;
     }
 
@@ -191,7 +203,7 @@ pub record UnlinkedFacts (a : Incarnations) (p s epoch : ℕ) (holding : Option 
 pub unlinked_facts : (a : Incarnations) (p s epoch : ℕ) (holding : Option Holding) → OwnFits a p epoch holding (a.place s) (a.last s) (a.stamp s) → IsUnlinked holding → UnlinkedFacts a p s epoch holding
 unlinked_facts a p s epoch None h o = absurd o
 unlinked_facts a p s epoch (Some (Free known)) h o = absurd o
-unlinked_facts a p s epoch (Some (InHand known birth key link)) h o = absurd o
+unlinked_facts a p s epoch (Some (InHand known birth key value link)) h o = absurd o
 unlinked_facts a p s epoch (Some (Unlinked reread)) h o =
     let x = h.1 in
     let l : last_in a s ≡ x.node = rw x.last_is refl in

@@ -27,7 +27,7 @@ use Rattle.vbr_core.proofs.Puts.{put_here, put_other}
 use Rattle.vbr_core.proofs.HeldReads.{stays_at, stays_next}
 use Rattle.vbr_core.proofs.Noted.{knows_on, knows_put, noted_beside, noted_checked}
 use Rattle.vbr_core.proofs.OwnSlots.{owns_changed, lasts_differ}
-use Rattle.vbr_core.proofs.Shown.{fits_kept, key_kept, birth_kept}
+use Rattle.vbr_core.proofs.Shown.{fits_kept, key_kept, value_kept, birth_kept}
 use Rattle.vbr_core.proofs.StandingLinks.{LinkStands, link_stands, node_at}
 use Rattle.vbr_core.proofs.MarkSteps.{listed_not_of}
 use Rattle.vbr_core.proofs.Exchanges.{exchanged}
@@ -63,10 +63,10 @@ module _ (shape : Dimensions) (w : World) (a : Incarnations) (notes : ℕ → No
 
 made : (shape : Dimensions) (w : World) (a : Incarnations) (notes : ℕ → Notes) (p : ℕ) (pred : At) (expected s : ℕ) (g : Agrees shape w a notes) (ok : Accepts shape (w.know p) (Unlink pred expected s)) (m : LinkStands shape a (w.know p).epoch (w.know p).checked pred (link_of expected)) (v : World) →
     v.epoch ≡ w.epoch → ((k : ℕ) → v.head k ≡ machine.link_at (with_link_at w pred (link_written (w.know p) (Unlink pred expected s))) (Head k)) → ((k : ℕ) → v.link k ≡ machine.link_at (with_link_at w pred (link_written (w.know p) (Unlink pred expected s))) (Slot k)) →
-    v.birth ≡ w.birth → v.key ≡ w.key → v.stamp ≡ w.stamp → v.place ≡ put w.place s (Own p) →
+    v.birth ≡ w.birth → v.key ≡ w.key → v.value ≡ w.value → v.stamp ≡ w.stamp → v.place ≡ put w.place s (Own p) →
     v.know ≡ put w.know p (with_own (with_checked (w.know p) (reads_won (w.know p) (Unlink pred expected s))) s (Some (Unlinked false))) → v.calls ≡ w.calls → v.births ≡ w.births →
     Agrees shape v (becomes shape a p (Unlinks (last_in a s) (before_at a pred))) (put notes p (with_won (becomes shape a p (Unlinks (last_in a s) (before_at a pred))) (notes p) (reads_won (w.know p) (Unlink pred expected s))))
-made shape w a notes p pred expected s g ok m v ve vh vl vb vk vs vp vn vc vt =
+made shape w a notes p pred expected s g ok m v ve vh vl vb vk vw vs vp vn vc vt =
     let c = last_in a s in
     let b = becomes shape a p (Unlinks c (before_at a pred)) in
     let i = g.image in
@@ -88,6 +88,7 @@ made shape w a notes p pred expected s g ok m v ve vh vl vb vk vs vp vn vc vt =
       link = λ k. vl k ∙ links (Slot k);
       birth = λ k. ap (λ f. f k) vb ∙ i.birth k ∙ sym (birth_kept a b (a.last k) (λ d _. refl));
       key = λ k. ap (λ f. f k) vk ∙ i.key k ∙ sym (key_kept a b (a.last k) (λ d _. refl));
+      value = λ k. ap (λ f. f k) vw ∙ i.value k ∙ sym (value_kept a b (a.last k) (λ d _. refl));
       stamp = λ k. ap (λ f. f k) vs ∙ i.stamp k;
       place = λ k. ap (λ f. f k) vp ∙ puts_same w.place a.place s (Own p) i.place k ∙ sym (place k);
     })
@@ -96,7 +97,7 @@ made shape w a notes p pred expected s g ok m v ve vh vl vb vk vs vp vn vc vt =
     (rw vn (owns_changed a b w.know p s x refl (λ k ne. put_other (w.know p).own s (Some (Unlinked false)) k ne)
     (λ q ne. listed_not_of shape (a.place s) (a.state c) (a.key c) (g.sound.slots.placed c s r.last) (rw r.state tt) q)
     (own_not_of p (b.place s) owned)
-    (λ k ne. record { place = place k ∙ put_other a.place s (Own p) k ne; last = refl; stamp = refl; untouched = λ d e. record { state = put_other a.state c (state.Unlinked p a.epoch) d (lasts_differ g.sound.slots k s c d ne r.last e); birth = refl; key = refl; is_keyed = refl; link = refl; is_aimed = refl } })
+    (λ k ne. record { place = place k ∙ put_other a.place s (Own p) k ne; last = refl; stamp = refl; untouched = λ d e. record { state = put_other a.state c (state.Unlinked p a.epoch) d (lasts_differ g.sound.slots k s c d ne r.last e); birth = refl; key = refl; is_keyed = refl; value = refl; is_valued = refl; link = refl; is_aimed = refl } })
     (rw (put_here (w.know p).own s (Some (Unlinked false))) (owned, record { node = c; last_is = r.last; at = a.epoch; state = put_here a.state c (state.Unlinked p a.epoch); seen = λ z. absurd (cc) }))
     g.owns))
     (vc ∙ g.calls)
@@ -109,11 +110,11 @@ step_unlink shape w a notes p (Head h) expected s g ok = go (cases_Bool (word_of
     go (inr f) = rw f (tt, agrees_still shape w a notes p g)
     go (inl t) =
         let m = link_stands shape w a notes p g (Head h) expected ok.held.0 ok.in_range.0 (eqb-true (word_of (w.head h)) expected t) in
-        rw t ((may_unlink shape w a notes p (Head h) expected s g ok m, tt), made shape w a notes p (Head h) expected s g ok m _ refl (λ k. refl) (λ k. refl) refl refl refl refl refl refl refl)
+        rw t ((may_unlink shape w a notes p (Head h) expected s g ok m, tt), made shape w a notes p (Head h) expected s g ok m _ refl (λ k. refl) (λ k. refl) refl refl refl refl refl refl refl refl)
 step_unlink shape w a notes p (Slot q) expected s g ok = go (cases_Bool (word_of (w.link q) == expected))
   where
     go : ((word_of (w.link q) == expected) ≡ true) ⊎ ((word_of (w.link q) == expected) ≡ false) → StepAgrees shape w a notes p (Unlink (Slot q) expected s)
     go (inr f) = rw f (tt, agrees_still shape w a notes p g)
     go (inl t) =
         let m = link_stands shape w a notes p g (Slot q) expected ok.held.0 ok.in_range.0 (eqb-true (word_of (w.link q)) expected t) in
-        rw t ((may_unlink shape w a notes p (Slot q) expected s g ok m, tt), made shape w a notes p (Slot q) expected s g ok m _ refl (λ k. refl) (λ k. refl) refl refl refl refl refl refl refl)
+        rw t ((may_unlink shape w a notes p (Slot q) expected s g ok m, tt), made shape w a notes p (Slot q) expected s g ok m _ refl (λ k. refl) (λ k. refl) refl refl refl refl refl refl refl refl)

@@ -21,7 +21,7 @@ use Rattle.vbr_core.specs.Sound.{IsListed, PlaceFits}
 use Rattle.vbr_core.specs.Notes.{Notes, before_at}
 use Rattle.vbr_core.specs.Agreement.{IsHeldNext, OwnFits, Agrees}
 use Rattle.vbr_core.specs.declared.event.Step.{Step}
-use Rattle.vbr_core.specs.declared.event.Step.TheVariants.{ReadEpoch, Advance, LoadStamp, StoreStamp, Raise, TakeFlag, StoreBirth, StoreKey, StoreLink, LoadLink, LoadBirth, LoadKey, Publish, Mark, Unlink, ConfirmPresent, ConfirmAbsent}
+use Rattle.vbr_core.specs.declared.event.Step.TheVariants.{ReadEpoch, Advance, LoadStamp, StoreStamp, Raise, TakeFlag, StoreBirth, StoreKey, StoreLink, LoadLink, LoadBirth, LoadKey, Publish, Mark, Unlink, ConfirmPresent, ConfirmAbsent, StoreValue, LoadValue}
 use Rattle.vbr_core.specs.declared.knowledge.Holding.{Holding}
 use Rattle.vbr_core.specs.declared.knowledge.Holding.TheVariants.{Free, Unlinked, InHand}
 use Rattle.vbr_core.specs.declared.knowledge.SlotPlace.{SlotPlace}
@@ -47,15 +47,17 @@ place_in shape (Raise s) here = flag_in shape s here
 place_in shape (TakeFlag s) here = flag_in shape s here
 place_in shape (StoreBirth s birth) here = here
 place_in shape (StoreKey s key) here = here
+place_in shape (StoreValue s value) here = here
 place_in shape (StoreLink s next) here = here.0
 place_in shape (LoadLink at) here = place_at_in shape at here
 place_in shape (LoadBirth s) here = here
 place_in shape (LoadKey s) here = here
+place_in shape (LoadValue s) here = here
 place_in shape (Publish pred expected s) here = place_at_in shape pred here.0
 place_in shape (Mark s expected) here = here
 place_in shape (Unlink pred expected s) here = place_at_in shape pred here.0
-place_in shape (ConfirmPresent op s expected) here = here
-place_in shape (ConfirmAbsent op key at expected) here = place_at_in shape at here
+place_in shape (ConfirmPresent op s expected) here = here.0
+place_in shape (ConfirmAbsent op key at expected) here = place_at_in shape at here.0
 
 -- ---- the word at that place
 
@@ -85,11 +87,13 @@ word_here shape w p (TakeFlag s) here =
     either (has_flag (found shape w (TakeFlag s)) s) (λ v. word_at shape v (place.Flags (word_of_flag s))) _ w (bit_and (found shape w (TakeFlag s)) (all_but s)) (λ t. taken_word shape w (record (with_learning shape w p (TakeFlag s)) { place = put w.place s (Own p) }) s (Own p) refl refl) (λ f. missed_word shape w s f)
 word_here shape w p (StoreBirth s birth) here = put_here w.birth s birth
 word_here shape w p (StoreKey s key) here = put_here w.key s key
+word_here shape w p (StoreValue s value) here = put_here w.value s value
 word_here shape w p (StoreLink s next) here = ap word_of (put_here w.link s (link_written (w.know p) (StoreLink s next)))
 word_here shape w p (LoadLink (Head b)) here = refl
 word_here shape w p (LoadLink (Slot t)) here = refl
 word_here shape w p (LoadBirth s) here = refl
 word_here shape w p (LoadKey s) here = refl
+word_here shape w p (LoadValue s) here = refl
 word_here shape w p (Publish (Head b) expected s) here = left (word_of (w.head b) == expected) (λ v. word_of (v.head b)) _ w _ (word_of (w.head b)) (λ t. ap word_of (put_here w.head b (link_written (w.know p) (Publish (Head b) expected s)))) refl
 word_here shape w p (Publish (Slot t) expected s) here = left (word_of (w.link t) == expected) (λ v. word_of (v.link t)) _ w _ (word_of (w.link t)) (λ _. ap word_of (put_here w.link t (link_written (w.know p) (Publish (Slot t) expected s)))) refl
 word_here shape w p (Mark s expected) here = left (word_of (w.link s) == expected) (λ v. word_of (v.link s)) _ w _ (word_of (w.link s)) (λ t. ap word_of (put_here w.link s (link_written (w.know p) (Mark s expected)))) refl
@@ -116,6 +120,7 @@ record SameBut (here : Place) (v w : World) : Type 0 where
   birth : (s : ℕ) → place.Birth s ≢ here → v.birth s ≡ w.birth s
   stamp : (s : ℕ) → place.Stamp s ≢ here → v.stamp s ≡ w.stamp s
   key : (s : ℕ) → place.Key s ≢ here → v.key s ≡ w.key s
+  value : (s : ℕ) → place.Value s ≢ here → v.value s ≡ w.value s
   flag : (s : ℕ) → place.Flags (word_of_flag s) ≢ here → is_shared (v.place s) ≡ is_shared (w.place s)
 
 word_but : (shape : Dimensions) (v w : World) (here q : Place) → SameBut here v w → q ≢ here → word_at shape v q ≡ word_at shape w q
@@ -126,23 +131,25 @@ word_but shape v w here (place.LinkOf s) same ne = ap word_of (same.link s ne)
 word_but shape v w here (place.Birth s) same ne = same.birth s ne
 word_but shape v w here (place.Stamp s) same ne = same.stamp s ne
 word_but shape v w here (place.Key s) same ne = same.key s ne
+word_but shape v w here (place.Value s) same ne = same.value s ne
 word_but shape v w here (place.Flags number) same ne = same_word shape v w number (λ s is. same.flag s (λ e. ne (sym (ap place.Flags is) ∙ e)))
 
-unchanged : (here : Place) (v w : World) → v.epoch ≡ w.epoch → v.head ≡ w.head → v.link ≡ w.link → v.birth ≡ w.birth → v.stamp ≡ w.stamp → v.key ≡ w.key → v.place ≡ w.place → SameBut here v w
-unchanged here v w epoch head link birth stamp key at = record {
+unchanged : (here : Place) (v w : World) → v.epoch ≡ w.epoch → v.head ≡ w.head → v.link ≡ w.link → v.birth ≡ w.birth → v.stamp ≡ w.stamp → v.key ≡ w.key → v.value ≡ w.value → v.place ≡ w.place → SameBut here v w
+unchanged here v w epoch head link birth stamp key value at = record {
   epoch = λ _. epoch;
   head = λ b _. ap (λ f. f b) head;
   link = λ s _. ap (λ f. f s) link;
   birth = λ s _. ap (λ f. f s) birth;
   stamp = λ s _. ap (λ f. f s) stamp;
   key = λ s _. ap (λ f. f s) key;
+  value = λ s _. ap (λ f. f s) value;
   flag = λ s _. ap (λ f. is_shared (f s)) at;
 }
 
 -- an exchange that is lost changes nothing
 if_won : (b : Bool) (here : Place) (x w : World) → (b ≡ true → SameBut here x w) → SameBut here (cond b x w) w
 if_won true here x w won = won refl
-if_won false here x w won = unchanged here w w refl refl refl refl refl refl refl
+if_won false here x w won = unchanged here w w refl refl refl refl refl refl refl refl
 
 -- a slot that was not in the shared pool and isn't now keeps its flag
 flag_kept : (f : ℕ → SlotPlace) (s : ℕ) (new : SlotPlace) → is_shared (f s) ≡ is_shared new → (i : ℕ) → is_shared (put f s new i) ≡ is_shared (f i)
@@ -154,25 +161,27 @@ flag_kept f s new e i = go (cases_eq i s)
 
 -- a step changes no word but that at its place
 same_but : (shape : Dimensions) (w : World) (p : ℕ) (step : Step) → MovesUnshared w step → SameBut (place_of_step step) (after shape w p step) w
-same_but shape w p ReadEpoch moves = unchanged _ _ w refl refl refl refl refl refl refl
-same_but shape w p (Advance from) moves = if_won (w.epoch == from) place.Epoch _ w (λ _. record { epoch = λ ne. absurd (ne refl); head = λ _ _. refl; link = λ _ _. refl; birth = λ _ _. refl; stamp = λ _ _. refl; key = λ _ _. refl; flag = λ _ _. refl })
-same_but shape w p (LoadStamp s) moves = unchanged _ _ w refl refl refl refl refl refl refl
-same_but shape w p (StoreStamp s stamp) moves = record { epoch = λ _. refl; head = λ _ _. refl; link = λ _ _. refl; birth = λ _ _. refl; stamp = λ i ne. put_other w.stamp s stamp i (λ e. ne (ap place.Stamp e)); key = λ _ _. refl; flag = λ _ _. refl }
-same_but shape w p (Raise s) moves = record { epoch = λ _. refl; head = λ _ _. refl; link = λ _ _. refl; birth = λ _ _. refl; stamp = λ _ _. refl; key = λ _ _. refl; flag = λ i ne. ap is_shared (put_other w.place s Shared i (λ e. ne (ap (λ t. place.Flags (word_of_flag t)) e))) }
-same_but shape w p (TakeFlag s) moves = if_won (has_flag (found shape w (TakeFlag s)) s) (place.Flags (word_of_flag s)) _ w (λ _. record { epoch = λ _. refl; head = λ _ _. refl; link = λ _ _. refl; birth = λ _ _. refl; stamp = λ _ _. refl; key = λ _ _. refl; flag = λ i ne. ap is_shared (put_other w.place s (Own p) i (λ e. ne (ap (λ t. place.Flags (word_of_flag t)) e))) })
-same_but shape w p (StoreBirth s birth) moves = record { epoch = λ _. refl; head = λ _ _. refl; link = λ _ _. refl; birth = λ i ne. put_other w.birth s birth i (λ e. ne (ap place.Birth e)); stamp = λ _ _. refl; key = λ _ _. refl; flag = λ i _. flag_kept w.place s (Hand p) moves i }
-same_but shape w p (StoreKey s key) moves = record { epoch = λ _. refl; head = λ _ _. refl; link = λ _ _. refl; birth = λ _ _. refl; stamp = λ _ _. refl; key = λ i ne. put_other w.key s key i (λ e. ne (ap place.Key e)); flag = λ _ _. refl }
-same_but shape w p (StoreLink s next) moves = record { epoch = λ _. refl; head = λ _ _. refl; link = λ i ne. put_other w.link s _ i (λ e. ne (ap place.LinkOf e)); birth = λ _ _. refl; stamp = λ _ _. refl; key = λ _ _. refl; flag = λ _ _. refl }
-same_but shape w p (LoadLink at) moves = unchanged _ _ w refl refl refl refl refl refl refl
-same_but shape w p (LoadBirth s) moves = unchanged _ _ w refl refl refl refl refl refl refl
-same_but shape w p (LoadKey s) moves = unchanged _ _ w refl refl refl refl refl refl refl
-same_but shape w p (Publish (Head b) expected s) moves = if_won (word_of (w.head b) == expected) (place.Head b) _ w (λ _. record { epoch = λ _. refl; head = λ i ne. put_other w.head b _ i (λ e. ne (ap place.Head e)); link = λ _ _. refl; birth = λ _ _. refl; stamp = λ _ _. refl; key = λ _ _. refl; flag = λ i _. flag_kept w.place s (Listed _) moves i })
-same_but shape w p (Publish (Slot t) expected s) moves = if_won (word_of (w.link t) == expected) (place.LinkOf t) _ w (λ _. record { epoch = λ _. refl; head = λ _ _. refl; link = λ i ne. put_other w.link t _ i (λ e. ne (ap place.LinkOf e)); birth = λ _ _. refl; stamp = λ _ _. refl; key = λ _ _. refl; flag = λ i _. flag_kept w.place s (Listed _) moves i })
-same_but shape w p (Mark s expected) moves = if_won (word_of (w.link s) == expected) (place.LinkOf s) _ w (λ _. record { epoch = λ _. refl; head = λ _ _. refl; link = λ i ne. put_other w.link s _ i (λ e. ne (ap place.LinkOf e)); birth = λ _ _. refl; stamp = λ _ _. refl; key = λ _ _. refl; flag = λ _ _. refl })
-same_but shape w p (Unlink (Head b) expected s) moves = if_won (word_of (w.head b) == expected) (place.Head b) _ w (λ won. record { epoch = λ _. refl; head = λ i ne. put_other w.head b _ i (λ e. ne (ap place.Head e)); link = λ _ _. refl; birth = λ _ _. refl; stamp = λ _ _. refl; key = λ _ _. refl; flag = λ i _. flag_kept w.place s (Own p) (moves (eqb-true (word_of (w.head b)) expected won)) i })
-same_but shape w p (Unlink (Slot t) expected s) moves = if_won (word_of (w.link t) == expected) (place.LinkOf t) _ w (λ won. record { epoch = λ _. refl; head = λ _ _. refl; link = λ i ne. put_other w.link t _ i (λ e. ne (ap place.LinkOf e)); birth = λ _ _. refl; stamp = λ _ _. refl; key = λ _ _. refl; flag = λ i _. flag_kept w.place s (Own p) (moves (eqb-true (word_of (w.link t)) expected won)) i })
-same_but shape w p (ConfirmPresent op s expected) moves = if_won (word_of (w.link s) == expected) (place.LinkOf s) _ w (λ _. unchanged _ _ w refl refl refl refl refl refl refl)
-same_but shape w p (ConfirmAbsent op key at expected) moves = if_won (found shape w (ConfirmAbsent op key at expected) == expected) (places.place_of at) _ w (λ _. unchanged _ _ w refl refl refl refl refl refl refl)
+same_but shape w p ReadEpoch moves = unchanged _ _ w refl refl refl refl refl refl refl refl
+same_but shape w p (Advance from) moves = if_won (w.epoch == from) place.Epoch _ w (λ _. record { epoch = λ ne. absurd (ne refl); head = λ _ _. refl; link = λ _ _. refl; birth = λ _ _. refl; stamp = λ _ _. refl; key = λ _ _. refl; value = λ _ _. refl; flag = λ _ _. refl })
+same_but shape w p (LoadStamp s) moves = unchanged _ _ w refl refl refl refl refl refl refl refl
+same_but shape w p (StoreStamp s stamp) moves = record { epoch = λ _. refl; head = λ _ _. refl; link = λ _ _. refl; birth = λ _ _. refl; stamp = λ i ne. put_other w.stamp s stamp i (λ e. ne (ap place.Stamp e)); key = λ _ _. refl; value = λ _ _. refl; flag = λ _ _. refl }
+same_but shape w p (Raise s) moves = record { epoch = λ _. refl; head = λ _ _. refl; link = λ _ _. refl; birth = λ _ _. refl; stamp = λ _ _. refl; key = λ _ _. refl; value = λ _ _. refl; flag = λ i ne. ap is_shared (put_other w.place s Shared i (λ e. ne (ap (λ t. place.Flags (word_of_flag t)) e))) }
+same_but shape w p (TakeFlag s) moves = if_won (has_flag (found shape w (TakeFlag s)) s) (place.Flags (word_of_flag s)) _ w (λ _. record { epoch = λ _. refl; head = λ _ _. refl; link = λ _ _. refl; birth = λ _ _. refl; stamp = λ _ _. refl; key = λ _ _. refl; value = λ _ _. refl; flag = λ i ne. ap is_shared (put_other w.place s (Own p) i (λ e. ne (ap (λ t. place.Flags (word_of_flag t)) e))) })
+same_but shape w p (StoreBirth s birth) moves = record { epoch = λ _. refl; head = λ _ _. refl; link = λ _ _. refl; birth = λ i ne. put_other w.birth s birth i (λ e. ne (ap place.Birth e)); stamp = λ _ _. refl; key = λ _ _. refl; value = λ _ _. refl; flag = λ i _. flag_kept w.place s (Hand p) moves i }
+same_but shape w p (StoreKey s key) moves = record { epoch = λ _. refl; head = λ _ _. refl; link = λ _ _. refl; birth = λ _ _. refl; stamp = λ _ _. refl; key = λ i ne. put_other w.key s key i (λ e. ne (ap place.Key e)); value = λ _ _. refl; flag = λ _ _. refl }
+same_but shape w p (StoreValue s value) moves = record { epoch = λ _. refl; head = λ _ _. refl; link = λ _ _. refl; birth = λ _ _. refl; stamp = λ _ _. refl; key = λ _ _. refl; value = λ i ne. put_other w.value s value i (λ e. ne (ap place.Value e)); flag = λ _ _. refl }
+same_but shape w p (StoreLink s next) moves = record { epoch = λ _. refl; head = λ _ _. refl; link = λ i ne. put_other w.link s _ i (λ e. ne (ap place.LinkOf e)); birth = λ _ _. refl; stamp = λ _ _. refl; key = λ _ _. refl; value = λ _ _. refl; flag = λ _ _. refl }
+same_but shape w p (LoadLink at) moves = unchanged _ _ w refl refl refl refl refl refl refl refl
+same_but shape w p (LoadBirth s) moves = unchanged _ _ w refl refl refl refl refl refl refl refl
+same_but shape w p (LoadKey s) moves = unchanged _ _ w refl refl refl refl refl refl refl refl
+same_but shape w p (LoadValue s) moves = unchanged _ _ w refl refl refl refl refl refl refl refl
+same_but shape w p (Publish (Head b) expected s) moves = if_won (word_of (w.head b) == expected) (place.Head b) _ w (λ _. record { epoch = λ _. refl; head = λ i ne. put_other w.head b _ i (λ e. ne (ap place.Head e)); link = λ _ _. refl; birth = λ _ _. refl; stamp = λ _ _. refl; key = λ _ _. refl; value = λ _ _. refl; flag = λ i _. flag_kept w.place s (Listed _) moves i })
+same_but shape w p (Publish (Slot t) expected s) moves = if_won (word_of (w.link t) == expected) (place.LinkOf t) _ w (λ _. record { epoch = λ _. refl; head = λ _ _. refl; link = λ i ne. put_other w.link t _ i (λ e. ne (ap place.LinkOf e)); birth = λ _ _. refl; stamp = λ _ _. refl; key = λ _ _. refl; value = λ _ _. refl; flag = λ i _. flag_kept w.place s (Listed _) moves i })
+same_but shape w p (Mark s expected) moves = if_won (word_of (w.link s) == expected) (place.LinkOf s) _ w (λ _. record { epoch = λ _. refl; head = λ _ _. refl; link = λ i ne. put_other w.link s _ i (λ e. ne (ap place.LinkOf e)); birth = λ _ _. refl; stamp = λ _ _. refl; key = λ _ _. refl; value = λ _ _. refl; flag = λ _ _. refl })
+same_but shape w p (Unlink (Head b) expected s) moves = if_won (word_of (w.head b) == expected) (place.Head b) _ w (λ won. record { epoch = λ _. refl; head = λ i ne. put_other w.head b _ i (λ e. ne (ap place.Head e)); link = λ _ _. refl; birth = λ _ _. refl; stamp = λ _ _. refl; key = λ _ _. refl; value = λ _ _. refl; flag = λ i _. flag_kept w.place s (Own p) (moves (eqb-true (word_of (w.head b)) expected won)) i })
+same_but shape w p (Unlink (Slot t) expected s) moves = if_won (word_of (w.link t) == expected) (place.LinkOf t) _ w (λ won. record { epoch = λ _. refl; head = λ _ _. refl; link = λ i ne. put_other w.link t _ i (λ e. ne (ap place.LinkOf e)); birth = λ _ _. refl; stamp = λ _ _. refl; key = λ _ _. refl; value = λ _ _. refl; flag = λ i _. flag_kept w.place s (Own p) (moves (eqb-true (word_of (w.link t)) expected won)) i })
+same_but shape w p (ConfirmPresent op s expected) moves = if_won (word_of (w.link s) == expected) (place.LinkOf s) _ w (λ _. unchanged _ _ w refl refl refl refl refl refl refl refl)
+same_but shape w p (ConfirmAbsent op key at expected) moves = if_won (found shape w (ConfirmAbsent op key at expected) == expected) (places.place_of at) _ w (λ _. unchanged _ _ w refl refl refl refl refl refl refl refl)
 
 -- a step leaves the words elsewhere, if it moves no slot out of the shared pool but by its flag
 pub word_elsewhere_if : (shape : Dimensions) (w : World) (p : ℕ) (step : Step) (q : Place) → MovesUnshared w step → q ≢ place_of_step step → word_at shape (after shape w p step) q ≡ word_at shape w q
@@ -185,13 +194,13 @@ bear_unshared : (a : Incarnations) (p epoch : ℕ) (holding : Option Holding) (a
 bear_unshared a p epoch None at last stamp h o = absurd o
 bear_unshared a p epoch (Some (Free known)) at last stamp h o = ap is_shared h.0
 bear_unshared a p epoch (Some (Unlinked reread)) at last stamp h o = absurd o
-bear_unshared a p epoch (Some (InHand known birth key link)) at last stamp h o = ap is_shared h.0
+bear_unshared a p epoch (Some (InHand known birth key value link)) at last stamp h o = ap is_shared h.0
 
 may_bear : (holding : Option Holding) → IsInHand holding → MayBear holding
 may_bear None o = absurd o
 may_bear (Some (Free known)) o = absurd o
 may_bear (Some (Unlinked reread)) o = absurd o
-may_bear (Some (InHand known birth key link)) o = tt
+may_bear (Some (InHand known birth key value link)) o = tt
 
 -- the slot of a listed incarnation is in no pool
 listed_unshared : (shape : Dimensions) (at : SlotPlace) (st : State) (key : ℕ) → PlaceFits shape at st key → IsListed st → is_shared at ≡ false

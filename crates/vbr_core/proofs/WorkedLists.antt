@@ -29,10 +29,10 @@ abbrev pub by : ℕ → Step → Event
 by pass step = record { pass = pass; step = step }
 
 abbrev pub shape_of_three : Dimensions
-shape_of_three = record { slots = 3; buckets = 1; spread = false; last_epoch = 10; keys = [] }
+shape_of_three = record { slots = 3; buckets = 1; spread = false; last_epoch = 10; values = false; keys = []; payloads = [] }
 
 abbrev pub shape_of_one : Dimensions
-shape_of_one = record { slots = 1; buckets = 1; spread = false; last_epoch = 10; keys = [] }
+shape_of_one = record { slots = 1; buckets = 1; spread = false; last_epoch = 10; values = false; keys = []; payloads = [] }
 
 abbrev pub reborn_slot : List Event
 reborn_slot = by 0 ReadEpoch ∷ by 0 (TakeFlag 0) ∷ by 0 (LoadStamp 0) ∷ by 0 (StoreBirth 0 1) ∷ by 0 (StoreKey 0 30) ∷ by 0 (LoadLink (Head 0)) ∷ by 0 ReadEpoch ∷ by 0 (StoreLink 0 None) ∷ by 0 (Publish (Head 0) 0 0) ∷ by 0 (TakeFlag 1) ∷ by 0 (StoreBirth 1 1) ∷ by 0 (StoreKey 1 20) ∷ by 0 (StoreLink 1 (Some 0)) ∷ by 0 (Publish (Head 0) 33554433 1) ∷ by 1 ReadEpoch ∷ by 1 (LoadLink (Head 0)) ∷ by 1 ReadEpoch ∷ by 1 (LoadKey 1) ∷ by 1 (LoadBirth 1) ∷ by 1 (LoadLink (Slot 1)) ∷ by 1 ReadEpoch ∷ by 1 (LoadKey 0) ∷ by 1 (LoadBirth 0) ∷ by 1 ReadEpoch ∷ by 1 (TakeFlag 2) ∷ by 1 (StoreBirth 2 1) ∷ by 1 (StoreKey 2 25) ∷ by 1 (StoreLink 2 (Some 0)) ∷ by 0 (Mark 1 33554433) ∷ by 0 (Unlink (Head 0) 33554434 1) ∷ by 0 ReadEpoch ∷ by 0 (StoreStamp 1 1) ∷ by 0 (Advance 1) ∷ by 0 ReadEpoch ∷ by 0 (StoreBirth 1 2) ∷ by 0 (StoreKey 1 10) ∷ by 0 (LoadLink (Head 0)) ∷ by 0 ReadEpoch ∷ by 0 (LoadKey 0) ∷ by 0 (LoadBirth 0) ∷ by 0 ReadEpoch ∷ by 0 (StoreLink 1 (Some 0)) ∷ by 0 (Publish (Head 0) 33554433 1) ∷ by 1 (Publish (Slot 1) 33554433 2) ∷ []
@@ -45,7 +45,7 @@ pub reborn_slot_effects : effects_from shape_of_three (opening shape_of_three) r
 unfolding bucket_of link_of word_of has_flag first_bits flag_word
 reborn_slot_effects = refl
 
-pub reborn_slot_calls : (world_after shape_of_three reborn_slot).calls ≡ record { who = 0; op = Insert; key = 30; reply = true } ∷ record { who = 0; op = Insert; key = 20; reply = true } ∷ record { who = 0; op = Remove; key = 20; reply = true } ∷ record { who = 0; op = Insert; key = 10; reply = true } ∷ []
+pub reborn_slot_calls : (world_after shape_of_three reborn_slot).calls ≡ record { who = 0; op = Insert; key = 30; reply = true; value = None } ∷ record { who = 0; op = Insert; key = 20; reply = true; value = None } ∷ record { who = 0; op = Remove; key = 20; reply = true; value = None } ∷ record { who = 0; op = Insert; key = 10; reply = true; value = None } ∷ []
 unfolding bucket_of link_of word_of has_flag first_bits flag_word
 reborn_slot_calls = refl
 
@@ -104,7 +104,7 @@ pub same_word_effects : effects_from shape_of_three (opening shape_of_three) sam
 unfolding bucket_of link_of word_of has_flag first_bits flag_word
 same_word_effects = refl
 
-pub same_word_calls : (world_after shape_of_three same_word).calls ≡ record { who = 0; op = Insert; key = 30; reply = true } ∷ record { who = 0; op = Insert; key = 10; reply = true } ∷ record { who = 0; op = Remove; key = 10; reply = true } ∷ record { who = 1; op = Insert; key = 20; reply = true } ∷ []
+pub same_word_calls : (world_after shape_of_three same_word).calls ≡ record { who = 0; op = Insert; key = 30; reply = true; value = None } ∷ record { who = 0; op = Insert; key = 10; reply = true; value = None } ∷ record { who = 0; op = Remove; key = 10; reply = true; value = None } ∷ record { who = 1; op = Insert; key = 20; reply = true; value = None } ∷ []
 unfolding bucket_of link_of word_of has_flag first_bits flag_word
 same_word_calls = refl
 
@@ -163,7 +163,7 @@ pub two_helpers_effects : effects_from shape_of_one (opening shape_of_one) two_h
 unfolding bucket_of link_of word_of has_flag first_bits flag_word
 two_helpers_effects = refl
 
-pub two_helpers_calls : (world_after shape_of_one two_helpers).calls ≡ record { who = 0; op = Insert; key = 7; reply = true } ∷ record { who = 0; op = Remove; key = 7; reply = true } ∷ []
+pub two_helpers_calls : (world_after shape_of_one two_helpers).calls ≡ record { who = 0; op = Insert; key = 7; reply = true; value = None } ∷ record { who = 0; op = Remove; key = 7; reply = true; value = None } ∷ []
 unfolding bucket_of link_of word_of has_flag first_bits flag_word
 two_helpers_calls = refl
 

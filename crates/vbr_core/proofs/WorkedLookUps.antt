@@ -1,5 +1,5 @@
 -- A look-up that passes a marked node, computed: behind the head stands a marked node with the key, whose link names none.
-use Rattle.std.proofs.Common.{◌≡◌, true, false, [], ◌∷◌, ◌++◌, take, refl, rules, arith}
+use Rattle.std.proofs.Common.{◌≡◌, true, false, [], ◌∷◌, ◌++◌, take, refl, rules, arith, None}
 use Rattle.vbr_words.specs.Flags.{has_flag, first_bits, flag_word}
 use Rattle.vbr_words.specs.Words.{word_of, link_of}
 use Rattle.vbr_words.specs.declared.place.At.TheVariants.{Head}
@@ -34,6 +34,6 @@ unfolding bucket_of link_of word_of has_flag first_bits flag_word
 answers_no = refl
 
 pub calls : (world_after shape_of_one (take 16 two_helpers ++ by 1 look ∷ [])).calls ≡
-    record { who = 0; op = Insert; key = 7; reply = true } ∷ record { who = 0; op = Remove; key = 7; reply = true } ∷ record { who = 1; op = Has; key = 7; reply = false } ∷ []
+    record { who = 0; op = Insert; key = 7; reply = true; value = None } ∷ record { who = 0; op = Remove; key = 7; reply = true; value = None } ∷ record { who = 1; op = Has; key = 7; reply = false; value = None } ∷ []
 unfolding bucket_of link_of word_of has_flag first_bits flag_word
 calls = refl

@@ -12,7 +12,7 @@ use Rattle.vbr_core.specs.declared.event.CoreRefusal.TheVariants.{NoSuchPass, No
 use Rattle.vbr_core.proofs.WorkedLists.{by, shape_of_three, reborn_slot, effects_from}
 
 abbrev one_of_each : Dimensions
-one_of_each = record { slots = 1; buckets = 1; spread = false; last_epoch = 1; keys = [] }
+one_of_each = record { slots = 1; buckets = 1; spread = false; last_epoch = 1; values = false; keys = []; payloads = [] }
 
 pub no_such_pass : Refuses one_of_each 1 (opening one_of_each) (by 1 ReadEpoch) NoSuchPass
 unfolding bucket_of link_of word_of has_flag first_bits flag_word

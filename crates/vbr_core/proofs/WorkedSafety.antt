@@ -6,10 +6,10 @@ use Rattle.vbr_core.proofs.SafeRuns.{every_run}
 use Rattle.vbr_core.proofs.WorkedLists.{shape_of_three, shape_of_one, reborn_slot, reborn_slot_accepted, same_word, same_word_accepted, two_helpers, two_helpers_accepted}
 
 three_is_shape : IsShape shape_of_three
-three_is_shape = record { some_slot = omega arith; slots = omega arith; some_bucket = omega arith; buckets = omega arith; some_epoch = omega arith; last_epoch = omega arith; ascending = λ k low. absurd (omega arith); few = omega arith }
+three_is_shape = record { some_slot = omega arith; slots = omega arith; some_bucket = omega arith; buckets = omega arith; some_epoch = omega arith; last_epoch = omega arith; ascending = λ k low. absurd (omega arith); few = omega arith; paired = omega arith }
 
 one_is_shape : IsShape shape_of_one
-one_is_shape = record { some_slot = omega arith; slots = omega arith; some_bucket = omega arith; buckets = omega arith; some_epoch = omega arith; last_epoch = omega arith; ascending = λ k low. absurd (omega arith); few = omega arith }
+one_is_shape = record { some_slot = omega arith; slots = omega arith; some_bucket = omega arith; buckets = omega arith; some_epoch = omega arith; last_epoch = omega arith; ascending = λ k low. absurd (omega arith); few = omega arith; paired = omega arith }
 
 pub reborn_slot_safe : IsSafe shape_of_three reborn_slot
 reborn_slot_safe = every_run shape_of_three 2 reborn_slot three_is_shape reborn_slot_accepted

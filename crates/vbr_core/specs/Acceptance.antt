@@ -1,5 +1,5 @@
 -- What each kind of step asks: of the shape, of what its pass knows, and of the step alone.
-use Rattle.std.specs.Prelude.{◌≡◌, ◌≢◌, ℕ, zero, suc, ◌<◌, ◌≤◌, true, false, List, Option, Some, None, IsSome, IsTrue, unwrap_or}
+use Rattle.std.specs.Prelude.{◌≡◌, ◌≢◌, ℕ, zero, suc, ◌<◌, ◌≤◌, Bool, true, false, List, Option, Some, None, IsSome, IsTrue, unwrap_or}
 use Rattle.vbr_words.specs.Buckets.{bucket_of}
 use Rattle.vbr_words.specs.Dimensions.{Dimensions}
 use Rattle.vbr_words.specs.Words.{link_of}
@@ -7,10 +7,11 @@ use Rattle.vbr_words.specs.declared.link.Link.{Link}
 use Rattle.vbr_words.specs.declared.place.At.{At}
 use Rattle.vbr_words.specs.declared.place.At.TheVariants.{Head, Slot}
 use Rattle.vbr_core.specs.Links.{link_to}
-use Rattle.vbr_core.specs.Knowledge.{Know, knows_link, birth_in, key_in, marked_in, holds, holds_at, birth_at, birth_of}
-use Rattle.vbr_core.specs.declared.history.Op.TheVariants.{Insert, Remove}
+use Rattle.vbr_core.specs.Knowledge.{Know, knows_link, birth_in, key_in, value_in, marked_in, holds, holds_at, birth_at, birth_of}
+use Rattle.vbr_core.specs.declared.history.Op.{Op}
+use Rattle.vbr_core.specs.declared.history.Op.TheVariants.{Insert, Remove, Get}
 use Rattle.vbr_core.specs.declared.event.Step.{Step}
-use Rattle.vbr_core.specs.declared.event.Step.TheVariants.{ReadEpoch, Advance, LoadStamp, StoreStamp, Raise, TakeFlag, StoreBirth, StoreKey, StoreLink, LoadLink, LoadBirth, LoadKey, Publish, Mark, Unlink, ConfirmPresent, ConfirmAbsent}
+use Rattle.vbr_core.specs.declared.event.Step.TheVariants.{ReadEpoch, Advance, LoadStamp, StoreStamp, Raise, TakeFlag, StoreBirth, StoreKey, StoreValue, StoreLink, LoadLink, LoadBirth, LoadKey, LoadValue, Publish, Mark, Unlink, ConfirmPresent, ConfirmAbsent}
 use Rattle.vbr_core.specs.declared.knowledge.Read.{Read}
 use Rattle.vbr_core.specs.declared.knowledge.Holding.{Holding}
 use Rattle.vbr_core.specs.declared.knowledge.Holding.TheVariants.{Free, Unlinked, InHand}
@@ -27,7 +28,12 @@ abbrev pub IsNextIn : Dimensions → Option ℕ → Type 0
 IsNextIn shape None = Unit {0}
 IsNextIn shape (Some s) = s < shape.slots
 
--- the slots and places that the step's fields name are those of the shape
+-- an operation is one of the shape: a get is only where nodes have values
+abbrev pub IsOpIn : Dimensions → Op → Type 0
+IsOpIn shape Get = shape.values ≡ true
+IsOpIn shape _ = Unit {0}
+
+-- the slots and places that the step's fields name are those of the shape, and a value is stored, loaded or asked for only where nodes have values
 abbrev pub IsInShape : Dimensions → Step → Type 0
 IsInShape shape ReadEpoch = Unit {0}
 IsInShape shape (Advance from) = Unit {0}
@@ -37,15 +43,17 @@ IsInShape shape (Raise s) = s < shape.slots
 IsInShape shape (TakeFlag s) = s < shape.slots
 IsInShape shape (StoreBirth s birth) = s < shape.slots
 IsInShape shape (StoreKey s key) = s < shape.slots
+IsInShape shape (StoreValue s value) = (s < shape.slots) × (shape.values ≡ true)
 IsInShape shape (StoreLink s next) = (s < shape.slots) × IsNextIn shape next
 IsInShape shape (LoadLink at) = IsAtIn shape at
 IsInShape shape (LoadBirth s) = s < shape.slots
 IsInShape shape (LoadKey s) = s < shape.slots
+IsInShape shape (LoadValue s) = (s < shape.slots) × (shape.values ≡ true)
 IsInShape shape (Publish pred expected s) = IsAtIn shape pred × (s < shape.slots)
 IsInShape shape (Mark s expected) = s < shape.slots
 IsInShape shape (Unlink pred expected s) = IsAtIn shape pred × (s < shape.slots)
-IsInShape shape (ConfirmPresent op s expected) = s < shape.slots
-IsInShape shape (ConfirmAbsent op key at expected) = IsAtIn shape at
+IsInShape shape (ConfirmPresent op s expected) = (s < shape.slots) × IsOpIn shape op
+IsInShape shape (ConfirmAbsent op key at expected) = IsAtIn shape at × IsOpIn shape op
 
 -- ---- what the pass owns
 
@@ -62,12 +70,12 @@ IsUnlinked _ = ⊥
 -- a slot that may be born in: free, or in hand, whose incarnation is then given up
 abbrev pub MayBear : Option Holding → Type 0
 MayBear (Some (Free stamp)) = Unit {0}
-MayBear (Some (InHand stamp birth key link)) = Unit {0}
+MayBear (Some (InHand stamp birth key value link)) = Unit {0}
 MayBear _ = ⊥
 
 -- a slot that is in hand
 abbrev pub IsInHand : Option Holding → Type 0
-IsInHand (Some (InHand stamp birth key link)) = Unit {0}
+IsInHand (Some (InHand stamp birth key value link)) = Unit {0}
 IsInHand _ = ⊥
 
 -- the pass owns the slot in the way that the step asks
@@ -77,6 +85,7 @@ IsOwned know (StoreStamp s stamp) = IsUnlinked (know.own s)
 IsOwned know (Raise s) = IsFree (know.own s)
 IsOwned know (StoreBirth s birth) = MayBear (know.own s)
 IsOwned know (StoreKey s key) = IsInHand (know.own s)
+IsOwned know (StoreValue s value) = IsInHand (know.own s)
 IsOwned know (StoreLink s next) = IsInHand (know.own s)
 IsOwned know (Publish pred expected s) = IsInHand (know.own s)
 IsOwned know _ = Unit {0}
@@ -97,6 +106,16 @@ KnowsKeyAt reads (Slot s) = IsSome (key_in reads s)
 abbrev pub KnowsKeyOf : List Read → Option ℕ → Type 0
 KnowsKeyOf reads None = Unit {0}
 KnowsKeyOf reads (Some s) = IsSome (key_in reads s)
+
+-- a value is known where nodes have values, as the test says
+abbrev pub HasValue : Bool → Option ℕ → Type 0
+HasValue true value = IsSome value
+HasValue false value = Unit {0}
+
+-- a value is known where the operation is one that gives it
+abbrev pub HasValueFor : Op → Option ℕ → Type 0
+HasValueFor Get value = IsSome value
+HasValueFor _ value = Unit {0}
 
 -- past a slot whose marked link is checked to what that link names; another slot isn't passed
 abbrev pub past_slot : ℕ → Option Link → Option ℕ
@@ -130,17 +149,18 @@ HasChecked shape know (StoreLink s next) = IsNextHeld know.checked next
 HasChecked shape know (LoadLink at) = IsTrue (holds_at know.checked at)
 HasChecked shape know (LoadBirth s) = IsTrue (holds know.checked s)
 HasChecked shape know (LoadKey s) = IsTrue (holds know.checked s)
+HasChecked shape know (LoadValue s) = IsTrue (holds know.checked s)
 HasChecked shape know (Publish pred expected s) =
     IsTrue (knows_link know.checked pred (link_of expected))
     × (IsSome (birth_at know.checked pred) × KnowsKeyAt know.checked pred)
     × (IsSome (birth_of know.checked (link_of expected).slot) × KnowsKeyOf know.checked (link_of expected).slot)
-HasChecked shape know (Mark s expected) = IsTrue (knows_link know.checked (Slot s) (link_of expected)) × IsSome (key_in know.checked s)
+HasChecked shape know (Mark s expected) = IsTrue (knows_link know.checked (Slot s) (link_of expected)) × IsSome (key_in know.checked s) × HasValue shape.values (value_in know.checked s)
 HasChecked shape know (Unlink pred expected s) =
     IsTrue (knows_link know.checked pred (link_of expected))
     × IsSome (marked_in know.checked s)
     × IsSome (birth_at know.checked pred)
     × IsSome (birth_of know.checked (next_of_marked (marked_in know.checked s)))
-HasChecked shape know (ConfirmPresent op s expected) = IsTrue (knows_link know.checked (Slot s) (link_of expected)) × IsSome (key_in know.checked s)
+HasChecked shape know (ConfirmPresent op s expected) = IsTrue (knows_link know.checked (Slot s) (link_of expected)) × IsSome (key_in know.checked s) × HasValueFor op (value_in know.checked s)
 HasChecked shape know (ConfirmAbsent op key at expected) =
     IsTrue (knows_link know.checked at (link_of expected)) × KnowsKeyAt know.checked at × LeadsToKey shape.slots know.checked (link_of expected).slot
 HasChecked shape know _ = Unit {0}
@@ -171,13 +191,13 @@ IsReread _ = ⊥
 -- the stamp of a slot that may be born in
 abbrev pub stamp_in : Option Holding → ℕ
 stamp_in (Some (Free stamp)) = stamp
-stamp_in (Some (InHand stamp birth key link)) = stamp
+stamp_in (Some (InHand stamp birth key value link)) = stamp
 stamp_in _ = 0
 
--- a slot in hand whose key and link were stored since its birth: the link names what the expected link names, and the key stands between
+-- a slot in hand whose key and link, and value where nodes have values, were stored since its birth: the link names what the expected link names, and the key stands between
 abbrev pub MayPublish : Dimensions → List Read → At → Link → Option Holding → Type 0
-MayPublish shape reads pred expected (Some (InHand stamp birth (Some key) (Some link))) =
-    (link ≡ link_to expected.slot birth (unwrap_or (birth_of reads expected.slot) 0)) × IsBehind shape reads pred key × IsBefore reads key expected.slot
+MayPublish shape reads pred expected (Some (InHand stamp birth (Some key) value (Some link))) =
+    (link ≡ link_to expected.slot birth (unwrap_or (birth_of reads expected.slot) 0)) × IsBehind shape reads pred key × IsBefore reads key expected.slot × HasValue shape.values value
 MayPublish shape reads pred expected _ = ⊥
 
 -- the step's numbers are in range

@@ -15,7 +15,7 @@ use Rattle.vbr_core.specs.Chronicles.{IsRetired}
 use Rattle.vbr_core.specs.Sound.{IsRemoved, Sound, Tells}
 use Rattle.vbr_core.specs.Notes.{Note, Notes}
 use Rattle.vbr_core.specs.declared.knowledge.Read.{Read}
-use Rattle.vbr_core.specs.declared.knowledge.Read.TheVariants.{LinkAt, BirthOf, KeyOf}
+use Rattle.vbr_core.specs.declared.knowledge.Read.TheVariants.{LinkAt, BirthOf, KeyOf, ValueOf}
 use Rattle.vbr_core.specs.declared.knowledge.Holding.{Holding}
 use Rattle.vbr_core.specs.declared.knowledge.Holding.TheVariants.{Free, Unlinked, InHand}
 use Rattle.vbr_core.specs.declared.knowledge.SlotPlace.{SlotPlace}
@@ -63,7 +63,7 @@ abbrev pub IsLastOf : Incarnations → Option ℕ → Type 0
 IsLastOf a None = Unit {0}
 IsLastOf a (Some c) = a.last (a.slot c) ≡ Some c
 
--- a birth or a key is that of an incarnation that is held at its slot
+-- a birth, a key or a value is that of an incarnation that is held at its slot
 abbrev pub IsOfHeldOne : Incarnations → ℕ → ℕ → (ℕ → ℕ) → ℕ → Option ℕ → Type 0
 IsOfHeldOne a epoch s values value None = ⊥
 IsOfHeldOne a epoch s values value (Some c) = IsHeldIncarnation a epoch s c × (values c ≡ value)
@@ -73,6 +73,7 @@ abbrev pub IsGoodRead : Incarnations → ℕ → Read → Option ℕ → Option 
 IsGoodRead a epoch (LinkAt at link) of names = IsGoodLink a epoch at link of names
 IsGoodRead a epoch (BirthOf s birth) of names = IsOfHeldOne a epoch s a.birth birth of
 IsGoodRead a epoch (KeyOf s key) of names = IsOfHeldOne a epoch s a.key key of
+IsGoodRead a epoch (ValueOf s value) of names = IsOfHeldOne a epoch s a.value value of
 
 -- a note is good for an epoch
 abbrev pub IsGood : Incarnations → ℕ → Note → Type 0
@@ -110,7 +111,7 @@ IsNotOf pass (Own p) = p ≢ pass
 IsNotOf pass (Hand p) = p ≢ pass
 IsNotOf pass _ = Unit {0}
 
--- a value was stored since the birth exactly where the pass knows one, and then it is that one
+-- a key, a value or a link was stored since the birth exactly where the pass knows one, and then it is that one
 abbrev pub IsStored : {A : Type 0} → Bool → A → Option A → Type 0
 IsStored stored value None = stored ≡ false
 IsStored stored value (Some known) = (stored ≡ true) × (value ≡ known)
@@ -123,14 +124,15 @@ pub record IsUnlinkedBy (a : Incarnations) (pass epoch : ℕ) (reread : Bool) (l
   pub state : a.state node ≡ state.Unlinked pass at
   pub seen : reread ≡ true → at ≤ epoch
 
--- the last incarnation of a slot is in hand of the pass, was born by its epoch, and has the birth, the key and the link that the pass knows
-pub record IsInHandOf (a : Incarnations) (pass epoch birth : ℕ) (key : Option ℕ) (link : Option Link) (last : Option ℕ) : Type 0 where
+-- the last incarnation of a slot is in hand of the pass, was born by its epoch, and has the birth, the key, the value and the link that the pass knows
+pub record IsInHandOf (a : Incarnations) (pass epoch birth : ℕ) (key value : Option ℕ) (link : Option Link) (last : Option ℕ) : Type 0 where
   pub node : ℕ
   pub last_is : last ≡ Some node
   pub state : a.state node ≡ state.InHand pass
   pub born : a.birth node ≤ epoch
   pub birth_is : a.birth node ≡ birth
   pub keyed : IsStored (a.is_keyed node) (a.key node) key
+  pub valued : IsStored (a.is_valued node) (a.value node) value
   pub aimed : IsStored (a.is_aimed node) (a.link node) link
 
 -- what a pass knows of a slot that has this place, last incarnation and stamp
@@ -138,7 +140,7 @@ abbrev pub OwnFits : Incarnations → ℕ → ℕ → Option Holding → SlotPla
 OwnFits a pass epoch None place last stamp = IsNotOf pass place
 OwnFits a pass epoch (Some (Free known)) place last stamp = (place ≡ Own pass) × IsRetired a last × (stamp ≡ known)
 OwnFits a pass epoch (Some (Unlinked reread)) place last stamp = (place ≡ Own pass) × IsUnlinkedBy a pass epoch reread last
-OwnFits a pass epoch (Some (InHand known birth key link)) place last stamp = (place ≡ Hand pass) × IsInHandOf a pass epoch birth key link last × (stamp ≡ known)
+OwnFits a pass epoch (Some (InHand known birth key value link)) place last stamp = (place ≡ Hand pass) × IsInHandOf a pass epoch birth key value link last × (stamp ≡ known)
 
 -- what each pass knows of each slot fits
 abbrev pub Owns : Incarnations → (ℕ → Know) → Type 0

@@ -4,13 +4,14 @@ use Rattle.vbr_words.specs.Dimensions.{Dimensions}
 use Rattle.vbr_words.specs.declared.link.Link.{Link}
 use Rattle.vbr_core.specs.Put.{put}
 use Rattle.vbr_core.specs.Keys.{Keys}
-use Rattle.vbr_core.specs.History.{reply_of, set_after}
 use Rattle.vbr_words.specs.Buckets.{bucket_of}
-use Rattle.vbr_core.specs.Incarnations.{State, InHand, GivenUp, Linked, Marked, Unlinked, Stamped, Incarnations}
-use Rattle.vbr_core.specs.Images.{link_to_next, key_shown, link_shown}
+use Rattle.vbr_core.specs.Opened.{opening_payloads}
+use Rattle.vbr_core.specs.History.{reply_of, set_after, values_after, GivesValue}
+use Rattle.vbr_core.specs.Incarnations.{State, InHand, GivenUp, Linked, Marked, Unlinked, Stamped, Incarnations, payload_of}
+use Rattle.vbr_core.specs.Images.{link_to_next, key_shown, value_shown, link_shown}
 use Rattle.vbr_core.specs.declared.history.Call.{Call}
 use Rattle.vbr_core.specs.declared.history.Op.{Op}
-use Rattle.vbr_core.specs.declared.history.Op.TheVariants.{Insert, Remove, Has}
+use Rattle.vbr_core.specs.declared.history.Op.TheVariants.{Insert, Remove, Has, Get}
 use Rattle.vbr_core.specs.declared.knowledge.SlotPlace.{SlotPlace}
 use Rattle.vbr_core.specs.declared.knowledge.SlotPlace.TheVariants.{Shared, Own, Hand, Listed}
 
@@ -19,7 +20,7 @@ pub data Before : Type 0 where
   AtHead : (bucket : ℕ) → Before
   AtNode : (node : ℕ) → Before
 
--- what happens: the epoch advances; a pass gains, probes or raises a slot; an incarnation is given up, born, keyed, aimed, linked, marked, unlinked or stamped; a call that changes nothing is answered
+-- what happens: the epoch advances; a pass gains, probes or raises a slot; an incarnation is given up, born, keyed, valued, aimed, linked, marked, unlinked or stamped; a call that changes nothing is answered
 pub data Happening : Type 0 where
   Advances : Happening
   Gains : (slot : ℕ) → Happening
@@ -28,6 +29,7 @@ pub data Happening : Type 0 where
   GivesUp : (node : ℕ) → Happening
   Bears : (slot : ℕ) → (birth : ℕ) → Happening
   Keyed : (node : ℕ) → (key : ℕ) → Happening
+  Valued : (node : ℕ) → (value : ℕ) → Happening
   Aims : (node : ℕ) → (link : Link) → Happening
   Inserts : (node : ℕ) → (behind : Before) → Happening
   Removes : (node : ℕ) → Happening
@@ -92,6 +94,7 @@ pub record MayInsert (shape : Dimensions) (a : Incarnations) (pass node : ℕ) (
   pub link : a.link node ≡ link_to_next a (a.birth node) (next_of a behind)
   pub above : BelongsBehind shape a behind (a.key node)
   pub below : BelongsBefore a (a.key node) (next_of a behind)
+  pub valued : shape.values ≡ true → a.is_valued node ≡ true
 
 -- an incarnation that the pass unlinked may be stamped with an epoch since then
 abbrev pub MayStamp : State → ℕ → ℕ → ℕ → Type 0
@@ -101,6 +104,7 @@ MayStamp _ pass stamp epoch = ⊥
 -- a call that changes nothing: a look-up, an insert answered no, or a remove answered no
 abbrev pub ChangesNothing : Op → Bool → Type 0
 ChangesNothing Has reply = Unit {0}
+ChangesNothing Get reply = Unit {0}
 ChangesNothing op reply = reply ≡ false
 
 -- an event is allowed after a chronicle that has made these incarnations; the set of keys is the one that the history opened with
@@ -112,21 +116,24 @@ Allowed shape keys a pass (Raises s) = (a.place s ≡ Own pass) × IsRetired a (
 Allowed shape keys a pass (GivesUp c) = a.state c ≡ InHand pass
 Allowed shape keys a pass (Bears s birth) = MayBeBornIn a pass s (a.place s) × (a.stamp s < birth) × (birth ≤ a.epoch)
 Allowed shape keys a pass (Keyed c key) = a.state c ≡ InHand pass
+Allowed shape keys a pass (Valued c value) = (a.state c ≡ InHand pass) × (shape.values ≡ true)
 Allowed shape keys a pass (Aims c link) = (a.state c ≡ InHand pass) × (link.mark ≡ false) × (a.birth c ≤ link.version)
 Allowed shape keys a pass (Inserts c behind) = MayInsert shape a pass c behind
 Allowed shape keys a pass (Removes c) = a.state c ≡ Linked
 Allowed shape keys a pass (Unlinks c behind) = (a.state c ≡ Marked) × IsOpen a behind × (next_of a behind ≡ Some c)
 Allowed shape keys a pass (Stamps c stamp) = MayStamp (a.state c) pass stamp a.epoch
-Allowed shape keys a pass (Answers call) = (call.who ≡ pass) × ChangesNothing call.op call.reply × (call.reply ≡ reply_of (set_after keys a.calls) call.op call.key)
+Allowed shape keys a pass (Answers call) =
+    (call.who ≡ pass) × ChangesNothing call.op call.reply × (call.reply ≡ reply_of (set_after keys a.calls) call.op call.key)
+    × GivesValue (values_after (opening_payloads shape) a.calls) call.op call.key call.reply call.value
 
 -- ---- what an event makes
 
 -- the calls that an event makes
-abbrev pub calls_made : Incarnations → ℕ → Happening → List Call
-calls_made a pass (Inserts c behind) = record { who = pass; op = Insert; key = a.key c; reply = true } ∷ []
-calls_made a pass (Removes c) = record { who = pass; op = Remove; key = a.key c; reply = true } ∷ []
-calls_made a pass (Answers call) = call ∷ []
-calls_made a pass _ = []
+abbrev pub calls_made : Dimensions → Incarnations → ℕ → Happening → List Call
+calls_made shape a pass (Inserts c behind) = record { who = pass; op = Insert; key = a.key c; reply = true; value = payload_of shape a c } ∷ []
+calls_made shape a pass (Removes c) = record { who = pass; op = Remove; key = a.key c; reply = true; value = payload_of shape a c } ∷ []
+calls_made shape a pass (Answers call) = call ∷ []
+calls_made shape a pass _ = []
 
 -- the first of each bucket once the successor of what stands before has changed
 abbrev pub first_with : (ℕ → Option ℕ) → Before → Option ℕ → ℕ → Option ℕ
@@ -158,6 +165,8 @@ becomes shape a pass (Bears s birth) =
       birth = put a.birth a.count birth;
       key = put a.key a.count (key_shown a (a.last s));
       is_keyed = put a.is_keyed a.count false;
+      value = put a.value a.count (value_shown a (a.last s));
+      is_valued = put a.is_valued a.count false;
       link = put a.link a.count (link_shown a (a.last s));
       is_aimed = put a.is_aimed a.count false;
       next = put a.next a.count None;
@@ -166,6 +175,7 @@ becomes shape a pass (Bears s birth) =
       place = put a.place s (Hand pass);
     }
 becomes shape a pass (Keyed c key) = record a { key = put a.key c key; is_keyed = put a.is_keyed c true }
+becomes shape a pass (Valued c value) = record a { value = put a.value c value; is_valued = put a.is_valued c true }
 becomes shape a pass (Aims c link) = record a { link = put a.link c link; is_aimed = put a.is_aimed c true }
 becomes shape a pass (Inserts c behind) =
     record a {
@@ -173,9 +183,9 @@ becomes shape a pass (Inserts c behind) =
       next = next_with (put a.next c (next_of a behind)) behind (Some c);
       state = put a.state c Linked;
       place = put a.place (a.slot c) (Listed (bucket_of shape (a.key c)));
-      calls = a.calls ++ calls_made a pass (Inserts c behind);
+      calls = a.calls ++ calls_made shape a pass (Inserts c behind);
     }
-becomes shape a pass (Removes c) = record a { state = put a.state c Marked; calls = a.calls ++ calls_made a pass (Removes c) }
+becomes shape a pass (Removes c) = record a { state = put a.state c Marked; calls = a.calls ++ calls_made shape a pass (Removes c) }
 becomes shape a pass (Unlinks c behind) =
     record a {
       first = first_with a.first behind (a.next c);
@@ -185,7 +195,7 @@ becomes shape a pass (Unlinks c behind) =
     }
 becomes shape a pass (Stamps c stamp) =
     record a { state = put a.state c (Stamped (unlinked_at (a.state c)) stamp); stamp = put a.stamp (a.slot c) stamp }
-becomes shape a pass (Answers call) = record a { calls = a.calls ++ calls_made a pass (Answers call) }
+becomes shape a pass (Answers call) = record a { calls = a.calls ++ calls_made shape a pass (Answers call) }
 
 -- ---- chronicles
 

@@ -1,10 +1,14 @@
--- A history is a list of answered calls of a set.
-use Rattle.std.specs.Prelude.{◌≡◌, ℕ, Bool, true, false, List, [], ◌∷◌, not, ◌==◌, filter}
+-- A history is a list of answered calls of a set, or of a map, whose keys have values.
+use Rattle.std.specs.Prelude.{◌≡◌, ℕ, Bool, true, false, List, [], ◌∷◌, Option, None, not, ◌==◌, filter}
 use Rattle.vbr_core.specs.Put.{put}
 use Rattle.vbr_core.specs.Keys.{Keys}
 use Rattle.vbr_core.specs.declared.history.Call.{Call}
 use Rattle.vbr_core.specs.declared.history.Op.{Op}
-use Rattle.vbr_core.specs.declared.history.Op.TheVariants.{Insert, Remove}
+use Rattle.vbr_core.specs.declared.history.Op.TheVariants.{Insert, Remove, Get}
+
+-- a call of a set, which has no value
+abbrev pub set_call : ℕ → Op → ℕ → Bool → Call
+set_call who op key reply = record { who = who; op = op; key = key; reply = reply; value = None }
 
 -- the reply of a set that has these keys: an insert is answered yes where its key is absent, a remove and a look-up where it is present
 abbrev pub reply_of : Keys → Op → ℕ → Bool
@@ -32,7 +36,37 @@ pub record Leads (opening : Keys) (calls : List Call) (closing : Keys) : Type 0 
   pub legal : IsLegal opening calls
   pub keys : (key : ℕ) → closing key ≡ set_after opening calls key
 
--- what a call asks, without its reply: the caller, the operation and the key
+-- ---- values
+
+-- the value of each key, none in a set; of a key that isn't there it says nothing
+abbrev pub Payloads : Type 0
+Payloads = ℕ → Option ℕ
+
+-- the values after a call: an insert answered yes stores its own
+abbrev pub payloads_after : Payloads → Op → ℕ → Bool → Option ℕ → Payloads
+payloads_after payloads Insert key true value = put payloads key value
+payloads_after payloads _ key _ value = payloads
+
+-- the values after a history, from opening ones
+abbrev pub values_after : Payloads → List Call → Payloads
+values_after payloads [] = payloads
+values_after payloads (call ∷ calls) = values_after (payloads_after payloads call.op call.key call.reply call.value) calls
+
+-- the value of a call: an insert answered yes may store any, a remove or a get answered yes gives the one that is stored, and others have none
+abbrev pub GivesValue : Payloads → Op → ℕ → Bool → Option ℕ → Type 0
+GivesValue payloads Insert key true value = Unit {0}
+GivesValue payloads Remove key true value = value ≡ payloads key
+GivesValue payloads Get key true value = value ≡ payloads key
+GivesValue payloads _ key _ value = value ≡ None
+
+-- each remove and each get of a history that is answered yes gives the value that was stored last for its key, and no other call but an insert answered yes has one
+abbrev pub GiveStored : Payloads → List Call → Type 0
+GiveStored payloads [] = Unit {0}
+GiveStored payloads (call ∷ calls) = GivesValue payloads call.op call.key call.reply call.value × GiveStored (payloads_after payloads call.op call.key call.reply call.value) calls
+
+-- ---- requests
+
+-- what a call asks, without its reply and its value: the caller, the operation and the key
 abbrev pub request_of : Call → ℕ × Op × ℕ
 request_of call = (call.who, call.op, call.key)
 

@@ -17,6 +17,11 @@ abbrev pub key_shown : Incarnations → Option ℕ → ℕ
 key_shown a None = 0
 key_shown a (Some c) = a.key c
 
+-- the value of an incarnation, 0 for none
+abbrev pub value_shown : Incarnations → Option ℕ → ℕ
+value_shown a None = 0
+value_shown a (Some c) = a.value c
+
 -- the slot of an incarnation, none for none
 abbrev pub slot_shown : Incarnations → Option ℕ → Option ℕ
 slot_shown a None = None
@@ -51,5 +56,6 @@ pub record IsImage (w : World) (a : Incarnations) : Type 0 where
   pub link : (s : ℕ) → w.link s ≡ link_shown_at a (Slot s)
   pub birth : (s : ℕ) → w.birth s ≡ birth_shown a (a.last s)
   pub key : (s : ℕ) → w.key s ≡ key_shown a (a.last s)
+  pub value : (s : ℕ) → w.value s ≡ value_shown a (a.last s)
   pub stamp : (s : ℕ) → w.stamp s ≡ a.stamp s
   pub place : (s : ℕ) → w.place s ≡ a.place s

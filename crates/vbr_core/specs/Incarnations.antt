@@ -3,7 +3,7 @@ use Rattle.std.specs.Prelude.{ℕ, ◌≤◌, Bool, List, [], Option, Some, None
 use Rattle.vbr_words.specs.Dimensions.{Dimensions}
 use Rattle.vbr_words.specs.declared.link.Link.{Link}
 use Rattle.vbr_core.specs.Links.{opening_link}
-use Rattle.vbr_core.specs.Opened.{key_count, has_opening_key, key_number, opening_birth, first_key, key_behind, opening_place}
+use Rattle.vbr_core.specs.Opened.{key_count, has_opening_key, key_number, value_number, kept, opening_birth, first_key, key_behind, opening_place}
 use Rattle.vbr_core.specs.declared.history.Call.{Call}
 use Rattle.vbr_core.specs.declared.knowledge.SlotPlace.{SlotPlace}
 
@@ -17,7 +17,7 @@ pub data State : Type 0 where
   Unlinked : (pass : ℕ) → (at : ℕ) → State
   Stamped : (at : ℕ) → (stamp : ℕ) → State
 
--- all incarnations so far. Each has a number, which is never given twice; an incarnation has at first the key and the link that its slot showed before its birth
+-- all incarnations so far. Each has a number, which is never given twice; an incarnation has at first the key, the value and the link that its slot showed before its birth
 pub record Incarnations : Type 0 where
   pub epoch : ℕ
   pub count : ℕ  -- how many were born: they are those below
@@ -25,6 +25,8 @@ pub record Incarnations : Type 0 where
   pub birth : ℕ → ℕ
   pub key : ℕ → ℕ
   pub is_keyed : ℕ → Bool  -- whether its key was stored since its birth
+  pub value : ℕ → ℕ
+  pub is_valued : ℕ → Bool  -- whether its value was stored since its birth
   pub link : ℕ → Link  -- its link until it is linked
   pub is_aimed : ℕ → Bool  -- whether its link was stored since its birth
   pub next : ℕ → Option ℕ  -- its successor
@@ -53,6 +55,8 @@ at_opening shape =
       birth = opening_birth shape;
       key = key_number shape;
       is_keyed = has_opening_key shape;
+      value = value_number shape;
+      is_valued = has_opening_key shape;
       link = λ c. opening_link;
       is_aimed = has_opening_key shape;
       next = key_behind shape;
@@ -63,6 +67,10 @@ at_opening shape =
       stamp = λ s. 0;
       calls = [];
     }
+
+-- the value of an incarnation where nodes have values, and otherwise none
+abbrev pub payload_of : Dimensions → Incarnations → ℕ → Option ℕ
+payload_of shape a c = kept shape (Some (a.value c))
 
 -- an incarnation is late for an epoch while it is linked or marked, and also after, if it was unlinked at this epoch or later
 abbrev pub IsLate : State → ℕ → Type 0

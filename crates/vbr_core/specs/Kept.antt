@@ -9,7 +9,7 @@ use Rattle.vbr_core.specs.Knowledge.{Know}
 use Rattle.vbr_core.specs.Machine.{World}
 use Rattle.vbr_core.specs.declared.history.Call.{Call}
 use Rattle.vbr_core.specs.declared.knowledge.Read.{Read}
-use Rattle.vbr_core.specs.declared.knowledge.Read.TheVariants.{LinkAt, BirthOf, KeyOf}
+use Rattle.vbr_core.specs.declared.knowledge.Read.TheVariants.{LinkAt, BirthOf, KeyOf, ValueOf}
 use Rattle.vbr_core.specs.declared.knowledge.Holding.{Holding}
 use Rattle.vbr_core.specs.declared.knowledge.Holding.TheVariants.{InHand}
 use Rattle.vbr_core.specs.declared.knowledge.SlotPlace.{SlotPlace}
@@ -35,10 +35,11 @@ abbrev pub FitsRead : Read → Type 0
 FitsRead (LinkAt at link) = IsLink link
 FitsRead (BirthOf s birth) = birth ≤ MAX_EPOCH
 FitsRead (KeyOf s key) = Unit {0}
+FitsRead (ValueOf s value) = Unit {0}
 
 -- what is known of an own slot has room in words
 abbrev pub FitsHolding : Option Holding → Type 0
-FitsHolding (Some (InHand stamp birth key link)) = birth ≤ MAX_EPOCH
+FitsHolding (Some (InHand stamp birth key value link)) = birth ≤ MAX_EPOCH
 FitsHolding _ = Unit {0}
 
 -- all that a pass knows has room in words
@@ -57,6 +58,7 @@ pub record KeptWorld : Type 0 where
   pub birth : List ℕ
   pub stamps : List ℕ
   pub keys : List ℕ
+  pub values : List ℕ
   pub places : List SlotPlace
   pub passes : List KeptPass
   pub births : ℕ
@@ -72,6 +74,7 @@ world_of kept =
       birth = λ s. slice_index_or kept.birth s 0;
       stamp = λ s. slice_index_or kept.stamps s 0;
       key = λ s. slice_index_or kept.keys s 0;
+      value = λ s. slice_index_or kept.values s 0;
       place = λ s. slice_index_or kept.places s Shared;
       know = λ p. know_of (slice_index_or kept.passes p opening_pass);
       births = kept.births;
@@ -87,6 +90,7 @@ pub record IsWhole (kept : KeptWorld) : Type 0 where
   pub birth : length kept.birth ≡ kept.shape.slots
   pub stamps : length kept.stamps ≡ kept.shape.slots
   pub keys : length kept.keys ≡ kept.shape.slots
+  pub values : length kept.values ≡ kept.shape.slots
   pub places : length kept.places ≡ kept.shape.slots
   pub owns : AllByRecursion (λ pass. length pass.own ≡ kept.shape.slots) kept.passes
   pub fits : AllByRecursion (λ birth. birth ≤ MAX_EPOCH) kept.birth

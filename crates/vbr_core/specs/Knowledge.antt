@@ -4,7 +4,7 @@ use Rattle.vbr_words.specs.declared.link.Link.{Link}
 use Rattle.vbr_words.specs.declared.place.At.{At}
 use Rattle.vbr_words.specs.declared.place.At.TheVariants.{Head, Slot}
 use Rattle.vbr_core.specs.declared.knowledge.Read.{Read}
-use Rattle.vbr_core.specs.declared.knowledge.Read.TheVariants.{LinkAt, BirthOf, KeyOf}
+use Rattle.vbr_core.specs.declared.knowledge.Read.TheVariants.{LinkAt, BirthOf, KeyOf, ValueOf}
 use Rattle.vbr_core.specs.declared.knowledge.Holding.{Holding}
 use Rattle.vbr_core.specs.Links.{same_link}
 
@@ -38,6 +38,12 @@ abbrev pub key_in : List Read → ℕ → Option ℕ
 key_in [] s = None
 key_in (KeyOf slot key ∷ reads) s = if slot == s then Some key else key_in reads s
 key_in (_ ∷ reads) s = key_in reads s
+
+-- the first value of a slot among the reads
+abbrev pub value_in : List Read → ℕ → Option ℕ
+value_in [] s = None
+value_in (ValueOf slot value ∷ reads) s = if slot == s then Some value else value_in reads s
+value_in (_ ∷ reads) s = value_in reads s
 
 -- the first marked link of a slot among the reads
 abbrev pub marked_in : List Read → ℕ → Option Link

@@ -1,22 +1,24 @@
 -- What a step's load or exchange answers, what its pass learns from it, and which call it makes.
 use Rattle.std.specs.Prelude.{ℕ, Bool, true, false, ◌==◌, List, [], ◌∷◌, ◌++◌, Option, Some, None, if◌then◌else◌, unwrap_or}
+use Rattle.vbr_words.specs.Dimensions.{Dimensions}
 use Rattle.vbr_words.specs.Words.{link_of}
 use Rattle.vbr_words.specs.Flags.{has_flag}
 use Rattle.vbr_words.specs.declared.link.Link.{Link}
 use Rattle.vbr_words.specs.declared.place.At.TheVariants.{Slot}
 use Rattle.vbr_core.specs.Put.{put}
 use Rattle.vbr_core.specs.Links.{opening_link, link_to, marked}
-use Rattle.vbr_core.specs.Knowledge.{Know, key_in, marked_in, birth_at, birth_of}
+use Rattle.vbr_core.specs.Knowledge.{Know, key_in, value_in, marked_in, birth_at, birth_of}
 use Rattle.vbr_core.specs.Acceptance.{stamp_in, next_of_marked}
+use Rattle.vbr_core.specs.Opened.{kept}
 use Rattle.vbr_core.specs.declared.history.Call.{Call}
 use Rattle.vbr_core.specs.declared.history.Op.{Op}
-use Rattle.vbr_core.specs.declared.history.Op.TheVariants.{Insert, Remove, Has}
+use Rattle.vbr_core.specs.declared.history.Op.TheVariants.{Insert, Remove, Has, Get}
 use Rattle.vbr_core.specs.declared.event.Step.{Step}
-use Rattle.vbr_core.specs.declared.event.Step.TheVariants.{ReadEpoch, Advance, StoreStamp, Raise, TakeFlag, StoreBirth, StoreKey, StoreLink, LoadLink, LoadBirth, LoadKey, Publish, Mark, Unlink, ConfirmPresent, ConfirmAbsent}
+use Rattle.vbr_core.specs.declared.event.Step.TheVariants.{ReadEpoch, Advance, StoreStamp, Raise, TakeFlag, StoreBirth, StoreKey, StoreValue, StoreLink, LoadLink, LoadBirth, LoadKey, LoadValue, Publish, Mark, Unlink, ConfirmPresent, ConfirmAbsent}
 use Rattle.vbr_core.specs.declared.event.Effect.{Effect}
 use Rattle.vbr_core.specs.declared.event.Effect.TheVariants.{Value, Done, Won, Lost, Answered}
 use Rattle.vbr_core.specs.declared.knowledge.Read.{Read}
-use Rattle.vbr_core.specs.declared.knowledge.Read.TheVariants.{LinkAt, BirthOf, KeyOf}
+use Rattle.vbr_core.specs.declared.knowledge.Read.TheVariants.{LinkAt, BirthOf, KeyOf, ValueOf}
 use Rattle.vbr_core.specs.declared.knowledge.Holding.{Holding}
 use Rattle.vbr_core.specs.declared.knowledge.Holding.TheVariants.{Free, Unlinked, InHand}
 
@@ -36,6 +38,7 @@ succeeds _ found = true
 -- the reply that the presence of the key gives to an operation: yes to a look-up, no to an insert
 abbrev pub present_reply : Op → Bool
 present_reply Has = true
+present_reply Get = true
 present_reply _ = false
 
 -- the effect of a step that succeeds, from the word that it found
@@ -46,6 +49,7 @@ effect_where_it_succeeds (Raise s) found = Done
 effect_where_it_succeeds (TakeFlag s) found = Won
 effect_where_it_succeeds (StoreBirth s birth) found = Done
 effect_where_it_succeeds (StoreKey s key) found = Done
+effect_where_it_succeeds (StoreValue s value) found = Done
 effect_where_it_succeeds (StoreLink s next) found = Done
 effect_where_it_succeeds (Publish pred expected s) found = Won
 effect_where_it_succeeds (Mark s expected) found = Won
@@ -62,27 +66,37 @@ effect_of step found = if succeeds step found then effect_where_it_succeeds step
 
 -- the birth of a slot in hand
 abbrev pub birth_in_hand : Option Holding → ℕ
-birth_in_hand (Some (InHand stamp birth key link)) = birth
+birth_in_hand (Some (InHand stamp birth key value link)) = birth
 birth_in_hand _ = 0
 
 -- the key of a slot in hand
 abbrev pub key_in_hand : Option Holding → ℕ
-key_in_hand (Some (InHand stamp birth key link)) = unwrap_or key 0
+key_in_hand (Some (InHand stamp birth key value link)) = unwrap_or key 0
 key_in_hand _ = 0
+
+-- the value of a slot in hand, if one was stored
+abbrev pub value_in_hand : Option Holding → Option ℕ
+value_in_hand (Some (InHand stamp birth key value link)) = value
+value_in_hand _ = None
 
 -- the link of a slot in hand
 abbrev pub link_in_hand : Option Holding → Link
-link_in_hand (Some (InHand stamp birth key link)) = unwrap_or link opening_link
+link_in_hand (Some (InHand stamp birth key value link)) = unwrap_or link opening_link
 link_in_hand _ = opening_link
 
 -- a slot in hand once its key is stored
 abbrev pub with_key : Option Holding → ℕ → Option Holding
-with_key (Some (InHand stamp birth key link)) new = Some (InHand stamp birth (Some new) link)
+with_key (Some (InHand stamp birth key value link)) new = Some (InHand stamp birth (Some new) value link)
 with_key holding new = holding
+
+-- a slot in hand once its value is stored
+abbrev pub with_value : Option Holding → ℕ → Option Holding
+with_value (Some (InHand stamp birth key value link)) new = Some (InHand stamp birth key (Some new) link)
+with_value holding new = holding
 
 -- a slot in hand once its link is stored
 abbrev pub with_link : Option Holding → Link → Option Holding
-with_link (Some (InHand stamp birth key link)) new = Some (InHand stamp birth key (Some new))
+with_link (Some (InHand stamp birth key value link)) new = Some (InHand stamp birth key value (Some new))
 with_link holding new = holding
 
 -- ---- what is written
@@ -133,12 +147,18 @@ abbrev pub read_loaded : Step → ℕ → Option Read
 read_loaded (LoadLink at) found = Some (LinkAt at (link_of found))
 read_loaded (LoadBirth s) found = Some (BirthOf s found)
 read_loaded (LoadKey s) found = Some (KeyOf s found)
+read_loaded (LoadValue s) found = Some (ValueOf s found)
 read_loaded _ found = None
+
+-- the value of a slot as a read, if there is one
+abbrev pub value_read : ℕ → Option ℕ → List Read
+value_read s None = []
+value_read s (Some value) = ValueOf s value ∷ []
 
 -- what a pass has checked by winning an exchange, in this order
 abbrev pub reads_won : Know → Step → List Read
 reads_won know (Publish pred expected s) =
-    LinkAt pred (link_written know (Publish pred expected s)) ∷ BirthOf s (birth_in_hand (know.own s)) ∷ KeyOf s (key_in_hand (know.own s)) ∷ LinkAt (Slot s) (link_in_hand (know.own s)) ∷ []
+    LinkAt pred (link_written know (Publish pred expected s)) ∷ BirthOf s (birth_in_hand (know.own s)) ∷ KeyOf s (key_in_hand (know.own s)) ∷ LinkAt (Slot s) (link_in_hand (know.own s)) ∷ value_read s (value_in_hand (know.own s))
 reads_won know (Mark s expected) = LinkAt (Slot s) (link_written know (Mark s expected)) ∷ []
 reads_won know (Unlink pred expected s) = LinkAt pred (link_written know (Unlink pred expected s)) ∷ []
 reads_won know _ = []
@@ -149,12 +169,14 @@ learn ReadEpoch found stamp know = read_epoch know found
 learn (StoreStamp s new) found stamp know = with_own know s (Some (Free new))
 learn (Raise s) found stamp know = with_own know s None
 learn (TakeFlag s) found stamp know = if succeeds (TakeFlag s) found then with_own know s (Some (Free stamp)) else know
-learn (StoreBirth s birth) found stamp know = with_own know s (Some (InHand (stamp_in (know.own s)) birth None None))
+learn (StoreBirth s birth) found stamp know = with_own know s (Some (InHand (stamp_in (know.own s)) birth None None None))
 learn (StoreKey s key) found stamp know = with_own know s (with_key (know.own s) key)
+learn (StoreValue s value) found stamp know = with_own know s (with_value (know.own s) value)
 learn (StoreLink s next) found stamp know = with_own know s (with_link (know.own s) (link_written know (StoreLink s next)))
 learn (LoadLink at) found stamp know = with_pending know (LinkAt at (link_of found))
 learn (LoadBirth s) found stamp know = with_pending know (BirthOf s found)
 learn (LoadKey s) found stamp know = with_pending know (KeyOf s found)
+learn (LoadValue s) found stamp know = with_pending know (ValueOf s found)
 learn (Publish pred expected s) found stamp know =
     if succeeds (Publish pred expected s) found then with_own (with_checked know (reads_won know (Publish pred expected s))) s None else know
 learn (Mark s expected) found stamp know = if succeeds (Mark s expected) found then with_checked know (reads_won know (Mark s expected)) else know
@@ -164,10 +186,16 @@ learn _ found stamp know = know
 
 -- ---- the call that is made
 
+-- the value that a present key gives to an operation: a get asks for it
+abbrev pub present_value : Op → Option ℕ → Option ℕ
+present_value Get value = value
+present_value _ value = None
+
 -- the call of a step that succeeds, if it is one that makes a call
-abbrev pub call_of : ℕ → Know → Step → Option Call
-call_of pass know (Publish pred expected s) = Some (record { who = pass; op = Insert; key = key_in_hand (know.own s); reply = true })
-call_of pass know (Mark s expected) = Some (record { who = pass; op = Remove; key = unwrap_or (key_in know.checked s) 0; reply = true })
-call_of pass know (ConfirmPresent op s expected) = Some (record { who = pass; op = op; key = unwrap_or (key_in know.checked s) 0; reply = present_reply op })
-call_of pass know (ConfirmAbsent op key at expected) = Some (record { who = pass; op = op; key = key; reply = false })
-call_of pass know _ = None
+abbrev pub call_of : Dimensions → ℕ → Know → Step → Option Call
+call_of shape pass know (Publish pred expected s) = Some (record { who = pass; op = Insert; key = key_in_hand (know.own s); reply = true; value = kept shape (value_in_hand (know.own s)) })
+call_of shape pass know (Mark s expected) = Some (record { who = pass; op = Remove; key = unwrap_or (key_in know.checked s) 0; reply = true; value = kept shape (value_in know.checked s) })
+call_of shape pass know (ConfirmPresent op s expected) =
+    Some (record { who = pass; op = op; key = unwrap_or (key_in know.checked s) 0; reply = present_reply op; value = present_value op (value_in know.checked s) })
+call_of shape pass know (ConfirmAbsent op key at expected) = Some (record { who = pass; op = op; key = key; reply = false; value = None })
+call_of shape pass know _ = None

@@ -4,8 +4,9 @@ pub mod History
 pub mod Links
 pub mod Knowledge
 pub mod Acceptance
-pub mod Learning
 pub mod Opened
+pub mod Maps
+pub mod Learning
 pub mod Membership
 pub mod Machine
 pub mod Loads

@@ -13,11 +13,11 @@ use Rattle.vbr_words.specs.declared.place.Place.TheVariants as place
 use Rattle.vbr_core.specs.Put.{put}
 use Rattle.vbr_core.specs.Knowledge.{Know}
 use Rattle.vbr_words.specs.Buckets.{bucket_of}
-use Rattle.vbr_core.specs.Opened.{key_count, key_number, opening_birth, first_key, link_to_key, link_at_opening, opening_place}
+use Rattle.vbr_core.specs.Opened.{key_count, key_number, value_number, opening_birth, first_key, link_to_key, link_at_opening, opening_place}
 use Rattle.vbr_core.specs.Learning.{succeeds, link_written, key_written, learn, call_of}
 use Rattle.vbr_core.specs.declared.history.Call.{Call}
 use Rattle.vbr_core.specs.declared.event.Step.{Step}
-use Rattle.vbr_core.specs.declared.event.Step.TheVariants.{ReadEpoch, Advance, LoadStamp, StoreStamp, Raise, TakeFlag, StoreBirth, StoreKey, StoreLink, LoadLink, LoadBirth, LoadKey, Publish, Mark, Unlink, ConfirmPresent, ConfirmAbsent}
+use Rattle.vbr_core.specs.declared.event.Step.TheVariants.{ReadEpoch, Advance, LoadStamp, StoreStamp, Raise, TakeFlag, StoreBirth, StoreKey, StoreValue, StoreLink, LoadLink, LoadBirth, LoadKey, LoadValue, Publish, Mark, Unlink, ConfirmPresent, ConfirmAbsent}
 use Rattle.vbr_core.specs.declared.knowledge.SlotPlace.{SlotPlace}
 use Rattle.vbr_core.specs.declared.knowledge.SlotPlace.TheVariants.{Shared, Own, Hand, Listed}
 
@@ -29,6 +29,7 @@ pub record World : Type 0 where
   pub birth : ℕ → ℕ
   pub stamp : ℕ → ℕ
   pub key : ℕ → ℕ
+  pub value : ℕ → ℕ
   pub place : ℕ → SlotPlace
   pub know : ℕ → Know
   pub births : ℕ
@@ -48,6 +49,7 @@ opening shape =
       birth = opening_birth shape;
       stamp = λ s. 0;
       key = key_number shape;
+      value = value_number shape;
       place = opening_place shape;
       know = λ p. knows_nothing;
       births = key_count shape;
@@ -83,6 +85,7 @@ word_at shape w (place.LinkOf s) = word_of (w.link s)
 word_at shape w (place.Birth s) = w.birth s
 word_at shape w (place.Stamp s) = w.stamp s
 word_at shape w (place.Key s) = w.key s
+word_at shape w (place.Value s) = w.value s
 word_at shape w (place.Flags number) = flag_word (is_flagged shape w) number
 
 -- ---- how a step reaches its word
@@ -97,10 +100,12 @@ place_of_step (Raise s) = place.Flags (word_of_flag s)
 place_of_step (TakeFlag s) = place.Flags (word_of_flag s)
 place_of_step (StoreBirth s birth) = place.Birth s
 place_of_step (StoreKey s key) = place.Key s
+place_of_step (StoreValue s value) = place.Value s
 place_of_step (StoreLink s next) = place.LinkOf s
 place_of_step (LoadLink at) = places.place_of at
 place_of_step (LoadBirth s) = place.Birth s
 place_of_step (LoadKey s) = place.Key s
+place_of_step (LoadValue s) = place.Value s
 place_of_step (Publish pred expected s) = places.place_of pred
 place_of_step (Mark s expected) = place.LinkOf s
 place_of_step (Unlink pred expected s) = places.place_of pred
@@ -123,6 +128,7 @@ access_of know (Raise s) = FetchOr (flag_of s)
 access_of know (TakeFlag s) = FetchAnd (all_but s)
 access_of know (StoreBirth s birth) = Store birth
 access_of know (StoreKey s key) = Store key
+access_of know (StoreValue s value) = Store value
 access_of know (StoreLink s next) = Store (word_of (link_written know (StoreLink s next)))
 access_of know (Publish pred expected s) = Exchange expected (word_of (link_written know (Publish pred expected s)))
 access_of know (Mark s expected) = Exchange expected (word_of (link_written know (Mark s expected)))
@@ -174,6 +180,7 @@ written shape p (Raise s) link key w = record w { place = put w.place s Shared }
 written shape p (TakeFlag s) link key w = record w { place = put w.place s (Own p) }
 written shape p (StoreBirth s birth) link key w = record w { birth = put w.birth s birth; place = put w.place s (Hand p); births = counted w.births }
 written shape p (StoreKey s new) link key w = record w { key = put w.key s new }
+written shape p (StoreValue s new) link key w = record w { value = put w.value s new }
 written shape p (StoreLink s next) link key w = with_link_at w (Slot s) link
 written shape p (Publish pred expected s) link key w = record (with_link_at w pred link) { place = put w.place s (Listed (bucket_of shape key)) }
 written shape p (Mark s expected) link key w = with_link_at w (Slot s) link
@@ -192,5 +199,5 @@ learned shape w p step = with_learning shape w p step
 abbrev pub after : Dimensions → World → ℕ → Step → World
 after shape w p step =
     if succeeds step (found shape w step)
-    then with_call (written shape p step (link_written (w.know p) step) (key_written (w.know p) step) (learned shape w p step)) (call_of p (w.know p) step)
+    then with_call (written shape p step (link_written (w.know p) step) (key_written (w.know p) step) (learned shape w p step)) (call_of shape p (w.know p) step)
     else w

@@ -7,7 +7,7 @@ use Rattle.vbr_core.specs.Learning.{succeeds, call_of}
 use Rattle.vbr_core.specs.Put.{put}
 use Rattle.vbr_core.specs.Links.{opening_link, link_to}
 use Rattle.vbr_words.specs.Buckets.{bucket_of}
-use Rattle.vbr_core.specs.Opened.{key_count, key_number, opening_birth, first_from, link_to_key, link_at_opening, opening_place}
+use Rattle.vbr_core.specs.Opened.{key_count, key_number, value_number, opening_birth, first_from, link_to_key, link_at_opening, opening_place}
 use Rattle.vbr_core.specs.Machine.{World, opening, counted, found, with_learning, with_call}
 use Rattle.vbr_core.specs.declared.event.Step.{Step}
 use Rattle.vbr_core.specs.declared.event.Step.TheVariants.{Advance, StoreBirth}
@@ -30,18 +30,20 @@ opening_from shape from =
       link = linked_from from opening_link (link_at_opening shape);
       birth = linked_from from 0 (opening_birth shape);
       key = linked_from from 0 (key_number shape);
+      value = linked_from from 0 (value_number shape);
       place = linked_from from Shared (opening_place shape);
       births = key_count shape - from;
     }
 
 -- a key is linked ahead of the others of its bucket: the version of the head is the birth of what the head names
-abbrev pub with_key_ahead : Dimensions → ℕ → ℕ → World → World
-with_key_ahead shape number key w =
+abbrev pub with_key_ahead : Dimensions → ℕ → ℕ → ℕ → World → World
+with_key_ahead shape number key value w =
     record w {
       head = put w.head (bucket_of shape key) (link_to (Some number) 0 1);
       link = put w.link number (link_to (w.head (bucket_of shape key)).slot 1 (w.head (bucket_of shape key)).version);
       birth = put w.birth number 1;
       key = put w.key number key;
+      value = put w.value number value;
       place = put w.place number (Listed (bucket_of shape key));
       births = counted w.births;
     }
@@ -62,7 +64,7 @@ confirmed reply expected found = if found == expected then Answered reply else L
 
 -- the call that a pass makes with a step, if it makes one
 abbrev pub call_made : Dimensions → World → ℕ → Step → Option Call
-call_made shape w p step = if succeeds step (found shape w step) then call_of p (w.know p) step else None
+call_made shape w p step = if succeeds step (found shape w step) then call_of shape p (w.know p) step else None
 
 -- the pass learns from a step, and its call is kept
 abbrev pub with_answer : Dimensions → World → ℕ → Step → World

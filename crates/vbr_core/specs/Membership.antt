@@ -1,5 +1,5 @@
 -- What a pass knows by membership: whatever is among its checked reads, and not only the first that a search finds.
-use Rattle.std.specs.Prelude.{◌≡◌, ◌≢◌, ℕ, ◌<◌, true, false, Option, Some, None}
+use Rattle.std.specs.Prelude.{◌≡◌, ◌≢◌, ℕ, ◌<◌, Bool, true, false, Option, Some, None}
 use Rattle.std.specs.List.{Contains}
 use Rattle.vbr_words.specs.Dimensions.{Dimensions}
 use Rattle.vbr_words.specs.Words.{link_of}
@@ -9,13 +9,14 @@ use Rattle.vbr_words.specs.declared.place.At.TheVariants.{Head, Slot}
 use Rattle.vbr_core.specs.Links.{link_to, marked}
 use Rattle.vbr_core.specs.Knowledge.{Know}
 use Rattle.vbr_words.specs.Buckets.{bucket_of}
-use Rattle.vbr_core.specs.Acceptance.{IsInShape, IsOwned, IsInRange, IsBelowLast}
+use Rattle.vbr_core.specs.Acceptance.{HasValue, IsInShape, IsOwned, IsInRange, IsBelowLast}
 use Rattle.vbr_core.specs.Learning.{birth_in_hand}
-use Rattle.vbr_core.specs.declared.history.Op.TheVariants.{Insert}
+use Rattle.vbr_core.specs.declared.history.Op.{Op}
+use Rattle.vbr_core.specs.declared.history.Op.TheVariants.{Insert, Get}
 use Rattle.vbr_core.specs.declared.event.Step.{Step}
-use Rattle.vbr_core.specs.declared.event.Step.TheVariants.{StoreLink, LoadLink, LoadBirth, LoadKey, Publish, Mark, Unlink, ConfirmPresent, ConfirmAbsent}
+use Rattle.vbr_core.specs.declared.event.Step.TheVariants.{StoreLink, LoadLink, LoadBirth, LoadKey, LoadValue, Publish, Mark, Unlink, ConfirmPresent, ConfirmAbsent}
 use Rattle.vbr_core.specs.declared.knowledge.Read.{Read}
-use Rattle.vbr_core.specs.declared.knowledge.Read.TheVariants.{LinkAt, BirthOf, KeyOf}
+use Rattle.vbr_core.specs.declared.knowledge.Read.TheVariants.{LinkAt, BirthOf, KeyOf, ValueOf}
 use Rattle.vbr_core.specs.declared.knowledge.Holding.{Holding}
 use Rattle.vbr_core.specs.declared.knowledge.Holding.TheVariants.{InHand}
 
@@ -108,23 +109,34 @@ abbrev pub IsNextKnown : Know → Option ℕ → Type 0
 IsNextKnown know None = Unit {0}
 IsNextKnown know (Some s) = IsHeldSlot know s × ((birth : ℕ) × Knows know (BirthOf s birth))
 
--- the reads that the step asks for are known
-abbrev pub IsKnown : Know → Step → Type 0
-IsKnown know (StoreLink s next) = IsNextKnown know next
-IsKnown know (LoadLink at) = IsHeldPlace know at
-IsKnown know (LoadBirth s) = IsHeldSlot know s
-IsKnown know (LoadKey s) = IsHeldSlot know s
-IsKnown know (Publish pred expected s) = Knows know (LinkAt pred (link_of expected)) × ((birth : ℕ) × BirthAt know pred birth)
-IsKnown know (Mark s expected) = Knows know (LinkAt (Slot s) (link_of expected)) × ((key : ℕ) × Knows know (KeyOf s key))
-IsKnown know (Unlink pred expected s) = Knows know (LinkAt pred (link_of expected)) × ((new : Link) × IsUnlinkLink know pred s new)
-IsKnown know (ConfirmPresent op s expected) = Knows know (LinkAt (Slot s) (link_of expected)) × ((key : ℕ) × Knows know (KeyOf s key))
-IsKnown know (ConfirmAbsent op key at expected) = Knows know (LinkAt at (link_of expected))
-IsKnown know _ = Unit {0}
+-- a value of a slot is known where nodes have values, as the test says
+abbrev pub KnowsValue : Bool → Know → ℕ → Type 0
+KnowsValue true know s = (value : ℕ) × Knows know (ValueOf s value)
+KnowsValue false know s = Unit {0}
 
--- a slot in hand whose key and link were stored since its birth: the link names what the expected link names, by a birth that is known of that, and the key stands between
+-- a value of a slot is known where the operation is one that gives it
+abbrev pub KnowsValueFor : Op → Know → ℕ → Type 0
+KnowsValueFor Get know s = (value : ℕ) × Knows know (ValueOf s value)
+KnowsValueFor _ know s = Unit {0}
+
+-- the reads that the step asks for are known
+abbrev pub IsKnown : Dimensions → Know → Step → Type 0
+IsKnown shape know (StoreLink s next) = IsNextKnown know next
+IsKnown shape know (LoadLink at) = IsHeldPlace know at
+IsKnown shape know (LoadBirth s) = IsHeldSlot know s
+IsKnown shape know (LoadKey s) = IsHeldSlot know s
+IsKnown shape know (LoadValue s) = IsHeldSlot know s
+IsKnown shape know (Publish pred expected s) = Knows know (LinkAt pred (link_of expected)) × ((birth : ℕ) × BirthAt know pred birth)
+IsKnown shape know (Mark s expected) = Knows know (LinkAt (Slot s) (link_of expected)) × ((key : ℕ) × Knows know (KeyOf s key)) × KnowsValue shape.values know s
+IsKnown shape know (Unlink pred expected s) = Knows know (LinkAt pred (link_of expected)) × ((new : Link) × IsUnlinkLink know pred s new)
+IsKnown shape know (ConfirmPresent op s expected) = Knows know (LinkAt (Slot s) (link_of expected)) × ((key : ℕ) × Knows know (KeyOf s key)) × KnowsValueFor op know s
+IsKnown shape know (ConfirmAbsent op key at expected) = Knows know (LinkAt at (link_of expected))
+IsKnown shape know _ = Unit {0}
+
+-- a slot in hand whose key and link, and value where nodes have values, were stored since its birth: the link names what the expected link names, by a birth that is known of that, and the key stands between
 abbrev pub MayPublishKnown : Dimensions → Know → At → Link → Option Holding → Type 0
-MayPublishKnown shape know pred expected (Some (InHand stamp birth (Some key) (Some link))) =
-    ((named : ℕ) × BirthNamed know expected.slot named × (link ≡ link_to expected.slot birth named)) × StandsBehind shape know pred key × StandsBefore know key expected.slot
+MayPublishKnown shape know pred expected (Some (InHand stamp birth (Some key) value (Some link))) =
+    ((named : ℕ) × BirthNamed know expected.slot named × (link ≡ link_to expected.slot birth named)) × StandsBehind shape know pred key × StandsBefore know key expected.slot × HasValue shape.values value
 MayPublishKnown shape know pred expected _ = ⊥
 
 -- the step's numbers are in range
@@ -138,6 +150,6 @@ IsInRangeKnown shape know step = IsInRange shape know step
 pub record AcceptsKnown (shape : Dimensions) (know : Know) (step : Step) : Type 0 where
   pub in_shape : IsInShape shape step
   pub owned : IsOwned know step
-  pub known : IsKnown know step
+  pub known : IsKnown shape know step
   pub in_range : IsInRangeKnown shape know step
   pub below_last : IsBelowLast shape step

@@ -7,12 +7,12 @@ use Rattle.vbr_words.specs.declared.place.At.TheVariants.{Head, Slot}
 use Rattle.vbr_core.specs.Learning.{succeeds, read_loaded, reads_won}
 use Rattle.vbr_core.specs.Machine.{World, found}
 use Rattle.vbr_core.specs.Incarnations.{Incarnations, last_in}
-use Rattle.vbr_core.specs.Images.{birth_shown, key_shown, link_shown_at}
+use Rattle.vbr_core.specs.Images.{birth_shown, key_shown, value_shown, link_shown_at}
 use Rattle.vbr_core.specs.Chronicles.{Before, AtHead, AtNode, next_of}
 use Rattle.vbr_core.specs.declared.event.Step.{Step}
 use Rattle.vbr_core.specs.declared.event.Step.TheVariants.{ReadEpoch, Publish, Mark, Unlink}
 use Rattle.vbr_core.specs.declared.knowledge.Read.{Read}
-use Rattle.vbr_core.specs.declared.knowledge.Read.TheVariants.{LinkAt, BirthOf, KeyOf}
+use Rattle.vbr_core.specs.declared.knowledge.Read.TheVariants.{LinkAt, BirthOf, KeyOf, ValueOf}
 
 -- a read of a pass; what the incarnations showed there at the step that gave it; the last incarnation of its slot at that step, none for a head; and, for a link, the incarnation that it named, which is the successor at that step
 pub record Note : Type 0 where
@@ -47,12 +47,14 @@ abbrev pub shown_at : Incarnations → Read → Read
 shown_at a (LinkAt at link) = LinkAt at (link_shown_at a at)
 shown_at a (BirthOf s birth) = BirthOf s (birth_shown a (a.last s))
 shown_at a (KeyOf s key) = KeyOf s (key_shown a (a.last s))
+shown_at a (ValueOf s value) = ValueOf s (value_shown a (a.last s))
 
 -- the last incarnation of the slot that a read is of
 abbrev pub last_of : Incarnations → Read → Option ℕ
 last_of a (LinkAt at link) = last_at a at
 last_of a (BirthOf s birth) = a.last s
 last_of a (KeyOf s key) = a.last s
+last_of a (ValueOf s value) = a.last s
 
 -- the incarnation that the link names, if the read is one of a link
 abbrev pub named_by : Incarnations → Read → Option ℕ
@@ -132,8 +134,9 @@ ReadsHeld checked (LinkAt (Head b) link) of = Unit {0}
 ReadsHeld checked (LinkAt (Slot s) link) of = IsOfHeld checked s of
 ReadsHeld checked (BirthOf s birth) of = IsOfHeld checked s of
 ReadsHeld checked (KeyOf s key) of = IsOfHeld checked s of
+ReadsHeld checked (ValueOf s value) of = IsOfHeld checked s of
 
--- a checked read is right: at the step that gave it, the last incarnation of its slot was the one that the pass holds there, and the value is that one's
+-- a checked read is right: at the step that gave it, the last incarnation of its slot was the one that the pass holds there, and what was read is that one's
 pub record IsRightRead (checked : List Note) (note : Note) : Type 0 where
   pub held : ReadsHeld checked note.read note.of
   pub value : note.read ≡ note.shown

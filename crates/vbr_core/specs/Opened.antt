@@ -1,8 +1,9 @@
--- The keys that a set opens with: the first stands in the first slot, the next in the next, and each is linked in the list of its bucket.
-use Rattle.std.specs.Prelude.{ℕ, zero, suc, ◌-◌, ◌==◌, nat_lt, Bool, length, Option, Some, None, slice_index_or, if◌then◌else◌}
+-- The keys that a set opens with, and their values where nodes have them: the first stands in the first slot, the next in the next, and each is linked in the list of its bucket.
+use Rattle.std.specs.Prelude.{ℕ, zero, suc, ◌-◌, ◌==◌, nat_lt, Bool, List, [], ◌∷◌, length, Option, Some, None, slice_index_or, if◌then◌else◌}
 use Rattle.vbr_words.specs.Dimensions.{Dimensions}
 use Rattle.vbr_words.specs.declared.link.Link.{Link}
 use Rattle.vbr_core.specs.Keys.{Keys, keys_of}
+use Rattle.vbr_core.specs.History.{Payloads}
 use Rattle.vbr_core.specs.Links.{opening_link, link_to}
 use Rattle.vbr_words.specs.Buckets.{bucket_of}
 use Rattle.vbr_core.specs.declared.knowledge.SlotPlace.{SlotPlace}
@@ -27,6 +28,25 @@ key_number shape number = slice_index_or shape.keys number 0
 -- its birth, 0 for none
 abbrev pub opening_birth : Dimensions → ℕ → ℕ
 opening_birth shape number = if has_opening_key shape number then 1 else 0
+
+-- ---- values
+
+-- the value with a number, 0 for none
+abbrev pub value_number : Dimensions → ℕ → ℕ
+value_number shape number = if has_opening_key shape number then slice_index_or shape.payloads number 0 else 0
+
+-- a value where nodes have values, and otherwise none
+abbrev pub kept : Dimensions → Option ℕ → Option ℕ
+kept shape value = if shape.values then value else None
+
+-- the number of a key in a list; that behind the last where it isn't there
+abbrev pub number_in : List ℕ → ℕ → ℕ
+number_in [] key = 0
+number_in (first ∷ keys) key = if first == key then 0 else suc (number_in keys key)
+
+-- the value of each key, none where nodes have none
+abbrev pub opening_payloads : Dimensions → Payloads
+opening_payloads shape key = kept shape (Some (value_number shape (number_in shape.keys key)))
 
 -- ---- the lists of the buckets
 

@@ -3,8 +3,8 @@ use Rattle.std.specs.Prelude.{◌≡◌, ℕ, ◌-◌, ◌^◌, ◌≤◌, min, 
 use Rattle.vbr_words.specs.Dimensions.{Dimensions}
 use Rattle.vbr_words.specs.Words.{IsLink}
 use Rattle.vbr_words.specs.declared.place.At.{At}
-use Rattle.vbr_core.specs.Opened.{opening_keys}
-use Rattle.vbr_core.specs.History.{IsLegal}
+use Rattle.vbr_core.specs.Opened.{opening_keys, opening_payloads}
+use Rattle.vbr_core.specs.History.{IsLegal, GiveStored}
 use Rattle.vbr_core.specs.Knowledge.{Know, holds}
 use Rattle.vbr_core.specs.Learning.{effect_of}
 use Rattle.vbr_core.specs.Machine.{World, link_at, found}
@@ -37,8 +37,8 @@ abbrev pub IsOwnerRight : World → ℕ → ℕ → Option Holding → Type 0
 IsOwnerRight w pass s None = IsNotOf pass (w.place s)
 IsOwnerRight w pass s (Some (Free stamp)) = (w.place s ≡ Own pass) × (w.stamp s ≡ stamp)
 IsOwnerRight w pass s (Some (Unlinked reread)) = w.place s ≡ Own pass
-IsOwnerRight w pass s (Some (InHand stamp birth key link)) =
-    (w.place s ≡ Hand pass) × (w.stamp s ≡ stamp) × (w.birth s ≡ birth) × IsWordOf (w.key s) key × IsWordOf (w.link s) link
+IsOwnerRight w pass s (Some (InHand stamp birth key value link)) =
+    (w.place s ≡ Hand pass) × (w.stamp s ≡ stamp) × (w.birth s ≡ birth) × IsWordOf (w.key s) key × IsWordOf (w.link s) link × IsWordOf (w.value s) value
 
 -- ---- exchanges and births
 
@@ -89,12 +89,13 @@ pub record KnowsRight (shape : Dimensions) (run : List Event) (pass : ℕ) : Typ
   pub own : (s : ℕ) → IsOwnerRight (world_after shape run) pass s (((world_after shape run).know pass).own s)
   pub last : (s : ℕ) → KnowsLast (incarnations_after shape run) pass ((world_after shape run).know pass) s
 
--- a run is safe: its chronicle is lawful, and the words are its image; its calls are those of the chronicle, and legal; births are counted; the epoch is at most the last one, and each link fits into a word; what each pass knows is right; each slot is in exactly one place; each exchange of a link that an event wins is right; and no event bears in a slot whose last incarnation isn't over
+-- a run is safe: its chronicle is lawful, and the words are its image; its calls are those of the chronicle, and legal, and give the values that were stored; births are counted; the epoch is at most the last one, and each link fits into a word; what each pass knows is right; each slot is in exactly one place; each exchange of a link that an event wins is right; and no event bears in a slot whose last incarnation isn't over
 pub record IsSafe (shape : Dimensions) (run : List Event) : Type 0 where
   pub lawful : IsLawful shape (opening_keys shape) (at_opening shape) (chronicle shape run)
   pub image : IsImage (world_after shape run) (incarnations_after shape run)
   pub calls : (world_after shape run).calls ≡ (incarnations_after shape run).calls
   pub legal : IsLegal (opening_keys shape) (world_after shape run).calls
+  pub values : GiveStored (opening_payloads shape) (world_after shape run).calls
   pub births : (world_after shape run).births ≡ min (incarnations_after shape run).count (2 ^ 64 - 1)
   pub epoch : (world_after shape run).epoch ≤ shape.last_epoch
   pub links : (at : At) → IsLink (link_at (world_after shape run) at)

@@ -2,10 +2,10 @@
 use Rattle.std.specs.Prelude.{◌≡◌, ℕ, ◌<◌, ◌≤◌, true, Option, Some, None, ◌⊎◌}
 use Rattle.vbr_words.specs.Dimensions.{Dimensions}
 use Rattle.vbr_words.specs.declared.link.Link.{Link}
-use Rattle.vbr_core.specs.Opened.{opening_keys}
-use Rattle.vbr_core.specs.History.{IsLegal, set_after}
 use Rattle.vbr_words.specs.Buckets.{bucket_of}
-use Rattle.vbr_core.specs.Incarnations.{State, Unborn, InHand, GivenUp, Linked, Marked, Unlinked, Stamped, Incarnations, IsLate}
+use Rattle.vbr_core.specs.Opened.{opening_keys, opening_payloads}
+use Rattle.vbr_core.specs.History.{IsLegal, set_after, GiveStored, values_after}
+use Rattle.vbr_core.specs.Incarnations.{State, Unborn, InHand, GivenUp, Linked, Marked, Unlinked, Stamped, Incarnations, payload_of, IsLate}
 use Rattle.vbr_core.specs.declared.knowledge.SlotPlace.{SlotPlace}
 use Rattle.vbr_core.specs.declared.knowledge.SlotPlace.TheVariants.{Shared, Own, Hand, Listed}
 
@@ -115,20 +115,23 @@ pub record Sound (shape : Dimensions) (a : Incarnations) : Type 0 where
 
 -- ---- the calls
 
--- the calls are legal from the opening keys, and the set after them has just the keys of the linked incarnations
+-- the calls are legal from the opening keys, and the set after them has just the keys of the linked incarnations; the calls give the values that were stored, and the values after them are those of the linked incarnations
 pub record Tells (shape : Dimensions) (a : Incarnations) : Type 0 where
   pub legal : IsLegal (opening_keys shape) a.calls
   pub there : (c : ℕ) → a.state c ≡ Linked → set_after (opening_keys shape) a.calls (a.key c) ≡ true
   pub only : (key : ℕ) → set_after (opening_keys shape) a.calls key ≡ true → (c : ℕ) × (a.state c ≡ Linked) × (a.key c ≡ key)
+  pub values : GiveStored (opening_payloads shape) a.calls
+  pub stored : (c : ℕ) → a.state c ≡ Linked → values_after (opening_payloads shape) a.calls (a.key c) ≡ payload_of shape a c
 
 -- ---- what stays
 
--- incarnations b come after a: what was born keeps its slot and its birth, what was inserted its key, what was late stays late, and what was removed keeps its successor
+-- incarnations b come after a: what was born keeps its slot and its birth, what was inserted its key and its value, what was late stays late, and what was removed keeps its successor
 pub record Grows (a b : Incarnations) : Type 0 where
   pub epoch : a.epoch ≤ b.epoch
   pub count : a.count ≤ b.count
   pub slot : (c : ℕ) → c < a.count → b.slot c ≡ a.slot c
   pub birth : (c : ℕ) → c < a.count → b.birth c ≡ a.birth c
   pub key : (c : ℕ) → IsInserted (a.state c) → b.key c ≡ a.key c
+  pub value : (c : ℕ) → IsInserted (a.state c) → b.value c ≡ a.value c
   pub late : (c e : ℕ) → e ≤ a.epoch → IsLate (a.state c) e → IsLate (b.state c) e
   pub removed : (c : ℕ) → IsRemoved (a.state c) → IsRemoved (b.state c) × (b.next c ≡ a.next c)

@@ -50,6 +50,11 @@ pub enum Step {
         slot: u32,
         key: u64,
     },
+    /// Stores the value of the incarnation in hand, where nodes have values.
+    StoreValue {
+        slot: u32,
+        value: u64,
+    },
     /// Stores the link of the incarnation in hand, to a held slot or to none.
     StoreLink {
         slot: u32,
@@ -65,6 +70,10 @@ pub enum Step {
     },
     /// Loads the key of a held slot; the read is pending.
     LoadKey {
+        slot: u32,
+    },
+    /// Loads the value of a held slot, where nodes have values; the read is pending.
+    LoadValue {
         slot: u32,
     },
     /// Links the incarnation in hand behind `pred`, if the word there is `expected`: an insert.

@@ -1,4 +1,4 @@
-/// What a call asks of a set.
+/// What a call asks of a set, or of a map.
 #[derive(Clone, Copy, Debug, PartialEq, Eq, Hash)]
 pub enum Op {
     /// Adds the key: yes where it was absent.
@@ -7,9 +7,12 @@ pub enum Op {
     Remove,
     /// Looks the key up: yes where it is present.
     Has,
+    /// Looks the key up in a map, and gives its value: yes where it is present.
+    Get,
 }
 
-/// A call that a set has answered. A history is a list of these, in the order of their effects.
+/// A call that a set or a map has answered. A history is a list of these, in the order of their
+/// effects.
 #[derive(Clone, Copy, Debug, PartialEq, Eq, Hash)]
 pub struct Call {
     /// The number of the caller.
@@ -20,4 +23,7 @@ pub struct Call {
     pub key: u64,
     /// The answer: `true` is yes.
     pub reply: bool,
+    /// The value that an insert answered yes has stored, or that a remove or a get answered yes
+    /// gives. Other calls have none, and neither has any call of a set.
+    pub value: Option<u64>,
 }

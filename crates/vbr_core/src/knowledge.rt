@@ -10,6 +10,8 @@ pub enum Read {
     BirthOf(u32, u64),
     /// The key of a slot.
     KeyOf(u32, u64),
+    /// The value of a slot.
+    ValueOf(u32, u64),
 }
 
 /// What a pass knows of a slot that it owns.
@@ -19,9 +21,9 @@ pub enum Holding {
     Free(u64),
     /// Unlinked by the pass and not stamped since; whether the pass read the epoch since.
     Unlinked(bool),
-    /// In hand, born by the pass and not published: its stamp and its birth, as epochs, and the key
-    /// and the link that were stored since the birth, if they were.
-    InHand(u64, u64, Option<u64>, Option<Link>),
+    /// In hand, born by the pass and not published: its stamp and its birth, as epochs, and the key,
+    /// the value and the link that were stored since the birth, if they were.
+    InHand(u64, u64, Option<u64>, Option<u64>, Option<Link>),
 }
 
 /// Where a slot is.

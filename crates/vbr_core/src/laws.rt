@@ -10,10 +10,11 @@ ghost use Rattle.vbr_words.specs.declared.place.At.TheVariants.{Slot};
 ghost use Rattle.vbr_words.specs.declared.place.Place.{Place};
 ghost use Rattle.vbr_core.specs.Keys.{Keys};
 ghost use Rattle.vbr_core.specs.Opened.{opening_keys};
-ghost use Rattle.vbr_core.specs.History.{set_after};
+ghost use Rattle.vbr_core.specs.History.{IsLegal, set_after};
 ghost use Rattle.vbr_core.specs.Knowledge.{Know};
 ghost use Rattle.vbr_words.specs.Buckets.{bucket_of};
-ghost use Rattle.vbr_core.specs.Acceptance.{Accepts, IsAtIn, IsBetween};
+ghost use Rattle.vbr_core.specs.Maps.{Entries, keys_in, IsMapLegal, opening_entries, TellsNoValue, StoresNoValue, HaveValues};
+ghost use Rattle.vbr_core.specs.Acceptance.{Accepts, IsAtIn, IsOpIn, IsBetween};
 ghost use Rattle.vbr_core.specs.Loads.{IsLoad};
 ghost use Rattle.vbr_core.specs.Machine.{World, after, found, word_at};
 ghost use Rattle.vbr_core.specs.Machine as machine;
@@ -28,6 +29,7 @@ ghost use Rattle.vbr_core.specs.Accounts.{incarnations_after, notes_after};
 ghost use Rattle.vbr_core.specs.Agreement.{IsGoodLink, IsLastOf, IsPair};
 ghost use Rattle.vbr_core.specs.Runs.{Begins, IsAccepted, IsRun, NoneOf, know_after, world_after};
 ghost use Rattle.vbr_core.specs.Safety.{IsSafe};
+ghost use Rattle.vbr_core.specs.declared.history.Call.{Call};
 ghost use Rattle.vbr_core.specs.declared.event.Event.{Event};
 ghost use Rattle.vbr_core.specs.declared.event.Step.{Step};
 ghost use Rattle.vbr_core.specs.declared.event.Step.TheVariants.{ConfirmPresent, ConfirmAbsent};
@@ -83,6 +85,24 @@ pub fn same_link_same_pair()
 /// A law: every run is safe.
 pub fn every_run_is_safe()
     ensures { (shape : Dimensions) (passes : ℕ) (run : List Event) → IsShape shape → IsRun shape passes run → IsSafe shape run }
+{}
+
+/// A law: the calls of a run are a legal history of a map that opens with the keys of the shape and
+/// their values.
+pub fn a_run_is_a_map()
+    ensures { (shape : Dimensions) (passes : ℕ) (run : List Event) → IsShape shape → IsRun shape passes run → IsMapLegal (opening_entries shape) (world_after shape run).calls }
+{}
+
+/// A law: where nodes have values, the calls of a run that store or give one have it, and where
+/// they have none, no call has.
+pub fn calls_have_values()
+    ensures { (shape : Dimensions) (passes : ℕ) (run : List Event) → IsRun shape passes run → HaveValues shape.values (world_after shape run).calls }
+{}
+
+/// A law: where no value is stored or told, a legal history of a map is one of the set of its keys,
+/// and the other way round.
+pub fn a_map_without_values_is_a_set()
+    ensures { (entries : Entries) (calls : List Call) → StoresNoValue entries → TellsNoValue calls → IsMapLegal entries calls ↔ IsLegal (keys_in entries) calls }
 {}
 
 /// A law: a beginning of a run is a run.
@@ -182,9 +202,10 @@ pub fn absent_behind_marked()
 {}
 
 /// A law: where a key stands between a place and the very node that its link names, if it names
-/// one, a confirming load for the key is accepted there. No marked node need be passed.
+/// one, a confirming load for the key is accepted there, by an operation of the shape. No marked
+/// node need be passed.
 pub fn between_is_accepted()
-    ensures { (shape : Dimensions) (know : Know) (op : Op) (key : ℕ) (at : At) (expected : ℕ) → IsAtIn shape at → op ≢ Insert →
+    ensures { (shape : Dimensions) (know : Know) (op : Op) (key : ℕ) (at : At) (expected : ℕ) → IsAtIn shape at → IsOpIn shape op → op ≢ Insert →
         IsBetween shape know.checked key at (link_of expected) → Accepts shape know (ConfirmAbsent op key at expected) }
 {}
 

@@ -43,7 +43,7 @@ impl PlainSet {
         match op {
             Op::Insert => Ok(self.keys.insert(key)?),
             Op::Remove => Ok(self.keys.remove(&key)),
-            Op::Has => Ok(self.keys.contains(&key)),
+            Op::Has | Op::Get => Ok(self.keys.contains(&key)),
         }
     }
 

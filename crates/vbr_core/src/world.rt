@@ -1,9 +1,10 @@
 //! The core as a program: a world that makes steps one at a time, plain and exact.
-ghost use Rattle.std.specs.Prelude.{List, ◌≡◌, ◌<◌, ◌≤◌, ◌↔◌, length, ◌⊎◌, IfOk, IfErr, OnOk, OnErr, IsErrOf, Err};
+ghost use Rattle.std.specs.Prelude.{List, ◌≡◌, ◌<◌, ◌≤◌, ◌↔◌, length, ◌⊎◌, IfOk, IfErr, OnOk, OnErr, IsErrOf, Err, true, false, if◌then◌else◌};
 ghost use Rattle.std.specs.List.Sorted.{IsStrictlyIncreasing};
 ghost use Rattle.vbr_words.specs.Places.{IsIn};
-ghost use Rattle.vbr_core.specs.Opened.{opening_keys};
-ghost use Rattle.vbr_core.specs.History.{IsLegal};
+ghost use Rattle.vbr_core.specs.Opened.{opening_keys, opening_payloads};
+ghost use Rattle.vbr_core.specs.Maps.{keys_listed, values_listed};
+ghost use Rattle.vbr_core.specs.History.{IsLegal, GiveStored};
 ghost use Rattle.vbr_core.specs.Learning as learning;
 ghost use Rattle.vbr_core.specs.Machine as machine;
 ghost use Rattle.vbr_core.specs.Runs.{IsAccepted, Refuses, IsRun, world_after, StopsAt};
@@ -22,6 +23,7 @@ mod shape;
 mod steps;
 mod writing;
 
+use crate::entries::keys_and_values;
 use crate::event::{CoreRefusal, Effect, Event};
 use crate::history::Call;
 use crate::knowledge::SlotPlace;
@@ -94,28 +96,77 @@ impl World {
         ensures passes { IsErrOf result WorldRefusal.Passes ↔ ((passes ≡ 0) ⊎ (64 < passes)) }
     {
         prove!(shape.slots() > 0);
-        World::open_with(alloc, shape, passes, &[])
+        World::opened(alloc, shape, passes, &[], &[])
     }
 
-    /// The world that opens with these keys, ascending and at most as many as slots. Key number i,
-    /// from 0, stands in slot i, was born at epoch 1, and is linked in the list of its bucket; the
-    /// rest is as [`World::open`] has it, and so are the refusals.
+    /// The world of a set that opens with these keys, ascending and at most as many as slots. Key
+    /// number i, from 0, stands in slot i, was born at epoch 1, and is linked in the list of its
+    /// bucket; the rest is as [`World::open`] has it, and so are the refusals.
     pub fn open_with(
         alloc: Global,
         shape: Shape,
         passes: u32,
         keys: &[u64],
     ) -> Result<World, WorldRefusal>
+        requires valueless { shape.values ≡ false }
         requires ascending { IsStrictlyIncreasing keys.now }
         requires few { length keys.now ≤ shape.slots }
         ensures opening { IfOk result (λ world. world_of world ≡ machine.opening (record shape { keys = keys.now })) }
         ensures shape { IfOk result (λ world. (world.shape ≡ record shape { keys = keys.now }) × (length world.passes ≡ passes)) }
         ensures passes { IsErrOf result WorldRefusal.Passes ↔ ((passes ≡ 0) ⊎ (64 < passes)) }
     {
+        prove!(shape.slots() > 0);
+        World::opened(alloc, shape, passes, keys, &[])
+    }
+
+    /// The world of a map that opens with these entries, keys with their values. The keys ascend,
+    /// and there are at most as many as slots. Each value stands in the slot of its key; the rest is
+    /// as [`World::open_with`] has it, and so are the refusals.
+    pub fn open_with_entries(
+        alloc: Global,
+        shape: Shape,
+        passes: u32,
+        entries: &[(u64, u64)],
+    ) -> Result<World, WorldRefusal>
+        requires values { shape.values ≡ true }
+        requires ascending { IsStrictlyIncreasing (keys_listed entries.now) }
+        requires few { length entries.now ≤ shape.slots }
+        ensures opening { IfOk result (λ world. world_of world
+            ≡ machine.opening (record shape { keys = keys_listed entries.now; payloads = values_listed entries.now })) }
+        ensures shape { IfOk result (λ world.
+            (world.shape ≡ record shape { keys = keys_listed entries.now; payloads = values_listed entries.now })
+            × (length world.passes ≡ passes)) }
+        ensures passes { IsErrOf result WorldRefusal.Passes ↔ ((passes ≡ 0) ⊎ (64 < passes)) }
+    {
         if passes == 0 || passes > 64 {
             return Err(WorldRefusal::Passes);
         }
-        match Lists::opened(alloc, shape, passes, keys) {
+        match keys_and_values(alloc, entries) {
+            Ok((keys, values)) => World::opened(alloc, shape, passes, &keys, &values),
+            Err(_) => Err(WorldRefusal::NoMemory),
+        }
+    }
+
+    // The world that opens with these keys, and where nodes have values, with a value for each.
+    fn opened(
+        alloc: Global,
+        shape: Shape,
+        passes: u32,
+        keys: &[u64],
+        values: &[u64],
+    ) -> Result<World, WorldRefusal>
+        requires ascending { IsStrictlyIncreasing keys.now }
+        requires few { length keys.now ≤ shape.slots }
+        requires paired { length values.now ≡ (if shape.values then length keys.now else 0) }
+        ensures opening { IfOk result (λ world. world_of world ≡ machine.opening (record shape { keys = keys.now; payloads = values.now })) }
+        ensures shape { IfOk result (λ world.
+            (world.shape ≡ record shape { keys = keys.now; payloads = values.now }) × (length world.passes ≡ passes)) }
+        ensures passes { IsErrOf result WorldRefusal.Passes ↔ ((passes ≡ 0) ⊎ (64 < passes)) }
+    {
+        if passes == 0 || passes > 64 {
+            return Err(WorldRefusal::Passes);
+        }
+        match Lists::opened(alloc, shape, passes, keys, values) {
             Ok(lists) => Ok(World { lists }),
             Err(_) => Err(WorldRefusal::NoMemory),
         }
@@ -137,10 +188,11 @@ impl World {
     }
 
     /// The calls that were answered so far. They are a legal history of a set that opened with the
-    /// keys that the world opened with.
+    /// keys that the world opened with, and each gives the value that was stored last.
     pub fn calls(&self) -> &[Call]
         ensures calls { result.now ≡ (world_of self.now).calls }
         ensures legal { IsLegal (opening_keys self.now.shape) result.now }
+        ensures values { GiveStored (opening_payloads self.now.shape) result.now }
     {
         self.lists.calls()
     }

@@ -1,3 +1,4 @@
 mod WorkedRows
 mod StandingRows
+mod ValuedRows
 pub mod Lemmas

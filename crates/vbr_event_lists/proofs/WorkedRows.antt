@@ -26,7 +26,7 @@ left_after shape zero rows w words = (w, words)
 left_after shape (suc n) [] w words = (w, words)
 
 -- rows are worked where the first of them are, and then the others
-worked_in_two : (shape : Dimensions) (n : ℕ) (rows : List (ℕ × Step × Effect)) (w : World) (words : List ℕ) → AreWorked shape w (take n rows) words → AreWorked shape (left_after shape n rows w words).0 (drop n rows) (left_after shape n rows w words).1 → AreWorked shape w rows words
+pub worked_in_two : (shape : Dimensions) (n : ℕ) (rows : List (ℕ × Step × Effect)) (w : World) (words : List ℕ) → AreWorked shape w (take n rows) words → AreWorked shape (left_after shape n rows w words).0 (drop n rows) (left_after shape n rows w words).1 → AreWorked shape w rows words
 worked_in_two shape zero rows w words first later = later
 worked_in_two shape (suc n) [] w words first later = later
 worked_in_two shape (suc n) (row ∷ rows) w words first later =

@@ -36,15 +36,15 @@ IsNamedWord know _ word = Unit {0}
 
 -- a set of three slots and one bucket, up to epoch 10
 abbrev pub three_slots : Dimensions
-three_slots = record { slots = 3; buckets = 1; spread = false; last_epoch = 10; keys = [] }
+three_slots = record { slots = 3; buckets = 1; spread = false; last_epoch = 10; values = false; keys = []; payloads = [] }
 
 -- a set of one slot and one bucket, up to epoch 10
 abbrev pub one_slot : Dimensions
-one_slot = record { slots = 1; buckets = 1; spread = false; last_epoch = 10; keys = [] }
+one_slot = record { slots = 1; buckets = 1; spread = false; last_epoch = 10; values = false; keys = []; payloads = [] }
 
 -- a set of three slots and one bucket, up to epoch 10000
 abbrev pub many_epochs : Dimensions
-many_epochs = record { slots = 3; buckets = 1; spread = false; last_epoch = 10000; keys = [] }
+many_epochs = record { slots = 3; buckets = 1; spread = false; last_epoch = 10000; values = false; keys = []; payloads = [] }
 
 -- the rows are events that are accepted one after another from a world on, each with its effect; the words are the link words that callers name; and each slot that is taken has the stamp 0
 abbrev pub AreWorked : Dimensions → World → List (ℕ × Step × Effect) → List ℕ → Type 0

@@ -3,8 +3,10 @@
 
 mod lists;
 mod standing;
+mod valued;
 
 pub use lists::{
     REBORN_SLOT, REBORN_SLOT_WORDS, Row, SAME_WORD, SAME_WORD_WORDS, TWO_HELPERS, TWO_HELPERS_WORDS,
 };
 pub use standing::{STANDING, STANDING_WORDS};
+pub use valued::{STORED_VALUE, STORED_VALUE_WORDS, with_values};

@@ -4,7 +4,7 @@ use Rattle.std.specs.Prelude.{◌≢◌, not, if◌then◌else◌, Result, Ok, E
 use Rattle.std.proofs.lemmas.Bool.{cases_Bool, eqb-true, true≢false}
 use Rattle.vbr_core.specs.Keys.{Keys}
 use Rattle.vbr_core.specs.Opened.{opening_keys}
-use Rattle.vbr_core.specs.History.{IsLegal, keys_after, reply_of}
+use Rattle.vbr_core.specs.History.{IsLegal, keys_after, reply_of, set_call}
 use Rattle.vbr_core.specs.declared.history.Call.{Call}
 use Rattle.vbr_core.specs.declared.history.Op.{Op}
 use Rattle.vbr_core.specs.declared.history.Op.TheVariants.{Insert, Remove, Has}
@@ -48,12 +48,12 @@ at_most_once keys page [] legal none = omega arith
 at_most_once keys page (call ∷ calls) legal none =
     one_call keys page call.op call.key call.reply (claims_in page calls) legal.0 none.0 (at_most_once (keys_after keys call.op call.key call.reply) page calls legal.1 none.1)
 
-claimed_once : (m n : MemberView) (page : ℕ) (result : Bool) → Answers (record { who = m.pass.trace.who; op = Insert; key = page; reply = result }) m.pass.trace n.pass.trace → IsClaimedOnce m n page result
+claimed_once : (m n : MemberView) (page : ℕ) (result : Bool) → Answers (set_call m.pass.trace.who Insert page result) m.pass.trace n.pass.trace → IsClaimedOnce m n page result
 claimed_once m n page result answers = record {
   own = answers.once;
   once = λ none. let keys = opening_keys n.pass.trace.shape in let left = room_for_one (keys page) in let most = at_most_once keys page _ answers.legal none in omega (arith, left, most);
 }
 
-pub claimed : (m n : MemberView) (page : ℕ) (result : Result Bool Refusal) → IfOk result (λ reply. Answers (record { who = m.pass.trace.who; op = Insert; key = page; reply = reply }) m.pass.trace n.pass.trace) → IfOk result (IsClaimedOnce m n page)
+pub claimed : (m n : MemberView) (page : ℕ) (result : Result Bool Refusal) → IfOk result (λ reply. Answers (set_call m.pass.trace.who Insert page reply) m.pass.trace n.pass.trace) → IfOk result (IsClaimedOnce m n page)
 claimed m n page (Ok reply) answers = claimed_once m n page reply answers
 claimed m n page (Err refusal) answers = tt

@@ -5,7 +5,7 @@ use Rattle.std.proofs.lemmas.Bool.{cases_Bool, true≢false}
 use Rattle.vbr_set.specs.Names.{Dimensions}
 use Rattle.vbr_core.specs.Keys.{Keys}
 use Rattle.vbr_core.specs.Opened.{opening_keys}
-use Rattle.vbr_core.specs.History.{IsLegal, calls_by, keys_after, reply_of, set_after}
+use Rattle.vbr_core.specs.History.{IsLegal, calls_by, keys_after, reply_of, set_after, set_call}
 use Rattle.vbr_core.specs.declared.history.Call.{Call}
 use Rattle.vbr_core.specs.declared.history.Op.{Op}
 use Rattle.vbr_core.specs.declared.history.Op.TheVariants.{Insert, Remove, Has}
@@ -100,10 +100,10 @@ stands who call own (c ∷ cs) e = go (eqb c.who who) own e (λ own rest. stands
 -- ---- what is told, and what is found
 
 -- a page whose insert was answered is claimed
-claimed : (page : ℕ) (reply : Bool) (p q : Trace) → Answers (record { who = p.who; op = Insert; key = page; reply = reply }) p q → IsClaimed q.shape q.seen page
+claimed : (page : ℕ) (reply : Bool) (p q : Trace) → Answers (set_call p.who Insert page reply) p q → IsClaimed q.shape q.seen page
 claimed page reply p q answers none =
     let keys : Keys = opening_keys q.shape in
-    let call : Call = record { who = p.who; op = Insert; key = page; reply = reply } in
+    let call : Call = (set_call p.who Insert page reply) in
     let at = stands q.who call _ (calls_of q.shape q.seen) answers.once in
     let first : List Call = at.0 in
     let more : List Call = at.1 in
@@ -112,15 +112,15 @@ claimed page reply p q answers none =
     let none_more : RemoveNone (call ∷ more) = none_rest first (call ∷ more) (subst RemoveNone at.2 none) in
     ap (λ l. set_after keys l page) at.2 ∙ ap (λ (k : Keys). k page) (after_both keys first (call ∷ more)) ∙ stays (keys_after (set_after keys first) Insert page reply) page more none_more.1 there
 
-pub tells : (set : TableView) (message : Message) (reply : Bool) (p q : Trace) → Answers (record { who = p.who; op = Insert; key = message.page; reply = reply }) p q → IsTokenOf set q message.token → IsTold set message
+pub tells : (set : TableView) (message : Message) (reply : Bool) (p q : Trace) → Answers (set_call p.who Insert message.page reply) p q → IsTokenOf set q message.token → IsTold set message
 tells set message reply p q answers token = record {
   table = token.table;
   claimed = subst (λ (x : Dimensions × List Event). IsClaimed x.0 x.1 message.page) (λ i. (token.pass.1 i, sym token.seen i)) (claimed message.page reply p q answers);
 }
 
-found : (set : TableView) (message : Message) (p q r : PassView) (reply : Bool) → IsTold set message → CatchesUp set p message.token q → Answers (record { who = q.trace.who; op = Has; key = message.page; reply = reply }) q.trace r.trace → IsFound r.trace reply
+found : (set : TableView) (message : Message) (p q r : PassView) (reply : Bool) → IsTold set message → CatchesUp set p message.token q → Answers (set_call q.trace.who Has message.page reply) q.trace r.trace → IsFound r.trace reply
 found set message p q r reply told caught answers none =
-    let call : Call = record { who = q.trace.who; op = Has; key = message.page; reply = reply } in
+    let call : Call = (set_call q.trace.who Has message.page reply) in
     let shape : Dimensions = r.trace.shape in
     let keys : Keys = opening_keys shape in
     let f = caught.later call q.trace r.trace (record { table = refl; shape = refl; passes = refl; who = refl }) ([], sym (append-nil q.trace.seen)) answers in
@@ -133,6 +133,6 @@ found set message p q r reply told caught answers none =
     ∙ ap (λ (k : Keys). k message.page) (after_both keys front f.between)
     ∙ stays (set_after keys front) message.page f.between (none_rest front f.between none_before) (there (none_first front f.between none_before))
 
-pub finds : (set : TableView) (message : Message) (p q r : PassView) (answer : Result Bool Refusal) → IsTold set message → CatchesUp set p message.token q → IfOk answer (λ reply. Answers (record { who = q.trace.who; op = Has; key = message.page; reply = reply }) q.trace r.trace) → IfOk answer (IsFound r.trace)
+pub finds : (set : TableView) (message : Message) (p q r : PassView) (answer : Result Bool Refusal) → IsTold set message → CatchesUp set p message.token q → IfOk answer (λ reply. Answers (set_call q.trace.who Has message.page reply) q.trace r.trace) → IfOk answer (IsFound r.trace)
 finds set message p q r (Ok reply) told caught answers = found set message p q r reply told caught answers
 finds set message p q r (Err refusal) told caught answers = tt

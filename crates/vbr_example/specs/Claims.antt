@@ -1,5 +1,6 @@
 -- What it means that a page is claimed once.
 use Rattle.std.specs.Prelude.{◌≡◌, ◌≢◌, ◌≤◌, ◌+◌, ◌==◌, ℕ, Bool, true, List, [], ◌∷◌, ◌++◌, if◌then◌else◌}
+use Rattle.vbr_core.specs.History.{set_call}
 use Rattle.vbr_core.specs.declared.history.Call.{Call}
 use Rattle.vbr_core.specs.declared.history.Op.{Op}
 use Rattle.vbr_core.specs.declared.history.Op.TheVariants.{Insert, Remove}
@@ -24,5 +25,5 @@ RemoveNone (call ∷ calls) = (call.op ≢ Remove) × RemoveNone calls
 
 -- the member's insert of the page is its last call, and was answered this; in the history of all that it has then seen, of all members, the page is claimed at most once, if nobody removes
 pub record IsClaimedOnce (m n : MemberView) (page : ℕ) (claimed : Bool) : Type 0 where
-  pub own : made_by n.pass.trace ≡ made_by m.pass.trace ++ record { who = m.pass.trace.who; op = Insert; key = page; reply = claimed } ∷ []
+  pub own : made_by n.pass.trace ≡ made_by m.pass.trace ++ (set_call m.pass.trace.who Insert page claimed) ∷ []
   pub once : RemoveNone (calls_of n.pass.trace.shape n.pass.trace.seen) → claims_in page (calls_of n.pass.trace.shape n.pass.trace.seen) ≤ 1

@@ -1,5 +1,5 @@
 -- What an opening of handles answers, and what it leaves in them.
-use Rattle.std.specs.Prelude.{◌≡◌, ℕ, ◌<◌, ◌≤◌, ◌⊎◌, All, List, [], length, map, true, None, Some, Result, Ok, Err}
+use Rattle.std.specs.Prelude.{◌≡◌, ℕ, ◌<◌, ◌≤◌, ◌⊎◌, All, List, [], length, map, true, false, None, Some, Result, Ok, Err}
 use Rattle.std.specs.List.Sorted.{IsStrictlyIncreasing}
 use Rattle.vbr_words.specs.Dimensions.{Dimensions, IsShape}
 use Rattle.vbr_slots.specs.Views.{TableView}
@@ -10,7 +10,7 @@ use Rattle.vbr_handles.specs.declared.opening.OpenRefusal.TheVariants.{InUse, Sh
 
 -- the shape of these numbers with its keys spread over the buckets, which opens with these keys
 abbrev pub spread_shape : ℕ → ℕ → ℕ → List ℕ → Dimensions
-spread_shape slots buckets last_epoch keys = record { slots = slots; buckets = buckets; spread = true; last_epoch = last_epoch; keys = keys }
+spread_shape slots buckets last_epoch keys = record { slots = slots; buckets = buckets; spread = true; last_epoch = last_epoch; values = false; keys = keys; payloads = [] }
 
 -- no handle has a member
 abbrev pub AreEmpty : List Handle → Type 0

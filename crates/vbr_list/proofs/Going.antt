@@ -1,5 +1,5 @@
 -- Pieces one after another: they make no call, their steps add up, and the slot in hand stays.
-use Rattle.std.proofs.Common.{◌≡◌, ℕ, ◌+◌, ◌%◌, ◌≤◌, [], Result, Ok, Err, refl, sym, ap, ◌∙◌, subst, arith}
+use Rattle.std.proofs.Common.{◌≡◌, ℕ, ◌+◌, ◌%◌, ◌≤◌, false, [], Result, Ok, Err, refl, sym, ap, ◌∙◌, subst, arith}
 use Rattle.std.specs.Prelude.{IfOk}
 use Rattle.vbr_words.specs.Dimensions.{Dimensions}
 use Rattle.vbr_words.specs.Buckets.{bucket_of}
@@ -45,9 +45,13 @@ pub within_of : {p q : Trace} (used budget : ℕ) → used ≤ budget → Counts
 within_of used budget le counts = record { steps = used; within = le; took = took_all counts }
 
 -- the bucket of a key is that of the table's shape
-pub bucket_is : (a b bare : Dimensions) (bucket key : ℕ) → a ≡ b → bare ≡ record b { keys = [] } → bucket ≡ bucket_of bare key → bucket ≡ bucket_of a key
+pub bucket_is : (a b bare : Dimensions) (bucket key : ℕ) → a ≡ b → bare ≡ record b { keys = []; payloads = [] } → bucket ≡ bucket_of bare key → bucket ≡ bucket_of a key
 unfolding bucket_of
 bucket_is a b bare bucket key e g f = f ∙ ap (λ (shape : Dimensions). bucket_of shape key) g ∙ ap (λ (shape : Dimensions). bucket_of shape key) (sym e)
+
+-- a pass at the same table is at one whose nodes have no values
+pub bare_on : {p q : Trace} → IsSame p q → p.shape.values ≡ false → q.shape.values ≡ false
+bare_on same bare = ap (λ (shape : Dimensions). shape.values) same.shape ∙ bare
 
 -- a call stays the same one from piece to piece
 pub call_on : {b c d : Call} → IsSameCall b c → IsSameCall c d → IsSameCall b d

@@ -53,13 +53,13 @@ hand_reread : (holding : Option Holding) → IsInHand holding → reread holding
 hand_reread None h = absurd h
 hand_reread (Some (Free stamp)) h = absurd h
 hand_reread (Some (Unlinked seen)) h = absurd h
-hand_reread (Some (InHand stamp birth key link)) h = refl
+hand_reread (Some (InHand stamp birth key value link)) h = refl
 
 not_both : (holding : Option Holding) → IsInHand holding → IsUnlinked holding → ⊥
 not_both None h u = h
 not_both (Some (Free stamp)) h u = h
 not_both (Some (Unlinked seen)) h u = h
-not_both (Some (InHand stamp birth key link)) h u = u
+not_both (Some (InHand stamp birth key value link)) h u = u
 
 -- a pool with a free place keeps one
 place_kept : (pool : List ℕ) (slot : ℕ) → length pool < POOL → length (pool_retired pool slot) < POOL

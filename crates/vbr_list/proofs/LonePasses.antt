@@ -3,7 +3,7 @@ use Rattle.std.proofs.Common.{◌≡◌, ℕ, ◌<◌, Bool, List, [], ◌∷◌
 use Rattle.std.specs.Prelude.{IfOk}
 use Rattle.vbr_words.specs.Dimensions.{Dimensions, IsShape}
 use Rattle.vbr_core.specs.Calls.{calls_added}
-use Rattle.vbr_core.specs.History.{IsLegal, calls_by, keys_after, reply_of, set_after}
+use Rattle.vbr_core.specs.History.{IsLegal, calls_by, keys_after, reply_of, set_after, set_call}
 use Rattle.vbr_core.specs.Keys.{Keys}
 use Rattle.vbr_core.specs.Opened.{opening_keys}
 use Rattle.vbr_core.specs.Machine.{World, opening, after}
@@ -39,15 +39,15 @@ lone_legal p shape low run one =
     let all = lone_from p.shape p.passes p.who (opening p.shape) p.seen one low run refl in
     subst (IsLegal (opening_keys p.shape)) (sym all) (every_run p.shape p.passes p.seen shape run).legal
 
-pub alone : {p q : Trace} {op : Op} {key : ℕ} {reply : Bool} → IsShape p.shape → p.who < p.passes → Made (record { who = p.who; op = op; key = key; reply = reply }) p q → AnswersAlone p op key reply
+pub alone : {p q : Trace} {op : Op} {key : ℕ} {reply : Bool} → IsShape p.shape → p.who < p.passes → Made (set_call p.who op key reply) p q → AnswersAlone p op key reply
 alone {p} {q} {op} {key} {reply} shape low made one =
-    let call : Call = record { who = p.who; op = op; key = key; reply = reply } in
+    let call : Call = (set_call p.who op key reply) in
     let low_now : q.who < q.passes = rw (made.same.who, made.same.passes) low in
     let legal = lone_legal q (let P : Dimensions → Type 0 = IsShape in subst P (sym made.same.shape) shape) low_now made.is_run (made.same.passes ∙ one) in
     let there = subst (λ (d : Dimensions). IsLegal (opening_keys d) (made_by q)) made.same.shape legal in
     legal_last (opening_keys p.shape) (made_by p) call (subst (IsLegal (opening_keys p.shape)) made.calls there)
 
 -- an answer, if there is one
-pub each_alone : {E : Type 0} (p q : Trace) (op : Op) (key : ℕ) (answer : Result Bool E) → IsShape p.shape → p.who < p.passes → IfOk answer (λ reply. Made (record { who = p.who; op = op; key = key; reply = reply }) p q) → IfOk answer (λ reply. AnswersAlone p op key reply)
+pub each_alone : {E : Type 0} (p q : Trace) (op : Op) (key : ℕ) (answer : Result Bool E) → IsShape p.shape → p.who < p.passes → IfOk answer (λ reply. Made (set_call p.who op key reply) p q) → IfOk answer (λ reply. AnswersAlone p op key reply)
 each_alone p q op key (Ok reply) shape low made = alone shape low made
 each_alone p q op key (Err refusal) shape low made = tt

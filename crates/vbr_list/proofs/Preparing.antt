@@ -3,6 +3,7 @@ use Rattle.std.proofs.Common.{◌≡◌, ◌≢◌, ℕ, ◌+◌, ◌-◌, ◌<�
 use Rattle.std.specs.Prelude.{IfOk, IfErr}
 use Rattle.std.specs.Result.{is_ok}
 use Rattle.vbr_words.specs.Dimensions.{Dimensions}
+use Rattle.vbr_core.specs.History.{set_call}
 use Rattle.vbr_core.specs.Runs.{Begins, IsRun}
 use Rattle.vbr_core.specs.declared.history.Op.{Op}
 use Rattle.vbr_slots.specs.Calls.{IsSame, Quiet, Made}
@@ -63,8 +64,8 @@ within_all {p} {q} {since} x = record { steps = since; within = x.within.1; took
 
 -- ---- an answer
 
-pub made_since : {p q r : Trace} {op : Op} {key : ℕ} {reply : Bool} → Quiet p q → Made (record { who = q.who; op = op; key = key; reply = reply }) q r → Made (record { who = p.who; op = op; key = key; reply = reply }) p r
-made_since {p} {q} {r} {op} {key} {reply} quiet made = let P : ℕ → Type 0 = λ who. Made (record { who = who; op = op; key = key; reply = reply }) p r in subst P quiet.same.who (made_on quiet made)
+pub made_since : {p q r : Trace} {op : Op} {key : ℕ} {reply : Bool} → Quiet p q → Made (set_call q.who op key reply) q r → Made (set_call p.who op key reply) p r
+made_since {p} {q} {r} {op} {key} {reply} quiet made = let P : ℕ → Type 0 = λ who. Made (set_call who op key reply) p r in subst P quiet.same.who (made_on quiet made)
 
 pub if_ok : {T E : Type 0} {P : Type 0} (x : Result T E) → is_ok x ≡ true → IfOk x (λ _. P) → P
 if_ok (Ok value) e p = p
@@ -74,16 +75,16 @@ pub if_err : {T E : Type 0} {P : Type 0} (x : Result T E) → is_ok x ≡ false 
 if_err (Ok value) e p = absurd (cc)
 if_err (Err error) e p = p
 
-pub each_since : {E : Type 0} (p q r : Trace) (op : Op) (key : ℕ) (answer : Result Bool E) → Quiet p q → IfOk answer (λ reply. Made (record { who = q.who; op = op; key = key; reply = reply }) q r) → IfOk answer (λ reply. Made (record { who = p.who; op = op; key = key; reply = reply }) p r)
+pub each_since : {E : Type 0} (p q r : Trace) (op : Op) (key : ℕ) (answer : Result Bool E) → Quiet p q → IfOk answer (λ reply. Made (set_call q.who op key reply) q r) → IfOk answer (λ reply. Made (set_call p.who op key reply) p r)
 each_since p q r op key (Ok reply) quiet made = made_since quiet made
 each_since p q r op key (Err error) quiet made = tt
 
-pub each_same : {E : Type 0} (p q : Trace) (op : Op) (key : ℕ) (answer : Result Bool E) → IfOk answer (λ reply. Made (record { who = p.who; op = op; key = key; reply = reply }) p q) → IfErr answer (λ _. Quiet p q) → IsSame p q
+pub each_same : {E : Type 0} (p q : Trace) (op : Op) (key : ℕ) (answer : Result Bool E) → IfOk answer (λ reply. Made (set_call p.who op key reply) p q) → IfErr answer (λ _. Quiet p q) → IsSame p q
 each_same p q op key (Ok reply) made quiet = made.same
 each_same p q op key (Err error) made quiet = quiet.same
 
 -- the pass has seen more, answer or not
-pub each_seen : {E : Type 0} (p q : Trace) (op : Op) (key : ℕ) (answer : Result Bool E) → IfOk answer (λ reply. Made (record { who = p.who; op = op; key = key; reply = reply }) p q) → IfErr answer (λ _. Quiet p q) → Begins p.seen q.seen × (IsRun p.shape p.passes p.seen → IsRun q.shape q.passes q.seen)
+pub each_seen : {E : Type 0} (p q : Trace) (op : Op) (key : ℕ) (answer : Result Bool E) → IfOk answer (λ reply. Made (set_call p.who op key reply) p q) → IfErr answer (λ _. Quiet p q) → Begins p.seen q.seen × (IsRun p.shape p.passes p.seen → IsRun q.shape q.passes q.seen)
 each_seen p q op key (Ok reply) made quiet = (made.seen, λ _. made.is_run)
 each_seen p q op key (Err error) made quiet = (quiet.seen, quiet.is_run)
 

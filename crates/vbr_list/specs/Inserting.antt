@@ -1,5 +1,6 @@
 -- The pieces of an insert. Only contracts of private functions cite this.
 use Rattle.std.specs.Prelude.{◌≡◌, ℕ, ◌+◌, ◌<◌, ◌≤◌, false, length, Option, Some, None}
+use Rattle.vbr_core.specs.History.{set_call}
 use Rattle.vbr_core.specs.declared.history.Op.TheVariants.{Insert}
 use Rattle.vbr_slots.specs.declared.pass.TheConstants.{POOL}
 use Rattle.vbr_slots.specs.Calls.{Quiet, Made}
@@ -54,5 +55,5 @@ InsertIsShort p q before budget (EpochSpent epoch) = ⊥
 
 -- the pass has answered no; or it has made no call, and has a slot in hand
 abbrev pub IsPrepared : PassView → PassView → ℕ → Option HandView → Type 0
-IsPrepared p q key None = Made (record { who = p.trace.who; op = Insert; key = key; reply = false }) p.trace q.trace × (q.hand ≡ None)
+IsPrepared p q key None = Made (set_call p.trace.who Insert key false) p.trace q.trace × (q.hand ≡ None)
 IsPrepared p q key (Some hand) = Quiet p.trace q.trace × HasHandAndRoom q hand

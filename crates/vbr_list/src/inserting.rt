@@ -1,5 +1,6 @@
 //! Inserts.
 ghost use Rattle.std.specs.Prelude.{◌≡◌, ◌≢◌, ℕ, ◌+◌, ◌*◌, ◌<◌, ◌≤◌, true, false, [], length, None, IfOk, IfErr};
+ghost use Rattle.vbr_core.specs.History.{set_call};
 ghost use Rattle.vbr_core.specs.declared.history.Op.TheVariants.{Insert};
 ghost use Rattle.vbr_pools.specs.Advances.{AdvancesWhereNeeded};
 ghost use Rattle.vbr_pools.specs.KeptSlots.{HasStill, HasUnpublished, KeepsSlots, TakesNoSlot, SharesWhereFull};
@@ -42,7 +43,7 @@ impl Call<'_> {
         ensures used { self.new.used ≡ self.old.used + 1 }
         ensures own { KeepsOwn self.old.at.pass.now self.new.at.pass.now }
         ensures takes_no_slot { TakesNoSlot self.old.at.pass.now self.new.at.pass.now }
-        ensures made { IfOk result (λ _. Made (record { who = self.old.at.pass.now.trace.who; op = Insert; key = self.old.key; reply = false }) self.old.at.pass.now.trace self.new.at.pass.now.trace) }
+        ensures made { IfOk result (λ _. Made (set_call self.old.at.pass.now.trace.who Insert self.old.key false) self.old.at.pass.now.trace self.new.at.pass.now.trace) }
         ensures quiet { IfErr result (λ r. Quiet self.old.at.pass.now.trace self.new.at.pass.now.trace) }
         ensures wins { IfErr result (λ r. NextStands self.old.at.pass.now.trace found.now.cur → IsAlone self.old.at.pass.now.trace self.new.at.pass.now.trace → ⊥) }
     {
@@ -124,12 +125,13 @@ impl Call<'_> {
     #[inline]
     fn settle_insert(&mut self, found: &Found, hand: Hand) -> Result<bool, Hand>
         requires locates { Locates self.old.at.pass.now.trace.shape (knows self.old.at.pass.now.trace) self.old.key found.now }
+        requires bare { self.old.at.pass.now.trace.shape.values ≡ false }
         requires hand { HasHandAndRoom self.old.at.pass.now hand }
         requires room { self.old.used + 8 ≤ self.old.budget }
         ensures call { IsSameCall self.old self.new }
         ensures counts { CountsSteps self.old.at.pass.now.trace self.new.at.pass.now.trace self.old.used self.new.used }
         ensures used { (self.old.used < self.new.used) × (self.new.used ≤ self.old.used + 8) }
-        ensures made { IfOk result (λ reply. Made (record { who = self.old.at.pass.now.trace.who; op = Insert; key = self.old.key; reply = reply }) self.old.at.pass.now.trace self.new.at.pass.now.trace) }
+        ensures made { IfOk result (λ reply. Made (set_call self.old.at.pass.now.trace.who Insert self.old.key reply) self.old.at.pass.now.trace self.new.at.pass.now.trace) }
         ensures spent { IfOk result (λ reply. self.new.at.pass.now.hand ≡ None) }
         ensures quiet { IfErr result (λ back. Quiet self.old.at.pass.now.trace self.new.at.pass.now.trace) }
         ensures hand { IfErr result (λ back. HasHandAndRoom self.new.at.pass.now back) }
@@ -160,8 +162,9 @@ impl Call<'_> {
     // Links the slot in hand, or answers no where the key has come meanwhile. The hand is spent.
     fn link(&mut self, mut hand: Hand) -> Result<bool, Refusal>
         requires hand { HasHandAndRoom self.old.at.pass.now hand }
+        requires bare { self.old.at.pass.now.trace.shape.values ≡ false }
         ensures call { IsSameCall self.old self.new }
-        ensures made { IfOk result (λ reply. Made (record { who = self.old.at.pass.now.trace.who; op = Insert; key = self.old.key; reply = reply }) self.old.at.pass.now.trace self.new.at.pass.now.trace) }
+        ensures made { IfOk result (λ reply. Made (set_call self.old.at.pass.now.trace.who Insert self.old.key reply) self.old.at.pass.now.trace self.new.at.pass.now.trace) }
         ensures counts { CountsWithin self.old.at.pass.now.trace self.new.at.pass.now.trace self.old.used self.new.used self.old.budget }
         ensures spent { self.new.at.pass.now.hand ≡ None }
         ensures quiet { IfErr result (λ refusal. Quiet self.old.at.pass.now.trace self.new.at.pass.now.trace) }
@@ -200,8 +203,9 @@ impl Call<'_> {
 pub fn insert(slots: &Slots, pass: &mut Pass, key: u64, budget: u32) -> Result<bool, Refusal>
     requires own { IsOf pass.old.trace slots.now }
     requires empty_hand { pass.old.hand ≡ None }
+    requires bare { pass.old.trace.shape.values ≡ false }
     ensures same { IsSame pass.old.trace pass.new.trace }
-    ensures made { IfOk result (λ reply. Made (record { who = pass.old.trace.who; op = Insert; key = key; reply = reply }) pass.old.trace pass.new.trace) }
+    ensures made { IfOk result (λ reply. Made (set_call pass.old.trace.who Insert key reply) pass.old.trace pass.new.trace) }
     ensures alone { IfOk result (λ reply. AnswersAlone pass.old.trace Insert key reply) }
     ensures quiet { IfErr result (λ refusal. Quiet pass.old.trace pass.new.trace) }
     ensures safe { HasSafeRun pass.new.trace }
@@ -223,6 +227,7 @@ pub fn insert(slots: &Slots, pass: &mut Pass, key: u64, budget: u32) -> Result<b
 // As `insert`, where no step is counted; and how many steps were made.
 fn insert_by(at: &mut AtTable<'_>, key: u64, budget: u32) -> (Result<bool, Refusal>, u32)
     requires empty_hand { at.old.pass.now.hand ≡ None }
+    requires bare { at.old.pass.now.trace.shape.values ≡ false }
     ensures table { IsSameTable at.old at.new }
     ensures shared { SharesWhereFull 2 at.old.pass.now at.new.pass.now }
     ensures advances { AdvancesWhereNeeded at.old.pass.now at.new.pass.now }
@@ -230,7 +235,7 @@ fn insert_by(at: &mut AtTable<'_>, key: u64, budget: u32) -> (Result<bool, Refus
     ensures within { IfErr result.0 (λ refusal. IsAlone at.old.pass.now.trace at.new.pass.now.trace → LacksSteps (18 * listed_for at.old.pass.now.trace key + most_to_take at.old.pass.now.trace.shape at.old.pass.now.pool + 14) budget refusal) }
     ensures took { Took at.old.pass.now.trace at.new.pass.now.trace result.1 }
     ensures same { IsSame at.old.pass.now.trace at.new.pass.now.trace }
-    ensures made { IfOk result.0 (λ reply. Made (record { who = at.old.pass.now.trace.who; op = Insert; key = key; reply = reply }) at.old.pass.now.trace at.new.pass.now.trace) }
+    ensures made { IfOk result.0 (λ reply. Made (set_call at.old.pass.now.trace.who Insert key reply) at.old.pass.now.trace at.new.pass.now.trace) }
     ensures alone { IfOk result.0 (λ reply. AnswersAlone at.old.pass.now.trace Insert key reply) }
     ensures quiet { IfErr result.0 (λ refusal. Quiet at.old.pass.now.trace at.new.pass.now.trace) }
     ensures safe { HasSafeRun at.new.pass.now.trace }

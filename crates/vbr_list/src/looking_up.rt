@@ -1,5 +1,6 @@
 //! Look-ups.
 ghost use Rattle.std.specs.Prelude.{◌≡◌, ◌+◌, ◌*◌, ◌<◌, ◌≤◌, None, IfOk, IfErr};
+ghost use Rattle.vbr_core.specs.History.{set_call};
 ghost use Rattle.vbr_core.specs.declared.history.Op.TheVariants.{Has};
 ghost use Rattle.vbr_pools.specs.KeptSlots.{TakesNoSlot};
 ghost use Rattle.vbr_pools.specs.Steps.{TookWithin};
@@ -35,8 +36,8 @@ impl Call<'_> {
         ensures used { self.new.used ≡ self.old.used + 1 }
         ensures own { KeepsOwn self.old.at.pass.now self.new.at.pass.now }
         ensures takes_no_slot { TakesNoSlot self.old.at.pass.now self.new.at.pass.now }
-        ensures made { IfOk result (λ reply. Made (record { who = self.old.at.pass.now.trace.who; op = Has; key = self.old.key; reply = reply }) self.old.at.pass.now.trace self.new.at.pass.now.trace) }
-        ensures adds { IfOk result (λ reply. AddsAnswer (record { who = self.old.at.pass.now.trace.who; op = Has; key = self.old.key; reply = reply }) self.old.at.pass.now.trace self.new.at.pass.now.trace) }
+        ensures made { IfOk result (λ reply. Made (set_call self.old.at.pass.now.trace.who Has self.old.key reply) self.old.at.pass.now.trace self.new.at.pass.now.trace) }
+        ensures adds { IfOk result (λ reply. AddsAnswer (set_call self.old.at.pass.now.trace.who Has self.old.key reply) self.old.at.pass.now.trace self.new.at.pass.now.trace) }
         ensures quiet { IfErr result (λ r. Quiet self.old.at.pass.now.trace self.new.at.pass.now.trace) }
         ensures adds_none { IfErr result (λ r. AddsNone self.old.at.pass.now.trace self.new.at.pass.now.trace) }
         ensures wins { IfErr result (λ r. SightStands self.old.at.pass.now.trace sight → IsAlone self.old.at.pass.now.trace self.new.at.pass.now.trace → ⊥) }
@@ -75,8 +76,8 @@ pub fn has(slots: &Slots, pass: &mut Pass, key: u64, budget: u32) -> Result<bool
     requires own { IsOf pass.old.trace slots.now }
     requires empty_hand { pass.old.hand ≡ None }
     ensures same { IsSame pass.old.trace pass.new.trace }
-    ensures made { IfOk result (λ reply. Made (record { who = pass.old.trace.who; op = Has; key = key; reply = reply }) pass.old.trace pass.new.trace) }
-    ensures adds { IfOk result (λ reply. AddsAnswer (record { who = pass.old.trace.who; op = Has; key = key; reply = reply }) pass.old.trace pass.new.trace) }
+    ensures made { IfOk result (λ reply. Made (set_call pass.old.trace.who Has key reply) pass.old.trace pass.new.trace) }
+    ensures adds { IfOk result (λ reply. AddsAnswer (set_call pass.old.trace.who Has key reply) pass.old.trace pass.new.trace) }
     ensures alone { IfOk result (λ reply. AnswersAlone pass.old.trace Has key reply) }
     ensures quiet { IfErr result (λ refusal. Quiet pass.old.trace pass.new.trace) }
     ensures adds_none { IfErr result (λ refusal. AddsNone pass.old.trace pass.new.trace) }
@@ -98,8 +99,8 @@ fn look_up(at: &mut AtTable<'_>, key: u64, budget: u32) -> (Result<bool, Refusal
     ensures table { IsSameTable at.old at.new }
     ensures took { Took at.old.pass.now.trace at.new.pass.now.trace result.1 }
     ensures same { IsSame at.old.pass.now.trace at.new.pass.now.trace }
-    ensures made { IfOk result.0 (λ reply. Made (record { who = at.old.pass.now.trace.who; op = Has; key = key; reply = reply }) at.old.pass.now.trace at.new.pass.now.trace) }
-    ensures adds { IfOk result.0 (λ reply. AddsAnswer (record { who = at.old.pass.now.trace.who; op = Has; key = key; reply = reply }) at.old.pass.now.trace at.new.pass.now.trace) }
+    ensures made { IfOk result.0 (λ reply. Made (set_call at.old.pass.now.trace.who Has key reply) at.old.pass.now.trace at.new.pass.now.trace) }
+    ensures adds { IfOk result.0 (λ reply. AddsAnswer (set_call at.old.pass.now.trace.who Has key reply) at.old.pass.now.trace at.new.pass.now.trace) }
     ensures alone { IfOk result.0 (λ reply. AnswersAlone at.old.pass.now.trace Has key reply) }
     ensures quiet { IfErr result.0 (λ refusal. Quiet at.old.pass.now.trace at.new.pass.now.trace) }
     ensures adds_none { IfErr result.0 (λ refusal. AddsNone at.old.pass.now.trace at.new.pass.now.trace) }

@@ -1,5 +1,6 @@
 //! Removes.
-ghost use Rattle.std.specs.Prelude.{◌≡◌, ◌+◌, ◌*◌, ◌<◌, ◌≤◌, true, None, IfOk, IfErr};
+ghost use Rattle.std.specs.Prelude.{◌≡◌, ◌+◌, ◌*◌, ◌<◌, ◌≤◌, true, false, None, IfOk, IfErr};
+ghost use Rattle.vbr_core.specs.History.{set_call};
 ghost use Rattle.vbr_core.specs.declared.history.Op.TheVariants.{Remove};
 ghost use Rattle.vbr_pools.specs.KeptSlots.{TakesNoSlot};
 ghost use Rattle.vbr_pools.specs.Steps.{CountsSteps, TookWithin};
@@ -33,9 +34,10 @@ impl Call<'_> {
     fn mark_and_unlink(&mut self, found: &Found) -> Result<bool, Rollback>
         requires locates { Locates self.old.at.pass.now.trace.shape (knows self.old.at.pass.now.trace) self.old.key found.now }
         requires present { found.now.present ≡ true }
+        requires bare { self.old.at.pass.now.trace.shape.values ≡ false }
         requires room { self.old.used + 8 ≤ self.old.budget }
         ensures call { IsSameCall self.old self.new }
-        ensures made { IfOk result (λ reply. Made (record { who = self.old.at.pass.now.trace.who; op = Remove; key = self.old.key; reply = reply }) self.old.at.pass.now.trace self.new.at.pass.now.trace) }
+        ensures made { IfOk result (λ reply. Made (set_call self.old.at.pass.now.trace.who Remove self.old.key reply) self.old.at.pass.now.trace self.new.at.pass.now.trace) }
         ensures quiet { IfErr result (λ r. Quiet self.old.at.pass.now.trace self.new.at.pass.now.trace) }
         ensures counts { CountsSteps self.old.at.pass.now.trace self.new.at.pass.now.trace self.old.used self.new.used }
         ensures hand { KeepsHand self.old.at.pass.now self.new.at.pass.now }
@@ -59,9 +61,10 @@ impl Call<'_> {
     #[inline]
     fn settle_remove(&mut self, found: &Found) -> Result<bool, Rollback>
         requires locates { Locates self.old.at.pass.now.trace.shape (knows self.old.at.pass.now.trace) self.old.key found.now }
+        requires bare { self.old.at.pass.now.trace.shape.values ≡ false }
         requires room { self.old.used + 8 ≤ self.old.budget }
         ensures call { IsSameCall self.old self.new }
-        ensures made { IfOk result (λ reply. Made (record { who = self.old.at.pass.now.trace.who; op = Remove; key = self.old.key; reply = reply }) self.old.at.pass.now.trace self.new.at.pass.now.trace) }
+        ensures made { IfOk result (λ reply. Made (set_call self.old.at.pass.now.trace.who Remove self.old.key reply) self.old.at.pass.now.trace self.new.at.pass.now.trace) }
         ensures quiet { IfErr result (λ r. Quiet self.old.at.pass.now.trace self.new.at.pass.now.trace) }
         ensures counts { CountsSteps self.old.at.pass.now.trace self.new.at.pass.now.trace self.old.used self.new.used }
         ensures hand { KeepsHand self.old.at.pass.now self.new.at.pass.now }
@@ -89,8 +92,9 @@ impl Call<'_> {
 pub fn remove(slots: &Slots, pass: &mut Pass, key: u64, budget: u32) -> Result<bool, Refusal>
     requires own { IsOf pass.old.trace slots.now }
     requires empty_hand { pass.old.hand ≡ None }
+    requires bare { pass.old.trace.shape.values ≡ false }
     ensures same { IsSame pass.old.trace pass.new.trace }
-    ensures made { IfOk result (λ reply. Made (record { who = pass.old.trace.who; op = Remove; key = key; reply = reply }) pass.old.trace pass.new.trace) }
+    ensures made { IfOk result (λ reply. Made (set_call pass.old.trace.who Remove key reply) pass.old.trace pass.new.trace) }
     ensures alone { IfOk result (λ reply. AnswersAlone pass.old.trace Remove key reply) }
     ensures quiet { IfErr result (λ refusal. Quiet pass.old.trace pass.new.trace) }
     ensures safe { HasSafeRun pass.new.trace }
@@ -107,10 +111,11 @@ pub fn remove(slots: &Slots, pass: &mut Pass, key: u64, budget: u32) -> Result<b
 // As `remove`, where no step is counted; and how many steps were made.
 fn remove_by(at: &mut AtTable<'_>, key: u64, budget: u32) -> (Result<bool, Refusal>, u32)
     requires empty_hand { at.old.pass.now.hand ≡ None }
+    requires bare { at.old.pass.now.trace.shape.values ≡ false }
     ensures table { IsSameTable at.old at.new }
     ensures took { Took at.old.pass.now.trace at.new.pass.now.trace result.1 }
     ensures same { IsSame at.old.pass.now.trace at.new.pass.now.trace }
-    ensures made { IfOk result.0 (λ reply. Made (record { who = at.old.pass.now.trace.who; op = Remove; key = key; reply = reply }) at.old.pass.now.trace at.new.pass.now.trace) }
+    ensures made { IfOk result.0 (λ reply. Made (set_call at.old.pass.now.trace.who Remove key reply) at.old.pass.now.trace at.new.pass.now.trace) }
     ensures alone { IfOk result.0 (λ reply. AnswersAlone at.old.pass.now.trace Remove key reply) }
     ensures quiet { IfErr result.0 (λ refusal. Quiet at.old.pass.now.trace at.new.pass.now.trace) }
     ensures safe { HasSafeRun at.new.pass.now.trace }

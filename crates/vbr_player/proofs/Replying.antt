@@ -1,9 +1,10 @@
 -- What the set's answer to a line says of its reply.
 use Rattle.std.proofs.Common.{◌≡◌, ℕ, Bool, true, false, append-nil, refl, sym, subst, ◌∙◌, arith}
 use Rattle.std.specs.Prelude.{Result, Ok, Err}
+use Rattle.vbr_core.specs.History.{set_call}
 use Rattle.vbr_core.specs.Safety.{IsSafe}
 use Rattle.vbr_core.specs.declared.history.Op.{Op}
-use Rattle.vbr_core.specs.declared.history.Op.TheVariants.{Insert, Remove, Has}
+use Rattle.vbr_core.specs.declared.history.Op.TheVariants.{Insert, Remove, Has, Get}
 use Rattle.vbr_slots.specs.Views.{PassView}
 use Rattle.vbr_list.specs.declared.refusal.Refusal.{Refusal}
 use Rattle.vbr_list.specs.declared.refusal.Refusal.TheVariants.{OutOfSteps, NoSlot, EpochSpent}
@@ -24,14 +25,16 @@ tells Remove p q key budget NoSlot safe spares = absurd spares.refused
 tells Remove p q key budget (EpochSpent epoch) safe spares = absurd spares.refused
 tells Has p q key budget NoSlot safe spares = absurd spares.refused
 tells Has p q key budget (EpochSpent epoch) safe spares = absurd spares.refused
+tells Get p q key budget NoSlot safe spares = absurd spares
+tells Get p q key budget (EpochSpent epoch) safe spares = absurd spares
 
 -- an answer makes the call of the line, and a refusal none
 of_line : (line : Line) (p q : MemberView) (budget : ℕ) (result : Result Bool Refusal) → line.worker ≡ p.pass.trace.who → Called line.op p q line.key budget result → Replied line (reply_told result) p q
 of_line line p q budget (Ok true) who called =
-    let answers = subst (λ (k : ℕ). Answers (record { who = k; op = line.op; key = line.key; reply = true }) p.pass.trace q.pass.trace) (sym who) called.answers in
+    let answers = subst (λ (k : ℕ). Answers (set_call k line.op line.key true) p.pass.trace q.pass.trace) (sym who) called.answers in
     record { set = called.set; same = called.same; seen = answers.begins; calls = answers.once; tells = tt }
 of_line line p q budget (Ok false) who called =
-    let answers = subst (λ (k : ℕ). Answers (record { who = k; op = line.op; key = line.key; reply = false }) p.pass.trace q.pass.trace) (sym who) called.answers in
+    let answers = subst (λ (k : ℕ). Answers (set_call k line.op line.key false) p.pass.trace q.pass.trace) (sym who) called.answers in
     record { set = called.set; same = called.same; seen = answers.begins; calls = answers.once; tells = tt }
 of_line line p q budget (Err (OutOfSteps used)) who called = record { set = called.set; same = called.same; seen = called.quiet.seen; calls = called.quiet.calls ∙ sym (append-nil _); tells = tt }
 of_line line p q budget (Err NoSlot) who called =

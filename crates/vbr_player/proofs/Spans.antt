@@ -1,11 +1,12 @@
 -- From set to set: the lines of a span are cut off those that are left, and what one more set was asked stands in front of what the later ones are.
-use Rattle.std.proofs.Common.{◌≡◌, ℕ, zero, suc, ◌+◌, ◌-◌, ◌<◌, ◌≤◌, List, [], ◌∷◌, ◌++◌, length, take, drop, get_or, refl, sym, ap, subst, ◌∙◌, append_assoc, arith, length-append, length-drop}
+use Rattle.std.proofs.Common.{◌≡◌, ◌≢◌, ℕ, zero, suc, ◌+◌, ◌-◌, ◌<◌, ◌≤◌, List, [], ◌∷◌, ◌++◌, length, take, drop, get_or, refl, sym, ap, subst, ◌∙◌, append_assoc, arith, length-append, length-drop}
 use Rattle.std.specs.Prelude.{nat_le, zip, All}
 use Rattle.std.specs.List.{prefix_len}
 use Rattle.std.proofs.lemmas.List.{drop_all, drop-drop, length-take, take-append-drop}
 use Rattle.std.proofs.Math.Seq.{drop-cons}
 use Rattle.std.proofs.lemmas.List.Elements.{All-drop, All-take}
 use Rattle.vbr_words.specs.Dimensions.{Dimensions}
+use Rattle.vbr_core.specs.declared.history.Op.TheVariants.{Get}
 use Rattle.vbr_slots.specs.Views.{TableView}
 use Rattle.vbr_set.specs.declared.report.Report.{Report}
 use Rattle.vbr_script.specs.Scripts.{ArePhased, AreRenewalsFrom, AscendFrom}
@@ -56,6 +57,7 @@ is_span workers phases script first n from phase phased up cut order =
         workers_below = All-take (λ (line : Line). line.worker < workers) n (drop first script) (All-drop (λ (line : Line). line.worker < workers) first script phased.workers_below);
         phases_below = λ k d inside. let low = cut.early k d inside in omega arith;
         ascend = ascend_lower 0 from (take n (drop first script)) (omega arith) ascend;
+        no_get = All-take (λ (line : Line). line.op ≢ Get) n (drop first script) (All-drop (λ (line : Line). line.op ≢ Get) first script phased.no_get);
       };
       ascend = ascend;
     })
@@ -69,6 +71,7 @@ is_last_span workers phases script first from phased up order =
         workers_below = All-drop (λ (line : Line). line.worker < workers) first script phased.workers_below;
         phases_below = All-drop (λ (line : Line). line.phase < phases) first script phased.phases_below;
         ascend = ascend_lower 0 from (drop first script) (omega arith) up;
+        no_get = All-drop (λ (line : Line). line.op ≢ Get) first script phased.no_get;
       };
       ascend = up;
     })

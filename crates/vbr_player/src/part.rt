@@ -1,5 +1,6 @@
 // What a worker is given to play.
-ghost use Rattle.std.specs.Prelude.{◌≡◌, ◌+◌, ◌-◌, ◌<◌, ◌≤◌, ◌^◌, length, take, drop};
+ghost use Rattle.std.specs.Prelude.{◌≡◌, ◌≢◌, ◌+◌, ◌-◌, ◌<◌, ◌≤◌, ◌^◌, All, length, take, drop};
+ghost use Rattle.vbr_core.specs.declared.history.Op.TheVariants.{Get};
 ghost use Rattle.vbr_player.specs.Working.{HasRoom};
 
 use crate::worker::Worker;
@@ -17,6 +18,7 @@ pub struct Part<'p, G> {
     /// What is done round each call.
     pub gate: &'p G,
     ghost index: { first + length lines.now < 2 ^ 64 },
+    ghost no_get: { All (λ line. line.op ≢ Get) lines.now },
 }
 
 impl<'p, G> Clone for Part<'p, G> {

@@ -1,5 +1,6 @@
 // A worker: it plays its lines of a script, one after the other.
-ghost use Rattle.std.specs.Prelude.{◌≡◌, [], ◌∷◌};
+ghost use Rattle.std.specs.Prelude.{◌≡◌, ◌≢◌, [], ◌∷◌};
+ghost use Rattle.vbr_core.specs.declared.history.Op.TheVariants.{Get};
 ghost use Rattle.vbr_player.specs.Working.{reply_told, HasRoom, Replied, Played};
 
 use crate::gate::Gate;
@@ -31,7 +32,8 @@ impl<'w> Worker<'w> {
 
     // Plays a line, which has this index in the script, if it is its own.
     fn play_line<G: Gate>(&mut self, part: &Part<G>, line: &Line, index: u64)
-        requires { HasRoom self.old (line.now ∷ []) }
+        requires room { HasRoom self.old (line.now ∷ []) }
+        requires no_get { line.now.op ≢ Get }
         ensures { Played (line.now ∷ []) self.old self.new }
     {
         let who = self.caller.pass().who();
@@ -49,13 +51,15 @@ impl<'w> Worker<'w> {
 
 // Makes the call of a line.
 fn ask(caller: &mut VbrSetRef, line: &Line, budget: u32) -> Result<bool, Refusal>
-    requires { line.now.worker ≡ caller.old.pass.trace.who }
+    requires own { line.now.worker ≡ caller.old.pass.trace.who }
+    requires no_get { line.now.op ≢ Get }
     ensures { Replied line.now (reply_told result) caller.old caller.new }
 {
     match line.op {
         Op::Insert => caller.insert(line.key, budget),
         Op::Remove => caller.remove(line.key, budget),
         Op::Has => caller.has(line.key, budget),
+        Op::Get => unreachable!(),
     }
 }
 

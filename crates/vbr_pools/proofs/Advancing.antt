@@ -10,11 +10,11 @@ use Rattle.vbr_words.specs.declared.link.Link.{Link}
 use Rattle.vbr_core.specs.Put.{put}
 use Rattle.vbr_core.specs.Acceptance.{IsUnlinked, MayBear, stamp_in}
 use Rattle.vbr_core.specs.Knowledge.{Know}
-use Rattle.vbr_core.specs.Learning.{learn, reread, with_key, with_link}
+use Rattle.vbr_core.specs.Learning.{learn, reread, with_key, with_value, with_link}
 use Rattle.vbr_core.specs.Runs.{IsRun, NoneOf, know_after, Begins}
 use Rattle.vbr_core.specs.declared.event.Event.{Event}
 use Rattle.vbr_core.specs.declared.event.Step.{Step}
-use Rattle.vbr_core.specs.declared.event.Step.TheVariants.{ReadEpoch, Advance, LoadStamp, StoreStamp, Raise, TakeFlag, StoreBirth, StoreKey, StoreLink, LoadLink, LoadBirth, LoadKey, Publish, Mark, Unlink, ConfirmPresent, ConfirmAbsent}
+use Rattle.vbr_core.specs.declared.event.Step.TheVariants.{ReadEpoch, Advance, LoadStamp, StoreStamp, Raise, TakeFlag, StoreBirth, StoreKey, StoreLink, LoadLink, LoadBirth, LoadKey, Publish, Mark, Unlink, ConfirmPresent, ConfirmAbsent, StoreValue, LoadValue}
 use Rattle.vbr_core.specs.declared.knowledge.Holding.{Holding}
 use Rattle.vbr_core.specs.declared.knowledge.Holding.TheVariants.{Free, Unlinked, InHand}
 use Rattle.vbr_core.proofs.Lemmas.{begins_trans, others_leave_know, put_here, put_other}
@@ -167,10 +167,12 @@ no_advance (Raise s) e = refl
 no_advance (TakeFlag s) e = refl
 no_advance (StoreBirth s birth) e = refl
 no_advance (StoreKey s key) e = refl
+no_advance (StoreValue s value) e = refl
 no_advance (StoreLink s next) e = refl
 no_advance (LoadLink at) e = refl
 no_advance (LoadBirth s) e = refl
 no_advance (LoadKey s) e = refl
+no_advance (LoadValue s) e = refl
 no_advance (Publish pred expected s) e = refl
 no_advance (Mark s expected) e = refl
 no_advance (Unlink pred expected s) e = refl
@@ -186,10 +188,12 @@ no_raise (Raise s) e = e
 no_raise (TakeFlag s) e = refl
 no_raise (StoreBirth s birth) e = refl
 no_raise (StoreKey s key) e = refl
+no_raise (StoreValue s value) e = refl
 no_raise (StoreLink s next) e = refl
 no_raise (LoadLink at) e = refl
 no_raise (LoadBirth s) e = refl
 no_raise (LoadKey s) e = refl
+no_raise (LoadValue s) e = refl
 no_raise (Publish pred expected s) e = refl
 no_raise (Mark s expected) e = refl
 no_raise (Unlink pred expected s) e = refl
@@ -200,19 +204,25 @@ may_reread : (holding : Option Holding) → MayBear (reread holding) → MayBear
 may_reread None m = m
 may_reread (Some (Free stamp)) m = m
 may_reread (Some (Unlinked seen)) m = m
-may_reread (Some (InHand stamp birth key link)) m = m
+may_reread (Some (InHand stamp birth key value link)) m = m
 
 may_keyed : (holding : Option Holding) (key : ℕ) → MayBear (with_key holding key) → MayBear holding
 may_keyed None key m = m
 may_keyed (Some (Free stamp)) key m = m
 may_keyed (Some (Unlinked seen)) key m = m
-may_keyed (Some (InHand stamp birth k link)) key m = m
+may_keyed (Some (InHand stamp birth k value link)) key m = m
+
+may_valued : (holding : Option Holding) (value : ℕ) → MayBear (with_value holding value) → MayBear holding
+may_valued None value m = m
+may_valued (Some (Free stamp)) value m = m
+may_valued (Some (Unlinked seen)) value m = m
+may_valued (Some (InHand stamp birth key v link)) value m = m
 
 may_linked : (holding : Option Holding) (link : Link) → MayBear (with_link holding link) → MayBear holding
 may_linked None link m = m
 may_linked (Some (Free stamp)) link m = m
 may_linked (Some (Unlinked seen)) link m = m
-may_linked (Some (InHand stamp birth key l)) link m = m
+may_linked (Some (InHand stamp birth key value l)) link m = m
 
 -- the slot at which a function was changed, or another one
 may_put : (own : ℕ → Option Holding) (slot : ℕ) (holding : Option Holding) (s : ℕ) → (MayBear holding → MayBear (own slot)) → MayBear (put own slot holding s) → MayBear (own s)
@@ -234,10 +244,12 @@ may_before (Raise t) found stamp know s e m = absurd (cc)
 may_before (TakeFlag t) found stamp know s e m = absurd (cc)
 may_before (StoreBirth t birth) found stamp know s e m = absurd (cc)
 may_before (StoreKey t key) found stamp know s e m = may_put know.own t (with_key (know.own t) key) s (may_keyed (know.own t) key) m
+may_before (StoreValue t value) found stamp know s e m = may_put know.own t (with_value (know.own t) value) s (may_valued (know.own t) value) m
 may_before (StoreLink t next) found stamp know s e m = may_put know.own t _ s (may_linked (know.own t) _) m
 may_before (LoadLink at) found stamp know s e m = m
 may_before (LoadBirth t) found stamp know s e m = m
 may_before (LoadKey t) found stamp know s e m = m
+may_before (LoadValue t) found stamp know s e m = m
 may_before (Publish pred expected t) found stamp know s e m = either_know (found == expected) _ know know s (may_put know.own t None s (λ x. absurd x)) (λ x. x) m
 may_before (Mark t expected) found stamp know s e m = either_know (found == expected) _ know know s (λ x. x) (λ x. x) m
 may_before (Unlink pred expected t) found stamp know s e m = absurd (cc)
@@ -250,19 +262,25 @@ unlinked_reread : (holding : Option Holding) → IsUnlinked (reread holding) →
 unlinked_reread None u = u
 unlinked_reread (Some (Free stamp)) u = u
 unlinked_reread (Some (Unlinked seen)) u = tt
-unlinked_reread (Some (InHand stamp birth key link)) u = u
+unlinked_reread (Some (InHand stamp birth key value link)) u = u
 
 unlinked_keyed : (holding : Option Holding) (key : ℕ) → IsUnlinked (with_key holding key) → IsUnlinked holding
 unlinked_keyed None key u = u
 unlinked_keyed (Some (Free stamp)) key u = u
 unlinked_keyed (Some (Unlinked seen)) key u = u
-unlinked_keyed (Some (InHand stamp birth k link)) key u = u
+unlinked_keyed (Some (InHand stamp birth k value link)) key u = u
+
+unlinked_valued : (holding : Option Holding) (value : ℕ) → IsUnlinked (with_value holding value) → IsUnlinked holding
+unlinked_valued None value u = u
+unlinked_valued (Some (Free stamp)) value u = u
+unlinked_valued (Some (Unlinked seen)) value u = u
+unlinked_valued (Some (InHand stamp birth key v link)) value u = u
 
 unlinked_linked : (holding : Option Holding) (link : Link) → IsUnlinked (with_link holding link) → IsUnlinked holding
 unlinked_linked None link u = u
 unlinked_linked (Some (Free stamp)) link u = u
 unlinked_linked (Some (Unlinked seen)) link u = u
-unlinked_linked (Some (InHand stamp birth key l)) link u = u
+unlinked_linked (Some (InHand stamp birth key value l)) link u = u
 
 -- the slot at which a function was changed, or another one
 unlinked_put : (own : ℕ → Option Holding) (slot : ℕ) (holding : Option Holding) (s : ℕ) → (IsUnlinked holding → IsUnlinked (own slot)) → IsUnlinked (put own slot holding s) → IsUnlinked (own s)
@@ -284,10 +302,12 @@ unlinked_before (Raise t) found stamp know s e u = unlinked_put know.own t None 
 unlinked_before (TakeFlag t) found stamp know s e u = either_unlinked (has_flag found t) _ know know s (unlinked_put know.own t (Some (Free stamp)) s (λ x. absurd x)) (λ x. x) u
 unlinked_before (StoreBirth t birth) found stamp know s e u = unlinked_put know.own t _ s (λ x. absurd x) u
 unlinked_before (StoreKey t key) found stamp know s e u = unlinked_put know.own t (with_key (know.own t) key) s (unlinked_keyed (know.own t) key) u
+unlinked_before (StoreValue t value) found stamp know s e u = unlinked_put know.own t (with_value (know.own t) value) s (unlinked_valued (know.own t) value) u
 unlinked_before (StoreLink t next) found stamp know s e u = unlinked_put know.own t _ s (unlinked_linked (know.own t) _) u
 unlinked_before (LoadLink at) found stamp know s e u = u
 unlinked_before (LoadBirth t) found stamp know s e u = u
 unlinked_before (LoadKey t) found stamp know s e u = u
+unlinked_before (LoadValue t) found stamp know s e u = u
 unlinked_before (Publish pred expected t) found stamp know s e u = either_unlinked (found == expected) _ know know s (unlinked_put know.own t None s (λ x. absurd x)) (λ x. x) u
 unlinked_before (Mark t expected) found stamp know s e u = either_unlinked (found == expected) _ know know s (λ x. x) (λ x. x) u
 unlinked_before (Unlink pred expected t) found stamp know s e u = absurd (cc)
@@ -307,10 +327,12 @@ no_unlink (Raise s) e = refl
 no_unlink (TakeFlag s) e = refl
 no_unlink (StoreBirth s birth) e = refl
 no_unlink (StoreKey s key) e = refl
+no_unlink (StoreValue s value) e = refl
 no_unlink (StoreLink s next) e = refl
 no_unlink (LoadLink at) e = refl
 no_unlink (LoadBirth s) e = refl
 no_unlink (LoadKey s) e = refl
+no_unlink (LoadValue s) e = refl
 no_unlink (Publish pred expected s) e = refl
 no_unlink (Mark s expected) e = refl
 no_unlink (Unlink pred expected s) e = e

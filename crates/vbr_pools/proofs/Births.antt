@@ -21,7 +21,7 @@ use Rattle.vbr_pools.proofs.PoolLists.{stays_in, without_one, without_shorter}
 
 module _ (p q : PassView) (slot : ℕ) (d : Did (StoreBirth slot (knows p.trace).epoch) p.trace q.trace (knows p.trace).epoch) where
   abbrev born : Option Holding
-  born = Some (InHand (stamp_in ((knows p.trace).own slot)) (knows p.trace).epoch None None)
+  born = Some (InHand (stamp_in ((knows p.trace).own slot)) (knows p.trace).epoch None None None)
 
   own_here : (knows q.trace).own slot ≡ born
   own_here = ap (λ (k : Know). k.own slot) d.know ∙ put_here (knows p.trace).own slot born

@@ -33,7 +33,7 @@ stamp_reread : (holding : Option Holding) → stamp_in (reread holding) ≡ stam
 stamp_reread None = refl
 stamp_reread (Some (Free stamp)) = refl
 stamp_reread (Some (Unlinked seen)) = refl
-stamp_reread (Some (InHand stamp birth key link)) = refl
+stamp_reread (Some (InHand stamp birth key value link)) = refl
 
 own_read : (know : Know) (epoch s : ℕ) → (read_epoch know epoch).own s ≡ reread (know.own s)
 own_read know epoch s = either (epoch == know.epoch)

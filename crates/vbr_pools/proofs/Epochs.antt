@@ -16,7 +16,7 @@ use Rattle.vbr_core.specs.Put.{put}
 use Rattle.vbr_core.specs.Runs.{world_from, AreAccepted, IsRun, world_after, know_after}
 use Rattle.vbr_core.specs.declared.event.Event.{Event}
 use Rattle.vbr_core.specs.declared.event.Step.{Step}
-use Rattle.vbr_core.specs.declared.event.Step.TheVariants.{ReadEpoch, Advance, LoadStamp, StoreStamp, Raise, TakeFlag, StoreBirth, StoreKey, StoreLink, LoadLink, LoadBirth, LoadKey, Publish, Mark, Unlink, ConfirmPresent, ConfirmAbsent}
+use Rattle.vbr_core.specs.declared.event.Step.TheVariants.{ReadEpoch, Advance, LoadStamp, StoreStamp, Raise, TakeFlag, StoreBirth, StoreKey, StoreLink, LoadLink, LoadBirth, LoadKey, Publish, Mark, Unlink, ConfirmPresent, ConfirmAbsent, StoreValue, LoadValue}
 use Rattle.vbr_core.proofs.Lemmas.{by_both, is_run_after, is_run_before, is_run_first, know_other, know_own, put_here, put_other, run_agrees, stamp_known, step_agrees, world_after-append}
 use Rattle.vbr_slots.specs.Views.{epoch_after}
 use Rattle.vbr_slots.proofs.Lemmas.{epoch_learned}
@@ -54,10 +54,12 @@ later shape w p (Raise s) t low ok = same_epoch_and_stamps w (after shape w p (R
 later shape w p (TakeFlag s) t low ok = same_epoch_and_stamps w (after shape w p (TakeFlag s)) (by_both (has_flag (found shape w (TakeFlag s)) s) epoch_and_stamps _ w (epoch_and_stamps w) refl refl) t
 later shape w p (StoreBirth s birth) t low ok = same_epoch_and_stamps w (after shape w p (StoreBirth s birth)) refl t
 later shape w p (StoreKey s key) t low ok = same_epoch_and_stamps w (after shape w p (StoreKey s key)) refl t
+later shape w p (StoreValue s value) t low ok = same_epoch_and_stamps w (after shape w p (StoreValue s value)) refl t
 later shape w p (StoreLink s next) t low ok = same_epoch_and_stamps w (after shape w p (StoreLink s next)) refl t
 later shape w p (LoadLink at) t low ok = same_epoch_and_stamps w (after shape w p (LoadLink at)) refl t
 later shape w p (LoadBirth s) t low ok = same_epoch_and_stamps w (after shape w p (LoadBirth s)) refl t
 later shape w p (LoadKey s) t low ok = same_epoch_and_stamps w (after shape w p (LoadKey s)) refl t
+later shape w p (LoadValue s) t low ok = same_epoch_and_stamps w (after shape w p (LoadValue s)) refl t
 later shape w p (Publish (Head b) expected s) t low ok = same_epoch_and_stamps w (after shape w p (Publish (Head b) expected s)) (by_both (word_of (w.head b) == expected) epoch_and_stamps _ w (epoch_and_stamps w) refl refl) t
 later shape w p (Publish (Slot v) expected s) t low ok = same_epoch_and_stamps w (after shape w p (Publish (Slot v) expected s)) (by_both (word_of (w.link v) == expected) epoch_and_stamps _ w (epoch_and_stamps w) refl refl) t
 later shape w p (Mark s expected) t low ok = same_epoch_and_stamps w (after shape w p (Mark s expected)) (by_both (word_of (w.link s) == expected) epoch_and_stamps _ w (epoch_and_stamps w) refl refl) t
@@ -76,10 +78,12 @@ some_read shape w (Raise s) e t some = some
 some_read shape w (TakeFlag s) e t some = some
 some_read shape w (StoreBirth s birth) e t some = some
 some_read shape w (StoreKey s key) e t some = some
+some_read shape w (StoreValue s value) e t some = some
 some_read shape w (StoreLink s next) e t some = some
 some_read shape w (LoadLink at) e t some = some
 some_read shape w (LoadBirth s) e t some = some
 some_read shape w (LoadKey s) e t some = some
+some_read shape w (LoadValue s) e t some = some
 some_read shape w (Publish pred expected s) e t some = some
 some_read shape w (Mark s expected) e t some = some
 some_read shape w (Unlink pred expected s) e t some = some

@@ -90,7 +90,7 @@ not_both : (holding : Option Holding) → IsUnlinked holding → MayBear holding
 not_both None a b = a
 not_both (Some (Free stamp)) a b = a
 not_both (Some (Unlinked reread)) a b = b
-not_both (Some (InHand stamp birth key link)) a b = a
+not_both (Some (InHand stamp birth key value link)) a b = a
 
 -- an unlinked slot isn't in the own pool
 pub unlinked_outside : (shape : Dimensions) (know : Know) (slot : ℕ) (pool : List ℕ) (hand : Option ℕ) → OwnPool shape know pool hand → IsUnlinked (know.own slot) → ¬ (Contains pool slot)
@@ -105,7 +105,7 @@ unlinked_in_shape shape passes run who slot is ok unlinked =
     go : (a : Incarnations) (holding : Option Holding) → IsUnlinked holding → SlotsSound shape a → OwnFits a who (know_after shape run who).epoch holding (a.place slot) (a.last slot) (a.stamp slot) → ((c : ℕ) → c < a.count → a.slot c < shape.slots) → slot < shape.slots
     go a None u sound fits low = absurd u
     go a (Some (Free stamp)) u sound fits low = absurd u
-    go a (Some (InHand stamp birth key link)) u sound fits low = absurd u
+    go a (Some (InHand stamp birth key value link)) u sound fits low = absurd u
     go a (Some (Unlinked reread)) u sound fits low = let by = fits.1 in let born = sound.last_born slot by.node by.last_is in subst (λ (s : ℕ). s < shape.slots) born.1 (low by.node born.0)
 
 -- so it is a slot of the table

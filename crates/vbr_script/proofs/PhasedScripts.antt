@@ -1,11 +1,12 @@
 -- The operations of a text are for its workers, in its phases, one after the other.
-use Rattle.std.proofs.Common.{◌≡◌, ℕ, ◌+◌, ◌<◌, ◌≤◌, ◌^◌, Bool, true, false, nat_lt, List, [], ◌∷◌, map, Option, Some, None, if◌then◌else◌, codes, refl, arith}
+use Rattle.std.proofs.Common.{◌≡◌, ◌≢◌, ℕ, ◌+◌, ◌<◌, ◌≤◌, ◌^◌, Bool, true, false, nat_lt, List, [], ◌∷◌, map, Option, Some, None, if◌then◌else◌, codes, refl, arith}
 use Rattle.std.specs.Prelude.{count_by}
 use Rattle.std.specs.List.{All, AllByRecursion}
 use Rattle.std.specs.Str.{bytes_eq}
 use Rattle.std.proofs.lemmas.Bool.Decides.{nat_tests}
 use Rattle.std.proofs.lemmas.List.Elements.{All-nil, All-cons, All-weaker}
 use Rattle.vbr_core.specs.declared.history.Op.{Op}
+use Rattle.vbr_core.specs.declared.history.Op.TheVariants.{Insert, Remove, Has, Get}
 use Rattle.vbr_script.specs.declared.script.Line.{Line}
 use Rattle.vbr_script.specs.declared.script.ScriptFault.TheVariants.{Words, TooMany}
 use Rattle.vbr_script.specs.declared.script.Meaning.{Meaning}
@@ -19,20 +20,35 @@ use Rattle.vbr_script.proofs.LinesRead.{one_more}
 
 -- ---- workers
 
--- an operation that is asked for is of one of so many workers
+-- a line is of one of so many workers, and is no get
+abbrev IsRequest : ℕ → Line → Type 0
+IsRequest workers line = (line.worker < workers) × (line.op ≢ Get)
+
+-- so is an operation that is asked for
 abbrev IsOfWorker : ℕ → Meaning → Type 0
-IsOfWorker workers (Asks worker op key) = worker < workers
+IsOfWorker workers (Asks worker op key) = (worker < workers) × (op ≢ Get)
 IsOfWorker workers _ = Unit {0}
+
+-- no token names a get
+never_get : (token : List ℕ) (op : Op) → operation_of token ≡ Some op → op ≢ Get
+unfolding operation_of
+never_get token op = at (bytes_eq token (codes "insert")) (bytes_eq token (codes "remove")) (bytes_eq token (codes "has"))
+  where
+    at : (insert remove has : Bool) → (if insert then Some Insert else (if remove then Some Remove else (if has then Some Has else None))) ≡ Some op → op ≢ Get
+    at true remove has is get = absurd (cc)
+    at false true has is get = absurd (cc)
+    at false false true is get = absurd (cc)
+    at false false false is get = absurd (cc)
 
 number_is_below : (limit : ℕ) (token : List ℕ) (n : ℕ) → number_below limit token ≡ Some n → n < limit
 number_is_below limit token n is = grind (arith, nat_tests)
 
 -- what three tokens mean is of a worker below the limit
-request : (workers : ℕ) (worker : Option ℕ) (op : Option Op) (key : Option ℕ) → ((n : ℕ) → worker ≡ Some n → n < workers) → IsOfWorker workers (meaning_of_tokens worker op key)
-request workers None op key below = tt
-request workers (Some n) None key below = tt
-request workers (Some n) (Some op) None below = tt
-request workers (Some n) (Some op) (Some key) below = below n refl
+request : (workers : ℕ) (worker : Option ℕ) (op : Option Op) (key : Option ℕ) → ((n : ℕ) → worker ≡ Some n → n < workers) → ((o : Op) → op ≡ Some o → o ≢ Get) → IsOfWorker workers (meaning_of_tokens worker op key)
+request workers None op key below never = tt
+request workers (Some n) None key below never = tt
+request workers (Some n) (Some op) None below never = tt
+request workers (Some n) (Some op) (Some key) below never = (below n refl, never op refl)
 
 lone : (workers : ℕ) (token : List ℕ) → IsOfWorker workers (lone_token token)
 unfolding lone_token
@@ -48,7 +64,7 @@ tokens : (workers : ℕ) (line : List (List ℕ)) → IsOfWorker workers (meanin
 tokens workers [] = tt
 tokens workers (token ∷ []) = lone workers token
 tokens workers (worker ∷ op ∷ []) = tt
-tokens workers (worker ∷ op ∷ key ∷ []) = request workers (number_below workers worker) (operation_of op) (number_below (2 ^ 64) key) (number_is_below workers worker)
+tokens workers (worker ∷ op ∷ key ∷ []) = request workers (number_below workers worker) (operation_of op) (number_below (2 ^ 64) key) (number_is_below workers worker) (never_get op)
 tokens workers (worker ∷ op ∷ key ∷ more ∷ rest) = tt
 
 -- and those of all lines
@@ -56,25 +72,25 @@ all_tokens : (workers : ℕ) (lines : List (List ℕ)) → AllByRecursion (IsOfW
 all_tokens workers [] = tt
 all_tokens workers (line ∷ lines) = (tokens workers (tokens_of line), all_tokens workers lines)
 
-of_workers : (workers : ℕ) (lines : List Meaning) (operations syncs phase : ℕ) → AllByRecursion (IsOfWorker workers) lines → All (λ line. line.worker < workers) (operations_from phase (all_limited operations syncs lines))
-of_workers workers [] operations syncs phase all = All-nil (λ line. line.worker < workers)
+of_workers : (workers : ℕ) (lines : List Meaning) (operations syncs phase : ℕ) → AllByRecursion (IsOfWorker workers) lines → All (IsRequest workers) (operations_from phase (all_limited operations syncs lines))
+of_workers workers [] operations syncs phase all = All-nil (IsRequest workers)
 of_workers workers (Blank ∷ lines) operations syncs phase all = of_workers workers lines operations syncs phase all.1
-of_workers workers (Faulty kind ∷ lines) operations syncs phase all = All-nil (λ line. line.worker < workers)
+of_workers workers (Faulty kind ∷ lines) operations syncs phase all = All-nil (IsRequest workers)
 of_workers workers (Sync ∷ lines) operations syncs phase all = at (nat_lt syncs MAX_SYNCS) (of_workers workers lines operations (syncs + 1) (phase + 1) all.1)
   where
-    at : (fits : Bool) → All (λ line. line.worker < workers) (operations_from (phase + 1) (all_limited operations (syncs + 1) lines)) → All (λ line. line.worker < workers) (operations_from phase ((if fits then Sync else Faulty TooMany) ∷ all_limited operations (syncs + 1) lines))
+    at : (fits : Bool) → All (IsRequest workers) (operations_from (phase + 1) (all_limited operations (syncs + 1) lines)) → All (IsRequest workers) (operations_from phase ((if fits then Sync else Faulty TooMany) ∷ all_limited operations (syncs + 1) lines))
     at true rest = rest
-    at false rest = All-nil (λ line. line.worker < workers)
+    at false rest = All-nil (IsRequest workers)
 of_workers workers (Renew ∷ lines) operations syncs phase all = at (nat_lt syncs MAX_SYNCS) (of_workers workers lines operations (syncs + 1) (phase + 1) all.1)
   where
-    at : (fits : Bool) → All (λ line. line.worker < workers) (operations_from (phase + 1) (all_limited operations (syncs + 1) lines)) → All (λ line. line.worker < workers) (operations_from phase ((if fits then Renew else Faulty TooMany) ∷ all_limited operations (syncs + 1) lines))
+    at : (fits : Bool) → All (IsRequest workers) (operations_from (phase + 1) (all_limited operations (syncs + 1) lines)) → All (IsRequest workers) (operations_from phase ((if fits then Renew else Faulty TooMany) ∷ all_limited operations (syncs + 1) lines))
     at true rest = rest
-    at false rest = All-nil (λ line. line.worker < workers)
+    at false rest = All-nil (IsRequest workers)
 of_workers workers (Asks worker op key ∷ lines) operations syncs phase all = at (nat_lt operations MAX_OPERATIONS) (of_workers workers lines (operations + 1) syncs phase all.1)
   where
-    at : (fits : Bool) → All (λ line. line.worker < workers) (operations_from phase (all_limited (operations + 1) syncs lines)) → All (λ line. line.worker < workers) (operations_from phase ((if fits then Asks worker op key else Faulty TooMany) ∷ all_limited (operations + 1) syncs lines))
-    at true rest = All-cons (λ line. line.worker < workers) (record { phase = phase; worker = worker; op = op; key = key }) _ all.0 rest
-    at false rest = All-nil (λ line. line.worker < workers)
+    at : (fits : Bool) → All (IsRequest workers) (operations_from phase (all_limited (operations + 1) syncs lines)) → All (IsRequest workers) (operations_from phase ((if fits then Asks worker op key else Faulty TooMany) ∷ all_limited (operations + 1) syncs lines))
+    at true rest = All-cons (IsRequest workers) (record { phase = phase; worker = worker; op = op; key = key }) _ all.0 rest
+    at false rest = All-nil (IsRequest workers)
 
 -- ---- phases
 
@@ -137,8 +153,10 @@ renewed workers text = renew_from (meanings_of workers text) 0 (phases_of worker
 pub phased : (workers : ℕ) (text : List ℕ) → ArePhased workers (phases_of workers text) (script_of workers text)
 phased workers text =
     let lie = lie_from (meanings_of workers text) 0 in
+    let requests = of_workers workers (map (λ line. meaning_of workers (tokens_of line)) (lines_of text)) 0 0 0 (all_tokens workers (lines_of text)) in
     record {
-      workers_below = of_workers workers (map (λ line. meaning_of workers (tokens_of line)) (lines_of text)) 0 0 0 (all_tokens workers (lines_of text));
+      workers_below = All-weaker (IsRequest workers) (λ line. line.worker < workers) (λ line is. is.0) (script_of workers text) requests;
+      no_get = All-weaker (IsRequest workers) (λ line. line.op ≢ Get) (λ line is. is.1) (script_of workers text) requests;
       phases_below = All-weaker (λ line. line.phase ≤ 0 + count_by ends_phase (meanings_of workers text)) (λ line. line.phase < phases_of workers text) (λ line high. omega arith) (script_of workers text) lie.below;
       ascend = lie.ascend;
     }

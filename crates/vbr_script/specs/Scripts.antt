@@ -1,5 +1,6 @@
 -- The script that a text of bytes is, and its first fault.
-use Rattle.std.specs.Prelude.{ℕ, ◌+◌, ◌<◌, ◌≤◌, Bool, true, false, nat_lt, List, [], ◌∷◌, map, All, count_by, Option, Some, None, if◌then◌else◌}
+use Rattle.std.specs.Prelude.{◌≢◌, ℕ, ◌+◌, ◌<◌, ◌≤◌, Bool, true, false, nat_lt, List, [], ◌∷◌, map, All, count_by, Option, Some, None, if◌then◌else◌}
+use Rattle.vbr_core.specs.declared.history.Op.TheVariants.{Get}
 use Rattle.vbr_script.specs.declared.script.Line.{Line}
 use Rattle.vbr_script.specs.declared.script.ScriptFault.{ScriptFault}
 use Rattle.vbr_script.specs.declared.script.ScriptFault.TheVariants.{TooMany}
@@ -83,11 +84,12 @@ abbrev pub AscendFrom : ℕ → List Line → Type 0
 AscendFrom phase [] = Unit {0}
 AscendFrom phase (line ∷ lines) = (phase ≤ line.phase) × AscendFrom line.phase lines
 
--- operations for so many workers, in so many phases, one after the other
+-- operations of a set for so many workers, in so many phases, one after the other
 pub record ArePhased (workers phases : ℕ) (lines : List Line) : Type 0 where
   pub workers_below : All (λ line. line.worker < workers) lines
   pub phases_below : All (λ line. line.phase < phases) lines
   pub ascend : AscendFrom 0 lines
+  pub no_get : All (λ line. line.op ≢ Get) lines
 
 -- these phases, each behind the one before and not the last of so many, from a phase on
 abbrev pub AreRenewalsFrom : ℕ → ℕ → List ℕ → Type 0

@@ -2,6 +2,7 @@
 use Rattle.std.proofs.Common.{◌≡◌, ℕ, Bool, List, Result, Ok, Err, refl, sym, ap, ◌∙◌, subst}
 use Rattle.std.specs.Prelude.{IfOk}
 use Rattle.vbr_words.specs.Dimensions.{Dimensions, IsShape}
+use Rattle.vbr_core.specs.History.{set_call}
 use Rattle.vbr_core.specs.Calls.{own_calls}
 use Rattle.vbr_core.specs.Runs.{IsRun, BeginsFor}
 use Rattle.vbr_core.specs.declared.event.Event.{Event}
@@ -47,8 +48,8 @@ answers {call} {p} {q} is made =
     }
 
 -- an answer, if there is one
-pub each_answers : {E : Type 0} (p q : Trace) (op : Op) (key : ℕ) (answer : Result Bool E) → IsShape p.shape → IfOk answer (λ reply. Made (record { who = p.who; op = op; key = key; reply = reply }) p q)
-    → IfOk answer (λ reply. Answers (record { who = p.who; op = op; key = key; reply = reply }) p q)
+pub each_answers : {E : Type 0} (p q : Trace) (op : Op) (key : ℕ) (answer : Result Bool E) → IsShape p.shape → IfOk answer (λ reply. Made (set_call p.who op key reply) p q)
+    → IfOk answer (λ reply. Answers (set_call p.who op key reply) p q)
 each_answers p q op key (Ok reply) is made = answers is made
 each_answers p q op key (Err refusal) is made = tt
 

@@ -1,3 +1,4 @@
+mod NoValues
 mod Histories
 mod CatchingUp
 mod ShownNodes

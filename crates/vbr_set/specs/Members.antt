@@ -1,7 +1,8 @@
 -- What contracts see of a member of a set, and of its calls.
 use Rattle.std.specs.Prelude.{◌≡◌, ◌≢◌, ℕ, ◌+◌, ◌*◌, ◌<◌, ◌≤◌, Bool, Result, IfOk, IfErr, List, [], map, None}
+use Rattle.vbr_core.specs.History.{set_call}
 use Rattle.vbr_core.specs.declared.history.Op.{Op}
-use Rattle.vbr_core.specs.declared.history.Op.TheVariants.{Insert, Remove, Has}
+use Rattle.vbr_core.specs.declared.history.Op.TheVariants.{Insert, Remove, Has, Get}
 use Rattle.vbr_words.specs.Dimensions.{Dimensions}
 use Rattle.vbr_slots.specs.Alone.{IsAlone}
 use Rattle.vbr_slots.specs.Calls.{AddsAnswer, AddsNone, IsSame, OnlyLoads, Quiet}
@@ -52,23 +53,24 @@ pub record SparesRemove (p q : PassView) (key budget : ℕ) (answer : Result Boo
 -- what a look-up promises besides: all its steps are loads, and its answer is all that it adds to the chronicle; it advances no epoch, loses no slot, and is refused for want of steps alone; alone it has steps enough with a budget that is known before
 pub record SparesHas (p q : PassView) (key budget : ℕ) (answer : Result Bool Refusal) : Type 0 where
   pub only_loads : OnlyLoads p.trace q.trace
-  pub adds : IfOk answer (λ reply. AddsAnswer (record { who = p.trace.who; op = Has; key = key; reply = reply }) p.trace q.trace)
+  pub adds : IfOk answer (λ reply. AddsAnswer (set_call p.trace.who Has key reply) p.trace q.trace)
   pub adds_none : IfErr answer (λ refusal. AddsNone p.trace q.trace)
   pub takes_no_slot : TakesNoSlot p q
   pub refused : IfErr answer (IsTired p q budget)
   pub within : IfErr answer (λ refusal. IsAlone p.trace q.trace → budget < 5 * listed_for p.trace key + 11)
 
--- what a call promises besides its answer
+-- what a call promises besides its answer; no set has a get
 abbrev pub Spares : Op → PassView → PassView → ℕ → ℕ → Result Bool Refusal → Type 0
 Spares Insert = SparesInsert
 Spares Remove = SparesRemove
 Spares Has = SparesHas
+Spares Get = λ p q key budget answer. ⊥
 
 -- the member is the same pass of the same set; where the call was answered, the answer stands in one legal history of what its pass has then seen, once, behind its calls before; where it was refused, it made no call; in each case what its pass has then seen is a safe run; it has no slot in hand; and it made no more steps than its budget
 pub record Called (op : Op) (m n : MemberView) (key budget : ℕ) (answer : Result Bool Refusal) : Type 0 where
   pub set : n.set ≡ m.set
   pub same : IsSame m.pass.trace n.pass.trace
-  pub answers : IfOk answer (λ reply. Answers (record { who = m.pass.trace.who; op = op; key = key; reply = reply }) m.pass.trace n.pass.trace)
+  pub answers : IfOk answer (λ reply. Answers (set_call m.pass.trace.who op key reply) m.pass.trace n.pass.trace)
   pub alone : IfOk answer (λ reply. AnswersAlone m.pass.trace op key reply)
   pub quiet : IfErr answer (λ refusal. Quiet m.pass.trace n.pass.trace)
   pub safe : HasSafeRun n.pass.trace

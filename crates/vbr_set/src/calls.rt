@@ -1,5 +1,6 @@
 //! The calls: inserts, removes and look-ups.
 ghost use Rattle.std.specs.Prelude.{◌≡◌, ◌≢◌, ◌+◌, ◌*◌, ◌<◌, ◌≤◌, [], None, IfOk, IfErr};
+ghost use Rattle.vbr_core.specs.History.{set_call};
 ghost use Rattle.vbr_core.specs.declared.history.Op.TheVariants.{Insert, Remove, Has};
 ghost use Rattle.vbr_pools.specs.Advances.{AdvancesWhereNeeded};
 ghost use Rattle.vbr_pools.specs.KeptSlots.{HasUnpublished, KeepsSlots, TakesNoSlot, SharesWhereFull};
@@ -49,7 +50,7 @@ impl VbrSet {
         requires own { IsOf pass.old.trace self.now }
         requires empty_hand { pass.old.hand ≡ None }
         ensures same { IsSame pass.old.trace pass.new.trace }
-        ensures answers { IfOk result (λ reply. Answers (record { who = pass.old.trace.who; op = Insert; key = key; reply = reply }) pass.old.trace pass.new.trace) }
+        ensures answers { IfOk result (λ reply. Answers (set_call pass.old.trace.who Insert key reply) pass.old.trace pass.new.trace) }
         ensures alone { IfOk result (λ reply. AnswersAlone pass.old.trace Insert key reply) }
         ensures quiet { IfErr result (λ refusal. Quiet pass.old.trace pass.new.trace) }
         ensures safe { HasSafeRun pass.new.trace }
@@ -94,7 +95,7 @@ impl VbrSet {
         requires own { IsOf pass.old.trace self.now }
         requires empty_hand { pass.old.hand ≡ None }
         ensures same { IsSame pass.old.trace pass.new.trace }
-        ensures answers { IfOk result (λ reply. Answers (record { who = pass.old.trace.who; op = Remove; key = key; reply = reply }) pass.old.trace pass.new.trace) }
+        ensures answers { IfOk result (λ reply. Answers (set_call pass.old.trace.who Remove key reply) pass.old.trace pass.new.trace) }
         ensures alone { IfOk result (λ reply. AnswersAlone pass.old.trace Remove key reply) }
         ensures quiet { IfErr result (λ refusal. Quiet pass.old.trace pass.new.trace) }
         ensures safe { HasSafeRun pass.new.trace }
@@ -136,9 +137,9 @@ impl VbrSet {
         requires own { IsOf pass.old.trace self.now }
         requires empty_hand { pass.old.hand ≡ None }
         ensures same { IsSame pass.old.trace pass.new.trace }
-        ensures answers { IfOk result (λ reply. Answers (record { who = pass.old.trace.who; op = Has; key = key; reply = reply }) pass.old.trace pass.new.trace) }
+        ensures answers { IfOk result (λ reply. Answers (set_call pass.old.trace.who Has key reply) pass.old.trace pass.new.trace) }
         ensures alone { IfOk result (λ reply. AnswersAlone pass.old.trace Has key reply) }
-        ensures adds { IfOk result (λ reply. AddsAnswer (record { who = pass.old.trace.who; op = Has; key = key; reply = reply }) pass.old.trace pass.new.trace) }
+        ensures adds { IfOk result (λ reply. AddsAnswer (set_call pass.old.trace.who Has key reply) pass.old.trace pass.new.trace) }
         ensures quiet { IfErr result (λ refusal. Quiet pass.old.trace pass.new.trace) }
         ensures adds_none { IfErr result (λ refusal. AddsNone pass.old.trace pass.new.trace) }
         ensures only_loads { OnlyLoads pass.old.trace pass.new.trace }

@@ -83,7 +83,7 @@ impl Member {
     /// The shape of its set, without the keys that the set opened with.
     #[inline]
     pub fn shape(&self) -> Shape
-        ensures { result ≡ record self.now.set.shape { keys = [] } }
+        ensures { result ≡ record self.now.set.shape { keys = []; payloads = [] } }
     {
         self.share.set().shape()
     }

@@ -1,5 +1,5 @@
 //! Opening a set for members.
-ghost use Rattle.std.specs.Prelude.{◌≡◌, ◌<◌, ◌≤◌, ◌↔◌, ◌⊎◌, All, length, map, IfOk, IsErrOf, None};
+ghost use Rattle.std.specs.Prelude.{◌≡◌, ◌<◌, ◌≤◌, ◌↔◌, ◌⊎◌, All, false, length, map, IfOk, IsErrOf, None};
 ghost use Rattle.std.specs.List.Sorted.{IsStrictlyIncreasing};
 ghost use Rattle.vbr_slots.specs.Views.{IsOf, new_passes};
 ghost use Rattle.vbr_set.specs.MemberView.{IsMember};
@@ -39,7 +39,7 @@ impl Member {
     /// let members = Member::open(alloc, Shape::new(64, 16, MAX_EPOCH)?, 4)?;
     /// ```
     pub fn open(alloc: Global, shape: Shape, passes: u32) -> Result<Vec<Member>, OpenError>
-        ensures members { IfOk result (λ members. AreNew shape passes members.items) }
+        ensures members { IfOk result (λ members. AreNew (record shape { values = false }) passes members.items) }
         ensures refused { IsErrOf result OpenError.Passes ↔ ((passes ≡ 0) ⊎ (64 < passes)) }
     {
         let _slots = shape.slots();
@@ -72,7 +72,7 @@ impl Member {
     ) -> Result<Vec<Member>, OpenError>
         requires ascending { IsStrictlyIncreasing keys.now }
         requires few { length keys.now ≤ shape.slots }
-        ensures members { IfOk result (λ members. AreNew (record shape { keys = keys.now }) passes members.items) }
+        ensures members { IfOk result (λ members. AreNew (record shape { values = false; keys = keys.now }) passes members.items) }
         ensures refused { IsErrOf result OpenError.Passes ↔ ((passes ≡ 0) ⊎ (64 < passes)) }
     {
         let (set, opened) = VbrSet::open_with(alloc, shape, passes, keys)?;

@@ -1,5 +1,5 @@
 //! Opening a set.
-ghost use Rattle.std.specs.Prelude.{◌≡◌, ◌<◌, ◌≤◌, ◌↔◌, ◌⊎◌, length, IfOk, IsErrOf};
+ghost use Rattle.std.specs.Prelude.{◌≡◌, ◌<◌, ◌≤◌, ◌↔◌, ◌⊎◌, false, length, IfOk, IsErrOf};
 ghost use Rattle.std.specs.List.Sorted.{IsStrictlyIncreasing};
 ghost use Rattle.vbr_slots.specs.Views.{new_passes};
 
@@ -29,7 +29,7 @@ impl VbrSet {
     /// match VbrSet::open(alloc, shape, passes) {
     /// ```
     pub fn open(alloc: Global, shape: Shape, passes: u32) -> Result<(VbrSet, Vec<Pass>), OpenError>
-        ensures table { IfOk result (λ r. (r.0.shape ≡ shape) × (r.0.passes ≡ passes)) }
+        ensures table { IfOk result (λ r. (r.0.shape ≡ record shape { values = false }) × (r.0.passes ≡ passes)) }
         ensures passes { IfOk result (λ r. r.1.items ≡ new_passes r.0 0 passes) }
         ensures refused { IsErrOf result OpenError.Passes ↔ ((passes ≡ 0) ⊎ (64 < passes)) }
     {
@@ -65,11 +65,11 @@ impl VbrSet {
     ) -> Result<(VbrSet, Vec<Pass>), OpenError>
         requires ascending { IsStrictlyIncreasing keys.now }
         requires few { length keys.now ≤ shape.slots }
-        ensures table { IfOk result (λ r. (r.0.shape ≡ record shape { keys = keys.now }) × (r.0.passes ≡ passes)) }
+        ensures table { IfOk result (λ r. (r.0.shape ≡ record shape { values = false; keys = keys.now }) × (r.0.passes ≡ passes)) }
         ensures passes { IfOk result (λ r. r.1.items ≡ new_passes r.0 0 passes) }
         ensures refused { IsErrOf result OpenError.Passes ↔ ((passes ≡ 0) ⊎ (64 < passes)) }
     {
-        let (slots, opened) = Slots::open_with(alloc, shape, passes, keys)?;
+        let (slots, opened) = Slots::open_with(alloc, shape.without_values(), passes, keys)?;
         let set = VbrSet {
             slots,
             count: passes,

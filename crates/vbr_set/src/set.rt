@@ -14,21 +14,21 @@ pub struct VbrSet {
 }
 
 impl Model for VbrSet {
-    ghost use Rattle.std.specs.Prelude.{◌≡◌};
+    ghost use Rattle.std.specs.Prelude.{◌≡◌, false};
     ghost use Rattle.vbr_slots.specs.Views.{TableView};
 
     ghost Value = { TableView };
 
     ghost view = { λ s. s.slots };
 
-    ghost invariant = { λ s. s.count ≡ s.slots.passes };
+    ghost invariant = { λ s. (s.count ≡ s.slots.passes) × (s.slots.shape.values ≡ false) };
 }
 
 impl VbrSet {
     /// Its shape, without the keys that it opened with.
     #[inline]
     pub fn shape(&self) -> Shape
-        ensures { result ≡ record self.now.shape { keys = [] } }
+        ensures { result ≡ record self.now.shape { keys = []; payloads = [] } }
     {
         self.slots.shape()
     }

@@ -157,7 +157,7 @@ impl<'s> VbrSetRef<'s> {
     /// The shape of its set, without the keys that the set opened with.
     #[inline]
     pub fn shape(&self) -> Shape
-        ensures { result ≡ record self.now.set.shape { keys = [] } }
+        ensures { result ≡ record self.now.set.shape { keys = []; payloads = [] } }
     {
         self.set.shape()
     }

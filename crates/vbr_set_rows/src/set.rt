@@ -83,6 +83,8 @@ fn call(
     let (op, key, budget) = made;
     let before = caller.pass().steps();
     let told = match op {
+        // No row has a get, which is a map's: a set would answer it as a look-up.
+        Op::Get => caller.has(key, budget),
         Op::Has => caller.has(key, budget),
         Op::Insert => caller.insert(key, budget),
         Op::Remove => caller.remove(key, budget),

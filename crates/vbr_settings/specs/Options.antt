@@ -75,7 +75,9 @@ settings_among rows = record {
     buckets = number_among (codes "buckets") rows;
     spread = false;
     last_epoch = number_among (codes "last-epoch") rows;
+    values = false;
     keys = [];
+    payloads = [];
   };
   workers = number_among (codes "workers") rows;
   budget = number_among (codes "budget") rows;

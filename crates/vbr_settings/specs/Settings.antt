@@ -1,5 +1,5 @@
 -- How a script is played, as contracts see it.
-use Rattle.std.specs.Prelude.{ℕ, ◌<◌, ◌≤◌, Bool, ◌||◌, ◌==◌, nat_lt, Option, Some, None, if◌then◌else◌}
+use Rattle.std.specs.Prelude.{◌≡◌, ℕ, ◌<◌, ◌≤◌, Bool, false, ◌||◌, ◌==◌, nat_lt, Option, Some, None, if◌then◌else◌}
 use Rattle.vbr_words.specs.Dimensions.{Dimensions}
 use Rattle.vbr_settings.specs.declared.config.TheConstants.{MAX_WORKERS}
 use Rattle.vbr_settings.specs.declared.config.ConfigError.{ConfigError}
@@ -12,10 +12,11 @@ pub record Settings : Type 0 where
   pub budget : ℕ
   pub epoch : Bool
 
--- there is a worker, and there are no more than the greatest number
+-- there is a worker, and there are no more than the greatest number; and nodes have no values
 pub record AreSettings (settings : Settings) : Type 0 where
   pub some_worker : 0 < settings.workers
   pub workers : settings.workers ≤ MAX_WORKERS
+  pub valueless : settings.shape.values ≡ false
 
 -- why there can't be so many workers: their number is 0 or above the greatest
 abbrev pub config_error : ℕ → Option ConfigError

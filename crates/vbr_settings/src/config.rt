@@ -1,5 +1,5 @@
 //! How a script is played: on a set of which shape, by how many workers, and with which budget.
-ghost use Rattle.std.specs.Prelude.{◌≡◌, Some, None, MatchResult};
+ghost use Rattle.std.specs.Prelude.{◌≡◌, false, Some, None, MatchResult};
 ghost use Rattle.vbr_settings.specs.Settings.{AreSettings, config_error};
 
 use std::marker::Model;
@@ -53,14 +53,14 @@ impl Config {
     /// ```
     pub fn new(shape: Shape, workers: u32, budget: u32, epoch: bool) -> Result<Self, ConfigError>
         ensures { MatchResult result
-            (λ config. (config_error workers ≡ None) × (config ≡ record { shape = shape; workers = workers; budget = budget; epoch = epoch }))
+            (λ config. (config_error workers ≡ None) × (config ≡ record { shape = record shape { values = false }; workers = workers; budget = budget; epoch = epoch }))
             (λ error. config_error workers ≡ Some error) }
     {
         if workers == 0 || workers > MAX_WORKERS {
             return Err(ConfigError::Workers);
         }
         Ok(Config {
-            shape,
+            shape: shape.without_values(),
             workers,
             budget,
             epoch,

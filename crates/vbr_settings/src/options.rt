@@ -135,9 +135,9 @@ pub fn read_options(alloc: Global, arguments: &[&str]) -> Result<Config, Options
 /// option its own value, and each option may be given.
 pub fn knows_its_options()
     ensures name_alone { (name : List ℕ) → AreOptions (name ∷ [])
-        × (settings_of (name ∷ []) ≡ record { shape = record { slots = 1024; buckets = 16; spread = false; last_epoch = MAX_EPOCH; keys = [] }; workers = 1; budget = 100000; epoch = false }) }
+        × (settings_of (name ∷ []) ≡ record { shape = record { slots = 1024; buckets = 16; spread = false; last_epoch = MAX_EPOCH; values = false; keys = []; payloads = [] }; workers = 1; budget = 100000; epoch = false }) }
     ensures all_given { (name : List ℕ) → AreOptions (name ∷ codes "--workers" ∷ codes "4" ∷ codes "--slots" ∷ codes "512" ∷ codes "--buckets=8" ∷ codes "--last-epoch" ∷ codes "7" ∷ codes "--budget" ∷ codes "1000000" ∷ codes "--epoch" ∷ [])
-        × (settings_of (name ∷ codes "--workers" ∷ codes "4" ∷ codes "--slots" ∷ codes "512" ∷ codes "--buckets=8" ∷ codes "--last-epoch" ∷ codes "7" ∷ codes "--budget" ∷ codes "1000000" ∷ codes "--epoch" ∷ []) ≡ record { shape = record { slots = 512; buckets = 8; spread = false; last_epoch = 7; keys = [] }; workers = 4; budget = 1000000; epoch = true }) }
+        × (settings_of (name ∷ codes "--workers" ∷ codes "4" ∷ codes "--slots" ∷ codes "512" ∷ codes "--buckets=8" ∷ codes "--last-epoch" ∷ codes "7" ∷ codes "--budget" ∷ codes "1000000" ∷ codes "--epoch" ∷ []) ≡ record { shape = record { slots = 512; buckets = 8; spread = false; last_epoch = 7; values = false; keys = []; payloads = [] }; workers = 4; budget = 1000000; epoch = true }) }
 {}
 
 // The command, with its options.

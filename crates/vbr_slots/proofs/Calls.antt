@@ -113,11 +113,11 @@ either_none true made e = ap option_to_list e
 either_none false made e = refl
 
 -- a kind of step that makes no call adds none
-pub adds_none : (shape : Dimensions) (w : World) (who : ℕ) (step : Step) → ((know : Know) → call_of who know step ≡ None) → calls_added shape w who step ≡ []
-adds_none shape w who step none = either_none (succeeds step (found shape w step)) (call_of who (w.know who) step) (none (w.know who))
+pub adds_none : (shape : Dimensions) (w : World) (who : ℕ) (step : Step) → ((know : Know) → call_of shape who know step ≡ None) → calls_added shape w who step ≡ []
+adds_none shape w who step none = either_none (succeeds step (found shape w step)) (call_of shape who (w.know who) step) (none (w.know who))
 
 -- and is quiet
-pub did_quiet : {step : Step} {p q : Trace} {r : ℕ} → Did step p q r → ((know : Know) → call_of p.who know step ≡ None) → Quiet p q
+pub did_quiet : {step : Step} {p q : Trace} {r : ℕ} → Did step p q r → ((know : Know) → call_of p.shape p.who know step ≡ None) → Quiet p q
 did_quiet {step} {p} {q} d none = record {
   same = did_same d;
   seen = did_seen d;

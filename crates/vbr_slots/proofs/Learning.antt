@@ -9,7 +9,7 @@ use Rattle.vbr_core.specs.Knowledge.{Know}
 use Rattle.vbr_core.specs.Learning.{learn, read_epoch}
 use Rattle.vbr_core.specs.Machine.{Access, Load, Store, Exchange, FetchOr, FetchAnd, access_of}
 use Rattle.vbr_core.specs.declared.event.Step.{Step}
-use Rattle.vbr_core.specs.declared.event.Step.TheVariants.{ReadEpoch, Advance, LoadStamp, StoreStamp, Raise, TakeFlag, StoreBirth, StoreKey, StoreLink, LoadLink, LoadBirth, LoadKey, Publish, Mark, Unlink, ConfirmPresent, ConfirmAbsent}
+use Rattle.vbr_core.specs.declared.event.Step.TheVariants.{ReadEpoch, Advance, LoadStamp, StoreStamp, Raise, TakeFlag, StoreBirth, StoreKey, StoreLink, LoadLink, LoadBirth, LoadKey, Publish, Mark, Unlink, ConfirmPresent, ConfirmAbsent, StoreValue, LoadValue}
 use Rattle.vbr_slots.specs.Rule.{Shows}
 use Rattle.vbr_slots.specs.Views.{epoch_after}
 
@@ -41,10 +41,12 @@ blind_if know (Raise s) r n is = absurd is
 blind_if know (TakeFlag s) r n is = absurd is
 blind_if know (StoreBirth s birth) r n is = record { answers = refl; teaches = λ stamp know. refl }
 blind_if know (StoreKey s key) r n is = record { answers = refl; teaches = λ stamp know. refl }
+blind_if know (StoreValue s value) r n is = record { answers = refl; teaches = λ stamp know. refl }
 blind_if know (StoreLink s next) r n is = record { answers = refl; teaches = λ stamp know. refl }
 blind_if know (LoadLink at) r n is = absurd is
 blind_if know (LoadBirth s) r n is = absurd is
 blind_if know (LoadKey s) r n is = absurd is
+blind_if know (LoadValue s) r n is = absurd is
 blind_if know (Publish pred expected s) r n is = absurd is
 blind_if know (Mark s expected) r n is = absurd is
 blind_if know (Unlink pred expected s) r n is = absurd is
@@ -72,10 +74,12 @@ epoch_learned (Raise s) r stamp know = refl
 epoch_learned (TakeFlag s) r stamp know = either_way (has_flag r s) (λ (k : Know). k.epoch) _ know know.epoch refl refl
 epoch_learned (StoreBirth s birth) r stamp know = refl
 epoch_learned (StoreKey s key) r stamp know = refl
+epoch_learned (StoreValue s value) r stamp know = refl
 epoch_learned (StoreLink s next) r stamp know = refl
 epoch_learned (LoadLink at) r stamp know = refl
 epoch_learned (LoadBirth s) r stamp know = refl
 epoch_learned (LoadKey s) r stamp know = refl
+epoch_learned (LoadValue s) r stamp know = refl
 epoch_learned (Publish pred expected s) r stamp know = either_way (r == expected) (λ (k : Know). k.epoch) _ know know.epoch refl refl
 epoch_learned (Mark s expected) r stamp know = either_way (r == expected) (λ (k : Know). k.epoch) _ know know.epoch refl refl
 epoch_learned (Unlink pred expected s) r stamp know = either_way (r == expected) (λ (k : Know). k.epoch) _ know know.epoch refl refl

@@ -1,5 +1,5 @@
 -- The words at the opening, laid one place at a time: those of the bare world, and then a key after the other.
-use Rattle.std.proofs.Common.{◌≡◌, ◌≢◌, ℕ, zero, suc, ◌+◌, ◌-◌, ◌<◌, nat_lt, ◌≤◌, Bool, true, false, List, Option, Some, None, ◌++◌, length, take, set, get_or, replicate, if◌then◌else◌, refl, sym, subst, ap, ◌∙◌, length-set, get_or-set_other, get_or-set_same, arith}
+use Rattle.std.proofs.Common.{◌≡◌, ◌≢◌, ◌⊎◌, inl, inr, ℕ, zero, suc, ◌+◌, ◌-◌, ◌<◌, nat_lt, ◌≤◌, Bool, true, false, List, Option, Some, None, ◌++◌, length, take, set, get_or, replicate, if◌then◌else◌, refl, sym, subst, ap, ◌∙◌, length-set, get_or-set_other, get_or-set_same, arith}
 use Rattle.std.specs.Prelude.{◌&&◌, bit_and}
 use Rattle.std.proofs.Math.Seq.{take-append_seam}
 use Rattle.std.proofs.lemmas.Bool.Decides.{nat_tests}
@@ -14,7 +14,7 @@ use Rattle.vbr_words.specs.declared.link.TheConstants.{MARK, MAX_SLOTS, MAX_VERS
 use Rattle.vbr_words.specs.declared.link.Link.{Link}
 use Rattle.vbr_words.specs.declared.place.At.TheVariants as at
 use Rattle.vbr_words.specs.declared.place.Place.{Place}
-use Rattle.vbr_words.specs.declared.place.Place.TheVariants.{Epoch, ShapeWord, Head, LinkOf, Birth, Stamp, Key, Flags}
+use Rattle.vbr_words.specs.declared.place.Place.TheVariants.{Epoch, ShapeWord, Head, LinkOf, Birth, Stamp, Key, Value, Flags}
 use Rattle.vbr_words.proofs.Lemmas.{flag_word_same, index_of-lt, same_place}
 use Rattle.vbr_core.specs.Put.{put}
 use Rattle.vbr_words.specs.Buckets.{bucket_of}
@@ -77,6 +77,7 @@ laid_first shape words is =
     each ws first second other (Birth s) here = other _ (omega arith)
     each ws first second other (Stamp s) here = other _ (omega arith)
     each ws first second other (Key s) here = other _ (omega arith)
+    each ws first second other (Value s) here = other _ (omega arith)
     each ws first second other (Flags number) here = other _ (omega arith) ∙ sym (not_below number (flag_word (λ s. nat_lt s shape.slots) number) 0)
 
 -- a list that was written back in front of nothing else
@@ -108,6 +109,7 @@ laid_link shape i words low are = laid_at shape (laid shape i 0) (laid shape (i 
     others (Birth s) ne = refl
     others (Stamp s) ne = refl
     others (Key s) ne = refl
+    others (Value s) ne = refl
     others (Flags number) ne = refl
 
 -- one more flag word
@@ -123,6 +125,7 @@ laid_flags shape links i value words low is are =
     others (Birth s) ne = refl
     others (Stamp s) ne = refl
     others (Key s) ne = refl
+    others (Value s) ne = refl
     others (Flags number) ne = sym (below-other number i (flag_word (λ s. nat_lt s shape.slots) number) 0 (λ e. ne (ap Flags e)))
 
 blank_link : word_of opening_link ≡ MARK
@@ -138,8 +141,9 @@ and_true true = refl
 and_true false = refl
 
 -- all links and all flag words: no key is linked yet
-pub laid_all : (shape : Dimensions) (words : List ℕ) → AreLaid shape (laid shape shape.slots (flag_words shape.slots)) words → (keys : List ℕ) → AreWordsOf (record shape { keys = keys }) (opening_from (record shape { keys = keys }) (length keys)) words
-laid_all shape words are keys = subst (λ (w : World). AreWordsOf (record shape { keys = keys }) w words) (sym (opening_none (record shape { keys = keys }))) (record { count = are.count; each = each })
+pub laid_all : (shape : Dimensions) (words : List ℕ) → AreLaid shape (laid shape shape.slots (flag_words shape.slots)) words → (keys payloads : List ℕ)
+    → AreWordsOf (record shape { keys = keys; payloads = payloads }) (opening_from (record shape { keys = keys; payloads = payloads }) (length keys)) words
+laid_all shape words are keys payloads = subst (λ (w : World). AreWordsOf (record shape { keys = keys; payloads = payloads }) w words) (sym (opening_none (record shape { keys = keys; payloads = payloads }))) (record { count = are.count; each = each })
   where
     each : (place : Place) → IsIn shape place → get_or words (index_of shape place) 0 ≡ machine.word_at shape bare place
     each Epoch here = are.each Epoch here
@@ -149,6 +153,7 @@ laid_all shape words are keys = subst (λ (w : World). AreWordsOf (record shape 
     each (Birth s) here = are.each (Birth s) here
     each (Stamp s) here = are.each (Stamp s) here
     each (Key s) here = are.each (Key s) here
+    each (Value s) here = are.each (Value s) here
     each (Flags number) here =
         are.each (Flags number) here
         ∙ below number (flag_words shape.slots) (flag_word (λ s. nat_lt s shape.slots) number) 0 here
@@ -175,6 +180,7 @@ module _ (shape : Dimensions) (w : World) (words : List ℕ) (are : AreWordsOf s
       others (Birth t) ne = refl
       others (Stamp t) ne = refl
       others (Key t) ne = refl
+      others (Value t) ne = refl
       others (Flags number) ne = refl
 
   head_laid : (b i value : ℕ) (link : Link) → i ≡ index_of shape (Head b) → b < shape.buckets → value ≡ word_of link → AreWordsOf shape (with_link_at w (at.Head b) link) (set words i value)
@@ -188,6 +194,7 @@ module _ (shape : Dimensions) (w : World) (words : List ℕ) (are : AreWordsOf s
       others (Birth t) ne = refl
       others (Stamp t) ne = refl
       others (Key t) ne = refl
+      others (Value t) ne = refl
       others (Flags number) ne = refl
 
   birth_laid : (s i : ℕ) → i ≡ index_of shape (Birth s) → s < shape.slots → AreWordsOf shape (record w { birth = put w.birth s 1; births = counted w.births }) (set words i 1)
@@ -201,6 +208,7 @@ module _ (shape : Dimensions) (w : World) (words : List ℕ) (are : AreWordsOf s
       others (Birth t) ne = put_other w.birth s 1 t (λ e. ne (ap Birth e))
       others (Stamp t) ne = refl
       others (Key t) ne = refl
+      others (Value t) ne = refl
       others (Flags number) ne = refl
 
   key_laid : (s i key : ℕ) → i ≡ index_of shape (Key s) → s < shape.slots → AreWordsOf shape (record w { key = put w.key s key }) (set words i key)
@@ -214,6 +222,7 @@ module _ (shape : Dimensions) (w : World) (words : List ℕ) (are : AreWordsOf s
       others (Birth t) ne = refl
       others (Stamp t) ne = refl
       others (Key t) ne = put_other w.key s key t (λ e. ne (ap Key e))
+      others (Value t) ne = refl
       others (Flags number) ne = refl
 
   -- a slot comes into a list, and its flag is cleared
@@ -236,6 +245,7 @@ module _ (shape : Dimensions) (w : World) (words : List ℕ) (are : AreWordsOf s
       others (Birth t) ne = refl
       others (Stamp t) ne = refl
       others (Key t) ne = refl
+      others (Value t) ne = refl
       others (Flags number) ne =
           same_word shape (record w { place = put w.place s (Listed b) }) w number
           (λ t is. ap machine.is_shared (put_other w.place s (Listed b) t (λ e. ne (ap Flags (sym is ∙ ap word_of_flag e)))))
@@ -248,17 +258,59 @@ pub record KeyIndices (shape : Dimensions) (number bucket link head birth key fl
   pub key_at : key ≡ index_of shape (Key number)
   pub flags_at : flags ≡ index_of shape (Flags (word_of_flag number))
 
--- a key is linked ahead of the others of its bucket
-pub key_ahead : (shape : Dimensions) (w : World) (words : List ℕ) (number key link first bits i j k m n : ℕ) → AreWordsOf shape w words → KeyIndices shape number (bucket_of shape key) i j k m n → number < shape.slots → bucket_of shape key < shape.buckets
+-- the words once the value of a slot is written: where nodes have none, no word changes
+abbrev pub IsValueWritten : Dimensions → ℕ → ℕ → List ℕ → List ℕ → Type 0
+IsValueWritten shape s value words written =
+    ((shape.values ≡ false) × (written ≡ words))
+    ⊎ ((shape.values ≡ true) × (i : ℕ) × (i ≡ index_of shape (Value s)) × (written ≡ set words i value))
+
+module _ (shape : Dimensions) (w : World) (words : List ℕ) (s value : ℕ) (are : AreWordsOf shape w words) where
+  -- without values no word tells one
+  value_bare : shape.values ≡ false → AreWordsOf shape (record w { value = put w.value s value }) words
+  value_bare bare = record { count = are.count; each = each }
+    where
+      each : (place : Place) → IsIn shape place → get_or words (index_of shape place) 0 ≡ machine.word_at shape (record w { value = put w.value s value }) place
+      each Epoch here = are.each Epoch here
+      each ShapeWord here = are.each ShapeWord here
+      each (Head b) here = are.each (Head b) here
+      each (LinkOf t) here = are.each (LinkOf t) here
+      each (Birth t) here = are.each (Birth t) here
+      each (Stamp t) here = are.each (Stamp t) here
+      each (Key t) here = are.each (Key t) here
+      each (Value t) here = absurd (let has = here.1 in cc)
+      each (Flags number) here = are.each (Flags number) here
+
+  value_laid : (i : ℕ) → i ≡ index_of shape (Value s) → s < shape.slots → shape.values ≡ true → AreWordsOf shape (record w { value = put w.value s value }) (set words i value)
+  value_laid i place low has = written_at shape w (record w { value = put w.value s value }) words (Value s) i value place (low, has) (put_here w.value s value) others are
+    where
+      others : (q : Place) → q ≢ Value s → machine.word_at shape (record w { value = put w.value s value }) q ≡ machine.word_at shape w q
+      others Epoch ne = refl
+      others ShapeWord ne = refl
+      others (Head b) ne = refl
+      others (LinkOf t) ne = refl
+      others (Birth t) ne = refl
+      others (Stamp t) ne = refl
+      others (Key t) ne = refl
+      others (Value t) ne = put_other w.value s value t (λ e. ne (ap Value e))
+      others (Flags number) ne = refl
+
+  value_written : (written : List ℕ) → s < shape.slots → IsValueWritten shape s value words written → AreWordsOf shape (record w { value = put w.value s value }) written
+  value_written written low (inl none) = subst (AreWordsOf shape (record w { value = put w.value s value })) (sym none.1) (value_bare none.0)
+  value_written written low (inr some) = subst (AreWordsOf shape (record w { value = put w.value s value })) (sym some.3) (value_laid some.1 some.2 low some.0)
+
+-- a key is linked with its value ahead of the others of its bucket
+pub key_ahead : (shape : Dimensions) (w : World) (words valued : List ℕ) (number key value link first bits i j k m n : ℕ) → AreWordsOf shape w words → KeyIndices shape number (bucket_of shape key) i j k m n → number < shape.slots → bucket_of shape key < shape.buckets
     → link ≡ word_of (link_to (w.head (bucket_of shape key)).slot 1 (w.head (bucket_of shape key)).version) → first ≡ word_of (link_to (Some number) 0 1) → bits ≡ all_but number
-    → AreWordsOf shape (with_key_ahead shape number key w) (set (set (set (set (set words i link) j first) k 1) m key) n (bit_and (get_or (set (set (set (set words i link) j first) k 1) m key) n 0) bits))
-key_ahead shape w words number key link first bits i j k m n are at low in_shape link_is first_is clear =
+    → IsValueWritten shape number value (set (set (set (set words i link) j first) k 1) m key) valued
+    → AreWordsOf shape (with_key_ahead shape number key value w) (set valued n (bit_and (get_or valued n 0) bits))
+key_ahead shape w words valued number key value link first bits i j k m n are at low in_shape link_is first_is clear value_is =
     let b = bucket_of shape key in
     let one = link_laid shape w words are number i link _ at.link_at low link_is in
     let two = head_laid shape _ _ one b j first _ at.head_at in_shape first_is in
     let three = birth_laid shape _ _ two number k at.birth_at low in
     let four = key_laid shape _ _ three number m key at.key_at low in
-    flag_laid shape _ _ four number b n (word_of_flag number) bits at.flags_at refl clear low
+    let five = value_written shape _ _ number value four valued low value_is in
+    flag_laid shape _ _ five number b n (word_of_flag number) bits at.flags_at refl clear low
 
 -- ---- heads
 

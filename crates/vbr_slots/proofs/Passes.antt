@@ -88,7 +88,7 @@ pool_raised p q s r pool hand d free out o =
     not_both : (holding : Option Holding) → IsFree holding → IsInHand holding → ⊥
     not_both (Some (Free stamp)) a b = b
     not_both (Some (Unlinked reread)) a b = a
-    not_both (Some (InHand stamp birth key link)) a b = a
+    not_both (Some (InHand stamp birth key value link)) a b = a
     not_both None a b = a
 
 pub pool_taken : (p q : Trace) (s r : ℕ) (pool : List ℕ) (hand : Option ℕ) → IsShape p.shape → Did (TakeFlag s) p q r → OwnPool p.shape (knows p) pool hand → OwnPool q.shape (knows q) pool hand
@@ -113,7 +113,7 @@ pool_unlinked p q pred expected s r pool hand is ok d o = pool_after p q (Unlink
 -- a slot that was born in, and stands in no pool, is in hand
 pub pool_born : (p q : Trace) (s birth r : ℕ) (pool : List ℕ) (hand : Option ℕ) → Did (StoreBirth s birth) p q r → s < p.shape.slots → ¬ (Contains pool s) → OwnPool p.shape (knows p) pool hand → OwnPool q.shape (knows q) pool (Some s)
 pool_born p q s birth r pool hand d low out o =
-    let holding : Option Holding = Some (InHand (stamp_in ((knows p).own s)) birth None None) in
+    let holding : Option Holding = Some (InHand (stamp_in ((knows p).own s)) birth None None None) in
     let know : Know = with_own (knows p) s holding in
     pool_after p q (StoreBirth s birth) r d pool (Some s)
     (takes_in_hand p.shape know s pool hand low (subst IsInHand (sym (put_here (knows p).own s holding)) tt) out (changes p.shape (knows p) know s holding pool hand refl (λ c. tt) (λ h. tt) o))

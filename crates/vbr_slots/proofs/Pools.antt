@@ -106,13 +106,13 @@ pub free_may : (holding : Option Holding) → IsFree holding → MayBear holding
 free_may None is = is
 free_may (Some (Free stamp)) is = tt
 free_may (Some (Unlinked reread)) is = is
-free_may (Some (InHand stamp birth key link)) is = tt
+free_may (Some (InHand stamp birth key value link)) is = tt
 
 pub in_hand_may : (holding : Option Holding) → IsInHand holding → MayBear holding
 in_hand_may None is = is
 in_hand_may (Some (Free stamp)) is = tt
 in_hand_may (Some (Unlinked reread)) is = is
-in_hand_may (Some (InHand stamp birth key link)) is = tt
+in_hand_may (Some (InHand stamp birth key value link)) is = tt
 
 -- the hand that is left once it was compared with a slot
 pub hand_kept : (slot : ℕ) (hand : Option ℕ) → cond (option_eq nat_eq hand (Some slot)) None hand ≡ hand_without slot hand

@@ -3,11 +3,12 @@ use Rattle.std.specs.Prelude.{◌≡◌, ◌<◌, ◌≤◌}
 use Rattle.vbr_words.specs.Dimensions.{Dimensions, IsShape}
 use Rattle.vbr_words.specs.Places.{words_in}
 use Rattle.vbr_slots.specs.declared.slots.Slots.TheInside.{Inside}
+use Rattle.vbr_slots.specs.Rule.{opened_of, with_opened}
 use Rattle.vbr_slots.specs.Views.{TableView}
 
--- its shape, with the keys that it opened with, which its rule goes by
+-- its shape, with the keys and values that it opened with, which its rule goes by
 abbrev pub shape_in : Inside → Dimensions
-shape_in t = record t.opening.shape { keys = t.table.shared.key.shape.keys }
+shape_in t = with_opened t.opening.shape (opened_of t.table.shared.key.shape)
 
 -- what contracts see
 abbrev pub table_of : Inside → TableView

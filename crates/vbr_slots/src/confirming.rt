@@ -1,7 +1,7 @@
 //! The steps that answer a call by one more load of a link word.
 ghost use Rattle.std.specs.Prelude.{◌≡◌, ◌≢◌, ◌<◌, false, MatchResult};
 ghost use Rattle.vbr_words.specs.Words.{link_of};
-ghost use Rattle.vbr_core.specs.Acceptance.{Accepts, IsAtIn, HasChecked, IsInRange};
+ghost use Rattle.vbr_core.specs.Acceptance.{Accepts, IsAtIn, HasChecked, IsInRange, IsOpIn};
 ghost use Rattle.vbr_core.specs.declared.event.Step.TheVariants.{ConfirmPresent, ConfirmAbsent};
 ghost use Rattle.vbr_core.specs.declared.history.Op.TheVariants.{Remove};
 ghost use Rattle.vbr_slots.specs.LookUps.{look_up};
@@ -28,6 +28,7 @@ impl Slots {
         requires own { IsOf pass.old.trace self.now }
         requires slot { slot < self.now.shape.slots }
         requires op { op ≢ Remove }
+        requires asked { IsOpIn self.now.shape op }
         requires held { HasChecked self.now.shape (knows pass.old.trace) (ConfirmPresent op slot expected) }
         requires unmarked { (link_of expected).mark ≡ false }
         ensures step { MatchResult result
@@ -53,6 +54,7 @@ impl Slots {
     ) -> Result<(), u64>
         requires own { IsOf pass.old.trace self.now }
         requires at { IsAtIn self.now.shape at }
+        requires asked { IsOpIn self.now.shape op }
         requires held { HasChecked self.now.shape (knows pass.old.trace) (ConfirmAbsent op key at expected) }
         requires in_range { IsInRange self.now.shape (knows pass.old.trace) (ConfirmAbsent op key at expected) }
         ensures step { MatchResult result

@@ -3,7 +3,7 @@
 //
 // A step is told to the table as an event. A function that ends in `_as` takes the event as its type
 // argument, and the function without that ending picks it.
-ghost use Rattle.std.specs.Prelude.{◌≡◌, ℕ, ◌<◌, ◌^◌, IsTrue};
+ghost use Rattle.std.specs.Prelude.{◌≡◌, ℕ, ◌+◌, ◌<◌, ◌≤◌, ◌^◌, IsTrue};
 ghost use Rattle.vbr_core.specs.Acceptance.{Accepts};
 ghost use Rattle.vbr_core.specs.Machine.{Load, Store, Exchange, FetchOr, FetchAnd, access_of, place_of_step};
 ghost use Rattle.vbr_core.specs.Runs.{Begins, BeginsFor};
@@ -22,7 +22,7 @@ use crate::seen::Seen;
 use crate::slots::Slots;
 use std::marker::Brand;
 use vbr_core::Step;
-use vbr_words::{At, Place, place_index};
+use vbr_words::{At, Place, Shape, place_index};
 
 // The place of a link word.
 #[inline]
@@ -35,17 +35,41 @@ pub(crate) fn place_of_link(at: At) -> Place
     }
 }
 
-// The index of the link word at a place, where the words of slots begin at this one. No branch is needed
-// to find it.
+// The index of the link word at a place, where the words of slots begin at this one, and each slot has
+// so many. No branch is needed to find it.
 #[inline]
-fn link_from(slots: usize, at: At) -> usize
-    requires { slots < 2 ^ 33 }
-    ensures { result ≡ link_from slots at }
+fn link_from(slots: usize, words: usize, at: At) -> usize
+    requires slots { slots < 2 ^ 33 }
+    requires words { words ≤ 5 }
+    ensures { result ≡ link_from slots words at }
 {
     match at {
         At::Head(bucket) => 2 + bucket as usize,
-        At::Slot(slot) => slots + 4 * slot as usize,
+        At::Slot(slot) => slots + words * slot as usize,
     }
+}
+
+// The index of the link word at a place, where each slot has five words. It stands apart, so that the
+// compiler makes a branch where it is called, which is foreseen: else nodes without values would pay for it.
+#[cold]
+#[inline(never)]
+fn link_from_valued(slots: usize, at: At) -> usize
+    requires { slots < 2 ^ 33 }
+    ensures { result ≡ link_from slots 5 at }
+{
+    link_from(slots, 5, at)
+}
+
+// The index of the link word at a place.
+#[inline]
+fn link_index(shape: &Shape, at: At) -> usize
+    ensures { result ≡ link_from (2 + shape.now.buckets) (places.node_words shape.now) at }
+{
+    let slots = 2 + shape.buckets() as usize;
+    if shape.has_values() {
+        return link_from_valued(slots, at);
+    }
+    link_from(slots, 4, at)
 }
 
 impl Slots {
@@ -59,7 +83,7 @@ impl Slots {
         requires access { access_of (knows runner.old) step ≡ Load }
         ensures { Did step runner.old runner.new result }
     {
-        let word = link_from(2 + self.opening.shape.buckets() as usize, at);
+        let word = link_index(&self.opening.shape, at);
         let found = self.table.shared.load::<Does<E>>(&mut runner.seat, word);
         keep_epoch(&mut runner.epoch, step, found);
         found

@@ -16,6 +16,7 @@ use vbr_words::{Place, Shape, place_index, word_count};
 fn seventy_flags_have_two_words(rt: HostRuntime) -> Result<(), Fail> {
     let shape = Shape::new(70, 1, 10)?;
     assert_eq!(rt; word_count(&shape), 285);
+    assert_eq!(rt; word_count(&shape.with_values()), 355);
     assert_eq!(rt; place_index(&shape, Place::Flags(1)), 284);
     let world = World::open(rt.alloc(), shape, 2)?;
     assert_eq!(rt; world.word(Place::Flags(0)), 18_446_744_073_709_551_615);

@@ -1,4 +1,4 @@
-//! Tests of words, the plain set and the machine, and of the running table, pools, checked access and
+//! Tests of words, the plain set and map and the machine, and of the running table, pools, checked access and
 //! the list, from outside.
 #![tactic(auto)]
 
@@ -11,6 +11,8 @@ mod list;
 #[cfg(test)]
 mod listed_calls;
 #[cfg(test)]
+mod plain_map;
+#[cfg(test)]
 mod plain_set;
 #[cfg(test)]
 mod pools;
@@ -20,6 +22,8 @@ mod retiring;
 mod running_table;
 #[cfg(test)]
 mod standing_still;
+#[cfg(test)]
+mod values;
 #[cfg(test)]
 mod words;
 #[cfg(test)]

@@ -1,5 +1,5 @@
 //! The pools: rows call by call.
-ghost use Rattle.std.specs.Prelude.{◌≡◌, None};
+ghost use Rattle.std.specs.Prelude.{◌≡◌, false, None};
 ghost use Rattle.vbr_slots.specs.Views.{IsOf};
 
 use crate::retiring::{insert_one, remove_one};
@@ -72,6 +72,7 @@ fn use_a_slot(rt: &impl Abort, slots: &Slots, pass: &mut Pass)
     requires own { IsOf pass.old.trace slots.now }
     requires empty_hand { pass.old.hand ≡ None }
     requires bucket { slots.now.shape.buckets ≡ 1 }
+    requires bare { slots.now.shape.values ≡ false }
     ensures own { IsOf pass.new.trace slots.now }
     ensures empty_hand { pass.new.hand ≡ None }
 {

@@ -1,5 +1,5 @@
 //! The running table: rows call by call, refusals that hand all back, and two threads.
-ghost use Rattle.std.specs.Prelude.{◌≡◌, ◌≢◌, ◌<◌, ◌≤◌, [], ◌∷◌, None, IfOk, IfErr, IfSome};
+ghost use Rattle.std.specs.Prelude.{◌≡◌, ◌≢◌, ◌<◌, ◌≤◌, [], ◌∷◌, true, false, None, IfOk, IfErr, IfSome};
 ghost use Rattle.vbr_core.specs.declared.event.Step.TheVariants.{TakeFlag};
 ghost use Rattle.vbr_slots.specs.Closing.{AllOf, Ends, HandsBack};
 ghost use Rattle.vbr_slots.specs.Views.{IsOf, event_of, new_pass, new_passes};
@@ -43,6 +43,7 @@ pub fn two_passes(
     last_epoch: u64,
 ) -> (Slots, Pass, Pass)
     ensures shape { (result.0.shape.slots ≡ slots) × (result.0.shape.buckets ≡ 1) × (result.0.shape.last_epoch ≡ last_epoch) }
+    ensures bare { result.0.shape.values ≡ false }
     ensures passes { result.0.passes ≡ 2 }
     ensures first { result.1 ≡ new_pass result.0 0 }
     ensures second { result.2 ≡ new_pass result.0 1 }
@@ -202,7 +203,8 @@ fn opens_and_closes(rt: HostRuntime) -> Result<(), Fail> {
 
 // Opens a table with three keys. What found no memory left nothing, so it is tried again.
 fn open_with_three(alloc: Global, shape: Shape) -> Result<(Slots, Vec<Pass>), OpenError>
-    requires { 3 ≤ shape.slots }
+    requires bare { shape.values ≡ false }
+    requires few { 3 ≤ shape.slots }
     ensures { IfOk result (λ r. r.1.items ≡ new_passes r.0 0 2) }
 {
     match Slots::open_with(alloc, shape, 2, &[2, 5, 9]) {
@@ -233,6 +235,58 @@ fn opens_with_keys(rt: HostRuntime) -> Result<(), Fail> {
         0,
         9,
         16_777_216,
+        0,
+        0,
+        0,
+        8,
+    ];
+    match close(slots, rt.alloc(), passes) {
+        Ok(words) => assert_eq!(rt; words.as_slice(), wanted.as_slice()),
+        Err(_) => panic!(rt; "not closed"),
+    }
+    Ok(())
+}
+
+// Opens a table with three entries. What found no memory left nothing, so it is tried again.
+fn open_with_three_entries(alloc: Global, shape: Shape) -> Result<(Slots, Vec<Pass>), OpenError>
+    requires values { shape.values ≡ true }
+    requires few { 3 ≤ shape.slots }
+    ensures { IfOk result (λ r. r.1.items ≡ new_passes r.0 0 2) }
+{
+    let entries = [(2, 102), (5, 105), (9, 109)];
+    match Slots::open_with_entries(alloc, shape, 2, &entries) {
+        Err(OpenError::Memory) => Slots::open_with_entries(alloc, shape, 2, &entries),
+        opened => opened,
+    }
+}
+
+/// Where nodes have values, the value stands behind the key; the rest is as with keys alone.
+#[test]
+fn opens_with_entries(rt: HostRuntime) -> Result<(), Fail> {
+    let shape = Shape::new(4, 2, 10)?.with_values();
+    let (slots, passes) = open_with_three_entries(rt.alloc(), shape)?;
+    let wanted = [
+        1,
+        167_772_164,
+        33_554_433,
+        33_554_434,
+        33_554_432,
+        1,
+        0,
+        2,
+        102,
+        33_554_435,
+        1,
+        0,
+        5,
+        105,
+        33_554_432,
+        1,
+        0,
+        9,
+        109,
+        16_777_216,
+        0,
         0,
         0,
         0,

@@ -71,6 +71,24 @@ fn lays_out_words(rt: HostRuntime) -> Result<(), Fail> {
 }
 
 #[test]
+fn lays_out_values(rt: HostRuntime) -> Result<(), Fail> {
+    let shape = Shape::new(3, 2, 10)?.with_values();
+    assert!(rt; shape.has_values() && !shape.without_values().has_values());
+    assert!(rt; shape.slots() == 3 && shape.buckets() == 2 && shape.last_epoch() == 10);
+    let rows = [
+        (place_index(&shape, Place::LinkOf(1)), 9),
+        (place_index(&shape, Place::Key(0)), 7),
+        (place_index(&shape, Place::Value(0)), 8),
+        (place_index(&shape, Place::Flags(0)), 19),
+        (word_count(&shape), 20),
+    ];
+    for (index, wanted) in rows {
+        assert_eq!(rt; index, wanted);
+    }
+    Ok(())
+}
+
+#[test]
 fn refuses_shapes(rt: HostRuntime) {
     let rows = [
         ((0, 0, 0), Err(ShapeError::Slots)),

@@ -12,9 +12,10 @@ use vbr_words::flags::flag_words;
 use vbr_words::{At, Place, Shape};
 
 // The word at a place of the world, which has this shape; none where the shape has no such place.
-fn word_at(world: &World, shape: Shape, place: Place) -> Option<u64>
+pub(crate) fn word_at(world: &World, shape: Shape, place: Place) -> Option<u64>
     requires slots { world.now.shape.slots ≡ shape.slots }
     requires buckets { world.now.shape.buckets ≡ shape.buckets }
+    requires values { world.now.shape.values ≡ shape.values }
 {
     let is_in = match place {
         Place::Epoch | Place::ShapeWord => true,
@@ -22,6 +23,7 @@ fn word_at(world: &World, shape: Shape, place: Place) -> Option<u64>
         Place::LinkOf(slot) | Place::Birth(slot) | Place::Stamp(slot) | Place::Key(slot) => {
             slot < shape.slots()
         }
+        Place::Value(slot) => shape.has_values() && slot < shape.slots(),
         Place::Flags(number) => number < flag_words(&shape),
     };
     if is_in { Some(world.word(place)) } else { None }
@@ -31,9 +33,16 @@ fn word_at(world: &World, shape: Shape, place: Place) -> Option<u64>
 type Look = (usize, Place, u64);
 
 // Compares the words that are looked at behind so many rows, and tells how many these are.
-fn look(rt: &impl Abort, world: &World, shape: Shape, rows: usize, looks: &[Look]) -> usize
+pub(crate) fn look(
+    rt: &impl Abort,
+    world: &World,
+    shape: Shape,
+    rows: usize,
+    looks: &[Look],
+) -> usize
     requires slots { world.now.shape.slots ≡ shape.slots }
     requires buckets { world.now.shape.buckets ≡ shape.buckets }
+    requires values { world.now.shape.values ≡ shape.values }
 {
     let mut looked = 0usize;
     for (at, place, word) in looks {
@@ -48,7 +57,7 @@ fn look(rt: &impl Abort, world: &World, shape: Shape, rows: usize, looks: &[Look
 
 // Makes a step, and compares its effect. A step that found no memory left the world as it was, so it
 // is made again.
-fn make(rt: &impl Abort, world: &mut World, event: Event, effect: Effect)
+pub(crate) fn make(rt: &impl Abort, world: &mut World, event: Event, effect: Effect)
     ensures { world.new.shape ≡ world.old.shape }
 {
     let mut answer = world.step(event);
@@ -60,7 +69,7 @@ fn make(rt: &impl Abort, world: &mut World, event: Event, effect: Effect)
 
 // Opens a world with two passes and makes the steps of a list, with looks between them, each of which
 // has to come.
-fn follow(
+pub(crate) fn follow(
     rt: &impl Abort,
     alloc: Global,
     shape: Shape,
@@ -86,7 +95,7 @@ fn follow(
 }
 
 // Compares the calls that were made, the places of the slots, and the number of incarnations.
-fn expect(
+pub(crate) fn expect(
     rt: &impl Abort,
     world: &World,
     shape: Shape,
@@ -104,12 +113,13 @@ fn expect(
     }
 }
 
-fn call(who: u32, op: Op, key: u64) -> Call {
+pub(crate) fn call(who: u32, op: Op, key: u64) -> Call {
     Call {
         who,
         op,
         key,
         reply: true,
+        value: None,
     }
 }
 
@@ -218,6 +228,7 @@ fn a_look_up_passes_a_marked_node(rt: HostRuntime) -> Result<(), Fail> {
         op: Op::Has,
         key: 7,
         reply: false,
+        value: None,
     };
     let calls = [call(0, Op::Insert, 7), call(0, Op::Remove, 7), no];
     look_up_behind(&rt, rt.alloc(), 16, Ok(Effect::Answered(false)), &calls)
@@ -231,7 +242,11 @@ fn a_look_up_checks_the_marked_link(rt: HostRuntime) -> Result<(), Fail> {
 }
 
 // The events of the first rows of a list, so many.
-fn events_of(alloc: Global, rows: &[Row], count: usize) -> Result<Vec<Event>, AllocError> {
+pub(crate) fn events_of(
+    alloc: Global,
+    rows: &[Row],
+    count: usize,
+) -> Result<Vec<Event>, AllocError> {
     rows.iter()
         .take(count)
         .map(|(pass, step, _)| Event {
@@ -242,7 +257,7 @@ fn events_of(alloc: Global, rows: &[Row], count: usize) -> Result<Vec<Event>, Al
 }
 
 // Where the replay of events stops, and why.
-fn stop_of(
+pub(crate) fn stop_of(
     alloc: Global,
     shape: Shape,
     passes: u32,

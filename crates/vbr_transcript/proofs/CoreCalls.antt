@@ -9,7 +9,7 @@ use Rattle.vbr_core.specs.Runs.{IsRun, AreAccepted, world_from, world_after, Non
 use Rattle.vbr_core.specs.Calls.{own_calls, calls_added}
 use Rattle.vbr_core.specs.declared.event.Event.{Event}
 use Rattle.vbr_core.specs.declared.event.Step.{Step}
-use Rattle.vbr_core.specs.declared.event.Step.TheVariants.{ReadEpoch, Advance, LoadStamp, StoreStamp, Raise, TakeFlag, StoreBirth, StoreKey, StoreLink, LoadLink, LoadBirth, LoadKey, Publish, Mark, Unlink, ConfirmPresent, ConfirmAbsent}
+use Rattle.vbr_core.specs.declared.event.Step.TheVariants.{ReadEpoch, Advance, LoadStamp, StoreStamp, Raise, TakeFlag, StoreBirth, StoreKey, StoreValue, StoreLink, LoadLink, LoadBirth, LoadKey, LoadValue, Publish, Mark, Unlink, ConfirmPresent, ConfirmAbsent}
 use Rattle.vbr_core.specs.declared.history.Call.{Call}
 use Rattle.vbr_core.proofs.Lemmas.{calls_after, others_leave_calls, world_after-append}
 
@@ -59,10 +59,12 @@ epoch_after shape w p (Raise s) = omega arith
 epoch_after shape w p (TakeFlag s) = kept (has_flag (found shape w (TakeFlag s)) s) _ w refl
 epoch_after shape w p (StoreBirth s birth) = omega arith
 epoch_after shape w p (StoreKey s key) = omega arith
+epoch_after shape w p (StoreValue s value) = omega arith
 epoch_after shape w p (StoreLink s next) = omega arith
 epoch_after shape w p (LoadLink at) = omega arith
 epoch_after shape w p (LoadBirth s) = omega arith
 epoch_after shape w p (LoadKey s) = omega arith
+epoch_after shape w p (LoadValue s) = omega arith
 epoch_after shape w p (Publish (Head b) expected s) = kept (word_of (w.head b) == expected) _ w refl
 epoch_after shape w p (Publish (Slot t) expected s) = kept (word_of (w.link t) == expected) _ w refl
 epoch_after shape w p (Mark s expected) = kept (word_of (w.link s) == expected) _ w refl

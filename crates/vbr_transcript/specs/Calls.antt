@@ -1,5 +1,6 @@
 -- What the operations of a script were answered, and the calls that they are.
 use Rattle.std.specs.Prelude.{ℕ, Bool, true, false, ◌==◌, nat_le, nat_lt, List, [], ◌∷◌, filter, flat_map}
+use Rattle.vbr_core.specs.History.{set_call}
 use Rattle.vbr_core.specs.declared.history.Call.{Call}
 use Rattle.vbr_script.specs.declared.script.Line.{Line}
 use Rattle.vbr_transcript.specs.declared.reply.Reply.{Reply}
@@ -11,7 +12,7 @@ Outcome = Line × Reply
 
 -- an operation as a call that was answered so
 abbrev pub call_of_line : Line → Bool → Call
-call_of_line line answer = record { who = line.worker; op = line.op; key = line.key; reply = answer }
+call_of_line line answer = (set_call line.worker line.op line.key answer)
 
 -- the call that an operation is where its reply answers it, and none where it was refused
 abbrev pub answer_of : Line → Reply → List Call

@@ -10,7 +10,7 @@ use Rattle.vbr_core.specs.Safety.{IsSafe}
 use Rattle.vbr_core.specs.declared.event.Event.{Event}
 use Rattle.vbr_core.specs.declared.history.Call.{Call}
 use Rattle.vbr_core.specs.declared.history.Op.{Op}
-use Rattle.vbr_core.specs.declared.history.Op.TheVariants.{Insert, Remove, Has}
+use Rattle.vbr_core.specs.declared.history.Op.TheVariants.{Insert, Remove, Has, Get}
 use Rattle.vbr_transcript.specs.Calls.{Outcome, answered_calls, outcomes_up_to, outcomes_past}
 use Rattle.vbr_script.specs.declared.script.Line.{Line}
 use Rattle.vbr_transcript.specs.declared.reply.Reply.{Reply}
@@ -47,6 +47,7 @@ abbrev pub is_same : Op → Op → Bool
 is_same Insert Insert = true
 is_same Remove Remove = true
 is_same Has Has = true
+is_same Get Get = true
 is_same a b = false
 
 -- whether a reply is yes

@@ -1,8 +1,8 @@
 //! The places of the words of a set, and the index of each.
-ghost use Rattle.std.specs.Prelude.{◌≡◌, ◌<◌};
+ghost use Rattle.std.specs.Prelude.{◌≡◌, ◌<◌, ◌≤◌, ◌^◌, true};
 ghost use Rattle.vbr_words.specs.declared.place.Place.{Place};
 ghost use Rattle.vbr_words.specs.Dimensions.{Dimensions};
-ghost use Rattle.vbr_words.specs.Places.{IsIn, index_of, words_in};
+ghost use Rattle.vbr_words.specs.Places.{IsIn, index_of, slot_index, words_in};
 
 use crate::flags::flag_words;
 use crate::shape::Shape;
@@ -33,8 +33,37 @@ pub enum Place {
     Stamp(u32),
     /// The key of this slot.
     Key(u32),
+    /// The value of this slot, in a shape whose nodes have values.
+    Value(u32),
     /// The flag word with this number: which of its sixty-four slots are in the shared pool.
     Flags(u32),
+}
+
+// The index at which the words of a slot begin: each slot before it has four, or five where nodes
+// have values. At the number of slots it is that of the first flag word.
+#[inline]
+fn slot_index(shape: &Shape, slot: u32) -> usize
+    requires { slot ≤ shape.now.slots }
+    ensures index { result ≡ slot_index shape.now slot }
+    ensures small { result < 2 ^ 27 }
+{
+    if shape.has_values() {
+        return valued_slot_index(shape, slot);
+    }
+    2 + shape.buckets() as usize + 4 * slot as usize
+}
+
+// The index at which the words of a slot begin, where nodes have values. It stands apart, so that the
+// compiler makes a branch where it is called, which is foreseen: else nodes without values would pay for it.
+#[cold]
+#[inline(never)]
+fn valued_slot_index(shape: &Shape, slot: u32) -> usize
+    requires slot { slot ≤ shape.now.slots }
+    requires values { shape.now.values ≡ true }
+    ensures index { result ≡ slot_index shape.now slot }
+    ensures small { result < 2 ^ 27 }
+{
+    2 + shape.buckets() as usize + 5 * slot as usize
 }
 
 /// The index of a place among all words. Different places have different indices, each below
@@ -45,16 +74,16 @@ pub fn place_index(shape: &Shape, place: Place) -> usize
     ensures index { result ≡ index_of shape.now place }
     ensures in_range { result < words_in shape.now }
 {
-    let slots = 2 + shape.buckets() as usize;
     match place {
         Place::Epoch => 0,
         Place::ShapeWord => 1,
         Place::Head(bucket) => 2 + bucket as usize,
-        Place::LinkOf(slot) => slots + 4 * slot as usize,
-        Place::Birth(slot) => slots + 4 * slot as usize + 1,
-        Place::Stamp(slot) => slots + 4 * slot as usize + 2,
-        Place::Key(slot) => slots + 4 * slot as usize + 3,
-        Place::Flags(number) => slots + 4 * shape.slots() as usize + number as usize,
+        Place::LinkOf(slot) => slot_index(shape, slot),
+        Place::Birth(slot) => slot_index(shape, slot) + 1,
+        Place::Stamp(slot) => slot_index(shape, slot) + 2,
+        Place::Key(slot) => slot_index(shape, slot) + 3,
+        Place::Value(slot) => slot_index(shape, slot) + 4,
+        Place::Flags(number) => slot_index(shape, shape.slots()) + number as usize,
     }
 }
 
@@ -63,7 +92,7 @@ pub fn place_index(shape: &Shape, place: Place) -> usize
 pub fn word_count(shape: &Shape) -> usize
     ensures { result ≡ words_in shape.now }
 {
-    2 + shape.buckets() as usize + 4 * shape.slots() as usize + flag_words(shape) as usize
+    slot_index(shape, shape.slots()) + flag_words(shape) as usize
 }
 
 /// A law: different places of a shape have different indices, each below the number of words.

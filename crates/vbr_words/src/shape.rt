@@ -1,4 +1,5 @@
-//! The shape of a set: how many slots and buckets it has, and its last epoch.
+//! The shape of a set: how many slots and buckets it has, its last epoch, and whether its nodes
+//! have values.
 ghost use Rattle.std.specs.Prelude.{◌≡◌, ◌<◌, ◌≤◌, ◌^◌, ◌⊎◌, [], true, false, None, Some, MatchResult};
 ghost use Rattle.vbr_words.specs.declared.shape.TheConstants.{MAX_SPREAD_BUCKETS};
 ghost use Rattle.vbr_words.specs.Buckets.{bucket_of, mixed};
@@ -23,13 +24,14 @@ pub const MAX_EPOCH: u64 = MAX_VERSION;
 pub const MIXER: u64 = 0x9E37_79B9_7F4A_7C15;
 
 /// How many slots and buckets a set has, whether its keys are spread over the buckets, and its last
-/// epoch. None of the numbers is 0.
+/// epoch; and whether each node has a value beside its key. None of the numbers is 0.
 #[derive(Clone, Copy, Debug, PartialEq, Eq, Hash)]
 pub struct Shape {
     slots: u32,
     buckets: u32,
     last_epoch: u64,
     spread: bool,
+    values: bool,
 }
 
 impl Model for Shape {
@@ -38,11 +40,11 @@ impl Model for Shape {
 
     ghost Value = { Dimensions };
 
-    ghost view = { λ s. record { slots = s.slots; buckets = s.buckets; spread = s.spread; last_epoch = s.last_epoch; keys = [] } };
+    ghost view = { λ s. record { slots = s.slots; buckets = s.buckets; spread = s.spread; last_epoch = s.last_epoch; values = s.values; keys = []; payloads = [] } };
 
-    ghost invariant = { λ s. IsShape (record { slots = s.slots; buckets = s.buckets; spread = s.spread; last_epoch = s.last_epoch; keys = [] }) };
+    ghost invariant = { λ s. IsShape (record { slots = s.slots; buckets = s.buckets; spread = s.spread; last_epoch = s.last_epoch; values = s.values; keys = []; payloads = [] }) };
 
-    ghost inverse = { λ d. record { slots = d.slots; buckets = d.buckets; last_epoch = d.last_epoch; spread = d.spread } };
+    ghost inverse = { λ d. record { slots = d.slots; buckets = d.buckets; last_epoch = d.last_epoch; spread = d.spread; values = d.values } };
 }
 
 /// Why three numbers are no shape. The tests are made in this order.
@@ -96,10 +98,11 @@ impl fmt::Display for SpreadError {
 impl Error for SpreadError {}
 
 impl Shape {
-    /// The shape of these numbers, or what is wrong with the first faulty one.
+    /// The shape of these numbers, whose nodes have no values, or what is wrong with the first
+    /// faulty one.
     pub fn new(slots: u32, buckets: u32, last_epoch: u64) -> Result<Self, ShapeError>
         ensures { MatchResult result
-            (λ shape. (shape_error slots buckets last_epoch ≡ None) × (shape ≡ record { slots = slots; buckets = buckets; spread = false; last_epoch = last_epoch; keys = [] }))
+            (λ shape. (shape_error slots buckets last_epoch ≡ None) × (shape ≡ record { slots = slots; buckets = buckets; spread = false; last_epoch = last_epoch; values = false; keys = []; payloads = [] }))
             (λ error. shape_error slots buckets last_epoch ≡ Some error) }
     {
         if slots == 0 || slots > MAX_SLOTS {
@@ -116,6 +119,7 @@ impl Shape {
             buckets,
             last_epoch,
             spread: false,
+            values: false,
         })
     }
 
@@ -139,12 +143,42 @@ impl Shape {
         })
     }
 
+    /// The same shape, whose nodes have values.
+    pub fn with_values(self) -> Self
+        ensures { result ≡ record self { values = true } }
+    {
+        Shape {
+            values: true,
+            ..self
+        }
+    }
+
+    /// The same shape, whose nodes have no values.
+    pub fn without_values(self) -> Self
+        ensures { result ≡ record self { values = false } }
+    {
+        Shape {
+            values: false,
+            ..self
+        }
+    }
+
+    /// Whether each node has a value beside its key.
+    #[inline]
+    pub fn has_values(&self) -> bool
+        ensures values { result ≡ self.now.values }
+        ensures shape { IsShape self.now }
+    {
+        self.values
+    }
+
     /// The number of slots.
     #[inline]
     pub fn slots(&self) -> u32
         ensures slots { result ≡ self.now.slots }
         ensures shape { IsShape self.now }
         ensures keys { self.now.keys ≡ [] }
+        ensures payloads { self.now.payloads ≡ [] }
     {
         self.slots
     }

@@ -1,9 +1,10 @@
 //! Answers by one more load of a link word.
 ghost use Rattle.std.specs.Prelude.{◌≡◌, ◌≢◌, ℕ, false, IfOk, IfErr};
 ghost use Rattle.vbr_words.specs.Words.{link_of};
+ghost use Rattle.vbr_core.specs.History.{set_call};
 ghost use Rattle.vbr_core.specs.Learning.{present_reply};
 ghost use Rattle.vbr_core.specs.Membership.{KeyAt, StandsBehind, StandsBeforeOn};
-ghost use Rattle.vbr_core.specs.declared.history.Op.TheVariants.{Has, Insert, Remove};
+ghost use Rattle.vbr_core.specs.declared.history.Op.TheVariants.{Has, Insert, Remove, Get};
 ghost use Rattle.vbr_slots.specs.AtTables.{IsSameTable};
 ghost use Rattle.vbr_slots.specs.Calls.{AddsAnswer, AddsNone, Quiet, Made, Took, OnlyLoads};
 ghost use Rattle.vbr_slots.specs.Alone.{IsAlone};
@@ -29,16 +30,17 @@ pub fn confirm_present(at: &mut AtTable<'_>, op: Op, held: &Held) -> Result<(), 
     requires key { (key : ℕ) × KeyAt (knows at.old.pass.now.trace) held.now.at key }
     requires unmarked { (link_of held.now.word).mark ≡ false }
     requires op { op ≢ Remove }
+    requires no_get { op ≢ Get }
     ensures table { IsSameTable at.old at.new }
     ensures took { Took at.old.pass.now.trace at.new.pass.now.trace 1 }
     ensures own { KeepsOwn at.old.pass.now at.new.pass.now }
     ensures takes_no_slot { TakesNoSlot at.old.pass.now at.new.pass.now }
     ensures keeps { Keeps (knows at.old.pass.now.trace) (knows at.new.pass.now.trace) }
     ensures made { IfOk result (λ _. (key : ℕ) → KeyAt (knows at.old.pass.now.trace) held.now.at key →
-        Made (record { who = at.old.pass.now.trace.who; op = op; key = key; reply = present_reply op }) at.old.pass.now.trace at.new.pass.now.trace) }
+        Made (set_call at.old.pass.now.trace.who op key (present_reply op)) at.old.pass.now.trace at.new.pass.now.trace) }
     ensures quiet { IfErr result (λ r. Quiet at.old.pass.now.trace at.new.pass.now.trace) }
     ensures adds { IfOk result (λ _. (key : ℕ) → KeyAt (knows at.old.pass.now.trace) held.now.at key →
-        AddsAnswer (record { who = at.old.pass.now.trace.who; op = op; key = key; reply = present_reply op }) at.old.pass.now.trace at.new.pass.now.trace) }
+        AddsAnswer (set_call at.old.pass.now.trace.who op key (present_reply op)) at.old.pass.now.trace at.new.pass.now.trace) }
     ensures adds_none { IfErr result (λ r. AddsNone at.old.pass.now.trace at.new.pass.now.trace) }
     ensures only_loads { OnlyLoads at.old.pass.now.trace at.new.pass.now.trace }
     ensures lost { IfErr result (λ r. IsLost at.old.pass.now.trace at.new.pass.now.trace held.now r) }
@@ -63,14 +65,15 @@ pub fn confirm_absent(at: &mut AtTable<'_>, op: Op, key: u64, pred: &Held) -> Re
     requires before { StandsBeforeOn (knows at.old.pass.now.trace) key (link_of pred.now.word) }
     requires unmarked { (link_of pred.now.word).mark ≡ false }
     requires op { op ≢ Insert }
+    requires no_get { op ≢ Get }
     ensures table { IsSameTable at.old at.new }
     ensures took { Took at.old.pass.now.trace at.new.pass.now.trace 1 }
     ensures own { KeepsOwn at.old.pass.now at.new.pass.now }
     ensures takes_no_slot { TakesNoSlot at.old.pass.now at.new.pass.now }
     ensures keeps { Keeps (knows at.old.pass.now.trace) (knows at.new.pass.now.trace) }
-    ensures made { IfOk result (λ _. Made (record { who = at.old.pass.now.trace.who; op = op; key = key; reply = false }) at.old.pass.now.trace at.new.pass.now.trace) }
+    ensures made { IfOk result (λ _. Made (set_call at.old.pass.now.trace.who op key false) at.old.pass.now.trace at.new.pass.now.trace) }
     ensures quiet { IfErr result (λ r. Quiet at.old.pass.now.trace at.new.pass.now.trace) }
-    ensures adds { IfOk result (λ _. AddsAnswer (record { who = at.old.pass.now.trace.who; op = op; key = key; reply = false }) at.old.pass.now.trace at.new.pass.now.trace) }
+    ensures adds { IfOk result (λ _. AddsAnswer (set_call at.old.pass.now.trace.who op key false) at.old.pass.now.trace at.new.pass.now.trace) }
     ensures adds_none { IfErr result (λ r. AddsNone at.old.pass.now.trace at.new.pass.now.trace) }
     ensures only_loads { OnlyLoads at.old.pass.now.trace at.new.pass.now.trace }
     ensures lost { IfErr result (λ r. IsLost at.old.pass.now.trace at.new.pass.now.trace pred.now r) }
@@ -103,9 +106,9 @@ pub fn confirm_look_up(
     ensures own { KeepsOwn at.old.pass.now at.new.pass.now }
     ensures takes_no_slot { TakesNoSlot at.old.pass.now at.new.pass.now }
     ensures keeps { Keeps (knows at.old.pass.now.trace) (knows at.new.pass.now.trace) }
-    ensures made { IfOk result (λ _. Made (record { who = at.old.pass.now.trace.who; op = Has; key = key; reply = present }) at.old.pass.now.trace at.new.pass.now.trace) }
+    ensures made { IfOk result (λ _. Made (set_call at.old.pass.now.trace.who Has key present) at.old.pass.now.trace at.new.pass.now.trace) }
     ensures quiet { IfErr result (λ r. Quiet at.old.pass.now.trace at.new.pass.now.trace) }
-    ensures adds { IfOk result (λ _. AddsAnswer (record { who = at.old.pass.now.trace.who; op = Has; key = key; reply = present }) at.old.pass.now.trace at.new.pass.now.trace) }
+    ensures adds { IfOk result (λ _. AddsAnswer (set_call at.old.pass.now.trace.who Has key present) at.old.pass.now.trace at.new.pass.now.trace) }
     ensures adds_none { IfErr result (λ r. AddsNone at.old.pass.now.trace at.new.pass.now.trace) }
     ensures only_loads { OnlyLoads at.old.pass.now.trace at.new.pass.now.trace }
     ensures lost { IfErr result (λ r. IsLost at.old.pass.now.trace at.new.pass.now.trace held.now r) }

@@ -1,6 +1,7 @@
 //! Marking a node: a remove.
 ghost use Rattle.std.specs.Prelude.{◌≡◌, ℕ, true, false, IfOk, IfErr};
 ghost use Rattle.vbr_words.specs.Words.{link_of};
+ghost use Rattle.vbr_core.specs.History.{set_call};
 ghost use Rattle.vbr_core.specs.Links.{marked};
 ghost use Rattle.vbr_core.specs.Membership.{KeyAt};
 ghost use Rattle.vbr_core.specs.declared.history.Op.TheVariants.{Remove};
@@ -26,13 +27,14 @@ pub fn mark(at: &mut AtTable<'_>, held: &Held) -> Result<Marked, Rollback>
     requires held { IsHeld (knows at.old.pass.now.trace) held.now }
     requires key { (key : ℕ) × KeyAt (knows at.old.pass.now.trace) held.now.at key }
     requires unmarked { (link_of held.now.word).mark ≡ false }
+    requires bare { at.old.pass.now.trace.shape.values ≡ false }
     ensures table { IsSameTable at.old at.new }
     ensures took { Took at.old.pass.now.trace at.new.pass.now.trace 1 }
     ensures own { KeepsOwn at.old.pass.now at.new.pass.now }
     ensures takes_no_slot { TakesNoSlot at.old.pass.now at.new.pass.now }
     ensures keeps { Keeps (knows at.old.pass.now.trace) (knows at.new.pass.now.trace) }
     ensures made { IfOk result (λ _. (key : ℕ) → KeyAt (knows at.old.pass.now.trace) held.now.at key →
-        Made (record { who = at.old.pass.now.trace.who; op = Remove; key = key; reply = true }) at.old.pass.now.trace at.new.pass.now.trace) }
+        Made (set_call at.old.pass.now.trace.who Remove key true) at.old.pass.now.trace at.new.pass.now.trace) }
     ensures at { IfOk result (λ m. (held_of m).at ≡ held.now.at) }
     ensures link { IfOk result (λ m. link_of m.word ≡ marked (link_of held.now.word)) }
     ensures held { IfOk result (λ m. IsMarked (knows at.new.pass.now.trace) m) }

@@ -1,6 +1,7 @@
 //! Linking a new node: an insert.
 ghost use Rattle.std.specs.Prelude.{◌≡◌, true, false, None, IfOk, IfErr, OnOk};
 ghost use Rattle.vbr_words.specs.Words.{link_of};
+ghost use Rattle.vbr_core.specs.History.{set_call};
 ghost use Rattle.vbr_core.specs.Links.{link_to};
 ghost use Rattle.vbr_core.specs.Membership.{BirthNamed, StandsBehind, StandsBefore};
 ghost use Rattle.vbr_core.specs.declared.history.Op.TheVariants.{Insert};
@@ -71,6 +72,7 @@ pub fn update(
 ) -> Result<(), (Hand, Rollback)>
     requires pred { IsHeld (knows at.old.pass.now.trace) pred.now }
     requires unmarked { (link_of pred.now.word).mark ≡ false }
+    requires bare { at.old.pass.now.trace.shape.values ≡ false }
     requires succ { IsSucc (knows at.old.pass.now.trace) pred.now succ }
     requires behind { StandsBehind at.old.pass.now.trace.shape (knows at.old.pass.now.trace) pred.now.at key }
     requires before { StandsBefore (knows at.old.pass.now.trace) key (link_of pred.now.word).slot }
@@ -80,7 +82,7 @@ pub fn update(
     ensures keeps { Keeps (knows at.old.pass.now.trace) (knows at.new.pass.now.trace) }
     ensures pool { at.new.pass.now.pool ≡ at.old.pass.now.pool }
     ensures takes_no_slot { TakesNoSlot at.old.pass.now at.new.pass.now }
-    ensures made { IfOk result (λ _. Made (record { who = at.old.pass.now.trace.who; op = Insert; key = key; reply = true }) at.old.pass.now.trace at.new.pass.now.trace) }
+    ensures made { IfOk result (λ _. Made (set_call at.old.pass.now.trace.who Insert key true) at.old.pass.now.trace at.new.pass.now.trace) }
     ensures spent { OnOk result (at.new.pass.now.hand ≡ None) }
     ensures quiet { IfErr result (λ r. Quiet at.old.pass.now.trace at.new.pass.now.trace) }
     ensures lost { IfErr result (λ r. IsLost at.old.pass.now.trace at.new.pass.now.trace pred.now r.1) }

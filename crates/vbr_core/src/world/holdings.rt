@@ -3,7 +3,7 @@ ghost use Rattle.std.specs.Prelude.{◌≡◌, ◌≤◌, ◌↔◌, IsTrue, map
 ghost use Rattle.vbr_words.specs.Words.{IsLink};
 ghost use Rattle.vbr_words.specs.declared.shape.TheConstants.{MAX_EPOCH};
 ghost use Rattle.vbr_core.specs.Acceptance.{IsFree, IsUnlinked, MayBear, IsInHand, IsReread, stamp_in};
-ghost use Rattle.vbr_core.specs.Learning.{birth_in_hand, key_in_hand, link_in_hand, with_key, with_link, reread};
+ghost use Rattle.vbr_core.specs.Learning.{birth_in_hand, key_in_hand, value_in_hand, link_in_hand, with_key, with_value, with_link, reread};
 ghost use Rattle.vbr_core.specs.Links.{opening_link};
 ghost use Rattle.vbr_core.specs.Kept.{FitsHolding};
 
@@ -51,7 +51,7 @@ pub fn stamp_in(holding: Option<Holding>) -> u64
 {
     match holding {
         Some(Holding::Free(stamp)) => stamp,
-        Some(Holding::InHand(stamp, _, _, _)) => stamp,
+        Some(Holding::InHand(stamp, _, _, _, _)) => stamp,
         _ => 0,
     }
 }
@@ -62,7 +62,7 @@ pub fn birth_in_hand(holding: Option<Holding>) -> u64
     ensures fits { FitsHolding holding → result ≤ MAX_EPOCH }
 {
     match holding {
-        Some(Holding::InHand(_, birth, _, _)) => birth,
+        Some(Holding::InHand(_, birth, _, _, _)) => birth,
         _ => 0,
     }
 }
@@ -72,8 +72,18 @@ pub fn key_in_hand(holding: Option<Holding>) -> u64
     ensures { result ≡ key_in_hand holding }
 {
     match holding {
-        Some(Holding::InHand(_, _, key, _)) => key.unwrap_or(0),
+        Some(Holding::InHand(_, _, key, _, _)) => key.unwrap_or(0),
         _ => 0,
+    }
+}
+
+// The value of a slot in hand, once it is stored.
+pub fn value_in_hand(holding: Option<Holding>) -> Option<u64>
+    ensures { result ≡ value_in_hand holding }
+{
+    match holding {
+        Some(Holding::InHand(_, _, _, value, _)) => value,
+        _ => None,
     }
 }
 
@@ -94,7 +104,7 @@ pub fn link_in_hand(holding: Option<Holding>) -> Link
     ensures { result ≡ link_in_hand holding }
 {
     match holding {
-        Some(Holding::InHand(_, _, _, link)) => link.unwrap_or(opening_link()),
+        Some(Holding::InHand(_, _, _, _, link)) => link.unwrap_or(opening_link()),
         _ => opening_link(),
     }
 }
@@ -105,8 +115,21 @@ pub fn with_key(holding: Option<Holding>, key: u64) -> Option<Holding>
     ensures fits { FitsHolding holding → FitsHolding result }
 {
     match holding {
-        Some(Holding::InHand(stamp, birth, _, link)) => {
-            Some(Holding::InHand(stamp, birth, Some(key), link))
+        Some(Holding::InHand(stamp, birth, _, value, link)) => {
+            Some(Holding::InHand(stamp, birth, Some(key), value, link))
+        }
+        _ => holding,
+    }
+}
+
+// A slot in hand once its value is stored.
+pub fn with_value(holding: Option<Holding>, value: u64) -> Option<Holding>
+    ensures holding { result ≡ with_value holding value }
+    ensures fits { FitsHolding holding → FitsHolding result }
+{
+    match holding {
+        Some(Holding::InHand(stamp, birth, key, _, link)) => {
+            Some(Holding::InHand(stamp, birth, key, Some(value), link))
         }
         _ => holding,
     }
@@ -118,8 +141,8 @@ pub fn with_link(holding: Option<Holding>, link: Link) -> Option<Holding>
     ensures fits { FitsHolding holding → FitsHolding result }
 {
     match holding {
-        Some(Holding::InHand(stamp, birth, key, _)) => {
-            Some(Holding::InHand(stamp, birth, key, Some(link)))
+        Some(Holding::InHand(stamp, birth, key, value, _)) => {
+            Some(Holding::InHand(stamp, birth, key, value, Some(link)))
         }
         _ => holding,
     }

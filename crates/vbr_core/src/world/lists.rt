@@ -28,6 +28,7 @@ pub struct Lists {
     pub(super) birth: Vec<u64>,
     pub(super) stamps: Vec<u64>,
     pub(super) keys: Vec<u64>,
+    pub(super) values: Vec<u64>,
     pub(super) places: Vec<SlotPlace>,
     pub(super) passes: Vec<PassState>,
     pub(super) births: u64,
@@ -39,9 +40,9 @@ impl Model for Lists {
 
     ghost Value = { KeptWorld };
 
-    ghost view = { λ w. record { shape = w.shape; epoch = w.epoch; heads = w.heads.items; links = w.links.items; birth = w.birth.items; stamps = w.stamps.items; keys = w.keys.items; places = w.places.items; passes = w.passes.items; births = w.births; calls = w.calls.items } };
+    ghost view = { λ w. record { shape = w.shape; epoch = w.epoch; heads = w.heads.items; links = w.links.items; birth = w.birth.items; stamps = w.stamps.items; keys = w.keys.items; values = w.values.items; places = w.places.items; passes = w.passes.items; births = w.births; calls = w.calls.items } };
 
-    ghost invariant = { λ w. IsWhole (record { shape = w.shape; epoch = w.epoch; heads = w.heads.items; links = w.links.items; birth = w.birth.items; stamps = w.stamps.items; keys = w.keys.items; places = w.places.items; passes = w.passes.items; births = w.births; calls = w.calls.items }) };
+    ghost invariant = { λ w. IsWhole (record { shape = w.shape; epoch = w.epoch; heads = w.heads.items; links = w.links.items; birth = w.birth.items; stamps = w.stamps.items; keys = w.keys.items; values = w.values.items; places = w.places.items; passes = w.passes.items; births = w.births; calls = w.calls.items }) };
 }
 
 impl Lists {
@@ -88,6 +89,7 @@ impl Lists {
             Place::Birth(slot) => self.birth[slot as usize],
             Place::Stamp(slot) => self.stamps[slot as usize],
             Place::Key(slot) => self.keys[slot as usize],
+            Place::Value(slot) => self.values[slot as usize],
             Place::Flags(number) => self.flags(number),
         }
     }

@@ -1,5 +1,5 @@
 // The world at opening.
-ghost use Rattle.std.specs.Prelude.{◌≡◌, ◌<◌, ◌≤◌, length, IfOk};
+ghost use Rattle.std.specs.Prelude.{◌≡◌, ◌<◌, ◌≤◌, length, slice_index_or, IfOk, if◌then◌else◌};
 ghost use Rattle.std.specs.List.{AllByRecursion};
 ghost use Rattle.std.specs.List.Sorted.{IsStrictlyIncreasing};
 ghost use Rattle.vbr_words.specs.Words.{IsLink};
@@ -16,25 +16,27 @@ use vbr_words::link::{MARK, MAX_SLOTS};
 use vbr_words::{At, Link, Shape, decode, encode};
 
 impl Lists {
-    // The world that opens with these keys: they are linked from the last one on, so that each
-    // finds the next of its bucket at the head of the list.
+    // The world that opens with these keys, and their values where nodes have values: they are linked
+    // from the last one on, so that each finds the next of its bucket at the head of the list.
     pub(super) fn opened(
         alloc: Global,
         shape: Shape,
         passes: u32,
         keys: &[u64],
+        values: &[u64],
     ) -> Result<Lists, AllocError>
         requires ascending { IsStrictlyIncreasing keys.now }
         requires few { length keys.now ≤ shape.slots }
-        ensures opening { IfOk result (λ lists. world_of lists ≡ opening (record shape { keys = keys.now })) }
-        ensures shape { IfOk result (λ lists. (lists.shape ≡ record shape { keys = keys.now }) × (length lists.passes ≡ passes)) }
+        requires paired { length values.now ≡ (if shape.values then length keys.now else 0) }
+        ensures opening { IfOk result (λ lists. world_of lists ≡ opening (record shape { keys = keys.now; payloads = values.now })) }
+        ensures shape { IfOk result (λ lists. (lists.shape ≡ record shape { keys = keys.now; payloads = values.now }) × (length lists.passes ≡ passes)) }
     {
-        let opening = OpeningShape::new(alloc, shape, keys)?;
+        let opening = OpeningShape::new(alloc, shape, keys, values)?;
         let mut lists = Lists::empty(alloc, opening, passes)?;
         let mut number = keys.len();
         while number > 0 {
             number -= 1;
-            lists.link_key(number as u32, keys[number]);
+            lists.link_key(number as u32, keys[number], value_at(values, number));
         }
         Ok(lists)
     }
@@ -51,6 +53,7 @@ impl Lists {
         let birth = vec![in alloc; 0; slots]?;
         let stamps = vec![in alloc; 0; slots]?;
         let keys = vec![in alloc; 0; slots]?;
+        let values = vec![in alloc; 0; slots]?;
         let places = vec![in alloc; SlotPlace::Shared; slots]?;
         let passes = new_passes(alloc, shape.slots(), passes)?;
         Ok(Lists {
@@ -61,6 +64,7 @@ impl Lists {
             birth,
             stamps,
             keys,
+            values,
             places,
             passes,
             births: 0,
@@ -70,9 +74,9 @@ impl Lists {
 
     // Links a key that the world opens with, ahead of the others of its bucket. The version of the
     // head is the birth of what it names.
-    fn link_key(&mut self, number: u32, key: u64)
+    fn link_key(&mut self, number: u32, key: u64, value: u64)
         requires { number < self.old.shape.slots }
-        ensures written { world_of self.new ≡ with_key_ahead self.old.shape number key (world_of self.old) }
+        ensures written { world_of self.new ≡ with_key_ahead self.old.shape number key value (world_of self.old) }
         ensures stays { (self.new.shape ≡ self.old.shape) × (length self.new.passes ≡ length self.old.passes) }
     {
         prove!(self.shape.slots() <= MAX_SLOTS);
@@ -84,6 +88,7 @@ impl Lists {
         self.put_link(At::Head(bucket), encode(first));
         self.store_birth(number, 1);
         self.store_key(number, key);
+        self.store_value(number, value);
         self.put_slot(number, SlotPlace::Listed(bucket));
     }
 
@@ -95,6 +100,13 @@ impl Lists {
     {
         decode(self.heads[bucket as usize])
     }
+}
+
+// The value with a number, or 0 where there is none.
+fn value_at(values: &[u64], number: usize) -> u64
+    ensures { result ≡ slice_index_or values.now number 0 }
+{
+    values.get(number).copied().unwrap_or(0)
 }
 
 // So many passes that know nothing.

@@ -4,9 +4,10 @@ ghost use Rattle.vbr_words.specs.Words.{IsLink, word_of, link_of};
 ghost use Rattle.vbr_words.specs.declared.link.TheConstants.{MAX_SLOTS};
 ghost use Rattle.vbr_words.specs.declared.shape.TheConstants.{MAX_EPOCH};
 ghost use Rattle.vbr_core.specs.Links.{link_to, marked};
-ghost use Rattle.vbr_core.specs.Knowledge.{knows_link, marked_in, birth_at, birth_of, key_in};
-ghost use Rattle.vbr_core.specs.Acceptance.{IsInShape, IsOwned, HasChecked, IsInRange, Accepts, KnowsKeyAt, KnowsKeyOf, LeadsToKey, stamp_in, MayPublish, IsBehind, IsBefore, LeadsAbove, next_of_marked};
-ghost use Rattle.vbr_core.specs.Learning.{key_in_hand, link_written, call_of};
+ghost use Rattle.vbr_core.specs.Knowledge.{knows_link, marked_in, birth_at, birth_of, key_in, value_in};
+ghost use Rattle.vbr_core.specs.Acceptance.{IsInShape, IsOwned, HasChecked, IsInRange, Accepts, KnowsKeyAt, KnowsKeyOf, LeadsToKey, HasValue, HasValueFor, stamp_in, MayPublish, IsBehind, IsBefore, LeadsAbove, next_of_marked};
+ghost use Rattle.vbr_core.specs.Learning.{key_in_hand, value_in_hand, link_written, present_value, call_of};
+ghost use Rattle.vbr_core.specs.Opened.{kept};
 ghost use Rattle.vbr_core.specs.Machine.{knows_nothing};
 ghost use Rattle.vbr_core.specs.Kept.{know_of, FitsHolding};
 
@@ -16,6 +17,7 @@ use crate::event::Step;
 use crate::history::{Call, Op};
 use crate::knowledge::{Holding, Read};
 use crate::world::shape::OpeningShape;
+use crate::world::steps::present_reply;
 use crate::world::{holdings, reads};
 use std::alloc::{AllocError, Global};
 use std::marker::Model;
@@ -132,6 +134,7 @@ impl PassState {
             Step::Raise { slot } => holdings::is_free(self.holding(slot)),
             Step::StoreBirth { slot, .. } => holdings::may_bear(self.holding(slot)),
             Step::StoreKey { slot, .. }
+            | Step::StoreValue { slot, .. }
             | Step::StoreLink { slot, .. }
             | Step::Publish { slot, .. } => holdings::is_in_hand(self.holding(slot)),
             _ => true,
@@ -144,6 +147,23 @@ impl PassState {
     {
         reads::knows_link(&self.checked, At::Slot(slot), decode(expected))
             && reads::key_in(&self.checked, slot).is_some()
+    }
+
+    // Whether the value of a slot is checked, where nodes have values.
+    fn holds_value(&self, shape: &OpeningShape, slot: u32) -> bool
+        ensures { IsTrue result ↔ HasValue shape.now.values (value_in self.now.checked slot) }
+    {
+        !shape.has_values() || reads::value_in(&self.checked, slot).is_some()
+    }
+
+    // Whether the value of a slot is checked, for an operation that gives it.
+    fn holds_value_for(&self, op: Op, slot: u32) -> bool
+        ensures { IsTrue result ↔ HasValueFor op (value_in self.now.checked slot) }
+    {
+        match op {
+            Op::Get => reads::value_in(&self.checked, slot).is_some(),
+            Op::Insert | Op::Remove | Op::Has => true,
+        }
     }
 
     // Whether the link that a place was read with, and the keys on both sides, are checked.
@@ -190,11 +210,15 @@ impl PassState {
         match step {
             Step::StoreLink { next, .. } => reads::is_next_held(&self.checked, next),
             Step::LoadLink { at } => reads::holds_at(&self.checked, at),
-            Step::LoadBirth { slot } | Step::LoadKey { slot } => reads::holds(&self.checked, slot),
+            Step::LoadBirth { slot } | Step::LoadKey { slot } | Step::LoadValue { slot } => {
+                reads::holds(&self.checked, slot)
+            }
             Step::Publish { pred, expected, .. } => {
                 self.holds_gap(pred, expected) && self.holds_births(pred, decode(expected).slot)
             }
-            Step::Mark { slot, expected } => self.holds_node(slot, expected),
+            Step::Mark { slot, expected } => {
+                self.holds_node(slot, expected) && self.holds_value(shape, slot)
+            }
             Step::Unlink {
                 pred,
                 expected,
@@ -203,7 +227,9 @@ impl PassState {
                 self.holds_removed(pred, expected, slot)
                     && self.holds_births(pred, self.next_of_marked(slot))
             }
-            Step::ConfirmPresent { slot, expected, .. } => self.holds_node(slot, expected),
+            Step::ConfirmPresent { op, slot, expected } => {
+                self.holds_node(slot, expected) && self.holds_value_for(op, slot)
+            }
             Step::ConfirmAbsent { at, expected, .. } => self.holds_way(shape, at, expected),
             _ => true,
         }
@@ -215,12 +241,13 @@ impl PassState {
         ensures { IsTrue result ↔ MayPublish shape.now self.now.checked pred expected (slice_index_or self.now.own slot None) }
     {
         match self.own[slot as usize] {
-            Some(Holding::InHand(_, birth, Some(key), Some(link))) => {
+            Some(Holding::InHand(_, birth, Some(key), value, Some(link))) => {
                 let named_birth = reads::birth_of(&self.checked, expected.slot).unwrap_or(0);
                 link.slot == expected.slot
                     && !link.mark
                     && link.version == version_of(birth, named_birth)
                     && self.is_between(shape, pred, key, expected.slot)
+                    && (!shape.has_values() || value.is_some())
             }
             _ => false,
         }
@@ -330,6 +357,39 @@ impl PassState {
         holdings::key_in_hand(self.holding(slot))
     }
 
+    // The value of a slot in hand that a publication tells: none where nodes have no values.
+    fn value_stored(&self, shape: &OpeningShape, slot: u32) -> Option<u64>
+        requires { slot < length self.now.own }
+        ensures { result ≡ kept shape.now (value_in_hand ((know_of self.now).own slot)) }
+    {
+        if shape.has_values() {
+            holdings::value_in_hand(self.holding(slot))
+        } else {
+            None
+        }
+    }
+
+    // The value of a node that a removal tells: none where nodes have no values.
+    fn value_removed(&self, shape: &OpeningShape, slot: u32) -> Option<u64>
+        ensures { result ≡ kept shape.now (value_in self.now.checked slot) }
+    {
+        if shape.has_values() {
+            reads::value_in(&self.checked, slot)
+        } else {
+            None
+        }
+    }
+
+    // The value of a present node that an operation tells.
+    fn present_value(&self, op: Op, slot: u32) -> Option<u64>
+        ensures { result ≡ present_value op (value_in self.now.checked slot) }
+    {
+        match op {
+            Op::Get => reads::value_in(&self.checked, slot),
+            Op::Insert | Op::Remove | Op::Has => None,
+        }
+    }
+
     // The key of a node, if it is checked; otherwise 0.
     fn key_in(&self, slot: u32) -> u64
         ensures { result ≡ unwrap_or (key_in self.now.checked slot) 0 }
@@ -341,13 +401,22 @@ impl PassState {
     pub fn call(&self, who: u32, shape: &OpeningShape, step: Step) -> Option<Call>
         requires slots { length self.now.own ≡ shape.now.slots }
         requires in_shape { IsInShape shape.now step }
-        ensures { result ≡ call_of who (know_of self.now) step }
+        ensures { result ≡ call_of shape.now who (know_of self.now) step }
     {
-        let (op, key, reply) = match step {
-            Step::Publish { slot, .. } => (Op::Insert, self.key_in_hand(slot), true),
-            Step::Mark { slot, .. } => (Op::Remove, self.key_in(slot), true),
-            Step::ConfirmPresent { op, slot, .. } => (op, self.key_in(slot), op == Op::Has),
-            Step::ConfirmAbsent { op, key, .. } => (op, key, false),
+        let (op, key, reply, value) = match step {
+            Step::Publish { slot, .. } => {
+                let value = self.value_stored(shape, slot);
+                (Op::Insert, self.key_in_hand(slot), true, value)
+            }
+            Step::Mark { slot, .. } => {
+                let value = self.value_removed(shape, slot);
+                (Op::Remove, self.key_in(slot), true, value)
+            }
+            Step::ConfirmPresent { op, slot, .. } => {
+                let value = self.present_value(op, slot);
+                (op, self.key_in(slot), present_reply(op), value)
+            }
+            Step::ConfirmAbsent { op, key, .. } => (op, key, false, None),
             _ => return None,
         };
         Some(Call {
@@ -355,6 +424,7 @@ impl PassState {
             op,
             key,
             reply,
+            value,
         })
     }
 }

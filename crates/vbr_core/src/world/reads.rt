@@ -1,6 +1,6 @@
 // Looking through reads.
 ghost use Rattle.std.specs.Prelude.{◌≡◌, ◌↔◌, IsTrue};
-ghost use Rattle.vbr_core.specs.Knowledge.{knows_link, birth_in, key_in, marked_in, holds, holds_at, birth_at, birth_of};
+ghost use Rattle.vbr_core.specs.Knowledge.{knows_link, birth_in, key_in, value_in, marked_in, holds, holds_at, birth_at, birth_of};
 ghost use Rattle.vbr_core.specs.Acceptance.{IsNextHeld, KnowsKeyAt, KnowsKeyOf, past_marked, LeadsToKey, IsBehind, IsBefore, LeadsAbove, next_of_marked};
 
 use crate::knowledge::Read;
@@ -43,6 +43,20 @@ pub fn key_in(reads: &[Read], slot: u32) -> Option<u64>
         if let Read::KeyOf(of, key) = read {
             if *of == slot {
                 return Some(*key);
+            }
+        }
+    }
+    None
+}
+
+// The first value of a slot among the reads.
+pub fn value_in(reads: &[Read], slot: u32) -> Option<u64>
+    ensures { result ≡ value_in reads.now slot }
+{
+    for read in reads {
+        if let Read::ValueOf(of, value) = read {
+            if *of == slot {
+                return Some(*value);
             }
         }
     }

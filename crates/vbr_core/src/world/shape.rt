@@ -1,5 +1,5 @@
-// A shape with the keys that a world of it opens with.
-ghost use Rattle.std.specs.Prelude.{◌≡◌, ◌<◌, ◌≤◌, length, IfOk};
+// A shape with the keys, and their values, that a world of it opens with.
+ghost use Rattle.std.specs.Prelude.{◌≡◌, ◌<◌, ◌≤◌, ◌%◌, length, IfOk, if◌then◌else◌};
 ghost use Rattle.std.specs.List.Sorted.{IsStrictlyIncreasing};
 ghost use Rattle.vbr_words.specs.Buckets.{bucket_of};
 ghost use Rattle.vbr_words.specs.Dimensions.{IsShape};
@@ -8,11 +8,12 @@ use std::alloc::{AllocError, Global};
 use std::marker::Model;
 use vbr_words::Shape;
 
-// A shape, and the keys that a world of it opens with.
+// A shape, and the keys that a world of it opens with, with their values where nodes have values.
 #[derive(Drop)]
 pub struct OpeningShape {
     shape: Shape,
     keys: Vec<u64>,
+    values: Vec<u64>,
 }
 
 impl Model for OpeningShape {
@@ -20,22 +21,34 @@ impl Model for OpeningShape {
 
     ghost Value = { Dimensions };
 
-    ghost view = { λ s. record s.shape { keys = s.keys.items } };
+    ghost view = { λ s. record s.shape { keys = s.keys.items; payloads = s.values.items } };
 
-    ghost invariant = { λ s. IsShape (record s.shape { keys = s.keys.items }) };
+    ghost invariant = { λ s. IsShape (record s.shape { keys = s.keys.items; payloads = s.values.items }) };
 }
 
 impl OpeningShape {
-    // The shape with a copy of these keys.
-    pub fn new(alloc: Global, shape: Shape, keys: &[u64]) -> Result<Self, AllocError>
+    // The shape with a copy of these keys and values.
+    pub fn new(
+        alloc: Global,
+        shape: Shape,
+        keys: &[u64],
+        values: &[u64],
+    ) -> Result<Self, AllocError>
         requires ascending { IsStrictlyIncreasing keys.now }
         requires few { length keys.now ≤ shape.slots }
-        ensures { IfOk result (λ opening. opening ≡ record shape { keys = keys.now }) }
+        requires paired { length values.now ≡ (if shape.values then length keys.now else 0) }
+        ensures { IfOk result (λ opening. opening ≡ record shape { keys = keys.now; payloads = values.now }) }
     {
         prove!(shape.slots() > 0);
-        let mut copy = Vec::new(alloc);
-        copy.extend_from_slice(keys)?;
-        Ok(OpeningShape { shape, keys: copy })
+        let mut key_copy = Vec::new(alloc);
+        key_copy.extend_from_slice(keys)?;
+        let mut value_copy = Vec::new(alloc);
+        value_copy.extend_from_slice(values)?;
+        Ok(OpeningShape {
+            shape,
+            keys: key_copy,
+            values: value_copy,
+        })
     }
 
     // The number of slots.
@@ -60,6 +73,13 @@ impl OpeningShape {
         ensures shape { IsShape self.now }
     {
         self.shape.last_epoch()
+    }
+
+    // Whether nodes have values.
+    pub fn has_values(&self) -> bool
+        ensures { result ≡ self.now.values }
+    {
+        self.shape.has_values()
     }
 
     // The bucket of a key.

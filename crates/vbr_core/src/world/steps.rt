@@ -1,7 +1,7 @@
 // What can be told of a step alone, and of the word that it found.
 ghost use Rattle.std.specs.Prelude.{◌≡◌, ◌↔◌, IsTrue};
 ghost use Rattle.vbr_words.specs.Places as places;
-ghost use Rattle.vbr_core.specs.Acceptance.{IsAtIn, IsNextIn, IsInShape, IsBelowLast};
+ghost use Rattle.vbr_core.specs.Acceptance.{IsAtIn, IsNextIn, IsOpIn, IsInShape, IsBelowLast};
 ghost use Rattle.vbr_core.specs.Learning.{present_reply, effect_of, succeeds};
 ghost use Rattle.vbr_core.specs.Machine.{place_of_step};
 ghost use Rattle.vbr_core.specs.Making.{exchanged, taken, confirmed};
@@ -32,7 +32,18 @@ fn is_next_in(shape: &OpeningShape, next: Option<u32>) -> bool
     }
 }
 
-// Whether the slots and places that the step's fields name are those of the shape.
+// Whether an operation is one of the shape.
+fn is_op_in(shape: &OpeningShape, op: Op) -> bool
+    ensures { IsTrue result ↔ IsOpIn shape.now op }
+{
+    match op {
+        Op::Get => shape.has_values(),
+        Op::Insert | Op::Remove | Op::Has => true,
+    }
+}
+
+// Whether the slots and places that the step's fields name are those of the shape, and nodes have
+// values where the step asks for one.
 pub fn is_in_shape(shape: &OpeningShape, step: Step) -> bool
     ensures { IsTrue result ↔ IsInShape shape.now step }
 {
@@ -44,15 +55,17 @@ pub fn is_in_shape(shape: &OpeningShape, step: Step) -> bool
         Step::TakeFlag { slot } => slot < shape.slots(),
         Step::StoreBirth { slot, .. } => slot < shape.slots(),
         Step::StoreKey { slot, .. } => slot < shape.slots(),
+        Step::StoreValue { slot, .. } => slot < shape.slots() && shape.has_values(),
         Step::StoreLink { slot, next } => slot < shape.slots() && is_next_in(shape, next),
         Step::LoadLink { at } => is_at_in(shape, at),
         Step::LoadBirth { slot } => slot < shape.slots(),
         Step::LoadKey { slot } => slot < shape.slots(),
+        Step::LoadValue { slot } => slot < shape.slots() && shape.has_values(),
         Step::Publish { pred, slot, .. } => is_at_in(shape, pred) && slot < shape.slots(),
         Step::Mark { slot, .. } => slot < shape.slots(),
         Step::Unlink { pred, slot, .. } => is_at_in(shape, pred) && slot < shape.slots(),
-        Step::ConfirmPresent { slot, .. } => slot < shape.slots(),
-        Step::ConfirmAbsent { at, .. } => is_at_in(shape, at),
+        Step::ConfirmPresent { op, slot, .. } => slot < shape.slots() && is_op_in(shape, op),
+        Step::ConfirmAbsent { op, at, .. } => is_at_in(shape, at) && is_op_in(shape, op),
     }
 }
 
@@ -86,6 +99,7 @@ pub fn place_of_step(step: Step) -> Place
         Step::Raise { slot } | Step::TakeFlag { slot } => Place::Flags(word_of_flag(slot)),
         Step::StoreBirth { slot, .. } | Step::LoadBirth { slot } => Place::Birth(slot),
         Step::StoreKey { slot, .. } | Step::LoadKey { slot } => Place::Key(slot),
+        Step::StoreValue { slot, .. } | Step::LoadValue { slot } => Place::Value(slot),
         Step::StoreLink { slot, .. } | Step::Mark { slot, .. } => Place::LinkOf(slot),
         Step::ConfirmPresent { slot, .. } => Place::LinkOf(slot),
         Step::LoadLink { at } | Step::ConfirmAbsent { at, .. } => place_of_at(at),
@@ -143,11 +157,11 @@ fn confirmed(reply: bool, expected: u64, found: u64) -> Effect
 }
 
 // The reply that the presence of the key gives to an operation.
-fn present_reply(op: Op) -> bool
+pub fn present_reply(op: Op) -> bool
     ensures { result ≡ present_reply op }
 {
     match op {
-        Op::Has => true,
+        Op::Has | Op::Get => true,
         Op::Insert | Op::Remove => false,
     }
 }
@@ -159,7 +173,7 @@ pub fn effect_of(step: Step, found: u64) -> Effect
     match step {
         Step::Advance { from } => exchanged(from, found),
         Step::StoreStamp { .. } | Step::Raise { .. } | Step::StoreBirth { .. } => Effect::Done,
-        Step::StoreKey { .. } | Step::StoreLink { .. } => Effect::Done,
+        Step::StoreKey { .. } | Step::StoreValue { .. } | Step::StoreLink { .. } => Effect::Done,
         Step::TakeFlag { slot } => taken(slot, found),
         Step::Publish { expected, .. } => exchanged(expected, found),
         Step::Mark { expected, .. } => exchanged(expected, found),
@@ -167,6 +181,8 @@ pub fn effect_of(step: Step, found: u64) -> Effect
         Step::ConfirmPresent { op, expected, .. } => confirmed(present_reply(op), expected, found),
         Step::ConfirmAbsent { expected, .. } => confirmed(false, expected, found),
         Step::ReadEpoch | Step::LoadStamp { .. } | Step::LoadLink { .. } => Effect::Value(found),
-        Step::LoadBirth { .. } | Step::LoadKey { .. } => Effect::Value(found),
+        Step::LoadBirth { .. } | Step::LoadKey { .. } | Step::LoadValue { .. } => {
+            Effect::Value(found)
+        }
     }
 }

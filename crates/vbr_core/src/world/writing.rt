@@ -54,6 +54,15 @@ impl Lists {
         self.keys[slot as usize] = key;
     }
 
+    // Stores the value of a slot.
+    pub(super) fn store_value(&mut self, slot: u32, value: u64)
+        requires { slot < self.old.shape.slots }
+        ensures written { world_of self.new ≡ record (world_of self.old) { value = put (world_of self.old).value slot value } }
+        ensures stays { (self.new.shape ≡ self.old.shape) × (length self.new.passes ≡ length self.old.passes) }
+    {
+        self.values[slot as usize] = value;
+    }
+
     // Puts a slot where it now is.
     pub(super) fn put_slot(&mut self, slot: u32, place: SlotPlace)
         requires { slot < self.old.shape.slots }
@@ -174,12 +183,13 @@ impl Lists {
             Step::TakeFlag { slot } => self.take_flag(event.pass, slot),
             Step::StoreBirth { slot, birth } => self.bear(event.pass, slot, birth),
             Step::StoreKey { slot, key } => self.store_key(slot, key),
+            Step::StoreValue { slot, value } => self.store_value(slot, value),
             Step::StoreLink { slot, .. } => self.store_link(slot, link),
             Step::Publish { pred, slot, .. } => self.publish(pred, link, slot, key),
             Step::Mark { slot, .. } => self.mark(slot, link),
             Step::Unlink { pred, slot, .. } => self.unlink(event.pass, pred, link, slot),
             Step::ReadEpoch | Step::LoadStamp { .. } | Step::LoadLink { .. } => {}
-            Step::LoadBirth { .. } | Step::LoadKey { .. } => {}
+            Step::LoadBirth { .. } | Step::LoadKey { .. } | Step::LoadValue { .. } => {}
             Step::ConfirmPresent { .. } | Step::ConfirmAbsent { .. } => {}
         }
     }

@@ -1,7 +1,7 @@
 //! The steps that answer a call by one more load of a link word.
 ghost use Rattle.std.specs.Prelude.{◌≡◌, ◌≢◌, ◌<◌, false, MatchResult};
 ghost use Rattle.vbr_words.specs.Words.{link_of};
-ghost use Rattle.vbr_core.specs.Acceptance.{Accepts, IsAtIn, HasChecked, IsInRange};
+ghost use Rattle.vbr_core.specs.Acceptance.{Accepts, IsAtIn, HasChecked, IsInRange, IsOpIn};
 ghost use Rattle.vbr_core.specs.declared.event.Step.TheVariants.{ConfirmPresent, ConfirmAbsent};
 ghost use Rattle.vbr_core.specs.declared.history.Op.TheVariants.{Remove};
 ghost use Rattle.vbr_slots.specs.LookUps.{look_up};
@@ -26,6 +26,7 @@ impl Stepper {
         requires own { IsOf self.old.trace slots.now }
         requires slot { slot < slots.now.shape.slots }
         requires op { op ≢ Remove }
+        requires asked { IsOpIn slots.now.shape op }
         requires held { HasChecked slots.now.shape (knows self.old.trace) (ConfirmPresent op slot expected) }
         requires unmarked { (link_of expected).mark ≡ false }
         ensures step { MatchResult result
@@ -52,6 +53,7 @@ impl Stepper {
     ) -> Result<(), u64>
         requires own { IsOf self.old.trace slots.now }
         requires at { IsAtIn slots.now.shape at }
+        requires asked { IsOpIn slots.now.shape op }
         requires held { HasChecked slots.now.shape (knows self.old.trace) (ConfirmAbsent op key at expected) }
         requires in_range { IsInRange slots.now.shape (knows self.old.trace) (ConfirmAbsent op key at expected) }
         ensures step { MatchResult result

@@ -11,7 +11,7 @@ use Rattle.vbr_core.specs.Runs.{world_after}
 use Rattle.vbr_core.specs.declared.event.Effect.{Effect}
 use Rattle.vbr_core.specs.declared.event.Effect.TheVariants.{Value, Won, Lost, Answered}
 use Rattle.vbr_core.specs.declared.event.Step.{Step}
-use Rattle.vbr_core.specs.declared.event.Step.TheVariants.{ReadEpoch, Advance, LoadStamp, StoreStamp, Raise, TakeFlag, StoreBirth, StoreKey, StoreLink, LoadLink, LoadBirth, LoadKey, Publish, Mark, Unlink, ConfirmPresent, ConfirmAbsent}
+use Rattle.vbr_core.specs.declared.event.Step.TheVariants.{ReadEpoch, Advance, LoadStamp, StoreStamp, Raise, TakeFlag, StoreBirth, StoreKey, StoreValue, StoreLink, LoadLink, LoadBirth, LoadKey, LoadValue, Publish, Mark, Unlink, ConfirmPresent, ConfirmAbsent}
 use Rattle.vbr_core.specs.declared.knowledge.Holding.TheVariants.{Free, Unlinked}
 use Rattle.vbr_core.proofs.Lemmas.{know_other, know_own}
 use Rattle.vbr_slots.specs.Views.{Trace, PassView, TableView, Did, knows}
@@ -75,10 +75,12 @@ same_teaches (Raise s) m n stamp know same = refl
 same_teaches (TakeFlag s) m n stamp know same = ap (λ b. cond b (with_own know s (Some (Free stamp))) know) (both_taken s m n same)
 same_teaches (StoreBirth s birth) m n stamp know same = refl
 same_teaches (StoreKey s key) m n stamp know same = refl
+same_teaches (StoreValue s value) m n stamp know same = refl
 same_teaches (StoreLink s next) m n stamp know same = refl
 same_teaches (LoadLink at) m n stamp know same = ap (λ v. learn (LoadLink at) v stamp know) (ap value_in same)
 same_teaches (LoadBirth s) m n stamp know same = ap (λ v. learn (LoadBirth s) v stamp know) (ap value_in same)
 same_teaches (LoadKey s) m n stamp know same = ap (λ v. learn (LoadKey s) v stamp know) (ap value_in same)
+same_teaches (LoadValue s) m n stamp know same = ap (λ v. learn (LoadValue s) v stamp know) (ap value_in same)
 same_teaches (Publish pred expected s) m n stamp know same = ap (λ b. cond b (with_own (with_checked know (reads_won know (Publish pred expected s))) s None) know) (both_won expected m n same)
 same_teaches (Mark s expected) m n stamp know same = ap (λ b. cond b (with_checked know (reads_won know (Mark s expected))) know) (both_won expected m n same)
 same_teaches (Unlink pred expected s) m n stamp know same = ap (λ b. cond b (with_own (with_checked know (reads_won know (Unlink pred expected s))) s (Some (Unlinked false))) know) (both_won expected m n same)

@@ -36,7 +36,7 @@ keyed : (holding : Option Holding) (key : ℕ) → birth_in_hand (with_key holdi
 keyed None key = refl
 keyed (Some (Free stamp)) key = refl
 keyed (Some (Unlinked reread)) key = refl
-keyed (Some (InHand stamp birth k link)) key = refl
+keyed (Some (InHand stamp birth k value link)) key = refl
 
 pub keyed_birth : (p q : Trace) (s key r : ℕ) → Did (StoreKey s key) p q r → birth_in_hand ((knows q).own s) ≡ birth_in_hand ((knows p).own s)
 keyed_birth p q s key r d = ap birth_in_hand (ap (λ (k : Know). k.own s) d.know ∙ put_here (knows p).own s _) ∙ keyed ((knows p).own s) key

@@ -4,7 +4,7 @@ ghost use Rattle.std.specs.List.{AllByRecursion};
 ghost use Rattle.vbr_words.specs.Words.{IsLink, link_of};
 ghost use Rattle.vbr_words.specs.declared.shape.TheConstants.{MAX_EPOCH};
 ghost use Rattle.vbr_core.specs.Acceptance.{Accepts, stamp_in, MayPublish};
-ghost use Rattle.vbr_core.specs.Learning.{with_key, with_link, key_in_hand, link_in_hand, learn, with_own, with_checked, with_pending, reread, read_epoch};
+ghost use Rattle.vbr_core.specs.Learning.{with_key, with_value, with_link, key_in_hand, link_in_hand, value_in_hand, value_read, learn, with_own, with_checked, with_pending, reread, read_epoch};
 ghost use Rattle.vbr_core.specs.Kept.{know_of, FitsRead, FitsHolding};
 
 use crate::event::Step;
@@ -121,6 +121,15 @@ impl PassState {
         self.add_pending(Read::KeyOf(slot, key))
     }
 
+    // The value of a slot was loaded.
+    fn load_value(&mut self, slot: u32, value: u64) -> Result<(), AllocError>
+        ensures knows { OnOk result (know_of self.new ≡ with_pending (know_of self.old) (Read.ValueOf slot value)) }
+        ensures slots { length self.new.own ≡ length self.old.own }
+        ensures err { OnErr result (self.new ≡ self.old) }
+    {
+        self.add_pending(Read::ValueOf(slot, value))
+    }
+
     // The slot that the pass unlinked is stamped, and free.
     fn store_stamp(&mut self, slot: u32, stamp: u64)
         requires { slot < length self.old.own }
@@ -152,11 +161,11 @@ impl PassState {
     fn bear(&mut self, slot: u32, birth: u64)
         requires slot { slot < length self.old.own }
         requires birth { birth ≡ self.old.epoch }
-        ensures knows { know_of self.new ≡ with_own (know_of self.old) slot (Some (Holding.InHand (stamp_in ((know_of self.old).own slot)) birth None None)) }
+        ensures knows { know_of self.new ≡ with_own (know_of self.old) slot (Some (Holding.InHand (stamp_in ((know_of self.old).own slot)) birth None None None)) }
         ensures slots { length self.new.own ≡ length self.old.own }
     {
         let stamp = holdings::stamp_in(self.own[slot as usize]);
-        self.put(slot, Some(Holding::InHand(stamp, birth, None, None)));
+        self.put(slot, Some(Holding::InHand(stamp, birth, None, None, None)));
     }
 
     // The key of a slot in hand is stored.
@@ -167,6 +176,16 @@ impl PassState {
     {
         let holding = self.holding(slot);
         self.put(slot, holdings::with_key(holding, key));
+    }
+
+    // The value of a slot in hand is stored.
+    fn store_value(&mut self, slot: u32, value: u64)
+        requires slot { slot < length self.old.own }
+        ensures knows { know_of self.new ≡ with_own (know_of self.old) slot (with_value ((know_of self.old).own slot) value) }
+        ensures slots { length self.new.own ≡ length self.old.own }
+    {
+        let holding = self.holding(slot);
+        self.put(slot, holdings::with_value(holding, value));
     }
 
     // The link of a slot in hand is stored.
@@ -213,12 +232,23 @@ impl PassState {
         );
         let holding = self.holding(slot);
         let link_in_hand = self.link_in_hand(shape, pred, expected, slot);
-        self.add_checked(&[
-            Read::LinkAt(pred, link),
-            Read::BirthOf(slot, holdings::birth_in_hand(holding)),
-            Read::KeyOf(slot, holdings::key_in_hand(holding)),
-            Read::LinkAt(At::Slot(slot), link_in_hand),
-        ])?;
+        let birth = holdings::birth_in_hand(holding);
+        let key = holdings::key_in_hand(holding);
+        match holdings::value_in_hand(holding) {
+            None => self.add_checked(&[
+                Read::LinkAt(pred, link),
+                Read::BirthOf(slot, birth),
+                Read::KeyOf(slot, key),
+                Read::LinkAt(At::Slot(slot), link_in_hand),
+            ])?,
+            Some(value) => self.add_checked(&[
+                Read::LinkAt(pred, link),
+                Read::BirthOf(slot, birth),
+                Read::KeyOf(slot, key),
+                Read::LinkAt(At::Slot(slot), link_in_hand),
+                Read::ValueOf(slot, value),
+            ])?,
+        }
         self.put(slot, None);
         Ok(())
     }
@@ -289,11 +319,13 @@ impl PassState {
             Step::LoadLink { at } => self.load_link(at, found)?,
             Step::LoadBirth { slot } => self.load_birth(slot, found)?,
             Step::LoadKey { slot } => self.load_key(slot, found)?,
+            Step::LoadValue { slot } => self.load_value(slot, found)?,
             Step::StoreStamp { slot, stamp } => self.store_stamp(slot, stamp),
             Step::Raise { slot } => self.raise(slot),
             Step::TakeFlag { slot } if has_flag(found, slot) => self.take_flag(slot, stamp),
             Step::StoreBirth { slot, birth } => self.bear(slot, birth),
             Step::StoreKey { slot, key } => self.store_key(slot, key),
+            Step::StoreValue { slot, value } => self.store_value(slot, value),
             Step::StoreLink { slot, .. } => {
                 let link = self.new_link(shape, step);
                 self.store_link(slot, link);

@@ -1,4 +1,5 @@
 use Rattle.std.proofs.Common.{rules, ◌≡◌, ◌+◌, ◌*◌, ◌<◌, ◌≤◌, true, false, refl, sym, ◌∙◌, arith, inr, ap}
+use Rattle.vbr_core.specs.History.{set_call}
 use Rattle.vbr_core.specs.declared.history.Op.TheVariants.{Has}
 use Rattle.vbr_slots.proofs.Lemmas.{answer_on, loads_on, quiet_on, same_on}
 use Rattle.vbr_pools.proofs.Lemmas.{counts_on, none_on, took_all}
@@ -100,7 +101,7 @@ returns-in-Ok-clause-adds c =
     rw same (
     let before = observes_on c.loop-sight.invariant.3.observes c.look.ensures.observes in
     let same = (quiet_on c.loop-sight.invariant.3.tries.goes.quiet c.look.ensures.goes.quiet).same in
-    answer_on (λ who. record { who = who; op = Has; key = c.args.key; reply = c.in-Ok.reply }) same before.adds_none (rw (c.look.ensures.call.key ∙ c.loop-sight.invariant.0.key ∙ c.loop-sight.invariant.1) at c.in-Ok.ensures.adds))
+    answer_on (λ who. (set_call who Has c.args.key c.in-Ok.reply)) same before.adds_none (rw (c.look.ensures.call.key ∙ c.loop-sight.invariant.0.key ∙ c.loop-sight.invariant.1) at c.in-Ok.ensures.adds))
 
 pub returns-in_default-clause-only_loads : goal.returns-in_default-clause-only_loads
 returns-in_default-clause-only_loads c =

@@ -19,12 +19,12 @@ confirm_absent-requires-clause-at c =
 pub confirm_absent-requires-clause-held : goal.confirm_absent-requires-clause-held
 confirm_absent-requires-clause-held c =
     let P : Dimensions → Type 0 = λ shape. HasChecked shape (knows c.args.at.now.pass.now.trace) (ConfirmAbsent c.args.op c.args.key c.args.pred.now.at c.args.pred.now.word) in
-    subst P c.args.at.now.own.1 (absent_accepted c.args.at.now.pass.now c.law.ensures c.args.op c.args.key c.args.pred.now c.requires.held c.requires.behind c.requires.before c.requires.unmarked c.requires.op).held
+    subst P c.args.at.now.own.1 (absent_accepted c.args.at.now.pass.now c.law.ensures c.args.op c.args.key c.args.pred.now c.requires.held c.requires.behind c.requires.before c.requires.unmarked c.requires.op c.requires.no_get).held
 
 pub confirm_absent-requires-clause-in_range : goal.confirm_absent-requires-clause-in_range
 confirm_absent-requires-clause-in_range c =
     let P : Dimensions → Type 0 = λ shape. IsInRange shape (knows c.args.at.now.pass.now.trace) (ConfirmAbsent c.args.op c.args.key c.args.pred.now.at c.args.pred.now.word) in
-    subst P c.args.at.now.own.1 (absent_accepted c.args.at.now.pass.now c.law.ensures c.args.op c.args.key c.args.pred.now c.requires.held c.requires.behind c.requires.before c.requires.unmarked c.requires.op).in_range
+    subst P c.args.at.now.own.1 (absent_accepted c.args.at.now.pass.now c.law.ensures c.args.op c.args.key c.args.pred.now c.requires.held c.requires.behind c.requires.before c.requires.unmarked c.requires.op c.requires.no_get).in_range
 
 pub returns-in-Ok-clause-made : goal.returns-in-Ok-clause-made
 returns-in-Ok-clause-made c = absent_made c.in-Ok.ensures.step

@@ -18,15 +18,15 @@ use Rattle.vbr_access.proofs.uncounted.confirming.confirm_present.Goals as goal
 pub confirm_present-requires-clause-slot : goal.confirm_present-requires-clause-slot
 confirm_present-requires-clause-slot c =
     let P : Dimensions → Type 0 = λ shape. c.in-Slot.slot < shape.slots in
-    subst P c.args.at.now.own.1 (present_accepted c.args.at.now.pass.now c.law.ensures c.args.op c.args.held.now c.in-Slot.slot c.requires.held c.in-Slot.is c.requires.key c.requires.unmarked c.requires.op).in_shape
+    subst P c.args.at.now.own.1 (present_accepted c.args.at.now.pass.now c.law.ensures c.args.op c.args.held.now c.in-Slot.slot c.requires.held c.in-Slot.is c.requires.key c.requires.unmarked c.requires.op c.requires.no_get).in_shape.0
 
 pub confirm_present-requires-clause-held : goal.confirm_present-requires-clause-held
-confirm_present-requires-clause-held c = (present_accepted c.args.at.now.pass.now c.law.ensures c.args.op c.args.held.now c.in-Slot.slot c.requires.held c.in-Slot.is c.requires.key c.requires.unmarked c.requires.op).held
+confirm_present-requires-clause-held c = (present_accepted c.args.at.now.pass.now c.law.ensures c.args.op c.args.held.now c.in-Slot.slot c.requires.held c.in-Slot.is c.requires.key c.requires.unmarked c.requires.op c.requires.no_get).held
 
 pub returns-in-Ok-clause-made : goal.returns-in-Ok-clause-made
 returns-in-Ok-clause-made c = λ key k.
     let P : At → Type 0 = λ at. KeyAt (knows c.args.at.now.pass.now.trace) at key in
-    present_made c.law.ensures.shape c.law.ensures.is_run c.in-Ok.ensures.step key (subst P c.in-Slot.is k)
+    present_made c.law.ensures.shape c.law.ensures.is_run c.requires.no_get c.in-Ok.ensures.step key (subst P c.in-Slot.is k)
 
 pub returns-in-Err-clause-quiet : goal.returns-in-Err-clause-quiet
 returns-in-Err-clause-quiet c = present_failed c.in-Err.ensures.step.0 c.in-Err.ensures.step.1
@@ -34,7 +34,7 @@ returns-in-Err-clause-quiet c = present_failed c.in-Err.ensures.step.0 c.in-Err.
 pub returns-in-Ok-clause-safe : goal.returns-in-Ok-clause-safe
 returns-in-Ok-clause-safe c =
     let P : At → Type 0 = λ at. KeyAt (knows c.args.at.now.pass.now.trace) at c.requires.key.0 in
-    made_safe c.args.at.now.pass.now c.law.ensures (present_made c.law.ensures.shape c.law.ensures.is_run c.in-Ok.ensures.step c.requires.key.0 (subst P c.in-Slot.is c.requires.key.1))
+    made_safe c.args.at.now.pass.now c.law.ensures (present_made c.law.ensures.shape c.law.ensures.is_run c.requires.no_get c.in-Ok.ensures.step c.requires.key.0 (subst P c.in-Slot.is c.requires.key.1))
 
 pub returns-in-Ok-clause-takes_no_slot : goal.returns-in-Ok-clause-takes_no_slot
 returns-in-Ok-clause-takes_no_slot c = did_none c.in-Ok.ensures.step refl c.confirm_present.ensures.pool
@@ -45,7 +45,7 @@ returns-in-Err-clause-takes_no_slot c = did_none c.in-Err.ensures.step.0 refl c.
 pub returns-in-Ok-clause-adds : goal.returns-in-Ok-clause-adds
 returns-in-Ok-clause-adds c = λ key k.
     let P : At → Type 0 = λ at. KeyAt (knows c.args.at.now.pass.now.trace) at key in
-    present_adds c.law.ensures.shape c.law.ensures.is_run c.in-Ok.ensures.step key (subst P c.in-Slot.is k)
+    present_adds c.law.ensures.shape c.law.ensures.is_run c.requires.no_get c.in-Ok.ensures.step key (subst P c.in-Slot.is k)
 
 pub returns-in-Err-clause-adds_none : goal.returns-in-Err-clause-adds_none
 returns-in-Err-clause-adds_none c = present_adds_none c.in-Err.ensures.step.0 c.in-Err.ensures.step.1

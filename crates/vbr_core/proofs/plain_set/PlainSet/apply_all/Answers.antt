@@ -1,20 +1,11 @@
 -- One more call is answered.
-use Rattle.std.proofs.Common.{◌≡◌, ℕ, zero, suc, ◌+◌, ◌<◌, List, [], ◌∷◌, length, drop, set, refl, sym, ap, ◌∙◌, add-one, arith}
+use Rattle.std.proofs.Common.{◌<◌, length, refl, ◌∙◌, arith}
 use Rattle.std.proofs.Math.Seq.{map-set_same}
-use Rattle.std.proofs.lemmas.List.{take_more_set, drop-set-lt}
+use Rattle.std.proofs.lemmas.List.{take_more_set}
 use Rattle.vbr_core.specs.History.{request_of}
-use Rattle.vbr_core.specs.declared.history.Call.{Call}
+use Rattle.vbr_core.proofs.AnsweredCalls.{rest_after}
 use Rattle.vbr_core.proofs.Histories.{Leads-push}
 use Rattle.vbr_core.proofs.plain_set.PlainSet.apply_all.Goals as goal
-
-drop_one : (i : ℕ) (calls : List Call) → drop 1 (drop i calls) ≡ drop (suc i) calls
-drop_one zero calls = refl
-drop_one (suc i) [] = refl
-drop_one (suc i) (call ∷ calls) = drop_one i calls
-
--- a write at the first of the calls that stay leaves the others
-rest_after : (calls first : List Call) (i : ℕ) → drop i calls ≡ drop i first → (call : Call) → drop (i + 1) (set calls i call) ≡ drop (i + 1) first
-rest_after calls first i same call = drop-set-lt (i + 1) calls i call (omega arith) ∙ rw add-one (sym (drop_one i calls) ∙ ap (drop 1) same ∙ drop_one i first)
 
 pub loop-call-preserved : goal.loop-call-preserved
 loop-call-preserved c =

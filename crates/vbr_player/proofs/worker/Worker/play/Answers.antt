@@ -2,8 +2,8 @@ use Rattle.std.proofs.Common.{arith}
 use Rattle.vbr_player.proofs.Working.{played_next, room_next}
 use Rattle.vbr_player.proofs.worker.Worker.play.Goals as goal
 
-pub play_line-requires : goal.play_line-requires
-play_line-requires g c = room_next c.args.part.now.lines.now c.loop-line.line-index _ c.args.self.now c.loop-line.self c.loop-line-test.true c.loop-line.invariant.played c.requires
+pub play_line-requires-clause-room : goal.play_line-requires-clause-room
+play_line-requires-clause-room g c = room_next c.args.part.now.lines.now c.loop-line.line-index _ c.args.self.now c.loop-line.self c.loop-line-test.true c.loop-line.invariant.played c.requires
 
 pub loop-line-preserved : goal.loop-line-preserved
 loop-line-preserved g c = record {

@@ -8,20 +8,20 @@ use Rattle.vbr_core.proofs.world.lists.Lists.opened.Goals as goal
 
 pub loop-number-preserved : goal.loop-number-preserved
 loop-number-preserved c =
-    let shape : Dimensions = record c.args.shape { keys = c.args.keys.now } in
+    let shape : Dimensions = record c.args.shape { keys = c.args.keys.now; payloads = c.args.values.now } in
     let lists = c.loop-number.lists in
     let low = c.loop-number.invariant.low in
     let last : c.loop-number.number ≡ suc (c.loop-number.number - 1) = (let test = c.loop-number-test.true in omega (arith, test)) in
     let inside : c.loop-number.number - 1 < length c.args.keys.now = omega (arith, low, last) in
     record {
       low = omega (arith, low);
-      world = opening_step shape lists.shape c.loop-number.number (c.loop-number.number - 1) _ _ (world_of lists) (world_of c.link_key.new.self) c.loop-number.invariant.shape c.loop-number.invariant.world last (omega (arith, inside)) refl inside (omega arith) c.link_key.ensures.written;
+      world = opening_step shape lists.shape c.loop-number.number (c.loop-number.number - 1) _ _ _ (world_of lists) (world_of c.link_key.new.self) c.loop-number.invariant.shape c.loop-number.invariant.world last (omega (arith, inside)) refl c.value_at.ensures inside (omega arith) c.link_key.ensures.written;
       shape = c.link_key.ensures.stays.0 ∙ c.loop-number.invariant.shape;
       passes = c.link_key.ensures.stays.1 ∙ c.loop-number.invariant.passes;
     }
 
 pub returns-clause-opening : goal.returns-clause-opening
 returns-clause-opening c =
-    let shape : Dimensions = record c.args.shape { keys = c.args.keys.now } in
+    let shape : Dimensions = record c.args.shape { keys = c.args.keys.now; payloads = c.args.values.now } in
     let none : c.loop-number.number ≡ 0 = (let test = c.loop-number-test.false in omega (arith, test)) in
     c.loop-number.invariant.world ∙ ap (opening_from shape) none ∙ opening_all shape

@@ -7,8 +7,8 @@ use Rattle.vbr_core.proofs.world.lists.Lists.opened.Given as goal
 abbrev pub invariant-loop-number : goal.invariant-loop-number
 invariant-loop-number l = record {
   low : l.number ≤ length l.keys;
-  world : world_of l.lists ≡ opening_from (record l.fn.shape { keys = l.keys }) l.number;
-  shape : l.lists.shape ≡ record l.fn.shape { keys = l.keys };
+  world : world_of l.lists ≡ opening_from (record l.fn.shape { keys = l.keys; payloads = l.values }) l.number;
+  shape : l.lists.shape ≡ record l.fn.shape { keys = l.keys; payloads = l.values };
   passes : length l.lists.passes ≡ l.passes;
 }
 

@@ -1,0 +1,43 @@
+-- The worked lists of events on nodes that have values, computed: each is accepted, with its effects and with the link words that it names.
+use Rattle.std.proofs.Common.{ℕ, zero, suc, List, take, drop, rules, tests}
+use Rattle.vbr_words.specs.Dimensions.{Dimensions}
+use Rattle.vbr_words.specs.Flags.{has_flag, first_bits, flag_word}
+use Rattle.vbr_words.specs.Words.{word_of, link_of}
+use Rattle.vbr_words.specs.Buckets.{bucket_of}
+use Rattle.vbr_core.specs.Machine.{World, opening}
+use Rattle.vbr_core.specs.declared.event.Effect.{Effect}
+use Rattle.vbr_core.specs.declared.event.Step.{Step}
+use Rattle.vbr_event_lists.specs.Worked.{AreWorked, three_slots, one_slot}
+use Rattle.vbr_event_lists.specs.Valued.{valued, with_values}
+use Rattle.vbr_event_lists.specs.declared.lists.TheConstants.{REBORN_SLOT, SAME_WORD, TWO_HELPERS, REBORN_SLOT_WORDS, SAME_WORD_WORDS, TWO_HELPERS_WORDS}
+use Rattle.vbr_event_lists.specs.declared.valued.TheConstants.{STORED_VALUE, STORED_VALUE_WORDS}
+use Rattle.vbr_event_lists.proofs.WorkedRows.{left_after, worked_in_two}
+
+-- rows are worked in parts: so many parts of n rows, and then what is left
+abbrev pub InParts : Dimensions → ℕ → ℕ → List (ℕ × Step × Effect) → World → List ℕ → Type 0
+InParts shape zero n rows w words = AreWorked shape w rows words
+InParts shape (suc parts) n rows w words =
+    AreWorked shape w (take n rows) words × InParts shape parts n (drop n rows) (left_after shape n rows w words).0 (left_after shape n rows w words).1
+
+-- rows that are worked in parts are worked
+worked_in_parts : (shape : Dimensions) (parts n : ℕ) (rows : List (ℕ × Step × Effect)) (w : World) (words : List ℕ) → InParts shape parts n rows w words → AreWorked shape w rows words
+worked_in_parts shape zero n rows w words all = all
+worked_in_parts shape (suc parts) n rows w words all =
+    worked_in_two shape n rows w words all.0 (worked_in_parts shape parts n (drop n rows) (left_after shape n rows w words).0 (left_after shape n rows w words).1 all.1)
+
+pub stored_value : AreWorked (valued one_slot) (opening (valued one_slot)) STORED_VALUE STORED_VALUE_WORDS
+unfolding bucket_of link_of word_of has_flag first_bits flag_word
+stored_value = search (rules, tests)
+
+-- the lists that are made from others in parts, since the whole is too long for one search
+pub two_helpers_with_values : AreWorked (valued one_slot) (opening (valued one_slot)) (with_values TWO_HELPERS) TWO_HELPERS_WORDS
+unfolding bucket_of link_of word_of has_flag first_bits flag_word
+two_helpers_with_values = worked_in_parts (valued one_slot) 1 10 (with_values TWO_HELPERS) (opening (valued one_slot)) TWO_HELPERS_WORDS (search (rules, tests), search (rules, tests))
+
+pub reborn_slot_with_values : AreWorked (valued three_slots) (opening (valued three_slots)) (with_values REBORN_SLOT) REBORN_SLOT_WORDS
+unfolding bucket_of link_of word_of has_flag first_bits flag_word
+reborn_slot_with_values = worked_in_parts (valued three_slots) 4 10 (with_values REBORN_SLOT) (opening (valued three_slots)) REBORN_SLOT_WORDS (search (rules, tests), (search (rules, tests), (search (rules, tests), (search (rules, tests), search (rules, tests)))))
+
+pub same_word_with_values : AreWorked (valued three_slots) (opening (valued three_slots)) (with_values SAME_WORD) SAME_WORD_WORDS
+unfolding bucket_of link_of word_of has_flag first_bits flag_word
+same_word_with_values = worked_in_parts (valued three_slots) 3 10 (with_values SAME_WORD) (opening (valued three_slots)) SAME_WORD_WORDS (search (rules, tests), (search (rules, tests), (search (rules, tests), search (rules, tests))))

@@ -1,0 +1,26 @@
+-- A worked list of events on nodes that have values, made from one on nodes that have none.
+use Rattle.std.specs.Prelude.{ℕ, ◌+◌, ◌-◌, ◌^◌, min, List, [], ◌∷◌, Option, Some, None, true}
+use Rattle.vbr_words.specs.Dimensions.{Dimensions}
+use Rattle.vbr_core.specs.declared.event.Effect.{Effect}
+use Rattle.vbr_core.specs.declared.event.Effect.TheVariants.{Done}
+use Rattle.vbr_core.specs.declared.event.Step.{Step}
+use Rattle.vbr_core.specs.declared.event.Step.TheVariants.{StoreKey, StoreValue}
+
+-- the row that stores a value behind a step that stores a key: 100 more than the key, up to the greatest number
+abbrev pub value_stored : ℕ → Step → Option (ℕ × Step × Effect)
+value_stored pass (StoreKey s key) = Some (pass, StoreValue s (min (key + 100) (2 ^ 64 - 1)), Done)
+value_stored pass _ = None
+
+-- rows behind one more, if there is one
+abbrev pub behind : Option (ℕ × Step × Effect) → List (ℕ × Step × Effect) → List (ℕ × Step × Effect)
+behind None rows = rows
+behind (Some row) rows = row ∷ rows
+
+-- the rows of a list, in which each store of a key is followed by that of its value
+abbrev pub with_values : List (ℕ × Step × Effect) → List (ℕ × Step × Effect)
+with_values [] = []
+with_values (row ∷ rows) = row ∷ behind (value_stored row.0 row.1) (with_values rows)
+
+-- a shape whose nodes have values
+abbrev pub valued : Dimensions → Dimensions
+valued shape = record shape { values = true }

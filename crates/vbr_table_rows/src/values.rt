@@ -1,0 +1,395 @@
+//! The core's world where nodes have values: the worked lists of events with values, refusals, and a
+//! world that opens with entries. The calls are those of a plain map.
+ghost use Rattle.std.specs.Prelude.{◌≡◌, true, false, IfOk};
+
+use crate::world::{call, events_of, expect, follow, look, make, stop_of, word_at};
+use std::alloc::{AllocError, Global};
+use std::process::Abort;
+use std::test::Fail;
+use vbr_core::{Call, CoreRefusal, Effect, Event, Op, PlainMap, SlotPlace, Step, World};
+use vbr_event_lists::{REBORN_SLOT, Row, SAME_WORD, STORED_VALUE, TWO_HELPERS, with_values};
+use vbr_words::{At, Place, Shape};
+
+// A call that was answered yes and stored or gave a value.
+fn valued(who: u32, op: Op, key: u64, value: u64) -> Call {
+    Call {
+        value: Some(value),
+        ..call(who, op, key)
+    }
+}
+
+// Answers the requests of calls by a plain map that has these entries, and compares the replies and the
+// values.
+fn expect_map(
+    rt: &impl Abort,
+    alloc: Global,
+    entries: &[(u64, u64)],
+    calls: &[Call],
+) -> Result<(), AllocError> {
+    let mut map = PlainMap::new(alloc);
+    for (key, value) in entries {
+        map.apply(Op::Insert, *key, *value)?;
+    }
+    for call in calls {
+        let told = map.apply(call.op, call.key, call.value.unwrap_or(0))?;
+        assert_eq!(rt; told, (call.reply, call.value), "{call:?}");
+    }
+    Ok(())
+}
+
+// Compares the words that a shape has without values, in a world without and in one with them.
+fn expect_same(rt: &impl Abort, plain: &World, world: &World, shape: Shape)
+    requires plain { plain.now.shape ≡ shape }
+    requires world { world.now.shape ≡ record shape { values = true } }
+{
+    let valued = shape.with_values();
+    for place in [
+        Place::Epoch,
+        Place::ShapeWord,
+        Place::Head(0),
+        Place::Flags(0),
+    ] {
+        let wanted = word_at(plain, shape, place);
+        assert_eq!(rt; word_at(world, valued, place), wanted, "{place:?}");
+    }
+    for slot in 0..shape.slots() {
+        for place in [
+            Place::LinkOf(slot),
+            Place::Birth(slot),
+            Place::Stamp(slot),
+            Place::Key(slot),
+        ] {
+            let wanted = word_at(plain, shape, place);
+            assert_eq!(rt; word_at(world, valued, place), wanted, "{place:?}");
+        }
+        assert_eq!(rt; word_at(plain, shape, Place::Value(slot)), None);
+    }
+}
+
+// Makes the steps of a list on nodes without values, and those of the list with values on nodes that
+// have them. Compares their words and the values at the end, and gives the world with values.
+fn follow_both(
+    rt: &impl Abort,
+    alloc: Global,
+    shape: Shape,
+    rows: &[Row],
+    values: &[u64],
+) -> Result<World, Fail>
+    requires { shape.values ≡ false }
+    ensures { IfOk result (λ world. world.shape ≡ record shape { values = true }) }
+{
+    let plain = follow(rt, alloc, shape, rows, &[])?;
+    let valued_rows = with_values(alloc, rows)?;
+    let world = follow(rt, alloc, shape.with_values(), &valued_rows, &[])?;
+    expect_same(rt, &plain, &world, shape);
+    for slot in 0..shape.slots() {
+        let told = word_at(&world, shape.with_values(), Place::Value(slot));
+        assert_eq!(rt; told.as_ref(), values.get(slot as usize), "slot {slot}");
+    }
+    Ok(world)
+}
+
+#[test]
+fn a_reborn_slot(rt: HostRuntime) -> Result<(), Fail> {
+    let shape = Shape::new(3, 1, 10)?;
+    let world = follow_both(&rt, rt.alloc(), shape, &REBORN_SLOT, &[130, 110, 125])?;
+    let calls = [
+        valued(0, Op::Insert, 30, 130),
+        valued(0, Op::Insert, 20, 120),
+        valued(0, Op::Remove, 20, 120),
+        valued(0, Op::Insert, 10, 110),
+    ];
+    let places = [
+        SlotPlace::Listed(0),
+        SlotPlace::Listed(0),
+        SlotPlace::Hand(1),
+    ];
+    expect(&rt, &world, shape.with_values(), &calls, &places, 4);
+    Ok(expect_map(&rt, rt.alloc(), &[], &calls)?)
+}
+
+#[test]
+fn a_word_that_comes_back(rt: HostRuntime) -> Result<(), Fail> {
+    let shape = Shape::new(3, 1, 10)?;
+    let world = follow_both(&rt, rt.alloc(), shape, &SAME_WORD, &[130, 120, 110])?;
+    let calls = [
+        valued(0, Op::Insert, 30, 130),
+        valued(0, Op::Insert, 10, 110),
+        valued(0, Op::Remove, 10, 110),
+        valued(1, Op::Insert, 20, 120),
+    ];
+    let places = [
+        SlotPlace::Listed(0),
+        SlotPlace::Listed(0),
+        SlotPlace::Own(0),
+    ];
+    expect(&rt, &world, shape.with_values(), &calls, &places, 3);
+    Ok(expect_map(&rt, rt.alloc(), &[], &calls)?)
+}
+
+#[test]
+fn two_helpers(rt: HostRuntime) -> Result<(), Fail> {
+    let shape = Shape::new(1, 1, 10)?;
+    let world = follow_both(&rt, rt.alloc(), shape, &TWO_HELPERS, &[107])?;
+    let calls = [valued(0, Op::Insert, 7, 107), valued(0, Op::Remove, 7, 107)];
+    expect(
+        &rt,
+        &world,
+        shape.with_values(),
+        &calls,
+        &[SlotPlace::Own(1)],
+        1,
+    );
+    Ok(expect_map(&rt, rt.alloc(), &[], &calls)?)
+}
+
+#[test]
+fn a_stored_value_is_got(rt: HostRuntime) -> Result<(), Fail> {
+    let shape = Shape::new(1, 1, 10)?.with_values();
+    let looks = [
+        (4, Place::Value(0), 0),
+        (5, Place::Value(0), 107),
+        (21, Place::Value(0), 107),
+    ];
+    let world = follow(&rt, rt.alloc(), shape, &STORED_VALUE, &looks)?;
+    let calls = [
+        valued(0, Op::Insert, 7, 107),
+        valued(1, Op::Get, 7, 107),
+        valued(0, Op::Remove, 7, 107),
+    ];
+    expect(&rt, &world, shape, &calls, &[SlotPlace::Listed(0)], 1);
+    Ok(expect_map(&rt, rt.alloc(), &[], &calls)?)
+}
+
+#[test]
+fn a_get_of_an_absent_key_has_no_value(rt: HostRuntime) -> Result<(), Fail> {
+    let shape = Shape::new(1, 1, 10)?.with_values();
+    let get = Step::ConfirmAbsent {
+        op: Op::Get,
+        key: 7,
+        at: At::Head(0),
+        expected: 0,
+    };
+    let rows = [
+        (0, Step::ReadEpoch, Effect::Value(1)),
+        (0, Step::LoadLink { at: At::Head(0) }, Effect::Value(0)),
+        (0, Step::ReadEpoch, Effect::Value(1)),
+        (0, get, Effect::Answered(false)),
+    ];
+    let world = follow(&rt, rt.alloc(), shape, &rows, &[])?;
+    let no = Call {
+        reply: false,
+        ..call(0, Op::Get, 7)
+    };
+    assert_eq!(rt; world.calls(), [no].as_slice());
+    Ok(())
+}
+
+// The events of the first rows of the list with a stored value, so many, but for one of them, and then
+// a step of a pass.
+fn events_but_one(
+    alloc: Global,
+    count: usize,
+    left_out: usize,
+    last: (u32, Step),
+) -> Result<Vec<Event>, AllocError> {
+    let mut events = events_of(alloc, &STORED_VALUE, count)?;
+    if left_out < events.len() {
+        events.remove(left_out);
+    }
+    let (pass, step) = last;
+    events.push(Event { pass, step })?;
+    Ok(events)
+}
+
+const PUBLISH: Step = Step::Publish {
+    pred: At::Head(0),
+    expected: 0,
+    slot: 0,
+};
+
+const GET: Step = Step::ConfirmPresent {
+    op: Op::Get,
+    slot: 0,
+    expected: 33_554_432,
+};
+
+const HAS: Step = Step::ConfirmPresent {
+    op: Op::Has,
+    slot: 0,
+    expected: 33_554_432,
+};
+
+const MARK: Step = Step::Mark {
+    slot: 0,
+    expected: 33_554_432,
+};
+
+/// Behind so many rows, one of which is left out, the step is refused so, if it is. Row 4 stores the
+/// value, and row 16 loads it.
+#[test]
+fn asks_for_values(rt: HostRuntime) -> Result<(), Fail> {
+    let shape = Shape::new(1, 1, 10)?.with_values();
+    let store = Step::StoreValue { slot: 0, value: 5 };
+    let rows = [
+        (0, 99, 0, store, Some(CoreRefusal::NotOwned)),
+        (2, 99, 0, store, Some(CoreRefusal::NotOwned)),
+        (9, 99, 0, store, Some(CoreRefusal::NotOwned)),
+        (
+            0,
+            99,
+            0,
+            Step::LoadValue { slot: 0 },
+            Some(CoreRefusal::NotHeld),
+        ),
+        (
+            0,
+            99,
+            0,
+            Step::LoadValue { slot: 1 },
+            Some(CoreRefusal::OutOfRange),
+        ),
+        (8, 4, 0, PUBLISH, Some(CoreRefusal::OutOfRange)),
+        (8, 99, 0, PUBLISH, None),
+        (18, 16, 1, MARK, Some(CoreRefusal::NotHeld)),
+        (18, 99, 1, MARK, None),
+        (18, 16, 1, GET, Some(CoreRefusal::NotHeld)),
+        (18, 99, 1, GET, None),
+        (18, 16, 1, HAS, None),
+    ];
+    for (count, left_out, pass, step, refusal) in rows {
+        let events = events_but_one(rt.alloc(), count, left_out, (pass, step))?;
+        let wanted = refusal.map(|refusal| (events.len().saturating_sub(1), refusal));
+        let stop = stop_of(rt.alloc(), shape, 2, &events);
+        assert_eq!(rt;
+            stop,
+            wanted,
+            "{step:?} behind {count} rows but row {left_out}"
+        );
+    }
+    Ok(())
+}
+
+/// A value that was stored before the birth doesn't count.
+#[test]
+fn asks_for_a_value_since_the_birth(rt: HostRuntime) -> Result<(), Fail> {
+    let shape = Shape::new(1, 1, 10)?.with_values();
+    let mut events = events_of(rt.alloc(), &STORED_VALUE, 5)?;
+    let steps = [
+        Step::StoreBirth { slot: 0, birth: 1 },
+        Step::StoreKey { slot: 0, key: 7 },
+        Step::LoadLink { at: At::Head(0) },
+        Step::ReadEpoch,
+        Step::StoreLink {
+            slot: 0,
+            next: None,
+        },
+        PUBLISH,
+    ];
+    for step in steps {
+        events.push(Event { pass: 0, step })?;
+    }
+    let stop = stop_of(rt.alloc(), shape, 2, &events);
+    assert_eq!(rt; stop, Some((10, CoreRefusal::OutOfRange)));
+    Ok(())
+}
+
+/// Where nodes have no values, no step is made for one.
+#[test]
+fn a_set_has_no_values(rt: HostRuntime) -> Result<(), Fail> {
+    let shape = Shape::new(1, 1, 10)?;
+    let absent = Step::ConfirmAbsent {
+        op: Op::Get,
+        key: 7,
+        at: At::Head(0),
+        expected: 0,
+    };
+    let steps = [
+        Step::StoreValue { slot: 0, value: 5 },
+        Step::LoadValue { slot: 0 },
+        GET,
+        absent,
+    ];
+    for step in steps {
+        let stop = stop_of(rt.alloc(), shape, 1, &[Event { pass: 0, step }]);
+        assert_eq!(rt; stop, Some((0, CoreRefusal::OutOfRange)), "{step:?}");
+    }
+    Ok(())
+}
+
+/// The value of a key stands beside it; the rest is as with keys alone.
+#[test]
+fn opens_with_entries(rt: HostRuntime) -> Result<(), Fail> {
+    let shape = Shape::new(4, 2, 10)?.with_values();
+    let world = World::open_with_entries(rt.alloc(), shape, 2, &[(2, 102), (5, 105), (9, 109)])?;
+    let looks = [
+        (0, Place::Epoch, 1),
+        (0, Place::ShapeWord, 167_772_164),
+        (0, Place::Head(0), 33_554_433),
+        (0, Place::Head(1), 33_554_434),
+        (0, Place::LinkOf(0), 33_554_432),
+        (0, Place::Birth(0), 1),
+        (0, Place::Stamp(0), 0),
+        (0, Place::Key(0), 2),
+        (0, Place::Value(0), 102),
+        (0, Place::LinkOf(1), 33_554_435),
+        (0, Place::Birth(1), 1),
+        (0, Place::Stamp(1), 0),
+        (0, Place::Key(1), 5),
+        (0, Place::Value(1), 105),
+        (0, Place::LinkOf(2), 33_554_432),
+        (0, Place::Birth(2), 1),
+        (0, Place::Stamp(2), 0),
+        (0, Place::Key(2), 9),
+        (0, Place::Value(2), 109),
+        (0, Place::LinkOf(3), 16_777_216),
+        (0, Place::Birth(3), 0),
+        (0, Place::Stamp(3), 0),
+        (0, Place::Key(3), 0),
+        (0, Place::Value(3), 0),
+        (0, Place::Flags(0), 8),
+    ];
+    assert_eq!(rt; look(&rt, &world, shape, 0, &looks), 25);
+    assert_eq!(rt; world.incarnations(), 3);
+    Ok(())
+}
+
+/// The first node of bucket 1 is that of 5: a pass gets its value, and takes it out.
+#[test]
+fn gives_the_values_of_its_opening(rt: HostRuntime) -> Result<(), Fail> {
+    let shape = Shape::new(4, 2, 10)?.with_values();
+    let entries = [(2, 102), (5, 105), (9, 109)];
+    let mut world = World::open_with_entries(rt.alloc(), shape, 2, &entries)?;
+    let get = Step::ConfirmPresent {
+        op: Op::Get,
+        slot: 1,
+        expected: 33_554_435,
+    };
+    let mark = Step::Mark {
+        slot: 1,
+        expected: 33_554_435,
+    };
+    let rows = [
+        (Step::ReadEpoch, Effect::Value(1)),
+        (
+            Step::LoadLink { at: At::Head(1) },
+            Effect::Value(33_554_434),
+        ),
+        (Step::ReadEpoch, Effect::Value(1)),
+        (Step::LoadKey { slot: 1 }, Effect::Value(5)),
+        (Step::LoadValue { slot: 1 }, Effect::Value(105)),
+        (
+            Step::LoadLink { at: At::Slot(1) },
+            Effect::Value(33_554_435),
+        ),
+        (Step::ReadEpoch, Effect::Value(1)),
+        (get, Effect::Answered(true)),
+        (mark, Effect::Won),
+    ];
+    for (step, effect) in rows {
+        make(&rt, &mut world, Event { pass: 0, step }, effect);
+    }
+    let calls = [valued(0, Op::Get, 5, 105), valued(0, Op::Remove, 5, 105)];
+    assert_eq!(rt; world.calls(), calls.as_slice());
+    Ok(expect_map(&rt, rt.alloc(), &entries, &calls)?)
+}
