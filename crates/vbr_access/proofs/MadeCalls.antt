@@ -54,7 +54,7 @@ other expected r n ne e = ne_eqb n expected (λ x. ne (sym e ∙ x))
 
 pub mark_made : {s expected : ℕ} {p q : Trace} → IsShape p.shape → IsRun p.shape p.passes p.seen → p.shape.values ≡ false → Did (Mark s expected) p q expected → (key : ℕ) → Knows (knows p) (KeyOf s key) → Made (set_call p.who Remove key true) p q
 mark_made {s} {expected} {p} {q} is run bare d key k =
-    succeeded d (set_call p.who Remove key true) (eq-eqb _ expected (won expected _ d.shows.answers)) 
+    succeeded d (set_call p.who Remove key true) (eq-eqb _ expected (won expected _ d.shows.answers))
     (marked_call_is p.shape p.passes p.seen is run p.who s expected key 0 k (λ has. absurd (cc)) ∙ ap (λ (v : Option ℕ). Some (record { who = p.who; op = Remove; key = key; reply = true; value = v })) (none_kept p.shape bare (Some 0)))
 
 pub mark_failed : {s expected found : ℕ} {p q : Trace} → Did (Mark s expected) p q found → found ≢ expected → Quiet p q
@@ -71,7 +71,7 @@ present_call op s expected p is run other key k =
 
 pub present_made : {op : Op} {s expected : ℕ} {p q : Trace} → IsShape p.shape → IsRun p.shape p.passes p.seen → op ≢ Get → Did (ConfirmPresent op s expected) p q expected → (key : ℕ) → Knows (knows p) (KeyOf s key) → Made (set_call p.who op key (present_reply op)) p q
 present_made {op} {s} {expected} {p} {q} is run other d key k =
-    succeeded d (set_call p.who op key (present_reply op)) (eq-eqb _ expected (answers_same (present_reply op) expected _ d.shows.answers)) 
+    succeeded d (set_call p.who op key (present_reply op)) (eq-eqb _ expected (answers_same (present_reply op) expected _ d.shows.answers))
     (present_call op s expected p is run other key k)
 
 pub present_failed : {op : Op} {s expected found : ℕ} {p q : Trace} → Did (ConfirmPresent op s expected) p q found → found ≢ expected → Quiet p q

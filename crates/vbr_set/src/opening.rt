@@ -69,7 +69,7 @@ impl VbrSet {
         ensures passes { IfOk result (λ r. r.1.items ≡ new_passes r.0 0 passes) }
         ensures refused { IsErrOf result OpenError.Passes ↔ ((passes ≡ 0) ⊎ (64 < passes)) }
     {
-        let (slots, opened) = Slots::open_with(alloc, shape.without_values(), passes, keys)?;
+        let (slots, opened) = Slots::open_with(alloc, shape, passes, keys)?;
         let set = VbrSet {
             slots,
             count: passes,

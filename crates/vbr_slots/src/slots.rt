@@ -2,7 +2,7 @@
 ghost use Rattle.std.specs.Prelude.{◌≡◌, ◌<◌, ◌≤◌, []};
 ghost use Rattle.vbr_words.specs.Dimensions.{IsShape};
 
-use crate::rule::{Opening, OpeningWithEntries, RunRule, Witness};
+use crate::rule::{Opening, OpeningWithKeys, RunRule, Witness};
 use atomic_table::Table;
 use std::alloc::Global;
 use std::collections::LinkedList;
@@ -12,7 +12,7 @@ use vbr_words::Shape;
 /// The words of a set, shared by the passes that were opened with it.
 #[derive(Drop)]
 pub struct Slots {
-    pub(crate) table: Table<(), LinkedList<Witness>, OpeningWithEntries, RunRule, Global>,
+    pub(crate) table: Table<(), LinkedList<Witness>, OpeningWithKeys, RunRule, Global>,
     pub(crate) opening: Opening,
 }
 
@@ -29,7 +29,7 @@ impl Model for Slots {
 }
 
 impl Slots {
-    /// Its shape, without the keys and values that it opened with.
+    /// Its shape, without the keys that it opened with.
     #[inline]
     pub fn shape(&self) -> Shape
         ensures bare { result ≡ record self.now.shape { keys = []; payloads = [] } }

@@ -1,6 +1,6 @@
 //! The worked lists of events, call by call on a running table with two passes. Each list is shown to
 //! be accepted, so each call may be made; its effect is compared when it was made.
-ghost use Rattle.std.specs.Prelude.{◌≡◌, ◌≢◌, ◌<◌, ◌==◌, MatchResult};
+ghost use Rattle.std.specs.Prelude.{◌≡◌, ◌≢◌, ◌<◌, ◌==◌, MatchResult, false};
 ghost use Rattle.vbr_core.specs.Learning.{present_reply};
 ghost use Rattle.vbr_core.specs.Machine.{opening};
 ghost use Rattle.vbr_slots.specs.Views.{IsOf};
@@ -13,8 +13,7 @@ use std::process::Abort;
 use std::test::Fail;
 use vbr_core::{Effect, Op, Step};
 use vbr_event_lists::{
-    REBORN_SLOT, REBORN_SLOT_WORDS, Row, SAME_WORD, SAME_WORD_WORDS, STORED_VALUE,
-    STORED_VALUE_WORDS, TWO_HELPERS, TWO_HELPERS_WORDS, with_values,
+    REBORN_SLOT, REBORN_SLOT_WORDS, Row, SAME_WORD, SAME_WORD_WORDS, TWO_HELPERS, TWO_HELPERS_WORDS,
 };
 use vbr_slots::{Pass, Slots};
 use vbr_words::{Shape, decode};
@@ -95,11 +94,6 @@ fn call(rt: &impl Abort, slots: &Slots, pass: &mut Pass, step: Step, new: u64) -
             slots.store_key(pass, slot, key);
             Effect::Done
         }
-        Step::StoreValue { slot, value } => {
-            assert!(rt; pass.in_hand() == Some(slot));
-            slots.store_value(pass, slot, value);
-            Effect::Done
-        }
         Step::StoreLink { slot, next } => {
             assert!(rt; pass.in_hand() == Some(slot));
             assert!(rt; decode(new).slot == next);
@@ -109,7 +103,7 @@ fn call(rt: &impl Abort, slots: &Slots, pass: &mut Pass, step: Step, new: u64) -
         Step::LoadLink { at } => Effect::Value(slots.load_link(pass, at)),
         Step::LoadBirth { slot } => Effect::Value(slots.load_birth(pass, slot)),
         Step::LoadKey { slot } => Effect::Value(slots.load_key(pass, slot)),
-        Step::LoadValue { slot } => Effect::Value(slots.load_value(pass, slot)),
+        Step::StoreValue { .. } | Step::LoadValue { .. } => panic!(rt; "the table has no values"),
         Step::Publish {
             pred,
             expected,
@@ -204,7 +198,8 @@ fn words_after(
     rows: &[Row],
     words: &[u64],
 ) -> Option<Vec<u64>>
-    requires { AreWorked shape (opening shape) rows.now words.now }
+    requires bare { shape.values ≡ false }
+    requires worked { AreWorked shape (opening shape) rows.now words.now }
 {
     let (slots, mut a, mut b) = open_two(alloc, shape)?;
     follow(rt, &slots, &mut a, &mut b, rows, words);
@@ -282,103 +277,6 @@ fn a_word_comes_back(rt: HostRuntime) -> Result<(), Fail> {
             0
         ]
         .as_slice()
-    );
-    Ok(())
-}
-
-#[test]
-fn two_passes_unlink_one_node_with_a_value(rt: HostRuntime) -> Result<(), Fail> {
-    let shape = Shape::new(1, 1, 10)?.with_values();
-    let rows = with_values(rt.alloc(), &TWO_HELPERS)?;
-    let Some(words) = words_after(&rt, rt.alloc(), shape, &rows, &TWO_HELPERS_WORDS) else {
-        panic!(rt; "no words")
-    };
-    assert_eq!(rt;
-        words.as_slice(),
-        [1, 167_772_161, 0, 50_331_648, 1, 0, 7, 107, 0,].as_slice()
-    );
-    Ok(())
-}
-
-#[test]
-fn a_slot_is_reborn_with_values(rt: HostRuntime) -> Result<(), Fail> {
-    let shape = Shape::new(3, 1, 10)?.with_values();
-    let rows = with_values(rt.alloc(), &REBORN_SLOT)?;
-    let Some(words) = words_after(&rt, rt.alloc(), shape, &rows, &REBORN_SLOT_WORDS) else {
-        panic!(rt; "no words")
-    };
-    assert_eq!(rt;
-        words.as_slice(),
-        [
-            2,
-            167_772_163,
-            67_108_866,
-            33_554_432,
-            1,
-            0,
-            30,
-            130,
-            67_108_865,
-            2,
-            1,
-            10,
-            110,
-            33_554_433,
-            1,
-            0,
-            25,
-            125,
-            0,
-        ]
-        .as_slice()
-    );
-    Ok(())
-}
-
-#[test]
-fn a_word_comes_back_with_values(rt: HostRuntime) -> Result<(), Fail> {
-    let shape = Shape::new(3, 1, 10)?.with_values();
-    let rows = with_values(rt.alloc(), &SAME_WORD)?;
-    let Some(words) = words_after(&rt, rt.alloc(), shape, &rows, &SAME_WORD_WORDS) else {
-        panic!(rt; "no words")
-    };
-    assert_eq!(rt;
-        words.as_slice(),
-        [
-            5,
-            167_772_163,
-            67_108_866,
-            67_108_864,
-            2,
-            0,
-            30,
-            130,
-            67_108_865,
-            2,
-            0,
-            20,
-            120,
-            184_549_377,
-            5,
-            0,
-            10,
-            110,
-            0,
-        ]
-        .as_slice()
-    );
-    Ok(())
-}
-
-#[test]
-fn a_stored_value_is_read_back(rt: HostRuntime) -> Result<(), Fail> {
-    let shape = Shape::new(1, 1, 10)?.with_values();
-    let Some(words) = words_after(&rt, rt.alloc(), shape, &STORED_VALUE, &STORED_VALUE_WORDS) else {
-        panic!(rt; "no words")
-    };
-    assert_eq!(rt;
-        words.as_slice(),
-        [1, 167_772_161, 33_554_433, 50_331_648, 1, 0, 7, 107, 0,].as_slice()
     );
     Ok(())
 }

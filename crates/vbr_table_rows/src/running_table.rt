@@ -1,5 +1,5 @@
 //! The running table: rows call by call, refusals that hand all back, and two threads.
-ghost use Rattle.std.specs.Prelude.{◌≡◌, ◌≢◌, ◌<◌, ◌≤◌, [], ◌∷◌, true, false, None, IfOk, IfErr, IfSome};
+ghost use Rattle.std.specs.Prelude.{◌≡◌, ◌≢◌, ◌<◌, ◌≤◌, [], ◌∷◌, false, None, IfOk, IfErr, IfSome};
 ghost use Rattle.vbr_core.specs.declared.event.Step.TheVariants.{TakeFlag};
 ghost use Rattle.vbr_slots.specs.Closing.{AllOf, Ends, HandsBack};
 ghost use Rattle.vbr_slots.specs.Views.{IsOf, event_of, new_pass, new_passes};
@@ -14,6 +14,7 @@ use vbr_words::Shape;
 
 // Opens a table. What found no memory left nothing, so it is tried again.
 pub fn open(alloc: Global, shape: Shape, passes: u32) -> Result<(Slots, Vec<Pass>), OpenError>
+    requires bare { shape.values ≡ false }
     ensures table { IfOk result (λ r. (r.0.shape ≡ shape) × (r.0.passes ≡ passes)) }
     ensures passes { IfOk result (λ r. r.1.items ≡ new_passes r.0 0 passes) }
 {
@@ -25,6 +26,7 @@ pub fn open(alloc: Global, shape: Shape, passes: u32) -> Result<(Slots, Vec<Pass
 
 // A table with two passes.
 pub fn open_two(alloc: Global, shape: Shape) -> Option<(Slots, Pass, Pass)>
+    requires bare { shape.values ≡ false }
     ensures table { IfSome result (λ r. (r.0.shape ≡ shape) × (r.0.passes ≡ 2)) }
     ensures first { IfSome result (λ r. r.1 ≡ new_pass r.0 0) }
     ensures second { IfSome result (λ r. r.2 ≡ new_pass r.0 1) }
@@ -136,7 +138,8 @@ fn gather(alloc: Global, slots: Slots, first: Pass, second: Pass) -> Option<Vec<
 
 // Two threads reach for a slot each. The words are those of a run that has both steps.
 fn take_both<R: Threads + Sync>(rt: &R, alloc: Global, shape: Shape) -> Option<Vec<u64>>
-    requires { 1 < shape.slots }
+    requires slots { 1 < shape.slots }
+    requires bare { shape.values ≡ false }
     ensures { IfSome result (λ words. BothTook shape words.items) }
 {
     let (slots, first, second) = open_two(alloc, shape)?;
@@ -235,58 +238,6 @@ fn opens_with_keys(rt: HostRuntime) -> Result<(), Fail> {
         0,
         9,
         16_777_216,
-        0,
-        0,
-        0,
-        8,
-    ];
-    match close(slots, rt.alloc(), passes) {
-        Ok(words) => assert_eq!(rt; words.as_slice(), wanted.as_slice()),
-        Err(_) => panic!(rt; "not closed"),
-    }
-    Ok(())
-}
-
-// Opens a table with three entries. What found no memory left nothing, so it is tried again.
-fn open_with_three_entries(alloc: Global, shape: Shape) -> Result<(Slots, Vec<Pass>), OpenError>
-    requires values { shape.values ≡ true }
-    requires few { 3 ≤ shape.slots }
-    ensures { IfOk result (λ r. r.1.items ≡ new_passes r.0 0 2) }
-{
-    let entries = [(2, 102), (5, 105), (9, 109)];
-    match Slots::open_with_entries(alloc, shape, 2, &entries) {
-        Err(OpenError::Memory) => Slots::open_with_entries(alloc, shape, 2, &entries),
-        opened => opened,
-    }
-}
-
-/// Where nodes have values, the value stands behind the key; the rest is as with keys alone.
-#[test]
-fn opens_with_entries(rt: HostRuntime) -> Result<(), Fail> {
-    let shape = Shape::new(4, 2, 10)?.with_values();
-    let (slots, passes) = open_with_three_entries(rt.alloc(), shape)?;
-    let wanted = [
-        1,
-        167_772_164,
-        33_554_433,
-        33_554_434,
-        33_554_432,
-        1,
-        0,
-        2,
-        102,
-        33_554_435,
-        1,
-        0,
-        5,
-        105,
-        33_554_432,
-        1,
-        0,
-        9,
-        109,
-        16_777_216,
-        0,
         0,
         0,
         0,

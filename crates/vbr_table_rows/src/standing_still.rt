@@ -24,7 +24,8 @@ fn table_after(
     rows: &[Row],
     words: &[u64],
 ) -> Option<(Slots, Pass, Pass)>
-    requires { AreWorked shape (opening shape) rows.now words.now }
+    requires bare { shape.values ≡ false }
+    requires worked { AreWorked shape (opening shape) rows.now words.now }
     ensures shape { IfSome result (λ r. r.0.shape ≡ shape) }
     ensures own { IfSome result (λ r. IsOf r.1.trace r.0 × IsOf r.2.trace r.0) }
 {

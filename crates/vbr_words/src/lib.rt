@@ -8,5 +8,5 @@ pub mod place;
 pub mod shape;
 
 pub use link::{Link, decode, encode, version_of, with_mark};
-pub use place::{At, Place, place_index, word_count};
+pub use place::{At, Place, place_index, plain_place_index, word_count};
 pub use shape::{Shape, ShapeError, SpreadError};

@@ -1,8 +1,8 @@
 //! The places of the words of a set, and the index of each.
-ghost use Rattle.std.specs.Prelude.{◌≡◌, ◌<◌, ◌≤◌, ◌^◌, true};
+ghost use Rattle.std.specs.Prelude.{◌≡◌, ◌<◌, ◌≤◌, ◌^◌, false};
 ghost use Rattle.vbr_words.specs.declared.place.Place.{Place};
 ghost use Rattle.vbr_words.specs.Dimensions.{Dimensions};
-ghost use Rattle.vbr_words.specs.Places.{IsIn, index_of, slot_index, words_in};
+ghost use Rattle.vbr_words.specs.Places.{IsIn, index_of, node_words, slot_index, words_in};
 
 use crate::flags::flag_words;
 use crate::shape::Shape;
@@ -39,31 +39,45 @@ pub enum Place {
     Flags(u32),
 }
 
-// The index at which the words of a slot begin: each slot before it has four, or five where nodes
-// have values. At the number of slots it is that of the first flag word.
+// How many words each slot has: four, or five where nodes have values.
 #[inline]
-fn slot_index(shape: &Shape, slot: u32) -> usize
-    requires { slot ≤ shape.now.slots }
-    ensures index { result ≡ slot_index shape.now slot }
-    ensures small { result < 2 ^ 27 }
+fn node_words(shape: &Shape) -> usize
+    ensures words { result ≡ node_words shape.now }
 {
-    if shape.has_values() {
-        return valued_slot_index(shape, slot);
-    }
-    2 + shape.buckets() as usize + 4 * slot as usize
+    if shape.has_values() { 5 } else { 4 }
 }
 
-// The index at which the words of a slot begin, where nodes have values. It stands apart, so that the
-// compiler makes a branch where it is called, which is foreseen: else nodes without values would pay for it.
-#[cold]
-#[inline(never)]
-fn valued_slot_index(shape: &Shape, slot: u32) -> usize
+// The index at which the words of a slot begin, where each has so many. At the number of slots it is that
+// of the first flag word.
+#[inline]
+fn slot_index(shape: &Shape, words: usize, slot: u32) -> usize
     requires slot { slot ≤ shape.now.slots }
-    requires values { shape.now.values ≡ true }
+    requires words { words ≡ node_words shape.now }
     ensures index { result ≡ slot_index shape.now slot }
     ensures small { result < 2 ^ 27 }
 {
-    2 + shape.buckets() as usize + 5 * slot as usize
+    prove!(words <= 5);
+    2 + shape.buckets() as usize + words * slot as usize
+}
+
+// The index of a place, where each slot has so many words.
+#[inline]
+fn index_by(shape: &Shape, words: usize, place: Place) -> usize
+    requires place { IsIn shape.now place }
+    requires words { words ≡ node_words shape.now }
+    ensures index { result ≡ index_of shape.now place }
+{
+    match place {
+        Place::Epoch => 0,
+        Place::ShapeWord => 1,
+        Place::Head(bucket) => 2 + bucket as usize,
+        Place::LinkOf(slot) => slot_index(shape, words, slot),
+        Place::Birth(slot) => slot_index(shape, words, slot) + 1,
+        Place::Stamp(slot) => slot_index(shape, words, slot) + 2,
+        Place::Key(slot) => slot_index(shape, words, slot) + 3,
+        Place::Value(slot) => slot_index(shape, words, slot) + 4,
+        Place::Flags(number) => slot_index(shape, words, shape.slots()) + number as usize,
+    }
 }
 
 /// The index of a place among all words. Different places have different indices, each below
@@ -74,17 +88,19 @@ pub fn place_index(shape: &Shape, place: Place) -> usize
     ensures index { result ≡ index_of shape.now place }
     ensures in_range { result < words_in shape.now }
 {
-    match place {
-        Place::Epoch => 0,
-        Place::ShapeWord => 1,
-        Place::Head(bucket) => 2 + bucket as usize,
-        Place::LinkOf(slot) => slot_index(shape, slot),
-        Place::Birth(slot) => slot_index(shape, slot) + 1,
-        Place::Stamp(slot) => slot_index(shape, slot) + 2,
-        Place::Key(slot) => slot_index(shape, slot) + 3,
-        Place::Value(slot) => slot_index(shape, slot) + 4,
-        Place::Flags(number) => slot_index(shape, shape.slots()) + number as usize,
-    }
+    index_by(shape, node_words(shape), place)
+}
+
+/// The index of a place where nodes have no values, as [`place_index`] has it. It asks the shape
+/// nothing of values, so that it takes shifts and no test.
+#[inline]
+pub fn plain_place_index(shape: &Shape, place: Place) -> usize
+    requires place { IsIn shape.now place }
+    requires valueless { shape.now.values ≡ false }
+    ensures index { result ≡ index_of shape.now place }
+    ensures in_range { result < words_in shape.now }
+{
+    index_by(shape, 4, place)
 }
 
 /// The number of words.
@@ -92,7 +108,7 @@ pub fn place_index(shape: &Shape, place: Place) -> usize
 pub fn word_count(shape: &Shape) -> usize
     ensures { result ≡ words_in shape.now }
 {
-    slot_index(shape, shape.slots()) + flag_words(shape) as usize
+    slot_index(shape, node_words(shape), shape.slots()) + flag_words(shape) as usize
 }
 
 /// A law: different places of a shape have different indices, each below the number of words.

@@ -1,9 +1,9 @@
 //! The steps that make a new incarnation in a slot of the pass.
-ghost use Rattle.std.specs.Prelude.{◌≡◌, ◌<◌, true, Some};
+ghost use Rattle.std.specs.Prelude.{◌≡◌, ◌<◌, Some};
 ghost use Rattle.vbr_words.specs.Words.{link_of, word_of};
 ghost use Rattle.vbr_core.specs.Acceptance.{MayBear, IsNextIn, IsNextHeld, stamp_in};
 ghost use Rattle.vbr_core.specs.Learning.{link_written};
-ghost use Rattle.vbr_core.specs.declared.event.Step.TheVariants.{StoreBirth, StoreKey, StoreValue, StoreLink};
+ghost use Rattle.vbr_core.specs.declared.event.Step.TheVariants.{StoreBirth, StoreKey, StoreLink};
 ghost use Rattle.vbr_slots.specs.Pools.{HasRoomFor, without};
 ghost use Rattle.vbr_slots.specs.Views.{IsOf, Did, KeepsPool, knows};
 
@@ -42,19 +42,6 @@ impl Stepper {
     {
         let step = Step::StoreKey { slot, key };
         slots.store(&mut self.runner, step, Place::Key(slot), key);
-    }
-
-    /// As [`Slots::store_value`].
-    #[inline]
-    pub fn store_value(&mut self, slots: &Slots, slot: u32, value: u64)
-        requires own { IsOf self.old.trace slots.now }
-        requires values { slots.now.shape.values ≡ true }
-        requires in_hand { self.old.hand ≡ Some slot }
-        ensures step { Did (StoreValue slot value) self.old.trace self.new.trace value }
-        ensures pool { KeepsPool self.old self.new }
-    {
-        let step = Step::StoreValue { slot, value };
-        slots.store(&mut self.runner, step, Place::Value(slot), value);
     }
 
     /// As [`Slots::store_link`].

@@ -1,9 +1,9 @@
 //! The steps that load what a traversal reads, one each. A read is pending until the epoch is read
 //! again.
-ghost use Rattle.std.specs.Prelude.{◌≡◌, ◌<◌, true, IsTrue};
+ghost use Rattle.std.specs.Prelude.{◌≡◌, ◌<◌, IsTrue};
 ghost use Rattle.vbr_core.specs.Acceptance.{IsAtIn};
 ghost use Rattle.vbr_core.specs.Knowledge.{holds, holds_at};
-ghost use Rattle.vbr_core.specs.declared.event.Step.TheVariants.{LoadLink, LoadBirth, LoadKey, LoadValue};
+ghost use Rattle.vbr_core.specs.declared.event.Step.TheVariants.{LoadLink, LoadBirth, LoadKey};
 ghost use Rattle.vbr_slots.specs.Views.{IsOf, Did, KeepsPool, knows};
 
 use crate::slots::Slots;
@@ -51,22 +51,5 @@ impl Stepper {
         ensures pool { KeepsPool self.old self.new }
     {
         slots.load(&mut self.runner, Step::LoadKey { slot }, Place::Key(slot))
-    }
-
-    /// As [`Slots::load_value`].
-    #[inline]
-    pub fn load_value(&mut self, slots: &Slots, slot: u32) -> u64
-        requires own { IsOf self.old.trace slots.now }
-        requires values { slots.now.shape.values ≡ true }
-        requires slot { slot < slots.now.shape.slots }
-        requires held { IsTrue (holds (knows self.old.trace).checked slot) }
-        ensures step { Did (LoadValue slot) self.old.trace self.new.trace result }
-        ensures pool { KeepsPool self.old self.new }
-    {
-        slots.load(
-            &mut self.runner,
-            Step::LoadValue { slot },
-            Place::Value(slot),
-        )
     }
 }

@@ -14,8 +14,8 @@ returns-in-Ok-close-clause-ok c =
     let t = c.args.self in
     let words = c.in-Ok-close.words.items in
     let shape : keyed c.shape-shape.result t.shape.keys ≡ t.shape =
-        (λ i. keyed ((c.shape-shape.ensures.bare ∙ ap (λ (v : TableView). record v.shape { keys = []; payloads = [] }) c.self.view_is) i) t.shape.keys)
-        ∙ keyed_again t.shape (subst (λ (v : TableView). IsShape v.shape) c.self.view_is c.shape-shape.ensures.is_shape) (subst (λ (v : TableView). v.shape.values ≡ false) c.self.view_is c.self.invariant.1) in
+    (λ i. keyed ((c.shape-shape.ensures.bare ∙ ap (λ (v : TableView). record v.shape { keys = []; payloads = [] }) c.self.view_is) i) t.shape.keys)
+    ∙ keyed_again t.shape (subst (λ (v : TableView). IsShape v.shape) c.self.view_is c.shape-shape.ensures.is_shape) (subst (λ (v : TableView). v.shape.values ≡ false) c.self.view_is c.self.invariant.1) in
     let told = subst (λ (x : Dimensions × List ℕ). (run : List Event) → AreAfter x.0 x.1 run → Reports x.0 run c.report_of.result) (λ i. (shape i, c.deref.ensures.value i)) (c.report_of.ensures t.shape.keys) in
     closes t c.args.passes.items words c.report_of.result (subst (λ (v : TableView). IsShape v.shape) c.self.view_is c.shape-shape.ensures.is_shape) c.requires
     (subst (λ (v : TableView). Ends v c.args.passes.items words) c.self.view_is c.in-Ok-close.ensures.ok) told
