@@ -7,7 +7,7 @@ use Rattle.vbr_core.specs.Opened.{opening_keys}
 use Rattle.vbr_core.specs.History.{IsLegal, keys_after, reply_of, set_call}
 use Rattle.vbr_core.specs.declared.history.Call.{Call}
 use Rattle.vbr_core.specs.declared.history.Op.{Op}
-use Rattle.vbr_core.specs.declared.history.Op.TheVariants.{Insert, Remove, Has}
+use Rattle.vbr_core.specs.declared.history.Op.TheVariants.{Insert, Remove, Has, Get}
 use Rattle.vbr_list.specs.declared.refusal.Refusal.{Refusal}
 use Rattle.vbr_set.specs.Answers.{Answers}
 use Rattle.vbr_set.specs.Members.{MemberView}
@@ -30,6 +30,8 @@ not_true true e = absurd (true≢false e)
 one_call : (keys : Keys) (page : ℕ) (op : Op) (key : ℕ) (reply : Bool) (rest : ℕ) → reply ≡ reply_of keys op key → op ≢ Remove → rest ≤ room (keys_after keys op key reply page) → claims_of page op key reply + rest ≤ room (keys page)
 one_call keys page Has key true rest is other low = omega arith
 one_call keys page Has key false rest is other low = omega arith
+one_call keys page Get key true rest is other low = omega arith
+one_call keys page Get key false rest is other low = omega arith
 one_call keys page Insert key false rest is other low = omega arith
 one_call keys page Remove key reply rest is other low = absurd (other refl)
 one_call keys page Insert key true rest is other low =

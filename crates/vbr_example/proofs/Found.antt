@@ -8,7 +8,7 @@ use Rattle.vbr_core.specs.Opened.{opening_keys}
 use Rattle.vbr_core.specs.History.{IsLegal, calls_by, keys_after, reply_of, set_after, set_call}
 use Rattle.vbr_core.specs.declared.history.Call.{Call}
 use Rattle.vbr_core.specs.declared.history.Op.{Op}
-use Rattle.vbr_core.specs.declared.history.Op.TheVariants.{Insert, Remove, Has}
+use Rattle.vbr_core.specs.declared.history.Op.TheVariants.{Insert, Remove, Has, Get}
 use Rattle.vbr_list.specs.declared.refusal.Refusal.{Refusal}
 use Rattle.vbr_core.specs.declared.event.Event.{Event}
 use Rattle.vbr_slots.specs.Views.{PassView, TableView, Trace}
@@ -24,6 +24,8 @@ use Rattle.vbr_example.specs.declared.telling.Message.{Message}
 one_stays : (keys : Keys) (page : ℕ) (op : Op) (key : ℕ) (reply : Bool) → op ≢ Remove → keys page ≡ true → keys_after keys op key reply page ≡ true
 one_stays keys page Has key true other there = there
 one_stays keys page Has key false other there = there
+one_stays keys page Get key true other there = there
+one_stays keys page Get key false other there = there
 one_stays keys page Insert key false other there = there
 one_stays keys page Remove key reply other there = absurd (other refl)
 one_stays keys page Insert key true other there =

@@ -7,7 +7,7 @@ use Rattle.vbr_event_lists.specs.declared.lists.TheConstants.{SAME_WORD, SAME_WO
 use Rattle.vbr_event_lists.proofs.Lemmas.{same_word}
 use Rattle.vbr_table_rows.proofs.listed_calls.a_word_comes_back.Goals as goal
 
-pub words_after-requires-clause-worked : goal.words_after-requires
+pub words_after-requires-clause-worked : goal.words_after-requires-clause-worked
 words_after-requires-clause-worked g c =
     let shape : c.in_ok-shape.shape ≡ three_slots = search rules in
     subst (λ (d : Dimensions). AreWorked d (opening d) SAME_WORD SAME_WORD_WORDS) (sym shape) same_word

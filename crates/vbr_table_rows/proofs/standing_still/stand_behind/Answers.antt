@@ -7,7 +7,7 @@ use Rattle.vbr_event_lists.specs.declared.standing.TheConstants.{STANDING, STAND
 use Rattle.vbr_event_lists.proofs.Lemmas.{first_worked, standing}
 use Rattle.vbr_table_rows.proofs.standing_still.stand_behind.Goals as goal
 
-pub table_after-requires-clause-worked : goal.table_after-requires
+pub table_after-requires-clause-worked : goal.table_after-requires-clause-worked
 table_after-requires-clause-worked g c =
     let shape : c.in_ok-shape.shape ≡ many_epochs = search rules in
     subst (λ (d : Dimensions). AreWorked d (opening d) (take c.args.steps STANDING) STANDING_WORDS) (sym shape) (first_worked many_epochs c.args.steps STANDING (opening many_epochs) STANDING_WORDS standing)
