@@ -30,7 +30,6 @@ pub fn mark(slots: &Slots, pass: &mut Pass, held: &Held) -> Result<Marked, Rollb
     requires held { IsHeld (knows pass.old.trace) held.now }
     requires key { (key : ℕ) × KeyAt (knows pass.old.trace) held.now.at key }
     requires unmarked { (link_of held.now.word).mark ≡ false }
-    requires bare { pass.old.trace.shape.values ≡ false }
     ensures took { Took pass.old.trace pass.new.trace 1 }
     ensures own { KeepsOwn pass.old pass.new }
     ensures takes_no_slot { TakesNoSlot pass.old pass.new }

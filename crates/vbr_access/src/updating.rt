@@ -40,7 +40,6 @@ pub fn update(
     requires own { IsOf pass.old.trace slots.now }
     requires pred { IsHeld (knows pass.old.trace) pred.now }
     requires unmarked { (link_of pred.now.word).mark ≡ false }
-    requires bare { pass.old.trace.shape.values ≡ false }
     requires succ { IsSucc (knows pass.old.trace) pred.now succ }
     requires behind { StandsBehind pass.old.trace.shape (knows pass.old.trace) pred.now.at key }
     requires before { StandsBefore (knows pass.old.trace) key (link_of pred.now.word).slot }

@@ -30,6 +30,7 @@ mod ConfirmSteps
 mod MarkSteps
 mod ValueReads
 mod MapHistories
+mod OpenedMaps
 mod ToldValues
 mod Exchanges
 mod PublishSteps

@@ -13,7 +13,7 @@ ghost use Rattle.vbr_core.specs.Opened.{opening_keys};
 ghost use Rattle.vbr_core.specs.History.{IsLegal, set_after};
 ghost use Rattle.vbr_core.specs.Knowledge.{Know};
 ghost use Rattle.vbr_words.specs.Buckets.{bucket_of};
-ghost use Rattle.vbr_core.specs.Maps.{Entries, keys_in, IsMapLegal, opening_entries, TellsNoValue, StoresNoValue, HaveValues};
+ghost use Rattle.vbr_core.specs.Maps.{Entries, entries_in, keys_in, keys_listed, values_listed, IsMapLegal, opening_entries, TellsNoValue, StoresNoValue, HaveValues};
 ghost use Rattle.vbr_core.specs.Acceptance.{Accepts, IsAtIn, IsOpIn, IsBetween};
 ghost use Rattle.vbr_core.specs.Loads.{IsLoad};
 ghost use Rattle.vbr_core.specs.Machine.{World, after, found, word_at};
@@ -91,6 +91,12 @@ pub fn every_run_is_safe()
 /// their values.
 pub fn a_run_is_a_map()
     ensures { (shape : Dimensions) (passes : ℕ) (run : List Event) → IsShape shape → IsRun shape passes run → IsMapLegal (opening_entries shape) (world_after shape run).calls }
+{}
+
+/// A law: what opens with entries, keys with their values, opens with the map of these entries.
+pub fn entries_open_as_their_map()
+    ensures { (shape : Dimensions) (entries : List (ℕ × ℕ)) (key : ℕ) →
+        opening_entries (record shape { values = true; keys = keys_listed entries; payloads = values_listed entries }) key ≡ entries_in entries key }
 {}
 
 /// A law: where nodes have values, the calls of a run that store or give one have it, and where

@@ -49,10 +49,6 @@ pub bucket_is : (a b bare : Dimensions) (bucket key : ℕ) → a ≡ b → bare 
 unfolding bucket_of
 bucket_is a b bare bucket key e g f = f ∙ ap (λ (shape : Dimensions). bucket_of shape key) g ∙ ap (λ (shape : Dimensions). bucket_of shape key) (sym e)
 
--- a pass at the same table is at one whose nodes have no values
-pub bare_on : {p q : Trace} → IsSame p q → p.shape.values ≡ false → q.shape.values ≡ false
-bare_on same bare = ap (λ (shape : Dimensions). shape.values) same.shape ∙ bare
-
 -- a call stays the same one from piece to piece
 pub call_on : {b c d : Call} → IsSameCall b c → IsSameCall c d → IsSameCall b d
 call_on x y = record { at = record { pass = y.at.pass ∙ x.at.pass; slots = y.at.slots ∙ x.at.slots }; key = y.key ∙ x.key; bucket = y.bucket ∙ x.bucket; budget = y.budget ∙ x.budget }

@@ -125,7 +125,6 @@ impl Call<'_> {
     #[inline]
     fn settle_insert(&mut self, found: &Found, hand: Hand) -> Result<bool, Hand>
         requires locates { Locates self.old.at.pass.now.trace.shape (knows self.old.at.pass.now.trace) self.old.key found.now }
-        requires bare { self.old.at.pass.now.trace.shape.values ≡ false }
         requires hand { HasHandAndRoom self.old.at.pass.now hand }
         requires room { self.old.used + 8 ≤ self.old.budget }
         ensures call { IsSameCall self.old self.new }
@@ -162,7 +161,6 @@ impl Call<'_> {
     // Links the slot in hand, or answers no where the key has come meanwhile. The hand is spent.
     fn link(&mut self, mut hand: Hand) -> Result<bool, Refusal>
         requires hand { HasHandAndRoom self.old.at.pass.now hand }
-        requires bare { self.old.at.pass.now.trace.shape.values ≡ false }
         ensures call { IsSameCall self.old self.new }
         ensures made { IfOk result (λ reply. Made (set_call self.old.at.pass.now.trace.who Insert self.old.key reply) self.old.at.pass.now.trace self.new.at.pass.now.trace) }
         ensures counts { CountsWithin self.old.at.pass.now.trace self.new.at.pass.now.trace self.old.used self.new.used self.old.budget }
@@ -203,7 +201,6 @@ impl Call<'_> {
 pub fn insert(slots: &Slots, pass: &mut Pass, key: u64, budget: u32) -> Result<bool, Refusal>
     requires own { IsOf pass.old.trace slots.now }
     requires empty_hand { pass.old.hand ≡ None }
-    requires bare { pass.old.trace.shape.values ≡ false }
     ensures same { IsSame pass.old.trace pass.new.trace }
     ensures made { IfOk result (λ reply. Made (set_call pass.old.trace.who Insert key reply) pass.old.trace pass.new.trace) }
     ensures alone { IfOk result (λ reply. AnswersAlone pass.old.trace Insert key reply) }
@@ -227,7 +224,6 @@ pub fn insert(slots: &Slots, pass: &mut Pass, key: u64, budget: u32) -> Result<b
 // As `insert`, where no step is counted; and how many steps were made.
 fn insert_by(at: &mut AtTable<'_>, key: u64, budget: u32) -> (Result<bool, Refusal>, u32)
     requires empty_hand { at.old.pass.now.hand ≡ None }
-    requires bare { at.old.pass.now.trace.shape.values ≡ false }
     ensures table { IsSameTable at.old at.new }
     ensures shared { SharesWhereFull 2 at.old.pass.now at.new.pass.now }
     ensures advances { AdvancesWhereNeeded at.old.pass.now at.new.pass.now }

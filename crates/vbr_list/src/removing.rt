@@ -34,7 +34,6 @@ impl Call<'_> {
     fn mark_and_unlink(&mut self, found: &Found) -> Result<bool, Rollback>
         requires locates { Locates self.old.at.pass.now.trace.shape (knows self.old.at.pass.now.trace) self.old.key found.now }
         requires present { found.now.present ≡ true }
-        requires bare { self.old.at.pass.now.trace.shape.values ≡ false }
         requires room { self.old.used + 8 ≤ self.old.budget }
         ensures call { IsSameCall self.old self.new }
         ensures made { IfOk result (λ reply. Made (set_call self.old.at.pass.now.trace.who Remove self.old.key reply) self.old.at.pass.now.trace self.new.at.pass.now.trace) }
@@ -61,7 +60,6 @@ impl Call<'_> {
     #[inline]
     fn settle_remove(&mut self, found: &Found) -> Result<bool, Rollback>
         requires locates { Locates self.old.at.pass.now.trace.shape (knows self.old.at.pass.now.trace) self.old.key found.now }
-        requires bare { self.old.at.pass.now.trace.shape.values ≡ false }
         requires room { self.old.used + 8 ≤ self.old.budget }
         ensures call { IsSameCall self.old self.new }
         ensures made { IfOk result (λ reply. Made (set_call self.old.at.pass.now.trace.who Remove self.old.key reply) self.old.at.pass.now.trace self.new.at.pass.now.trace) }
@@ -92,7 +90,6 @@ impl Call<'_> {
 pub fn remove(slots: &Slots, pass: &mut Pass, key: u64, budget: u32) -> Result<bool, Refusal>
     requires own { IsOf pass.old.trace slots.now }
     requires empty_hand { pass.old.hand ≡ None }
-    requires bare { pass.old.trace.shape.values ≡ false }
     ensures same { IsSame pass.old.trace pass.new.trace }
     ensures made { IfOk result (λ reply. Made (set_call pass.old.trace.who Remove key reply) pass.old.trace pass.new.trace) }
     ensures alone { IfOk result (λ reply. AnswersAlone pass.old.trace Remove key reply) }
@@ -111,7 +108,6 @@ pub fn remove(slots: &Slots, pass: &mut Pass, key: u64, budget: u32) -> Result<b
 // As `remove`, where no step is counted; and how many steps were made.
 fn remove_by(at: &mut AtTable<'_>, key: u64, budget: u32) -> (Result<bool, Refusal>, u32)
     requires empty_hand { at.old.pass.now.hand ≡ None }
-    requires bare { at.old.pass.now.trace.shape.values ≡ false }
     ensures table { IsSameTable at.old at.new }
     ensures took { Took at.old.pass.now.trace at.new.pass.now.trace result.1 }
     ensures same { IsSame at.old.pass.now.trace at.new.pass.now.trace }

@@ -1,5 +1,5 @@
 -- The end of a table: its passes joined, and its words.
-use Rattle.std.proofs.Common.{◌≡◌, ℕ, zero, suc, ◌+◌, List, [], ◌∷◌, ◌++◌, length, take, refl, sym, ap, ◌∙◌, subst, append-nil, arith}
+use Rattle.std.proofs.Common.{Bool, ◌≡◌, ℕ, zero, suc, ◌+◌, List, [], ◌∷◌, ◌++◌, length, take, refl, sym, ap, ◌∙◌, subst, append-nil, arith}
 use mathlib.Core.Option.{some, some-ne-none, some-injective}
 use lib.ListN.{get_elem?}
 use Rattle.atomic_table.specs.Table.{Final, Seen}
@@ -10,7 +10,7 @@ use Rattle.vbr_core.proofs.Lemmas.{every_run}
 use Rattle.vbr_slots.specs.declared.rule.Witness.{Witness}
 use Rattle.vbr_slots.specs.declared.rule.Opening.{Opening}
 use Rattle.vbr_slots.specs.declared.slots.Slots.TheInside.{Inside as SlotsInside}
-use Rattle.vbr_slots.specs.Rule.{Kept, witness, EachBegins}
+use Rattle.vbr_slots.specs.Rule.{Kept, witness, EachBegins, opened_of}
 use Rattle.vbr_slots.specs.Views.{PassView, TableView, IsOf}
 use Rattle.vbr_slots.specs.Closing.{AllOf, EachSeen, Ends}
 use Rattle.vbr_slots.specs.SlotsView.{table_of, IsBuilt}
@@ -20,7 +20,7 @@ use Rattle.vbr_slots.proofs.Steps.{Sat, opening_of}
 -- the witnesses of the seats of passes
 abbrev pub witnesses_of : List PassView → List Witness
 witnesses_of [] = []
-witnesses_of (p ∷ ps) = witness p.trace.shape.keys p.trace.who p.trace.seen ∷ witnesses_of ps
+witnesses_of (p ∷ ps) = witness (opened_of p.trace.shape) p.trace.who p.trace.seen ∷ witnesses_of ps
 
 pub take_at : (l : List ℕ) (i x : ℕ) → get_elem? l i ≡ some x → take (i + 1) l ≡ take i l ++ x ∷ []
 take_at l i x at = ap (λ (n : ℕ). take n l) (let e : i + 1 ≡ suc i = omega arith in e) ∙ go l i at
@@ -34,9 +34,9 @@ pub one_of : (t : TableView) (ys : List PassView) (p : PassView) (zs : List Pass
 one_of t [] p zs all = all.0
 one_of t (y ∷ ys) p zs all = one_of t ys p zs all.1
 
-pub witnesses_of-snoc : (ys : List PassView) (p : PassView) → witnesses_of (ys ++ p ∷ []) ≡ witnesses_of ys ++ witness p.trace.shape.keys p.trace.who p.trace.seen ∷ []
+pub witnesses_of-snoc : (ys : List PassView) (p : PassView) → witnesses_of (ys ++ p ∷ []) ≡ witnesses_of ys ++ witness (opened_of p.trace.shape) p.trace.who p.trace.seen ∷ []
 witnesses_of-snoc [] p = refl
-witnesses_of-snoc (y ∷ ys) p = ap (λ ms. witness y.trace.shape.keys y.trace.who y.trace.seen ∷ ms) (witnesses_of-snoc ys p)
+witnesses_of-snoc (y ∷ ys) p = ap (λ ms. witness (opened_of y.trace.shape) y.trace.who y.trace.seen ∷ ms) (witnesses_of-snoc ys p)
 
 each_seen : (run : List Event) (ps : List PassView) → EachBegins run (witnesses_of ps) → EachSeen run ps
 each_seen run [] b = tt
@@ -46,7 +46,7 @@ pub none_left : (xs ys : List PassView) (zs : List PassView) → length ys ≡ 0
 none_left xs [] zs none is = sym (append-nil xs) ∙ is
 none_left xs (y ∷ ys) zs none is = absurd (omega arith)
 
-pub ends : (t : SlotsInside) (table : TableView) → IsBuilt t → table_of t ≡ table → (id : ℕ) (me : Sat) (ps : List PassView) → me ≡ (witnesses_of ps, []) → (words : List ℕ) (xs : List (Unit {0}))
+pub ends : {N : Type 0} {values : Bool} (t : SlotsInside N) (table : TableView) → IsBuilt values t → table_of t ≡ table → (id : ℕ) (me : Sat) (ps : List PassView) → me ≡ (witnesses_of ps, []) → (words : List ℕ) (xs : List (Unit {0}))
     → Final (Seen (Kept t.table.shared.key) id me.0) words xs → Ends table ps words
 ends t table built t_is id me ps is words xs last =
     let key : t.table.shared.key ≡ opening_of table = built.key ∙ ap opening_of t_is in

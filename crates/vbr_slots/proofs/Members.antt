@@ -10,6 +10,7 @@ use Rattle.vbr_core.specs.Machine.{World, after}
 use Rattle.vbr_core.specs.Runs.{AreAccepted, Begins, BeginsFor, IsRun, NoneOf}
 use Rattle.vbr_core.specs.declared.event.Event.{Event}
 use Rattle.vbr_core.proofs.Lemmas.{begins_for-snoc}
+use Rattle.vbr_slots.specs.declared.rule.Opened.{Opened}
 use Rattle.vbr_slots.specs.declared.rule.Witness.{Witness}
 use Rattle.vbr_slots.specs.Rule.{EachBegins, witness, witnesses, nobody, one_if, times, times_in}
 
@@ -41,25 +42,25 @@ times-set who (v ∷ vs) (suc i) a b at = let more = times-set who vs i a b at i
 pub times-first : (m : Witness) (ms : List Witness) → times m.who (m ∷ ms) ≡ 1 + times m.who ms
 times-first m ms = ap (λ (t : Bool). one_if t + times m.who ms) (eq-eqb m.who m.who refl)
 
-times-below : (keys : List ℕ) (who k n : ℕ) → who < k → times who (witnesses keys k n) ≡ 0
-times-below keys who k zero low = refl
-times-below keys who k (suc n) low =
+times-below : (opened : Opened) (who k n : ℕ) → who < k → times who (witnesses opened k n) ≡ 0
+times-below opened who k zero low = refl
+times-below opened who k (suc n) low =
     let here : one_if (k == who) ≡ 0 = ap one_if (ne_eqb k who (λ is. omega arith)) in
-    let more = times-below keys who (suc k) n (omega arith) in
+    let more = times-below opened who (suc k) n (omega arith) in
     omega arith
 
 -- no number stands twice at the opening
-pub times-members : (keys : List ℕ) (who k n : ℕ) → times who (witnesses keys k n) ≤ 1
-times-members keys who k zero = omega arith
-times-members keys who k (suc n) = dite (ℕ_discrete k who)
-    (λ is. let here : one_if (k == who) ≡ 1 = ap one_if (eq-eqb k who is) in let rest = times-below keys who (suc k) n (omega arith) in omega arith)
-    (λ not. let here : one_if (k == who) ≡ 0 = ap one_if (ne_eqb k who not) in let rest = times-members keys who (suc k) n in omega arith)
+pub times-members : (opened : Opened) (who k n : ℕ) → times who (witnesses opened k n) ≤ 1
+times-members opened who k zero = omega arith
+times-members opened who k (suc n) = dite (ℕ_discrete k who)
+    (λ is. let here : one_if (k == who) ≡ 1 = ap one_if (eq-eqb k who is) in let rest = times-below opened who (suc k) n (omega arith) in omega arith)
+    (λ not. let here : one_if (k == who) ≡ 0 = ap one_if (ne_eqb k who not) in let rest = times-members opened who (suc k) n in omega arith)
 
 -- ---- tokens
 
 -- a token has the number of no pass
-pub token_uncounted : (who : ℕ) (keys : List ℕ) (seen : List Event) → who ≢ nobody → times who (witness keys nobody seen ∷ []) ≡ 0
-token_uncounted who keys seen other = let none : one_if (nobody == who) ≡ 0 = ap one_if (ne_eqb nobody who (λ is. other (sym is))) in omega arith
+pub token_uncounted : (who : ℕ) (opened : Opened) (seen : List Event) → who ≢ nobody → times who (witness opened nobody seen ∷ []) ≡ 0
+token_uncounted who opened seen other = let none : one_if (nobody == who) ≡ 0 = ap one_if (ne_eqb nobody who (λ is. other (sym is))) in omega arith
 
 -- a number that no pass has has no event
 none_of : (shape : Dimensions) (passes who : ℕ) (w : World) (run : List Event) → passes ≤ who → AreAccepted shape passes w run → NoneOf who run

@@ -1,5 +1,5 @@
 -- The words at the opening, laid one place at a time: those of the bare world, and then a key after the other.
-use Rattle.std.proofs.Common.{◌≡◌, ◌≢◌, ℕ, zero, suc, ◌+◌, ◌-◌, ◌<◌, nat_lt, ◌≤◌, Bool, true, false, List, Option, Some, None, ◌++◌, length, take, set, get_or, replicate, if◌then◌else◌, refl, sym, subst, ap, ◌∙◌, length-set, get_or-set_other, get_or-set_same, arith}
+use Rattle.std.proofs.Common.{◌≡◌, ◌≢◌, ◌⊎◌, inl, inr, ℕ, zero, suc, ◌+◌, ◌-◌, ◌<◌, nat_lt, ◌≤◌, Bool, true, false, List, Option, Some, None, ◌++◌, length, take, set, get_or, replicate, if◌then◌else◌, refl, sym, subst, ap, ◌∙◌, length-set, get_or-set_other, get_or-set_same, arith}
 use Rattle.std.specs.Prelude.{◌&&◌, bit_and}
 use Rattle.std.proofs.Math.Seq.{take-append_seam}
 use Rattle.std.proofs.lemmas.Bool.Decides.{nat_tests}
@@ -141,8 +141,9 @@ and_true true = refl
 and_true false = refl
 
 -- all links and all flag words: no key is linked yet
-pub laid_all : (shape : Dimensions) (words : List ℕ) → AreLaid shape (laid shape shape.slots (flag_words shape.slots)) words → (keys : List ℕ) → AreWordsOf (record shape { keys = keys }) (opening_from (record shape { keys = keys }) (length keys)) words
-laid_all shape words are keys = subst (λ (w : World). AreWordsOf (record shape { keys = keys }) w words) (sym (opening_none (record shape { keys = keys }))) (record { count = are.count; each = each })
+pub laid_all : (shape : Dimensions) (words : List ℕ) → AreLaid shape (laid shape shape.slots (flag_words shape.slots)) words → (keys payloads : List ℕ)
+    → AreWordsOf (record shape { keys = keys; payloads = payloads }) (opening_from (record shape { keys = keys; payloads = payloads }) (length keys)) words
+laid_all shape words are keys payloads = subst (λ (w : World). AreWordsOf (record shape { keys = keys; payloads = payloads }) w words) (sym (opening_none (record shape { keys = keys; payloads = payloads }))) (record { count = are.count; each = each })
   where
     each : (place : Place) → IsIn shape place → get_or words (index_of shape place) 0 ≡ machine.word_at shape bare place
     each Epoch here = are.each Epoch here
@@ -257,32 +258,58 @@ pub record KeyIndices (shape : Dimensions) (number bucket link head birth key fl
   pub key_at : key ≡ index_of shape (Key number)
   pub flags_at : flags ≡ index_of shape (Flags (word_of_flag number))
 
--- a key is linked ahead of the others of its bucket
--- without values no word tells one
-value_bare : (shape : Dimensions) (w : World) (words : List ℕ) (s value : ℕ) → shape.values ≡ false → AreWordsOf shape w words → AreWordsOf shape (record w { value = put w.value s value }) words
-value_bare shape w words s value bare are = record { count = are.count; each = each }
-  where
-    each : (place : Place) → IsIn shape place → get_or words (index_of shape place) 0 ≡ machine.word_at shape (record w { value = put w.value s value }) place
-    each Epoch here = are.each Epoch here
-    each ShapeWord here = are.each ShapeWord here
-    each (Head b) here = are.each (Head b) here
-    each (LinkOf t) here = are.each (LinkOf t) here
-    each (Birth t) here = are.each (Birth t) here
-    each (Stamp t) here = are.each (Stamp t) here
-    each (Key t) here = are.each (Key t) here
-    each (Value t) here = absurd (let has = here.1 in cc)
-    each (Flags number) here = are.each (Flags number) here
+-- the words once the value of a slot is written: where nodes have none, no word changes
+abbrev pub IsValueWritten : Dimensions → ℕ → ℕ → List ℕ → List ℕ → Type 0
+IsValueWritten shape s value words written =
+    ((shape.values ≡ false) × (written ≡ words))
+    ⊎ ((shape.values ≡ true) × (i : ℕ) × (i ≡ index_of shape (Value s)) × (written ≡ set words i value))
 
-pub key_ahead : (shape : Dimensions) → shape.values ≡ false → (w : World) (words : List ℕ) (number key link first bits i j k m n : ℕ) → AreWordsOf shape w words → KeyIndices shape number (bucket_of shape key) i j k m n → number < shape.slots → bucket_of shape key < shape.buckets
+module _ (shape : Dimensions) (w : World) (words : List ℕ) (s value : ℕ) (are : AreWordsOf shape w words) where
+  -- without values no word tells one
+  value_bare : shape.values ≡ false → AreWordsOf shape (record w { value = put w.value s value }) words
+  value_bare bare = record { count = are.count; each = each }
+    where
+      each : (place : Place) → IsIn shape place → get_or words (index_of shape place) 0 ≡ machine.word_at shape (record w { value = put w.value s value }) place
+      each Epoch here = are.each Epoch here
+      each ShapeWord here = are.each ShapeWord here
+      each (Head b) here = are.each (Head b) here
+      each (LinkOf t) here = are.each (LinkOf t) here
+      each (Birth t) here = are.each (Birth t) here
+      each (Stamp t) here = are.each (Stamp t) here
+      each (Key t) here = are.each (Key t) here
+      each (Value t) here = absurd (let has = here.1 in cc)
+      each (Flags number) here = are.each (Flags number) here
+
+  value_laid : (i : ℕ) → i ≡ index_of shape (Value s) → s < shape.slots → shape.values ≡ true → AreWordsOf shape (record w { value = put w.value s value }) (set words i value)
+  value_laid i place low has = written_at shape w (record w { value = put w.value s value }) words (Value s) i value place (low, has) (put_here w.value s value) others are
+    where
+      others : (q : Place) → q ≢ Value s → machine.word_at shape (record w { value = put w.value s value }) q ≡ machine.word_at shape w q
+      others Epoch ne = refl
+      others ShapeWord ne = refl
+      others (Head b) ne = refl
+      others (LinkOf t) ne = refl
+      others (Birth t) ne = refl
+      others (Stamp t) ne = refl
+      others (Key t) ne = refl
+      others (Value t) ne = put_other w.value s value t (λ e. ne (ap Value e))
+      others (Flags number) ne = refl
+
+  value_written : (written : List ℕ) → s < shape.slots → IsValueWritten shape s value words written → AreWordsOf shape (record w { value = put w.value s value }) written
+  value_written written low (inl none) = subst (AreWordsOf shape (record w { value = put w.value s value })) (sym none.1) (value_bare none.0)
+  value_written written low (inr some) = subst (AreWordsOf shape (record w { value = put w.value s value })) (sym some.3) (value_laid some.1 some.2 low some.0)
+
+-- a key is linked with its value ahead of the others of its bucket
+pub key_ahead : (shape : Dimensions) (w : World) (words valued : List ℕ) (number key value link first bits i j k m n : ℕ) → AreWordsOf shape w words → KeyIndices shape number (bucket_of shape key) i j k m n → number < shape.slots → bucket_of shape key < shape.buckets
     → link ≡ word_of (link_to (w.head (bucket_of shape key)).slot 1 (w.head (bucket_of shape key)).version) → first ≡ word_of (link_to (Some number) 0 1) → bits ≡ all_but number
-    → AreWordsOf shape (with_key_ahead shape number key 0 w) (set (set (set (set (set words i link) j first) k 1) m key) n (bit_and (get_or (set (set (set (set words i link) j first) k 1) m key) n 0) bits))
-key_ahead shape bare w words number key link first bits i j k m n are at low in_shape link_is first_is clear =
+    → IsValueWritten shape number value (set (set (set (set words i link) j first) k 1) m key) valued
+    → AreWordsOf shape (with_key_ahead shape number key value w) (set valued n (bit_and (get_or valued n 0) bits))
+key_ahead shape w words valued number key value link first bits i j k m n are at low in_shape link_is first_is clear value_is =
     let b = bucket_of shape key in
     let one = link_laid shape w words are number i link _ at.link_at low link_is in
     let two = head_laid shape _ _ one b j first _ at.head_at in_shape first_is in
     let three = birth_laid shape _ _ two number k at.birth_at low in
     let four = key_laid shape _ _ three number m key at.key_at low in
-    let five = value_bare shape _ _ number 0 bare four in
+    let five = value_written shape _ _ number value four valued low value_is in
     flag_laid shape _ _ five number b n (word_of_flag number) bits at.flags_at refl clear low
 
 -- ---- heads

@@ -6,7 +6,7 @@ use Rattle.vbr_core.specs.declared.event.Event.{Event}
 use Rattle.vbr_core.proofs.Lemmas.{begins_for_know, every_run}
 use Rattle.vbr_slots.specs.declared.rule.Witness.{Witness}
 use Rattle.vbr_slots.specs.declared.rule.Opening.{Opening}
-use Rattle.vbr_slots.specs.Rule.{EachBegins, Kept}
+use Rattle.vbr_slots.specs.Rule.{EachBegins, Kept, opened_of}
 use Rattle.vbr_slots.specs.Running.{EachKnows, IsRunning}
 use Rattle.vbr_slots.proofs.Members.{times-members}
 
@@ -23,5 +23,5 @@ runs opening s is h = record {
   begins = h.begins;
   knows = λ j v at. each_knows opening.shape h.run v (h.begins j v at);
   seen = h.seen;
-  once = λ who other. let all = h.counted who other in let most = times-members opening.shape.keys who 0 opening.passes in omega arith;
+  once = λ who other. let all = h.counted who other in let most = times-members (opened_of opening.shape) who 0 opening.passes in omega arith;
 }

@@ -8,9 +8,10 @@ use Rattle.vbr_core.specs.Machine as machine
 use Rattle.vbr_core.specs.Runs.{IsRun}
 use Rattle.vbr_core.specs.declared.event.Event.{Event}
 use Rattle.vbr_core.proofs.Lemmas.{is_run_first}
+use Rattle.vbr_slots.specs.declared.rule.Opened.{Opened}
 use Rattle.vbr_slots.specs.declared.rule.Witness.{Witness}
 use Rattle.vbr_slots.specs.declared.rule.Opening.{Opening}
-use Rattle.vbr_slots.specs.Rule.{witness, witnesses, nobody, noted, first_witnesses, head_of, tail_of, first_keys, first_seen, EachBegins, HasSeen, IsSeen, times, times_in, Kept}
+use Rattle.vbr_slots.specs.Rule.{witness, witnesses, nobody, noted, first_witnesses, head_of, tail_of, first_opened, first_seen, EachBegins, HasSeen, IsSeen, times, times_in, Kept, opened_of}
 use Rattle.vbr_slots.specs.Views.{TableView, new_pass, new_passes}
 use Rattle.vbr_slots.specs.Words.{AreWordsOf}
 use Rattle.vbr_slots.proofs.Members.{times-set, token_begins, token_uncounted}
@@ -22,9 +23,9 @@ V = List Witness
 abbrev St : Type 0
 St = Standing (Unit {0}) V
 
-begin_all : (keys : List ℕ) (k n : ℕ) → EachBegins [] (witnesses keys k n)
-begin_all keys k zero = tt
-begin_all keys k (suc n) = (([], refl, tt), begin_all keys (suc k) n)
+begin_all : (opened : Opened) (k n : ℕ) → EachBegins [] (witnesses opened k n)
+begin_all opened k zero = tt
+begin_all opened k (suc n) = (([], refl, tt), begin_all opened (suc k) n)
 
 pub opens : (opening : Opening) (words : List ℕ) → AreWordsOf opening.shape (machine.opening opening.shape) words → Kept opening (table_opening words [] (first_witnesses opening))
 opens opening words are = record {
@@ -37,7 +38,7 @@ opens opening words are = record {
 }
   where
     each : (j : ℕ) (v : V) → get_elem? (first_witnesses opening ∷ []) j ≡ some v → EachBegins [] v
-    each zero v at = subst (EachBegins []) (some-injective _ _ at) (begin_all opening.shape.keys 0 opening.passes)
+    each zero v at = subst (EachBegins []) (some-injective _ _ at) (begin_all (opened_of opening.shape) 0 opening.passes)
     each (suc j) v at = absurd (some-ne-none v (sym at))
 
 times_in-snoc : (who : ℕ) (vs : List V) (v : V) → times_in who (vs ++ v ∷ []) ≡ times_in who vs + times who v
@@ -134,33 +135,33 @@ pub splits_noted : (opening : Opening) (id : ℕ) (v : V) → opening.passes ≤
 splits_noted opening id v few = splits opening id v v (noted v) count (λ run is b. (b, part run is v b)) (λ run h. inl h)
   where
     count : (who : ℕ) → who ≢ nobody → times who v + times who (noted v) ≡ times who v
-    count who other = let none = token_uncounted who (first_keys v) (first_seen v) other in omega arith
+    count who other = let none = token_uncounted who (first_opened v) (first_seen v) other in omega arith
 
     part : (run : List Event) → IsRun opening.shape opening.passes run → (u : V) → EachBegins run u → EachBegins run (noted u)
     part run is [] b = (token_begins opening.shape opening.passes nobody [] run few is (run, refl), tt)
     part run is (m ∷ ms) b = (token_begins opening.shape opening.passes nobody m.seen run few is (b.0.0, b.0.1), tt)
 
 -- the loop at the opening: the next seat goes to the pass of the number k
-module _ (keys : List ℕ) (k n : ℕ) (old new next : Me (Unit {0}) V) (low : k < n) (is : old ≡ (witnesses keys k (n - k), [])) (left : new ≡ (head_of old.0, old.1)) (right : next ≡ (tail_of old.0, [])) where
-  known : old ≡ (witness keys k [] ∷ witnesses keys (k + 1) (n - (k + 1)), [])
+module _ (opened : Opened) (k n : ℕ) (old new next : Me (Unit {0}) V) (low : k < n) (is : old ≡ (witnesses opened k (n - k), [])) (left : new ≡ (head_of old.0, old.1)) (right : next ≡ (tail_of old.0, [])) where
+  known : old ≡ (witness opened k [] ∷ witnesses opened (k + 1) (n - (k + 1)), [])
   known =
       let e : n - k ≡ suc (n - suc k) = omega arith in
       let one : suc k ≡ k + 1 = omega arith in
-      is ∙ ap (λ (i : ℕ). (witnesses keys k i, [])) e ∙ ap (λ (i : ℕ). (witness keys k [] ∷ witnesses keys i (n - i), [])) one
+      is ∙ ap (λ (i : ℕ). (witnesses opened k i, [])) e ∙ ap (λ (i : ℕ). (witness opened k [] ∷ witnesses opened i (n - i), [])) one
 
-  pub first_alone : new ≡ (witness keys k [] ∷ [], [])
+  pub first_alone : new ≡ (witness opened k [] ∷ [], [])
   first_alone = left ∙ ap (λ (m : Me (Unit {0}) V). (head_of m.0, m.1)) known
 
-  pub first_has : first_keys new.0 ≡ keys
-  first_has = ap (λ (m : Me (Unit {0}) V). first_keys m.0) first_alone
+  pub first_has : first_opened new.0 ≡ opened
+  first_has = ap (λ (m : Me (Unit {0}) V). first_opened m.0) first_alone
 
-  pub first_is : new ≡ (witness (first_keys new.0) k (first_seen new.0) ∷ [], [])
+  pub first_is : new ≡ (witness (first_opened new.0) k (first_seen new.0) ∷ [], [])
   first_is = first_alone ∙ sym (λ i. (witness (first_has i) k (ap (λ (m : Me (Unit {0}) V). first_seen m.0) first_alone i) ∷ [], []))
 
   pub first_empty : first_seen new.0 ≡ []
   first_empty = ap (λ (m : Me (Unit {0}) V). first_seen m.0) first_alone
 
-  pub others_next : next ≡ (witnesses keys (k + 1) (n - (k + 1)), [])
+  pub others_next : next ≡ (witnesses opened (k + 1) (n - (k + 1)), [])
   others_next = right ∙ ap (λ (m : Me (Unit {0}) V). (tail_of m.0, [])) known
 
 new_passes-snoc : (t : TableView) (j k : ℕ) → new_passes t j (suc k) ≡ new_passes t j k ++ new_pass t (j + k) ∷ []

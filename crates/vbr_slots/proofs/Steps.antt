@@ -1,5 +1,5 @@
 -- A step of a runner at its table: what the table asks, and what the runner then knows.
-use Rattle.std.proofs.Common.{◌≡◌, ◌≢◌, ℕ, ◌<◌, ◌≤◌, List, [], ◌∷◌, ◌++◌, refl, sym, ap, ◌∙◌, subst, arith}
+use Rattle.std.proofs.Common.{Bool, ◌≡◌, ◌≢◌, ℕ, ◌<◌, ◌≤◌, List, [], ◌∷◌, ◌++◌, refl, sym, ap, ◌∙◌, subst, arith}
 use Rattle.atomic_table.specs.Table.{Me, Allows}
 use Rattle.atomic_table.specs.Seated.{TableId}
 use Rattle.vbr_words.specs.Dimensions.{Dimensions, IsShape}
@@ -19,7 +19,7 @@ use Rattle.vbr_slots.specs.declared.rule.Witness.{Witness}
 use Rattle.vbr_slots.specs.declared.rule.Opening.{Opening}
 use Rattle.vbr_slots.specs.declared.runner.Runner.TheInside.{Inside as RunnerInside}
 use Rattle.vbr_slots.specs.declared.slots.Slots.TheInside.{Inside as SlotsInside}
-use Rattle.vbr_slots.specs.Rule.{Kept, Told, Caught, Shows, witness, nobody, times, first_keys, first_seen, head_of, tail_of, EachBegins}
+use Rattle.vbr_slots.specs.Rule.{with_opened, Kept, Told, Caught, Shows, witness, nobody, times, first_opened, first_seen, head_of, tail_of, EachBegins, opened_of}
 use Rattle.vbr_slots.specs.Views.{Trace, TableView, IsOf, Did, knows, event_of, epoch_after, steps_in}
 use Rattle.vbr_slots.specs.Tokens.{Since}
 use Rattle.vbr_slots.specs.RunnerView.{shape_of, trace_of, seen_of, IsSoundRunner}
@@ -33,8 +33,8 @@ abbrev pub Sat : Type 0
 Sat = Me (Unit {0}) (List Witness)
 
 -- the seat of a runner
-pub known : (p : RunnerInside) (w : Trace) → IsSoundRunner p → trace_of p ≡ w → p.seat.me ≡ (witness w.shape.keys w.who w.seen ∷ [], [])
-known p w sound is = sound.alone ∙ ap (λ (v : Trace). (witness v.shape.keys v.who v.seen ∷ [], [])) is
+pub known : (p : RunnerInside) (w : Trace) → IsSoundRunner p → trace_of p ≡ w → p.seat.me ≡ (witness (opened_of w.shape) w.who w.seen ∷ [], [])
+known p w sound is = sound.alone ∙ ap (λ (v : Trace). (witness (opened_of v.shape) v.who v.seen ∷ [], [])) is
 
 pub low_of : (p : RunnerInside) (w : Trace) → IsSoundRunner p → trace_of p ≡ w → w.who < w.passes
 low_of p w sound is = subst (λ (v : Trace). v.who < v.passes) is sound.low
@@ -47,8 +47,8 @@ abbrev pub opening_of : TableView → Opening
 opening_of t = record { shape = t.shape; passes = t.passes }
 
 -- what a step on the word asks
-pub asks : (t : SlotsInside) (table : TableView) → IsBuilt t → table_of t ≡ table → (w : Trace) → w.who < w.passes → IsOf w table → (z : TableId) → z ≡ w.table → (id : ℕ) (me : Sat) (others : List Witness)
-    → me ≡ (witness w.shape.keys w.who w.seen ∷ others, []) → (step : Step) (e : Event) (opening : Opening) → (e ≡ event_of w.who step) × (opening ≡ opening_of table) → (place : Place) (word : ℕ) (f g : ℕ → ℕ) → word ≡ index_of t.opening.shape place → place ≡ place_of_step step
+pub asks : {N : Type 0} {values : Bool} (t : SlotsInside N) (table : TableView) → IsBuilt values t → table_of t ≡ table → (w : Trace) → w.who < w.passes → IsOf w table → (z : TableId) → z ≡ w.table → (id : ℕ) (me : Sat) (others : List Witness)
+    → me ≡ (witness (opened_of w.shape) w.who w.seen ∷ others, []) → (step : Step) (e : Event) (opening : Opening) → (e ≡ event_of w.who step) × (opening ≡ opening_of table) → (place : Place) (word : ℕ) (f g : ℕ → ℕ) → word ≡ index_of t.opening.shape place → place ≡ place_of_step step
     → ((n : ℕ) → f n ≡ word_made (access_of (knows w) step) n) → ((n : ℕ) → Shows step (g n) n) → Accepts table.shape (knows w) step
     → (z ≡ t.table.shared.table_id) × (word < t.table.shared.table_id.words) × Allows (Kept t.table.shared.key) t.table.shared.table_id.slots id me word f (λ r. Told opening e me (g r))
 asks t table built t_is w low own z z_is id me others is step e opening named place word f g at_place place_is does same ok =
@@ -76,19 +76,19 @@ pub record Done (w : Trace) (step : Step) (r : ℕ) (others : List Witness) (n :
   pub none : NoneOf w.who rest
   pub run : List Event
   pub run_is : run ≡ (w.seen ++ rest) ++ event_of w.who step ∷ []
-  pub now : n ≡ (witness w.shape.keys w.who run ∷ others, [])
+  pub now : n ≡ (witness (opened_of w.shape) w.who run ∷ others, [])
   pub is_run : IsRun w.shape w.passes run
   pub shows : Shows step r (found w.shape (world_after w.shape (w.seen ++ rest)) step)
   pub know : know_after w.shape run w.who ≡ learn step r (stamp_shown (world_after w.shape (w.seen ++ rest)) step) (knows w)
   pub mates : EachBegins run others
 
-pub done : (w : Trace) (table : TableView) → IsOf w table → (me n : Sat) (others : List Witness) → me ≡ (witness w.shape.keys w.who w.seen ∷ others, []) → (step : Step) (e : Event) (opening : Opening) → (e ≡ event_of w.who step) × (opening ≡ opening_of table)
+pub done : (w : Trace) (table : TableView) → IsOf w table → (me n : Sat) (others : List Witness) → me ≡ (witness (opened_of w.shape) w.who w.seen ∷ others, []) → (step : Step) (e : Event) (opening : Opening) → (e ≡ event_of w.who step) × (opening ≡ opening_of table)
     → (r : ℕ) → Told opening e me r n → Done w step r others n
 done w table own me n others is step e opening named r told =
     let d : Event = event_of w.who step in
     let o : Opening = record { shape = w.shape; passes = w.passes } in
     let mine : opening_of table ≡ o = λ i. record { shape = sym own.1 i; passes = sym own.2 i } in
-    let here : Told o d (witness w.shape.keys w.who w.seen ∷ others, []) r n = subst (λ (x : Opening × Event × Sat). Told x.0 x.1 x.2 r n) (λ i. ((named.1 ∙ mine) i, named.0 i, is i)) told in record {
+    let here : Told o d (witness (opened_of w.shape) w.who w.seen ∷ others, []) r n = subst (λ (x : Opening × Event × Sat). Told x.0 x.1 x.2 r n) (λ i. ((named.1 ∙ mine) i, named.0 i, is i)) told in record {
       rest = here.rest;
       none = here.none;
       run = (w.seen ++ here.rest) ++ d ∷ [];
@@ -100,14 +100,14 @@ done w table own me n others is step e opening named r told =
       mates = here.others;
     }
 
--- a runner that has kept its opening and the keys of its seat is of the same shape
-same_shape : (p : RunnerInside) (w : Trace) → trace_of p ≡ w → (opening : Opening) → opening ≡ p.opening → (me : Sat) (v : Witness) (others : List Witness) → me ≡ (v ∷ others, []) → v.keys ≡ w.shape.keys → record opening.shape { keys = first_keys me.0 } ≡ w.shape
-same_shape p w p_is opening opening_is me v others is keys =
-    (λ i. record (opening_is i).shape { keys = (ap (λ (m : Sat). first_keys m.0) is ∙ keys) i })
-    ∙ (λ i. record (ap (λ (v : Trace). v.shape) p_is i) { keys = w.shape.keys })
+-- a runner that has kept its opening and what its seat says that the table opened with is of the same shape
+same_shape : (p : RunnerInside) (w : Trace) → trace_of p ≡ w → (opening : Opening) → opening ≡ p.opening → (me : Sat) (v : Witness) (others : List Witness) → me ≡ (v ∷ others, []) → v.opened ≡ opened_of w.shape → with_opened opening.shape (first_opened me.0) ≡ w.shape
+same_shape p w p_is opening opening_is me v others is opened =
+    (λ i. with_opened (opening_is i).shape ((ap (λ (m : Sat). first_opened m.0) is ∙ opened) i))
+    ∙ (λ i. with_opened (ap (λ (v : Trace). v.shape) p_is i) (opened_of w.shape))
 
 -- the runner after the step, in a seat of its own
-module _ (p : RunnerInside) (w : Trace) (sound : IsSoundRunner p) (p_is : trace_of p ≡ w) (step : Step) (r : ℕ) (others : List Witness) (n : Sat) (end : Done w step r others n) (q : RunnerInside) (is : q.seat.me ≡ (witness w.shape.keys w.who end.run ∷ [], []))
+module _ (p : RunnerInside) (w : Trace) (sound : IsSoundRunner p) (p_is : trace_of p ≡ w) (step : Step) (r : ℕ) (others : List Witness) (n : Sat) (end : Done w step r others n) (q : RunnerInside) (is : q.seat.me ≡ (witness (opened_of w.shape) w.who end.run ∷ [], []))
     (fields : (q.who ≡ p.who) × (q.opening ≡ p.opening) × (q.epoch ≡ epoch_after step r p.epoch)) where
   seen_now : seen_of q ≡ end.run
   seen_now = seen_in q.seat.me _ [] is
@@ -129,7 +129,7 @@ module _ (p : RunnerInside) (w : Trace) (sound : IsSoundRunner p) (p_is : trace_
 
   pub stays_sound : IsSoundRunner q
   stays_sound = record {
-    alone = is ∙ (λ i. (witness (sym shape_is i).keys (sym who_is i) (sym seen_now i) ∷ [], []));
+    alone = is ∙ (λ i. (witness (opened_of (sym shape_is i)) (sym who_is i) (sym seen_now i) ∷ [], []));
     low = subst (λ (x : ℕ × Opening). x.0 < x.1.passes) (λ i. (sym fields.0 i, sym fields.1 i)) sound.low;
     shape = subst IsShape (ap (λ (v : Trace). v.shape) p_is ∙ sym shape_is) sound.shape;
     is_run = subst (λ (x : Dimensions × ℕ × List Event). IsRun x.0 x.1 x.2) (λ i. (sym shape_is i, sym passes_is i, sym seen_now i)) end.is_run;
@@ -160,7 +160,7 @@ pub right_rest : (m m' : Sat) (v : Witness) (vs : List Witness) → m ≡ (v ∷
 right_rest m m' v vs is right = right ∙ ap (λ (x : Sat). (tail_of x.0, [])) is
 
 -- a runner that has its seat back is what it was
-pub same_again : (p : RunnerInside) (w : Trace) (sound : IsSoundRunner p) (p_is : trace_of p ≡ w) (q : RunnerInside) (is : q.seat.me ≡ (witness w.shape.keys w.who w.seen ∷ [], [])) → (q.who ≡ p.who) × (q.opening ≡ p.opening) × (q.epoch ≡ p.epoch)
+pub same_again : (p : RunnerInside) (w : Trace) (sound : IsSoundRunner p) (p_is : trace_of p ≡ w) (q : RunnerInside) (is : q.seat.me ≡ (witness (opened_of w.shape) w.who w.seen ∷ [], [])) → (q.who ≡ p.who) × (q.opening ≡ p.opening) × (q.epoch ≡ p.epoch)
     → q.seat.table_id ≡ w.table → IsSoundRunner q × (trace_of q ≡ w)
 same_again p w sound p_is q is fields table =
     let seen : seen_of q ≡ w.seen = seen_in q.seat.me _ [] is in
@@ -170,7 +170,7 @@ same_again p w sound p_is q is fields table =
     let shape_was : shape_of q ≡ shape_of p = shape ∙ sym (ap (λ (v : Trace). v.shape) p_is) in
     let passes : q.opening.passes ≡ w.passes = ap (λ (o : Opening). o.passes) fields.1 ∙ ap (λ (v : Trace). v.passes) p_is in (
       record {
-        alone = is ∙ (λ i. (witness (sym shape i).keys (sym who i) (sym seen i) ∷ [], []));
+        alone = is ∙ (λ i. (witness (opened_of (sym shape i)) (sym who i) (sym seen i) ∷ [], []));
         low = subst (λ (x : ℕ × Opening). x.0 < x.1.passes) (λ i. (sym fields.0 i, sym fields.1 i)) sound.low;
         shape = subst IsShape (sym shape_was) sound.shape;
         is_run = subst (λ (x : Dimensions × ℕ × List Event). IsRun x.0 x.1 x.2) (λ i. (sym shape_was i, (sym fields.1 i).passes, sym was i)) sound.is_run;
@@ -179,13 +179,13 @@ same_again p w sound p_is q is fields table =
       (λ i. record { table = table i; shape = shape i; passes = passes i; who = who i; seen = seen i }),
     )
 
-pub wide : (t : SlotsInside) → IsBuilt t → 0 < t.table.shared.table_id.words
+pub wide : {N : Type 0} {values : Bool} (t : SlotsInside N) → IsBuilt values t → 0 < t.table.shared.table_id.words
 wide t built = let w = built.words in omega arith
 
 -- ---- tokens
 
 -- the number of tokens is above those of all passes
-pub none_has_it : (t : SlotsInside) → IsBuilt t → t.table.shared.key.passes ≤ nobody
+pub none_has_it : {N : Type 0} {values : Bool} (t : SlotsInside N) → IsBuilt values t → t.table.shared.key.passes ≤ nobody
 none_has_it t built = subst (λ (o : Opening). o.passes ≤ nobody) (sym built.key) built.few
 
 -- a seat that a token was joined to
@@ -193,7 +193,7 @@ pub beside : (u : Witness) (vs : List Witness) (pm given pm' : Sat) → pm ≡ (
 beside u vs pm given pm' is_p from into = into ∙ (λ i. ((is_p i).0 ++ (from i).0, (is_p i).1))
 
 -- what catching up asks
-pub asks_to_catch : (t : SlotsInside) (table : TableView) → IsBuilt t → table_of t ≡ table → (w : Trace) → w.who < w.passes → IsOf w table → (z : TableId) → z ≡ w.table → (id : ℕ) (me : Sat) (others : List Witness) → me ≡ (witness w.shape.keys w.who w.seen ∷ others, [])
+pub asks_to_catch : {N : Type 0} {values : Bool} (t : SlotsInside N) (table : TableView) → IsBuilt values t → table_of t ≡ table → (w : Trace) → w.who < w.passes → IsOf w table → (z : TableId) → z ≡ w.table → (id : ℕ) (me : Sat) (others : List Witness) → me ≡ (witness (opened_of w.shape) w.who w.seen ∷ others, [])
     → ((number : ℕ) → number ≢ nobody → times number others ≡ 0) → (e : Event) (opening : Opening) → (e ≡ event_of w.who ReadEpoch) × (opening ≡ opening_of table)
     → (z ≡ t.table.shared.table_id) × (0 < t.table.shared.table_id.words) × Allows (Kept t.table.shared.key) t.table.shared.table_id.slots id me 0 (λ n. n) (λ _. Caught opening e.pass me)
 asks_to_catch t table built t_is w low own z z_is id me others is spent e opening named =
@@ -216,17 +216,17 @@ pub record CaughtUp (w : Trace) (others : List Witness) (n : Sat) : Type 0 where
   pub none : NoneOf w.who rest
   pub run : List Event
   pub run_is : run ≡ w.seen ++ rest
-  pub now : n ≡ (witness w.shape.keys w.who run ∷ [], [])
+  pub now : n ≡ (witness (opened_of w.shape) w.who run ∷ [], [])
   pub is_run : IsRun w.shape w.passes run
   pub mates : EachBegins run others
 
-pub caught_up : (w : Trace) (table : TableView) → IsOf w table → (me n : Sat) (others : List Witness) → me ≡ (witness w.shape.keys w.who w.seen ∷ others, []) → (e : Event) (opening : Opening) → (e ≡ event_of w.who ReadEpoch) × (opening ≡ opening_of table)
+pub caught_up : (w : Trace) (table : TableView) → IsOf w table → (me n : Sat) (others : List Witness) → me ≡ (witness (opened_of w.shape) w.who w.seen ∷ others, []) → (e : Event) (opening : Opening) → (e ≡ event_of w.who ReadEpoch) × (opening ≡ opening_of table)
     → Caught opening e.pass me n → CaughtUp w others n
 caught_up w table own me n others is e opening named caught =
     let d : Event = event_of w.who ReadEpoch in
     let o : Opening = record { shape = w.shape; passes = w.passes } in
     let mine : opening_of table ≡ o = λ i. record { shape = sym own.1 i; passes = sym own.2 i } in
-    let here : Caught o w.who (witness w.shape.keys w.who w.seen ∷ others, []) n = subst (λ (x : Opening × Event × Sat). Caught x.0 x.1.pass x.2 n) (λ i. ((named.1 ∙ mine) i, named.0 i, is i)) caught in record {
+    let here : Caught o w.who (witness (opened_of w.shape) w.who w.seen ∷ others, []) n = subst (λ (x : Opening × Event × Sat). Caught x.0 x.1.pass x.2 n) (λ i. ((named.1 ∙ mine) i, named.0 i, is i)) caught in record {
       rest = here.rest;
       none = here.none;
       run = w.seen ++ here.rest;
@@ -237,7 +237,7 @@ caught_up w table own me n others is e opening named caught =
     }
 
 -- the runner that caught up
-module _ (p : RunnerInside) (w : Trace) (sound : IsSoundRunner p) (p_is : trace_of p ≡ w) (others : List Witness) (n : Sat) (end : CaughtUp w others n) (q : RunnerInside) (is : q.seat.me ≡ (witness w.shape.keys w.who end.run ∷ [], []))
+module _ (p : RunnerInside) (w : Trace) (sound : IsSoundRunner p) (p_is : trace_of p ≡ w) (others : List Witness) (n : Sat) (end : CaughtUp w others n) (q : RunnerInside) (is : q.seat.me ≡ (witness (opened_of w.shape) w.who end.run ∷ [], []))
     (fields : (q.who ≡ p.who) × (q.opening ≡ p.opening) × (q.epoch ≡ p.epoch)) where
   seen_then : seen_of q ≡ end.run
   seen_then = seen_in q.seat.me _ [] is
@@ -256,7 +256,7 @@ module _ (p : RunnerInside) (w : Trace) (sound : IsSoundRunner p) (p_is : trace_
 
   pub caught_sound : IsSoundRunner q
   caught_sound = record {
-    alone = is ∙ (λ i. (witness (sym shape_then i).keys (sym who_then i) (sym seen_then i) ∷ [], []));
+    alone = is ∙ (λ i. (witness (opened_of (sym shape_then i)) (sym who_then i) (sym seen_then i) ∷ [], []));
     low = subst (λ (x : ℕ × Opening). x.0 < x.1.passes) (λ i. (sym fields.0 i, sym fields.1 i)) sound.low;
     shape = subst IsShape (ap (λ (v : Trace). v.shape) p_is ∙ sym shape_then) sound.shape;
     is_run = subst (λ (x : Dimensions × ℕ × List Event). IsRun x.0 x.1 x.2) (λ i. (sym shape_then i, sym passes_then i, sym seen_then i)) end.is_run;

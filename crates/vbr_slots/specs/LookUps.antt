@@ -12,7 +12,7 @@ look_up true key (Slot s) word = ConfirmPresent Has s word
 look_up true key (Head b) word = ConfirmAbsent Has key (Head b) word
 look_up false key at word = ConfirmAbsent Has key at word
 
--- the index of the link word at a place, where the words of slots begin at this one
-abbrev pub link_from : ℕ → At → ℕ
-link_from slots (Head b) = 2 + b
-link_from slots (Slot s) = slots + 4 * s
+-- the index of the link word at a place, where the words of slots begin at this one, and each slot has so many
+abbrev pub link_from : ℕ → ℕ → At → ℕ
+link_from slots words (Head b) = 2 + b
+link_from slots words (Slot s) = slots + words * s

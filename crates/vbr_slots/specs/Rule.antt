@@ -3,6 +3,7 @@ use Rattle.std.specs.Prelude.{◌≡◌, ◌≢◌, ◌⊎◌, ℕ, zero, suc, �
 use mathlib.Core.Option.{some}
 use lib.ListN.{get_elem?}
 use Rattle.atomic_table.specs.Table.{State as Standing, Me}
+use Rattle.vbr_words.specs.Dimensions.{Dimensions}
 use Rattle.vbr_core.specs.Knowledge.{Know}
 use Rattle.vbr_core.specs.Learning.{effect_of, learn}
 use Rattle.vbr_core.specs.Machine.{found}
@@ -10,24 +11,35 @@ use Rattle.vbr_core.specs.Runs.{IsRun, world_after, NoneOf, BeginsFor}
 use Rattle.vbr_core.specs.declared.event.Event.{Event}
 use Rattle.vbr_core.specs.declared.event.Step.{Step}
 use Rattle.vbr_core.specs.declared.event.Step.TheVariants.{ReadEpoch}
+use Rattle.vbr_slots.specs.declared.rule.Opened.{Opened}
 use Rattle.vbr_slots.specs.declared.rule.Witness.{Witness}
 use Rattle.vbr_slots.specs.declared.rule.Opening.{Opening}
 use Rattle.vbr_slots.specs.Words.{AreWordsOf}
 
+-- ---- what a table opened with
+
+-- the keys and the values of a shape
+abbrev pub opened_of : Dimensions → Opened
+opened_of shape = record { keys = shape.keys; payloads = shape.payloads }
+
+-- the shape with these keys and values
+abbrev pub with_opened : Dimensions → Opened → Dimensions
+with_opened shape opened = record shape { keys = opened.keys; payloads = opened.payloads }
+
 -- ---- witnesses of seats
 
--- a pass of a table that opened with these keys, by its number, with what it has seen
-abbrev pub witness : List ℕ → ℕ → List Event → Witness
-witness keys who seen = record { keys = keys; who = who; seen = seen }
+-- a pass of a table that opened with these keys and values, by its number, with what it has seen
+abbrev pub witness : Opened → ℕ → List Event → Witness
+witness opened who seen = record { opened = opened; who = who; seen = seen }
 
 -- so many witnesses from a number on, which have seen nothing
-abbrev pub witnesses : List ℕ → ℕ → ℕ → List Witness
-witnesses keys k zero = []
-witnesses keys k (suc n) = witness keys k [] ∷ witnesses keys (suc k) n
+abbrev pub witnesses : Opened → ℕ → ℕ → List Witness
+witnesses opened k zero = []
+witnesses opened k (suc n) = witness opened k [] ∷ witnesses opened (suc k) n
 
 -- the witnesses of the first seat: all passes
 abbrev pub first_witnesses : Opening → List Witness
-first_witnesses opening = witnesses opening.shape.keys 0 opening.passes
+first_witnesses opening = witnesses (opened_of opening.shape) 0 opening.passes
 
 -- the first witness alone
 abbrev pub head_of : List Witness → List Witness
@@ -44,10 +56,10 @@ abbrev pub first_seen : List Witness → List Event
 first_seen [] = []
 first_seen (m ∷ ms) = m.seen
 
--- the keys that the table of the first witness opened with
-abbrev pub first_keys : List Witness → List ℕ
-first_keys [] = []
-first_keys (m ∷ ms) = m.keys
+-- what the table of the first witness opened with
+abbrev pub first_opened : List Witness → Opened
+first_opened [] = record { keys = []; payloads = [] }
+first_opened (m ∷ ms) = m.opened
 
 -- the number of the witness of a token: no pass has it, since a table has at most 64 passes
 abbrev pub nobody : ℕ
@@ -55,7 +67,7 @@ nobody = 64
 
 -- the witness of a token that tells what the first witness has seen
 abbrev pub noted : List Witness → List Witness
-noted ms = witness (first_keys ms) nobody (first_seen ms) ∷ []
+noted ms = witness (first_opened ms) nobody (first_seen ms) ∷ []
 
 -- what each witness has seen begins the run and has all its own events
 abbrev pub EachBegins : List Event → List Witness → Type 0
@@ -112,11 +124,11 @@ pub record Shows (step : Step) (r n : ℕ) : Type 0 where
   pub answers : effect_of step r ≡ effect_of step n
   pub teaches : (stamp : ℕ) (know : Know) → learn step r stamp know ≡ learn step n stamp know
 
--- what a step at the table tells: the first witness of the seat did the event, after what it had seen and what others did since, and is of a table that opened with these keys; it was shown r; and the other witnesses of the seat still begin the run
+-- what a step at the table tells: the first witness of the seat did the event, after what it had seen and what others did since, and is of a table that opened with these keys and values; it was shown r; and the other witnesses of the seat still begin the run
 pub record Told (opening : Opening) (e : Event) (m : Me (Unit {0}) (List Witness)) (r : ℕ) (n : Me (Unit {0}) (List Witness)) : Type 0 where
   pub rest : List Event
   pub none : NoneOf e.pass rest
-  pub now : n ≡ (witness opening.shape.keys e.pass ((first_seen m.0 ++ rest) ++ e ∷ []) ∷ tail_of m.0, m.1)
+  pub now : n ≡ (witness (opened_of opening.shape) e.pass ((first_seen m.0 ++ rest) ++ e ∷ []) ∷ tail_of m.0, m.1)
   pub is_run : IsRun opening.shape opening.passes ((first_seen m.0 ++ rest) ++ e ∷ [])
   pub shows : Shows e.step r (found opening.shape (world_after opening.shape (first_seen m.0 ++ rest)) e.step)
   pub others : EachBegins ((first_seen m.0 ++ rest) ++ e ∷ []) (tail_of m.0)
@@ -125,6 +137,6 @@ pub record Told (opening : Opening) (e : Event) (m : Me (Unit {0}) (List Witness
 pub record Caught (opening : Opening) (who : ℕ) (m n : Me (Unit {0}) (List Witness)) : Type 0 where
   pub rest : List Event
   pub none : NoneOf who rest
-  pub now : n ≡ (witness opening.shape.keys who (first_seen m.0 ++ rest) ∷ [], m.1)
+  pub now : n ≡ (witness (opened_of opening.shape) who (first_seen m.0 ++ rest) ∷ [], m.1)
   pub is_run : IsRun opening.shape opening.passes (first_seen m.0 ++ rest)
   pub others : EachBegins (first_seen m.0 ++ rest) (tail_of m.0)

@@ -1,7 +1,7 @@
 -- What contracts see of a token, and its invariant.
 use Rattle.std.specs.Prelude.{◌≡◌, [], ◌∷◌}
 use Rattle.vbr_slots.specs.declared.seen.Seen.TheInside.{Inside}
-use Rattle.vbr_slots.specs.Rule.{witness, nobody, first_keys, first_seen}
+use Rattle.vbr_slots.specs.Rule.{witness, nobody, first_opened, first_seen}
 use Rattle.vbr_slots.specs.Tokens.{SeenView}
 
 -- what contracts see
@@ -10,4 +10,4 @@ token_of t = record { table = t.seat.table_id; seen = first_seen t.seat.me.0 }
 
 -- its seat has one witness, under the number of nobody, and no slot of the table
 pub record IsToken (t : Inside) : Type 0 where
-  pub alone : t.seat.me ≡ (witness (first_keys t.seat.me.0) nobody (first_seen t.seat.me.0) ∷ [], [])
+  pub alone : t.seat.me ≡ (witness (first_opened t.seat.me.0) nobody (first_seen t.seat.me.0) ∷ [], [])

@@ -1,18 +1,18 @@
 //! The steps that make a new incarnation in a slot of the pass.
-ghost use Rattle.std.specs.Prelude.{◌≡◌, ◌<◌, Some};
+ghost use Rattle.std.specs.Prelude.{◌≡◌, ◌<◌, true, Some};
 ghost use Rattle.vbr_words.specs.Words.{link_of, word_of};
 ghost use Rattle.vbr_core.specs.Acceptance.{MayBear, IsNextIn, IsNextHeld, stamp_in};
 ghost use Rattle.vbr_core.specs.Learning.{link_written};
-ghost use Rattle.vbr_core.specs.declared.event.Step.TheVariants.{StoreBirth, StoreKey, StoreLink};
+ghost use Rattle.vbr_core.specs.declared.event.Step.TheVariants.{StoreBirth, StoreKey, StoreValue, StoreLink};
 ghost use Rattle.vbr_slots.specs.Pools.{HasRoomFor, without};
 ghost use Rattle.vbr_slots.specs.Views.{IsOf, Did, KeepsPool, knows};
 
 use crate::pass::Pass;
 use crate::slots::Slots;
 use vbr_core::Step;
-use vbr_words::{Place, decode};
+use vbr_words::{Nodes, Place, decode};
 
-impl Slots {
+impl<N: Nodes> Slots<N> {
     /// Gives birth to a new incarnation in a slot of the pass, in one step. The slot was stamped
     /// before the last epoch that the pass read, which is the birth; it leaves the own pool and is
     /// in hand.
@@ -39,6 +39,18 @@ impl Slots {
         ensures pool { KeepsPool pass.old pass.new }
     {
         pass.during(|stepper| (stepper.store_key(self, slot, key), 1))
+    }
+
+    /// Stores the value of the incarnation in hand, in one step, where nodes have values.
+    #[inline]
+    pub fn store_value(&self, pass: &mut Pass, slot: u32, value: u64)
+        requires own { IsOf pass.old.trace self.now }
+        requires values { self.now.shape.values ≡ true }
+        requires in_hand { pass.old.hand ≡ Some slot }
+        ensures step { Did (StoreValue slot value) pass.old.trace pass.new.trace value }
+        ensures pool { KeepsPool pass.old pass.new }
+    {
+        pass.during(|stepper| (stepper.store_value(self, slot, value), 1))
     }
 
     /// Stores the link word of the incarnation in hand, in one step: unmarked, to none or to a held

@@ -12,14 +12,15 @@ use crate::slots::Slots;
 use crate::stepper::Stepper;
 use atomic_table::Closed;
 use std::alloc::Global;
+use vbr_words::Nodes;
 
-impl Slots {
+impl<N: Nodes> Slots<N> {
     /// Ends the table and gives its words, in the order of `place_index`: the image of a run that
     /// begins with what each pass has seen and has no other event of it.
     ///
     /// Missing is tested first; then the room for the words is made, before any seat is joined. What
     /// is refused comes back as it was.
-    pub fn close(self, alloc: Global, passes: Vec<Pass>) -> Result<Vec<u64>, CloseError<Slots>>
+    pub fn close(self, alloc: Global, passes: Vec<Pass>) -> Result<Vec<u64>, CloseError<Slots<N>>>
         requires { AllOf self passes.items }
         ensures ok { IfOk result (λ words. Ends self passes.items words.items) }
         ensures all { OnOk result (self.passes ≤ length passes.items) }
@@ -33,7 +34,11 @@ impl Slots {
         let Ok(words) = Vec::with_capacity(alloc, count) else {
             return Err(CloseError::Memory(self, passes));
         };
-        let Slots { table, opening: _ } = self;
+        let Slots {
+            table,
+            opening: _,
+            nodes: _,
+        } = self;
         let (_, mut seat) = table.shared.load_new_seat::<Nobody>(0);
         for pass in passes {
             let Pass { stepper, steps: _ } = pass;

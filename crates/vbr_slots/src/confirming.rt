@@ -11,9 +11,9 @@ use crate::pass::Pass;
 use crate::slots::Slots;
 use crate::stepping::place_of_link;
 use vbr_core::{Op, Step};
-use vbr_words::{At, Place};
+use vbr_words::{At, Nodes, Place};
 
-impl Slots {
+impl<N: Nodes> Slots<N> {
     /// Answers a look-up or an insert, in one step, a load: if the link word of a node is still
     /// `expected`, unmarked, the node's key is present. Else the word that was found comes back,
     /// and no call is answered.

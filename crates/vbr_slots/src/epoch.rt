@@ -6,9 +6,9 @@ ghost use Rattle.vbr_slots.specs.Views.{IsOf, Did, KeepsPool};
 use crate::pass::Pass;
 use crate::slots::Slots;
 use vbr_core::Step;
-use vbr_words::Place;
+use vbr_words::{Nodes, Place};
 
-impl Slots {
+impl<N: Nodes> Slots<N> {
     /// Reads the epoch, in one step. Where it is the one that the pass read last, its pending reads
     /// are checked; where it has moved, the pass knows of no reads any more.
     #[inline]

@@ -11,9 +11,9 @@ use crate::pass::Pass;
 use crate::slots::Slots;
 use crate::stepping::place_of_link;
 use vbr_core::Step;
-use vbr_words::{At, Place, with_mark};
+use vbr_words::{At, Nodes, Place, with_mark};
 
-impl Slots {
+impl<N: Nodes> Slots<N> {
     /// Links the incarnation in hand behind `pred`, in one step, if the word there is `expected`:
     /// it becomes `new`, nothing is in hand any more, and the pass has inserted the key. Else the
     /// word that was found comes back, and nothing changes.

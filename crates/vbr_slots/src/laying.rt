@@ -1,5 +1,5 @@
 // The words that a table opens with.
-ghost use Rattle.std.specs.Prelude.{◌≡◌, ◌<◌, ◌≤◌, ℕ, List, [], false, length, IfOk, OnOk};
+ghost use Rattle.std.specs.Prelude.{◌≡◌, ◌<◌, ◌≤◌, ℕ, List, length, slice_index_or, IfOk, OnOk, if◌then◌else◌};
 ghost use Rattle.std.specs.List.Sorted.{IsStrictlyIncreasing};
 ghost use Rattle.vbr_words.specs.Dimensions.{IsShape};
 ghost use Rattle.vbr_words.specs.Places.{words_in};
@@ -12,33 +12,50 @@ use vbr_words::flags::{all_but, flag_words, full_flags, word_of_flag};
 use vbr_words::link::{MARK, MAX_SLOTS, version_of};
 use vbr_words::{Link, Place, Shape, decode, encode, place_index, word_count};
 
-// The words of the world that opens with these keys. They are linked from the last one on, so that
-// each finds the next of its bucket at the head of the list.
+// The words of the world that opens with these keys, and their values where nodes have values. They
+// are linked from the last one on, so that each finds the next of its bucket at the head of the list.
 pub(crate) fn opening_words(
     alloc: Global,
     shape: &Shape,
     keys: &[u64],
+    values: &[u64],
 ) -> Result<Vec<u64>, AllocError>
     requires ascending { IsStrictlyIncreasing keys.now }
     requires few { length keys.now ≤ shape.now.slots }
-    requires valueless { shape.now.values ≡ false }
-    requires payloads { shape.now.payloads ≡ [] }
-    ensures words { IfOk result (λ words. AreWordsOf (record shape.now { keys = keys.now }) (opening (record shape.now { keys = keys.now })) words.items) }
-    ensures shape { OnOk result (IsShape (record shape.now { keys = keys.now })) }
+    requires paired { length values.now ≡ (if shape.now.values then length keys.now else 0) }
+    ensures words { IfOk result (λ words. AreWordsOf
+        (record shape.now { keys = keys.now; payloads = values.now })
+        (opening (record shape.now { keys = keys.now; payloads = values.now })) words.items) }
+    ensures shape { OnOk result (IsShape (record shape.now { keys = keys.now; payloads = values.now })) }
 {
     let mut words = empty_words(alloc, shape)?;
     let mut number = keys.len();
     while number > 0 {
         number -= 1;
-        link_key(shape, &mut words, number as u32, keys[number]);
+        link_key(
+            shape,
+            &mut words,
+            number as u32,
+            keys[number],
+            value_at(values, number),
+        );
     }
     Ok(words)
+}
+
+// The value with a number, or 0 where there is none.
+fn value_at(values: &[u64], number: usize) -> u64
+    ensures { result ≡ slice_index_or values.now number 0 }
+{
+    values.get(number).copied().unwrap_or(0)
 }
 
 // The words before a key is linked: the epoch is 1, the shape's word stands, each slot has the opening
 // link and is in the shared pool, so its flag is set, and all other words are 0.
 fn empty_words(alloc: Global, shape: &Shape) -> Result<Vec<u64>, AllocError>
-    ensures words { IfOk result (λ words. (keys : List ℕ) → AreWordsOf (record shape.now { keys = keys }) (opening_from (record shape.now { keys = keys }) (length keys)) words.items) }
+    ensures words { IfOk result (λ words. (keys payloads : List ℕ) → AreWordsOf
+        (record shape.now { keys = keys; payloads = payloads })
+        (opening_from (record shape.now { keys = keys; payloads = payloads }) (length keys)) words.items) }
     ensures shape { OnOk result (IsShape shape.now) }
 {
     let mut words = vec![in alloc; 0; word_count(shape)]?;
@@ -54,14 +71,15 @@ fn empty_words(alloc: Global, shape: &Shape) -> Result<Vec<u64>, AllocError>
     Ok(words)
 }
 
-// Links a key ahead of the others of its bucket, and takes its slot out of the shared pool. The version
-// of the head is the birth of what it names.
-fn link_key(shape: &Shape, words: &mut [u64], number: u32, key: u64)
+// Links a key with its value ahead of the others of its bucket, and takes its slot out of the shared
+// pool. The version of the head is the birth of what it names. Without values no word has the value.
+fn link_key(shape: &Shape, words: &mut [u64], number: u32, key: u64, value: u64)
     requires number { number < shape.now.slots }
-    requires valueless { shape.now.values ≡ false }
     requires words { length words.old ≡ words_in shape.now }
-    ensures { (keys : List ℕ) (w : World) → HeadsFit w → AreWordsOf (record shape.now { keys = keys }) w words.old →
-        AreWordsOf (record shape.now { keys = keys }) (with_key_ahead (record shape.now { keys = keys }) number key 0 w) words.new }
+    ensures { (keys payloads : List ℕ) (w : World) → HeadsFit w
+        → AreWordsOf (record shape.now { keys = keys; payloads = payloads }) w words.old
+        → AreWordsOf (record shape.now { keys = keys; payloads = payloads })
+        (with_key_ahead (record shape.now { keys = keys; payloads = payloads }) number key value w) words.new }
 {
     prove!(shape.slots() <= MAX_SLOTS);
     let head = place_index(shape, Place::Head(shape.bucket_of(key)));
@@ -79,5 +97,8 @@ fn link_key(shape: &Shape, words: &mut [u64], number: u32, key: u64)
     });
     words[place_index(shape, Place::Birth(number))] = 1;
     words[place_index(shape, Place::Key(number))] = key;
+    if shape.has_values() {
+        words[place_index(shape, Place::Value(number))] = value;
+    }
     words[place_index(shape, Place::Flags(word_of_flag(number)))] &= all_but(number);
 }

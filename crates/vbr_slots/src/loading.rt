@@ -1,18 +1,18 @@
 //! The steps that load what a traversal reads, one each. A read is pending until the epoch is read
 //! again.
-ghost use Rattle.std.specs.Prelude.{◌≡◌, ◌<◌, IsTrue};
+ghost use Rattle.std.specs.Prelude.{◌≡◌, ◌<◌, true, IsTrue};
 ghost use Rattle.vbr_core.specs.Acceptance.{IsAtIn};
 ghost use Rattle.vbr_core.specs.Knowledge.{holds, holds_at};
-ghost use Rattle.vbr_core.specs.declared.event.Step.TheVariants.{LoadLink, LoadBirth, LoadKey};
+ghost use Rattle.vbr_core.specs.declared.event.Step.TheVariants.{LoadLink, LoadBirth, LoadKey, LoadValue};
 ghost use Rattle.vbr_slots.specs.Views.{IsOf, Did, KeepsPool, knows};
 
 use crate::pass::Pass;
 use crate::slots::Slots;
 use crate::stepping::place_of_link;
 use vbr_core::Step;
-use vbr_words::{At, Place};
+use vbr_words::{At, Nodes, Place};
 
-impl Slots {
+impl<N: Nodes> Slots<N> {
     /// Loads the link word of a head or of a held slot, in one step.
     #[inline]
     pub fn load_link(&self, pass: &mut Pass, at: At) -> u64
@@ -47,5 +47,18 @@ impl Slots {
         ensures pool { KeepsPool pass.old pass.new }
     {
         pass.during(|stepper| (stepper.load_key(self, slot), 1))
+    }
+
+    /// Loads the value of a held slot, in one step, where nodes have values.
+    #[inline]
+    pub fn load_value(&self, pass: &mut Pass, slot: u32) -> u64
+        requires own { IsOf pass.old.trace self.now }
+        requires values { self.now.shape.values ≡ true }
+        requires slot { slot < self.now.shape.slots }
+        requires held { IsTrue (holds (knows pass.old.trace).checked slot) }
+        ensures step { Did (LoadValue slot) pass.old.trace pass.new.trace result }
+        ensures pool { KeepsPool pass.old pass.new }
+    {
+        pass.during(|stepper| (stepper.load_value(self, slot), 1))
     }
 }

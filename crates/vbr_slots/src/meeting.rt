@@ -6,8 +6,9 @@ ghost use Rattle.vbr_slots.specs.Views.{IsOf, Did, KeepsPool};
 
 use crate::pass::{Pass, steps_after};
 use crate::slots::Slots;
+use vbr_words::Nodes;
 
-impl Slots {
+impl<N: Nodes> Slots<N> {
     /// Lets the pass see all that the other has seen. It is one read of the epoch, counted for the
     /// pass; the other stays as it was. What the other has seen then begins what the pass has seen,
     /// which has no other event of it.

@@ -1,12 +1,13 @@
 //! Opening a table.
-ghost use Rattle.std.specs.Prelude.{◌≡◌, ◌<◌, ◌≤◌, ◌↔◌, ◌⊎◌, false, length, IfOk, IsErrOf};
+ghost use Rattle.std.specs.Prelude.{true, false, ◌≡◌, ◌<◌, ◌≤◌, ◌↔◌, ◌⊎◌, length, if◌then◌else◌, IfOk, IsErrOf};
 ghost use Rattle.std.specs.List.Sorted.{IsStrictlyIncreasing};
+ghost use Rattle.vbr_core.specs.Maps.{keys_listed, values_listed};
 ghost use Rattle.vbr_slots.specs.Views.{new_passes};
 
 use crate::laying::opening_words;
 use crate::pass::Pass;
 use crate::pool::Pool;
-use crate::rule::{First, Opening, OpeningWithKeys};
+use crate::rule::{First, Opening, OpeningWithEntries};
 use crate::runner::Runner;
 use crate::slots::Slots;
 use crate::stepper::Stepper;
@@ -14,7 +15,9 @@ use atomic_table::Table;
 use std::alloc::{AllocError, Global};
 use std::error::Error;
 use std::fmt;
-use vbr_words::Shape;
+use std::marker::PhantomData;
+use vbr_core::keys_and_values;
+use vbr_words::{Entries, Nodes, Shape};
 
 /// Why a table isn't opened. The tests are made in this order.
 #[derive(Clone, Copy, Debug, PartialEq, Eq, Hash)]
@@ -42,8 +45,9 @@ impl fmt::Display for OpenError {
 impl Error for OpenError {}
 
 impl Slots {
-    /// Opens a table in the state of a fresh world of the core, with so many passes, from 1 to 64. They
-    /// stand in the order of their numbers, which begin with 0. It is [`Slots::open_with`] without a key.
+    /// Opens the table of a set in the state of a fresh world of the core, with so many passes, from 1
+    /// to 64. They stand in the order of their numbers, which begin with 0. It is [`Slots::open_with`]
+    /// without a key.
     ///
     /// The refusals are tested in the order of [`OpenError`], and nothing is kept then.
     pub fn open(alloc: Global, shape: Shape, passes: u32) -> Result<(Slots, Vec<Pass>), OpenError>
@@ -55,9 +59,9 @@ impl Slots {
         Slots::open_with(alloc, shape, passes, &[])
     }
 
-    /// Opens a table with these keys, in the state of a world of the core that opens with them: key
-    /// number i, from 0, stands in slot i, linked in the list of its bucket, and the other slots are in
-    /// the shared pool. The passes are those of [`Slots::open`].
+    /// Opens the table of a set with these keys, in the state of a world of the core that opens with
+    /// them: key number i, from 0, stands in slot i, linked in the list of its bucket, and the other
+    /// slots are in the shared pool. The passes are those of [`Slots::open`].
     ///
     /// It takes time in proportion to the numbers of words and of keys, and a copy of the keys while it
     /// runs, 8 bytes for each. No pass has made a step then.
@@ -75,14 +79,73 @@ impl Slots {
         ensures passes { IfOk result (λ r. r.1.items ≡ new_passes r.0 0 passes) }
         ensures refused { IsErrOf result OpenError.Passes ↔ ((passes ≡ 0) ⊎ (64 < passes)) }
     {
-        if passes == 0 || passes > 64 {
-            return Err(OpenError::Passes);
-        }
         let opening = Opening {
             shape: shape.without_values(),
             passes,
         };
-        match Slots::build(alloc, opening, keys) {
+        Slots::opened(alloc, opening, keys, &[])
+    }
+}
+
+impl Slots<Entries> {
+    /// Opens the table of a map with these entries, keys with their values, in the state of a world of
+    /// the core that opens with them: each value stands in the slot of its key, and the rest is as
+    /// [`Slots::open_with`] has it.
+    ///
+    /// It takes time in proportion to the numbers of words and of entries, and two copies of the entries
+    /// while it runs, 32 bytes for each entry. No pass has made a step then.
+    ///
+    /// The refusals are tested in the order of [`OpenError`], and nothing is kept then.
+    pub fn open_with_entries(
+        alloc: Global,
+        shape: Shape,
+        passes: u32,
+        entries: &[(u64, u64)],
+    ) -> Result<(Slots<Entries>, Vec<Pass>), OpenError>
+        requires ascending { IsStrictlyIncreasing (keys_listed entries.now) }
+        requires few { length entries.now ≤ shape.slots }
+        ensures table { IfOk result (λ r.
+            (r.0.shape ≡ record shape { values = true; keys = keys_listed entries.now; payloads = values_listed entries.now })
+            × (r.0.passes ≡ passes)) }
+        ensures passes { IfOk result (λ r. r.1.items ≡ new_passes r.0 0 passes) }
+        ensures refused { IsErrOf result OpenError.Passes ↔ ((passes ≡ 0) ⊎ (64 < passes)) }
+    {
+        if passes == 0 || passes > 64 {
+            return Err(OpenError::Passes);
+        }
+        let opening = Opening {
+            shape: shape.with_values(),
+            passes,
+        };
+        match keys_and_values(alloc, entries) {
+            Ok((keys, values)) => Slots::opened(alloc, opening, &keys, &values),
+            Err(_) => Err(OpenError::Memory),
+        }
+    }
+}
+
+impl<N: Nodes> Slots<N> {
+    // A table with these keys, and with a value for each where nodes have values.
+    fn opened(
+        alloc: Global,
+        opening: Opening,
+        keys: &[u64],
+        values: &[u64],
+    ) -> Result<(Slots<N>, Vec<Pass>), OpenError>
+        requires ascending { IsStrictlyIncreasing keys.now }
+        requires few { length keys.now ≤ opening.shape.slots }
+        requires kind { opening.shape.values ≡ N.VALUES }
+        requires paired { length values.now ≡ (if opening.shape.values then length keys.now else 0) }
+        ensures table { IfOk result (λ r.
+            (r.0.shape ≡ record opening.shape { keys = keys.now; payloads = values.now })
+            × (r.0.passes ≡ opening.passes)) }
+        ensures passes { IfOk result (λ r. r.1.items ≡ new_passes r.0 0 opening.passes) }
+        ensures refused { IsErrOf result OpenError.Passes ↔ ((opening.passes ≡ 0) ⊎ (64 < opening.passes)) }
+    {
+        if opening.passes == 0 || opening.passes > 64 {
+            return Err(OpenError::Passes);
+        }
+        match Slots::<N>::build(alloc, opening, keys, values) {
             Ok(opened) => Ok(opened),
             Err(_) => Err(OpenError::Memory),
         }
@@ -92,17 +155,21 @@ impl Slots {
         alloc: Global,
         opening: Opening,
         keys: &[u64],
-    ) -> Result<(Slots, Vec<Pass>), AllocError>
+        values: &[u64],
+    ) -> Result<(Slots<N>, Vec<Pass>), AllocError>
         requires ascending { IsStrictlyIncreasing keys.now }
         requires few { length keys.now ≤ opening.shape.slots }
-        requires valueless { opening.shape.values ≡ false }
+        requires kind { opening.shape.values ≡ N.VALUES }
+        requires paired { length values.now ≡ (if opening.shape.values then length keys.now else 0) }
         requires passes { (0 < opening.passes) × (opening.passes ≤ 64) }
-        ensures table { IfOk result (λ r. (r.0.shape ≡ record opening.shape { keys = keys.now }) × (r.0.passes ≡ opening.passes)) }
+        ensures table { IfOk result (λ r.
+            (r.0.shape ≡ record opening.shape { keys = keys.now; payloads = values.now })
+            × (r.0.passes ≡ opening.passes)) }
         ensures passes { IfOk result (λ r. r.1.items ≡ new_passes r.0 0 opening.passes) }
     {
         prove!(opening.shape.slots() > 0);
-        let words = opening_words(alloc, &opening.shape, keys)?;
-        let whole = OpeningWithKeys::new(alloc, opening, keys)?;
+        let words = opening_words(alloc, &opening.shape, keys, values)?;
+        let whole = OpeningWithEntries::new(alloc, opening, keys, values)?;
         let mut passes = Vec::with_capacity(alloc, opening.passes as usize)?;
         let (table, mut seat) = Table::of_words(alloc, words.as_slice(), &whole)?;
         for who in 0..opening.passes {
@@ -122,6 +189,11 @@ impl Slots {
             passes.push(Pass { stepper, steps: 0 })?;
             seat = next;
         }
-        Ok((Slots { table, opening }, passes))
+        let slots = Slots {
+            table,
+            opening,
+            nodes: PhantomData,
+        };
+        Ok((slots, passes))
     }
 }

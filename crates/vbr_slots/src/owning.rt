@@ -9,10 +9,10 @@ ghost use Rattle.vbr_slots.specs.Views.{IsOf, Did, KeepsPool, knows};
 use crate::pass::Pass;
 use crate::slots::Slots;
 use vbr_core::Step;
-use vbr_words::Place;
 use vbr_words::flags::{all_but, flag_of, has_flag, word_of_flag};
+use vbr_words::{Nodes, Place};
 
-impl Slots {
+impl<N: Nodes> Slots<N> {
     /// Loads the stamp of a slot that the pass owns, an epoch, in one step.
     #[inline]
     pub fn load_stamp(&self, pass: &mut Pass, slot: u32) -> u64

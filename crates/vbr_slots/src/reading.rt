@@ -11,9 +11,9 @@ use crate::pass::Pass;
 use crate::slots::Slots;
 use crate::stepping::place_of_link;
 use vbr_core::Step;
-use vbr_words::{At, Place};
+use vbr_words::{At, Nodes, Place};
 
-impl Slots {
+impl<N: Nodes> Slots<N> {
     /// Loads the link word of a head or of a held slot, and reads the epoch, in two steps: gives
     /// the word and the epoch. Where that is the epoch that the pass read before, the read is
     /// checked; where it has moved, the pass knows of no reads any more.

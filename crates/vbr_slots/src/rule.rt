@@ -1,5 +1,5 @@
 //! The rule of the table, and what its steps tell. No value of these types is made but `Opening` and
-//! `OpeningWithKeys`.
+//! `OpeningWithEntries`.
 ghost use Rattle.std.specs.Prelude.{◌≡◌, IfOk};
 
 use atomic_table::{Join, Play, Split, TableRule};
@@ -16,44 +16,58 @@ pub struct Opening {
     pub passes: u32,
 }
 
-/// What a table is opened with, and the keys that it opens with. The rule of the table goes by it, and
-/// once the table stands nothing of it is kept.
+/// What a table is opened with, and the keys that it opens with, with their values where nodes have
+/// values. The rule of the table goes by it, and once the table stands nothing of it is kept.
 #[derive(Drop)]
-pub struct OpeningWithKeys {
+pub struct OpeningWithEntries {
     opening: Opening,
     keys: Vec<u64>,
+    values: Vec<u64>,
 }
 
-impl Model for OpeningWithKeys {
+impl Model for OpeningWithEntries {
     ghost use Rattle.vbr_slots.specs.declared.rule.Opening.{Opening};
 
     ghost Value = { Opening };
 
-    ghost view = { λ o. record { shape = record o.opening.shape { keys = o.keys.items }; passes = o.opening.passes } };
+    ghost view = { λ o. record { shape = record o.opening.shape { keys = o.keys.items; payloads = o.values.items }; passes = o.opening.passes } };
 }
 
-impl OpeningWithKeys {
-    // The opening with a copy of these keys.
+impl OpeningWithEntries {
+    // The opening with a copy of these keys and values.
     pub(crate) fn new(
         alloc: Global,
         opening: Opening,
         keys: &[u64],
-    ) -> Result<OpeningWithKeys, AllocError>
-        ensures { IfOk result (λ whole. whole ≡ record { shape = record opening.shape { keys = keys.now }; passes = opening.passes }) }
+        values: &[u64],
+    ) -> Result<OpeningWithEntries, AllocError>
+        ensures { IfOk result (λ whole. whole ≡ record {
+          shape = record opening.shape { keys = keys.now; payloads = values.now };
+          passes = opening.passes;
+        }) }
     {
-        let mut copy = Vec::new(alloc);
-        copy.extend_from_slice(keys)?;
-        Ok(OpeningWithKeys {
+        let mut key_copy = Vec::new(alloc);
+        key_copy.extend_from_slice(keys)?;
+        let mut value_copy = Vec::new(alloc);
+        value_copy.extend_from_slice(values)?;
+        Ok(OpeningWithEntries {
             opening,
-            keys: copy,
+            keys: key_copy,
+            values: value_copy,
         })
     }
 }
 
-/// What a seat knows of one pass: the keys that its table opened with, its number, and the events of
-/// the run that it has seen.
-pub struct Witness {
+/// The keys that a table opened with, and their values, one for each key where nodes have values.
+pub struct Opened {
     pub keys: LinkedList<u64>,
+    pub payloads: LinkedList<u64>,
+}
+
+/// What a seat knows of one pass: what its table opened with, its number, and the events of the run
+/// that it has seen.
+pub struct Witness {
+    pub opened: Opened,
     pub who: u32,
     pub seen: LinkedList<Event>,
 }
@@ -61,7 +75,7 @@ pub struct Witness {
 /// The rule: the table is the state of a run of the core.
 pub struct RunRule;
 
-impl TableRule<(), LinkedList<Witness>, OpeningWithKeys> for RunRule {
+impl TableRule<(), LinkedList<Witness>, OpeningWithEntries> for RunRule {
     ghost use Rattle.vbr_slots.specs.Rule.{Kept, first_witnesses};
 
     ghost holds = { Kept };

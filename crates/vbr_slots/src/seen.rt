@@ -10,6 +10,7 @@ use crate::slots::Slots;
 use atomic_table::Seat;
 use std::collections::LinkedList;
 use std::marker::Model;
+use vbr_words::Nodes;
 
 /// What a pass had seen when the token was made. It has no bytes, and goes from thread to thread as any
 /// value does. One that is dropped, or lost, takes nothing with it: its table can be closed all the same.
@@ -30,7 +31,7 @@ impl Model for Seen {
     ghost invariant = { IsToken };
 }
 
-impl Slots {
+impl<N: Nodes> Slots<N> {
     /// A token of what the pass has seen. It is no step, and the pass stays as it was; it costs one load,
     /// of which nothing is kept.
     #[inline]

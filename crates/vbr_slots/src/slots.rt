@@ -2,21 +2,23 @@
 ghost use Rattle.std.specs.Prelude.{◌≡◌, ◌<◌, ◌≤◌, []};
 ghost use Rattle.vbr_words.specs.Dimensions.{IsShape};
 
-use crate::rule::{Opening, OpeningWithKeys, RunRule, Witness};
+use crate::rule::{Opening, OpeningWithEntries, RunRule, Witness};
 use atomic_table::Table;
 use std::alloc::Global;
 use std::collections::LinkedList;
-use std::marker::Model;
-use vbr_words::Shape;
+use std::marker::{Model, PhantomData};
+use vbr_words::{Keys, Nodes, Shape};
 
-/// The words of a set, shared by the passes that were opened with it.
+/// The words of a set, or of a map, shared by the passes that were opened with it. Its nodes are of one
+/// kind: [`Keys`], which is the table of a set, or [`vbr_words::Entries`], that of a map.
 #[derive(Drop)]
-pub struct Slots {
-    pub(crate) table: Table<(), LinkedList<Witness>, OpeningWithKeys, RunRule, Global>,
+pub struct Slots<N: Nodes = Keys> {
+    pub(crate) table: Table<(), LinkedList<Witness>, OpeningWithEntries, RunRule, Global>,
     pub(crate) opening: Opening,
+    pub(crate) nodes: PhantomData<N>,
 }
 
-impl Model for Slots {
+impl<N: Nodes> Model for Slots<N> {
     ghost use Rattle.vbr_slots.specs.Views.{TableView};
 
     ghost Value = { TableView };
@@ -25,11 +27,19 @@ impl Model for Slots {
 
     ghost view = { table_of };
 
-    ghost invariant = { IsBuilt };
+    ghost invariant = { IsBuilt N.VALUES };
 }
 
-impl Slots {
-    /// Its shape, without the keys that it opened with.
+impl<N: Nodes> Slots<N> {
+    /// A law: its nodes have values just where its kind has them. It does nothing.
+    #[inline]
+    pub fn kind(&self)
+        ensures { self.now.shape.values ≡ N.VALUES }
+    {
+        let _slots = self.opening.shape.slots();
+    }
+
+    /// Its shape, without the keys and values that it opened with.
     #[inline]
     pub fn shape(&self) -> Shape
         ensures bare { result ≡ record self.now.shape { keys = []; payloads = [] } }

@@ -3,7 +3,7 @@
 //
 // A step is told to the table as an event. A function that ends in `_as` takes the event as its type
 // argument, and the function without that ending picks it.
-ghost use Rattle.std.specs.Prelude.{◌≡◌, ℕ, ◌<◌, ◌^◌, IsTrue};
+ghost use Rattle.std.specs.Prelude.{◌≡◌, ℕ, ◌+◌, ◌<◌, ◌≤◌, ◌^◌, IsTrue};
 ghost use Rattle.vbr_core.specs.Acceptance.{Accepts};
 ghost use Rattle.vbr_core.specs.Machine.{Load, Store, Exchange, FetchOr, FetchAnd, access_of, place_of_step};
 ghost use Rattle.vbr_core.specs.Runs.{Begins, BeginsFor};
@@ -22,7 +22,7 @@ use crate::seen::Seen;
 use crate::slots::Slots;
 use std::marker::Brand;
 use vbr_core::Step;
-use vbr_words::{At, Place, plain_place_index};
+use vbr_words::{At, Nodes, Place, Shape, place_index_in, words_of_node};
 
 // The place of a link word.
 #[inline]
@@ -35,20 +35,32 @@ pub(crate) fn place_of_link(at: At) -> Place
     }
 }
 
-// The index of the link word at a place, where the words of slots begin at this one. No branch is needed
-// to find it.
+// The index of the link word at a place, where the words of slots begin at this one, and each slot has
+// so many. No branch is needed to find it.
 #[inline]
-fn link_from(slots: usize, at: At) -> usize
-    requires { slots < 2 ^ 33 }
-    ensures { result ≡ link_from slots at }
+fn link_from(slots: usize, words: usize, at: At) -> usize
+    requires slots { slots < 2 ^ 33 }
+    requires words { words ≤ 5 }
+    ensures { result ≡ link_from slots words at }
 {
     match at {
         At::Head(bucket) => 2 + bucket as usize,
-        At::Slot(slot) => slots + 4 * slot as usize,
+        At::Slot(slot) => slots + words * slot as usize,
     }
 }
 
-impl Slots {
+// The index of the link word at a place in a shape with nodes of this kind.
+#[inline]
+fn link_index_in<N: Nodes>(shape: &Shape, at: At) -> usize
+    requires { shape.now.values ≡ N.VALUES }
+    ensures { result ≡ link_from (2 + shape.now.buckets) (places.node_words shape.now) at }
+{
+    let words = words_of_node(N::VALUES);
+    prove!(words <= 5);
+    link_from(2 + shape.buckets() as usize, words, at)
+}
+
+impl<N: Nodes> Slots<N> {
     // One load of a link word, which is the step.
     #[inline]
     fn load_at_as<E: Naming>(&self, runner: &mut Runner, step: Step, at: At) -> u64
@@ -59,7 +71,7 @@ impl Slots {
         requires access { access_of (knows runner.old) step ≡ Load }
         ensures { Did step runner.old runner.new result }
     {
-        let word = link_from(2 + self.opening.shape.buckets() as usize, at);
+        let word = link_index_in::<N>(&self.opening.shape, at);
         let found = self.table.shared.load::<Does<E>>(&mut runner.seat, word);
         keep_epoch(&mut runner.epoch, step, found);
         found
@@ -86,7 +98,7 @@ impl Slots {
         requires access { access_of (knows runner.old) step ≡ Load }
         ensures { Did step runner.old runner.new result }
     {
-        let word = plain_place_index(&self.opening.shape, place);
+        let word = place_index_in::<N>(&self.opening.shape, place);
         let found = self.table.shared.load::<Does<E>>(&mut runner.seat, word);
         keep_epoch(&mut runner.epoch, step, found);
         found
@@ -113,7 +125,7 @@ impl Slots {
         requires before { before ≡ (knows runner.old).epoch }
         ensures { Did ReadEpoch runner.old runner.new result }
     {
-        let word = plain_place_index(&self.opening.shape, Place::Epoch);
+        let word = place_index_in::<N>(&self.opening.shape, Place::Epoch);
         let found = self.table.shared.load::<Does<E>>(&mut runner.seat, word);
         keep_epoch_found(&mut runner.epoch, before, found);
         found
@@ -161,7 +173,7 @@ impl Slots {
         requires access { access_of (knows runner.old) step ≡ Store new }
         ensures { Did step runner.old runner.new new }
     {
-        let word = plain_place_index(&self.opening.shape, place);
+        let word = place_index_in::<N>(&self.opening.shape, place);
         self.table
             .shared
             .store::<Does<E>>(&mut runner.seat, word, new);
@@ -196,7 +208,7 @@ impl Slots {
         requires access { access_of (knows runner.old) step ≡ Exchange expected new }
         ensures { Did step runner.old runner.new result }
     {
-        let word = plain_place_index(&self.opening.shape, place);
+        let word = place_index_in::<N>(&self.opening.shape, place);
         let found = self
             .table
             .shared
@@ -239,7 +251,7 @@ impl Slots {
         requires access { access_of (knows runner.old) step ≡ FetchOr bits }
         ensures { Did step runner.old runner.new result }
     {
-        let word = plain_place_index(&self.opening.shape, place);
+        let word = place_index_in::<N>(&self.opening.shape, place);
         let found = self
             .table
             .shared
@@ -275,7 +287,7 @@ impl Slots {
         requires access { access_of (knows runner.old) step ≡ FetchAnd bits }
         ensures { Did step runner.old runner.new result }
     {
-        let word = plain_place_index(&self.opening.shape, place);
+        let word = place_index_in::<N>(&self.opening.shape, place);
         let found = self
             .table
             .shared
@@ -309,7 +321,7 @@ impl Slots {
         ensures met { BeginsFor other.old.who other.old.seen runner.new.seen }
     {
         let shared = &self.table.shared;
-        let word = plain_place_index(&self.opening.shape, Place::Epoch);
+        let word = place_index_in::<N>(&self.opening.shape, Place::Epoch);
         let theirs = shared.split_seat::<Whole>(&mut other.seat);
         shared.join_seat::<Both>(&mut runner.seat, theirs);
         let found = shared.load::<Does<E>>(&mut runner.seat, word);

@@ -41,7 +41,6 @@ fn call(
 ) -> u64
     requires own { IsOf pass.old.trace slots.now }
     requires empty_hand { pass.old.hand ≡ None }
-    requires bare { slots.now.shape.values ≡ false }
     ensures own { IsOf pass.new.trace slots.now }
     ensures hand { pass.new.hand ≡ None }
 {
@@ -79,7 +78,6 @@ fn found_at(
 fn play(rt: &impl Abort, slots: &Slots, a: &mut Pass, b: &mut Pass, rows: &[Row])
     requires first { IsOf a.old.trace slots.now × (a.old.hand ≡ None) }
     requires second { IsOf b.old.trace slots.now × (b.old.hand ≡ None) }
-    requires bare { slots.now.shape.values ≡ false }
     ensures first { IsOf a.new.trace slots.now × (a.new.hand ≡ None) }
     ensures second { IsOf b.new.trace slots.now × (b.new.hand ≡ None) }
 {
@@ -289,7 +287,6 @@ fn a_marked_node_is_helped_away(rt: HostRuntime) -> Result<(), Fail> {
 fn mark_one(rt: &impl Abort, slots: &Slots, pass: &mut Pass) -> Result<(Held, Marked), Rollback>
     requires own { IsOf pass.old.trace slots.now }
     requires bucket { 0 < slots.now.shape.buckets }
-    requires bare { slots.now.shape.values ≡ false }
     ensures own { IsOf pass.new.trace slots.now }
     ensures head { IfOk result (λ r. IsHeld (knows pass.new.trace) r.0) }
     ensures unmarked { IfOk result (λ r. (link_of r.0.word).mark ≡ false) }

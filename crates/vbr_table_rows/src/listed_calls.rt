@@ -1,22 +1,23 @@
 //! The worked lists of events, call by call on a running table with two passes. Each list is shown to
 //! be accepted, so each call may be made; its effect is compared when it was made.
-ghost use Rattle.std.specs.Prelude.{◌≡◌, ◌≢◌, ◌<◌, ◌==◌, MatchResult, false};
+ghost use Rattle.std.specs.Prelude.{◌≡◌, ◌≢◌, ◌<◌, ◌==◌, MatchResult, true, false};
 ghost use Rattle.vbr_core.specs.Learning.{present_reply};
 ghost use Rattle.vbr_core.specs.Machine.{opening};
 ghost use Rattle.vbr_slots.specs.Views.{IsOf};
 ghost use Rattle.vbr_event_lists.specs.Worked.{AreWorked, first_of, names_link, others_of};
 ghost use Rattle.vbr_table_rows.specs.Following.{Learned, May, BothFollow};
 
-use crate::running_table::{close_two, open_two};
+use crate::running_table::{close_two, open_two, open_two_with_values};
 use std::alloc::Global;
 use std::process::Abort;
 use std::test::Fail;
 use vbr_core::{Effect, Op, Step};
 use vbr_event_lists::{
-    REBORN_SLOT, REBORN_SLOT_WORDS, Row, SAME_WORD, SAME_WORD_WORDS, TWO_HELPERS, TWO_HELPERS_WORDS,
+    REBORN_SLOT, REBORN_SLOT_WORDS, Row, SAME_WORD, SAME_WORD_WORDS, STORED_VALUE,
+    STORED_VALUE_WORDS, TWO_HELPERS, TWO_HELPERS_WORDS, with_values,
 };
 use vbr_slots::{Pass, Slots};
-use vbr_words::{Shape, decode};
+use vbr_words::{Nodes, Shape, decode};
 
 // The effect of an exchange.
 fn exchanged(answer: Result<(), u64>) -> Effect
@@ -50,7 +51,7 @@ fn present_reply(op: Op) -> bool
 
 // Takes a slot. What the pass then knows has the stamp of the slot, which the call doesn't answer, so
 // the stamp is loaded at once. The lists don't have this load; it adds a step and changes no word.
-fn take(rt: &impl Abort, slots: &Slots, pass: &mut Pass, slot: u32)
+fn take<N: Nodes>(rt: &impl Abort, slots: &Slots<N>, pass: &mut Pass, slot: u32)
     requires own { IsOf pass.old.trace slots.now }
     requires slot { slot < slots.now.shape.slots }
     ensures { Learned (Step.TakeFlag slot) pass.old.trace pass.new.trace Effect.Won }
@@ -61,7 +62,13 @@ fn take(rt: &impl Abort, slots: &Slots, pass: &mut Pass, slot: u32)
 
 // Makes a step by the call of its kind. In the lists each slot that is reached for is in the shared
 // pool, and each epoch that is advanced is the expected one.
-fn call(rt: &impl Abort, slots: &Slots, pass: &mut Pass, step: Step, new: u64) -> Effect
+fn call<N: Nodes>(
+    rt: &impl Abort,
+    slots: &Slots<N>,
+    pass: &mut Pass,
+    step: Step,
+    new: u64,
+) -> Effect
     requires { May slots.now pass.old.trace step new }
     ensures { Learned step pass.old.trace pass.new.trace result }
 {
@@ -94,6 +101,11 @@ fn call(rt: &impl Abort, slots: &Slots, pass: &mut Pass, step: Step, new: u64) -
             slots.store_key(pass, slot, key);
             Effect::Done
         }
+        Step::StoreValue { slot, value } => {
+            assert!(rt; pass.in_hand() == Some(slot));
+            slots.store_value(pass, slot, value);
+            Effect::Done
+        }
         Step::StoreLink { slot, next } => {
             assert!(rt; pass.in_hand() == Some(slot));
             assert!(rt; decode(new).slot == next);
@@ -103,7 +115,7 @@ fn call(rt: &impl Abort, slots: &Slots, pass: &mut Pass, step: Step, new: u64) -
         Step::LoadLink { at } => Effect::Value(slots.load_link(pass, at)),
         Step::LoadBirth { slot } => Effect::Value(slots.load_birth(pass, slot)),
         Step::LoadKey { slot } => Effect::Value(slots.load_key(pass, slot)),
-        Step::StoreValue { .. } | Step::LoadValue { .. } => panic!(rt; "the table has no values"),
+        Step::LoadValue { slot } => Effect::Value(slots.load_value(pass, slot)),
         Step::Publish {
             pred,
             expected,
@@ -132,7 +144,7 @@ fn call(rt: &impl Abort, slots: &Slots, pass: &mut Pass, step: Step, new: u64) -
 }
 
 // Makes the step of a row by its pass, and compares the effect.
-fn make(rt: &impl Abort, slots: &Slots, a: &mut Pass, b: &mut Pass, row: Row, new: u64)
+fn make<N: Nodes>(rt: &impl Abort, slots: &Slots<N>, a: &mut Pass, b: &mut Pass, row: Row, new: u64)
     requires first { row.0 ≡ 0 → May slots.now a.old.trace row.1 new }
     requires second { row.0 ≢ 0 → May slots.now b.old.trace row.1 new }
     ensures first { row.0 ≡ 0 → Learned row.1 a.old.trace a.new.trace row.2 × (b.new ≡ b.old) }
@@ -169,9 +181,9 @@ fn first_and_others(words: &[u64]) -> (u64, &[u64])
 }
 
 // Makes the steps of a list, with the link words that its callers name.
-pub(crate) fn follow(
+pub(crate) fn follow<N: Nodes>(
     rt: &impl Abort,
-    slots: &Slots,
+    slots: &Slots<N>,
     a: &mut Pass,
     b: &mut Pass,
     mut rows: &[Row],
@@ -202,6 +214,22 @@ fn words_after(
     requires worked { AreWorked shape (opening shape) rows.now words.now }
 {
     let (slots, mut a, mut b) = open_two(alloc, shape)?;
+    follow(rt, &slots, &mut a, &mut b, rows, words);
+    close_two(alloc, slots, a, b)
+}
+
+// The words of a table of this shape, whose nodes have values, once a list was made on it.
+fn words_with_values_after(
+    rt: &impl Abort,
+    alloc: Global,
+    shape: Shape,
+    rows: &[Row],
+    words: &[u64],
+) -> Option<Vec<u64>>
+    requires values { shape.values ≡ true }
+    requires worked { AreWorked shape (opening shape) rows.now words.now }
+{
+    let (slots, mut a, mut b) = open_two_with_values(alloc, shape)?;
     follow(rt, &slots, &mut a, &mut b, rows, words);
     close_two(alloc, slots, a, b)
 }
@@ -277,6 +305,112 @@ fn a_word_comes_back(rt: HostRuntime) -> Result<(), Fail> {
             0
         ]
         .as_slice()
+    );
+    Ok(())
+}
+
+#[test]
+fn two_passes_unlink_one_node_with_a_value(rt: HostRuntime) -> Result<(), Fail> {
+    let shape = Shape::new(1, 1, 10)?.with_values();
+    let rows = with_values(rt.alloc(), &TWO_HELPERS)?;
+    let Some(words) = words_with_values_after(&rt, rt.alloc(), shape, &rows, &TWO_HELPERS_WORDS)
+    else {
+        panic!(rt; "no words")
+    };
+    assert_eq!(rt;
+        words.as_slice(),
+        [1, 167_772_161, 0, 50_331_648, 1, 0, 7, 107, 0,].as_slice()
+    );
+    Ok(())
+}
+
+#[test]
+fn a_slot_is_reborn_with_values(rt: HostRuntime) -> Result<(), Fail> {
+    let shape = Shape::new(3, 1, 10)?.with_values();
+    let rows = with_values(rt.alloc(), &REBORN_SLOT)?;
+    let Some(words) = words_with_values_after(&rt, rt.alloc(), shape, &rows, &REBORN_SLOT_WORDS)
+    else {
+        panic!(rt; "no words")
+    };
+    assert_eq!(rt;
+        words.as_slice(),
+        [
+            2,
+            167_772_163,
+            67_108_866,
+            33_554_432,
+            1,
+            0,
+            30,
+            130,
+            67_108_865,
+            2,
+            1,
+            10,
+            110,
+            33_554_433,
+            1,
+            0,
+            25,
+            125,
+            0,
+        ]
+        .as_slice()
+    );
+    Ok(())
+}
+
+#[test]
+fn a_word_comes_back_with_values(rt: HostRuntime) -> Result<(), Fail> {
+    let shape = Shape::new(3, 1, 10)?.with_values();
+    let rows = with_values(rt.alloc(), &SAME_WORD)?;
+    let Some(words) = words_with_values_after(&rt, rt.alloc(), shape, &rows, &SAME_WORD_WORDS)
+    else {
+        panic!(rt; "no words")
+    };
+    assert_eq!(rt;
+        words.as_slice(),
+        [
+            5,
+            167_772_163,
+            67_108_866,
+            67_108_864,
+            2,
+            0,
+            30,
+            130,
+            67_108_865,
+            2,
+            0,
+            20,
+            120,
+            184_549_377,
+            5,
+            0,
+            10,
+            110,
+            0,
+        ]
+        .as_slice()
+    );
+    Ok(())
+}
+
+#[test]
+fn a_stored_value_is_read_back(rt: HostRuntime) -> Result<(), Fail> {
+    let shape = Shape::new(1, 1, 10)?.with_values();
+    let Some(words) = words_with_values_after(
+        &rt,
+        rt.alloc(),
+        shape,
+        &STORED_VALUE,
+        &STORED_VALUE_WORDS,
+    ) else {
+        panic!(rt; "no words")
+    };
+    assert_eq!(rt;
+        words.as_slice(),
+        [1, 167_772_161, 33_554_433, 50_331_648, 1, 0, 7, 107, 0,].as_slice()
     );
     Ok(())
 }

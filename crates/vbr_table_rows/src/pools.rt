@@ -72,7 +72,6 @@ fn use_a_slot(rt: &impl Abort, slots: &Slots, pass: &mut Pass)
     requires own { IsOf pass.old.trace slots.now }
     requires empty_hand { pass.old.hand ≡ None }
     requires bucket { slots.now.shape.buckets ≡ 1 }
-    requires bare { slots.now.shape.values ≡ false }
     ensures own { IsOf pass.new.trace slots.now }
     ensures empty_hand { pass.new.hand ≡ None }
 {

@@ -34,7 +34,6 @@ fn head_of(rt: &impl Abort, slots: &Slots, pass: &mut Pass, word: u64) -> Held
 pub fn insert_one(rt: &impl Abort, slots: &Slots, pass: &mut Pass)
     requires own { IsOf pass.old.trace slots.now }
     requires bucket { slots.now.shape.buckets ≡ 1 }
-    requires bare { slots.now.shape.values ≡ false }
     requires empty_hand { pass.old.hand ≡ None }
     ensures own { IsOf pass.new.trace slots.now }
     ensures empty_hand { pass.new.hand ≡ None }
@@ -55,7 +54,6 @@ pub fn insert_one(rt: &impl Abort, slots: &Slots, pass: &mut Pass)
 pub fn remove_one(rt: &impl Abort, slots: &Slots, pass: &mut Pass) -> Unlinked
     requires own { IsOf pass.old.trace slots.now }
     requires bucket { 0 < slots.now.shape.buckets }
-    requires bare { slots.now.shape.values ≡ false }
     ensures own { IsOf pass.new.trace slots.now }
     ensures hand { pass.new.hand ≡ pass.old.hand }
     ensures slot { result.slot ≡ 0 }

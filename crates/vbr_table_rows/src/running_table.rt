@@ -1,5 +1,5 @@
 //! The running table: rows call by call, refusals that hand all back, and two threads.
-ghost use Rattle.std.specs.Prelude.{◌≡◌, ◌≢◌, ◌<◌, ◌≤◌, [], ◌∷◌, false, None, IfOk, IfErr, IfSome};
+ghost use Rattle.std.specs.Prelude.{◌≡◌, ◌≢◌, ◌<◌, ◌≤◌, [], ◌∷◌, true, false, None, IfOk, IfErr, IfSome};
 ghost use Rattle.vbr_core.specs.declared.event.Step.TheVariants.{TakeFlag};
 ghost use Rattle.vbr_slots.specs.Closing.{AllOf, Ends, HandsBack};
 ghost use Rattle.vbr_slots.specs.Views.{IsOf, event_of, new_pass, new_passes};
@@ -10,7 +10,7 @@ use std::process::Abort;
 use std::test::Fail;
 use std::thread::{Threads, join};
 use vbr_slots::{CloseError, OpenError, Pass, Slots};
-use vbr_words::Shape;
+use vbr_words::{Entries, Nodes, Shape};
 
 // Opens a table. What found no memory left nothing, so it is tried again.
 pub fn open(alloc: Global, shape: Shape, passes: u32) -> Result<(Slots, Vec<Pass>), OpenError>
@@ -32,6 +32,24 @@ pub fn open_two(alloc: Global, shape: Shape) -> Option<(Slots, Pass, Pass)>
     ensures second { IfSome result (λ r. r.2 ≡ new_pass r.0 1) }
 {
     let (slots, mut passes) = open(alloc, shape, 2).ok()?;
+    let second = passes.pop()?;
+    let first = passes.pop()?;
+    Some((slots, first, second))
+}
+
+// A table with two passes, whose nodes have values, without an entry. What found no memory left nothing,
+// so it is tried again.
+pub fn open_two_with_values(alloc: Global, shape: Shape) -> Option<(Slots<Entries>, Pass, Pass)>
+    requires values { shape.values ≡ true }
+    ensures table { IfSome result (λ r. (r.0.shape ≡ shape) × (r.0.passes ≡ 2)) }
+    ensures first { IfSome result (λ r. r.1 ≡ new_pass r.0 0) }
+    ensures second { IfSome result (λ r. r.2 ≡ new_pass r.0 1) }
+{
+    let opened = match Slots::open_with_entries(alloc, shape, 2, &[]) {
+        Err(OpenError::Memory) => Slots::open_with_entries(alloc, shape, 2, &[]),
+        opened => opened,
+    };
+    let (slots, mut passes) = opened.ok()?;
     let second = passes.pop()?;
     let first = passes.pop()?;
     Some((slots, first, second))
@@ -65,7 +83,11 @@ pub fn room_for_two(alloc: Global) -> Result<Vec<Pass>, AllocError>
 }
 
 // Closes a table. What found no memory left all as it was, so it is tried again.
-pub fn close(slots: Slots, alloc: Global, passes: Vec<Pass>) -> Result<Vec<u64>, CloseError<Slots>>
+pub fn close<N: Nodes>(
+    slots: Slots<N>,
+    alloc: Global,
+    passes: Vec<Pass>,
+) -> Result<Vec<u64>, CloseError<Slots<N>>>
     requires { AllOf slots passes.items }
     ensures ok { IfOk result (λ words. Ends slots passes.items words.items) }
     ensures back { IfErr result (λ e. HandsBack e slots passes.items) }
@@ -87,7 +109,12 @@ fn both(alloc: Global, first: Pass, second: Pass) -> Option<Vec<Pass>>
 }
 
 // Closes a table with two passes.
-pub fn close_two(alloc: Global, slots: Slots, first: Pass, second: Pass) -> Option<Vec<u64>>
+pub fn close_two<N: Nodes>(
+    alloc: Global,
+    slots: Slots<N>,
+    first: Pass,
+    second: Pass,
+) -> Option<Vec<u64>>
     requires { IsOf first.trace slots × IsOf second.trace slots }
 {
     let passes = both(alloc, first, second)?;
@@ -238,6 +265,60 @@ fn opens_with_keys(rt: HostRuntime) -> Result<(), Fail> {
         0,
         9,
         16_777_216,
+        0,
+        0,
+        0,
+        8,
+    ];
+    match close(slots, rt.alloc(), passes) {
+        Ok(words) => assert_eq!(rt; words.as_slice(), wanted.as_slice()),
+        Err(_) => panic!(rt; "not closed"),
+    }
+    Ok(())
+}
+
+// Opens a table with three entries. What found no memory left nothing, so it is tried again.
+fn open_with_three_entries(
+    alloc: Global,
+    shape: Shape,
+) -> Result<(Slots<Entries>, Vec<Pass>), OpenError>
+    requires few { 3 ≤ shape.slots }
+    ensures { IfOk result (λ r. r.1.items ≡ new_passes r.0 0 2) }
+{
+    let entries = [(2, 102), (5, 105), (9, 109)];
+    match Slots::open_with_entries(alloc, shape, 2, &entries) {
+        Err(OpenError::Memory) => Slots::open_with_entries(alloc, shape, 2, &entries),
+        opened => opened,
+    }
+}
+
+/// Where nodes have values, the value stands behind the key; the rest is as with keys alone.
+#[test]
+fn opens_with_entries(rt: HostRuntime) -> Result<(), Fail> {
+    let shape = Shape::new(4, 2, 10)?.with_values();
+    let (slots, passes) = open_with_three_entries(rt.alloc(), shape)?;
+    let wanted = [
+        1,
+        167_772_164,
+        33_554_433,
+        33_554_434,
+        33_554_432,
+        1,
+        0,
+        2,
+        102,
+        33_554_435,
+        1,
+        0,
+        5,
+        105,
+        33_554_432,
+        1,
+        0,
+        9,
+        109,
+        16_777_216,
+        0,
         0,
         0,
         0,

@@ -38,7 +38,6 @@ fn table_after(
 fn make_rounds(rt: &impl Abort, slots: &Slots, pass: &mut Pass)
     requires own { IsOf pass.old.trace slots.now }
     requires empty_hand { pass.old.hand ≡ None }
-    requires bare { slots.now.shape.values ≡ false }
     ensures own { IsOf pass.new.trace slots.now }
 {
     for _ in 0..1000 {
@@ -160,7 +159,6 @@ fn behind_an_advance(rt: HostRuntime) -> Result<(), Fail> {
 fn fill_and_empty(rt: &impl Abort, slots: &Slots, pass: &mut Pass)
     requires own { IsOf pass.old.trace slots.now }
     requires empty_hand { pass.old.hand ≡ None }
-    requires bare { slots.now.shape.values ≡ false }
     ensures own { IsOf pass.new.trace slots.now }
     ensures empty_hand { pass.new.hand ≡ None }
 {

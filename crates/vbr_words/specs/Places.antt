@@ -1,5 +1,5 @@
 -- The places of words: which there are in a shape, and the index of each.
-use Rattle.std.specs.Prelude.{◌≡◌, ℕ, ◌+◌, ◌*◌, ◌<◌, true, if◌then◌else◌}
+use Rattle.std.specs.Prelude.{◌≡◌, ℕ, ◌+◌, ◌*◌, ◌<◌, Bool, true, if◌then◌else◌}
 use Rattle.vbr_words.specs.Dimensions.{Dimensions}
 use Rattle.vbr_words.specs.Flags.{flag_words}
 use Rattle.vbr_words.specs.declared.place.At.{At}
@@ -23,9 +23,13 @@ IsIn shape (Flags number) = number < flag_words shape.slots
 abbrev pub slots_index : Dimensions → ℕ
 slots_index shape = 2 + shape.buckets
 
--- how many words each slot has: its link, birth, stamp and key, and its value where nodes have values
+-- how many words a node has: its link, birth, stamp and key, and its value where it has one
+abbrev pub words_of_node : Bool → ℕ
+words_of_node values = if values then 5 else 4
+
+-- how many words each slot of a shape has
 abbrev pub node_words : Dimensions → ℕ
-node_words shape = if shape.values then 5 else 4
+node_words shape = words_of_node shape.values
 
 -- where the words of a slot begin
 abbrev pub slot_index : Dimensions → ℕ → ℕ

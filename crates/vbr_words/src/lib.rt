@@ -4,9 +4,11 @@
 
 pub mod flags;
 pub mod link;
+pub mod nodes;
 pub mod place;
 pub mod shape;
 
 pub use link::{Link, decode, encode, version_of, with_mark};
-pub use place::{At, Place, place_index, plain_place_index, word_count};
+pub use nodes::{Entries, Keys, Nodes};
+pub use place::{At, Place, place_index, place_index_in, word_count, words_of_node};
 pub use shape::{Shape, ShapeError, SpreadError};

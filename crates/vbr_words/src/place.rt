@@ -1,10 +1,11 @@
 //! The places of the words of a set, and the index of each.
-ghost use Rattle.std.specs.Prelude.{◌≡◌, ◌<◌, ◌≤◌, ◌^◌, false};
+ghost use Rattle.std.specs.Prelude.{◌≡◌, ◌<◌, ◌≤◌, ◌^◌};
 ghost use Rattle.vbr_words.specs.declared.place.Place.{Place};
 ghost use Rattle.vbr_words.specs.Dimensions.{Dimensions};
-ghost use Rattle.vbr_words.specs.Places.{IsIn, index_of, node_words, slot_index, words_in};
+ghost use Rattle.vbr_words.specs.Places.{IsIn, index_of, node_words, slot_index, words_in, words_of_node};
 
 use crate::flags::flag_words;
+use crate::nodes::Nodes;
 use crate::shape::Shape;
 
 /// A link word: a bucket's head, or the link of a slot.
@@ -39,12 +40,12 @@ pub enum Place {
     Flags(u32),
 }
 
-// How many words each slot has: four, or five where nodes have values.
+/// How many words each slot has: four, or five where nodes have values.
 #[inline]
-fn node_words(shape: &Shape) -> usize
-    ensures words { result ≡ node_words shape.now }
+pub fn words_of_node(values: bool) -> usize
+    ensures words { result ≡ words_of_node values }
 {
-    if shape.has_values() { 5 } else { 4 }
+    if values { 5 } else { 4 }
 }
 
 // The index at which the words of a slot begin, where each has so many. At the number of slots it is that
@@ -88,19 +89,19 @@ pub fn place_index(shape: &Shape, place: Place) -> usize
     ensures index { result ≡ index_of shape.now place }
     ensures in_range { result < words_in shape.now }
 {
-    index_by(shape, node_words(shape), place)
+    index_by(shape, words_of_node(shape.has_values()), place)
 }
 
-/// The index of a place where nodes have no values, as [`place_index`] has it. It asks the shape
-/// nothing of values, so that it takes shifts and no test.
+/// The index of a place in a shape with nodes of this kind, as [`place_index`] has it. It asks the shape
+/// nothing of values, so that it takes shifts and no test where there are none.
 #[inline]
-pub fn plain_place_index(shape: &Shape, place: Place) -> usize
+pub fn place_index_in<N: Nodes>(shape: &Shape, place: Place) -> usize
     requires place { IsIn shape.now place }
-    requires valueless { shape.now.values ≡ false }
+    requires kind { shape.now.values ≡ N.VALUES }
     ensures index { result ≡ index_of shape.now place }
     ensures in_range { result < words_in shape.now }
 {
-    index_by(shape, 4, place)
+    index_by(shape, words_of_node(N::VALUES), place)
 }
 
 /// The number of words.
@@ -108,7 +109,7 @@ pub fn plain_place_index(shape: &Shape, place: Place) -> usize
 pub fn word_count(shape: &Shape) -> usize
     ensures { result ≡ words_in shape.now }
 {
-    slot_index(shape, node_words(shape), shape.slots()) + flag_words(shape) as usize
+    slot_index(shape, words_of_node(shape.has_values()), shape.slots()) + flag_words(shape) as usize
 }
 
 /// A law: different places of a shape have different indices, each below the number of words.

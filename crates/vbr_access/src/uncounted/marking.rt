@@ -27,7 +27,6 @@ pub fn mark(at: &mut AtTable<'_>, held: &Held) -> Result<Marked, Rollback>
     requires held { IsHeld (knows at.old.pass.now.trace) held.now }
     requires key { (key : ℕ) × KeyAt (knows at.old.pass.now.trace) held.now.at key }
     requires unmarked { (link_of held.now.word).mark ≡ false }
-    requires bare { at.old.pass.now.trace.shape.values ≡ false }
     ensures table { IsSameTable at.old at.new }
     ensures took { Took at.old.pass.now.trace at.new.pass.now.trace 1 }
     ensures own { KeepsOwn at.old.pass.now at.new.pass.now }
@@ -44,6 +43,7 @@ pub fn mark(at: &mut AtTable<'_>, held: &Held) -> Result<Marked, Rollback>
     ensures wins { IfErr result (λ r. IsAlone at.old.pass.now.trace at.new.pass.now.trace → StandsNow at.old.pass.now.trace held.now → ⊥) }
 {
     at.law();
+    at.slots.kind();
     let At::Slot(slot) = held.at else {
         unreachable!()
     };

@@ -72,7 +72,6 @@ pub fn update(
 ) -> Result<(), (Hand, Rollback)>
     requires pred { IsHeld (knows at.old.pass.now.trace) pred.now }
     requires unmarked { (link_of pred.now.word).mark ≡ false }
-    requires bare { at.old.pass.now.trace.shape.values ≡ false }
     requires succ { IsSucc (knows at.old.pass.now.trace) pred.now succ }
     requires behind { StandsBehind at.old.pass.now.trace.shape (knows at.old.pass.now.trace) pred.now.at key }
     requires before { StandsBefore (knows at.old.pass.now.trace) key (link_of pred.now.word).slot }
@@ -94,6 +93,7 @@ pub fn update(
     let birth = birth_named(at.pass, pred, succ);
     fill(at, &hand, key, pred, birth);
     at.law();
+    at.slots.kind();
     let slot = hand.slot();
     let new = link_to(Some(slot), pred.birth, hand.birth());
     match at.pass.publish(at.slots, pred.at, pred.word, slot, new) {

@@ -1,21 +1,21 @@
 //! The steps that make a new incarnation in a slot of the pass.
-ghost use Rattle.std.specs.Prelude.{◌≡◌, ◌<◌, Some};
+ghost use Rattle.std.specs.Prelude.{◌≡◌, ◌<◌, true, Some};
 ghost use Rattle.vbr_words.specs.Words.{link_of, word_of};
 ghost use Rattle.vbr_core.specs.Acceptance.{MayBear, IsNextIn, IsNextHeld, stamp_in};
 ghost use Rattle.vbr_core.specs.Learning.{link_written};
-ghost use Rattle.vbr_core.specs.declared.event.Step.TheVariants.{StoreBirth, StoreKey, StoreLink};
+ghost use Rattle.vbr_core.specs.declared.event.Step.TheVariants.{StoreBirth, StoreKey, StoreValue, StoreLink};
 ghost use Rattle.vbr_slots.specs.Pools.{HasRoomFor, without};
 ghost use Rattle.vbr_slots.specs.Views.{IsOf, Did, KeepsPool, knows};
 
 use crate::slots::Slots;
 use crate::stepper::Stepper;
 use vbr_core::Step;
-use vbr_words::{Place, decode};
+use vbr_words::{Nodes, Place, decode};
 
 impl Stepper {
     /// As [`Slots::store_birth`].
     #[inline]
-    pub fn store_birth(&mut self, slots: &Slots, slot: u32)
+    pub fn store_birth<N: Nodes>(&mut self, slots: &Slots<N>, slot: u32)
         requires own { IsOf self.old.trace slots.now }
         requires slot { slot < slots.now.shape.slots }
         requires may_bear { MayBear ((knows self.old.trace).own slot) }
@@ -34,7 +34,7 @@ impl Stepper {
 
     /// As [`Slots::store_key`].
     #[inline]
-    pub fn store_key(&mut self, slots: &Slots, slot: u32, key: u64)
+    pub fn store_key<N: Nodes>(&mut self, slots: &Slots<N>, slot: u32, key: u64)
         requires own { IsOf self.old.trace slots.now }
         requires in_hand { self.old.hand ≡ Some slot }
         ensures step { Did (StoreKey slot key) self.old.trace self.new.trace key }
@@ -44,9 +44,22 @@ impl Stepper {
         slots.store(&mut self.runner, step, Place::Key(slot), key);
     }
 
+    /// As [`Slots::store_value`].
+    #[inline]
+    pub fn store_value<N: Nodes>(&mut self, slots: &Slots<N>, slot: u32, value: u64)
+        requires own { IsOf self.old.trace slots.now }
+        requires values { slots.now.shape.values ≡ true }
+        requires in_hand { self.old.hand ≡ Some slot }
+        ensures step { Did (StoreValue slot value) self.old.trace self.new.trace value }
+        ensures pool { KeepsPool self.old self.new }
+    {
+        let step = Step::StoreValue { slot, value };
+        slots.store(&mut self.runner, step, Place::Value(slot), value);
+    }
+
     /// As [`Slots::store_link`].
     #[inline]
-    pub fn store_link(&mut self, slots: &Slots, slot: u32, word: u64)
+    pub fn store_link<N: Nodes>(&mut self, slots: &Slots<N>, slot: u32, word: u64)
         requires own { IsOf self.old.trace slots.now }
         requires in_hand { self.old.hand ≡ Some slot }
         requires next_in { IsNextIn slots.now.shape (link_of word).slot }

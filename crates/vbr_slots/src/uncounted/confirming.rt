@@ -11,14 +11,14 @@ use crate::slots::Slots;
 use crate::stepper::Stepper;
 use crate::stepping::place_of_link;
 use vbr_core::{Op, Step};
-use vbr_words::{At, Place};
+use vbr_words::{At, Nodes, Place};
 
 impl Stepper {
     /// As [`Slots::confirm_present`].
     #[inline]
-    pub fn confirm_present(
+    pub fn confirm_present<N: Nodes>(
         &mut self,
-        slots: &Slots,
+        slots: &Slots<N>,
         op: Op,
         slot: u32,
         expected: u64,
@@ -43,9 +43,9 @@ impl Stepper {
 
     /// As [`Slots::confirm_absent`].
     #[inline]
-    pub fn confirm_absent(
+    pub fn confirm_absent<N: Nodes>(
         &mut self,
-        slots: &Slots,
+        slots: &Slots<N>,
         op: Op,
         key: u64,
         at: At,
@@ -75,9 +75,9 @@ impl Stepper {
 
     /// As [`Slots::confirm_look_up`].
     #[inline]
-    pub fn confirm_look_up(
+    pub fn confirm_look_up<N: Nodes>(
         &mut self,
-        slots: &Slots,
+        slots: &Slots<N>,
         present: bool,
         key: u64,
         at: At,

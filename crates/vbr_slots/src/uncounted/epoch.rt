@@ -6,12 +6,12 @@ ghost use Rattle.vbr_slots.specs.Views.{IsOf, Did, KeepsPool};
 use crate::slots::Slots;
 use crate::stepper::Stepper;
 use vbr_core::Step;
-use vbr_words::Place;
+use vbr_words::{Nodes, Place};
 
 impl Stepper {
     /// As [`Slots::read_epoch`].
     #[inline]
-    pub fn read_epoch(&mut self, slots: &Slots) -> u64
+    pub fn read_epoch<N: Nodes>(&mut self, slots: &Slots<N>) -> u64
         requires own { IsOf self.old.trace slots.now }
         ensures step { Did ReadEpoch self.old.trace self.new.trace result }
         ensures pool { KeepsPool self.old self.new }
@@ -21,7 +21,7 @@ impl Stepper {
 
     /// As [`Slots::advance`].
     #[inline]
-    pub fn advance(&mut self, slots: &Slots, from: u64) -> bool
+    pub fn advance<N: Nodes>(&mut self, slots: &Slots<N>, from: u64) -> bool
         requires own { IsOf self.old.trace slots.now }
         requires some { 1 ≤ from }
         requires below_last { from < slots.now.shape.last_epoch }

@@ -11,14 +11,14 @@ use crate::slots::Slots;
 use crate::stepper::Stepper;
 use crate::stepping::place_of_link;
 use vbr_core::Step;
-use vbr_words::{At, Place, with_mark};
+use vbr_words::{At, Nodes, Place, with_mark};
 
 impl Stepper {
     /// As [`Slots::publish`].
     #[inline]
-    pub fn publish(
+    pub fn publish<N: Nodes>(
         &mut self,
-        slots: &Slots,
+        slots: &Slots<N>,
         pred: At,
         expected: u64,
         slot: u32,
@@ -53,7 +53,7 @@ impl Stepper {
 
     /// As [`Slots::mark`].
     #[inline]
-    pub fn mark(&mut self, slots: &Slots, slot: u32, expected: u64) -> Result<(), u64>
+    pub fn mark<N: Nodes>(&mut self, slots: &Slots<N>, slot: u32, expected: u64) -> Result<(), u64>
         requires own { IsOf self.old.trace slots.now }
         requires slot { slot < slots.now.shape.slots }
         requires held { HasChecked slots.now.shape (knows self.old.trace) (Mark slot expected) }
@@ -74,9 +74,9 @@ impl Stepper {
 
     /// As [`Slots::unlink`].
     #[inline]
-    pub fn unlink(
+    pub fn unlink<N: Nodes>(
         &mut self,
-        slots: &Slots,
+        slots: &Slots<N>,
         pred: At,
         expected: u64,
         slot: u32,

@@ -1,21 +1,21 @@
 //! The steps that load what a traversal reads, one each. A read is pending until the epoch is read
 //! again.
-ghost use Rattle.std.specs.Prelude.{◌≡◌, ◌<◌, IsTrue};
+ghost use Rattle.std.specs.Prelude.{◌≡◌, ◌<◌, true, IsTrue};
 ghost use Rattle.vbr_core.specs.Acceptance.{IsAtIn};
 ghost use Rattle.vbr_core.specs.Knowledge.{holds, holds_at};
-ghost use Rattle.vbr_core.specs.declared.event.Step.TheVariants.{LoadLink, LoadBirth, LoadKey};
+ghost use Rattle.vbr_core.specs.declared.event.Step.TheVariants.{LoadLink, LoadBirth, LoadKey, LoadValue};
 ghost use Rattle.vbr_slots.specs.Views.{IsOf, Did, KeepsPool, knows};
 
 use crate::slots::Slots;
 use crate::stepper::Stepper;
 use crate::stepping::place_of_link;
 use vbr_core::Step;
-use vbr_words::{At, Place};
+use vbr_words::{At, Nodes, Place};
 
 impl Stepper {
     /// As [`Slots::load_link`].
     #[inline]
-    pub fn load_link(&mut self, slots: &Slots, at: At) -> u64
+    pub fn load_link<N: Nodes>(&mut self, slots: &Slots<N>, at: At) -> u64
         requires own { IsOf self.old.trace slots.now }
         requires at { IsAtIn slots.now.shape at }
         requires held { IsTrue (holds_at (knows self.old.trace).checked at) }
@@ -27,7 +27,7 @@ impl Stepper {
 
     /// As [`Slots::load_birth`].
     #[inline]
-    pub fn load_birth(&mut self, slots: &Slots, slot: u32) -> u64
+    pub fn load_birth<N: Nodes>(&mut self, slots: &Slots<N>, slot: u32) -> u64
         requires own { IsOf self.old.trace slots.now }
         requires slot { slot < slots.now.shape.slots }
         requires held { IsTrue (holds (knows self.old.trace).checked slot) }
@@ -43,7 +43,7 @@ impl Stepper {
 
     /// As [`Slots::load_key`].
     #[inline]
-    pub fn load_key(&mut self, slots: &Slots, slot: u32) -> u64
+    pub fn load_key<N: Nodes>(&mut self, slots: &Slots<N>, slot: u32) -> u64
         requires own { IsOf self.old.trace slots.now }
         requires slot { slot < slots.now.shape.slots }
         requires held { IsTrue (holds (knows self.old.trace).checked slot) }
@@ -51,5 +51,22 @@ impl Stepper {
         ensures pool { KeepsPool self.old self.new }
     {
         slots.load(&mut self.runner, Step::LoadKey { slot }, Place::Key(slot))
+    }
+
+    /// As [`Slots::load_value`].
+    #[inline]
+    pub fn load_value<N: Nodes>(&mut self, slots: &Slots<N>, slot: u32) -> u64
+        requires own { IsOf self.old.trace slots.now }
+        requires values { slots.now.shape.values ≡ true }
+        requires slot { slot < slots.now.shape.slots }
+        requires held { IsTrue (holds (knows self.old.trace).checked slot) }
+        ensures step { Did (LoadValue slot) self.old.trace self.new.trace result }
+        ensures pool { KeepsPool self.old self.new }
+    {
+        slots.load(
+            &mut self.runner,
+            Step::LoadValue { slot },
+            Place::Value(slot),
+        )
     }
 }

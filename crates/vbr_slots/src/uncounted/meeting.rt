@@ -8,11 +8,12 @@ ghost use Rattle.vbr_slots.specs.Views.{IsOf, Did, KeepsPool};
 use crate::seen::Seen;
 use crate::slots::Slots;
 use crate::stepper::Stepper;
+use vbr_words::Nodes;
 
 impl Stepper {
     /// As [`Slots::meet`].
     #[inline]
-    pub fn meet(&mut self, slots: &Slots, other: &mut Stepper)
+    pub fn meet<N: Nodes>(&mut self, slots: &Slots<N>, other: &mut Stepper)
         requires own { IsOf self.old.trace slots.now }
         requires other { IsOf other.old.trace slots.now }
         ensures step { (epoch : ℕ) × Did ReadEpoch self.old.trace self.new.trace epoch }
@@ -25,7 +26,7 @@ impl Stepper {
 
     /// As [`Slots::seen`].
     #[inline]
-    pub fn seen(&mut self, slots: &Slots) -> Seen
+    pub fn seen<N: Nodes>(&mut self, slots: &Slots<N>) -> Seen
         requires own { IsOf self.old.trace slots.now }
         ensures same { self.new ≡ self.old }
         ensures table { result.table ≡ slots.now.table }
@@ -36,7 +37,7 @@ impl Stepper {
 
     /// As [`Slots::catch_up`].
     #[inline]
-    pub fn catch_up(&mut self, slots: &Slots, token: Seen)
+    pub fn catch_up<N: Nodes>(&mut self, slots: &Slots<N>, token: Seen)
         requires own { IsOf self.old.trace slots.now }
         requires token { token.table ≡ slots.now.table }
         ensures since { Since self.old.trace self.new.trace }

@@ -9,13 +9,13 @@ ghost use Rattle.vbr_slots.specs.Views.{IsOf, Did, KeepsPool, knows};
 use crate::slots::Slots;
 use crate::stepper::Stepper;
 use vbr_core::Step;
-use vbr_words::Place;
 use vbr_words::flags::{all_but, flag_of, has_flag, word_of_flag};
+use vbr_words::{Nodes, Place};
 
 impl Stepper {
     /// As [`Slots::load_stamp`].
     #[inline]
-    pub fn load_stamp(&mut self, slots: &Slots, slot: u32) -> u64
+    pub fn load_stamp<N: Nodes>(&mut self, slots: &Slots<N>, slot: u32) -> u64
         requires own { IsOf self.old.trace slots.now }
         requires slot { slot < slots.now.shape.slots }
         requires owned { IsSome ((knows self.old.trace).own slot) }
@@ -32,7 +32,7 @@ impl Stepper {
 
     /// As [`Slots::store_stamp`].
     #[inline]
-    pub fn store_stamp(&mut self, slots: &Slots, slot: u32)
+    pub fn store_stamp<N: Nodes>(&mut self, slots: &Slots<N>, slot: u32)
         requires own { IsOf self.old.trace slots.now }
         requires slot { slot < slots.now.shape.slots }
         requires reread { IsReread ((knows self.old.trace).own slot) }
@@ -46,7 +46,7 @@ impl Stepper {
 
     /// As [`Slots::raise`].
     #[inline]
-    pub fn raise(&mut self, slots: &Slots, slot: u32)
+    pub fn raise<N: Nodes>(&mut self, slots: &Slots<N>, slot: u32)
         requires own { IsOf self.old.trace slots.now }
         requires slot { slot < slots.now.shape.slots }
         requires free { IsFree ((knows self.old.trace).own slot) }
@@ -61,7 +61,7 @@ impl Stepper {
 
     /// As [`Slots::take_flag`].
     #[inline]
-    pub fn take_flag(&mut self, slots: &Slots, slot: u32) -> Result<(), u64>
+    pub fn take_flag<N: Nodes>(&mut self, slots: &Slots<N>, slot: u32) -> Result<(), u64>
         requires own { IsOf self.old.trace slots.now }
         requires slot { slot < slots.now.shape.slots }
         ensures step { MatchResult result

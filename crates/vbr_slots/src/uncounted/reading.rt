@@ -11,12 +11,12 @@ use crate::slots::Slots;
 use crate::stepper::Stepper;
 use crate::stepping::place_of_link;
 use vbr_core::Step;
-use vbr_words::{At, Place};
+use vbr_words::{At, Nodes, Place};
 
 impl Stepper {
     /// As [`Slots::read_link`].
     #[inline]
-    pub fn read_link(&mut self, slots: &Slots, at: At) -> (u64, u64)
+    pub fn read_link<N: Nodes>(&mut self, slots: &Slots<N>, at: At) -> (u64, u64)
         requires own { IsOf self.old.trace slots.now }
         requires at { IsAtIn slots.now.shape at }
         requires held { IsTrue (holds_at (knows self.old.trace).checked at) }
@@ -28,7 +28,7 @@ impl Stepper {
 
     /// As [`Slots::read_key`].
     #[inline]
-    pub fn read_key(&mut self, slots: &Slots, slot: u32) -> (u64, u64)
+    pub fn read_key<N: Nodes>(&mut self, slots: &Slots<N>, slot: u32) -> (u64, u64)
         requires own { IsOf self.old.trace slots.now }
         requires slot { slot < slots.now.shape.slots }
         requires held { IsTrue (holds (knows self.old.trace).checked slot) }
@@ -40,7 +40,7 @@ impl Stepper {
 
     /// As [`Slots::read_node`].
     #[inline]
-    pub fn read_node(&mut self, slots: &Slots, slot: u32) -> (u64, u64, u64)
+    pub fn read_node<N: Nodes>(&mut self, slots: &Slots<N>, slot: u32) -> (u64, u64, u64)
         requires own { IsOf self.old.trace slots.now }
         requires slot { slot < slots.now.shape.slots }
         requires held { IsTrue (holds (knows self.old.trace).checked slot) }

@@ -9,7 +9,7 @@ use Rattle.vbr_list.specs.Budgets.{LacksSteps, listed_for}
 use Rattle.vbr_list.specs.Inserting.{InsertIsShort}
 use Rattle.vbr_list.specs.Refusals.{IsRefused}
 use Rattle.vbr_list.specs.declared.refusal.Refusal.TheVariants.{NoSlot}
-use Rattle.vbr_list.proofs.Going.{bare_on, bucket_is}
+use Rattle.vbr_list.proofs.Going.{bucket_is}
 use Rattle.vbr_list.proofs.Sufficing.{answered_or_spent, each_error, lacks, never_refused, no_more_listed}
 use Rattle.vbr_list.proofs.LonePasses.{alone, each_alone}
 use Rattle.vbr_list.proofs.Preparing.{each_same, each_seen, each_since, refused_first, refused_second, within_all, within_on}
@@ -144,6 +144,3 @@ returns-in-Ok-Some-clause-ready c =
     answered_or_spent c.args.at.now.pass.now c.link.new.self.at.pass.now c.args.budget (listed_for c.args.at.now.pass.now.trace c.args.key) c.link.result some alone enough
     (each_error (λ refusal. InsertIsShort q c.link.new.self.at.pass.now c.prepare.new.self.used c.args.budget refusal) (λ refusal. refusal ≡ NoSlot → c.args.at.now.pass.now.pool ≡ []) c.link.result (never_refused c.args.at.now.pass.now.pool q c.link.new.self.at.pass.now c.prepare.new.self.used c.args.budget) (rw c.prepare.ensures.call.budget at c.link.ensures.refused))
     (rw same at (returns-in-Ok-Some-clause-within c)))
-
-pub link-requires-clause-bare : goal.link-requires-clause-bare
-link-requires-clause-bare c = let x = rw c.in-Ok-Some.field-0-is at c.in-Ok-Some.ensures.prepared in bare_on x.0.same c.requires.bare

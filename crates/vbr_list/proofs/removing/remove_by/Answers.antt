@@ -2,7 +2,7 @@ use Rattle.std.proofs.Common.{rules, sym, ◌∙◌, arith, ap}
 use Rattle.vbr_slots.proofs.Lemmas.{quiet_on, same_on}
 use Rattle.vbr_pools.proofs.Lemmas.{counts_on, none_on, took_all}
 use Rattle.vbr_words.specs.Dimensions.{Dimensions}
-use Rattle.vbr_list.proofs.Going.{bare_on, bucket_is, call_on, goes_on, tries_on, within_call, within_of}
+use Rattle.vbr_list.proofs.Going.{bucket_is, call_on, goes_on, tries_on, within_call, within_of}
 use Rattle.vbr_list.proofs.LonePasses.{alone}
 use Rattle.std.proofs.Common.{◌≡◌, ◌+◌, ◌*◌, ◌<◌, ◌≤◌, true, false}
 use Rattle.vbr_list.specs.Budgets.{listed_for}
@@ -147,6 +147,3 @@ pub returns-in-Ok-clause-took : goal.returns-in-Ok-clause-took
 returns-in-Ok-clause-took c =
     let same : c.at-in-Ok-1.given.0 ≡ c.settle_remove.new.self.at.pass.now = search rules in
     rw same (took_all (counts_on (goes_on c.loop-found.invariant.3.goes c.search.ensures.goes).counts c.settle_remove.ensures.counts))
-
-pub settle_remove-requires-clause-bare : goal.settle_remove-requires-clause-bare
-settle_remove-requires-clause-bare c = bare_on (quiet_on c.loop-found.invariant.3.goes.quiet c.search.ensures.goes.quiet).same c.requires.bare

@@ -7,7 +7,7 @@ use Rattle.vbr_slots.proofs.laying.opening_words.Given as goal
 abbrev pub invariant-loop-number : goal.invariant-loop-number
 invariant-loop-number l = record {
   low : l.number ≤ length l.keys;
-  words : AreWordsOf (record l.shape { keys = l.keys }) (opening_from (record l.shape { keys = l.keys }) l.number) l.words.items;
+  words : AreWordsOf (record l.shape { keys = l.keys; payloads = l.values }) (opening_from (record l.shape { keys = l.keys; payloads = l.values }) l.number) l.words.items;
 }
 
 abbrev pub decreases-loop-number : goal.decreases-loop-number

@@ -1,4 +1,4 @@
-use Rattle.std.proofs.Common.{◌<◌, ap, subst, refl}
+use Rattle.std.proofs.Common.{◌<◌, ap, ◌∙◌, subst, refl}
 use Rattle.vbr_words.specs.Dimensions.{Dimensions}
 use Rattle.vbr_words.specs.declared.place.At.{At}
 use Rattle.vbr_words.specs.declared.link.Link.{Link}
@@ -22,12 +22,12 @@ use Rattle.vbr_access.proofs.uncounted.marking.mark.Goals as goal
 pub mark-requires-clause-slot : goal.mark-requires-clause-slot
 mark-requires-clause-slot c =
     let P : Dimensions → Type 0 = λ shape. c.in-Slot.slot < shape.slots in
-    subst P c.args.at.now.own.1 (mark_accepted c.args.at.now.pass.now c.law.ensures c.requires.bare c.args.held.now c.in-Slot.slot c.requires.held c.in-Slot.is c.requires.key c.requires.unmarked).in_shape
+    subst P c.args.at.now.own.1 (mark_accepted c.args.at.now.pass.now c.law.ensures (ap (λ (d : Dimensions). d.values) c.args.at.now.own.1 ∙ c.kind.ensures) c.args.held.now c.in-Slot.slot c.requires.held c.in-Slot.is c.requires.key c.requires.unmarked).in_shape
 
 pub mark-requires-clause-held : goal.mark-requires-clause-held
 mark-requires-clause-held c =
     let P : Dimensions → Type 0 = λ shape. HasChecked shape (knows c.args.at.now.pass.now.trace) (Mark c.in-Slot.slot c.args.held.now.word) in
-    subst P c.args.at.now.own.1 (mark_accepted c.args.at.now.pass.now c.law.ensures c.requires.bare c.args.held.now c.in-Slot.slot c.requires.held c.in-Slot.is c.requires.key c.requires.unmarked).held
+    subst P c.args.at.now.own.1 (mark_accepted c.args.at.now.pass.now c.law.ensures (ap (λ (d : Dimensions). d.values) c.args.at.now.own.1 ∙ c.kind.ensures) c.args.held.now c.in-Slot.slot c.requires.held c.in-Slot.is c.requires.key c.requires.unmarked).held
 
 pub returns-in-Ok-clause-keeps : goal.returns-in-Ok-clause-keeps
 returns-in-Ok-clause-keeps c = mark_keeps c.in-Ok.ensures.step
@@ -35,7 +35,7 @@ returns-in-Ok-clause-keeps c = mark_keeps c.in-Ok.ensures.step
 pub returns-in-Ok-clause-made : goal.returns-in-Ok-clause-made
 returns-in-Ok-clause-made c = λ key k.
     let P : At → Type 0 = λ at. KeyAt (knows c.args.at.now.pass.now.trace) at key in
-    mark_made c.law.ensures.shape c.law.ensures.is_run c.requires.bare c.in-Ok.ensures.step key (subst P c.in-Slot.is k)
+    mark_made c.law.ensures.shape c.law.ensures.is_run (ap (λ (d : Dimensions). d.values) c.args.at.now.own.1 ∙ c.kind.ensures) c.in-Ok.ensures.step key (subst P c.in-Slot.is k)
 
 pub returns-in-Ok-clause-held : goal.returns-in-Ok-clause-held
 returns-in-Ok-clause-held c =
@@ -52,7 +52,7 @@ returns-in-Err-clause-quiet c = mark_failed c.in-Err.ensures.step.0 c.in-Err.ens
 pub returns-in-Ok-clause-safe : goal.returns-in-Ok-clause-safe
 returns-in-Ok-clause-safe c =
     let P : At → Type 0 = λ at. KeyAt (knows c.args.at.now.pass.now.trace) at c.requires.key.0 in
-    made_safe c.args.at.now.pass.now c.law.ensures (mark_made c.law.ensures.shape c.law.ensures.is_run c.requires.bare c.in-Ok.ensures.step c.requires.key.0 (subst P c.in-Slot.is c.requires.key.1))
+    made_safe c.args.at.now.pass.now c.law.ensures (mark_made c.law.ensures.shape c.law.ensures.is_run (ap (λ (d : Dimensions). d.values) c.args.at.now.own.1 ∙ c.kind.ensures) c.in-Ok.ensures.step c.requires.key.0 (subst P c.in-Slot.is c.requires.key.1))
 
 pub returns-in-Ok-clause-takes_no_slot : goal.returns-in-Ok-clause-takes_no_slot
 returns-in-Ok-clause-takes_no_slot c = did_none c.in-Ok.ensures.step refl c.mark.ensures.pool

@@ -24,10 +24,6 @@ use Rattle.vbr_access.proofs.KeptSlots.{publish_none}
 use Rattle.vbr_access.proofs.SafeCalls.{made_safe, quiet_safe}
 use Rattle.vbr_access.proofs.uncounted.updating.update.Goals as goal
 
--- nodes have no values
-abbrev Bare : Dimensions → Type 0
-Bare shape = shape.values ≡ false
-
 pub link_to-new-requires : goal.link_to-new-requires
 link_to-new-requires c =
     let p = c.fill.new.at.pass.now in
@@ -53,7 +49,7 @@ publish-requires-clause-held c =
     let Q : ℕ → Type 0 = λ s. IsFilled ((knows p.trace).own s) c.args.hand.birth c.args.key (link_to (link_of c.args.pred.now.word).slot c.args.hand.birth c.birth_named-birth.result) in
     let P : Dimensions → Type 0 = λ shape. StandsBehind shape (knows p.trace) c.args.pred.now.at c.args.key in
     (publish_accepted p c.law.ensures c.args.pred.now c.slot-slot.result c.args.key c.args.hand.birth c.birth_named-birth.result (held_kept c.args.pred.now k c.requires.pred) (subst Q (sym c.slot-slot.ensures) c.fill.ensures.filled)
-    (subst Bare (sym c.fill.ensures.quiet.same.shape) c.requires.bare) c.requires.unmarked at.0 (birth_named_kept (link_of c.args.pred.now.word).slot c.birth_named-birth.result k c.birth_named-birth.ensures)
+    (ap (λ (d : Dimensions). d.values) c.fill.new.at.own.1 ∙ c.kind.ensures) c.requires.unmarked at.0 (birth_named_kept (link_of c.args.pred.now.word).slot c.birth_named-birth.result k c.birth_named-birth.ensures)
     (subst P (sym c.fill.ensures.quiet.same.shape) (behind_kept c.args.at.now.pass.now.trace.shape c.args.pred.now.at c.args.key k c.requires.behind)) (before_kept c.args.key (link_of c.args.pred.now.word).slot k c.requires.before)).held
 
 pub publish-requires-clause-in_range : goal.publish-requires-clause-in_range
@@ -67,7 +63,7 @@ publish-requires-clause-in_range c =
     let R : Dimensions → Type 0 = λ shape. IsInRange shape (knows p.trace) (Publish c.args.pred.now.at c.args.pred.now.word c.slot-slot.result) in
     subst R c.fill.new.at.own.1
     (publish_accepted p c.law.ensures c.args.pred.now c.slot-slot.result c.args.key c.args.hand.birth c.birth_named-birth.result (held_kept c.args.pred.now k c.requires.pred) (subst Q (sym c.slot-slot.ensures) c.fill.ensures.filled)
-    (subst Bare (sym c.fill.ensures.quiet.same.shape) c.requires.bare) c.requires.unmarked at.0 (birth_named_kept (link_of c.args.pred.now.word).slot c.birth_named-birth.result k c.birth_named-birth.ensures)
+    (ap (λ (d : Dimensions). d.values) c.fill.new.at.own.1 ∙ c.kind.ensures) c.requires.unmarked at.0 (birth_named_kept (link_of c.args.pred.now.word).slot c.birth_named-birth.result k c.birth_named-birth.ensures)
     (subst P (sym c.fill.ensures.quiet.same.shape) (behind_kept c.args.at.now.pass.now.trace.shape c.args.pred.now.at c.args.key k c.requires.behind)) (before_kept c.args.key (link_of c.args.pred.now.word).slot k c.requires.before)).in_range
 
 pub publish-requires-clause-new : goal.publish-requires-clause-new
@@ -84,7 +80,7 @@ pub returns-in-Ok-clause-made : goal.returns-in-Ok-clause-made
 returns-in-Ok-clause-made c =
     let p = c.fill.new.at.pass.now in
     let Q : ℕ → Type 0 = λ s. IsFilled ((knows p.trace).own s) c.args.hand.birth c.args.key (link_to (link_of c.args.pred.now.word).slot c.args.hand.birth c.birth_named-birth.result) in
-    let made = publish_made p c.law.ensures c.args.pred.now c.slot-slot.result c.args.key c.args.hand.birth c.birth_named-birth.result (held_kept c.args.pred.now c.fill.ensures.keeps c.requires.pred) (subst Q (sym c.slot-slot.ensures) c.fill.ensures.filled) (subst Bare (sym c.fill.ensures.quiet.same.shape) c.requires.bare) c.in-Ok.ensures.step in
+    let made = publish_made p c.law.ensures c.args.pred.now c.slot-slot.result c.args.key c.args.hand.birth c.birth_named-birth.result (held_kept c.args.pred.now c.fill.ensures.keeps c.requires.pred) (subst Q (sym c.slot-slot.ensures) c.fill.ensures.filled) (ap (λ (d : Dimensions). d.values) c.fill.new.at.own.1 ∙ c.kind.ensures) c.in-Ok.ensures.step in
     let P : ℕ → Type 0 = λ who. Made (set_call who Insert c.args.key true) c.args.at.now.pass.now.trace c.publish.new.self.trace in
     subst P c.fill.ensures.quiet.same.who (made_on c.fill.ensures.quiet made)
 
@@ -100,7 +96,7 @@ pub returns-in-Ok-clause-safe : goal.returns-in-Ok-clause-safe
 returns-in-Ok-clause-safe c =
     let p = c.fill.new.at.pass.now in
     let Q : ℕ → Type 0 = λ s. IsFilled ((knows p.trace).own s) c.args.hand.birth c.args.key (link_to (link_of c.args.pred.now.word).slot c.args.hand.birth c.birth_named-birth.result) in
-    made_safe p c.law.ensures (publish_made p c.law.ensures c.args.pred.now c.slot-slot.result c.args.key c.args.hand.birth c.birth_named-birth.result (held_kept c.args.pred.now c.fill.ensures.keeps c.requires.pred) (subst Q (sym c.slot-slot.ensures) c.fill.ensures.filled) (subst Bare (sym c.fill.ensures.quiet.same.shape) c.requires.bare) c.in-Ok.ensures.step)
+    made_safe p c.law.ensures (publish_made p c.law.ensures c.args.pred.now c.slot-slot.result c.args.key c.args.hand.birth c.birth_named-birth.result (held_kept c.args.pred.now c.fill.ensures.keeps c.requires.pred) (subst Q (sym c.slot-slot.ensures) c.fill.ensures.filled) (ap (λ (d : Dimensions). d.values) c.fill.new.at.own.1 ∙ c.kind.ensures) c.in-Ok.ensures.step)
 
 pub returns-in-Err-clause-wins : goal.returns-in-Err-clause-wins
 returns-in-Err-clause-wins c = λ alone stands.

@@ -5,7 +5,7 @@ use Rattle.vbr_pools.proofs.Lemmas.{had_back, had_grown, had_on, had_then, no_ro
 use Rattle.vbr_slots.specs.Alone.{IsAlone}
 use Rattle.vbr_list.specs.Budgets.{listed_for}
 use Rattle.vbr_list.proofs.Nearing.{at_first, first_lost, first_of, then_of}
-use Rattle.vbr_list.proofs.Going.{bare_on, call_on, within_call}
+use Rattle.vbr_list.proofs.Going.{call_on, within_call}
 use Rattle.vbr_list.proofs.Preparing.{made_since, within_on, within_same}
 use Rattle.vbr_list.proofs.call.Call.link.Goals as goal
 
@@ -91,6 +91,3 @@ returns-in-Ok-clause-had c =
     let q = c.search.new.self.at.pass.now in
     let then = had_then c.args.self.now.at.pass.now q c.settle_insert.new.self.at.pass.now c.settle_insert.result (had_on c.args.self.now.at.pass.now c.loop-found.self.at.pass.now q c.loop-found.invariant.5 (had_grown c.loop-found.self.at.pass.now q s.takes_no_slot.grows s.hand)) c.settle_insert.ensures.had in
     rw c.in-Ok.is at then
-
-pub settle_insert-requires-clause-bare : goal.settle_insert-requires-clause-bare
-settle_insert-requires-clause-bare c = bare_on (quiet_on c.loop-found.invariant.1 c.search.ensures.goes.quiet).same c.requires.bare

@@ -5,7 +5,7 @@ use Rattle.vbr_core.specs.Runs.{IsRun, know_after}
 use Rattle.vbr_core.specs.declared.event.Event.{Event}
 use Rattle.vbr_core.proofs.Lemmas.{is_run_first}
 use Rattle.vbr_slots.specs.declared.rule.Opening.{Opening}
-use Rattle.vbr_slots.specs.Rule.{first_keys}
+use Rattle.vbr_slots.specs.Rule.{with_opened, first_opened}
 use Rattle.vbr_slots.specs.Views.{TableView, counted_steps, steps_in}
 use Rattle.vbr_slots.specs.Tried.{last_tried, tried_in}
 use Rattle.vbr_slots.specs.Words.{AreWordsOf}
@@ -14,27 +14,27 @@ use Rattle.vbr_slots.proofs.Tried.{tried_none}
 use Rattle.vbr_slots.proofs.slots.Slots.build.Goals as goal
 
 pub of_words-requires : goal.of_words-requires
-of_words-requires c =
+of_words-requires g c =
     let is = c.in_ok-whole.ensures in
     opens c.in_ok-whole.whole c.as_slice.result.now (subst (λ (x : Opening × List ℕ). AreWordsOf x.0.shape (machine.opening x.0.shape) x.1) (λ k. (sym is k, sym c.as_slice.ensures.value k)) c.in_ok-words.ensures.words)
 
 pub split_seat-next-requires : goal.split_seat-next-requires
-split_seat-next-requires c =
+split_seat-next-requires g c =
     let words = c.in_ok-table.ensures.0 in
     let items = ap length c.as_slice.ensures.value in
     let count = c.in_ok-words.ensures.words.count in
     (c.loop-who.invariant.0, omega (arith, words, items, count), splits_first _ _ _)
 
 pub invariant_of-runner : goal.invariant_of-runner
-invariant_of-runner c =
-    let shape : Dimensions = record c.args.opening.shape { keys = c.args.keys.now } in
+invariant_of-runner g c =
+    let shape : Dimensions = record c.args.opening.shape { keys = c.args.keys.now; payloads = c.args.values.now } in
     let s = c.split_seat-next.ensures in
     let who = c.loop-who.who in
     let i = c.loop-who.invariant in
-    let is = first_is c.args.keys.now who c.args.opening.passes c.loop-who.seat.me c.split_seat-next.new.seat.me c.split_seat-next.result.me c.loop-who-test.true i.1 s.2 s.4 in
-    let has = first_has c.args.keys.now who c.args.opening.passes c.loop-who.seat.me c.split_seat-next.new.seat.me c.split_seat-next.result.me c.loop-who-test.true i.1 s.2 s.4 in
-    let empty = first_empty c.args.keys.now who c.args.opening.passes c.loop-who.seat.me c.split_seat-next.new.seat.me c.split_seat-next.result.me c.loop-who-test.true i.1 s.2 s.4 in
-    let same : record shape { keys = c.args.keys.now } ≡ record c.args.opening.shape { keys = first_keys c.split_seat-next.new.seat.me.0 } = λ k. record c.args.opening.shape { keys = sym has k } in
+    let is = first_is (record { keys = c.args.keys.now; payloads = c.args.values.now }) who c.args.opening.passes c.loop-who.seat.me c.split_seat-next.new.seat.me c.split_seat-next.result.me c.loop-who-test.true i.1 s.2 s.4 in
+    let has = first_has (record { keys = c.args.keys.now; payloads = c.args.values.now }) who c.args.opening.passes c.loop-who.seat.me c.split_seat-next.new.seat.me c.split_seat-next.result.me c.loop-who-test.true i.1 s.2 s.4 in
+    let empty = first_empty (record { keys = c.args.keys.now; payloads = c.args.values.now }) who c.args.opening.passes c.loop-who.seat.me c.split_seat-next.new.seat.me c.split_seat-next.result.me c.loop-who-test.true i.1 s.2 s.4 in
+    let same : shape ≡ with_opened c.args.opening.shape (first_opened c.split_seat-next.new.seat.me.0) = ap (with_opened c.args.opening.shape) (sym has) in
     record {
       alone = is;
       low = c.loop-who-test.true;
@@ -45,13 +45,13 @@ invariant_of-runner c =
 
 pub invariant_of-stepper : goal.invariant_of-stepper
 unfolding last_tried
-invariant_of-stepper c =
-    let shape : Dimensions = record c.args.opening.shape { keys = c.args.keys.now } in
+invariant_of-stepper g c =
+    let shape : Dimensions = record c.args.opening.shape { keys = c.args.keys.now; payloads = c.args.values.now } in
     let s = c.split_seat-next.ensures in
     let i = c.loop-who.invariant in
-    let has = first_has c.args.keys.now c.loop-who.who c.args.opening.passes c.loop-who.seat.me c.split_seat-next.new.seat.me c.split_seat-next.result.me c.loop-who-test.true i.1 s.2 s.4 in
-    let empty = first_empty c.args.keys.now c.loop-who.who c.args.opening.passes c.loop-who.seat.me c.split_seat-next.new.seat.me c.split_seat-next.result.me c.loop-who-test.true i.1 s.2 s.4 in
-    let same : record shape { keys = c.args.keys.now } ≡ record c.args.opening.shape { keys = first_keys c.split_seat-next.new.seat.me.0 } = λ k. record c.args.opening.shape { keys = sym has k } in
+    let has = first_has (record { keys = c.args.keys.now; payloads = c.args.values.now }) c.loop-who.who c.args.opening.passes c.loop-who.seat.me c.split_seat-next.new.seat.me c.split_seat-next.result.me c.loop-who-test.true i.1 s.2 s.4 in
+    let empty = first_empty (record { keys = c.args.keys.now; payloads = c.args.values.now }) c.loop-who.who c.args.opening.passes c.loop-who.seat.me c.split_seat-next.new.seat.me c.split_seat-next.result.me c.loop-who-test.true i.1 s.2 s.4 in
+    let same : shape ≡ with_opened c.args.opening.shape (first_opened c.split_seat-next.new.seat.me.0) = ap (with_opened c.args.opening.shape) (sym has) in
     record {
       shape = subst IsShape same c.in_ok-words.ensures.shape;
       pool = record {
@@ -64,23 +64,23 @@ invariant_of-stepper c =
     }
 
 pub invariant_of-push : goal.invariant_of-push
-invariant_of-push c =
+invariant_of-push g c =
     let s = c.split_seat-next.ensures in
     let i = c.loop-who.invariant in
-    let empty = first_empty c.args.keys.now c.loop-who.who c.args.opening.passes c.loop-who.seat.me c.split_seat-next.new.seat.me c.split_seat-next.result.me c.loop-who-test.true i.1 s.2 s.4 in
+    let empty = first_empty (record { keys = c.args.keys.now; payloads = c.args.values.now }) c.loop-who.who c.args.opening.passes c.loop-who.seat.me c.split_seat-next.new.seat.me c.split_seat-next.result.me c.loop-who-test.true i.1 s.2 s.4 in
     record { steps = ap (λ es. counted_steps (steps_in c.loop-who.who es)) (sym empty) }
 
 pub loop-who-preserved : goal.loop-who-preserved
-loop-who-preserved c =
-    let shape : Dimensions = record c.args.opening.shape { keys = c.args.keys.now } in
+loop-who-preserved g c =
+    let shape : Dimensions = record c.args.opening.shape { keys = c.args.keys.now; payloads = c.args.values.now } in
     let s = c.split_seat-next.ensures in
     let i = c.loop-who.invariant in
     let table : TableView = record { table = c.in_ok-table.table.shared.table_id; shape = shape; passes = c.args.opening.passes } in
-    let has = first_has c.args.keys.now c.loop-who.who c.args.opening.passes c.loop-who.seat.me c.split_seat-next.new.seat.me c.split_seat-next.result.me c.loop-who-test.true i.1 s.2 s.4 in
-    let seen = first_empty c.args.keys.now c.loop-who.who c.args.opening.passes c.loop-who.seat.me c.split_seat-next.new.seat.me c.split_seat-next.result.me c.loop-who-test.true i.1 s.2 s.4 in (
+    let has = first_has (record { keys = c.args.keys.now; payloads = c.args.values.now }) c.loop-who.who c.args.opening.passes c.loop-who.seat.me c.split_seat-next.new.seat.me c.split_seat-next.result.me c.loop-who-test.true i.1 s.2 s.4 in
+    let seen = first_empty (record { keys = c.args.keys.now; payloads = c.args.values.now }) c.loop-who.who c.args.opening.passes c.loop-who.seat.me c.split_seat-next.new.seat.me c.split_seat-next.result.me c.loop-who-test.true i.1 s.2 s.4 in (
       s.3 ∙ i.0,
-      others_next c.args.keys.now c.loop-who.who c.args.opening.passes c.loop-who.seat.me c.split_seat-next.new.seat.me _ c.loop-who-test.true i.1 s.2 s.4,
+      others_next (record { keys = c.args.keys.now; payloads = c.args.values.now }) c.loop-who.who c.args.opening.passes c.loop-who.seat.me c.split_seat-next.new.seat.me _ c.loop-who-test.true i.1 s.2 s.4,
       c.in_ok-push.ensures.items
-          ∙ (λ k. i.2 k ++ record { trace = record { table = (s.0 ∙ i.0) k; shape = record c.args.opening.shape { keys = has k }; passes = c.args.opening.passes; who = c.loop-who.who; seen = seen k }; pool = c.new-in-loop-who.ensures k; hand = None } ∷ [])
+          ∙ (λ k. i.2 k ++ record { trace = record { table = (s.0 ∙ i.0) k; shape = with_opened c.args.opening.shape (has k); passes = c.args.opening.passes; who = c.loop-who.who; seen = seen k }; pool = c.new-in-loop-who.ensures k; hand = None } ∷ [])
           ∙ sym (new_passes-next table c.loop-who.who),
     )

@@ -3,4 +3,4 @@ use Rattle.vbr_slots.specs.Views.{event_of}
 use Rattle.vbr_slots.proofs.slots.Slots.catch_up_runner.Given as goal
 
 abbrev pub ghosts-catch_up_as : goal.ghosts-catch_up_as
-ghosts-catch_up_as a = record { event = event_of a.runner.now.who ReadEpoch; opening = record { shape = a.self.now.shape; passes = a.self.now.passes } }
+ghosts-catch_up_as g a = record { event = event_of a.runner.now.who ReadEpoch; opening = record { shape = a.self.now.shape; passes = a.self.now.passes } }

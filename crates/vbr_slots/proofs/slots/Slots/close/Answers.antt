@@ -8,10 +8,10 @@ use Rattle.vbr_slots.proofs.Closings.{witnesses_of, one_of, witnesses_of-snoc, n
 use Rattle.vbr_slots.proofs.slots.Slots.close.Goals as goal
 
 pub load_new_seat-seat-requires : goal.load_new_seat-seat-requires
-load_new_seat-seat-requires c = (wide c.self.inside c.self.invariant, enters _ _ _)
+load_new_seat-seat-requires g c = (wide c.self.inside c.self.invariant, enters _ _ _)
 
 pub join_seat-requires : goal.join_seat-requires
-join_seat-requires c =
+join_seat-requires g c =
     let i = c.loop-pass.invariant in
     let all = sym (ap (λ ps. c.loop-pass.yielded ++ ps) c.in-Some.ensures.steps.0) ∙ i.2 in
     let trace_is = c.runner.view_is ∙ ap (λ (w : PassView). w.trace) (c.stepper.view_is ∙ c.pass.view_is) in
@@ -19,7 +19,7 @@ join_seat-requires c =
     (i.0, ap (λ (w : Trace). w.table) (trace_is) ∙ (of.0 ∙ sym (ap (λ q. q.table) c.self.view_is)), ap (λ m. m.1) c.runner.invariant.alone, wide c.self.inside c.self.invariant, joins _ _ _ _ _)
 
 pub loop-pass-preserved : goal.loop-pass-preserved
-loop-pass-preserved c =
+loop-pass-preserved g c =
     let i = c.loop-pass.invariant in
     let all = sym (ap (λ ps. c.loop-pass.yielded ++ ps) c.in-Some.ensures.steps.0) ∙ i.2 in (
       c.join_seat.ensures.0 ∙ i.0,
@@ -28,7 +28,7 @@ loop-pass-preserved c =
     )
 
 pub returns-clause-ok : goal.returns-clause-ok
-returns-clause-ok c =
+returns-clause-ok g c =
     let i = c.loop-pass.invariant in
     let whole = none_left c.loop-pass.yielded (into_iter_items c.loop-pass.pass-iterator) c.args.passes.items (sym c.loop-pass.pass-iterator.rest.ok.0 ∙ c.in-None.ensures.steps.0) i.2 in
     rw c.words_of.ensures

@@ -10,7 +10,7 @@ pub fetch_and-found-requires : goal.fetch_and-found-requires
 fetch_and-found-requires g c =
     let w = c.args.runner.now in
     asks c.self.inside c.args.self.now c.self.invariant c.self.view_is w (low_of c.runner.inside w c.runner.invariant c.runner.view_is) c.requires.own _ (ap (λ (v : Trace). v.table) c.runner.view_is) _ c.runner.inside.seat.me []
-    (known c.runner.inside w c.runner.invariant c.runner.view_is) c.args.step _ _ c.requires.named c.args.place _ (λ n. bit_and n c.args.bits) (λ n. n) c.plain_place_index-word.ensures.index c.requires.place
+    (known c.runner.inside w c.runner.invariant c.runner.view_is) c.args.step _ _ c.requires.named c.args.place _ (λ n. bit_and n c.args.bits) (λ n. n) c.place_index_in-word.ensures.index c.requires.place
     (λ n. sym (ap (λ a. word_made a n) c.requires.access)) (shows_itself c.args.step) c.requires.accepted
 
 pub invariant_of-runner : goal.invariant_of-runner

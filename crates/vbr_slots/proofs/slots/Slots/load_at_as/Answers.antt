@@ -3,7 +3,7 @@ use Rattle.vbr_words.specs.Places as places
 use Rattle.vbr_core.specs.Machine.{word_made}
 use Rattle.vbr_slots.specs.Views.{Trace}
 use Rattle.vbr_slots.proofs.Learning.{shows_itself}
-use Rattle.vbr_slots.proofs.LookUps.{link_index}
+use Rattle.vbr_slots.proofs.LookUps.{link_is}
 use Rattle.vbr_slots.proofs.Steps.{asks, known, low_of, done, stays_sound, did}
 use Rattle.vbr_slots.proofs.slots.Slots.load_at_as.Goals as goal
 
@@ -11,7 +11,7 @@ pub load-found-requires : goal.load-found-requires
 load-found-requires g c =
     let w = c.args.runner.now in
     asks c.self.inside c.args.self.now c.self.invariant c.self.view_is w (low_of c.runner.inside w c.runner.invariant c.runner.view_is) c.requires.own _ (ap (λ (v : Trace). v.table) c.runner.view_is) _ c.runner.inside.seat.me []
-    (known c.runner.inside w c.runner.invariant c.runner.view_is) c.args.step _ _ c.requires.named (places.place_of c.args.at) _ (λ n. n) (λ n. n) (c.link_from-word.ensures ∙ link_index c.self.inside.opening.shape c.buckets.result c.buckets.ensures.buckets c.self.invariant.valueless c.args.at) c.requires.place
+    (known c.runner.inside w c.runner.invariant c.runner.view_is) c.args.step _ _ c.requires.named (places.place_of c.args.at) _ (λ n. n) (λ n. n) (c.link_index_in-word.ensures ∙ link_is c.self.inside.opening.shape c.args.at) c.requires.place
     (λ n. sym (ap (λ a. word_made a n) c.requires.access)) (shows_itself c.args.step) c.requires.accepted
 
 pub invariant_of-runner : goal.invariant_of-runner

@@ -5,7 +5,7 @@ use Rattle.vbr_slots.proofs.Steps.{none_has_it, wide}
 use Rattle.vbr_slots.proofs.slots.Slots.note_again.Goals as goal
 
 pub split_seat-seat-requires : goal.split_seat-seat-requires
-split_seat-seat-requires c = (
+split_seat-seat-requires g c = (
   ap (λ (v : SeenView). v.table) c.token.view_is ∙ (c.requires.own ∙ sym (ap (λ p. p.table) c.self.view_is)),
   wide c.self.inside c.self.invariant,
   splits_noted _ _ _ (none_has_it c.self.inside c.self.invariant),

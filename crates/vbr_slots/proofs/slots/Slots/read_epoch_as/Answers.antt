@@ -10,7 +10,7 @@ pub load-found-requires : goal.load-found-requires
 load-found-requires g c =
     let w = c.args.runner.now in
     asks c.self.inside c.args.self.now c.self.invariant c.self.view_is w (low_of c.runner.inside w c.runner.invariant c.runner.view_is) c.requires.own _ (ap (λ (v : Trace). v.table) c.runner.view_is) _ c.runner.inside.seat.me []
-    (known c.runner.inside w c.runner.invariant c.runner.view_is) ReadEpoch _ _ c.requires.named Epoch _ (λ n. n) (λ n. n) c.plain_place_index-word.ensures.index refl
+    (known c.runner.inside w c.runner.invariant c.runner.view_is) ReadEpoch _ _ c.requires.named Epoch _ (λ n. n) (λ n. n) c.place_index_in-word.ensures.index refl
     (λ n. refl) (shows_itself ReadEpoch) c.requires.accepted
 
 pub keep_epoch_found-requires : goal.keep_epoch_found-requires

@@ -5,7 +5,7 @@ use Rattle.vbr_slots.proofs.Tried.{keeps_tried, look_up_tries_none}
 use Rattle.vbr_slots.proofs.stepper.Stepper.confirm_look_up.Goals as goal
 
 pub invariant_of-self : goal.invariant_of-self
-invariant_of-self c =
+invariant_of-self g c =
     let before = last_tried c.self.inside.runner in
     let kind = ap (λ (step : Step). tried_by step before) c.step_of_look_up-step.ensures ∙ look_up_tries_none c.args.present c.args.key c.args.at c.args.expected before in
     record {

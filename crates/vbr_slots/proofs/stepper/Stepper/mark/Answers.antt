@@ -6,7 +6,7 @@ use Rattle.vbr_slots.proofs.Tried.{keeps_tried}
 use Rattle.vbr_slots.proofs.stepper.Stepper.mark.Goals as goal
 
 pub invariant_of-self : goal.invariant_of-self
-invariant_of-self c =
+invariant_of-self g c =
     record {
       shape = search rules;
       pool = search rules;
@@ -15,4 +15,4 @@ invariant_of-self c =
     }
 
 pub exchange-found-requires-clause-access : goal.exchange-found-requires-clause-access
-exchange-found-requires-clause-access c = ap (Exchange c.args.expected) (ap word_of (sym c.with_mark-new.ensures) ∙ word_of-link_of c.with_mark-new.result)
+exchange-found-requires-clause-access g c = ap (Exchange c.args.expected) (ap word_of (sym c.with_mark-new.ensures) ∙ word_of-link_of c.with_mark-new.result)

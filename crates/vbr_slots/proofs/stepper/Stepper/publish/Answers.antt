@@ -3,7 +3,7 @@ use Rattle.vbr_slots.proofs.Tried.{keeps_tried}
 use Rattle.vbr_slots.proofs.stepper.Stepper.publish.Goals as goal
 
 pub invariant_of-self : goal.invariant_of-self
-invariant_of-self c =
+invariant_of-self g c =
     record {
       shape = search rules;
       pool = search rules;
@@ -12,7 +12,7 @@ invariant_of-self c =
     }
 
 pub invariant_of-self-2 : goal.invariant_of-self-2
-invariant_of-self-2 c =
+invariant_of-self-2 g c =
     record {
       shape = search rules;
       pool = search rules;

@@ -4,7 +4,7 @@ use Rattle.vbr_slots.proofs.Tried.{keeps_tried}
 use Rattle.vbr_slots.proofs.stepper.Stepper.read_link.Goals as goal
 
 pub invariant_of-self : goal.invariant_of-self
-invariant_of-self c =
+invariant_of-self g c =
     record {
       shape = search rules;
       pool = search rules;
@@ -13,4 +13,4 @@ invariant_of-self c =
     }
 
 pub returns-clause-reads : goal.returns-clause-reads
-returns-clause-reads c = reads c.args.self.now _ c.load_and_epoch.ensures.0 c.self.view_is c.load_and_epoch.ensures.1 c.load_and_epoch.ensures.2 refl refl
+returns-clause-reads g c = reads c.args.self.now _ c.load_and_epoch.ensures.0 c.self.view_is c.load_and_epoch.ensures.1 c.load_and_epoch.ensures.2 refl refl

@@ -4,7 +4,7 @@ use Rattle.vbr_slots.proofs.Tried.{keeps_tried}
 use Rattle.vbr_slots.proofs.stepper.Stepper.read_node.Goals as goal
 
 pub invariant_of-self : goal.invariant_of-self
-invariant_of-self c =
+invariant_of-self g c =
     record {
       shape = search rules;
       pool = search rules;
@@ -13,5 +13,5 @@ invariant_of-self c =
     }
 
 pub returns-clause-reads : goal.returns-clause-reads
-returns-clause-reads c =
+returns-clause-reads g c =
     reads_node c.args.self.now _ c.load_node.ensures.0 c.load_node.ensures.1 c.self.view_is c.load_node.ensures.2 c.load_node.ensures.3 c.load_node.ensures.4 refl refl

@@ -8,7 +8,7 @@ use Rattle.vbr_slots.proofs.Tried.{keeps_tried}
 use Rattle.vbr_slots.proofs.stepper.Stepper.store_birth.Goals as goal
 
 pub invariant_of-self : goal.invariant_of-self
-invariant_of-self c =
+invariant_of-self g c =
     let p = c.self.inside in
     let d = c.store.ensures in
     let trace = ap (λ (v : PassView). v.trace) c.self.view_is ∙ c.leave_pool.ensures.trace in

@@ -8,7 +8,7 @@ use Rattle.vbr_slots.proofs.Tried.{did_tried}
 use Rattle.vbr_slots.proofs.stepper.Stepper.take_flag.Goals as goal
 
 pub invariant_of-self : goal.invariant_of-self
-invariant_of-self c =
+invariant_of-self g c =
     let p = c.self.inside in
     let d = c.fetch_and-found.ensures in
     record {
@@ -19,7 +19,7 @@ invariant_of-self c =
     }
 
 pub invariant_of-self-2 : goal.invariant_of-self-2
-invariant_of-self-2 c =
+invariant_of-self-2 g c =
     let p = c.self.inside in
     let d = c.fetch_and-found.ensures in
     record {
@@ -30,7 +30,7 @@ invariant_of-self-2 c =
     }
 
 pub returns-then-has_flag-clause-outside : goal.returns-then-has_flag-clause-outside
-returns-then-has_flag-clause-outside c = λ has.
+returns-then-has_flag-clause-outside g c = λ has.
     let p = c.self.inside in
     let new = taken_new p.runner c.fetch_and-found.new.runner c.args.slot c.fetch_and-found.result c.self.invariant.shape c.fetch_and-found.ensures (sym c.has_flag.ensures ∙ c.if-has_flag.true) in
     subst MayBear new (pooled_may p.runner.shape (knows p.runner) c.args.slot p.pool.items p.hand c.self.invariant.pool has)

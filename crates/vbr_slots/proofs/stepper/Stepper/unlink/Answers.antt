@@ -9,7 +9,7 @@ use Rattle.vbr_slots.proofs.Tried.{keeps_tried}
 use Rattle.vbr_slots.proofs.stepper.Stepper.unlink.Goals as goal
 
 pub invariant_of-self : goal.invariant_of-self
-invariant_of-self c =
+invariant_of-self g c =
     let p = c.self.inside in
     let d = c.exchange-found.ensures in
     let step : Step = Unlink c.args.pred c.args.expected c.args.slot in
