@@ -9,6 +9,7 @@ pub use Rattle.vbr_access.proofs.Moments.{stood_after, stood_before, was_absent,
 -- Checked reads by a pass that was alone: the epoch hasn't moved, the lists are as they were, and what was read stands there.
 pub use Rattle.vbr_access.proofs.AloneReads.{fresh_kept}
 -- What a pass has seen is a safe run: its checked reads and its won exchanges are of the incarnations that it held.
-pub use Rattle.vbr_access.proofs.SafeCalls.{made_safe, quiet_safe, run_safe}
 -- An unlinking: won, it gives the pass the slot to stamp; lost, it leaves all as it was.
 pub use Rattle.vbr_access.proofs.NoneUnlinked.{unlinks_none}
+-- What calls that read tell, one after another.
+pub use Rattle.vbr_access.proofs.ReadCalls.{reads_on}

@@ -6,7 +6,7 @@ mod Accepted
 mod MadeCalls
 mod CheckedReads
 mod AloneReads
-mod SafeCalls
+mod ReadCalls
 mod WonExchanges
 mod KeptSlots
 mod WrittenLinks
@@ -17,4 +17,5 @@ mod NoValues
 mod NoneUnlinked
 mod LookUps
 mod Filled
+mod ExchangeCalls
 pub mod Lemmas

@@ -1,5 +1,5 @@
 -- Steps of a table whose nodes have no values, and operations that ask for none.
-use Rattle.std.proofs.Common.{◌≡◌, ◌≢◌, ℕ, Bool, true, false, Option, None, cond, refl, sym, ap, subst}
+use Rattle.std.proofs.Common.{◌≡◌, ◌≢◌, ℕ, Bool, false, Option, None, cond, refl, sym, ap, subst}
 use Rattle.vbr_words.specs.Dimensions.{Dimensions}
 use Rattle.vbr_core.specs.Acceptance.{HasValue, IsOpIn}
 use Rattle.vbr_core.specs.Knowledge.{Know}

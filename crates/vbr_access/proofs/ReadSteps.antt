@@ -58,7 +58,7 @@ module _ {p q : Trace} {s key : ℕ} (d : Did (LoadKey s) p q key) where
 unmoved : (know : Know) (epoch : ℕ) → epoch ≡ know.epoch → read_epoch know epoch ≡ record { epoch = know.epoch; pending = []; checked = know.checked ++ know.pending; own = λ s. reread (know.own s) }
 unmoved know epoch same = let t : (epoch == know.epoch) ≡ true = eq-eqb epoch know.epoch same in rw t refl
 
-moved : (know : Know) (epoch : ℕ) → epoch ≢ know.epoch → read_epoch know epoch ≡ record { epoch = epoch; pending = []; checked = []; own = λ s. reread (know.own s) }
+pub moved : (know : Know) (epoch : ℕ) → epoch ≢ know.epoch → read_epoch know epoch ≡ record { epoch = epoch; pending = []; checked = []; own = λ s. reread (know.own s) }
 moved know epoch other = let t : (epoch == know.epoch) ≡ false = ne_eqb epoch know.epoch other in rw t refl
 
 module _ {p q : Trace} {epoch : ℕ} (d : Did ReadEpoch p q epoch) where

@@ -7,3 +7,6 @@ pub mod Rollbacks
 pub mod Steps
 pub mod Messages
 pub mod LookUps
+pub mod Reading
+pub mod Answering
+pub mod Exchanges

@@ -1,20 +1,9 @@
 //! Checkpoints and checked reads.
-ghost use Rattle.std.specs.Prelude.{◌≡◌, ◌<◌, ℕ, false, IfOk, IfErr};
-ghost use Rattle.vbr_words.specs.Words.{link_of};
-ghost use Rattle.vbr_words.specs.declared.place.At.TheVariants.{Head};
-ghost use Rattle.vbr_words.specs.Buckets.{bucket_of};
-ghost use Rattle.vbr_core.specs.Membership.{KeyAt, HeldIn};
-ghost use Rattle.vbr_slots.specs.Calls.{AddsNone, Quiet, Took, OnlyLoads};
-ghost use Rattle.vbr_slots.specs.Alone.{IsAlone, IsFresh, nodes};
+ghost use Rattle.std.specs.Prelude.{◌≡◌, ◌<◌, IfOk, IfErr};
 ghost use Rattle.vbr_slots.specs.Views.{IsOf, knows};
-ghost use Rattle.vbr_pools.specs.KeptSlots.{TakesNoSlot};
-ghost use Rattle.vbr_access.specs.Alone.{NextStands, StandsNow};
 ghost use Rattle.vbr_access.specs.Held.{IsSlot, IsHeld};
-ghost use Rattle.vbr_access.specs.Keeping.{Keeps, KeepsOwn};
-ghost use Rattle.vbr_access.specs.Moments.{IsEpochRead, IsRead, IsNext};
-ghost use Rattle.vbr_access.specs.Rollbacks.{IsMoved};
-ghost use Rattle.vbr_access.specs.Soundness.{HasSafeRun};
-ghost use Rattle.vbr_access.specs.Steps.{next_steps};
+ghost use Rattle.vbr_access.specs.Reading.{IsCheckpoint, IsHeadRead, IsKeyRead, IsNextRead};
+ghost use Rattle.vbr_access.specs.Reading.{ReadsIn, RollsBack, steps_to_next};
 
 use crate::held::{Checkpoint, Held};
 use crate::rollback::Rollback;
@@ -26,17 +15,8 @@ use vbr_words::{At, decode};
 #[inline]
 pub fn checkpoint(slots: &Slots, pass: &mut Pass) -> Checkpoint
     requires { IsOf pass.old.trace slots.now }
-    ensures epoch { result.epoch ≡ (knows pass.new.trace).epoch }
-    ensures read { IsEpochRead pass.old.trace pass.new.trace result.epoch }
-    ensures quiet { Quiet pass.old.trace pass.new.trace }
-    ensures took { Took pass.old.trace pass.new.trace 1 }
-    ensures own { KeepsOwn pass.old pass.new }
-    ensures takes_no_slot { TakesNoSlot pass.old pass.new }
-    ensures adds_none { AddsNone pass.old.trace pass.new.trace }
-    ensures looks { IsAlone pass.old.trace pass.new.trace → nodes pass.new.trace ≡ nodes pass.old.trace }
-    ensures fresh { IsFresh pass.new.trace }
-    ensures safe { HasSafeRun pass.new.trace }
-    ensures only_loads { OnlyLoads pass.old.trace pass.new.trace }
+    ensures reads { ReadsIn pass.old pass.new 1 }
+    ensures point { IsCheckpoint pass.old pass.new result.epoch }
 {
     pass.at(slots, |at| (uncounted::checkpoint(at), 1))
 }
@@ -55,21 +35,9 @@ pub fn first(
     requires own { IsOf pass.old.trace slots.now }
     requires point { point.now.epoch ≡ (knows pass.old.trace).epoch }
     requires bucket { bucket < slots.now.shape.buckets }
-    ensures quiet { Quiet pass.old.trace pass.new.trace }
-    ensures took { Took pass.old.trace pass.new.trace 2 }
-    ensures own { KeepsOwn pass.old pass.new }
-    ensures takes_no_slot { TakesNoSlot pass.old pass.new }
-    ensures adds_none { AddsNone pass.old.trace pass.new.trace }
-    ensures only_loads { OnlyLoads pass.old.trace pass.new.trace }
-    ensures keeps { IfOk result (λ head. Keeps (knows pass.old.trace) (knows pass.new.trace)) }
-    ensures at { IfOk result (λ head. head.at ≡ Head bucket) }
-    ensures read { IfOk result (λ head. IsRead pass.old.trace pass.new.trace head) }
-    ensures unmarked { IfOk result (λ head. (link_of head.word).mark ≡ false) }
-    ensures moved { IfErr result (λ r. IsMoved pass.old.trace pass.new.trace r) }
-    ensures safe { HasSafeRun pass.new.trace }
-    ensures looks { IsAlone pass.old.trace pass.new.trace → nodes pass.new.trace ≡ nodes pass.old.trace }
-    ensures still { IfErr result (λ r. IsFresh pass.old.trace → IsAlone pass.old.trace pass.new.trace → ⊥) }
-    ensures stands { IfOk result (λ head. IsAlone pass.old.trace pass.new.trace → StandsNow pass.new.trace head) }
+    ensures reads { ReadsIn pass.old pass.new 2 }
+    ensures head { IfOk result (IsHeadRead pass.old pass.new bucket) }
+    ensures moved { IfErr result (RollsBack pass.old pass.new) }
 {
     pass.at(slots, |at| (uncounted::first(at, point, bucket), 2))
 }
@@ -81,19 +49,9 @@ pub fn first(
 pub fn next(slots: &Slots, pass: &mut Pass, held: &Held) -> Result<Option<Held>, Rollback>
     requires own { IsOf pass.old.trace slots.now }
     requires held { IsHeld (knows pass.old.trace) held.now }
-    ensures quiet { Quiet pass.old.trace pass.new.trace }
-    ensures took { Took pass.old.trace pass.new.trace (next_steps (link_of held.now.word).slot) }
-    ensures own { KeepsOwn pass.old pass.new }
-    ensures takes_no_slot { TakesNoSlot pass.old pass.new }
-    ensures adds_none { AddsNone pass.old.trace pass.new.trace }
-    ensures only_loads { OnlyLoads pass.old.trace pass.new.trace }
-    ensures keeps { IfOk result (λ next. Keeps (knows pass.old.trace) (knows pass.new.trace)) }
-    ensures read { IfOk result (λ next. IsNext pass.old.trace pass.new.trace held.now next) }
-    ensures moved { IfErr result (λ r. IsMoved pass.old.trace pass.new.trace r) }
-    ensures safe { HasSafeRun pass.new.trace }
-    ensures looks { IsAlone pass.old.trace pass.new.trace → nodes pass.new.trace ≡ nodes pass.old.trace }
-    ensures still { IfErr result (λ r. IsFresh pass.old.trace → IsAlone pass.old.trace pass.new.trace → ⊥) }
-    ensures stands { IfOk result (λ next. IsAlone pass.old.trace pass.new.trace → NextStands pass.new.trace next) }
+    ensures reads { ReadsIn pass.old pass.new (steps_to_next held.now) }
+    ensures next { IfOk result (IsNextRead pass.old pass.new held.now) }
+    ensures moved { IfErr result (RollsBack pass.old pass.new) }
 {
     let used = steps_to_read_next(held);
     pass.at(slots, |at| (uncounted::next(at, held), used))
@@ -107,19 +65,9 @@ pub fn key_of(slots: &Slots, pass: &mut Pass, node: &Held) -> Result<u64, Rollba
     requires own { IsOf pass.old.trace slots.now }
     requires held { IsHeld (knows pass.old.trace) node.now }
     requires slot { IsSlot node.now.at }
-    ensures quiet { Quiet pass.old.trace pass.new.trace }
-    ensures took { Took pass.old.trace pass.new.trace 2 }
-    ensures own { KeepsOwn pass.old pass.new }
-    ensures takes_no_slot { TakesNoSlot pass.old pass.new }
-    ensures adds_none { AddsNone pass.old.trace pass.new.trace }
-    ensures only_loads { OnlyLoads pass.old.trace pass.new.trace }
-    ensures keeps { IfOk result (λ key. Keeps (knows pass.old.trace) (knows pass.new.trace)) }
-    ensures key { IfOk result (λ key. KeyAt (knows pass.new.trace) node.now.at key) }
-    ensures bucket { IfOk result (λ key. (b : ℕ) → HeldIn (knows pass.old.trace) node.now.at b → bucket_of pass.old.trace.shape key ≡ b) }
-    ensures moved { IfErr result (λ r. IsMoved pass.old.trace pass.new.trace r) }
-    ensures safe { HasSafeRun pass.new.trace }
-    ensures looks { IsAlone pass.old.trace pass.new.trace → nodes pass.new.trace ≡ nodes pass.old.trace }
-    ensures still { IfErr result (λ r. IsFresh pass.old.trace → IsAlone pass.old.trace pass.new.trace → ⊥) }
+    ensures reads { ReadsIn pass.old pass.new 2 }
+    ensures key { IfOk result (IsKeyRead pass.old pass.new node.now.at) }
+    ensures moved { IfErr result (RollsBack pass.old pass.new) }
 {
     pass.at(slots, |at| (uncounted::key_of(at, node), 2))
 }
@@ -127,7 +75,7 @@ pub fn key_of(slots: &Slots, pass: &mut Pass, node: &Held) -> Result<u64, Rollba
 // How many steps it takes to read what the link that is held names.
 #[inline]
 fn steps_to_read_next(held: &Held) -> u32
-    ensures { result ≡ next_steps (link_of held.now.word).slot }
+    ensures { result ≡ steps_to_next held.now }
 {
     if decode(held.word).slot.is_some() {
         3

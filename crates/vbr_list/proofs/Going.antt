@@ -10,6 +10,7 @@ use Rattle.vbr_pools.specs.KeptSlots.{TakesNoSlot}
 use Rattle.vbr_pools.specs.Steps.{CountsSteps, TookWithin}
 use Rattle.vbr_pools.proofs.Lemmas.{counts_none, counts_on, took_all}
 use Rattle.vbr_access.specs.Keeping.{KeepsOwn}
+use Rattle.vbr_access.specs.Reading.{ReadsIn}
 use Rattle.vbr_list.specs.Calls.{IsSameCall}
 use Rattle.vbr_list.specs.Traversal.{Goes}
 use Rattle.vbr_list.specs.declared.call.Call.{Call}
@@ -31,6 +32,10 @@ goes_on x y = record { quiet = quiet_on x.quiet y.quiet; counts = counts_on x.co
 
 pub goes_step : {p q : PassView} (a n : ℕ) → Quiet p.trace q.trace → Took p.trace q.trace n → KeepsOwn p q → TakesNoSlot p q → Goes p q a (a + n)
 goes_step a n quiet took own none = record { quiet = quiet; counts = counts_step a n took; hand = own_kept own none }
+
+-- a call that reads
+pub goes_read : {p q : PassView} {n : ℕ} (a : ℕ) → ReadsIn p q n → Goes p q a (a + n)
+goes_read {n = n} a x = goes_step a n x.quiet x.took x.own x.takes_no_slot
 
 pub tries_refl : (p : PassView) (a budget : ℕ) → a ≤ budget → Tries p p a a budget
 tries_refl p a budget h = record { goes = goes_refl p a; within = (omega arith, h) }

@@ -16,6 +16,7 @@ use Rattle.vbr_slots.specs.Views.{Trace, PassView, knows}
 use Rattle.vbr_slots.proofs.Lemmas.{alone_first, alone_then, same_leaves}
 use Rattle.vbr_access.specs.Alone.{StandsNow, NextStands, UnlinksAlone}
 use Rattle.vbr_access.specs.Held.{Names, held_of}
+use Rattle.vbr_access.specs.Reading.{IsHeadRead, ReadsIn, RollsBack}
 use Rattle.vbr_access.specs.Keeping.{Keeps}
 use Rattle.vbr_access.specs.Moments.{IsNext}
 use Rattle.vbr_slots.specs.PassLaw.{PassLaw}
@@ -44,20 +45,18 @@ then_of a b alone = alone_then a.same.who a.seen b.seen alone
 pub looks_leave : {p q : Trace} → Quiet p q → nodes q ≡ nodes p → LeavesLists p q
 looks_leave {p} {q} a same = same_leaves p q a.same.shape same
 
-pub two_looks : {p q r : Trace} → Quiet p q → Quiet q r → (IsAlone p q → nodes q ≡ nodes p) → (IsAlone q r → nodes r ≡ nodes q) → IsAlone p r → nodes r ≡ nodes p
-two_looks a b x y alone = y (then_of a b alone) ∙ x (first_of a b alone)
+pub read_leaves : {p q : PassView} {n : ℕ} → ReadsIn p q n → IsAlone p.trace q.trace → LeavesLists p.trace q.trace
+read_leaves x alone = looks_leave x.quiet (x.looks alone)
 
--- ---- a start
+pub start_stands : {p q r : PassView} {m n : ℕ} (bucket : ℕ) (head : Result Held Rollback) → ReadsIn p q m → ReadsIn q r n → IsFresh q.trace → IfOk head (IsHeadRead q r bucket) → IfOk head (λ h. IsAlone p.trace r.trace → StillAt r.trace h × (h.at ≡ Head bucket))
+start_stands bucket (Err e) x y fresh head = tt
+start_stands {p} {q} {r} bucket (Ok h) x y fresh head = λ alone.
+    let then = then_of x.quiet y.quiet alone in
+    (record { fresh = fresh_kept q.trace r.trace (y.looks then) head.keeps fresh; stands = head.stands then }, head.at)
 
-pub start_stands : {p q r : Trace} (bucket : ℕ) (head : Result Held Rollback) → Quiet p q → Quiet q r → IsFresh q → (IsAlone q r → nodes r ≡ nodes q) → IfOk head (λ _. Keeps (knows q) (knows r)) → IfOk head (λ h. IsAlone q r → StandsNow r h) → IfOk head (λ h. h.at ≡ Head bucket) → IfOk head (λ h. IsAlone p r → StillAt r h × (h.at ≡ Head bucket))
-start_stands bucket (Err e) a b fresh looks keeps stands at = tt
-start_stands {p} {q} {r} bucket (Ok h) a b fresh looks keeps stands at = λ alone.
-    let then = then_of a b alone in
-    (record { fresh = fresh_kept q r (looks then) keeps fresh; stands = stands then }, at)
-
-pub start_still : {p q r : Trace} (head : Result Held Rollback) → Quiet p q → Quiet q r → IsFresh q → IfErr head (λ _. IsFresh q → IsAlone q r → ⊥) → IfErr head (λ _. IsAlone p r → ⊥)
-start_still (Err e) a b fresh still = λ alone. still fresh (then_of a b alone)
-start_still (Ok h) a b fresh still = tt
+pub start_still : {p q r : PassView} {m n : ℕ} (head : Result Held Rollback) → ReadsIn p q m → ReadsIn q r n → IsFresh q.trace → IfErr head (RollsBack q r) → IfErr head (λ _. IsAlone p.trace r.trace → ⊥)
+start_still (Err e) x y fresh rolls = λ alone. rolls.still fresh (then_of x.quiet y.quiet alone)
+start_still (Ok h) x y fresh rolls = tt
 
 -- ---- a visit
 

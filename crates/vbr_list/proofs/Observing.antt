@@ -1,7 +1,9 @@
 -- Loads alone, one after another.
+use Rattle.std.specs.Prelude.{ℕ}
 use Rattle.vbr_slots.specs.Calls.{AddsNone, OnlyLoads}
-use Rattle.vbr_slots.specs.Views.{Trace}
+use Rattle.vbr_slots.specs.Views.{PassView, Trace}
 use Rattle.vbr_slots.proofs.Lemmas.{adds_on, adds_refl, loads_on, loads_refl}
+use Rattle.vbr_access.specs.Reading.{ReadsIn}
 use Rattle.vbr_list.specs.Traversal.{Observes}
 
 pub observes_refl : (p : Trace) → Observes p p
@@ -13,3 +15,7 @@ observes_on a b = record { only_loads = loads_on a.only_loads b.only_loads; adds
 -- what one call tells
 pub observed : {p q : Trace} → OnlyLoads p q → AddsNone p q → Observes p q
 observed loads none = record { only_loads = loads; adds_none = none }
+
+-- and one that reads
+pub observes_read : {p q : PassView} {n : ℕ} → ReadsIn p q n → Observes p.trace q.trace
+observes_read x = observed x.only_loads x.adds_none

@@ -1,10 +1,15 @@
 -- What a traversal found was so: its places stood at moments of what the pass did.
-use Rattle.std.specs.Prelude.{ℕ, Option, Some, None}
-use Rattle.vbr_slots.specs.Views.{Trace, knows}
-use Rattle.vbr_access.specs.Moments.{Stood}
+use Rattle.std.specs.Prelude.{ℕ, ◌+◌, ◌*◌, ◌<◌, ◌≤◌, Option, Some, None}
+use Rattle.vbr_slots.specs.Alone.{IsAlone}
+use Rattle.vbr_slots.specs.Calls.{Quiet, Took}
+use Rattle.vbr_slots.specs.Views.{PassView, Trace, knows}
+use Rattle.vbr_access.specs.Moments.{Stood, WasSo}
 use Rattle.vbr_access.specs.declared.held.Held.{Held}
+use Rattle.vbr_list.specs.Budgets.{listed_for}
 use Rattle.vbr_list.specs.Places.{Locates}
+use Rattle.vbr_list.specs.Refusals.{IsTired}
 use Rattle.vbr_list.specs.declared.found.Found.{Found}
+use Rattle.vbr_list.specs.declared.refusal.Refusal.{Refusal}
 
 -- the node, if there is one, stood so at a moment
 abbrev pub CurStood : Trace → Trace → Option Held → Type 0
@@ -16,3 +21,17 @@ pub record IsFound (p q : Trace) (key : ℕ) (found : Found) : Type 0 where
   pub locates : Locates q.shape (knows q) key found
   pub stood : Stood p q found.pred
   pub cur_stood : CurStood p q found.cur
+
+-- a find made no call, and tells where the key stood at moments of it, within its budget
+pub record FindsIn (p q : PassView) (key budget : ℕ) (told : Found) : Type 0 where
+  pub quiet : Quiet p.trace q.trace
+  pub found : IsFound p.trace q.trace key told
+  pub was_so : WasSo p.trace q.trace key told.present
+  pub within : told.used ≤ budget
+  pub took : Took p.trace q.trace told.used
+
+-- a find gave up for want of steps, and made no call; a pass that was alone had fewer than are enough for the nodes that were listed
+pub record GivesUp (p q : PassView) (key budget : ℕ) (refusal : Refusal) : Type 0 where
+  pub quiet : Quiet p.trace q.trace
+  pub refused : IsTired p q budget refusal
+  pub lacks : IsAlone p.trace q.trace → budget < 9 * listed_for p.trace key + 11

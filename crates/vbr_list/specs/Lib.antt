@@ -1,10 +1,11 @@
 pub mod Calls
 pub mod Places
-pub mod Found
 pub mod Budgets
 pub mod Nearing
 pub mod Traversal
 pub mod Refusals
+pub mod Found
 pub mod Alone
+pub mod Answered
 pub mod Inserting
 pub mod Messages

@@ -1,17 +1,14 @@
 //! Finding where a key stands.
 ghost use Rattle.std.specs.Prelude.{◌≡◌, ◌+◌, ◌*◌, ◌<◌, ◌≤◌, None, IfOk, IfErr, IfSome, IfNone};
 ghost use Rattle.vbr_slots.specs.Alone.{IsAlone};
-ghost use Rattle.vbr_slots.specs.AtTables.{IsSameTable};
-ghost use Rattle.vbr_slots.specs.Calls.{Quiet, Took};
+ghost use Rattle.vbr_slots.specs.AtTables.{IsSameTable, pass_of, trace_of};
+ghost use Rattle.vbr_slots.specs.Calls.{Took};
 ghost use Rattle.vbr_slots.specs.Views.{IsOf};
 ghost use Rattle.vbr_pools.specs.KeptSlots.{TakesNoSlot};
-ghost use Rattle.vbr_access.specs.Moments.{WasSo};
-ghost use Rattle.vbr_access.specs.Soundness.{HasSafeRun};
 ghost use Rattle.vbr_list.specs.Calls.{IsSameCall};
-ghost use Rattle.vbr_list.specs.Found.{IsFound};
+ghost use Rattle.vbr_list.specs.Found.{FindsIn, GivesUp, IsFound};
 ghost use Rattle.vbr_list.specs.Budgets.{listed_for};
 ghost use Rattle.vbr_list.specs.Nearing.{FoundAlone};
-ghost use Rattle.vbr_list.specs.Refusals.{IsTired};
 ghost use Rattle.vbr_list.specs.Traversal.{Goes};
 
 use crate::call::Call;
@@ -54,35 +51,23 @@ impl Call<'_> {
 pub fn find(slots: &Slots, pass: &mut Pass, key: u64, budget: u32) -> Result<Found, Refusal>
     requires own { IsOf pass.old.trace slots.now }
     requires empty_hand { pass.old.hand ≡ None }
-    ensures quiet { Quiet pass.old.trace pass.new.trace }
-    ensures safe { HasSafeRun pass.new.trace }
     ensures hand { pass.new.hand ≡ None }
-    ensures found { IfOk result (λ found. IsFound pass.old.trace pass.new.trace key found) }
-    ensures was_so { IfOk result (λ found. WasSo pass.old.trace pass.new.trace key found.present) }
-    ensures steps { IfOk result (λ found. (found.used ≤ budget) × Took pass.old.trace pass.new.trace found.used) }
     ensures takes_no_slot { TakesNoSlot pass.old pass.new }
-    ensures refused { IfErr result (λ refusal. IsTired pass.old pass.new budget refusal) }
-    // Alone, it finds the key in so many steps.
-    ensures within { IfErr result (λ refusal. IsAlone pass.old.trace pass.new.trace → budget < 9 * listed_for pass.old.trace key + 11) }
+    ensures found { IfOk result (FindsIn pass.old pass.new key budget) }
+    ensures tired { IfErr result (GivesUp pass.old pass.new key budget) }
 {
     pass.at(slots, |at| find_by(at, key, budget))
 }
 
 // As `find`, where no step is counted; and how many steps were made.
 fn find_by(at: &mut AtTable<'_>, key: u64, budget: u32) -> (Result<Found, Refusal>, u32)
-    requires empty_hand { at.old.pass.now.hand ≡ None }
+    requires empty_hand { (pass_of at.old).hand ≡ None }
     ensures table { IsSameTable at.old at.new }
-    ensures took { Took at.old.pass.now.trace at.new.pass.now.trace result.1 }
-    ensures quiet { Quiet at.old.pass.now.trace at.new.pass.now.trace }
-    ensures safe { HasSafeRun at.new.pass.now.trace }
-    ensures hand { at.new.pass.now.hand ≡ None }
-    ensures found { IfOk result.0 (λ found. IsFound at.old.pass.now.trace at.new.pass.now.trace key found) }
-    ensures was_so { IfOk result.0 (λ found. WasSo at.old.pass.now.trace at.new.pass.now.trace key found.present) }
-    ensures steps { IfOk result.0 (λ found. (found.used ≤ budget) × Took at.old.pass.now.trace at.new.pass.now.trace found.used) }
-    ensures takes_no_slot { TakesNoSlot at.old.pass.now at.new.pass.now }
-    ensures refused { IfErr result.0 (λ refusal. IsTired at.old.pass.now at.new.pass.now budget refusal) }
-    // Alone, it finds the key in so many steps.
-    ensures within { IfErr result.0 (λ refusal. IsAlone at.old.pass.now.trace at.new.pass.now.trace → budget < 9 * listed_for at.old.pass.now.trace key + 11) }
+    ensures took { Took (trace_of at.old) (trace_of at.new) result.1 }
+    ensures hand { (pass_of at.new).hand ≡ None }
+    ensures takes_no_slot { TakesNoSlot (pass_of at.old) (pass_of at.new) }
+    ensures found { IfOk result.0 (FindsIn (pass_of at.old) (pass_of at.new) key budget) }
+    ensures tired { IfErr result.0 (GivesUp (pass_of at.old) (pass_of at.new) key budget) }
 {
     at.law();
     let mut call = Call {

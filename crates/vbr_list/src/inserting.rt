@@ -1,24 +1,22 @@
 //! Inserts.
-ghost use Rattle.std.specs.Prelude.{◌≡◌, ◌≢◌, ℕ, ◌+◌, ◌*◌, ◌<◌, ◌≤◌, true, false, [], length, None, IfOk, IfErr};
+ghost use Rattle.std.specs.Prelude.{◌≡◌, ◌+◌, ◌*◌, ◌<◌, ◌≤◌, true, false, length, None, IfOk, IfErr};
 ghost use Rattle.vbr_core.specs.History.{set_call};
 ghost use Rattle.vbr_core.specs.declared.history.Op.TheVariants.{Insert};
 ghost use Rattle.vbr_pools.specs.Advances.{AdvancesWhereNeeded};
 ghost use Rattle.vbr_pools.specs.KeptSlots.{HasStill, HasUnpublished, KeepsSlots, TakesNoSlot, SharesWhereFull};
 ghost use Rattle.vbr_pools.specs.Budgets.{most_to_take, steps_to_take};
-ghost use Rattle.vbr_pools.specs.Steps.{CountsSteps, TookWithin};
+ghost use Rattle.vbr_pools.specs.Steps.{CountsSteps};
 ghost use Rattle.vbr_slots.specs.Alone.{IsAlone};
-ghost use Rattle.vbr_slots.specs.AtTables.{IsSameTable};
-ghost use Rattle.vbr_slots.specs.Calls.{IsSame, Quiet, Made, Took};
+ghost use Rattle.vbr_slots.specs.AtTables.{IsSameTable, pass_of, trace_of};
+ghost use Rattle.vbr_slots.specs.Calls.{Quiet, Made, Took};
 ghost use Rattle.vbr_slots.specs.Views.{IsOf, knows};
 ghost use Rattle.vbr_access.specs.Alone.{NextStands, StandsNow};
 ghost use Rattle.vbr_access.specs.Keeping.{KeepsOwn};
-ghost use Rattle.vbr_access.specs.Soundness.{HasSafeRun};
 ghost use Rattle.vbr_list.specs.Calls.{IsSameCall};
-ghost use Rattle.vbr_list.specs.Alone.{AnswersAlone};
-ghost use Rattle.vbr_list.specs.Budgets.{IsAnsweredOrSpent, LacksSteps, listed_for};
+ghost use Rattle.vbr_list.specs.Budgets.{LacksSteps, listed_for};
 ghost use Rattle.vbr_list.specs.Inserting.{CountsWithin, IsPrepared, HasHandAndRoom, InsertIsShort, RefusesInsert, TakesNone};
 ghost use Rattle.vbr_list.specs.Places.{Locates};
-ghost use Rattle.vbr_list.specs.Refusals.{IsRefused};
+ghost use Rattle.vbr_list.specs.Answered.{Calls};
 
 use crate::call::Call;
 use crate::found::Found;
@@ -201,47 +199,17 @@ impl Call<'_> {
 pub fn insert(slots: &Slots, pass: &mut Pass, key: u64, budget: u32) -> Result<bool, Refusal>
     requires own { IsOf pass.old.trace slots.now }
     requires empty_hand { pass.old.hand ≡ None }
-    ensures same { IsSame pass.old.trace pass.new.trace }
-    ensures made { IfOk result (λ reply. Made (set_call pass.old.trace.who Insert key reply) pass.old.trace pass.new.trace) }
-    ensures alone { IfOk result (λ reply. AnswersAlone pass.old.trace Insert key reply) }
-    ensures quiet { IfErr result (λ refusal. Quiet pass.old.trace pass.new.trace) }
-    ensures safe { HasSafeRun pass.new.trace }
-    ensures hand { pass.new.hand ≡ None }
-    ensures steps { TookWithin pass.old.trace pass.new.trace budget }
-    ensures advances { AdvancesWhereNeeded pass.old pass.new }
-    ensures kept { KeepsSlots pass.old pass.new }
-    ensures had { HasUnpublished pass.old pass.new result }
-    ensures shared { SharesWhereFull 2 pass.old pass.new }
-    ensures refused { IfErr result (λ refusal. IsRefused pass.old pass.new key budget refusal) }
-    // Alone, it answers in so many steps, or finds no slot or the epoch spent.
-    ensures within { IfErr result (λ refusal. IsAlone pass.old.trace pass.new.trace → LacksSteps (18 * listed_for pass.old.trace key + most_to_take pass.old.trace.shape pass.old.pool + 14) budget refusal) }
-    // With a slot in the own pool, whatever others hold while they stand still.
-    ensures ready { pass.old.pool ≢ [] → IsAlone pass.old.trace pass.new.trace → 18 * listed_for pass.old.trace key + 82 ≤ budget → IsAnsweredOrSpent result }
+    ensures { Calls Insert pass.old pass.new key budget result }
 {
     pass.at(slots, |at| insert_by(at, key, budget))
 }
 
 // As `insert`, where no step is counted; and how many steps were made.
 fn insert_by(at: &mut AtTable<'_>, key: u64, budget: u32) -> (Result<bool, Refusal>, u32)
-    requires empty_hand { at.old.pass.now.hand ≡ None }
+    requires empty_hand { (pass_of at.old).hand ≡ None }
     ensures table { IsSameTable at.old at.new }
-    ensures shared { SharesWhereFull 2 at.old.pass.now at.new.pass.now }
-    ensures advances { AdvancesWhereNeeded at.old.pass.now at.new.pass.now }
-    // Alone, it answers in so many steps, or finds no slot or the epoch spent.
-    ensures within { IfErr result.0 (λ refusal. IsAlone at.old.pass.now.trace at.new.pass.now.trace → LacksSteps (18 * listed_for at.old.pass.now.trace key + most_to_take at.old.pass.now.trace.shape at.old.pass.now.pool + 14) budget refusal) }
-    ensures took { Took at.old.pass.now.trace at.new.pass.now.trace result.1 }
-    ensures same { IsSame at.old.pass.now.trace at.new.pass.now.trace }
-    ensures made { IfOk result.0 (λ reply. Made (set_call at.old.pass.now.trace.who Insert key reply) at.old.pass.now.trace at.new.pass.now.trace) }
-    ensures alone { IfOk result.0 (λ reply. AnswersAlone at.old.pass.now.trace Insert key reply) }
-    ensures quiet { IfErr result.0 (λ refusal. Quiet at.old.pass.now.trace at.new.pass.now.trace) }
-    ensures safe { HasSafeRun at.new.pass.now.trace }
-    ensures hand { at.new.pass.now.hand ≡ None }
-    ensures steps { TookWithin at.old.pass.now.trace at.new.pass.now.trace budget }
-    ensures kept { KeepsSlots at.old.pass.now at.new.pass.now }
-    ensures had { HasUnpublished at.old.pass.now at.new.pass.now result.0 }
-    ensures refused { IfErr result.0 (λ refusal. IsRefused at.old.pass.now at.new.pass.now key budget refusal) }
-    // With a slot in the own pool, whatever others hold while they stand still.
-    ensures ready { at.old.pass.now.pool ≢ [] → IsAlone at.old.pass.now.trace at.new.pass.now.trace → 18 * listed_for at.old.pass.now.trace key + 82 ≤ budget → IsAnsweredOrSpent result.0 }
+    ensures took { Took (trace_of at.old) (trace_of at.new) result.1 }
+    ensures calls { Calls Insert (pass_of at.old) (pass_of at.new) key budget result.0 }
 {
     at.law();
     let mut call = Call {

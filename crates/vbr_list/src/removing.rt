@@ -1,21 +1,17 @@
 //! Removes.
-ghost use Rattle.std.specs.Prelude.{◌≡◌, ◌+◌, ◌*◌, ◌<◌, ◌≤◌, true, false, None, IfOk, IfErr};
+ghost use Rattle.std.specs.Prelude.{◌≡◌, ◌+◌, ◌<◌, ◌≤◌, true, None, IfOk, IfErr};
 ghost use Rattle.vbr_core.specs.History.{set_call};
 ghost use Rattle.vbr_core.specs.declared.history.Op.TheVariants.{Remove};
-ghost use Rattle.vbr_pools.specs.KeptSlots.{TakesNoSlot};
-ghost use Rattle.vbr_pools.specs.Steps.{CountsSteps, TookWithin};
+ghost use Rattle.vbr_pools.specs.Steps.{CountsSteps};
 ghost use Rattle.vbr_slots.specs.Alone.{IsAlone};
-ghost use Rattle.vbr_slots.specs.AtTables.{IsSameTable};
-ghost use Rattle.vbr_slots.specs.Calls.{IsSame, Quiet, Made, Took};
+ghost use Rattle.vbr_slots.specs.AtTables.{IsSameTable, pass_of, trace_of};
+ghost use Rattle.vbr_slots.specs.Calls.{Quiet, Made, Took};
 ghost use Rattle.vbr_slots.specs.Views.{IsOf, knows};
-ghost use Rattle.vbr_access.specs.Soundness.{HasSafeRun};
 ghost use Rattle.vbr_list.specs.Calls.{IsSameCall};
-ghost use Rattle.vbr_list.specs.Alone.{AnswersAlone};
 ghost use Rattle.vbr_access.specs.Alone.{NextStands, StandsNow};
-ghost use Rattle.vbr_list.specs.Budgets.{listed_for};
 ghost use Rattle.vbr_list.specs.Places.{Locates};
-ghost use Rattle.vbr_list.specs.Refusals.{IsTired};
 ghost use Rattle.vbr_list.specs.Traversal.{KeepsHand};
+ghost use Rattle.vbr_list.specs.Answered.{Calls};
 
 use crate::call::Call;
 use crate::found::Found;
@@ -90,37 +86,17 @@ impl Call<'_> {
 pub fn remove(slots: &Slots, pass: &mut Pass, key: u64, budget: u32) -> Result<bool, Refusal>
     requires own { IsOf pass.old.trace slots.now }
     requires empty_hand { pass.old.hand ≡ None }
-    ensures same { IsSame pass.old.trace pass.new.trace }
-    ensures made { IfOk result (λ reply. Made (set_call pass.old.trace.who Remove key reply) pass.old.trace pass.new.trace) }
-    ensures alone { IfOk result (λ reply. AnswersAlone pass.old.trace Remove key reply) }
-    ensures quiet { IfErr result (λ refusal. Quiet pass.old.trace pass.new.trace) }
-    ensures safe { HasSafeRun pass.new.trace }
-    ensures hand { pass.new.hand ≡ None }
-    ensures steps { TookWithin pass.old.trace pass.new.trace budget }
-    ensures takes_no_slot { TakesNoSlot pass.old pass.new }
-    ensures refused { IfErr result (λ refusal. IsTired pass.old pass.new budget refusal) }
-    // Alone, it answers in so many steps.
-    ensures within { IfErr result (λ refusal. IsAlone pass.old.trace pass.new.trace → budget < 9 * listed_for pass.old.trace key + 11) }
+    ensures { Calls Remove pass.old pass.new key budget result }
 {
     pass.at(slots, |at| remove_by(at, key, budget))
 }
 
 // As `remove`, where no step is counted; and how many steps were made.
 fn remove_by(at: &mut AtTable<'_>, key: u64, budget: u32) -> (Result<bool, Refusal>, u32)
-    requires empty_hand { at.old.pass.now.hand ≡ None }
+    requires empty_hand { (pass_of at.old).hand ≡ None }
     ensures table { IsSameTable at.old at.new }
-    ensures took { Took at.old.pass.now.trace at.new.pass.now.trace result.1 }
-    ensures same { IsSame at.old.pass.now.trace at.new.pass.now.trace }
-    ensures made { IfOk result.0 (λ reply. Made (set_call at.old.pass.now.trace.who Remove key reply) at.old.pass.now.trace at.new.pass.now.trace) }
-    ensures alone { IfOk result.0 (λ reply. AnswersAlone at.old.pass.now.trace Remove key reply) }
-    ensures quiet { IfErr result.0 (λ refusal. Quiet at.old.pass.now.trace at.new.pass.now.trace) }
-    ensures safe { HasSafeRun at.new.pass.now.trace }
-    ensures hand { at.new.pass.now.hand ≡ None }
-    ensures steps { TookWithin at.old.pass.now.trace at.new.pass.now.trace budget }
-    ensures takes_no_slot { TakesNoSlot at.old.pass.now at.new.pass.now }
-    ensures refused { IfErr result.0 (λ refusal. IsTired at.old.pass.now at.new.pass.now budget refusal) }
-    // Alone, it answers in so many steps.
-    ensures within { IfErr result.0 (λ refusal. IsAlone at.old.pass.now.trace at.new.pass.now.trace → budget < 9 * listed_for at.old.pass.now.trace key + 11) }
+    ensures took { Took (trace_of at.old) (trace_of at.new) result.1 }
+    ensures calls { Calls Remove (pass_of at.old) (pass_of at.new) key budget result.0 }
 {
     at.law();
     let mut call = Call {

@@ -9,7 +9,8 @@ use Rattle.vbr_slots.specs.Views.{PassView}
 use Rattle.vbr_list.specs.declared.refusal.Refusal.{Refusal}
 use Rattle.vbr_list.specs.declared.refusal.Refusal.TheVariants.{OutOfSteps, NoSlot, EpochSpent}
 use Rattle.vbr_set.specs.Answers.{Answers}
-use Rattle.vbr_set.specs.Members.{MemberView, Called, Spares}
+use Rattle.vbr_list.specs.Answered.{Spares}
+use Rattle.vbr_set.specs.Members.{MemberView, Called}
 use Rattle.vbr_player.specs.Working.{reply_told, TellsReply, Replied}
 use Rattle.vbr_script.specs.declared.script.Line.{Line}
 

@@ -1,19 +1,8 @@
 //! The calls: inserts, removes and look-ups.
-ghost use Rattle.std.specs.Prelude.{◌≡◌, ◌≢◌, ◌+◌, ◌*◌, ◌<◌, ◌≤◌, [], None, IfOk, IfErr};
-ghost use Rattle.vbr_core.specs.History.{set_call};
+ghost use Rattle.std.specs.Prelude.{◌≡◌, None};
 ghost use Rattle.vbr_core.specs.declared.history.Op.TheVariants.{Insert, Remove, Has};
-ghost use Rattle.vbr_pools.specs.Advances.{AdvancesWhereNeeded};
-ghost use Rattle.vbr_pools.specs.KeptSlots.{HasUnpublished, KeepsSlots, TakesNoSlot, SharesWhereFull};
-ghost use Rattle.vbr_pools.specs.Budgets.{most_to_take};
-ghost use Rattle.vbr_pools.specs.Steps.{TookWithin};
-ghost use Rattle.vbr_slots.specs.Alone.{IsAlone};
-ghost use Rattle.vbr_slots.specs.Calls.{AddsAnswer, AddsNone, IsSame, OnlyLoads, Quiet};
 ghost use Rattle.vbr_slots.specs.Views.{IsOf};
-ghost use Rattle.vbr_access.specs.Soundness.{HasSafeRun};
-ghost use Rattle.vbr_list.specs.Alone.{AnswersAlone};
-ghost use Rattle.vbr_list.specs.Budgets.{IsAnsweredOrSpent, LacksSteps, listed_for};
-ghost use Rattle.vbr_list.specs.Refusals.{IsRefused, IsTired};
-ghost use Rattle.vbr_set.specs.Answers.{Answers};
+ghost use Rattle.vbr_set.specs.Members.{Called, as_member};
 
 use crate::set::VbrSet;
 use vbr_list::{Refusal, has, insert, remove};
@@ -49,25 +38,12 @@ impl VbrSet {
     pub fn insert(&self, pass: &mut Pass, key: u64, budget: u32) -> Result<bool, Refusal>
         requires own { IsOf pass.old.trace self.now }
         requires empty_hand { pass.old.hand ≡ None }
-        ensures same { IsSame pass.old.trace pass.new.trace }
-        ensures answers { IfOk result (λ reply. Answers (set_call pass.old.trace.who Insert key reply) pass.old.trace pass.new.trace) }
-        ensures alone { IfOk result (λ reply. AnswersAlone pass.old.trace Insert key reply) }
-        ensures quiet { IfErr result (λ refusal. Quiet pass.old.trace pass.new.trace) }
-        ensures safe { HasSafeRun pass.new.trace }
-        ensures hand { pass.new.hand ≡ None }
-        ensures steps { TookWithin pass.old.trace pass.new.trace budget }
-        ensures advances { AdvancesWhereNeeded pass.old pass.new }
-        ensures kept { KeepsSlots pass.old pass.new }
-        ensures had { HasUnpublished pass.old pass.new result }
-        ensures shared { SharesWhereFull 2 pass.old pass.new }
-        ensures refused { IfErr result (λ refusal. IsRefused pass.old pass.new key budget refusal) }
-        // Alone, it answers in so many steps, or finds no slot or the epoch spent.
-        ensures within { IfErr result (λ refusal. IsAlone pass.old.trace pass.new.trace → LacksSteps (18 * listed_for pass.old.trace key + most_to_take pass.old.trace.shape pass.old.pool + 14) budget refusal) }
-        // With a slot in the own pool, whatever others hold while they stand still.
-        ensures ready { pass.old.pool ≢ [] → IsAlone pass.old.trace pass.new.trace → 18 * listed_for pass.old.trace key + 82 ≤ budget → IsAnsweredOrSpent result }
+        ensures { Called Insert (as_member self.now pass.old) (as_member self.now pass.new) key budget result }
     {
         pass.law();
-        insert(&self.slots, pass, key, budget)
+        let answer = insert(&self.slots, pass, key, budget);
+        pass.law();
+        answer
     }
 
     /// Takes a key out, in at most `budget` steps, and says whether it was there. The answer's point
@@ -94,20 +70,12 @@ impl VbrSet {
     pub fn remove(&self, pass: &mut Pass, key: u64, budget: u32) -> Result<bool, Refusal>
         requires own { IsOf pass.old.trace self.now }
         requires empty_hand { pass.old.hand ≡ None }
-        ensures same { IsSame pass.old.trace pass.new.trace }
-        ensures answers { IfOk result (λ reply. Answers (set_call pass.old.trace.who Remove key reply) pass.old.trace pass.new.trace) }
-        ensures alone { IfOk result (λ reply. AnswersAlone pass.old.trace Remove key reply) }
-        ensures quiet { IfErr result (λ refusal. Quiet pass.old.trace pass.new.trace) }
-        ensures safe { HasSafeRun pass.new.trace }
-        ensures hand { pass.new.hand ≡ None }
-        ensures steps { TookWithin pass.old.trace pass.new.trace budget }
-        ensures takes_no_slot { TakesNoSlot pass.old pass.new }
-        ensures refused { IfErr result (λ refusal. IsTired pass.old pass.new budget refusal) }
-        // Alone, it answers in so many steps.
-        ensures within { IfErr result (λ refusal. IsAlone pass.old.trace pass.new.trace → budget < 9 * listed_for pass.old.trace key + 11) }
+        ensures { Called Remove (as_member self.now pass.old) (as_member self.now pass.new) key budget result }
     {
         pass.law();
-        remove(&self.slots, pass, key, budget)
+        let answer = remove(&self.slots, pass, key, budget);
+        pass.law();
+        answer
     }
 
     /// Whether a key is in the set, in at most `budget` steps. The answer's point is one load of the
@@ -136,22 +104,11 @@ impl VbrSet {
     pub fn has(&self, pass: &mut Pass, key: u64, budget: u32) -> Result<bool, Refusal>
         requires own { IsOf pass.old.trace self.now }
         requires empty_hand { pass.old.hand ≡ None }
-        ensures same { IsSame pass.old.trace pass.new.trace }
-        ensures answers { IfOk result (λ reply. Answers (set_call pass.old.trace.who Has key reply) pass.old.trace pass.new.trace) }
-        ensures alone { IfOk result (λ reply. AnswersAlone pass.old.trace Has key reply) }
-        ensures adds { IfOk result (λ reply. AddsAnswer (set_call pass.old.trace.who Has key reply) pass.old.trace pass.new.trace) }
-        ensures quiet { IfErr result (λ refusal. Quiet pass.old.trace pass.new.trace) }
-        ensures adds_none { IfErr result (λ refusal. AddsNone pass.old.trace pass.new.trace) }
-        ensures only_loads { OnlyLoads pass.old.trace pass.new.trace }
-        ensures safe { HasSafeRun pass.new.trace }
-        ensures hand { pass.new.hand ≡ None }
-        ensures steps { TookWithin pass.old.trace pass.new.trace budget }
-        ensures takes_no_slot { TakesNoSlot pass.old pass.new }
-        ensures refused { IfErr result (λ refusal. IsTired pass.old pass.new budget refusal) }
-        // Alone, it answers in so many steps.
-        ensures within { IfErr result (λ refusal. IsAlone pass.old.trace pass.new.trace → budget < 5 * listed_for pass.old.trace key + 11) }
+        ensures { Called Has (as_member self.now pass.old) (as_member self.now pass.new) key budget result }
     {
         pass.law();
-        has(&self.slots, pass, key, budget)
+        let answer = has(&self.slots, pass, key, budget);
+        pass.law();
+        answer
     }
 }

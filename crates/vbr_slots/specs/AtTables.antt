@@ -1,6 +1,15 @@
--- What stays of a pass at its table from step to step.
+-- A pass at its table: what it is, and what stays of it from step to step.
 use Rattle.std.specs.Prelude.{◌≡◌}
 use Rattle.vbr_slots.specs.declared.at_table.AtTable.{AtTable}
+use Rattle.vbr_slots.specs.Views.{PassView, Trace}
+
+-- the pass
+abbrev pub pass_of : AtTable → PassView
+pass_of at = at.pass.now
+
+-- what it has seen
+abbrev pub trace_of : AtTable → Trace
+trace_of at = at.pass.now.trace
 
 -- it is the same pass at the same table
 pub record IsSameTable (c d : AtTable) : Type 0 where

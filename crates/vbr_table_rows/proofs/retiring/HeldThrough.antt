@@ -15,10 +15,10 @@ use Rattle.vbr_access.specs.declared.held.Held.{Held}
 use Rattle.vbr_access.proofs.Lemmas.{held_kept}
 
 -- what was held before a call that answered is held after it
-pub held_through : {T E : Type 0} {know later : Know} (held : Held) (r : Result T E) (x : T) → r ≡ Ok x → IfOk r (λ _. Keeps know later) → IsHeld know held → IsHeld later held
-held_through {T} {E} {know} {later} held r x is keeps h =
-    let P : Result T E → Type 0 = λ r. IfOk r (λ _. Keeps know later) in
-    held_kept held (subst P is keeps) h
+pub held_through : {T E : Type 0} {P : T → Type 0} {know later : Know} (held : Held) (r : Result T E) (x : T) → r ≡ Ok x → IfOk r P → ((y : T) → P y → Keeps know later) → IsHeld know held → IsHeld later held
+held_through {T} {E} {P} held r x is told keeps h =
+    let Q : Result T E → Type 0 = λ r. IfOk r P in
+    held_kept held (keeps x (subst Q is told)) h
 
 -- where there is one bucket, each key stands behind its head
 in_bucket : (shape : Dimensions) (key : ℕ) → shape.buckets ≡ 1 → bucket_of shape key ≡ 0

@@ -21,9 +21,9 @@ returns-then-now-place-clause-goes c = λ used.
     let Q : ℕ → Type 0 = λ s. Unlinks s c.args.at.now.pass.now q in
     subst (λ (n : ℕ). Goes c.args.at.now.pass.now c.retire.new.at.pass.now used n) (omega arith)
     (record {
-      quiet = quiet_on a.quiet b.quiet;
+      quiet = quiet_on a.stays.quiet b.quiet;
       counts = counts_on (counts_step used c.steps_to_unlink-used.result (took_same c.steps_to_unlink-used.result _ c.steps_to_unlink-used.ensures.is a.took)) (counts_step (used + c.steps_to_unlink-used.result) c.retire.result b.steps);
-      hand = helped_hand a.own (subst Q (sym (rw c.in-Ok.is at c.unlink-outcome.ensures.slot)) (rw c.in-Ok.is at c.unlink-outcome.ensures.unlinks)) (retired_hand c.in-Ok.unlinked.slot c.law-in-Ok.ensures.own (subst P (sym (rw c.in-Ok.is at c.unlink-outcome.ensures.slot)) (rw c.in-Ok.is at c.unlink-outcome.ensures.owned)) b.known b.pool b.hand b.takes_no_slot) b.known;
+      hand = helped_hand a.stays.own (subst Q (sym (rw c.in-Ok.is at c.unlink-outcome.ensures.unlinked).slot) (rw c.in-Ok.is at c.unlink-outcome.ensures.unlinked).unlinks) (retired_hand c.in-Ok.unlinked.slot c.law-in-Ok.ensures.own (subst P (sym (rw c.in-Ok.is at c.unlink-outcome.ensures.unlinked).slot) (rw c.in-Ok.is at c.unlink-outcome.ensures.unlinked).owned) b.known b.pool b.hand b.takes_no_slot) b.known;
     })
 
 pub returns-else-now-place-clause-goes : goal.returns-else-now-place-clause-goes
@@ -35,30 +35,30 @@ returns-else-now-place-clause-goes c = λ used.
     let Q : ℕ → Type 0 = λ s. Unlinks s c.args.at.now.pass.now q in
     subst (λ (n : ℕ). Goes c.args.at.now.pass.now c.retire.new.at.pass.now used n) (omega arith)
     (record {
-      quiet = quiet_on a.quiet b.quiet;
+      quiet = quiet_on a.stays.quiet b.quiet;
       counts = counts_on (counts_step used c.steps_to_unlink-used.result (took_same c.steps_to_unlink-used.result _ c.steps_to_unlink-used.ensures.is a.took)) (counts_step (used + c.steps_to_unlink-used.result) c.retire.result b.steps);
-      hand = helped_hand a.own (subst Q (sym (rw c.in-Ok.is at c.unlink-outcome.ensures.slot)) (rw c.in-Ok.is at c.unlink-outcome.ensures.unlinks)) (retired_hand c.in-Ok.unlinked.slot c.law-in-Ok.ensures.own (subst P (sym (rw c.in-Ok.is at c.unlink-outcome.ensures.slot)) (rw c.in-Ok.is at c.unlink-outcome.ensures.owned)) b.known b.pool b.hand b.takes_no_slot) b.known;
+      hand = helped_hand a.stays.own (subst Q (sym (rw c.in-Ok.is at c.unlink-outcome.ensures.unlinked).slot) (rw c.in-Ok.is at c.unlink-outcome.ensures.unlinked).unlinks) (retired_hand c.in-Ok.unlinked.slot c.law-in-Ok.ensures.own (subst P (sym (rw c.in-Ok.is at c.unlink-outcome.ensures.unlinked).slot) (rw c.in-Ok.is at c.unlink-outcome.ensures.unlinked).owned) b.known b.pool b.hand b.takes_no_slot) b.known;
     })
 
 pub returns-else-now-place-clause-pred : goal.returns-else-now-place-clause-pred
 returns-else-now-place-clause-pred c = λ key is.
     let q = c.unlink-outcome.new.at.pass.now in
     let r = c.retire.new.at.pass.now in
-    let read = rw c.in-Ok.is at c.unlink-outcome.ensures.read in
+    let read = (rw c.in-Ok.is at c.unlink-outcome.ensures.unlinked).read in
     let e : (knows r.trace).epoch ≡ (knows q.trace).epoch = sym c.epoch-now.ensures ∙ c.if-now-place.false ∙ read.known.epoch in
-    helped key c.args.pred.now c.in-Ok.place is (rw c.in-Ok.is at c.unlink-outcome.ensures.keeps) (rw c.in-Ok.is at c.unlink-outcome.ensures.at) (rw c.in-Ok.is at c.unlink-outcome.ensures.still) read c.unlink-outcome.ensures.quiet c.retire.ensures.quiet (retired_keeps (knows q.trace) (knows r.trace) c.in-Ok.unlinked.slot (is_kept q.pool) c.retire.ensures.known e)
+    helped key c.args.pred.now c.in-Ok.place is (rw c.in-Ok.is at c.unlink-outcome.ensures.unlinked).keeps (rw c.in-Ok.is at c.unlink-outcome.ensures.unlinked).at (rw c.in-Ok.is at c.unlink-outcome.ensures.unlinked).still read c.unlink-outcome.ensures.stays.quiet c.retire.ensures.quiet (retired_keeps (knows q.trace) (knows r.trace) c.in-Ok.unlinked.slot (is_kept q.pool) c.retire.ensures.known e)
 
 pub returns-then-now-place-clause-still : goal.returns-then-now-place-clause-still
 returns-then-now-place-clause-still c = λ fresh stands alone.
-    let a = c.unlink-outcome.ensures.quiet in
+    let a = c.unlink-outcome.ensures.stays.quiet in
     let b = c.retire.ensures.quiet in
-    let u = (rw c.in-Ok.is at c.unlink-outcome.ensures.alone) (first_of a b alone) stands in
+    let u = (rw c.in-Ok.is at c.unlink-outcome.ensures.unlinked).alone (first_of a b alone) stands in
     let l = c.retire.ensures.alone (then_of a b alone) in
-    c.if-now-place.true (c.epoch-now.ensures ∙ sym l.1 ∙ l.0.epoch ∙ u.epoch ∙ fresh ∙ sym (rw c.in-Ok.is at c.unlink-outcome.ensures.keeps).epoch ∙ sym (rw c.in-Ok.is at c.unlink-outcome.ensures.read).known.epoch)
+    c.if-now-place.true (c.epoch-now.ensures ∙ sym l.1 ∙ l.0.epoch ∙ u.epoch ∙ fresh ∙ sym (rw c.in-Ok.is at c.unlink-outcome.ensures.unlinked).keeps.epoch ∙ sym (rw c.in-Ok.is at c.unlink-outcome.ensures.unlinked).read.known.epoch)
 
 pub returns-else-now-place-clause-alone : goal.returns-else-now-place-clause-alone
 returns-else-now-place-clause-alone c = λ key is fresh stands alone.
-    let a = c.unlink-outcome.ensures.quiet in
+    let a = c.unlink-outcome.ensures.stays.quiet in
     let b = c.retire.ensures.quiet in
     let l = c.retire.ensures.alone (then_of a b alone) in
-    helped_alone c.args.at.now.pass.now.trace c.unlink-outcome.new.at.pass.now.trace c.retire.new.at.pass.now.trace key c.args.pred.now c.in-Ok.place is.inside (rw c.in-Ok.is at c.unlink-outcome.ensures.at) a.same.shape b.same.shape ((rw c.in-Ok.is at c.unlink-outcome.ensures.alone) (first_of a b alone) stands) l.0 l.1
+    helped_alone c.args.at.now.pass.now.trace c.unlink-outcome.new.at.pass.now.trace c.retire.new.at.pass.now.trace key c.args.pred.now c.in-Ok.place is.inside (rw c.in-Ok.is at c.unlink-outcome.ensures.unlinked).at a.same.shape b.same.shape ((rw c.in-Ok.is at c.unlink-outcome.ensures.unlinked).alone (first_of a b alone) stands) l.0 l.1

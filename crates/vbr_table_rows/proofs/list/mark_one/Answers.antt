@@ -11,18 +11,20 @@ is_unmarked : (word : ℕ) → word ≡ 33554432 → (link_of word).mark ≡ fal
 unfolding link_of
 is_unmarked word is = rw is refl
 
-pub mark-requires-clause-held : goal.mark-requires-clause-held
-mark-requires-clause-held g c = let read = rw c.in-Some.is at c.in_ok-node.ensures.read in held_kept c.in-Some.node c.in_ok-key_of.ensures.keeps read.3.known
-
-pub mark-requires-clause-unmarked : goal.mark-requires-clause-unmarked
-mark-requires-clause-unmarked g c =
+pub mark-requires-clause-node : goal.mark-requires-clause-node
+mark-requires-clause-node g c =
+    let read = rw c.in-Some.is at c.in_ok-node.ensures.next.read in
     let word : c.in-Some.node.word ≡ 33554432 = search rules in
-    is_unmarked c.in-Some.node.word word
+    record {
+      held = held_kept c.in-Some.node c.in_ok-key_of.ensures.key.keeps read.3.known;
+      key = (c.in_ok-key_of.field-0, c.in_ok-key_of.ensures.key.key);
+      unmarked = is_unmarked c.in-Some.node.word word;
+    }
 
 pub returns-clause-head : goal.returns-clause-head
-returns-clause-head g c = let head = c.in_ok-head.head in held_kept head c.mark.ensures.keeps (held_kept head c.in_ok-key_of.ensures.keeps (held_kept head c.in_ok-node.ensures.keeps c.in_ok-head.ensures.read.known))
+returns-clause-head g c = let head = c.in_ok-head.head in held_kept head c.mark.ensures.keeps.keeps (held_kept head c.in_ok-key_of.ensures.key.keeps (held_kept head c.in_ok-node.ensures.next.keeps c.in_ok-head.ensures.head.read.known))
 
 pub returns-clause-own : goal.returns-clause-own
 returns-clause-own g c =
-    of_on (c.in_ok-marked.ensures.made c.in_ok-key_of.field-0 c.in_ok-key_of.ensures.key).same
-    (of_on c.in_ok-key_of.ensures.quiet.same (of_on c.in_ok-node.ensures.quiet.same (of_on c.in_ok-head.ensures.quiet.same (of_on c.checkpoint-point.ensures.quiet.same c.requires.own))))
+    of_on (c.in_ok-marked.ensures.removed.made c.in_ok-key_of.field-0 c.in_ok-key_of.ensures.key.key).same
+    (of_on c.in_ok-key_of.ensures.reads.quiet.same (of_on c.in_ok-node.ensures.reads.quiet.same (of_on c.in_ok-head.ensures.reads.quiet.same (of_on c.checkpoint-point.ensures.reads.quiet.same c.requires.own))))

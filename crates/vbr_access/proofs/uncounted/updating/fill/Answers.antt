@@ -1,4 +1,4 @@
-use Rattle.std.proofs.Common.{◌≡◌, ℕ, ◌<◌, Option, sym, ap, ◌∙◌, subst, refl}
+use Rattle.std.proofs.Common.{◌≡◌, ℕ, ◌<◌, Option, sym, ap, ◌∙◌, subst, refl, rules}
 use Rattle.vbr_words.specs.Dimensions.{Dimensions}
 use Rattle.vbr_words.specs.Words.{link_of, word_of}
 use Rattle.vbr_words.specs.declared.link.Link.{Link}
@@ -61,28 +61,31 @@ store_link-requires-clause-word c =
     let is : link_to c.decode.result.slot c.birth.result c.args.birth ≡ link_to (link_of c.args.pred.now.word).slot c.args.hand.now.birth c.args.birth = (λ i. link_to (c.decode.ensures.link i).slot (c.birth.ensures i) c.args.birth) in
     c.link_to-link.ensures.word ∙ ap word_of is ∙ ap word_of (sym written)
 
-pub returns-clause-quiet : goal.returns-clause-quiet
-returns-clause-quiet c = quiet_on (key_stored_quiet c.store_key.ensures.step) (link_stored_quiet c.store_link.ensures.step)
+pub returns-clause-stores : goal.returns-clause-stores
+returns-clause-stores c = record {
+  took = search rules;
+  keeps = search rules;
+  pool = search rules;
+  takes_no_slot = none_on (did_none c.store_key.ensures.step refl c.store_key.ensures.pool) (did_none c.store_link.ensures.step refl c.store_link.ensures.pool);
+}
 
-pub returns-clause-filled : goal.returns-clause-filled
-returns-clause-filled c =
-    let key = c.store_key.ensures.step in
-    let at = hand_at c.args.at.now.pass.now c.law.ensures c.args.hand.now c.requires.hand c.slot-slot.result c.slot-slot.ensures in
-    let now = keyed_hand key at.1 at.2 in
-    let keeps = key_stored_keeps key in
-    let known = birth_named_kept (link_of c.args.pred.now.word).slot c.args.birth keeps c.requires.birth in
-    let low : c.slot-slot.result < c.store_key.new.self.trace.shape.slots = (let P : Dimensions → Type 0 = λ shape. c.slot-slot.result < shape.slots in subst P (sym key.same.1) at.0) in
-    let written = link_now c.store_key.new.self c.law-2.ensures c.args.pred.now c.slot-slot.result c.args.hand.now.birth c.args.birth (held_kept c.args.pred.now keeps c.requires.pred) low now.0 known now.1
-    (link_of c.link_to-link.result).slot (ap (λ (l : Link). l.slot) (c.link_to-link.ensures.link) ∙ ap (λ (l : Link). l.slot) c.decode.ensures.link) in
-    let P : ℕ → Type 0 = λ s. IsFilled ((knows c.store_link.new.self.trace).own s) c.args.hand.now.birth c.args.key (link_to (link_of c.args.pred.now.word).slot c.args.hand.now.birth c.args.birth) in
-    subst P c.slot-slot.ensures (filled key c.store_link.ensures.step at.1 at.2 written)
-
-pub returns-clause-stands : goal.returns-clause-stands
-returns-clause-stands c = λ alone unmarked stands.
-    let key = c.store_key.ensures.step in
-    let each = alone_two key c.store_link.ensures.step alone in
-    let held = held_kept c.args.pred.now (key_stored_keeps key) c.requires.pred in
-    link_stored_leaves c.args.pred.now.at (link_of c.args.pred.now.word) c.law-2.ensures.shape c.store_link.ensures.step each.1 held.link unmarked (key_stored_leaves c.args.pred.now.at c.law.ensures.shape key each.0 ∙ stands)
-
-pub returns-clause-takes_no_slot : goal.returns-clause-takes_no_slot
-returns-clause-takes_no_slot c = none_on (did_none c.store_key.ensures.step refl c.store_key.ensures.pool) (did_none c.store_link.ensures.step refl c.store_link.ensures.pool)
+pub returns-clause-fills : goal.returns-clause-fills
+returns-clause-fills c = record {
+  quiet = quiet_on (key_stored_quiet c.store_key.ensures.step) (link_stored_quiet c.store_link.ensures.step);
+  hand = search rules;
+  filled = (let key = c.store_key.ensures.step in
+      let at = hand_at c.args.at.now.pass.now c.law.ensures c.args.hand.now c.requires.hand c.slot-slot.result c.slot-slot.ensures in
+      let now = keyed_hand key at.1 at.2 in
+      let keeps = key_stored_keeps key in
+      let known = birth_named_kept (link_of c.args.pred.now.word).slot c.args.birth keeps c.requires.birth in
+      let low : c.slot-slot.result < c.store_key.new.self.trace.shape.slots = (let P : Dimensions → Type 0 = λ shape. c.slot-slot.result < shape.slots in subst P (sym key.same.1) at.0) in
+      let written = link_now c.store_key.new.self c.law-2.ensures c.args.pred.now c.slot-slot.result c.args.hand.now.birth c.args.birth (held_kept c.args.pred.now keeps c.requires.pred) low now.0 known now.1
+      (link_of c.link_to-link.result).slot (ap (λ (l : Link). l.slot) (c.link_to-link.ensures.link) ∙ ap (λ (l : Link). l.slot) c.decode.ensures.link) in
+      let P : ℕ → Type 0 = λ s. IsFilled ((knows c.store_link.new.self.trace).own s) c.args.hand.now.birth c.args.key (link_to (link_of c.args.pred.now.word).slot c.args.hand.now.birth c.args.birth) in
+      subst P c.slot-slot.ensures (filled key c.store_link.ensures.step at.1 at.2 written));
+  stands = (λ alone unmarked stands.
+      let key = c.store_key.ensures.step in
+      let each = alone_two key c.store_link.ensures.step alone in
+      let held = held_kept c.args.pred.now (key_stored_keeps key) c.requires.pred in
+      link_stored_leaves c.args.pred.now.at (link_of c.args.pred.now.word) c.law-2.ensures.shape c.store_link.ensures.step each.1 held.link unmarked (key_stored_leaves c.args.pred.now.at c.law.ensures.shape key each.0 ∙ stands));
+}

@@ -14,7 +14,7 @@ pub returns-then-found-clause-takes_no_slot : goal.returns-then-found-clause-tak
 returns-then-found-clause-takes_no_slot c = none_on c.deny.ensures.takes_no_slot (none_back c.deny.new.self.at.pass.now c.give_back.new.at.pass.now c.args.hand.slot c.give_back.ensures.trace c.give_back.ensures.pool c.give_back.ensures.kept)
 
 pub returns-in-Ok-clause-had : goal.returns-in-Ok-clause-had
-returns-in-Ok-clause-had c = had_spent c.args.self.now.at.pass.now c.update.new.at.pass.now c.args.hand.slot c.requires.hand.is.slot c.update.ensures.pool
+returns-in-Ok-clause-had c = had_spent c.args.self.now.at.pass.now c.update.new.at.pass.now c.args.hand.slot c.requires.hand.is.slot c.update.ensures.stores.pool
 
 pub returns-then-found-clause-had : goal.returns-then-found-clause-had
 returns-then-found-clause-had c =

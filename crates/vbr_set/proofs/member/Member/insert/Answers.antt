@@ -9,4 +9,4 @@ returns c =
     let e = c.insert.ensures in
     let i = c.self.inside in
     subst (λ (m : MemberView). Called Insert m (member_view record { before = i.before; share = i.share; pass = c.insert.new.pass; after = i.after }) c.args.key c.args.budget c.insert.result) c.self.view_is
-    (record { set = refl; same = e.same; answers = e.answers; alone = e.alone; quiet = e.quiet; safe = e.safe; hand = e.hand; steps = e.steps; spares = record { advances = e.advances; kept = e.kept; had = e.had; shared = e.shared; refused = e.refused; within = e.within; ready = e.ready } })
+    (record { set = refl; same = e.same; answers = e.answers; alone = e.alone; quiet = e.quiet; safe = e.safe; hand = e.hand; steps = e.steps; spares = e.spares })

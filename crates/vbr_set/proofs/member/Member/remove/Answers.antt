@@ -9,4 +9,4 @@ returns c =
     let e = c.remove.ensures in
     let i = c.self.inside in
     subst (λ (m : MemberView). Called Remove m (member_view record { before = i.before; share = i.share; pass = c.remove.new.pass; after = i.after }) c.args.key c.args.budget c.remove.result) c.self.view_is
-    (record { set = refl; same = e.same; answers = e.answers; alone = e.alone; quiet = e.quiet; safe = e.safe; hand = e.hand; steps = e.steps; spares = record { takes_no_slot = e.takes_no_slot; refused = e.refused; within = e.within } })
+    (record { set = refl; same = e.same; answers = e.answers; alone = e.alone; quiet = e.quiet; safe = e.safe; hand = e.hand; steps = e.steps; spares = e.spares })

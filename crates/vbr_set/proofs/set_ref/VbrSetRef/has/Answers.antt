@@ -9,4 +9,4 @@ returns c =
     let e = c.has.ensures in
     let i = c.self.inside in
     subst (λ (m : MemberView). Called Has m (set_ref_view record { set = i.set; pass = c.has.new.pass }) c.args.key c.args.budget c.has.result) c.self.view_is
-    (record { set = refl; same = e.same; answers = e.answers; alone = e.alone; quiet = e.quiet; safe = e.safe; hand = e.hand; steps = e.steps; spares = record { only_loads = e.only_loads; adds = e.adds; adds_none = e.adds_none; takes_no_slot = e.takes_no_slot; refused = e.refused; within = e.within } })
+    (record { set = refl; same = e.same; answers = e.answers; alone = e.alone; quiet = e.quiet; safe = e.safe; hand = e.hand; steps = e.steps; spares = e.spares })

@@ -1,0 +1,100 @@
+-- A step that exchanges a link word, as what its call tells.
+use Rattle.std.proofs.Common.{◌≡◌, ◌≢◌, ℕ, false, refl, sym, ap, ◌∙◌, subst}
+use Rattle.std.specs.Prelude.{Result, Ok, Err, IfErr}
+use Rattle.vbr_words.specs.Dimensions.{IsShape}
+use Rattle.vbr_words.specs.Words.{link_of}
+use Rattle.vbr_words.specs.declared.link.Link.{Link}
+use Rattle.vbr_words.specs.declared.place.At.{At}
+use Rattle.vbr_words.specs.declared.place.At.TheVariants.{Slot}
+use Rattle.vbr_core.specs.Acceptance.{IsUnlinked}
+use Rattle.vbr_core.specs.Images.{link_shown_at}
+use Rattle.vbr_core.specs.Links.{link_to, marked}
+use Rattle.vbr_core.specs.Membership.{BirthAt, KeyAt, Knows}
+use Rattle.vbr_core.specs.Runs.{IsRun}
+use Rattle.vbr_core.specs.declared.event.Step.TheVariants.{Mark, Publish, Unlink}
+use Rattle.vbr_core.specs.declared.knowledge.Read.TheVariants.{LinkAt}
+use Rattle.vbr_slots.specs.Alone.{IsAlone, IsFresh}
+use Rattle.vbr_slots.specs.Calls.{Quiet}
+use Rattle.vbr_slots.specs.PassLaw.{PassLaw}
+use Rattle.vbr_slots.specs.Views.{Did, KeepsPool, PassView, Trace, knows}
+use Rattle.vbr_slots.proofs.Lemmas.{alone_first, alone_then, did_seen, quiet_on}
+use Rattle.vbr_pools.specs.Hands.{UnlinkedView}
+use Rattle.vbr_pools.specs.KeptSlots.{TakesNoSlot}
+use Rattle.vbr_pools.proofs.Lemmas.{none_on}
+use Rattle.vbr_access.specs.Alone.{StandsNow}
+use Rattle.vbr_access.specs.Exchanges.{IsUnmarked, LosesExchange, RemovesKey, UnlinksNode, UnlinksNone}
+use Rattle.vbr_access.specs.Held.{IsHeld, IsMarked, Names}
+use Rattle.vbr_access.specs.Keeping.{Keeps}
+use Rattle.vbr_access.specs.Reading.{IsBirthRead, ReadsIn}
+use Rattle.vbr_access.specs.Rollbacks.{IsMovedOrLost}
+use Rattle.vbr_access.specs.declared.held.Held.{Held}
+use Rattle.vbr_access.specs.declared.held.Marked.{Marked}
+use Rattle.vbr_access.specs.declared.rollback.Rollback.{Rollback}
+use Rattle.vbr_access.specs.declared.rollback.Rollback.TheVariants.{LostExchange}
+use Rattle.vbr_access.proofs.AloneExchanges.{publish_wins, unlink_wins, unlinked_alone, unlinks_after}
+use Rattle.vbr_access.proofs.Keeping.{held_kept, keeps_on, marked_kept}
+use Rattle.vbr_access.proofs.MadeCalls.{mark_made, publish_failed}
+use Rattle.vbr_access.proofs.Moments.{found_after, publish_found, unlink_found}
+use Rattle.vbr_access.proofs.NoneUnlinked.{lost_none, unlinks_on, won_unlinks}
+use Rattle.vbr_access.proofs.Unlinks.{accepted, new_read, read_after, written}
+use Rattle.vbr_access.proofs.WonExchanges.{mark_keeps, mark_known, publish_lost_keeps, unlink_keeps, unlink_lost_keeps}
+
+-- ---- a mark
+
+pub mark_told : {p q : Trace} {s word : ℕ} (node : Held) → IsShape p.shape → IsRun p.shape p.passes p.seen → p.shape.values ≡ false → IsHeld (knows p) node → node.at ≡ Slot s → Did (Mark s node.word) p q node.word → link_of word ≡ marked (link_of node.word)
+    → RemovesKey p q node (record { slot = s; birth = node.birth; word = word; epoch = node.epoch })
+mark_told {p} {q} {s} {word} node shape is_run bare held at d link =
+    let B : At → Type 0 = λ at. BirthAt (knows q) at node.birth in
+    let L : Link → Type 0 = λ link. Knows (knows q) (LinkAt (Slot s) link) in
+    let h = held_kept node (mark_keeps d) held in
+    record {
+      made = λ key k. (let K : At → Type 0 = λ at. KeyAt (knows p) at key in mark_made shape is_run bare d key (subst K at k));
+      at = sym at;
+      link = link;
+      held = record { held = record { epoch = h.epoch; link = subst L (sym link) (mark_known d); birth = subst B at h.birth }; mark = ap (λ (l : Link). l.mark) link };
+    }
+
+-- ---- a publication that is lost, after what filled the hand
+
+pub publish_lost : {p q r : Trace} {s found : ℕ} (pred : Held) → IsShape q.shape → Quiet p q → Keeps (knows p) (knows q) → (IsAlone p q → StandsNow p pred → StandsNow q pred) → Did (Publish pred.at pred.word s) q r found → found ≢ pred.word → LosesExchange p r pred (LostExchange found)
+publish_lost {s = s} pred shape fill keeps stands d other = record {
+  quiet = quiet_on fill (publish_failed d other);
+  lost = (other, found_after fill (publish_found d other), keeps_on keeps (publish_lost_keeps d other));
+  wins = λ alone stood. publish_wins shape (alone_then fill.same.who fill.seen (did_seen d) alone) pred.at pred.word s d other (stands (alone_first fill.seen (did_seen d) alone) stood);
+}
+
+-- ---- an unlinking, after the birth of what the marked link names
+
+module _ {p q r : PassView} {n : ℕ} (pred : Held) (gone : Marked) (named : Link) (birth : ℕ) (law : PassLaw q) (reads : ReadsIn p q n) (read : IsBirthRead p.trace q.trace (link_of gone.word).slot birth) (unmarked : IsUnmarked (knows p.trace) pred) (is_marked : IsMarked (knows p.trace) gone) (names : Names pred gone.slot) (is_named : named ≡ link_of gone.word) where
+  pub unlink_told : (node : UnlinkedView) (new : ℕ) → node.slot ≡ gone.slot → link_of new ≡ link_to named.slot pred.birth birth → Did (Unlink pred.at pred.word gone.slot) q.trace r.trace pred.word → KeepsPool q r → IsUnlinked ((knows r.trace).own gone.slot) → UnlinksNode p r pred gone (node, record pred { word = new })
+  unlink_told node new same link d pool owned =
+      let held = held_kept pred read.keeps unmarked.held in
+      let still_marked = marked_kept gone read.keeps is_marked in
+      record {
+        unlinks = unlinks_on p q r reads.takes_no_slot (won_unlinks d pool);
+        keeps = keeps_on read.keeps (unlink_keeps d);
+        slot = same;
+        owned = owned;
+        at = refl;
+        read = read_after reads.quiet (new_read q law pred gone named birth held still_marked is_named read.birth new link d);
+        still = ap (λ (l : Link). l.mark) link;
+        next = ap (λ (l : Link). l.slot) link ∙ ap (λ (l : Link). l.slot) is_named;
+        alone = λ alone stands. unlinks_after p.trace q.trace r.trace pred _ reads.quiet.same.shape (reads.looks (alone_first reads.quiet.seen (did_seen d) alone)) read.keeps
+            (unlinked_alone pred new law.shape d (alone_then reads.quiet.same.who reads.quiet.seen (did_seen d) alone)
+            (accepted q law pred gone named birth held still_marked is_named read.birth unmarked.unmarked names)
+            held.link unmarked.unmarked (ap (λ a. link_shown_at a pred.at) (reads.looks (alone_first reads.quiet.seen (did_seen d) alone)) ∙ stands)
+            (written q law pred gone named birth held still_marked is_named read.birth ∙ sym link));
+      }
+
+  pub unlink_lost : {found : ℕ} → Did (Unlink pred.at pred.word gone.slot) q.trace r.trace found → found ≢ pred.word → KeepsPool q r → UnlinksNone p r pred (LostExchange found)
+  unlink_lost d other pool = record {
+    takes_no_slot = none_on reads.takes_no_slot (lost_none d other pool);
+    rolled = (other, found_after reads.quiet (unlink_found d other), keeps_on read.keeps (unlink_lost_keeps d other));
+    wins = λ fresh alone stands. unlink_wins law.shape (alone_then reads.quiet.same.who reads.quiet.seen (did_seen d) alone) pred.at pred.word gone.slot d other
+        (ap (λ a. link_shown_at a pred.at) (reads.looks (alone_first reads.quiet.seen (did_seen d) alone)) ∙ stands);
+  }
+
+-- the birth wasn't read: nothing was unlinked
+pub none_unlinked : {A : Type 0} {p q : PassView} (pred : Held) (answer : Result A Rollback) → TakesNoSlot p q → IfErr answer (IsMovedOrLost p.trace q.trace pred) → (IsFresh p.trace → IsAlone p.trace q.trace → ⊥) → IfErr answer (UnlinksNone p q pred)
+none_unlinked pred (Ok told) none rolled still = tt
+none_unlinked pred (Err r) none rolled still = record { takes_no_slot = none; rolled = rolled; wins = λ fresh alone stands. still fresh alone }

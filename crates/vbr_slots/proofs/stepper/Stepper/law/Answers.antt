@@ -1,0 +1,14 @@
+use Rattle.std.proofs.Common.{rules, ◌<◌}
+use Rattle.vbr_words.specs.Dimensions.{IsShape}
+use Rattle.vbr_core.proofs.Lemmas.{every_run}
+use Rattle.vbr_slots.specs.Pools.{OwnPool}
+use Rattle.vbr_slots.specs.Views.{knows}
+use Rattle.vbr_slots.proofs.stepper.Stepper.law.Goals as goal
+
+pub returns : goal.returns
+returns c =
+    let p = c.args.self.now in
+    let shape : IsShape p.trace.shape = search rules in
+    let low : p.trace.who < p.trace.passes = search rules in
+    let own : OwnPool p.trace.shape (knows p.trace) p.pool p.hand = search rules in
+    record { shape = shape; low = low; is_run = c.who-who.ensures.is_run; own = own; safe = every_run p.trace.shape p.trace.passes p.trace.seen shape c.who-who.ensures.is_run }
