@@ -87,8 +87,8 @@ static void *work(void *of) {
 int main(int count, char **words) {
     vbr_handle handles[THREADS] = {{0}};
     pthread_t threads[THREADS];
-    vbr_totals report;
-    uint64_t first[1];
+    vbr_totals report = {0};
+    uint64_t first[1] = {0};
     if (count > 1) rounds = atol(words[1]);
     CHECK(rounds > BEHIND && rounds <= 1000000);
     CHECK(vbr_open(handles, THREADS, (uint32_t)rounds * THREADS + 64 * THREADS, 16384, VBR_MAX_EPOCH) == VBR_NO);

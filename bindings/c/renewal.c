@@ -8,8 +8,8 @@ enum { HANDLES = 2, SLOTS = 8, BUCKETS = 4, LAST_EPOCH = 20, BUDGET = 1000 };
 
 int main(void) {
     vbr_handle handle[HANDLES] = {{0}};
-    vbr_totals report;
-    uint64_t keys[SLOTS];
+    vbr_totals report = {0};
+    uint64_t keys[SLOTS] = {0};
     int renewals = 0;
     if (vbr_open(handle, HANDLES, SLOTS, BUCKETS, LAST_EPOCH) != VBR_NO) return 1;
     if (vbr_insert(&handle[1], 5, BUDGET) != VBR_YES) return 2;

@@ -223,7 +223,7 @@ static int check_report(const struct round *r, const vbr_totals *report, const u
 /* Looks every key up, closes the set, and checks the report. */
 static int finish(const struct round *r, vbr_handle *handles, int count) {
     static uint64_t keys[MAX_KEYS];
-    vbr_totals report;
+    vbr_totals report = {0};
     for (uint32_t i = 0; i < r->keys; i++) {
         int sum = is_in(i);
         if (sum != 0 && sum != 1) return failed(r, sets, "the answers do not balance", i);

@@ -45,8 +45,8 @@ int main(int count, char **words) {
     static struct worker workers[THREADS];
     vbr_handle handles[THREADS] = {{0}};
     pthread_t threads[THREADS];
-    uint64_t keys[KEYS];
-    vbr_totals report;
+    uint64_t keys[KEYS] = {0};
+    vbr_totals report = {0};
     uint32_t want = 0;
     CHECK(vbr_open(handles, THREADS, SLOTS, 16, VBR_MAX_EPOCH) == VBR_NO);
     for (int i = 0; i < THREADS; i++) {

@@ -3,11 +3,12 @@
    Ten lines:
 
        vbr_handle handle[2] = {{0}};
-       vbr_totals report;
-       uint64_t keys[8];
-       if (vbr_open(handle, 2, 8, 4, 1000000) != VBR_NO) return 1;
-       vbr_insert(&handle[0], 5, 1000);               // VBR_YES: 5 was absent
-       vbr_has(&handle[1], 5, 1000);                  // VBR_YES, from another thread too
+       vbr_totals report = {0};
+       uint64_t keys[8] = {0};
+       // handles, count, slots: keys and 64 for each handle, buckets: as many as keys, last_epoch
+       if (vbr_open(handle, 2, 1024 + 2 * 64, 1024, VBR_MAX_EPOCH) != VBR_NO) return 1;
+       vbr_insert(&handle[0], 5, 100000);             // VBR_YES: 5 was absent
+       vbr_has(&handle[1], 5, 100000);                // VBR_YES, from another thread too
        vbr_close(&handle[0], keys, 8, &report);       // VBR_NO: the other handle is open
        vbr_close(&handle[1], keys, 8, &report);       // VBR_YES: report.live is 1, keys[0] is 5
 
@@ -18,9 +19,14 @@
    right to make calls, and a share of the set. A handle is all zero while it is empty: write {0} before
    it is opened. A full one belongs to the library: it may be moved (copied, and the old place set to
    zero, or never used again), and is never copied, compared, read or written otherwise. A full handle
-   is closed by vbr_close or given up by vbr_drop; memory is freed with the last handle of a set. What
-   a pointer names belongs to the call while it runs, and to the caller afterwards. No pointer is null:
-   for no keys at all pass any address, with a room of 0.
+   is closed by vbr_close or given up by vbr_drop; memory is freed with the last handle of a set.
+
+   Pointers. None that a call is given is null, even where the number beside it is 0: then any aligned
+   address does. Each is aligned for its type, and names as many values as that number says, or one. All
+   of these are initialised before the call, those too that it only writes, as {0} does it: what
+   vbr_close does not write it leaves as it was. They belong to the call while it runs, and to the caller
+   afterwards: no two pointers of a call name the same bytes, and no other call or thread has these
+   meanwhile. The keys of vbr_open_with are only read, so others may read them meanwhile.
 
    Which calls may run at the same time. Handles of one set may be in calls at the same time, in any
    threads; that is what they are for. One handle is in one call at a time. A handle that goes to another
@@ -99,8 +105,9 @@ typedef struct vbr_totals {
     uint32_t free;   /* how many slots had no node in a list */
 } vbr_totals;
 
-/* Opens an empty set and fills `count` handles, which are empty: VBR_NO. Else VBR_IN_USE, VBR_BAD_SHAPE,
-   VBR_BAD_COUNT or VBR_NO_MEMORY, tested in this order, and the handles are as they were. */
+/* Opens an empty set and fills `count` handles, which are empty, so each is {0}: VBR_NO. Else VBR_IN_USE,
+   VBR_BAD_SHAPE, VBR_BAD_COUNT or VBR_NO_MEMORY, tested in this order, and the handles are as they
+   were. */
 int32_t vbr_open(vbr_handle *handles, size_t count, uint32_t slots, uint32_t buckets,
                  uint64_t last_epoch);
 
@@ -118,7 +125,9 @@ int32_t vbr_has(vbr_handle *handle, uint64_t key, uint32_t budget);    /* yes: i
 
 /* Gives the pass back and leaves the handle empty: VBR_NO while others of its set are open. The last one
    ends the set: VBR_YES, with the report and the first of the keys, ascending, as many as there is
-   room for. Only then is anything written, and only then is memory needed, which is freed again.
+   room for. Only then is anything written, and only then is memory needed, which is freed again. Behind
+   the keys of the report the array stays as it was: all `room` keys, and the report, are initialised
+   before. With a room of 0 no key is told.
    VBR_NO_MEMORY leaves the handle full: close it again, drop it, or go on with it. */
 int32_t vbr_close(vbr_handle *handle, uint64_t *keys, size_t room, vbr_totals *report);
 

@@ -6,9 +6,10 @@
 //! in the set.
 //!
 //! ```
-//! use vbr::{Set, Shape};
+//! use vbr::{MAX_EPOCH, Set, Shape};
 //!
-//! let mut handles = Set::open(Shape::new(1_024, 16, 1_000_000), 2)?;
+//! let shape = Shape { slots: 1_024 + 2 * 64, buckets: 1_024, last_epoch: MAX_EPOCH };
+//! let mut handles = Set::open(shape, 2)?;
 //! let mut second = handles.pop().expect("two handles");
 //! let mut first = handles.pop().expect("two handles");
 //! std::thread::scope(|scope| {

@@ -6,9 +6,10 @@
 //! and one call at a time has it. `bindings/include/vbr.h` is what a C programmer reads.
 //!
 //! ```c file=bindings/c/example.c
-//! if (vbr_open(handle, 2, 8, 4, 1000000) != VBR_NO) return 1;
-//! int32_t added = vbr_insert(&handle[0], 5, 1000);         /* VBR_YES: 5 was absent */
-//! int32_t there = vbr_has(&handle[1], 5, 1000);            /* VBR_YES, from another thread too */
+//! /* handles, count, slots: keys and 64 for each handle, buckets: as many as keys, last_epoch */
+//! if (vbr_open(handle, 2, 1024 + 2 * 64, 1024, VBR_MAX_EPOCH) != VBR_NO) return 1;
+//! int32_t added = vbr_insert(&handle[0], 5, 100000);       /* VBR_YES: 5 was absent */
+//! int32_t there = vbr_has(&handle[1], 5, 100000);          /* VBR_YES, from another thread too */
 //! int32_t first = vbr_close(&handle[0], keys, 8, &report); /* VBR_NO: the other handle is open */
 //! int32_t last = vbr_close(&handle[1], keys, 8, &report);  /* VBR_YES: report.live is 1, keys[0] is 5 */
 //! ```
@@ -35,7 +36,8 @@ use vbr_handles::{Handle, ShapeNumbers, numbers};
 /// empty; -6, the numbers are no shape; -7, the number of handles is 0 or above 64; -8, no memory.
 ///
 /// ```c file=bindings/c/example.c
-/// if (vbr_open(handle, 2, 8, 4, 1000000) != VBR_NO) return 1;
+/// /* handles, count, slots: keys and 64 for each handle, buckets: as many as keys, last_epoch */
+/// if (vbr_open(handle, 2, 1024 + 2 * 64, 1024, VBR_MAX_EPOCH) != VBR_NO) return 1;
 /// ```
 #[unsafe(no_mangle)]
 pub extern "C" fn vbr_open(
@@ -88,7 +90,7 @@ pub extern "C" fn vbr_open_with(
 /// spent; -4, the handle is empty.
 ///
 /// ```c file=bindings/c/example.c
-/// int32_t added = vbr_insert(&handle[0], 5, 1000);         /* VBR_YES: 5 was absent */
+/// int32_t added = vbr_insert(&handle[0], 5, 100000);       /* VBR_YES: 5 was absent */
 /// ```
 #[unsafe(no_mangle)]
 pub extern "C" fn vbr_insert(handle: &mut Handle, key: u64, budget: u32) -> i32
@@ -120,7 +122,7 @@ pub extern "C" fn vbr_remove(handle: &mut Handle, key: u64, budget: u32) -> i32
 /// budget; -4, the handle is empty.
 ///
 /// ```c file=bindings/c/example.c
-/// int32_t there = vbr_has(&handle[1], 5, 1000);            /* VBR_YES, from another thread too */
+/// int32_t there = vbr_has(&handle[1], 5, 100000);          /* VBR_YES, from another thread too */
 /// ```
 #[unsafe(no_mangle)]
 pub extern "C" fn vbr_has(handle: &mut Handle, key: u64, budget: u32) -> i32

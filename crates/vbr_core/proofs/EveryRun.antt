@@ -104,16 +104,6 @@ incarnations_after-snoc shape run event =
     incarnations-append shape (opening shape) (at_opening shape) run (event ∷ [])
     ∙ incarnations_from-append shape (incarnations_after shape run) (happens shape (world_after shape run) (incarnations_after shape run) event.pass event.step) []
 
-notes-append : (shape : Dimensions) (w : World) (a : Incarnations) (notes : ℕ → Notes) (xs ys : List Event) →
-    notes_from shape w a notes (xs ++ ys) ≡ notes_from shape (world_from shape w xs) (incarnations_from shape a (chronicle_from shape w a xs)) (notes_from shape w a notes xs) ys
-notes-append shape w a notes [] ys = refl
-notes-append shape w a notes (x ∷ xs) ys =
-    let b = incarnations_with shape w a x in
-    let v = after shape w x.pass x.step in
-    let new = put notes x.pass (notes_with shape w b x.pass x.step (notes x.pass)) in
-    notes-append shape v b new xs ys
-    ∙ sym (ap (λ i. notes_from shape (world_from shape v xs) i (notes_from shape v b new xs) ys) (incarnations_from-append shape a (happens shape w a x.pass x.step) (chronicle_from shape v b xs)))
-
 -- what was there after a beginning of a run stays to its end
 pub run_grows : (shape : Dimensions) (passes : ℕ) (xs ys : List Event) → IsShape shape → IsRun shape passes (xs ++ ys) → Grows (incarnations_after shape xs) (incarnations_after shape (xs ++ ys))
 run_grows shape passes xs ys is ok =

@@ -76,20 +76,12 @@ one_held snd e s c d g h = one_late snd.slots c d e (g.slot ∙ sym h.slot) g.la
 pub known_key : {shape : Dimensions} {a : Incarnations} {know : Know} {notes : Notes} → Sound shape a → IsNoted a know notes → (s c key : ℕ) → IsHeldIncarnation a know.epoch s c → Knows know (KeyOf s key) → a.key c ≡ key
 known_key {shape} {a} {know} {notes} snd k s c key h m = let x = key_held k s key m in ap a.key (one_held snd know.epoch s c x.0 h x.1) ∙ x.2
 
--- a known value of a slot is that of the incarnation held there
-pub known_value : {shape : Dimensions} {a : Incarnations} {know : Know} {notes : Notes} → Sound shape a → IsNoted a know notes → (s c value : ℕ) → IsHeldIncarnation a know.epoch s c → Knows know (ValueOf s value) → a.value c ≡ value
-known_value {shape} {a} {know} {notes} snd k s c value h m = let x = value_held k s value m in ap a.value (one_held snd know.epoch s c x.0 h x.1) ∙ x.2
-
 pub known_birth : {shape : Dimensions} {a : Incarnations} {know : Know} {notes : Notes} → Sound shape a → IsNoted a know notes → (s c birth : ℕ) → IsHeldIncarnation a know.epoch s c → Knows know (BirthOf s birth) → a.birth c ≡ birth
 known_birth {shape} {a} {know} {notes} snd k s c birth h m = let x = birth_held k s birth m in ap a.birth (one_held snd know.epoch s c x.0 h x.1) ∙ x.2
 
 -- a slot has one known key
 pub one_key : {shape : Dimensions} {a : Incarnations} {know : Know} {notes : Notes} → Sound shape a → IsNoted a know notes → (s i j : ℕ) → Knows know (KeyOf s i) → Knows know (KeyOf s j) → i ≡ j
 one_key snd k s i j m n = let x = key_held k s i m in sym x.2 ∙ known_key snd k s x.0 j x.1 n
-
--- a slot has one known value
-pub one_value : {shape : Dimensions} {a : Incarnations} {know : Know} {notes : Notes} → Sound shape a → IsNoted a know notes → (s i j : ℕ) → Knows know (ValueOf s i) → Knows know (ValueOf s j) → i ≡ j
-one_value snd k s i j m n = let x = value_held k s i m in sym x.2 ∙ known_value snd k s x.0 j x.1 n
 
 -- a slot has one known birth
 pub one_birth : {shape : Dimensions} {a : Incarnations} {know : Know} {notes : Notes} → Sound shape a → IsNoted a know notes → (s i j : ℕ) → Knows know (BirthOf s i) → Knows know (BirthOf s j) → i ≡ j

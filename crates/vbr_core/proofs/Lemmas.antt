@@ -40,6 +40,6 @@ pub use Rattle.vbr_core.proofs.ListedGrowth.{calls_or_adds_none}
 -- The link of a place that a pass holds unmarked, while the pass fills a slot in its hand.
 pub use Rattle.vbr_core.proofs.ListedLinks.{key_leaves_links, link_leaves_links}
 -- What the lists stand for while the keys that a world opens with are linked, from the last on: the bare world before the first, and all of them after the last. A world that opens with none is the bare one.
-pub use Rattle.vbr_core.proofs.OpenedWorlds.{bare, opening_all, opening_bare, opening_none, opening_step}
+pub use Rattle.vbr_core.proofs.OpenedWorlds.{bare, opening_all, opening_none, opening_step}
 -- The first key of a bucket, from a number on.
 pub use Rattle.vbr_core.proofs.OpeningKeys.{FirstOrNone, IsFirst, first_or_none}

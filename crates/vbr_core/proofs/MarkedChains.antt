@@ -6,7 +6,7 @@ use Rattle.vbr_words.specs.Dimensions.{Dimensions}
 use Rattle.vbr_words.specs.Words.{link_of}
 use Rattle.vbr_words.specs.declared.link.Link.{Link}
 use Rattle.vbr_words.specs.declared.place.At.{At}
-use Rattle.vbr_words.specs.declared.place.At.TheVariants.{Head, Slot}
+use Rattle.vbr_words.specs.declared.place.At.TheVariants.{Slot}
 use Rattle.vbr_core.specs.Opened.{opening_keys}
 use Rattle.vbr_core.specs.History.{set_after}
 use Rattle.vbr_core.specs.Knowledge.{Know}
@@ -15,10 +15,10 @@ use Rattle.vbr_core.specs.Acceptance.{Accepts}
 use Rattle.vbr_core.specs.Machine.{World}
 use Rattle.vbr_core.specs.Machine as machine
 use Rattle.vbr_core.specs.Membership.{Knows, LeadsTo, itself, onward, StandsBehind, StandsBefore}
-use Rattle.vbr_core.specs.Incarnations.{State, Linked, Marked, Incarnations, last_in}
+use Rattle.vbr_core.specs.Incarnations.{State, Linked, Marked, Incarnations}
 use Rattle.vbr_core.specs.Chronicles.{Before, AtHead, AtNode, IsOpen, BelongsBehind, BelongsBefore, next_of}
 use Rattle.vbr_core.specs.Sound.{IsListed, IsRemoved, IsApart, Sound, Grows}
-use Rattle.vbr_core.specs.Notes.{Notes, before_at}
+use Rattle.vbr_core.specs.Notes.{Notes}
 use Rattle.vbr_core.specs.Agreement.{IsHeldIncarnation, IsHeldNext, IsGoodLink, IsPair, IsNoted, Agrees}
 use Rattle.vbr_core.specs.declared.history.Op.{Op}
 use Rattle.vbr_core.specs.declared.event.Step.TheVariants.{ConfirmAbsent}
@@ -131,12 +131,6 @@ one_on {shape} {a} {know} {notes} snd noted first last s next r q k m = go last.
 leads_through : {shape : Dimensions} {a : Incarnations} {know : Know} {notes : Notes} → Sound shape a → IsNoted a know notes → (first : Option ℕ) (link last : Link) → Reaches a know.epoch first link → LeadsTo know link last → Reaches a know.epoch first last
 leads_through snd noted first link _ r itself = r
 leads_through snd noted first link _ r (onward last s next h q k m) = one_on snd noted first last s next (leads_through snd noted first link last r h) q k m
-
--- the first of a pair stands at its place
-pair_before : (a : Incarnations) (at : At) (of n : Option ℕ) → IsPair a at of n → before_of at of ≡ before_at a at
-pair_before a (Head b) of n p = refl
-pair_before a (Slot s) None n p = absurd (let q = p.1 in cc)
-pair_before a (Slot s) (Some c) n p = let q : c ≡ last_in a s = (let r = p.1 in rw p.2 (cc)) in ap AtNode q
 
 -- the premises: the world agrees with its incarnations, a known unmarked link stands at its place, and known marked links lead on from it
 module _ {shape : Dimensions} {w : World} {a : Incarnations} {notes : ℕ → Notes} (now : Agrees shape w a notes) (p : ℕ) (at : At) (link last : Link) (known : Knows (w.know p) (LinkAt at link)) (unmarked : link.mark ≡ false) (shown : machine.link_at w at ≡ link) (leads : LeadsTo (w.know p) link last) where

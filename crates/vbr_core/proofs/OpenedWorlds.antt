@@ -1,5 +1,5 @@
 -- What the lists stand for while the keys that a world opens with are linked, from the last on.
-use Rattle.std.proofs.Common.{◌≡◌, ◌≢◌, ℕ, suc, ◌-◌, ◌^◌, ◌<◌, ◌≤◌, max, nat_lt, [], length, Some, None, ◌⊎◌, inl, inr, refl, sym, ap, ◌∙◌, arith}
+use Rattle.std.proofs.Common.{◌≡◌, ◌≢◌, ℕ, suc, ◌-◌, ◌^◌, ◌<◌, ◌≤◌, max, nat_lt, [], Some, None, ◌⊎◌, inl, inr, refl, sym, ap, ◌∙◌, arith}
 use Rattle.std.proofs.lemmas.Bool.{cases_eq, cases_lt, cond-true, cond-false, lt-ltb, le-ltb, eq-eqb, ne_eqb}
 use Rattle.std.specs.Prelude.{slice_index_or}
 use Rattle.std.proofs.lemmas.List.{get_or_past}
@@ -165,10 +165,3 @@ opening_none shape = λ i. record (opening shape) {
   where
     none : key_count shape - key_count shape ≡ 0
     none = omega arith
-
--- a shape that has no keys opens empty
-pub opening_bare : (shape : Dimensions) → shape.keys ≡ [] → opening shape ≡ bare
-opening_bare shape none = sym (opening_all shape) ∙ ap (opening_from shape) count ∙ opening_none shape
-  where
-    count : 0 ≡ key_count shape
-    count = ap length (sym none)

@@ -100,11 +100,6 @@ begins_for_begins pass seen run begins = (begins.0, begins.1)
 
 -- ---- what passes know
 
--- an exchange or a confirming load does one of two
-by_test : {A : Type 0} (b : Bool) (f : World → A) (x y : World) (won lost : A) → f x ≡ won → f y ≡ lost → f (cond b x y) ≡ cond b won lost
-by_test true f x y won lost p q = p
-by_test false f x y won lost p q = q
-
 -- a step leaves what other passes know
 pub know_other : (shape : Dimensions) (w : World) (p q : ℕ) (step : Step) → p ≢ q → (after shape w q step).know p ≡ w.know p
 know_other shape w p q ReadEpoch ne = put_other w.know q _ p ne

@@ -29,7 +29,7 @@ abbrev pub EachMade : Dimensions → List Event → List PassView → Type 0
 EachMade shape run [] = Unit {0}
 EachMade shape run (p ∷ ps) = (own_calls shape run p.trace.who ≡ made_by p.trace) × EachMade shape run ps
 
--- the report tells the end of a run that begins with what each pass has seen, and has no other event of it, so of each pass just the calls that it has made; the calls are legal from the empty set, and the run is safe
+-- the report tells the end of a run that begins with what each pass has seen, and has no other event of it, so of each pass just the calls that it has made; the calls are legal from the opening keys, perhaps none, and the run is safe
 pub record Closes (t : TableView) (passes : List PassView) (report : Report) : Type 0 where
   pub run : List Event
   pub is_run : IsRun t.shape t.passes run

@@ -109,6 +109,22 @@ fn refuses_shapes(rt: HostRuntime) {
     }
 }
 
+/// Epochs have 39 bits however few the slots: the last epoch that fits beside slots of 20 bits is
+/// refused.
+#[test]
+fn refuses_epochs_of_43_bits(rt: HostRuntime) {
+    let rows = [
+        (8_796_093_022_207, Err(ShapeError::LastEpoch)),
+        (549_755_813_888, Err(ShapeError::LastEpoch)),
+        (549_755_813_887, Ok((1_048_575, 549_755_813_887))),
+    ];
+    for (last_epoch, answer) in rows {
+        let shape = Shape::new(1_048_575, 65_536, last_epoch);
+        let numbers = shape.map(|s| (s.slots(), s.last_epoch()));
+        assert_eq!(rt; numbers, answer);
+    }
+}
+
 #[test]
 fn refuses_buckets_to_spread_over(rt: HostRuntime) -> Result<(), Fail> {
     let shape = Shape::new(7, 3, 9)?;

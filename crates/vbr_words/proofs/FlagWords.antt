@@ -59,9 +59,6 @@ bit_at-first_bits bit (suc n) i low =
 in_word : (number i : ℕ) → i < 64 → (64 * number + i) / 64 ≡ number
 in_word number i low = omega arith
 
-bit_in_word : (number i : ℕ) → i < 64 → (64 * number + i) % 64 ≡ i
-bit_in_word number i low = omega arith
-
 again : (s : ℕ) → 64 * (s / 64) + s % 64 ≡ s
 again s = omega arith
 
