@@ -18,4 +18,4 @@ pub use Rattle.vbr_player.specs.Standing
 pub use Rattle.vbr_player.specs.Ending
 pub use Rattle.vbr_player.specs.Playing
 pub use Rattle.vbr_settings.specs.Options
-pub use Rattle.vbr_program.specs.Program
+pub mod Program

@@ -4,8 +4,9 @@
 //! 2021).
 //!
 //! [`parse_script`] reads a script, [`play`] plays one over any reader and writer, and [`run`] is the
-//! body of the program, with its options and exit statuses. What they do stands in the crates that
-//! are named here; a user needs this one alone.
+//! body of the program, with its options, its exit statuses and its lines on standard error; tests from
+//! outside call it with arguments and streams of their own. What the others do stands in the crates
+//! that are named here; a user needs this one alone.
 //!
 //! ```rattle file=crates/vbr_example/src/main.rt
 //! let config = Config::new(Shape::new(64, 16, MAX_EPOCH)?, 3, 100_000, false)?;
@@ -21,10 +22,12 @@
 //! nothing was written; a failing writer has a beginning of the output.
 #![tactic(auto)]
 
+pub mod program;
+mod report;
+
+pub use program::run;
 pub use vbr_player as player;
 pub use vbr_player::{Gate, NoGate, Reply, RunError, Totals, play};
-pub use vbr_program as program;
-pub use vbr_program::run;
 pub use vbr_script as script;
 pub use vbr_script::{
     Line, MAX_OPERATIONS, MAX_SYNCS, Meaning, Script, ScriptError, ScriptFault, parse_script,

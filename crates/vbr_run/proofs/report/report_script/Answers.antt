@@ -3,10 +3,10 @@ use Rattle.std.proofs.Common.{◌≡◌, ℕ, List, [], ◌∷◌, ◌++◌, cod
 use Rattle.std.proofs.lemmas.List.{append-nil}
 use Rattle.vbr_transcript.specs.Writing.{AppendsSome}
 use Rattle.vbr_script.specs.Grammar.{fault_number}
-use Rattle.vbr_program.specs.Program.{error_line}
+use Rattle.vbr_run.specs.Program.{error_line}
 use Rattle.vbr_script.specs.declared.script.ScriptFault.{ScriptFault}
 use Rattle.vbr_transcript.specs.declared.error.RunError.TheVariants.{Script}
-use Rattle.vbr_program.proofs.report.report_script.Goals as goal
+use Rattle.vbr_run.proofs.report.report_script.Goals as goal
 
 joined : (a b c d e : List ℕ) → a ++ (b ++ (c ++ (d ++ (e ++ [])))) ≡ (((a ++ b) ++ c) ++ d) ++ e
 joined a b c d e = simp (append_assoc, append-nil)

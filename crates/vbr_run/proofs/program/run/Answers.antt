@@ -2,7 +2,7 @@
 use Rattle.std.proofs.Common.{inl, inr, ◌∙◌, sym}
 use Rattle.std.specs.Prelude.{Err}
 use Rattle.vbr_transcript.specs.declared.error.RunError.TheVariants.{Memory}
-use Rattle.vbr_program.proofs.program.run.Goals as goal
+use Rattle.vbr_run.proofs.program.run.Goals as goal
 
 pub returns-in-Err-Usage-clause-played : goal.returns-in-Err-Usage-clause-played
 returns-in-Err-Usage-clause-played g c passed shaped = let refused = rw c.in-Err-Usage.field-0-is at c.in-Err-Usage.ensures.error in let lacks = c.show.ensures.memory (refused passed) in (Err Memory, lacks.1, (lacks.0, lacks.2))

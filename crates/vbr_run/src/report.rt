@@ -1,8 +1,8 @@
 // The line on standard error, and the exit status, of a run that wasn't done.
 ghost use Rattle.std.specs.Prelude.{◌≡◌};
 ghost use Rattle.vbr_transcript.specs.Writing.{AppendsSome};
-ghost use Rattle.vbr_program.specs.Program.{error_status, error_line, shape_line, shape_fault_number};
-ghost use Rattle.vbr_program.specs.declared.program.TheConstants.{USAGE};
+ghost use Rattle.vbr_run.specs.Program.{error_status, error_line, shape_line, shape_fault_number};
+ghost use Rattle.vbr_run.specs.declared.program.TheConstants.{USAGE};
 ghost use Rattle.vbr_transcript.specs.declared.error.RunError.TheVariants.{Script};
 
 use crate::program::{DEVICE_FAULT, NO_RESOURCES, SCRIPT_FAULT, USAGE};

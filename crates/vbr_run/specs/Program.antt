@@ -11,7 +11,7 @@ use Rattle.vbr_player.specs.Playing.{Plays}
 use Rattle.vbr_transcript.specs.declared.totals.Totals.{Totals}
 use Rattle.vbr_transcript.specs.declared.error.RunError.{RunError}
 use Rattle.vbr_transcript.specs.declared.error.RunError.TheVariants as error
-use Rattle.vbr_program.specs.declared.program.TheConstants.{DONE, USAGE, SCRIPT_FAULT, DEVICE_FAULT, NO_RESOURCES}
+use Rattle.vbr_run.specs.declared.program.TheConstants.{DONE, USAGE, SCRIPT_FAULT, DEVICE_FAULT, NO_RESOURCES}
 
 -- the exit status after an error
 abbrev pub error_status : RunError → ℕ

@@ -3,8 +3,8 @@ ghost use Rattle.std.specs.Prelude.{◌≡◌, ◌⊎◌, Some, None, map};
 ghost use Rattle.clap.specs.Words.{kind_of};
 ghost use Rattle.vbr_words.specs.declared.shape.ShapeError.{ShapeError};
 ghost use Rattle.vbr_settings.specs.Options.{AreOptions, settings_of, shape_fault};
-ghost use Rattle.vbr_program.specs.declared.program.TheConstants.{USAGE};
-ghost use Rattle.vbr_program.specs.Program.{IsPlayed, IsUnshaped, Helps, IsFault, LacksMemory};
+ghost use Rattle.vbr_run.specs.declared.program.TheConstants.{USAGE};
+ghost use Rattle.vbr_run.specs.Program.{IsPlayed, IsUnshaped, Helps, IsFault, LacksMemory};
 
 use crate::report::{report, report_shape};
 use clap::error::ErrorKind;
@@ -14,6 +14,7 @@ use std::io::{Read, Write};
 use std::sync::Wait;
 use std::thread::Threads;
 use vbr_player::{NoGate, play};
+pub use vbr_settings::knows_its_options;
 use vbr_settings::{OptionsError, read_options};
 use vbr_transcript::{RunError, WriteFault, write_pieces, write_whole};
 

@@ -3,8 +3,8 @@ use Rattle.std.proofs.Common.{◌≡◌, ℕ, List, [], ◌∷◌, ◌++◌, cod
 use Rattle.std.proofs.lemmas.List.{append-nil}
 use Rattle.vbr_words.specs.declared.shape.ShapeError.{ShapeError}
 use Rattle.vbr_transcript.specs.Writing.{AppendsSome}
-use Rattle.vbr_program.specs.Program.{shape_line, shape_fault_number}
-use Rattle.vbr_program.proofs.report.report_shape.Goals as goal
+use Rattle.vbr_run.specs.Program.{shape_line, shape_fault_number}
+use Rattle.vbr_run.proofs.report.report_shape.Goals as goal
 
 joined : (a b c : List ℕ) → a ++ (b ++ (c ++ [])) ≡ (a ++ b) ++ c
 joined a b c = simp (append_assoc, append-nil)
