@@ -3,7 +3,7 @@ ghost use Rattle.std.specs.Prelude.{◌≡◌, [], IfOk, IfErr};
 ghost use Rattle.vbr_player.specs.Working.{EachPlayed, HaveRoom};
 ghost use Rattle.vbr_player.specs.Meeting.{AreOfOne, PlayedAndMet};
 ghost use Rattle.vbr_player.specs.Playing.{IsWant};
-ghost use Rattle.vbr_player.specs.Starting.{AreEndedBy, AreFor};
+ghost use Rattle.vbr_player.specs.Starting.{AreEndedBy};
 
 use crate::gate::Gate;
 use crate::meeting::meet_all;
@@ -17,7 +17,7 @@ use std::thread::{Scope, Threads};
 use vbr_transcript::RunError;
 
 // Plays a phase, each worker that has lines in it in a thread of its own, and joins them all; then
-// all meet.
+// all meet. Where a thread can't be started, those that were end first.
 pub fn play_phase<'e, R: Threads + Wait, G: Gate + Sync>(
     rt: &'e R,
     alloc: Global,
@@ -29,35 +29,20 @@ pub fn play_phase<'e, R: Threads + Wait, G: Gate + Sync>(
     ensures met { IfOk result (λ met. PlayedAndMet part.entry.lines.now workers.entry.items met.items) }
     ensures fault { IfErr result IsWant }
 {
-    let workers = play_apart(rt, alloc, part, workers)?;
-    Ok(meet_all(workers))
-}
-
-// Starts a thread for each worker that has lines, and joins them all. Where a thread can't be started,
-// those that were end first.
-fn play_apart<'e, R: Threads + Wait, G: Gate + Sync>(
-    rt: &'e R,
-    alloc: Global,
-    part: Part<'e, G>,
-    workers: Vec<Worker<'e>>,
-) -> Result<Vec<Worker<'e>>, RunError>
-    requires { HaveRoom workers.items part.lines.now }
-    ensures played { IfOk result (λ played. EachPlayed part.entry.lines.now workers.entry.items played.items) }
-    ensures fault { IfErr result IsWant }
-{
-    thread::scope(
+    let workers = thread::scope(
         thread::scope_env::<'e>(),
         rt,
         move |scope| -> Result<Vec<Worker>, RunError>
             requires { HaveRoom workers.items part.lines.now }
             ensures played { IfOk result (λ played. EachPlayed part.entry.lines.now workers.entry.items played.items) }
             ensures fault { IfErr result IsWant }
-        { apart(scope, rt, alloc, part, workers) },
-    )
+        { play_apart(scope, rt, alloc, part, workers) },
+    )?;
+    Ok(meet_all(workers))
 }
 
 // Gives each worker its turn, and waits for all.
-fn apart<'s, 'e, R: Threads + Wait, G: Gate + Sync>(
+fn play_apart<'s, 'e, R: Threads + Wait, G: Gate + Sync>(
     scope: &'s Scope<'s, &'e ()>,
     rt: &'e R,
     alloc: Global,
@@ -68,31 +53,15 @@ fn apart<'s, 'e, R: Threads + Wait, G: Gate + Sync>(
     ensures played { IfOk result (λ played. EachPlayed part.entry.lines.now workers.entry.items played.items) }
     ensures fault { IfErr result IsWant }
 {
-    let room = Vec::with_capacity(alloc, workers.len())?;
+    let mut turns = Vec::with_capacity(alloc, workers.len())?;
     let played = Vec::with_capacity(alloc, workers.len())?;
-    let turns = start_all(scope, part, workers, room)?;
-    join_all(rt, turns, played)
-}
-
-// Gives each worker its turn.
-fn start_all<'s, 'e, G: Gate + Sync>(
-    scope: &'s Scope<'s, &'e ()>,
-    part: Part<'e, G>,
-    workers: Vec<Worker<'e>>,
-    mut turns: Vec<Turn<'e>>,
-) -> Result<Vec<Turn<'e>>, RunError>
-    requires room { HaveRoom workers.items part.lines.now }
-    requires none { turns.items ≡ [] }
-    ensures turns { IfOk result (λ turns. AreFor part.entry.lines.now turns.items workers.entry.items) }
-    ensures fault { IfErr result IsWant }
-{
     for worker in workers {
         let turn = take_turn(scope, Task { part, worker })?;
         let Ok(()) = turns.push(turn) else {
             return Err(RunError::Memory);
         };
     }
-    Ok(turns)
+    join_all(rt, turns, played)
 }
 
 // Waits for the workers, in their order. The vector for them has room for all.

@@ -1,12 +1,11 @@
 // The phases that are played on one set.
-ghost use Rattle.std.specs.Prelude.{◌≡◌, ◌≤◌, nat_le, length, map, IfOk, IfErr};
+ghost use Rattle.std.specs.Prelude.{◌≡◌, ◌≤◌, nat_le, length, IfOk, IfErr};
 ghost use Rattle.std.specs.List.{prefix_len};
 ghost use Rattle.vbr_slots.specs.Views.{new_passes};
-ghost use Rattle.vbr_player.specs.Ending.{PlayedWhole};
 ghost use Rattle.vbr_player.specs.Playing.{IsWant};
-ghost use Rattle.vbr_player.specs.Spans.{IsSpan};
+ghost use Rattle.vbr_player.specs.Spans.{IsSpan, PlayedSpan};
 
-use crate::ending::take_apart;
+use crate::ending::{merged, take_apart};
 use crate::gate::Gate;
 use crate::opening::workers_of;
 use crate::part::Span;
@@ -19,17 +18,17 @@ use vbr_set::{Pass, VbrSet};
 use vbr_transcript::{Reply, RunError};
 
 // Plays all lines of a span on a new set: by a worker for each of its passes, one phase after the
-// other. It gives the passes and the replies of the workers.
-pub fn play_phases<'e, R: Threads + Wait, G: Gate + Sync>(
+// other. It gives the passes of the set, and the replies in script order.
+pub fn play_span<'e, R: Threads + Wait, G: Gate + Sync>(
     rt: &'e R,
     alloc: Global,
     set: &'e VbrSet,
     passes: Vec<Pass>,
     span: Span<'e, G>,
-) -> Result<(Vec<Pass>, Vec<Vec<Reply>>), RunError>
+) -> Result<(Vec<Pass>, Vec<Reply>), RunError>
     requires span { IsSpan set.now.passes span.from span.to span.part.lines.now }
     requires new { passes.items ≡ new_passes set.now 0 set.now.passes }
-    ensures played { IfOk result (λ parts. PlayedWhole set.now span.entry.part.lines.now span.entry.to parts.0.items (map (λ replies. replies.items) parts.1.items)) }
+    ensures played { IfOk result (λ played. PlayedSpan set.now span.entry.part.lines.now span.entry.to played.0.items played.1.items) }
     ensures fault { IfErr result IsWant }
 {
     let whole = span.part;
@@ -40,7 +39,9 @@ pub fn play_phases<'e, R: Threads + Wait, G: Gate + Sync>(
         workers = play_phase(rt, alloc, whole.slice(first, end), workers)?;
         first = end;
     }
-    Ok(take_apart(alloc, workers)?)
+    let (passes, own) = take_apart(alloc, workers)?;
+    let replies = merged(alloc, whole.lines, own)?;
+    Ok((passes, replies))
 }
 
 // How many of the first lines are of the phases up to one.

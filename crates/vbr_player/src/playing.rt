@@ -1,9 +1,5 @@
 //! The player.
-ghost use Rattle.std.specs.Prelude.{◌≡◌, ◌+◌, ◌≤◌, IfOk, IfErr};
-ghost use Rattle.vbr_player.specs.Playing.{Plays, Prints, IsFaultOf, IsWant};
-ghost use Rattle.vbr_transcript.specs.Runs.{IsScriptRun};
-ghost use Rattle.vbr_script.specs.Scripts.{ArePhased, AreRenewalsFrom};
-ghost use Rattle.vbr_script.specs.declared.script.TheConstants.{MAX_SYNCS};
+ghost use Rattle.vbr_player.specs.Playing.{Plays};
 
 use crate::gate::Gate;
 use crate::opening::open;
@@ -13,11 +9,9 @@ use std::alloc::Global;
 use std::io::{Read, Write};
 use std::sync::Wait;
 use std::thread::Threads;
-use vbr_script::{Script, parse_script};
+use vbr_script::parse_script;
 use vbr_settings::Config;
-use vbr_transcript::{
-    Reply, RunError, Totals, WriteFault, layout, read_text, totals_of, write_whole,
-};
+use vbr_transcript::{RunError, Totals, WriteFault, layout, read_text, totals_of, write_whole};
 
 /// Reads a script to its end, plays it, and writes the replies and the totals.
 ///
@@ -60,52 +54,19 @@ pub fn play<RT: Threads + Wait, R: Read, W: Write, G: Gate + Sync>(
     ensures { Plays config (R.remaining reader.old) (W.contents writer.old) (W.contents writer.new) result }
 {
     let text = read_text(alloc, reader)?;
-    let (output, totals) = play_text(rt, alloc, &config, &text, gate)?;
-    match write_whole(writer, &output) {
-        Ok(()) => Ok(totals),
-        Err(WriteFault) => Err(RunError::Write),
-    }
-}
-
-// What playing a text prints, and its totals.
-fn play_text<RT: Threads + Wait, G: Gate + Sync>(
-    rt: &RT,
-    alloc: Global,
-    config: &Config,
-    text: &[u8],
-    gate: &G,
-) -> Result<(Vec<u8>, Totals), RunError>
-    ensures ok { IfOk result (λ played. Prints config.now text.now played.1 played.0.items) }
-    ensures fault { IfErr result (IsFaultOf config.now.workers text.now) }
-{
-    let script = parse_script(alloc, text, config.workers())?;
-    let (replies, totals) = play_script(rt, alloc, config, &script, gate)?;
-    let output = layout(alloc, config.epoch(), &replies, &totals)?;
-    Ok((output, totals))
-}
-
-// The replies to the lines of a script, and its totals.
-fn play_script<RT: Threads + Wait, G: Gate + Sync>(
-    rt: &RT,
-    alloc: Global,
-    config: &Config,
-    script: &Script,
-    gate: &G,
-) -> Result<(Vec<Reply>, Totals), RunError>
-    requires phased { ArePhased config.now.workers script.now.phases script.now.lines.items }
-    requires renewed { AreRenewalsFrom 0 script.now.phases script.now.renewals.items }
-    requires few { script.now.phases ≤ MAX_SYNCS + 1 }
-    ensures run { IfOk result (λ played. IsScriptRun config.now.shape config.now.workers script.now.renewals.items script.now.lines.items played.0.items played.1) }
-    ensures fault { IfErr result IsWant }
-{
-    let opened = open(alloc, config)?;
+    let script = parse_script(alloc, &text, config.workers())?;
+    let opened = open(alloc, &config)?;
     let whole = Part {
         lines: &script.lines,
         first: 0,
         budget: config.budget(),
         gate,
     };
-    let (replies, report) = play_sets(rt, alloc, opened, whole, script)?;
+    let (replies, report) = play_sets(rt, alloc, opened, whole, &script)?;
     let totals = totals_of(&script.lines, &replies, report.keys, report.epoch);
-    Ok((replies, totals))
+    let output = layout(alloc, config.epoch(), &replies, &totals)?;
+    match write_whole(writer, &output) {
+        Ok(()) => Ok(totals),
+        Err(WriteFault) => Err(RunError::Write),
+    }
 }

@@ -5,12 +5,11 @@ ghost use Rattle.vbr_script.specs.Scripts.{ArePhased, AreRenewalsFrom};
 ghost use Rattle.vbr_script.specs.declared.script.TheConstants.{MAX_SYNCS};
 ghost use Rattle.vbr_transcript.specs.Runs.{AreExplained};
 ghost use Rattle.vbr_player.specs.Playing.{IsWant};
-ghost use Rattle.vbr_player.specs.Spans.{HasPlayedSpan, IsFollowed, IsSpan, PlayedSpan};
 
-use crate::ending::{close, merged, renew};
+use crate::ending::{close, renew};
 use crate::gate::Gate;
 use crate::part::{Part, Span};
-use crate::phases::{count_up_to, play_phases};
+use crate::phases::{count_up_to, play_span};
 use std::alloc::Global;
 use std::sync::Wait;
 use std::thread::Threads;
@@ -41,82 +40,27 @@ pub fn play_sets<R: Threads + Wait, G: Gate + Sync>(
     let mut first = 0;
     let mut phase = 0;
     for renewal in &script.renewals {
+        let (set, passes) = now;
         let end = first + count_up_to(&whole.lines[first..], *renewal);
         let span = Span {
             part: whole.slice(first, end),
             from: phase,
             to: *renewal + 1,
         };
-        let (next, more) = play_and_renew(rt, alloc, now, span)?;
+        let (passes, more) = play_span(rt, alloc, &set, passes, span)?;
+        now = renew(alloc, set, passes)?;
         replies.extend_from_slice(&more)?;
-        now = next;
         first = end;
         phase = *renewal + 1;
     }
+    let (set, passes) = now;
     let last = Span {
         part: whole.slice(first, whole.lines.len()),
         from: phase,
         to: script.phases,
     };
-    let (report, more) = play_and_close(rt, alloc, now, last)?;
+    let (passes, more) = play_span(rt, alloc, &set, passes, last)?;
+    let report = close(alloc, set, passes)?;
     replies.extend_from_slice(&more)?;
     Ok((replies, report))
-}
-
-// Plays a span on a new set, and renews the set.
-fn play_and_renew<R: Threads + Wait, G: Gate + Sync>(
-    rt: &R,
-    alloc: Global,
-    opened: (VbrSet, Vec<Pass>),
-    span: Span<G>,
-) -> Result<((VbrSet, Vec<Pass>), Vec<Reply>), RunError>
-    requires span { IsSpan opened.0.passes span.from span.to span.part.lines.now }
-    requires new { opened.1.items ≡ new_passes opened.0 0 opened.0.passes }
-    requires some { 0 < opened.0.passes }
-    ensures followed { IfOk result (λ played. IsFollowed opened.0 span.entry.part.lines.now played.1.items played.0.0) }
-    ensures new { IfOk result (λ played. played.0.1.items ≡ new_passes played.0.0 0 played.0.0.passes) }
-    ensures fault { IfErr result IsWant }
-{
-    let (set, passes) = opened;
-    let (passes, replies) = play_span(rt, alloc, &set, passes, span)?;
-    let next = renew(alloc, set, passes)?;
-    Ok((next, replies))
-}
-
-// Plays a span on a new set, and closes the set.
-fn play_and_close<R: Threads + Wait, G: Gate + Sync>(
-    rt: &R,
-    alloc: Global,
-    opened: (VbrSet, Vec<Pass>),
-    span: Span<G>,
-) -> Result<(Report, Vec<Reply>), RunError>
-    requires span { IsSpan opened.0.passes span.from span.to span.part.lines.now }
-    requires new { opened.1.items ≡ new_passes opened.0 0 opened.0.passes }
-    requires some { 0 < opened.0.passes }
-    ensures played { IfOk result (λ played. HasPlayedSpan opened.0 span.entry.part.lines.now played.1.items played.0) }
-    ensures fault { IfErr result IsWant }
-{
-    let (set, passes) = opened;
-    let (passes, replies) = play_span(rt, alloc, &set, passes, span)?;
-    let report = close(alloc, set, passes)?;
-    Ok((report, replies))
-}
-
-// Plays a span on a new set. It gives the passes of the set, and the replies in script order.
-fn play_span<'e, R: Threads + Wait, G: Gate + Sync>(
-    rt: &'e R,
-    alloc: Global,
-    set: &'e VbrSet,
-    passes: Vec<Pass>,
-    span: Span<'e, G>,
-) -> Result<(Vec<Pass>, Vec<Reply>), RunError>
-    requires span { IsSpan set.now.passes span.from span.to span.part.lines.now }
-    requires new { passes.items ≡ new_passes set.now 0 set.now.passes }
-    ensures played { IfOk result (λ played. PlayedSpan set.now span.entry.part.lines.now span.entry.to played.0.items played.1.items) }
-    ensures fault { IfErr result IsWant }
-{
-    let lines = span.part.lines;
-    let (passes, own) = play_phases(rt, alloc, set, passes, span)?;
-    let replies = merged(alloc, lines, own)?;
-    Ok((passes, replies))
 }

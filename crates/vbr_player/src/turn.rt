@@ -5,7 +5,7 @@ ghost use Rattle.vbr_player.specs.Working.{Played};
 
 use crate::gate::Gate;
 use crate::part::Task;
-use crate::worker::Worker;
+use crate::worker::{Worker, play};
 use std::snapshot::Snapshot;
 use std::thread::{Promise, PromisedHandle, Scope, Threads};
 use vbr_script::Line;
@@ -40,11 +40,14 @@ pub fn take_turn<'s, 'e, G: Gate + Sync>(
     ensures fault { IfErr result (λ error. error ≡ RunError.Worker) }
 {
     let who = task.worker.caller.pass().who();
-    if task.part.lines.iter().any(|line| line.worker == who) {
-        Ok(Turn::Started(start(scope, task)?))
-    } else {
-        Ok(Turn::Done(play(task)))
+    if !task.part.lines.iter().any(|line| line.worker == who) {
+        return Ok(Turn::Done(play(task)));
     }
+    let promise = WillPlay {
+        before: Snapshot::of(&task.worker),
+        lines: task.part.lines,
+    };
+    Ok(Turn::Started(begin(scope, promise, task, play)?))
 }
 
 // Waits for a worker, if it plays.
@@ -55,31 +58,6 @@ pub fn end<'l, R: Threads>(rt: &R, turn: Turn<'l>) -> Worker<'l>
         Turn::Started(thread) => thread.join(rt),
         Turn::Done(worker) => worker,
     }
-}
-
-// Starts a worker's thread.
-fn start<'s, 'e, G: Gate + Sync>(
-    scope: &'s Scope<'s, &'e ()>,
-    task: Task<'e, G>,
-) -> Result<PromisedHandle<Worker<'e>, WillPlay<'e>>, RunError>
-    ensures before { IfOk result (λ started. started.promise.before.value ≡ task.entry.worker) }
-    ensures lines { IfOk result (λ started. started.promise.lines.now ≡ task.entry.part.lines.now) }
-    ensures fault { IfErr result (λ error. error ≡ RunError.Worker) }
-{
-    let promise = WillPlay {
-        before: Snapshot::of(&task.worker),
-        lines: task.part.lines,
-    };
-    begin(scope, promise, task, play)
-}
-
-// What a worker's thread runs.
-fn play<'e, G: Gate>(task: Task<'e, G>) -> Worker<'e>
-    ensures { Played task.entry.part.lines.now task.entry.worker result }
-{
-    let Task { part, mut worker } = task;
-    worker.play(&part);
-    worker
 }
 
 // Starts a thread for a function that keeps a promise. The closure's result has to be of a type

@@ -4,7 +4,7 @@ ghost use Rattle.vbr_core.specs.declared.history.Op.TheVariants.{Get};
 ghost use Rattle.vbr_player.specs.Working.{reply_told, HasRoom, Replied, Played};
 
 use crate::gate::Gate;
-use crate::part::Part;
+use crate::part::{Part, Task};
 use vbr_core::Op;
 use vbr_script::Line;
 use vbr_set::{Refusal, VbrSetRef};
@@ -17,19 +17,20 @@ pub struct Worker<'w> {
     pub replies: Vec<Reply>,
 }
 
-impl<'w> Worker<'w> {
-    // Plays its own lines, in order.
-    pub fn play<G: Gate>(&mut self, part: &Part<G>)
-        requires { HasRoom self.old part.now.lines.now }
-        ensures { Played part.now.lines.now self.old self.new }
-    {
-        let mut index = part.first;
-        for line in part.lines {
-            self.play_line(part, line, index);
-            index += 1;
-        }
+// Plays a worker's own lines, in order: what its thread runs.
+pub fn play<'w, G: Gate>(task: Task<'w, G>) -> Worker<'w>
+    ensures { Played task.entry.part.lines.now task.entry.worker result }
+{
+    let Task { part, mut worker } = task;
+    let mut index = part.first;
+    for line in part.lines {
+        worker.play_line(&part, line, index);
+        index += 1;
     }
+    worker
+}
 
+impl<'w> Worker<'w> {
     // Plays a line, which has this index in the script, if it is its own.
     fn play_line<G: Gate>(&mut self, part: &Part<G>, line: &Line, index: u64)
         requires room { HasRoom self.old (line.now ∷ []) }

@@ -25,7 +25,7 @@ use std::alloc::Global;
 /// # Example
 ///
 /// ```rattle file=crates/vbr_player/src/playing.rt
-/// let script = parse_script(alloc, text, config.workers())?;
+/// let script = parse_script(alloc, &text, config.workers())?;
 /// ```
 pub fn parse_script(alloc: Global, text: &[u8], workers: u32) -> Result<Script, ScriptError>
     ensures lines { IfOk result (λ script. script.lines.items ≡ script_of workers text.now) }

@@ -2,7 +2,7 @@ use Rattle.std.proofs.Common.{◌<◌, ◌≤◌, length, take, drop}
 use Rattle.std.specs.Prelude.{All}
 use Rattle.vbr_script.specs.Scripts.{AscendFrom}
 use Rattle.vbr_player.specs.Standing.{Stand}
-use Rattle.vbr_player.proofs.phases.play_phases.Given as goal
+use Rattle.vbr_player.proofs.phases.play_span.Given as goal
 
 -- the lines of the phases so far were played, and those of this one and later ones are left
 abbrev pub invariant-loop-number : goal.invariant-loop-number

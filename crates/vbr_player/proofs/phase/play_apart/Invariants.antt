@@ -1,7 +1,7 @@
 use Rattle.std.proofs.Common.{◌≡◌, ◌++◌}
 use Rattle.std.specs.Vec.Iter.{into_iter_items}
 use Rattle.vbr_player.specs.Starting.{AreFor}
-use Rattle.vbr_player.proofs.phase.start_all.Given as goal
+use Rattle.vbr_player.proofs.phase.play_apart.Given as goal
 
 -- the workers so far have their turns
 abbrev pub invariant-loop-worker : goal.invariant-loop-worker

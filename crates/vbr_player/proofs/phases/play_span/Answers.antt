@@ -4,10 +4,11 @@ use Rattle.std.specs.List.{prefix_len}
 use Rattle.vbr_script.specs.declared.script.Line.{Line}
 use Rattle.vbr_player.specs.Meeting.{PlayedAndMet}
 use Rattle.vbr_player.specs.Working.{HaveRoom}
+use Rattle.vbr_player.proofs.Finishing.{merges}
 use Rattle.vbr_player.proofs.NewWorkers.{stand_from}
 use Rattle.vbr_player.proofs.Phasing.{Cuts, cuts, rest_of, next_room, stand_behind, all_played}
 use Rattle.vbr_player.proofs.Standing.{are_of_stand}
-use Rattle.vbr_player.proofs.phases.play_phases.Goals as goal
+use Rattle.vbr_player.proofs.phases.play_span.Goals as goal
 
 pub play_phase-requires-clause-room : goal.play_phase-requires-clause-room
 play_phase-requires-clause-room g c κs within =
@@ -33,12 +34,22 @@ loop-number-preserved g c =
 pub play_phase-requires-clause-of : goal.play_phase-requires-clause-of
 play_phase-requires-clause-of g c κs within = are_of_stand c.args.set.now c.args.span.part.lines.now _ _ _ c.loop-number.workers.items c.loop-number.invariant.stand
 
+pub merged-requires : goal.merged-requires
+merged-requires g c =
+    let lines = c.args.span.part.lines.now in
+    let stand = all_played c.args.set.now lines c.loop-number.first c.loop-number.number c.args.span.to _ c.loop-number.workers.items (omega arith) c.requires.span.phased.phases_below c.loop-number.invariant.later c.loop-number.invariant.stand in
+    merges c.args.set.now lines c.args.span.to c.in_ok-passes.passes.items _ c.requires.span.phased (record { workers = c.loop-number.workers.items; stand = stand; passes_are = c.in_ok-passes.ensures.passes; replies_are = c.in_ok-passes.ensures.replies })
+
 pub returns-clause-played : goal.returns-clause-played
 returns-clause-played g c = record {
-  workers = c.loop-number.workers.items;
-  stand = all_played c.args.set.now c.args.span.part.lines.now c.loop-number.first c.loop-number.number c.args.span.to _ c.loop-number.workers.items (omega arith) c.requires.span.phased.phases_below c.loop-number.invariant.later c.loop-number.invariant.stand;
-  passes_are = c.in_ok-take_apart.ensures.passes;
-  replies_are = c.in_ok-take_apart.ensures.replies;
+  own = _;
+  whole = record {
+    workers = c.loop-number.workers.items;
+    stand = all_played c.args.set.now c.args.span.part.lines.now c.loop-number.first c.loop-number.number c.args.span.to _ c.loop-number.workers.items (omega arith) c.requires.span.phased.phases_below c.loop-number.invariant.later c.loop-number.invariant.stand;
+    passes_are = c.in_ok-passes.ensures.passes;
+    replies_are = c.in_ok-passes.ensures.replies;
+  };
+  merged = c.in_ok-replies.ensures;
 }
 
 pub loop-number-init : goal.loop-number-init

@@ -4,15 +4,15 @@ use Rattle.vbr_player.specs.Starting.{IsFor, AreFor}
 use Rattle.vbr_player.specs.Working.{HasRoom, HaveRoom}
 use Rattle.vbr_player.specs.declared.turn.Turn.{Turn}
 use Rattle.vbr_player.specs.declared.worker.Worker.{Worker}
-use Rattle.vbr_player.proofs.Starting.{one_behind, none_left}
+use Rattle.vbr_player.proofs.Starting.{each_played_if, one_behind, none_left}
 use Rattle.vbr_player.proofs.Zips.{zip-snoc}
-use Rattle.vbr_player.proofs.phase.start_all.Goals as goal
+use Rattle.vbr_player.proofs.phase.play_apart.Goals as goal
 
 pub invariant_of-take_turn : goal.invariant_of-take_turn
 invariant_of-take_turn g c =
     let i = c.loop-worker.invariant in
     let all : c.loop-worker.yielded ++ (c.in-Some.worker ∷ into_iter_items c.next.new.self) ≡ c.args.workers.items = ap (λ (ws : List Worker). c.loop-worker.yielded ++ ws) (sym {A = List Worker} c.in-Some.ensures.steps.0) ∙ i.all in
-    record { room = one_behind (λ (w : Worker). HasRoom w c.args.part.lines.now) c.loop-worker.yielded c.in-Some.worker (into_iter_items c.next.new.self) (subst (λ (ws : List Worker). HaveRoom ws c.args.part.lines.now) (sym all) c.requires.room) }
+    record { room = one_behind (λ (w : Worker). HasRoom w c.args.part.lines.now) c.loop-worker.yielded c.in-Some.worker (into_iter_items c.next.new.self) (subst (λ (ws : List Worker). HaveRoom ws c.args.part.lines.now) (sym all) c.requires) }
 
 pub loop-worker-preserved : goal.loop-worker-preserved
 loop-worker-preserved g c =
@@ -24,8 +24,12 @@ loop-worker-preserved g c =
       all = append_assoc c.loop-worker.yielded (c.in-Some.worker ∷ []) (into_iter_items c.next.new.self) ∙ all;
     }
 
-pub returns-clause-turns : goal.returns-clause-turns
-returns-clause-turns g c =
+pub returns : goal.returns
+returns g c =
     let i = c.loop-worker.invariant in
     let whole = none_left c.loop-worker.yielded (into_iter_items c.loop-worker.worker-iterator) c.args.workers.items (sym c.loop-worker.worker-iterator.rest.ok.0 ∙ c.in-None.ensures.steps.0) i.all in
-    subst (AreFor c.args.part.lines.now c.loop-worker.turns.items) whole i.turns
+    let are = subst (AreFor c.args.part.lines.now c.loop-worker.turns.items) whole i.turns in
+    record {
+      played = each_played_if c.args.part.lines.now c.loop-worker.turns.items c.args.workers.items c.join_all.result are c.join_all.ensures.ended;
+      fault = c.join_all.ensures.fault;
+    }
