@@ -5,7 +5,7 @@
        vbr_handle handle[2] = {{0}};
        vbr_totals report = {0};
        uint64_t keys[8] = {0};
-       // handles, count, slots: keys and 64 for each handle, buckets: as many as keys, last_epoch
+       // handles, count, slots (keys, and 64 for each handle), buckets (as many as keys), last_epoch
        if (vbr_open(handle, 2, 1024 + 2 * 64, 1024, VBR_MAX_EPOCH) != VBR_NO) return 1;
        vbr_insert(&handle[0], 5, 100000);             // VBR_YES: 5 was absent
        vbr_has(&handle[1], 5, 100000);                // VBR_YES, from another thread too

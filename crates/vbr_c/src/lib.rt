@@ -6,7 +6,7 @@
 //! and one call at a time has it. `bindings/include/vbr.h` is what a C programmer reads.
 //!
 //! ```c file=bindings/c/example.c
-//! /* handles, count, slots: keys and 64 for each handle, buckets: as many as keys, last_epoch */
+//! /* handles, count, slots (keys, and 64 for each handle), buckets (as many as keys), last_epoch */
 //! if (vbr_open(handle, 2, 1024 + 2 * 64, 1024, VBR_MAX_EPOCH) != VBR_NO) return 1;
 //! int32_t added = vbr_insert(&handle[0], 5, 100000);       /* VBR_YES: 5 was absent */
 //! int32_t there = vbr_has(&handle[1], 5, 100000);          /* VBR_YES, from another thread too */
@@ -36,7 +36,7 @@ use vbr_handles::{Handle, ShapeNumbers, numbers};
 /// empty; -6, the numbers are no shape; -7, the number of handles is 0 or above 64; -8, no memory.
 ///
 /// ```c file=bindings/c/example.c
-/// /* handles, count, slots: keys and 64 for each handle, buckets: as many as keys, last_epoch */
+/// /* handles, count, slots (keys, and 64 for each handle), buckets (as many as keys), last_epoch */
 /// if (vbr_open(handle, 2, 1024 + 2 * 64, 1024, VBR_MAX_EPOCH) != VBR_NO) return 1;
 /// ```
 #[unsafe(no_mangle)]

@@ -1,7 +1,6 @@
 -- A worker that plays on: what it played before and what it plays then make what it has played.
-use Rattle.std.proofs.Common.{◌≡◌, ℕ, ◌+◌, ◌<◌, eqb, List, [], ◌∷◌, ◌++◌, length, refl, sym, ap, ap₂, subst, ◌∙◌, append_assoc, take, drop, get_or, arith, length-append, add-one}
-use Rattle.std.specs.Prelude.{zip, All, ◌≢◌}
-use Rattle.std.proofs.lemmas.Bool.{eq-eqb, ne_eqb}
+use Rattle.std.proofs.Common.{◌≡◌, ℕ, ◌+◌, ◌<◌, eqb, List, [], ◌∷◌, ◌++◌, length, sym, ap, ap₂, subst, ◌∙◌, append_assoc, take, drop, get_or, arith, length-append, add-one}
+use Rattle.std.specs.Prelude.{zip, All}
 use Rattle.std.proofs.lemmas.Grind.{flat_map-append}
 use Rattle.std.proofs.lemmas.List.{take_more, take-append-drop}
 use Rattle.std.proofs.Math.Seq.{drop-cons}
@@ -36,12 +35,6 @@ pub all_tell_on : {q r : Trace} (outcomes : List Outcome) → IsSame q r → Beg
 all_tell_on outcomes same seen told = λ k d inside. tells_on _ _ same seen (told k d inside)
 
 -- ---- lines of a worker
-
-pub own_line : (who : ℕ) (line : Line) → line.worker ≡ who → lines_by who (line ∷ []) ≡ line ∷ []
-own_line who line own = rw (eq-eqb line.worker who own) refl
-
-pub other_line : (who : ℕ) (line : Line) → line.worker ≢ who → lines_by who (line ∷ []) ≡ []
-other_line who line other = rw (ne_eqb line.worker who other) refl
 
 pub lines_by-append : (who : ℕ) (lines more : List Line) → lines_by who (lines ++ more) ≡ lines_by who lines ++ lines_by who more
 lines_by-append who lines more = filter-append (λ (line : Line). eqb line.worker who) lines more
