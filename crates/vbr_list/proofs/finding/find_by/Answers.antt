@@ -2,7 +2,6 @@ use Rattle.std.proofs.Common.{rules, ◌≡◌, ap, arith}
 use Rattle.vbr_words.specs.Dimensions.{Dimensions}
 use Rattle.vbr_list.proofs.Going.{bucket_is}
 use Rattle.vbr_list.proofs.Moments.{was_so}
-use Rattle.vbr_access.proofs.Lemmas.{quiet_safe}
 use Rattle.vbr_list.proofs.finding.find_by.Goals as goal
 
 pub invariant_of-call-2 : goal.invariant_of-call-2

@@ -11,7 +11,6 @@ use Rattle.vbr_list.proofs.Nearing.{at_first, first_lost, first_of, then_of}
 use Rattle.vbr_list.proofs.Passing.{peeks_on, peeks_refl}
 use Rattle.vbr_list.proofs.LonePasses.{alone}
 use Rattle.vbr_list.proofs.Preparing.{made_since}
-use Rattle.vbr_access.proofs.Lemmas.{made_safe, quiet_safe}
 use Rattle.vbr_list.proofs.looking_up.look_up.Goals as goal
 
 pub loop-sight-preserved : goal.loop-sight-preserved

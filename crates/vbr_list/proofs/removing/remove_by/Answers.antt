@@ -8,7 +8,6 @@ use Rattle.std.proofs.Common.{◌≡◌, ◌+◌, ◌*◌, ◌<◌, ◌≤◌, t
 use Rattle.vbr_list.specs.Budgets.{listed_for}
 use Rattle.vbr_list.proofs.Nearing.{at_first, first_lost, first_of, then_of}
 use Rattle.vbr_list.proofs.Preparing.{made_since}
-use Rattle.vbr_access.proofs.Lemmas.{made_safe, quiet_safe}
 use Rattle.vbr_list.proofs.removing.remove_by.Goals as goal
 
 pub loop-found-preserved : goal.loop-found-preserved
