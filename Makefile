@@ -1,107 +1,198 @@
-# The commands of this repository; `make` alone lists them.
+# The commands of this repository; `make` alone lists them, and what this machine lacks for them.
 RT ?= rt
 PREFIX ?= /usr/local
+TO := $(DESTDIR)$(PREFIX)
 PROGRAM := target/vbr_run
 LIBRARY := target/libvbr.a
 HEADER := bindings/include/vbr.h
+RELEASE := $(shell sed -n 's/^.define VBR_VERSION_M[AI][JN]OR //p' $(HEADER) | paste -sd.)
+VERSION := $(RELEASE).$(shell sed -n 's/^.define VBR_VERSION_PATCH //p' $(HEADER))
+SHARED := libvbr.so.$(VERSION)
 CRATE := crates/vbr_main
 SCRIPT := crates/vbr_example/data/phases.script
 BENCH ?= --short
 SOAK ?= 1000000000
 FUZZ ?= 9000000 1000000
 COMPARE ?=
+PREBUILT ?=
+export RT
 
 .DEFAULT_GOAL := help
-.PHONY: help kit run build lib install check test docs-check clients faults soak fuzz bench plot compare clean
+.PHONY: help run build lib both install install-lib copy-lib man docs prebuilt prebuilt-check check test gate docs-check clients faults soak fuzz bench plot compare clean
 
 help:
 	@echo 'make run                 play a script with three workers (before its proof; about a minute)'
+	@echo 'make lib                 prove and build the library for C, C++ and Rust: $(LIBRARY), and the shared one beside it'
 	@echo 'make build               prove and build the program: $(PROGRAM)'
-	@echo 'make lib                 prove and build the static library for C and Rust: $(LIBRARY)'
-	@echo 'make install PREFIX=DIR  build both, and put them into DIR with the header and vbr.pc (default: $(PREFIX))'
+	@echo 'make install-lib         the library with headers, pages, and what pkg-config and CMake need, below PREFIX=DIR (default: $(PREFIX))'
+	@echo 'make install             the same, and the program'
+	@echo '    PREBUILT=1           with either: take the files of prebuilt/, and prove nothing'
+	@echo 'make test                prove what library and program stand on, run all tests, clients, refused memory, kept inputs'
 	@echo 'make check               for daily work: what has changed, the tests, the programs, edits of changed crates'
-	@echo 'make test                the whole gate: every proof from nothing, must-fail edits, tests, programs; then clients, faults and kept inputs'
-	@echo 'make docs-check          see that links, file names, commands and snippets in the documents are true to the tree'
+	@echo 'make gate                the whole: every proof from nothing, those of tests too, must-fail edits, the second compiler'
+	@echo 'make man                 write the man pages: target/man'
+	@echo 'make docs                write the man pages, and the pages of doxygen and rustdoc where these are installed'
+	@echo 'make docs-check          see that the documents are true to the tree, and that contracts have their form'
 	@echo 'make clients             build and run the clients in C and Rust over the library'
 	@echo 'make faults              refuse memory call by call, and try the program in a shell: statuses, streams, memory'
 	@echo 'make soak                a thousand million calls of four threads on set after set, each answer balanced'
 	@echo 'make fuzz                ten million random inputs for the library and the program, on all processors'
 	@echo 'make bench               prove and run the measurements, in their short form, and print a CSV table'
 	@echo 'make bench BENCH=        the same in their full form; BENCH has the options of crates/vbr_bench'
-	@echo 'make plot                the same, and draw the table: target/bench.csv, target/bench.svg (needs gnuplot)'
-	@echo 'make compare             the library beside libcds, liburcu, crossbeam-epoch, dashmap and locks (needs apt-get and gnuplot)'
+	@echo 'make plot                the same, and draw the table: target/bench.csv, target/bench.svg'
+	@echo 'make compare             the library beside libcds, liburcu, crossbeam-epoch, dashmap and locks'
+	@echo 'make prebuilt            put the library and the program, as they are proved here, into prebuilt/'
 	@echo 'make clean               remove what was built and what checks keep'
+	@tools/needs
 
-kit:
-	@command -v $(RT) > /dev/null 2>&1 || { echo 'Rattle is missing: put the directory of its command `rt` on the PATH' >&2; exit 1; }
-
-run: kit
+run:
+	@tools/needs run
 	@echo 'compiling, and playing $(SCRIPT)'
 	@mkdir -p target
 	@cd $(CRATE) && $(RT) try -- --workers 3 < ../../$(SCRIPT) 2> ../../target/run.log || { cat ../../target/run.log >&2; exit 1; }
 	@echo 'played well, before its proof; `make build` proves the program'
 
-# Right after the gate, programs and tests stand where the gate built them.
-build: kit
-	@$(if $(AFTER_GATE),true,cd $(CRATE) && $(RT) run -- --help > /dev/null)
-	@mkdir -p $(dir $(PROGRAM))
-	@cp $(CRATE)/out/vbr_main $(PROGRAM)
-	@echo 'the proved program: $(PROGRAM)'
+# What was proved, from crates/*/out to target/.
+define library
+@tools/archive $(LIBRARY)
+@tools/package
+@echo 'the proved library: $(LIBRARY), with $(HEADER)'
+@tools/prebuilt --compare $(LIBRARY)
+endef
+define program
+@mkdir -p target && cp $(CRATE)/out/vbr_main $(PROGRAM)
+@echo 'the proved program: $(PROGRAM)'
+@tools/prebuilt --compare $(PROGRAM)
+endef
 
-# One archive: the library, and the kit's calls of malloc, realloc and free.
-# Its three calls on keys begin at a cache line: where their loops lie by chance was worth up to 7 % either way.
-lib: kit
-	@mkdir -p $(dir $(LIBRARY))
-	@RT='$(RT)' tools/library $(AFTER_GATE) > target/lib.log 2>&1 || { cat target/lib.log >&2; exit 1; }
-	@rm -f $(LIBRARY)
-	@printf 'CREATE $(LIBRARY)\nADDLIB crates/vbr_c/out/libvbr_c.a\nADDLIB %s/c/liblibc_c.a\nSAVE\nEND\n' "$$(dirname "$$($(RT) doc)")" | ar -M
-	@objcopy $(foreach it,has insert remove,--set-section-alignment .text.vbr_$(it)=64) $(LIBRARY)
-	@echo 'the proved library: $(LIBRARY), with $(HEADER)'
+lib:
+	@tools/needs lib
+	@tools/lanes vbr_c
+	$(library)
 
-install: build lib
-	@install -d '$(DESTDIR)$(PREFIX)/bin' '$(DESTDIR)$(PREFIX)/include' '$(DESTDIR)$(PREFIX)/lib/pkgconfig'
-	@install -m 755 $(PROGRAM) '$(DESTDIR)$(PREFIX)/bin/vbr_run'
-	@install -m 644 $(LIBRARY) '$(DESTDIR)$(PREFIX)/lib/libvbr.a'
-	@install -m 644 $(HEADER) '$(DESTDIR)$(PREFIX)/include/vbr.h'
-	@sed 's|@PREFIX@|$(abspath $(PREFIX))|' bindings/vbr.pc.in > '$(DESTDIR)$(PREFIX)/lib/pkgconfig/vbr.pc'
-	@echo 'installed in $(DESTDIR)$(PREFIX): bin/vbr_run, lib/libvbr.a, include/vbr.h, lib/pkgconfig/vbr.pc'
+build:
+	@tools/needs build
+	@tools/lanes vbr_main
+	$(program)
+
+both:
+	@tools/needs install
+	@tools/lanes vbr_c vbr_main
+	$(library)
+	$(program)
+
+prebuilt-check:
+	@tools/needs prebuilt-check
+	@tools/prebuilt --check
+
+# What is installed is in target/, or in prebuilt/.
+ifeq ($(PREBUILT),1)
+FROM := prebuilt
+PROVED := prebuilt-check
+else
+FROM := target
+PROVED := $(if $(filter install,$(MAKECMDGOALS)),both,lib)
+endif
+
+install-lib: $(PROVED)
+	@$(MAKE) --no-print-directory copy-lib FROM=$(FROM)
+
+# What is built already is put into place, and nothing is proved.
+copy-lib: man
+	@tools/package $(FROM)/libvbr.a
+	@install -d $(foreach it,include lib/pkgconfig lib/cmake/vbr share/man/man3,'$(TO)/$(it)')
+	@install -m 644 $(FROM)/libvbr.a '$(TO)/lib/libvbr.a'
+	@if [ -e target/$(SHARED) ]; then install -m 755 target/$(SHARED) '$(TO)/lib/$(SHARED)' && \
+	    ln -sf $(SHARED) '$(TO)/lib/libvbr.so.$(RELEASE)' && ln -sf libvbr.so.$(RELEASE) '$(TO)/lib/libvbr.so'; fi
+	@install -m 644 bindings/include/* '$(TO)/include'
+	@install -m 644 target/man/man3/* '$(TO)/share/man/man3'
+	@sed 's|@PREFIX@|$(abspath $(PREFIX))|' bindings/vbr.pc.in > '$(TO)/lib/pkgconfig/vbr.pc'
+	@for it in vbrConfig vbrConfigVersion; do sed 's|@VERSION@|$(VERSION)|g; s|@RELEASE@|$(RELEASE)|g' bindings/cmake/$$it.cmake.in > '$(TO)/lib/cmake/vbr/'$$it.cmake; done
+	@echo 'installed in $(TO): the library in lib, headers in include, pages in share/man'
+
+install: install-lib
+	@install -d '$(TO)/bin' '$(TO)/share/man/man1'
+	@install -m 755 $(FROM)/vbr_run '$(TO)/bin/vbr_run'
+	@install -m 644 target/man/man1/vbr_run.1 '$(TO)/share/man/man1'
+	@echo 'installed in $(TO): bin/vbr_run'
+
+man:
+	@tools/needs man
+	@tools/man target/man
+
+docs: man
+	@tools/needs docs
+	@tools/docs
+
+prebuilt: both
+	@tools/prebuilt
 
 docs-check:
+	@tools/needs docs-check
 	@tools/docs-check
 
-check: kit docs-check
-	@RT='$(RT)' tools/check
+check:
+	@tools/needs check
+	@tools/docs-check
+	@tools/check
 
-test: kit docs-check
+test:
+	@tools/needs test
+	@tools/docs-check
+	@tools/test
+
+gate:
+	@tools/needs gate
+	@tools/docs-check
 	@RT_JOBS="$${RT_JOBS:-$$(getconf _NPROCESSORS_ONLN)}" $(RT) ci
-	@$(MAKE) --no-print-directory clients faults AFTER_GATE=--after-gate
+	@tools/after-gate
+	@tests/tools
+	@SOAK=100000000 bindings/test
+	@tests/faults
 	@tests/fuzz/run --kept
+	@tests/fuzz/run 300000 20000
+	@tools/prebuilt --gate
+	@echo 'make gate: ok'
 
 clients: lib
+	@tools/needs clients
 	@bindings/test
 
 faults: build
-	@$(if $(AFTER_GATE),true,(cd crates/vbr_set_rows && $(RT) test) > target/refusals.log 2>&1 || { cat target/refusals.log >&2; exit 1; })
+	@tools/needs faults
+	@tools/lanes --tests vbr_set_rows
 	@tests/faults
 
-soak: lib
+soak:
+	@tools/needs soak
+	@echo 'make soak: proves the library first, unless it is; then the calls begin'
+	@$(MAKE) --no-print-directory lib
 	@mkdir -p target/clients
 	@cc -std=c11 -O2 -Wall -Wextra -Ibindings/include -pthread -o target/clients/soak bindings/c/soak.c -Ltarget -lvbr
 	@target/clients/soak $(SOAK)
 
-fuzz: build lib
+fuzz:
+	@tools/needs fuzz
+	@echo 'make fuzz: proves the library and the program first, unless they are; then the inputs begin'
+	@$(MAKE) --no-print-directory both
 	@tests/fuzz/run $(FUZZ)
 
-bench: kit
-	@cd crates/vbr_bench && $(RT) run -- $(BENCH)
+bench:
+	@tools/needs bench
+	@echo 'make bench: proves the crates of the set and of the measurements first, unless they are; then it measures' >&2
+	@tools/lanes vbr_bench >&2
+	@cd crates/vbr_bench && out/vbr_bench $(BENCH)
 
-plot: kit
-	@command -v gnuplot > /dev/null 2>&1 || { echo 'there is no gnuplot: apt-get install gnuplot-nox' >&2; exit 1; }
+plot:
+	@tools/needs plot
 	@mkdir -p target
 	@$(MAKE) --no-print-directory bench > target/bench.csv
 	@bench/plot target/bench.csv target/bench.svg
 
-compare: lib
+compare:
+	@tools/needs compare
+	@echo 'make compare: proves the library first, unless it is; then it measures'
+	@$(MAKE) --no-print-directory lib
 	@bench/compare/run $(COMPARE)
 
 clean:

@@ -39,8 +39,13 @@ void __wrap_free(void *block) {
     __real_free(block);
 }
 
-static int keyed; /* whether the set is opened with its keys */
+static int keyed;   /* whether the set is opened with its keys */
+static int at_once; /* whether it is closed by all its handles at once */
 static long failed_opens, failed_closes;
+
+static int32_t close_rest(vbr_handle *handle, uint64_t *keys, vbr_totals *report) {
+    return at_once ? vbr_close_all(handle, 3, keys, 8, report) : vbr_close(&handle[1], keys, 8, report);
+}
 
 /* A set is opened, used and closed while the nth allocation is refused. 1: none was, 0: one was. */
 static int round_with(long n, int *done) {
@@ -60,16 +65,20 @@ static int round_with(long n, int *done) {
     }
     int32_t added = keyed ? VBR_NO : VBR_YES;
     CHECK(vbr_insert(&handle[1], 7, 1000) == added && vbr_insert(&handle[0], 6, 1000) == added);
-    CHECK(vbr_close(&handle[0], keys, 8, &report) == VBR_NO && vbr_close(&handle[2], keys, 8, &report) == VBR_NO);
-    code = vbr_close(&handle[1], keys, 8, &report);
+    if (!at_once) {
+        CHECK(vbr_close(&handle[0], keys, 8, &report) == VBR_NO);
+        vbr_drop(&handle[2]);
+    }
+    code = close_rest(handle, keys, &report);
     if (code == VBR_NO_MEMORY) {
         failed_closes++;
-        CHECK(keys[0] == 0 && vbr_close(&handle[1], keys, 8, &report) == (stays_short ? VBR_NO_MEMORY : VBR_YES));
-        if (stays_short) { /* the handle is full: it makes calls, and is closed once there is memory */
+        CHECK(keys[0] == 0 && close_rest(handle, keys, &report) == (stays_short ? VBR_NO_MEMORY : VBR_YES));
+        if (stays_short) { /* the handles are full: they make calls, and are closed once there is memory */
             CHECK(vbr_has(&handle[1], 7, 1000) == VBR_YES && vbr_remove(&handle[1], 6, 1000) == VBR_YES);
+            CHECK(!at_once || vbr_has(&handle[0], 6, 1000) == VBR_NO);
             CHECK(vbr_insert(&handle[1], 6, 1000) == VBR_YES);
             allowed = -1;
-            CHECK(vbr_close(&handle[1], keys, 8, &report) == VBR_YES);
+            CHECK(close_rest(handle, keys, &report) == VBR_YES);
         }
     } else {
         CHECK(code == VBR_YES);
@@ -82,10 +91,11 @@ static int round_with(long n, int *done) {
 }
 
 int main(void) {
-    for (int turn = 0; turn < 4; turn++) {
+    for (int turn = 0; turn < 8; turn++) {
         int done = 0;
         stays_short = turn % 2;
-        keyed = turn / 2;
+        keyed = turn / 2 % 2;
+        at_once = turn / 4;
         for (long n = 0; !done; n++)
             if (round_with(n, &done)) return 1;
     }

@@ -51,7 +51,12 @@ static int calls_and_closes(void) {
     keys[0] = keys[1] = 99;
     CHECK(vbr_close(&two[0], keys, 4, &report) == VBR_NO && keys[0] == 99);
     CHECK(vbr_close(&two[0], keys, 4, &report) == VBR_EMPTY && keys[0] == 99);
-    CHECK(vbr_close(&two[1], keys, 1, &report) == VBR_YES && keys[0] == 5 && keys[1] == 99);
+    report.live = 77;
+    CHECK(vbr_close(&two[1], keys, 1, &report) == VBR_NO_ROOM && keys[0] == 99 && keys[1] == 99);
+    CHECK(report.live == 2 && report.marked == 0 && report.free == 0 && report.epoch == 1);
+    CHECK(vbr_close(&two[1], keys, 0, &report) == VBR_NO_ROOM && vbr_has(&two[1], 5, BUDGET) == VBR_YES);
+    keys[2] = 98;
+    CHECK(vbr_close(&two[1], keys, report.live, &report) == VBR_YES && keys[0] == 5 && keys[1] == 7 && keys[2] == 98);
     CHECK(report.live == 2 && report.marked == 0 && report.free == 0 && report.epoch == 1);
     return 0;
 }
@@ -101,24 +106,73 @@ static int spent_epoch(void) {
     return 0;
 }
 
+static int shown_numbers(void) {
+    vbr_handle two[2] = {{0}};
+    CHECK(vbr_version() == VBR_VERSION);
+    CHECK(vbr_epoch(&two[0]) == 0 && vbr_last_epoch(&two[0]) == 0);
+    CHECK(vbr_slots(&two[0]) == 0 && vbr_buckets(&two[0]) == 0);
+    CHECK(vbr_open(two, 2, 3, 4, 9) == VBR_NO);
+    for (int i = 0; i < 2; i++) {
+        CHECK(vbr_epoch(&two[i]) == 1 && vbr_last_epoch(&two[i]) == 9);
+        CHECK(vbr_slots(&two[i]) == 3 && vbr_buckets(&two[i]) == 4);
+    }
+    for (uint64_t key = 0; key < 4; key++) {
+        CHECK(vbr_insert(&two[0], key, BUDGET) == VBR_YES && vbr_remove(&two[0], key, BUDGET) == VBR_YES);
+    }
+    CHECK(vbr_epoch(&two[0]) > 1 && vbr_epoch(&two[1]) == 1);
+    CHECK(vbr_has(&two[1], 0, BUDGET) == VBR_NO && vbr_epoch(&two[1]) == vbr_epoch(&two[0]));
+    CHECK(vbr_close(&two[0], keys, 4, &report) == VBR_NO && vbr_epoch(&two[0]) == 0 && vbr_slots(&two[0]) == 0);
+    uint64_t epoch = vbr_epoch(&two[1]);
+    CHECK(vbr_close(&two[1], keys, 4, &report) == VBR_YES && report.epoch == epoch);
+    return 0;
+}
+
 static int dropped_handles(void) {
     vbr_handle three[3] = {{0}};
     CHECK(vbr_open(three, 3, 8, 2, 100) == VBR_NO);
     CHECK(vbr_insert(&three[0], 3, BUDGET) == VBR_YES);
     vbr_drop(&three[0]);
     CHECK(vbr_has(&three[0], 3, BUDGET) == VBR_EMPTY && vbr_has(&three[1], 3, BUDGET) == VBR_YES);
-    CHECK(vbr_close(&three[1], keys, 4, &report) == VBR_NO);
-    keys[0] = 99;
-    CHECK(vbr_close(&three[2], keys, 4, &report) == VBR_LOST && keys[0] == 99);
+    CHECK(vbr_insert(&three[1], 4, BUDGET) == VBR_YES);
+    vbr_drop(&three[1]);
+    CHECK(vbr_insert(&three[2], 5, BUDGET) == VBR_YES);
+    CHECK(vbr_close(&three[2], keys, 4, &report) == VBR_YES && report.live == 3);
+    CHECK(keys[0] == 3 && keys[1] == 4 && keys[2] == 5);
     CHECK(vbr_close(&three[2], keys, 4, &report) == VBR_EMPTY);
     CHECK(vbr_open(three, 3, 8, 2, 100) == VBR_NO);
     for (int i = 0; i < 3; i++) vbr_drop(&three[i]);
     return 0;
 }
 
+static int closed_at_once(void) {
+    vbr_handle three[3] = {{0}}, other[2] = {{0}};
+    CHECK(vbr_close_all(three, 0, keys, 4, &report) == VBR_MISSING);
+    CHECK(vbr_close_all(three, 3, keys, 4, &report) == VBR_EMPTY);
+    CHECK(vbr_open(three, 3, 8, 2, 100) == VBR_NO && vbr_open(other, 2, 8, 2, 100) == VBR_NO);
+    for (uint64_t i = 0; i < 3; i++) CHECK(vbr_insert(&three[i], i + 6, BUDGET) == VBR_YES);
+    keys[0] = keys[2] = report.live = 77;
+    CHECK(vbr_close_all(three, 2, keys, 4, &report) == VBR_MISSING && report.live == 77);
+    vbr_handle mixed[3] = {three[0], other[1], three[2]};
+    CHECK(vbr_close_all(mixed, 3, keys, 4, &report) == VBR_MIXED && report.live == 77);
+    CHECK(vbr_close_all(three, 3, keys, 2, &report) == VBR_NO_ROOM && report.live == 3 && keys[0] == 77);
+    CHECK(vbr_remove(&three[2], 6, BUDGET) == VBR_YES);
+    CHECK(vbr_close_all(three, 3, keys, 4, &report) == VBR_YES);
+    CHECK(report.live == 2 && keys[0] == 7 && keys[1] == 8 && keys[2] == 77);
+    for (int i = 0; i < 3; i++) CHECK(vbr_has(&three[i], 7, BUDGET) == VBR_EMPTY);
+    vbr_handle turned[2] = {other[1], other[0]};
+    CHECK(vbr_insert(&turned[1], 9, BUDGET) == VBR_YES);
+    CHECK(vbr_close_all(turned, 2, keys, 1, &report) == VBR_YES && report.live == 1 && keys[0] == 9);
+    CHECK(vbr_open(turned, 1, 8, 2, 100) == VBR_NO && vbr_close_all(turned, 1, keys, 0, &report) == VBR_YES);
+    CHECK(vbr_open(turned, 2, 8, 2, 100) == VBR_NO && vbr_close(&turned[0], keys, 4, &report) == VBR_NO);
+    CHECK(vbr_close_all(&turned[1], 1, keys, 4, &report) == VBR_MISSING);
+    CHECK(vbr_close(&turned[1], keys, 4, &report) == VBR_YES && report.live == 0);
+    return 0;
+}
+
 int main(void) {
     if (empty_handles() || refused_openings() || refused_keys() || opened_with_keys() || calls_and_closes() ||
-        spent_epoch() || dropped_handles())
+        spent_epoch() || shown_numbers() || dropped_handles() ||
+        closed_at_once())
         return 1;
     puts("answers in C: passed");
     return 0;

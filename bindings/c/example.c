@@ -9,10 +9,10 @@ int main(void) {
     uint64_t keys[8] = {0};
     /* handles, count, slots (keys, and 64 for each handle), buckets (as many as keys), last_epoch */
     if (vbr_open(handle, 2, 1024 + 2 * 64, 1024, VBR_MAX_EPOCH) != VBR_NO) return 1;
-    int32_t added = vbr_insert(&handle[0], 5, 100000);       /* VBR_YES: 5 was absent */
-    int32_t there = vbr_has(&handle[1], 5, 100000);          /* VBR_YES, from another thread too */
-    int32_t first = vbr_close(&handle[0], keys, 8, &report); /* VBR_NO: the other handle is open */
-    int32_t last = vbr_close(&handle[1], keys, 8, &report);  /* VBR_YES: report.live is 1, keys[0] is 5 */
+    vbr_answer added = vbr_insert(&handle[0], 5, 100000);       /* VBR_YES: 5 was absent */
+    vbr_answer there = vbr_has(&handle[1], 5, 100000);          /* VBR_YES, from another thread too */
+    vbr_answer first = vbr_close(&handle[0], keys, 8, &report); /* VBR_NO: the other handle is open */
+    vbr_answer last = vbr_close(&handle[1], keys, 8, &report);  /* VBR_YES: report.live is 1, keys[0] is 5 */
     if (added != VBR_YES || there != VBR_YES || first != VBR_NO || last != VBR_YES) return 2;
     if (report.live != 1 || keys[0] != 5) return 3;
     puts("example in C: passed");

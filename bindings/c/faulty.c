@@ -13,9 +13,11 @@
    10 a refused opening keeps memory
    11 an opening with several keys leaves out the last one
    12 an insert takes effect only as its thread makes its next call
+   13 a remove now and then leaves its node in the list
 
    One thread alone can't see the seventh and the twelfth, and four threads don't look for the eighth, ninth and tenth. The
-   twelfth leaves each thread's own answers right: it shows only where the program orders calls of several. */
+   twelfth leaves each thread's own answers right: it shows only where the program orders calls of several. The thirteenth
+   leaves all answers right while there are slots. */
 #include "vbr.h"
 
 #include <stdatomic.h>
@@ -85,6 +87,12 @@ int32_t __wrap_vbr_insert(vbr_handle *handle, uint64_t key, uint32_t budget) {
 int32_t __wrap_vbr_remove(vbr_handle *handle, uint64_t key, uint32_t budget) {
     make_late();
     if (now(2)) return __real_vbr_has(handle, key, budget);
+    if (now(13)) { /* the least budget that is answered leaves no step to unlink */
+        for (uint32_t least = 0; least < budget; least++) {
+            int32_t answer = __real_vbr_remove(handle, key, least);
+            if (answer != VBR_OUT_OF_STEPS) return answer;
+        }
+    }
     if (fault() == 7) {
         int32_t answer = __real_vbr_has(handle, key, budget);
         int32_t removed = __real_vbr_remove(handle, key, budget);

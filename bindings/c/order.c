@@ -106,8 +106,14 @@ int main(int count, char **words) {
                 int there = n % 2 == 0 || n >= rounds - BEHIND;
                 CHECK(vbr_has(&workers[i].handle, key_of(of, n), BUDGET) == there);
             }
-    for (int i = 0; i < THREADS; i++) CHECK(vbr_close(&workers[i].handle, first, 1, &report) == (i == THREADS - 1));
+    for (int i = 0; i < THREADS - 1; i++) CHECK(vbr_close(&workers[i].handle, first, 1, &report) == VBR_NO);
+    /* the last one tells how many keys there are, and then the keys */
+    CHECK(vbr_close(&workers[THREADS - 1].handle, first, 1, &report) == VBR_NO_ROOM);
     CHECK(report.live == (uint32_t)(THREADS * ((rounds + 1) / 2 + BEHIND / 2)));
+    uint64_t *keys = calloc(report.live, sizeof *keys);
+    CHECK(keys && vbr_close(&workers[THREADS - 1].handle, keys, report.live, &report) == VBR_YES);
+    for (uint32_t i = 1; i < report.live; i++) CHECK(keys[i - 1] < keys[i]);
+    free(keys);
     printf("order of four threads in C: passed, %u keys left\n", report.live);
     return 0;
 }

@@ -7,8 +7,10 @@
    makes at least that many calls, and tells on standard error how far it is. Each set is one round. Keys are shared
    by all threads, but for some that one thread alone inserts and removes: each answer on those is known. At the end of
    a round every key is in the set exactly if more inserts than removes of it were answered yes; it is looked up, and
-   looked for in the report. Then the keys of the report are carried over into the next set, which opens with them or
-   gets them by inserts, or a fresh one begins. */
+   looked for in the report. In some rounds with slots by the rule of vbr.h one handle then fills the set up to the most
+   keys, and finds a slot for each. Where all budgets were ample the report counts no removed node that is still in a list.
+   Then the keys of the report are carried over into the next set, which opens with them or gets them by inserts, or a
+   fresh one begins. */
 #define _POSIX_C_SOURCE 200809L
 #include "vbr.h"
 
@@ -34,7 +36,7 @@ struct round {
     uint32_t small_budgets;      /* of 256 calls, how many have one */
     uint32_t look_ups, inserts;  /* of 256 calls; the others are removes */
     long calls;                  /* of each thread */
-    int with_still, drops;
+    int with_still, drops, fills;
 };
 
 struct worker {
@@ -52,7 +54,7 @@ static struct worker workers[THREADS];
 static unsigned char held[MAX_KEYS]; /* which keys were in the set as the round began */
 static atomic_int working;
 static volatile sig_atomic_t pause_us;
-static long stalls, sets, carried, seed = 1;
+static long stalls, sets, carried, filled, left, seed = 1; /* left: removed nodes in lists, at closes */
 static long refusals[4]; /* by -answer */
 
 static uint64_t next(uint64_t *random) {
@@ -66,6 +68,9 @@ static uint64_t key_of(const struct round *r, uint32_t number) { return number *
 
 /* The thread that alone inserts and removes the key, or -1. */
 static int owner_of(uint32_t number) { return number % 8 < THREADS ? (int)(number % 8) : -1; }
+
+/* Whether the set has slots by the rule: one for each key, and 64 for each handle. */
+static int is_ample(const struct round *r) { return r->slots >= r->keys + 64 * (THREADS + STILL); }
 
 static int is_in(uint32_t number) {
     int32_t sum = held[number];
@@ -97,7 +102,7 @@ static const char *fault(const struct worker *w, int kind, int own, int before, 
     if (answer == VBR_OUT_OF_STEPS && budget >= AMPLE) return "too few steps with an ample budget";
     if (answer < VBR_OUT_OF_STEPS && kind != 1) return "a refusal that only inserts have";
     if (answer < VBR_OUT_OF_STEPS && own && before) return "an insert of a key that is there was refused";
-    if (answer == VBR_NO_SLOT && r->slots >= r->keys + 64 * (THREADS + STILL)) return "no slot in an ample set";
+    if (answer == VBR_NO_SLOT && is_ample(r)) return "no slot in an ample set";
     if (answer == VBR_EPOCH_SPENT && r->last_epoch == VBR_MAX_EPOCH) return "the greatest epoch is spent";
     if (own && answer >= 0 && answer != (kind == 1 ? !before : before)) return "a wrong answer on a key of one thread";
     return NULL;
@@ -150,6 +155,7 @@ static struct round plan(uint64_t *random, const struct round *old, int carries)
     r.calls = 20000 + (long)(next(random) % 180000);
     r.with_still = x >> 42 & 1;
     r.drops = (x >> 43 & 15) == 0;
+    r.fills = (x >> 47 & 3) == 0 && is_ample(&r) && r.last_epoch == VBR_MAX_EPOCH;
     return r;
 }
 
@@ -205,6 +211,18 @@ static void stall_threads(uint64_t *random, pthread_t *threads) {
     }
 }
 
+/* Fills the set up to the most keys by one handle, with keys that no thread had, and takes these out again. */
+static const char *fill(const struct round *r, vbr_handle *handle) {
+    uint32_t missing = r->keys;
+    for (uint32_t i = 0; i < r->keys; i++) missing -= (uint32_t)is_in(i);
+    for (uint32_t i = 0; i < missing; i++)
+        if (vbr_insert(handle, key_of(r, r->keys + i), AMPLE) != VBR_YES) return "no slot in a set that is filled by the rule";
+    for (uint32_t i = 0; i < missing; i++)
+        if (vbr_remove(handle, key_of(r, r->keys + i), AMPLE) != VBR_YES) return "a key of the filling is lost";
+    filled++;
+    return NULL;
+}
+
 /* Compares the report with the keys that the answers leave. */
 static int check_report(const struct round *r, const vbr_totals *report, const uint64_t *keys) {
     static uint64_t want[MAX_KEYS];
@@ -213,6 +231,8 @@ static int check_report(const struct round *r, const vbr_totals *report, const u
     for (uint32_t i = 0; i < count; i++)
         if (keys[i] != want[i]) return failed(r, sets, "the report has other keys", i);
     if (report->live + report->marked + report->free != r->slots) return failed(r, sets, "slots are lost", 0);
+    if (report->marked && !r->small_budgets) return failed(r, sets, "removed nodes are left in lists", 0);
+    left += report->marked;
     if (report->epoch < 1 || report->epoch > r->last_epoch) return failed(r, sets, "an epoch out of range", 0);
     for (int i = 0; i < THREADS; i++)
         if (workers[i].refused[3] && report->epoch != r->last_epoch)
@@ -230,12 +250,14 @@ static int finish(const struct round *r, vbr_handle *handles, int count) {
         if (vbr_has(&handles[i % (uint32_t)count], key_of(r, i), AMPLE) != sum)
             return failed(r, sets, "a look-up differs from the answers", i);
     }
+    const char *wrong = r->fills ? fill(r, &handles[sets % count]) : NULL;
+    if (wrong) return failed(r, sets, wrong, 0);
     if (r->drops) vbr_drop(&handles[0]);
     for (int i = r->drops; i < count - 1; i++)
         if (vbr_close(&handles[i], keys, MAX_KEYS, &report) != VBR_NO) return failed(r, sets, "a close was not the last", 0);
     int32_t last = vbr_close(&handles[count - 1], keys, MAX_KEYS, &report);
-    if (last != (r->drops ? VBR_LOST : VBR_YES)) return failed(r, sets, "the last close", 0);
-    return r->drops ? 0 : check_report(r, &report, keys);
+    if (last != VBR_YES) return failed(r, sets, "the last close", 0);
+    return check_report(r, &report, keys);
 }
 
 /* One set from its opening to its closing. */
@@ -300,8 +322,8 @@ int main(int count, char **words) {
         told = now();
         fprintf(stderr, "soak: %ld of %ld operations, %ld sets, %ld stalls, %.0f s\n", made, wanted, sets, stalls, told - start);
     }
-    printf("soak in C: passed, %ld operations on %ld sets, %ld of them carried over; %ld stalls; "
-           "refused: %ld steps, %ld slots, %ld epochs\n",
-           made, sets, carried, stalls, refusals[1], refusals[2], refusals[3]);
+    printf("soak in C: passed, %ld operations on %ld sets, %ld of them carried over, %ld filled; %ld stalls; "
+           "refused: %ld steps, %ld slots, %ld epochs; left in lists where budgets were small: %ld removed nodes\n",
+           made, sets, carried, filled, stalls, refusals[1], refusals[2], refusals[3], left);
     return 0;
 }

@@ -1,25 +1,32 @@
 /* A hash set of 64-bit keys that threads share, in fixed memory and without a lock.
 
-   Ten lines:
+   A set of up to 1,024 keys for two threads:
 
        vbr_handle handle[2] = {{0}};
        vbr_totals report = {0};
        uint64_t keys[8] = {0};
-       // handles, count, slots (keys, and 64 for each handle), buckets (as many as keys), last_epoch
-       if (vbr_open(handle, 2, 1024 + 2 * 64, 1024, VBR_MAX_EPOCH) != VBR_NO) return 1;
-       vbr_insert(&handle[0], 5, 100000);             // VBR_YES: 5 was absent
-       vbr_has(&handle[1], 5, 100000);                // VBR_YES, from another thread too
-       vbr_close(&handle[0], keys, 8, &report);       // VBR_NO: the other handle is open
-       vbr_close(&handle[1], keys, 8, &report);       // VBR_YES: report.live is 1, keys[0] is 5
+       if (vbr_open(handle, 2,                // two handles
+                    1024 + 2 * 64,            // slots: the most keys, and 64 for each handle
+                    1024,                     // buckets: as many as keys
+                    VBR_MAX_EPOCH) != VBR_NO) // the last epoch
+           return 1;
+       vbr_answer added = vbr_insert(&handle[0], 5, 100000);       // VBR_YES: 5 was absent
+       vbr_answer there = vbr_has(&handle[1], 5, 100000);          // VBR_YES, from another thread too
+       vbr_answer first = vbr_close(&handle[0], keys, 8, &report); // VBR_NO: the other handle is open
+       vbr_answer last = vbr_close(&handle[1], keys, 8, &report);  // VBR_YES: report.live is 1, keys[0] is 5
+
+   Compare what a call answers with VBR_YES: a refusal is no 0, and so is true where a program asks `if (vbr_has(..))`.
 
    Link with -lvbr (`pkg-config --cflags --libs vbr`). The library needs nothing but malloc, realloc and
-   free; each block is to be aligned as these align it, to 16 bytes.
+   free, each block aligned to 16 bytes as these align it, what copies and fills memory, and madvise, by which it offers
+   large blocks to the kernel for large pages.
 
    Who owns what. A set is opened with 1 to 64 handles, and each handle owns one pass of the set, the
-   right to make calls, and a share of the set. A handle is all zero while it is empty: write {0} before
-   it is opened. A full one belongs to the library: it may be moved (copied, and the old place set to
+   right to make calls, and a share of the set. A handle is all zero while it is empty: write {0}, or {} in
+   C++, before it is opened. A full one belongs to the library: it may be moved (copied, and the old place set to
    zero, or never used again), and is never copied, compared, read or written otherwise. A full handle
-   is closed by vbr_close or given up by vbr_drop; memory is freed with the last handle of a set.
+   is closed by vbr_close or vbr_close_all, or given up by vbr_drop; memory is freed with the last handle
+   of a set. A full handle that is forgotten keeps its set open: no other one is then the last.
 
    Pointers. None that a call is given is null, even where the number beside it is 0: then any aligned
    address does. Each is aligned for its type, and names as many values as that number says, or one. All
@@ -30,13 +37,25 @@
 
    Which calls may run at the same time. Handles of one set may be in calls at the same time, in any
    threads; that is what they are for. One handle is in one call at a time. A handle that goes to another
-   thread is handed over by a lock, by the start or the join of the thread, or by a seq_cst atomic. No
-   function is for a signal handler, or for the child of a fork.
+   thread is handed over by what orders the two threads' calls: a lock, the start or the join of the thread, or a
+   release and an acquire. The library relies on that order alone, and keeps nothing for each thread.
+
+   Threads that end. A handle is no thread's: one that is open when its thread ends, or is cancelled between two calls,
+   stays as it is, and whoever joined the thread goes on with it or closes it; its set isn't closed without it. No call
+   is a point of cancellation. A thread that is cancelled at once (PTHREAD_CANCEL_ASYNCHRONOUS), or that leaves a
+   signal handler by longjmp, may do so in the middle of a call: its handle is then not used again. A signal handler may
+   make calls of vbr_insert, vbr_remove and vbr_has with a handle that nothing else uses, and none of the other
+   functions, since these take memory. After a fork the child has copies of the sets: where the process had one thread
+   it may go on with them, and the parent doesn't see it; where it had several, the child uses no handle.
 
    Order. Where a call returns before another one begins, by a mutex, a channel, a join, or a release and
    an acquire of your program, it stands before that one in the history whose answers the later caller
    gets: once you are told that a key was inserted, and nobody removes it, vbr_has answers VBR_YES. Calls
    that your program does not order have some order, in one history of the set. A relaxed flag orders none.
+   What a thread wrote before it inserted a key can be read by a thread that then finds the key (vbr_has or vbr_remove
+   answers VBR_YES, vbr_insert VBR_NO), and what it did before it removed one is done for a thread that then inserts it:
+   each step is a sequentially consistent atomic. ThreadSanitizer is told so by vbr_tsan.h, which this header includes
+   where the program is compiled for it.
 
    Budgets. A call makes at most `budget` steps, each one atomic operation on a word that the
    threads share, and never waits for another thread. A look-up makes loads alone, so it writes nothing
@@ -44,8 +63,9 @@
    does not run out of steps with a budget of 5n + 11 for has, 9n + 11 for remove, and 18n + slots + 82
    for insert, where n nodes are in the bucket of the key as it begins, removed ones that are still in a
    list among them. What other threads do at the same time can cost more: 100,000 is plenty for short
-   buckets, with up to six million slots; with more, take slots / 64 besides. A call that runs out of
-   steps made no call: make it again, or give it up.
+   buckets, with up to six million slots; with more, take slots / 64 besides, as VBR_AMPLE_BUDGET(slots) does. A call
+   that runs out of steps made no call: give it up, or make it again, with twice the budget if that may have been too
+   small. The same budget is enough later only if it was the other threads that cost the steps.
 
    Memory and sizes. The words of a set take 8 * (2 + buckets + 4 * slots + slots / 64) bytes, the
    last part rounded up, in one block, and each handle about 1,200 bytes besides; opening and
@@ -57,7 +77,7 @@
    pattern (in sequence, multiples of a page, pointers) do no harm; keys that somebody chooses to fall
    into one bucket do, and each call then passes them all. Only inserts advance the epoch, and once the last one is
    spent inserts of absent keys may be refused: the greatest lasts fifteen hours at ten million inserts
-   a second. Before it is spent a set is renewed: close all its handles, and open one with the keys of
+   a second that advance it, as one in sixteen does of a cache that takes sixteen keys out at a time. Before it is spent a set is renewed: close all its handles, and open one with the keys of
    the report by vbr_open_with, at epoch 1. The numbers are 1 to VBR_MAX_SLOTS slots, 1 to VBR_MAX_BUCKETS buckets, and 1 to
    VBR_MAX_EPOCH as the last epoch; the most slots and buckets take 673 million bytes. */
 #ifndef VBR_H
@@ -70,13 +90,40 @@
 extern "C" {
 #endif
 
+/* The version of this header, and the same as one number. vbr_version tells that of the library. */
+#define VBR_VERSION_MAJOR 0
+#define VBR_VERSION_MINOR 2
+#define VBR_VERSION_PATCH 0
+#define VBR_VERSION (VBR_VERSION_MAJOR * 1000000u + VBR_VERSION_MINOR * 1000u + VBR_VERSION_PATCH)
+
+/* VBR_NODISCARD: an answer that is thrown away may be a refusal. VBR_NOEXCEPT: no call throws or unwinds. */
+#if (defined(__cplusplus) && __cplusplus >= 201703L) || (defined(__STDC_VERSION__) && __STDC_VERSION__ > 201710L)
+#define VBR_NODISCARD [[nodiscard]]
+#elif defined(__GNUC__)
+#define VBR_NODISCARD __attribute__((warn_unused_result))
+#else
+#define VBR_NODISCARD
+#endif
+#ifdef __cplusplus
+#define VBR_NOEXCEPT noexcept
+#else
+#define VBR_NOEXCEPT
+#endif
+
 #define VBR_MAX_SLOTS 16777215u
 #define VBR_MAX_BUCKETS 16777216u
 #define VBR_MAX_EPOCH 549755813887ull
 #define VBR_MAX_HANDLES 64u
 
+/* A budget that no call runs out of in short buckets, in a set of so many slots. */
+#define VBR_AMPLE_BUDGET(slots) (100000u + (slots) / 64u)
+
 /* What a call answers. Numbers below 0 are refusals. */
-enum {
+#ifdef __cplusplus
+typedef enum vbr_answer : int32_t {
+#else
+typedef enum vbr_answer {
+#endif
     VBR_NO = 0,            /* the answer is no; of vbr_open: done; of vbr_close: others are open */
     VBR_YES = 1,           /* the answer is yes; of vbr_close: it was the last, the set is closed */
     VBR_OUT_OF_STEPS = -1, /* insert, remove, has: the budget is spent; no call was made */
@@ -87,10 +134,14 @@ enum {
     VBR_BAD_SHAPE = -6,    /* open: slots, buckets or last_epoch is out of range; nothing was done */
     VBR_BAD_COUNT = -7,    /* open: count is not from 1 to 64; nothing was done */
     VBR_NO_MEMORY = -8,    /* open: nothing was done; close: it is the last and stays as it was */
-    VBR_LOST = -9,         /* close: it was the last, but a handle was dropped; the set is gone */
-    VBR_BAD_KEYS = -10     /* open_with: the keys do not ascend, or there are more than slots; nothing
+    VBR_LOST = -9,         /* close: it was the last, and a pass is not there; the set is gone. A handle
+                              that is dropped gives its pass back, so no program is known to get this */
+    VBR_BAD_KEYS = -10,    /* open_with: the keys do not ascend, or there are more than slots; nothing
                               was done */
-};
+    VBR_NO_ROOM = -11,     /* close: it is the last and stays as it was; the report tells how many keys */
+    VBR_MISSING = -12,     /* close_all: fewer handles than were opened, or none; they are as they were */
+    VBR_MIXED = -13        /* close_all: handles of different sets; they are as they were */
+} vbr_answer;
 
 /* A handle to a set, or {0}. */
 typedef struct vbr_handle {
@@ -108,35 +159,78 @@ typedef struct vbr_totals {
 /* Opens an empty set and fills `count` handles, which are empty, so each is {0}: VBR_NO. Else VBR_IN_USE,
    VBR_BAD_SHAPE, VBR_BAD_COUNT or VBR_NO_MEMORY, tested in this order, and the handles are as they
    were. */
-int32_t vbr_open(vbr_handle *handles, size_t count, uint32_t slots, uint32_t buckets,
-                 uint64_t last_epoch);
+VBR_NODISCARD vbr_answer vbr_open(vbr_handle *handles, size_t count, uint32_t slots, uint32_t buckets,
+                                  uint64_t last_epoch) VBR_NOEXCEPT;
 
 /* Opens a set of `key_count` keys, which ascend, each above the one before, and fills the handles as
    vbr_open does: VBR_NO. Else VBR_IN_USE, VBR_BAD_SHAPE, VBR_BAD_COUNT, VBR_BAD_KEYS or VBR_NO_MEMORY,
    tested in this order, and the handles are as they were. The epoch is 1. It takes the memory of
    vbr_open, and 8 bytes for each key while it runs, and goes once over the keys. */
-int32_t vbr_open_with(vbr_handle *handles, size_t count, uint32_t slots, uint32_t buckets,
-                      uint64_t last_epoch, const uint64_t *keys, size_t key_count);
+VBR_NODISCARD vbr_answer vbr_open_with(vbr_handle *handles, size_t count, uint32_t slots, uint32_t buckets,
+                                       uint64_t last_epoch, const uint64_t *keys, size_t key_count) VBR_NOEXCEPT;
 
-/* VBR_YES or VBR_NO, or a refusal. They take no memory and never wait. */
-int32_t vbr_insert(vbr_handle *handle, uint64_t key, uint32_t budget); /* yes: it was absent */
-int32_t vbr_remove(vbr_handle *handle, uint64_t key, uint32_t budget); /* yes: it was there */
-int32_t vbr_has(vbr_handle *handle, uint64_t key, uint32_t budget);    /* yes: it is there */
+/* Adds a key, in at most `budget` steps: VBR_YES if it was absent, VBR_NO if it was there. Else VBR_OUT_OF_STEPS,
+   VBR_NO_SLOT, VBR_EPOCH_SPENT or VBR_EMPTY. It takes no memory and never waits. */
+VBR_NODISCARD vbr_answer vbr_insert(vbr_handle *handle, uint64_t key, uint32_t budget) VBR_NOEXCEPT;
+
+/* Takes a key out, in at most `budget` steps: VBR_YES if it was there, VBR_NO if it was absent. Else VBR_OUT_OF_STEPS
+   or VBR_EMPTY. It takes no memory and never waits. */
+VBR_NODISCARD vbr_answer vbr_remove(vbr_handle *handle, uint64_t key, uint32_t budget) VBR_NOEXCEPT;
+
+/* Looks a key up, in at most `budget` steps, all of them loads: VBR_YES if it is there, VBR_NO if it is absent. Else
+   VBR_OUT_OF_STEPS or VBR_EMPTY. It takes no memory and never waits. */
+VBR_NODISCARD vbr_answer vbr_has(vbr_handle *handle, uint64_t key, uint32_t budget) VBR_NOEXCEPT;
+
+/* The last epoch that the handle read in a call: 1 before its first, and 0 for an empty handle. It makes no step, so others
+   may have advanced the epoch since. Renew the set before it comes to vbr_last_epoch. */
+VBR_NODISCARD uint64_t vbr_epoch(vbr_handle *handle) VBR_NOEXCEPT;
+
+/* The last epoch that the set was opened with, and 0 for an empty handle. */
+VBR_NODISCARD uint64_t vbr_last_epoch(vbr_handle *handle) VBR_NOEXCEPT;
+
+/* How many slots the set was opened with, and 0 for an empty handle. */
+VBR_NODISCARD uint32_t vbr_slots(vbr_handle *handle) VBR_NOEXCEPT;
+
+/* How many buckets the set was opened with, and 0 for an empty handle. */
+VBR_NODISCARD uint32_t vbr_buckets(vbr_handle *handle) VBR_NOEXCEPT;
+
+/* The version of the library, which is VBR_VERSION where the header is of the same one. It has no handle, and can't fail. */
+VBR_NODISCARD uint32_t vbr_version(void) VBR_NOEXCEPT;
 
 /* Gives the pass back and leaves the handle empty: VBR_NO while others of its set are open. The last one
-   ends the set: VBR_YES, with the report and the first of the keys, ascending, as many as there is
-   room for. Only then is anything written, and only then is memory needed, which is freed again. Behind
-   the keys of the report the array stays as it was: all `room` keys, and the report, are initialised
-   before. With a room of 0 no key is told.
-   VBR_NO_MEMORY leaves the handle full: close it again, drop it, or go on with it. */
-int32_t vbr_close(vbr_handle *handle, uint64_t *keys, size_t room, vbr_totals *report);
+   ends the set: VBR_YES, with the report and its keys, ascending. Only then is memory needed, which is
+   freed again. Behind the keys of the report the array stays as it was: all `room` keys, and the report,
+   are initialised before.
+   VBR_NO_MEMORY and VBR_NO_ROOM leave the last handle full: close it again, drop it, or go on with it. As
+   many keys as the set has slots always have room; where these have not, VBR_NO_ROOM writes the report and
+   no key, and report->live is how many keys there are. Else nothing is written. VBR_LOST: a pass is not
+   there, and the set is gone; no program is known to get it. */
+VBR_NODISCARD vbr_answer vbr_close(vbr_handle *handle, uint64_t *keys, size_t room, vbr_totals *report) VBR_NOEXCEPT;
 
-/* Gives a handle up, empty or full, and leaves it empty. Its pass is lost, so the last close of its set
-   answers VBR_LOST. It needs no memory. */
-void vbr_drop(vbr_handle *handle);
+/* Closes a set by all `count` handles that were opened with it, in any order, and leaves them empty:
+   VBR_YES, with the report and its keys, as vbr_close writes them. No other thread is in a call on one of
+   them. The keys are what all calls on these handles leave. It takes the memory of a close.
+   Else the handles stay as they were: VBR_EMPTY, one is empty; VBR_MIXED, two are of different sets;
+   VBR_MISSING, they are fewer than were opened, or count is 0; VBR_NO_MEMORY; VBR_NO_ROOM, as in a close.
+   Handles of different sets are told by a probe, which is tested and not proved: do not rely on it. */
+VBR_NODISCARD vbr_answer vbr_close_all(vbr_handle *handles, size_t count, uint64_t *keys, size_t room,
+                                       vbr_totals *report) VBR_NOEXCEPT;
+
+/* Gives a handle up, empty or full, and leaves it empty. Its pass is given back as by a close, and no
+   report is told: the last handle of the set that is closed still gets it, and with the last one dropped
+   the set ends. It needs no memory. */
+void vbr_drop(vbr_handle *handle) VBR_NOEXCEPT;
 
 #ifdef __cplusplus
 }
+#endif
+
+#ifdef __SANITIZE_THREAD__
+#include "vbr_tsan.h"
+#elif defined(__has_feature)
+#if __has_feature(thread_sanitizer)
+#include "vbr_tsan.h"
+#endif
 #endif
 
 #endif

@@ -1,10 +1,14 @@
-//! Finds the static library: in the directory that `VBR_LIB_DIR` names, or else by pkg-config.
+//! Finds the static library: in the directory that `VBR_LIB_DIR` names, or else by pkg-config. Pages (`DOCS_RS`) need none.
 use std::env;
 use std::process::Command;
 
 fn main() {
     println!("cargo:rerun-if-env-changed=VBR_LIB_DIR");
     println!("cargo:rerun-if-env-changed=PKG_CONFIG_PATH");
+    println!("cargo:rerun-if-env-changed=DOCS_RS");
+    if env::var_os("DOCS_RS").is_some() {
+        return;
+    }
     let dir = env::var("VBR_LIB_DIR").ok().or_else(installed);
     let Some(dir) = dir else {
         panic!(

@@ -57,7 +57,6 @@ struct Model {
     uint32_t slots, buckets;
     uint64_t last_epoch;
     size_t handles, open;
-    bool lost = false;
     std::set<uint64_t> keys;
     std::map<uint64_t, uint64_t> marked;  // by bucket: how many removed nodes may still be in its list
     uint64_t all_marked = 0, inserts = 0;
@@ -236,7 +235,7 @@ private:
         int answer = made(kind, cell, key, budget);
         check(m, kind, answer, there, budget, most);
         saw(2 + kind, answer, there | (budget < most) << 1 | (m.keys.size() > 8) << 2 | (m.handles > 1) << 3 |
-                                  (m.slots < 8) << 4 | (m.all_marked > 0) << 5 | m.lost << 6);
+                                  (m.slots < 8) << 4 | (m.all_marked > 0) << 5 | (m.open < m.handles) << 6);
         if (kind == INSERT && answer == VBR_YES) m.keys.insert(key);
         if (kind == REMOVE && answer == VBR_YES) {
             m.keys.erase(key);
@@ -276,7 +275,7 @@ private:
         std::fill(std::begin(keys), std::end(keys), 0xabcdefu);
         vbr_totals report = {77, 77, 77, 77};
         std::shared_ptr<Model> m = models[cell];
-        int want = !m ? VBR_EMPTY : m->open > 1 ? VBR_NO : m->lost ? VBR_LOST : VBR_YES;
+        int want = !m ? VBR_EMPTY : m->open > 1 ? VBR_NO : m->keys.size() > room ? VBR_NO_ROOM : VBR_YES;
         refused_one = false;
         int answer = vbr_close(&cells[cell], keys, room, &report);
         allowed = -1;
@@ -284,18 +283,22 @@ private:
         if (answer != want && !short_of) fail("the answer of vbr_close");
         saw(5, answer, m ? (m->keys.size() > room) | (m->all_marked > 0) << 1 | (m->keys.empty()) << 2 : 0);
         bool untouched = report.epoch == 77 && report.live == 77 && report.marked == 77 && report.free == 77;
-        if (answer != VBR_YES && (!untouched || keys[0] != 0xabcdefu)) fail("vbr_close wrote without a report");
-        if (answer == VBR_YES) check_report(*m, report, keys, room);
-        if (m && !short_of) m->open--, models[cell] = nullptr;
+        bool told = answer == VBR_YES || answer == VBR_NO_ROOM;
+        if (!told && !untouched) fail("vbr_close wrote without a report");
+        if (answer != VBR_YES && keys[0] != 0xabcdefu) fail("vbr_close wrote keys that have no room");
+        if (told) check_report(*m, report);
+        if (answer == VBR_YES) check_keys(*m, keys);
+        if (m && !short_of && answer != VBR_NO_ROOM) m->open--, models[cell] = nullptr;
     }
 
-    static void check_report(const Model &m, const vbr_totals &report, const uint64_t *keys, size_t room) {
+    static void check_keys(const Model &m, const uint64_t *keys) {
         size_t count = 0;
-        for (uint64_t key : m.keys) {
-            if (count == room) break;
+        for (uint64_t key : m.keys)
             if (keys[count++] != key) fail("a key of the report");
-        }
-        if (keys[count] != 0xabcdefu) fail("more keys than there are, or than there is room for");
+        if (keys[count] != 0xabcdefu) fail("more keys than there are");
+    }
+
+    static void check_report(const Model &m, const vbr_totals &report) {
         if (report.live != m.keys.size()) fail("the number of keys of the report");
         if (report.marked > m.all_marked) fail("more marked nodes than removes could leave");
         if (uint64_t{report.live} + report.marked + report.free != m.slots) fail("slots are lost");
@@ -306,7 +309,6 @@ private:
         vbr_drop(&cells[cell]);
         saw(6, 0, models[cell] ? models[cell]->open : 0);
         if (!models[cell]) return;
-        models[cell]->lost = true;
         models[cell]->open--;
         models[cell] = nullptr;
     }

@@ -27,18 +27,36 @@
 //! stands before that one in the history whose answers the later caller gets: once a thread is told that a
 //! key was inserted, and nobody removes it, [`Handle::has`] answers yes.
 //!
+//! What a thread wrote before it inserted a key can be read by a thread that then finds the key.
+//!
+//! # Threads
+//!
+//! A handle is no thread's: it may be moved to another one at any time, by whatever Rust has for that, and the library
+//! keeps nothing for each thread. Where a thread ends or panics, the handles that it owns are dropped, which closes them:
+//! nothing is lost, and the last handle of the set still gets the report. A handle that is forgotten
+//! ([`core::mem::forget`]) is never closed, and neither is its set. Threads that come and go, or are more than 64, borrow
+//! handles by [`Set::lend`]. After a fork the child uses no handle, unless the process had one thread.
+//!
+//! How many keys are in the set isn't told while threads run. Count the inserts and removes that are answered yes, or
+//! read the report of the last close.
+//!
 //! The exports of the library ask nothing of their caller but what the types here say: a handle is moved
-//! and never copied, and one call at a time has it (`&mut`).
+//! and never copied, and one call at a time has it, since it is not `Sync`.
 #![no_std]
 #![warn(missing_docs)]
 
 extern crate alloc;
 
+use alloc::boxed::Box;
 use alloc::vec::Vec;
+use core::cell::UnsafeCell;
 use core::error::Error;
 use core::ffi::c_void;
 use core::fmt;
-use core::ptr::null_mut;
+use core::marker::PhantomData;
+use core::ops::{Deref, DerefMut};
+use core::ptr::{null_mut, NonNull};
+use core::sync::atomic::{AtomicPtr, AtomicU64, AtomicUsize, Ordering};
 
 /// The greatest number of slots.
 pub const MAX_SLOTS: u32 = 16_777_215;
@@ -52,6 +70,12 @@ pub const MAX_EPOCH: u64 = 549_755_813_887;
 
 /// The greatest number of handles of a set.
 pub const MAX_HANDLES: usize = 64;
+
+/// The version of the library: major * 1000000 + minor * 1000 + patch.
+pub fn version() -> u32 {
+    // SAFETY: it takes nothing.
+    unsafe { vbr_version() }
+}
 
 /// As C sees a handle: one pointer, null where it is empty.
 #[repr(transparent)]
@@ -80,6 +104,11 @@ extern "C" {
     fn vbr_insert(handle: *mut Raw, key: u64, budget: u32) -> i32;
     fn vbr_remove(handle: *mut Raw, key: u64, budget: u32) -> i32;
     fn vbr_has(handle: *mut Raw, key: u64, budget: u32) -> i32;
+    fn vbr_epoch(handle: *mut Raw) -> u64;
+    fn vbr_last_epoch(handle: *mut Raw) -> u64;
+    fn vbr_slots(handle: *mut Raw) -> u32;
+    fn vbr_buckets(handle: *mut Raw) -> u32;
+    fn vbr_version() -> u32;
     fn vbr_close(handle: *mut Raw, keys: *mut u64, room: usize, told: *mut ReportNumbers) -> i32;
     fn vbr_drop(handle: *mut Raw);
 }
@@ -107,19 +136,57 @@ impl Shape {
     pub const fn new(slots: u32, buckets: u32, last_epoch: u64) -> Shape {
         Shape { slots, buckets, last_epoch }
     }
+
+    /// The shape for this many keys at one time and this many handles: a slot for each key and 64 for each handle, as
+    /// many buckets as keys, rounded up to a power of two, and the greatest last epoch.
+    ///
+    /// ```
+    /// assert_eq!(vbr::Shape::for_keys(1_000, 2), vbr::Shape::new(1_128, 1_024, vbr::MAX_EPOCH));
+    /// ```
+    pub const fn for_keys(keys: u32, handles: usize) -> Shape {
+        let own = 64 * if handles < MAX_HANDLES { handles } else { MAX_HANDLES } as u32;
+        let buckets = if keys < MAX_BUCKETS { keys.next_power_of_two() } else { MAX_BUCKETS };
+        Shape { slots: keys.saturating_add(own), buckets, last_epoch: MAX_EPOCH }
+    }
+
+    /// The first of the three numbers that is out of its range, as [`Set::open`] tests them.
+    ///
+    /// # Errors
+    ///
+    /// That number.
+    pub const fn check(self) -> Result<(), ShapeError> {
+        match self {
+            Shape { slots, .. } if slots < 1 || slots > MAX_SLOTS => Err(ShapeError::Slots(slots)),
+            Shape { buckets, .. } if buckets < 1 || buckets > MAX_BUCKETS => Err(ShapeError::Buckets(buckets)),
+            Shape { last_epoch, .. } if last_epoch < 1 || last_epoch > MAX_EPOCH => Err(ShapeError::LastEpoch(last_epoch)),
+            _ => Ok(()),
+        }
+    }
 }
 
-/// A set, which is used through its handles.
-pub struct Set;
+/// A budget that no call runs out of in short buckets, in a set of so many slots.
+pub const fn ample_budget(slots: u32) -> u32 {
+    100_000 + slots / 64
+}
+
+/// A set. It is used through its handles: [`Set::open`] gives them, and [`Set::lending`] keeps them and lends them.
+pub struct Set {
+    handles: Box<[UnsafeCell<Handle>]>,
+    /// A bit for each handle that isn't lent.
+    free: AtomicU64,
+}
+
+// SAFETY: a handle is reached by whoever took its bit, one thread at a time, and may be sent to any thread.
+unsafe impl Sync for Set {}
 
 impl Set {
     /// Opens an empty set and gives its handles, from 1 to [`MAX_HANDLES`] of them.
     ///
     /// ```
-    /// use vbr::{OpenError, Set, Shape};
+    /// use vbr::{OpenError, Set, Shape, ShapeError};
     ///
     /// assert_eq!(Set::open(Shape::new(8, 2, 100), 3)?.len(), 3);
-    /// assert_eq!(Set::open(Shape::new(0, 2, 100), 3).unwrap_err(), OpenError::Shape);
+    /// assert_eq!(Set::open(Shape::new(0, 2, 100), 3).unwrap_err(), OpenError::Shape(ShapeError::Slots(0)));
     /// assert_eq!(Set::open(Shape::new(8, 2, 100), 65).unwrap_err(), OpenError::Handles);
     /// # Ok::<(), OpenError>(())
     /// ```
@@ -169,30 +236,181 @@ impl Set {
     }
 }
 
-// The handles that a call of the library opens, which is given empty ones and their number.
+impl Set {
+    /// Opens an empty set that lends its handles, from 1 to [`MAX_HANDLES`] of them.
+    ///
+    /// ```
+    /// use vbr::{ample_budget, Set, Shape};
+    ///
+    /// let shape = Shape::for_keys(1_000, 4);
+    /// let set = Set::lending(shape, 4)?;
+    /// std::thread::scope(|scope| {
+    ///     for page in 0..8 {
+    ///         let set = &set;
+    ///         scope.spawn(move || loop {
+    ///             // None where all four are lent at the moment
+    ///             if let Some(mut handle) = set.lend() {
+    ///                 break handle.insert(page, ample_budget(shape.slots));
+    ///             }
+    ///             std::thread::yield_now();
+    ///         });
+    ///     }
+    /// });
+    /// assert_eq!(set.close()?.keys, [0, 1, 2, 3, 4, 5, 6, 7]);
+    /// # Ok::<(), Box<dyn std::error::Error>>(())
+    /// ```
+    ///
+    /// # Errors
+    ///
+    /// Those of [`Set::open`].
+    pub fn lending(shape: Shape, handles: usize) -> Result<Set, OpenError> {
+        Set::of(Set::open(shape, handles)?)
+    }
+
+    /// Opens a set of these keys, as [`Set::open_with`] does, that lends its handles.
+    ///
+    /// # Errors
+    ///
+    /// Those of [`Set::open_with`].
+    pub fn lending_with(shape: Shape, handles: usize, keys: &[u64]) -> Result<Set, OpenError> {
+        Set::of(Set::open_with(shape, handles, keys)?)
+    }
+
+    /// Keeps the handles of one set.
+    fn of(handles: Vec<Handle>) -> Result<Set, OpenError> {
+        let mut cells = Vec::new();
+        if cells.try_reserve_exact(handles.len()).is_err() {
+            return Err(OpenError::Memory);
+        }
+        cells.extend(handles.into_iter().map(UnsafeCell::new));
+        let free = AtomicU64::new(u64::MAX >> (MAX_HANDLES - cells.len()));
+        Ok(Set { handles: cells.into_boxed_slice(), free })
+    }
+
+    /// A free handle, or `None` where each was lent at a moment of the call. It tries each handle at most once, takes no
+    /// lock and no memory, and never waits. At most 64 are lent at a time.
+    ///
+    /// A loan and its return are one atomic operation each on a word that all threads share: a look-up with a loan of its
+    /// own takes several times as long as one without, and more where several threads borrow at the same time. So keep a
+    /// loan for as many calls as can be, and keep none while the thread waits for something else.
+    #[inline]
+    pub fn lend(&self) -> Option<Lent<'_>> {
+        let mut untried = u64::MAX;
+        let mut free = self.free.load(Ordering::Relaxed);
+        while free & untried != 0 {
+            let number = (free & untried).trailing_zeros();
+            free = self.free.fetch_and(!(1 << number), Ordering::Acquire);
+            if free >> number & 1 == 1 {
+                return Some(Lent { set: self, number, exclusive: PhantomData });
+            }
+            untried &= !(1 << number);
+        }
+        None
+    }
+
+    /// Closes all handles, and tells what was in the set.
+    ///
+    /// # Errors
+    ///
+    /// [`CloseError::Memory`], with the last handle, which has the set then; and [`CloseError::Lost`].
+    pub fn close(self) -> Result<Report, CloseError> {
+        for handle in self.handles.into_vec() {
+            if let Some(report) = handle.into_inner().close()? {
+                return Ok(report);
+            }
+        }
+        Err(CloseError::Lost)
+    }
+}
+
+impl fmt::Debug for Set {
+    fn fmt(&self, f: &mut fmt::Formatter<'_>) -> fmt::Result {
+        f.debug_struct("Set").finish_non_exhaustive()
+    }
+}
+
+/// A handle on loan from its [`Set`]. It goes back when this is dropped, and what was done with it comes before what the
+/// next borrower does.
+///
+/// It may go to another thread, and is not `Sync`.
+///
+/// ```compile_fail
+/// fn is_sync<T: Sync>() {}
+/// is_sync::<vbr::Lent<'static>>();
+/// ```
+#[derive(Debug)]
+pub struct Lent<'s> {
+    set: &'s Set,
+    number: u32,
+    exclusive: PhantomData<&'s mut Handle>,
+}
+
+impl Deref for Lent<'_> {
+    type Target = Handle;
+
+    #[inline]
+    fn deref(&self) -> &Handle {
+        // SAFETY: this has the handle's bit, and is not `Sync`.
+        unsafe { &*self.set.handles[self.number as usize].get() }
+    }
+}
+
+impl DerefMut for Lent<'_> {
+    #[inline]
+    fn deref_mut(&mut self) -> &mut Handle {
+        // SAFETY: this has the handle's bit, and `&mut` is exclusive.
+        unsafe { &mut *self.set.handles[self.number as usize].get() }
+    }
+}
+
+impl Drop for Lent<'_> {
+    #[inline]
+    fn drop(&mut self) {
+        self.set.free.fetch_or(1 << self.number, Ordering::Release);
+    }
+}
+
+/// What the handles of a set share: how many are open, and those that were closed, which the last one gives back. So the
+/// last one is known before the library is asked for the report, and memory is needed for one report alone.
+struct Shared {
+    open: AtomicUsize,
+    slots: u32,
+    parked: [AtomicPtr<c_void>; MAX_HANDLES],
+}
+
+/// The handles that a call of the library opens, which is given empty ones and their number.
 fn open_by(shape: Shape, handles: usize, open: impl FnOnce(*mut Raw, usize) -> i32) -> Result<Vec<Handle>, OpenError> {
+    shape.check()?;
     let mut raw: [Raw; MAX_HANDLES] = [const { Raw(null_mut()) }; MAX_HANDLES];
     let mut opened = Vec::new();
-    if opened.try_reserve_exact(handles.min(MAX_HANDLES)).is_err() {
+    let mut shared = Vec::new();
+    if opened.try_reserve_exact(handles.min(MAX_HANDLES)).is_err() || shared.try_reserve_exact(1).is_err() {
         return Err(OpenError::Memory);
     }
     // The library reads no handle of an opening whose count is out of range.
     let count = if handles > MAX_HANDLES { 0 } else { handles };
     match open(raw.as_mut_ptr(), count) {
         0 => {}
-        -6 => return Err(OpenError::Shape),
         -7 => return Err(OpenError::Handles),
         -10 => return Err(OpenError::Keys),
         _ => return Err(OpenError::Memory),
     }
-    opened.extend(raw.into_iter().take(count).map(|raw| Handle { raw, slots: shape.slots }));
+    let parked = [const { AtomicPtr::new(null_mut()) }; MAX_HANDLES];
+    shared.push(Shared { open: AtomicUsize::new(count), slots: shape.slots, parked });
+    // Whoever closes the last handle frees it.
+    let shared = NonNull::from(Box::leak(shared.into_boxed_slice())).cast::<Shared>();
+    opened.extend(raw.into_iter().take(count).enumerate().map(|(number, raw)| Handle {
+        raw: UnsafeCell::new(raw),
+        number,
+        shared: Some(shared),
+    }));
     Ok(opened)
 }
 
 /// A handle to a set: a pass, the right of one thread at a time to make calls, and a share of the set.
 ///
-/// It may go to another thread, and is neither `Clone` nor `Sync`. One that is dropped gives its pass up,
-/// and the last close of its set then answers [`CloseError::Lost`]; nothing leaks.
+/// It may go to another thread, and is neither `Clone` nor `Sync`. One that is dropped is closed, and nothing is lost by
+/// it: the handle that is closed last gets the report. Where the last one is dropped, the set goes with it.
 ///
 /// ```compile_fail
 /// fn is_clone<T: Clone>() {}
@@ -204,11 +422,13 @@ fn open_by(shape: Shape, handles: usize, open: impl FnOnce(*mut Raw, usize) -> i
 /// is_sync::<vbr::Handle>();
 /// ```
 pub struct Handle {
-    raw: Raw,
-    slots: u32,
+    raw: UnsafeCell<Raw>,
+    number: usize,
+    /// What the handles of its set share, until it is closed.
+    shared: Option<NonNull<Shared>>,
 }
 
-// SAFETY: the library proves `Send` of its `Handle`, which this is.
+// SAFETY: the library proves `Send` of its `Handle`, which `raw` is, and what is shared changes by atomic steps alone.
 unsafe impl Send for Handle {}
 
 impl Handle {
@@ -231,7 +451,7 @@ impl Handle {
     #[inline]
     pub fn insert(&mut self, key: u64, budget: u32) -> Result<bool, Refusal> {
         // SAFETY: `&mut` is exclusive.
-        answer(unsafe { vbr_insert(&mut self.raw, key, budget) })
+        answer(unsafe { vbr_insert(self.raw.get(), key, budget) })
     }
 
     /// Takes a key out, in at most `budget` steps, and says whether it was there. While the other handles
@@ -243,52 +463,133 @@ impl Handle {
     #[inline]
     pub fn remove(&mut self, key: u64, budget: u32) -> Result<bool, Refusal> {
         // SAFETY: `&mut` is exclusive.
-        answer(unsafe { vbr_remove(&mut self.raw, key, budget) })
+        answer(unsafe { vbr_remove(self.raw.get(), key, budget) })
     }
 
     /// Whether a key is in the set, in at most `budget` steps, all of them loads. While the other handles
     /// stand still, 5n + 11 are enough, with n nodes in the bucket of the key.
     ///
+    /// It changes what the handle owns, and nothing that another handle sees, so it takes `&self` of a type that is not
+    /// `Sync`.
+    ///
     /// # Errors
     ///
     /// [`Refusal::OutOfSteps`] alone. No call was made then.
     #[inline]
-    pub fn has(&mut self, key: u64, budget: u32) -> Result<bool, Refusal> {
-        // SAFETY: `&mut` is exclusive.
-        answer(unsafe { vbr_has(&mut self.raw, key, budget) })
+    pub fn has(&self, key: u64, budget: u32) -> Result<bool, Refusal> {
+        // SAFETY: one thread at a time has the handle, which is not `Sync`, and the call lends it to nobody.
+        answer(unsafe { vbr_has(self.raw.get(), key, budget) })
     }
 
-    /// Gives the pass back. The answer is `None` while other handles of the set are open; the last one
-    /// is told what is in the set.
+    /// The last epoch that the handle read in a call; 1 before its first. It makes no step, so others may
+    /// have advanced the epoch since. Renew the set before it comes to [`Handle::last_epoch`].
+    #[inline]
+    pub fn epoch(&self) -> u64 {
+        // SAFETY: one thread at a time has the handle, which is not `Sync`, and the call lends it to nobody.
+        unsafe { vbr_epoch(self.raw.get()) }
+    }
+
+    /// The last epoch of the set.
+    #[inline]
+    pub fn last_epoch(&self) -> u64 {
+        // SAFETY: one thread at a time has the handle, which is not `Sync`, and the call lends it to nobody.
+        unsafe { vbr_last_epoch(self.raw.get()) }
+    }
+
+    /// How many slots the set has.
+    #[inline]
+    pub fn slots(&self) -> u32 {
+        // SAFETY: one thread at a time has the handle, which is not `Sync`, and the call lends it to nobody.
+        unsafe { vbr_slots(self.raw.get()) }
+    }
+
+    /// How many buckets the set has.
+    #[inline]
+    pub fn buckets(&self) -> u32 {
+        // SAFETY: one thread at a time has the handle, which is not `Sync`, and the call lends it to nobody.
+        unsafe { vbr_buckets(self.raw.get()) }
+    }
+
+    /// Closes the handle. The answer is `None` while other handles of the set are open; the last one is told what is in
+    /// the set. It alone takes memory: 8 bytes for each slot, of which what isn't needed is given back, and as much as the
+    /// words of the set and 9 bytes for each slot while it runs.
     ///
     /// # Errors
     ///
-    /// [`CloseError::Memory`], with the handle as it was, and [`CloseError::Lost`].
+    /// [`CloseError::Memory`], with the handle as it was; of the last handle alone. [`CloseError::Lost`], which no program is
+    /// known to get.
     pub fn close(mut self) -> Result<Option<Report>, CloseError> {
+        let Some(shared) = self.last() else {
+            return Ok(None);
+        };
+        // SAFETY: this is the last handle, which frees it when it is dropped.
+        let shared = unsafe { shared.as_ref() };
         let mut keys = Vec::new();
-        if keys.try_reserve_exact(self.slots as usize).is_err() {
-            return Err(CloseError::Memory(self));
+        if keys.try_reserve_exact(shared.slots as usize).is_err() {
+            return Err(CloseError::Memory(Unclosed(self)));
         }
-        keys.resize(self.slots as usize, 0);
+        keys.resize(shared.slots as usize, 0);
+        shared.close_parked();
         let mut told = ReportNumbers::default();
-        // SAFETY: `&mut` is exclusive, and `keys` has as much room as is told.
-        match unsafe { vbr_close(&mut self.raw, keys.as_mut_ptr(), keys.len(), &mut told) } {
-            0 => Ok(None),
+        // SAFETY: `self` is exclusive, and `keys` has as much room as is told.
+        match unsafe { vbr_close(self.raw.get(), keys.as_mut_ptr(), keys.len(), &mut told) } {
             1 => {
-                keys.truncate(told.live as usize);
-                let ReportNumbers { epoch, live: _, marked, free } = told;
+                let ReportNumbers { epoch, live, marked, free } = told;
+                keys.truncate(live as usize);
+                keys.shrink_to_fit();
                 Ok(Some(Report { keys, epoch, marked, free }))
             }
-            -8 => Err(CloseError::Memory(self)),
+            -8 => Err(CloseError::Memory(Unclosed(self))),
             _ => Err(CloseError::Lost),
+        }
+    }
+
+    /// What the handles share, if all others are closed. If not, this one is closed then too: it is parked.
+    fn last(&mut self) -> Option<NonNull<Shared>> {
+        let at = self.shared?;
+        // SAFETY: it is freed by the handle that is closed last, and this one is open.
+        let shared = unsafe { at.as_ref() };
+        if shared.open.load(Ordering::Acquire) == 1 {
+            return Some(at);
+        }
+        shared.parked[self.number].store(self.raw.get_mut().0, Ordering::Relaxed);
+        if shared.open.fetch_sub(1, Ordering::AcqRel) == 1 {
+            shared.parked[self.number].store(null_mut(), Ordering::Relaxed);
+            shared.open.store(1, Ordering::Relaxed);
+            return Some(at);
+        }
+        self.shared = None;
+        None
+    }
+}
+
+impl Shared {
+    /// Closes the handles that are parked. One is open still, so nothing is told and no memory is needed.
+    fn close_parked(&self) {
+        for parked in &self.parked {
+            let mut raw = Raw(parked.swap(null_mut(), Ordering::Relaxed));
+            if !raw.0.is_null() {
+                let mut told = ReportNumbers::default();
+                let mut none = [0];
+                // SAFETY: who parked the handle never uses it again.
+                unsafe { vbr_close(&mut raw, none.as_mut_ptr(), 0, &mut told) };
+            }
         }
     }
 }
 
 impl Drop for Handle {
     fn drop(&mut self) {
-        // SAFETY: `&mut` is exclusive; an empty handle stays so.
-        unsafe { vbr_drop(&mut self.raw) }
+        let Some(shared) = self.last() else {
+            return;
+        };
+        // SAFETY: all others are closed, so nothing else reaches what they shared, which was one boxed value; and `&mut`
+        // is exclusive. A handle that is empty, after its close, stays so.
+        unsafe {
+            shared.as_ref().close_parked();
+            vbr_drop(self.raw.get());
+            drop(Box::from_raw(shared.as_ptr()));
+        }
     }
 }
 
@@ -325,14 +626,25 @@ pub struct Report {
 /// Why a set was not opened.
 #[derive(Clone, Copy, Debug, PartialEq, Eq)]
 pub enum OpenError {
-    /// A number of the shape is out of range.
-    Shape,
+    /// A number of the shape is out of range: the first such one.
+    Shape(ShapeError),
     /// The number of handles is not from 1 to 64.
     Handles,
     /// The keys don't ascend, each above the one before, or there are more of them than slots.
     Keys,
     /// There is no memory.
     Memory,
+}
+
+/// The number of a shape that is out of its range.
+#[derive(Clone, Copy, Debug, PartialEq, Eq)]
+pub enum ShapeError {
+    /// The number of slots is not from 1 to [`MAX_SLOTS`].
+    Slots(u32),
+    /// The number of buckets is not from 1 to [`MAX_BUCKETS`].
+    Buckets(u32),
+    /// The last epoch is not from 1 to [`MAX_EPOCH`].
+    LastEpoch(u64),
 }
 
 /// Why a call gave no answer. It made no call then.
@@ -349,20 +661,50 @@ pub enum Refusal {
 /// Why the last handle got no report.
 #[derive(Debug)]
 pub enum CloseError {
-    /// A handle of the set was dropped. The set is gone.
+    /// It was the last handle, and a pass of the set is not there. The set is gone. No program is known to get this.
     Lost,
     /// There is no memory for the report. The handle is as it was, and can be closed again.
-    Memory(Handle),
+    Memory(Unclosed),
+}
+
+/// A handle that couldn't be closed, within an error that threads may share.
+#[derive(Debug)]
+pub struct Unclosed(Handle);
+
+// SAFETY: a reference to it gives nothing but its name.
+unsafe impl Sync for Unclosed {}
+
+impl Unclosed {
+    /// The handle, to go on with, or to be closed again.
+    pub fn into_handle(self) -> Handle {
+        self.0
+    }
 }
 
 impl fmt::Display for OpenError {
     fn fmt(&self, f: &mut fmt::Formatter<'_>) -> fmt::Result {
         f.write_str(match self {
-            OpenError::Shape => "a number of the shape is out of range",
+            OpenError::Shape(number) => return number.fmt(f),
             OpenError::Handles => "the number of handles is not from 1 to 64",
             OpenError::Keys => "the keys do not ascend, or there are more than slots",
             OpenError::Memory => "there is no memory for the set",
         })
+    }
+}
+
+impl fmt::Display for ShapeError {
+    fn fmt(&self, f: &mut fmt::Formatter<'_>) -> fmt::Result {
+        match self {
+            ShapeError::Slots(slots) => write!(f, "{slots} slots are not from 1 to {MAX_SLOTS}"),
+            ShapeError::Buckets(buckets) => write!(f, "{buckets} buckets are not from 1 to {MAX_BUCKETS}"),
+            ShapeError::LastEpoch(epoch) => write!(f, "the last epoch {epoch} is not from 1 to {MAX_EPOCH}"),
+        }
+    }
+}
+
+impl From<ShapeError> for OpenError {
+    fn from(number: ShapeError) -> OpenError {
+        OpenError::Shape(number)
     }
 }
 
@@ -379,13 +721,15 @@ impl fmt::Display for Refusal {
 impl fmt::Display for CloseError {
     fn fmt(&self, f: &mut fmt::Formatter<'_>) -> fmt::Result {
         f.write_str(match self {
-            CloseError::Lost => "a handle of the set was dropped",
+            CloseError::Lost => "a pass of the set is missing",
             CloseError::Memory(_) => "there is no memory for the report",
         })
     }
 }
 
 impl Error for OpenError {}
+
+impl Error for ShapeError {}
 
 impl Error for Refusal {}
 

@@ -1,25 +1,35 @@
 -- What the core accepts of a pass, by what it holds.
 use Rattle.std.proofs.Common.{◌≡◌, ◌≢◌, ℕ, ◌<◌, false, subst}
 use Rattle.std.specs.Prelude.{IsTrue}
+use Rattle.vbr_words.specs.Dimensions.{Dimensions}
 use Rattle.vbr_words.specs.Words.{link_of}
 use Rattle.vbr_words.specs.declared.link.Link.{Link}
 use Rattle.vbr_words.specs.declared.place.At.{At}
 use Rattle.vbr_words.specs.declared.place.At.TheVariants.{Slot}
-use Rattle.vbr_core.specs.Knowledge.{Know, holds}
-use Rattle.vbr_core.specs.Acceptance.{IsAtIn, Accepts}
-use Rattle.vbr_core.specs.Learning.{link_written}
-use Rattle.vbr_core.specs.Membership.{Knows, IsHeldSlot, IsHeldPlace, KeyAt, StandsBehind, StandsBeforeOn, IsUnlinkLink}
-use Rattle.vbr_core.specs.declared.event.Step.TheVariants.{LoadBirth, Mark, Unlink, ConfirmPresent, ConfirmAbsent}
-use Rattle.vbr_core.specs.declared.history.Op.{Op}
-use Rattle.vbr_core.specs.declared.history.Op.TheVariants.{Insert, Remove, Get}
-use Rattle.vbr_core.specs.declared.knowledge.Read.TheVariants.{LinkAt, KeyOf}
-use Rattle.vbr_core.proofs.Lemmas.{known_accepts, link_held, written_is}
-use Rattle.vbr_slots.specs.Views.{PassView, knows}
+use Rattle.vbr_machine.specs.Knowledge.{Know, holds}
+use Rattle.vbr_machine.specs.Acceptance.{IsAtIn, HasChecked, IsInRange, Accepts}
+use Rattle.vbr_machine.specs.Learning.{link_written}
+use Rattle.vbr_machine.specs.Membership.{Knows, IsHeldSlot, IsHeldPlace, KeyAt, StandsBehind, StandsBeforeOn, IsUnlinkLink}
+use Rattle.vbr_machine.specs.declared.event.Step.{Step}
+use Rattle.vbr_machine.specs.declared.event.Step.TheVariants.{LoadBirth, Mark, Unlink, ConfirmPresent, ConfirmAbsent}
+use Rattle.vbr_machine.specs.declared.history.Op.{Op}
+use Rattle.vbr_machine.specs.declared.history.Op.TheVariants.{Insert, Remove, Get}
+use Rattle.vbr_machine.specs.declared.knowledge.Read.TheVariants.{LinkAt, KeyOf}
+use Rattle.vbr_machine.proofs.Lemmas.{known_accepts, link_held, written_is}
+use Rattle.vbr_slots.specs.Asked.{IsChecked}
+use Rattle.vbr_slots.specs.Views.{PassView, TableView, Trace, IsOf, knows}
 use Rattle.vbr_access.specs.Held.{IsHeld, Names}
 use Rattle.vbr_slots.specs.PassLaw.{PassLaw}
 use Rattle.vbr_access.specs.declared.held.Held.{Held}
 use Rattle.vbr_access.proofs.NoValues.{no_value_known, no_value_for, op_in}
 use Rattle.vbr_access.proofs.PlacesInShape.{link_in, held_in}
+
+-- a step that the core accepts of a pass is checked for its table
+pub accepted_checked : {t : TableView} {p : Trace} {step : Step} → IsOf p t → Accepts p.shape (knows p) step → IsChecked t p step
+accepted_checked {t} {p} {step} own ok = record {
+  held = subst (λ (shape : Dimensions). HasChecked shape (knows p) step) own.1 ok.held;
+  in_range = subst (λ (shape : Dimensions). IsInRange shape (knows p) step) own.1 ok.in_range;
+}
 
 -- the slot that the link of what is held names is held
 pub named_slot : {know : Know} (held : Held) (s : ℕ) → IsHeld know held → Names held s → IsHeldSlot know s

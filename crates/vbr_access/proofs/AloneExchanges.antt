@@ -4,21 +4,21 @@ use Rattle.vbr_words.specs.Dimensions.{Dimensions, IsShape}
 use Rattle.vbr_words.specs.Words.{link_of}
 use Rattle.vbr_words.specs.declared.place.At.{At}
 use Rattle.vbr_words.specs.declared.place.At.TheVariants.{Head, Slot}
-use Rattle.vbr_core.specs.Acceptance.{Accepts}
-use Rattle.vbr_core.specs.Accounts.{incarnations_after, notes_after}
-use Rattle.vbr_core.specs.Agreement.{Agrees}
-use Rattle.vbr_core.specs.Images.{link_shown_at}
-use Rattle.vbr_core.specs.Incarnations.{Incarnations}
-use Rattle.vbr_core.specs.Learning.{link_written, present_reply}
-use Rattle.vbr_core.specs.Machine.{found}
-use Rattle.vbr_core.specs.Machine as machine
-use Rattle.vbr_core.specs.Membership.{Knows}
-use Rattle.vbr_core.specs.Nodes.{behind}
-use Rattle.vbr_core.specs.Runs.{world_after}
-use Rattle.vbr_core.specs.declared.event.Step.TheVariants.{Publish, Mark, Unlink, ConfirmPresent, ConfirmAbsent}
-use Rattle.vbr_core.specs.declared.history.Op.{Op}
-use Rattle.vbr_core.specs.declared.knowledge.Read.TheVariants.{LinkAt}
-use Rattle.vbr_core.proofs.Lemmas.{found_at, run_agrees, unlink_makes, unlink_takes_one}
+use Rattle.vbr_machine.specs.Acceptance.{Accepts}
+use Rattle.vbr_machine.specs.Accounts.{incarnations_after, notes_after}
+use Rattle.vbr_machine.specs.Agreement.{Agrees}
+use Rattle.vbr_machine.specs.Images.{link_shown_at}
+use Rattle.vbr_machine.specs.Incarnations.{Incarnations}
+use Rattle.vbr_machine.specs.Learning.{link_written, present_reply}
+use Rattle.vbr_machine.specs.Machine.{found}
+use Rattle.vbr_machine.specs.Machine as machine
+use Rattle.vbr_machine.specs.Membership.{Knows}
+use Rattle.vbr_machine.specs.Nodes.{behind}
+use Rattle.vbr_machine.specs.Runs.{world_after}
+use Rattle.vbr_machine.specs.declared.event.Step.TheVariants.{Publish, Mark, Unlink, ConfirmPresent, ConfirmAbsent}
+use Rattle.vbr_machine.specs.declared.history.Op.{Op}
+use Rattle.vbr_machine.specs.declared.knowledge.Read.TheVariants.{LinkAt}
+use Rattle.vbr_machine.proofs.Lemmas.{found_at, run_agrees, unlink_makes, unlink_takes_one}
 use Rattle.vbr_slots.specs.Alone.{IsAlone, nodes, ahead}
 use Rattle.vbr_slots.specs.Views.{Trace, Did, knows, event_of}
 use Rattle.vbr_slots.proofs.Lemmas.{did_run, found_now, nodes_next, run_was, same_leaves, stands_found}

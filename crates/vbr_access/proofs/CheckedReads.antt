@@ -5,10 +5,10 @@ use Rattle.vbr_words.specs.Words.{link_of}
 use Rattle.vbr_words.specs.declared.place.At.{At}
 use Rattle.vbr_words.specs.declared.place.At.TheVariants.{Head, Slot}
 use Rattle.vbr_words.specs.Buckets.{bucket_of}
-use Rattle.vbr_core.specs.Membership.{Knows, IsHeldSlot, HeldIn}
-use Rattle.vbr_core.specs.declared.event.Step.TheVariants.{ReadEpoch, LoadLink, LoadBirth, LoadKey}
-use Rattle.vbr_core.specs.declared.knowledge.Read.TheVariants.{LinkAt, BirthOf, KeyOf}
-use Rattle.vbr_core.proofs.Lemmas.{head_unmarked, held_in_bucket}
+use Rattle.vbr_machine.specs.Membership.{Knows, IsHeldSlot, HeldIn}
+use Rattle.vbr_machine.specs.declared.event.Step.TheVariants.{ReadEpoch, LoadLink, LoadBirth, LoadKey}
+use Rattle.vbr_machine.specs.declared.knowledge.Read.TheVariants.{LinkAt, BirthOf, KeyOf}
+use Rattle.vbr_machine.proofs.Lemmas.{head_unmarked, held_in_bucket}
 use Rattle.vbr_slots.specs.Calls.{Quiet}
 use Rattle.vbr_slots.specs.Views.{Trace, Did, knows}
 use Rattle.vbr_slots.proofs.Lemmas.{did_quiet, did_run, did_same, quiet_refl, same_on}

@@ -1,28 +1,30 @@
 -- A step that exchanges a link word, as what its call tells.
-use Rattle.std.proofs.Common.{◌≡◌, ◌≢◌, ℕ, false, refl, sym, ap, ◌∙◌, subst}
-use Rattle.std.specs.Prelude.{Result, Ok, Err, IfErr}
+use Rattle.std.proofs.Common.{◌≡◌, ◌≢◌, ℕ, true, false, refl, sym, ap, ◌∙◌, subst}
+use Rattle.std.specs.Prelude.{Result, Ok, Err, IfErr, None}
 use Rattle.vbr_words.specs.Dimensions.{IsShape}
 use Rattle.vbr_words.specs.Words.{link_of}
 use Rattle.vbr_words.specs.declared.link.Link.{Link}
 use Rattle.vbr_words.specs.declared.place.At.{At}
 use Rattle.vbr_words.specs.declared.place.At.TheVariants.{Slot}
-use Rattle.vbr_core.specs.Acceptance.{IsUnlinked}
-use Rattle.vbr_core.specs.Images.{link_shown_at}
-use Rattle.vbr_core.specs.Links.{link_to, marked}
-use Rattle.vbr_core.specs.Membership.{BirthAt, KeyAt, Knows}
-use Rattle.vbr_core.specs.Runs.{IsRun}
-use Rattle.vbr_core.specs.declared.event.Step.TheVariants.{Mark, Publish, Unlink}
-use Rattle.vbr_core.specs.declared.knowledge.Read.TheVariants.{LinkAt}
+use Rattle.vbr_machine.specs.Acceptance.{IsUnlinked}
+use Rattle.vbr_machine.specs.History.{set_call}
+use Rattle.vbr_machine.specs.Images.{link_shown_at}
+use Rattle.vbr_machine.specs.Links.{link_to, marked}
+use Rattle.vbr_machine.specs.Membership.{BirthAt, KeyAt, Knows}
+use Rattle.vbr_machine.specs.Runs.{IsRun}
+use Rattle.vbr_machine.specs.declared.event.Step.TheVariants.{Mark, Publish, Unlink}
+use Rattle.vbr_machine.specs.declared.history.Op.TheVariants.{Insert}
+use Rattle.vbr_machine.specs.declared.knowledge.Read.TheVariants.{LinkAt}
 use Rattle.vbr_slots.specs.Alone.{IsAlone, IsFresh}
-use Rattle.vbr_slots.specs.Calls.{Quiet}
+use Rattle.vbr_slots.specs.Calls.{Made, Quiet}
 use Rattle.vbr_slots.specs.PassLaw.{PassLaw}
 use Rattle.vbr_slots.specs.Views.{Did, KeepsPool, PassView, Trace, knows}
-use Rattle.vbr_slots.proofs.Lemmas.{alone_first, alone_then, did_seen, quiet_on}
+use Rattle.vbr_slots.proofs.Lemmas.{alone_first, alone_then, did_seen, made_on, quiet_on}
 use Rattle.vbr_pools.specs.Hands.{UnlinkedView}
 use Rattle.vbr_pools.specs.KeptSlots.{TakesNoSlot}
 use Rattle.vbr_pools.proofs.Lemmas.{none_on}
 use Rattle.vbr_access.specs.Alone.{StandsNow}
-use Rattle.vbr_access.specs.Exchanges.{IsUnmarked, LosesExchange, RemovesKey, UnlinksNode, UnlinksNone}
+use Rattle.vbr_access.specs.Exchanges.{InsertsKey, IsUnmarked, LosesExchange, RemovesKey, UnlinksNode, UnlinksNone}
 use Rattle.vbr_access.specs.Held.{IsHeld, IsMarked, Names}
 use Rattle.vbr_access.specs.Keeping.{Keeps}
 use Rattle.vbr_access.specs.Reading.{IsBirthRead, ReadsIn}
@@ -54,7 +56,13 @@ mark_told {p} {q} {s} {word} node shape is_run bare held at d link =
       held = record { held = record { epoch = h.epoch; link = subst L (sym link) (mark_known d); birth = subst B at h.birth }; mark = ap (λ (l : Link). l.mark) link };
     }
 
--- ---- a publication that is lost, after what filled the hand
+-- ---- a publication, after what filled the hand
+
+pub publish_told : {key : ℕ} (p q r : PassView) → Quiet p.trace q.trace → Made (set_call q.trace.who Insert key true) q.trace r.trace → r.hand ≡ None → InsertsKey p r key
+publish_told {key} p q r fill made spent = record {
+  made = (let P : ℕ → Type 0 = λ who. Made (set_call who Insert key true) p.trace r.trace in subst P fill.same.who (made_on fill made));
+  spent = spent;
+}
 
 pub publish_lost : {p q r : Trace} {s found : ℕ} (pred : Held) → IsShape q.shape → Quiet p q → Keeps (knows p) (knows q) → (IsAlone p q → StandsNow p pred → StandsNow q pred) → Did (Publish pred.at pred.word s) q r found → found ≢ pred.word → LosesExchange p r pred (LostExchange found)
 publish_lost {s = s} pred shape fill keeps stands d other = record {
@@ -65,7 +73,7 @@ publish_lost {s = s} pred shape fill keeps stands d other = record {
 
 -- ---- an unlinking, after the birth of what the marked link names
 
-module _ {p q r : PassView} {n : ℕ} (pred : Held) (gone : Marked) (named : Link) (birth : ℕ) (law : PassLaw q) (reads : ReadsIn p q n) (read : IsBirthRead p.trace q.trace (link_of gone.word).slot birth) (unmarked : IsUnmarked (knows p.trace) pred) (is_marked : IsMarked (knows p.trace) gone) (names : Names pred gone.slot) (is_named : named ≡ link_of gone.word) where
+module _ {p q r : PassView} {n : ℕ} (pred : Held) (gone : Marked) (named : Link) (birth : ℕ) (law : PassLaw q) (reads : ReadsIn p q n) (read : IsBirthRead p q gone.word birth) (unmarked : IsUnmarked (knows p.trace) pred) (is_marked : IsMarked (knows p.trace) gone) (names : Names pred gone.slot) (is_named : named ≡ link_of gone.word) where
   pub unlink_told : (node : UnlinkedView) (new : ℕ) → node.slot ≡ gone.slot → link_of new ≡ link_to named.slot pred.birth birth → Did (Unlink pred.at pred.word gone.slot) q.trace r.trace pred.word → KeepsPool q r → IsUnlinked ((knows r.trace).own gone.slot) → UnlinksNode p r pred gone (node, record pred { word = new })
   unlink_told node new same link d pool owned =
       let held = held_kept pred read.keeps unmarked.held in

@@ -1,19 +1,21 @@
 -- A slot in hand whose key and link are stored, and its publication.
 use Rattle.std.proofs.Common.{◌≡◌, ℕ, ◌<◌, true, false, Option, Some, None, refl, sym, ap, ◌∙◌, subst}
+use Rattle.std.specs.Prelude.{unwrap_or}
 use Rattle.vbr_words.specs.Words.{link_of}
 use Rattle.vbr_words.specs.declared.link.Link.{Link}
-use Rattle.vbr_core.specs.History.{set_call}
-use Rattle.vbr_core.specs.Acceptance.{IsNextIn, IsInHand, Accepts}
-use Rattle.vbr_core.specs.Knowledge.{Know}
-use Rattle.vbr_core.specs.Learning.{with_key, with_link, with_own, link_written, birth_in_hand, key_in_hand, value_in_hand}
-use Rattle.vbr_core.specs.Opened.{kept}
-use Rattle.vbr_core.specs.Links.{link_to}
-use Rattle.vbr_core.specs.Membership.{IsHeldSlot, IsNextKnown, BirthNamed, StandsBehind, StandsBefore, MayPublishKnown}
-use Rattle.vbr_core.specs.declared.event.Step.TheVariants.{StoreKey, StoreLink, Publish}
-use Rattle.vbr_core.specs.declared.history.Op.TheVariants.{Insert}
-use Rattle.vbr_core.specs.declared.knowledge.Holding.{Holding}
-use Rattle.vbr_core.specs.declared.knowledge.Holding.TheVariants.{Free, Unlinked, InHand}
-use Rattle.vbr_core.proofs.Lemmas.{known_accepts, put_here, written_is}
+use Rattle.vbr_machine.specs.History.{set_call}
+use Rattle.vbr_machine.specs.Acceptance.{IsNextIn, IsInHand, Accepts}
+use Rattle.vbr_machine.specs.Knowledge.{Know}
+use Rattle.vbr_machine.specs.Learning.{with_key, with_link, with_own, link_written, birth_in_hand, key_in_hand, value_in_hand}
+use Rattle.vbr_machine.specs.Opened.{kept}
+use Rattle.vbr_machine.specs.Links.{link_to}
+use Rattle.vbr_machine.specs.Membership.{IsHeldSlot, IsNextKnown, BirthNamed, StandsBehind, StandsBefore, MayPublishKnown}
+use Rattle.vbr_machine.specs.declared.event.Step.TheVariants.{StoreKey, StoreLink, Publish}
+use Rattle.vbr_machine.specs.declared.history.Op.TheVariants.{Insert}
+use Rattle.vbr_machine.specs.declared.knowledge.Holding.{Holding}
+use Rattle.vbr_machine.specs.declared.knowledge.Unpublished.{Unpublished}
+use Rattle.vbr_machine.specs.declared.knowledge.Holding.TheVariants.{Free, Unlinked, InHand}
+use Rattle.vbr_machine.proofs.Lemmas.{known_accepts, put_here, written_is}
 use Rattle.vbr_pools.specs.Hands.{HandView, IsHandOf}
 use Rattle.vbr_slots.specs.Calls.{Quiet, Made}
 use Rattle.vbr_slots.specs.Pools as pools
@@ -29,11 +31,11 @@ use Rattle.vbr_access.proofs.NoValues.{no_value_asked, none_kept}
 
 -- ---- what is in hand
 
-in_hand_is : (holding : Option Holding) → IsInHand holding → (stamp birth : ℕ) × (key value : Option ℕ) × (link : Option Link) × (holding ≡ Some (InHand stamp birth key value link))
+in_hand_is : (holding : Option Holding) → IsInHand holding → (known : Unpublished) × (holding ≡ Some (InHand known))
 in_hand_is None is = absurd is
 in_hand_is (Some (Free stamp)) is = absurd is
 in_hand_is (Some (Unlinked reread)) is = absurd is
-in_hand_is (Some (InHand stamp birth key value link)) is = (stamp, birth, key, value, link, refl)
+in_hand_is (Some (InHand known)) is = (known, refl)
 
 -- the slot of a hand is one of the shape, and in hand
 hand_in_hand : (p : PassView) → PassLaw p → (hand : HandView) → IsHandOf p hand → (hand.slot < p.trace.shape.slots) × IsInHand ((knows p.trace).own hand.slot)
@@ -49,13 +51,18 @@ hand_at p sound hand h s is =
     subst P (sym is) (o.0, o.1, h.birth)
 
 keyed : (holding : Option Holding) (key birth : ℕ) → IsInHand holding → birth_in_hand holding ≡ birth → IsInHand (with_key holding key) × (birth_in_hand (with_key holding key) ≡ birth)
-keyed holding key birth is same = let i = in_hand_is holding is in rw i.5 (tt, ap birth_in_hand (sym i.5) ∙ same)
+keyed holding key birth is same = let i = in_hand_is holding is in rw i.1 (tt, ap birth_in_hand (sym i.1) ∙ same)
 
 filled_is : (holding : Option Holding) (key birth : ℕ) (link : Link) → IsInHand holding → birth_in_hand holding ≡ birth → IsFilled (with_link (with_key holding key) link) birth key link
 filled_is holding key birth link is same =
     let i = in_hand_is holding is in
-    let b : i.1 ≡ birth = ap birth_in_hand (sym i.5) ∙ same in
-    (i.0, i.3, ap (λ (o : Option Holding). with_link (with_key o key) link) i.5 ∙ ap (λ (b : ℕ). Some (InHand i.0 b (Some key) i.3 (Some link))) b)
+    record {
+      known = record i.0 { key = Some key; link = Some link };
+      holding_is = ap (λ (o : Option Holding). with_link (with_key o key) link) i.1;
+      birth_is = ap birth_in_hand (sym i.1) ∙ same;
+      key_is = refl;
+      link_is = refl;
+    }
 
 -- ---- the two stores
 
@@ -115,17 +122,17 @@ filled {p} {q} {r} {s} {key} {birth} {one} {two} {next} {link} d e is same writt
     let second : (knows r).own s ≡ with_link ((knows q).own s) (link_written (knows q) (StoreLink s next)) = ap (λ (k : Know). k.own s) e.know ∙ put_here (knows q).own s _ in
     let now : (knows r).own s ≡ with_link (with_key ((knows p).own s) key) link = second ∙ (λ i. with_link (first i) (written i)) in
     let f = filled_is ((knows p).own s) key birth link is same in
-    (f.0, f.1, now ∙ f.2)
+    record { known = f.known; holding_is = now ∙ f.holding_is; birth_is = f.birth_is; key_is = f.key_is; link_is = f.link_is }
 
 -- a slot that is filled is still in the hand
 pub hand_filled : (p : PassView) (hand : HandView) (key : ℕ) (link : Link) → p.hand ≡ Some hand.slot → IsFilled ((knows p.trace).own hand.slot) hand.birth key link → IsHandOf p hand
-hand_filled p hand key link is f = record { slot = is; birth = ap birth_in_hand f.2 }
+hand_filled p hand key link is f = record { slot = is; birth = ap birth_in_hand f.holding_is ∙ f.birth_is }
 
 -- ---- the publication
 
 module _ (p : PassView) (sound : PassLaw p) (pred : Held) (s key birth next : ℕ) (h : IsHeld (knows p.trace) pred) (f : IsFilled ((knows p.trace).own s) birth key (link_to (link_of pred.word).slot birth next)) where
   filled_hand : IsInHand ((knows p.trace).own s)
-  filled_hand = let P : Option Holding → Type 0 = IsInHand in subst P (sym f.2) tt
+  filled_hand = let P : Option Holding → Type 0 = IsInHand in subst P (sym f.holding_is) tt
 
   pub publish_accepted : p.trace.shape.values ≡ false → (link_of pred.word).mark ≡ false → s < p.trace.shape.slots → BirthNamed (knows p.trace) (link_of pred.word).slot next → StandsBehind p.trace.shape (knows p.trace) pred.at key → StandsBefore (knows p.trace) key (link_of pred.word).slot → Accepts p.trace.shape (knows p.trace) (Publish pred.at pred.word s)
   publish_accepted bare unmarked low k i j =
@@ -134,16 +141,30 @@ module _ (p : PassView) (sound : PassLaw p) (pred : Held) (s key birth next : �
         in_shape = (place_in p sound pred h, low);
         owned = filled_hand;
         known = (h.link, (pred.birth, h.birth));
-        in_range = (unmarked, subst P (sym f.2) ((next, k, refl), i, j, no_value_asked bare f.1));
+        in_range = (
+          unmarked,
+          subst P (sym f.holding_is) (record {
+            key = key;
+            key_is = f.key_is;
+            named = next;
+            named_known = k;
+            link_is = f.link_is ∙ ap (λ (b : ℕ). Some (link_to (link_of pred.word).slot b next)) (sym f.birth_is);
+            behind = i;
+            before = j;
+            valued = no_value_asked bare f.known.value;
+          }),
+        );
         below_last = tt;
       })
 
   pub publish_writes : link_written (knows p.trace) (Publish pred.at pred.word s) ≡ link_to (Some s) pred.birth birth
   publish_writes =
       written_is p.trace.shape p.trace.passes p.trace.seen sound.shape sound.is_run p.trace.who (Publish pred.at pred.word s) (link_to (Some s) pred.birth (birth_in_hand ((knows p.trace).own s))) (pred.birth, h.birth, refl)
-      ∙ ap (λ (o : Option Holding). link_to (Some s) pred.birth (birth_in_hand o)) f.2
+      ∙ ap (λ (o : Option Holding). link_to (Some s) pred.birth (birth_in_hand o)) f.holding_is
+      ∙ ap (λ (b : ℕ). link_to (Some s) pred.birth b) f.birth_is
 
   pub publish_made : {q : Trace} → p.trace.shape.values ≡ false → Did (Publish pred.at pred.word s) p.trace q pred.word → Made (set_call p.trace.who Insert key true) p.trace q
   publish_made bare d = published d _
-      (ap (λ (o : Option Holding). Some (record { who = p.trace.who; op = Insert; key = key_in_hand o; reply = true; value = kept p.trace.shape (value_in_hand o) })) f.2
-      ∙ ap (λ (v : Option ℕ). Some (record { who = p.trace.who; op = Insert; key = key; reply = true; value = v })) (none_kept p.trace.shape bare f.1))
+      (ap (λ (o : Option Holding). Some (record { who = p.trace.who; op = Insert; key = key_in_hand o; reply = true; value = kept p.trace.shape (value_in_hand o) })) f.holding_is
+      ∙ ap (λ (o : Option ℕ). Some (record { who = p.trace.who; op = Insert; key = unwrap_or o 0; reply = true; value = kept p.trace.shape f.known.value })) f.key_is
+      ∙ ap (λ (v : Option ℕ). Some (record { who = p.trace.who; op = Insert; key = key; reply = true; value = v })) (none_kept p.trace.shape bare f.known.value))

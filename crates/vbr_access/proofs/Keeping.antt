@@ -2,9 +2,9 @@
 use Rattle.std.proofs.Common.{◌≡◌, ℕ, Some, ◌∙◌, sym, refl}
 use Rattle.vbr_words.specs.declared.place.At.{At}
 use Rattle.vbr_words.specs.declared.place.At.TheVariants.{Head, Slot}
-use Rattle.vbr_core.specs.Knowledge.{Know}
-use Rattle.vbr_core.specs.Membership.{IsHeldSlot, IsHeldPlace, HeldIn, at_head, behind, BirthAt, BirthNamed, KeyAt, StandsBehind, StandsBefore}
-use Rattle.vbr_core.specs.declared.knowledge.Read.TheVariants.{LinkAt}
+use Rattle.vbr_machine.specs.Knowledge.{Know}
+use Rattle.vbr_machine.specs.Membership.{IsHeldSlot, IsHeldPlace, HeldIn, at_head, behind, BirthAt, BirthNamed, KeyAt, StandsBehind, StandsBefore}
+use Rattle.vbr_machine.specs.declared.knowledge.Read.TheVariants.{LinkAt}
 use Rattle.vbr_words.specs.Dimensions.{Dimensions}
 use Rattle.vbr_words.specs.Words.{link_of}
 use Rattle.std.proofs.Common.{Option, None}

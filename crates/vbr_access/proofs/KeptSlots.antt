@@ -3,11 +3,11 @@ use Rattle.std.proofs.Common.{◌≡◌, ◌≢◌, ℕ, List, Some, None, refl,
 use Rattle.std.specs.Prelude.{Contains}
 use Rattle.std.proofs.lemmas.Bool.{cases_eq}
 use Rattle.vbr_words.specs.declared.place.At.{At}
-use Rattle.vbr_core.specs.Acceptance.{MayBear}
-use Rattle.vbr_core.specs.Knowledge.{Know}
-use Rattle.vbr_core.specs.Put.{put}
-use Rattle.vbr_core.specs.declared.event.Step.TheVariants.{Publish}
-use Rattle.vbr_core.proofs.Lemmas.{put_here, put_other}
+use Rattle.vbr_machine.specs.Acceptance.{MayBear}
+use Rattle.vbr_machine.specs.Knowledge.{Know}
+use Rattle.vbr_machine.specs.Put.{put}
+use Rattle.vbr_machine.specs.declared.event.Step.TheVariants.{Publish}
+use Rattle.vbr_machine.proofs.Lemmas.{put_here, put_other}
 use Rattle.vbr_slots.specs.Views.{PassView, Did, knows}
 use Rattle.vbr_pools.specs.KeptSlots.{HasSlot, HasFree, TakesNoSlot}
 use Rattle.vbr_pools.proofs.Lemmas.{did_stamps, grows_same, same_advances, same_flags}

@@ -3,13 +3,13 @@ use Rattle.std.proofs.Common.{◌≡◌, ◌≢◌, ℕ, Bool, true, false, ◌+
 use Rattle.vbr_words.specs.Words.{link_of}
 use Rattle.vbr_words.specs.declared.place.At.{At}
 use Rattle.vbr_words.specs.declared.place.At.TheVariants.{Head, Slot}
-use Rattle.vbr_core.specs.History.{set_call}
-use Rattle.vbr_core.specs.Acceptance.{Accepts}
-use Rattle.vbr_core.specs.Images.{link_shown_at}
-use Rattle.vbr_core.specs.Knowledge.{Know}
-use Rattle.vbr_core.specs.Membership.{KeyAt}
-use Rattle.vbr_core.specs.declared.event.Step.TheVariants.{ConfirmAbsent}
-use Rattle.vbr_core.specs.declared.history.Op.TheVariants.{Has, Insert, Remove, Get}
+use Rattle.vbr_machine.specs.History.{set_call}
+use Rattle.vbr_machine.specs.Acceptance.{Accepts}
+use Rattle.vbr_machine.specs.Images.{link_shown_at}
+use Rattle.vbr_machine.specs.Knowledge.{Know}
+use Rattle.vbr_machine.specs.Membership.{KeyAt}
+use Rattle.vbr_machine.specs.declared.event.Step.TheVariants.{ConfirmAbsent}
+use Rattle.vbr_machine.specs.declared.history.Op.TheVariants.{Has, Insert, Remove, Get}
 use Rattle.vbr_slots.specs.Alone.{IsAlone, nodes}
 use Rattle.vbr_slots.specs.Calls.{AddsAnswer, AddsNone, Made, OnlyLoads, Quiet}
 use Rattle.vbr_slots.specs.LookUps.{look_up}

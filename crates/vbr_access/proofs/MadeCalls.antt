@@ -4,20 +4,20 @@ use Rattle.std.specs.Prelude.{◌==◌}
 use Rattle.std.proofs.lemmas.Bool.{ne_eqb}
 use Rattle.vbr_words.specs.Dimensions.{IsShape}
 use Rattle.vbr_words.specs.declared.place.At.{At}
-use Rattle.vbr_core.specs.History.{set_call}
-use Rattle.vbr_core.specs.Knowledge.{Know}
-use Rattle.vbr_core.specs.Learning.{call_of, present_reply, succeeds}
-use Rattle.vbr_core.specs.Machine.{found}
-use Rattle.vbr_core.specs.Accounts as entries
-use Rattle.vbr_core.specs.Membership.{Knows}
-use Rattle.vbr_core.specs.Runs.{IsRun, world_after}
-use Rattle.vbr_core.specs.declared.event.Step.{Step}
-use Rattle.vbr_core.specs.declared.event.Step.TheVariants.{Mark, ConfirmPresent, ConfirmAbsent, Publish}
-use Rattle.vbr_core.specs.declared.history.Call.{Call}
-use Rattle.vbr_core.specs.declared.history.Op.{Op}
-use Rattle.vbr_core.specs.declared.history.Op.TheVariants.{Remove, Get}
-use Rattle.vbr_core.specs.declared.knowledge.Read.TheVariants.{KeyOf}
-use Rattle.vbr_core.proofs.Lemmas.{confirmed_call_is, marked_call_is, others_leave_know}
+use Rattle.vbr_machine.specs.History.{set_call}
+use Rattle.vbr_machine.specs.Knowledge.{Know}
+use Rattle.vbr_machine.specs.Learning.{call_of, present_reply, succeeds}
+use Rattle.vbr_machine.specs.Machine.{found}
+use Rattle.vbr_machine.specs.Accounts as entries
+use Rattle.vbr_machine.specs.Membership.{Knows}
+use Rattle.vbr_machine.specs.Runs.{IsRun, world_after}
+use Rattle.vbr_machine.specs.declared.event.Step.{Step}
+use Rattle.vbr_machine.specs.declared.event.Step.TheVariants.{Mark, ConfirmPresent, ConfirmAbsent, Publish}
+use Rattle.vbr_machine.specs.declared.history.Call.{Call}
+use Rattle.vbr_machine.specs.declared.history.Op.{Op}
+use Rattle.vbr_machine.specs.declared.history.Op.TheVariants.{Remove, Get}
+use Rattle.vbr_machine.specs.declared.knowledge.Read.TheVariants.{KeyOf}
+use Rattle.vbr_machine.proofs.Lemmas.{confirmed_call_is, marked_call_is, others_leave_know}
 use Rattle.vbr_slots.specs.Calls.{Quiet, Made, made_by, entries_of, AddsNone, AddsAnswer}
 use Rattle.vbr_slots.specs.Views.{Trace, Did, knows}
 use Rattle.vbr_slots.proofs.Lemmas.{did_calls, did_entries, did_run, did_same, did_seen}

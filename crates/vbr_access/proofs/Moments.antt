@@ -5,19 +5,19 @@ use Rattle.std.proofs.lemmas.Bool.{cases_Bool, ne_eqb, eq-eqb}
 use Rattle.vbr_words.specs.Dimensions.{Dimensions, IsShape}
 use Rattle.vbr_words.specs.Words.{link_of}
 use Rattle.vbr_words.specs.declared.place.At.{At}
-use Rattle.vbr_core.specs.Opened.{opening_keys}
-use Rattle.vbr_core.specs.History.{set_after}
-use Rattle.vbr_core.specs.Knowledge.{Know}
-use Rattle.vbr_core.specs.Machine.{link_at, found}
-use Rattle.vbr_core.specs.Making.{exchanged, confirmed}
-use Rattle.vbr_core.specs.Membership.{IsHeldPlace, KeyAt, StandsBehind, StandsBefore}
-use Rattle.vbr_core.specs.Moments.{WasShown}
-use Rattle.vbr_core.specs.Runs.{IsRun, Begins, world_after, know_after}
-use Rattle.vbr_core.specs.declared.event.Event.{Event}
-use Rattle.vbr_core.specs.declared.event.Effect.TheVariants.{Value, Won, Lost, Answered}
-use Rattle.vbr_core.specs.declared.event.Step.{Step}
-use Rattle.vbr_core.specs.declared.event.Step.TheVariants.{ReadEpoch, LoadLink, Publish, Unlink}
-use Rattle.vbr_core.proofs.Lemmas.{absent_at_load, is_run_before, link_loaded, others_leave_know, present_at_load}
+use Rattle.vbr_machine.specs.Opened.{opening_keys}
+use Rattle.vbr_machine.specs.History.{set_after}
+use Rattle.vbr_machine.specs.Knowledge.{Know}
+use Rattle.vbr_machine.specs.Machine.{link_at, found}
+use Rattle.vbr_machine.specs.Making.{exchanged, confirmed}
+use Rattle.vbr_machine.specs.Membership.{IsHeldPlace, KeyAt, StandsBehind, StandsBefore}
+use Rattle.vbr_machine.specs.Moments.{WasShown}
+use Rattle.vbr_machine.specs.Runs.{IsRun, Begins, world_after, know_after}
+use Rattle.vbr_machine.specs.declared.event.Event.{Event}
+use Rattle.vbr_machine.specs.declared.event.Effect.TheVariants.{Value, Won, Lost, Answered}
+use Rattle.vbr_machine.specs.declared.event.Step.{Step}
+use Rattle.vbr_machine.specs.declared.event.Step.TheVariants.{ReadEpoch, LoadLink, Publish, Unlink}
+use Rattle.vbr_machine.proofs.Lemmas.{absent_at_load, is_run_before, link_loaded, others_leave_know, present_at_load}
 use Rattle.vbr_slots.specs.Calls.{IsSame, Quiet}
 use Rattle.vbr_slots.specs.Views.{Trace, Did, knows, event_of}
 use Rattle.vbr_slots.proofs.Lemmas.{did_moment, moment_after, moment_before}

@@ -1,13 +1,13 @@
 -- Steps of a table whose nodes have no values, and operations that ask for none.
 use Rattle.std.proofs.Common.{◌≡◌, ◌≢◌, ℕ, Bool, false, Option, None, cond, refl, sym, ap, subst}
 use Rattle.vbr_words.specs.Dimensions.{Dimensions}
-use Rattle.vbr_core.specs.Acceptance.{HasValue, IsOpIn}
-use Rattle.vbr_core.specs.Knowledge.{Know}
-use Rattle.vbr_core.specs.Learning.{present_value}
-use Rattle.vbr_core.specs.Membership.{KnowsValue, KnowsValueFor}
-use Rattle.vbr_core.specs.Opened.{kept}
-use Rattle.vbr_core.specs.declared.history.Op.{Op}
-use Rattle.vbr_core.specs.declared.history.Op.TheVariants.{Insert, Remove, Has, Get}
+use Rattle.vbr_machine.specs.Acceptance.{HasValue, IsOpIn}
+use Rattle.vbr_machine.specs.Knowledge.{Know}
+use Rattle.vbr_machine.specs.Learning.{present_value}
+use Rattle.vbr_machine.specs.Membership.{KnowsValue, KnowsValueFor}
+use Rattle.vbr_machine.specs.Opened.{kept}
+use Rattle.vbr_machine.specs.declared.history.Op.{Op}
+use Rattle.vbr_machine.specs.declared.history.Op.TheVariants.{Insert, Remove, Has, Get}
 
 -- ---- where nodes have no values
 

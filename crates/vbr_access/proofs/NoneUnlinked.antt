@@ -2,11 +2,11 @@
 use Rattle.std.proofs.Common.{◌≡◌, ◌≢◌, ℕ, false, Some, refl, ap, ◌∙◌, subst, inl, ⊎_elim}
 use Rattle.std.proofs.lemmas.Bool.{cases_eq}
 use Rattle.vbr_words.specs.declared.place.At.{At}
-use Rattle.vbr_core.specs.Acceptance.{IsUnlinked, MayBear}
-use Rattle.vbr_core.specs.Knowledge.{Know}
-use Rattle.vbr_core.specs.declared.event.Step.TheVariants.{Unlink}
-use Rattle.vbr_core.specs.declared.knowledge.Holding.TheVariants.{Unlinked}
-use Rattle.vbr_core.proofs.Lemmas.{put_other}
+use Rattle.vbr_machine.specs.Acceptance.{IsUnlinked, MayBear}
+use Rattle.vbr_machine.specs.Knowledge.{Know}
+use Rattle.vbr_machine.specs.declared.event.Step.TheVariants.{Unlink}
+use Rattle.vbr_machine.specs.declared.knowledge.Holding.TheVariants.{Unlinked}
+use Rattle.vbr_machine.proofs.Lemmas.{put_other}
 use Rattle.vbr_slots.specs.Views.{PassView, Did, KeepsPool, knows}
 use Rattle.vbr_pools.specs.KeptSlots.{TakesNoSlot}
 use Rattle.vbr_pools.proofs.Lemmas.{free_on, free_pool, grows_on, grows_same, longer, none_known, same_advances, same_flags, shared_on}

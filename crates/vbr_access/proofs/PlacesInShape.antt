@@ -9,24 +9,24 @@ use Rattle.vbr_words.specs.Dimensions.{Dimensions, IsShape}
 use Rattle.vbr_words.specs.Words.{link_of}
 use Rattle.vbr_words.specs.declared.link.Link.{Link}
 use Rattle.vbr_words.specs.declared.place.At.{At}
-use Rattle.vbr_core.specs.Knowledge.{Know}
-use Rattle.vbr_core.specs.Acceptance.{IsAtIn, Accepts}
-use Rattle.vbr_core.specs.Learning.{read_epoch, with_pending, with_checked, reads_won, learn, birth_in_hand, value_in_hand, value_read}
-use Rattle.vbr_core.specs.Machine.{World, opening, found, stamp_shown, after}
-use Rattle.vbr_core.specs.Membership.{Knows, IsHeldSlot}
-use Rattle.vbr_core.specs.Runs.{AreAccepted, world_from, know_after, IsRun}
-use Rattle.vbr_core.specs.Accounts.{incarnations_after}
-use Rattle.vbr_core.specs.Agreement.{OwnFits}
-use Rattle.vbr_core.specs.Sound.{Sound}
-use Rattle.vbr_core.specs.Incarnations.{State, Incarnations, IsLate}
-use Rattle.vbr_core.specs.declared.event.Event.{Event}
-use Rattle.vbr_core.specs.declared.event.Step.{Step}
-use Rattle.vbr_core.specs.declared.event.Step.TheVariants.{ReadEpoch, Advance, LoadStamp, StoreStamp, Raise, TakeFlag, StoreBirth, StoreKey, StoreValue, StoreLink, LoadLink, LoadBirth, LoadKey, LoadValue, Publish, Mark, Unlink, ConfirmPresent, ConfirmAbsent}
-use Rattle.vbr_core.specs.declared.knowledge.Holding.{Holding}
-use Rattle.vbr_core.specs.declared.knowledge.Holding.TheVariants.{Free, Unlinked, InHand}
-use Rattle.vbr_core.specs.declared.knowledge.Read.{Read}
-use Rattle.vbr_core.specs.declared.knowledge.Read.TheVariants.{LinkAt, BirthOf, KeyOf, ValueOf}
-use Rattle.vbr_core.proofs.Lemmas.{birth_held, know_other, know_own, run_agrees, slot_held}
+use Rattle.vbr_machine.specs.Knowledge.{Know}
+use Rattle.vbr_machine.specs.Acceptance.{IsAtIn, Accepts}
+use Rattle.vbr_machine.specs.Learning.{read_epoch, with_pending, with_checked, reads_won, learn, birth_in_hand, value_in_hand, value_read}
+use Rattle.vbr_machine.specs.Machine.{World, opening, found, stamp_shown, after}
+use Rattle.vbr_machine.specs.Membership.{Knows, IsHeldSlot}
+use Rattle.vbr_machine.specs.Runs.{AreAccepted, world_from, know_after, IsRun}
+use Rattle.vbr_machine.specs.Accounts.{incarnations_after}
+use Rattle.vbr_machine.specs.Agreement.{OwnFits}
+use Rattle.vbr_machine.specs.Sound.{Sound}
+use Rattle.vbr_machine.specs.Incarnations.{State, Incarnations, IsLate}
+use Rattle.vbr_machine.specs.declared.event.Event.{Event}
+use Rattle.vbr_machine.specs.declared.event.Step.{Step}
+use Rattle.vbr_machine.specs.declared.event.Step.TheVariants.{ReadEpoch, Advance, LoadStamp, StoreStamp, Raise, TakeFlag, StoreBirth, StoreKey, StoreValue, StoreLink, LoadLink, LoadBirth, LoadKey, LoadValue, Publish, Mark, Unlink, ConfirmPresent, ConfirmAbsent}
+use Rattle.vbr_machine.specs.declared.knowledge.Holding.{Holding}
+use Rattle.vbr_machine.specs.declared.knowledge.Holding.TheVariants.{Free, Unlinked, InHand}
+use Rattle.vbr_machine.specs.declared.knowledge.Read.{Read}
+use Rattle.vbr_machine.specs.declared.knowledge.Read.TheVariants.{LinkAt, BirthOf, KeyOf, ValueOf}
+use Rattle.vbr_machine.proofs.Lemmas.{birth_held, know_other, know_own, run_agrees, slot_held}
 
 -- a read is of a place of the shape
 abbrev IsReadIn : Dimensions → Read → Type 0
@@ -151,4 +151,4 @@ module _ (shape : Dimensions) (passes : ℕ) (run : List Event) (is : IsShape sh
       go None fits = omega arith
       go (Some (Free stamp)) fits = omega arith
       go (Some (Unlinked reread)) fits = omega arith
-      go (Some (InHand stamp birth key value link)) fits = let low = fits.1.born in let same = fits.1.birth_is in let high = epoch_in in omega (arith, low, same, high)
+      go (Some (InHand known)) fits = let low = fits.1.born in let same = fits.1.birth_is in let high = epoch_in in omega (arith, low, same, high)

@@ -4,17 +4,17 @@ use Rattle.std.specs.Prelude.{◌==◌}
 use Rattle.vbr_words.specs.Dimensions.{Dimensions, IsShape}
 use Rattle.vbr_words.specs.declared.place.At.{At}
 use Rattle.vbr_words.specs.declared.place.At.TheVariants.{Head, Slot}
-use Rattle.vbr_core.specs.Acceptance.{IsInHand}
-use Rattle.vbr_core.specs.Accounts.{happens}
-use Rattle.vbr_core.specs.Incarnations.{Incarnations}
-use Rattle.vbr_core.specs.Knowledge.{Know}
-use Rattle.vbr_core.specs.Learning.{call_of, read_epoch, reread}
-use Rattle.vbr_core.specs.Loads.{IsLoad}
-use Rattle.vbr_core.specs.Machine.{World}
-use Rattle.vbr_core.specs.declared.event.Step.{Step}
-use Rattle.vbr_core.specs.declared.event.Step.TheVariants.{ReadEpoch, LoadLink, LoadBirth, LoadKey}
-use Rattle.vbr_core.specs.declared.knowledge.Holding.{Holding}
-use Rattle.vbr_core.specs.declared.knowledge.Holding.TheVariants.{Free, InHand, Unlinked}
+use Rattle.vbr_machine.specs.Acceptance.{IsInHand}
+use Rattle.vbr_machine.specs.Accounts.{happens}
+use Rattle.vbr_machine.specs.Incarnations.{Incarnations}
+use Rattle.vbr_machine.specs.Knowledge.{Know}
+use Rattle.vbr_machine.specs.Learning.{call_of, read_epoch, reread}
+use Rattle.vbr_machine.specs.Loads.{IsLoad}
+use Rattle.vbr_machine.specs.Machine.{World}
+use Rattle.vbr_machine.specs.declared.event.Step.{Step}
+use Rattle.vbr_machine.specs.declared.event.Step.TheVariants.{ReadEpoch, LoadLink, LoadBirth, LoadKey}
+use Rattle.vbr_machine.specs.declared.knowledge.Holding.{Holding}
+use Rattle.vbr_machine.specs.declared.knowledge.Holding.TheVariants.{Free, InHand, Unlinked}
 use Rattle.vbr_slots.specs.PassLaw.{PassLaw}
 use Rattle.vbr_slots.specs.Pools.{HandFits}
 use Rattle.vbr_slots.specs.Reads.{Reads, ReadsNode}
@@ -112,7 +112,7 @@ still_in_hand : (holding : Option Holding) → IsInHand holding → reread holdi
 still_in_hand None is = refl
 still_in_hand (Some (Free stamp)) is = refl
 still_in_hand (Some (Unlinked seen)) is = absurd is
-still_in_hand (Some (InHand stamp birth key value link)) is = refl
+still_in_hand (Some (InHand known)) is = refl
 
 module _ {p q : PassView} {r : ℕ} where
   pub epoch_in_one : IsFit p → Did ReadEpoch p.trace q.trace r → KeepsPool p q → ReadsIn p q 1

@@ -6,15 +6,15 @@ use Rattle.vbr_words.specs.Words.{link_of}
 use Rattle.vbr_words.specs.declared.link.Link.{Link}
 use Rattle.vbr_words.specs.declared.place.At.{At}
 use Rattle.vbr_words.specs.declared.place.At.TheVariants.{Head, Slot}
-use Rattle.vbr_core.specs.Knowledge.{Know}
-use Rattle.vbr_core.specs.Learning.{link_written}
-use Rattle.vbr_core.specs.Machine.{World, found, link_at, after, with_learning, with_link_at}
-use Rattle.vbr_core.specs.Membership.{IsHeldPlace}
-use Rattle.vbr_core.specs.Runs.{world_after, know_after}
-use Rattle.vbr_core.specs.declared.event.Step.TheVariants.{Unlink}
-use Rattle.vbr_core.specs.declared.knowledge.SlotPlace.TheVariants.{Own}
-use Rattle.vbr_core.specs.Put.{put}
-use Rattle.vbr_core.proofs.Lemmas.{others_leave_know, put_here, world_after-snoc}
+use Rattle.vbr_machine.specs.Knowledge.{Know}
+use Rattle.vbr_machine.specs.Learning.{link_written}
+use Rattle.vbr_machine.specs.Machine.{World, found, link_at, after, with_learning, with_link_at}
+use Rattle.vbr_machine.specs.Membership.{IsHeldPlace}
+use Rattle.vbr_machine.specs.Runs.{world_after, know_after}
+use Rattle.vbr_machine.specs.declared.event.Step.TheVariants.{Unlink}
+use Rattle.vbr_machine.specs.declared.knowledge.SlotPlace.TheVariants.{Own}
+use Rattle.vbr_machine.specs.Put.{put}
+use Rattle.vbr_machine.proofs.Lemmas.{others_leave_know, put_here, world_after-snoc}
 use Rattle.vbr_slots.specs.Views.{Trace, Did, knows, event_of}
 use Rattle.vbr_slots.proofs.Lemmas.{did_run, did_seen}
 use Rattle.vbr_access.specs.Moments.{Stood}

@@ -3,11 +3,11 @@ use Rattle.std.proofs.Common.{◌≡◌, ℕ, false, refl, sym, ◌∙◌}
 use Rattle.vbr_words.specs.Words.{IsLink, link_of}
 use Rattle.vbr_words.specs.declared.link.Link.{Link}
 use Rattle.vbr_words.specs.declared.place.At.{At}
-use Rattle.vbr_core.specs.Acceptance.{Accepts}
-use Rattle.vbr_core.specs.Links.{link_to}
-use Rattle.vbr_core.specs.Learning.{link_written}
-use Rattle.vbr_core.specs.Membership.{BirthNamed, IsUnlinkLink}
-use Rattle.vbr_core.specs.declared.event.Step.TheVariants.{Unlink}
+use Rattle.vbr_machine.specs.Acceptance.{Accepts}
+use Rattle.vbr_machine.specs.Links.{link_to}
+use Rattle.vbr_machine.specs.Learning.{link_written}
+use Rattle.vbr_machine.specs.Membership.{BirthNamed, IsUnlinkLink}
+use Rattle.vbr_machine.specs.declared.event.Step.TheVariants.{Unlink}
 use Rattle.vbr_slots.specs.Calls.{Quiet}
 use Rattle.vbr_slots.specs.Views.{Trace, PassView, Did, knows}
 use Rattle.vbr_slots.proofs.Lemmas.{did_quiet}

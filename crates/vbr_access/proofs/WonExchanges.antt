@@ -8,17 +8,17 @@ use Rattle.vbr_words.specs.Words.{link_of}
 use Rattle.vbr_words.specs.declared.link.Link.{Link}
 use Rattle.vbr_words.specs.declared.place.At.{At}
 use Rattle.vbr_words.specs.declared.place.At.TheVariants.{Slot}
-use Rattle.vbr_core.specs.Links.{marked}
-use Rattle.vbr_core.specs.Knowledge.{Know}
-use Rattle.vbr_core.specs.Learning.{reads_won, link_written, with_checked, with_own}
-use Rattle.vbr_core.specs.Membership.{Knows}
-use Rattle.vbr_core.specs.declared.event.Step.TheVariants.{Mark, Unlink, Publish}
-use Rattle.vbr_core.specs.declared.knowledge.Holding.TheVariants.{Unlinked}
-use Rattle.vbr_core.specs.declared.knowledge.Read.{Read}
-use Rattle.vbr_core.specs.declared.knowledge.Read.TheVariants.{LinkAt}
+use Rattle.vbr_machine.specs.Links.{marked}
+use Rattle.vbr_machine.specs.Knowledge.{Know}
+use Rattle.vbr_machine.specs.Learning.{reads_won, link_written, with_checked, with_own}
+use Rattle.vbr_machine.specs.Membership.{Knows}
+use Rattle.vbr_machine.specs.declared.event.Step.TheVariants.{Mark, Unlink, Publish}
+use Rattle.vbr_machine.specs.declared.knowledge.Holding.TheVariants.{Unlinked}
+use Rattle.vbr_machine.specs.declared.knowledge.Read.{Read}
+use Rattle.vbr_machine.specs.declared.knowledge.Read.TheVariants.{LinkAt}
 use Rattle.vbr_slots.specs.Views.{Trace, Did, knows}
 use Rattle.vbr_access.specs.Keeping.{Keeps}
-use Rattle.vbr_core.proofs.Lemmas.{put_here}
+use Rattle.vbr_machine.proofs.Lemmas.{put_here}
 use Rattle.vbr_access.proofs.Keeping.{keeps_refl}
 use Rattle.vbr_access.proofs.ReadSteps.{only}
 

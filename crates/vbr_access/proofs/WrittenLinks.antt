@@ -6,10 +6,10 @@ use Rattle.vbr_words.specs.declared.link.Link.{Link}
 use Rattle.vbr_words.specs.declared.link.TheConstants.{MAX_SLOTS}
 use Rattle.vbr_words.specs.declared.place.At.{At}
 use Rattle.vbr_words.specs.declared.place.At.TheVariants.{Head, Slot}
-use Rattle.vbr_core.specs.Links.{link_to}
-use Rattle.vbr_core.specs.Knowledge.{Know}
-use Rattle.vbr_core.specs.Learning.{birth_in_hand}
-use Rattle.vbr_core.specs.Membership.{BirthAt, BirthNamed, IsUnlinkLink}
+use Rattle.vbr_machine.specs.Links.{link_to}
+use Rattle.vbr_machine.specs.Knowledge.{Know}
+use Rattle.vbr_machine.specs.Learning.{birth_in_hand}
+use Rattle.vbr_machine.specs.Membership.{BirthAt, BirthNamed, IsUnlinkLink}
 use Rattle.vbr_slots.specs.Views.{PassView, knows}
 use Rattle.vbr_access.specs.Held.{IsHeld, IsMarked}
 use Rattle.vbr_slots.specs.PassLaw.{PassLaw}

@@ -1,8 +1,8 @@
 -- What a pass that was alone holds: it stands as it was read.
 use Rattle.std.specs.Prelude.{◌≡◌, ℕ, suc, Option, Some, None}
 use Rattle.vbr_words.specs.Words.{link_of}
-use Rattle.vbr_core.specs.Images.{link_shown_at}
-use Rattle.vbr_core.specs.Membership.{HeldIn}
+use Rattle.vbr_machine.specs.Images.{link_shown_at}
+use Rattle.vbr_machine.specs.Membership.{HeldIn}
 use Rattle.vbr_slots.specs.Alone.{nodes, ahead}
 use Rattle.vbr_slots.specs.Views.{Trace, knows}
 use Rattle.vbr_access.specs.declared.held.Held.{Held}

@@ -2,15 +2,15 @@
 use Rattle.std.specs.Prelude.{◌≡◌, ◌≢◌, ℕ, Bool, false}
 use Rattle.vbr_words.specs.Dimensions.{Dimensions}
 use Rattle.vbr_words.specs.Words.{link_of}
-use Rattle.vbr_core.specs.History.{set_call}
-use Rattle.vbr_core.specs.Knowledge.{Know}
-use Rattle.vbr_core.specs.Learning.{present_reply}
-use Rattle.vbr_core.specs.Membership.{KeyAt, StandsBehind, StandsBeforeOn}
-use Rattle.vbr_core.specs.declared.history.Call.{Call}
-use Rattle.vbr_core.specs.declared.history.Op.{Op}
-use Rattle.vbr_core.specs.declared.history.Op.TheVariants.{Get, Has}
+use Rattle.vbr_machine.specs.History.{set_call}
+use Rattle.vbr_machine.specs.Knowledge.{Know}
+use Rattle.vbr_machine.specs.Learning.{present_reply}
+use Rattle.vbr_machine.specs.Membership.{KeyAt, StandsBehind, StandsBeforeOn}
+use Rattle.vbr_machine.specs.declared.history.Call.{Call}
+use Rattle.vbr_machine.specs.declared.history.Op.{Op}
+use Rattle.vbr_machine.specs.declared.history.Op.TheVariants.{Get, Has}
 use Rattle.vbr_slots.specs.Alone.{IsAlone}
-use Rattle.vbr_slots.specs.Calls.{AddsAnswer, AddsNone, Made, Quiet, Took}
+use Rattle.vbr_slots.specs.Calls.{AddsAnswer, AddsNone, Made, OnlyLoads, Quiet, Took}
 use Rattle.vbr_slots.specs.Views.{PassView, Trace, knows}
 use Rattle.vbr_pools.specs.KeptSlots.{TakesNoSlot}
 use Rattle.vbr_access.specs.Alone.{StandsNow}
@@ -48,6 +48,11 @@ pub record KeepsIn (p q : PassView) (steps : ℕ) : Type 0 where
   pub own : KeepsOwn p q
   pub takes_no_slot : TakesNoSlot p q
   pub keeps : Keeps (knows p.trace) (knows q.trace)
+
+-- in one step, a load, the pass kept its own pool, its hand and what it knew, and took no slot
+pub record KeepsByLoad (p q : PassView) : Type 0 where
+  pub keeps : KeepsIn p q 1
+  pub only_loads : OnlyLoads p.trace q.trace
 
 -- the pass made this call, and added just its answer to the chronicle
 pub record IsAnswered (p q : Trace) (call : Call) : Type 0 where

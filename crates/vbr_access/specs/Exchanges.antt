@@ -1,12 +1,12 @@
 -- What the calls that exchange a link word tell: marking, linking a new node, unlinking.
 use Rattle.std.specs.Prelude.{◌≡◌, ℕ, false, true, None}
 use Rattle.vbr_words.specs.Words.{link_of}
-use Rattle.vbr_core.specs.Acceptance.{IsUnlinked}
-use Rattle.vbr_core.specs.History.{set_call}
-use Rattle.vbr_core.specs.Knowledge.{Know}
-use Rattle.vbr_core.specs.Links.{link_to, marked}
-use Rattle.vbr_core.specs.Membership.{KeyAt, StandsBefore, StandsBehind}
-use Rattle.vbr_core.specs.declared.history.Op.TheVariants.{Insert, Remove}
+use Rattle.vbr_machine.specs.Acceptance.{IsUnlinked}
+use Rattle.vbr_machine.specs.History.{set_call}
+use Rattle.vbr_machine.specs.Knowledge.{Know}
+use Rattle.vbr_machine.specs.Links.{link_to, marked}
+use Rattle.vbr_machine.specs.Membership.{KeyAt, StandsBefore, StandsBehind}
+use Rattle.vbr_machine.specs.declared.history.Op.TheVariants.{Insert, Remove}
 use Rattle.vbr_slots.specs.Alone.{IsAlone, IsFresh}
 use Rattle.vbr_slots.specs.Calls.{Made, Quiet, Took}
 use Rattle.vbr_slots.specs.Views.{PassView, Trace, knows}
@@ -75,8 +75,9 @@ pub record GivesBack (p q : PassView) (pred : Held) (given : HandView) (back : H
   pub hand : IsHandOf q back.0
   pub exchange : LosesExchange p.trace q.trace pred back.1
 
--- the pass made no call, and kept its own pool and its hand
-pub record StaysQuiet (p q : PassView) : Type 0 where
+-- in so many steps, the pass made no call, and kept its own pool and its hand
+pub record StaysIn (p q : PassView) (steps : ℕ) : Type 0 where
+  pub took : Took p.trace q.trace steps
   pub quiet : Quiet p.trace q.trace
   pub own : KeepsOwn p q
 

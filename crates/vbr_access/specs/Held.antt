@@ -4,11 +4,12 @@ use Rattle.vbr_words.specs.Words.{link_of}
 use Rattle.vbr_words.specs.declared.link.Link.{Link}
 use Rattle.vbr_words.specs.declared.place.At.{At}
 use Rattle.vbr_words.specs.declared.place.At.TheVariants.{Head, Slot}
-use Rattle.vbr_core.specs.Knowledge.{Know}
-use Rattle.vbr_core.specs.Membership.{Knows, BirthAt}
-use Rattle.vbr_core.specs.declared.knowledge.Holding.{Holding}
-use Rattle.vbr_core.specs.declared.knowledge.Holding.TheVariants.{InHand}
-use Rattle.vbr_core.specs.declared.knowledge.Read.TheVariants.{LinkAt}
+use Rattle.vbr_machine.specs.Knowledge.{Know}
+use Rattle.vbr_machine.specs.Membership.{Knows, BirthAt}
+use Rattle.vbr_machine.specs.declared.knowledge.Holding.{Holding}
+use Rattle.vbr_machine.specs.declared.knowledge.Unpublished.{Unpublished}
+use Rattle.vbr_machine.specs.declared.knowledge.Holding.TheVariants.{InHand}
+use Rattle.vbr_machine.specs.declared.knowledge.Read.TheVariants.{LinkAt}
 use denote.Bor.{Bor}
 use Rattle.vbr_access.specs.declared.held.Held.{Held}
 use Rattle.vbr_access.specs.declared.held.Marked.{Marked}
@@ -47,5 +48,9 @@ IsSucc know pred None = (link_of pred.word).slot ≡ None
 IsSucc know pred (Some node) = IsHeld know node.now × ((s : ℕ) × Names pred s × (node.now.at ≡ Slot s))
 
 -- a slot is in hand with this birth, and this key and link were stored since; of its value nothing is said
-abbrev pub IsFilled : Option Holding → ℕ → ℕ → Link → Type 0
-IsFilled holding birth key link = (stamp : ℕ) × (value : Option ℕ) × (holding ≡ Some (InHand stamp birth (Some key) value (Some link)))
+pub record IsFilled (holding : Option Holding) (birth key : ℕ) (link : Link) : Type 0 where
+  pub known : Unpublished
+  pub holding_is : holding ≡ Some (InHand known)
+  pub birth_is : known.birth ≡ birth
+  pub key_is : known.key ≡ Some key
+  pub link_is : known.link ≡ Some link

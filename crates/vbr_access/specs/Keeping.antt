@@ -1,9 +1,9 @@
 -- What stays of what a pass knows and has.
 use Rattle.std.specs.Prelude.{◌≡◌, ◌≢◌, ℕ, Some}
-use Rattle.vbr_core.specs.Acceptance.{IsUnlinked}
-use Rattle.vbr_core.specs.Knowledge.{Know}
-use Rattle.vbr_core.specs.Membership.{Knows}
-use Rattle.vbr_core.specs.declared.knowledge.Read.{Read}
+use Rattle.vbr_machine.specs.Acceptance.{IsUnlinked}
+use Rattle.vbr_machine.specs.Knowledge.{Know}
+use Rattle.vbr_machine.specs.Membership.{Knows}
+use Rattle.vbr_machine.specs.declared.knowledge.Read.{Read}
 use Rattle.vbr_slots.specs.Views.{PassView, knows}
 use Rattle.vbr_pools.specs.Counts.{advances}
 use Rattle.vbr_pools.specs.KeptSlots.{HasFree, PoolGrows, SharesWhereFull}

@@ -2,8 +2,9 @@
 use Rattle.std.specs.Prelude.{ℕ, Bool, true, false}
 use Rattle.vbr_words.specs.Dimensions.{Dimensions}
 use Rattle.vbr_words.specs.Words.{link_of}
-use Rattle.vbr_core.specs.Knowledge.{Know}
-use Rattle.vbr_core.specs.Membership.{KeyAt, StandsBehind, StandsBeforeOn}
+use Rattle.vbr_machine.specs.Knowledge.{Know}
+use Rattle.vbr_machine.specs.Membership.{KeyAt, StandsBehind, StandsBeforeOn}
+use Rattle.vbr_slots.specs.Views.{Trace, knows}
 use Rattle.vbr_access.specs.Held.{IsSlot}
 use Rattle.vbr_access.specs.declared.held.Held.{Held}
 
@@ -11,3 +12,7 @@ use Rattle.vbr_access.specs.declared.held.Held.{Held}
 abbrev pub DecidesKey : Dimensions → Know → ℕ → Held → Bool → Type 0
 DecidesKey shape know key held true = IsSlot held.at × KeyAt know held.at key
 DecidesKey shape know key held false = StandsBehind shape know held.at key × StandsBeforeOn know key (link_of held.word)
+
+-- the same, by what a pass knows
+abbrev pub TellsKey : Trace → ℕ → Held → Bool → Type 0
+TellsKey p key held present = DecidesKey p.shape (knows p) key held present

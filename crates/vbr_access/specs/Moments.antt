@@ -3,13 +3,13 @@ use Rattle.std.specs.Prelude.{◌≡◌, ℕ, Bool, List, [], ◌∷◌, ◌++�
 use Rattle.vbr_words.specs.Words.{link_of}
 use Rattle.vbr_words.specs.declared.place.At.{At}
 use Rattle.vbr_words.specs.declared.place.At.TheVariants.{Slot}
-use Rattle.vbr_core.specs.Opened.{opening_keys}
-use Rattle.vbr_core.specs.History.{set_after}
-use Rattle.vbr_core.specs.Machine.{link_at, found}
-use Rattle.vbr_core.specs.Membership.{IsHeldPlace}
-use Rattle.vbr_core.specs.Runs.{Begins, world_after, know_after}
-use Rattle.vbr_core.specs.declared.event.Event.{Event}
-use Rattle.vbr_core.specs.declared.event.Step.TheVariants.{ReadEpoch, LoadLink}
+use Rattle.vbr_machine.specs.Opened.{opening_keys}
+use Rattle.vbr_machine.specs.History.{set_after}
+use Rattle.vbr_machine.specs.Machine.{link_at, found}
+use Rattle.vbr_machine.specs.Membership.{IsHeldPlace}
+use Rattle.vbr_machine.specs.Runs.{Begins, world_after, know_after}
+use Rattle.vbr_machine.specs.declared.event.Event.{Event}
+use Rattle.vbr_machine.specs.declared.event.Step.TheVariants.{ReadEpoch, LoadLink}
 use Rattle.vbr_slots.specs.Calls.{Moment}
 use Rattle.vbr_slots.specs.Views.{Trace, knows, event_of}
 use Rattle.vbr_access.specs.Held.{IsHeld, Names}

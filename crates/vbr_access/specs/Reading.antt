@@ -1,13 +1,13 @@
 -- What the calls that read tell.
-use Rattle.std.specs.Prelude.{◌≡◌, ℕ, false, Option}
+use Rattle.std.specs.Prelude.{◌≡◌, ℕ, false, Option, IsSome}
 use Rattle.vbr_words.specs.Words.{link_of}
 use Rattle.vbr_words.specs.declared.place.At.{At}
 use Rattle.vbr_words.specs.declared.place.At.TheVariants.{Head}
 use Rattle.vbr_words.specs.Buckets.{bucket_of}
-use Rattle.vbr_core.specs.Membership.{BirthNamed, HeldIn, KeyAt}
+use Rattle.vbr_machine.specs.Membership.{BirthNamed, HeldIn, KeyAt}
 use Rattle.vbr_slots.specs.Alone.{IsAlone, IsFresh, nodes}
 use Rattle.vbr_slots.specs.Calls.{AddsNone, OnlyLoads, Quiet, Took}
-use Rattle.vbr_slots.specs.Views.{PassView, Trace, knows}
+use Rattle.vbr_slots.specs.Views.{PassView, knows}
 use Rattle.vbr_pools.specs.KeptSlots.{TakesNoSlot}
 use Rattle.vbr_access.specs.Alone.{NextStands, StandsNow}
 use Rattle.vbr_access.specs.Keeping.{Keeps, KeepsOwn}
@@ -57,12 +57,17 @@ pub record IsKeyRead (p q : PassView) (at : At) (found : ℕ) : Type 0 where
   pub key : KeyAt (knows q.trace) at found
   pub bucket : (b : ℕ) → HeldIn (knows p.trace) at b → bucket_of p.trace.shape found ≡ b
 
--- this is the birth of what a link names, 0 of none
-pub record IsBirthRead (p q : Trace) (named : Option ℕ) (found : ℕ) : Type 0 where
-  pub keeps : Keeps (knows p) (knows q)
-  pub birth : BirthNamed (knows q) named found
+-- this is the birth of what the link of this word names, 0 of none
+pub record IsBirthRead (p q : PassView) (word found : ℕ) : Type 0 where
+  pub keeps : Keeps (knows p.trace) (knows q.trace)
+  pub birth : BirthNamed (knows q.trace) (link_of word).slot found
 
 -- the epoch has moved, which it hasn't for a pass that was alone since it had read it
 pub record RollsBack (p q : PassView) (rollback : Rollback) : Type 0 where
   pub moved : IsMoved p.trace q.trace rollback
   pub still : IsFresh p.trace → IsAlone p.trace q.trace → ⊥
+
+-- the link of this word names a node, and the epoch has moved
+pub record BirthMoved (p q : PassView) (word : ℕ) (rollback : Rollback) : Type 0 where
+  pub some : IsSome (link_of word).slot
+  pub rolls : RollsBack p q rollback

@@ -1,6 +1,6 @@
 -- Safe runs.
-use Rattle.vbr_core.specs.Runs.{IsRun}
-use Rattle.vbr_core.specs.Safety.{IsSafe}
+use Rattle.vbr_machine.specs.Runs.{IsRun}
+use Rattle.vbr_machine.specs.Safety.{IsSafe}
 use Rattle.vbr_slots.specs.Views.{Trace}
 
 -- what the pass has seen is a safe run: the calls in it, of all passes, are one legal history of a set that opened with the keys of the shape, perhaps none, and each exchange that was won in it, and each checked read, was of the incarnations held

@@ -1,5 +1,6 @@
 -- How many steps a call makes.
 use Rattle.std.specs.Prelude.{ℕ, ◌+◌, Option, Some, None, Result, Ok, Err}
+use Rattle.vbr_words.specs.Words.{link_of}
 use Rattle.vbr_pools.specs.Hands.{UnlinkedView}
 use Rattle.vbr_access.specs.declared.held.Held.{Held}
 use Rattle.vbr_access.specs.declared.rollback.Rollback.{Rollback}
@@ -15,8 +16,12 @@ abbrev pub birth_steps : Option ℕ → ℕ
 birth_steps None = 0
 birth_steps (Some s) = 2
 
+-- the same, of what the link of this word names
+abbrev pub steps_to_birth : ℕ → ℕ
+steps_to_birth word = birth_steps (link_of word).slot
+
 -- the steps of an unlinking: those of reading the birth of what the marked link names, and one more unless the epoch has moved
-abbrev pub steps_to_unlink : Option ℕ → Result (UnlinkedView × Held) Rollback → ℕ
-steps_to_unlink next (Err (EpochMoved now)) = birth_steps next
-steps_to_unlink next (Err (LostExchange found)) = birth_steps next + 1
-steps_to_unlink next (Ok r) = birth_steps next + 1
+abbrev pub steps_to_unlink : ℕ → Result (UnlinkedView × Held) Rollback → ℕ
+steps_to_unlink word (Err (EpochMoved now)) = steps_to_birth word
+steps_to_unlink word (Err (LostExchange found)) = steps_to_birth word + 1
+steps_to_unlink word (Ok r) = steps_to_birth word + 1

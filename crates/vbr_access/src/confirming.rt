@@ -1,16 +1,17 @@
 //! Answers by one more load of a link word.
-ghost use Rattle.std.specs.Prelude.{IfOk, IfErr};
-ghost use Rattle.vbr_core.specs.declared.history.Op.TheVariants.{Insert, Remove};
-ghost use Rattle.vbr_slots.specs.Calls.{OnlyLoads};
+ghost use Rattle.std.specs.Prelude.{OnOk, IfErr};
+ghost use Rattle.vbr_machine.specs.declared.history.Op.TheVariants.{Insert, Remove};
 ghost use Rattle.vbr_slots.specs.Views.{IsOf, knows};
-ghost use Rattle.vbr_access.specs.Answering.{KeepsIn, IsOther, IsPresent, AnswersPresent, AnswersAbsent, FindsAnother, IsAbsent, AnswersLookUp};
+ghost use Rattle.vbr_access.specs.Answering.{AnswersAbsent, AnswersLookUp, AnswersPresent};
+ghost use Rattle.vbr_access.specs.Answering.{FindsAnother, IsAbsent, IsOther, IsPresent};
+ghost use Rattle.vbr_access.specs.Answering.{KeepsByLoad};
 ghost use Rattle.vbr_access.specs.Exchanges.{IsUnmarked};
-ghost use Rattle.vbr_access.specs.LookUps.{DecidesKey};
+ghost use Rattle.vbr_access.specs.LookUps.{TellsKey};
 
 use crate::held::Held;
 use crate::rollback::Rollback;
 use crate::uncounted;
-use vbr_core::Op;
+use vbr_machine::Op;
 use vbr_slots::{Pass, Slots};
 use vbr_words::At;
 
@@ -22,9 +23,8 @@ pub fn confirm_present(slots: &Slots, pass: &mut Pass, op: Op, held: &Held) -> R
     requires own { IsOf pass.old.trace slots.now }
     requires node { IsPresent (knows pass.old.trace) held.now }
     requires op { IsOther Remove op }
-    ensures keeps { KeepsIn pass.old pass.new 1 }
-    ensures only_loads { OnlyLoads pass.old.trace pass.new.trace }
-    ensures answered { IfOk result (λ _. AnswersPresent pass.old.trace pass.new.trace op held.now) }
+    ensures keeps { KeepsByLoad pass.old pass.new }
+    ensures answers { OnOk result (AnswersPresent pass.old.trace pass.new.trace op held.now) }
     ensures lost { IfErr result (FindsAnother pass.old.trace pass.new.trace held.now) }
 {
     pass.at(slots, |at| (uncounted::confirm_present(at, op, held), 1))
@@ -45,9 +45,8 @@ pub fn confirm_absent(
     requires own { IsOf pass.old.trace slots.now }
     requires gap { IsAbsent pass.old.trace.shape (knows pass.old.trace) key pred.now }
     requires op { IsOther Insert op }
-    ensures keeps { KeepsIn pass.old pass.new 1 }
-    ensures only_loads { OnlyLoads pass.old.trace pass.new.trace }
-    ensures answered { IfOk result (λ _. AnswersAbsent pass.old.trace pass.new.trace op key) }
+    ensures keeps { KeepsByLoad pass.old pass.new }
+    ensures answers { OnOk result (AnswersAbsent pass.old.trace pass.new.trace op key) }
     ensures lost { IfErr result (FindsAnother pass.old.trace pass.new.trace pred.now) }
 {
     pass.at(
@@ -71,10 +70,9 @@ pub fn confirm_look_up(
 ) -> Result<(), Rollback>
     requires own { IsOf pass.old.trace slots.now }
     requires held { IsUnmarked (knows pass.old.trace) held.now }
-    requires decides { DecidesKey pass.old.trace.shape (knows pass.old.trace) key held.now present }
-    ensures keeps { KeepsIn pass.old pass.new 1 }
-    ensures only_loads { OnlyLoads pass.old.trace pass.new.trace }
-    ensures answered { IfOk result (λ _. AnswersLookUp pass.old.trace pass.new.trace key present) }
+    requires decides { TellsKey pass.old.trace key held.now present }
+    ensures keeps { KeepsByLoad pass.old pass.new }
+    ensures answers { OnOk result (AnswersLookUp pass.old.trace pass.new.trace key present) }
     ensures lost { IfErr result (FindsAnother pass.old.trace pass.new.trace held.now) }
 {
     pass.at(

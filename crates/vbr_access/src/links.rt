@@ -1,7 +1,7 @@
 //! The links that exchanges write.
 ghost use Rattle.std.specs.Prelude.{◌≡◌};
 ghost use Rattle.vbr_words.specs.Words.{IsLink, word_of, link_of};
-ghost use Rattle.vbr_core.specs.Links.{link_to};
+ghost use Rattle.vbr_machine.specs.Links.{link_to};
 
 use vbr_words::{Link, encode, version_of};
 

@@ -1,9 +1,7 @@
 //! Unlinking a marked node.
 ghost use Rattle.std.specs.Prelude.{IfOk, IfErr};
-ghost use Rattle.vbr_words.specs.Words.{link_of};
-ghost use Rattle.vbr_slots.specs.Calls.{Took};
 ghost use Rattle.vbr_slots.specs.Views.{IsOf, knows};
-ghost use Rattle.vbr_access.specs.Exchanges.{StaysQuiet, UnlinksNode, UnlinksNone, IsUnmarked};
+ghost use Rattle.vbr_access.specs.Exchanges.{StaysIn, UnlinksNode, UnlinksNone, IsUnmarked};
 ghost use Rattle.vbr_access.specs.Held.{IsMarked, Names};
 ghost use Rattle.vbr_access.specs.Steps.{steps_to_unlink};
 
@@ -34,8 +32,7 @@ pub fn unlink(
     requires pred { IsUnmarked (knows pass.old.trace) pred.now }
     requires marked { IsMarked (knows pass.old.trace) marked }
     requires names { Names pred.now marked.slot }
-    ensures took { Took pass.old.trace pass.new.trace (steps_to_unlink (link_of marked.word).slot result) }
-    ensures stays { StaysQuiet pass.old pass.new }
+    ensures stays { StaysIn pass.old pass.new (steps_to_unlink marked.word result) }
     ensures unlinked { IfOk result (UnlinksNode pass.old pass.new pred.now marked) }
     ensures failed { IfErr result (UnlinksNone pass.old pass.new pred.now) }
 {

@@ -2,7 +2,7 @@
 ghost use Rattle.std.specs.Prelude.{◌≡◌, ◌+◌, ◌↔◌, IsTrue};
 ghost use Rattle.vbr_bench.specs.Tally.{tallied, both};
 
-use vbr_core::Op;
+use vbr_machine::Op;
 use vbr_set::Refusal;
 
 /// How many calls of each kind were answered yes, and how many were refused.

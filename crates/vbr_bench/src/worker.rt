@@ -7,7 +7,7 @@ use std::io;
 use std::rt::Clock;
 use std::sync::Wait;
 use std::time::Instant;
-use vbr_core::Op;
+use vbr_machine::Op;
 use vbr_set::{Member, Refusal};
 
 /// The budget of a call in steps: enough for each.

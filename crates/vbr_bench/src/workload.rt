@@ -3,7 +3,7 @@ ghost use Rattle.std.specs.Prelude.{◌≡◌, ◌+◌, ◌*◌, ◌/◌, ◌<�
 
 use std::alloc::{AllocError, Global};
 use std::fmt;
-use vbr_core::Op;
+use vbr_machine::Op;
 use vbr_words::Shape;
 use vbr_words::shape::MAX_EPOCH;
 

@@ -3,31 +3,38 @@
 //! which owns a pass of the set and a share of the set.
 //!
 //! No call asks anything of its caller but what the types say: a handle is moved and never copied,
-//! and one call at a time has it. `bindings/include/vbr.h` is what a C programmer reads.
+//! and one call at a time has it. Only `vbr_close_all` asks besides that the handles are of one set.
+//! `bindings/include/vbr.h` is what a C programmer reads.
 //!
 //! ```c file=bindings/c/example.c
 //! /* handles, count, slots (keys, and 64 for each handle), buckets (as many as keys), last_epoch */
 //! if (vbr_open(handle, 2, 1024 + 2 * 64, 1024, VBR_MAX_EPOCH) != VBR_NO) return 1;
-//! int32_t added = vbr_insert(&handle[0], 5, 100000);       /* VBR_YES: 5 was absent */
-//! int32_t there = vbr_has(&handle[1], 5, 100000);          /* VBR_YES, from another thread too */
-//! int32_t first = vbr_close(&handle[0], keys, 8, &report); /* VBR_NO: the other handle is open */
-//! int32_t last = vbr_close(&handle[1], keys, 8, &report);  /* VBR_YES: report.live is 1, keys[0] is 5 */
+//! vbr_answer added = vbr_insert(&handle[0], 5, 100000);       /* VBR_YES: 5 was absent */
+//! vbr_answer there = vbr_has(&handle[1], 5, 100000);          /* VBR_YES, from another thread too */
+//! vbr_answer first = vbr_close(&handle[0], keys, 8, &report); /* VBR_NO: the other handle is open */
+//! vbr_answer last = vbr_close(&handle[1], keys, 8, &report);  /* VBR_YES: report.live is 1, keys[0] is 5 */
 //! ```
 //!
 //! A number below 0 is a refusal, after which no call was made. A step is one atomic operation on one
 //! word that threads share. What is proved of each call is said at the calls of `Member` in `vbr_set`.
 #![tactic(auto)]
 
-ghost use Rattle.std.specs.Prelude.{◌≡◌, None};
-ghost use Rattle.vbr_core.specs.declared.history.Op.TheVariants.{Insert, Remove, Has};
+ghost use Rattle.std.specs.Prelude.{◌≡◌, ◌+◌, ◌*◌, None};
+ghost use Rattle.vbr_machine.specs.declared.history.Op.TheVariants.{Insert, Remove, Has};
 ghost use Rattle.vbr_handles.specs.Calls.{TellsCall};
 ghost use Rattle.vbr_handles.specs.Opening.{spread_shape};
 ghost use Rattle.vbr_handles.specs.OpeningCodes.{TellsOpening, TellsOpeningWith};
-ghost use Rattle.vbr_handles.specs.Reports.{TellsClose};
+ghost use Rattle.vbr_handles.specs.AllHandles.{members_in};
+ghost use Rattle.vbr_handles.specs.Reports.{TellsClose, TellsCloseAll};
+ghost use Rattle.vbr_set.specs.AllMembers.{AreOfOneSet};
+ghost use Rattle.vbr_handles.specs.Shown.{buckets_of, epoch_of, last_epoch_of, slots_of};
 
 use std::alloc::Global;
 pub use vbr_handles::numbers::ReportNumbers;
-use vbr_handles::{Handle, ShapeNumbers, numbers};
+use vbr_handles::{Handle, ShapeNumbers, numbers, shown};
+
+// 0.2.0
+const VERSION: u32 = 2_000;
 
 /// Opens an empty set, with a pass for each of the handles, which are empty: 0. No pass has made a step
 /// then.
@@ -90,7 +97,7 @@ pub extern "C" fn vbr_open_with(
 /// spent; -4, the handle is empty.
 ///
 /// ```c file=bindings/c/example.c
-/// int32_t added = vbr_insert(&handle[0], 5, 100000);       /* VBR_YES: 5 was absent */
+/// vbr_answer added = vbr_insert(&handle[0], 5, 100000);       /* VBR_YES: 5 was absent */
 /// ```
 #[unsafe(no_mangle)]
 pub extern "C" fn vbr_insert(handle: &mut Handle, key: u64, budget: u32) -> i32
@@ -122,7 +129,7 @@ pub extern "C" fn vbr_remove(handle: &mut Handle, key: u64, budget: u32) -> i32
 /// budget; -4, the handle is empty.
 ///
 /// ```c file=bindings/c/example.c
-/// int32_t there = vbr_has(&handle[1], 5, 100000);          /* VBR_YES, from another thread too */
+/// vbr_answer there = vbr_has(&handle[1], 5, 100000);          /* VBR_YES, from another thread too */
 /// ```
 #[unsafe(no_mangle)]
 pub extern "C" fn vbr_has(handle: &mut Handle, key: u64, budget: u32) -> i32
@@ -131,16 +138,72 @@ pub extern "C" fn vbr_has(handle: &mut Handle, key: u64, budget: u32) -> i32
     numbers::has(handle, key, budget)
 }
 
-/// Gives a pass back, and leaves the handle empty. 0 while other handles of the set are full. The
-/// last one ends the set: 1, and it writes what the set held and the first of its keys, ascending,
-/// as many as there is room for. It has no budget, and makes no call of the set.
+/// The last epoch that the pass of the handle read in a call: 1 before its first, and 0 where the handle
+/// is empty. It makes no step, so others may have advanced the epoch since. A set is renewed once it comes
+/// near [`vbr_last_epoch`].
 ///
-/// Refusals, after which nothing is written: -4, the handle is empty; -8, it was the last one and there
-/// is no memory for the report, and the handle stays as it was; -9, it was the last one and a handle was
-/// dropped before, so the set is gone.
+/// ```c file=bindings/c/renewal.c
+/// if (in_time && vbr_epoch(&handle[0]) + 1 >= vbr_last_epoch(&handle[0]) && renew(handle, keys, &renewals)) return 3;
+/// ```
+#[unsafe(no_mangle)]
+pub extern "C" fn vbr_epoch(handle: &mut Handle) -> u64
+    ensures same { handle.new.member ≡ handle.old.member }
+    ensures epoch { result ≡ epoch_of handle.old.member }
+{
+    shown::epoch(handle)
+}
+
+/// The last epoch of the set of the handle, as it was opened; 0 where the handle is empty.
+#[unsafe(no_mangle)]
+pub extern "C" fn vbr_last_epoch(handle: &mut Handle) -> u64
+    ensures same { handle.new.member ≡ handle.old.member }
+    ensures last { result ≡ last_epoch_of handle.old.member }
+{
+    shown::last_epoch(handle)
+}
+
+/// How many slots the set of the handle has, as it was opened; 0 where the handle is empty.
+#[unsafe(no_mangle)]
+pub extern "C" fn vbr_slots(handle: &mut Handle) -> u32
+    ensures same { handle.new.member ≡ handle.old.member }
+    ensures slots { result ≡ slots_of handle.old.member }
+{
+    shown::slots(handle)
+}
+
+/// How many buckets the set of the handle has, as it was opened; 0 where the handle is empty.
+#[unsafe(no_mangle)]
+pub extern "C" fn vbr_buckets(handle: &mut Handle) -> u32
+    ensures same { handle.new.member ≡ handle.old.member }
+    ensures buckets { result ≡ buckets_of handle.old.member }
+{
+    shown::buckets(handle)
+}
+
+/// The version of the library: major * 1000000 + minor * 1000 + patch.
+///
+/// ```c file=bindings/c/answers.c
+/// CHECK(vbr_version() == VBR_VERSION);
+/// ```
+#[unsafe(no_mangle)]
+pub extern "C" fn vbr_version() -> u32
+    ensures { result ≡ 0 * 1000000 + 2 * 1000 + 0 }
+{
+    VERSION
+}
+
+/// Gives a pass back, and leaves the handle empty. 0 while other handles of the set are full. The
+/// last one ends the set: 1, and it writes what the set held and its keys, ascending, in front of `keys`.
+/// It has no budget, and makes no call of the set.
+///
+/// Refusals: -4, the handle is empty; -8, it was the last one and there is no memory for the report, and
+/// the handle stays as it was; -9, it was the last one and a pass isn't there, so the set is gone; -11, it
+/// was the last one and the set has more keys than there is room for, and the handle stays as it was. With
+/// -11 the report is written without the keys, so `live` tells how many they are; as many as slots always
+/// have room. With the others nothing is written.
 ///
 /// ```c file=bindings/c/example.c
-/// int32_t last = vbr_close(&handle[1], keys, 8, &report);  /* VBR_YES: report.live is 1, keys[0] is 5 */
+/// vbr_answer last = vbr_close(&handle[1], keys, 8, &report);  /* VBR_YES: report.live is 1, keys[0] is 5 */
 /// ```
 #[unsafe(no_mangle)]
 pub extern "C" fn vbr_close(
@@ -154,8 +217,35 @@ pub extern "C" fn vbr_close(
     numbers::close(alloc, handle, keys, report)
 }
 
-/// Drops what the handle has, and leaves it empty. Its pass is lost, so the last close of its set
-/// answers -9. It makes no step, needs no memory, and can't fail.
+/// Closes a set by all its handles at once, in any order, and leaves them empty: 1, and it writes what the
+/// set held and its keys, ascending, in front of `keys`. These are what the calls of all handles leave. It
+/// has no budget, and makes no call of the set. It asks that the handles which are full are of one set.
+///
+/// Refusals, which leave the handles as they were: -4, one of them is empty; -12, they are fewer than were
+/// opened with the set, or none; -8, there is no memory for the report; -11, the set has more keys than
+/// there is room for; -13, they are of different sets, which is a probe that no contract speaks of. With
+/// -11 the report is written without the keys, so `live` tells how many they are; with the others nothing
+/// is written.
+///
+/// ```c file=bindings/c/answers.c
+/// CHECK(vbr_close_all(three, 3, keys, 4, &report) == VBR_YES);
+/// ```
+#[unsafe(no_mangle)]
+pub extern "C" fn vbr_close_all(
+    alloc: Global,
+    handles: &mut [Handle],
+    keys: &mut [u64],
+    report: &mut ReportNumbers,
+) -> i32
+    requires { AreOfOneSet (members_in handles.old) }
+    ensures { TellsCloseAll handles.old handles.new keys.old keys.new report.old report.new result }
+{
+    numbers::close_all(alloc, handles, keys, report)
+}
+
+/// Drops what the handle has, and leaves it empty. Its pass is given back, as by a close, so the last
+/// handle of its set that is closed is still told the report; with the last one dropped the set ends
+/// without. It makes no step, needs no memory, and can't fail.
 ///
 /// ```c file=bindings/c/answers.c
 /// for (int i = 0; i < 3; i++) vbr_drop(&three[i]);

@@ -11,15 +11,15 @@ use Rattle.vbr_words.specs.declared.link.TheConstants.{MAX_SLOTS}
 use Rattle.vbr_words.specs.declared.place.At.{At}
 use Rattle.vbr_words.specs.declared.place.At.TheVariants.{Head, Slot}
 use Rattle.vbr_words.specs.declared.shape.TheConstants.{MAX_EPOCH}
-use Rattle.vbr_core.specs.Put.{put}
-use Rattle.vbr_core.specs.Knowledge.{Know, birth_in, birth_at, birth_of, marked_in, same_at}
-use Rattle.vbr_core.specs.Acceptance.{MayPublish, next_of_marked}
-use Rattle.vbr_core.specs.Learning.{link_in_hand, reread, read_epoch, with_own}
+use Rattle.vbr_machine.specs.Put.{put}
+use Rattle.vbr_machine.specs.Knowledge.{Know, birth_in, birth_at, birth_of, marked_in, same_at}
+use Rattle.vbr_machine.specs.Acceptance.{MayPublish, next_of_marked}
+use Rattle.vbr_machine.specs.Learning.{link_in_hand, reread, read_epoch, with_own}
 use Rattle.vbr_core.specs.Kept.{KeptPass, know_of, FitsRead, FitsHolding}
-use Rattle.vbr_core.specs.declared.knowledge.Read.{Read}
-use Rattle.vbr_core.specs.declared.knowledge.Read.TheVariants.{LinkAt, BirthOf, KeyOf, ValueOf}
-use Rattle.vbr_core.specs.declared.knowledge.Holding.{Holding}
-use Rattle.vbr_core.specs.declared.knowledge.Holding.TheVariants.{Free, Unlinked, InHand}
+use Rattle.vbr_machine.specs.declared.knowledge.Read.{Read}
+use Rattle.vbr_machine.specs.declared.knowledge.Read.TheVariants.{LinkAt, BirthOf, KeyOf, ValueOf}
+use Rattle.vbr_machine.specs.declared.knowledge.Holding.{Holding}
+use Rattle.vbr_machine.specs.declared.knowledge.Holding.TheVariants.{Free, Unlinked, InHand}
 
 -- ---- what holds of each element of a list
 
@@ -55,7 +55,7 @@ pub fits-reread : (holding : Option Holding) → FitsHolding holding → FitsHol
 fits-reread None fits = tt
 fits-reread (Some (Free stamp)) fits = tt
 fits-reread (Some (Unlinked seen)) fits = tt
-fits-reread (Some (InHand stamp birth key value link)) fits = fits
+fits-reread (Some (InHand known)) fits = fits
 
 -- a birth that is read has room
 pub birth_in-fits : (reads : List Read) (s : ℕ) → AllByRecursion FitsRead reads → unwrap_or (birth_in reads s) 0 ≤ MAX_EPOCH
@@ -93,7 +93,7 @@ next-fits (LinkAt at link ∷ reads) s fits = next_of-if (same_at at (Slot s) &&
 
 -- a link in hand that is ready has room
 pub ready-fits : (shape : Dimensions) (reads : List Read) (pred : At) (expected : Link) (holding : Option Holding) → AllByRecursion FitsRead reads → FitsHolding holding → IsLink expected → MayPublish shape reads pred expected holding → IsLink (link_in_hand holding)
-ready-fits shape reads pred expected (Some (InHand stamp birth (Some key) value (Some link))) all fits is ready = let named = birth_of-fits reads expected.slot all in rw ready.0 (record { slot = is.slot; version = omega (arith, named, fits) })
+ready-fits shape reads pred expected (Some (InHand known)) all fits is ready = let named = birth_of-fits reads expected.slot all in rw ready.link_is (record { slot = is.slot; version = omega (arith, named, fits) })
 ready-fits shape reads pred expected holding all fits is ready = absurd ready
 
 -- ---- the epoch is read

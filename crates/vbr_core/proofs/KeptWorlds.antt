@@ -10,16 +10,17 @@ use Rattle.vbr_words.proofs.Lemmas.{word_of-link_of}
 use Rattle.vbr_words.specs.declared.link.Link.{Link}
 use Rattle.vbr_words.specs.declared.place.At.{At}
 use Rattle.vbr_words.specs.declared.place.At.TheVariants.{Head, Slot}
-use Rattle.vbr_core.specs.Put.{put}
-use Rattle.vbr_core.specs.Knowledge.{Know}
-use Rattle.vbr_core.specs.Links.{opening_link, link_to}
-use Rattle.vbr_core.specs.Machine.{World, knows_nothing, with_link_at}
-use Rattle.vbr_core.specs.Making.{opening_from}
-use Rattle.vbr_core.specs.Opened.{key_count}
+use Rattle.vbr_machine.specs.Put.{put}
+use Rattle.vbr_machine.specs.Knowledge.{Know}
+use Rattle.vbr_machine.specs.Links.{opening_link, link_to}
+use Rattle.vbr_machine.specs.Machine.{World, knows_nothing, with_link_at}
+use Rattle.vbr_machine.specs.Making.{opening_from}
+use Rattle.vbr_machine.specs.Opened.{key_count}
 use Rattle.vbr_core.specs.Kept.{KeptPass, KeptWorld, IsWhole, know_of, opening_pass, world_of}
-use Rattle.vbr_core.specs.declared.knowledge.SlotPlace.{SlotPlace}
-use Rattle.vbr_core.specs.declared.knowledge.SlotPlace.TheVariants.{Shared}
-use Rattle.vbr_core.proofs.OpenedWorlds.{opening_none}
+use Rattle.vbr_core.specs.KeptOpenings.{IsNew}
+use Rattle.vbr_machine.specs.declared.knowledge.SlotPlace.{SlotPlace}
+use Rattle.vbr_machine.specs.declared.knowledge.SlotPlace.TheVariants.{Shared}
+use Rattle.vbr_machine.proofs.Lemmas.{opening_none}
 use Rattle.vbr_core.proofs.KeptLists.{read_replicate, read_set, all_at}
 
 -- the word that is kept at a head is that of its link
@@ -31,11 +32,11 @@ pub link_word : (kept : KeptWorld) (s word : ℕ) → IsWhole kept → s < kept.
 link_word kept s word whole lt is = get_or_read kept.links s word (omega (arith, whole.links)) is MARK ∙ sym (word_of-link_of (get_or kept.links s MARK))
 
 -- passes that know nothing
-know_opened : (slots : ℕ) (passes : List KeptPass) → AllByRecursion (λ pass. (know_of pass ≡ knows_nothing) × (length pass.own ≡ slots)) passes → ◌≡◌ {A = ℕ → Know} (λ p. know_of (get_or passes p opening_pass)) (λ p. knows_nothing)
+know_opened : (slots : ℕ) (passes : List KeptPass) → AllByRecursion (IsNew slots) passes → ◌≡◌ {A = ℕ → Know} (λ p. know_of (get_or passes p opening_pass)) (λ p. knows_nothing)
 know_opened slots passes new = λ k p. at p (cases_lt p (length passes)) k
   where
     at : (p : ℕ) → (p < length passes) ⊎ (length passes ≤ p) → know_of (get_or passes p opening_pass) ≡ knows_nothing
-    at p (inl lt) = (all_at (λ pass. (know_of pass ≡ knows_nothing) × (length pass.own ≡ slots)) passes p opening_pass new lt).0
+    at p (inl lt) = (all_at (IsNew slots) passes p opening_pass new lt).0
     at p (inr ge) = rw (get_or_past passes p opening_pass ge) refl
 
 -- births that are 0 have room in words
@@ -44,12 +45,12 @@ births_fit zero = tt
 births_fit (suc n) = (omega arith, births_fit n)
 
 -- passes that know nothing have so many slots
-pub slots_known : (n slots : ℕ) (passes : List KeptPass) → n ≡ slots → AllByRecursion (λ pass. (know_of pass ≡ knows_nothing) × (length pass.own ≡ n)) passes → AllByRecursion (λ pass. length pass.own ≡ slots) passes
+pub slots_known : (n slots : ℕ) (passes : List KeptPass) → n ≡ slots → AllByRecursion (IsNew n) passes → AllByRecursion (λ pass. length pass.own ≡ slots) passes
 slots_known n slots [] e new = tt
 slots_known n slots (pass ∷ passes) e new = (new.0.1 ∙ e, slots_known n slots passes e new.1)
 
 -- the lists of an empty set stand for the world at opening where no key is linked yet
-pub opened : (kept : KeptWorld) (buckets slots own : ℕ) → kept.epoch ≡ 1 → kept.heads ≡ replicate buckets 0 → kept.links ≡ replicate slots MARK → kept.birth ≡ replicate slots 0 → kept.stamps ≡ replicate slots 0 → kept.keys ≡ replicate slots 0 → kept.values ≡ replicate slots 0 → kept.places ≡ replicate slots Shared → AllByRecursion (λ pass. (know_of pass ≡ knows_nothing) × (length pass.own ≡ own)) kept.passes → kept.births ≡ 0 → kept.calls ≡ [] → world_of kept ≡ opening_from kept.shape (key_count kept.shape)
+pub opened : (kept : KeptWorld) (buckets slots own : ℕ) → kept.epoch ≡ 1 → kept.heads ≡ replicate buckets 0 → kept.links ≡ replicate slots MARK → kept.birth ≡ replicate slots 0 → kept.stamps ≡ replicate slots 0 → kept.keys ≡ replicate slots 0 → kept.values ≡ replicate slots 0 → kept.places ≡ replicate slots Shared → AllByRecursion (IsNew own) kept.passes → kept.births ≡ 0 → kept.calls ≡ [] → world_of kept ≡ opening_from kept.shape (key_count kept.shape)
 unfolding link_of
 opened kept buckets slots own epoch heads links birth stamps keys values places new births calls =
     ap world_of (λ i. record kept { epoch = epoch i; heads = heads i; links = links i; birth = birth i; stamps = stamps i; keys = keys i; values = values i; places = places i; births = births i; calls = calls i })

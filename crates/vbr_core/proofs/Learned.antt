@@ -3,14 +3,15 @@ use Rattle.std.proofs.Common.{◌≡◌, ℕ, ◌<◌, List, [], ◌∷◌, ◌+
 use Rattle.std.proofs.lemmas.List.{get_or_read}
 use Rattle.vbr_words.specs.Words.{IsLink, word_of, link_of}
 use Rattle.vbr_words.proofs.Lemmas.{link_of-word_of}
-use Rattle.vbr_core.specs.Put.{put}
-use Rattle.vbr_core.specs.Knowledge.{Know}
-use Rattle.vbr_core.specs.Learning.{link_written, learn}
-use Rattle.vbr_core.specs.Machine.{found, stamp_shown, with_learning, with_call}
+use Rattle.vbr_machine.specs.Put.{put}
+use Rattle.vbr_machine.specs.Knowledge.{Know}
+use Rattle.vbr_machine.specs.Learning.{link_written, learn}
+use Rattle.vbr_machine.specs.Machine.{found, stamp_shown, with_learning, with_call}
 use Rattle.vbr_core.specs.Kept.{KeptPass, KeptWorld, IsWhole, know_of, opening_pass, world_of}
-use Rattle.vbr_core.specs.Making.{call_made, with_answer}
-use Rattle.vbr_core.specs.declared.history.Call.{Call}
-use Rattle.vbr_core.specs.declared.event.Step.{Step}
+use Rattle.vbr_machine.specs.Making.{call_made}
+use Rattle.vbr_core.specs.Answering.{with_answer}
+use Rattle.vbr_machine.specs.declared.history.Call.{Call}
+use Rattle.vbr_machine.specs.declared.event.Step.{Step}
 
 -- the link of the word that a pass answers with
 pub link_read : (kept : KeptWorld) (p word : ℕ) (pass : KeptPass) (step : Step) → IsWhole kept → p < length kept.passes → pass ≡ get_or kept.passes p pass → word ≡ word_of (link_written (know_of pass) step) → IsLink (link_written (know_of pass) step) → link_of word ≡ link_written ((world_of kept).know p) step

@@ -6,15 +6,15 @@ use Rattle.vbr_words.specs.Dimensions.{Dimensions}
 use Rattle.vbr_words.specs.declared.place.At.TheVariants.{Head, Slot}
 use Rattle.vbr_words.specs.declared.link.Link.{Link}
 use Rattle.vbr_words.specs.declared.shape.TheConstants.{MAX_EPOCH}
-use Rattle.vbr_core.specs.Acceptance.{Accepts}
-use Rattle.vbr_core.specs.Put.{put}
-use Rattle.vbr_core.specs.Knowledge.{Know}
-use Rattle.vbr_core.specs.Learning.{link_written, call_of, succeeds, key_written}
-use Rattle.vbr_core.specs.Machine.{World, found, with_call, after, written}
-use Rattle.vbr_core.specs.Making.{with_answer, WordsHaveRoom}
+use Rattle.vbr_machine.specs.Acceptance.{Accepts}
+use Rattle.vbr_machine.specs.Put.{put}
+use Rattle.vbr_machine.specs.Knowledge.{Know}
+use Rattle.vbr_machine.specs.Learning.{link_written, call_of, succeeds, key_written}
+use Rattle.vbr_machine.specs.Machine.{World, found, with_call, after, written}
+use Rattle.vbr_core.specs.Answering.{with_answer, WordsHaveRoom}
 use Rattle.vbr_core.specs.Kept.{KeptPass, KeptWorld, IsWhole, opening_pass, world_of}
-use Rattle.vbr_core.specs.declared.event.Step.{Step}
-use Rattle.vbr_core.specs.declared.event.Step.TheVariants.{ReadEpoch, Advance, LoadStamp, StoreStamp, Raise, TakeFlag, StoreBirth, StoreKey, StoreLink, LoadLink, LoadBirth, LoadKey, Publish, Mark, Unlink, ConfirmPresent, ConfirmAbsent, StoreValue, LoadValue}
+use Rattle.vbr_machine.specs.declared.event.Step.{Step}
+use Rattle.vbr_machine.specs.declared.event.Step.TheVariants.{ReadEpoch, Advance, LoadStamp, StoreStamp, Raise, TakeFlag, StoreBirth, StoreKey, StoreLink, LoadLink, LoadBirth, LoadKey, Publish, Mark, Unlink, ConfirmPresent, ConfirmAbsent, StoreValue, LoadValue}
 use Rattle.vbr_core.proofs.KeptLists.{put_here}
 
 -- a pass that learns nothing leaves the world as it is

@@ -3,8 +3,8 @@ use Rattle.std.proofs.Common.{◌≡◌, ℕ, zero, suc, ◌+◌, ◌<◌, ◌�
 use Rattle.std.specs.Prelude.{◌⊎◌, nat_eq}
 use Rattle.std.specs.Option.{option_eq}
 use Rattle.std.proofs.lemmas.Bool.{cases_lt, eqb-true}
-use Rattle.vbr_core.specs.Acceptance.{past_marked, after_turns}
-use Rattle.vbr_core.specs.declared.knowledge.Read.{Read}
+use Rattle.vbr_machine.specs.Acceptance.{past_marked, after_turns}
+use Rattle.vbr_machine.specs.declared.knowledge.Read.{Read}
 
 -- what compares as equal is equal
 pub same_slot : (a b : Option ℕ) → option_eq nat_eq a b ≡ true → a ≡ b

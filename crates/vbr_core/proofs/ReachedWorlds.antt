@@ -1,16 +1,20 @@
 -- A world stays one that a run led to, and so its calls are legal.
-use Rattle.std.proofs.Common.{◌≡◌, ℕ, List, [], ◌∷◌, ◌++◌, length, Result, Ok, Err, OnOk, OnErr, sym, subst, ap, ◌∙◌}
+use Rattle.std.proofs.Common.{◌≡◌, ℕ, List, [], ◌∷◌, ◌++◌, length, Result, Ok, Err, sym, subst, ap, ◌∙◌}
+use Rattle.std.specs.Prelude.{IfOk, IfErr}
 use Rattle.vbr_words.specs.Dimensions.{Dimensions}
-use Rattle.vbr_core.specs.Opened.{opening_keys, opening_payloads}
-use Rattle.vbr_core.specs.History.{IsLegal, GiveStored}
-use Rattle.vbr_core.specs.Machine.{World, after}
-use Rattle.vbr_core.specs.Runs.{IsAccepted, IsRun, world_after}
+use Rattle.vbr_machine.specs.Opened.{opening_keys, opening_payloads}
+use Rattle.vbr_machine.specs.History.{IsLegal, GiveStored}
+use Rattle.vbr_machine.specs.Machine.{World, after}
+use Rattle.vbr_machine.specs.Runs.{IsAccepted, IsRun, world_after}
 use Rattle.vbr_core.specs.Kept.{KeptWorld, world_of}
+use Rattle.vbr_core.specs.KeptSteps.{IsMade, IsRefused, KeepsShape}
 use Rattle.vbr_core.specs.Reached.{IsReached}
-use Rattle.vbr_core.specs.declared.event.Event.{Event}
-use Rattle.vbr_core.specs.declared.history.Call.{Call}
-use Rattle.vbr_core.proofs.RunsGoOn.{world_after-snoc, is_run_snoc}
-use Rattle.vbr_core.proofs.SafeRuns.{every_run}
+use Rattle.vbr_machine.specs.declared.event.Event.{Event}
+use Rattle.vbr_machine.specs.declared.event.Effect.{Effect}
+use Rattle.vbr_machine.specs.declared.event.CoreRefusal.{CoreRefusal}
+use Rattle.vbr_machine.specs.declared.history.Call.{Call}
+use Rattle.vbr_machine.proofs.Lemmas.{world_after-snoc, is_run_snoc}
+use Rattle.vbr_machine.proofs.Lemmas.{every_run}
 
 -- after one more accepted event
 reached_next : (kept next : KeptWorld) (event : Event) → IsReached kept → IsAccepted kept.shape (length kept.passes) (world_of kept) event → world_of next ≡ after kept.shape (world_of kept) event.pass event.step → next.shape ≡ kept.shape → length next.passes ≡ length kept.passes → IsReached next
@@ -25,9 +29,9 @@ reached_next kept next event r ok is shape passes = record {
 }
 
 -- a step that is accepted goes on with the run, and one that is refused leaves it
-pub reached_step : {A B : Type 0} (result : Result A B) (kept next : KeptWorld) (event : Event) → IsReached kept → OnOk result (IsAccepted kept.shape (length kept.passes) (world_of kept) event) → OnOk result (world_of next ≡ after kept.shape (world_of kept) event.pass event.step) → OnErr result (next ≡ kept) → next.shape ≡ kept.shape → length next.passes ≡ length kept.passes → IsReached next
-reached_step (Ok x) kept next event r ok is same shape passes = reached_next kept next event r ok is shape passes
-reached_step (Err x) kept next event r ok is same shape passes = rw same r
+pub reached_step : (result : Result Effect CoreRefusal) (kept next : KeptWorld) (event : Event) → IsReached kept → IfOk result (IsMade kept next event) → IfErr result (IsRefused kept next event) → KeepsShape kept next → IsReached next
+reached_step (Ok effect) kept next event r made refused keeps = reached_next kept next event r made.accepted made.after keeps.shape keeps.passes
+reached_step (Err why) kept next event r made refused keeps = rw refused.unchanged r
 
 -- the calls of a world that a run led to are legal
 pub reached_legal : (kept : KeptWorld) → IsReached kept → IsLegal (opening_keys kept.shape) kept.calls

@@ -3,11 +3,12 @@ use Rattle.std.proofs.Common.{◌≡◌, ℕ, ◌+◌, ◌<◌, List, length, ta
 use Rattle.std.proofs.lemmas.List.{take_more}
 use Rattle.std.proofs.lemmas.Option.{slice_get-get_or}
 use Rattle.vbr_words.specs.Dimensions.{Dimensions}
-use Rattle.vbr_core.specs.Machine.{World, after}
-use Rattle.vbr_core.specs.Runs.{IsAccepted, Refuses, IsRun, world_after, StopsAt}
-use Rattle.vbr_core.specs.declared.event.Event.{Event}
-use Rattle.vbr_core.specs.declared.event.CoreRefusal.{CoreRefusal}
-use Rattle.vbr_core.proofs.RunsGoOn.{world_after-snoc, is_run_snoc}
+use Rattle.vbr_machine.specs.Machine.{World, after}
+use Rattle.vbr_machine.specs.Runs.{IsAccepted, Refuses, IsRun, world_after}
+use Rattle.vbr_core.specs.Replays.{StopsAt}
+use Rattle.vbr_machine.specs.declared.event.Event.{Event}
+use Rattle.vbr_machine.specs.declared.event.CoreRefusal.{CoreRefusal}
+use Rattle.vbr_machine.proofs.Lemmas.{world_after-snoc, is_run_snoc}
 
 -- one more accepted event of a run
 pub run_push : (shape same : Dimensions) (passes count : ℕ) (events : List Event) (i : ℕ) (d : Event) (w next : World) → same ≡ shape → count ≡ passes → w ≡ world_after shape (take i events) → i < length events → IsRun shape passes (take i events) → IsAccepted same count w (get_or events i d) → next ≡ after same w (get_or events i d).pass (get_or events i d).step → IsRun shape passes (take (i + 1) events) × (next ≡ world_after shape (take (i + 1) events))

@@ -5,15 +5,15 @@ use Rattle.vbr_words.specs.Dimensions.{Dimensions, IsShape}
 use Rattle.vbr_words.specs.Words.{IsLink, link_of}
 use Rattle.vbr_words.specs.declared.link.TheConstants.{MARK}
 use Rattle.vbr_words.specs.declared.shape.TheConstants.{MAX_EPOCH}
-use Rattle.vbr_core.specs.Knowledge.{Know}
-use Rattle.vbr_core.specs.Machine.{World}
-use Rattle.vbr_core.specs.declared.history.Call.{Call}
-use Rattle.vbr_core.specs.declared.knowledge.Read.{Read}
-use Rattle.vbr_core.specs.declared.knowledge.Read.TheVariants.{LinkAt, BirthOf, KeyOf, ValueOf}
-use Rattle.vbr_core.specs.declared.knowledge.Holding.{Holding}
-use Rattle.vbr_core.specs.declared.knowledge.Holding.TheVariants.{InHand}
-use Rattle.vbr_core.specs.declared.knowledge.SlotPlace.{SlotPlace}
-use Rattle.vbr_core.specs.declared.knowledge.SlotPlace.TheVariants.{Shared}
+use Rattle.vbr_machine.specs.Knowledge.{Know}
+use Rattle.vbr_machine.specs.Machine.{World}
+use Rattle.vbr_machine.specs.declared.history.Call.{Call}
+use Rattle.vbr_machine.specs.declared.knowledge.Read.{Read}
+use Rattle.vbr_machine.specs.declared.knowledge.Read.TheVariants.{LinkAt, BirthOf, KeyOf, ValueOf}
+use Rattle.vbr_machine.specs.declared.knowledge.Holding.{Holding}
+use Rattle.vbr_machine.specs.declared.knowledge.Holding.TheVariants.{InHand}
+use Rattle.vbr_machine.specs.declared.knowledge.SlotPlace.{SlotPlace}
+use Rattle.vbr_machine.specs.declared.knowledge.SlotPlace.TheVariants.{Shared}
 
 -- what a pass knows, with its slots in a list
 pub record KeptPass : Type 0 where
@@ -39,7 +39,7 @@ FitsRead (ValueOf s value) = Unit {0}
 
 -- what is known of an own slot has room in words
 abbrev pub FitsHolding : Option Holding → Type 0
-FitsHolding (Some (InHand stamp birth key value link)) = birth ≤ MAX_EPOCH
+FitsHolding (Some (InHand known)) = known.birth ≤ MAX_EPOCH
 FitsHolding _ = Unit {0}
 
 -- all that a pass knows has room in words

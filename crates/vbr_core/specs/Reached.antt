@@ -1,9 +1,9 @@
 -- What is always so of a world: a run led to it.
 use Rattle.std.specs.Prelude.{◌≡◌, List, length}
 use Rattle.vbr_words.specs.Dimensions.{IsShape}
-use Rattle.vbr_core.specs.Runs.{IsRun, world_after}
+use Rattle.vbr_machine.specs.Runs.{IsRun, world_after}
 use Rattle.vbr_core.specs.Kept.{KeptWorld, world_of}
-use Rattle.vbr_core.specs.declared.event.Event.{Event}
+use Rattle.vbr_machine.specs.declared.event.Event.{Event}
 
 -- the world that the lists stand for is the one after a run
 pub record IsReached (kept : KeptWorld) : Type 0 where

@@ -1,22 +1,12 @@
-//! What a set promises its callers, and the pure machine that the concurrent set is a run of.
-//!
-//! [`PlainSet`] is the plain, exact set of one caller that the other crates are measured against,
-//! and [`PlainMap`] the map.
+//! The machine of `vbr_machine` as a program: a world that makes steps one at a time, plain and
+//! exact. The names of `vbr_machine` stand here as well, so a user of the world names this crate
+//! alone.
 #![tactic(auto)]
 
-pub mod entries;
-pub mod event;
-pub mod history;
-pub mod knowledge;
-pub mod laws;
-pub mod plain_map;
-pub mod plain_set;
 pub mod world;
 
-pub use entries::keys_and_values;
-pub use event::{CoreRefusal, Effect, Event, Step};
-pub use history::{Call, Op};
-pub use knowledge::{Holding, Read, SlotPlace};
-pub use plain_map::PlainMap;
-pub use plain_set::PlainSet;
+pub use vbr_machine::{
+    Call, CoreRefusal, Effect, Event, Holding, Op, PlainMap, PlainSet, Read, SlotPlace, Step,
+    Unpublished, keys_and_values, laws,
+};
 pub use world::{World, WorldRefusal, replay};

@@ -1,16 +1,16 @@
 //! The core as a program: a world that makes steps one at a time, plain and exact.
-ghost use Rattle.std.specs.Prelude.{List, ◌≡◌, ◌<◌, ◌≤◌, ◌↔◌, length, ◌⊎◌, IfOk, IfErr, OnOk, OnErr, IsErrOf, Err, true, false, if◌then◌else◌};
+ghost use Rattle.std.specs.Prelude.{List, ◌≡◌, ◌<◌, ◌≤◌, ◌↔◌, length, ◌⊎◌, IfOk, IfErr, IsErrOf, Err, true, false, if◌then◌else◌};
 ghost use Rattle.std.specs.List.Sorted.{IsStrictlyIncreasing};
 ghost use Rattle.vbr_words.specs.Places.{IsIn};
-ghost use Rattle.vbr_core.specs.Opened.{opening_keys, opening_payloads};
-ghost use Rattle.vbr_core.specs.Maps.{keys_listed, values_listed};
-ghost use Rattle.vbr_core.specs.History.{IsLegal, GiveStored};
-ghost use Rattle.vbr_core.specs.Learning as learning;
-ghost use Rattle.vbr_core.specs.Machine as machine;
-ghost use Rattle.vbr_core.specs.Runs.{IsAccepted, Refuses, IsRun, world_after, StopsAt};
-ghost use Rattle.vbr_core.specs.Safety.{IsSafe};
+ghost use Rattle.vbr_machine.specs.Opened.{opening_keys, opening_payloads};
+ghost use Rattle.vbr_machine.specs.Maps.{keys_listed, values_listed};
+ghost use Rattle.vbr_machine.specs.History.{IsLegal, GiveStored};
+ghost use Rattle.vbr_machine.specs.Machine as machine;
+ghost use Rattle.vbr_core.specs.Replays.{IsReplayed, StopsAt};
 ghost use Rattle.vbr_core.specs.Kept.{world_of};
-ghost use Rattle.vbr_core.specs.declared.event.Event.{Event};
+ghost use Rattle.vbr_core.specs.KeptSteps.{IsMade, IsRefused, KeepsShape};
+ghost use Rattle.vbr_core.specs.KeptOpenings.{IsOpening, with_entries, with_keys};
+ghost use Rattle.vbr_machine.specs.declared.event.Event.{Event};
 
 mod checking;
 mod holdings;
@@ -23,15 +23,12 @@ mod shape;
 mod steps;
 mod writing;
 
-use crate::entries::keys_and_values;
-use crate::event::{CoreRefusal, Effect, Event};
-use crate::history::Call;
-use crate::knowledge::SlotPlace;
 use crate::world::lists::Lists;
 use std::alloc::Global;
 use std::error::Error;
 use std::fmt;
 use std::marker::Model;
+use vbr_machine::{Call, CoreRefusal, Effect, Event, SlotPlace, keys_and_values};
 use vbr_words::{Place, Shape};
 
 /// The words and places of a set, what each of its passes knows, and the calls that were answered,
@@ -72,7 +69,7 @@ pub enum WorldRefusal {
 
 impl fmt::Display for WorldRefusal {
     ghost use Rattle.std.specs.Prelude.{Some};
-    ghost use Rattle.vbr_core.specs.Messages.{opening_text};
+    ghost use Rattle.vbr_core.specs.OpeningMessages.{opening_text};
 
     ghost output = { λ e. Some (opening_text e) };
 
@@ -87,12 +84,11 @@ impl fmt::Display for WorldRefusal {
 impl Error for WorldRefusal {}
 
 impl World {
-    /// The world at opening: the epoch is 1, the buckets are empty, every slot is in the shared pool,
-    /// and so many passes, from 1 to 64, know nothing. The refusals are tested in the order of
-    /// [`WorldRefusal`].
+    /// The world at opening: the epoch is 1, the buckets are empty, every slot is in the shared
+    /// pool, and so many passes, from 1 to 64, know nothing. The refusals are tested in the order
+    /// of [`WorldRefusal`].
     pub fn open(alloc: Global, shape: Shape, passes: u32) -> Result<World, WorldRefusal>
-        ensures opening { IfOk result (λ world. world_of world ≡ machine.opening shape) }
-        ensures shape { IfOk result (λ world. (world.shape ≡ shape) × (length world.passes ≡ passes)) }
+        ensures opening { IfOk result (IsOpening shape passes) }
         ensures passes { IsErrOf result WorldRefusal.Passes ↔ ((passes ≡ 0) ⊎ (64 < passes)) }
     {
         prove!(shape.slots() > 0);
@@ -111,8 +107,7 @@ impl World {
         requires valueless { shape.values ≡ false }
         requires ascending { IsStrictlyIncreasing keys.now }
         requires few { length keys.now ≤ shape.slots }
-        ensures opening { IfOk result (λ world. world_of world ≡ machine.opening (record shape { keys = keys.now })) }
-        ensures shape { IfOk result (λ world. (world.shape ≡ record shape { keys = keys.now }) × (length world.passes ≡ passes)) }
+        ensures opening { IfOk result (IsOpening (with_keys shape keys.now) passes) }
         ensures passes { IsErrOf result WorldRefusal.Passes ↔ ((passes ≡ 0) ⊎ (64 < passes)) }
     {
         prove!(shape.slots() > 0);
@@ -120,8 +115,8 @@ impl World {
     }
 
     /// The world of a map that opens with these entries, keys with their values. The keys ascend,
-    /// and there are at most as many as slots. Each value stands in the slot of its key; the rest is
-    /// as [`World::open_with`] has it, and so are the refusals.
+    /// and there are at most as many as slots. Each value stands in the slot of its key; the rest
+    /// is as [`World::open_with`] has it, and so are the refusals.
     pub fn open_with_entries(
         alloc: Global,
         shape: Shape,
@@ -131,11 +126,8 @@ impl World {
         requires values { shape.values ≡ true }
         requires ascending { IsStrictlyIncreasing (keys_listed entries.now) }
         requires few { length entries.now ≤ shape.slots }
-        ensures opening { IfOk result (λ world. world_of world
-            ≡ machine.opening (record shape { keys = keys_listed entries.now; payloads = values_listed entries.now })) }
-        ensures shape { IfOk result (λ world.
-            (world.shape ≡ record shape { keys = keys_listed entries.now; payloads = values_listed entries.now })
-            × (length world.passes ≡ passes)) }
+        ensures opening { IfOk result (IsOpening
+            (with_entries shape (keys_listed entries.now) (values_listed entries.now)) passes) }
         ensures passes { IsErrOf result WorldRefusal.Passes ↔ ((passes ≡ 0) ⊎ (64 < passes)) }
     {
         if passes == 0 || passes > 64 {
@@ -158,9 +150,7 @@ impl World {
         requires ascending { IsStrictlyIncreasing keys.now }
         requires few { length keys.now ≤ shape.slots }
         requires paired { length values.now ≡ (if shape.values then length keys.now else 0) }
-        ensures opening { IfOk result (λ world. world_of world ≡ machine.opening (record shape { keys = keys.now; payloads = values.now })) }
-        ensures shape { IfOk result (λ world.
-            (world.shape ≡ record shape { keys = keys.now; payloads = values.now }) × (length world.passes ≡ passes)) }
+        ensures opening { IfOk result (IsOpening (with_entries shape keys.now values.now) passes) }
         ensures passes { IsErrOf result WorldRefusal.Passes ↔ ((passes ≡ 0) ⊎ (64 < passes)) }
     {
         if passes == 0 || passes > 64 {
@@ -177,12 +167,9 @@ impl World {
     /// the pass learns, and a step that isn't lost writes. Where a step is refused, nothing
     /// changes.
     pub fn step(&mut self, event: Event) -> Result<Effect, CoreRefusal>
-        ensures accepted { OnOk result (IsAccepted self.old.shape (length self.old.passes) (world_of self.old) event) }
-        ensures effect { IfOk result (λ effect. effect ≡ learning.effect_of event.step (machine.found self.old.shape (world_of self.old) event.step)) }
-        ensures after { OnOk result (world_of self.new ≡ machine.after self.old.shape (world_of self.old) event.pass event.step) }
-        ensures refused { IfErr result (λ refusal. Refuses self.old.shape (length self.old.passes) (world_of self.old) event refusal) }
-        ensures unchanged { OnErr result (self.new ≡ self.old) }
-        ensures stays { (self.new.shape ≡ self.old.shape) × (length self.new.passes ≡ length self.old.passes) }
+        ensures made { IfOk result (IsMade self.old self.new event) }
+        ensures refused { IfErr result (IsRefused self.old self.new event) }
+        ensures stays { KeepsShape self.old self.new }
     {
         self.lists.step(event)
     }
@@ -230,9 +217,7 @@ pub fn replay(
     passes: u32,
     events: &[Event],
 ) -> Result<World, (usize, CoreRefusal)>
-    ensures run { OnOk result (IsRun shape passes events.now) }
-    ensures safe { OnOk result (IsSafe shape events.now) }
-    ensures world { IfOk result (λ world. (world_of world ≡ world_after shape events.now) × (world.shape ≡ shape) × (length world.passes ≡ passes)) }
+    ensures run { IfOk result (IsReplayed shape passes events.now) }
     ensures passes { ((passes ≡ 0) ⊎ (64 < passes)) → result ≡ Err (0, CoreRefusal.NoSuchPass) }
     ensures stops { IfErr result (λ e. StopsAt shape passes events.now e.0 e.1) }
 {

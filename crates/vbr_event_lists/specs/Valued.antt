@@ -1,10 +1,10 @@
 -- A worked list of events on nodes that have values, made from one on nodes that have none.
 use Rattle.std.specs.Prelude.{ℕ, ◌+◌, ◌-◌, ◌^◌, min, List, [], ◌∷◌, Option, Some, None, true}
 use Rattle.vbr_words.specs.Dimensions.{Dimensions}
-use Rattle.vbr_core.specs.declared.event.Effect.{Effect}
-use Rattle.vbr_core.specs.declared.event.Effect.TheVariants.{Done}
-use Rattle.vbr_core.specs.declared.event.Step.{Step}
-use Rattle.vbr_core.specs.declared.event.Step.TheVariants.{StoreKey, StoreValue}
+use Rattle.vbr_machine.specs.declared.event.Effect.{Effect}
+use Rattle.vbr_machine.specs.declared.event.Effect.TheVariants.{Done}
+use Rattle.vbr_machine.specs.declared.event.Step.{Step}
+use Rattle.vbr_machine.specs.declared.event.Step.TheVariants.{StoreKey, StoreValue}
 
 -- the row that stores a value behind a step that stores a key: 100 more than the key, up to the greatest number
 abbrev pub value_stored : ℕ → Step → Option (ℕ × Step × Effect)

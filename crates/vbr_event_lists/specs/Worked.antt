@@ -2,13 +2,13 @@
 use Rattle.std.specs.Prelude.{◌≡◌, ℕ, List, [], ◌∷◌, Bool, true, false, if◌then◌else◌}
 use Rattle.vbr_words.specs.Dimensions.{Dimensions}
 use Rattle.vbr_words.specs.Words.{word_of}
-use Rattle.vbr_core.specs.Knowledge.{Know}
-use Rattle.vbr_core.specs.Learning.{effect_of, link_written}
-use Rattle.vbr_core.specs.Machine.{World, found, stamp_shown, after}
-use Rattle.vbr_core.specs.Runs.{IsAccepted}
-use Rattle.vbr_core.specs.declared.event.Effect.{Effect}
-use Rattle.vbr_core.specs.declared.event.Step.{Step}
-use Rattle.vbr_core.specs.declared.event.Step.TheVariants.{StoreLink, Publish, Unlink}
+use Rattle.vbr_machine.specs.Knowledge.{Know}
+use Rattle.vbr_machine.specs.Learning.{effect_of, link_written}
+use Rattle.vbr_machine.specs.Machine.{World, found, stamp_shown, after}
+use Rattle.vbr_machine.specs.Runs.{IsAccepted}
+use Rattle.vbr_machine.specs.declared.event.Effect.{Effect}
+use Rattle.vbr_machine.specs.declared.event.Step.{Step}
+use Rattle.vbr_machine.specs.declared.event.Step.TheVariants.{StoreLink, Publish, Unlink}
 
 -- whether the step writes a link word that its caller names
 abbrev pub names_link : Step → Bool

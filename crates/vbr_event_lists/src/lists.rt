@@ -1,5 +1,5 @@
 //! Worked lists of events, each with its effect.
-use vbr_core::{Effect, Step};
+use vbr_machine::{Effect, Step};
 use vbr_words::At;
 
 /// An event and the effect that it has.

@@ -1,6 +1,6 @@
 //! A worked list of events with a step of each kind, behind each of which a pass may stand still.
 use crate::lists::Row;
-use vbr_core::{Effect, Op, Step};
+use vbr_machine::{Effect, Op, Step};
 use vbr_words::At;
 
 /// Pass 0 inserts 7. Then pass 1 takes a slot, reads the node of 7, inserts 8 behind it, removes 7,

@@ -4,7 +4,7 @@ ghost use Rattle.vbr_event_lists.specs.Valued.{value_stored, with_values};
 
 use crate::lists::Row;
 use std::alloc::{AllocError, Global};
-use vbr_core::{Effect, Op, Step};
+use vbr_machine::{Effect, Op, Step};
 use vbr_words::At;
 
 /// Pass 0 inserts 7 with the value 107 and reads the value back. Pass 1 reads both and gets the value,

@@ -1,9 +1,9 @@
 -- What it means that a page is claimed once.
 use Rattle.std.specs.Prelude.{◌≡◌, ◌≢◌, ◌≤◌, ◌+◌, ◌==◌, ℕ, Bool, true, List, [], ◌∷◌, ◌++◌, if◌then◌else◌}
-use Rattle.vbr_core.specs.History.{set_call}
-use Rattle.vbr_core.specs.declared.history.Call.{Call}
-use Rattle.vbr_core.specs.declared.history.Op.{Op}
-use Rattle.vbr_core.specs.declared.history.Op.TheVariants.{Insert, Remove}
+use Rattle.vbr_machine.specs.History.{set_call}
+use Rattle.vbr_machine.specs.declared.history.Call.{Call}
+use Rattle.vbr_machine.specs.declared.history.Op.{Op}
+use Rattle.vbr_machine.specs.declared.history.Op.TheVariants.{Insert, Remove}
 use Rattle.vbr_slots.specs.Calls.{made_by}
 use Rattle.vbr_set.specs.Histories.{calls_of}
 use Rattle.vbr_set.specs.Members.{MemberView}

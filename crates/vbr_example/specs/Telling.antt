@@ -1,9 +1,9 @@
 -- What a worker tells another of a page, and what the other then finds.
 use Rattle.std.specs.Prelude.{◌≡◌, ℕ, Bool, true, List}
 use Rattle.vbr_set.specs.Names.{Dimensions}
-use Rattle.vbr_core.specs.History.{set_after}
-use Rattle.vbr_core.specs.Opened.{opening_keys}
-use Rattle.vbr_core.specs.declared.event.Event.{Event}
+use Rattle.vbr_machine.specs.History.{set_after}
+use Rattle.vbr_machine.specs.Opened.{opening_keys}
+use Rattle.vbr_machine.specs.declared.event.Event.{Event}
 use Rattle.vbr_slots.specs.Views.{TableView, Trace}
 use Rattle.vbr_set.specs.Histories.{calls_of}
 use Rattle.vbr_example.specs.Claims.{RemoveNone}

@@ -1,3 +1,4 @@
 mod AsBox
 mod Handling
 mod Opened
+mod AllHandles

@@ -1,6 +1,6 @@
 -- What a call through a handle tells.
 use Rattle.std.specs.Prelude.{◌≡◌, ℕ, ℤ, Bool, Option, None, Some, Result}
-use Rattle.vbr_core.specs.declared.history.Op.{Op}
+use Rattle.vbr_machine.specs.declared.history.Op.{Op}
 use Rattle.vbr_list.specs.declared.refusal.Refusal.{Refusal}
 use Rattle.vbr_set.specs.Members.{Called}
 use Rattle.vbr_set.specs.declared.member.Member.{Member}

@@ -5,6 +5,8 @@ use Rattle.vbr_list.specs.declared.refusal.Refusal.TheVariants.{OutOfSteps, NoSl
 use Rattle.vbr_set.specs.declared.report.Report.{Report}
 use Rattle.vbr_handles.specs.declared.closing.CloseRefusal.{CloseRefusal}
 use Rattle.vbr_handles.specs.declared.closing.CloseRefusal.TheVariants as closing
+use Rattle.vbr_handles.specs.declared.closing_all.CloseAllRefusal.{CloseAllRefusal}
+use Rattle.vbr_handles.specs.declared.closing_all.CloseAllRefusal.TheVariants as closing_all
 use Rattle.vbr_handles.specs.declared.opening.OpenRefusal.{OpenRefusal}
 use Rattle.vbr_handles.specs.declared.opening.OpenRefusal.TheVariants as opening
 
@@ -29,10 +31,20 @@ open_code (Err opening.Passes) = negsuc 6
 open_code (Err opening.Memory) = negsuc 7
 open_code (Err opening.Keys) = negsuc 9
 
--- of a close: 0 given back, 1 ended, -4 empty, -8 no memory, -9 a pass was lost
+-- of a close: 0 given back, 1 ended, -4 empty, -8 no memory, -9 a pass was lost, -11 no room
 abbrev pub close_code : Result (Option Report) CloseRefusal → ℤ
 close_code (Ok None) = pos 0
 close_code (Ok (Some report)) = pos 1
 close_code (Err closing.Empty) = negsuc 3
 close_code (Err closing.Memory) = negsuc 7
 close_code (Err closing.Lost) = negsuc 8
+close_code (Err (closing.Room report)) = negsuc 10
+
+-- of a close of all: 1 ended, -4 one is empty, -8 no memory, -11 no room, -12 some are missing, -13 they are of several sets
+abbrev pub close_all_code : Result Report CloseAllRefusal → ℤ
+close_all_code (Ok report) = pos 1
+close_all_code (Err closing_all.Empty) = negsuc 3
+close_all_code (Err closing_all.Memory) = negsuc 7
+close_all_code (Err (closing_all.Room report)) = negsuc 10
+close_all_code (Err closing_all.Missing) = negsuc 11
+close_all_code (Err closing_all.Mixed) = negsuc 12

@@ -3,6 +3,9 @@ pub mod Lent
 pub mod Opening
 pub mod Closing
 pub mod Codes
+pub mod AllHandles
+pub mod Unended
 pub mod OpeningCodes
 pub mod Calls
+pub mod Shown
 pub mod Reports

@@ -5,12 +5,15 @@
 #![tactic(auto)]
 
 pub mod closing;
+pub mod closing_all;
 pub mod handle;
 pub mod lends;
 pub mod numbers;
 pub mod opening;
 mod parts;
+pub mod shown;
 
 pub use closing::{CloseRefusal, abandon, close};
+pub use closing_all::{CloseAllRefusal, close_all};
 pub use handle::Handle;
 pub use opening::{OpenRefusal, ShapeNumbers, open, open_with};

@@ -1,14 +1,17 @@
 //! The calls of handles with their answers as numbers, as they go to C: 1 is yes, 0 is no or done, and
 //! each refusal has a number below 0.
-ghost use Rattle.std.specs.Prelude.{◌≡◌};
-ghost use Rattle.vbr_core.specs.declared.history.Op.TheVariants.{Insert, Remove, Has};
-ghost use Rattle.vbr_handles.specs.Codes.{call_code, close_code, open_code};
+ghost use Rattle.std.specs.Prelude.{◌≡◌, ◌≤◌, length};
+ghost use Rattle.vbr_machine.specs.declared.history.Op.TheVariants.{Insert, Remove, Has};
+ghost use Rattle.vbr_set.specs.AllMembers.{AreOfOneSet};
+ghost use Rattle.vbr_handles.specs.AllHandles.{members_in};
+ghost use Rattle.vbr_handles.specs.Codes.{call_code, close_all_code, close_code, open_code};
 ghost use Rattle.vbr_handles.specs.Calls.{TellsCall};
 ghost use Rattle.vbr_handles.specs.Opening.{spread_shape};
 ghost use Rattle.vbr_handles.specs.OpeningCodes.{TellsOpening, TellsOpeningWith};
-ghost use Rattle.vbr_handles.specs.Reports.{IsTold, TellsClose};
+ghost use Rattle.vbr_handles.specs.Reports.{AreNumbersOf, IsTold, TellsClose, TellsCloseAll};
 
 use crate::closing::CloseRefusal;
+use crate::closing_all::CloseAllRefusal;
 use crate::handle::Handle;
 use crate::opening::{OpenRefusal, ShapeNumbers};
 use std::alloc::Global;
@@ -37,6 +40,12 @@ const NO_MEMORY: i32 = -8;
 const LOST: i32 = -9;
 
 const BAD_KEYS: i32 = -10;
+
+const NO_ROOM: i32 = -11;
+
+const MISSING: i32 = -12;
+
+const MIXED: i32 = -13;
 
 /// What a closed set held.
 #[repr(C)]
@@ -96,29 +105,57 @@ pub fn has(handle: &mut Handle, key: u64, budget: u32) -> i32
     call_code(handle.member_mut().has(key, budget))
 }
 
-/// Closes a handle, as [`crate::close`] does, and writes the report where there is one.
+/// Closes a handle, as [`crate::close`] does, and writes the report where there is one: its keys in front
+/// of those that were there, where all have room, and else its numbers alone.
 pub fn close(alloc: Global, handle: &mut Handle, keys: &mut [u64], told: &mut ReportNumbers) -> i32
     ensures { TellsClose handle.old.member handle.new.member keys.old keys.new told.old told.new result }
 {
-    let answer = crate::closing::close(alloc, handle);
-    if let Ok(Some(report)) = &answer {
-        tell(report, keys, told);
+    let answer = crate::closing::close(alloc, handle, keys.len());
+    match &answer {
+        Ok(Some(report)) => tell(report, keys, told),
+        Err(CloseRefusal::Room(report)) => *told = numbers_of(report),
+        _ => {}
     }
     close_code(&answer)
 }
 
-// Writes a report: its numbers, and the first of its keys.
+/// Closes all handles of a set, as [`crate::close_all`] does, and writes the report as [`close`] does.
+pub fn close_all(
+    alloc: Global,
+    handles: &mut [Handle],
+    keys: &mut [u64],
+    told: &mut ReportNumbers,
+) -> i32
+    requires { AreOfOneSet (members_in handles.old) }
+    ensures { TellsCloseAll handles.old handles.new keys.old keys.new told.old told.new result }
+{
+    let answer = crate::closing_all::close_all(alloc, handles, keys.len());
+    match &answer {
+        Ok(report) => tell(report, keys, told),
+        Err(CloseAllRefusal::Room(report)) => *told = numbers_of(report),
+        _ => {}
+    }
+    close_all_code(&answer)
+}
+
+// Writes a report: its numbers, and its keys.
 fn tell(report: &Report, keys: &mut [u64], told: &mut ReportNumbers)
+    requires { length report.now.keys.items ≤ length keys.old }
     ensures { IsTold report.now keys.old keys.new told.new }
 {
-    let count = keys.len().min(report.keys.len());
-    keys[..count].copy_from_slice(&report.keys[..count]);
-    *told = ReportNumbers {
+    keys[..report.keys.len()].copy_from_slice(&report.keys);
+    *told = numbers_of(report);
+}
+
+fn numbers_of(report: &Report) -> ReportNumbers
+    ensures { AreNumbersOf report.now result }
+{
+    ReportNumbers {
         epoch: report.epoch,
         live: report.live,
         marked: report.marked,
         free: report.free,
-    };
+    }
 }
 
 fn open_code(answer: Result<(), OpenRefusal>) -> i32
@@ -155,5 +192,19 @@ fn close_code(answer: &Result<Option<Report>, CloseRefusal>) -> i32
         Err(CloseRefusal::Empty) => EMPTY,
         Err(CloseRefusal::Lost) => LOST,
         Err(CloseRefusal::Memory) => NO_MEMORY,
+        Err(CloseRefusal::Room(_)) => NO_ROOM,
+    }
+}
+
+fn close_all_code(answer: &Result<Report, CloseAllRefusal>) -> i32
+    ensures { result ≡ close_all_code answer.now }
+{
+    match answer {
+        Ok(_) => YES,
+        Err(CloseAllRefusal::Empty) => EMPTY,
+        Err(CloseAllRefusal::Mixed) => MIXED,
+        Err(CloseAllRefusal::Missing) => MISSING,
+        Err(CloseAllRefusal::Memory) => NO_MEMORY,
+        Err(CloseAllRefusal::Room(_)) => NO_ROOM,
     }
 }

@@ -7,12 +7,12 @@ use Rattle.vbr_slots.specs.Calls.{IsSame, Quiet, Took}
 use Rattle.vbr_slots.specs.Views.{Trace, TableView, PassView, IsOf}
 use Rattle.vbr_slots.proofs.Lemmas.{quiet_on, quiet_refl}
 use Rattle.vbr_pools.specs.KeptSlots.{TakesNoSlot}
+use Rattle.vbr_pools.specs.Refusals.{LeavesRoom}
 use Rattle.vbr_pools.specs.Steps.{CountsSteps, TookWithin}
 use Rattle.vbr_pools.proofs.Lemmas.{counts_none, counts_on, took_all}
 use Rattle.vbr_access.specs.Keeping.{KeepsOwn}
 use Rattle.vbr_access.specs.Reading.{ReadsIn}
-use Rattle.vbr_list.specs.Calls.{IsSameCall}
-use Rattle.vbr_list.specs.Traversal.{Goes}
+use Rattle.vbr_list.specs.Pieces.{Goes, IsSameCall}
 use Rattle.vbr_list.specs.declared.call.Call.{Call}
 use Rattle.vbr_list.proofs.KeptHands.{hand_refl, hand_on, own_kept}
 use Rattle.vbr_list.proofs.Traversals.{Tries}
@@ -48,6 +48,10 @@ took_same {p} {q} m n e took = subst (Took p q) (sym e) took
 
 pub within_of : {p q : Trace} (used budget : ℕ) → used ≤ budget → CountsSteps p q 0 used → TookWithin p q budget
 within_of used budget le counts = record { steps = used; within = le; took = took_all counts }
+
+-- what leaves room in a budget is the steps that were counted
+pub room_left : {p q : PassView} (used budget : ℕ) → CountsSteps p.trace q.trace 0 used → LeavesRoom p q budget → used + 8 ≤ budget
+room_left used budget counts left = let x = (took_all counts).made in let y = left.took.made in let room = left.room in omega (arith, x, y, room)
 
 -- the bucket of a key is that of the table's shape
 pub bucket_is : (a b bare : Dimensions) (bucket key : ℕ) → a ≡ b → bare ≡ record b { keys = []; payloads = [] } → bucket ≡ bucket_of bare key → bucket ≡ bucket_of a key

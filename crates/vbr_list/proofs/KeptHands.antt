@@ -3,12 +3,12 @@ use Rattle.std.proofs.Common.{◌≡◌, ◌≢◌, ℕ, suc, ◌-◌, ◌<◌, 
 use Rattle.std.specs.Prelude.{◌⊎◌, ◌==◌}
 use Rattle.std.proofs.lemmas.Bool.{cases_Bool}
 use Rattle.std.proofs.lemmas.Bool.Decides.{nat_tests}
-use Rattle.vbr_core.specs.Acceptance.{IsInHand, IsUnlinked}
-use Rattle.vbr_core.specs.Knowledge.{Know}
-use Rattle.vbr_core.specs.Learning.{read_epoch, reread}
-use Rattle.vbr_core.specs.declared.knowledge.Holding.{Holding}
-use Rattle.vbr_core.specs.declared.knowledge.Holding.TheVariants.{Free, Unlinked, InHand}
-use Rattle.vbr_core.proofs.Lemmas.{put_here, put_other}
+use Rattle.vbr_machine.specs.Acceptance.{IsInHand, IsUnlinked}
+use Rattle.vbr_machine.specs.Knowledge.{Know}
+use Rattle.vbr_machine.specs.Learning.{read_epoch, reread}
+use Rattle.vbr_machine.specs.declared.knowledge.Holding.{Holding}
+use Rattle.vbr_machine.specs.declared.knowledge.Holding.TheVariants.{Free, Unlinked, InHand}
+use Rattle.vbr_machine.proofs.Lemmas.{put_here, put_other}
 use Rattle.vbr_slots.specs.declared.pass.TheConstants.{POOL}
 use Rattle.vbr_slots.specs.Pools.{OwnPool}
 use Rattle.vbr_slots.specs.Pools as pools
@@ -18,7 +18,7 @@ use Rattle.vbr_pools.specs.Retiring.{is_kept, know_retired, pool_retired}
 use Rattle.vbr_pools.proofs.Lemmas.{none_on, none_refl}
 use Rattle.vbr_access.specs.Keeping.{KeepsOwn, Unlinks}
 use Rattle.vbr_access.proofs.Lemmas.{unlinks_none}
-use Rattle.vbr_list.specs.Traversal.{KeepsHand}
+use Rattle.vbr_list.specs.Pieces.{KeepsHand}
 
 pub hand_refl : (p : PassView) → KeepsHand p p
 hand_refl p = record { hand = refl; in_hand = λ s e. refl; room = λ h. h; takes_no_slot = none_refl p }
@@ -53,13 +53,13 @@ hand_reread : (holding : Option Holding) → IsInHand holding → reread holding
 hand_reread None h = absurd h
 hand_reread (Some (Free stamp)) h = absurd h
 hand_reread (Some (Unlinked seen)) h = absurd h
-hand_reread (Some (InHand stamp birth key value link)) h = refl
+hand_reread (Some (InHand known)) h = refl
 
 not_both : (holding : Option Holding) → IsInHand holding → IsUnlinked holding → ⊥
 not_both None h u = h
 not_both (Some (Free stamp)) h u = h
 not_both (Some (Unlinked seen)) h u = h
-not_both (Some (InHand stamp birth key value link)) h u = u
+not_both (Some (InHand known)) h u = u
 
 -- a pool with a free place keeps one
 place_kept : (pool : List ℕ) (slot : ℕ) → length pool < POOL → length (pool_retired pool slot) < POOL

@@ -5,6 +5,7 @@ mod KeptHands
 mod Reaching
 mod Nearing
 mod Moments
+mod Clearing
 mod Observing
 mod Passing
 mod Sights

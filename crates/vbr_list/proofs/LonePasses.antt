@@ -2,16 +2,16 @@
 use Rattle.std.proofs.Common.{◌≡◌, ℕ, ◌<◌, Bool, List, [], ◌∷◌, ◌++◌, Result, Ok, Err, refl, sym, ap, ◌∙◌, subst, arith}
 use Rattle.std.specs.Prelude.{IfOk}
 use Rattle.vbr_words.specs.Dimensions.{Dimensions, IsShape}
-use Rattle.vbr_core.specs.Calls.{calls_added}
-use Rattle.vbr_core.specs.History.{IsLegal, calls_by, keys_after, reply_of, set_after, set_call}
-use Rattle.vbr_core.specs.Keys.{Keys}
-use Rattle.vbr_core.specs.Opened.{opening_keys}
-use Rattle.vbr_core.specs.Machine.{World, opening, after}
-use Rattle.vbr_core.specs.Runs.{AreAccepted, IsRun, world_from}
-use Rattle.vbr_core.specs.declared.event.Event.{Event}
-use Rattle.vbr_core.specs.declared.history.Call.{Call}
-use Rattle.vbr_core.specs.declared.history.Op.{Op}
-use Rattle.vbr_core.proofs.Lemmas.{added_own, calls_after, calls_by-append, every_run}
+use Rattle.vbr_machine.specs.Calls.{calls_added}
+use Rattle.vbr_machine.specs.History.{IsLegal, calls_by, keys_after, reply_of, set_after, set_call}
+use Rattle.vbr_machine.specs.Keys.{Keys}
+use Rattle.vbr_machine.specs.Opened.{opening_keys}
+use Rattle.vbr_machine.specs.Machine.{World, opening, after}
+use Rattle.vbr_machine.specs.Runs.{AreAccepted, IsRun, world_from}
+use Rattle.vbr_machine.specs.declared.event.Event.{Event}
+use Rattle.vbr_machine.specs.declared.history.Call.{Call}
+use Rattle.vbr_machine.specs.declared.history.Op.{Op}
+use Rattle.vbr_machine.proofs.Lemmas.{added_own, calls_after, calls_by-append, every_run}
 use Rattle.vbr_slots.specs.Calls.{Made, made_by}
 use Rattle.vbr_slots.specs.Views.{Trace}
 use Rattle.vbr_list.specs.Alone.{AnswersAlone}

@@ -4,8 +4,8 @@ use Rattle.std.proofs.lemmas.Bool.Decides.{nat_tests}
 use Rattle.vbr_words.specs.Dimensions.{IsShape}
 use Rattle.vbr_words.specs.Words.{link_of}
 use Rattle.vbr_words.specs.declared.place.At.{At}
-use Rattle.vbr_core.specs.Knowledge.{Know}
-use Rattle.vbr_core.specs.Membership.{KeyAt, StandsBefore}
+use Rattle.vbr_machine.specs.Knowledge.{Know}
+use Rattle.vbr_machine.specs.Membership.{KeyAt, StandsBefore}
 use Rattle.vbr_slots.specs.Calls.{IsSame, Quiet}
 use Rattle.vbr_slots.specs.Views.{Trace, knows}
 use Rattle.vbr_slots.proofs.Lemmas.{moment_before}
@@ -13,9 +13,9 @@ use Rattle.vbr_access.specs.Keeping.{Keeps}
 use Rattle.vbr_access.specs.Moments.{Stood, WasSo}
 use Rattle.vbr_access.specs.declared.held.Held.{Held}
 use Rattle.vbr_access.proofs.Lemmas.{stood_before, was_absent, was_present}
-use Rattle.vbr_list.specs.Places.{IsCur, IsEnd}
 use Rattle.vbr_list.specs.Found.{CurStood, IsFound}
-use Rattle.vbr_list.specs.Traversal.{HasComeTo}
+use Rattle.vbr_list.specs.Places.{IsCur, IsEnd}
+use Rattle.vbr_list.specs.Traversing.{HasComeTo}
 use Rattle.vbr_list.specs.declared.found.Found.{Found}
 use Rattle.vbr_list.proofs.Reaching.{stood_since, pred_on}
 

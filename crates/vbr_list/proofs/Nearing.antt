@@ -6,10 +6,10 @@ use Rattle.vbr_words.specs.Words.{link_of}
 use Rattle.vbr_words.specs.declared.place.At.{At}
 use Rattle.vbr_words.specs.declared.place.At.TheVariants.{Head, Slot}
 use Rattle.vbr_words.specs.Buckets.{bucket_of}
-use Rattle.vbr_core.specs.Images.{link_shown_at}
-use Rattle.vbr_core.specs.Membership.{HeldIn}
-use Rattle.vbr_core.specs.Nodes.{is_there}
-use Rattle.vbr_core.proofs.Lemmas.{named_there, one_fewer_behind}
+use Rattle.vbr_machine.specs.Images.{link_shown_at}
+use Rattle.vbr_machine.specs.Membership.{HeldIn}
+use Rattle.vbr_machine.specs.Nodes.{is_there}
+use Rattle.vbr_machine.proofs.Lemmas.{named_there, one_fewer_behind}
 use Rattle.vbr_slots.specs.Alone.{IsAlone, IsFresh, LeavesLists, ahead, nodes}
 use Rattle.vbr_slots.specs.Calls.{Quiet}
 use Rattle.vbr_slots.specs.Views.{Trace, PassView, knows}
@@ -25,9 +25,9 @@ use Rattle.vbr_access.specs.declared.held.Marked.{Marked}
 use Rattle.vbr_access.specs.declared.rollback.Rollback.{Rollback}
 use Rattle.vbr_access.proofs.Lemmas.{fresh_kept}
 use Rattle.vbr_list.specs.Budgets.{listed_for}
-use Rattle.vbr_list.specs.Nearing.{StillAt, HelpsAlone, IsThere, FoundAlone, SeenAlone, ahead_for}
-use Rattle.vbr_list.proofs.PaidPlaces.{Nears, Passes}
+use Rattle.vbr_list.specs.Nearing.{FoundAlone, HelpsAlone, IsThere, SeenAlone, StillAt, ahead_for}
 use Rattle.vbr_list.specs.Places.{IsInside}
+use Rattle.vbr_list.proofs.PaidPlaces.{Nears, Passes}
 use Rattle.vbr_list.proofs.Reaching.{slot_same}
 use Rattle.vbr_list.specs.declared.found.Found.{Found}
 use Rattle.vbr_list.specs.declared.looking.Sight.TheVariants.{Present, Absent}

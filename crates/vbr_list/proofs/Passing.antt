@@ -5,9 +5,9 @@ use Rattle.vbr_words.specs.Words.{link_of}
 use Rattle.vbr_words.specs.declared.link.Link.{Link}
 use Rattle.vbr_words.specs.declared.place.At.TheVariants.{Slot}
 use Rattle.vbr_words.specs.Buckets.{bucket_of}
-use Rattle.vbr_core.specs.Knowledge.{Know}
-use Rattle.vbr_core.specs.Membership.{HeldIn, LeadsTo, itself, onward, StandsBeforeOn}
-use Rattle.vbr_core.specs.declared.knowledge.Read.TheVariants.{LinkAt}
+use Rattle.vbr_machine.specs.Knowledge.{Know}
+use Rattle.vbr_machine.specs.Membership.{HeldIn, LeadsTo, itself, onward, StandsBeforeOn}
+use Rattle.vbr_machine.specs.declared.knowledge.Read.TheVariants.{LinkAt}
 use Rattle.vbr_slots.specs.Alone.{IsAlone}
 use Rattle.vbr_slots.specs.Calls.{IsSame}
 use Rattle.vbr_slots.specs.Views.{Trace, PassView, knows}
@@ -17,8 +17,8 @@ use Rattle.vbr_access.specs.declared.held.Held.{Held}
 use Rattle.vbr_access.specs.declared.held.Marked.{Marked}
 use Rattle.vbr_access.proofs.Lemmas.{held_in_kept, held_in_next, held_kept}
 use Rattle.vbr_list.proofs.PaidPlaces.{Passes}
-use Rattle.vbr_list.specs.Places.{IsPred, IsCur, IsEnd, IsSight}
-use Rattle.vbr_list.specs.Traversal.{Goes, Observes}
+use Rattle.vbr_list.specs.Pieces.{Goes, Observes}
+use Rattle.vbr_list.specs.Places.{IsCur, IsEnd, IsPred, IsSight}
 use Rattle.vbr_list.specs.declared.looking.Sight.TheVariants.{Present, Absent}
 use Rattle.vbr_list.proofs.Going.{tries_on, tries_refl}
 use Rattle.vbr_list.proofs.Moments.{before_cur, stands_before, key_known}

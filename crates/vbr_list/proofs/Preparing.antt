@@ -1,23 +1,26 @@
 -- The steps of an insert, and what its refusals say.
-use Rattle.std.proofs.Common.{◌≡◌, ◌≢◌, ℕ, ◌+◌, ◌-◌, ◌<◌, ◌≤◌, Bool, true, false, List, [], ◌∷◌, Result, Ok, Err, refl, sym, subst, arith}
+use Rattle.std.proofs.Common.{◌≡◌, ◌≢◌, ℕ, ◌+◌, ◌-◌, ◌<◌, ◌≤◌, Bool, true, false, List, [], ◌∷◌, length, Result, Ok, Err, inl, refl, sym, subst, arith}
 use Rattle.std.specs.Prelude.{IfOk, IfErr}
 use Rattle.std.specs.Result.{is_ok}
 use Rattle.vbr_words.specs.Dimensions.{Dimensions}
-use Rattle.vbr_core.specs.History.{set_call}
-use Rattle.vbr_core.specs.Runs.{Begins, IsRun}
-use Rattle.vbr_core.specs.declared.history.Op.{Op}
+use Rattle.vbr_machine.specs.History.{set_call}
+use Rattle.vbr_machine.specs.Runs.{Begins, IsRun}
+use Rattle.vbr_machine.specs.declared.history.Op.{Op}
 use Rattle.vbr_slots.specs.Calls.{IsSame, Quiet, Made}
 use Rattle.vbr_slots.specs.Views.{Trace, PassView}
 use Rattle.vbr_slots.proofs.Lemmas.{made_on}
 use Rattle.vbr_pools.specs.Refusals.{IsSpent, LeavesRoom}
 use Rattle.vbr_pools.specs.Steps.{CountsSteps, TookWithin}
-use Rattle.vbr_pools.proofs.Lemmas.{counts_on, missed_after, took_all}
+use Rattle.vbr_pools.specs.KeptSlots.{TakesNoSlot}
+use Rattle.vbr_pools.proofs.Lemmas.{counts_on, had_grown, had_on, keeps_on, missed_after, needed_after, shared_taken, shares_more, took_all}
 use Rattle.vbr_access.specs.Moments.{WasSo}
-use Rattle.vbr_list.specs.Inserting.{CountsWithin, InsertShowsSpent, TakesNone, RefusesInsert, InsertIsShort}
+use Rattle.vbr_list.specs.Inserting.{CountsWithin, InsertIsShort, InsertShowsSpent, Prepares, RefusesInsert, TakesNone}
+use Rattle.vbr_list.specs.Pieces.{IsSameCall, pass_in, trace_in}
 use Rattle.vbr_list.specs.Refusals.{IsRefused}
 use Rattle.vbr_list.specs.declared.refusal.Refusal.{Refusal}
 use Rattle.vbr_list.specs.declared.refusal.Refusal.TheVariants.{OutOfSteps, NoSlot, EpochSpent}
-use Rattle.vbr_list.proofs.Going.{counts_step}
+use Rattle.vbr_list.specs.declared.call.Call.{Call}
+use Rattle.vbr_list.proofs.Going.{call_on, counts_step}
 use Rattle.vbr_list.proofs.Moments.{so_before}
 use Rattle.vbr_list.proofs.Traversals.{Tries}
 
@@ -30,6 +33,33 @@ within_on x y low high = record { counts = counts_on x.counts y; within = (let u
 -- they are those of a pass with the same trace
 pub within_same : {p q r : Trace} {a b budget : ℕ} → r ≡ q → CountsWithin p q a b budget → CountsWithin p r a b budget
 within_same {p} {q} {r} {a} {b} e x = record { counts = subst (λ (t : Trace). CountsSteps p t a b) (sym e) x.counts; within = x.within }
+
+-- ---- before a slot is linked
+
+-- what takes no slot and keeps the hand
+pub prepares_none : (c d : Call) → IsSameCall c d → CountsWithin (trace_in c) (trace_in d) c.used d.used c.budget → TakesNoSlot (pass_in c) (pass_in d) → (pass_in d).hand ≡ (pass_in c).hand → Prepares c d
+prepares_none c d same counts none hand = record {
+  call = same;
+  counts = counts;
+  advances = inl none.count;
+  kept = none.kept;
+  had = had_grown (pass_in c) (pass_in d) none.grows hand;
+  shared = shares_more (pass_in c) (pass_in d) none.shared;
+}
+
+-- a slot is taken after that
+pub prepares_on : (c d e : Call) → IsSameCall c d → CountsWithin (trace_in c) (trace_in d) c.used d.used c.budget → Quiet (trace_in c) (trace_in d) → TakesNoSlot (pass_in c) (pass_in d) → (pass_in d).hand ≡ (pass_in c).hand → length (pass_in d).pool ≤ length (pass_in e).pool + 1 → Prepares d e → Prepares c e
+prepares_on c d e same counts quiet none hand one x =
+    let P : ℕ → Type 0 = λ budget. CountsWithin (trace_in d) (trace_in e) d.used e.used budget in
+    let y = subst P same.budget x.counts in
+    record {
+      call = call_on same x.call;
+      counts = within_on counts y.counts y.within.0 y.within.1;
+      advances = needed_after {p = pass_in c} {q = pass_in d} {r = pass_in e} quiet none x.advances;
+      kept = keeps_on (pass_in c) (pass_in d) (pass_in e) none.kept x.kept;
+      had = had_on (pass_in c) (pass_in d) (pass_in e) (had_grown (pass_in c) (pass_in d) none.grows hand) x.had;
+      shared = shared_taken (pass_in c) (pass_in d) (pass_in e) none.shared one x.shared;
+    }
 
 -- ---- refusals
 

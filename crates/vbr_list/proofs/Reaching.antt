@@ -7,8 +7,9 @@ use Rattle.vbr_words.specs.Words.{link_of}
 use Rattle.vbr_words.specs.declared.place.At.{At}
 use Rattle.vbr_words.specs.declared.place.At.TheVariants.{Head, Slot}
 use Rattle.vbr_words.specs.Buckets.{bucket_of}
-use Rattle.vbr_core.specs.Knowledge.{Know}
-use Rattle.vbr_core.specs.Membership.{HeldIn, at_head, KeyAt, StandsBehind}
+use Rattle.vbr_machine.specs.Knowledge.{Know}
+use Rattle.vbr_machine.specs.Membership.{HeldIn, at_head, KeyAt, StandsBehind}
+use Rattle.vbr_machine.specs.declared.knowledge.Read.TheVariants.{KeyOf}
 use Rattle.vbr_slots.specs.Alone.{IsAlone}
 use Rattle.vbr_slots.specs.Calls.{IsSame, Quiet}
 use Rattle.vbr_slots.specs.Views.{Trace, TableView, PassView, IsOf, knows}
@@ -21,9 +22,10 @@ use Rattle.vbr_slots.specs.PassLaw.{PassLaw}
 use Rattle.vbr_access.specs.declared.held.Held.{Held}
 use Rattle.vbr_access.specs.declared.held.Marked.{Marked}
 use Rattle.vbr_access.proofs.Lemmas.{behind_kept, held_in_kept, held_in_next, held_kept, link_in, stood_after, stood_before}
-use Rattle.vbr_list.specs.Places.{IsInside, IsPred, IsCur}
+use Rattle.vbr_list.specs.Pieces.{Goes}
+use Rattle.vbr_list.specs.Places.{IsCur, IsInside, IsPred}
+use Rattle.vbr_list.specs.Traversing.{HasComeTo}
 use Rattle.vbr_list.proofs.PaidPlaces.{Nears}
-use Rattle.vbr_list.specs.Traversal.{Goes, HasComeTo}
 use Rattle.vbr_list.proofs.Going.{tries_on}
 use Rattle.vbr_list.proofs.Traversals.{Traverses}
 
@@ -56,6 +58,11 @@ pred_on {p} {q} key held s keeps x =
       inside = subst P (sym s.shape) (held_in_kept held.at (bucket_of p.shape key) keeps x.inside);
       behind = subst Q (sym s.shape) (behind_kept p.shape held.at key keeps x.behind);
     }
+
+-- a key that is known at a place stays known
+pub key_kept : {know later : Know} (at : At) (key : ℕ) → Keeps know later → KeyAt know at key → KeyAt later at key
+key_kept (Head b) key keeps k = k
+key_kept (Slot s) key keeps k = keeps.reads (KeyOf s key) k
 
 -- a place before the key is one of the list
 pub pred_inside : {shape : Dimensions} {know : Know} {key : ℕ} {pred : Held} → IsPred shape know key pred → IsInside shape know key pred

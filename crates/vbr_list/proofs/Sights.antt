@@ -4,8 +4,8 @@ use Rattle.vbr_words.specs.Dimensions.{Dimensions}
 use Rattle.vbr_words.specs.Words.{link_of}
 use Rattle.vbr_words.specs.declared.place.At.{At}
 use Rattle.vbr_words.specs.declared.place.At.TheVariants.{Head, Slot}
-use Rattle.vbr_core.specs.Knowledge.{Know}
-use Rattle.vbr_core.specs.Membership.{KeyAt}
+use Rattle.vbr_machine.specs.Knowledge.{Know}
+use Rattle.vbr_machine.specs.Membership.{KeyAt}
 use Rattle.vbr_slots.specs.Views.{Trace}
 use Rattle.vbr_access.specs.Alone.{StandsNow}
 use Rattle.vbr_access.specs.Held.{IsHeld, IsSlot}

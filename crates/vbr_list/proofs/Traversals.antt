@@ -2,13 +2,14 @@
 use Rattle.std.specs.Prelude.{ℕ, ◌≡◌, ◌⊎◌, ◌≤◌, ◌<◌}
 use Rattle.vbr_words.specs.Dimensions.{Dimensions}
 use Rattle.vbr_words.specs.Words.{link_of}
-use Rattle.vbr_core.specs.Knowledge.{Know}
-use Rattle.vbr_core.specs.Membership.{LeadsTo}
+use Rattle.vbr_machine.specs.Knowledge.{Know}
+use Rattle.vbr_machine.specs.Membership.{LeadsTo}
 use Rattle.vbr_access.specs.declared.held.Held.{Held}
+use Rattle.vbr_list.specs.Pieces.{Goes, Observes}
 use Rattle.vbr_list.specs.Places.{IsInside, IsPred}
+use Rattle.vbr_list.specs.Traversing.{HasComeTo}
 use Rattle.vbr_slots.specs.Alone.{IsAlone}
 use Rattle.vbr_slots.specs.Views.{PassView, knows}
-use Rattle.vbr_list.specs.Traversal.{Goes, HasComeTo, Observes}
 use Rattle.vbr_list.proofs.PaidPlaces.{Nears, Passes}
 
 -- known marked links lead from a place before the key to another place of the list, or to itself

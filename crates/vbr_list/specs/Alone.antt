@@ -1,8 +1,8 @@
 -- The replies of a pass that is its table's only one.
 use Rattle.std.specs.Prelude.{◌≡◌, ℕ, Bool}
-use Rattle.vbr_core.specs.Opened.{opening_keys}
-use Rattle.vbr_core.specs.History.{reply_of, set_after}
-use Rattle.vbr_core.specs.declared.history.Op.{Op}
+use Rattle.vbr_machine.specs.Opened.{opening_keys}
+use Rattle.vbr_machine.specs.History.{reply_of, set_after}
+use Rattle.vbr_machine.specs.declared.history.Op.{Op}
 use Rattle.vbr_slots.specs.Calls.{made_by}
 use Rattle.vbr_slots.specs.Views.{Trace}
 

@@ -1,17 +1,17 @@
 -- What an insert, a remove and a look-up tell.
-use Rattle.std.specs.Prelude.{◌≡◌, ◌≢◌, ℕ, ◌+◌, ◌*◌, ◌<◌, ◌≤◌, Bool, [], None, Result, IfOk, IfErr}
-use Rattle.vbr_core.specs.History.{set_call}
-use Rattle.vbr_core.specs.declared.history.Op.{Op}
-use Rattle.vbr_core.specs.declared.history.Op.TheVariants.{Insert, Remove, Has, Get}
+use Rattle.std.specs.Prelude.{◌≡◌, ◌≢◌, ℕ, ◌<◌, ◌≤◌, Bool, [], None, Result, IfOk, IfErr}
+use Rattle.vbr_machine.specs.History.{set_call}
+use Rattle.vbr_machine.specs.declared.history.Op.{Op}
+use Rattle.vbr_machine.specs.declared.history.Op.TheVariants.{Insert, Remove, Has, Get}
 use Rattle.vbr_slots.specs.Alone.{IsAlone}
 use Rattle.vbr_slots.specs.Calls.{AddsAnswer, AddsNone, IsSame, Made, OnlyLoads, Quiet}
 use Rattle.vbr_slots.specs.Views.{PassView}
 use Rattle.vbr_pools.specs.Advances.{AdvancesWhereNeeded}
-use Rattle.vbr_pools.specs.Budgets.{most_to_take}
 use Rattle.vbr_pools.specs.KeptSlots.{HasUnpublished, KeepsSlots, SharesWhereFull, TakesNoSlot}
 use Rattle.vbr_pools.specs.Steps.{TookWithin}
 use Rattle.vbr_list.specs.Alone.{AnswersAlone}
-use Rattle.vbr_list.specs.Budgets.{IsAnsweredOrSpent, LacksSteps, listed_for}
+use Rattle.vbr_list.specs.Budgets.{IsAnsweredOrSpent, LacksSteps, enough_to_insert, enough_to_look_up, enough_with_a_slot}
+use Rattle.vbr_list.specs.Leaving.{SparesRemove}
 use Rattle.vbr_list.specs.Refusals.{IsRefused, IsTired}
 use Rattle.vbr_list.specs.declared.refusal.Refusal.{Refusal}
 
@@ -22,14 +22,8 @@ pub record SparesInsert (p q : PassView) (key budget : ℕ) (answer : Result Boo
   pub had : HasUnpublished p q answer
   pub shared : SharesWhereFull 2 p q
   pub refused : IfErr answer (IsRefused p q key budget)
-  pub within : IfErr answer (λ refusal. IsAlone p.trace q.trace → LacksSteps (18 * listed_for p.trace key + most_to_take p.trace.shape p.pool + 14) budget refusal)
-  pub ready : p.pool ≢ [] → IsAlone p.trace q.trace → 18 * listed_for p.trace key + 82 ≤ budget → IsAnsweredOrSpent answer
-
--- what a remove promises besides: it advances no epoch, loses no slot, and is refused for want of steps alone; alone it has steps enough with a budget that is known before
-pub record SparesRemove (p q : PassView) (key budget : ℕ) (answer : Result Bool Refusal) : Type 0 where
-  pub takes_no_slot : TakesNoSlot p q
-  pub refused : IfErr answer (IsTired p q budget)
-  pub within : IfErr answer (λ refusal. IsAlone p.trace q.trace → budget < 9 * listed_for p.trace key + 11)
+  pub within : IfErr answer (λ refusal. IsAlone p.trace q.trace → LacksSteps (enough_to_insert p key) budget refusal)
+  pub ready : p.pool ≢ [] → IsAlone p.trace q.trace → enough_with_a_slot p.trace key ≤ budget → IsAnsweredOrSpent answer
 
 -- what a look-up promises besides: all its steps are loads, and its answer is all that it adds to the chronicle; it advances no epoch, loses no slot, and is refused for want of steps alone; alone it has steps enough with a budget that is known before
 pub record SparesHas (p q : PassView) (key budget : ℕ) (answer : Result Bool Refusal) : Type 0 where
@@ -38,7 +32,7 @@ pub record SparesHas (p q : PassView) (key budget : ℕ) (answer : Result Bool R
   pub adds_none : IfErr answer (λ refusal. AddsNone p.trace q.trace)
   pub takes_no_slot : TakesNoSlot p q
   pub refused : IfErr answer (IsTired p q budget)
-  pub within : IfErr answer (λ refusal. IsAlone p.trace q.trace → budget < 5 * listed_for p.trace key + 11)
+  pub within : IfErr answer (λ refusal. IsAlone p.trace q.trace → budget < enough_to_look_up p.trace key)
 
 -- what a call promises besides its answer; no set has a get
 abbrev pub Spares : Op → PassView → PassView → ℕ → ℕ → Result Bool Refusal → Type 0

@@ -1,15 +1,32 @@
 -- The budgets that suffice a pass that is alone: it is refused for want of steps only below them.
-use Rattle.std.specs.Prelude.{ℕ, ◌<◌, Result, Ok, Err}
+use Rattle.std.specs.Prelude.{ℕ, ◌+◌, ◌*◌, ◌<◌, Result, Ok, Err}
 use Rattle.vbr_words.specs.declared.place.At.TheVariants.{Head}
 use Rattle.vbr_words.specs.Buckets.{bucket_of}
 use Rattle.vbr_slots.specs.Alone.{ahead}
-use Rattle.vbr_slots.specs.Views.{Trace}
+use Rattle.vbr_slots.specs.Views.{PassView, Trace}
+use Rattle.vbr_pools.specs.Budgets.{most_to_take}
 use Rattle.vbr_list.specs.declared.refusal.Refusal.{Refusal}
 use Rattle.vbr_list.specs.declared.refusal.Refusal.TheVariants.{OutOfSteps, NoSlot, EpochSpent}
 
 -- how many nodes, linked or marked, are in the list of a key's bucket, in what the pass has seen
 abbrev pub listed_for : Trace → ℕ → ℕ
 listed_for p key = ahead p (bucket_of p.shape key) (Head (bucket_of p.shape key))
+
+-- for a look-up: five steps for each of them, and eleven
+abbrev pub enough_to_look_up : Trace → ℕ → ℕ
+enough_to_look_up p key = 5 * listed_for p key + 11
+
+-- to find where a key stands, and to remove it: nine for each, and eleven
+abbrev pub enough_to_search : Trace → ℕ → ℕ
+enough_to_search p key = 9 * listed_for p key + 11
+
+-- for an insert: twice nine for each, those of taking a slot, and fourteen
+abbrev pub enough_to_insert : PassView → ℕ → ℕ
+enough_to_insert p key = 18 * listed_for p.trace key + most_to_take p.trace.shape p.pool + 14
+
+-- for an insert of a pass that has slots in its own pool
+abbrev pub enough_with_a_slot : Trace → ℕ → ℕ
+enough_with_a_slot p key = 18 * listed_for p key + 82
 
 -- a refusal for want of steps comes of a budget below so many
 abbrev pub LacksSteps : ℕ → ℕ → Refusal → Type 0

@@ -1,11 +1,12 @@
 -- What a traversal found was so: its places stood at moments of what the pass did.
-use Rattle.std.specs.Prelude.{ℕ, ◌+◌, ◌*◌, ◌<◌, ◌≤◌, Option, Some, None}
+use Rattle.std.specs.Prelude.{ℕ, ◌<◌, ◌≤◌, Option, Some, None}
 use Rattle.vbr_slots.specs.Alone.{IsAlone}
 use Rattle.vbr_slots.specs.Calls.{Quiet, Took}
 use Rattle.vbr_slots.specs.Views.{PassView, Trace, knows}
 use Rattle.vbr_access.specs.Moments.{Stood, WasSo}
 use Rattle.vbr_access.specs.declared.held.Held.{Held}
-use Rattle.vbr_list.specs.Budgets.{listed_for}
+use Rattle.vbr_list.specs.Budgets.{enough_to_search}
+use Rattle.vbr_list.specs.Leaving.{WasClear}
 use Rattle.vbr_list.specs.Places.{Locates}
 use Rattle.vbr_list.specs.Refusals.{IsTired}
 use Rattle.vbr_list.specs.declared.found.Found.{Found}
@@ -22,11 +23,12 @@ pub record IsFound (p q : Trace) (key : ℕ) (found : Found) : Type 0 where
   pub stood : Stood p q found.pred
   pub cur_stood : CurStood p q found.cur
 
--- a find made no call, and tells where the key stood at moments of it, within its budget
+-- a find made no call, and tells where the key stood at moments of it, within its budget; and at a moment no marked node of the key was in a list
 pub record FindsIn (p q : PassView) (key budget : ℕ) (told : Found) : Type 0 where
   pub quiet : Quiet p.trace q.trace
   pub found : IsFound p.trace q.trace key told
   pub was_so : WasSo p.trace q.trace key told.present
+  pub clear : WasClear p.trace q.trace key
   pub within : told.used ≤ budget
   pub took : Took p.trace q.trace told.used
 
@@ -34,4 +36,4 @@ pub record FindsIn (p q : PassView) (key budget : ℕ) (told : Found) : Type 0 w
 pub record GivesUp (p q : PassView) (key budget : ℕ) (refusal : Refusal) : Type 0 where
   pub quiet : Quiet p.trace q.trace
   pub refused : IsTired p q budget refusal
-  pub lacks : IsAlone p.trace q.trace → budget < 9 * listed_for p.trace key + 11
+  pub lacks : IsAlone p.trace q.trace → budget < enough_to_search p.trace key

@@ -3,7 +3,7 @@ use Rattle.std.specs.Prelude.{◌≡◌, ℕ, ◌+◌, ◌*◌, ◌≤◌, suc, 
 use Rattle.vbr_words.specs.Words.{link_of}
 use Rattle.vbr_words.specs.declared.place.At.TheVariants.{Slot}
 use Rattle.vbr_words.specs.Buckets.{bucket_of}
-use Rattle.vbr_core.specs.Nodes.{is_there}
+use Rattle.vbr_machine.specs.Nodes.{is_there}
 use Rattle.vbr_slots.specs.Alone.{IsFresh, ahead, nodes}
 use Rattle.vbr_slots.specs.Views.{Trace}
 use Rattle.vbr_access.specs.Alone.{StandsNow, NextStands}

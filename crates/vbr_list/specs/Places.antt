@@ -4,8 +4,8 @@ use Rattle.vbr_words.specs.Dimensions.{Dimensions}
 use Rattle.vbr_words.specs.Words.{link_of}
 use Rattle.vbr_words.specs.declared.place.At.TheVariants.{Slot}
 use Rattle.vbr_words.specs.Buckets.{bucket_of}
-use Rattle.vbr_core.specs.Knowledge.{Know}
-use Rattle.vbr_core.specs.Membership.{KeyAt, HeldIn, StandsBehind, StandsBeforeOn}
+use Rattle.vbr_machine.specs.Knowledge.{Know}
+use Rattle.vbr_machine.specs.Membership.{KeyAt, HeldIn, StandsBehind, StandsBeforeOn}
 use Rattle.vbr_access.specs.Held.{IsHeld, Names}
 use Rattle.vbr_access.specs.declared.held.Held.{Held}
 use Rattle.vbr_list.specs.declared.found.Found.{Found}

@@ -1,15 +1,12 @@
 //! Finding where a key stands.
-ghost use Rattle.std.specs.Prelude.{◌≡◌, ◌+◌, ◌*◌, ◌<◌, ◌≤◌, None, IfOk, IfErr, IfSome, IfNone};
-ghost use Rattle.vbr_slots.specs.Alone.{IsAlone};
+ghost use Rattle.std.specs.Prelude.{◌≡◌, None, IfOk, IfErr, IfSome, IfNone};
 ghost use Rattle.vbr_slots.specs.AtTables.{IsSameTable, pass_of, trace_of};
 ghost use Rattle.vbr_slots.specs.Calls.{Took};
 ghost use Rattle.vbr_slots.specs.Views.{IsOf};
 ghost use Rattle.vbr_pools.specs.KeptSlots.{TakesNoSlot};
-ghost use Rattle.vbr_list.specs.Calls.{IsSameCall};
-ghost use Rattle.vbr_list.specs.Found.{FindsIn, GivesUp, IsFound};
-ghost use Rattle.vbr_list.specs.Budgets.{listed_for};
-ghost use Rattle.vbr_list.specs.Nearing.{FoundAlone};
-ghost use Rattle.vbr_list.specs.Traversal.{Goes};
+ghost use Rattle.vbr_list.specs.Found.{FindsIn, GivesUp};
+ghost use Rattle.vbr_list.specs.Pieces.{GoesOn};
+ghost use Rattle.vbr_list.specs.Traversing.{Finds, SearchTires};
 
 use crate::call::Call;
 use crate::found::Found;
@@ -21,14 +18,9 @@ impl Call<'_> {
     /// Traverses until it comes to the key; none where the budget has no room for one more piece.
     #[inline(always)]
     pub(crate) fn search(&mut self) -> Option<Found>
-        ensures call { IsSameCall self.old self.new }
-        ensures goes { Goes self.old.at.pass.now self.new.at.pass.now self.old.used self.new.used }
-        ensures more { self.old.used ≤ self.new.used }
-        ensures found { IfSome result (λ found. IsFound self.old.at.pass.now.trace self.new.at.pass.now.trace self.old.key found) }
-        ensures used { IfSome result (λ found. found.used ≡ self.new.used) }
-        ensures tired { IfNone result (self.old.budget < self.new.used + 8) }
-        ensures short { IfNone result (IsAlone self.old.at.pass.now.trace self.new.at.pass.now.trace → self.old.budget < self.old.used + 9 * listed_for self.old.at.pass.now.trace self.old.key + 11) }
-        ensures alone { IfSome result (λ found. IsAlone self.old.at.pass.now.trace self.new.at.pass.now.trace → FoundAlone self.old.at.pass.now.trace self.new.at.pass.now.trace self.old.key self.old.used self.new.used found) }
+        ensures goes { GoesOn self.old self.new }
+        ensures found { IfSome result (Finds self.old self.new) }
+        ensures tired { IfNone result (SearchTires self.old self.new) }
     {
         loop {
             match self.traverse() {

@@ -1,38 +1,27 @@
 //! Helping to unlink a marked node.
-ghost use Rattle.std.specs.Prelude.{◌≡◌, ℕ, ◌+◌, ◌≤◌, false, IfOk, IfErr};
-ghost use Rattle.vbr_words.specs.Words.{link_of};
-ghost use Rattle.vbr_slots.specs.Alone.{IsAlone, IsFresh};
-ghost use Rattle.vbr_slots.specs.AtTables.{IsSameTable};
-ghost use Rattle.vbr_slots.specs.Views.{knows};
-ghost use Rattle.vbr_access.specs.Alone.{StandsNow};
-ghost use Rattle.vbr_access.specs.Held.{IsHeld, IsMarked, Names};
-ghost use Rattle.vbr_list.specs.Nearing.{HelpsAlone};
-ghost use Rattle.vbr_list.specs.Places.{IsPred};
-ghost use Rattle.vbr_list.specs.Traversal.{Goes, HasComeTo};
+ghost use Rattle.std.specs.Prelude.{◌≤◌, IfOk, IfErr};
+ghost use Rattle.vbr_slots.specs.AtTables.{IsSameTable, pass_of, trace_of};
+ghost use Rattle.vbr_list.specs.Helping.{GoesIn, Helps, HelpsNone, MayHelp, Retires};
 
 use vbr_access::uncounted::{steps_to_unlink, unlink};
 use vbr_access::{Held, Marked, Rollback};
 use vbr_pools::uncounted::retire;
 use vbr_slots::AtTable;
 
-/// Unlinks a marked node behind a place and retires it: gives the place with its new link, if the epoch
-/// stayed, and how many steps it made, one to six.
+/// Unlinks a marked node behind a place and retires it: gives the place with its new link, and how
+/// many steps it made, one to six.
 #[inline(always)]
-pub(crate) fn help(
+pub(crate) fn unlink_and_retire(
     at: &mut AtTable<'_>,
     pred: &Held,
     marked: Marked,
 ) -> (Result<Held, Rollback>, u32)
-    requires pred { IsHeld (knows at.old.pass.now.trace) pred.now }
-    requires unmarked { (link_of pred.now.word).mark ≡ false }
-    requires marked { IsMarked (knows at.old.pass.now.trace) marked }
-    requires names { Names pred.now marked.slot }
+    requires may { MayHelp (trace_of at.old) pred.now marked }
     ensures table { IsSameTable at.old at.new }
-    ensures goes { (used : ℕ) → Goes at.old.pass.now at.new.pass.now used (used + result.1) }
+    ensures goes { GoesIn (pass_of at.old) (pass_of at.new) result.1 }
     ensures few { result.1 ≤ 6 }
-    ensures pred { IfOk result.0 (λ place. (key : ℕ) → IsPred at.old.pass.now.trace.shape (knows at.old.pass.now.trace) key pred.now → HasComeTo at.old.pass.now.trace at.new.pass.now.trace key place) }
-    ensures still { IfErr result.0 (λ r. IsFresh at.old.pass.now.trace → StandsNow at.old.pass.now.trace pred.now → IsAlone at.old.pass.now.trace at.new.pass.now.trace → ⊥) }
-    ensures alone { IfOk result.0 (λ place. (key : ℕ) → IsPred at.old.pass.now.trace.shape (knows at.old.pass.now.trace) key pred.now → IsFresh at.old.pass.now.trace → StandsNow at.old.pass.now.trace pred.now → IsAlone at.old.pass.now.trace at.new.pass.now.trace → HelpsAlone at.old.pass.now.trace at.new.pass.now.trace key pred.now place) }
+    ensures unlinks { IfOk result.0 (Retires (pass_of at.old) (pass_of at.new) pred.now marked) }
+    ensures lost { IfErr result.0 (HelpsNone (pass_of at.old) (pass_of at.new) pred.now) }
 {
     at.law();
     let outcome = unlink(at, pred, marked);
@@ -41,7 +30,30 @@ pub(crate) fn help(
         Err(rollback) => (Err(rollback), used),
         Ok((unlinked, place)) => {
             at.law();
-            let used = used + retire(at, unlinked);
+            (Ok(place), used + retire(at, unlinked))
+        }
+    }
+}
+
+/// As [`unlink_and_retire`], for a traversal that goes on from the place: it rolls back too where the
+/// epoch has moved since.
+#[inline(always)]
+pub(crate) fn help(
+    at: &mut AtTable<'_>,
+    pred: &Held,
+    marked: Marked,
+) -> (Result<Held, Rollback>, u32)
+    requires may { MayHelp (trace_of at.old) pred.now marked }
+    ensures table { IsSameTable at.old at.new }
+    ensures goes { GoesIn (pass_of at.old) (pass_of at.new) result.1 }
+    ensures few { result.1 ≤ 6 }
+    ensures helps { IfOk result.0 (Helps (pass_of at.old) (pass_of at.new) pred.now) }
+    ensures lost { IfErr result.0 (HelpsNone (pass_of at.old) (pass_of at.new) pred.now) }
+{
+    let (outcome, used) = unlink_and_retire(at, pred, marked);
+    match outcome {
+        Err(rollback) => (Err(rollback), used),
+        Ok(place) => {
             let now = at.epoch();
             if now != place.epoch {
                 return (Err(Rollback::EpochMoved { now }), used);
@@ -54,16 +66,12 @@ pub(crate) fn help(
 // As `help`, in a function of its own.
 #[inline(never)]
 fn help_apart(at: &mut AtTable<'_>, pred: Held, marked: Marked) -> (Result<Held, Rollback>, u32)
-    requires pred { IsHeld (knows at.old.pass.now.trace) pred }
-    requires unmarked { (link_of pred.word).mark ≡ false }
-    requires marked { IsMarked (knows at.old.pass.now.trace) marked }
-    requires names { Names pred marked.slot }
+    requires may { MayHelp (trace_of at.old) pred marked }
     ensures table { IsSameTable at.old at.new }
-    ensures goes { (used : ℕ) → Goes at.old.pass.now at.new.pass.now used (used + result.1) }
+    ensures goes { GoesIn (pass_of at.old) (pass_of at.new) result.1 }
     ensures few { result.1 ≤ 6 }
-    ensures pred { IfOk result.0 (λ place. (key : ℕ) → IsPred at.old.pass.now.trace.shape (knows at.old.pass.now.trace) key pred → HasComeTo at.old.pass.now.trace at.new.pass.now.trace key place) }
-    ensures still { IfErr result.0 (λ r. IsFresh at.old.pass.now.trace → StandsNow at.old.pass.now.trace pred → IsAlone at.old.pass.now.trace at.new.pass.now.trace → ⊥) }
-    ensures alone { IfOk result.0 (λ place. (key : ℕ) → IsPred at.old.pass.now.trace.shape (knows at.old.pass.now.trace) key pred → IsFresh at.old.pass.now.trace → StandsNow at.old.pass.now.trace pred → IsAlone at.old.pass.now.trace at.new.pass.now.trace → HelpsAlone at.old.pass.now.trace at.new.pass.now.trace key pred place) }
+    ensures helps { IfOk result.0 (Helps (pass_of at.old) (pass_of at.new) pred) }
+    ensures lost { IfErr result.0 (HelpsNone (pass_of at.old) (pass_of at.new) pred) }
 {
     help(at, &pred, marked)
 }
@@ -76,16 +84,12 @@ pub(crate) fn help_by_copy(
     pred: Held,
     marked: Marked,
 ) -> (Result<Held, Rollback>, u32)
-    requires pred { IsHeld (knows at.old.pass.now.trace) pred }
-    requires unmarked { (link_of pred.word).mark ≡ false }
-    requires marked { IsMarked (knows at.old.pass.now.trace) marked }
-    requires names { Names pred marked.slot }
+    requires may { MayHelp (trace_of at.old) pred marked }
     ensures table { IsSameTable at.old at.new }
-    ensures goes { (used : ℕ) → Goes at.old.pass.now at.new.pass.now used (used + result.1) }
+    ensures goes { GoesIn (pass_of at.old) (pass_of at.new) result.1 }
     ensures few { result.1 ≤ 6 }
-    ensures pred { IfOk result.0 (λ place. (key : ℕ) → IsPred at.old.pass.now.trace.shape (knows at.old.pass.now.trace) key pred → HasComeTo at.old.pass.now.trace at.new.pass.now.trace key place) }
-    ensures still { IfErr result.0 (λ r. IsFresh at.old.pass.now.trace → StandsNow at.old.pass.now.trace pred → IsAlone at.old.pass.now.trace at.new.pass.now.trace → ⊥) }
-    ensures alone { IfOk result.0 (λ place. (key : ℕ) → IsPred at.old.pass.now.trace.shape (knows at.old.pass.now.trace) key pred → IsFresh at.old.pass.now.trace → StandsNow at.old.pass.now.trace pred → IsAlone at.old.pass.now.trace at.new.pass.now.trace → HelpsAlone at.old.pass.now.trace at.new.pass.now.trace key pred place) }
+    ensures helps { IfOk result.0 (Helps (pass_of at.old) (pass_of at.new) pred) }
+    ensures lost { IfErr result.0 (HelpsNone (pass_of at.old) (pass_of at.new) pred) }
 {
     let slots = at.slots;
     let mut copy = AtTable {

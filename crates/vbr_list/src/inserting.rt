@@ -1,29 +1,22 @@
 //! Inserts.
-ghost use Rattle.std.specs.Prelude.{◌≡◌, ◌+◌, ◌*◌, ◌<◌, ◌≤◌, true, false, length, None, IfOk, IfErr};
-ghost use Rattle.vbr_core.specs.History.{set_call};
-ghost use Rattle.vbr_core.specs.declared.history.Op.TheVariants.{Insert};
-ghost use Rattle.vbr_pools.specs.Advances.{AdvancesWhereNeeded};
-ghost use Rattle.vbr_pools.specs.KeptSlots.{HasStill, HasUnpublished, KeepsSlots, TakesNoSlot, SharesWhereFull};
-ghost use Rattle.vbr_pools.specs.Budgets.{most_to_take, steps_to_take};
-ghost use Rattle.vbr_pools.specs.Steps.{CountsSteps};
-ghost use Rattle.vbr_slots.specs.Alone.{IsAlone};
+ghost use Rattle.std.specs.Prelude.{◌≡◌, ◌+◌, ◌≤◌, true, false, length, None, IfOk, IfErr};
+ghost use Rattle.vbr_machine.specs.declared.history.Op.TheVariants.{Insert};
+ghost use Rattle.vbr_pools.specs.KeptSlots.{HasUnpublished};
 ghost use Rattle.vbr_slots.specs.AtTables.{IsSameTable, pass_of, trace_of};
-ghost use Rattle.vbr_slots.specs.Calls.{Quiet, Made, Took};
-ghost use Rattle.vbr_slots.specs.Views.{IsOf, knows};
-ghost use Rattle.vbr_access.specs.Alone.{NextStands, StandsNow};
-ghost use Rattle.vbr_access.specs.Keeping.{KeepsOwn};
-ghost use Rattle.vbr_list.specs.Calls.{IsSameCall};
-ghost use Rattle.vbr_list.specs.Budgets.{LacksSteps, listed_for};
-ghost use Rattle.vbr_list.specs.Inserting.{CountsWithin, IsPrepared, HasHandAndRoom, InsertIsShort, RefusesInsert, TakesNone};
-ghost use Rattle.vbr_list.specs.Places.{Locates};
+ghost use Rattle.vbr_slots.specs.Calls.{Quiet, Took};
+ghost use Rattle.vbr_slots.specs.Views.{IsOf};
+ghost use Rattle.vbr_access.specs.Answering.{KeepsIn};
 ghost use Rattle.vbr_list.specs.Answered.{Calls};
+ghost use Rattle.vbr_list.specs.Inserting.{DeniesNone, GivesHandBack, HasHandAndRoom, InsertAnswers, Links, LinksNone, Prepares, PreparesHand, PreparesNone, Provides, ProvidesNone, Publishes};
+ghost use Rattle.vbr_list.specs.Pieces.{HasRoom, IsSameCall, Replies, pass_in, trace_in};
+ghost use Rattle.vbr_list.specs.Traversing.{LocatesFor};
 
 use crate::call::Call;
 use crate::found::Found;
 use crate::refusal::Refusal;
 use vbr_access::Rollback;
 use vbr_access::uncounted::{confirm_present, update};
-use vbr_core::Op;
+use vbr_machine::Op;
 use vbr_pools::budget::affords;
 use vbr_pools::uncounted::{give_back, take};
 use vbr_pools::{Hand, TakeRefusal};
@@ -33,17 +26,14 @@ impl Call<'_> {
     // Answers an insert with no, in one step, if the link of the node that was found is as it was read.
     #[inline]
     fn deny(&mut self, found: &Found) -> Result<(), Rollback>
-        requires locates { Locates self.old.at.pass.now.trace.shape (knows self.old.at.pass.now.trace) self.old.key found.now }
+        requires locates { LocatesFor self.old found.now }
         requires present { found.now.present ≡ true }
-        requires room { self.old.used + 8 ≤ self.old.budget }
+        requires room { HasRoom self.old }
         ensures call { IsSameCall self.old self.new }
-        ensures took { Took self.old.at.pass.now.trace self.new.at.pass.now.trace 1 }
+        ensures keeps { KeepsIn (pass_in self.old) (pass_in self.new) 1 }
         ensures used { self.new.used ≡ self.old.used + 1 }
-        ensures own { KeepsOwn self.old.at.pass.now self.new.at.pass.now }
-        ensures takes_no_slot { TakesNoSlot self.old.at.pass.now self.new.at.pass.now }
-        ensures made { IfOk result (λ _. Made (set_call self.old.at.pass.now.trace.who Insert self.old.key false) self.old.at.pass.now.trace self.new.at.pass.now.trace) }
-        ensures quiet { IfErr result (λ r. Quiet self.old.at.pass.now.trace self.new.at.pass.now.trace) }
-        ensures wins { IfErr result (λ r. NextStands self.old.at.pass.now.trace found.now.cur → IsAlone self.old.at.pass.now.trace self.new.at.pass.now.trace → ⊥) }
+        ensures made { IfOk result (λ _. Replies Insert self.old self.new false) }
+        ensures rolls { IfErr result (λ r. DeniesNone self.old self.new found.now) }
     {
         let Some(cur) = &found.cur else {
             unreachable!()
@@ -54,20 +44,12 @@ impl Call<'_> {
 
     // Takes a slot with what is left of the budget.
     fn provide(&mut self) -> Result<Hand, Refusal>
-        requires empty_hand { self.old.at.pass.now.hand ≡ None }
-        ensures call { IsSameCall self.old self.new }
-        ensures quiet { Quiet self.old.at.pass.now.trace self.new.at.pass.now.trace }
-        ensures hand { IfOk result (λ hand. HasHandAndRoom self.new.at.pass.now hand) }
-        ensures counts { CountsWithin self.old.at.pass.now.trace self.new.at.pass.now.trace self.old.used self.new.used self.old.budget }
-        ensures empty_hand { IfErr result (λ refusal. self.new.at.pass.now.hand ≡ None) }
-        ensures refused { IfErr result (λ refusal. TakesNone self.old.at.pass.now self.new.at.pass.now self.old.used self.old.budget refusal) }
-        ensures advances { AdvancesWhereNeeded self.old.at.pass.now self.new.at.pass.now }
-        ensures kept { KeepsSlots self.old.at.pass.now self.new.at.pass.now }
-        ensures had { HasStill self.old.at.pass.now self.new.at.pass.now }
-        ensures one { length self.old.at.pass.now.pool ≤ length self.new.at.pass.now.pool + 1 }
-        ensures shared { SharesWhereFull 2 self.old.at.pass.now self.new.at.pass.now }
-        ensures few { IfOk result (λ hand. IsAlone self.old.at.pass.now.trace self.new.at.pass.now.trace → self.new.used ≤ self.old.used + steps_to_take self.old.at.pass.now.trace.shape self.old.at.pass.now.pool) }
-        ensures enough { IfErr result (λ refusal. IsAlone self.old.at.pass.now.trace self.new.at.pass.now.trace → LacksSteps (self.old.used + steps_to_take self.old.at.pass.now.trace.shape self.old.at.pass.now.pool + 7) self.old.budget refusal) }
+        requires empty_hand { (pass_in self.old).hand ≡ None }
+        ensures prepares { Prepares self.old self.new }
+        ensures quiet { Quiet (trace_in self.old) (trace_in self.new) }
+        ensures one { length (pass_in self.old).pool ≤ length (pass_in self.new).pool + 1 }
+        ensures hand { IfOk result (Provides self.old self.new) }
+        ensures refused { IfErr result (ProvidesNone self.old self.new) }
     {
         let before = self.used;
         let (outcome, made) = take(&mut self.at, self.budget - before);
@@ -87,19 +69,10 @@ impl Call<'_> {
     // Looks for the key without a hand: a hand, once the key was found absent; or none, and the answer is
     // no.
     fn prepare(&mut self) -> Result<Option<Hand>, Refusal>
-        requires empty_hand { self.old.at.pass.now.hand ≡ None }
-        ensures call { IsSameCall self.old self.new }
-        ensures prepared { IfOk result (λ hand. IsPrepared self.old.at.pass.now self.new.at.pass.now self.old.key hand) }
-        ensures counts { CountsWithin self.old.at.pass.now.trace self.new.at.pass.now.trace self.old.used self.new.used self.old.budget }
-        ensures quiet { IfErr result (λ refusal. Quiet self.old.at.pass.now.trace self.new.at.pass.now.trace) }
-        ensures empty_hand { IfErr result (λ refusal. self.new.at.pass.now.hand ≡ None) }
-        ensures refused { IfErr result (λ refusal. RefusesInsert self.old.at.pass.now self.new.at.pass.now self.old.key self.old.used self.old.budget refusal) }
-        ensures advances { AdvancesWhereNeeded self.old.at.pass.now self.new.at.pass.now }
-        ensures kept { KeepsSlots self.old.at.pass.now self.new.at.pass.now }
-        ensures had { HasStill self.old.at.pass.now self.new.at.pass.now }
-        ensures shared { SharesWhereFull 2 self.old.at.pass.now self.new.at.pass.now }
-        ensures few { IfOk result (λ hand. IsAlone self.old.at.pass.now.trace self.new.at.pass.now.trace → self.new.used ≤ self.old.used + 9 * listed_for self.old.at.pass.now.trace self.old.key + most_to_take self.old.at.pass.now.trace.shape self.old.at.pass.now.pool + 3) }
-        ensures enough { IfErr result (λ refusal. IsAlone self.old.at.pass.now.trace self.new.at.pass.now.trace → LacksSteps (self.old.used + 9 * listed_for self.old.at.pass.now.trace self.old.key + most_to_take self.old.at.pass.now.trace.shape self.old.at.pass.now.pool + 10) self.old.budget refusal) }
+        requires empty_hand { (pass_in self.old).hand ≡ None }
+        ensures prepares { Prepares self.old self.new }
+        ensures prepared { IfOk result (PreparesHand self.old self.new) }
+        ensures refused { IfErr result (PreparesNone self.old self.new) }
     {
         self.at.law();
         loop {
@@ -122,19 +95,13 @@ impl Call<'_> {
     // Answers an insert by what was found, with a slot in hand; else the hand comes back.
     #[inline]
     fn settle_insert(&mut self, found: &Found, hand: Hand) -> Result<bool, Hand>
-        requires locates { Locates self.old.at.pass.now.trace.shape (knows self.old.at.pass.now.trace) self.old.key found.now }
-        requires hand { HasHandAndRoom self.old.at.pass.now hand }
-        requires room { self.old.used + 8 ≤ self.old.budget }
-        ensures call { IsSameCall self.old self.new }
-        ensures counts { CountsSteps self.old.at.pass.now.trace self.new.at.pass.now.trace self.old.used self.new.used }
-        ensures used { (self.old.used < self.new.used) × (self.new.used ≤ self.old.used + 8) }
-        ensures made { IfOk result (λ reply. Made (set_call self.old.at.pass.now.trace.who Insert self.old.key reply) self.old.at.pass.now.trace self.new.at.pass.now.trace) }
-        ensures spent { IfOk result (λ reply. self.new.at.pass.now.hand ≡ None) }
-        ensures quiet { IfErr result (λ back. Quiet self.old.at.pass.now.trace self.new.at.pass.now.trace) }
-        ensures hand { IfErr result (λ back. HasHandAndRoom self.new.at.pass.now back) }
-        ensures takes_no_slot { TakesNoSlot self.old.at.pass.now self.new.at.pass.now }
-        ensures had { HasUnpublished self.old.at.pass.now self.new.at.pass.now result }
-        ensures wins { IfErr result (λ back. StandsNow self.old.at.pass.now.trace found.now.pred → NextStands self.old.at.pass.now.trace found.now.cur → IsAlone self.old.at.pass.now.trace self.new.at.pass.now.trace → ⊥) }
+        requires locates { LocatesFor self.old found.now }
+        requires hand { HasHandAndRoom (pass_in self.old) hand }
+        requires room { HasRoom self.old }
+        ensures publishes { Publishes self.old self.new }
+        ensures had { HasUnpublished (pass_in self.old) (pass_in self.new) result }
+        ensures answers { IfOk result (InsertAnswers self.old self.new) }
+        ensures back { IfErr result (GivesHandBack self.old self.new found.now) }
     {
         if found.present {
             if self.deny(found).is_err() {
@@ -158,16 +125,11 @@ impl Call<'_> {
 
     // Links the slot in hand, or answers no where the key has come meanwhile. The hand is spent.
     fn link(&mut self, mut hand: Hand) -> Result<bool, Refusal>
-        requires hand { HasHandAndRoom self.old.at.pass.now hand }
-        ensures call { IsSameCall self.old self.new }
-        ensures made { IfOk result (λ reply. Made (set_call self.old.at.pass.now.trace.who Insert self.old.key reply) self.old.at.pass.now.trace self.new.at.pass.now.trace) }
-        ensures counts { CountsWithin self.old.at.pass.now.trace self.new.at.pass.now.trace self.old.used self.new.used self.old.budget }
-        ensures spent { self.new.at.pass.now.hand ≡ None }
-        ensures quiet { IfErr result (λ refusal. Quiet self.old.at.pass.now.trace self.new.at.pass.now.trace) }
-        ensures refused { IfErr result (λ refusal. InsertIsShort self.old.at.pass.now self.new.at.pass.now self.old.used self.old.budget refusal) }
-        ensures takes_no_slot { TakesNoSlot self.old.at.pass.now self.new.at.pass.now }
-        ensures had { HasUnpublished self.old.at.pass.now self.new.at.pass.now result }
-        ensures short { IfErr result (λ refusal. IsAlone self.old.at.pass.now.trace self.new.at.pass.now.trace → self.old.budget < self.old.used + 9 * listed_for self.old.at.pass.now.trace self.old.key + 11) }
+        requires hand { HasHandAndRoom (pass_in self.old) hand }
+        ensures links { Links self.old self.new }
+        ensures had { HasUnpublished (pass_in self.old) (pass_in self.new) result }
+        ensures made { IfOk result (Replies Insert self.old self.new) }
+        ensures refused { IfErr result (LinksNone self.old self.new) }
     {
         loop {
             let Some(found) = self.search() else {

@@ -1,15 +1,10 @@
 //! Looking for a key by loads alone. Marked nodes are passed by their links: behind an unmarked link
 //! that stands they are marked for good, and their links don't change, so where they lead the list
 //! goes on.
-ghost use Rattle.std.specs.Prelude.{◌≡◌, ◌+◌, ◌*◌, ◌<◌, ◌≤◌, IfOk, IfErr, IfSome, IfNone};
-ghost use Rattle.vbr_slots.specs.Alone.{IsAlone};
-ghost use Rattle.vbr_slots.specs.Views.{knows};
+ghost use Rattle.std.specs.Prelude.{◌≡◌, IfOk, IfErr, IfSome, IfNone};
 ghost use Rattle.vbr_access.specs.Held.{held_of};
-ghost use Rattle.vbr_list.specs.Calls.{IsSameCall};
-ghost use Rattle.vbr_list.specs.Budgets.{listed_for};
-ghost use Rattle.vbr_list.specs.Nearing.{SeenAlone};
-ghost use Rattle.vbr_list.specs.Places.{IsSight};
-ghost use Rattle.vbr_list.specs.Traversal.{Goes, Observes};
+ghost use Rattle.vbr_list.specs.LookingUp.{LookStops, LookTires, Sees};
+ghost use Rattle.vbr_list.specs.Pieces.{GoesOn, Observes, trace_in};
 
 use crate::call::Call;
 use crate::traversal::{Stop, Visited};
@@ -43,16 +38,10 @@ impl Call<'_> {
     // One walk from the head to the key, past marked nodes.
     #[inline(always)]
     fn walk(&mut self) -> Result<Sight, Stop>
-        ensures call { IsSameCall self.old self.new }
-        ensures goes { Goes self.old.at.pass.now self.new.at.pass.now self.old.used self.new.used }
-        ensures observes { Observes self.old.at.pass.now.trace self.new.at.pass.now.trace }
-        ensures more { self.old.used ≤ self.new.used }
-        ensures again { IfErr result (λ stop. stop ≡ Stop.Again → self.old.used < self.new.used) }
-        ensures tired { IfErr result (λ stop. stop ≡ Stop.Tired → self.old.budget < self.new.used + 8) }
-        ensures sight { IfOk result (λ sight. IsSight self.new.at.pass.now.trace.shape (knows self.new.at.pass.now.trace) self.old.key sight) }
-        ensures still { IfErr result (λ stop. stop ≡ Stop.Again → IsAlone self.old.at.pass.now.trace self.new.at.pass.now.trace → ⊥) }
-        ensures short { IfErr result (λ stop. stop ≡ Stop.Tired → IsAlone self.old.at.pass.now.trace self.new.at.pass.now.trace → self.old.budget < self.old.used + 5 * listed_for self.old.at.pass.now.trace self.old.key + 11) }
-        ensures alone { IfOk result (λ sight. IsAlone self.old.at.pass.now.trace self.new.at.pass.now.trace → SeenAlone self.old.at.pass.now.trace self.new.at.pass.now.trace self.old.key self.old.used self.new.used sight) }
+        ensures goes { GoesOn self.old self.new }
+        ensures observes { Observes (trace_in self.old) (trace_in self.new) }
+        ensures sight { IfOk result (Sees self.old self.new) }
+        ensures stopped { IfErr result (LookStops self.old self.new) }
     {
         if !affords(self.budget, self.used) {
             return Err(Stop::Tired);
@@ -83,14 +72,10 @@ impl Call<'_> {
     /// one more piece.
     #[inline(always)]
     pub(crate) fn look(&mut self) -> Option<Sight>
-        ensures call { IsSameCall self.old self.new }
-        ensures goes { Goes self.old.at.pass.now self.new.at.pass.now self.old.used self.new.used }
-        ensures observes { Observes self.old.at.pass.now.trace self.new.at.pass.now.trace }
-        ensures more { self.old.used ≤ self.new.used }
-        ensures sight { IfSome result (λ sight. IsSight self.new.at.pass.now.trace.shape (knows self.new.at.pass.now.trace) self.old.key sight) }
-        ensures tired { IfNone result (self.old.budget < self.new.used + 8) }
-        ensures short { IfNone result (IsAlone self.old.at.pass.now.trace self.new.at.pass.now.trace → self.old.budget < self.old.used + 5 * listed_for self.old.at.pass.now.trace self.old.key + 11) }
-        ensures alone { IfSome result (λ sight. IsAlone self.old.at.pass.now.trace self.new.at.pass.now.trace → SeenAlone self.old.at.pass.now.trace self.new.at.pass.now.trace self.old.key self.old.used self.new.used sight) }
+        ensures goes { GoesOn self.old self.new }
+        ensures observes { Observes (trace_in self.old) (trace_in self.new) }
+        ensures sight { IfSome result (Sees self.old self.new) }
+        ensures tired { IfNone result (LookTires self.old self.new) }
     {
         loop {
             match self.walk() {

@@ -1,17 +1,14 @@
 //! Look-ups.
-ghost use Rattle.std.specs.Prelude.{◌≡◌, ◌+◌, ◌≤◌, None, IfOk, IfErr};
-ghost use Rattle.vbr_core.specs.History.{set_call};
-ghost use Rattle.vbr_core.specs.declared.history.Op.TheVariants.{Has};
-ghost use Rattle.vbr_pools.specs.KeptSlots.{TakesNoSlot};
+ghost use Rattle.std.specs.Prelude.{◌≡◌, ◌+◌, None, IfOk, IfErr};
+ghost use Rattle.vbr_machine.specs.declared.history.Op.TheVariants.{Has};
 ghost use Rattle.vbr_slots.specs.AtTables.{IsSameTable, pass_of, trace_of};
-ghost use Rattle.vbr_slots.specs.Calls.{AddsAnswer, AddsNone, Quiet, Made, Took, OnlyLoads};
-ghost use Rattle.vbr_slots.specs.Alone.{IsAlone};
-ghost use Rattle.vbr_slots.specs.Views.{IsOf, knows};
-ghost use Rattle.vbr_access.specs.Keeping.{KeepsOwn};
-ghost use Rattle.vbr_list.specs.Calls.{IsSameCall};
-ghost use Rattle.vbr_list.specs.Nearing.{SightStands};
-ghost use Rattle.vbr_list.specs.Places.{IsSight, held_in, is_present};
+ghost use Rattle.vbr_slots.specs.Calls.{OnlyLoads, Took};
+ghost use Rattle.vbr_slots.specs.Views.{IsOf};
+ghost use Rattle.vbr_access.specs.Answering.{KeepsIn};
 ghost use Rattle.vbr_list.specs.Answered.{Calls};
+ghost use Rattle.vbr_list.specs.LookingUp.{IsSightFor, LookUpAnswers, LookUpRollsBack};
+ghost use Rattle.vbr_list.specs.Pieces.{HasRoom, IsSameCall, pass_in, trace_in};
+ghost use Rattle.vbr_list.specs.Places.{held_in, is_present};
 
 use crate::call::Call;
 use crate::looking::Sight;
@@ -25,19 +22,14 @@ impl Call<'_> {
     // Answers a look-up by what it came to, in one step, if the link that was read still stands there.
     #[inline(always)]
     fn settle_look_up(&mut self, sight: Sight) -> Result<bool, Rollback>
-        requires sight { IsSight self.old.at.pass.now.trace.shape (knows self.old.at.pass.now.trace) self.old.key sight }
-        requires room { self.old.used + 8 ≤ self.old.budget }
+        requires sight { IsSightFor self.old sight }
+        requires room { HasRoom self.old }
         ensures call { IsSameCall self.old self.new }
-        ensures took { Took self.old.at.pass.now.trace self.new.at.pass.now.trace 1 }
+        ensures keeps { KeepsIn (pass_in self.old) (pass_in self.new) 1 }
         ensures used { self.new.used ≡ self.old.used + 1 }
-        ensures own { KeepsOwn self.old.at.pass.now self.new.at.pass.now }
-        ensures takes_no_slot { TakesNoSlot self.old.at.pass.now self.new.at.pass.now }
-        ensures made { IfOk result (λ reply. Made (set_call self.old.at.pass.now.trace.who Has self.old.key reply) self.old.at.pass.now.trace self.new.at.pass.now.trace) }
-        ensures adds { IfOk result (λ reply. AddsAnswer (set_call self.old.at.pass.now.trace.who Has self.old.key reply) self.old.at.pass.now.trace self.new.at.pass.now.trace) }
-        ensures quiet { IfErr result (λ r. Quiet self.old.at.pass.now.trace self.new.at.pass.now.trace) }
-        ensures adds_none { IfErr result (λ r. AddsNone self.old.at.pass.now.trace self.new.at.pass.now.trace) }
-        ensures wins { IfErr result (λ r. SightStands self.old.at.pass.now.trace sight → IsAlone self.old.at.pass.now.trace self.new.at.pass.now.trace → ⊥) }
-        ensures only_loads { OnlyLoads self.old.at.pass.now.trace self.new.at.pass.now.trace }
+        ensures only_loads { OnlyLoads (trace_in self.old) (trace_in self.new) }
+        ensures answers { IfOk result (LookUpAnswers self.old self.new) }
+        ensures rolls { IfErr result (LookUpRollsBack self.old self.new sight) }
     {
         let (held, present) = told_by(sight);
         self.used += 1;

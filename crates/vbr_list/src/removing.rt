@@ -1,53 +1,107 @@
 //! Removes.
-ghost use Rattle.std.specs.Prelude.{◌≡◌, ◌+◌, ◌<◌, ◌≤◌, true, None, IfOk, IfErr};
-ghost use Rattle.vbr_core.specs.History.{set_call};
-ghost use Rattle.vbr_core.specs.declared.history.Op.TheVariants.{Remove};
-ghost use Rattle.vbr_pools.specs.Steps.{CountsSteps};
-ghost use Rattle.vbr_slots.specs.Alone.{IsAlone};
+ghost use Rattle.std.specs.Prelude.{◌≡◌, ◌+◌, ◌≤◌, true, None, IfOk, IfErr};
+ghost use Rattle.vbr_machine.specs.declared.history.Op.TheVariants.{Remove};
 ghost use Rattle.vbr_slots.specs.AtTables.{IsSameTable, pass_of, trace_of};
-ghost use Rattle.vbr_slots.specs.Calls.{Quiet, Made, Took};
-ghost use Rattle.vbr_slots.specs.Views.{IsOf, knows};
-ghost use Rattle.vbr_list.specs.Calls.{IsSameCall};
-ghost use Rattle.vbr_access.specs.Alone.{NextStands, StandsNow};
-ghost use Rattle.vbr_list.specs.Places.{Locates};
-ghost use Rattle.vbr_list.specs.Traversal.{KeepsHand};
+ghost use Rattle.vbr_slots.specs.Calls.{Took};
+ghost use Rattle.vbr_slots.specs.Views.{IsOf};
 ghost use Rattle.vbr_list.specs.Answered.{Calls};
+ghost use Rattle.vbr_list.specs.Leaving.{WasClear};
+ghost use Rattle.vbr_list.specs.Pieces.{Goes, GoesOn, HasRoom, Settles};
+ghost use Rattle.vbr_list.specs.Removing.{Clears, IsMarkedFor, RemoveAnswers, RemoveRollsBack};
+ghost use Rattle.vbr_list.specs.Traversing.{LocatesFor};
 
 use crate::call::Call;
 use crate::found::Found;
-use crate::helping::help;
+use crate::helping::unlink_and_retire;
 use crate::refusal::Refusal;
-use vbr_access::Rollback;
 use vbr_access::uncounted::{confirm_absent, mark};
-use vbr_core::Op;
+use vbr_access::{Held, Marked, Rollback};
+use vbr_machine::Op;
 use vbr_pools::budget::affords;
 use vbr_slots::{AtTable, Pass, Slots};
 
+// Walks to the key as `find` does, with what is left of a budget, and so helps to unlink each marked
+// node that it meets: when it has come to the key, no marked node of the key was in a list at a moment.
+// Gives how many steps are used then. Few removes lose their unlinking, so it is done apart from them.
+#[cold]
+#[inline(never)]
+fn walk_apart(at: &mut AtTable<'_>, key: u64, budget: u32, used: u32) -> u32
+    requires within { used ≤ budget }
+    ensures table { IsSameTable at.old at.new }
+    ensures goes { Goes (pass_of at.old) (pass_of at.new) used result }
+    ensures within { (used ≤ result) × (result ≤ budget) }
+    ensures clear { result + 8 ≤ budget → WasClear (trace_of at.old) (trace_of at.new) key }
+{
+    at.law();
+    let mut call = Call {
+        at: AtTable {
+            slots: at.slots,
+            pass: at.pass,
+        },
+        key,
+        bucket: at.slots.shape().bucket_of(key),
+        budget,
+        used,
+    };
+    let _ = call.search();
+    call.used
+}
+
+// As `walk_apart`, by a copy of what is lent, so that a remove that wins its unlinking has all of its
+// own in registers.
+#[inline(always)]
+fn walk_by_copy(at: &mut AtTable<'_>, key: u64, budget: u32, used: u32) -> u32
+    requires within { used ≤ budget }
+    ensures table { IsSameTable at.old at.new }
+    ensures goes { Goes (pass_of at.old) (pass_of at.new) used result }
+    ensures within { (used ≤ result) × (result ≤ budget) }
+    ensures clear { result + 8 ≤ budget → WasClear (trace_of at.old) (trace_of at.new) key }
+{
+    let slots = at.slots;
+    let mut copy = AtTable {
+        slots,
+        pass: at.pass,
+    };
+    walk_apart(&mut copy, key, budget, used)
+}
+
 impl Call<'_> {
-    // Marks the node that was found: the key is removed. Then unlinks and retires the node, if the budget
-    // has room for that; else, or where that rolls back, the node is left to helpers.
+    // Unlinks and retires the node that was marked; where that is lost, walks on until it is out of
+    // its list, by this pass or another.
+    #[inline]
+    fn unlink_marked(&mut self, pred: &Held, marked: Marked)
+        requires marked { IsMarkedFor self.old pred.now marked }
+        requires room { HasRoom self.old }
+        ensures goes { GoesOn self.old self.new }
+        ensures clear { Clears self.old self.new }
+    {
+        let (outcome, made) = unlink_and_retire(&mut self.at, pred, marked);
+        self.used += made;
+        if outcome.is_err() {
+            self.used = walk_by_copy(&mut self.at, self.key, self.budget, self.used);
+        }
+    }
+
+    // Marks the node that was found: the key is removed, and nothing rolls back past that. Then takes
+    // the node out of its list, as far as the budget has room.
     #[inline]
     fn mark_and_unlink(&mut self, found: &Found) -> Result<bool, Rollback>
-        requires locates { Locates self.old.at.pass.now.trace.shape (knows self.old.at.pass.now.trace) self.old.key found.now }
+        requires locates { LocatesFor self.old found.now }
         requires present { found.now.present ≡ true }
-        requires room { self.old.used + 8 ≤ self.old.budget }
-        ensures call { IsSameCall self.old self.new }
-        ensures made { IfOk result (λ reply. Made (set_call self.old.at.pass.now.trace.who Remove self.old.key reply) self.old.at.pass.now.trace self.new.at.pass.now.trace) }
-        ensures quiet { IfErr result (λ r. Quiet self.old.at.pass.now.trace self.new.at.pass.now.trace) }
-        ensures counts { CountsSteps self.old.at.pass.now.trace self.new.at.pass.now.trace self.old.used self.new.used }
-        ensures hand { KeepsHand self.old.at.pass.now self.new.at.pass.now }
-        ensures used { (self.old.used < self.new.used) × (self.new.used ≤ self.old.budget) }
-        ensures wins { IfErr result (λ r. StandsNow self.old.at.pass.now.trace found.now.pred → NextStands self.old.at.pass.now.trace found.now.cur → IsAlone self.old.at.pass.now.trace self.new.at.pass.now.trace → ⊥) }
+        requires room { HasRoom self.old }
+        ensures settles { Settles self.old self.new }
+        ensures answers { IfOk result (RemoveAnswers self.old self.new) }
+        ensures rolls { IfErr result (RemoveRollsBack self.old self.new found.now) }
     {
         let Some(cur) = &found.cur else {
             unreachable!()
         };
+        self.at.law();
         let outcome = mark(&mut self.at, cur);
         self.used += 1;
         let marked = outcome?;
         if affords(self.budget, self.used) {
-            let (_, made) = help(&mut self.at, &found.pred, marked);
-            self.used += made;
+            self.unlink_marked(&found.pred, marked);
         }
         Ok(true)
     }
@@ -55,15 +109,11 @@ impl Call<'_> {
     // Answers a remove by what was found.
     #[inline]
     fn settle_remove(&mut self, found: &Found) -> Result<bool, Rollback>
-        requires locates { Locates self.old.at.pass.now.trace.shape (knows self.old.at.pass.now.trace) self.old.key found.now }
-        requires room { self.old.used + 8 ≤ self.old.budget }
-        ensures call { IsSameCall self.old self.new }
-        ensures made { IfOk result (λ reply. Made (set_call self.old.at.pass.now.trace.who Remove self.old.key reply) self.old.at.pass.now.trace self.new.at.pass.now.trace) }
-        ensures quiet { IfErr result (λ r. Quiet self.old.at.pass.now.trace self.new.at.pass.now.trace) }
-        ensures counts { CountsSteps self.old.at.pass.now.trace self.new.at.pass.now.trace self.old.used self.new.used }
-        ensures hand { KeepsHand self.old.at.pass.now self.new.at.pass.now }
-        ensures used { (self.old.used < self.new.used) × (self.new.used ≤ self.old.budget) }
-        ensures wins { IfErr result (λ r. StandsNow self.old.at.pass.now.trace found.now.pred → NextStands self.old.at.pass.now.trace found.now.cur → IsAlone self.old.at.pass.now.trace self.new.at.pass.now.trace → ⊥) }
+        requires locates { LocatesFor self.old found.now }
+        requires room { HasRoom self.old }
+        ensures settles { Settles self.old self.new }
+        ensures answers { IfOk result (RemoveAnswers self.old self.new) }
+        ensures rolls { IfErr result (RemoveRollsBack self.old self.new found.now) }
     {
         if found.present {
             return self.mark_and_unlink(found);
@@ -77,9 +127,11 @@ impl Call<'_> {
 
 /// Takes a key out of the set, in at most `budget` steps, and says whether it was there. The answer's
 /// point is one step: the mark of the node, or a load that finds the link of the last place before
-/// the key as it was read. A node that was marked and can't be unlinked within the budget is left
-/// to others. Whatever the call unlinked is retired when it ends, answered or not, into the own pool
-/// while that has room; and each slot that the pass could take is in its own pool then.
+/// the key as it was read. The node that it marked has then left its list: where another comes
+/// between, the call goes on as [`crate::find`] does, until the node is out, unless less than a piece
+/// is left of the budget. Nothing rolls the answer back. Whatever the call unlinked is retired when it
+/// ends, answered or not, into the own pool while that has room; and each slot that the pass could
+/// take is in its own pool then.
 ///
 /// OutOfSteps is its one refusal. While the other passes stand still, a budget of 9n + 11 is enough,
 /// with n nodes in the key's bucket.

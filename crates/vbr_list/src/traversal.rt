@@ -1,18 +1,11 @@
 //! A traversal of the list of one bucket, piece by piece.
-ghost use Rattle.std.specs.Prelude.{◌≡◌, ◌+◌, ◌*◌, ◌<◌, ◌≤◌, IsSome, IfOk, IfErr};
+ghost use Rattle.std.specs.Prelude.{◌≡◌, ◌+◌, ◌≤◌, IsSome, IfOk, IfErr};
 ghost use Rattle.vbr_words.specs.Words.{link_of};
-ghost use Rattle.vbr_words.specs.declared.place.At.TheVariants.{Head};
-ghost use Rattle.vbr_slots.specs.Alone.{IsAlone, IsFresh, LeavesLists};
 ghost use Rattle.vbr_slots.specs.Views.{knows};
-ghost use Rattle.vbr_access.specs.Alone.{StandsNow};
 ghost use Rattle.vbr_access.specs.Held.{IsMarked, Names};
-ghost use Rattle.vbr_access.specs.Keeping.{Keeps};
-ghost use Rattle.vbr_list.specs.Calls.{IsSameCall};
-ghost use Rattle.vbr_list.specs.Places.{IsInside, IsPred};
-ghost use Rattle.vbr_list.specs.Found.{IsFound};
-ghost use Rattle.vbr_list.specs.Budgets.{listed_for};
-ghost use Rattle.vbr_list.specs.Nearing.{FoundAlone, HelpsAlone, IsThere, VisitsAlone, StillAt, steps_visited};
-ghost use Rattle.vbr_list.specs.Traversal.{Goes, HasComeTo, Visits, Observes};
+ghost use Rattle.vbr_list.specs.Helping.{Helps, HelpsNone};
+ghost use Rattle.vbr_list.specs.Pieces.{GoesOn, HasRoom, IsPiece, OnlyLooks, WasAlone, pass_in, trace_in};
+ghost use Rattle.vbr_list.specs.Traversing.{Finds, IsInsideFor, IsPredFor, Meets, RollsBackFrom, SearchStops, Starts};
 
 use crate::call::Call;
 use crate::found::Found;
@@ -46,15 +39,12 @@ impl Call<'_> {
     // Starts at the head of the bucket, in three steps.
     #[inline(always)]
     pub(crate) fn start(&mut self) -> Result<Held, Rollback>
-        requires room { self.old.used + 8 ≤ self.old.budget }
-        ensures call { IsSameCall self.old self.new }
-        ensures goes { Goes self.old.at.pass.now self.new.at.pass.now self.old.used self.new.used }
-        ensures observes { Observes self.old.at.pass.now.trace self.new.at.pass.now.trace }
+        requires room { HasRoom self.old }
+        ensures goes { GoesOn self.old self.new }
+        ensures looks { OnlyLooks (trace_in self.old) (trace_in self.new) }
         ensures used { self.new.used ≡ self.old.used + 3 }
-        ensures pred { IfOk result (λ head. HasComeTo self.old.at.pass.now.trace self.new.at.pass.now.trace self.old.key head) }
-        ensures looks { IsAlone self.old.at.pass.now.trace self.new.at.pass.now.trace → LeavesLists self.old.at.pass.now.trace self.new.at.pass.now.trace }
-        ensures still { IfErr result (λ r. IsAlone self.old.at.pass.now.trace self.new.at.pass.now.trace → ⊥) }
-        ensures stands { IfOk result (λ head. IsAlone self.old.at.pass.now.trace self.new.at.pass.now.trace → StillAt self.new.at.pass.now.trace head × (head.at ≡ Head self.old.bucket)) }
+        ensures head { IfOk result (Starts self.old self.new) }
+        ensures moved { IfErr result (λ r. WasAlone self.old self.new → ⊥) }
     {
         let point = checkpoint(&mut self.at);
         let head = first(&mut self.at, &point, self.bucket);
@@ -65,19 +55,14 @@ impl Call<'_> {
     // Visits the node that the link of a place names, in three steps if it is marked, else in five.
     #[inline(always)]
     pub(crate) fn visit(&mut self, pred: &Held) -> Result<Visited, Rollback>
-        requires pred { IsInside self.old.at.pass.now.trace.shape (knows self.old.at.pass.now.trace) self.old.key pred.now }
+        requires pred { IsInsideFor self.old pred.now }
         requires some { IsSome (link_of pred.now.word).slot }
-        requires room { self.old.used + 8 ≤ self.old.budget }
-        ensures call { IsSameCall self.old self.new }
-        ensures goes { Goes self.old.at.pass.now self.new.at.pass.now self.old.used self.new.used }
-        ensures observes { Observes self.old.at.pass.now.trace self.new.at.pass.now.trace }
-        ensures used { (self.old.used < self.new.used) × (self.new.used ≤ self.old.used + 8) }
-        ensures keeps { IfOk result (λ met. Keeps (knows self.old.at.pass.now.trace) (knows self.new.at.pass.now.trace)) }
-        ensures met { IfOk result (λ met. Visits self.old.at.pass.now.trace self.new.at.pass.now.trace self.old.key pred.now met) }
-        ensures looks { IsAlone self.old.at.pass.now.trace self.new.at.pass.now.trace → LeavesLists self.old.at.pass.now.trace self.new.at.pass.now.trace }
-        ensures count { IfOk result (λ met. self.new.used ≡ self.old.used + steps_visited met) }
-        ensures still { IfErr result (λ r. IsFresh self.old.at.pass.now.trace → IsAlone self.old.at.pass.now.trace self.new.at.pass.now.trace → ⊥) }
-        ensures alone { IfOk result (λ met. IsFresh self.old.at.pass.now.trace → IsThere self.old.at.pass.now.trace pred.now → StandsNow self.old.at.pass.now.trace pred.now → IsAlone self.old.at.pass.now.trace self.new.at.pass.now.trace → VisitsAlone self.old.at.pass.now.trace self.new.at.pass.now.trace self.old.key pred.now met) }
+        requires room { HasRoom self.old }
+        ensures goes { GoesOn self.old self.new }
+        ensures looks { OnlyLooks (trace_in self.old) (trace_in self.new) }
+        ensures used { IsPiece self.old.used self.new.used }
+        ensures met { IfOk result (Meets self.old self.new pred.now) }
+        ensures moved { IfErr result (RollsBackFrom self.old self.new) }
     {
         self.at.law();
         let node = next(&mut self.at, pred);
@@ -100,17 +85,14 @@ impl Call<'_> {
     // if the epoch stayed. Few traversals meet one, so it is done apart from them.
     #[inline(always)]
     fn help(&mut self, pred: Held, marked: Marked) -> Result<Held, Rollback>
-        requires pred { IsPred self.old.at.pass.now.trace.shape (knows self.old.at.pass.now.trace) self.old.key pred }
-        requires marked { IsMarked (knows self.old.at.pass.now.trace) marked }
+        requires pred { IsPredFor self.old pred }
+        requires marked { IsMarked (knows (trace_in self.old)) marked }
         requires names { Names pred marked.slot }
-        requires room { self.old.used + 8 ≤ self.old.budget }
-        ensures call { IsSameCall self.old self.new }
-        ensures goes { Goes self.old.at.pass.now self.new.at.pass.now self.old.used self.new.used }
-        ensures used { (self.old.used ≤ self.new.used) × (self.new.used ≤ self.old.used + 8) }
-        ensures pred { IfOk result (λ place. HasComeTo self.old.at.pass.now.trace self.new.at.pass.now.trace self.old.key place) }
+        requires room { HasRoom self.old }
+        ensures goes { GoesOn self.old self.new }
         ensures few { self.new.used ≤ self.old.used + 6 }
-        ensures still { IfErr result (λ r. IsFresh self.old.at.pass.now.trace → StandsNow self.old.at.pass.now.trace pred → IsAlone self.old.at.pass.now.trace self.new.at.pass.now.trace → ⊥) }
-        ensures alone { IfOk result (λ place. IsFresh self.old.at.pass.now.trace → StandsNow self.old.at.pass.now.trace pred → IsAlone self.old.at.pass.now.trace self.new.at.pass.now.trace → HelpsAlone self.old.at.pass.now.trace self.new.at.pass.now.trace self.old.key pred place) }
+        ensures helps { IfOk result (Helps (pass_in self.old) (pass_in self.new) pred) }
+        ensures lost { IfErr result (HelpsNone (pass_in self.old) (pass_in self.new) pred) }
     {
         let (outcome, made) = help_by_copy(&mut self.at, pred, marked);
         self.used += made;
@@ -120,16 +102,9 @@ impl Call<'_> {
     /// One traversal from the head to the key.
     #[inline(always)]
     pub(crate) fn traverse(&mut self) -> Result<Found, Stop>
-        ensures call { IsSameCall self.old self.new }
-        ensures goes { Goes self.old.at.pass.now self.new.at.pass.now self.old.used self.new.used }
-        ensures more { self.old.used ≤ self.new.used }
-        ensures again { IfErr result (λ stop. stop ≡ Stop.Again → self.old.used < self.new.used) }
-        ensures tired { IfErr result (λ stop. stop ≡ Stop.Tired → self.old.budget < self.new.used + 8) }
-        ensures found { IfOk result (λ found. IsFound self.old.at.pass.now.trace self.new.at.pass.now.trace self.old.key found) }
-        ensures used { IfOk result (λ found. found.used ≡ self.new.used) }
-        ensures still { IfErr result (λ stop. stop ≡ Stop.Again → IsAlone self.old.at.pass.now.trace self.new.at.pass.now.trace → ⊥) }
-        ensures short { IfErr result (λ stop. stop ≡ Stop.Tired → IsAlone self.old.at.pass.now.trace self.new.at.pass.now.trace → self.old.budget < self.old.used + 9 * listed_for self.old.at.pass.now.trace self.old.key + 11) }
-        ensures alone { IfOk result (λ found. IsAlone self.old.at.pass.now.trace self.new.at.pass.now.trace → FoundAlone self.old.at.pass.now.trace self.new.at.pass.now.trace self.old.key self.old.used self.new.used found) }
+        ensures goes { GoesOn self.old self.new }
+        ensures found { IfOk result (Finds self.old self.new) }
+        ensures stopped { IfErr result (SearchStops self.old self.new) }
     {
         if !affords(self.budget, self.used) {
             return Err(Stop::Tired);

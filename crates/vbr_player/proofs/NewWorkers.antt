@@ -3,8 +3,8 @@ use Rattle.std.proofs.Common.{◌≡◌, ℕ, zero, suc, ◌+◌, ◌≤◌, get
 use Rattle.std.specs.Prelude.{All, None}
 use Rattle.std.specs.List.{AllZip}
 use Rattle.std.proofs.lemmas.List.Elements.{All-nil, All-cons}
-use Rattle.vbr_core.specs.Runs.{Begins}
-use Rattle.vbr_core.specs.declared.event.Event.{Event}
+use Rattle.vbr_machine.specs.Runs.{Begins}
+use Rattle.vbr_machine.specs.declared.event.Event.{Event}
 use Rattle.vbr_slots.specs.Views.{PassView, TableView, IsOf, new_pass, new_passes}
 use Rattle.vbr_slots.specs.Calls.{made_by}
 use Rattle.vbr_set.specs.Members.{MemberView}

@@ -6,12 +6,12 @@ use Rattle.std.proofs.lemmas.List.Elements.{All-head}
 use Rattle.std.proofs.Math.ListN.{get_or-eq_default}
 use Rattle.std.specs.Prelude.{zip, All}
 use Rattle.vbr_words.specs.Dimensions.{Dimensions}
-use Rattle.vbr_core.specs.Calls.{own_calls}
-use Rattle.vbr_core.specs.Runs.{Begins, BeginsFor, world_after}
-use Rattle.vbr_core.specs.Safety.{IsSafe}
-use Rattle.vbr_core.specs.declared.event.Event.{Event}
-use Rattle.vbr_core.specs.declared.history.Op.{Op}
-use Rattle.vbr_core.proofs.Lemmas.{begins_for_begins, begins_trans, others_leave_calls}
+use Rattle.vbr_machine.specs.Calls.{own_calls}
+use Rattle.vbr_machine.specs.Runs.{Begins, BeginsFor, world_after}
+use Rattle.vbr_machine.specs.Safety.{IsSafe}
+use Rattle.vbr_machine.specs.declared.event.Event.{Event}
+use Rattle.vbr_machine.specs.declared.history.Op.{Op}
+use Rattle.vbr_machine.proofs.Lemmas.{begins_for_begins, begins_trans, others_leave_calls}
 use Rattle.vbr_slots.specs.Closing.{EachSeen}
 use Rattle.vbr_slots.specs.Views.{Trace, TableView}
 use Rattle.vbr_transcript.specs.Calls.{Outcome, answered_calls, lines_by}

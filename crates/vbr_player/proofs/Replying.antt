@@ -1,10 +1,10 @@
 -- What the set's answer to a line says of its reply.
 use Rattle.std.proofs.Common.{◌≡◌, ℕ, Bool, true, false, append-nil, refl, sym, subst, ◌∙◌, arith}
 use Rattle.std.specs.Prelude.{Result, Ok, Err}
-use Rattle.vbr_core.specs.History.{set_call}
-use Rattle.vbr_core.specs.Safety.{IsSafe}
-use Rattle.vbr_core.specs.declared.history.Op.{Op}
-use Rattle.vbr_core.specs.declared.history.Op.TheVariants.{Insert, Remove, Has, Get}
+use Rattle.vbr_machine.specs.History.{set_call}
+use Rattle.vbr_machine.specs.Safety.{IsSafe}
+use Rattle.vbr_machine.specs.declared.history.Op.{Op}
+use Rattle.vbr_machine.specs.declared.history.Op.TheVariants.{Insert, Remove, Has, Get}
 use Rattle.vbr_slots.specs.Views.{PassView}
 use Rattle.vbr_list.specs.declared.refusal.Refusal.{Refusal}
 use Rattle.vbr_list.specs.declared.refusal.Refusal.TheVariants.{OutOfSteps, NoSlot, EpochSpent}

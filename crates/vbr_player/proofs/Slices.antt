@@ -6,7 +6,7 @@ use Rattle.std.proofs.lemmas.List.Concat.{flat_map-append}
 use Rattle.std.proofs.lemmas.List.Elements.{All-nil, All-cons, All-head, filter-append}
 use Rattle.std.specs.Prelude.{nat_le, zip, All}
 use Rattle.std.specs.List.{prefix_len}
-use Rattle.vbr_core.specs.declared.history.Call.{Call}
+use Rattle.vbr_machine.specs.declared.history.Call.{Call}
 use Rattle.vbr_transcript.specs.Calls.{Outcome, answer_of, answered_calls, lines_by, lines_up_to}
 use Rattle.vbr_script.specs.Scripts.{AscendFrom}
 use Rattle.vbr_script.specs.declared.script.Line.{Line}

@@ -6,7 +6,7 @@ use Rattle.std.proofs.lemmas.List.{drop_all, drop-drop, length-take, take-append
 use Rattle.std.proofs.Math.Seq.{drop-cons}
 use Rattle.std.proofs.lemmas.List.Elements.{All-drop, All-take}
 use Rattle.vbr_words.specs.Dimensions.{Dimensions}
-use Rattle.vbr_core.specs.declared.history.Op.TheVariants.{Get}
+use Rattle.vbr_machine.specs.declared.history.Op.TheVariants.{Get}
 use Rattle.vbr_slots.specs.Views.{TableView}
 use Rattle.vbr_set.specs.declared.report.Report.{Report}
 use Rattle.vbr_script.specs.Scripts.{ArePhased, AreRenewalsFrom, AscendFrom}

@@ -5,9 +5,9 @@ use Rattle.std.proofs.lemmas.Grind.{flat_map-append}
 use Rattle.std.proofs.lemmas.List.{take_more, take-append-drop}
 use Rattle.std.proofs.Math.Seq.{drop-cons}
 use Rattle.std.proofs.lemmas.List.Elements.{filter-append, All-append}
-use Rattle.vbr_core.specs.Runs.{Begins}
-use Rattle.vbr_core.specs.declared.history.Op.{Op}
-use Rattle.vbr_core.proofs.Lemmas.{begins_trans}
+use Rattle.vbr_machine.specs.Runs.{Begins}
+use Rattle.vbr_machine.specs.declared.history.Op.{Op}
+use Rattle.vbr_machine.proofs.Lemmas.{begins_trans}
 use Rattle.vbr_slots.specs.Calls.{IsSame, made_by}
 use Rattle.vbr_slots.specs.Views.{Trace}
 use Rattle.vbr_slots.proofs.Lemmas.{same_on}

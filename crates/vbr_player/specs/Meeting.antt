@@ -1,8 +1,8 @@
 -- What workers have seen that have met.
 use Rattle.std.specs.Prelude.{◌≡◌, List, All}
 use Rattle.std.specs.List.{AllZip}
-use Rattle.vbr_core.specs.Runs.{Begins}
-use Rattle.vbr_core.specs.declared.event.Event.{Event}
+use Rattle.vbr_machine.specs.Runs.{Begins}
+use Rattle.vbr_machine.specs.declared.event.Event.{Event}
 use Rattle.vbr_slots.specs.Calls.{IsSame, Quiet, made_by}
 use Rattle.vbr_slots.specs.Views.{KeepsPool, TableView}
 use Rattle.vbr_set.specs.Members.{MemberView}

@@ -1,10 +1,10 @@
 -- What is played on one set of a script, and how the next set follows. Only contracts of private functions cite this.
 use Rattle.std.specs.Prelude.{◌≡◌, ℕ, ◌≤◌, List, length, zip}
-use Rattle.vbr_core.specs.Keys.{AreKeysOf}
-use Rattle.vbr_core.specs.Opened.{opening_keys}
-use Rattle.vbr_core.specs.History.{set_after}
-use Rattle.vbr_core.specs.Runs.{world_after}
-use Rattle.vbr_core.specs.declared.event.Event.{Event}
+use Rattle.vbr_machine.specs.Keys.{AreKeysOf}
+use Rattle.vbr_machine.specs.Opened.{opening_keys}
+use Rattle.vbr_machine.specs.History.{set_after}
+use Rattle.vbr_machine.specs.Runs.{world_after}
+use Rattle.vbr_machine.specs.declared.event.Event.{Event}
 use Rattle.vbr_slots.specs.Views.{PassView, TableView}
 use Rattle.vbr_set.specs.declared.report.Report.{Report}
 use Rattle.vbr_script.specs.Scripts.{ArePhased, AscendFrom}

@@ -1,8 +1,8 @@
 -- Where the workers of a script stand between its phases.
 use Rattle.std.specs.Prelude.{◌≡◌, ℕ, suc, ◌<◌, ◌≤◌, List, [], ◌∷◌, length, map, zip, All}
 use Rattle.std.specs.Vec.{vec_capacity}
-use Rattle.vbr_core.specs.Runs.{Begins}
-use Rattle.vbr_core.specs.declared.event.Event.{Event}
+use Rattle.vbr_machine.specs.Runs.{Begins}
+use Rattle.vbr_machine.specs.declared.event.Event.{Event}
 use Rattle.vbr_slots.specs.Calls.{made_by}
 use Rattle.vbr_slots.specs.Views.{PassView, TableView, IsOf}
 use Rattle.vbr_transcript.specs.Calls.{answered_calls, lines_by, lines_up_to}

@@ -3,7 +3,7 @@ ghost use Rattle.std.specs.Prelude.{◌≡◌, All};
 ghost use Rattle.std.specs.List.{AllZip};
 ghost use Rattle.vbr_slots.specs.Calls.{Quiet};
 ghost use Rattle.vbr_slots.specs.Views.{KeepsPool};
-ghost use Rattle.vbr_core.specs.Runs.{Begins};
+ghost use Rattle.vbr_machine.specs.Runs.{Begins};
 ghost use Rattle.vbr_player.specs.Meeting.{AreOfOne, HasSeenMore, Meets, MeetsOthers};
 
 use crate::worker::Worker;

@@ -1,6 +1,6 @@
 // What a worker is given to play.
 ghost use Rattle.std.specs.Prelude.{◌≡◌, ◌≢◌, ◌+◌, ◌-◌, ◌<◌, ◌≤◌, ◌^◌, All, length, take, drop};
-ghost use Rattle.vbr_core.specs.declared.history.Op.TheVariants.{Get};
+ghost use Rattle.vbr_machine.specs.declared.history.Op.TheVariants.{Get};
 ghost use Rattle.vbr_player.specs.Working.{HasRoom};
 
 use crate::worker::Worker;

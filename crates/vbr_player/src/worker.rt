@@ -1,11 +1,11 @@
 // A worker: it plays its lines of a script, one after the other.
 ghost use Rattle.std.specs.Prelude.{◌≡◌, ◌≢◌, [], ◌∷◌};
-ghost use Rattle.vbr_core.specs.declared.history.Op.TheVariants.{Get};
+ghost use Rattle.vbr_machine.specs.declared.history.Op.TheVariants.{Get};
 ghost use Rattle.vbr_player.specs.Working.{reply_told, HasRoom, Replied, Played};
 
 use crate::gate::Gate;
 use crate::part::{Part, Task};
-use vbr_core::Op;
+use vbr_machine::Op;
 use vbr_script::Line;
 use vbr_set::{Refusal, VbrSetRef};
 use vbr_transcript::Reply;

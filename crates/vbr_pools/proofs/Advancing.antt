@@ -7,17 +7,17 @@ use Rattle.std.proofs.lemmas.List.Sums.{sum_by-append}
 use Rattle.vbr_words.specs.Dimensions.{Dimensions}
 use Rattle.vbr_words.specs.Flags.{has_flag}
 use Rattle.vbr_words.specs.declared.link.Link.{Link}
-use Rattle.vbr_core.specs.Put.{put}
-use Rattle.vbr_core.specs.Acceptance.{IsUnlinked, MayBear, stamp_in}
-use Rattle.vbr_core.specs.Knowledge.{Know}
-use Rattle.vbr_core.specs.Learning.{learn, reread, with_key, with_value, with_link}
-use Rattle.vbr_core.specs.Runs.{IsRun, NoneOf, know_after, Begins}
-use Rattle.vbr_core.specs.declared.event.Event.{Event}
-use Rattle.vbr_core.specs.declared.event.Step.{Step}
-use Rattle.vbr_core.specs.declared.event.Step.TheVariants.{ReadEpoch, Advance, LoadStamp, StoreStamp, Raise, TakeFlag, StoreBirth, StoreKey, StoreLink, LoadLink, LoadBirth, LoadKey, Publish, Mark, Unlink, ConfirmPresent, ConfirmAbsent, StoreValue, LoadValue}
-use Rattle.vbr_core.specs.declared.knowledge.Holding.{Holding}
-use Rattle.vbr_core.specs.declared.knowledge.Holding.TheVariants.{Free, Unlinked, InHand}
-use Rattle.vbr_core.proofs.Lemmas.{begins_trans, others_leave_know, put_here, put_other}
+use Rattle.vbr_machine.specs.Put.{put}
+use Rattle.vbr_machine.specs.Acceptance.{IsUnlinked, MayBear, stamp_in}
+use Rattle.vbr_machine.specs.Knowledge.{Know}
+use Rattle.vbr_machine.specs.Learning.{learn, reread, with_key, with_value, with_link}
+use Rattle.vbr_machine.specs.Runs.{IsRun, NoneOf, know_after, Begins}
+use Rattle.vbr_machine.specs.declared.event.Event.{Event}
+use Rattle.vbr_machine.specs.declared.event.Step.{Step}
+use Rattle.vbr_machine.specs.declared.event.Step.TheVariants.{ReadEpoch, Advance, LoadStamp, StoreStamp, Raise, TakeFlag, StoreBirth, StoreKey, StoreLink, LoadLink, LoadBirth, LoadKey, Publish, Mark, Unlink, ConfirmPresent, ConfirmAbsent, StoreValue, LoadValue}
+use Rattle.vbr_machine.specs.declared.knowledge.Holding.{Holding}
+use Rattle.vbr_machine.specs.declared.knowledge.Holding.TheVariants.{Free, Unlinked, InHand}
+use Rattle.vbr_machine.proofs.Lemmas.{begins_trans, others_leave_know, put_here, put_other}
 use Rattle.vbr_slots.specs.Calls.{Quiet}
 use Rattle.vbr_slots.specs.Pools.{hand_without}
 use Rattle.vbr_slots.specs.Rule.{one_if}
@@ -204,25 +204,25 @@ may_reread : (holding : Option Holding) → MayBear (reread holding) → MayBear
 may_reread None m = m
 may_reread (Some (Free stamp)) m = m
 may_reread (Some (Unlinked seen)) m = m
-may_reread (Some (InHand stamp birth key value link)) m = m
+may_reread (Some (InHand known)) m = m
 
 may_keyed : (holding : Option Holding) (key : ℕ) → MayBear (with_key holding key) → MayBear holding
 may_keyed None key m = m
 may_keyed (Some (Free stamp)) key m = m
 may_keyed (Some (Unlinked seen)) key m = m
-may_keyed (Some (InHand stamp birth k value link)) key m = m
+may_keyed (Some (InHand known)) key m = m
 
 may_valued : (holding : Option Holding) (value : ℕ) → MayBear (with_value holding value) → MayBear holding
 may_valued None value m = m
 may_valued (Some (Free stamp)) value m = m
 may_valued (Some (Unlinked seen)) value m = m
-may_valued (Some (InHand stamp birth key v link)) value m = m
+may_valued (Some (InHand known)) value m = m
 
 may_linked : (holding : Option Holding) (link : Link) → MayBear (with_link holding link) → MayBear holding
 may_linked None link m = m
 may_linked (Some (Free stamp)) link m = m
 may_linked (Some (Unlinked seen)) link m = m
-may_linked (Some (InHand stamp birth key value l)) link m = m
+may_linked (Some (InHand known)) link m = m
 
 -- the slot at which a function was changed, or another one
 may_put : (own : ℕ → Option Holding) (slot : ℕ) (holding : Option Holding) (s : ℕ) → (MayBear holding → MayBear (own slot)) → MayBear (put own slot holding s) → MayBear (own s)
@@ -262,25 +262,25 @@ unlinked_reread : (holding : Option Holding) → IsUnlinked (reread holding) →
 unlinked_reread None u = u
 unlinked_reread (Some (Free stamp)) u = u
 unlinked_reread (Some (Unlinked seen)) u = tt
-unlinked_reread (Some (InHand stamp birth key value link)) u = u
+unlinked_reread (Some (InHand known)) u = u
 
 unlinked_keyed : (holding : Option Holding) (key : ℕ) → IsUnlinked (with_key holding key) → IsUnlinked holding
 unlinked_keyed None key u = u
 unlinked_keyed (Some (Free stamp)) key u = u
 unlinked_keyed (Some (Unlinked seen)) key u = u
-unlinked_keyed (Some (InHand stamp birth k value link)) key u = u
+unlinked_keyed (Some (InHand known)) key u = u
 
 unlinked_valued : (holding : Option Holding) (value : ℕ) → IsUnlinked (with_value holding value) → IsUnlinked holding
 unlinked_valued None value u = u
 unlinked_valued (Some (Free stamp)) value u = u
 unlinked_valued (Some (Unlinked seen)) value u = u
-unlinked_valued (Some (InHand stamp birth key v link)) value u = u
+unlinked_valued (Some (InHand known)) value u = u
 
 unlinked_linked : (holding : Option Holding) (link : Link) → IsUnlinked (with_link holding link) → IsUnlinked holding
 unlinked_linked None link u = u
 unlinked_linked (Some (Free stamp)) link u = u
 unlinked_linked (Some (Unlinked seen)) link u = u
-unlinked_linked (Some (InHand stamp birth key value l)) link u = u
+unlinked_linked (Some (InHand known)) link u = u
 
 -- the slot at which a function was changed, or another one
 unlinked_put : (own : ℕ → Option Holding) (slot : ℕ) (holding : Option Holding) (s : ℕ) → (IsUnlinked holding → IsUnlinked (own slot)) → IsUnlinked (put own slot holding s) → IsUnlinked (own s)

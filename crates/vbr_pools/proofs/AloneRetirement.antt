@@ -1,8 +1,8 @@
 -- A slot that is retired by a pass that was alone: the lists are as they were, and the epoch that was read still stands.
 use Rattle.std.proofs.Common.{ℕ, refl, sym, ◌∙◌, subst}
 use Rattle.vbr_words.specs.Dimensions.{Dimensions, IsShape}
-use Rattle.vbr_core.specs.declared.event.Step.{Step}
-use Rattle.vbr_core.specs.declared.event.Step.TheVariants.{ReadEpoch, StoreStamp, Raise}
+use Rattle.vbr_machine.specs.declared.event.Step.{Step}
+use Rattle.vbr_machine.specs.declared.event.Step.TheVariants.{ReadEpoch, StoreStamp, Raise}
 use Rattle.vbr_slots.specs.Alone.{IsAlone, IsFresh, LeavesLists}
 use Rattle.vbr_slots.specs.Views.{Trace, Did, knows}
 use Rattle.vbr_slots.proofs.Lemmas.{alone_three, alone_two, epoch_now, leaves_on, looks, raise_leaves_lists, same_leaves, stamp_leaves_lists}

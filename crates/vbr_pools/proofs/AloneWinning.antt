@@ -3,11 +3,11 @@ use Rattle.std.proofs.Common.{◌≡◌, ℕ, ◌+◌, ◌*◌, ◌≤◌, Bool,
 use Rattle.vbr_words.specs.Dimensions.{Dimensions}
 use Rattle.vbr_words.specs.Flags.{word_of_flag, has_flag, IsNextFlag}
 use Rattle.vbr_words.specs.declared.place.Place.TheVariants as place
-use Rattle.vbr_core.specs.Machine.{World, word_at, found}
-use Rattle.vbr_core.specs.Runs.{world_after}
-use Rattle.vbr_core.specs.declared.event.Event.{Event}
-use Rattle.vbr_core.specs.declared.event.Step.TheVariants.{TakeFlag}
-use Rattle.vbr_core.proofs.Lemmas.{word_told, world_after-snoc}
+use Rattle.vbr_machine.specs.Machine.{World, word_at, found}
+use Rattle.vbr_machine.specs.Runs.{world_after}
+use Rattle.vbr_machine.specs.declared.event.Event.{Event}
+use Rattle.vbr_machine.specs.declared.event.Step.TheVariants.{TakeFlag}
+use Rattle.vbr_machine.proofs.Lemmas.{word_told, world_after-snoc}
 use Rattle.vbr_slots.specs.Alone.{IsAlone}
 use Rattle.vbr_slots.specs.Views.{Trace, Did, event_of}
 use Rattle.vbr_slots.proofs.Lemmas.{before_it, seen_next}

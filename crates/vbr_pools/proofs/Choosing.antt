@@ -3,23 +3,24 @@ use Rattle.std.proofs.Common.{◌≡◌, ◌≢◌, ℕ, ◌+◌, ◌<◌, ◌�
 use Rattle.std.specs.Prelude.{Contains}
 use Rattle.std.proofs.lemmas.List.Elements.{All-contains, Contains-get_or}
 use Rattle.vbr_words.specs.Dimensions.{IsShape}
-use Rattle.vbr_core.specs.Acceptance.{MayBear, stamp_in}
-use Rattle.vbr_core.specs.Knowledge.{Know}
-use Rattle.vbr_core.specs.declared.event.Step.TheVariants.{ReadEpoch, Advance}
+use Rattle.vbr_machine.specs.Acceptance.{MayBear, stamp_in}
+use Rattle.vbr_machine.specs.Knowledge.{Know}
+use Rattle.vbr_machine.specs.declared.event.Step.TheVariants.{ReadEpoch, Advance}
 use Rattle.vbr_slots.specs.Calls.{Quiet}
-use Rattle.vbr_slots.specs.Pools.{IsPooled, OwnPool}
+use Rattle.vbr_slots.specs.PassLaw.{PassLaw}
+use Rattle.vbr_slots.specs.Pools.{IsPooled}
 use Rattle.vbr_slots.specs.Views.{PassView, KeepsPool, Did, knows}
-use Rattle.vbr_slots.proofs.Lemmas.{did_quiet, quiet_on}
+use Rattle.vbr_slots.proofs.Lemmas.{did_quiet, quiet_on, quiet_refl}
 use Rattle.vbr_pools.specs.Advances.{AdvancesOnce}
 use Rattle.vbr_pools.specs.KeptSlots.{HasSlot, KeepsSlots, SharesWhereFull, TakesNoSlot}
-use Rattle.vbr_pools.specs.Pieces.{Uses, NoRoom, TakeIsShort, Stops, ShowsSpent, IsStampedBelow, IsScanned, IsChosen}
+use Rattle.vbr_pools.specs.Pieces.{Chooses, ChoosesNone, IsChosen, IsScanned, IsShortOrSpent, IsStampedBelow, Scans, ScansPart, Uses}
 use Rattle.vbr_pools.specs.Refusals.{AllStamped}
 use Rattle.vbr_pools.specs.Steps.{CountsSteps}
 use Rattle.vbr_pools.specs.Taking.{IsOldest}
 use Rattle.vbr_pools.specs.declared.refusal.TakeRefusal.{TakeRefusal}
-use Rattle.vbr_pools.specs.declared.refusal.TakeRefusal.TheVariants.{OutOfSteps, NoSlot, EpochSpent}
-use Rattle.vbr_pools.proofs.Advancing.{same_advances, same_flags, nobody, keeps_on, keeps_known, none_on, did_none, once, once_after, once_before}
-use Rattle.vbr_pools.proofs.Counting.{counts_one, counts_on, uses_on, uses_more}
+use Rattle.vbr_pools.specs.declared.refusal.TakeRefusal.TheVariants.{OutOfSteps, EpochSpent}
+use Rattle.vbr_pools.proofs.Advancing.{same_advances, same_flags, nobody, keeps_on, keeps_refl, keeps_known, shared_on, none_on, did_none, once, once_after, once_before}
+use Rattle.vbr_pools.proofs.Counting.{counts_none, counts_one, counts_on, uses_on, uses_more}
 use Rattle.vbr_pools.proofs.Moments.{epoch_told}
 use Rattle.vbr_pools.proofs.EpochReads.{stamps_reread, stamps_low, read_above}
 
@@ -29,75 +30,94 @@ some_slot [] some = absurd (some refl)
 some_slot (x ∷ xs) some = omega arith
 
 -- no slot is lost where the epoch is read and the pool is looked through
-pub none_read : {p q r : PassView} {e : ℕ} → Did ReadEpoch p.trace q.trace e → KeepsPool p q → TakesNoSlot q r → TakesNoSlot p r
+none_read : {p q r : PassView} {e : ℕ} → Did ReadEpoch p.trace q.trace e → KeepsPool p q → TakesNoSlot q r → TakesNoSlot p r
 none_read read pool looked = none_on (did_none read refl pool) looked
 
 -- and where the epoch is advanced and read
-pub kept_raised : (p q r : PassView) {e n f : ℕ} → Did (Advance e) p.trace q.trace n → Did ReadEpoch q.trace r.trace f → KeepsPool p q → KeepsPool q r → KeepsSlots p r
+kept_raised : (p q r : PassView) {e n f : ℕ} → Did (Advance e) p.trace q.trace n → Did ReadEpoch q.trace r.trace f → KeepsPool p q → KeepsPool q r → KeepsSlots p r
 kept_raised p q r advance again keeps still = keeps_on p q r (keeps_known p q keeps (λ s. ap (λ (k : Know). k.own s) advance.know)) (let none : TakesNoSlot q r = did_none again refl still in none.kept)
 
-pub shared_raised : (p q r : PassView) {e n f : ℕ} → Did (Advance e) p.trace q.trace n → Did ReadEpoch q.trace r.trace f → SharesWhereFull 1 p r
+shared_raised : (p q r : PassView) {e n f : ℕ} → Did (Advance e) p.trace q.trace n → Did ReadEpoch q.trace r.trace f → SharesWhereFull 1 p r
 shared_raised p q r advance again = inl (same_flags again refl ∙ same_flags advance refl)
 
+-- nothing was done yet
+pub chooses_refl : (p : PassView) → Chooses p p
+chooses_refl p = record { quiet = quiet_refl p.trace; pool = (refl, refl); kept = keeps_refl p; shared = inl refl; advances = inl refl }
+
+pub short_first : (p : PassView) (budget used : ℕ) → used ≤ budget → budget < used + 8 → ChoosesNone p p budget used (OutOfSteps used, used)
+short_first p budget used within short = record {
+  uses = record { counts = counts_none p.trace used; within = within; at_most = omega arith };
+  why = (refl, short);
+}
+
 -- the epoch was read, and then the pool was looked through
-module _ (p q r : PassView) (e budget used : ℕ) (read : Did ReadEpoch p.trace q.trace e) (room : used + 8 ≤ budget) (quiet : Quiet q.trace r.trace) (known : knows r.trace ≡ knows q.trace) (stayed : q.pool ≡ p.pool) where
+module _ (p q r : PassView) (e budget used : ℕ) (read : Did ReadEpoch p.trace q.trace e) (room : used + 8 ≤ budget) (stayed : KeepsPool p q) (scans : Scans q r) where
   long : length q.pool ≡ length p.pool
-  long = ap length stayed
+  long = ap length stayed.0
 
   quiet_then : Quiet p.trace r.trace
-  quiet_then = quiet_on (did_quiet read (λ know. refl)) quiet
+  quiet_then = quiet_on (did_quiet read (λ know. refl)) scans.quiet
+
+  none_then : TakesNoSlot p r
+  none_then = none_read read stayed scans.takes_no_slot
+
+  keeps_then : KeepsPool p r
+  keeps_then = (scans.pool.0 ∙ stayed.0, scans.pool.1 ∙ stayed.1)
+
+  pub chooses_then : Chooses p r
+  chooses_then = record { quiet = quiet_then; pool = keeps_then; kept = none_then.kept; shared = none_then.shared; advances = inl none_then.count }
 
   first : Uses p q budget used (used + 1) 1
   first = record { counts = counts_one used read; within = omega arith; at_most = omega arith }
 
   last_read : (knows r.trace).epoch ≡ e
-  last_read = ap (λ (k : Know). k.epoch) known ∙ epoch_told read
+  last_read = ap (λ (k : Know). k.epoch) scans.known ∙ epoch_told read
 
-  pub told_then : (since : ℕ) → Uses q r budget (used + 1) since (length q.pool) → Uses p r budget used since (length p.pool + 1)
-  told_then since uses = uses_more (length p.pool + 1) (let e = long in omega arith) (uses_on first uses)
+  uses_then : {since : ℕ} → Uses q r budget (used + 1) since (length q.pool) → Uses p r budget used since (length p.pool + 1)
+  uses_then uses = uses_more (length p.pool + 1) (let e = long in omega arith) (uses_on first uses)
 
-  pub short_then : (refusal : TakeRefusal) → TakeIsShort q r budget (used + 1) (length q.pool) refusal → Stops p r budget used (length p.pool + 1) refusal
-  short_then (OutOfSteps n) s = record { uses = uses_more (length p.pool + 1) (let e = long in omega arith) (uses_on first s.uses); short = s.short }
-  short_then NoSlot s = s
-  short_then (EpochSpent n) s = absurd s
+  -- the budget had no room to look it through
+  pub short_then : (told : TakeRefusal × ℕ) → ScansPart q r budget (used + 1) told → ChoosesNone p r budget used told
+  short_then told part = record { uses = uses_then part.uses; why = subst (IsShortOrSpent r budget told.1) (sym part.why) (refl, part.short) }
 
-  module _ (found : Option ℕ) (since : ℕ) (scanned : IsScanned q r e budget (used + 1) found since) where
+  module _ (found : Option ℕ) (since : ℕ) (scanned : IsScanned q r e budget (used + 1) (found, since)) where
     uses : Uses p r budget used since (length p.pool + 1)
-    uses = uses_more (length p.pool + 1) (let e = long in omega arith) (uses_on first scanned.uses)
+    uses = uses_then scanned.uses
 
-    pub chosen_then : (slot : ℕ) → found ≡ Some slot → IsChosen p r budget used slot since
+    pub chosen_then : (slot : ℕ) → found ≡ Some slot → IsChosen p r budget used (slot, since)
     chosen_then slot is = record {
       uses = uses_more (length p.pool + 3) (omega arith) uses;
       below = subst (λ (x : ℕ × Option ℕ). IsStampedBelow r x.0 x.1) (λ i. (sym last_read i, is i)) scanned.below;
     }
 
-    pub told_full : Uses p r budget used since (length p.pool + 1)
-    told_full = uses
+    -- or none to advance the epoch
+    pub full_then : budget < since + 8 → ChoosesNone p r budget used (OutOfSteps since, since)
+    full_then short = record { uses = uses; why = (refl, short) }
 
-    pub full_then : budget < since + 8 → NoRoom p r budget used (length p.pool + 1) since
-    full_then short = record { uses = uses; short = short }
-
-    module _ (none : found ≡ None) (own : OwnPool r.trace.shape (knows r.trace) r.pool r.hand) (is : IsShape r.trace.shape) where
+    module _ (none : found ≡ None) (law : PassLaw r) where
       may : (slot : ℕ) → Contains r.pool slot → MayBear ((knows r.trace).own slot)
-      may slot has = (All-contains (IsPooled r.trace.shape (knows r.trace)) r.pool slot own.pooled has).1
+      may slot has = (All-contains (IsPooled r.trace.shape (knows r.trace)) r.pool slot law.own.pooled has).1
 
       high : (slot : ℕ) → Contains r.pool slot → e ≤ stamp_in ((knows r.trace).own slot)
       high slot has = All-contains (λ (s : ℕ). e ≤ stamp_in ((knows r.trace).own s)) r.pool slot (subst (IsStampedBelow r e) none scanned.below) has
 
       low : (slot : ℕ) → Contains r.pool slot → stamp_in ((knows r.trace).own slot) ≤ e
       low slot has =
-          subst (λ (k : Know). MayBear (k.own slot) → stamp_in (k.own slot) ≤ e) (sym known) (stamps_low read (subst IsShape quiet.same.shape is) slot) (may slot has)
+          subst (λ (k : Know). MayBear (k.own slot) → stamp_in (k.own slot) ≤ e) (sym scans.known) (stamps_low read (subst IsShape scans.quiet.same.shape law.shape) slot) (may slot has)
 
       stamped : AllStamped r e
       stamped k d less = let has = Contains-get_or r.pool k d less in let h = high (get_or r.pool k d) has in let l = low (get_or r.pool k d) has in omega arith
 
-      pub spent_then : r.pool ≢ [] → e ≡ r.trace.shape.last_epoch → since + 8 ≤ budget → ShowsSpent p r budget used (length p.pool + 1) e
-      spent_then some last left = record { spent = record { last = last; last_read = last_read; some = some; stamped = stamped }; since = since; uses = uses; room = left }
+      some_then : p.pool ≢ [] → r.pool ≢ []
+      some_then some none = some (sym keeps_then.0 ∙ none)
+
+      pub spent_then : p.pool ≢ [] → e ≡ r.trace.shape.last_epoch → since + 8 ≤ budget → ChoosesNone p r budget used (EpochSpent e, since)
+      spent_then some last left = record { uses = uses; why = (record { last = last; last_read = last_read; some = some_then some; stamped = stamped }, left) }
 
       -- and the epoch was advanced, and read again
-      module _ (s t : PassView) (n f : ℕ) (advance : Did (Advance e) r.trace s.trace n) (again : Did ReadEpoch s.trace t.trace f) (keeps : KeepsPool r s) (still : KeepsPool s t) (empty : r.hand ≡ None) where
+      module _ (s t : PassView) (n f : ℕ) (advance : Did (Advance e) r.trace s.trace n) (again : Did ReadEpoch s.trace t.trace f) (keeps : KeepsPool r s) (still : KeepsPool s t) (empty : p.hand ≡ None) where
         rises : e < f
-        rises = read_above is advance again last_read
+        rises = read_above law.shape advance again last_read
 
         stamps_since : (slot : ℕ) → stamp_in ((knows t.trace).own slot) ≡ stamp_in ((knows s.trace).own slot)
         stamps_since slot = stamps_reread again slot
@@ -105,31 +125,40 @@ module _ (p q r : PassView) (e budget used : ℕ) (read : Did ReadEpoch p.trace 
         stamps_first : (slot : ℕ) → stamp_in ((knows s.trace).own slot) ≡ stamp_in ((knows r.trace).own slot)
         stamps_first slot = ap (λ (k : Know). stamp_in (k.own slot)) advance.know
 
-        pub raised_quiet : Quiet p.trace t.trace
-        raised_quiet = quiet_on quiet_then (quiet_on (did_quiet advance (λ know. refl)) (did_quiet again (λ know. refl)))
+        quiet_again : Quiet s.trace t.trace
+        quiet_again = did_quiet again (λ know. refl)
 
-        pub raised_chosen : (pool : List ℕ) → pool ≡ t.pool → r.pool ≢ [] → since + 8 ≤ budget → IsChosen p t budget used (get_or pool 0 0) (since + 2)
+        raised_once : AdvancesOnce p t
+        raised_once =
+            once_after {p = p} {q = r} {r = t} quiet_then none_then
+            (once_before {p = r} {q = s} {r = t} (once {p = r} {q = s} advance last_read (λ slot has. high slot (held slot has))) quiet_again.seen quiet_again.is_run (same_advances again refl))
+          where
+            held : (slot : ℕ) → HasSlot r slot → Contains r.pool slot
+            held slot (inl c) = c
+            held slot (inr h) = nobody r.hand slot (keeps_then.1 ∙ empty) h
+
+        pub raised_chooses : Chooses p t
+        raised_chooses = record {
+          quiet = quiet_on quiet_then (quiet_on (did_quiet advance (λ know. refl)) quiet_again);
+          pool = (still.0 ∙ keeps.0 ∙ keeps_then.0, still.1 ∙ keeps.1 ∙ keeps_then.1);
+          kept = keeps_on p r t none_then.kept (kept_raised r s t advance again keeps still);
+          shared = shared_on p r t 1 none_then.shared (let e = ap length (still.0 ∙ keeps.0) in omega arith) (shared_raised r s t advance again);
+          advances = inr raised_once;
+        }
+
+        pub raised_chosen : (pool : List ℕ) → pool ≡ t.pool → p.pool ≢ [] → since + 8 ≤ budget → IsChosen p t budget used (get_or pool 0 0, since + 2)
         raised_chosen pool shown some left =
             let there : pool ≡ r.pool = shown ∙ still.0 ∙ keeps.0 in
             let slot : ℕ = get_or pool 0 0 in
-            let has : Contains pool slot = Contains-get_or pool 0 0 (some_slot pool (λ none. some (sym there ∙ none))) in
+            let has : Contains pool slot = Contains-get_or pool 0 0 (some_slot pool (λ none. some_then some (sym there ∙ none))) in
             let l = low slot (subst (λ (l : List ℕ). Contains l slot) there has) in
             let x = stamps_since slot in
             let y = stamps_first slot in
             let told = epoch_told again in
             let up = rises in
             let m = uses.at_most in
-            let first_one : IsOldest (knows t.trace) t.pool slot (knows t.trace).epoch = subst (λ (l : List ℕ). IsOldest (knows t.trace) l slot (knows t.trace).epoch) shown (record { place = 0; low = some_slot pool (λ none. some (sym there ∙ none)); is = refl; before = λ k less. absurd (omega arith) }) in
+            let first_one : IsOldest (knows t.trace) t.pool slot (knows t.trace).epoch = subst (λ (l : List ℕ). IsOldest (knows t.trace) l slot (knows t.trace).epoch) shown (record { place = 0; low = some_slot pool (λ none. some_then some (sym there ∙ none)); is = refl; before = λ k less. absurd (omega arith) }) in
             record {
               uses = record { counts = counts_on uses.counts (subst (λ (k : ℕ). CountsSteps r.trace t.trace since k) (omega arith) (counts_on (counts_one since advance) (counts_one (since + 1) again))); within = omega arith; at_most = omega arith };
               below = (subst (λ (l : List ℕ). Contains l slot) shown has, omega arith, first_one);
             }
-
-        pub raised_once : KeepsPool p q → TakesNoSlot q r → AdvancesOnce p t
-        raised_once pool looked =
-            once_after {p = p} {q = r} {r = t} quiet_then (none_on {p = p} {q = q} {r = r} (did_none read refl pool) looked)
-            (once_before {p = r} {q = s} {r = t} (once {p = r} {q = s} advance last_read (λ slot has. high slot (held slot has))) (did_quiet again (λ know. refl)).seen (did_quiet again (λ know. refl)).is_run (same_advances again refl))
-          where
-            held : (slot : ℕ) → HasSlot r slot → Contains r.pool slot
-            held slot (inl c) = c
-            held slot (inr h) = nobody r.hand slot empty h

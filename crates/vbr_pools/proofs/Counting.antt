@@ -1,12 +1,12 @@
 -- The steps of a call, one piece after another.
 use Rattle.std.proofs.Common.{◌≡◌, ℕ, ◌+◌, ◌<◌, ◌≤◌, Bool, true, false, arith, subst, sym, ◌∙◌, ⊎_elim}
 use Rattle.std.proofs.lemmas.Bool.{cases_lt}
-use Rattle.vbr_core.specs.declared.event.Step.{Step}
+use Rattle.vbr_machine.specs.declared.event.Step.{Step}
 use Rattle.vbr_slots.specs.Calls.{Took}
 use Rattle.vbr_slots.specs.Views.{Trace, PassView, Did}
 use Rattle.vbr_slots.proofs.Lemmas.{did_took, took_none, took_on}
 use Rattle.vbr_pools.specs.Pieces.{Uses}
-use Rattle.vbr_pools.specs.Steps.{CountsSteps}
+use Rattle.vbr_pools.specs.Steps.{CountsSteps, TookWithin}
 
 pub counts_none : (p : Trace) (n : ℕ) → CountsSteps p p n n
 counts_none p n = record { steps = 0; sum = omega arith; took = took_none p }
@@ -29,6 +29,10 @@ uses_more n le x = record { counts = x.counts; within = x.within; at_most = (let
 -- counted from none
 pub took_all : {p q : Trace} {used : ℕ} → CountsSteps p q 0 used → Took p q used
 took_all {p} {q} {used} x = subst (Took p q) (let e = x.sum in omega arith) x.took
+
+-- steps that are told are no more than those within which they were made
+pub took_within : {p q : Trace} {n most : ℕ} → Took p q n → TookWithin p q most → n ≤ most
+took_within took within = let told = took.made in let made = within.took.made in let low = within.within in omega (arith, told, made, low)
 
 -- a budget that doesn't afford a piece has no room for it
 pub no_room : (used budget : ℕ) (b : Bool) → b ≡ false → (used + 8 ≤ budget → b ≡ true) → budget < used + 8

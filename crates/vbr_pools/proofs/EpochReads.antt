@@ -1,20 +1,21 @@
 -- The epoch that a pass reads, against the stamps that it knows, and after it tried to advance it.
-use Rattle.std.proofs.Common.{◌≡◌, ◌≢◌, ℕ, ◌+◌, ◌<◌, ◌≤◌, ◌==◌, Bool, true, false, cond, List, [], ◌∷◌, ◌++◌, Option, Some, None, refl, sym, ap, ◌∙◌, subst, arith}
+use Rattle.std.proofs.Common.{◌≡◌, ℕ, ◌+◌, ◌<◌, ◌≤◌, ◌==◌, Bool, true, false, cond, List, [], ◌∷◌, ◌++◌, Option, Some, None, refl, sym, ap, ◌∙◌, subst, arith}
 use Rattle.std.specs.Bool.{MatchBool}
 use Rattle.std.proofs.lemmas.Bool.Decides.{nat_tests}
 use Rattle.vbr_words.specs.Dimensions.{IsShape}
-use Rattle.vbr_core.specs.Acceptance.{MayBear, stamp_in}
-use Rattle.vbr_core.specs.Knowledge.{Know}
-use Rattle.vbr_core.specs.Learning.{read_epoch, reread}
-use Rattle.vbr_core.specs.Machine.{World, after}
-use Rattle.vbr_core.specs.Runs.{IsRun, world_after}
-use Rattle.vbr_core.specs.declared.event.Event.{Event}
-use Rattle.vbr_core.specs.declared.event.Step.{Step}
-use Rattle.vbr_core.specs.declared.event.Step.TheVariants.{ReadEpoch, Advance}
-use Rattle.vbr_core.specs.declared.knowledge.Holding.{Holding}
-use Rattle.vbr_core.specs.declared.knowledge.Holding.TheVariants.{Free, Unlinked, InHand}
-use Rattle.vbr_core.proofs.Lemmas.{is_run_before, others_leave_know, world_after-snoc}
-use Rattle.vbr_slots.specs.Views.{Trace, Did, knows, event_of}
+use Rattle.vbr_machine.specs.Acceptance.{MayBear, stamp_in}
+use Rattle.vbr_machine.specs.Knowledge.{Know}
+use Rattle.vbr_machine.specs.Learning.{read_epoch, reread}
+use Rattle.vbr_machine.specs.Machine.{World, after}
+use Rattle.vbr_machine.specs.Runs.{IsRun, world_after}
+use Rattle.vbr_machine.specs.declared.event.Event.{Event}
+use Rattle.vbr_machine.specs.declared.event.Step.{Step}
+use Rattle.vbr_machine.specs.declared.event.Step.TheVariants.{ReadEpoch, Advance}
+use Rattle.vbr_machine.specs.declared.knowledge.Holding.{Holding}
+use Rattle.vbr_machine.specs.declared.knowledge.Holding.TheVariants.{Free, Unlinked, InHand}
+use Rattle.vbr_machine.proofs.Lemmas.{is_run_before, others_leave_know, world_after-snoc}
+use Rattle.vbr_slots.specs.Expected.{Finds, FindsOther}
+use Rattle.vbr_slots.specs.Views.{PassView, Trace, Did, KeepsPool, knows, event_of}
 use Rattle.vbr_slots.proofs.Lemmas.{did_run}
 use Rattle.vbr_pools.proofs.Epochs.{epoch_rises, read_before, stamp_before}
 use Rattle.vbr_pools.proofs.Moments.{epoch_stood}
@@ -33,7 +34,7 @@ stamp_reread : (holding : Option Holding) → stamp_in (reread holding) ≡ stam
 stamp_reread None = refl
 stamp_reread (Some (Free stamp)) = refl
 stamp_reread (Some (Unlinked seen)) = refl
-stamp_reread (Some (InHand stamp birth key value link)) = refl
+stamp_reread (Some (InHand known)) = refl
 
 own_read : (know : Know) (epoch s : ℕ) → (read_epoch know epoch).own s ≡ reread (know.own s)
 own_read know epoch s = either (epoch == know.epoch)
@@ -75,6 +76,7 @@ read_above {p} {q} {r} {from} {n} {e} is d1 d2 last =
     let e = epoch_stood d2 in
     omega arith
 
-pub tried : {p q : Trace} {from : ℕ} (b : Bool) → MatchBool b (Did (Advance from) p q from) ((found : ℕ) × Did (Advance from) p q found × (found ≢ from)) → (found : ℕ) × Did (Advance from) p q found
-tried {p} {q} {from} true d = (from, d)
-tried {p} {q} {from} false d = (d.0, d.1)
+-- whether the epoch was advanced or had moved, the try was one step, and the pool and the hand stay
+pub tried : {p q : PassView} {from : ℕ} (b : Bool) → MatchBool b (Finds (Advance from) p q from) ((found : ℕ) × FindsOther (Advance from) p q from found) → (found : ℕ) × Did (Advance from) p.trace q.trace found × KeepsPool p q
+tried {p} {q} {from} true d = (from, d.did, d.keeps)
+tried {p} {q} {from} false d = (d.0, d.1.did, d.1.keeps)

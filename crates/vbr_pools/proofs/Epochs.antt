@@ -5,19 +5,19 @@ use Rattle.vbr_words.specs.Dimensions.{Dimensions, IsShape}
 use Rattle.vbr_words.specs.Words.{word_of}
 use Rattle.vbr_words.specs.declared.place.At.TheVariants.{Head, Slot}
 use Rattle.vbr_words.specs.Flags.{has_flag}
-use Rattle.vbr_core.specs.Acceptance.{Accepts, MayBear, stamp_in}
-use Rattle.vbr_core.specs.Accounts.{incarnations_after, notes_after, incarnations_with}
-use Rattle.vbr_core.specs.Agreement.{Agrees}
-use Rattle.vbr_core.specs.Incarnations.{Incarnations, at_opening}
-use Rattle.vbr_core.specs.Knowledge.{Know}
-use Rattle.vbr_core.specs.Machine.{World, opening, found, stamp_shown, after}
-use Rattle.vbr_core.specs.Notes.{Notes, no_notes, notes_with}
-use Rattle.vbr_core.specs.Put.{put}
-use Rattle.vbr_core.specs.Runs.{world_from, AreAccepted, IsRun, world_after, know_after}
-use Rattle.vbr_core.specs.declared.event.Event.{Event}
-use Rattle.vbr_core.specs.declared.event.Step.{Step}
-use Rattle.vbr_core.specs.declared.event.Step.TheVariants.{ReadEpoch, Advance, LoadStamp, StoreStamp, Raise, TakeFlag, StoreBirth, StoreKey, StoreLink, LoadLink, LoadBirth, LoadKey, Publish, Mark, Unlink, ConfirmPresent, ConfirmAbsent, StoreValue, LoadValue}
-use Rattle.vbr_core.proofs.Lemmas.{by_both, is_run_after, is_run_before, is_run_first, know_other, know_own, put_here, put_other, run_agrees, stamp_known, step_agrees, world_after-append}
+use Rattle.vbr_machine.specs.Acceptance.{Accepts, MayBear, stamp_in}
+use Rattle.vbr_machine.specs.Accounts.{incarnations_after, notes_after, incarnations_with}
+use Rattle.vbr_machine.specs.Agreement.{Agrees}
+use Rattle.vbr_machine.specs.Incarnations.{Incarnations, at_opening}
+use Rattle.vbr_machine.specs.Knowledge.{Know}
+use Rattle.vbr_machine.specs.Machine.{World, opening, found, stamp_shown, after}
+use Rattle.vbr_machine.specs.Notes.{Notes, no_notes, notes_with}
+use Rattle.vbr_machine.specs.Put.{put}
+use Rattle.vbr_machine.specs.Runs.{world_from, AreAccepted, IsRun, world_after, know_after}
+use Rattle.vbr_machine.specs.declared.event.Event.{Event}
+use Rattle.vbr_machine.specs.declared.event.Step.{Step}
+use Rattle.vbr_machine.specs.declared.event.Step.TheVariants.{ReadEpoch, Advance, LoadStamp, StoreStamp, Raise, TakeFlag, StoreBirth, StoreKey, StoreLink, LoadLink, LoadBirth, LoadKey, Publish, Mark, Unlink, ConfirmPresent, ConfirmAbsent, StoreValue, LoadValue}
+use Rattle.vbr_machine.proofs.Lemmas.{by_both, is_run_after, is_run_before, is_run_first, know_other, know_own, put_here, put_other, run_agrees, stamp_known, step_agrees, world_after-append}
 use Rattle.vbr_slots.specs.Views.{epoch_after}
 use Rattle.vbr_slots.proofs.Lemmas.{epoch_learned}
 

@@ -1,9 +1,12 @@
 -- The slots that a pass has, in its own pool or in its hand, from piece to piece of a call.
-use Rattle.std.proofs.Common.{◌≡◌, ◌≢◌, ℕ, List, [], ◌∷◌, ◌++◌, Bool, true, false, Some, None, sym, ◌∙◌, subst, inl, inr, arith}
+use Rattle.std.proofs.Common.{◌≡◌, ◌≢◌, ℕ, List, [], ◌∷◌, ◌++◌, Bool, true, false, cond, Some, None, refl, sym, ap, ◌∙◌, subst, eq-eqb, inl, inr, arith}
 use Rattle.std.specs.Prelude.{◌⊎◌, Contains, Result, Ok, Err}
 use Rattle.std.proofs.lemmas.Bool.{cases_eq}
 use Rattle.std.proofs.lemmas.List.Elements.{Contains-append_left, Contains-append_right}
-use Rattle.vbr_slots.specs.Views.{PassView}
+use Rattle.vbr_machine.specs.Acceptance.{MayBear, IsUnlinked}
+use Rattle.vbr_slots.specs.Pools.{hand_without}
+use Rattle.vbr_slots.specs.Views.{PassView, Trace, knows}
+use Rattle.vbr_pools.specs.GivingBack.{PutsBack}
 use Rattle.vbr_pools.specs.Hands.{HandView}
 use Rattle.vbr_pools.specs.KeptSlots.{HasSlot, HasStill, HasAllButOne, HasUnpublished, PoolGrows}
 use Rattle.vbr_pools.specs.Refusals.{LeavesPool}
@@ -26,8 +29,8 @@ pub had_taken : {p q : PassView} {hand : HandView} → p.hand ≡ None → IsTak
 had_taken {p} {q} {hand} none taken slot (inl in_pool) = go (cases_eq slot hand.slot)
   where
     go : (slot ≡ hand.slot) ⊎ (slot ≢ hand.slot) → HasSlot q slot
-    go (inl is) = inr (let h = taken.in_hand.slot in cc)
-    go (inr other) = inl (subst (λ (l : List ℕ). Contains l slot) (sym taken.rest) (stays_in hand.slot p.pool slot other in_pool))
+    go (inl is) = inr (let h = taken.births.in_hand.slot in cc)
+    go (inr other) = inl (subst (λ (l : List ℕ). Contains l slot) (sym taken.births.rest) (stays_in hand.slot p.pool slot other in_pool))
 had_taken {p} {q} {hand} none taken slot (inr in_hand) = absurd (cc)
 
 -- no slot comes into the hand
@@ -42,6 +45,17 @@ had_back p q kept hand back slot (inl in_pool) = inl (subst (λ (l : List ℕ). 
 had_back p q kept hand back slot (inr in_hand) =
     let is : kept ≡ slot = cc in
     inl (subst (λ (l : List ℕ). Contains l slot) (sym back) (Contains-append_right p.pool (kept ∷ []) slot (0, omega arith, is)))
+
+pub put_back : (p q : PassView) (slot : ℕ) → p.hand ≡ Some slot → q.trace ≡ p.trace → q.pool ≡ p.pool ++ slot ∷ [] → q.hand ≡ hand_without slot p.hand → PutsBack p q slot
+put_back p q slot hand same back left = record {
+  trace = same;
+  pool = back;
+  hand = left ∙ ap (hand_without slot) hand ∙ ap (λ (b : Bool). cond b None (Some slot)) (eq-eqb slot slot refl);
+  kept = record {
+    free = λ s could. had_back p q slot hand back s (could.1 (subst (λ (t : Trace). MayBear ((knows t).own s)) same could.0));
+    stamped = λ s u. subst (λ (t : Trace). IsUnlinked ((knows t).own s)) same u;
+  };
+}
 
 -- the slot in hand is published
 pub had_spent : (p q : PassView) (spent : ℕ) → p.hand ≡ Some spent → q.pool ≡ p.pool → HasAllButOne p q

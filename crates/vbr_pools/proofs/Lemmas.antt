@@ -3,7 +3,7 @@
 -- What the steps of a pass show: the epoch that it reads, and the flags that it takes.
 pub use Rattle.vbr_pools.proofs.Moments.{epoch_stood, epoch_told, missed_after}
 -- The steps of a call, one piece after another.
-pub use Rattle.vbr_pools.proofs.Counting.{counts_none, counts_on, no_room, took_all}
+pub use Rattle.vbr_pools.proofs.Counting.{counts_none, counts_on, no_room, took_all, took_within}
 -- The steps of a pass that would advance the epoch, through its other steps.
 pub use Rattle.vbr_pools.proofs.Advancing.{did_none, did_stamps, free_on, free_pool, grows_on, grows_same, keeps_on, longer, needed_after}
 pub use Rattle.vbr_pools.proofs.Advancing.{needed_before, none_back, none_known, none_on, none_refl, same_advances, same_flags, shared_on}

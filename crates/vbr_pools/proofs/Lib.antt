@@ -1,8 +1,8 @@
 mod Epochs
 mod PoolLists
 mod Moments
-mod Retirement
 mod AloneRetirement
+mod Retirement
 mod Counting
 mod Advancing
 mod Scanning

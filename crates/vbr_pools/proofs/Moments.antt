@@ -2,16 +2,16 @@
 use Rattle.std.proofs.Common.{◌≡◌, ◌≢◌, ℕ, ◌<◌, true, false, [], ◌∷◌, ◌++◌, refl, sym, ap, ◌∙◌, subst, append-nil}
 use Rattle.vbr_words.specs.Dimensions.{Dimensions}
 use Rattle.vbr_words.specs.Flags.{word_of_flag, has_flag}
-use Rattle.vbr_core.specs.Knowledge.{Know}
-use Rattle.vbr_core.specs.Machine.{is_shared, found, stamp_shown}
-use Rattle.vbr_core.specs.Making.{taken}
-use Rattle.vbr_core.specs.Runs.{world_after, Begins}
-use Rattle.vbr_core.specs.declared.event.Effect.TheVariants.{Value}
-use Rattle.vbr_core.specs.declared.event.Step.{Step}
-use Rattle.vbr_core.specs.declared.event.Step.TheVariants.{ReadEpoch, TakeFlag}
-use Rattle.vbr_core.specs.declared.knowledge.SlotPlace.{SlotPlace}
-use Rattle.vbr_core.specs.declared.knowledge.SlotPlace.TheVariants.{Shared, Own, Hand, Listed}
-use Rattle.vbr_core.proofs.Lemmas.{begins_trans, flag_shared, flag_won, unflagged, word_told}
+use Rattle.vbr_machine.specs.Knowledge.{Know}
+use Rattle.vbr_machine.specs.Machine.{is_shared, found, stamp_shown}
+use Rattle.vbr_machine.specs.Making.{taken}
+use Rattle.vbr_machine.specs.Runs.{world_after, Begins}
+use Rattle.vbr_machine.specs.declared.event.Effect.TheVariants.{Value}
+use Rattle.vbr_machine.specs.declared.event.Step.{Step}
+use Rattle.vbr_machine.specs.declared.event.Step.TheVariants.{ReadEpoch, TakeFlag}
+use Rattle.vbr_machine.specs.declared.knowledge.SlotPlace.{SlotPlace}
+use Rattle.vbr_machine.specs.declared.knowledge.SlotPlace.TheVariants.{Shared, Own, Hand, Listed}
+use Rattle.vbr_machine.proofs.Lemmas.{begins_trans, flag_shared, flag_won, unflagged, word_told}
 use Rattle.vbr_slots.specs.Calls.{Quiet}
 use Rattle.vbr_slots.specs.Tried.{last_tried}
 use Rattle.vbr_slots.specs.Views.{Trace, Did, knows, event_of, epoch_after}

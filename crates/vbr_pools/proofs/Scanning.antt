@@ -3,17 +3,18 @@ use Rattle.std.proofs.Common.{◌≡◌, ℕ, ◌+◌, ◌<◌, ◌≤◌, List,
 use Rattle.std.specs.Prelude.{Contains, ◌⊎◌}
 use Rattle.std.proofs.lemmas.List.{get_or_default}
 use Rattle.std.proofs.lemmas.List.Elements.{All-contains, Contains-get_or}
-use Rattle.vbr_core.specs.Acceptance.{MayBear, stamp_in}
-use Rattle.vbr_core.specs.Knowledge.{Know}
-use Rattle.vbr_core.specs.declared.event.Step.TheVariants.{LoadStamp}
+use Rattle.vbr_machine.specs.Acceptance.{MayBear, stamp_in}
+use Rattle.vbr_machine.specs.Knowledge.{Know}
+use Rattle.vbr_machine.specs.declared.event.Step.TheVariants.{LoadStamp}
 use Rattle.vbr_slots.specs.Calls.{Quiet}
 use Rattle.vbr_slots.specs.Pools.{IsPooled, OwnPool}
 use Rattle.vbr_slots.specs.Views.{PassView, KeepsPool, Did, knows}
 use Rattle.vbr_slots.proofs.Lemmas.{did_quiet, quiet_on}
 use Rattle.vbr_pools.specs.KeptSlots.{TakesNoSlot}
-use Rattle.vbr_pools.specs.Pieces.{IsScanned}
+use Rattle.vbr_pools.specs.Pieces.{IsScanned, Scans, ScansPart}
 use Rattle.vbr_pools.specs.Steps.{CountsSteps}
 use Rattle.vbr_pools.specs.Taking.{IsOldest}
+use Rattle.vbr_pools.specs.declared.refusal.TakeRefusal.TheVariants.{OutOfSteps}
 use Rattle.vbr_pools.proofs.Advancing.{did_none, none_on}
 use Rattle.vbr_pools.proofs.Counting.{counts_one, counts_on}
 
@@ -28,6 +29,17 @@ pub record Scanned (p q : PassView) (epoch budget before looked used : ℕ) : Ty
   pub within : used ≤ budget
   pub above : (k d : ℕ) → k < looked → epoch ≤ stamp_in ((knows p.trace).own (get_or p.pool k d))
 
+module _ {p q : PassView} {epoch budget before looked used : ℕ} (at : Scanned p q epoch budget before looked used) where
+  pub scans : Scans p q
+  scans = record { quiet = at.quiet; takes_no_slot = at.none; pool = at.pool; known = at.known }
+
+  pub scan_short : looked ≤ length p.pool → budget < used + 8 → ScansPart p q budget before (OutOfSteps used, used)
+  scan_short low short = record {
+    uses = record { counts = at.counts; within = at.within; at_most = (let s = at.sum in omega (arith, s, low)) };
+    why = refl;
+    short = short;
+  }
+
 module _ {p q r : PassView} {epoch budget before looked used n : ℕ} (at : Scanned p q epoch budget before looked used) (pool : List ℕ) (shown : pool ≡ q.pool) (own : OwnPool q.trace.shape (knows q.trace) q.pool q.hand) (low : looked < length pool)
     (room : used + 8 ≤ budget) (d : Did (LoadStamp (get_or pool looked 0)) q.trace r.trace n) (known : MayBear ((knows q.trace).own (get_or pool looked 0)) → n ≡ stamp_in ((knows q.trace).own (get_or pool looked 0))) (stays : KeepsPool q r) where
   abbrev slot : ℕ
@@ -40,12 +52,20 @@ module _ {p q r : PassView} {epoch budget before looked used n : ℕ} (at : Scan
   loaded : n ≡ stamp_in ((knows p.trace).own slot)
   loaded = known (All-contains (IsPooled q.trace.shape (knows q.trace)) q.pool slot own.pooled there).1 ∙ ap (λ (k : Know). stamp_in (k.own slot)) at.known
 
-  pub scan_next : epoch ≤ n → Scanned p r epoch budget before (looked + 1) (used + 1)
-  scan_next above = record {
+  pub scans_found : Scans p r
+  scans_found = record {
     quiet = quiet_on at.quiet (did_quiet d (λ know. refl));
+    takes_no_slot = none_on at.none (did_none d refl stays);
     pool = (stays.0 ∙ at.pool.0, stays.1 ∙ at.pool.1);
     known = d.know ∙ at.known;
-    none = none_on at.none (did_none d refl stays);
+  }
+
+  pub scan_next : epoch ≤ n → Scanned p r epoch budget before (looked + 1) (used + 1)
+  scan_next above = record {
+    quiet = scans_found.quiet;
+    pool = scans_found.pool;
+    known = scans_found.known;
+    none = scans_found.takes_no_slot;
     counts = counts_on at.counts (counts_one used d);
     sum = (let s = at.sum in omega arith);
     within = omega arith;
@@ -68,7 +88,7 @@ module _ {p q r : PassView} {epoch budget before looked used n : ℕ} (at : Scan
     before = λ k less. at.above k 0 less;
   }
 
-  pub scan_found : n < epoch → IsScanned p r epoch budget before (Some slot) (used + 1)
+  pub scan_found : n < epoch → IsScanned p r epoch budget before (Some slot, used + 1)
   scan_found below = record {
     uses = record { counts = counts_on at.counts (counts_one used d); within = omega arith; at_most = (let s = at.sum in let l : looked < length p.pool = subst (λ (l : List ℕ). looked < length l) (shown ∙ at.pool.0) low in omega (arith, s, l)) };
     below = (

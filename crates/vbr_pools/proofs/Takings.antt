@@ -1,107 +1,161 @@
 -- A call that takes a slot, from its pieces: a flag is won, or the own pool has slots; a slot is chosen; and an incarnation is born there.
 use Rattle.std.proofs.Common.{◌≡◌, ◌≢◌, ℕ, zero, suc, ◌+◌, ◌<◌, ◌≤◌, Bool, not, cond, List, [], ◌∷◌, length, Result, Ok, Err, refl, sym, ap, ◌∙◌, subst, inl, inr, ⊎_elim, eq-eqb, arith}
-use Rattle.std.specs.Prelude.{◌⊎◌, Contains, IfOk, IfErr, OnErr}
-use Rattle.vbr_core.specs.Acceptance.{stamp_in}
+use Rattle.std.specs.Prelude.{◌⊎◌, Contains, IfOk, IfErr, None}
 use Rattle.vbr_slots.specs.declared.pass.TheConstants.{POOL}
 use Rattle.vbr_slots.specs.Alone.{IsAlone}
 use Rattle.vbr_slots.specs.Calls.{Quiet, Took}
 use Rattle.vbr_slots.specs.Pools.{without}
-use Rattle.vbr_slots.specs.Views.{PassView, KeepsPool, knows}
-use Rattle.vbr_slots.proofs.Lemmas.{alone_first, quiet_on, quiet_refl}
+use Rattle.vbr_slots.specs.Views.{PassView, knows}
+use Rattle.vbr_slots.proofs.Lemmas.{alone_first, quiet_on}
 use Rattle.vbr_pools.specs.Advances.{AdvancesWhereNeeded}
-use Rattle.vbr_pools.specs.KeptSlots.{KeepsSlots, SharesWhereFull, TakesNoSlot}
-use Rattle.vbr_pools.specs.Hands.{HandView}
 use Rattle.vbr_pools.specs.Budgets.{NeedsMore, steps_to_win, steps_to_take}
-use Rattle.vbr_pools.specs.Pieces.{Uses, TakeIsShort, Stops, HasSlots, IsChosen, IsBorn}
-use Rattle.vbr_pools.specs.Refusals.{HadRoom, TakeIsRefused, LeavesPool}
+use Rattle.vbr_pools.specs.Hands.{HandView}
+use Rattle.vbr_pools.specs.KeptSlots.{KeepsSlots, SharesWhereFull}
+use Rattle.vbr_pools.specs.Pieces.{BearsNone, Chooses, ChoosesNone, HasSlots, IsBorn, IsChosen, IsShortOrSpent, Probes, Uses, WinsNone, told_steps}
+use Rattle.vbr_pools.specs.Refusals.{LeavesPool, RefusesTake, TakeIsRefused, TellsSpent}
 use Rattle.vbr_pools.specs.SharedPool.{CameByFlag}
-use Rattle.vbr_pools.specs.Taking.{IsOldest, IsTaken}
+use Rattle.vbr_pools.specs.Taking.{IsOldest, IsTaken, Takes}
 use Rattle.vbr_pools.specs.declared.refusal.TakeRefusal.{TakeRefusal}
 use Rattle.vbr_pools.specs.declared.refusal.TakeRefusal.TheVariants.{OutOfSteps, NoSlot, EpochSpent}
 use Rattle.vbr_pools.proofs.Advancing.{keeps_on, longer, needed_after, needed_before, shared_on, shares_more}
 use Rattle.vbr_pools.proofs.Counting.{uses_on, took_all}
 use Rattle.vbr_pools.proofs.Moments.{came_before}
 
--- ---- how many steps
+-- ---- no slot is won
 
--- the steps to win a slot, and those that are made at most for a slot of the own pool, are at most those of a call that takes a slot
-won_few : (p q : PassView) (budget used : ℕ) → HasSlots p q budget used → (p.pool ≡ [] → used ≤ steps_to_win p.trace.shape) → used + (length q.pool + 4) ≤ steps_to_take p.trace.shape p.pool
-won_few p q budget used begun few = ⊎_elim own shared begun.won
-  where
-    at_most : (pool : List ℕ) → pool ≢ [] → used ≡ 0 → length q.pool ≤ POOL → used + (length q.pool + 4) ≤ steps_to_take p.trace.shape pool
-    at_most [] some none room = absurd (some refl)
-    at_most (slot ∷ pool) some none room = omega (arith, none, room)
-
-    own : (q.pool ≡ p.pool) × (p.pool ≢ []) × (used ≡ 0) → used + (length q.pool + 4) ≤ steps_to_take p.trace.shape p.pool
-    own x = at_most p.pool x.1 x.2 begun.room
-
-    shared : (p.pool ≡ []) × (slot : ℕ) × (q.pool ≡ slot ∷ []) × CameByFlag p.trace q.trace slot → used + (length q.pool + 4) ≤ steps_to_take p.trace.shape p.pool
-    shared x =
-        let P : List ℕ → Type 0 = λ pool. used + (length q.pool + 4) ≤ steps_to_take p.trace.shape pool in
-        let one : length q.pool ≡ 1 = ap length x.2 in
-        let most = few x.0 in
-        subst P (sym x.0) (omega (arith, one, most))
-
--- a slot that was not won for want of steps
-pub win_enough : (p : PassView) (budget : ℕ) (refusal : TakeRefusal) → p.pool ≡ [] → NeedsMore (steps_to_win p.trace.shape) budget refusal → NeedsMore (steps_to_take p.trace.shape p.pool) budget refusal
+-- the steps to win a slot are fewer than those of a call that takes one
+win_enough : (p : PassView) (budget : ℕ) (refusal : TakeRefusal) → p.pool ≡ [] → NeedsMore (steps_to_win p.trace.shape) budget refusal → NeedsMore (steps_to_take p.trace.shape p.pool) budget refusal
 win_enough p budget (OutOfSteps used) empty short =
     let P : List ℕ → Type 0 = λ pool. budget < steps_to_take p.trace.shape pool + 7 in
     subst P (sym empty) (omega (arith, short))
 win_enough p budget NoSlot empty short = tt
 win_enough p budget (EpochSpent epoch) empty short = tt
 
--- to win a slot is never refused for a spent epoch, since the own pool is empty then
-pub win_room : (p q : PassView) (budget : ℕ) (refusal : TakeRefusal) → p.pool ≡ [] → KeepsPool p q → TakeIsRefused p q budget refusal → HadRoom p q budget refusal
-win_room p q budget (OutOfSteps used) empty keeps refused = tt
-win_room p q budget NoSlot empty keeps refused = tt
-win_room p q budget (EpochSpent epoch) empty keeps refused = absurd (refused.some (keeps.0 ∙ empty))
+module _ (p q : PassView) (budget : ℕ) (told : TakeRefusal × ℕ) (first : Probes p q) (none : WinsNone p q budget told) where
+  pub unwon_takes : Takes p q budget
+  unwon_takes = record {
+    steps = record { steps = told.1; within = none.uses.within; took = took_all none.uses.counts };
+    quiet = first.quiet;
+    kept = first.takes_no_slot.kept;
+    one = (let low = longer p q first.takes_no_slot.grows in omega (arith, low));
+    shared = shares_more p q first.takes_no_slot.shared;
+    advances = inl first.takes_no_slot.count;
+  }
 
--- ---- the pieces
+  pub unwon_took : Took p.trace q.trace told.1
+  unwon_took = took_all none.uses.counts
 
-module _ (p q r : PassView) (budget used : ℕ) (first : Quiet p.trace q.trace) (none : TakesNoSlot p q) (begun : HasSlots p q budget used) (quiet : Quiet q.trace r.trace) (keeps : KeepsPool q r) where
-  pub quiet_all : Quiet p.trace r.trace
-  quiet_all = quiet_on first quiet
+  pub unwon_refused : p.hand ≡ None → RefusesTake p q budget told.0
+  unwon_refused empty = record {
+    why = none.why;
+    pool = inl none.pool.0;
+    hand = none.pool.1 ∙ empty;
+    ready = λ some. absurd (some none.empty);
+    enough = λ alone. win_enough p budget told.0 none.empty (none.enough alone);
+  }
+
+-- ---- the own pool has slots
+
+module _ (p q r : PassView) (budget used : ℕ) (first : Probes p q) (begun : HasSlots p q budget used) (then : Chooses q r) where
+  quiet_all : Quiet p.trace r.trace
+  quiet_all = quiet_on first.quiet then.quiet
+
+  same_length : length r.pool ≡ length q.pool
+  same_length = ap length then.pool.0
 
   -- what is left where it ends here
-  pub leaves : LeavesPool p r
+  leaves : LeavesPool p r
   leaves =
-      ⊎_elim (λ (x : (q.pool ≡ p.pool) × (p.pool ≢ []) × (used ≡ 0)). inl (keeps.0 ∙ x.0))
-      (λ (x : (p.pool ≡ []) × (slot : ℕ) × (q.pool ≡ slot ∷ []) × CameByFlag p.trace q.trace slot). inr (x.0, x.1, keeps.0 ∙ x.2, came_before x.3 quiet)) begun.won
+      ⊎_elim (λ (x : (q.pool ≡ p.pool) × (p.pool ≢ []) × (used ≡ 0)). inl (then.pool.0 ∙ x.0))
+      (λ (x : (p.pool ≡ []) × (slot : ℕ) × (q.pool ≡ slot ∷ []) × CameByFlag p.trace q.trace slot). inr (x.0, x.1, then.pool.0 ∙ x.2, came_before x.3 then.quiet)) begun.won
 
-  pub advances_all : AdvancesWhereNeeded q r → AdvancesWhereNeeded p r
-  advances_all = needed_after {p = p} {q = q} {r = r} first none
+  advances_all : AdvancesWhereNeeded p r
+  advances_all = needed_after {p = p} {q = q} {r = r} first.quiet first.takes_no_slot then.advances
 
-  pub stops_room : (most : ℕ) (refusal : TakeRefusal) → Stops q r budget used most refusal → HadRoom p r budget refusal
-  stops_room most (OutOfSteps n) s = tt
-  stops_room most NoSlot s = tt
-  stops_room most (EpochSpent e) s = record { steps = s.since; room = s.room; took = took_all (uses_on begun.uses s.uses).counts }
+  kept_all : KeepsSlots p r
+  kept_all = keeps_on p q r first.takes_no_slot.kept then.kept
 
-  pub kept_all : KeepsSlots q r → KeepsSlots p r
-  kept_all stays = keeps_on p q r none.kept stays
+  shared_all : SharesWhereFull 1 p r
+  shared_all = shared_on p q r 1 first.takes_no_slot.shared (let e = same_length in omega arith) then.shared
 
-  pub shared_all : SharesWhereFull 1 q r → SharesWhereFull 1 p r
-  shared_all then = shared_on p q r 1 none.shared (let e = ap length keeps.0 in omega arith) then
+  grown : length p.pool ≤ length r.pool
+  grown = let low = longer p q first.takes_no_slot.grows in let e = same_length in omega (arith, low, e)
 
-  pub one_all : length p.pool ≤ length r.pool + 1
-  one_all = let low = longer p q none.grows in let e = ap length keeps.0 in omega arith
+  all_uses : {since most : ℕ} → Uses q r budget used since most → Uses p r budget 0 since (budget + most)
+  all_uses uses = uses_on begun.uses uses
 
-  pub stops_told : (most since : ℕ) → Uses q r budget used since most → (since ≤ budget) × Took p.trace r.trace since
-  stops_told most since uses = (uses.within, took_all (uses_on begun.uses uses).counts)
+  pub stops_takes : {since most : ℕ} → Uses q r budget used since most → Takes p r budget
+  stops_takes {since} uses = record {
+    steps = record { steps = since; within = uses.within; took = took_all (all_uses uses).counts };
+    quiet = quiet_all;
+    kept = kept_all;
+    one = (let low = grown in omega (arith, low));
+    shared = shares_more p r shared_all;
+    advances = advances_all;
+  }
 
-  pub stops_enough : (refusal : TakeRefusal) → (p.pool ≡ [] → IsAlone p.trace q.trace → used ≤ steps_to_win p.trace.shape) → Stops q r budget used (length q.pool + 1) refusal → IsAlone p.trace r.trace → NeedsMore (steps_to_take p.trace.shape p.pool) budget refusal
-  stops_enough (OutOfSteps n) few s alone =
-      let most = won_few p q budget used begun (λ empty. few empty (alone_first {p = p.trace} {q = q.trace} {r = r.trace} first.seen quiet.seen alone)) in
-      let short = s.short in
-      let made = s.uses.at_most in
-      omega (arith, most, short, made)
-  stops_enough NoSlot few s alone = tt
-  stops_enough (EpochSpent e) few s alone = tt
+  -- the steps to win a slot, and those that are made at most for a slot of the own pool, are at most those of a call that takes a slot
+  few_own : p.pool ≢ [] → used + length q.pool ≤ POOL
+  few_own some =
+      ⊎_elim (λ (x : (q.pool ≡ p.pool) × (p.pool ≢ []) × (used ≡ 0)). (let none = x.2 in let room = begun.room in omega (arith, none, room)))
+      (λ (x : (p.pool ≡ []) × (slot : ℕ) × (q.pool ≡ slot ∷ []) × CameByFlag p.trace q.trace slot). absurd (some x.0)) begun.won
+
+  won_few : IsAlone p.trace q.trace → used + (length q.pool + 4) ≤ steps_to_take p.trace.shape p.pool
+  won_few alone =
+      ⊎_elim (λ (x : (q.pool ≡ p.pool) × (p.pool ≢ []) × (used ≡ 0)). at_most p.pool x.1 (few_own x.1))
+      (λ (x : (p.pool ≡ []) × (slot : ℕ) × (q.pool ≡ slot ∷ []) × CameByFlag p.trace q.trace slot). shared x.0 (ap length x.2) (begun.few x.0 alone)) begun.won
+    where
+      at_most : (pool : List ℕ) → pool ≢ [] → used + length q.pool ≤ POOL → used + (length q.pool + 4) ≤ steps_to_take p.trace.shape pool
+      at_most [] some few = absurd (some refl)
+      at_most (slot ∷ pool) some few = omega (arith, few)
+
+      shared : p.pool ≡ [] → length q.pool ≡ 1 → used ≤ steps_to_win p.trace.shape → used + (length q.pool + 4) ≤ steps_to_take p.trace.shape p.pool
+      shared empty one few =
+          let P : List ℕ → Type 0 = λ pool. used + (length q.pool + 4) ≤ steps_to_take p.trace.shape pool in
+          subst P (sym empty) (omega (arith, one, few))
+
+  alone_before : IsAlone p.trace r.trace → IsAlone p.trace q.trace
+  alone_before alone = alone_first {p = p.trace} {q = q.trace} {r = r.trace} first.quiet.seen then.quiet.seen alone
+
+  -- no slot was chosen
+  module _ (told : TakeRefusal × ℕ) (none : ChoosesNone q r budget used told) where
+    pub unchosen_took : Took p.trace r.trace told.1
+    unchosen_took = took_all (all_uses none.uses).counts
+
+    why_none : (refusal : TakeRefusal) → IsShortOrSpent r budget told.1 refusal → TakeIsRefused p r budget refusal
+    why_none (OutOfSteps n) why = subst (λ (n : ℕ). TakeIsRefused p r budget (OutOfSteps n)) (sym why.0) (record { took = unchosen_took; within = none.uses.within; short = why.1 })
+    why_none NoSlot why = absurd why
+    why_none (EpochSpent e) why = (why.0, record { steps = told.1; room = why.1; took = unchosen_took })
+
+    ready_none : (refusal : TakeRefusal) → IsShortOrSpent r budget told.1 refusal → p.pool ≢ [] → 80 ≤ budget → TellsSpent refusal
+    ready_none (OutOfSteps n) why some ample =
+        let few = few_own some in
+        let made = none.uses.at_most in
+        let short = why.1 in
+        absurd (omega (arith, few, made, short, ample))
+    ready_none NoSlot why some ample = absurd why
+    ready_none (EpochSpent e) why some ample = tt
+
+    enough_none : (refusal : TakeRefusal) → IsShortOrSpent r budget told.1 refusal → IsAlone p.trace r.trace → NeedsMore (steps_to_take p.trace.shape p.pool) budget refusal
+    enough_none (OutOfSteps n) why alone =
+        let most = won_few (alone_before alone) in
+        let made = none.uses.at_most in
+        let short = why.1 in
+        omega (arith, most, short, made)
+    enough_none NoSlot why alone = tt
+    enough_none (EpochSpent e) why alone = tt
+
+    pub unchosen_refused : RefusesTake p r budget told.0
+    unchosen_refused = record {
+      why = why_none told.0 none.why;
+      pool = leaves;
+      hand = then.pool.1 ∙ begun.hand;
+      ready = ready_none told.0 none.why;
+      enough = enough_none told.0 none.why;
+    }
 
   -- a slot was chosen, and then an incarnation was to be born there
-  module _ (t : PassView) (slot since : ℕ) (chosen : IsChosen q r budget used slot since) where
-    all_uses : Uses p r budget 0 since (budget + (length q.pool + 3))
-    all_uses = uses_on begun.uses chosen.uses
-
+  module _ (t : PassView) (slot since : ℕ) (chosen : IsChosen q r budget used (slot, since)) where
     one : (s : ℕ) → Contains (s ∷ []) slot → s ≡ slot
     one s (zero, low, is) = is
     one s (suc k, low, is) = absurd (omega arith)
@@ -112,135 +166,104 @@ module _ (p q r : PassView) (budget used : ℕ) (first : Quiet p.trace q.trace) 
     -- the slot that was chosen was in the pool, or came
     from : (birth : ℕ) → Quiet r.trace t.trace → IsOldest (knows t.trace) r.pool slot birth → IsOldest (knows t.trace) p.pool slot birth ⊎ ((p.pool ≡ []) × CameByFlag p.trace t.trace slot)
     from birth more oldest =
-        ⊎_elim (λ (x : (q.pool ≡ p.pool) × (p.pool ≢ []) × (used ≡ 0)). inl (subst (λ (l : List ℕ). IsOldest (knows t.trace) l slot birth) (keeps.0 ∙ x.0) oldest))
+        ⊎_elim (λ (x : (q.pool ≡ p.pool) × (p.pool ≢ []) × (used ≡ 0)). inl (subst (λ (l : List ℕ). IsOldest (knows t.trace) l slot birth) (then.pool.0 ∙ x.0) oldest))
         (λ (x : (p.pool ≡ []) × (s : ℕ) × (q.pool ≡ s ∷ []) × CameByFlag p.trace q.trace s).
-        inr (x.0, subst (CameByFlag p.trace t.trace) (one x.1 (subst (λ (l : List ℕ). Contains l slot) (keeps.0 ∙ x.2) chosen.below.0)) (came_before x.3 (quiet_on quiet more)))) begun.won
+        inr (x.0, subst (CameByFlag p.trace t.trace) (one x.1 (subst (λ (l : List ℕ). Contains l slot) (then.pool.0 ∙ x.2) chosen.below.0)) (came_before x.3 (quiet_on then.quiet more)))) begun.won
 
     rest : t.pool ≡ without slot r.pool → t.pool ≡ without slot p.pool
     rest is =
-        ⊎_elim (λ (x : (q.pool ≡ p.pool) × (p.pool ≢ []) × (used ≡ 0)). is ∙ ap (without slot) (keeps.0 ∙ x.0))
+        ⊎_elim (λ (x : (q.pool ≡ p.pool) × (p.pool ≢ []) × (used ≡ 0)). is ∙ ap (without slot) (then.pool.0 ∙ x.0))
         (λ (x : (p.pool ≡ []) × (s : ℕ) × (q.pool ≡ s ∷ []) × CameByFlag p.trace q.trace s).
-        is ∙ ap (without slot) (keeps.0 ∙ x.2) ∙ gone x.1 (one x.1 (subst (λ (l : List ℕ). Contains l slot) (keeps.0 ∙ x.2) chosen.below.0)) ∙ sym (ap (without slot) x.0)) begun.won
+        is ∙ ap (without slot) (then.pool.0 ∙ x.2) ∙ gone x.1 (one x.1 (subst (λ (l : List ℕ). Contains l slot) (then.pool.0 ∙ x.2) chosen.below.0)) ∙ sym (ap (without slot) x.0)) begun.won
 
-    pub taken : (hand : HandView) → IsBorn r t slot budget since hand → IsTaken p t hand
-    taken hand born = subst (λ (s : ℕ). (IsOldest (knows t.trace) p.pool s hand.birth ⊎ ((p.pool ≡ []) × CameByFlag p.trace t.trace s)) → (stamp_in ((knows t.trace).own s) < hand.birth) → (t.pool ≡ without s p.pool) → IsTaken p t hand) born.slot
-        (λ come above left. record { from = come; in_hand = born.in_hand; birth = born.birth; above = above; rest = left; room = born.room })
-        (from hand.birth born.quiet born.oldest) born.above (rest born.rest)
+    -- what was used before the birth, by a pass that was alone
+    chosen_few : Quiet r.trace t.trace → IsAlone p.trace t.trace → since + 1 ≤ steps_to_take p.trace.shape p.pool
+    chosen_few last alone =
+        let most = won_few (alone_before (alone_first {p = p.trace} {q = r.trace} {r = t.trace} quiet_all.seen last.seen alone)) in
+        let made = chosen.uses.at_most in
+        omega (arith, most, made)
 
-    module _ (result : Result (HandView × ℕ) (TakeRefusal × ℕ)) (ok : IfOk result (λ b. IsBorn r t slot budget since b.0)) (refused : IfErr result (λ e. TakeIsShort r t budget since 0 e.0)) (still : OnErr result (t ≡ r)) where
-      quiet_last : Quiet r.trace t.trace
-      quiet_last = go result ok still
+    -- it was born there
+    module _ (told : HandView × ℕ) (born : IsBorn r t slot budget since told) where
+      pub born_took : Took p.trace t.trace told.1
+      born_took = took_all (uses_on (all_uses chosen.uses) born.uses).counts
+
+      pub born_takes : Takes p t budget
+      born_takes = record {
+        steps = record { steps = told.1; within = born.uses.within; took = born_took };
+        quiet = quiet_on quiet_all born.leaves.quiet;
+        kept = keeps_on p r t kept_all born.leaves.kept;
+        one = (let low = grown in let one = born.leaves.one in omega (arith, low, one));
+        shared = shared_then shared_all;
+        advances = needed_before {p = p} {q = r} {r = t} advances_all born.leaves.quiet.seen born.leaves.quiet.is_run born.leaves.advances;
+      }
         where
-          go : (x : Result (HandView × ℕ) (TakeRefusal × ℕ)) → IfOk x (λ b. IsBorn r t slot budget since b.0) → OnErr x (t ≡ r) → Quiet r.trace t.trace
-          go (Ok b) born same = born.quiet
-          go (Err refusal) born same = subst (λ (x : PassView). Quiet r.trace x.trace) (sym same) (quiet_refl r.trace)
+          shared_then : SharesWhereFull 1 p r → SharesWhereFull 2 p t
+          shared_then (inl same) = inl (born.leaves.flags ∙ same)
+          shared_then (inr full) = inr (let one = born.leaves.one in omega (arith, full, one))
 
-      pub ends_quiet : Quiet p.trace t.trace
-      ends_quiet = quiet_on quiet_all quiet_last
+      pub born_taken : IsTaken p t told.0
+      born_taken = record {
+        from = subst (λ (s : ℕ). IsOldest (knows t.trace) p.pool s told.0.birth ⊎ ((p.pool ≡ []) × CameByFlag p.trace t.trace s)) (sym born.slot) (from told.0.birth born.leaves.quiet born.oldest);
+        births = record {
+          in_hand = born.births.in_hand;
+          birth = born.births.birth;
+          above = born.births.above;
+          rest = subst (λ (s : ℕ). t.pool ≡ without s p.pool) (sym born.slot) (rest (subst (λ (s : ℕ). t.pool ≡ without s r.pool) born.slot born.births.rest));
+          room = born.births.room;
+        };
+        few = λ alone. record { steps = told.1; within = (let few = chosen_few born.leaves.quiet alone in let is = born.sum in omega (arith, few, is)); took = born_took };
+      }
 
-      pub ends_told : IfErr result (λ e. Uses r t budget since e.1 0) → IfErr result (λ e. (e.1 ≤ budget) × Took p.trace t.trace e.1)
-      ends_told told = go result told
+    -- or it wasn't
+    module _ (told : TakeRefusal × ℕ) (none : BearsNone r t budget since told) where
+      at_end : (P : PassView → Type 0) → P r → P t
+      at_end P x = subst P (sym none.same) x
+
+      pub unborn_took : Took p.trace t.trace told.1
+      unborn_took = took_all (uses_on (all_uses chosen.uses) none.short.uses).counts
+
+      pub unborn_takes : Takes p t budget
+      unborn_takes = at_end (λ (x : PassView). Takes p x budget) (stops_takes chosen.uses)
+
+      pub unborn_refused : RefusesTake p t budget told.0
+      unborn_refused = subst (RefusesTake p t budget) (sym none.short.why) (record {
+        why = record { took = unborn_took; within = none.short.uses.within; short = none.short.short };
+        pool = at_end (LeavesPool p) leaves;
+        hand = at_end (λ (x : PassView). x.hand ≡ None) (then.pool.1 ∙ begun.hand);
+        ready = λ some ample. (let few = few_own some in let made = chosen.uses.at_most in let used = none.short.uses.at_most in let short = none.short.short in absurd (omega (arith, few, made, used, short, ample)));
+        enough = λ alone. (let most = won_few (alone_before (at_end_alone alone)) in let made = chosen.uses.at_most in let used = none.short.uses.at_most in let short = none.short.short in omega (arith, most, made, used, short));
+      })
         where
-          go : (x : Result (HandView × ℕ) (TakeRefusal × ℕ)) → IfErr x (λ e. Uses r t budget since e.1 0) → IfErr x (λ e. (e.1 ≤ budget) × Took p.trace t.trace e.1)
-          go (Ok b) uses = tt
-          go (Err e) uses = (uses.within, took_all (uses_on all_uses uses).counts)
+          at_end_alone : IsAlone p.trace t.trace → IsAlone p.trace r.trace
+          at_end_alone alone = subst (λ (x : PassView). IsAlone p.trace x.trace) none.same alone
 
-      pub ends_counted : IfOk result (λ b. b.1 ≡ since + 1) → IfOk result (λ b. (b.1 ≤ budget) × Took p.trace t.trace b.1)
-      ends_counted used = go result ok used
+    -- whatever came of it
+    module _ (result : Result (HandView × ℕ) (TakeRefusal × ℕ)) (ok : IfOk result (IsBorn r t slot budget since)) (none : IfErr result (BearsNone r t budget since)) where
+      pub ends_took : Took p.trace t.trace (told_steps result)
+      ends_took = go result ok none
         where
-          go : (x : Result (HandView × ℕ) (TakeRefusal × ℕ)) → IfOk x (λ b. IsBorn r t slot budget since b.0) → IfOk x (λ b. b.1 ≡ since + 1) → IfOk x (λ b. (b.1 ≤ budget) × Took p.trace t.trace b.1)
-          go (Ok b) born is = subst (λ (n : ℕ). (n ≤ budget) × Took p.trace t.trace n) (sym is) (born.uses.within, took_all (uses_on all_uses born.uses).counts)
-          go (Err refusal) born is = tt
+          go : (x : Result (HandView × ℕ) (TakeRefusal × ℕ)) → IfOk x (IsBorn r t slot budget since) → IfErr x (BearsNone r t budget since) → Took p.trace t.trace (told_steps x)
+          go (Ok told) born none = born_took told born
+          go (Err told) born none = unborn_took told none
 
-      -- what was used before the birth, by a pass that was alone
-      chosen_few : (p.pool ≡ [] → IsAlone p.trace q.trace → used ≤ steps_to_win p.trace.shape) → IsAlone p.trace t.trace → since + 1 ≤ steps_to_take p.trace.shape p.pool
-      chosen_few few alone =
-          let most = won_few p q budget used begun (λ empty. few empty (alone_first {p = p.trace} {q = q.trace} {r = r.trace} first.seen quiet.seen (alone_first {p = p.trace} {q = r.trace} {r = t.trace} quiet_all.seen quiet_last.seen alone))) in
-          let made = chosen.uses.at_most in
-          omega (arith, most, made)
-
-      pub ends_few : (p.pool ≡ [] → IsAlone p.trace q.trace → used ≤ steps_to_win p.trace.shape) → IfOk result (λ b. b.1 ≡ since + 1) → IfOk result (λ b. IsAlone p.trace t.trace → b.1 ≤ steps_to_take p.trace.shape p.pool)
-      ends_few few used_is = go result used_is
+      pub ends_takes : Takes p t budget
+      ends_takes = go result ok none
         where
-          go : (x : Result (HandView × ℕ) (TakeRefusal × ℕ)) → IfOk x (λ b. b.1 ≡ since + 1) → IfOk x (λ b. IsAlone p.trace t.trace → b.1 ≤ steps_to_take p.trace.shape p.pool)
-          go (Ok b) is = λ alone. let m = chosen_few few alone in omega (arith, m, is)
-          go (Err refusal) is = tt
+          go : (x : Result (HandView × ℕ) (TakeRefusal × ℕ)) → IfOk x (IsBorn r t slot budget since) → IfErr x (BearsNone r t budget since) → Takes p t budget
+          go (Ok told) born none = born_takes told born
+          go (Err told) born none = unborn_takes told none
 
-      pub ends_enough : (p.pool ≡ [] → IsAlone p.trace q.trace → used ≤ steps_to_win p.trace.shape) → IfErr result (λ e. IsAlone p.trace t.trace → NeedsMore (steps_to_take p.trace.shape p.pool) budget e.0)
-      ends_enough few = go result refused
-        where
-          short_of : (refusal : TakeRefusal) → TakeIsShort r t budget since 0 refusal → IsAlone p.trace t.trace → NeedsMore (steps_to_take p.trace.shape p.pool) budget refusal
-          short_of (OutOfSteps n) short = λ alone.
-              let m = chosen_few few alone in
-              let s = short.short in
-              let u = short.uses.at_most in
-              omega (arith, m, s, u)
-          short_of NoSlot short = absurd short
-          short_of (EpochSpent e) short = absurd short
-
-          go : (x : Result (HandView × ℕ) (TakeRefusal × ℕ)) → IfErr x (λ e. TakeIsShort r t budget since 0 e.0) → IfErr x (λ e. IsAlone p.trace t.trace → NeedsMore (steps_to_take p.trace.shape p.pool) budget e.0)
-          go (Ok b) short = tt
-          go (Err e) short = short_of e.0 short
-
-      pub ends_taken : IfOk result (λ b. IsTaken p t b.0)
+      pub ends_taken : IfOk result (λ told. IsTaken p t told.0)
       ends_taken = go result ok
         where
-          go : (x : Result (HandView × ℕ) (TakeRefusal × ℕ)) → IfOk x (λ b. IsBorn r t slot budget since b.0) → IfOk x (λ b. IsTaken p t b.0)
-          go (Ok b) born = taken b.0 born
-          go (Err refusal) born = tt
+          go : (x : Result (HandView × ℕ) (TakeRefusal × ℕ)) → IfOk x (IsBorn r t slot budget since) → IfOk x (λ told. IsTaken p t told.0)
+          go (Ok told) born = born_taken told born
+          go (Err told) born = tt
 
-      pub ends_left : IfErr result (λ e. LeavesPool p t)
-      ends_left = go result still
+      pub ends_refused : IfErr result (λ told. RefusesTake p t budget told.0)
+      ends_refused = go result none
         where
-          go : (x : Result (HandView × ℕ) (TakeRefusal × ℕ)) → OnErr x (t ≡ r) → IfErr x (λ e. LeavesPool p t)
-          go (Ok b) same = tt
-          go (Err refusal) same = subst (LeavesPool p) (sym same) leaves
-
-      pub ends_kept : KeepsSlots q r → KeepsSlots p t
-      ends_kept stays = go result ok still
-        where
-          go : (x : Result (HandView × ℕ) (TakeRefusal × ℕ)) → IfOk x (λ b. IsBorn r t slot budget since b.0) → OnErr x (t ≡ r) → KeepsSlots p t
-          go (Ok b) born same = keeps_on p r t (kept_all stays) born.kept
-          go (Err refusal) born same = subst (KeepsSlots p) (sym same) (kept_all stays)
-
-      pub ends_shared : SharesWhereFull 1 q r → SharesWhereFull 2 p t
-      ends_shared then = go result ok still
-        where
-          born_then : {hand : HandView} → SharesWhereFull 1 p r → IsBorn r t slot budget since hand → SharesWhereFull 2 p t
-          born_then (inl same) born = inl (born.flags ∙ same)
-          born_then (inr full) born = inr (let one = born.one in omega (arith, full, one))
-
-          go : (x : Result (HandView × ℕ) (TakeRefusal × ℕ)) → IfOk x (λ b. IsBorn r t slot budget since b.0) → OnErr x (t ≡ r) → SharesWhereFull 2 p t
-          go (Ok b) born same = born_then (shared_all then) born
-          go (Err refusal) born same = subst (SharesWhereFull 2 p) (sym same) (shares_more p r (shared_all then))
-
-      pub ends_one : length p.pool ≤ length t.pool + 1
-      ends_one = go result ok still
-        where
-          go : (x : Result (HandView × ℕ) (TakeRefusal × ℕ)) → IfOk x (λ b. IsBorn r t slot budget since b.0) → OnErr x (t ≡ r) → length p.pool ≤ length t.pool + 1
-          go (Ok b) born same = let low = longer p q none.grows in let e = ap length keeps.0 in let one = born.one in omega (arith, low, e, one)
-          go (Err refusal) born same = subst (λ (x : PassView). length p.pool ≤ length x.pool + 1) (sym same) one_all
-
-      pub ends_room : IfErr result (λ e. HadRoom p t budget e.0)
-      ends_room = go result refused
-        where
-          room_of : (refusal : TakeRefusal) → TakeIsShort r t budget since 0 refusal → HadRoom p t budget refusal
-          room_of (OutOfSteps n) short = tt
-          room_of NoSlot short = tt
-          room_of (EpochSpent e) short = absurd short
-
-          go : (x : Result (HandView × ℕ) (TakeRefusal × ℕ)) → IfErr x (λ e. TakeIsShort r t budget since 0 e.0) → IfErr x (λ e. HadRoom p t budget e.0)
-          go (Ok b) short = tt
-          go (Err e) short = room_of e.0 short
-
-      pub ends_advances : AdvancesWhereNeeded q r → AdvancesWhereNeeded p t
-      ends_advances before = go result ok still
-        where
-          go : (x : Result (HandView × ℕ) (TakeRefusal × ℕ)) → IfOk x (λ b. IsBorn r t slot budget since b.0) → OnErr x (t ≡ r) → AdvancesWhereNeeded p t
-          go (Ok b) born same = needed_before {p = p} {q = r} {r = t} (advances_all before) born.quiet.seen born.quiet.is_run born.advances
-          go (Err refusal) born same = subst (AdvancesWhereNeeded p) (sym same) (advances_all before)
-
--- what is so after all errors
-pub on_each : {T E : Type 0} {P : Type 0} (x : Result T E) → P → IfErr x (λ _. P)
-on_each (Ok value) p = tt
-on_each (Err error) p = p
+          go : (x : Result (HandView × ℕ) (TakeRefusal × ℕ)) → IfErr x (BearsNone r t budget since) → IfErr x (λ told. RefusesTake p t budget told.0)
+          go (Ok told) none = tt
+          go (Err told) none = unborn_refused told none

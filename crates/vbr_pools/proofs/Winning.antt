@@ -3,10 +3,10 @@ use Rattle.std.proofs.Common.{◌≡◌, ℕ, ◌+◌, ◌*◌, ◌/◌, ◌<◌
 use Rattle.std.proofs.lemmas.Bool.{cases_lt, eqb-true}
 use Rattle.vbr_words.specs.Dimensions.{Dimensions}
 use Rattle.vbr_words.specs.Flags.{word_of_flag, flag_words, has_flag, IsNextFlag}
-use Rattle.vbr_core.specs.Acceptance.{MayBear}
-use Rattle.vbr_core.specs.Knowledge.{Know}
-use Rattle.vbr_core.specs.declared.event.Step.TheVariants.{TakeFlag}
-use Rattle.vbr_core.proofs.Lemmas.{put_other}
+use Rattle.vbr_machine.specs.Acceptance.{MayBear}
+use Rattle.vbr_machine.specs.Knowledge.{Know}
+use Rattle.vbr_machine.specs.declared.event.Step.TheVariants.{TakeFlag}
+use Rattle.vbr_machine.proofs.Lemmas.{put_other}
 use Rattle.vbr_slots.specs.Alone.{IsAlone}
 use Rattle.vbr_slots.specs.Calls.{Quiet}
 use Rattle.vbr_slots.specs.Pools.{hand_without}
@@ -14,13 +14,13 @@ use Rattle.vbr_slots.specs.Tried.{last_tried}
 use Rattle.vbr_slots.specs.Views.{Trace, PassView, KeepsPool, Did, knows}
 use Rattle.vbr_slots.proofs.Lemmas.{alone_first, alone_then, did_quiet, did_seen, quiet_on, quiet_refl}
 use Rattle.vbr_pools.specs.KeptSlots.{TakesNoSlot}
-use Rattle.vbr_pools.specs.Pieces.{HasSlots}
-use Rattle.vbr_pools.specs.Refusals.{HasNoSlot}
+use Rattle.vbr_pools.specs.Pieces.{HasSlots, Probes, WinsNone}
 use Rattle.vbr_pools.specs.SharedPool.{WasOutside, ComesBefore, CameByFlag}
 use Rattle.vbr_pools.specs.Steps.{CountsSteps}
+use Rattle.vbr_pools.specs.declared.refusal.TakeRefusal.TheVariants.{OutOfSteps, NoSlot}
 use Rattle.vbr_pools.proofs.AloneWinning.{Probed, probed_first, probed_lost, probed_next, probed_few}
 use Rattle.vbr_pools.proofs.Advancing.{same_advances, same_flags, none_refl, none_given, none_known, none_on}
-use Rattle.vbr_pools.proofs.Counting.{counts_none, counts_one, counts_on}
+use Rattle.vbr_pools.proofs.Counting.{counts_none, counts_one, counts_on, took_all}
 use Rattle.vbr_pools.proofs.Moments.{came, missed, missed_before, missed_after}
 
 -- so many probes were made on a way once round the slots: from the first slot of the word of the flag that was tried last up to the last one, and then, up to that first one, from slot 0 on;
@@ -135,6 +135,15 @@ module _ {p q r : PassView} {budget used start slot end next n : ℕ} (at : Winn
 pub win_low : {p q : PassView} {budget used start slot end : ℕ} → Winning p q budget used start slot end → slot < end → slot < p.trace.shape.slots
 win_low {p} {start = start} {slot = slot} {end = end} at below = ⊎_elim (λ (first : (end ≡ p.trace.shape.slots) × (start ≤ slot) × (slot < p.trace.shape.slots)). first.2) (λ (over : end ≡ start). (let l = at.low in omega (arith, l, over, below))) at.turn
 
+-- a pass that was alone made no more probes than there are flag words, and one more that won
+few : {p q : PassView} {budget used start slot end : ℕ} → Winning p q budget used start slot end → slot < end → IsAlone p.trace q.trace → used ≤ flag_words p.trace.shape.slots
+few {p} {q} {used = used} {start = start} {slot = slot} {end = end} at below alone = ⊎_elim
+    (λ (first : (end ≡ p.trace.shape.slots) × (start ≤ slot) × (slot < p.trace.shape.slots)). (let most = probed_few q.trace (word_of_flag start) 0 used slot ((at.alone alone).0 first.0) in let low = first.2 in omega (arith, most, low)))
+    (λ (over : end ≡ start). (let most = probed_few q.trace (word_of_flag start) (flag_words p.trace.shape.slots) used slot ((at.alone alone).1 over) in let b = at.begins in omega (arith, most, b, over, below))) at.turn
+
+win_few : {p q : PassView} {t : Trace} {budget used start slot end n : ℕ} → Winning p q budget used start slot end → slot < end → Did (TakeFlag slot) q.trace t n → IsAlone p.trace t → used + 1 ≤ flag_words p.trace.shape.slots + 1
+win_few at below d alone = let most = few at below (alone_first at.quiet.seen (did_seen d) alone) in omega (arith, most)
+
 -- a flag was won
 pub win_done : {p q r t : PassView} {budget used start slot end n : ℕ} → Winning p q budget used start slot end → slot < end → p.pool ≡ [] → p.hand ≡ None → used + 8 ≤ budget → Did (TakeFlag slot) q.trace r.trace n → has_flag n slot ≡ true → KeepsPool q r → t.trace ≡ r.trace → t.pool ≡ r.pool ++ slot ∷ [] → t.hand ≡ hand_without slot r.hand →
     HasSlots p t budget (used + 1)
@@ -146,6 +155,7 @@ win_done {p} {q} {r} {t} {budget} {used} {start} {slot} {end} at below empty no_
       won = inr (empty, slot, one, subst (λ (x : Trace). CameByFlag p.trace x slot) (sym same) (came at.quiet d set (λ s in_shape before. missed_before (first s in_shape before) (did_quiet d (λ know. refl)))));
       some = λ none. not_empty slot (sym one ∙ none);
       room = (let e = ap length one in omega (arith, e));
+      few = λ empty alone. win_few at below d (subst (IsAlone p.trace) same alone);
     }
   where
     not_empty : (s : ℕ) → s ∷ [] ≡ [] → ⊥
@@ -157,21 +167,45 @@ win_done {p} {q} {r} {t} {budget} {used} {start} {slot} {end} at below empty no_
         (λ (first : (end ≡ p.trace.shape.slots) × (start ≤ slot) × (slot < p.trace.shape.slots)). (let b = at.begins in let f = first.1 in let early = past.0 in absurd (omega (arith, b, f, early))))
         (λ (over : end ≡ start). at.round over s in_shape (⊎_elim (λ (from : 64 * word_of_flag (last_tried p.trace) ≤ s). (let b = at.begins in inl (omega (arith, b, from)))) (λ (less : s < slot). inr less) past.1)) at.turn
 
--- and the slot is all that the pass could take
-pub win_none : {p q r t : PassView} {budget used start slot end n : ℕ} → Winning p q budget used start slot end → Did (TakeFlag slot) q.trace r.trace n → has_flag n slot ≡ true → KeepsPool q r → t.trace ≡ r.trace → t.pool ≡ r.pool ++ slot ∷ [] → t.hand ≡ hand_without slot r.hand → TakesNoSlot p t
+-- the slot is all that the pass could take
+win_none : {p q r t : PassView} {budget used start slot end n : ℕ} → Winning p q budget used start slot end → Did (TakeFlag slot) q.trace r.trace n → has_flag n slot ≡ true → KeepsPool q r → t.trace ≡ r.trace → t.pool ≡ r.pool ++ slot ∷ [] → t.hand ≡ hand_without slot r.hand → TakesNoSlot p t
 win_none {q = q} {slot = slot} {n = n} at d set stays same pool hand = none_on at.none (none_given d refl refl refl (λ s other m. subst MayBear (ap (λ (k : Know). k.own s) (d.know ∙ won_flag _ (knows q.trace)) ∙ put_other (knows q.trace).own _ _ s other) m) stays same pool hand)
   where
     won_flag : (a b : Know) → cond (has_flag n slot) a b ≡ a
     won_flag a b = ap (λ (t : Bool). cond t a b) set
 
--- or none was won, once round
-pub win_no_slot : {p q : PassView} {budget used start slot end : ℕ} → Winning p q budget used start slot end → end ≤ slot → p.pool ≡ [] → HasNoSlot p q
+pub win_probes : {p q r t : PassView} {budget used start slot end n : ℕ} → Winning p q budget used start slot end → Did (TakeFlag slot) q.trace r.trace n → has_flag n slot ≡ true → KeepsPool q r → t.trace ≡ r.trace → t.pool ≡ r.pool ++ slot ∷ [] → t.hand ≡ hand_without slot r.hand → Probes p t
+win_probes {p} at d set stays same pool hand = record {
+  quiet = subst (Quiet p.trace) (sym same) (quiet_on at.quiet (did_quiet d (λ know. refl)));
+  takes_no_slot = win_none at d set stays same pool hand;
+}
+
+-- or none was won: for want of steps, or once round
+pub unwon_probes : {p q : PassView} {budget used start slot end : ℕ} → Winning p q budget used start slot end → Probes p q
+unwon_probes at = record { quiet = at.quiet; takes_no_slot = at.none }
+
+pub win_short : {p q : PassView} {budget used start slot end : ℕ} → Winning p q budget used start slot end → slot < end → p.pool ≡ [] → budget < used + 8 → WinsNone p q budget (OutOfSteps used, used)
+win_short at below empty short = record {
+  uses = record { counts = at.counts; within = at.within; at_most = (let w = at.within in omega (arith, w)) };
+  empty = empty;
+  pool = at.pool;
+  why = record { took = took_all at.counts; within = at.within; short = short };
+  enough = λ alone. (let most = few at below alone in omega (arith, most, short));
+}
+
+pub win_no_slot : {p q : PassView} {budget used start slot end : ℕ} → Winning p q budget used start slot end → end ≤ slot → p.pool ≡ [] → WinsNone p q budget (NoSlot, used)
 win_no_slot {p} {q} {start = start} {slot = slot} {end = end} at behind empty =
     let over : end ≡ start = ⊎_elim (λ (first : (end ≡ p.trace.shape.slots) × (start ≤ slot) × (slot < p.trace.shape.slots)). (let e = first.0 in let low = first.2 in absurd (omega (arith, e, low, behind)))) (λ (over : end ≡ start). over) at.turn in
     record {
+      uses = record { counts = at.counts; within = at.within; at_most = (let w = at.within in omega (arith, w)) };
       empty = empty;
-      still = at.pool.0 ∙ empty;
-      outside = λ s in_shape. at.round over s in_shape (⊎_elim (λ (earlier : s < start). inr (omega (arith, earlier, behind, over))) (λ (later : start ≤ s). inl later) (cases_lt s start));
+      pool = at.pool;
+      why = record {
+        empty = empty;
+        still = at.pool.0 ∙ empty;
+        outside = λ s in_shape. at.round over s in_shape (⊎_elim (λ (earlier : s < start). inr (omega (arith, earlier, behind, over))) (λ (later : start ≤ s). inl later) (cases_lt s start));
+      };
+      enough = λ alone. tt;
     }
 
 -- a list that has no length is empty
@@ -181,16 +215,3 @@ none_in pool e = let z = eqb-true (length pool) 0 e in go pool z
     go : (l : List ℕ) → length l ≡ 0 → l ≡ []
     go [] z = refl
     go (x ∷ xs) z = absurd (omega arith)
-
--- a pass that was alone made no more probes than there are flag words, and one more that won
-few : {p q : PassView} {budget used start slot end : ℕ} → Winning p q budget used start slot end → slot < end → IsAlone p.trace q.trace → used ≤ flag_words p.trace.shape.slots
-few {p} {q} {used = used} {start = start} {slot = slot} {end = end} at below alone = ⊎_elim
-    (λ (first : (end ≡ p.trace.shape.slots) × (start ≤ slot) × (slot < p.trace.shape.slots)). (let most = probed_few q.trace (word_of_flag start) 0 used slot ((at.alone alone).0 first.0) in let low = first.2 in omega (arith, most, low)))
-    (λ (over : end ≡ start). (let most = probed_few q.trace (word_of_flag start) (flag_words p.trace.shape.slots) used slot ((at.alone alone).1 over) in let b = at.begins in omega (arith, most, b, over, below))) at.turn
-
-pub win_few : {p q : PassView} {t : Trace} {budget used start slot end n : ℕ} → Winning p q budget used start slot end → slot < end → Did (TakeFlag slot) q.trace t n → IsAlone p.trace t → used + 1 ≤ flag_words p.trace.shape.slots + 1
-win_few at below d alone = let most = few at below (alone_first at.quiet.seen (did_seen d) alone) in omega (arith, most)
-
--- or its budget had no room for that
-pub win_short : {p q : PassView} {budget used start slot end : ℕ} → Winning p q budget used start slot end → slot < end → budget < used + 8 → IsAlone p.trace q.trace → budget < flag_words p.trace.shape.slots + 1 + 7
-win_short at below short alone = let most = few at below alone in omega (arith, most, short)

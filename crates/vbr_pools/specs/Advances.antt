@@ -1,9 +1,9 @@
 -- Where a pass advances the epoch: only where no slot that it could take is stamped below it.
 use Rattle.std.specs.Prelude.{◌≡◌, ℕ, ◌+◌, ◌≤◌, List, [], ◌∷◌, ◌++◌, ◌⊎◌}
-use Rattle.vbr_core.specs.Acceptance.{stamp_in}
-use Rattle.vbr_core.specs.Runs.{Begins, know_after}
-use Rattle.vbr_core.specs.declared.event.Event.{Event}
-use Rattle.vbr_core.specs.declared.event.Step.TheVariants.{Advance}
+use Rattle.vbr_machine.specs.Acceptance.{stamp_in}
+use Rattle.vbr_machine.specs.Runs.{Begins, know_after}
+use Rattle.vbr_machine.specs.declared.event.Event.{Event}
+use Rattle.vbr_machine.specs.declared.event.Step.TheVariants.{Advance}
 use Rattle.vbr_slots.specs.Calls.{Moment}
 use Rattle.vbr_slots.specs.Views.{PassView, event_of}
 use Rattle.vbr_pools.specs.Counts.{advances}

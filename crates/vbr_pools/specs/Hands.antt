@@ -1,6 +1,6 @@
 -- Slots that are out of the pools: in the hand of a pass, or unlinked by it.
 use Rattle.std.specs.Prelude.{◌≡◌, ℕ, Some}
-use Rattle.vbr_core.specs.Learning.{birth_in_hand}
+use Rattle.vbr_machine.specs.Learning.{birth_in_hand}
 use Rattle.vbr_slots.specs.Views.{PassView, knows}
 
 -- a slot in a hand, and the birth of the incarnation there

@@ -1,7 +1,7 @@
 -- What a call keeps of the slots of its pass.
 use Rattle.std.specs.Prelude.{◌≡◌, ◌≢◌, ℕ, ◌+◌, ◌≤◌, Bool, true, List, ◌++◌, length, Result, Ok, Some, Contains, ◌⊎◌}
-use Rattle.vbr_core.specs.Acceptance.{IsUnlinked, MayBear}
-use Rattle.vbr_core.specs.Knowledge.{Know}
+use Rattle.vbr_machine.specs.Acceptance.{IsUnlinked, MayBear}
+use Rattle.vbr_machine.specs.Knowledge.{Know}
 use Rattle.vbr_slots.specs.declared.pass.TheConstants.{POOL}
 use Rattle.vbr_slots.specs.Views.{Trace, PassView, knows}
 use Rattle.vbr_pools.specs.Counts.{advances, flags_raised}

@@ -6,9 +6,10 @@ pub mod SharedPool
 pub mod Counts
 pub mod KeptSlots
 pub mod Advances
+pub mod Budgets
 pub mod Taking
 pub mod Refusals
-pub mod Budgets
+pub mod GivingBack
 pub mod Retiring
 pub mod Pieces
 pub mod Messages

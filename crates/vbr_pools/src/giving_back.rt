@@ -1,7 +1,7 @@
 //! Giving back a slot in hand.
-ghost use Rattle.std.specs.Prelude.{◌≡◌, ◌<◌, ◌++◌, [], ◌∷◌, length, None};
+ghost use Rattle.std.specs.Prelude.{◌<◌, length};
 ghost use Rattle.vbr_slots.specs.declared.pass.TheConstants.{POOL};
-ghost use Rattle.vbr_pools.specs.KeptSlots.{KeepsSlots};
+ghost use Rattle.vbr_pools.specs.GivingBack.{PutsBack};
 ghost use Rattle.vbr_pools.specs.Hands.{IsHandOf};
 
 use crate::hand::Hand;
@@ -13,10 +13,7 @@ use vbr_slots::Pass;
 pub fn give_back(pass: &mut Pass, hand: Hand)
     requires hand { IsHandOf pass.old hand }
     requires room { length pass.old.pool < POOL }
-    ensures trace { pass.new.trace ≡ pass.old.trace }
-    ensures pool { pass.new.pool ≡ pass.old.pool ++ hand.slot ∷ [] }
-    ensures hand { pass.new.hand ≡ None }
-    ensures kept { KeepsSlots pass.old pass.new }
+    ensures { PutsBack pass.old pass.new hand.slot }
 {
     pass.law();
     pass.keep(hand.into_slot());

@@ -1,14 +1,8 @@
 //! Taking a slot for a new incarnation.
-ghost use Rattle.std.specs.Prelude.{◌≡◌, ◌≢◌, ◌+◌, ◌≤◌, [], length, IfOk, IfErr, None};
-ghost use Rattle.vbr_slots.specs.Alone.{IsAlone};
-ghost use Rattle.vbr_slots.specs.Calls.{Quiet};
+ghost use Rattle.std.specs.Prelude.{◌≡◌, IfOk, IfErr, None};
 ghost use Rattle.vbr_slots.specs.Views.{IsOf};
-ghost use Rattle.vbr_pools.specs.Advances.{AdvancesWhereNeeded};
-ghost use Rattle.vbr_pools.specs.KeptSlots.{KeepsSlots, SharesWhereFull};
-ghost use Rattle.vbr_pools.specs.Budgets.{NeedsMore, steps_to_take};
-ghost use Rattle.vbr_pools.specs.Refusals.{HadRoom, TakeIsRefused, LeavesPool, IsTakenOrSpent};
-ghost use Rattle.vbr_pools.specs.Steps.{TookWithin};
-ghost use Rattle.vbr_pools.specs.Taking.{IsTaken};
+ghost use Rattle.vbr_pools.specs.Refusals.{RefusesTake};
+ghost use Rattle.vbr_pools.specs.Taking.{IsTaken, Takes};
 
 use crate::hand::Hand;
 use crate::refusal::TakeRefusal;
@@ -31,21 +25,9 @@ use vbr_slots::{Pass, Slots};
 pub fn take(slots: &Slots, pass: &mut Pass, budget: u32) -> Result<Hand, TakeRefusal>
     requires own { IsOf pass.old.trace slots.now }
     requires empty_hand { pass.old.hand ≡ None }
-    ensures quiet { Quiet pass.old.trace pass.new.trace }
-    ensures steps { TookWithin pass.old.trace pass.new.trace budget }
-    ensures ok { IfOk result (λ hand. IsTaken pass.old pass.new hand) }
-    ensures refused { IfErr result (λ refusal. TakeIsRefused pass.old pass.new budget refusal) }
-    ensures room { IfErr result (λ refusal. HadRoom pass.old pass.new budget refusal) }
-    ensures pool { IfErr result (λ refusal. LeavesPool pass.old pass.new) }
-    ensures hand { IfErr result (λ refusal. pass.new.hand ≡ None) }
-    ensures kept { KeepsSlots pass.old pass.new }
-    ensures one { length pass.old.pool ≤ length pass.new.pool + 1 }
-    ensures shared { SharesWhereFull 2 pass.old pass.new }
-    ensures advances { AdvancesWhereNeeded pass.old pass.new }
-    // No condition speaks of another pass: none can hold it up.
-    ensures ready { pass.old.pool ≢ [] → 80 ≤ budget → IsTakenOrSpent result }
-    // Alone, it makes no more steps than these.
-    ensures enough { IfErr result (λ refusal. IsAlone pass.old.trace pass.new.trace → NeedsMore (steps_to_take pass.old.trace.shape pass.old.pool) budget refusal) }
+    ensures takes { Takes pass.old pass.new budget }
+    ensures taken { IfOk result (IsTaken pass.old pass.new) }
+    ensures refused { IfErr result (RefusesTake pass.old pass.new budget) }
 {
     pass.at(slots, |at| uncounted::take(at, budget))
 }

@@ -1,6 +1,6 @@
 //! A slot that its pass unlinked.
 ghost use Rattle.std.specs.Prelude.{◌≡◌};
-ghost use Rattle.vbr_core.specs.Acceptance.{IsUnlinked};
+ghost use Rattle.vbr_machine.specs.Acceptance.{IsUnlinked};
 ghost use Rattle.vbr_slots.specs.Views.{knows};
 
 use std::marker::Model;

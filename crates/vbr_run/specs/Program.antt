@@ -1,9 +1,13 @@
 -- How the program ends.
-use Rattle.std.specs.Prelude.{◌≡◌, ℕ, List, ◌++◌, ◌⊎◌, Option, Result, Ok, Err, codes, decimal}
-use Rattle.std.specs.Io.KnownBytes.{Keeps}
+use Rattle.std.specs.Prelude.{◌≡◌, ◌≢◌, ℕ, List, [], ◌++◌, ◌⊎◌, Option, Some, None, Result, Ok, Err, codes, decimal}
+use Rattle.std.specs.Io.KnownBytes.{Appends, Keeps}
+use Rattle.clap.specs.Words.{IsAmong}
+use Rattle.clap.specs.declared.error.kind.ErrorKind.{ErrorKind}
+use Rattle.clap.specs.declared.error.kind.ErrorKind.TheVariants as asked
 use Rattle.vbr_words.specs.declared.shape.ShapeError.{ShapeError}
 use Rattle.vbr_words.specs.declared.shape.ShapeError.TheVariants as shape
 use Rattle.vbr_script.specs.Grammar.{fault_number}
+use Rattle.vbr_settings.specs.Options.{AreOptions, faults, settings_of, shape_fault}
 use Rattle.vbr_settings.specs.Settings.{Settings}
 use Rattle.vbr_transcript.specs.Layout.{line}
 use Rattle.vbr_transcript.specs.Writing.{AppendsSome}
@@ -44,22 +48,65 @@ abbrev pub TellsRun : Result Totals RunError → Option (List ℕ) → Option (L
 TellsRun (Ok totals) old new status = (status ≡ DONE) × Keeps old new
 TellsRun (Err e) old new status = (status ≡ error_status e) × AppendsSome old new (error_line e)
 
--- a request for the help or the version: it is on standard output, or as much of it as could be written
-abbrev pub Helps : Option (List ℕ) → Option (List ℕ) → ℕ → Type 0
-Helps old new status = ((status ≡ DONE) ⊎ (status ≡ DEVICE_FAULT)) × ((help : List ℕ) × AppendsSome old new help)
+-- what a run of the program leaves: what the writer and standard error held before and hold after, and the exit status
+pub record ProgramRun : Type 0 where
+  pub output_before : Option (List ℕ)
+  pub output : Option (List ℕ)
+  pub errors_before : Option (List ℕ)
+  pub errors : Option (List ℕ)
+  pub status : ℕ
 
--- a fault in the options: nothing is written to standard output
-abbrev pub IsFault : Option (List ℕ) → Option (List ℕ) → ℕ → Type 0
-IsFault old new status = (status ≡ USAGE) × Keeps old new
-
--- a script was played with these settings, and that is told
-abbrev pub IsPlayed : Settings → Option (List ℕ) → Option (List ℕ) → Option (List ℕ) → Option (List ℕ) → Option (List ℕ) → ℕ → Type 0
-IsPlayed settings left old new errors_old errors_new status = (answer : Result Totals RunError) × Plays settings left old new answer × TellsRun answer errors_old errors_new status
+-- a script that was left to read was played with these settings, and that is told
+abbrev pub IsPlayed : Settings → Option (List ℕ) → ProgramRun → Type 0
+IsPlayed settings input run = (answer : Result Totals RunError) × Plays settings input run.output_before run.output answer × TellsRun answer run.errors_before run.errors run.status
 
 -- there is no such shape: nothing is written to standard output, and that is told
-abbrev pub IsUnshaped : ShapeError → Option (List ℕ) → Option (List ℕ) → Option (List ℕ) → Option (List ℕ) → ℕ → Type 0
-IsUnshaped error old new errors_old errors_new status = (status ≡ USAGE) × Keeps old new × AppendsSome errors_old errors_new (shape_line error)
+abbrev pub IsUnshaped : ShapeError → ProgramRun → Type 0
+IsUnshaped error run = (run.status ≡ USAGE) × Keeps run.output_before run.output × AppendsSome run.errors_before run.errors (shape_line error)
 
 -- no memory for the options: nothing is written to standard output, and that is told
-abbrev pub LacksMemory : Option (List ℕ) → Option (List ℕ) → Option (List ℕ) → Option (List ℕ) → ℕ → Type 0
-LacksMemory old new errors_old errors_new status = (status ≡ error_status error.Memory) × Keeps old new × AppendsSome errors_old errors_new (error_line error.Memory)
+abbrev pub LacksMemory : ProgramRun → Type 0
+LacksMemory run = (run.status ≡ error_status error.Memory) × Keeps run.output_before run.output × AppendsSome run.errors_before run.errors (error_line error.Memory)
+
+-- a text was asked for, and is on standard output whole
+abbrev pub IsShown : ProgramRun → Type 0
+IsShown run = (run.status ≡ DONE) × Keeps run.errors_before run.errors × ((text : List ℕ) × Appends run.output_before run.output text)
+
+-- a text was asked for, and as much of it is on standard output as could be written, which is told
+abbrev pub IsCutShort : ProgramRun → Type 0
+IsCutShort run = (run.status ≡ DEVICE_FAULT) × AppendsSome run.errors_before run.errors (error_line error.Write) × ((text : List ℕ) × AppendsSome run.output_before run.output text)
+
+-- a fault in the options: nothing is written to standard output, and as much of the fault's text to standard error as could be
+abbrev pub IsFault : ProgramRun → Type 0
+IsFault run = (run.status ≡ USAGE) × Keeps run.output_before run.output × ((text : List ℕ) × AppendsSome run.errors_before run.errors text)
+
+-- what `clap` has for a command line is told: the help and the version where they were asked for, and all else as a fault
+abbrev pub Tells : ErrorKind → ProgramRun → Type 0
+Tells asked.DisplayHelp run = IsShown run ⊎ IsCutShort run
+Tells asked.DisplayVersion run = IsShown run ⊎ IsCutShort run
+Tells other run = IsFault run
+
+-- a command line without a fault is played, or gives no shape
+abbrev pub IsTaken : List (List ℕ) → Option (List ℕ) → ProgramRun → Type 0
+IsTaken arguments input run = (faults arguments ≡ [])
+    × (((shape_fault (settings_of arguments) ≡ None) × IsPlayed (settings_of arguments) input run)
+    ⊎ ((error : ShapeError) × (shape_fault (settings_of arguments) ≡ Some error) × IsUnshaped error run))
+
+-- one of the faults of a command line is told
+abbrev pub IsRefused : List (List ℕ) → ProgramRun → Type 0
+IsRefused arguments run = (kind : ErrorKind) × IsAmong kind (faults arguments) × Tells kind run
+
+-- how a run of the program ends, by its arguments: those that the command takes are played, or give no shape; and of all, what the command has for them is told, or want of memory
+pub record AnswersCommand (arguments : List (List ℕ)) (input : Option (List ℕ)) (run : ProgramRun) : Type 0 where
+  pub played : AreOptions arguments → shape_fault (settings_of arguments) ≡ None → IsPlayed (settings_of arguments) input run
+  pub unshaped : (error : ShapeError) → AreOptions arguments → shape_fault (settings_of arguments) ≡ Some error → IsUnshaped error run ⊎ LacksMemory run
+  pub answered : IsTaken arguments input run ⊎ (IsRefused arguments run ⊎ LacksMemory run)
+
+-- a command line that gives no settings to play with
+abbrev pub IsFaulty : List (List ℕ) → Type 0
+IsFaulty arguments = (faults arguments ≢ []) ⊎ ((error : ShapeError) × (shape_fault (settings_of arguments) ≡ Some error))
+
+-- what `clap` answers in place of options is told, or want of memory, and for want of memory that alone
+pub record ShowsError (kind : ErrorKind) (run : ProgramRun) : Type 0 where
+  pub memory : kind ≡ asked.OutOfMemory → LacksMemory run
+  pub told : Tells kind run ⊎ LacksMemory run

@@ -1,10 +1,8 @@
 //! The body of the program, and its exit statuses.
-ghost use Rattle.std.specs.Prelude.{◌≡◌, ◌⊎◌, Some, None, map};
+ghost use Rattle.std.specs.Prelude.{◌≡◌, map};
 ghost use Rattle.clap.specs.Words.{kind_of};
-ghost use Rattle.vbr_words.specs.declared.shape.ShapeError.{ShapeError};
-ghost use Rattle.vbr_settings.specs.Options.{AreOptions, settings_of, shape_fault};
 ghost use Rattle.vbr_run.specs.declared.program.TheConstants.{USAGE};
-ghost use Rattle.vbr_run.specs.Program.{IsPlayed, IsUnshaped, Helps, IsFault, LacksMemory};
+ghost use Rattle.vbr_run.specs.Program.{AnswersCommand, IsFaulty, ShowsError};
 
 use crate::report::{report, report_shape};
 use clap::error::ErrorKind;
@@ -60,14 +58,15 @@ pub fn run<T: Threads + Wait, R: Read, W: Write, E: Write>(
     writer: &mut W,
     errors: &mut E,
 ) -> u8
-    ensures played { AreOptions (map (λ argument. argument.now) arguments.now) → shape_fault (settings_of (map (λ argument. argument.now) arguments.now)) ≡ None →
-        IsPlayed (settings_of (map (λ argument. argument.now) arguments.now)) (R.remaining reader.old) (W.contents writer.old) (W.contents writer.new) (E.contents errors.old) (E.contents errors.new) result }
-    ensures unshaped { (error : ShapeError) → AreOptions (map (λ argument. argument.now) arguments.now) → shape_fault (settings_of (map (λ argument. argument.now) arguments.now)) ≡ Some error →
-        IsUnshaped error (W.contents writer.old) (W.contents writer.new) (E.contents errors.old) (E.contents errors.new) result
-        ⊎ LacksMemory (W.contents writer.old) (W.contents writer.new) (E.contents errors.old) (E.contents errors.new) result }
-    ensures others { IsPlayed (settings_of (map (λ argument. argument.now) arguments.now)) (R.remaining reader.old) (W.contents writer.old) (W.contents writer.new) (E.contents errors.old) (E.contents errors.new) result
-        ⊎ (Helps (W.contents writer.old) (W.contents writer.new) result ⊎ IsFault (W.contents writer.old) (W.contents writer.new) result) }
+    ensures answers { AnswersCommand (map (λ argument. argument.now) arguments.now) (R.remaining reader.old) (record {
+      output_before = W.contents writer.old;
+      output = W.contents writer.new;
+      errors_before = E.contents errors.old;
+      errors = E.contents errors.new;
+      status = result;
+    }) }
     ensures unread { result ≡ USAGE → reader.new ≡ reader.old }
+    ensures unplayed { IsFaulty (map (λ argument. argument.now) arguments.now) → reader.new ≡ reader.old }
 {
     match read_options(alloc, arguments) {
         Ok(config) => match play(rt, alloc, config, reader, writer, &NoGate) {
@@ -87,10 +86,13 @@ fn show<W: Write, E: Write>(
     writer: &mut W,
     errors: &mut E,
 ) -> u8
-    ensures memory { kind_of refusal.now ≡ ErrorKind.OutOfMemory →
-        LacksMemory (W.contents writer.old) (W.contents writer.new) (E.contents errors.old) (E.contents errors.new) result }
-    ensures others { LacksMemory (W.contents writer.old) (W.contents writer.new) (E.contents errors.old) (E.contents errors.new) result
-        ⊎ (Helps (W.contents writer.old) (W.contents writer.new) result ⊎ IsFault (W.contents writer.old) (W.contents writer.new) result) }
+    ensures { ShowsError (kind_of refusal.now) (record {
+      output_before = W.contents writer.old;
+      output = W.contents writer.new;
+      errors_before = E.contents errors.old;
+      errors = E.contents errors.new;
+      status = result;
+    }) }
 {
     if refusal.kind() == ErrorKind::OutOfMemory {
         return report(errors, RunError::Memory);

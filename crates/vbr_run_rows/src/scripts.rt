@@ -1,7 +1,7 @@
 //! The parser on its own.
 use std::alloc::{AllocError, Global};
 use std::test::Fail;
-use vbr_core::Op;
+use vbr_machine::Op;
 use vbr_run::{Line, Script, ScriptError, ScriptFault, parse_script};
 
 // Reads a script. The tests compare what comes of it when they run, and need no contract for that.

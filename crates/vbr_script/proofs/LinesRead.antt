@@ -3,7 +3,7 @@ use Rattle.std.proofs.Common.{◌≡◌, ℕ, ◌+◌, ◌<◌, ◌≤◌, cond,
 use Rattle.std.specs.Prelude.{count_by}
 use Rattle.std.proofs.lemmas.Bool.Decides.{nat_tests}
 use Rattle.std.proofs.lemmas.List.Sums.{sum_by-cons}
-use Rattle.vbr_core.specs.declared.history.Op.{Op}
+use Rattle.vbr_machine.specs.declared.history.Op.{Op}
 use Rattle.vbr_script.specs.declared.script.Line.{Line}
 use Rattle.vbr_script.specs.declared.script.Meaning.{Meaning}
 use Rattle.vbr_script.specs.declared.script.Meaning.TheVariants.{Blank, Sync, Renew, Asks, Faulty}

@@ -1,6 +1,6 @@
 -- The script that a text of bytes is, and its first fault.
 use Rattle.std.specs.Prelude.{◌≢◌, ℕ, ◌+◌, ◌<◌, ◌≤◌, Bool, true, false, nat_lt, List, [], ◌∷◌, map, All, count_by, Option, Some, None, if◌then◌else◌}
-use Rattle.vbr_core.specs.declared.history.Op.TheVariants.{Get}
+use Rattle.vbr_machine.specs.declared.history.Op.TheVariants.{Get}
 use Rattle.vbr_script.specs.declared.script.Line.{Line}
 use Rattle.vbr_script.specs.declared.script.ScriptFault.{ScriptFault}
 use Rattle.vbr_script.specs.declared.script.ScriptFault.TheVariants.{TooMany}

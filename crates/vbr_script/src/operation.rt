@@ -2,7 +2,7 @@
 ghost use Rattle.std.specs.Prelude.{◌≡◌};
 ghost use Rattle.vbr_script.specs.Grammar.{operation_of};
 
-use vbr_core::Op;
+use vbr_machine::Op;
 
 // The operation that a token names.
 #[tactic(auto, unfolding(crate::specs::Grammar::operation_of))]

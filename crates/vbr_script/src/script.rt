@@ -1,6 +1,6 @@
 //! What a script is: its lines, the meaning of each, and what may be wrong with it.
 use thiserror::Error;
-use vbr_core::Op;
+use vbr_machine::Op;
 
 /// One operation of a script.
 #[derive(Clone, Copy, Debug, PartialEq, Eq)]

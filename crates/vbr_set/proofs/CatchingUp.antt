@@ -2,13 +2,13 @@
 use Rattle.std.proofs.Common.{◌≡◌, ◌⊎◌, ℕ, ◌==◌, Bool, true, false, cond, List, [], ◌∷◌, ◌++◌, length, refl, sym, ap, ◌∙◌, inl, inr, append_assoc, append-nil, arith}
 use Rattle.std.proofs.lemmas.List.{append_cancel_left}
 use Rattle.vbr_words.specs.Dimensions.{Dimensions, IsShape}
-use Rattle.vbr_core.specs.Calls.{calls_added, own_calls}
-use Rattle.vbr_core.specs.History.{calls_by}
-use Rattle.vbr_core.specs.Machine.{World, after}
-use Rattle.vbr_core.specs.Runs.{Begins, IsRun, world_after, world_from}
-use Rattle.vbr_core.specs.declared.event.Event.{Event}
-use Rattle.vbr_core.specs.declared.history.Call.{Call}
-use Rattle.vbr_core.proofs.Lemmas.{begins_trans, calls_after, calls_by-append, every_run, others_leave_calls, world_after-append}
+use Rattle.vbr_machine.specs.Calls.{calls_added, own_calls}
+use Rattle.vbr_machine.specs.History.{calls_by}
+use Rattle.vbr_machine.specs.Machine.{World, after}
+use Rattle.vbr_machine.specs.Runs.{Begins, IsRun, world_after, world_from}
+use Rattle.vbr_machine.specs.declared.event.Event.{Event}
+use Rattle.vbr_machine.specs.declared.history.Call.{Call}
+use Rattle.vbr_machine.proofs.Lemmas.{begins_trans, calls_after, calls_by-append, every_run, others_leave_calls, world_after-append}
 use Rattle.vbr_slots.specs.Calls.{IsSame, Quiet}
 use Rattle.vbr_slots.specs.Tokens.{SeenView, Since}
 use Rattle.vbr_slots.specs.Views.{IsOf, KeepsPool, PassView, TableView, Trace}

@@ -1,6 +1,6 @@
 -- The passes that came back are those that were opened.
-use Rattle.std.proofs.Common.{◌≡◌, ℕ, ◌+◌, ◌≤◌, List, [], ◌∷◌, ◌++◌, take, drop, length, sym, subst, arith, ap, ◌∙◌}
-use Rattle.std.specs.List.{insert}
+use Rattle.std.proofs.Common.{◌≡◌, ℕ, zero, suc, ◌+◌, ◌≤◌, List, [], ◌∷◌, ◌++◌, take, drop, length, refl, sym, subst, arith, ap, ◌∙◌}
+use Rattle.std.specs.List.{insert, remove}
 use Rattle.std.proofs.lemmas.List.{length-append}
 use Rattle.std.proofs.lemmas.List.Elements.{All-append, All-cons, All-drop, All-head, All-push, All-rest, All-same, All-tail, All-take}
 use Rattle.vbr_slots.specs.Closing.{AllOf}
@@ -42,3 +42,10 @@ with_own set passes passes' who pass e all own =
 pub all_of : (set : TableView) (passes : List PassView) → ArePassesOf set passes → AllOf set passes
 all_of set [] all = tt
 all_of set (pass ∷ passes) all = (All-head (IsPassOf set) pass passes all, all_of set passes (All-tail (IsPassOf set) pass passes all))
+
+-- the one that was put between them comes out again, and leaves them
+pub out_again : (passes : List PassView) (who : ℕ) (pass : PassView) → who ≤ length passes → remove (insert passes who pass) who ≡ passes
+out_again [] zero pass low = refl
+out_again [] (suc who) pass low = absurd (omega arith)
+out_again (q ∷ qs) zero pass low = refl
+out_again (q ∷ qs) (suc who) pass low = ap (λ (ps : List PassView). q ∷ ps) (out_again qs who pass (omega arith))

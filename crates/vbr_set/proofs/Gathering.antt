@@ -8,13 +8,13 @@ use Rattle.vbr_words.specs.Words.{link_of}
 use Rattle.vbr_words.specs.declared.link.Link.{Link}
 use Rattle.vbr_words.specs.declared.place.At.TheVariants.{Slot}
 use Rattle.vbr_words.specs.declared.place.Place.TheVariants as place
-use Rattle.vbr_core.specs.Accounts.{incarnations_after}
-use Rattle.vbr_core.specs.Incarnations.{State, Unborn, InHand, GivenUp, Linked, Marked, Unlinked, Stamped, Incarnations}
-use Rattle.vbr_core.specs.declared.event.Event.{Event}
-use Rattle.vbr_core.specs.Nodes.{count_below, is_linked, is_marked, state_in, is_listed, key_in_slot}
+use Rattle.vbr_machine.specs.Accounts.{incarnations_after}
+use Rattle.vbr_machine.specs.Incarnations.{State, Unborn, InHand, GivenUp, Linked, Marked, Unlinked, Stamped, Incarnations}
+use Rattle.vbr_machine.specs.declared.event.Event.{Event}
+use Rattle.vbr_machine.specs.Nodes.{count_below, is_linked, is_marked, state_in, is_listed, key_in_slot}
 use Rattle.vbr_set.specs.Walking.{AreAfter, NotesLists, linked_keys, is_noted}
 use Rattle.vbr_set.proofs.ShownNodes.{key_read, link_read, mark_of_node}
-use Rattle.vbr_core.proofs.Lemmas.{stands_in}
+use Rattle.vbr_machine.proofs.Lemmas.{stands_in}
 
 -- what was gathered from the slots below a number
 pub record Gathered (a : Incarnations) (slot : ℕ) (keys : List ℕ) (live marked : ℕ) : Type 0 where

@@ -8,4 +8,10 @@ mod LinkedKeys
 mod Closings
 mod Mailboxes
 mod Seats
+mod Apart
 mod Ends
+mod HavingSlots
+mod CountedKeys
+mod RoomLeft
+mod RoomOfOthers
+mod TakenUp

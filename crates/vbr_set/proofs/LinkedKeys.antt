@@ -10,18 +10,18 @@ use Rattle.std.proofs.lemmas.List.Folds.{list_any-append}
 use Rattle.std.proofs.lemmas.List.Sorted.{IsNonDecreasingBy-from_sort, list_any-IsPermutation}
 use Rattle.std.proofs.lemmas.Map.Keys.{IsDistinct-IsPermutation, IsDistinct-push, IsStrictlyIncreasing-from_distinct}
 use Rattle.vbr_words.specs.Dimensions.{Dimensions}
-use Rattle.vbr_core.specs.Accounts.{incarnations_after}
-use Rattle.vbr_core.specs.Agreement.{Fits}
-use Rattle.vbr_core.specs.History.{set_after}
-use Rattle.vbr_core.specs.Incarnations.{State, Unborn, InHand, GivenUp, Linked, Marked, Unlinked, Stamped, Incarnations}
-use Rattle.vbr_core.specs.Keys.{AreKeysOf}
-use Rattle.vbr_core.specs.Opened.{opening_keys}
-use Rattle.vbr_core.specs.Sound.{IsListed, Sound, Tells}
-use Rattle.vbr_core.specs.declared.event.Event.{Event}
-use Rattle.vbr_core.specs.declared.history.Call.{Call}
-use Rattle.vbr_core.proofs.Lemmas.{keys_differ, stands_in, stands_key, stands_there}
+use Rattle.vbr_machine.specs.Accounts.{incarnations_after}
+use Rattle.vbr_machine.specs.Agreement.{Fits}
+use Rattle.vbr_machine.specs.History.{set_after}
+use Rattle.vbr_machine.specs.Incarnations.{State, Unborn, InHand, GivenUp, Linked, Marked, Unlinked, Stamped, Incarnations}
+use Rattle.vbr_machine.specs.Keys.{AreKeysOf}
+use Rattle.vbr_machine.specs.Opened.{opening_keys}
+use Rattle.vbr_machine.specs.Sound.{IsListed, Sound, Tells}
+use Rattle.vbr_machine.specs.declared.event.Event.{Event}
+use Rattle.vbr_machine.specs.declared.history.Call.{Call}
+use Rattle.vbr_machine.proofs.Lemmas.{keys_differ, stands_in, stands_key, stands_there}
 use Rattle.vbr_set.specs.Histories.{calls_of}
-use Rattle.vbr_core.specs.Nodes.{is_linked, state_in, key_in_slot, is_listed, Stands}
+use Rattle.vbr_machine.specs.Nodes.{is_linked, state_in, key_in_slot, is_listed, Stands}
 use Rattle.vbr_set.specs.Walking.{AreAfter, linked_keys}
 use Rattle.vbr_set.proofs.ShownNodes.{agrees, stands_state}
 
@@ -104,7 +104,7 @@ apart {shape} {a} sound s t ls lt e =
     let same = keys_differ sound c.0 d.0 c.1.stands.listed d.1.stands.listed (sym (stands_key c.1.stands) ∙ e ∙ stands_key d.1.stands) in
     sym ((sound.slots.last_born s c.0 c.1.stands.last).1) ∙ ap a.slot same ∙ (sound.slots.last_born t d.0 d.1.stands.last).1
 
-distinct : {shape : Dimensions} {a : Incarnations} → Sound shape a → (n : ℕ) → IsDistinct nat_eq (linked_keys a n)
+pub distinct : {shape : Dimensions} {a : Incarnations} → Sound shape a → (n : ℕ) → IsDistinct nat_eq (linked_keys a n)
 unfolding IsDistinct
 distinct sound zero = tt
 distinct {shape} {a} sound (suc n) = go (distinct sound n) (is_linked (state_in a n)) refl
@@ -123,7 +123,7 @@ same_tests false true f g = g refl
 same_tests false false f g = refl
 
 -- the linked nodes of the slots of the shape have just the keys of the set
-set_is : {shape : Dimensions} {a : Incarnations} → Sound shape a → Fits shape a → Tells shape a → (key : ℕ) → list_any (nat_eq key) (linked_keys a shape.slots) ≡ set_after (opening_keys shape) a.calls key
+pub set_is : {shape : Dimensions} {a : Incarnations} → Sound shape a → Fits shape a → Tells shape a → (key : ℕ) → list_any (nat_eq key) (linked_keys a shape.slots) ≡ set_after (opening_keys shape) a.calls key
 set_is {shape} {a} sound fits tells key = same_tests _ _ there only
   where
     there : list_any (nat_eq key) (linked_keys a shape.slots) ≡ true → set_after (opening_keys shape) a.calls key ≡ true

@@ -8,16 +8,16 @@ use Rattle.vbr_words.specs.declared.place.At.{At}
 use Rattle.vbr_words.specs.declared.place.At.TheVariants.{Head, Slot}
 use Rattle.vbr_words.specs.declared.place.Place.TheVariants as place
 use Rattle.vbr_words.proofs.Lemmas.{link_of-word_of}
-use Rattle.vbr_core.specs.Accounts.{incarnations_after, notes_after}
-use Rattle.vbr_core.specs.Agreement.{Agrees}
-use Rattle.vbr_core.specs.Images.{slot_shown, link_in_state, link_shown, link_shown_at}
-use Rattle.vbr_core.specs.Incarnations.{State, Unborn, InHand, GivenUp, Linked, Marked, Unlinked, Stamped, Incarnations}
-use Rattle.vbr_core.specs.Runs.{world_after}
-use Rattle.vbr_core.specs.Safety.{IsSafe}
-use Rattle.vbr_core.specs.Sound.{IsListed}
-use Rattle.vbr_core.specs.declared.event.Event.{Event}
-use Rattle.vbr_core.proofs.Lemmas.{every_run, run_agrees}
-use Rattle.vbr_core.specs.Nodes.{state_shown, state_in, is_marked, key_in_slot, Stands}
+use Rattle.vbr_machine.specs.Accounts.{incarnations_after, notes_after}
+use Rattle.vbr_machine.specs.Agreement.{Agrees}
+use Rattle.vbr_machine.specs.Images.{slot_shown, link_in_state, link_shown, link_shown_at}
+use Rattle.vbr_machine.specs.Incarnations.{State, Unborn, InHand, GivenUp, Linked, Marked, Unlinked, Stamped, Incarnations}
+use Rattle.vbr_machine.specs.Runs.{world_after}
+use Rattle.vbr_machine.specs.Safety.{IsSafe}
+use Rattle.vbr_machine.specs.Sound.{IsListed}
+use Rattle.vbr_machine.specs.declared.event.Event.{Event}
+use Rattle.vbr_machine.proofs.Lemmas.{every_run, run_agrees}
+use Rattle.vbr_machine.specs.Nodes.{state_shown, state_in, is_marked, key_in_slot, Stands}
 use Rattle.vbr_set.specs.Walking.{AreAfter}
 
 -- ---- words

@@ -11,14 +11,14 @@ use Rattle.vbr_words.specs.declared.place.At.TheVariants.{Head, Slot}
 use Rattle.vbr_words.specs.declared.place.Place.TheVariants as place
 use Rattle.vbr_words.specs.Buckets.{bucket_of}
 use Rattle.vbr_words.proofs.Lemmas.{bucket_of-lt}
-use Rattle.vbr_core.specs.Accounts.{incarnations_after}
-use Rattle.vbr_core.specs.Agreement.{Fits}
-use Rattle.vbr_core.specs.Images.{slot_shown}
-use Rattle.vbr_core.specs.Incarnations.{Incarnations}
-use Rattle.vbr_core.specs.Sound.{IsApart, IsFrom, IsListed, Sound}
-use Rattle.vbr_core.specs.declared.event.Event.{Event}
-use Rattle.vbr_core.proofs.Lemmas.{in_list_from, in_list_is, next_listed, slot_is_one, stands_key, stands_there}
-use Rattle.vbr_core.specs.Nodes.{state_in, is_in_list, is_listed, key_in_slot, Stands, InList}
+use Rattle.vbr_machine.specs.Accounts.{incarnations_after}
+use Rattle.vbr_machine.specs.Agreement.{Fits}
+use Rattle.vbr_machine.specs.Images.{slot_shown}
+use Rattle.vbr_machine.specs.Incarnations.{Incarnations}
+use Rattle.vbr_machine.specs.Sound.{IsApart, IsFrom, IsListed, Sound}
+use Rattle.vbr_machine.specs.declared.event.Event.{Event}
+use Rattle.vbr_machine.proofs.Lemmas.{in_list_from, in_list_is, next_listed, slot_is_one, stands_key, stands_there}
+use Rattle.vbr_machine.specs.Nodes.{state_in, is_in_list, is_listed, key_in_slot, Stands, InList}
 use Rattle.vbr_set.specs.Walking.{AreAfter, NotesList, NotesLists, is_noted}
 use Rattle.vbr_set.proofs.ShownNodes.{agrees, key_read, link_read, next_of_node}
 

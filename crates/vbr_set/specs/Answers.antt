@@ -1,10 +1,10 @@
 -- What a call that was answered leaves: one legal history, in which it stands.
 use Rattle.std.specs.Prelude.{◌≡◌, [], ◌∷◌, ◌++◌}
-use Rattle.vbr_core.specs.Opened.{opening_keys}
-use Rattle.vbr_core.specs.History.{IsLegal}
-use Rattle.vbr_core.specs.Runs.{IsRun, Begins}
-use Rattle.vbr_core.specs.Safety.{IsSafe}
-use Rattle.vbr_core.specs.declared.history.Call.{Call}
+use Rattle.vbr_machine.specs.Opened.{opening_keys}
+use Rattle.vbr_machine.specs.History.{IsLegal}
+use Rattle.vbr_machine.specs.Runs.{IsRun, Begins}
+use Rattle.vbr_machine.specs.Safety.{IsSafe}
+use Rattle.vbr_machine.specs.declared.history.Call.{Call}
 use Rattle.vbr_slots.specs.Calls.{IsSame, made_by}
 use Rattle.vbr_slots.specs.Views.{Trace}
 use Rattle.vbr_set.specs.Histories.{calls_of, ExchangesAreRight, ReadsAreRight}

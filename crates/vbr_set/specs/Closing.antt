@@ -1,18 +1,18 @@
 -- How a set ends, and what the report tells of that.
 use Rattle.std.specs.Prelude.{◌≡◌, ◌+◌, List, [], ◌∷◌, length}
 use Rattle.vbr_words.specs.Dimensions.{Dimensions}
-use Rattle.vbr_core.specs.Keys.{AreKeysOf}
-use Rattle.vbr_core.specs.Opened.{opening_keys}
-use Rattle.vbr_core.specs.History.{IsLegal, set_after}
-use Rattle.vbr_core.specs.Runs.{IsRun, world_after}
-use Rattle.vbr_core.specs.Calls.{own_calls}
-use Rattle.vbr_core.specs.Safety.{IsSafe}
-use Rattle.vbr_core.specs.declared.event.Event.{Event}
+use Rattle.vbr_machine.specs.Keys.{AreKeysOf}
+use Rattle.vbr_machine.specs.Opened.{opening_keys}
+use Rattle.vbr_machine.specs.History.{IsLegal, set_after}
+use Rattle.vbr_machine.specs.Runs.{IsRun, world_after}
+use Rattle.vbr_machine.specs.Calls.{own_calls}
+use Rattle.vbr_machine.specs.Safety.{IsSafe}
+use Rattle.vbr_machine.specs.declared.event.Event.{Event}
 use Rattle.vbr_slots.specs.Calls.{made_by}
 use Rattle.vbr_slots.specs.Closing.{EachSeen}
 use Rattle.vbr_slots.specs.Views.{PassView, TableView}
 use Rattle.vbr_set.specs.Histories.{calls_of}
-use Rattle.vbr_core.specs.Nodes.{linked_after, marked_after}
+use Rattle.vbr_machine.specs.Nodes.{linked_after, marked_after}
 use Rattle.vbr_set.specs.declared.report.Report.{Report}
 
 -- the report tells the keys that the calls of a run leave in a set that opened with the keys of the shape, ascending; the epoch; how many nodes are linked, one for each key; how many are marked and still in a list; and how many slots have neither

@@ -34,8 +34,9 @@ abbrev pub EndLacksMemory : EndError → Type 0
 EndLacksMemory Lost = ⊥
 EndLacksMemory (Memory member) = Unit {0}
 
--- the answer to the last member: a report, or that there is no memory for it
-abbrev pub IsLast : Result (Option Report) EndError → Type 0
-IsLast (Ok None) = ⊥
-IsLast (Ok (Some report)) = Unit {0}
-IsLast (Err error) = EndLacksMemory error
+module _ {A : Type 0} where
+  -- the answer to the last member: a report, or that there is no memory for it
+  abbrev pub IsLast : Result (Option A) EndError → Type 0
+  IsLast (Ok None) = ⊥
+  IsLast (Ok (Some report)) = Unit {0}
+  IsLast (Err error) = EndLacksMemory error

@@ -1,12 +1,12 @@
 -- The history that a run has, and what is right along it.
 use Rattle.std.specs.Prelude.{◌≡◌, ℕ, List, ◌∷◌, ◌++◌}
 use Rattle.vbr_words.specs.Dimensions.{Dimensions}
-use Rattle.vbr_core.specs.Runs.{world_after}
-use Rattle.vbr_core.specs.Notes.{AreRightReads}
-use Rattle.vbr_core.specs.Accounts.{notes_after}
-use Rattle.vbr_core.specs.Safety.{IsRightAfter}
-use Rattle.vbr_core.specs.declared.event.Event.{Event}
-use Rattle.vbr_core.specs.declared.history.Call.{Call}
+use Rattle.vbr_machine.specs.Runs.{world_after}
+use Rattle.vbr_machine.specs.Notes.{AreRightReads}
+use Rattle.vbr_machine.specs.Accounts.{notes_after}
+use Rattle.vbr_machine.specs.Safety.{IsRightAfter}
+use Rattle.vbr_machine.specs.declared.event.Event.{Event}
+use Rattle.vbr_machine.specs.declared.history.Call.{Call}
 
 -- the answered calls of all passes, in their order
 abbrev pub calls_of : Dimensions → List Event → List Call

@@ -13,4 +13,7 @@ pub mod MemberView
 pub mod SetRefView
 pub mod Seats
 pub mod Ends
+pub mod Room
+pub mod AllMembers
+pub mod Apart
 pub mod Names

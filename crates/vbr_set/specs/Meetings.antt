@@ -1,9 +1,9 @@
 -- What two passes share that have met.
 use Rattle.std.specs.Prelude.{◌≡◌}
-use Rattle.vbr_core.specs.Opened.{opening_keys}
-use Rattle.vbr_core.specs.History.{IsLegal}
-use Rattle.vbr_core.specs.Runs.{BeginsFor}
-use Rattle.vbr_core.specs.Calls.{own_calls}
+use Rattle.vbr_machine.specs.Opened.{opening_keys}
+use Rattle.vbr_machine.specs.History.{IsLegal}
+use Rattle.vbr_machine.specs.Runs.{BeginsFor}
+use Rattle.vbr_machine.specs.Calls.{own_calls}
 use Rattle.vbr_slots.specs.Calls.{Quiet, made_by}
 use Rattle.vbr_slots.specs.Views.{Trace}
 use Rattle.vbr_set.specs.Histories.{calls_of, ExchangesAreRight, ReadsAreRight}

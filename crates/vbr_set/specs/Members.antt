@@ -1,8 +1,8 @@
 -- What contracts see of a member of a set, and of its calls.
 use Rattle.std.specs.Prelude.{◌≡◌, ℕ, Bool, Result, IfOk, IfErr, List, map, None}
 use Rattle.vbr_words.specs.Dimensions.{Dimensions}
-use Rattle.vbr_core.specs.History.{set_call}
-use Rattle.vbr_core.specs.declared.history.Op.{Op}
+use Rattle.vbr_machine.specs.History.{set_call}
+use Rattle.vbr_machine.specs.declared.history.Op.{Op}
 use Rattle.vbr_slots.specs.Calls.{IsSame, Quiet}
 use Rattle.vbr_slots.specs.Views.{PassView, TableView, new_passes}
 use Rattle.vbr_pools.specs.Steps.{TookWithin}

@@ -1,17 +1,18 @@
 -- What the contracts of the set name of the crates below it, for crates that list `vbr_set` alone.
 pub use Rattle.vbr_words.specs.Dimensions.{Dimensions, IsShape}
-pub use Rattle.vbr_core.specs.Keys.{Keys, AreKeysOf}
-pub use Rattle.vbr_core.specs.Opened.{opening_keys}
-pub use Rattle.vbr_core.specs.History.{IsLegal, calls_by, keys_after, reply_of, set_after}
-pub use Rattle.vbr_core.specs.Runs.{Begins, BeginsFor, IsRun, world_after}
-pub use Rattle.vbr_core.specs.Calls.{own_calls}
-pub use Rattle.vbr_core.specs.Nodes.{linked_after, marked_after}
-pub use Rattle.vbr_core.specs.Safety.{IsSafe}
-pub use Rattle.vbr_core.specs.declared.event.Event.{Event}
-pub use Rattle.vbr_core.specs.declared.event.Step.TheVariants.{ReadEpoch}
-pub use Rattle.vbr_core.specs.declared.history.Call.{Call}
-pub use Rattle.vbr_core.specs.declared.history.Op.{Op}
-pub use Rattle.vbr_core.specs.declared.history.Op.TheVariants.{Insert, Remove, Has}
+pub use Rattle.vbr_machine.specs.Keys.{Keys, AreKeysOf}
+pub use Rattle.vbr_machine.specs.Opened.{opening_keys}
+pub use Rattle.vbr_machine.specs.History.{IsLegal, calls_by, keys_after, reply_of, set_after}
+pub use Rattle.vbr_machine.specs.Runs.{Begins, BeginsFor, IsRun, world_after}
+pub use Rattle.vbr_machine.specs.Calls.{own_calls}
+pub use Rattle.vbr_machine.specs.Nodes.{linked_after, marked_after}
+pub use Rattle.vbr_machine.specs.Removals.{HasLeft, HasMarked, MarkedLeft}
+pub use Rattle.vbr_machine.specs.Safety.{IsSafe}
+pub use Rattle.vbr_machine.specs.declared.event.Event.{Event}
+pub use Rattle.vbr_machine.specs.declared.event.Step.TheVariants.{ReadEpoch}
+pub use Rattle.vbr_machine.specs.declared.history.Call.{Call}
+pub use Rattle.vbr_machine.specs.declared.history.Op.{Op}
+pub use Rattle.vbr_machine.specs.declared.history.Op.TheVariants.{Insert, Remove, Has}
 pub use Rattle.vbr_slots.specs.Alone.{IsAlone}
 pub use Rattle.vbr_slots.specs.Calls.{AddsAnswer, AddsNone, IsSame, OnlyLoads, Quiet, made_by}
 pub use Rattle.vbr_slots.specs.Closing.{AllOf, EachSeen, HandsBack, IsMissing}
@@ -19,10 +20,12 @@ pub use Rattle.vbr_slots.specs.Views.{Did, IsOf, KeepsPool, PassView, TableView,
 pub use Rattle.vbr_pools.specs.Advances.{AdvancesWhereNeeded}
 pub use Rattle.vbr_pools.specs.KeptSlots.{HasUnpublished, KeepsSlots, TakesNoSlot, SharesWhereFull}
 pub use Rattle.vbr_pools.specs.Budgets.{most_to_take}
+pub use Rattle.vbr_pools.specs.Refusals.{LeavesRoom}
 pub use Rattle.vbr_pools.specs.Steps.{TookWithin}
 pub use Rattle.vbr_access.specs.Soundness.{HasSafeRun}
 pub use Rattle.vbr_list.specs.Alone.{AnswersAlone}
-pub use Rattle.vbr_list.specs.Budgets.{IsAnsweredOrSpent, LacksSteps, listed_for}
+pub use Rattle.vbr_list.specs.Budgets.{IsAnsweredOrSpent, LacksSteps, enough_to_insert, enough_to_look_up, enough_to_search, enough_with_a_slot, listed_for}
+pub use Rattle.vbr_list.specs.Leaving.{Leaves}
 pub use Rattle.vbr_list.specs.Refusals.{IsRefused, IsTired}
 pub use Rattle.vbr_list.specs.declared.refusal.Refusal.{Refusal}
 pub use Rattle.vbr_list.specs.declared.refusal.Refusal.TheVariants.{OutOfSteps, NoSlot, EpochSpent}

@@ -44,3 +44,9 @@ abbrev pub CanComeBack : Share → ℕ → Type 0
 CanComeBack (Among common seat) who = IsSeatOf (arc_value common).mailboxes.items who seat.table_id seat.id seat.me × HasOthers (arc_value common).set
 CanComeBack (Alone set mailboxes) who = AreMailboxesOf set mailboxes.items × HasOthers set
 CanComeBack (Gathered set passes) who = ArePassesOf set passes.items × AreOthers set passes.items
+
+-- the pass is of the set that is shared, has no slot in hand, and can come back
+pub record IsPart (share : Share) (pass : PassView) : Type 0 where
+  pub own : IsOf pass.trace (set_shared share)
+  pub empty_hand : pass.hand ≡ None
+  pub comes_back : CanComeBack share pass.trace.who

@@ -1,10 +1,10 @@
 -- What a token of what was seen tells, and what a pass has that caught up with one.
 use Rattle.std.specs.Prelude.{◌≡◌, List, [], ◌∷◌, ◌++◌}
-use Rattle.vbr_core.specs.Opened.{opening_keys}
-use Rattle.vbr_core.specs.Calls.{own_calls}
-use Rattle.vbr_core.specs.History.{IsLegal}
-use Rattle.vbr_core.specs.Runs.{Begins}
-use Rattle.vbr_core.specs.declared.history.Call.{Call}
+use Rattle.vbr_machine.specs.Opened.{opening_keys}
+use Rattle.vbr_machine.specs.Calls.{own_calls}
+use Rattle.vbr_machine.specs.History.{IsLegal}
+use Rattle.vbr_machine.specs.Runs.{Begins}
+use Rattle.vbr_machine.specs.declared.history.Call.{Call}
 use Rattle.vbr_slots.specs.Calls.{IsSame, Quiet, made_by}
 use Rattle.vbr_slots.specs.Tokens.{SeenView, Since}
 use Rattle.vbr_slots.specs.Views.{IsOf, KeepsPool, PassView, TableView, Trace}

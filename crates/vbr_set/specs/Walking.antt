@@ -1,11 +1,11 @@
 -- Walking the lists of a closed table by its words. Only contracts of private functions cite this.
 use Rattle.std.specs.Prelude.{◌≡◌, ℕ, zero, suc, ◌<◌, ◌||◌, Bool, false, List, [], ◌∷◌, ◌++◌, slice_index_or, if◌then◌else◌}
 use Rattle.vbr_words.specs.Dimensions.{Dimensions, IsShape}
-use Rattle.vbr_core.specs.Incarnations.{Incarnations}
-use Rattle.vbr_core.specs.Runs.{IsRun, world_after}
-use Rattle.vbr_core.specs.declared.event.Event.{Event}
+use Rattle.vbr_machine.specs.Incarnations.{Incarnations}
+use Rattle.vbr_machine.specs.Runs.{IsRun, world_after}
+use Rattle.vbr_machine.specs.declared.event.Event.{Event}
 use Rattle.vbr_slots.specs.Words.{AreWordsOf}
-use Rattle.vbr_core.specs.Nodes.{state_in, is_linked, is_listed, is_in_list, key_in_slot}
+use Rattle.vbr_machine.specs.Nodes.{state_in, is_linked, is_listed, is_in_list, key_in_slot}
 
 -- a shape with keys that a set of it opened with
 abbrev pub keyed : Dimensions → List ℕ → Dimensions

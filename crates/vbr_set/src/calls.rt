@@ -1,6 +1,6 @@
 //! The calls: inserts, removes and look-ups.
 ghost use Rattle.std.specs.Prelude.{◌≡◌, None};
-ghost use Rattle.vbr_core.specs.declared.history.Op.TheVariants.{Insert, Remove, Has};
+ghost use Rattle.vbr_machine.specs.declared.history.Op.TheVariants.{Insert, Remove, Has};
 ghost use Rattle.vbr_slots.specs.Views.{IsOf};
 ghost use Rattle.vbr_set.specs.Members.{Called, as_member};
 
@@ -48,9 +48,9 @@ impl VbrSet {
 
     /// Takes a key out, in at most `budget` steps, and says whether it was there. The answer's point
     /// is one step of the call: the exchange that marks the node (Michael 2002), or a load that finds
-    /// a link as it was read. A removed node that can't be unlinked within the budget is left to later
-    /// calls. Whatever this call unlinked is retired when it ends, answered or not, into the pass's own
-    /// pool while that has room.
+    /// a link as it was read. When it is answered yes, the node has left its list, by this call or
+    /// another, unless less than eight steps are left of the budget. Whatever this call unlinked is
+    /// retired when it ends, answered or not, into the pass's own pool while that has room.
     ///
     /// While the other passes stand still, a budget of 9n + 11 is enough, with n nodes in the key's
     /// bucket. It advances no epoch.

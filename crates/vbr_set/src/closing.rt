@@ -1,12 +1,12 @@
 //! Closing a set.
 ghost use Rattle.std.specs.Prelude.{◌≡◌, ℕ, ◌+◌, ◌<◌, ◌≤◌, ◌↔◌, List, [], false, length, IfOk, IfErr, OnOk};
 ghost use Rattle.std.specs.Vec.{vec_capacity};
-ghost use Rattle.vbr_core.specs.Accounts.{incarnations_after};
-ghost use Rattle.vbr_core.specs.declared.event.Event.{Event};
+ghost use Rattle.vbr_machine.specs.Accounts.{incarnations_after};
+ghost use Rattle.vbr_machine.specs.declared.event.Event.{Event};
 ghost use Rattle.vbr_slots.specs.Closing.{AllOf, HandsBack, IsMissing};
 ghost use Rattle.vbr_words.specs.Places.{words_in};
 ghost use Rattle.vbr_set.specs.Closing.{Closes, Reports};
-ghost use Rattle.vbr_core.specs.Nodes.{linked_after, marked_after};
+ghost use Rattle.vbr_machine.specs.Nodes.{linked_after, marked_after};
 ghost use Rattle.vbr_set.specs.Walking.{AreAfter, NotesLists, is_noted, keyed, linked_keys};
 
 use crate::report::Report;
@@ -35,10 +35,9 @@ impl VbrSet {
     ///
     /// # Example
     ///
-    /// ```rattle file=crates/vbr_set/src/member_closing.rt
-    /// match set.close(alloc, passes) {
-    ///     Ok(report) => Ok(report),
-    ///     Err(CloseError::Missing(_, _)) => Err(EndError::Lost),
+    /// ```rattle file=crates/vbr_set/src/renewing.rt
+    /// let report = match self.close(alloc, passes) {
+    ///     Ok(report) => report,
     /// ```
     pub fn close(self, alloc: Global, passes: Vec<Pass>) -> Result<Report, CloseError<VbrSet>>
         requires { AllOf self passes.items }
@@ -102,7 +101,12 @@ fn gather(shape: &Shape, words: &[u64], notes: &[bool], keys: &mut Vec<u64>) -> 
 }
 
 // What the words of a closed table tell.
-fn report_of(shape: &Shape, words: &[u64], mut notes: Vec<bool>, mut keys: Vec<u64>) -> Report
+pub(crate) fn report_of(
+    shape: &Shape,
+    words: &[u64],
+    mut notes: Vec<bool>,
+    mut keys: Vec<u64>,
+) -> Report
     requires run { (opening : List ℕ) × (run : List Event) × AreAfter (keyed shape.now opening) words.now run }
     requires notes { (length notes.items ≡ shape.now.slots) × ((s : ℕ) → is_noted notes.items s ≡ false) }
     requires room { (keys.items ≡ []) × (shape.now.slots ≤ vec_capacity keys) }

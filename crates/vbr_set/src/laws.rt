@@ -1,7 +1,7 @@
 //! The laws of tokens. Each function says its law in its contract, and does nothing.
 ghost use Rattle.std.specs.Prelude.{List};
-ghost use Rattle.vbr_core.specs.Runs.{Begins};
-ghost use Rattle.vbr_core.specs.declared.history.Call.{Call};
+ghost use Rattle.vbr_machine.specs.Runs.{Begins};
+ghost use Rattle.vbr_machine.specs.declared.history.Call.{Call};
 ghost use Rattle.vbr_slots.specs.Calls.{IsSame};
 ghost use Rattle.vbr_slots.specs.Tokens.{SeenView};
 ghost use Rattle.vbr_slots.specs.Views.{PassView, TableView, Trace};

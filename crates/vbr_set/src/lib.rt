@@ -36,7 +36,9 @@
 //! the set with no slot in hand.
 #![tactic(auto)]
 
+pub mod all_members;
 pub mod calls;
+pub mod close_all_error;
 pub mod closing;
 mod common;
 pub mod end_error;
@@ -53,6 +55,8 @@ pub mod opening;
 pub mod renew_error;
 pub mod renewing;
 pub mod report;
+pub mod reporting;
+pub mod room;
 pub mod set;
 pub mod set_ref;
 pub mod set_ref_calls;
@@ -61,14 +65,15 @@ mod sharing;
 pub mod tokens;
 mod walking;
 
+pub use close_all_error::CloseAllError;
 pub use end_error::EndError;
 pub use member::Member;
 pub use renew_error::RenewError;
 pub use report::Report;
 pub use set::VbrSet;
 pub use set_ref::VbrSetRef;
-pub use vbr_core::{Call, Op};
 pub use vbr_list::Refusal;
+pub use vbr_machine::{Call, Op};
 pub use vbr_slots::{CloseError, OpenError, Pass, Seen};
 pub use vbr_words::link::MAX_SLOTS;
 pub use vbr_words::shape::{MAX_BUCKETS, MAX_EPOCH, MAX_SPREAD_BUCKETS};

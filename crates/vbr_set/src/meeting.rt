@@ -1,7 +1,7 @@
 //! The meeting of two passes.
 ghost use Rattle.std.specs.Prelude.{◌≡◌, ℕ};
-ghost use Rattle.vbr_core.specs.Runs.{BeginsFor};
-ghost use Rattle.vbr_core.specs.declared.event.Step.TheVariants.{ReadEpoch};
+ghost use Rattle.vbr_machine.specs.Runs.{BeginsFor};
+ghost use Rattle.vbr_machine.specs.declared.event.Step.TheVariants.{ReadEpoch};
 ghost use Rattle.vbr_slots.specs.Views.{IsOf, Did, KeepsPool};
 ghost use Rattle.vbr_access.specs.Soundness.{HasSafeRun};
 ghost use Rattle.vbr_set.specs.Meetings.{Shares};

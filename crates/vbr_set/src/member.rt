@@ -1,6 +1,9 @@
 //! A member of a set.
 ghost use Rattle.std.specs.Prelude.{◌≡◌};
+ghost use Rattle.vbr_set.specs.Members.{as_member};
+ghost use Rattle.vbr_set.specs.Sharing.{IsPart, set_shared};
 
+use crate::member_closing::leave;
 use crate::share::Share;
 use std::marker::Model;
 use vbr_slots::Pass;
@@ -8,12 +11,11 @@ use vbr_slots::Pass;
 /// One of the passes of a set, with a share of the set: all that a thread needs to make calls.
 ///
 /// Its calls ask nothing of their caller. It goes from thread to thread, and one thread at a time
-/// has it. [`Member::open`] makes the members of a set, and [`Member::close`] takes them back. The
-/// pass of a member that is dropped is lost, and the set of such a member can't be closed any more;
-/// its memory is freed with its last member.
+/// has it. [`Member::open`] makes the members of a set, and [`Member::close`] takes them back, or
+/// [`Member::close_all`] all at once. One that is dropped gives its pass back, as a close does, and the
+/// memory of a set is freed with its last member.
 ///
 /// A member has lines of the cache of its own, so that no two threads write to one line.
-#[derive(Drop)]
 #[repr(C)]
 pub struct Member {
     pub(crate) before: [u64; 16],
@@ -32,4 +34,36 @@ impl Model for Member {
     ghost view = { member_view };
 
     ghost invariant = { IsMember };
+}
+
+impl Member {
+    // What it has of its set, and its pass.
+    pub(crate) fn into_parts(self) -> (Share, Pass)
+        ensures is { as_member (set_shared result.0) result.1 ≡ self }
+        ensures part { IsPart result.0 result.1 }
+    {
+        let Member {
+            before: _,
+            share,
+            pass,
+            after: _,
+        } = self;
+        (share, pass)
+    }
+}
+
+/// One that is dropped gives its pass back as [`Member::close`] does, but is told nothing: so the last one
+/// that is closed is still told a report. It needs no memory, and makes no step.
+impl Drop for Member {
+    fn drop(self) {
+        let Member {
+            before: _,
+            share,
+            pass,
+            after: _,
+        } = self;
+        if let Share::Among(common, seat) = share {
+            drop(leave(common, seat, pass));
+        }
+    }
 }

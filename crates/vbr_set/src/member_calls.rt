@@ -1,6 +1,6 @@
 //! The calls of a member.
 ghost use Rattle.std.specs.Prelude.{◌≡◌, []};
-ghost use Rattle.vbr_core.specs.declared.history.Op.TheVariants.{Insert, Remove, Has};
+ghost use Rattle.vbr_machine.specs.declared.history.Op.TheVariants.{Insert, Remove, Has};
 ghost use Rattle.vbr_set.specs.MemberView.{IsMember};
 ghost use Rattle.vbr_set.specs.Sharing.{CanComeBack, set_shared};
 ghost use Rattle.vbr_set.specs.Members.{Called};

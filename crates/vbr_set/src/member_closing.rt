@@ -4,6 +4,7 @@ ghost use Rattle.std.specs.Arc.{arc_value};
 ghost use Rattle.std.specs.Vec.{vec_capacity};
 ghost use Rattle.vbr_set.specs.Ends.{AreNumbered, EndsWith, IsBack, IsLast, EndLacksMemory};
 ghost use Rattle.vbr_set.specs.Mailboxes.{IsIdle};
+ghost use Rattle.vbr_set.specs.Members.{as_member};
 ghost use Rattle.vbr_set.specs.Sharing.{AreOthers, ArePassesOf, AreMailboxesOf, HasOthers, IsSeatOf};
 
 use crate::common::Common;
@@ -16,7 +17,7 @@ use crate::share::Share;
 use atomic_table::Seat;
 use std::alloc::{AllocFailed, Global};
 use std::sync::Arc;
-use vbr_slots::{CloseError, Pass};
+use vbr_slots::Pass;
 
 impl Member {
     /// Gives its pass back. While others have a share of the set, the answer is None. The last member
@@ -30,7 +31,8 @@ impl Member {
     ///
     /// Only the last member gets one.
     ///
-    /// - Lost: another member was dropped, so its pass is missing. The set is gone.
+    /// - Lost: a pass isn't there. The set is gone. A member that is dropped gives its pass back, so no
+    ///   program is known to get it; a proof can't tell that all passes came.
     /// - Memory: there is no room for the report. The member comes back as it was: it can make calls,
     ///   and be closed again.
     ///
@@ -49,13 +51,29 @@ impl Member {
         ensures stays { IfErr result (IsBack self.set self.pass) }
         ensures alone { self.set.passes ≡ 1 → IsLast result }
     {
-        let Member {
-            before: _,
-            share,
-            pass,
-            after: _,
-        } = self;
-        let report = match share {
+        match self.report_last(alloc)? {
+            Some((report, last)) => {
+                drop(last);
+                Ok(Some(report))
+            }
+            None => Ok(None),
+        }
+    }
+
+    /// Gives its pass back as [`Member::close`] does, and the last member is told the same report, but
+    /// the set doesn't end: the member comes back with the report, as it was. So who can't take the
+    /// report, for want of room, say, loses nothing; the member can make calls, and be closed again. The
+    /// set ends with it, also where it is dropped.
+    ///
+    /// Memory and errors are those of a close.
+    pub fn report_last(self, alloc: Global) -> Result<Option<(Report, Member)>, EndError>
+        ensures report { IfOk result (λ told. IfSome told (λ last. EndsWith self.set self.pass last.0)) }
+        ensures same { IfOk result (λ told. IfSome told (λ last. last.1 ≡ self)) }
+        ensures stays { IfErr result (IsBack self.set self.pass) }
+        ensures alone { self.set.passes ≡ 1 → IsLast result }
+    {
+        let (share, pass) = self.into_parts();
+        let last = match share {
             Share::Among(common, seat) => match leave(common, seat, pass) {
                 None => return Ok(None),
                 Some((set, mailboxes, pass)) => end_alone(alloc, set, mailboxes, pass)?,
@@ -63,13 +81,13 @@ impl Member {
             Share::Alone(set, mailboxes) => end_alone(alloc, set, mailboxes, pass)?,
             Share::Gathered(set, passes) => end_gathered(alloc, set, passes, pass)?,
         };
-        Ok(Some(report))
+        Ok(Some(last))
     }
 }
 
 // Lays a pass into its mailbox and gives the share of its set up. The last one gets the set, the mailboxes
 // of the other passes, and its pass again.
-fn leave(
+pub(crate) fn leave(
     common: Arc<Common, Global>,
     mut seat: Seat<Option<Pass>, SeatKnows>,
     pass: Pass,
@@ -92,17 +110,18 @@ fn leave(
     Some((set, mailboxes, own))
 }
 
-// Ends a set whose other passes lie in their mailboxes.
+// Tells what is in a set whose other passes lie in their mailboxes.
 fn end_alone(
     alloc: Global,
     set: VbrSet,
     mailboxes: Vec<Mailbox>,
     pass: Pass,
-) -> Result<Report, EndError>
+) -> Result<(Report, Member), EndError>
     requires ready { IsIdle set pass }
     requires mailboxes { AreMailboxesOf set mailboxes.items }
     requires others { HasOthers set }
-    ensures ended { IfOk result (EndsWith set pass) }
+    ensures ended { IfOk result (λ last. EndsWith set pass last.0) }
+    ensures same { IfOk result (λ last. last.1 ≡ as_member set pass) }
     ensures stays { IfErr result (IsBack set pass) }
 {
     let Ok(room) = Vec::with_capacity(alloc, mailboxes.len().saturating_add(1)) else {
@@ -130,17 +149,18 @@ fn gather(set: &VbrSet, mailboxes: Vec<Mailbox>, mut passes: Vec<Pass>) -> Optio
     Some(passes)
 }
 
-// Ends a set with the other passes.
+// Tells what is in a set, with the other passes.
 fn end_gathered(
     alloc: Global,
     set: VbrSet,
     mut passes: Vec<Pass>,
     pass: Pass,
-) -> Result<Report, EndError>
+) -> Result<(Report, Member), EndError>
     requires ready { IsIdle set pass }
     requires passes { ArePassesOf set passes.items }
     requires others { AreOthers set passes.items }
-    ensures ended { IfOk result (EndsWith set pass) }
+    ensures ended { IfOk result (λ last. EndsWith set pass last.0) }
+    ensures same { IfOk result (λ last. last.1 ≡ as_member set pass) }
     ensures stays { IfErr result (IsBack set pass) }
     ensures alone { set.passes ≡ 1 → IfErr result EndLacksMemory }
 {
@@ -155,14 +175,12 @@ fn end_gathered(
     if passes.len() != set.count as usize || !are_numbered(&passes) {
         return Err(EndError::Lost);
     }
-    match set.close(alloc, passes) {
-        Ok(report) => Ok(report),
-        Err(CloseError::Missing(_, _)) => Err(EndError::Lost),
-        Err(CloseError::Memory(set, mut passes)) => {
-            let pass = passes.remove(who);
-            let share = Share::Gathered(set, passes);
-            Err(EndError::Memory(Member::of(share, pass)))
-        }
+    let told = set.report_by(alloc, &mut passes);
+    let pass = passes.remove(who);
+    let last = Member::of(Share::Gathered(set, passes), pass);
+    match told {
+        Ok(report) => Ok((report, last)),
+        Err(_) => Err(EndError::Memory(last)),
     }
 }
 

@@ -1,11 +1,11 @@
 //! Opening a set for members.
-ghost use Rattle.std.specs.Prelude.{◌≡◌, ◌<◌, ◌≤◌, ◌↔◌, ◌⊎◌, All, false, length, map, IfOk, IsErrOf, None};
+ghost use Rattle.std.specs.Prelude.{◌≡◌, ◌<◌, ◌≤◌, ◌↔◌, ◌⊎◌, All, false, length, map, IfOk, IsErrOf};
 ghost use Rattle.std.specs.List.Sorted.{IsStrictlyIncreasing};
-ghost use Rattle.vbr_slots.specs.Views.{IsOf, new_passes};
+ghost use Rattle.vbr_slots.specs.Views.{new_passes};
 ghost use Rattle.vbr_set.specs.MemberView.{IsMember};
-ghost use Rattle.vbr_set.specs.Members.{AreNew};
+ghost use Rattle.vbr_set.specs.Members.{AreNew, as_member};
 ghost use Rattle.vbr_set.specs.Seats.{AreSeats};
-ghost use Rattle.vbr_set.specs.Sharing.{HasOthers, CanComeBack, set_shared};
+ghost use Rattle.vbr_set.specs.Sharing.{HasOthers, IsPart, set_shared};
 
 use crate::common::Common;
 use crate::mailbox::{Mailbox, SeatKnows};
@@ -84,10 +84,8 @@ impl Member {
 
     // A member with what it has of its set.
     pub(crate) fn of(share: Share, pass: Pass) -> Member
-        requires own { IsOf pass.trace (set_shared share) }
-        requires empty_hand { pass.hand ≡ None }
-        requires comes_back { CanComeBack share pass.trace.who }
-        ensures { result ≡ record { set = set_shared share; pass = pass } }
+        requires { IsPart share pass }
+        ensures { result ≡ as_member (set_shared share) pass }
     {
         Member {
             before: [0; 16],

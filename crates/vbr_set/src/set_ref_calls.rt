@@ -1,8 +1,8 @@
 //! The calls of a pass with a reference to its set.
 ghost use Rattle.std.specs.Prelude.{◌≡◌, ℕ, [], None};
-ghost use Rattle.vbr_core.specs.Runs.{BeginsFor};
-ghost use Rattle.vbr_core.specs.declared.event.Step.TheVariants.{ReadEpoch};
-ghost use Rattle.vbr_core.specs.declared.history.Op.TheVariants.{Insert, Remove, Has};
+ghost use Rattle.vbr_machine.specs.Runs.{BeginsFor};
+ghost use Rattle.vbr_machine.specs.declared.event.Step.TheVariants.{ReadEpoch};
+ghost use Rattle.vbr_machine.specs.declared.history.Op.TheVariants.{Insert, Remove, Has};
 ghost use Rattle.vbr_slots.specs.Views.{Did, IsOf, KeepsPool};
 ghost use Rattle.vbr_access.specs.Soundness.{HasSafeRun};
 ghost use Rattle.vbr_set.specs.Meetings.{Shares};

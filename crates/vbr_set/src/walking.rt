@@ -2,8 +2,8 @@
 ghost use Rattle.std.specs.Prelude.{◌≡◌, ℕ, ◌<◌, List, false, length, slice_index};
 ghost use Rattle.vbr_words.specs.Places.{IsIn, index_of, words_in};
 ghost use Rattle.vbr_words.specs.Words.{link_of};
-ghost use Rattle.vbr_core.specs.Accounts.{incarnations_after};
-ghost use Rattle.vbr_core.specs.declared.event.Event.{Event};
+ghost use Rattle.vbr_machine.specs.Accounts.{incarnations_after};
+ghost use Rattle.vbr_machine.specs.declared.event.Event.{Event};
 ghost use Rattle.vbr_set.specs.Walking.{AreAfter, NotesList, NotesLists, is_noted, keyed};
 
 use vbr_words::{Place, Shape, decode, place_index};

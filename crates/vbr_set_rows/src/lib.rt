@@ -2,11 +2,15 @@
 #![tactic(auto)]
 
 #[cfg(test)]
+mod emptying;
+#[cfg(test)]
 mod members;
 #[cfg(test)]
 mod refusals;
 #[cfg(test)]
 mod renewals;
+#[cfg(test)]
+mod reports;
 #[cfg(test)]
 mod set;
 #[cfg(test)]

@@ -7,7 +7,7 @@ ghost use Rattle.vbr_set.specs.Closing.{Closes};
 use std::alloc::Global;
 use std::process::Abort;
 use std::test::Fail;
-use vbr_core::Op;
+use vbr_machine::Op;
 use vbr_set::{CloseError, OpenError, Pass, Refusal, Report, Shape, VbrSet, VbrSetRef};
 
 // Opens a set. What found no memory left nothing, so it is tried again.

@@ -1,9 +1,10 @@
 -- The command line of the program, as `clap` has it.
-use Rattle.std.specs.Prelude.{◌≡◌, ◌≤◌, ℕ, Bool, true, false, ◌||◌, List, [], ◌∷◌, ◌++◌, fold, Option, Some, IfSome, codes}
+use Rattle.std.specs.Prelude.{◌≡◌, ◌≤◌, ℕ, Bool, true, false, ◌||◌, List, [], ◌∷◌, ◌++◌, fold, Option, Some, None, IfSome, codes}
 use Rattle.std.specs.Option.{option_map_or}
 use Rattle.std.specs.Str.{bytes_eq}
 use Rattle.std.specs.Str.Parse.{digits_value, without_leading_plus}
 use Rattle.clap.specs.Words.{App, Rule, Row, Text, new_app, new_rule, with_rule, takes, matches_of, one_of, IsUnsignedIn, kind_of}
+use Rattle.clap.specs.Words.{Kinds, HasKind, fault_of}
 use Rattle.clap.specs.declared.error.kind.ErrorKind.TheVariants.{OutOfMemory}
 use Rattle.clap.specs.declared.builder.action.ArgAction.TheVariants.{Set, SetTrue}
 use Rattle.clap.specs.declared.builder.value_parser.ValueParser.TheVariants as value
@@ -56,6 +57,10 @@ command_line = fold with_rule (with_version (new_app (codes "vbr_run"))) options
 -- the arguments, of which the first is the program's name, are options that the command takes
 unfoldable pub AreOptions : List Text → Type 0
 AreOptions arguments = takes command_line arguments ≡ true
+
+-- the kinds of error that the command answers a command line with: none where it takes it
+unfoldable pub faults : List Text → Kinds
+faults arguments = fault_of command_line arguments
 
 -- ---- what a command line gives
 
@@ -116,7 +121,13 @@ pub record AreComplete (rows : List Row) : Type 0 where
   pub small_buckets : number_among (codes "buckets") rows ≤ 4294967295
   pub small_budget : number_among (codes "budget") rows ≤ 4294967295
 
--- why a command line gives no options to play with: what `clap` answers, which for arguments that it takes is want of memory alone, or a shape that is none
+-- a command line has no fault, and gives these settings, whose shape is one
+pub record GivesSettings (arguments : List Text) (given : Settings) : Type 0 where
+  pub faultless : faults arguments ≡ []
+  pub settings : given ≡ settings_of arguments
+  pub shaped : shape_fault (settings_of arguments) ≡ None
+
+-- why a command line gives no options to play with: an error of a kind that `clap` has for it, or want of memory; or no fault but a shape that is none
 abbrev pub IsOptionsErrorOf : List Text → OptionsError → Type 0
-IsOptionsErrorOf arguments (options_error.Usage error) = AreOptions arguments → kind_of error ≡ OutOfMemory
-IsOptionsErrorOf arguments (options_error.Unshaped error) = shape_fault (settings_of arguments) ≡ Some error
+IsOptionsErrorOf arguments (options_error.Usage error) = HasKind (faults arguments) error × (AreOptions arguments → kind_of error ≡ OutOfMemory)
+IsOptionsErrorOf arguments (options_error.Unshaped error) = (faults arguments ≡ []) × (shape_fault (settings_of arguments) ≡ Some error)

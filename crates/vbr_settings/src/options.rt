@@ -2,7 +2,7 @@
 ghost use Rattle.std.specs.Prelude.{◌≡◌, ◌⊎◌, ℕ, List, [], ◌∷◌, Some, true, false, IfOk, IfErr, MatchResult, map, fold, codes};
 ghost use Rattle.clap.specs.Words.{app_of, rule_of, rows_of, found_of, with_rule, kind_of};
 ghost use Rattle.vbr_words.specs.declared.shape.TheConstants.{MAX_EPOCH};
-ghost use Rattle.vbr_settings.specs.Options.{AreOptions, number_option, switch, shape_options, command_line, settings_of, settings_among, number_among, is_among, HasNumber, IsSwitch, AreComplete, shape_fault, IsOptionsErrorOf};
+ghost use Rattle.vbr_settings.specs.Options.{AreOptions, faults, number_option, switch, shape_options, command_line, settings_of, settings_among, number_among, is_among, HasNumber, IsSwitch, AreComplete, shape_fault, GivesSettings, IsOptionsErrorOf};
 ghost use Rattle.vbr_settings.specs.declared.options.OptionsError.TheVariants.{Usage, Unshaped};
 
 use crate::config::{Config, MAX_WORKERS};
@@ -120,11 +120,11 @@ impl From<ShapeError> for OptionsError {
     }
 }
 
-/// Reads the options: how the script is to be played, or what is to be told in its place. Arguments that
-/// the command takes lack nothing but a shape, or memory.
+/// Reads the options: how the script is to be played, or what is to be told in its place. What
+/// `clap` answers has a kind that the command has for these arguments, or is want of memory.
+/// Arguments that the command takes lack nothing but a shape, or memory.
 pub fn read_options(alloc: Global, arguments: &[&str]) -> Result<Config, OptionsError>
-    ensures ok { IfOk result (λ config. config ≡ settings_of (map (λ argument. argument.now) arguments.entry.now)) }
-    ensures shaped { IfOk result (λ config. shape_fault (settings_of (map (λ argument. argument.now) arguments.entry.now)) ≡ None) }
+    ensures ok { IfOk result (GivesSettings (map (λ argument. argument.now) arguments.entry.now)) }
     ensures error { IfErr result (IsOptionsErrorOf (map (λ argument. argument.now) arguments.entry.now)) }
 {
     let matches = command(alloc)?.try_get_matches_from(arguments)?;
@@ -138,6 +138,28 @@ pub fn knows_its_options()
         × (settings_of (name ∷ []) ≡ record { shape = record { slots = 1024; buckets = 16; spread = false; last_epoch = MAX_EPOCH; values = false; keys = []; payloads = [] }; workers = 1; budget = 100000; epoch = false }) }
     ensures all_given { (name : List ℕ) → AreOptions (name ∷ codes "--workers" ∷ codes "4" ∷ codes "--slots" ∷ codes "512" ∷ codes "--buckets=8" ∷ codes "--last-epoch" ∷ codes "7" ∷ codes "--budget" ∷ codes "1000000" ∷ codes "--epoch" ∷ [])
         × (settings_of (name ∷ codes "--workers" ∷ codes "4" ∷ codes "--slots" ∷ codes "512" ∷ codes "--buckets=8" ∷ codes "--last-epoch" ∷ codes "7" ∷ codes "--budget" ∷ codes "1000000" ∷ codes "--epoch" ∷ []) ≡ record { shape = record { slots = 512; buckets = 8; spread = false; last_epoch = 7; values = false; keys = []; payloads = [] }; workers = 4; budget = 1000000; epoch = true }) }
+{}
+
+/// A law: command lines that are refused, and with which kind of error. A number out of its option's
+/// limits is one that can't be taken, a word that is no option is unknown, and the help and the
+/// version are told where they are asked for.
+pub fn knows_its_faults()
+    ensures workers { (name : List ℕ) → faults (name ∷ codes "--workers" ∷ codes "17" ∷ [])
+        ≡ ErrorKind.ValueValidation ∷ [] }
+    ensures no_number { (name : List ℕ) → faults (name ∷ codes "--slots=many" ∷ [])
+        ≡ ErrorKind.ValueValidation ∷ [] }
+    ensures no_value { (name : List ℕ) → faults (name ∷ codes "--budget" ∷ [])
+        ≡ ErrorKind.InvalidValue ∷ [] }
+    ensures twice { (name : List ℕ) → faults (name ∷ codes "--epoch" ∷ codes "--epoch" ∷ [])
+        ≡ ErrorKind.ArgumentConflict ∷ [] }
+    ensures unknown { (name : List ℕ) → faults (name ∷ codes "--worker=4" ∷ [])
+        ≡ ErrorKind.UnknownArgument ∷ [] }
+    ensures stray { (name : List ℕ) → faults (name ∷ codes "script.txt" ∷ [])
+        ≡ ErrorKind.UnknownArgument ∷ [] }
+    ensures help { (name : List ℕ) → faults (name ∷ codes "--help" ∷ [])
+        ≡ ErrorKind.DisplayHelp ∷ [] }
+    ensures version { (name : List ℕ) → faults (name ∷ codes "--version" ∷ [])
+        ≡ ErrorKind.DisplayVersion ∷ [] }
 {}
 
 // The command, with its options.

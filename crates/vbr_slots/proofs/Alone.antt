@@ -6,25 +6,25 @@ use Rattle.vbr_words.specs.Words.{link_of, word_of}
 use Rattle.vbr_words.proofs.Lemmas.{word_of-link_of}
 use Rattle.vbr_words.specs.declared.place.At.{At}
 use Rattle.vbr_words.specs.declared.place.At.TheVariants.{Head, Slot}
-use Rattle.vbr_core.specs.Accounts.{happens, incarnations_after, notes_after}
-use Rattle.vbr_core.specs.Agreement.{Agrees}
-use Rattle.vbr_core.specs.Images.{link_shown_at}
-use Rattle.vbr_core.specs.Incarnations.{Incarnations}
-use Rattle.vbr_core.specs.Machine.{World, found}
-use Rattle.vbr_core.specs.Machine as machine
-use Rattle.vbr_core.specs.Runs.{IsRun, Begins, NoneOf, world_after}
-use Rattle.vbr_core.specs.declared.event.Event.{Event}
-use Rattle.vbr_core.specs.declared.event.Effect.TheVariants.{Value}
-use Rattle.vbr_core.specs.declared.event.Step.{Step}
-use Rattle.vbr_core.specs.declared.event.Step.TheVariants.{ReadEpoch, LoadLink, StoreStamp, Raise, StoreKey, StoreLink}
-use Rattle.vbr_core.proofs.Lemmas.{begins_trans, calls_or_adds_none, is_run_before, is_run_last, key_leaves_links, link_leaves_links, link_loaded, own_calls-snoc, raise_epoch, raise_leaves, raise_links, read_leaves, run_agrees, stamp_epoch, stamp_leaves, stamp_links}
-use Rattle.vbr_core.specs.Calls.{calls_added, own_calls}
-use Rattle.vbr_core.specs.Membership.{Knows}
-use Rattle.vbr_core.specs.declared.history.Call.{Call}
-use Rattle.vbr_core.specs.declared.knowledge.Read.TheVariants.{LinkAt}
+use Rattle.vbr_machine.specs.Accounts.{happens, incarnations_after, notes_after}
+use Rattle.vbr_machine.specs.Agreement.{Agrees}
+use Rattle.vbr_machine.specs.Images.{link_shown_at}
+use Rattle.vbr_machine.specs.Incarnations.{Incarnations}
+use Rattle.vbr_machine.specs.Machine.{World, found}
+use Rattle.vbr_machine.specs.Machine as machine
+use Rattle.vbr_machine.specs.Runs.{IsRun, Begins, NoneOf, world_after}
+use Rattle.vbr_machine.specs.declared.event.Event.{Event}
+use Rattle.vbr_machine.specs.declared.event.Effect.TheVariants.{Value}
+use Rattle.vbr_machine.specs.declared.event.Step.{Step}
+use Rattle.vbr_machine.specs.declared.event.Step.TheVariants.{ReadEpoch, LoadLink, StoreStamp, Raise, StoreKey, StoreLink}
+use Rattle.vbr_machine.proofs.Lemmas.{begins_trans, calls_or_adds_none, is_run_before, is_run_last, key_leaves_links, link_leaves_links, link_loaded, own_calls-snoc, raise_epoch, raise_leaves, raise_links, read_leaves, run_agrees, stamp_epoch, stamp_leaves, stamp_links}
+use Rattle.vbr_machine.specs.Calls.{calls_added, own_calls}
+use Rattle.vbr_machine.specs.Membership.{Knows}
+use Rattle.vbr_machine.specs.declared.history.Call.{Call}
+use Rattle.vbr_machine.specs.declared.knowledge.Read.TheVariants.{LinkAt}
 use Rattle.vbr_words.specs.declared.link.Link.{Link}
-use Rattle.vbr_core.specs.Acceptance.{Accepts}
-use Rattle.vbr_core.specs.Nodes.{behind}
+use Rattle.vbr_machine.specs.Acceptance.{Accepts}
+use Rattle.vbr_machine.specs.Nodes.{behind}
 use Rattle.vbr_slots.specs.Alone.{OnlyEventsOf, IsAlone, nodes, IsFresh, ahead, LeavesLists}
 use Rattle.vbr_slots.specs.Calls.{Quiet}
 use Rattle.vbr_slots.specs.Views.{Trace, Did, knows, event_of}

@@ -3,19 +3,19 @@ use Rattle.std.proofs.Common.{◌≡◌, ℕ, ◌+◌, ◌==◌, Bool, true, fal
 use Rattle.std.proofs.lemmas.Bool.{ne_eqb}
 use Rattle.std.proofs.lemmas.List.Sums.{sum_by-append}
 use Rattle.vbr_words.specs.Dimensions.{Dimensions}
-use Rattle.vbr_core.specs.Knowledge.{Know}
-use Rattle.vbr_core.specs.Learning.{call_of, succeeds}
-use Rattle.vbr_core.specs.Machine.{World, found}
-use Rattle.vbr_core.specs.Loads.{IsLoad, OnlyLoadsOf}
-use Rattle.vbr_core.specs.Runs.{IsRun, Begins, NoneOf, world_after}
-use Rattle.vbr_core.specs.Calls.{calls_added, own_calls}
-use Rattle.vbr_core.specs.declared.event.Event.{Event}
-use Rattle.vbr_core.specs.declared.event.Step.{Step}
-use Rattle.vbr_core.specs.declared.history.Call.{Call}
-use Rattle.vbr_core.specs.Incarnations.{Incarnations}
-use Rattle.vbr_core.specs.Chronicles.{Answers}
-use Rattle.vbr_core.specs.Accounts.{just, happens, incarnations_after, own_entries}
-use Rattle.vbr_core.proofs.Lemmas.{begins_trans, others_leave_calls, others_leave_entries, own_calls-snoc, own_entries-snoc}
+use Rattle.vbr_machine.specs.Knowledge.{Know}
+use Rattle.vbr_machine.specs.Learning.{call_of, succeeds}
+use Rattle.vbr_machine.specs.Machine.{World, found}
+use Rattle.vbr_machine.specs.Loads.{IsLoad, OnlyLoadsOf}
+use Rattle.vbr_machine.specs.Runs.{IsRun, Begins, NoneOf, world_after}
+use Rattle.vbr_machine.specs.Calls.{calls_added, own_calls}
+use Rattle.vbr_machine.specs.declared.event.Event.{Event}
+use Rattle.vbr_machine.specs.declared.event.Step.{Step}
+use Rattle.vbr_machine.specs.declared.history.Call.{Call}
+use Rattle.vbr_machine.specs.Incarnations.{Incarnations}
+use Rattle.vbr_machine.specs.Chronicles.{Answers}
+use Rattle.vbr_machine.specs.Accounts.{just, happens, incarnations_after, own_entries}
+use Rattle.vbr_machine.proofs.Lemmas.{begins_trans, others_leave_calls, others_leave_entries, own_calls-snoc, own_entries-snoc}
 use Rattle.vbr_slots.specs.Views.{Trace, Did, counted_steps, event_of, steps_in, steps_of}
 use Rattle.vbr_slots.specs.Calls.{IsSame, made_by, Quiet, Made, entries_of, AddsNone, AddsAnswer, OnlyLoads, Moment, Took}
 

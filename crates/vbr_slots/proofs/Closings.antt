@@ -4,23 +4,19 @@ use mathlib.Core.Option.{some, some-ne-none, some-injective}
 use lib.ListN.{get_elem?}
 use Rattle.atomic_table.specs.Table.{Final, Seen}
 use Rattle.vbr_words.specs.Dimensions.{IsShape}
-use Rattle.vbr_core.specs.Runs.{IsRun, world_after}
-use Rattle.vbr_core.specs.declared.event.Event.{Event}
-use Rattle.vbr_core.proofs.Lemmas.{every_run}
-use Rattle.vbr_slots.specs.declared.rule.Witness.{Witness}
+use Rattle.vbr_machine.specs.Runs.{IsRun, world_after}
+use Rattle.vbr_machine.specs.declared.event.Event.{Event}
+use Rattle.vbr_machine.proofs.Lemmas.{every_run}
 use Rattle.vbr_slots.specs.declared.rule.Opening.{Opening}
 use Rattle.vbr_slots.specs.declared.slots.Slots.TheInside.{Inside as SlotsInside}
 use Rattle.vbr_slots.specs.Rule.{Kept, witness, EachBegins, opened_of}
 use Rattle.vbr_slots.specs.Views.{PassView, TableView, IsOf}
 use Rattle.vbr_slots.specs.Closing.{AllOf, EachSeen, Ends}
+pub use Rattle.vbr_slots.specs.Snapshots.{witnesses_of}
 use Rattle.vbr_slots.specs.SlotsView.{table_of, IsBuilt}
 use Rattle.vbr_slots.specs.Words.{AreWordsOf}
-use Rattle.vbr_slots.proofs.Steps.{Sat, opening_of}
-
--- the witnesses of the seats of passes
-abbrev pub witnesses_of : List PassView → List Witness
-witnesses_of [] = []
-witnesses_of (p ∷ ps) = witness (opened_of p.trace.shape) p.trace.who p.trace.seen ∷ witnesses_of ps
+use Rattle.vbr_slots.specs.Stepping.{opening_of}
+use Rattle.vbr_slots.proofs.Steps.{Sat}
 
 pub take_at : (l : List ℕ) (i x : ℕ) → get_elem? l i ≡ some x → take (i + 1) l ≡ take i l ++ x ∷ []
 take_at l i x at = ap (λ (n : ℕ). take n l) (let e : i + 1 ≡ suc i = omega arith in e) ∙ go l i at
@@ -38,7 +34,7 @@ pub witnesses_of-snoc : (ys : List PassView) (p : PassView) → witnesses_of (ys
 witnesses_of-snoc [] p = refl
 witnesses_of-snoc (y ∷ ys) p = ap (λ ms. witness (opened_of y.trace.shape) y.trace.who y.trace.seen ∷ ms) (witnesses_of-snoc ys p)
 
-each_seen : (run : List Event) (ps : List PassView) → EachBegins run (witnesses_of ps) → EachSeen run ps
+pub each_seen : (run : List Event) (ps : List PassView) → EachBegins run (witnesses_of ps) → EachSeen run ps
 each_seen run [] b = tt
 each_seen run (p ∷ ps) b = (b.0, each_seen run ps b.1)
 

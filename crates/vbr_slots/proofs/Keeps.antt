@@ -7,13 +7,13 @@ use Rattle.atomic_table.specs.Table.{State as Standing, Me, keeps, Allows}
 use Rattle.atomic_table.proofs.Lists.{at_set}
 use Rattle.vbr_words.specs.Dimensions.{IsShape}
 use Rattle.vbr_words.specs.Places.{index_of}
-use Rattle.vbr_core.specs.Acceptance.{Accepts}
-use Rattle.vbr_core.specs.Accounts.{incarnations_after, notes_after}
-use Rattle.vbr_core.specs.Knowledge.{Know}
-use Rattle.vbr_core.specs.Machine.{word_made, World, access_of, found, place_of_step}
-use Rattle.vbr_core.specs.Runs.{BeginsFor, IsRun, world_after, know_after, NoneOf}
-use Rattle.vbr_core.specs.declared.event.Event.{Event}
-use Rattle.vbr_core.proofs.Lemmas.{begins_for_refl, is_run_after_others, others_leave_it_accepted, others_leave_know, place_in, run_agrees, world_after-snoc}
+use Rattle.vbr_machine.specs.Acceptance.{Accepts}
+use Rattle.vbr_machine.specs.Accounts.{incarnations_after, notes_after}
+use Rattle.vbr_machine.specs.Knowledge.{Know}
+use Rattle.vbr_machine.specs.Machine.{word_made, World, access_of, found, place_of_step}
+use Rattle.vbr_machine.specs.Runs.{BeginsFor, IsRun, world_after, know_after, NoneOf}
+use Rattle.vbr_machine.specs.declared.event.Event.{Event}
+use Rattle.vbr_machine.proofs.Lemmas.{begins_for_refl, is_run_after_others, others_leave_it_accepted, others_leave_know, place_in, run_agrees, world_after-snoc}
 use Rattle.vbr_slots.specs.declared.rule.Witness.{Witness}
 use Rattle.vbr_slots.specs.declared.rule.Opening.{Opening}
 use Rattle.vbr_slots.specs.Rule.{witness, nobody, Caught, EachBegins, times, Kept, Shows, Told, opened_of}

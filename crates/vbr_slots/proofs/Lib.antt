@@ -12,6 +12,7 @@ mod Tried
 mod Seats
 mod Openings
 mod Closings
+mod Snapshots
 mod Pools
 mod Passes
 mod Running

@@ -16,15 +16,15 @@ use Rattle.vbr_words.specs.declared.place.At.TheVariants as at
 use Rattle.vbr_words.specs.declared.place.Place.{Place}
 use Rattle.vbr_words.specs.declared.place.Place.TheVariants.{Epoch, ShapeWord, Head, LinkOf, Birth, Stamp, Key, Value, Flags}
 use Rattle.vbr_words.proofs.Lemmas.{flag_word_same, index_of-lt, same_place}
-use Rattle.vbr_core.specs.Put.{put}
+use Rattle.vbr_machine.specs.Put.{put}
 use Rattle.vbr_words.specs.Buckets.{bucket_of}
-use Rattle.vbr_core.specs.Links.{opening_link, link_to}
-use Rattle.vbr_core.specs.Opened.{key_count, is_key_of, first_from, link_to_key}
-use Rattle.vbr_core.specs.Machine.{World, with_link_at, counted}
-use Rattle.vbr_core.specs.Machine as machine
-use Rattle.vbr_core.specs.Making.{opening_from, with_key_ahead}
-use Rattle.vbr_core.specs.declared.knowledge.SlotPlace.TheVariants.{Listed}
-use Rattle.vbr_core.proofs.Lemmas.{FirstOrNone, bare, first_or_none, flag_in, opening_none, put_here, put_other, same_word, taken_word}
+use Rattle.vbr_machine.specs.Links.{opening_link, link_to}
+use Rattle.vbr_machine.specs.Opened.{key_count, is_key_of, first_from, link_to_key}
+use Rattle.vbr_machine.specs.Machine.{World, with_link_at, counted}
+use Rattle.vbr_machine.specs.Machine as machine
+use Rattle.vbr_machine.specs.Making.{opening_from, with_key_ahead}
+use Rattle.vbr_machine.specs.declared.knowledge.SlotPlace.TheVariants.{Listed}
+use Rattle.vbr_machine.proofs.Lemmas.{FirstOrNone, bare, first_or_none, flag_in, opening_none, put_here, put_other, same_word, taken_word}
 use Rattle.vbr_slots.specs.Words.{AreWordsOf, HeadsFit}
 
 -- the words once the epoch, the shape, so many links and so many flag words are laid

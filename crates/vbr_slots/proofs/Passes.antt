@@ -5,21 +5,21 @@ use Rattle.std.proofs.lemmas.Bool.{cases_Bool, eqb-true}
 use Rattle.vbr_words.specs.Dimensions.{Dimensions, IsShape}
 use Rattle.vbr_words.specs.Flags.{has_flag}
 use Rattle.vbr_words.specs.declared.place.At.{At}
-use Rattle.vbr_core.specs.Acceptance.{Accepts, MayBear, IsInHand, IsFree, stamp_in}
-use Rattle.vbr_core.specs.Accounts.{incarnations_after, notes_after}
-use Rattle.vbr_core.specs.Agreement.{Agrees}
-use Rattle.vbr_core.specs.Knowledge.{Know}
-use Rattle.vbr_core.specs.Learning.{learn, with_own, with_checked, reads_won}
-use Rattle.vbr_core.specs.Machine.{World, stamp_shown, found}
-use Rattle.vbr_core.specs.Making.{exchanged}
-use Rattle.vbr_core.specs.Runs.{IsRun, world_after}
-use Rattle.vbr_core.specs.declared.event.Event.{Event}
-use Rattle.vbr_core.specs.declared.event.Effect.TheVariants.{Won, Lost}
-use Rattle.vbr_core.specs.declared.event.Step.{Step}
-use Rattle.vbr_core.specs.declared.event.Step.TheVariants.{LoadStamp, Raise, TakeFlag, StoreBirth, Unlink}
-use Rattle.vbr_core.specs.declared.knowledge.Holding.{Holding}
-use Rattle.vbr_core.specs.declared.knowledge.Holding.TheVariants.{Free, Unlinked, InHand}
-use Rattle.vbr_core.proofs.Lemmas.{flag_shared, flag_won, found_at, is_run_before, others_leave_know, put_here, run_agrees, stamp_known, taken_unowned, unlinked_unowned}
+use Rattle.vbr_machine.specs.Acceptance.{Accepts, MayBear, IsInHand, IsFree, stamp_in}
+use Rattle.vbr_machine.specs.Accounts.{incarnations_after, notes_after}
+use Rattle.vbr_machine.specs.Agreement.{Agrees}
+use Rattle.vbr_machine.specs.Knowledge.{Know}
+use Rattle.vbr_machine.specs.Learning.{newborn, learn, with_own, with_checked, reads_won}
+use Rattle.vbr_machine.specs.Machine.{World, stamp_shown, found}
+use Rattle.vbr_machine.specs.Making.{exchanged}
+use Rattle.vbr_machine.specs.Runs.{IsRun, world_after}
+use Rattle.vbr_machine.specs.declared.event.Event.{Event}
+use Rattle.vbr_machine.specs.declared.event.Effect.TheVariants.{Won, Lost}
+use Rattle.vbr_machine.specs.declared.event.Step.{Step}
+use Rattle.vbr_machine.specs.declared.event.Step.TheVariants.{LoadStamp, Raise, TakeFlag, StoreBirth, Unlink}
+use Rattle.vbr_machine.specs.declared.knowledge.Holding.{Holding}
+use Rattle.vbr_machine.specs.declared.knowledge.Holding.TheVariants.{Free, Unlinked, InHand}
+use Rattle.vbr_machine.proofs.Lemmas.{flag_shared, flag_won, found_at, is_run_before, others_leave_know, put_here, run_agrees, stamp_known, taken_unowned, unlinked_unowned}
 use Rattle.vbr_slots.specs.Pools.{OwnPool}
 use Rattle.vbr_slots.specs.Views.{Trace, Did, knows, event_of}
 use Rattle.vbr_slots.proofs.Pools.{changes, takes_in_hand, pooled_may, held_in_hand}
@@ -88,7 +88,7 @@ pool_raised p q s r pool hand d free out o =
     not_both : (holding : Option Holding) → IsFree holding → IsInHand holding → ⊥
     not_both (Some (Free stamp)) a b = b
     not_both (Some (Unlinked reread)) a b = a
-    not_both (Some (InHand stamp birth key value link)) a b = a
+    not_both (Some (InHand known)) a b = a
     not_both None a b = a
 
 pub pool_taken : (p q : Trace) (s r : ℕ) (pool : List ℕ) (hand : Option ℕ) → IsShape p.shape → Did (TakeFlag s) p q r → OwnPool p.shape (knows p) pool hand → OwnPool q.shape (knows q) pool hand
@@ -113,7 +113,7 @@ pool_unlinked p q pred expected s r pool hand is ok d o = pool_after p q (Unlink
 -- a slot that was born in, and stands in no pool, is in hand
 pub pool_born : (p q : Trace) (s birth r : ℕ) (pool : List ℕ) (hand : Option ℕ) → Did (StoreBirth s birth) p q r → s < p.shape.slots → ¬ (Contains pool s) → OwnPool p.shape (knows p) pool hand → OwnPool q.shape (knows q) pool (Some s)
 pool_born p q s birth r pool hand d low out o =
-    let holding : Option Holding = Some (InHand (stamp_in ((knows p).own s)) birth None None None) in
+    let holding : Option Holding = Some (InHand (newborn (stamp_in ((knows p).own s)) birth)) in
     let know : Know = with_own (knows p) s holding in
     pool_after p q (StoreBirth s birth) r d pool (Some s)
     (takes_in_hand p.shape know s pool hand low (subst IsInHand (sym (put_here (knows p).own s holding)) tt) out (changes p.shape (knows p) know s holding pool hand refl (λ c. tt) (λ h. tt) o))

@@ -9,12 +9,12 @@ use Rattle.std.proofs.lemmas.List.Quantifiers.{all_pairs_push}
 use mathlib.Core.Logic.{dite}
 use native.Mathlib.Decide.{ℕ_discrete}
 use Rattle.vbr_words.specs.Dimensions.{Dimensions}
-use Rattle.vbr_core.specs.Acceptance.{MayBear, IsInHand, IsFree}
-use Rattle.vbr_core.specs.Knowledge.{Know}
-use Rattle.vbr_core.specs.Put.{put}
-use Rattle.vbr_core.specs.declared.knowledge.Holding.{Holding}
-use Rattle.vbr_core.specs.declared.knowledge.Holding.TheVariants.{Free, Unlinked, InHand}
-use Rattle.vbr_core.proofs.Lemmas.{put_here, put_other}
+use Rattle.vbr_machine.specs.Acceptance.{MayBear, IsInHand, IsFree}
+use Rattle.vbr_machine.specs.Knowledge.{Know}
+use Rattle.vbr_machine.specs.Put.{put}
+use Rattle.vbr_machine.specs.declared.knowledge.Holding.{Holding}
+use Rattle.vbr_machine.specs.declared.knowledge.Holding.TheVariants.{Free, Unlinked, InHand}
+use Rattle.vbr_machine.proofs.Lemmas.{put_here, put_other}
 use Rattle.vbr_slots.specs.Pools.{IsPooled, HandFits, OwnPool, without, hand_without}
 
 -- ---- slots that leave and come
@@ -106,13 +106,13 @@ pub free_may : (holding : Option Holding) → IsFree holding → MayBear holding
 free_may None is = is
 free_may (Some (Free stamp)) is = tt
 free_may (Some (Unlinked reread)) is = is
-free_may (Some (InHand stamp birth key value link)) is = tt
+free_may (Some (InHand known)) is = tt
 
 pub in_hand_may : (holding : Option Holding) → IsInHand holding → MayBear holding
 in_hand_may None is = is
 in_hand_may (Some (Free stamp)) is = tt
 in_hand_may (Some (Unlinked reread)) is = is
-in_hand_may (Some (InHand stamp birth key value link)) is = tt
+in_hand_may (Some (InHand known)) is = tt
 
 -- the hand that is left once it was compared with a slot
 pub hand_kept : (slot : ℕ) (hand : Option ℕ) → cond (option_eq nat_eq hand (Some slot)) None hand ≡ hand_without slot hand

@@ -1,9 +1,9 @@
 -- Loads in a row, as what they do to a pass.
 use Rattle.std.proofs.Common.{◌≡◌, ℕ, refl, ap, ◌∙◌, subst}
 use Rattle.vbr_words.specs.declared.place.At.TheVariants.{Slot}
-use Rattle.vbr_core.specs.Knowledge.{Know}
-use Rattle.vbr_core.specs.declared.event.Step.{Step}
-use Rattle.vbr_core.specs.declared.event.Step.TheVariants.{ReadEpoch, LoadBirth, LoadLink}
+use Rattle.vbr_machine.specs.Knowledge.{Know}
+use Rattle.vbr_machine.specs.declared.event.Step.{Step}
+use Rattle.vbr_machine.specs.declared.event.Step.TheVariants.{ReadEpoch, LoadBirth, LoadLink}
 use Rattle.vbr_slots.specs.Reads.{Reads, ReadsNode}
 use Rattle.vbr_slots.specs.Views.{PassView, Trace, Did, knows, epoch_after}
 use Rattle.vbr_slots.proofs.Learning.{epoch_learned}

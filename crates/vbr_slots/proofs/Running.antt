@@ -2,8 +2,8 @@
 use Rattle.std.proofs.Common.{List, [], ◌∷◌, sym, arith}
 use Rattle.atomic_table.specs.Table.{State as Standing}
 use Rattle.vbr_words.specs.Dimensions.{Dimensions, IsShape}
-use Rattle.vbr_core.specs.declared.event.Event.{Event}
-use Rattle.vbr_core.proofs.Lemmas.{begins_for_know, every_run}
+use Rattle.vbr_machine.specs.declared.event.Event.{Event}
+use Rattle.vbr_machine.proofs.Lemmas.{begins_for_know, every_run}
 use Rattle.vbr_slots.specs.declared.rule.Witness.{Witness}
 use Rattle.vbr_slots.specs.declared.rule.Opening.{Opening}
 use Rattle.vbr_slots.specs.Rule.{EachBegins, Kept, opened_of}

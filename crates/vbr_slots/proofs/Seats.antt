@@ -4,10 +4,10 @@ use mathlib.Core.Option.{some, some-ne-none, some-injective}
 use lib.ListN.{get_elem?}
 use Rattle.atomic_table.specs.Table.{State as Standing, opening as table_opening, Splits, Joins, Enters, Me}
 use Rattle.atomic_table.proofs.Lists.{at_set, at_snoc}
-use Rattle.vbr_core.specs.Machine as machine
-use Rattle.vbr_core.specs.Runs.{IsRun}
-use Rattle.vbr_core.specs.declared.event.Event.{Event}
-use Rattle.vbr_core.proofs.Lemmas.{is_run_first}
+use Rattle.vbr_machine.specs.Machine as machine
+use Rattle.vbr_machine.specs.Runs.{IsRun}
+use Rattle.vbr_machine.specs.declared.event.Event.{Event}
+use Rattle.vbr_machine.proofs.Lemmas.{is_run_first}
 use Rattle.vbr_slots.specs.declared.rule.Opened.{Opened}
 use Rattle.vbr_slots.specs.declared.rule.Witness.{Witness}
 use Rattle.vbr_slots.specs.declared.rule.Opening.{Opening}

@@ -6,21 +6,22 @@ use Rattle.vbr_words.specs.Dimensions.{Dimensions, IsShape}
 use Rattle.vbr_words.specs.Places.{index_of, words_in}
 use Rattle.vbr_words.specs.declared.place.Place.{Place}
 use Rattle.vbr_words.proofs.Lemmas.{index_of-lt}
-use Rattle.vbr_core.specs.Acceptance.{Accepts}
-use Rattle.vbr_core.specs.Knowledge.{Know}
-use Rattle.vbr_core.specs.Learning.{learn}
-use Rattle.vbr_core.specs.Machine.{word_made, access_of, found, place_of_step, stamp_shown}
-use Rattle.vbr_core.specs.Runs.{IsRun, world_after, know_after, NoneOf}
-use Rattle.vbr_core.specs.declared.event.Event.{Event}
-use Rattle.vbr_core.specs.declared.event.Step.{Step}
-use Rattle.vbr_core.specs.declared.event.Step.TheVariants.{ReadEpoch}
-use Rattle.vbr_core.proofs.Lemmas.{know_after-snoc, others_leave_know, place_in}
+use Rattle.vbr_machine.specs.Acceptance.{Accepts}
+use Rattle.vbr_machine.specs.Knowledge.{Know}
+use Rattle.vbr_machine.specs.Learning.{learn}
+use Rattle.vbr_machine.specs.Machine.{word_made, access_of, found, place_of_step, stamp_shown}
+use Rattle.vbr_machine.specs.Runs.{IsRun, world_after, know_after, NoneOf}
+use Rattle.vbr_machine.specs.declared.event.Event.{Event}
+use Rattle.vbr_machine.specs.declared.event.Step.{Step}
+use Rattle.vbr_machine.specs.declared.event.Step.TheVariants.{ReadEpoch}
+use Rattle.vbr_machine.proofs.Lemmas.{know_after-snoc, others_leave_know, place_in}
 use Rattle.vbr_slots.specs.declared.rule.Witness.{Witness}
 use Rattle.vbr_slots.specs.declared.rule.Opening.{Opening}
 use Rattle.vbr_slots.specs.declared.runner.Runner.TheInside.{Inside as RunnerInside}
 use Rattle.vbr_slots.specs.declared.slots.Slots.TheInside.{Inside as SlotsInside}
 use Rattle.vbr_slots.specs.Rule.{with_opened, Kept, Told, Caught, Shows, witness, nobody, times, first_opened, first_seen, head_of, tail_of, EachBegins, opened_of}
 use Rattle.vbr_slots.specs.Views.{Trace, TableView, IsOf, Did, knows, event_of, epoch_after, steps_in}
+use Rattle.vbr_slots.specs.Stepping.{Names, opening_of}
 use Rattle.vbr_slots.specs.Tokens.{Since}
 use Rattle.vbr_slots.specs.RunnerView.{shape_of, trace_of, seen_of, IsSoundRunner}
 use Rattle.vbr_slots.specs.SlotsView.{shape_in, table_of, IsBuilt}
@@ -42,13 +43,9 @@ low_of p w sound is = subst (λ (v : Trace). v.who < v.passes) is sound.low
 pub seen_in : (me : Sat) (v : Witness) (others : List Witness) → me ≡ (v ∷ others, []) → first_seen me.0 ≡ v.seen
 seen_in me v others is = ap (λ (m : Sat). first_seen m.0) is
 
--- what a table was opened with
-abbrev pub opening_of : TableView → Opening
-opening_of t = record { shape = t.shape; passes = t.passes }
-
 -- what a step on the word asks
 pub asks : {N : Type 0} {values : Bool} (t : SlotsInside N) (table : TableView) → IsBuilt values t → table_of t ≡ table → (w : Trace) → w.who < w.passes → IsOf w table → (z : TableId) → z ≡ w.table → (id : ℕ) (me : Sat) (others : List Witness)
-    → me ≡ (witness (opened_of w.shape) w.who w.seen ∷ others, []) → (step : Step) (e : Event) (opening : Opening) → (e ≡ event_of w.who step) × (opening ≡ opening_of table) → (place : Place) (word : ℕ) (f g : ℕ → ℕ) → word ≡ index_of t.opening.shape place → place ≡ place_of_step step
+    → me ≡ (witness (opened_of w.shape) w.who w.seen ∷ others, []) → (step : Step) (e : Event) (opening : Opening) → Names e opening w table step → (place : Place) (word : ℕ) (f g : ℕ → ℕ) → word ≡ index_of t.opening.shape place → place ≡ place_of_step step
     → ((n : ℕ) → f n ≡ word_made (access_of (knows w) step) n) → ((n : ℕ) → Shows step (g n) n) → Accepts table.shape (knows w) step
     → (z ≡ t.table.shared.table_id) × (word < t.table.shared.table_id.words) × Allows (Kept t.table.shared.key) t.table.shared.table_id.slots id me word f (λ r. Told opening e me (g r))
 asks t table built t_is w low own z z_is id me others is step e opening named place word f g at_place place_is does same ok =
@@ -67,7 +64,7 @@ asks t table built t_is w low own z z_is id me others is step e opening named pl
     let plain : Allows (Kept o) t.table.shared.table_id.slots id me word f (λ r. Told o d me (g r)) = plays_as o is_shape t.table.shared.table_id.slots id d w.seen others [] me word f g is low apart at does same accepted in (
       z_is ∙ (own.0 ∙ sym (ap (λ (q : TableView). q.table) t_is)),
       omega (arith, at, size, in_table),
-      subst (λ (x : Opening × Event × Opening). Allows (Kept x.0) t.table.shared.table_id.slots id me word f (λ r. Told x.2 x.1 me (g r))) (λ i. (here i, sym named.0 i, (mine ∙ sym named.1) i)) plain,
+      subst (λ (x : Opening × Event × Opening). Allows (Kept x.0) t.table.shared.table_id.slots id me word f (λ r. Told x.2 x.1 me (g r))) (λ i. (here i, sym named.event_is i, (mine ∙ sym named.opening_is) i)) plain,
     )
 
 -- what is known after the step
@@ -82,13 +79,13 @@ pub record Done (w : Trace) (step : Step) (r : ℕ) (others : List Witness) (n :
   pub know : know_after w.shape run w.who ≡ learn step r (stamp_shown (world_after w.shape (w.seen ++ rest)) step) (knows w)
   pub mates : EachBegins run others
 
-pub done : (w : Trace) (table : TableView) → IsOf w table → (me n : Sat) (others : List Witness) → me ≡ (witness (opened_of w.shape) w.who w.seen ∷ others, []) → (step : Step) (e : Event) (opening : Opening) → (e ≡ event_of w.who step) × (opening ≡ opening_of table)
+pub done : (w : Trace) (table : TableView) → IsOf w table → (me n : Sat) (others : List Witness) → me ≡ (witness (opened_of w.shape) w.who w.seen ∷ others, []) → (step : Step) (e : Event) (opening : Opening) → Names e opening w table step
     → (r : ℕ) → Told opening e me r n → Done w step r others n
 done w table own me n others is step e opening named r told =
     let d : Event = event_of w.who step in
     let o : Opening = record { shape = w.shape; passes = w.passes } in
     let mine : opening_of table ≡ o = λ i. record { shape = sym own.1 i; passes = sym own.2 i } in
-    let here : Told o d (witness (opened_of w.shape) w.who w.seen ∷ others, []) r n = subst (λ (x : Opening × Event × Sat). Told x.0 x.1 x.2 r n) (λ i. ((named.1 ∙ mine) i, named.0 i, is i)) told in record {
+    let here : Told o d (witness (opened_of w.shape) w.who w.seen ∷ others, []) r n = subst (λ (x : Opening × Event × Sat). Told x.0 x.1 x.2 r n) (λ i. ((named.opening_is ∙ mine) i, named.event_is i, is i)) told in record {
       rest = here.rest;
       none = here.none;
       run = (w.seen ++ here.rest) ++ d ∷ [];
@@ -194,7 +191,7 @@ beside u vs pm given pm' is_p from into = into ∙ (λ i. ((is_p i).0 ++ (from i
 
 -- what catching up asks
 pub asks_to_catch : {N : Type 0} {values : Bool} (t : SlotsInside N) (table : TableView) → IsBuilt values t → table_of t ≡ table → (w : Trace) → w.who < w.passes → IsOf w table → (z : TableId) → z ≡ w.table → (id : ℕ) (me : Sat) (others : List Witness) → me ≡ (witness (opened_of w.shape) w.who w.seen ∷ others, [])
-    → ((number : ℕ) → number ≢ nobody → times number others ≡ 0) → (e : Event) (opening : Opening) → (e ≡ event_of w.who ReadEpoch) × (opening ≡ opening_of table)
+    → ((number : ℕ) → number ≢ nobody → times number others ≡ 0) → (e : Event) (opening : Opening) → Names e opening w table ReadEpoch
     → (z ≡ t.table.shared.table_id) × (0 < t.table.shared.table_id.words) × Allows (Kept t.table.shared.key) t.table.shared.table_id.slots id me 0 (λ n. n) (λ _. Caught opening e.pass me)
 asks_to_catch t table built t_is w low own z z_is id me others is spent e opening named =
     let o : Opening = record { shape = w.shape; passes = w.passes } in
@@ -207,7 +204,7 @@ asks_to_catch t table built t_is w low own z z_is id me others is spent e openin
     let plain : Allows (Kept o) t.table.shared.table_id.slots id me 0 (λ n. n) (λ _. Caught o w.who me) = catches_as o is_shape t.table.shared.table_id.slots id w.who w.seen others me 0 is apart spent in (
       z_is ∙ (own.0 ∙ sym (ap (λ (q : TableView). q.table) t_is)),
       wide t built,
-      subst (λ (x : Opening × Event × Opening). Allows (Kept x.0) t.table.shared.table_id.slots id me 0 (λ n. n) (λ _. Caught x.2 x.1.pass me)) (λ i. (here i, sym named.0 i, (mine ∙ sym named.1) i)) plain,
+      subst (λ (x : Opening × Event × Opening). Allows (Kept x.0) t.table.shared.table_id.slots id me 0 (λ n. n) (λ _. Caught x.2 x.1.pass me)) (λ i. (here i, sym named.event_is i, (mine ∙ sym named.opening_is) i)) plain,
     )
 
 -- what is known then
@@ -220,13 +217,13 @@ pub record CaughtUp (w : Trace) (others : List Witness) (n : Sat) : Type 0 where
   pub is_run : IsRun w.shape w.passes run
   pub mates : EachBegins run others
 
-pub caught_up : (w : Trace) (table : TableView) → IsOf w table → (me n : Sat) (others : List Witness) → me ≡ (witness (opened_of w.shape) w.who w.seen ∷ others, []) → (e : Event) (opening : Opening) → (e ≡ event_of w.who ReadEpoch) × (opening ≡ opening_of table)
+pub caught_up : (w : Trace) (table : TableView) → IsOf w table → (me n : Sat) (others : List Witness) → me ≡ (witness (opened_of w.shape) w.who w.seen ∷ others, []) → (e : Event) (opening : Opening) → Names e opening w table ReadEpoch
     → Caught opening e.pass me n → CaughtUp w others n
 caught_up w table own me n others is e opening named caught =
     let d : Event = event_of w.who ReadEpoch in
     let o : Opening = record { shape = w.shape; passes = w.passes } in
     let mine : opening_of table ≡ o = λ i. record { shape = sym own.1 i; passes = sym own.2 i } in
-    let here : Caught o w.who (witness (opened_of w.shape) w.who w.seen ∷ others, []) n = subst (λ (x : Opening × Event × Sat). Caught x.0 x.1.pass x.2 n) (λ i. ((named.1 ∙ mine) i, named.0 i, is i)) caught in record {
+    let here : Caught o w.who (witness (opened_of w.shape) w.who w.seen ∷ others, []) n = subst (λ (x : Opening × Event × Sat). Caught x.0 x.1.pass x.2 n) (λ i. ((named.opening_is ∙ mine) i, named.event_is i, is i)) caught in record {
       rest = here.rest;
       none = here.none;
       run = w.seen ++ here.rest;

@@ -4,9 +4,9 @@ use Rattle.std.proofs.lemmas.Bool.{cases_Bool, eqb-true}
 use Rattle.std.specs.Prelude.{◌⊎◌}
 use Rattle.vbr_words.specs.declared.place.At.{At}
 use Rattle.vbr_words.specs.declared.place.At.TheVariants.{Head, Slot}
-use Rattle.vbr_core.specs.Runs.{NoneOf}
-use Rattle.vbr_core.specs.declared.event.Event.{Event}
-use Rattle.vbr_core.specs.declared.event.Step.{Step}
+use Rattle.vbr_machine.specs.Runs.{NoneOf}
+use Rattle.vbr_machine.specs.declared.event.Event.{Event}
+use Rattle.vbr_machine.specs.declared.event.Step.{Step}
 use Rattle.vbr_slots.specs.LookUps.{look_up}
 use Rattle.vbr_slots.specs.Tokens.{Since}
 use Rattle.vbr_slots.specs.Tried.{last_tried, tried_by, tried_in}

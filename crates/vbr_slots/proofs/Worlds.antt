@@ -5,14 +5,14 @@ use native.Mathlib.Decide.{ℕ_discrete}
 use Rattle.vbr_words.specs.Dimensions.{Dimensions}
 use Rattle.vbr_words.specs.Places.{IsIn, index_of}
 use Rattle.vbr_words.proofs.Lemmas.{index_of-lt, same_place}
-use Rattle.vbr_core.specs.Acceptance.{Accepts}
-use Rattle.vbr_core.specs.Machine.{word_made, World, place_of_step, word_at, access_of, found, after}
-use Rattle.vbr_core.specs.Agreement.{Agrees}
-use Rattle.vbr_core.specs.Incarnations.{Incarnations}
-use Rattle.vbr_core.specs.Notes.{Notes}
-use Rattle.vbr_core.specs.declared.event.Step.{Step}
+use Rattle.vbr_machine.specs.Acceptance.{Accepts}
+use Rattle.vbr_machine.specs.Machine.{word_made, World, place_of_step, word_at, access_of, found, after}
+use Rattle.vbr_machine.specs.Agreement.{Agrees}
+use Rattle.vbr_machine.specs.Incarnations.{Incarnations}
+use Rattle.vbr_machine.specs.Notes.{Notes}
+use Rattle.vbr_machine.specs.declared.event.Step.{Step}
 use Rattle.vbr_slots.specs.Words.{AreWordsOf}
-use Rattle.vbr_core.proofs.Lemmas.{place_in, word_elsewhere, word_here}
+use Rattle.vbr_machine.proofs.Lemmas.{place_in, word_elsewhere, word_here}
 
 -- the words after a step are those before it with the step's word changed
 pub words_after : (shape : Dimensions) (w : World) (a : Incarnations) (notes : ℕ → Notes) (p : ℕ) (step : Step) → Agrees shape w a notes → Accepts shape (w.know p) step → (words : List ℕ) → AreWordsOf shape w words → (f : ℕ → ℕ)

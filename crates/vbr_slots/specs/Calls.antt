@@ -1,12 +1,12 @@
 -- What steps in a row add: to what the pass has seen, to its calls, and to its steps.
 use Rattle.std.specs.Prelude.{◌≡◌, ℕ, ◌+◌, List, [], ◌∷◌, ◌++◌}
-use Rattle.vbr_core.specs.Loads.{OnlyLoadsOf}
-use Rattle.vbr_core.specs.Runs.{IsRun, Begins}
-use Rattle.vbr_core.specs.Calls.{own_calls}
-use Rattle.vbr_core.specs.Chronicles.{Entry, Answers}
-use Rattle.vbr_core.specs.Accounts.{just, own_entries}
-use Rattle.vbr_core.specs.declared.event.Event.{Event}
-use Rattle.vbr_core.specs.declared.history.Call.{Call}
+use Rattle.vbr_machine.specs.Loads.{OnlyLoadsOf}
+use Rattle.vbr_machine.specs.Runs.{IsRun, Begins}
+use Rattle.vbr_machine.specs.Calls.{own_calls}
+use Rattle.vbr_machine.specs.Chronicles.{Entry, Answers}
+use Rattle.vbr_machine.specs.Accounts.{just, own_entries}
+use Rattle.vbr_machine.specs.declared.event.Event.{Event}
+use Rattle.vbr_machine.specs.declared.history.Call.{Call}
 use Rattle.vbr_slots.specs.Views.{Trace, steps_of}
 
 -- the same pass of the same table

@@ -1,8 +1,8 @@
 -- How a table ends, and what an error of closing gives back.
 use Rattle.std.specs.Prelude.{◌≡◌, ℕ, List, [], ◌∷◌}
-use Rattle.vbr_core.specs.Runs.{IsRun, world_after, BeginsFor}
-use Rattle.vbr_core.specs.Safety.{IsSafe}
-use Rattle.vbr_core.specs.declared.event.Event.{Event}
+use Rattle.vbr_machine.specs.Runs.{IsRun, world_after, BeginsFor}
+use Rattle.vbr_machine.specs.Safety.{IsSafe}
+use Rattle.vbr_machine.specs.declared.event.Event.{Event}
 use Rattle.vbr_slots.specs.declared.close_error.CloseError.{CloseError}
 use Rattle.vbr_slots.specs.declared.close_error.CloseError.TheVariants.{Missing, Memory}
 use Rattle.vbr_slots.specs.Views.{PassView, TableView, IsOf}

@@ -2,9 +2,9 @@
 use Rattle.std.specs.Prelude.{ℕ, ◌+◌, ◌*◌, Bool, true, false}
 use Rattle.vbr_words.specs.declared.place.At.{At}
 use Rattle.vbr_words.specs.declared.place.At.TheVariants.{Head, Slot}
-use Rattle.vbr_core.specs.declared.event.Step.{Step}
-use Rattle.vbr_core.specs.declared.event.Step.TheVariants.{ConfirmPresent, ConfirmAbsent}
-use Rattle.vbr_core.specs.declared.history.Op.TheVariants.{Has}
+use Rattle.vbr_machine.specs.declared.event.Step.{Step}
+use Rattle.vbr_machine.specs.declared.event.Step.TheVariants.{ConfirmPresent, ConfirmAbsent}
+use Rattle.vbr_machine.specs.declared.history.Op.TheVariants.{Has}
 
 -- whether the key is there, the key, the place of the link word, and the word that is expected there
 abbrev pub look_up : Bool → ℕ → At → ℕ → Step

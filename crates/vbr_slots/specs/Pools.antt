@@ -1,8 +1,8 @@
 -- The own pool of a pass, and the slot in its hand.
 use Rattle.std.specs.Prelude.{◌≡◌, ◌≢◌, ℕ, ◌<◌, ◌==◌, not, List, All, AllPairs, Contains, filter, Option, Some, None, if◌then◌else◌}
 use Rattle.vbr_words.specs.Dimensions.{Dimensions}
-use Rattle.vbr_core.specs.Acceptance.{MayBear, IsInHand}
-use Rattle.vbr_core.specs.Knowledge.{Know}
+use Rattle.vbr_machine.specs.Acceptance.{MayBear, IsInHand}
+use Rattle.vbr_machine.specs.Knowledge.{Know}
 
 -- the slots of an own pool, the oldest first
 pub record PoolView : Type 0 where

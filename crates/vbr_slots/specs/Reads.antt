@@ -1,7 +1,7 @@
 -- Loads in a row that end with a read of the epoch, which checks them where it stayed.
 use Rattle.std.specs.Prelude.{ℕ}
-use Rattle.vbr_core.specs.declared.event.Step.{Step}
-use Rattle.vbr_core.specs.declared.event.Step.TheVariants.{ReadEpoch, LoadBirth, LoadLink}
+use Rattle.vbr_machine.specs.declared.event.Step.{Step}
+use Rattle.vbr_machine.specs.declared.event.Step.TheVariants.{ReadEpoch, LoadBirth, LoadLink}
 use Rattle.vbr_words.specs.declared.place.At.TheVariants.{Slot}
 use Rattle.vbr_slots.specs.Views.{PassView, Did, KeepsPool}
 

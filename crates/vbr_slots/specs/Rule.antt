@@ -4,13 +4,13 @@ use mathlib.Core.Option.{some}
 use lib.ListN.{get_elem?}
 use Rattle.atomic_table.specs.Table.{State as Standing, Me}
 use Rattle.vbr_words.specs.Dimensions.{Dimensions}
-use Rattle.vbr_core.specs.Knowledge.{Know}
-use Rattle.vbr_core.specs.Learning.{effect_of, learn}
-use Rattle.vbr_core.specs.Machine.{found}
-use Rattle.vbr_core.specs.Runs.{IsRun, world_after, NoneOf, BeginsFor}
-use Rattle.vbr_core.specs.declared.event.Event.{Event}
-use Rattle.vbr_core.specs.declared.event.Step.{Step}
-use Rattle.vbr_core.specs.declared.event.Step.TheVariants.{ReadEpoch}
+use Rattle.vbr_machine.specs.Knowledge.{Know}
+use Rattle.vbr_machine.specs.Learning.{effect_of, learn}
+use Rattle.vbr_machine.specs.Machine.{found}
+use Rattle.vbr_machine.specs.Runs.{IsRun, world_after, NoneOf, BeginsFor}
+use Rattle.vbr_machine.specs.declared.event.Event.{Event}
+use Rattle.vbr_machine.specs.declared.event.Step.{Step}
+use Rattle.vbr_machine.specs.declared.event.Step.TheVariants.{ReadEpoch}
 use Rattle.vbr_slots.specs.declared.rule.Opened.{Opened}
 use Rattle.vbr_slots.specs.declared.rule.Witness.{Witness}
 use Rattle.vbr_slots.specs.declared.rule.Opening.{Opening}

@@ -1,8 +1,8 @@
 -- What contracts see of a runner, and its invariant.
 use Rattle.std.specs.Prelude.{◌≡◌, ◌<◌, List, [], ◌∷◌}
 use Rattle.vbr_words.specs.Dimensions.{Dimensions, IsShape}
-use Rattle.vbr_core.specs.Runs.{know_after, IsRun}
-use Rattle.vbr_core.specs.declared.event.Event.{Event}
+use Rattle.vbr_machine.specs.Runs.{know_after, IsRun}
+use Rattle.vbr_machine.specs.declared.event.Event.{Event}
 use Rattle.vbr_slots.specs.declared.runner.Runner.TheInside.{Inside}
 use Rattle.vbr_slots.specs.Rule.{witness, opened_of, with_opened, first_opened, first_seen}
 use Rattle.vbr_slots.specs.Views.{Trace}

@@ -1,8 +1,8 @@
 -- What contracts see of a token, and what a pass has seen that caught up.
 use Rattle.std.specs.Prelude.{◌≡◌, List, ◌++◌}
 use Rattle.atomic_table.specs.Seated.{TableId}
-use Rattle.vbr_core.specs.Runs.{IsRun, NoneOf}
-use Rattle.vbr_core.specs.declared.event.Event.{Event}
+use Rattle.vbr_machine.specs.Runs.{IsRun, NoneOf}
+use Rattle.vbr_machine.specs.declared.event.Event.{Event}
 use Rattle.vbr_slots.specs.Views.{Trace, knows, steps_of}
 
 -- a token: which table it is of, and the events of the run that it tells

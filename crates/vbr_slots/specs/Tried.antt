@@ -1,8 +1,8 @@
 -- Which slot a pass tried last to take out of the shared pool.
 use Rattle.std.specs.Prelude.{ℕ, ◌==◌, if◌then◌else◌, List, [], ◌∷◌}
-use Rattle.vbr_core.specs.declared.event.Event.{Event}
-use Rattle.vbr_core.specs.declared.event.Step.{Step}
-use Rattle.vbr_core.specs.declared.event.Step.TheVariants.{TakeFlag}
+use Rattle.vbr_machine.specs.declared.event.Event.{Event}
+use Rattle.vbr_machine.specs.declared.event.Step.{Step}
+use Rattle.vbr_machine.specs.declared.event.Step.TheVariants.{TakeFlag}
 use Rattle.vbr_slots.specs.Views.{Trace}
 
 -- the slot that a step tries to take, if it is of that kind, else the one before

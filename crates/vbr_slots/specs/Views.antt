@@ -2,13 +2,13 @@
 use Rattle.std.specs.Prelude.{◌≡◌, ℕ, zero, suc, ◌+◌, ◌-◌, ◌^◌, ◌==◌, min, count_by, List, [], ◌∷◌, ◌++◌, Option, None}
 use Rattle.atomic_table.specs.Seated.{TableId}
 use Rattle.vbr_words.specs.Dimensions.{Dimensions}
-use Rattle.vbr_core.specs.Knowledge.{Know}
-use Rattle.vbr_core.specs.Learning.{learn}
-use Rattle.vbr_core.specs.Machine.{found, stamp_shown}
-use Rattle.vbr_core.specs.Runs.{IsRun, world_after, know_after, NoneOf}
-use Rattle.vbr_core.specs.declared.event.Event.{Event}
-use Rattle.vbr_core.specs.declared.event.Step.{Step}
-use Rattle.vbr_core.specs.declared.event.Step.TheVariants.{ReadEpoch}
+use Rattle.vbr_machine.specs.Knowledge.{Know}
+use Rattle.vbr_machine.specs.Learning.{learn}
+use Rattle.vbr_machine.specs.Machine.{found, stamp_shown}
+use Rattle.vbr_machine.specs.Runs.{IsRun, world_after, know_after, NoneOf}
+use Rattle.vbr_machine.specs.declared.event.Event.{Event}
+use Rattle.vbr_machine.specs.declared.event.Step.{Step}
+use Rattle.vbr_machine.specs.declared.event.Step.TheVariants.{ReadEpoch}
 use Rattle.vbr_slots.specs.Rule.{Shows}
 
 -- which pass of which table, and the events of the run that it has seen

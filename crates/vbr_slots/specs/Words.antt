@@ -4,7 +4,7 @@ use Rattle.vbr_words.specs.Dimensions.{Dimensions}
 use Rattle.vbr_words.specs.Places.{IsIn, index_of, words_in}
 use Rattle.vbr_words.specs.Words.{IsLink}
 use Rattle.vbr_words.specs.declared.place.Place.{Place}
-use Rattle.vbr_core.specs.Machine.{World, word_at}
+use Rattle.vbr_machine.specs.Machine.{World, word_at}
 
 -- the list is the words of the world: at the index of each place stands the word at that place
 pub record AreWordsOf (shape : Dimensions) (w : World) (words : List ℕ) : Type 0 where

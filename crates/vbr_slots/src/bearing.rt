@@ -1,15 +1,16 @@
 //! The steps that make a new incarnation in a slot of the pass.
 ghost use Rattle.std.specs.Prelude.{◌≡◌, ◌<◌, true, Some};
-ghost use Rattle.vbr_words.specs.Words.{link_of, word_of};
-ghost use Rattle.vbr_core.specs.Acceptance.{MayBear, IsNextIn, IsNextHeld, stamp_in};
-ghost use Rattle.vbr_core.specs.Learning.{link_written};
-ghost use Rattle.vbr_core.specs.declared.event.Step.TheVariants.{StoreBirth, StoreKey, StoreValue, StoreLink};
-ghost use Rattle.vbr_slots.specs.Pools.{HasRoomFor, without};
+ghost use Rattle.vbr_words.specs.Words.{link_of};
+ghost use Rattle.vbr_machine.specs.Acceptance.{MayBear, IsNextIn, IsNextHeld, stamp_in};
+ghost use Rattle.vbr_machine.specs.declared.event.Step.TheVariants.{StoreKey, StoreValue, StoreLink};
+ghost use Rattle.vbr_slots.specs.Asked.{IsWritten};
+ghost use Rattle.vbr_slots.specs.OwnSlots.{BearsIn, epoch_of, holding_of};
+ghost use Rattle.vbr_slots.specs.Pools.{HasRoomFor};
 ghost use Rattle.vbr_slots.specs.Views.{IsOf, Did, KeepsPool, knows};
 
 use crate::pass::Pass;
 use crate::slots::Slots;
-use vbr_core::Step;
+use vbr_machine::Step;
 use vbr_words::{Nodes, Place, decode};
 
 impl<N: Nodes> Slots<N> {
@@ -20,12 +21,10 @@ impl<N: Nodes> Slots<N> {
     pub fn store_birth(&self, pass: &mut Pass, slot: u32)
         requires own { IsOf pass.old.trace self.now }
         requires slot { slot < self.now.shape.slots }
-        requires may_bear { MayBear ((knows pass.old.trace).own slot) }
-        requires above_stamp { stamp_in ((knows pass.old.trace).own slot) < (knows pass.old.trace).epoch }
+        requires may_bear { MayBear (holding_of pass.old slot) }
+        requires above_stamp { stamp_in (holding_of pass.old slot) < epoch_of pass.old }
         requires hand { HasRoomFor pass.old.hand slot }
-        ensures step { let epoch = (knows pass.old.trace).epoch in Did (StoreBirth slot epoch) pass.old.trace pass.new.trace epoch }
-        ensures pool { pass.new.pool ≡ without slot pass.old.pool }
-        ensures hand { pass.new.hand ≡ Some slot }
+        ensures { BearsIn slot pass.old pass.new }
     {
         pass.during(|stepper| (stepper.store_birth(self, slot), 1))
     }
@@ -61,7 +60,7 @@ impl<N: Nodes> Slots<N> {
         requires in_hand { pass.old.hand ≡ Some slot }
         requires next_in { IsNextIn self.now.shape (link_of word).slot }
         requires next_held { IsNextHeld (knows pass.old.trace).checked (link_of word).slot }
-        requires word { word ≡ word_of (link_written (knows pass.old.trace) (StoreLink slot (link_of word).slot)) }
+        requires word { IsWritten pass.old.trace (StoreLink slot (link_of word).slot) word }
         ensures step { Did (StoreLink slot (link_of word).slot) pass.old.trace pass.new.trace word }
         ensures pool { KeepsPool pass.old pass.new }
     {

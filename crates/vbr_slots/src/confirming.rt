@@ -1,16 +1,16 @@
 //! The steps that answer a call by one more load of a link word.
-ghost use Rattle.std.specs.Prelude.{◌≡◌, ◌≢◌, ◌<◌, false, MatchResult};
-ghost use Rattle.vbr_words.specs.Words.{link_of};
-ghost use Rattle.vbr_core.specs.Acceptance.{Accepts, IsAtIn, HasChecked, IsInRange, IsOpIn};
-ghost use Rattle.vbr_core.specs.declared.event.Step.TheVariants.{ConfirmPresent, ConfirmAbsent};
-ghost use Rattle.vbr_core.specs.declared.history.Op.TheVariants.{Remove};
+ghost use Rattle.std.specs.Prelude.{◌<◌, OnOk, IfErr};
+ghost use Rattle.vbr_machine.specs.Acceptance.{Accepts, IsAtIn, IsOpIn};
+ghost use Rattle.vbr_machine.specs.declared.event.Step.TheVariants.{ConfirmPresent, ConfirmAbsent};
+ghost use Rattle.vbr_slots.specs.Asked.{IsChecked};
+ghost use Rattle.vbr_slots.specs.Expected.{Finds, FindsOther};
 ghost use Rattle.vbr_slots.specs.LookUps.{look_up};
-ghost use Rattle.vbr_slots.specs.Views.{IsOf, Did, KeepsPool, knows};
+ghost use Rattle.vbr_slots.specs.Views.{IsOf, knows};
 
 use crate::pass::Pass;
 use crate::slots::Slots;
 use crate::stepping::place_of_link;
-use vbr_core::{Op, Step};
+use vbr_machine::{Op, Step};
 use vbr_words::{At, Nodes, Place};
 
 impl<N: Nodes> Slots<N> {
@@ -27,14 +27,12 @@ impl<N: Nodes> Slots<N> {
     ) -> Result<(), u64>
         requires own { IsOf pass.old.trace self.now }
         requires slot { slot < self.now.shape.slots }
-        requires op { op ≢ Remove }
         requires asked { IsOpIn self.now.shape op }
-        requires held { HasChecked self.now.shape (knows pass.old.trace) (ConfirmPresent op slot expected) }
-        requires unmarked { (link_of expected).mark ≡ false }
-        ensures step { MatchResult result
-            (λ _. Did (ConfirmPresent op slot expected) pass.old.trace pass.new.trace expected)
-            (λ found. Did (ConfirmPresent op slot expected) pass.old.trace pass.new.trace found × (found ≢ expected)) }
-        ensures pool { KeepsPool pass.old pass.new }
+        requires checked { IsChecked self.now pass.old.trace (ConfirmPresent op slot expected) }
+        ensures found { OnOk result
+            (Finds (ConfirmPresent op slot expected) pass.old pass.new expected) }
+        ensures other { IfErr result
+            (FindsOther (ConfirmPresent op slot expected) pass.old pass.new expected) }
     {
         pass.during(|stepper| (stepper.confirm_present(self, op, slot, expected), 1))
     }
@@ -55,12 +53,11 @@ impl<N: Nodes> Slots<N> {
         requires own { IsOf pass.old.trace self.now }
         requires at { IsAtIn self.now.shape at }
         requires asked { IsOpIn self.now.shape op }
-        requires held { HasChecked self.now.shape (knows pass.old.trace) (ConfirmAbsent op key at expected) }
-        requires in_range { IsInRange self.now.shape (knows pass.old.trace) (ConfirmAbsent op key at expected) }
-        ensures step { MatchResult result
-            (λ _. Did (ConfirmAbsent op key at expected) pass.old.trace pass.new.trace expected)
-            (λ found. Did (ConfirmAbsent op key at expected) pass.old.trace pass.new.trace found × (found ≢ expected)) }
-        ensures pool { KeepsPool pass.old pass.new }
+        requires checked { IsChecked self.now pass.old.trace (ConfirmAbsent op key at expected) }
+        ensures found { OnOk result
+            (Finds (ConfirmAbsent op key at expected) pass.old pass.new expected) }
+        ensures other { IfErr result
+            (FindsOther (ConfirmAbsent op key at expected) pass.old pass.new expected) }
     {
         pass.during(|stepper| (stepper.confirm_absent(self, op, key, at, expected), 1))
     }
@@ -79,11 +76,12 @@ impl<N: Nodes> Slots<N> {
         expected: u64,
     ) -> Result<(), u64>
         requires own { IsOf pass.old.trace self.now }
-        requires accepted { Accepts self.now.shape (knows pass.old.trace) (look_up present key at expected) }
-        ensures step { MatchResult result
-            (λ _. Did (look_up present key at expected) pass.old.trace pass.new.trace expected)
-            (λ found. Did (look_up present key at expected) pass.old.trace pass.new.trace found × (found ≢ expected)) }
-        ensures pool { KeepsPool pass.old pass.new }
+        requires accepted { Accepts self.now.shape (knows pass.old.trace)
+            (look_up present key at expected) }
+        ensures found { OnOk result
+            (Finds (look_up present key at expected) pass.old pass.new expected) }
+        ensures other { IfErr result
+            (FindsOther (look_up present key at expected) pass.old pass.new expected) }
     {
         pass.during(|stepper| (stepper.confirm_look_up(self, present, key, at, expected), 1))
     }

@@ -1,11 +1,12 @@
 //! The steps on the epoch.
-ghost use Rattle.std.specs.Prelude.{◌≡◌, ◌≢◌, ℕ, ◌<◌, ◌≤◌, MatchBool};
-ghost use Rattle.vbr_core.specs.declared.event.Step.TheVariants.{ReadEpoch, Advance};
+ghost use Rattle.std.specs.Prelude.{ℕ, ◌<◌, ◌≤◌, MatchBool};
+ghost use Rattle.vbr_machine.specs.declared.event.Step.TheVariants.{ReadEpoch, Advance};
+ghost use Rattle.vbr_slots.specs.Expected.{Finds, FindsOther};
 ghost use Rattle.vbr_slots.specs.Views.{IsOf, Did, KeepsPool};
 
 use crate::pass::Pass;
 use crate::slots::Slots;
-use vbr_core::Step;
+use vbr_machine::Step;
 use vbr_words::{Nodes, Place};
 
 impl<N: Nodes> Slots<N> {
@@ -26,10 +27,9 @@ impl<N: Nodes> Slots<N> {
         requires own { IsOf pass.old.trace self.now }
         requires some { 1 ≤ from }
         requires below_last { from < self.now.shape.last_epoch }
-        ensures step { MatchBool result
-            (Did (Advance from) pass.old.trace pass.new.trace from)
-            ((found : ℕ) × Did (Advance from) pass.old.trace pass.new.trace found × (found ≢ from)) }
-        ensures pool { KeepsPool pass.old pass.new }
+        ensures { MatchBool result
+            (Finds (Advance from) pass.old pass.new from)
+            ((found : ℕ) × FindsOther (Advance from) pass.old pass.new from found) }
     {
         pass.during(|stepper| (stepper.advance(self, from), 1))
     }

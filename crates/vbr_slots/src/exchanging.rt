@@ -1,16 +1,16 @@
 //! The steps that exchange a link word: insert, remove and unlink (Michael 2002), each on the whole
 //! word with its version (Sheffi, Herlihy and Petrank 2021).
-ghost use Rattle.std.specs.Prelude.{◌≡◌, ◌≢◌, ◌<◌, false, Some, None, OnOk, OnErr, MatchResult};
-ghost use Rattle.vbr_words.specs.Words.{link_of, word_of};
-ghost use Rattle.vbr_core.specs.Acceptance.{IsAtIn, HasChecked, IsInRange};
-ghost use Rattle.vbr_core.specs.Learning.{link_written};
-ghost use Rattle.vbr_core.specs.declared.event.Step.TheVariants.{Publish, Mark, Unlink};
-ghost use Rattle.vbr_slots.specs.Views.{IsOf, Did, KeepsPool, knows};
+ghost use Rattle.std.specs.Prelude.{◌≡◌, ◌<◌, Some, OnOk, IfErr};
+ghost use Rattle.vbr_machine.specs.Acceptance.{IsAtIn};
+ghost use Rattle.vbr_machine.specs.declared.event.Step.TheVariants.{Publish, Mark, Unlink};
+ghost use Rattle.vbr_slots.specs.Asked.{IsChecked, IsWritten};
+ghost use Rattle.vbr_slots.specs.Expected.{Finds, FindsOther, Publishes};
+ghost use Rattle.vbr_slots.specs.Views.{IsOf};
 
 use crate::pass::Pass;
 use crate::slots::Slots;
 use crate::stepping::place_of_link;
-use vbr_core::Step;
+use vbr_machine::Step;
 use vbr_words::{At, Nodes, Place, with_mark};
 
 impl<N: Nodes> Slots<N> {
@@ -29,15 +29,11 @@ impl<N: Nodes> Slots<N> {
         requires own { IsOf pass.old.trace self.now }
         requires in_hand { pass.old.hand ≡ Some slot }
         requires pred { IsAtIn self.now.shape pred }
-        requires held { HasChecked self.now.shape (knows pass.old.trace) (Publish pred expected slot) }
-        requires in_range { IsInRange self.now.shape (knows pass.old.trace) (Publish pred expected slot) }
-        requires new { new ≡ word_of (link_written (knows pass.old.trace) (Publish pred expected slot)) }
-        ensures step { MatchResult result
-            (λ _. Did (Publish pred expected slot) pass.old.trace pass.new.trace expected)
-            (λ found. Did (Publish pred expected slot) pass.old.trace pass.new.trace found × (found ≢ expected)) }
-        ensures ok { OnOk result (pass.new.hand ≡ None) }
-        ensures err { OnErr result (pass.new.hand ≡ pass.old.hand) }
-        ensures pool { pass.new.pool ≡ pass.old.pool }
+        requires checked { IsChecked self.now pass.old.trace (Publish pred expected slot) }
+        requires new { IsWritten pass.old.trace (Publish pred expected slot) new }
+        ensures found { OnOk result (Publishes pred expected slot pass.old pass.new) }
+        ensures other { IfErr result
+            (FindsOther (Publish pred expected slot) pass.old pass.new expected) }
     {
         pass.during(|stepper| (stepper.publish(self, pred, expected, slot, new), 1))
     }
@@ -48,12 +44,9 @@ impl<N: Nodes> Slots<N> {
     pub fn mark(&self, pass: &mut Pass, slot: u32, expected: u64) -> Result<(), u64>
         requires own { IsOf pass.old.trace self.now }
         requires slot { slot < self.now.shape.slots }
-        requires held { HasChecked self.now.shape (knows pass.old.trace) (Mark slot expected) }
-        requires unmarked { (link_of expected).mark ≡ false }
-        ensures step { MatchResult result
-            (λ _. Did (Mark slot expected) pass.old.trace pass.new.trace expected)
-            (λ found. Did (Mark slot expected) pass.old.trace pass.new.trace found × (found ≢ expected)) }
-        ensures pool { KeepsPool pass.old pass.new }
+        requires checked { IsChecked self.now pass.old.trace (Mark slot expected) }
+        ensures found { OnOk result (Finds (Mark slot expected) pass.old pass.new expected) }
+        ensures other { IfErr result (FindsOther (Mark slot expected) pass.old pass.new expected) }
     {
         pass.during(|stepper| (stepper.mark(self, slot, expected), 1))
     }
@@ -73,13 +66,11 @@ impl<N: Nodes> Slots<N> {
         requires own { IsOf pass.old.trace self.now }
         requires pred { IsAtIn self.now.shape pred }
         requires slot { slot < self.now.shape.slots }
-        requires held { HasChecked self.now.shape (knows pass.old.trace) (Unlink pred expected slot) }
-        requires in_range { IsInRange self.now.shape (knows pass.old.trace) (Unlink pred expected slot) }
-        requires new { new ≡ word_of (link_written (knows pass.old.trace) (Unlink pred expected slot)) }
-        ensures step { MatchResult result
-            (λ _. Did (Unlink pred expected slot) pass.old.trace pass.new.trace expected)
-            (λ found. Did (Unlink pred expected slot) pass.old.trace pass.new.trace found × (found ≢ expected)) }
-        ensures pool { KeepsPool pass.old pass.new }
+        requires checked { IsChecked self.now pass.old.trace (Unlink pred expected slot) }
+        requires new { IsWritten pass.old.trace (Unlink pred expected slot) new }
+        ensures found { OnOk result (Finds (Unlink pred expected slot) pass.old pass.new expected) }
+        ensures other { IfErr result
+            (FindsOther (Unlink pred expected slot) pass.old pass.new expected) }
     {
         pass.during(|stepper| (stepper.unlink(self, pred, expected, slot, new), 1))
     }

@@ -10,5 +10,6 @@ ghost use Rattle.vbr_slots.specs.Running.{IsRunning};
 /// A law: whatever meets the rule of the table, as the table does before and after every atomic
 /// step, is the state of a safe run of the core.
 pub fn the_table_is_a_run()
-    ensures { (opening : Opening) (s : State (Unit {0}) (List Witness)) → IsShape opening.shape → Kept opening s → IsRunning opening s }
+    ensures { (opening : Opening) (s : State (Unit {0}) (List Witness))
+        → IsShape opening.shape → Kept opening s → IsRunning opening s }
 {}

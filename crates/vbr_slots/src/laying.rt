@@ -1,10 +1,11 @@
 // The words that a table opens with.
-ghost use Rattle.std.specs.Prelude.{◌≡◌, ◌<◌, ◌≤◌, ℕ, List, length, slice_index_or, IfOk, OnOk, if◌then◌else◌};
+ghost use Rattle.std.specs.Prelude.{◌≡◌, ◌<◌, ◌≤◌, ℕ, List, length, slice_index_or, IfOk, OnOk};
 ghost use Rattle.std.specs.List.Sorted.{IsStrictlyIncreasing};
 ghost use Rattle.vbr_words.specs.Dimensions.{IsShape};
 ghost use Rattle.vbr_words.specs.Places.{words_in};
-ghost use Rattle.vbr_core.specs.Making.{opening_from, with_key_ahead};
-ghost use Rattle.vbr_core.specs.Machine.{World, opening};
+ghost use Rattle.vbr_machine.specs.Making.{opening_from, with_key_ahead};
+ghost use Rattle.vbr_machine.specs.Machine.{World, opening};
+ghost use Rattle.vbr_slots.specs.Openings.{ArePaired, shape_with};
 ghost use Rattle.vbr_slots.specs.Words.{AreWordsOf, HeadsFit};
 
 use std::alloc::{AllocError, Global};
@@ -22,11 +23,10 @@ pub(crate) fn opening_words(
 ) -> Result<Vec<u64>, AllocError>
     requires ascending { IsStrictlyIncreasing keys.now }
     requires few { length keys.now ≤ shape.now.slots }
-    requires paired { length values.now ≡ (if shape.now.values then length keys.now else 0) }
-    ensures words { IfOk result (λ words. AreWordsOf
-        (record shape.now { keys = keys.now; payloads = values.now })
-        (opening (record shape.now { keys = keys.now; payloads = values.now })) words.items) }
-    ensures shape { OnOk result (IsShape (record shape.now { keys = keys.now; payloads = values.now })) }
+    requires paired { ArePaired shape.now keys.now values.now }
+    ensures words { IfOk result (λ words. let whole = shape_with shape.now keys.now values.now in
+        AreWordsOf whole (opening whole) words.items) }
+    ensures shape { OnOk result (IsShape (shape_with shape.now keys.now values.now)) }
 {
     let mut words = empty_words(alloc, shape)?;
     let mut number = keys.len();
@@ -53,9 +53,9 @@ fn value_at(values: &[u64], number: usize) -> u64
 // The words before a key is linked: the epoch is 1, the shape's word stands, each slot has the opening
 // link and is in the shared pool, so its flag is set, and all other words are 0.
 fn empty_words(alloc: Global, shape: &Shape) -> Result<Vec<u64>, AllocError>
-    ensures words { IfOk result (λ words. (keys payloads : List ℕ) → AreWordsOf
-        (record shape.now { keys = keys; payloads = payloads })
-        (opening_from (record shape.now { keys = keys; payloads = payloads }) (length keys)) words.items) }
+    ensures words { IfOk result (λ words. (keys values : List ℕ) →
+        let whole = shape_with shape.now keys values in
+        AreWordsOf whole (opening_from whole (length keys)) words.items) }
     ensures shape { OnOk result (IsShape shape.now) }
 {
     let mut words = vec![in alloc; 0; word_count(shape)]?;
@@ -76,10 +76,9 @@ fn empty_words(alloc: Global, shape: &Shape) -> Result<Vec<u64>, AllocError>
 fn link_key(shape: &Shape, words: &mut [u64], number: u32, key: u64, value: u64)
     requires number { number < shape.now.slots }
     requires words { length words.old ≡ words_in shape.now }
-    ensures { (keys payloads : List ℕ) (w : World) → HeadsFit w
-        → AreWordsOf (record shape.now { keys = keys; payloads = payloads }) w words.old
-        → AreWordsOf (record shape.now { keys = keys; payloads = payloads })
-        (with_key_ahead (record shape.now { keys = keys; payloads = payloads }) number key value w) words.new }
+    ensures { (keys values : List ℕ) (w : World) → HeadsFit w →
+        let whole = shape_with shape.now keys values in AreWordsOf whole w words.old
+        → AreWordsOf whole (with_key_ahead whole number key value w) words.new }
 {
     prove!(shape.slots() <= MAX_SLOTS);
     let head = place_index(shape, Place::Head(shape.bucket_of(key)));

@@ -27,6 +27,7 @@ mod rule;
 mod runner;
 pub mod seen;
 pub mod slots;
+pub mod snapshot;
 pub mod stepper;
 mod stepping;
 pub mod uncounted;

@@ -1,8 +1,8 @@
 //! Opening a table.
-ghost use Rattle.std.specs.Prelude.{true, false, ◌≡◌, ◌<◌, ◌≤◌, ◌↔◌, ◌⊎◌, length, if◌then◌else◌, IfOk, IsErrOf};
+ghost use Rattle.std.specs.Prelude.{true, false, ◌≡◌, ◌<◌, ◌≤◌, ◌↔◌, ◌⊎◌, length, IfOk, IsErrOf};
 ghost use Rattle.std.specs.List.Sorted.{IsStrictlyIncreasing};
-ghost use Rattle.vbr_core.specs.Maps.{keys_listed, values_listed};
-ghost use Rattle.vbr_slots.specs.Views.{new_passes};
+ghost use Rattle.vbr_machine.specs.Maps.{keys_listed, values_listed};
+ghost use Rattle.vbr_slots.specs.Openings.{ArePaired, Opens, shape_with};
 
 use crate::laying::opening_words;
 use crate::pass::Pass;
@@ -16,7 +16,7 @@ use std::alloc::{AllocError, Global};
 use std::error::Error;
 use std::fmt;
 use std::marker::PhantomData;
-use vbr_core::keys_and_values;
+use vbr_machine::keys_and_values;
 use vbr_words::{Entries, Nodes, Shape};
 
 /// Why a table isn't opened. The tests are made in this order.
@@ -51,8 +51,8 @@ impl Slots {
     ///
     /// The refusals are tested in the order of [`OpenError`], and nothing is kept then.
     pub fn open(alloc: Global, shape: Shape, passes: u32) -> Result<(Slots, Vec<Pass>), OpenError>
-        ensures table { IfOk result (λ r. (r.0.shape ≡ record shape { values = false }) × (r.0.passes ≡ passes)) }
-        ensures passes { IfOk result (λ r. r.1.items ≡ new_passes r.0 0 passes) }
+        ensures opened { IfOk result (λ r.
+            Opens (record shape { values = false }) passes r.0 r.1.items) }
         ensures refused { IsErrOf result OpenError.Passes ↔ ((passes ≡ 0) ⊎ (64 < passes)) }
     {
         let _slots = shape.slots();
@@ -75,8 +75,8 @@ impl Slots {
     ) -> Result<(Slots, Vec<Pass>), OpenError>
         requires ascending { IsStrictlyIncreasing keys.now }
         requires few { length keys.now ≤ shape.slots }
-        ensures table { IfOk result (λ r. (r.0.shape ≡ record shape { values = false; keys = keys.now }) × (r.0.passes ≡ passes)) }
-        ensures passes { IfOk result (λ r. r.1.items ≡ new_passes r.0 0 passes) }
+        ensures opened { IfOk result (λ r.
+            Opens (record shape { values = false; keys = keys.now }) passes r.0 r.1.items) }
         ensures refused { IsErrOf result OpenError.Passes ↔ ((passes ≡ 0) ⊎ (64 < passes)) }
     {
         let opening = Opening {
@@ -104,10 +104,9 @@ impl Slots<Entries> {
     ) -> Result<(Slots<Entries>, Vec<Pass>), OpenError>
         requires ascending { IsStrictlyIncreasing (keys_listed entries.now) }
         requires few { length entries.now ≤ shape.slots }
-        ensures table { IfOk result (λ r.
-            (r.0.shape ≡ record shape { values = true; keys = keys_listed entries.now; payloads = values_listed entries.now })
-            × (r.0.passes ≡ passes)) }
-        ensures passes { IfOk result (λ r. r.1.items ≡ new_passes r.0 0 passes) }
+        ensures opened { IfOk result (λ r. let of_map = record shape { values = true } in
+            Opens (shape_with of_map (keys_listed entries.now) (values_listed entries.now))
+            passes r.0 r.1.items) }
         ensures refused { IsErrOf result OpenError.Passes ↔ ((passes ≡ 0) ⊎ (64 < passes)) }
     {
         if passes == 0 || passes > 64 {
@@ -135,12 +134,11 @@ impl<N: Nodes> Slots<N> {
         requires ascending { IsStrictlyIncreasing keys.now }
         requires few { length keys.now ≤ opening.shape.slots }
         requires kind { opening.shape.values ≡ N.VALUES }
-        requires paired { length values.now ≡ (if opening.shape.values then length keys.now else 0) }
-        ensures table { IfOk result (λ r.
-            (r.0.shape ≡ record opening.shape { keys = keys.now; payloads = values.now })
-            × (r.0.passes ≡ opening.passes)) }
-        ensures passes { IfOk result (λ r. r.1.items ≡ new_passes r.0 0 opening.passes) }
-        ensures refused { IsErrOf result OpenError.Passes ↔ ((opening.passes ≡ 0) ⊎ (64 < opening.passes)) }
+        requires paired { ArePaired opening.shape keys.now values.now }
+        ensures opened { IfOk result (λ r.
+            Opens (shape_with opening.shape keys.now values.now) opening.passes r.0 r.1.items) }
+        ensures refused { IsErrOf result OpenError.Passes
+            ↔ ((opening.passes ≡ 0) ⊎ (64 < opening.passes)) }
     {
         if opening.passes == 0 || opening.passes > 64 {
             return Err(OpenError::Passes);
@@ -160,12 +158,10 @@ impl<N: Nodes> Slots<N> {
         requires ascending { IsStrictlyIncreasing keys.now }
         requires few { length keys.now ≤ opening.shape.slots }
         requires kind { opening.shape.values ≡ N.VALUES }
-        requires paired { length values.now ≡ (if opening.shape.values then length keys.now else 0) }
+        requires paired { ArePaired opening.shape keys.now values.now }
         requires passes { (0 < opening.passes) × (opening.passes ≤ 64) }
-        ensures table { IfOk result (λ r.
-            (r.0.shape ≡ record opening.shape { keys = keys.now; payloads = values.now })
-            × (r.0.passes ≡ opening.passes)) }
-        ensures passes { IfOk result (λ r. r.1.items ≡ new_passes r.0 0 opening.passes) }
+        ensures opened { IfOk result (λ r.
+            Opens (shape_with opening.shape keys.now values.now) opening.passes r.0 r.1.items) }
     {
         prove!(opening.shape.slots() > 0);
         let words = opening_words(alloc, &opening.shape, keys, values)?;

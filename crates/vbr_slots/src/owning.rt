@@ -1,14 +1,14 @@
 //! The steps that take a slot out of the shared pool, put it back, and read and store its stamp.
-ghost use Rattle.std.specs.Prelude.{◌≡◌, ℕ, ◌<◌, true, false, MatchResult, OnOk, IsSome, Contains};
-ghost use Rattle.vbr_words.specs.Flags.{has_flag};
-ghost use Rattle.vbr_core.specs.Acceptance.{IsFree, IsReread, MayBear, stamp_in};
-ghost use Rattle.vbr_core.specs.declared.event.Step.TheVariants.{LoadStamp, StoreStamp, Raise, TakeFlag};
+ghost use Rattle.std.specs.Prelude.{◌≡◌, ℕ, ◌<◌, OnOk, IfErr, IsSome};
+ghost use Rattle.vbr_machine.specs.Acceptance.{IsFree, IsReread};
+ghost use Rattle.vbr_machine.specs.declared.event.Step.TheVariants.{LoadStamp, StoreStamp, Raise};
+ghost use Rattle.vbr_slots.specs.OwnSlots.{IsKnownStamp, MissesFlag, TakesFlag, epoch_of, holding_of};
 ghost use Rattle.vbr_slots.specs.Pools.{without};
-ghost use Rattle.vbr_slots.specs.Views.{IsOf, Did, KeepsPool, knows};
+ghost use Rattle.vbr_slots.specs.Views.{IsOf, Did, KeepsPool};
 
 use crate::pass::Pass;
 use crate::slots::Slots;
-use vbr_core::Step;
+use vbr_machine::Step;
 use vbr_words::flags::{all_but, flag_of, has_flag, word_of_flag};
 use vbr_words::{Nodes, Place};
 
@@ -18,9 +18,9 @@ impl<N: Nodes> Slots<N> {
     pub fn load_stamp(&self, pass: &mut Pass, slot: u32) -> u64
         requires own { IsOf pass.old.trace self.now }
         requires slot { slot < self.now.shape.slots }
-        requires owned { IsSome ((knows pass.old.trace).own slot) }
+        requires owned { IsSome (holding_of pass.old slot) }
         ensures step { Did (LoadStamp slot) pass.old.trace pass.new.trace result }
-        ensures known { MayBear ((knows pass.old.trace).own slot) → result ≡ stamp_in ((knows pass.old.trace).own slot) }
+        ensures known { IsKnownStamp (holding_of pass.old slot) result }
         ensures pool { KeepsPool pass.old pass.new }
     {
         pass.during(|stepper| (stepper.load_stamp(self, slot), 1))
@@ -32,8 +32,9 @@ impl<N: Nodes> Slots<N> {
     pub fn store_stamp(&self, pass: &mut Pass, slot: u32)
         requires own { IsOf pass.old.trace self.now }
         requires slot { slot < self.now.shape.slots }
-        requires reread { IsReread ((knows pass.old.trace).own slot) }
-        ensures step { let epoch = (knows pass.old.trace).epoch in Did (StoreStamp slot epoch) pass.old.trace pass.new.trace epoch }
+        requires reread { IsReread (holding_of pass.old slot) }
+        ensures step { let epoch = epoch_of pass.old in
+            Did (StoreStamp slot epoch) pass.old.trace pass.new.trace epoch }
         ensures pool { KeepsPool pass.old pass.new }
     {
         pass.during(|stepper| (stepper.store_stamp(self, slot), 1))
@@ -45,7 +46,7 @@ impl<N: Nodes> Slots<N> {
     pub fn raise(&self, pass: &mut Pass, slot: u32)
         requires own { IsOf pass.old.trace self.now }
         requires slot { slot < self.now.shape.slots }
-        requires free { IsFree ((knows pass.old.trace).own slot) }
+        requires free { IsFree (holding_of pass.old slot) }
         ensures step { (found : ℕ) × Did (Raise slot) pass.old.trace pass.new.trace found }
         ensures pool { pass.new.pool ≡ without slot pass.old.pool }
         ensures hand { pass.new.hand ≡ pass.old.hand }
@@ -60,11 +61,8 @@ impl<N: Nodes> Slots<N> {
     pub fn take_flag(&self, pass: &mut Pass, slot: u32) -> Result<(), u64>
         requires own { IsOf pass.old.trace self.now }
         requires slot { slot < self.now.shape.slots }
-        ensures step { MatchResult result
-            (λ taken. (found : ℕ) × Did (TakeFlag slot) pass.old.trace pass.new.trace found × (has_flag found slot ≡ true))
-            (λ found. Did (TakeFlag slot) pass.old.trace pass.new.trace found × (has_flag found slot ≡ false)) }
-        ensures outside { OnOk result (¬ (Contains pass.new.pool slot)) }
-        ensures pool { KeepsPool pass.old pass.new }
+        ensures taken { OnOk result (TakesFlag slot pass.old pass.new) }
+        ensures missed { IfErr result (MissesFlag slot pass.old pass.new) }
     {
         pass.during(|stepper| (stepper.take_flag(self, slot), 1))
     }

@@ -1,14 +1,12 @@
 //! A pass: the right to make steps under one number.
-ghost use Rattle.std.specs.Fn.{FnOnceReturnsAtMut, FnOnceTakesAtMut};
-ghost use Rattle.std.specs.Prelude.{◌≡◌, ◌<◌, ◌≤◌, ◌⊎◌, ℕ, [], ◌∷◌, ◌+◌, ◌++◌, length, Some, Contains};
-ghost use Rattle.vbr_core.specs.Acceptance.{IsFree};
-ghost use Rattle.vbr_core.specs.Runs.{IsRun};
-ghost use Rattle.vbr_slots.specs.AtTables.{IsSameTable};
-ghost use Rattle.vbr_slots.specs.Calls.{Took};
-ghost use Rattle.vbr_slots.specs.Lending.{ReturnsWith, TakesWith};
+ghost use Rattle.std.specs.Fn.{FnOnceTakesAtMut};
+ghost use Rattle.std.specs.Prelude.{◌≡◌, ◌<◌, ◌≤◌, ◌⊎◌, [], ◌∷◌, ◌+◌, ◌++◌, length, Some, Contains};
+ghost use Rattle.vbr_machine.specs.Acceptance.{IsFree};
+ghost use Rattle.vbr_machine.specs.Runs.{IsRun};
+ghost use Rattle.vbr_slots.specs.Lending.{Lends, LendsAt, LendsWith, TakesTable, TakesTableWith, TellsSteps, TellsStepsAt, TellsStepsWith};
 ghost use Rattle.vbr_slots.specs.PassLaw.{PassLaw};
 ghost use Rattle.vbr_slots.specs.Pools.{OwnPool, hand_without};
-ghost use Rattle.vbr_slots.specs.Views.{IsOf, PassView, counted_steps, knows, steps_of};
+ghost use Rattle.vbr_slots.specs.Views.{IsOf, counted_steps, knows, steps_of};
 
 use crate::at_table::AtTable;
 use crate::slots::Slots;
@@ -80,7 +78,8 @@ impl Pass {
     #[inline]
     pub fn pool(&self) -> &[u32]
         ensures pool { result.now ≡ self.now.pool }
-        ensures own { OwnPool self.now.trace.shape (knows self.now.trace) self.now.pool self.now.hand }
+        ensures own { OwnPool self.now.trace.shape (knows self.now.trace)
+            self.now.pool self.now.hand }
         ensures room { length self.now.pool ≤ POOL }
     {
         self.stepper.pool()
@@ -114,8 +113,8 @@ impl Pass {
     #[inline]
     pub fn during<R, W: FnOnce(&mut Stepper) -> (R, u32)>(&mut self, work: W) -> R
         requires takes { FnOnceTakesAtMut W.FnOnce work self.old }
-        requires counts { (r : _) (q : PassView) → FnOnceReturnsAtMut W.FnOnce work self.old r q → Took self.old.trace q.trace r.1 }
-        ensures { (used : ℕ) × Took self.old.trace self.new.trace used × FnOnceReturnsAtMut W.FnOnce work self.old (result, used) self.new }
+        requires counts { TellsSteps W.FnOnce work self.old }
+        ensures { Lends W.FnOnce work self.old self.new result }
     {
         let (result, used) = work(&mut self.stepper);
         self.steps = steps_after(self.steps, used);
@@ -127,9 +126,9 @@ impl Pass {
     #[inline]
     pub fn at<R, W: FnOnce(&mut AtTable<'_>) -> (R, u32)>(&mut self, slots: &Slots, work: W) -> R
         requires own { IsOf self.old.trace slots.now }
-        requires takes { (at : AtTable) → at.slots.now ≡ slots.now → at.pass.now ≡ self.old → FnOnceTakesAtMut W.FnOnce work at }
-        requires counts { (at : AtTable) (r : _) (q : AtTable) → at.slots.now ≡ slots.now → at.pass.now ≡ self.old → FnOnceReturnsAtMut W.FnOnce work at r q → IsSameTable at q × Took self.old.trace q.pass.now.trace r.1 }
-        ensures { (at : AtTable) × (q : AtTable) × (used : ℕ) × (at.slots.now ≡ slots.now) × (at.pass.now ≡ self.old) × (q.pass.now ≡ self.new) × Took self.old.trace self.new.trace used × FnOnceReturnsAtMut W.FnOnce work at (result, used) q }
+        requires takes { TakesTable W.FnOnce work slots.now self.old }
+        requires counts { TellsStepsAt W.FnOnce work slots.now self.old }
+        ensures { LendsAt W.FnOnce work slots.now self.old self.new result }
     {
         let mut at = AtTable {
             slots,
@@ -149,9 +148,9 @@ impl Pass {
         work: W,
     ) -> R
         requires own { IsOf self.old.trace slots.now }
-        requires takes { (at : AtTable) → at.slots.now ≡ slots.now → at.pass.now ≡ self.old → TakesWith W.FnOnce work at given }
-        requires counts { (at : AtTable) (r : _) (q : AtTable) → at.slots.now ≡ slots.now → at.pass.now ≡ self.old → ReturnsWith W.FnOnce work at given r q → IsSameTable at q × Took self.old.trace q.pass.now.trace r.1 }
-        ensures { (at : AtTable) × (q : AtTable) × (used : ℕ) × (at.slots.now ≡ slots.now) × (at.pass.now ≡ self.old) × (q.pass.now ≡ self.new) × Took self.old.trace self.new.trace used × ReturnsWith W.FnOnce work at given (result, used) q }
+        requires takes { TakesTableWith W.FnOnce work slots.now self.old given }
+        requires counts { TellsStepsWith W.FnOnce work slots.now self.old given }
+        ensures { LendsWith W.FnOnce work slots.now self.old self.new given result }
     {
         let mut at = AtTable {
             slots,

@@ -39,6 +39,14 @@ impl Pool {
         }
     }
 
+    // The law of own pools. It does nothing.
+    #[inline]
+    pub(crate) fn law(&self)
+        ensures { length self.now.items ≤ POOL }
+    {
+        let _first = self.first;
+    }
+
     // Its slots.
     #[inline]
     pub(crate) fn as_slice(&self) -> &[u32]

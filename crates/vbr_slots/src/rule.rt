@@ -1,12 +1,13 @@
 //! The rule of the table, and what its steps tell. No value of these types is made but `Opening` and
 //! `OpeningWithEntries`.
 ghost use Rattle.std.specs.Prelude.{◌≡◌, IfOk};
+ghost use Rattle.vbr_slots.specs.Openings.{shape_with};
 
 use atomic_table::{Join, Play, Split, TableRule};
 use std::alloc::{AllocError, Global};
 use std::collections::LinkedList;
 use std::marker::{Brand, Model, PhantomData};
-use vbr_core::Event;
+use vbr_machine::Event;
 use vbr_words::Shape;
 
 /// What a table is opened with: its shape, and how many passes it has.
@@ -30,7 +31,9 @@ impl Model for OpeningWithEntries {
 
     ghost Value = { Opening };
 
-    ghost view = { λ o. record { shape = record o.opening.shape { keys = o.keys.items; payloads = o.values.items }; passes = o.opening.passes } };
+    ghost use Rattle.vbr_slots.specs.OpeningView.{opening_with};
+
+    ghost view = { opening_with };
 }
 
 impl OpeningWithEntries {
@@ -41,10 +44,8 @@ impl OpeningWithEntries {
         keys: &[u64],
         values: &[u64],
     ) -> Result<OpeningWithEntries, AllocError>
-        ensures { IfOk result (λ whole. whole ≡ record {
-          shape = record opening.shape { keys = keys.now; payloads = values.now };
-          passes = opening.passes;
-        }) }
+        ensures { IfOk result (λ whole.
+            whole ≡ record opening { shape = shape_with opening.shape keys.now values.now }) }
     {
         let mut key_copy = Vec::new(alloc);
         key_copy.extend_from_slice(keys)?;
@@ -85,7 +86,7 @@ impl TableRule<(), LinkedList<Witness>, OpeningWithEntries> for RunRule {
 
 /// Which event a step is, at which table. Each call picks it.
 pub trait Naming {
-    ghost use Rattle.vbr_core.specs.declared.event.Event.{Event};
+    ghost use Rattle.vbr_machine.specs.declared.event.Event.{Event};
     ghost use Rattle.vbr_slots.specs.declared.rule.Opening.{Opening};
 
     ghost event: { Event };
@@ -122,6 +123,18 @@ impl<E: Naming> Play<(), LinkedList<Witness>> for Catches<E> {
     ghost use Rattle.vbr_slots.specs.Rule.{Caught};
 
     ghost then = { λ _ m _ n. Caught E.opening E.event.pass m n };
+}
+
+/// A load by a seat with the witnesses of all passes of the opening that `E` names, which is no event: it
+/// tells the word after all that they have seen.
+pub struct Surveys<E> {
+    event: PhantomData<E>,
+}
+
+impl<E: Naming> Play<(), LinkedList<Witness>> for Surveys<E> {
+    ghost use Rattle.vbr_slots.specs.Snapshots.{Reads};
+
+    ghost then = { λ step m r n. Reads E.opening step.word m r n };
 }
 
 /// A new seat, which has no witness.

@@ -6,7 +6,7 @@ use crate::rule::{Opening, Witness};
 use atomic_table::Seat;
 use std::collections::LinkedList;
 use std::marker::Model;
-use vbr_core::Step;
+use vbr_machine::Step;
 
 /// What makes the steps of one pass: its seat at the table, its number, and the last epoch that it
 /// read.

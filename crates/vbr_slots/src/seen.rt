@@ -1,6 +1,6 @@
 //! A token of what a pass has seen.
 ghost use Rattle.std.specs.Prelude.{◌≡◌};
-ghost use Rattle.vbr_core.specs.Runs.{Begins};
+ghost use Rattle.vbr_machine.specs.Runs.{Begins};
 ghost use Rattle.vbr_slots.specs.Tokens.{Since};
 ghost use Rattle.vbr_slots.specs.Views.{IsOf, KeepsPool};
 

@@ -1,8 +1,8 @@
 //! What makes the steps of a pass: all that it has but the count of its steps.
 ghost use Rattle.std.specs.List.{position_from};
 ghost use Rattle.std.specs.Prelude.{◌≡◌, ◌==◌, ◌<◌, ◌≤◌, ◌⊎◌, [], ◌∷◌, ◌++◌, length, Some, Contains};
-ghost use Rattle.vbr_core.specs.Acceptance.{IsFree};
-ghost use Rattle.vbr_core.specs.Runs.{IsRun};
+ghost use Rattle.vbr_machine.specs.Acceptance.{IsFree};
+ghost use Rattle.vbr_machine.specs.Runs.{IsRun};
 ghost use Rattle.vbr_slots.specs.PassLaw.{PassLaw};
 ghost use Rattle.vbr_slots.specs.Pools.{OwnPool, hand_without, without};
 ghost use Rattle.vbr_slots.specs.Tried.{last_tried};
@@ -52,7 +52,7 @@ impl Stepper {
         ensures { PassLaw self.now }
     {
         let _who = self.who();
-        let _pool = &self.pool;
+        self.pool.law();
     }
 
     /// The last epoch that it read; 1 at the opening.
@@ -67,7 +67,8 @@ impl Stepper {
     #[inline]
     pub fn pool(&self) -> &[u32]
         ensures pool { result.now ≡ self.now.pool }
-        ensures own { OwnPool self.now.trace.shape (knows self.now.trace) self.now.pool self.now.hand }
+        ensures own { OwnPool self.now.trace.shape (knows self.now.trace)
+            self.now.pool self.now.hand }
         ensures room { length self.now.pool ≤ POOL }
     {
         self.pool.as_slice()

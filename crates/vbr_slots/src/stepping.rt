@@ -4,24 +4,23 @@
 // A step is told to the table as an event. A function that ends in `_as` takes the event as its type
 // argument, and the function without that ending picks it.
 ghost use Rattle.std.specs.Prelude.{◌≡◌, ℕ, ◌+◌, ◌<◌, ◌≤◌, ◌^◌, IsTrue};
-ghost use Rattle.vbr_core.specs.Acceptance.{Accepts};
-ghost use Rattle.vbr_core.specs.Machine.{Load, Store, Exchange, FetchOr, FetchAnd, access_of, place_of_step};
-ghost use Rattle.vbr_core.specs.Runs.{Begins, BeginsFor};
-ghost use Rattle.vbr_core.specs.Knowledge.{holds};
-ghost use Rattle.vbr_core.specs.declared.event.Step.TheVariants.{LoadBirth, LoadLink, ReadEpoch};
+ghost use Rattle.vbr_machine.specs.Acceptance.{Accepts};
+ghost use Rattle.vbr_machine.specs.Machine.{Load, Store, Exchange, FetchOr, FetchAnd, access_of, place_of_step};
+ghost use Rattle.vbr_machine.specs.Runs.{Begins, BeginsFor};
+ghost use Rattle.vbr_machine.specs.Knowledge.{holds};
+ghost use Rattle.vbr_machine.specs.declared.event.Step.TheVariants.{ReadEpoch};
 ghost use Rattle.vbr_words.specs.Places as places;
-ghost use Rattle.vbr_words.specs.declared.place.At.TheVariants.{Slot};
-ghost use Rattle.vbr_words.specs.declared.place.Place.TheVariants.{Epoch};
 ghost use Rattle.vbr_slots.specs.LookUps.{link_from};
+ghost use Rattle.vbr_slots.specs.Stepping.{LoadsNode, LoadsThenEpoch, Names};
 ghost use Rattle.vbr_slots.specs.Tokens.{Since};
-ghost use Rattle.vbr_slots.specs.Views.{IsOf, Did, Trace, knows, epoch_after, event_of};
+ghost use Rattle.vbr_slots.specs.Views.{IsOf, Did, knows, epoch_after};
 
 use crate::rule::{Both, Catches, Does, First, Naming, Note, Whole};
 use crate::runner::{Runner, keep_epoch, keep_epoch_found};
 use crate::seen::Seen;
 use crate::slots::Slots;
 use std::marker::Brand;
-use vbr_core::Step;
+use vbr_machine::Step;
 use vbr_words::{At, Nodes, Place, Shape, place_index_in, words_of_node};
 
 // The place of a link word.
@@ -64,7 +63,7 @@ impl<N: Nodes> Slots<N> {
     // One load of a link word, which is the step.
     #[inline]
     fn load_at_as<E: Naming>(&self, runner: &mut Runner, step: Step, at: At) -> u64
-        requires named { (E.event ≡ event_of runner.old.who step) × (E.opening ≡ record { shape = self.now.shape; passes = self.now.passes }) }
+        requires named { Names E.event E.opening runner.old self.now step }
         requires own { IsOf runner.old self.now }
         requires accepted { Accepts self.now.shape (knows runner.old) step }
         requires place { places.place_of at ≡ place_of_step step }
@@ -91,7 +90,7 @@ impl<N: Nodes> Slots<N> {
     // One load, which is the step.
     #[inline]
     fn load_as<E: Naming>(&self, runner: &mut Runner, step: Step, place: Place) -> u64
-        requires named { (E.event ≡ event_of runner.old.who step) × (E.opening ≡ record { shape = self.now.shape; passes = self.now.passes }) }
+        requires named { Names E.event E.opening runner.old self.now step }
         requires own { IsOf runner.old self.now }
         requires accepted { Accepts self.now.shape (knows runner.old) step }
         requires place { place ≡ place_of_step step }
@@ -119,7 +118,7 @@ impl<N: Nodes> Slots<N> {
     // before the loads that come first: so what the caller compares with that is compared once.
     #[inline]
     fn read_epoch_as<E: Naming>(&self, runner: &mut Runner, before: u64) -> u64
-        requires named { (E.event ≡ event_of runner.old.who ReadEpoch) × (E.opening ≡ record { shape = self.now.shape; passes = self.now.passes }) }
+        requires named { Names E.event E.opening runner.old self.now ReadEpoch }
         requires own { IsOf runner.old self.now }
         requires accepted { Accepts self.now.shape (knows runner.old) ReadEpoch }
         requires before { before ≡ (knows runner.old).epoch }
@@ -139,7 +138,7 @@ impl<N: Nodes> Slots<N> {
         requires place { place ≡ place_of_step step }
         requires access { access_of (knows runner.old) step ≡ Load }
         requires stays { (found epoch : ℕ) → epoch_after step found epoch ≡ epoch }
-        ensures { (between : Trace) × Did step runner.old between result.0 × Did ReadEpoch between runner.new result.1 }
+        ensures { LoadsThenEpoch step runner.old runner.new result.0 result.1 }
     {
         let before = runner.epoch();
         let found = self.load_as::<Brand>(runner, step, place);
@@ -153,7 +152,7 @@ impl<N: Nodes> Slots<N> {
         requires own { IsOf runner.old self.now }
         requires slot { slot < self.now.shape.slots }
         requires held { IsTrue (holds (knows runner.old).checked slot) }
-        ensures { (born between : Trace) × Did (LoadBirth slot) runner.old born result.0 × Did (LoadLink (Slot slot)) born between result.1 × Did ReadEpoch between runner.new result.2 }
+        ensures { LoadsNode slot runner.old runner.new result.0 result.1 result.2 }
     {
         let before = runner.epoch();
         let at = At::Slot(slot);
@@ -166,7 +165,7 @@ impl<N: Nodes> Slots<N> {
     // One store of a word, which is the step.
     #[inline]
     fn store_as<E: Naming>(&self, runner: &mut Runner, step: Step, place: Place, new: u64)
-        requires named { (E.event ≡ event_of runner.old.who step) × (E.opening ≡ record { shape = self.now.shape; passes = self.now.passes }) }
+        requires named { Names E.event E.opening runner.old self.now step }
         requires own { IsOf runner.old self.now }
         requires accepted { Accepts self.now.shape (knows runner.old) step }
         requires place { place ≡ place_of_step step }
@@ -201,7 +200,7 @@ impl<N: Nodes> Slots<N> {
         expected: u64,
         new: u64,
     ) -> u64
-        requires named { (E.event ≡ event_of runner.old.who step) × (E.opening ≡ record { shape = self.now.shape; passes = self.now.passes }) }
+        requires named { Names E.event E.opening runner.old self.now step }
         requires own { IsOf runner.old self.now }
         requires accepted { Accepts self.now.shape (knows runner.old) step }
         requires place { place ≡ place_of_step step }
@@ -244,7 +243,7 @@ impl<N: Nodes> Slots<N> {
         place: Place,
         bits: u64,
     ) -> u64
-        requires named { (E.event ≡ event_of runner.old.who step) × (E.opening ≡ record { shape = self.now.shape; passes = self.now.passes }) }
+        requires named { Names E.event E.opening runner.old self.now step }
         requires own { IsOf runner.old self.now }
         requires accepted { Accepts self.now.shape (knows runner.old) step }
         requires place { place ≡ place_of_step step }
@@ -280,7 +279,7 @@ impl<N: Nodes> Slots<N> {
         place: Place,
         bits: u64,
     ) -> u64
-        requires named { (E.event ≡ event_of runner.old.who step) × (E.opening ≡ record { shape = self.now.shape; passes = self.now.passes }) }
+        requires named { Names E.event E.opening runner.old self.now step }
         requires own { IsOf runner.old self.now }
         requires accepted { Accepts self.now.shape (knows runner.old) step }
         requires place { place ≡ place_of_step step }
@@ -309,14 +308,11 @@ impl<N: Nodes> Slots<N> {
 
     // One load of the epoch, which is the step, while the other's seat is joined to the runner's.
     #[inline]
-    fn meet_as<E: Naming>(&self, runner: &mut Runner, other: &mut Runner, step: Step) -> u64
-        requires named { (E.event ≡ event_of runner.old.who step) × (E.opening ≡ record { shape = self.now.shape; passes = self.now.passes }) }
+    fn meet_as<E: Naming>(&self, runner: &mut Runner, other: &mut Runner) -> u64
+        requires named { Names E.event E.opening runner.old self.now ReadEpoch }
         requires own { IsOf runner.old self.now }
-        requires accepted { Accepts self.now.shape (knows runner.old) step }
-        requires place { Epoch ≡ place_of_step step }
-        requires access { access_of (knows runner.old) step ≡ Load }
         requires other { IsOf other.old self.now }
-        ensures step { Did step runner.old runner.new result }
+        ensures step { Did ReadEpoch runner.old runner.new result }
         ensures same { other.new ≡ other.old }
         ensures met { BeginsFor other.old.who other.old.seen runner.new.seen }
     {
@@ -325,7 +321,7 @@ impl<N: Nodes> Slots<N> {
         let theirs = shared.split_seat::<Whole>(&mut other.seat);
         shared.join_seat::<Both>(&mut runner.seat, theirs);
         let found = shared.load::<Does<E>>(&mut runner.seat, word);
-        keep_epoch(&mut runner.epoch, step, found);
+        keep_epoch(&mut runner.epoch, Step::ReadEpoch, found);
         other.seat = shared.split_seat::<First>(&mut runner.seat);
         found
     }
@@ -338,7 +334,7 @@ impl<N: Nodes> Slots<N> {
         ensures same { other.new ≡ other.old }
         ensures met { BeginsFor other.old.who other.old.seen runner.new.seen }
     {
-        self.meet_as::<Brand>(runner, other, Step::ReadEpoch)
+        self.meet_as::<Brand>(runner, other)
     }
 
     // A token of what the runner has seen, which stays as it was.
@@ -368,7 +364,7 @@ impl<N: Nodes> Slots<N> {
     // loads are of the word 0, and nothing is kept of them.
     #[inline]
     fn catch_up_as<E: Naming>(&self, runner: &mut Runner, token: Seen)
-        requires named { (E.event ≡ event_of runner.old.who ReadEpoch) × (E.opening ≡ record { shape = self.now.shape; passes = self.now.passes }) }
+        requires named { Names E.event E.opening runner.old self.now ReadEpoch }
         requires own { IsOf runner.old self.now }
         requires token { token.table ≡ self.now.table }
         ensures since { Since runner.old runner.new }

@@ -1,10 +1,10 @@
 -- A running table of two passes on which a worked list of events is made: what a row asks, and where the passes stand in the list.
 use Rattle.std.specs.Prelude.{◌≡◌, ℕ, List}
-use Rattle.vbr_core.specs.Acceptance.{Accepts}
-use Rattle.vbr_core.specs.Learning.{effect_of, learn}
-use Rattle.vbr_core.specs.Machine.{World}
-use Rattle.vbr_core.specs.declared.event.Effect.{Effect}
-use Rattle.vbr_core.specs.declared.event.Step.{Step}
+use Rattle.vbr_machine.specs.Acceptance.{Accepts}
+use Rattle.vbr_machine.specs.Learning.{effect_of, learn}
+use Rattle.vbr_machine.specs.Machine.{World}
+use Rattle.vbr_machine.specs.declared.event.Effect.{Effect}
+use Rattle.vbr_machine.specs.declared.event.Step.{Step}
 use Rattle.vbr_slots.specs.Views.{Trace, TableView, IsOf, knows}
 use Rattle.vbr_event_lists.specs.Worked.{AreWorked, IsNamedWord}
 

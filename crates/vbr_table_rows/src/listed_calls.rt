@@ -1,8 +1,8 @@
 //! The worked lists of events, call by call on a running table with two passes. Each list is shown to
 //! be accepted, so each call may be made; its effect is compared when it was made.
 ghost use Rattle.std.specs.Prelude.{◌≡◌, ◌≢◌, ◌<◌, ◌==◌, MatchResult, true, false};
-ghost use Rattle.vbr_core.specs.Learning.{present_reply};
-ghost use Rattle.vbr_core.specs.Machine.{opening};
+ghost use Rattle.vbr_machine.specs.Learning.{present_reply};
+ghost use Rattle.vbr_machine.specs.Machine.{opening};
 ghost use Rattle.vbr_slots.specs.Views.{IsOf};
 ghost use Rattle.vbr_event_lists.specs.Worked.{AreWorked, first_of, names_link, others_of};
 ghost use Rattle.vbr_table_rows.specs.Following.{Learned, May, BothFollow};
@@ -11,11 +11,11 @@ use crate::running_table::{close_two, open_two, open_two_with_values};
 use std::alloc::Global;
 use std::process::Abort;
 use std::test::Fail;
-use vbr_core::{Effect, Op, Step};
 use vbr_event_lists::{
     REBORN_SLOT, REBORN_SLOT_WORDS, Row, SAME_WORD, SAME_WORD_WORDS, STORED_VALUE,
     STORED_VALUE_WORDS, TWO_HELPERS, TWO_HELPERS_WORDS, with_values,
 };
+use vbr_machine::{Effect, Op, Step};
 use vbr_slots::{Pass, Slots};
 use vbr_words::{Nodes, Shape, decode};
 

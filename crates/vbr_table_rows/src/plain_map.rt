@@ -1,7 +1,7 @@
 //! The plain map on a few calls.
 use std::alloc::AllocError;
 use std::test::Fail;
-use vbr_core::{Op, PlainMap};
+use vbr_machine::{Op, PlainMap};
 
 // Answers a call. What found no memory left the map as it was, so it is tried again.
 fn apply(

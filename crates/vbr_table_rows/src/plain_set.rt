@@ -1,6 +1,6 @@
 //! The plain set on a few calls.
 use std::test::Fail;
-use vbr_core::{Op, PlainSet};
+use vbr_machine::{Op, PlainSet};
 
 #[test]
 fn answers_as_a_set(rt: HostRuntime) -> Result<(), Fail> {

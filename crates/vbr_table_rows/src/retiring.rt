@@ -2,7 +2,7 @@
 ghost use Rattle.std.specs.Prelude.{◌≡◌, ◌<◌, false, None};
 ghost use Rattle.vbr_words.specs.Words.{link_of};
 ghost use Rattle.vbr_words.specs.declared.place.At.TheVariants.{Head};
-ghost use Rattle.vbr_core.specs.Acceptance.{IsUnlinked};
+ghost use Rattle.vbr_machine.specs.Acceptance.{IsUnlinked};
 ghost use Rattle.vbr_slots.specs.Views.{IsOf, knows};
 ghost use Rattle.vbr_access.specs.Held.{IsHeld};
 ghost use Rattle.vbr_access.specs.Keeping.{KeepsOwn};

@@ -1,6 +1,6 @@
 //! The running table: rows call by call, refusals that hand all back, and two threads.
 ghost use Rattle.std.specs.Prelude.{◌≡◌, ◌≢◌, ◌<◌, ◌≤◌, [], ◌∷◌, true, false, None, IfOk, IfErr, IfSome};
-ghost use Rattle.vbr_core.specs.declared.event.Step.TheVariants.{TakeFlag};
+ghost use Rattle.vbr_machine.specs.declared.event.Step.TheVariants.{TakeFlag};
 ghost use Rattle.vbr_slots.specs.Closing.{AllOf, Ends, HandsBack};
 ghost use Rattle.vbr_slots.specs.Views.{IsOf, event_of, new_pass, new_passes};
 ghost use Rattle.vbr_table_rows.specs.Taking.{HasEvent, BothTook};

@@ -1,6 +1,6 @@
 //! A pass that stands still, wherever it is in a call, holds up no other.
 ghost use Rattle.std.specs.Prelude.{◌≡◌, ◌≤◌, false, None, IfSome};
-ghost use Rattle.vbr_core.specs.Machine.{opening};
+ghost use Rattle.vbr_machine.specs.Machine.{opening};
 ghost use Rattle.vbr_slots.specs.Views.{IsOf};
 ghost use Rattle.vbr_event_lists.specs.Worked.{AreWorked};
 

@@ -4,14 +4,14 @@ use Rattle.vbr_words.specs.Flags.{has_flag}
 use Rattle.vbr_words.specs.Dimensions.{Dimensions}
 use Rattle.vbr_words.specs.Words.{word_of}
 use Rattle.vbr_words.specs.declared.place.At.TheVariants.{Head, Slot}
-use Rattle.vbr_core.specs.Machine.{World, opening, found, after}
-use Rattle.vbr_core.specs.Runs.{IsRun, AreAccepted, world_from, world_after, NoneOf, Begins}
-use Rattle.vbr_core.specs.Calls.{own_calls, calls_added}
-use Rattle.vbr_core.specs.declared.event.Event.{Event}
-use Rattle.vbr_core.specs.declared.event.Step.{Step}
-use Rattle.vbr_core.specs.declared.event.Step.TheVariants.{ReadEpoch, Advance, LoadStamp, StoreStamp, Raise, TakeFlag, StoreBirth, StoreKey, StoreValue, StoreLink, LoadLink, LoadBirth, LoadKey, LoadValue, Publish, Mark, Unlink, ConfirmPresent, ConfirmAbsent}
-use Rattle.vbr_core.specs.declared.history.Call.{Call}
-use Rattle.vbr_core.proofs.Lemmas.{calls_after, others_leave_calls, world_after-append}
+use Rattle.vbr_machine.specs.Machine.{World, opening, found, after}
+use Rattle.vbr_machine.specs.Runs.{IsRun, AreAccepted, world_from, world_after, NoneOf, Begins}
+use Rattle.vbr_machine.specs.Calls.{own_calls, calls_added}
+use Rattle.vbr_machine.specs.declared.event.Event.{Event}
+use Rattle.vbr_machine.specs.declared.event.Step.{Step}
+use Rattle.vbr_machine.specs.declared.event.Step.TheVariants.{ReadEpoch, Advance, LoadStamp, StoreStamp, Raise, TakeFlag, StoreBirth, StoreKey, StoreValue, StoreLink, LoadLink, LoadBirth, LoadKey, LoadValue, Publish, Mark, Unlink, ConfirmPresent, ConfirmAbsent}
+use Rattle.vbr_machine.specs.declared.history.Call.{Call}
+use Rattle.vbr_machine.proofs.Lemmas.{calls_after, others_leave_calls, world_after-append}
 
 -- events add their calls at the end
 calls_from : (shape : Dimensions) (w : World) (events : List Event) → (more : List Call) × ((world_from shape w events).calls ≡ w.calls ++ more)

@@ -5,11 +5,11 @@ use Rattle.std.proofs.lemmas.Bool.Decides.{nat_tests}
 use Rattle.std.proofs.lemmas.List.Elements.{All-nil, All-cons, All-head, All-tail, All-filter}
 use Rattle.std.specs.Prelude.{nat_le, zip, All}
 use Rattle.vbr_words.specs.Dimensions.{Dimensions}
-use Rattle.vbr_core.specs.History.{calls_by}
-use Rattle.vbr_core.specs.Runs as machine
-use Rattle.vbr_core.specs.Runs.{world_after}
-use Rattle.vbr_core.specs.Safety.{IsSafe}
-use Rattle.vbr_core.specs.declared.event.Event.{Event}
+use Rattle.vbr_machine.specs.History.{calls_by}
+use Rattle.vbr_machine.specs.Runs as machine
+use Rattle.vbr_machine.specs.Runs.{world_after}
+use Rattle.vbr_machine.specs.Safety.{IsSafe}
+use Rattle.vbr_machine.specs.declared.event.Event.{Event}
 use Rattle.vbr_transcript.specs.Calls.{Outcome, answered_calls, lines_by, lines_up_to, outcomes_by, outcomes_up_to}
 use Rattle.vbr_transcript.specs.Merging.{replies_by, IsMerged}
 use Rattle.vbr_script.specs.Scripts.{ArePhased}
@@ -17,7 +17,7 @@ use Rattle.vbr_transcript.specs.Phases.{HaveCalled, HavePlayed}
 use Rattle.vbr_transcript.specs.Runs.{EndsIn, MayBeAnswered, IsSetRun}
 use Rattle.vbr_script.specs.declared.script.Line.{Line}
 use Rattle.vbr_transcript.specs.declared.reply.Reply.{Reply}
-use Rattle.vbr_core.proofs.Lemmas.{begins_run}
+use Rattle.vbr_machine.proofs.Lemmas.{begins_run}
 use Rattle.vbr_transcript.proofs.CoreCalls.{calls_begin, no_calls_beyond}
 use Rattle.vbr_transcript.proofs.Filters.{filter_all, filter_none}
 use Rattle.vbr_transcript.proofs.Outcomes.{calls_by-answered, outcomes_by-own, all_outcomes, lines_by-ascend, outcomes_up_to-zip, lines_by-up_to, outcomes_by-up_to}

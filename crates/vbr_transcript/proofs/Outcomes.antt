@@ -5,9 +5,9 @@ use Rattle.std.proofs.lemmas.Bool.Decides.{nat_tests}
 use Rattle.std.proofs.lemmas.List.Elements.{All-nil, All-cons, All-head, All-tail}
 use Rattle.std.proofs.lemmas.Slice.Zip.{firsts-zip}
 use Rattle.std.specs.Prelude.{nat_le, zip, All}
-use Rattle.vbr_core.specs.History.{calls_by}
-use Rattle.vbr_core.specs.declared.history.Call.{Call}
-use Rattle.vbr_core.proofs.Lemmas.{calls_by-append}
+use Rattle.vbr_machine.specs.History.{calls_by}
+use Rattle.vbr_machine.specs.declared.history.Call.{Call}
+use Rattle.vbr_machine.proofs.Lemmas.{calls_by-append}
 use Rattle.vbr_transcript.specs.Calls.{Outcome, answer_of, answered_calls, lines_by, lines_up_to, outcomes_by, outcomes_up_to}
 use Rattle.vbr_script.specs.Scripts.{AscendFrom}
 use Rattle.vbr_script.specs.declared.script.Line.{Line}

@@ -1,7 +1,7 @@
 -- What the operations of a script were answered, and the calls that they are.
 use Rattle.std.specs.Prelude.{ℕ, Bool, true, false, ◌==◌, nat_le, nat_lt, List, [], ◌∷◌, filter, flat_map}
-use Rattle.vbr_core.specs.History.{set_call}
-use Rattle.vbr_core.specs.declared.history.Call.{Call}
+use Rattle.vbr_machine.specs.History.{set_call}
+use Rattle.vbr_machine.specs.declared.history.Call.{Call}
 use Rattle.vbr_script.specs.declared.script.Line.{Line}
 use Rattle.vbr_transcript.specs.declared.reply.Reply.{Reply}
 use Rattle.vbr_transcript.specs.declared.reply.Reply.TheVariants.{Yes, No}

@@ -1,9 +1,9 @@
 -- What the workers have played of a script's phases.
 use Rattle.std.specs.Prelude.{◌≡◌, ℕ, ◌<◌, List, zip, All}
 use Rattle.vbr_words.specs.Dimensions.{Dimensions}
-use Rattle.vbr_core.specs.Calls.{own_calls}
-use Rattle.vbr_core.specs.Runs.{Begins, world_after}
-use Rattle.vbr_core.specs.declared.event.Event.{Event}
+use Rattle.vbr_machine.specs.Calls.{own_calls}
+use Rattle.vbr_machine.specs.Runs.{Begins, world_after}
+use Rattle.vbr_machine.specs.declared.event.Event.{Event}
 use Rattle.vbr_transcript.specs.Calls.{answered_calls, lines_by, lines_up_to}
 use Rattle.vbr_transcript.specs.Merging.{replies_by}
 use Rattle.vbr_transcript.specs.Runs.{MayBeAnswered}

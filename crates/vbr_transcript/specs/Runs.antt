@@ -1,16 +1,16 @@
 -- A run of a script: a reply for each of its operations, and totals, that the calls of one run of the core for each of its sets explain.
 use Rattle.std.specs.Prelude.{◌≡◌, ℕ, Bool, true, false, ◌&&◌, List, [], ◌∷◌, ◌++◌, length, zip, All, count_by}
 use Rattle.vbr_words.specs.Dimensions.{Dimensions}
-use Rattle.vbr_core.specs.Keys.{Keys, AreKeysOf}
-use Rattle.vbr_core.specs.Opened.{opening_keys}
-use Rattle.vbr_core.specs.History.{IsLegal, set_after, calls_by}
-use Rattle.vbr_core.specs.Runs as machine
-use Rattle.vbr_core.specs.Runs.{world_after}
-use Rattle.vbr_core.specs.Safety.{IsSafe}
-use Rattle.vbr_core.specs.declared.event.Event.{Event}
-use Rattle.vbr_core.specs.declared.history.Call.{Call}
-use Rattle.vbr_core.specs.declared.history.Op.{Op}
-use Rattle.vbr_core.specs.declared.history.Op.TheVariants.{Insert, Remove, Has, Get}
+use Rattle.vbr_machine.specs.Keys.{Keys, AreKeysOf}
+use Rattle.vbr_machine.specs.Opened.{opening_keys}
+use Rattle.vbr_machine.specs.History.{IsLegal, set_after, calls_by}
+use Rattle.vbr_machine.specs.Runs as machine
+use Rattle.vbr_machine.specs.Runs.{world_after}
+use Rattle.vbr_machine.specs.Safety.{IsSafe}
+use Rattle.vbr_machine.specs.declared.event.Event.{Event}
+use Rattle.vbr_machine.specs.declared.history.Call.{Call}
+use Rattle.vbr_machine.specs.declared.history.Op.{Op}
+use Rattle.vbr_machine.specs.declared.history.Op.TheVariants.{Insert, Remove, Has, Get}
 use Rattle.vbr_transcript.specs.Calls.{Outcome, answered_calls, outcomes_up_to, outcomes_past}
 use Rattle.vbr_script.specs.declared.script.Line.{Line}
 use Rattle.vbr_transcript.specs.declared.reply.Reply.{Reply}

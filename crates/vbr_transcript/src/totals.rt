@@ -3,7 +3,7 @@ ghost use Rattle.std.specs.Prelude.{◌≡◌, zip, count_by};
 ghost use Rattle.vbr_transcript.specs.Runs.{is_yes_to, is_refused, is_yes, is_refusal, Counts};
 
 use crate::reply::Reply;
-use vbr_core::Op;
+use vbr_machine::Op;
 use vbr_script::Line;
 
 /// The totals of a run.

@@ -1,16 +1,17 @@
 //! Answers by one more load of a link word.
-ghost use Rattle.std.specs.Prelude.{IfOk, IfErr};
-ghost use Rattle.vbr_core.specs.declared.history.Op.TheVariants.{Insert, Remove};
+ghost use Rattle.std.specs.Prelude.{OnOk, IfErr};
+ghost use Rattle.vbr_machine.specs.declared.history.Op.TheVariants.{Insert, Remove};
 ghost use Rattle.vbr_slots.specs.AtTables.{IsSameTable, trace_of, pass_of};
-ghost use Rattle.vbr_slots.specs.Calls.{OnlyLoads};
 ghost use Rattle.vbr_slots.specs.Views.{knows};
-ghost use Rattle.vbr_access.specs.Answering.{KeepsIn, IsOther, IsPresent, AnswersPresent, AnswersAbsent, FindsAnother, IsAbsent, AnswersLookUp};
+ghost use Rattle.vbr_access.specs.Answering.{AnswersAbsent, AnswersLookUp, AnswersPresent};
+ghost use Rattle.vbr_access.specs.Answering.{FindsAnother, IsAbsent, IsOther, IsPresent};
+ghost use Rattle.vbr_access.specs.Answering.{KeepsByLoad};
 ghost use Rattle.vbr_access.specs.Exchanges.{IsUnmarked};
-ghost use Rattle.vbr_access.specs.LookUps.{DecidesKey};
+ghost use Rattle.vbr_access.specs.LookUps.{TellsKey};
 
 use crate::held::Held;
 use crate::rollback::Rollback;
-use vbr_core::Op;
+use vbr_machine::Op;
 use vbr_slots::AtTable;
 use vbr_words::At;
 
@@ -20,9 +21,8 @@ pub fn confirm_present(at: &mut AtTable<'_>, op: Op, held: &Held) -> Result<(), 
     requires node { IsPresent (knows (trace_of at.old)) held.now }
     requires op { IsOther Remove op }
     ensures table { IsSameTable at.old at.new }
-    ensures keeps { KeepsIn (pass_of at.old) (pass_of at.new) 1 }
-    ensures only_loads { OnlyLoads (trace_of at.old) (trace_of at.new) }
-    ensures answered { IfOk result (λ _. AnswersPresent (trace_of at.old) (trace_of at.new) op held.now) }
+    ensures keeps { KeepsByLoad (pass_of at.old) (pass_of at.new) }
+    ensures answers { OnOk result (AnswersPresent (trace_of at.old) (trace_of at.new) op held.now) }
     ensures lost { IfErr result (FindsAnother (trace_of at.old) (trace_of at.new) held.now) }
 {
     at.law();
@@ -41,9 +41,8 @@ pub fn confirm_absent(at: &mut AtTable<'_>, op: Op, key: u64, pred: &Held) -> Re
     requires gap { IsAbsent (trace_of at.old).shape (knows (trace_of at.old)) key pred.now }
     requires op { IsOther Insert op }
     ensures table { IsSameTable at.old at.new }
-    ensures keeps { KeepsIn (pass_of at.old) (pass_of at.new) 1 }
-    ensures only_loads { OnlyLoads (trace_of at.old) (trace_of at.new) }
-    ensures answered { IfOk result (λ _. AnswersAbsent (trace_of at.old) (trace_of at.new) op key) }
+    ensures keeps { KeepsByLoad (pass_of at.old) (pass_of at.new) }
+    ensures answers { OnOk result (AnswersAbsent (trace_of at.old) (trace_of at.new) op key) }
     ensures lost { IfErr result (FindsAnother (trace_of at.old) (trace_of at.new) pred.now) }
 {
     at.law();
@@ -65,11 +64,10 @@ pub fn confirm_look_up(
     present: bool,
 ) -> Result<(), Rollback>
     requires held { IsUnmarked (knows (trace_of at.old)) held.now }
-    requires decides { DecidesKey (trace_of at.old).shape (knows (trace_of at.old)) key held.now present }
+    requires decides { TellsKey (trace_of at.old) key held.now present }
     ensures table { IsSameTable at.old at.new }
-    ensures keeps { KeepsIn (pass_of at.old) (pass_of at.new) 1 }
-    ensures only_loads { OnlyLoads (trace_of at.old) (trace_of at.new) }
-    ensures answered { IfOk result (λ _. AnswersLookUp (trace_of at.old) (trace_of at.new) key present) }
+    ensures keeps { KeepsByLoad (pass_of at.old) (pass_of at.new) }
+    ensures answers { OnOk result (AnswersLookUp (trace_of at.old) (trace_of at.new) key present) }
     ensures lost { IfErr result (FindsAnother (trace_of at.old) (trace_of at.new) held.now) }
 {
     at.law();

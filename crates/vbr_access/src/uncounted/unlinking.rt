@@ -1,13 +1,11 @@
 //! Unlinking a marked node.
-ghost use Rattle.std.specs.Prelude.{◌≡◌, ◌≤◌, IsSome, IfOk, IfErr};
-ghost use Rattle.vbr_words.specs.Words.{link_of};
+ghost use Rattle.std.specs.Prelude.{◌≡◌, ◌≤◌, IfOk, IfErr};
 ghost use Rattle.vbr_slots.specs.AtTables.{IsSameTable, trace_of, pass_of};
-ghost use Rattle.vbr_slots.specs.Calls.{Took};
 ghost use Rattle.vbr_slots.specs.Views.{knows};
-ghost use Rattle.vbr_access.specs.Exchanges.{StaysQuiet, UnlinksNode, UnlinksNone, IsUnmarked};
+ghost use Rattle.vbr_access.specs.Exchanges.{StaysIn, UnlinksNode, UnlinksNone, IsUnmarked};
 ghost use Rattle.vbr_access.specs.Held.{IsMarked, Names};
-ghost use Rattle.vbr_access.specs.Reading.{IsBirthRead, ReadsIn, RollsBack};
-ghost use Rattle.vbr_access.specs.Steps.{birth_steps, steps_to_unlink};
+ghost use Rattle.vbr_access.specs.Reading.{IsBirthRead, ReadsIn, BirthMoved};
+ghost use Rattle.vbr_access.specs.Steps.{steps_to_birth, steps_to_unlink};
 
 use crate::held::{Held, Marked};
 use crate::links::link_to;
@@ -21,10 +19,9 @@ use vbr_words::decode;
 fn birth_behind(at: &mut AtTable<'_>, marked: &Marked) -> Result<u64, Rollback>
     requires marked { IsMarked (knows (trace_of at.old)) marked.now }
     ensures table { IsSameTable at.old at.new }
-    ensures reads { ReadsIn (pass_of at.old) (pass_of at.new) (birth_steps (link_of marked.now.word).slot) }
-    ensures birth { IfOk result (IsBirthRead (trace_of at.old) (trace_of at.new) (link_of marked.now.word).slot) }
-    ensures some { IfErr result (λ r. IsSome (link_of marked.now.word).slot) }
-    ensures moved { IfErr result (RollsBack (pass_of at.old) (pass_of at.new)) }
+    ensures reads { ReadsIn (pass_of at.old) (pass_of at.new) (steps_to_birth marked.now.word) }
+    ensures birth { IfOk result (IsBirthRead (pass_of at.old) (pass_of at.new) marked.now.word) }
+    ensures moved { IfErr result (BirthMoved (pass_of at.old) (pass_of at.new) marked.now.word) }
 {
     at.law();
     let Some(slot) = decode(marked.word).slot else {
@@ -49,8 +46,7 @@ pub fn unlink(
     requires marked { IsMarked (knows (trace_of at.old)) marked }
     requires names { Names pred.now marked.slot }
     ensures table { IsSameTable at.old at.new }
-    ensures took { Took (trace_of at.old) (trace_of at.new) (steps_to_unlink (link_of marked.word).slot result) }
-    ensures stays { StaysQuiet (pass_of at.old) (pass_of at.new) }
+    ensures stays { StaysIn (pass_of at.old) (pass_of at.new) (steps_to_unlink marked.word result) }
     ensures unlinked { IfOk result (UnlinksNode (pass_of at.old) (pass_of at.new) pred.now marked) }
     ensures failed { IfErr result (UnlinksNone (pass_of at.old) (pass_of at.new) pred.now) }
 {
@@ -73,7 +69,7 @@ pub fn unlink(
 /// How many steps an unlinking made, where the word of the marked link was this.
 #[inline]
 pub fn steps_to_unlink(word: u64, outcome: &Result<(Unlinked, Held), Rollback>) -> u32
-    ensures is { result ≡ steps_to_unlink (link_of word).slot outcome.now }
+    ensures is { result ≡ steps_to_unlink word outcome.now }
     ensures few { result ≤ 3 }
 {
     let loads = if decode(word).slot.is_some() { 2 } else { 0 };

@@ -1,7 +1,7 @@
 //! Linking a new node: an insert.
 ghost use Rattle.std.specs.Prelude.{IfOk, IfErr};
 ghost use Rattle.vbr_words.specs.Words.{link_of};
-ghost use Rattle.vbr_core.specs.Membership.{BirthNamed};
+ghost use Rattle.vbr_machine.specs.Membership.{BirthNamed};
 ghost use Rattle.vbr_slots.specs.AtTables.{IsSameTable, trace_of, pass_of};
 ghost use Rattle.vbr_slots.specs.Views.{knows};
 ghost use Rattle.vbr_pools.specs.Hands.{IsHandOf};

@@ -1,24 +1,24 @@
 // Whether an event is accepted, and what its pass has for it.
 ghost use Rattle.std.specs.Prelude.{◌≡◌, ◌<◌, true, length, OnOk, IfErr};
 ghost use Rattle.vbr_words.specs.Words.{link_of};
-ghost use Rattle.vbr_core.specs.Acceptance.{IsInShape};
-ghost use Rattle.vbr_core.specs.Learning.{link_written, succeeds, key_written};
-ghost use Rattle.vbr_core.specs.Making.{call_made, WordsHaveRoom};
-ghost use Rattle.vbr_core.specs.Machine as machine;
-ghost use Rattle.vbr_core.specs.Runs.{IsAccepted, Refuses};
+ghost use Rattle.vbr_machine.specs.Acceptance.{IsInShape};
+ghost use Rattle.vbr_machine.specs.Learning.{link_written, succeeds, key_written};
+ghost use Rattle.vbr_machine.specs.Making.{call_made};
+ghost use Rattle.vbr_core.specs.Answering.{WordsHaveRoom};
+ghost use Rattle.vbr_machine.specs.Machine as machine;
 ghost use Rattle.vbr_core.specs.Kept.{world_of};
+ghost use Rattle.vbr_core.specs.KeptSteps.{IsAcceptedIn, IsRefusedIn, found_in};
 
-use crate::event::{CoreRefusal, Event, Step};
-use crate::history::Call;
 use crate::world::lists::Lists;
 use crate::world::steps::{is_below_last, is_in_shape, succeeds};
+use vbr_machine::{Call, CoreRefusal, Event, Step};
 use vbr_words::shape::MAX_EPOCH;
 
 impl Lists {
     // Accepts an event, or says why not.
     pub(super) fn check(&self, event: Event) -> Result<(), CoreRefusal>
-        ensures accepted { OnOk result (IsAccepted self.now.shape (length self.now.passes) (world_of self.now) event) }
-        ensures refused { IfErr result (λ refusal. Refuses self.now.shape (length self.now.passes) (world_of self.now) event refusal) }
+        ensures accepted { OnOk result (IsAcceptedIn self.now event) }
+        ensures refused { IfErr result (IsRefusedIn self.now event) }
     {
         if event.pass as usize >= self.passes.len() {
             return Err(CoreRefusal::NoSuchPass);
@@ -42,12 +42,13 @@ impl Lists {
         Ok(())
     }
 
-    // The word of the link that an accepted step writes. The words have room for what the step writes
-    // where it succeeds: a birth is an epoch that the pass has read.
+    // The word of the link that an accepted step writes. The words have room for what the step
+    // writes where it succeeds: a birth is an epoch that the pass has read.
     pub(super) fn link_written(&self, event: Event) -> u64
-        requires { IsAccepted self.now.shape (length self.now.passes) (world_of self.now) event }
-        ensures link { link_of result ≡ link_written ((world_of self.now).know event.pass) event.step }
-        ensures room { succeeds event.step (machine.found self.now.shape (world_of self.now) event.step) ≡ true →
+        requires { IsAcceptedIn self.now event }
+        ensures link { link_of result
+            ≡ link_written ((world_of self.now).know event.pass) event.step }
+        ensures room { succeeds event.step (found_in self.now event.step) ≡ true →
             WordsHaveRoom self.now.shape self.now.epoch event.step }
     {
         let pass = &self.passes[event.pass as usize];
@@ -74,7 +75,7 @@ impl Lists {
     pub(super) fn call_made(&self, event: Event, found: u64) -> Option<Call>
         requires pass { event.pass < length self.now.passes }
         requires in_shape { IsInShape self.now.shape event.step }
-        requires found { found ≡ machine.found self.now.shape (world_of self.now) event.step }
+        requires found { found ≡ found_in self.now event.step }
         ensures { result ≡ call_made self.now.shape (world_of self.now) event.pass event.step }
     {
         if succeeds(event.step, found) {

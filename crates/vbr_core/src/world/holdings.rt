@@ -2,12 +2,12 @@
 ghost use Rattle.std.specs.Prelude.{◌≡◌, ◌≤◌, ◌↔◌, IsTrue, map};
 ghost use Rattle.vbr_words.specs.Words.{IsLink};
 ghost use Rattle.vbr_words.specs.declared.shape.TheConstants.{MAX_EPOCH};
-ghost use Rattle.vbr_core.specs.Acceptance.{IsFree, IsUnlinked, MayBear, IsInHand, IsReread, stamp_in};
-ghost use Rattle.vbr_core.specs.Learning.{birth_in_hand, key_in_hand, value_in_hand, link_in_hand, with_key, with_value, with_link, reread};
-ghost use Rattle.vbr_core.specs.Links.{opening_link};
+ghost use Rattle.vbr_machine.specs.Acceptance.{IsFree, IsUnlinked, MayBear, IsInHand, IsReread, stamp_in};
+ghost use Rattle.vbr_machine.specs.Learning.{newborn, birth_in_hand, key_in_hand, value_in_hand, link_in_hand, with_key, with_value, with_link, reread};
+ghost use Rattle.vbr_machine.specs.Links.{opening_link};
 ghost use Rattle.vbr_core.specs.Kept.{FitsHolding};
 
-use crate::knowledge::Holding;
+use vbr_machine::{Holding, Unpublished};
 use vbr_words::Link;
 
 // Whether a slot is free to be raised.
@@ -51,7 +51,7 @@ pub fn stamp_in(holding: Option<Holding>) -> u64
 {
     match holding {
         Some(Holding::Free(stamp)) => stamp,
-        Some(Holding::InHand(stamp, _, _, _, _)) => stamp,
+        Some(Holding::InHand(known)) => known.stamp,
         _ => 0,
     }
 }
@@ -62,7 +62,7 @@ pub fn birth_in_hand(holding: Option<Holding>) -> u64
     ensures fits { FitsHolding holding → result ≤ MAX_EPOCH }
 {
     match holding {
-        Some(Holding::InHand(_, birth, _, _, _)) => birth,
+        Some(Holding::InHand(known)) => known.birth,
         _ => 0,
     }
 }
@@ -72,7 +72,7 @@ pub fn key_in_hand(holding: Option<Holding>) -> u64
     ensures { result ≡ key_in_hand holding }
 {
     match holding {
-        Some(Holding::InHand(_, _, key, _, _)) => key.unwrap_or(0),
+        Some(Holding::InHand(known)) => known.key.unwrap_or(0),
         _ => 0,
     }
 }
@@ -82,7 +82,7 @@ pub fn value_in_hand(holding: Option<Holding>) -> Option<u64>
     ensures { result ≡ value_in_hand holding }
 {
     match holding {
-        Some(Holding::InHand(_, _, _, value, _)) => value,
+        Some(Holding::InHand(known)) => known.value,
         _ => None,
     }
 }
@@ -104,8 +104,21 @@ pub fn link_in_hand(holding: Option<Holding>) -> Link
     ensures { result ≡ link_in_hand holding }
 {
     match holding {
-        Some(Holding::InHand(_, _, _, _, link)) => link.unwrap_or(opening_link()),
+        Some(Holding::InHand(known)) => known.link.unwrap_or(opening_link()),
         _ => opening_link(),
+    }
+}
+
+// A slot in hand once it is born in: nothing was stored in it.
+pub fn newborn(stamp: u64, birth: u64) -> Unpublished
+    ensures { result ≡ newborn stamp birth }
+{
+    Unpublished {
+        stamp,
+        birth,
+        key: None,
+        value: None,
+        link: None,
     }
 }
 
@@ -115,9 +128,10 @@ pub fn with_key(holding: Option<Holding>, key: u64) -> Option<Holding>
     ensures fits { FitsHolding holding → FitsHolding result }
 {
     match holding {
-        Some(Holding::InHand(stamp, birth, _, value, link)) => {
-            Some(Holding::InHand(stamp, birth, Some(key), value, link))
-        }
+        Some(Holding::InHand(known)) => Some(Holding::InHand(Unpublished {
+            key: Some(key),
+            ..known
+        })),
         _ => holding,
     }
 }
@@ -128,9 +142,10 @@ pub fn with_value(holding: Option<Holding>, value: u64) -> Option<Holding>
     ensures fits { FitsHolding holding → FitsHolding result }
 {
     match holding {
-        Some(Holding::InHand(stamp, birth, key, _, link)) => {
-            Some(Holding::InHand(stamp, birth, key, Some(value), link))
-        }
+        Some(Holding::InHand(known)) => Some(Holding::InHand(Unpublished {
+            value: Some(value),
+            ..known
+        })),
         _ => holding,
     }
 }
@@ -141,9 +156,10 @@ pub fn with_link(holding: Option<Holding>, link: Link) -> Option<Holding>
     ensures fits { FitsHolding holding → FitsHolding result }
 {
     match holding {
-        Some(Holding::InHand(stamp, birth, key, value, _)) => {
-            Some(Holding::InHand(stamp, birth, key, value, Some(link)))
-        }
+        Some(Holding::InHand(known)) => Some(Holding::InHand(Unpublished {
+            link: Some(link),
+            ..known
+        })),
         _ => holding,
     }
 }

@@ -1,31 +1,29 @@
 // What a pass learns from its step, and the call that the step makes.
-ghost use Rattle.std.specs.Prelude.{◌≡◌, ◌<◌, ◌≤◌, ℕ, length, slice_index_or, OnOk, OnErr};
-ghost use Rattle.std.specs.List.{AllByRecursion};
-ghost use Rattle.vbr_words.specs.declared.shape.TheConstants.{MAX_EPOCH};
-ghost use Rattle.vbr_core.specs.Put.{put};
-ghost use Rattle.vbr_core.specs.Acceptance.{Accepts};
-ghost use Rattle.vbr_core.specs.Learning.{learn};
-ghost use Rattle.vbr_core.specs.Machine as machine;
-ghost use Rattle.vbr_core.specs.Runs.{IsAccepted};
-ghost use Rattle.vbr_core.specs.Kept.{know_of, opening_pass, world_of};
-ghost use Rattle.vbr_core.specs.Making.{with_answer};
+ghost use Rattle.std.specs.Prelude.{◌≡◌, ◌<◌, length, OnOk, OnErr};
+ghost use Rattle.vbr_machine.specs.Acceptance.{Accepts};
+ghost use Rattle.vbr_machine.specs.Learning.{learn};
+ghost use Rattle.vbr_core.specs.Kept.{world_of};
+ghost use Rattle.vbr_core.specs.KeptSteps.{IsAcceptedIn, KeepsShape, found_in};
+ghost use Rattle.vbr_core.specs.KeptLearning.{HasRoom, HaveSlots, LearnsAt, known_by};
+ghost use Rattle.vbr_core.specs.Answering.{with_answer};
 
-use crate::event::{Event, Step};
 use crate::world::lists::Lists;
 use crate::world::passes::PassState;
 use crate::world::shape::OpeningShape;
 use std::alloc::AllocError;
+use vbr_machine::Event;
 
 impl Lists {
     // The pass learns from an accepted step, and the call of a step that succeeds is kept. All
     // memory is taken before anything changes.
     pub(super) fn learn(&mut self, event: Event, found: u64) -> Result<(), AllocError>
-        requires accepted { IsAccepted self.old.shape (length self.old.passes) (world_of self.old) event }
-        requires found { found ≡ machine.found self.old.shape (world_of self.old) event.step }
-        ensures learned { OnOk result (world_of self.new ≡ with_answer self.old.shape (world_of self.old) event.pass event.step) }
+        requires accepted { IsAcceptedIn self.old event }
+        requires found { found ≡ found_in self.old event.step }
+        ensures learned { OnOk result (world_of self.new
+            ≡ with_answer self.old.shape (world_of self.old) event.pass event.step) }
         ensures refused { OnErr result (self.new ≡ self.old) }
         ensures epoch { self.new.epoch ≡ self.old.epoch }
-        ensures stays { (self.new.shape ≡ self.old.shape) × (length self.new.passes ≡ length self.old.passes) }
+        ensures stays { KeepsShape self.old self.new }
     {
         let stamp = self.stamp_shown(event.step);
         match self.call_made(event, found) {
@@ -52,15 +50,13 @@ fn learn_at(
     stamp: u64,
 ) -> Result<(), AllocError>
     requires pass { event.pass < length passes.old.items }
-    requires slots { AllByRecursion (λ pass. length pass.own ≡ shape.now.slots) passes.old.items }
-    requires accepted { Accepts shape.now (know_of (slice_index_or passes.old.items event.pass opening_pass)) event.step }
-    requires epoch { event.step ≡ Step.ReadEpoch → found ≤ MAX_EPOCH }
-    requires birth { (s : ℕ) → event.step ≡ Step.LoadBirth s → found ≤ MAX_EPOCH }
-    ensures learned { OnOk result ((λ p. know_of (slice_index_or passes.new.items p opening_pass))
-        ≡ put (λ p. know_of (slice_index_or passes.old.items p opening_pass)) event.pass (learn event.step found stamp (know_of (slice_index_or passes.old.items event.pass opening_pass)))) }
+    requires slots { HaveSlots shape.now.slots passes.old.items }
+    requires accepted { Accepts shape.now (known_by passes.old.items event.pass) event.step }
+    requires room { HasRoom event.step found }
+    ensures learned { OnOk result
+        (LearnsAt passes.old.items passes.new.items event.pass (learn event.step found stamp)) }
     ensures refused { OnErr result (passes.new.items ≡ passes.old.items) }
-    ensures slots { AllByRecursion (λ pass. length pass.own ≡ shape.now.slots) passes.new.items }
-    ensures count { length passes.new.items ≡ length passes.old.items }
+    ensures slots { HaveSlots shape.now.slots passes.new.items }
 {
     let pass = &mut passes[event.pass as usize];
     pass.learn(shape, event.step, found, stamp)

@@ -1,19 +1,16 @@
 // The world in lists of words, as the program keeps it.
-ghost use Rattle.std.specs.Prelude.{◌≡◌, ◌<◌, length, IfOk, IfErr, OnOk, OnErr};
+ghost use Rattle.std.specs.Prelude.{◌≡◌, ◌<◌, IfOk, IfErr};
 ghost use Rattle.vbr_words.specs.Flags.{flag_word, flag_words};
 ghost use Rattle.vbr_words.specs.Places.{IsIn};
-ghost use Rattle.vbr_core.specs.Learning as learning;
-ghost use Rattle.vbr_core.specs.Machine as machine;
-ghost use Rattle.vbr_core.specs.Runs.{IsAccepted, Refuses};
+ghost use Rattle.vbr_machine.specs.Machine as machine;
 ghost use Rattle.vbr_core.specs.Kept.{world_of};
+ghost use Rattle.vbr_core.specs.KeptSteps.{IsMade, IsRefused, KeepsShape};
 
-use crate::event::{CoreRefusal, Effect, Event};
-use crate::history::Call;
-use crate::knowledge::SlotPlace;
 use crate::world::passes::PassState;
 use crate::world::shape::OpeningShape;
 use crate::world::steps::{effect_of, place_of_step, succeeds};
 use std::marker::Model;
+use vbr_machine::{Call, CoreRefusal, Effect, Event, SlotPlace};
 use vbr_words::Place;
 use vbr_words::flags::FLAGS;
 use vbr_words::link::MARK;
@@ -40,21 +37,44 @@ impl Model for Lists {
 
     ghost Value = { KeptWorld };
 
-    ghost view = { λ w. record { shape = w.shape; epoch = w.epoch; heads = w.heads.items; links = w.links.items; birth = w.birth.items; stamps = w.stamps.items; keys = w.keys.items; values = w.values.items; places = w.places.items; passes = w.passes.items; births = w.births; calls = w.calls.items } };
+    ghost view = { λ w. record {
+      shape = w.shape;
+      epoch = w.epoch;
+      heads = w.heads.items;
+      links = w.links.items;
+      birth = w.birth.items;
+      stamps = w.stamps.items;
+      keys = w.keys.items;
+      values = w.values.items;
+      places = w.places.items;
+      passes = w.passes.items;
+      births = w.births;
+      calls = w.calls.items;
+    } };
 
-    ghost invariant = { λ w. IsWhole (record { shape = w.shape; epoch = w.epoch; heads = w.heads.items; links = w.links.items; birth = w.birth.items; stamps = w.stamps.items; keys = w.keys.items; values = w.values.items; places = w.places.items; passes = w.passes.items; births = w.births; calls = w.calls.items }) };
+    ghost invariant = { λ w. IsWhole (record {
+      shape = w.shape;
+      epoch = w.epoch;
+      heads = w.heads.items;
+      links = w.links.items;
+      birth = w.birth.items;
+      stamps = w.stamps.items;
+      keys = w.keys.items;
+      values = w.values.items;
+      places = w.places.items;
+      passes = w.passes.items;
+      births = w.births;
+      calls = w.calls.items;
+    }) };
 }
 
 impl Lists {
     // One step: the tests, then the pass learns, and a step that isn't lost writes. Where a step is
     // refused, nothing changes.
     pub(super) fn step(&mut self, event: Event) -> Result<Effect, CoreRefusal>
-        ensures accepted { OnOk result (IsAccepted self.old.shape (length self.old.passes) (world_of self.old) event) }
-        ensures effect { IfOk result (λ effect. effect ≡ learning.effect_of event.step (machine.found self.old.shape (world_of self.old) event.step)) }
-        ensures after { OnOk result (world_of self.new ≡ machine.after self.old.shape (world_of self.old) event.pass event.step) }
-        ensures refused { IfErr result (λ refusal. Refuses self.old.shape (length self.old.passes) (world_of self.old) event refusal) }
-        ensures unchanged { OnErr result (self.new ≡ self.old) }
-        ensures stays { (self.new.shape ≡ self.old.shape) × (length self.new.passes ≡ length self.old.passes) }
+        ensures made { IfOk result (IsMade self.old self.new event) }
+        ensures refused { IfErr result (IsRefused self.old self.new event) }
+        ensures stays { KeepsShape self.old self.new }
     {
         self.check(event)?;
         let found = self.word(place_of_step(event.step));
@@ -97,7 +117,8 @@ impl Lists {
     // The flag word with a number: the flag of each slot of it that is in the shared pool.
     fn flags(&self, number: u32) -> u64
         requires { number < flag_words self.now.shape.slots }
-        ensures { result ≡ flag_word (machine.is_flagged self.now.shape (world_of self.now)) number }
+        ensures { result
+            ≡ flag_word (machine.is_flagged self.now.shape (world_of self.now)) number }
     {
         let _slots = self.shape.slots();
         let first = FLAGS * number;

@@ -3,21 +3,23 @@ ghost use Rattle.std.specs.Prelude.{◌≡◌, ◌<◌, ◌≤◌, length, slice
 ghost use Rattle.std.specs.List.{AllByRecursion};
 ghost use Rattle.std.specs.List.Sorted.{IsStrictlyIncreasing};
 ghost use Rattle.vbr_words.specs.Words.{IsLink};
-ghost use Rattle.vbr_core.specs.Machine.{knows_nothing, opening};
-ghost use Rattle.vbr_core.specs.Making.{opening_from, with_key_ahead};
-ghost use Rattle.vbr_core.specs.Kept.{know_of, world_of};
+ghost use Rattle.vbr_machine.specs.Making.{with_key_ahead};
+ghost use Rattle.vbr_core.specs.Kept.{world_of};
+ghost use Rattle.vbr_core.specs.KeptOpenings.{IsBare, IsNew, IsOpening, with_entries};
+ghost use Rattle.vbr_core.specs.KeptWrites.{Writes};
 
-use crate::knowledge::SlotPlace;
 use crate::world::lists::Lists;
 use crate::world::passes::{PassState, link_to};
 use crate::world::shape::OpeningShape;
 use std::alloc::{AllocError, Global};
+use vbr_machine::SlotPlace;
 use vbr_words::link::{MARK, MAX_SLOTS};
 use vbr_words::{At, Link, Shape, decode, encode};
 
 impl Lists {
-    // The world that opens with these keys, and their values where nodes have values: they are linked
-    // from the last one on, so that each finds the next of its bucket at the head of the list.
+    // The world that opens with these keys, and their values where nodes have values: they are
+    // linked from the last one on, so that each finds the next of its bucket at the head of the
+    // list.
     pub(super) fn opened(
         alloc: Global,
         shape: Shape,
@@ -28,8 +30,7 @@ impl Lists {
         requires ascending { IsStrictlyIncreasing keys.now }
         requires few { length keys.now ≤ shape.slots }
         requires paired { length values.now ≡ (if shape.values then length keys.now else 0) }
-        ensures opening { IfOk result (λ lists. world_of lists ≡ opening (record shape { keys = keys.now; payloads = values.now })) }
-        ensures shape { IfOk result (λ lists. (lists.shape ≡ record shape { keys = keys.now; payloads = values.now }) × (length lists.passes ≡ passes)) }
+        ensures { IfOk result (IsOpening (with_entries shape keys.now values.now) passes) }
     {
         let opening = OpeningShape::new(alloc, shape, keys, values)?;
         let mut lists = Lists::empty(alloc, opening, passes)?;
@@ -43,8 +44,7 @@ impl Lists {
 
     // Every slot in the shared pool, and passes that know nothing: no key is linked yet.
     fn empty(alloc: Global, shape: OpeningShape, passes: u32) -> Result<Lists, AllocError>
-        ensures opening { IfOk result (λ lists. world_of lists ≡ opening_from shape (length shape.keys)) }
-        ensures shape { IfOk result (λ lists. (lists.shape ≡ shape) × (length lists.passes ≡ passes)) }
+        ensures { IfOk result (IsBare shape passes) }
     {
         let buckets = shape.buckets() as usize;
         let slots = shape.slots() as usize;
@@ -76,8 +76,7 @@ impl Lists {
     // head is the birth of what it names.
     fn link_key(&mut self, number: u32, key: u64, value: u64)
         requires { number < self.old.shape.slots }
-        ensures written { world_of self.new ≡ with_key_ahead self.old.shape number key value (world_of self.old) }
-        ensures stays { (self.new.shape ≡ self.old.shape) × (length self.new.passes ≡ length self.old.passes) }
+        ensures { Writes self.old self.new (with_key_ahead self.old.shape number key value) }
     {
         prove!(self.shape.slots() <= MAX_SLOTS);
         let bucket = self.bucket_of(key);
@@ -112,7 +111,7 @@ fn value_at(values: &[u64], number: usize) -> u64
 // So many passes that know nothing.
 fn new_passes(alloc: Global, slots: u32, passes: u32) -> Result<Vec<PassState>, AllocError>
     ensures count { IfOk result (λ made. length made.items ≡ passes) }
-    ensures new { IfOk result (λ made. AllByRecursion (λ pass. (know_of pass ≡ knows_nothing) × (length pass.own ≡ slots)) made.items) }
+    ensures new { IfOk result (λ made. AllByRecursion (IsNew slots) made.items) }
 {
     let mut made = Vec::new(alloc);
     for _ in 0..passes {

@@ -3,24 +3,22 @@ ghost use Rattle.std.specs.Prelude.{◌≡◌, ◌<◌, ◌≤◌, ◌↔◌, le
 ghost use Rattle.vbr_words.specs.Words.{IsLink, word_of, link_of};
 ghost use Rattle.vbr_words.specs.declared.link.TheConstants.{MAX_SLOTS};
 ghost use Rattle.vbr_words.specs.declared.shape.TheConstants.{MAX_EPOCH};
-ghost use Rattle.vbr_core.specs.Links.{link_to, marked};
-ghost use Rattle.vbr_core.specs.Knowledge.{knows_link, marked_in, birth_at, birth_of, key_in, value_in};
-ghost use Rattle.vbr_core.specs.Acceptance.{IsInShape, IsOwned, HasChecked, IsInRange, Accepts, KnowsKeyAt, KnowsKeyOf, LeadsToKey, HasValue, HasValueFor, stamp_in, MayPublish, IsBehind, IsBefore, LeadsAbove, next_of_marked};
-ghost use Rattle.vbr_core.specs.Learning.{key_in_hand, value_in_hand, link_written, present_value, call_of};
-ghost use Rattle.vbr_core.specs.Opened.{kept};
-ghost use Rattle.vbr_core.specs.Machine.{knows_nothing};
+ghost use Rattle.vbr_machine.specs.Links.{link_to, marked};
+ghost use Rattle.vbr_machine.specs.Knowledge.{knows_link, marked_in, birth_at, birth_of, key_in, value_in};
+ghost use Rattle.vbr_machine.specs.Acceptance.{IsInShape, IsOwned, HasChecked, IsInRange, Accepts, KnowsKeyAt, KnowsKeyOf, LeadsToKey, HasValue, HasValueFor, stamp_in, MayPublish, IsBehind, IsBefore, LeadsAbove, next_of_marked};
+ghost use Rattle.vbr_machine.specs.Learning.{key_in_hand, value_in_hand, link_written, present_value, call_of};
+ghost use Rattle.vbr_machine.specs.Opened.{kept};
+ghost use Rattle.vbr_machine.specs.Machine.{knows_nothing};
 ghost use Rattle.vbr_core.specs.Kept.{know_of, FitsHolding};
 
 mod learning;
 
-use crate::event::Step;
-use crate::history::{Call, Op};
-use crate::knowledge::{Holding, Read};
 use crate::world::shape::OpeningShape;
 use crate::world::steps::present_reply;
 use crate::world::{holdings, reads};
 use std::alloc::{AllocError, Global};
 use std::marker::Model;
+use vbr_machine::{Call, Holding, Op, Read, Step, Unpublished};
 use vbr_words::link::MAX_SLOTS;
 use vbr_words::{At, Link, decode, encode, version_of};
 
@@ -38,9 +36,19 @@ impl Model for PassState {
 
     ghost Value = { KeptPass };
 
-    ghost view = { λ p. record { epoch = p.epoch; pending = p.pending.items; checked = p.checked.items; own = p.own.items } };
+    ghost view = { λ p. record {
+      epoch = p.epoch;
+      pending = p.pending.items;
+      checked = p.checked.items;
+      own = p.own.items;
+    } };
 
-    ghost invariant = { λ p. FitsPass (record { epoch = p.epoch; pending = p.pending.items; checked = p.checked.items; own = p.own.items }) };
+    ghost invariant = { λ p. FitsPass (record {
+      epoch = p.epoch;
+      pending = p.pending.items;
+      checked = p.checked.items;
+      own = p.own.items;
+    }) };
 }
 
 // The unmarked link to a slot or to none.
@@ -143,7 +151,9 @@ impl PassState {
 
     // Whether the link that a node was read with and its key are checked.
     fn holds_node(&self, slot: u32, expected: u64) -> bool
-        ensures { IsTrue result ↔ (IsTrue (knows_link self.now.checked (At.Slot slot) (link_of expected)) × IsSome (key_in self.now.checked slot)) }
+        ensures { IsTrue result
+            ↔ (IsTrue (knows_link self.now.checked (At.Slot slot) (link_of expected))
+            × IsSome (key_in self.now.checked slot)) }
     {
         reads::knows_link(&self.checked, At::Slot(slot), decode(expected))
             && reads::key_in(&self.checked, slot).is_some()
@@ -168,7 +178,10 @@ impl PassState {
 
     // Whether the link that a place was read with, and the keys on both sides, are checked.
     fn holds_gap(&self, at: At, expected: u64) -> bool
-        ensures { IsTrue result ↔ (IsTrue (knows_link self.now.checked at (link_of expected)) × KnowsKeyAt self.now.checked at × KnowsKeyOf self.now.checked (link_of expected).slot) }
+        ensures { IsTrue result
+            ↔ (IsTrue (knows_link self.now.checked at (link_of expected))
+            × KnowsKeyAt self.now.checked at
+            × KnowsKeyOf self.now.checked (link_of expected).slot) }
     {
         let link = decode(expected);
         reads::knows_link(&self.checked, at, link)
@@ -179,7 +192,10 @@ impl PassState {
     // Whether the link that a place was read with and the key there are checked, and marked links
     // lead on from it to a checked key, or to none.
     fn holds_way(&self, shape: &OpeningShape, at: At, expected: u64) -> bool
-        ensures { IsTrue result ↔ (IsTrue (knows_link self.now.checked at (link_of expected)) × KnowsKeyAt self.now.checked at × LeadsToKey shape.now.slots self.now.checked (link_of expected).slot) }
+        ensures { IsTrue result
+            ↔ (IsTrue (knows_link self.now.checked at (link_of expected))
+            × KnowsKeyAt self.now.checked at
+            × LeadsToKey shape.now.slots self.now.checked (link_of expected).slot) }
     {
         let link = decode(expected);
         reads::knows_link(&self.checked, at, link)
@@ -189,7 +205,8 @@ impl PassState {
 
     // Whether the births on both sides of a link are checked.
     fn holds_births(&self, at: At, next: Option<u32>) -> bool
-        ensures { IsTrue result ↔ (IsSome (birth_at self.now.checked at) × IsSome (birth_of self.now.checked next)) }
+        ensures { IsTrue result
+            ↔ (IsSome (birth_at self.now.checked at) × IsSome (birth_of self.now.checked next)) }
     {
         reads::birth_at(&self.checked, at).is_some()
             && reads::birth_of(&self.checked, next).is_some()
@@ -197,7 +214,9 @@ impl PassState {
 
     // Whether the link that a place was read with, and a marked link of a slot, are checked.
     fn holds_removed(&self, pred: At, expected: u64, slot: u32) -> bool
-        ensures { IsTrue result ↔ (IsTrue (knows_link self.now.checked pred (link_of expected)) × IsSome (marked_in self.now.checked slot)) }
+        ensures { IsTrue result
+            ↔ (IsTrue (knows_link self.now.checked pred (link_of expected))
+            × IsSome (marked_in self.now.checked slot)) }
     {
         reads::knows_link(&self.checked, pred, decode(expected))
             && reads::marked_in(&self.checked, slot).is_some()
@@ -235,13 +254,26 @@ impl PassState {
         }
     }
 
-    // Whether a slot is in hand and ready to stand behind a place, before what the link there names.
+    // Whether a slot is in hand and ready to stand behind a place, before what the link there
+    // names.
     fn is_ready(&self, shape: &OpeningShape, pred: At, expected: Link, slot: u32) -> bool
         requires { slot < length self.now.own }
-        ensures { IsTrue result ↔ MayPublish shape.now self.now.checked pred expected (slice_index_or self.now.own slot None) }
+        ensures { IsTrue result
+            ↔ MayPublish shape.now self.now.checked pred expected
+            (slice_index_or self.now.own slot None) }
     {
         match self.own[slot as usize] {
-            Some(Holding::InHand(_, birth, Some(key), value, Some(link))) => {
+            Some(
+                Holding::InHand(
+                    Unpublished {
+                        birth,
+                        key: Some(key),
+                        value,
+                        link: Some(link),
+                        ..
+                    },
+                ),
+            ) => {
                 let named_birth = reads::birth_of(&self.checked, expected.slot).unwrap_or(0);
                 link.slot == expected.slot
                     && !link.mark
@@ -255,7 +287,8 @@ impl PassState {
 
     // Whether a key stands behind a place and before what a link names.
     fn is_between(&self, shape: &OpeningShape, at: At, key: u64, next: Option<u32>) -> bool
-        ensures { IsTrue result ↔ (IsBehind shape.now self.now.checked at key × IsBefore self.now.checked key next) }
+        ensures { IsTrue result
+            ↔ (IsBehind shape.now self.now.checked at key × IsBefore self.now.checked key next) }
     {
         reads::is_behind(shape, &self.checked, at, key)
             && reads::is_before(&self.checked, key, next)
@@ -264,7 +297,9 @@ impl PassState {
     // Whether a key stands behind a place, and before a slot to which marked links lead from what a
     // link names, or before none.
     fn is_on_way(&self, shape: &OpeningShape, at: At, key: u64, next: Option<u32>) -> bool
-        ensures { IsTrue result ↔ (IsBehind shape.now self.now.checked at key × LeadsAbove shape.now.slots self.now.checked key next) }
+        ensures { IsTrue result
+            ↔ (IsBehind shape.now self.now.checked at key
+            × LeadsAbove shape.now.slots self.now.checked key next) }
     {
         reads::is_behind(shape, &self.checked, at, key)
             && reads::leads_above(&self.checked, shape.slots(), key, next)

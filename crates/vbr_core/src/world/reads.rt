@@ -1,10 +1,10 @@
 // Looking through reads.
 ghost use Rattle.std.specs.Prelude.{◌≡◌, ◌↔◌, IsTrue};
-ghost use Rattle.vbr_core.specs.Knowledge.{knows_link, birth_in, key_in, value_in, marked_in, holds, holds_at, birth_at, birth_of};
-ghost use Rattle.vbr_core.specs.Acceptance.{IsNextHeld, KnowsKeyAt, KnowsKeyOf, past_marked, LeadsToKey, IsBehind, IsBefore, LeadsAbove, next_of_marked};
+ghost use Rattle.vbr_machine.specs.Knowledge.{knows_link, birth_in, key_in, value_in, marked_in, holds, holds_at, birth_at, birth_of};
+ghost use Rattle.vbr_machine.specs.Acceptance.{IsNextHeld, KnowsKeyAt, KnowsKeyOf, past_marked, LeadsToKey, IsBehind, IsBefore, LeadsAbove, next_of_marked};
 
-use crate::knowledge::Read;
 use crate::world::shape::OpeningShape;
+use vbr_machine::Read;
 use vbr_words::{At, Link};
 
 // Whether a link is among the reads at a place.

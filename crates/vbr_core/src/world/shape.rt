@@ -3,6 +3,7 @@ ghost use Rattle.std.specs.Prelude.{◌≡◌, ◌<◌, ◌≤◌, ◌%◌, leng
 ghost use Rattle.std.specs.List.Sorted.{IsStrictlyIncreasing};
 ghost use Rattle.vbr_words.specs.Buckets.{bucket_of};
 ghost use Rattle.vbr_words.specs.Dimensions.{IsShape};
+ghost use Rattle.vbr_core.specs.KeptOpenings.{with_entries};
 
 use std::alloc::{AllocError, Global};
 use std::marker::Model;
@@ -23,7 +24,10 @@ impl Model for OpeningShape {
 
     ghost view = { λ s. record s.shape { keys = s.keys.items; payloads = s.values.items } };
 
-    ghost invariant = { λ s. IsShape (record s.shape { keys = s.keys.items; payloads = s.values.items }) };
+    ghost invariant = { λ s. IsShape (record s.shape {
+      keys = s.keys.items;
+      payloads = s.values.items;
+    }) };
 }
 
 impl OpeningShape {
@@ -37,7 +41,7 @@ impl OpeningShape {
         requires ascending { IsStrictlyIncreasing keys.now }
         requires few { length keys.now ≤ shape.slots }
         requires paired { length values.now ≡ (if shape.values then length keys.now else 0) }
-        ensures { IfOk result (λ opening. opening ≡ record shape { keys = keys.now; payloads = values.now }) }
+        ensures { IfOk result (λ opening. opening ≡ with_entries shape keys.now values.now) }
     {
         prove!(shape.slots() > 0);
         let mut key_copy = Vec::new(alloc);

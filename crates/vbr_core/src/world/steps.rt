@@ -1,14 +1,13 @@
 // What can be told of a step alone, and of the word that it found.
 ghost use Rattle.std.specs.Prelude.{◌≡◌, ◌↔◌, IsTrue};
 ghost use Rattle.vbr_words.specs.Places as places;
-ghost use Rattle.vbr_core.specs.Acceptance.{IsAtIn, IsNextIn, IsOpIn, IsInShape, IsBelowLast};
-ghost use Rattle.vbr_core.specs.Learning.{present_reply, effect_of, succeeds};
-ghost use Rattle.vbr_core.specs.Machine.{place_of_step};
-ghost use Rattle.vbr_core.specs.Making.{exchanged, taken, confirmed};
+ghost use Rattle.vbr_machine.specs.Acceptance.{IsAtIn, IsNextIn, IsOpIn, IsInShape, IsBelowLast};
+ghost use Rattle.vbr_machine.specs.Learning.{present_reply, effect_of, succeeds};
+ghost use Rattle.vbr_machine.specs.Machine.{place_of_step};
+ghost use Rattle.vbr_machine.specs.Making.{exchanged, taken, confirmed};
 
-use crate::event::{Effect, Step};
-use crate::history::Op;
 use crate::world::shape::OpeningShape;
+use vbr_machine::{Effect, Op, Step};
 use vbr_words::flags::{has_flag, word_of_flag};
 use vbr_words::{At, Place};
 

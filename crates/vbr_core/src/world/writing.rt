@@ -1,25 +1,23 @@
 // The words and places that steps write. Each function is for a step that succeeds.
-ghost use Rattle.std.specs.Prelude.{◌≡◌, ◌+◌, ◌<◌, ◌≤◌, length};
+ghost use Rattle.std.specs.Prelude.{◌≡◌, ◌<◌, ◌≤◌};
 ghost use Rattle.vbr_words.specs.Words.{link_of};
 ghost use Rattle.vbr_words.specs.declared.shape.TheConstants.{MAX_EPOCH};
-ghost use Rattle.vbr_core.specs.Put.{put};
 ghost use Rattle.vbr_words.specs.Buckets.{bucket_of};
-ghost use Rattle.vbr_core.specs.Acceptance.{IsAtIn, IsInShape};
-ghost use Rattle.vbr_core.specs.Machine.{counted, with_link_at, written};
-ghost use Rattle.vbr_core.specs.Making.{WordsHaveRoom};
-ghost use Rattle.vbr_core.specs.Kept.{world_of};
+ghost use Rattle.vbr_machine.specs.Acceptance.{IsAtIn, IsInShape};
+ghost use Rattle.vbr_machine.specs.Machine.{written};
+ghost use Rattle.vbr_core.specs.Answering.{WordsHaveRoom};
+ghost use Rattle.vbr_core.specs.KeptWrites.{Writes, with_next_epoch, with_birth_of, with_key_of};
+ghost use Rattle.vbr_core.specs.KeptWrites.{with_link_and_place, with_link_of, with_place_of, with_stamp_of, with_value_of};
 
-use crate::event::{Event, Step};
-use crate::knowledge::SlotPlace;
 use crate::world::lists::Lists;
+use vbr_machine::{Event, SlotPlace, Step};
 use vbr_words::At;
 
 impl Lists {
     // Advances the epoch by one.
     fn advance(&mut self)
         requires { self.old.epoch < self.old.shape.last_epoch }
-        ensures written { world_of self.new ≡ record (world_of self.old) { epoch = (world_of self.old).epoch + 1 } }
-        ensures stays { (self.new.shape ≡ self.old.shape) × (length self.new.passes ≡ length self.old.passes) }
+        ensures { Writes self.old self.new with_next_epoch }
     {
         self.epoch += 1;
     }
@@ -27,8 +25,7 @@ impl Lists {
     // Writes the word of a link.
     pub(super) fn put_link(&mut self, at: At, link: u64)
         requires { IsAtIn self.old.shape at }
-        ensures written { world_of self.new ≡ with_link_at (world_of self.old) at (link_of link) }
-        ensures stays { (self.new.shape ≡ self.old.shape) × (length self.new.passes ≡ length self.old.passes) }
+        ensures { Writes self.old self.new (with_link_of at (link_of link)) }
     {
         match at {
             At::Head(bucket) => self.heads[bucket as usize] = link,
@@ -39,8 +36,7 @@ impl Lists {
     // Stamps a slot.
     fn store_stamp(&mut self, slot: u32, stamp: u64)
         requires { slot < self.old.shape.slots }
-        ensures written { world_of self.new ≡ record (world_of self.old) { stamp = put (world_of self.old).stamp slot stamp } }
-        ensures stays { (self.new.shape ≡ self.old.shape) × (length self.new.passes ≡ length self.old.passes) }
+        ensures { Writes self.old self.new (with_stamp_of slot stamp) }
     {
         self.stamps[slot as usize] = stamp;
     }
@@ -48,8 +44,7 @@ impl Lists {
     // Stores the key of a slot.
     pub(super) fn store_key(&mut self, slot: u32, key: u64)
         requires { slot < self.old.shape.slots }
-        ensures written { world_of self.new ≡ record (world_of self.old) { key = put (world_of self.old).key slot key } }
-        ensures stays { (self.new.shape ≡ self.old.shape) × (length self.new.passes ≡ length self.old.passes) }
+        ensures { Writes self.old self.new (with_key_of slot key) }
     {
         self.keys[slot as usize] = key;
     }
@@ -57,8 +52,7 @@ impl Lists {
     // Stores the value of a slot.
     pub(super) fn store_value(&mut self, slot: u32, value: u64)
         requires { slot < self.old.shape.slots }
-        ensures written { world_of self.new ≡ record (world_of self.old) { value = put (world_of self.old).value slot value } }
-        ensures stays { (self.new.shape ≡ self.old.shape) × (length self.new.passes ≡ length self.old.passes) }
+        ensures { Writes self.old self.new (with_value_of slot value) }
     {
         self.values[slot as usize] = value;
     }
@@ -66,8 +60,7 @@ impl Lists {
     // Puts a slot where it now is.
     pub(super) fn put_slot(&mut self, slot: u32, place: SlotPlace)
         requires { slot < self.old.shape.slots }
-        ensures written { world_of self.new ≡ record (world_of self.old) { place = put (world_of self.old).place slot place } }
-        ensures stays { (self.new.shape ≡ self.old.shape) × (length self.new.passes ≡ length self.old.passes) }
+        ensures { Writes self.old self.new (with_place_of slot place) }
     {
         self.places[slot as usize] = place;
     }
@@ -75,8 +68,7 @@ impl Lists {
     // Puts a slot into the shared pool.
     fn raise(&mut self, slot: u32)
         requires { slot < self.old.shape.slots }
-        ensures written { world_of self.new ≡ record (world_of self.old) { place = put (world_of self.old).place slot SlotPlace.Shared } }
-        ensures stays { (self.new.shape ≡ self.old.shape) × (length self.new.passes ≡ length self.old.passes) }
+        ensures { Writes self.old self.new (with_place_of slot SlotPlace.Shared) }
     {
         self.put_slot(slot, SlotPlace::Shared);
     }
@@ -84,8 +76,7 @@ impl Lists {
     // Takes a slot out of the shared pool.
     fn take_flag(&mut self, pass: u32, slot: u32)
         requires { slot < self.old.shape.slots }
-        ensures written { world_of self.new ≡ record (world_of self.old) { place = put (world_of self.old).place slot (SlotPlace.Own pass) } }
-        ensures stays { (self.new.shape ≡ self.old.shape) × (length self.new.passes ≡ length self.old.passes) }
+        ensures { Writes self.old self.new (with_place_of slot (SlotPlace.Own pass)) }
     {
         self.put_slot(slot, SlotPlace::Own(pass));
     }
@@ -94,8 +85,7 @@ impl Lists {
     pub(super) fn store_birth(&mut self, slot: u32, birth: u64)
         requires slot { slot < self.old.shape.slots }
         requires birth { birth ≤ MAX_EPOCH }
-        ensures written { world_of self.new ≡ record (world_of self.old) { birth = put (world_of self.old).birth slot birth; births = counted (world_of self.old).births } }
-        ensures stays { (self.new.shape ≡ self.old.shape) × (length self.new.passes ≡ length self.old.passes) }
+        ensures { Writes self.old self.new (with_birth_of slot birth) }
     {
         self.birth[slot as usize] = birth;
         self.births = self.births.saturating_add(1);
@@ -105,12 +95,8 @@ impl Lists {
     fn bear(&mut self, pass: u32, slot: u32, birth: u64)
         requires slot { slot < self.old.shape.slots }
         requires birth { birth ≤ MAX_EPOCH }
-        ensures written { world_of self.new ≡ record (world_of self.old) {
-          birth = put (world_of self.old).birth slot birth;
-          place = put (world_of self.old).place slot (SlotPlace.Hand pass);
-          births = counted (world_of self.old).births;
-        } }
-        ensures stays { (self.new.shape ≡ self.old.shape) × (length self.new.passes ≡ length self.old.passes) }
+        ensures { Writes self.old self.new
+            (λ w. with_place_of slot (SlotPlace.Hand pass) (with_birth_of slot birth w)) }
     {
         self.store_birth(slot, birth);
         self.put_slot(slot, SlotPlace::Hand(pass));
@@ -119,8 +105,7 @@ impl Lists {
     // Stores the link of a slot in hand.
     fn store_link(&mut self, slot: u32, link: u64)
         requires { slot < self.old.shape.slots }
-        ensures written { world_of self.new ≡ with_link_at (world_of self.old) (At.Slot slot) (link_of link) }
-        ensures stays { (self.new.shape ≡ self.old.shape) × (length self.new.passes ≡ length self.old.passes) }
+        ensures { Writes self.old self.new (with_link_of (At.Slot slot) (link_of link)) }
     {
         self.put_link(At::Slot(slot), link);
     }
@@ -128,8 +113,7 @@ impl Lists {
     // Marks a node.
     fn mark(&mut self, slot: u32, link: u64)
         requires { slot < self.old.shape.slots }
-        ensures written { world_of self.new ≡ with_link_at (world_of self.old) (At.Slot slot) (link_of link) }
-        ensures stays { (self.new.shape ≡ self.old.shape) × (length self.new.passes ≡ length self.old.passes) }
+        ensures { Writes self.old self.new (with_link_of (At.Slot slot) (link_of link)) }
     {
         self.put_link(At::Slot(slot), link);
     }
@@ -146,10 +130,8 @@ impl Lists {
     fn publish(&mut self, pred: At, link: u64, slot: u32, key: u64)
         requires pred { IsAtIn self.old.shape pred }
         requires slot { slot < self.old.shape.slots }
-        ensures written { world_of self.new ≡ record (with_link_at (world_of self.old) pred (link_of link)) {
-          place = put (world_of self.old).place slot (SlotPlace.Listed (bucket_of self.old.shape key));
-        } }
-        ensures stays { (self.new.shape ≡ self.old.shape) × (length self.new.passes ≡ length self.old.passes) }
+        ensures { Writes self.old self.new (with_link_and_place pred (link_of link) slot
+            (SlotPlace.Listed (bucket_of self.old.shape key))) }
     {
         let bucket = self.bucket_of(key);
         self.put_link(pred, link);
@@ -160,10 +142,8 @@ impl Lists {
     fn unlink(&mut self, pass: u32, pred: At, link: u64, slot: u32)
         requires pred { IsAtIn self.old.shape pred }
         requires slot { slot < self.old.shape.slots }
-        ensures written { world_of self.new ≡ record (with_link_at (world_of self.old) pred (link_of link)) {
-          place = put (world_of self.old).place slot (SlotPlace.Own pass);
-        } }
-        ensures stays { (self.new.shape ≡ self.old.shape) × (length self.new.passes ≡ length self.old.passes) }
+        ensures { Writes self.old self.new
+            (with_link_and_place pred (link_of link) slot (SlotPlace.Own pass)) }
     {
         self.put_link(pred, link);
         self.put_slot(slot, SlotPlace::Own(pass));
@@ -173,8 +153,8 @@ impl Lists {
     pub(super) fn write(&mut self, event: Event, link: u64, key: u64)
         requires in_shape { IsInShape self.old.shape event.step }
         requires room { WordsHaveRoom self.old.shape self.old.epoch event.step }
-        ensures written { world_of self.new ≡ written self.old.shape event.pass event.step (link_of link) key (world_of self.old) }
-        ensures stays { (self.new.shape ≡ self.old.shape) × (length self.new.passes ≡ length self.old.passes) }
+        ensures { Writes self.old self.new
+            (written self.old.shape event.pass event.step (link_of link) key) }
     {
         match event.step {
             Step::Advance { .. } => self.advance(),

@@ -1,8 +1,8 @@
 //! Giving back a slot in hand.
-ghost use Rattle.std.specs.Prelude.{◌≡◌, ◌<◌, ◌++◌, [], ◌∷◌, length, None};
+ghost use Rattle.std.specs.Prelude.{◌<◌, length};
 ghost use Rattle.vbr_slots.specs.declared.pass.TheConstants.{POOL};
-ghost use Rattle.vbr_slots.specs.AtTables.{IsSameTable};
-ghost use Rattle.vbr_pools.specs.KeptSlots.{KeepsSlots};
+ghost use Rattle.vbr_slots.specs.AtTables.{IsSameTable, pass_of};
+ghost use Rattle.vbr_pools.specs.GivingBack.{PutsBack};
 ghost use Rattle.vbr_pools.specs.Hands.{IsHandOf};
 
 use crate::hand::Hand;
@@ -11,13 +11,10 @@ use vbr_slots::AtTable;
 /// As [`crate::give_back`].
 #[inline]
 pub fn give_back(at: &mut AtTable<'_>, hand: Hand)
-    requires hand { IsHandOf at.old.pass.now hand }
-    requires room { length at.old.pass.now.pool < POOL }
+    requires hand { IsHandOf (pass_of at.old) hand }
+    requires room { length (pass_of at.old).pool < POOL }
     ensures table { IsSameTable at.old at.new }
-    ensures trace { at.new.pass.now.trace ≡ at.old.pass.now.trace }
-    ensures pool { at.new.pass.now.pool ≡ at.old.pass.now.pool ++ hand.slot ∷ [] }
-    ensures hand { at.new.pass.now.hand ≡ None }
-    ensures kept { KeepsSlots at.old.pass.now at.new.pass.now }
+    ensures back { PutsBack (pass_of at.old) (pass_of at.new) hand.slot }
 {
     at.law();
     at.pass.keep(hand.into_slot());

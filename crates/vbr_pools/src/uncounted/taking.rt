@@ -1,16 +1,15 @@
 //! Taking a slot for a new incarnation.
-ghost use Rattle.std.specs.Prelude.{◌≡◌, ◌≢◌, ◌+◌, ◌≤◌, [], length, IfOk, IfErr, OnErr, Some, None};
-ghost use Rattle.vbr_slots.specs.Alone.{IsAlone};
-ghost use Rattle.vbr_slots.specs.AtTables.{IsSameTable};
-ghost use Rattle.vbr_slots.specs.Calls.{Quiet, Took};
-ghost use Rattle.vbr_slots.specs.Pools.{OwnPool};
-ghost use Rattle.vbr_slots.specs.Views.{KeepsPool, knows};
-ghost use Rattle.vbr_pools.specs.Advances.{AdvancesWhereNeeded};
-ghost use Rattle.vbr_pools.specs.KeptSlots.{KeepsSlots, TakesNoSlot, SharesWhereFull};
-ghost use Rattle.vbr_pools.specs.Budgets.{NeedsMore, steps_to_win, steps_to_take};
-ghost use Rattle.vbr_pools.specs.Pieces.{HasSlots, IsStampedBelow, IsBorn, IsChosen, IsScanned, TakeIsShort, Stops, Uses};
-ghost use Rattle.vbr_pools.specs.Refusals.{HadRoom, TakeIsRefused, LeavesPool, IsTakenOrSpent, TellsSpent};
-ghost use Rattle.vbr_pools.specs.Taking.{IsTaken};
+ghost use Rattle.std.specs.Prelude.{◌≡◌, ◌≢◌, ◌≤◌, [], IfOk, IfErr, Some, None};
+ghost use Rattle.vbr_slots.specs.AtTables.{IsSameTable, pass_of, trace_of};
+ghost use Rattle.vbr_slots.specs.Calls.{Took};
+ghost use Rattle.vbr_slots.specs.Views.{knows};
+ghost use Rattle.vbr_pools.specs.Pieces.{told_steps};
+ghost use Rattle.vbr_pools.specs.Pieces.{HasSlots, Probes, WinsNone};
+ghost use Rattle.vbr_pools.specs.Pieces.{Chooses, ChoosesNone, IsChosen};
+ghost use Rattle.vbr_pools.specs.Pieces.{IsScanned, IsStampedBelow, Scans, ScansPart};
+ghost use Rattle.vbr_pools.specs.Pieces.{BearsNone, IsBorn};
+ghost use Rattle.vbr_pools.specs.Refusals.{RefusesTake};
+ghost use Rattle.vbr_pools.specs.Taking.{IsTaken, Takes};
 
 use crate::budget::affords;
 use crate::hand::Hand;
@@ -20,25 +19,12 @@ use vbr_words::flags::{FLAGS, next_flag};
 
 /// As [`crate::take`], and tells how many steps it made.
 pub fn take(at: &mut AtTable<'_>, budget: u32) -> (Result<Hand, TakeRefusal>, u32)
-    requires empty_hand { at.old.pass.now.hand ≡ None }
+    requires empty_hand { (pass_of at.old).hand ≡ None }
     ensures table { IsSameTable at.old at.new }
-    ensures shared { SharesWhereFull 2 at.old.pass.now at.new.pass.now }
-    ensures advances { AdvancesWhereNeeded at.old.pass.now at.new.pass.now }
-    ensures took { Took at.old.pass.now.trace at.new.pass.now.trace result.1 }
-    ensures fits { result.1 ≤ budget }
-    ensures quiet { Quiet at.old.pass.now.trace at.new.pass.now.trace }
-    ensures ok { IfOk result.0 (λ hand. IsTaken at.old.pass.now at.new.pass.now hand) }
-    ensures refused { IfErr result.0 (λ refusal. TakeIsRefused at.old.pass.now at.new.pass.now budget refusal) }
-    ensures room { IfErr result.0 (λ refusal. HadRoom at.old.pass.now at.new.pass.now budget refusal) }
-    ensures pool { IfErr result.0 (λ refusal. LeavesPool at.old.pass.now at.new.pass.now) }
-    ensures hand { IfErr result.0 (λ refusal. at.new.pass.now.hand ≡ None) }
-    ensures kept { KeepsSlots at.old.pass.now at.new.pass.now }
-    ensures one { length at.old.pass.now.pool ≤ length at.new.pass.now.pool + 1 }
-    // No condition speaks of another pass: none can hold it up.
-    ensures ready { at.old.pass.now.pool ≢ [] → 80 ≤ budget → IsTakenOrSpent result.0 }
-    // Alone, it makes no more steps than these.
-    ensures few { IfOk result.0 (λ hand. IsAlone at.old.pass.now.trace at.new.pass.now.trace → result.1 ≤ steps_to_take at.old.pass.now.trace.shape at.old.pass.now.pool) }
-    ensures enough { IfErr result.0 (λ refusal. IsAlone at.old.pass.now.trace at.new.pass.now.trace → NeedsMore (steps_to_take at.old.pass.now.trace.shape at.old.pass.now.pool) budget refusal) }
+    ensures took { Took (trace_of at.old) (trace_of at.new) result.1 }
+    ensures takes { Takes (pass_of at.old) (pass_of at.new) budget }
+    ensures taken { IfOk result.0 (IsTaken (pass_of at.old) (pass_of at.new)) }
+    ensures refused { IfErr result.0 (RefusesTake (pass_of at.old) (pass_of at.new) budget) }
 {
     match take_on(at, budget) {
         Ok((hand, used)) => (Ok(hand), used),
@@ -48,25 +34,12 @@ pub fn take(at: &mut AtTable<'_>, budget: u32) -> (Result<Hand, TakeRefusal>, u3
 
 // Takes a slot piece by piece. Returns the hand, or why there is none, each with how many steps were made.
 fn take_on(at: &mut AtTable<'_>, budget: u32) -> Result<(Hand, u32), (TakeRefusal, u32)>
-    requires empty_hand { at.old.pass.now.hand ≡ None }
+    requires empty_hand { (pass_of at.old).hand ≡ None }
     ensures table { IsSameTable at.old at.new }
-    ensures quiet { Quiet at.old.pass.now.trace at.new.pass.now.trace }
-    ensures counted { IfOk result (λ r. (r.1 ≤ budget) × Took at.old.pass.now.trace at.new.pass.now.trace r.1) }
-    ensures told { IfErr result (λ e. (e.1 ≤ budget) × Took at.old.pass.now.trace at.new.pass.now.trace e.1) }
-    ensures ok { IfOk result (λ r. IsTaken at.old.pass.now at.new.pass.now r.0) }
-    ensures refused { IfErr result (λ e. TakeIsRefused at.old.pass.now at.new.pass.now budget e.0) }
-    ensures room { IfErr result (λ e. HadRoom at.old.pass.now at.new.pass.now budget e.0) }
-    ensures pool { IfErr result (λ e. LeavesPool at.old.pass.now at.new.pass.now) }
-    ensures hand { IfErr result (λ e. at.new.pass.now.hand ≡ None) }
-    ensures kept { KeepsSlots at.old.pass.now at.new.pass.now }
-    ensures one { length at.old.pass.now.pool ≤ length at.new.pass.now.pool + 1 }
-    ensures shared { SharesWhereFull 2 at.old.pass.now at.new.pass.now }
-    ensures advances { AdvancesWhereNeeded at.old.pass.now at.new.pass.now }
-    // No condition speaks of another pass: none can hold it up.
-    ensures ready { at.old.pass.now.pool ≢ [] → 80 ≤ budget → IfErr result (λ e. TellsSpent e.0) }
-    // Alone, it makes no more steps than these.
-    ensures few { IfOk result (λ r. IsAlone at.old.pass.now.trace at.new.pass.now.trace → r.1 ≤ steps_to_take at.old.pass.now.trace.shape at.old.pass.now.pool) }
-    ensures enough { IfErr result (λ e. IsAlone at.old.pass.now.trace at.new.pass.now.trace → NeedsMore (steps_to_take at.old.pass.now.trace.shape at.old.pass.now.pool) budget e.0) }
+    ensures took { Took (trace_of at.old) (trace_of at.new) (told_steps result) }
+    ensures takes { Takes (pass_of at.old) (pass_of at.new) budget }
+    ensures taken { IfOk result (λ r. IsTaken (pass_of at.old) (pass_of at.new) r.0) }
+    ensures refused { IfErr result (λ e. RefusesTake (pass_of at.old) (pass_of at.new) budget e.0) }
 {
     let used = win_slot(at, budget)?;
     let (slot, used) = choose(at, budget, used)?;
@@ -78,17 +51,11 @@ fn take_on(at: &mut AtTable<'_>, budget: u32) -> Result<(Hand, u32), (TakeRefusa
 // slot of each, and then the lowest whose flag it found there, until the word has none. Returns how many
 // steps were used.
 fn win_slot(at: &mut AtTable<'_>, budget: u32) -> Result<u32, (TakeRefusal, u32)>
-    requires empty_hand { at.old.pass.now.hand ≡ None }
+    requires empty_hand { (pass_of at.old).hand ≡ None }
     ensures table { IsSameTable at.old at.new }
-    ensures quiet { Quiet at.old.pass.now.trace at.new.pass.now.trace }
-    ensures takes_no_slot { TakesNoSlot at.old.pass.now at.new.pass.now }
-    ensures ok { IfOk result (λ used. HasSlots at.old.pass.now at.new.pass.now budget used) }
-    ensures empty { IfErr result (λ e. at.old.pass.now.pool ≡ []) }
-    ensures refused { IfErr result (λ e. TakeIsRefused at.old.pass.now at.new.pass.now budget e.0) }
-    ensures told { IfErr result (λ e. Uses at.old.pass.now at.new.pass.now budget 0 e.1 budget) }
-    ensures pool { IfErr result (λ e. KeepsPool at.old.pass.now at.new.pass.now) }
-    ensures few { IfOk result (λ used. at.old.pass.now.pool ≡ [] → IsAlone at.old.pass.now.trace at.new.pass.now.trace → used ≤ steps_to_win at.old.pass.now.trace.shape) }
-    ensures enough { IfErr result (λ e. IsAlone at.old.pass.now.trace at.new.pass.now.trace → NeedsMore (steps_to_win at.old.pass.now.trace.shape) budget e.0) }
+    ensures probes { Probes (pass_of at.old) (pass_of at.new) }
+    ensures won { IfOk result (HasSlots (pass_of at.old) (pass_of at.new) budget) }
+    ensures none { IfErr result (WinsNone (pass_of at.old) (pass_of at.new) budget) }
 {
     if !at.pass.pool().is_empty() {
         return Ok(0);
@@ -125,24 +92,20 @@ fn win_slot(at: &mut AtTable<'_>, budget: u32) -> Result<u32, (TakeRefusal, u32)
 // advances the epoch, where it is still that one and not the last, and chooses the oldest slot. Returns
 // the slot, and how many steps were used.
 fn choose(at: &mut AtTable<'_>, budget: u32, used: u32) -> Result<(u32, u32), (TakeRefusal, u32)>
-    requires some { at.old.pass.now.pool ≢ [] }
-    requires empty_hand { at.old.pass.now.hand ≡ None }
+    requires some { (pass_of at.old).pool ≢ [] }
+    requires empty_hand { (pass_of at.old).hand ≡ None }
     requires within { used ≤ budget }
     ensures table { IsSameTable at.old at.new }
-    ensures quiet { Quiet at.old.pass.now.trace at.new.pass.now.trace }
-    ensures pool { KeepsPool at.old.pass.now at.new.pass.now }
-    ensures ok { IfOk result (λ r. IsChosen at.old.pass.now at.new.pass.now budget used r.0 r.1) }
-    ensures refused { IfErr result (λ e. Stops at.old.pass.now at.new.pass.now budget used (length at.old.pass.now.pool + 1) e.0) }
-    ensures told { IfErr result (λ e. Uses at.old.pass.now at.new.pass.now budget used e.1 (length at.old.pass.now.pool + 1)) }
-    ensures kept { KeepsSlots at.old.pass.now at.new.pass.now }
-    ensures shared { SharesWhereFull 1 at.old.pass.now at.new.pass.now }
-    ensures advances { AdvancesWhereNeeded at.old.pass.now at.new.pass.now }
+    ensures chooses { Chooses (pass_of at.old) (pass_of at.new) }
+    ensures chosen { IfOk result (IsChosen (pass_of at.old) (pass_of at.new) budget used) }
+    ensures none { IfErr result (ChoosesNone (pass_of at.old) (pass_of at.new) budget used) }
 {
     if !affords(budget, used) {
         return Err((TakeRefusal::OutOfSteps { used }, used));
     }
     let epoch = at.pass.read_epoch(at.slots);
     let (found, used) = scan(at, epoch, budget, used + 1)?;
+    at.law();
     if let Some(slot) = found {
         return Ok((slot, used));
     }
@@ -167,14 +130,9 @@ fn scan(
 ) -> Result<(Option<u32>, u32), (TakeRefusal, u32)>
     requires within { used ≤ budget }
     ensures table { IsSameTable at.old at.new }
-    ensures quiet { Quiet at.old.pass.now.trace at.new.pass.now.trace }
-    ensures pool { KeepsPool at.old.pass.now at.new.pass.now }
-    ensures own { OwnPool at.new.pass.now.trace.shape (knows at.new.pass.now.trace) at.new.pass.now.pool at.new.pass.now.hand }
-    ensures known { knows at.new.pass.now.trace ≡ knows at.old.pass.now.trace }
-    ensures takes_no_slot { TakesNoSlot at.old.pass.now at.new.pass.now }
-    ensures ok { IfOk result (λ r. IsScanned at.old.pass.now at.new.pass.now epoch budget used r.0 r.1) }
-    ensures refused { IfErr result (λ e. TakeIsShort at.old.pass.now at.new.pass.now budget used (length at.old.pass.now.pool) e.0) }
-    ensures told { IfErr result (λ e. Uses at.old.pass.now at.new.pass.now budget used e.1 (length at.old.pass.now.pool)) }
+    ensures scans { Scans (pass_of at.old) (pass_of at.new) }
+    ensures scanned { IfOk result (IsScanned (pass_of at.old) (pass_of at.new) epoch budget used) }
+    ensures part { IfErr result (ScansPart (pass_of at.old) (pass_of at.new) budget used) }
 {
     for i in 0..at.pass.pool().len() {
         if !affords(budget, used) {
@@ -199,14 +157,11 @@ fn bear(
     used: u32,
 ) -> Result<(Hand, u32), (TakeRefusal, u32)>
     requires within { used ≤ budget }
-    requires below { IsStampedBelow at.old.pass.now (knows at.old.pass.now.trace).epoch (Some slot) }
-    requires empty_hand { at.old.pass.now.hand ≡ None }
+    requires below { IsStampedBelow (pass_of at.old) (knows (trace_of at.old)).epoch (Some slot) }
+    requires empty_hand { (pass_of at.old).hand ≡ None }
     ensures table { IsSameTable at.old at.new }
-    ensures ok { IfOk result (λ r. IsBorn at.old.pass.now at.new.pass.now slot budget used r.0) }
-    ensures used { IfOk result (λ r. r.1 ≡ used + 1) }
-    ensures refused { IfErr result (λ e. TakeIsShort at.old.pass.now at.new.pass.now budget used 0 e.0) }
-    ensures told { IfErr result (λ e. Uses at.old.pass.now at.new.pass.now budget used e.1 0) }
-    ensures same { OnErr result (at.new.pass.now ≡ at.old.pass.now) }
+    ensures born { IfOk result (IsBorn (pass_of at.old) (pass_of at.new) slot budget used) }
+    ensures none { IfErr result (BearsNone (pass_of at.old) (pass_of at.new) budget used) }
 {
     if !affords(budget, used) {
         return Err((TakeRefusal::OutOfSteps { used }, used));

@@ -1,7 +1,7 @@
 //! The plain set.
 use crate::refusals::round::is_right;
 use std::alloc::Global;
-use vbr_core::{Op, PlainSet};
+use vbr_machine::{Op, PlainSet};
 
 // So many keys that the set grows several times.
 const KEYS: u64 = 40;

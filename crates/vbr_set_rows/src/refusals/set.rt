@@ -1,5 +1,5 @@
 //! The set.
-ghost use Rattle.std.specs.Prelude.{◌≡◌, ◌≤◌, None, IfSome};
+ghost use Rattle.std.specs.Prelude.{◌≡◌, ◌≤◌, None, length, IfSome};
 ghost use Rattle.vbr_slots.specs.Closing.{AllOf};
 ghost use Rattle.vbr_slots.specs.Views.{new_passes};
 
@@ -31,6 +31,37 @@ pub fn close(set: VbrSet, alloc: Global, passes: Vec<Pass>) -> Option<(Report, b
         Err(CloseError::Memory(set, passes)) => Some((set.close(alloc, passes).ok()?, true)),
         Err(CloseError::Missing(..)) => None,
     }
+}
+
+// What is in a set that stays open, and whether memory was refused.
+fn tell(set: &VbrSet, alloc: Global, passes: &mut Vec<Pass>) -> Option<(Report, bool)>
+    requires of_set { AllOf set.now passes.old.items }
+    requires all { set.now.passes ≤ length passes.old.items }
+    ensures { passes.new.items ≡ passes.old.items }
+{
+    match set.report(alloc, passes) {
+        Ok(report) => Some((report, false)),
+        Err(_) => Some((set.report(alloc, passes).ok()?, true)),
+    }
+}
+
+// Opens a set, makes a call, tells what is in it, makes another, and closes it.
+fn tells_and_closes(alloc: Global) -> Option<bool> {
+    let shape = Shape::new(4, 2, 10).ok()?;
+    let (set, mut passes, refused) = open(alloc, shape)?;
+    let is_first = set.insert(&mut passes[1], 9, 100) == Ok(true);
+    let (report, refused_report) = tell(&set, alloc, &mut passes)?;
+    let is_second = set.insert(&mut passes[0], 2, 100) == Ok(true);
+    let (last, refused_close) = close(set, alloc, passes)?;
+    let is_told = report.keys.as_slice() == [9].as_slice()
+        && (report.epoch, report.live, report.marked, report.free) == (1, 1, 0, 3)
+        && last.keys.as_slice() == [2, 9].as_slice();
+    (is_first && is_second && is_told).then_some(refused | refused_report | refused_close)
+}
+
+#[test]
+fn set_tells_and_closes(rt: HostRuntime) {
+    is_right(&rt, tells_and_closes(rt.alloc()));
 }
 
 // Opens a set, makes three calls, and closes it.

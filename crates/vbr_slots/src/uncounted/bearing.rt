@@ -1,15 +1,16 @@
 //! The steps that make a new incarnation in a slot of the pass.
 ghost use Rattle.std.specs.Prelude.{◌≡◌, ◌<◌, true, Some};
-ghost use Rattle.vbr_words.specs.Words.{link_of, word_of};
-ghost use Rattle.vbr_core.specs.Acceptance.{MayBear, IsNextIn, IsNextHeld, stamp_in};
-ghost use Rattle.vbr_core.specs.Learning.{link_written};
-ghost use Rattle.vbr_core.specs.declared.event.Step.TheVariants.{StoreBirth, StoreKey, StoreValue, StoreLink};
-ghost use Rattle.vbr_slots.specs.Pools.{HasRoomFor, without};
+ghost use Rattle.vbr_words.specs.Words.{link_of};
+ghost use Rattle.vbr_machine.specs.Acceptance.{MayBear, IsNextIn, IsNextHeld, stamp_in};
+ghost use Rattle.vbr_machine.specs.declared.event.Step.TheVariants.{StoreKey, StoreValue, StoreLink};
+ghost use Rattle.vbr_slots.specs.Asked.{IsWritten};
+ghost use Rattle.vbr_slots.specs.OwnSlots.{BearsIn, epoch_of, holding_of};
+ghost use Rattle.vbr_slots.specs.Pools.{HasRoomFor};
 ghost use Rattle.vbr_slots.specs.Views.{IsOf, Did, KeepsPool, knows};
 
 use crate::slots::Slots;
 use crate::stepper::Stepper;
-use vbr_core::Step;
+use vbr_machine::Step;
 use vbr_words::{Nodes, Place, decode};
 
 impl Stepper {
@@ -18,12 +19,10 @@ impl Stepper {
     pub fn store_birth<N: Nodes>(&mut self, slots: &Slots<N>, slot: u32)
         requires own { IsOf self.old.trace slots.now }
         requires slot { slot < slots.now.shape.slots }
-        requires may_bear { MayBear ((knows self.old.trace).own slot) }
-        requires above_stamp { stamp_in ((knows self.old.trace).own slot) < (knows self.old.trace).epoch }
+        requires may_bear { MayBear (holding_of self.old slot) }
+        requires above_stamp { stamp_in (holding_of self.old slot) < epoch_of self.old }
         requires hand { HasRoomFor self.old.hand slot }
-        ensures step { let epoch = (knows self.old.trace).epoch in Did (StoreBirth slot epoch) self.old.trace self.new.trace epoch }
-        ensures pool { self.new.pool ≡ without slot self.old.pool }
-        ensures hand { self.new.hand ≡ Some slot }
+        ensures { BearsIn slot self.old self.new }
     {
         self.leave_pool(slot);
         let birth = self.epoch();
@@ -64,7 +63,7 @@ impl Stepper {
         requires in_hand { self.old.hand ≡ Some slot }
         requires next_in { IsNextIn slots.now.shape (link_of word).slot }
         requires next_held { IsNextHeld (knows self.old.trace).checked (link_of word).slot }
-        requires word { word ≡ word_of (link_written (knows self.old.trace) (StoreLink slot (link_of word).slot)) }
+        requires word { IsWritten self.old.trace (StoreLink slot (link_of word).slot) word }
         ensures step { Did (StoreLink slot (link_of word).slot) self.old.trace self.new.trace word }
         ensures pool { KeepsPool self.old self.new }
     {

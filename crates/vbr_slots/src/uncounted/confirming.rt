@@ -1,16 +1,16 @@
 //! The steps that answer a call by one more load of a link word.
-ghost use Rattle.std.specs.Prelude.{◌≡◌, ◌≢◌, ◌<◌, false, MatchResult};
-ghost use Rattle.vbr_words.specs.Words.{link_of};
-ghost use Rattle.vbr_core.specs.Acceptance.{Accepts, IsAtIn, HasChecked, IsInRange, IsOpIn};
-ghost use Rattle.vbr_core.specs.declared.event.Step.TheVariants.{ConfirmPresent, ConfirmAbsent};
-ghost use Rattle.vbr_core.specs.declared.history.Op.TheVariants.{Remove};
+ghost use Rattle.std.specs.Prelude.{◌≡◌, ◌<◌, OnOk, IfErr};
+ghost use Rattle.vbr_machine.specs.Acceptance.{Accepts, IsAtIn, IsOpIn};
+ghost use Rattle.vbr_machine.specs.declared.event.Step.TheVariants.{ConfirmPresent, ConfirmAbsent};
+ghost use Rattle.vbr_slots.specs.Asked.{IsChecked};
+ghost use Rattle.vbr_slots.specs.Expected.{Finds, FindsOther};
 ghost use Rattle.vbr_slots.specs.LookUps.{look_up};
-ghost use Rattle.vbr_slots.specs.Views.{IsOf, Did, KeepsPool, knows};
+ghost use Rattle.vbr_slots.specs.Views.{IsOf, knows};
 
 use crate::slots::Slots;
 use crate::stepper::Stepper;
 use crate::stepping::place_of_link;
-use vbr_core::{Op, Step};
+use vbr_machine::{Op, Step};
 use vbr_words::{At, Nodes, Place};
 
 impl Stepper {
@@ -25,14 +25,12 @@ impl Stepper {
     ) -> Result<(), u64>
         requires own { IsOf self.old.trace slots.now }
         requires slot { slot < slots.now.shape.slots }
-        requires op { op ≢ Remove }
         requires asked { IsOpIn slots.now.shape op }
-        requires held { HasChecked slots.now.shape (knows self.old.trace) (ConfirmPresent op slot expected) }
-        requires unmarked { (link_of expected).mark ≡ false }
-        ensures step { MatchResult result
-            (λ _. Did (ConfirmPresent op slot expected) self.old.trace self.new.trace expected)
-            (λ found. Did (ConfirmPresent op slot expected) self.old.trace self.new.trace found × (found ≢ expected)) }
-        ensures pool { KeepsPool self.old self.new }
+        requires checked { IsChecked slots.now self.old.trace (ConfirmPresent op slot expected) }
+        ensures found { OnOk result
+            (Finds (ConfirmPresent op slot expected) self.old self.new expected) }
+        ensures other { IfErr result
+            (FindsOther (ConfirmPresent op slot expected) self.old self.new expected) }
     {
         let step = Step::ConfirmPresent { op, slot, expected };
         match slots.load(&mut self.runner, step, Place::LinkOf(slot)) {
@@ -54,12 +52,11 @@ impl Stepper {
         requires own { IsOf self.old.trace slots.now }
         requires at { IsAtIn slots.now.shape at }
         requires asked { IsOpIn slots.now.shape op }
-        requires held { HasChecked slots.now.shape (knows self.old.trace) (ConfirmAbsent op key at expected) }
-        requires in_range { IsInRange slots.now.shape (knows self.old.trace) (ConfirmAbsent op key at expected) }
-        ensures step { MatchResult result
-            (λ _. Did (ConfirmAbsent op key at expected) self.old.trace self.new.trace expected)
-            (λ found. Did (ConfirmAbsent op key at expected) self.old.trace self.new.trace found × (found ≢ expected)) }
-        ensures pool { KeepsPool self.old self.new }
+        requires checked { IsChecked slots.now self.old.trace (ConfirmAbsent op key at expected) }
+        ensures found { OnOk result
+            (Finds (ConfirmAbsent op key at expected) self.old self.new expected) }
+        ensures other { IfErr result
+            (FindsOther (ConfirmAbsent op key at expected) self.old self.new expected) }
     {
         let step = Step::ConfirmAbsent {
             op,
@@ -84,11 +81,12 @@ impl Stepper {
         expected: u64,
     ) -> Result<(), u64>
         requires own { IsOf self.old.trace slots.now }
-        requires accepted { Accepts slots.now.shape (knows self.old.trace) (look_up present key at expected) }
-        ensures step { MatchResult result
-            (λ _. Did (look_up present key at expected) self.old.trace self.new.trace expected)
-            (λ found. Did (look_up present key at expected) self.old.trace self.new.trace found × (found ≢ expected)) }
-        ensures pool { KeepsPool self.old self.new }
+        requires accepted { Accepts slots.now.shape (knows self.old.trace)
+            (look_up present key at expected) }
+        ensures found { OnOk result
+            (Finds (look_up present key at expected) self.old self.new expected) }
+        ensures other { IfErr result
+            (FindsOther (look_up present key at expected) self.old self.new expected) }
     {
         let step = step_of_look_up(present, key, at, expected);
         match slots.load_at(&mut self.runner, step, at) {

@@ -1,11 +1,12 @@
 //! The steps on the epoch.
-ghost use Rattle.std.specs.Prelude.{◌≡◌, ◌≢◌, ℕ, ◌<◌, ◌≤◌, MatchBool};
-ghost use Rattle.vbr_core.specs.declared.event.Step.TheVariants.{ReadEpoch, Advance};
+ghost use Rattle.std.specs.Prelude.{ℕ, ◌<◌, ◌≤◌, MatchBool};
+ghost use Rattle.vbr_machine.specs.declared.event.Step.TheVariants.{ReadEpoch, Advance};
+ghost use Rattle.vbr_slots.specs.Expected.{Finds, FindsOther};
 ghost use Rattle.vbr_slots.specs.Views.{IsOf, Did, KeepsPool};
 
 use crate::slots::Slots;
 use crate::stepper::Stepper;
-use vbr_core::Step;
+use vbr_machine::Step;
 use vbr_words::{Nodes, Place};
 
 impl Stepper {
@@ -25,10 +26,9 @@ impl Stepper {
         requires own { IsOf self.old.trace slots.now }
         requires some { 1 ≤ from }
         requires below_last { from < slots.now.shape.last_epoch }
-        ensures step { MatchBool result
-            (Did (Advance from) self.old.trace self.new.trace from)
-            ((found : ℕ) × Did (Advance from) self.old.trace self.new.trace found × (found ≢ from)) }
-        ensures pool { KeepsPool self.old self.new }
+        ensures { MatchBool result
+            (Finds (Advance from) self.old self.new from)
+            ((found : ℕ) × FindsOther (Advance from) self.old self.new from found) }
     {
         let step = Step::Advance { from };
         slots.exchange(&mut self.runner, step, Place::Epoch, from, from + 1) == from

@@ -1,16 +1,16 @@
 //! The steps that exchange a link word: insert, remove and unlink (Michael 2002), each on the whole
 //! word with its version (Sheffi, Herlihy and Petrank 2021).
-ghost use Rattle.std.specs.Prelude.{◌≡◌, ◌≢◌, ◌<◌, false, Some, None, OnOk, OnErr, MatchResult};
-ghost use Rattle.vbr_words.specs.Words.{link_of, word_of};
-ghost use Rattle.vbr_core.specs.Acceptance.{IsAtIn, HasChecked, IsInRange};
-ghost use Rattle.vbr_core.specs.Learning.{link_written};
-ghost use Rattle.vbr_core.specs.declared.event.Step.TheVariants.{Publish, Mark, Unlink};
-ghost use Rattle.vbr_slots.specs.Views.{IsOf, Did, KeepsPool, knows};
+ghost use Rattle.std.specs.Prelude.{◌≡◌, ◌<◌, Some, OnOk, IfErr};
+ghost use Rattle.vbr_machine.specs.Acceptance.{IsAtIn};
+ghost use Rattle.vbr_machine.specs.declared.event.Step.TheVariants.{Publish, Mark, Unlink};
+ghost use Rattle.vbr_slots.specs.Asked.{IsChecked, IsWritten};
+ghost use Rattle.vbr_slots.specs.Expected.{Finds, FindsOther, Publishes};
+ghost use Rattle.vbr_slots.specs.Views.{IsOf};
 
 use crate::slots::Slots;
 use crate::stepper::Stepper;
 use crate::stepping::place_of_link;
-use vbr_core::Step;
+use vbr_machine::Step;
 use vbr_words::{At, Nodes, Place, with_mark};
 
 impl Stepper {
@@ -27,15 +27,11 @@ impl Stepper {
         requires own { IsOf self.old.trace slots.now }
         requires in_hand { self.old.hand ≡ Some slot }
         requires pred { IsAtIn slots.now.shape pred }
-        requires held { HasChecked slots.now.shape (knows self.old.trace) (Publish pred expected slot) }
-        requires in_range { IsInRange slots.now.shape (knows self.old.trace) (Publish pred expected slot) }
-        requires new { new ≡ word_of (link_written (knows self.old.trace) (Publish pred expected slot)) }
-        ensures step { MatchResult result
-            (λ _. Did (Publish pred expected slot) self.old.trace self.new.trace expected)
-            (λ found. Did (Publish pred expected slot) self.old.trace self.new.trace found × (found ≢ expected)) }
-        ensures ok { OnOk result (self.new.hand ≡ None) }
-        ensures err { OnErr result (self.new.hand ≡ self.old.hand) }
-        ensures pool { self.new.pool ≡ self.old.pool }
+        requires checked { IsChecked slots.now self.old.trace (Publish pred expected slot) }
+        requires new { IsWritten self.old.trace (Publish pred expected slot) new }
+        ensures found { OnOk result (Publishes pred expected slot self.old self.new) }
+        ensures other { IfErr result
+            (FindsOther (Publish pred expected slot) self.old self.new expected) }
     {
         let step = Step::Publish {
             pred,
@@ -56,17 +52,13 @@ impl Stepper {
     pub fn mark<N: Nodes>(&mut self, slots: &Slots<N>, slot: u32, expected: u64) -> Result<(), u64>
         requires own { IsOf self.old.trace slots.now }
         requires slot { slot < slots.now.shape.slots }
-        requires held { HasChecked slots.now.shape (knows self.old.trace) (Mark slot expected) }
-        requires unmarked { (link_of expected).mark ≡ false }
-        ensures step { MatchResult result
-            (λ _. Did (Mark slot expected) self.old.trace self.new.trace expected)
-            (λ found. Did (Mark slot expected) self.old.trace self.new.trace found × (found ≢ expected)) }
-        ensures pool { KeepsPool self.old self.new }
+        requires checked { IsChecked slots.now self.old.trace (Mark slot expected) }
+        ensures found { OnOk result (Finds (Mark slot expected) self.old self.new expected) }
+        ensures other { IfErr result (FindsOther (Mark slot expected) self.old self.new expected) }
     {
         let step = Step::Mark { slot, expected };
         let new = with_mark(expected);
-        let place = Place::LinkOf(slot);
-        match slots.exchange(&mut self.runner, step, place, expected, new) {
+        match slots.exchange(&mut self.runner, step, Place::LinkOf(slot), expected, new) {
             found if found == expected => Ok(()),
             found => Err(found),
         }
@@ -85,13 +77,11 @@ impl Stepper {
         requires own { IsOf self.old.trace slots.now }
         requires pred { IsAtIn slots.now.shape pred }
         requires slot { slot < slots.now.shape.slots }
-        requires held { HasChecked slots.now.shape (knows self.old.trace) (Unlink pred expected slot) }
-        requires in_range { IsInRange slots.now.shape (knows self.old.trace) (Unlink pred expected slot) }
-        requires new { new ≡ word_of (link_written (knows self.old.trace) (Unlink pred expected slot)) }
-        ensures step { MatchResult result
-            (λ _. Did (Unlink pred expected slot) self.old.trace self.new.trace expected)
-            (λ found. Did (Unlink pred expected slot) self.old.trace self.new.trace found × (found ≢ expected)) }
-        ensures pool { KeepsPool self.old self.new }
+        requires checked { IsChecked slots.now self.old.trace (Unlink pred expected slot) }
+        requires new { IsWritten self.old.trace (Unlink pred expected slot) new }
+        ensures found { OnOk result (Finds (Unlink pred expected slot) self.old self.new expected) }
+        ensures other { IfErr result
+            (FindsOther (Unlink pred expected slot) self.old self.new expected) }
     {
         let step = Step::Unlink {
             pred,

@@ -1,15 +1,15 @@
 //! The steps that load what a traversal reads, one each. A read is pending until the epoch is read
 //! again.
 ghost use Rattle.std.specs.Prelude.{◌≡◌, ◌<◌, true, IsTrue};
-ghost use Rattle.vbr_core.specs.Acceptance.{IsAtIn};
-ghost use Rattle.vbr_core.specs.Knowledge.{holds, holds_at};
-ghost use Rattle.vbr_core.specs.declared.event.Step.TheVariants.{LoadLink, LoadBirth, LoadKey, LoadValue};
+ghost use Rattle.vbr_machine.specs.Acceptance.{IsAtIn};
+ghost use Rattle.vbr_machine.specs.Knowledge.{holds, holds_at};
+ghost use Rattle.vbr_machine.specs.declared.event.Step.TheVariants.{LoadLink, LoadBirth, LoadKey, LoadValue};
 ghost use Rattle.vbr_slots.specs.Views.{IsOf, Did, KeepsPool, knows};
 
 use crate::slots::Slots;
 use crate::stepper::Stepper;
 use crate::stepping::place_of_link;
-use vbr_core::Step;
+use vbr_machine::Step;
 use vbr_words::{At, Nodes, Place};
 
 impl Stepper {

@@ -1,7 +1,7 @@
 //! The meeting of two passes, and what a token tells.
 ghost use Rattle.std.specs.Prelude.{◌≡◌, ℕ};
-ghost use Rattle.vbr_core.specs.Runs.{Begins, BeginsFor};
-ghost use Rattle.vbr_core.specs.declared.event.Step.TheVariants.{ReadEpoch};
+ghost use Rattle.vbr_machine.specs.Runs.{Begins, BeginsFor};
+ghost use Rattle.vbr_machine.specs.declared.event.Step.TheVariants.{ReadEpoch};
 ghost use Rattle.vbr_slots.specs.Tokens.{Since};
 ghost use Rattle.vbr_slots.specs.Views.{IsOf, Did, KeepsPool};
 

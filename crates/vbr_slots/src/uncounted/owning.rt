@@ -1,14 +1,14 @@
 //! The steps that take a slot out of the shared pool, put it back, and read and store its stamp.
-ghost use Rattle.std.specs.Prelude.{◌≡◌, ℕ, ◌<◌, true, false, MatchResult, OnOk, IsSome, Contains};
-ghost use Rattle.vbr_words.specs.Flags.{has_flag};
-ghost use Rattle.vbr_core.specs.Acceptance.{IsFree, IsReread, MayBear, stamp_in};
-ghost use Rattle.vbr_core.specs.declared.event.Step.TheVariants.{LoadStamp, StoreStamp, Raise, TakeFlag};
+ghost use Rattle.std.specs.Prelude.{◌≡◌, ℕ, ◌<◌, OnOk, IfErr, IsSome};
+ghost use Rattle.vbr_machine.specs.Acceptance.{IsFree, IsReread};
+ghost use Rattle.vbr_machine.specs.declared.event.Step.TheVariants.{LoadStamp, StoreStamp, Raise};
+ghost use Rattle.vbr_slots.specs.OwnSlots.{IsKnownStamp, MissesFlag, TakesFlag, epoch_of, holding_of};
 ghost use Rattle.vbr_slots.specs.Pools.{without};
-ghost use Rattle.vbr_slots.specs.Views.{IsOf, Did, KeepsPool, knows};
+ghost use Rattle.vbr_slots.specs.Views.{IsOf, Did, KeepsPool};
 
 use crate::slots::Slots;
 use crate::stepper::Stepper;
-use vbr_core::Step;
+use vbr_machine::Step;
 use vbr_words::flags::{all_but, flag_of, has_flag, word_of_flag};
 use vbr_words::{Nodes, Place};
 
@@ -18,9 +18,9 @@ impl Stepper {
     pub fn load_stamp<N: Nodes>(&mut self, slots: &Slots<N>, slot: u32) -> u64
         requires own { IsOf self.old.trace slots.now }
         requires slot { slot < slots.now.shape.slots }
-        requires owned { IsSome ((knows self.old.trace).own slot) }
+        requires owned { IsSome (holding_of self.old slot) }
         ensures step { Did (LoadStamp slot) self.old.trace self.new.trace result }
-        ensures known { MayBear ((knows self.old.trace).own slot) → result ≡ stamp_in ((knows self.old.trace).own slot) }
+        ensures known { IsKnownStamp (holding_of self.old slot) result }
         ensures pool { KeepsPool self.old self.new }
     {
         slots.load(
@@ -35,8 +35,9 @@ impl Stepper {
     pub fn store_stamp<N: Nodes>(&mut self, slots: &Slots<N>, slot: u32)
         requires own { IsOf self.old.trace slots.now }
         requires slot { slot < slots.now.shape.slots }
-        requires reread { IsReread ((knows self.old.trace).own slot) }
-        ensures step { let epoch = (knows self.old.trace).epoch in Did (StoreStamp slot epoch) self.old.trace self.new.trace epoch }
+        requires reread { IsReread (holding_of self.old slot) }
+        ensures step { let epoch = epoch_of self.old in
+            Did (StoreStamp slot epoch) self.old.trace self.new.trace epoch }
         ensures pool { KeepsPool self.old self.new }
     {
         let stamp = self.epoch();
@@ -49,7 +50,7 @@ impl Stepper {
     pub fn raise<N: Nodes>(&mut self, slots: &Slots<N>, slot: u32)
         requires own { IsOf self.old.trace slots.now }
         requires slot { slot < slots.now.shape.slots }
-        requires free { IsFree ((knows self.old.trace).own slot) }
+        requires free { IsFree (holding_of self.old slot) }
         ensures step { (found : ℕ) × Did (Raise slot) self.old.trace self.new.trace found }
         ensures pool { self.new.pool ≡ without slot self.old.pool }
         ensures hand { self.new.hand ≡ self.old.hand }
@@ -64,11 +65,8 @@ impl Stepper {
     pub fn take_flag<N: Nodes>(&mut self, slots: &Slots<N>, slot: u32) -> Result<(), u64>
         requires own { IsOf self.old.trace slots.now }
         requires slot { slot < slots.now.shape.slots }
-        ensures step { MatchResult result
-            (λ taken. (found : ℕ) × Did (TakeFlag slot) self.old.trace self.new.trace found × (has_flag found slot ≡ true))
-            (λ found. Did (TakeFlag slot) self.old.trace self.new.trace found × (has_flag found slot ≡ false)) }
-        ensures outside { OnOk result (¬ (Contains self.new.pool slot)) }
-        ensures pool { KeepsPool self.old self.new }
+        ensures taken { OnOk result (TakesFlag slot self.old self.new) }
+        ensures missed { IfErr result (MissesFlag slot self.old self.new) }
     {
         let place = Place::Flags(word_of_flag(slot));
         let step = Step::TakeFlag { slot };

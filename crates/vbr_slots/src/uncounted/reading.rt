@@ -1,16 +1,16 @@
 //! Loads in a row that end with a read of the epoch. What they loaded is checked where the epoch is the
 //! one that the pass read before. Their steps are counted together.
 ghost use Rattle.std.specs.Prelude.{◌≡◌, ◌<◌, IsTrue};
-ghost use Rattle.vbr_core.specs.Acceptance.{IsAtIn};
-ghost use Rattle.vbr_core.specs.Knowledge.{holds, holds_at};
-ghost use Rattle.vbr_core.specs.declared.event.Step.TheVariants.{LoadLink, LoadKey};
+ghost use Rattle.vbr_machine.specs.Acceptance.{IsAtIn};
+ghost use Rattle.vbr_machine.specs.Knowledge.{holds, holds_at};
+ghost use Rattle.vbr_machine.specs.declared.event.Step.TheVariants.{LoadLink, LoadKey};
 ghost use Rattle.vbr_slots.specs.Reads.{Reads, ReadsNode};
 ghost use Rattle.vbr_slots.specs.Views.{IsOf, KeepsPool, knows};
 
 use crate::slots::Slots;
 use crate::stepper::Stepper;
 use crate::stepping::place_of_link;
-use vbr_core::Step;
+use vbr_machine::Step;
 use vbr_words::{At, Nodes, Place};
 
 impl Stepper {

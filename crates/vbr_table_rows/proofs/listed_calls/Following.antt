@@ -1,19 +1,21 @@
 -- A list of events on a running table: each pass knows what it knows in the world that the events lead to, since it was shown words that teach the same.
 use Rattle.std.proofs.Common.{◌≡◌, ◌≢◌, ℕ, zero, suc, ◌<◌, ◌++◌, List, ◌∷◌, Bool, true, false, Some, None, Result, Ok, Err, cond, refl, sym, ap, ◌∙◌, subst, eq-eqb, arith}
-use Rattle.std.specs.Prelude.{MatchResult, ◌==◌}
+use Rattle.std.specs.Prelude.{MatchResult, OnOk, IfErr, ◌==◌}
 use Rattle.std.proofs.lemmas.Bool.{ne_eqb}
 use Rattle.vbr_words.specs.Flags.{has_flag}
-use Rattle.vbr_core.specs.Knowledge.{Know}
-use Rattle.vbr_core.specs.Learning.{effect_of, with_checked, with_own, reads_won, learn}
-use Rattle.vbr_core.specs.Machine.{World, found, stamp_shown, after}
-use Rattle.vbr_core.specs.Making.{exchanged, taken, confirmed}
-use Rattle.vbr_core.specs.Runs.{world_after}
-use Rattle.vbr_core.specs.declared.event.Effect.{Effect}
-use Rattle.vbr_core.specs.declared.event.Effect.TheVariants.{Value, Won, Lost, Answered}
-use Rattle.vbr_core.specs.declared.event.Step.{Step}
-use Rattle.vbr_core.specs.declared.event.Step.TheVariants.{ReadEpoch, Advance, LoadStamp, StoreStamp, Raise, TakeFlag, StoreBirth, StoreKey, StoreValue, StoreLink, LoadLink, LoadBirth, LoadKey, LoadValue, Publish, Mark, Unlink, ConfirmPresent, ConfirmAbsent}
-use Rattle.vbr_core.specs.declared.knowledge.Holding.TheVariants.{Free, Unlinked}
-use Rattle.vbr_core.proofs.Lemmas.{know_other, know_own}
+use Rattle.vbr_words.specs.declared.place.At.{At}
+use Rattle.vbr_machine.specs.Knowledge.{Know}
+use Rattle.vbr_machine.specs.Learning.{effect_of, with_checked, with_own, reads_won, learn}
+use Rattle.vbr_machine.specs.Machine.{World, found, stamp_shown, after}
+use Rattle.vbr_machine.specs.Making.{exchanged, taken, confirmed}
+use Rattle.vbr_machine.specs.Runs.{world_after}
+use Rattle.vbr_machine.specs.declared.event.Effect.{Effect}
+use Rattle.vbr_machine.specs.declared.event.Effect.TheVariants.{Value, Won, Lost, Answered}
+use Rattle.vbr_machine.specs.declared.event.Step.{Step}
+use Rattle.vbr_machine.specs.declared.event.Step.TheVariants.{ReadEpoch, Advance, LoadStamp, StoreStamp, Raise, TakeFlag, StoreBirth, StoreKey, StoreValue, StoreLink, LoadLink, LoadBirth, LoadKey, LoadValue, Publish, Mark, Unlink, ConfirmPresent, ConfirmAbsent}
+use Rattle.vbr_machine.specs.declared.knowledge.Holding.TheVariants.{Free, Unlinked}
+use Rattle.vbr_machine.proofs.Lemmas.{know_other, know_own}
+use Rattle.vbr_slots.specs.Expected.{Finds, FindsOther, Publishes}
 use Rattle.vbr_slots.specs.Views.{Trace, PassView, TableView, Did, knows}
 use Rattle.vbr_event_lists.specs.Worked.{others_of, names_link, AreWorked}
 use Rattle.vbr_table_rows.specs.Following.{Follows, BothFollow, Learned}
@@ -33,6 +35,16 @@ won n x y = rw (eq-eqb n n refl) refl
 
 lost : {A : Type 0} (m n : ℕ) (x y : A) → m ≢ n → cond (m == n) x y ≡ y
 lost m n x y ne = rw (ne_eqb m n ne) refl
+
+-- a step that expects a word found that one, or another
+pub found_either : {T : Type 0} (step : Step) (p q : PassView) (expected : ℕ) (answer : Result T ℕ) → OnOk answer (Finds step p q expected) → IfErr answer (FindsOther step p q expected) → MatchResult answer (λ _. Did step p.trace q.trace expected) (λ n. Did step p.trace q.trace n × (n ≢ expected))
+found_either step p q expected (Ok x) found other = found.did
+found_either step p q expected (Err n) found other = (other.did, other.unexpected)
+
+-- and so did a publication
+pub published_either : {T : Type 0} (pred : At) (expected slot : ℕ) (p q : PassView) (answer : Result T ℕ) → OnOk answer (Publishes pred expected slot p q) → IfErr answer (FindsOther (Publish pred expected slot) p q expected) → MatchResult answer (λ _. Did (Publish pred expected slot) p.trace q.trace expected) (λ n. Did (Publish pred expected slot) p.trace q.trace n × (n ≢ expected))
+published_either pred expected slot p q (Ok x) found other = found.did
+published_either pred expected slot p q (Err n) found other = (other.did, other.unexpected)
 
 pub learned_exchange : {T : Type 0} (step : Step) (p q : Trace) (expected : ℕ) (answer : Result T ℕ) (effect : Effect) → ((w : World) → stamp_shown w step ≡ 0) → ((n : ℕ) → effect_of step n ≡ exchanged expected n) → MatchResult answer (λ _. Did step p q expected) (λ n. Did step p q n × (n ≢ expected)) → MatchResult answer (λ _. effect ≡ Won) (λ n. effect ≡ Lost n) → Learned step p q effect
 learned_exchange step p q expected (Ok x) effect none is did told =

@@ -3,13 +3,13 @@ use Rattle.std.proofs.Common.{◌≡◌, ℕ, ◌<◌, List, [], ◌∷◌, ◌+
 use Rattle.std.specs.Prelude.{Bool, true, is_ok}
 use Rattle.vbr_words.specs.Dimensions.{Dimensions}
 use Rattle.vbr_words.specs.Flags.{has_flag}
-use Rattle.vbr_core.specs.Acceptance.{stamp_in}
-use Rattle.vbr_core.specs.Knowledge.{Know}
-use Rattle.vbr_core.specs.Runs.{IsRun, NoneOf, world_after}
-use Rattle.vbr_core.specs.declared.event.Event.{Event}
-use Rattle.vbr_core.specs.declared.event.Step.{Step}
-use Rattle.vbr_core.specs.declared.event.Step.TheVariants.{ReadEpoch, TakeFlag}
-use Rattle.vbr_core.proofs.Lemmas.{is_run_after, is_run_before, put_here}
+use Rattle.vbr_machine.specs.Acceptance.{stamp_in}
+use Rattle.vbr_machine.specs.Knowledge.{Know}
+use Rattle.vbr_machine.specs.Runs.{IsRun, NoneOf, world_after}
+use Rattle.vbr_machine.specs.declared.event.Event.{Event}
+use Rattle.vbr_machine.specs.declared.event.Step.{Step}
+use Rattle.vbr_machine.specs.declared.event.Step.TheVariants.{ReadEpoch, TakeFlag}
+use Rattle.vbr_machine.proofs.Lemmas.{is_run_after, is_run_before, put_here}
 use Rattle.vbr_slots.specs.Views.{Trace, Did, event_of, knows}
 use Rattle.vbr_table_rows.proofs.running_table.Taking.{Reached}
 

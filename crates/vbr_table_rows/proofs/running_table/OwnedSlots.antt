@@ -2,14 +2,14 @@
 use Rattle.std.proofs.Common.{◌≡◌, ℕ, Option, Some, None, refl, sym, ap, ◌∙◌, subst}
 use Rattle.std.specs.Prelude.{List, Result, Ok, Err, unwrap_or}
 use Rattle.vbr_words.specs.Words.{link_of, word_of}
-use Rattle.vbr_core.specs.Links.{link_to}
-use Rattle.vbr_core.specs.Knowledge.{Know, birth_of}
-use Rattle.vbr_core.specs.Learning.{birth_in_hand, with_key}
-use Rattle.vbr_core.specs.declared.event.Step.TheVariants.{ReadEpoch, LoadStamp, TakeFlag, StoreBirth, StoreKey}
-use Rattle.vbr_core.specs.declared.knowledge.Read.{Read}
-use Rattle.vbr_core.specs.declared.knowledge.Holding.{Holding}
-use Rattle.vbr_core.specs.declared.knowledge.Holding.TheVariants.{Free, Unlinked, InHand}
-use Rattle.vbr_core.proofs.Lemmas.{put_here}
+use Rattle.vbr_machine.specs.Links.{link_to}
+use Rattle.vbr_machine.specs.Knowledge.{Know, birth_of}
+use Rattle.vbr_machine.specs.Learning.{birth_in_hand, with_key}
+use Rattle.vbr_machine.specs.declared.event.Step.TheVariants.{ReadEpoch, LoadStamp, TakeFlag, StoreBirth, StoreKey}
+use Rattle.vbr_machine.specs.declared.knowledge.Read.{Read}
+use Rattle.vbr_machine.specs.declared.knowledge.Holding.{Holding}
+use Rattle.vbr_machine.specs.declared.knowledge.Holding.TheVariants.{Free, Unlinked, InHand}
+use Rattle.vbr_machine.proofs.Lemmas.{put_here}
 use Rattle.vbr_slots.specs.Views.{Trace, Did, knows}
 use Rattle.vbr_slots.proofs.Lemmas.{epoch_learned}
 use Rattle.vbr_table_rows.proofs.running_table.Taking.{Reached}
@@ -36,7 +36,7 @@ keyed : (holding : Option Holding) (key : ℕ) → birth_in_hand (with_key holdi
 keyed None key = refl
 keyed (Some (Free stamp)) key = refl
 keyed (Some (Unlinked reread)) key = refl
-keyed (Some (InHand stamp birth k value link)) key = refl
+keyed (Some (InHand known)) key = refl
 
 pub keyed_birth : (p q : Trace) (s key r : ℕ) → Did (StoreKey s key) p q r → birth_in_hand ((knows q).own s) ≡ birth_in_hand ((knows p).own s)
 keyed_birth p q s key r d = ap birth_in_hand (ap (λ (k : Know). k.own s) d.know ∙ put_here (knows p).own s _) ∙ keyed ((knows p).own s) key

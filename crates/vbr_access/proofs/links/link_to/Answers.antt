@@ -1,7 +1,7 @@
 use Rattle.std.proofs.Common.{ℕ, false, ap, ◌∙◌}
 use Rattle.vbr_words.specs.Words.{word_of, link_of}
 use Rattle.vbr_words.proofs.Lemmas.{link_of-word_of}
-use Rattle.vbr_core.specs.Links.{link_to}
+use Rattle.vbr_machine.specs.Links.{link_to}
 use Rattle.vbr_access.proofs.links.link_to.Goals as goal
 
 pub returns-clause-link : goal.returns-clause-link

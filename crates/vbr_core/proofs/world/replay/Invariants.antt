@@ -1,6 +1,6 @@
 -- The events so far are a run, and the world is the one after it.
 use Rattle.std.proofs.Common.{◌≡◌, length, take}
-use Rattle.vbr_core.specs.Runs.{IsRun, world_after}
+use Rattle.vbr_machine.specs.Runs.{IsRun, world_after}
 use Rattle.vbr_core.specs.Kept.{world_of}
 use Rattle.vbr_core.proofs.world.replay.Given as goal
 

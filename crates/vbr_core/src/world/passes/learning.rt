@@ -1,18 +1,18 @@
 // What a pass learns from its steps.
-ghost use Rattle.std.specs.Prelude.{◌≡◌, ◌<◌, ◌≤◌, ℕ, [], ◌++◌, length, slice_index_or, Some, None, OnOk, OnErr};
+ghost use Rattle.std.specs.Prelude.{◌≡◌, ◌<◌, ◌≤◌, length, slice_index_or, Some, None, OnOk, OnErr};
 ghost use Rattle.std.specs.List.{AllByRecursion};
 ghost use Rattle.vbr_words.specs.Words.{IsLink, link_of};
 ghost use Rattle.vbr_words.specs.declared.shape.TheConstants.{MAX_EPOCH};
-ghost use Rattle.vbr_core.specs.Acceptance.{Accepts, stamp_in, MayPublish};
-ghost use Rattle.vbr_core.specs.Learning.{with_key, with_value, with_link, key_in_hand, link_in_hand, value_in_hand, value_read, learn, with_own, with_checked, with_pending, reread, read_epoch};
+ghost use Rattle.vbr_machine.specs.Acceptance.{Accepts, stamp_in, MayPublish};
+ghost use Rattle.vbr_machine.specs.Learning.{newborn, with_key, with_value, with_link, link_in_hand, learn, with_own, with_checked, with_pending, read_epoch};
 ghost use Rattle.vbr_core.specs.Kept.{know_of, FitsRead, FitsHolding};
+ghost use Rattle.vbr_core.specs.KeptLearning.{HasRoom, Learns, with_all_checked, with_all_reread, with_epoch};
 
-use crate::event::Step;
-use crate::knowledge::{Holding, Read};
 use crate::world::holdings;
 use crate::world::passes::PassState;
 use crate::world::shape::OpeningShape;
 use std::alloc::AllocError;
+use vbr_machine::{Holding, Read, Step};
 use vbr_words::flags::has_flag;
 use vbr_words::{At, Link, decode};
 
@@ -21,8 +21,7 @@ impl PassState {
     fn put(&mut self, slot: u32, holding: Option<Holding>)
         requires slot { slot < length self.old.own }
         requires fits { FitsHolding holding }
-        ensures knows { know_of self.new ≡ with_own (know_of self.old) slot holding }
-        ensures slots { length self.new.own ≡ length self.old.own }
+        ensures { Learns self.old self.new (λ know. with_own know slot holding) }
     {
         self.own[slot as usize] = holding;
     }
@@ -30,9 +29,8 @@ impl PassState {
     // One more read is pending.
     fn add_pending(&mut self, read: Read) -> Result<(), AllocError>
         requires { FitsRead read }
-        ensures knows { OnOk result (know_of self.new ≡ with_pending (know_of self.old) read) }
-        ensures slots { length self.new.own ≡ length self.old.own }
-        ensures err { OnErr result (self.new ≡ self.old) }
+        ensures learned { OnOk result (Learns self.old self.new (λ know. with_pending know read)) }
+        ensures refused { OnErr result (self.new ≡ self.old) }
     {
         Ok(self.pending.push(read)?)
     }
@@ -40,18 +38,17 @@ impl PassState {
     // More reads are checked.
     fn add_checked(&mut self, reads: &[Read]) -> Result<(), AllocError>
         requires { AllByRecursion FitsRead reads.now }
-        ensures knows { OnOk result (know_of self.new ≡ with_checked (know_of self.old) reads.now) }
-        ensures slots { length self.new.own ≡ length self.old.own }
-        ensures err { OnErr result (self.new ≡ self.old) }
+        ensures learned { OnOk result
+            (Learns self.old self.new (λ know. with_checked know reads.now)) }
+        ensures refused { OnErr result (self.new ≡ self.old) }
     {
-        self.checked.extend_from_slice(reads)
+        Ok(self.checked.extend_from_slice(reads)?)
     }
 
     // The epoch hasn't moved: the pending reads are checked.
     fn confirm(&mut self) -> Result<(), AllocError>
-        ensures knows { OnOk result (know_of self.new ≡ record (know_of self.old) { pending = []; checked = self.old.checked ++ self.old.pending }) }
-        ensures slots { length self.new.own ≡ length self.old.own }
-        ensures err { OnErr result (self.new ≡ self.old) }
+        ensures learned { OnOk result (Learns self.old self.new with_all_checked) }
+        ensures refused { OnErr result (self.new ≡ self.old) }
     {
         self.checked.extend_from_slice(&self.pending)?;
         self.pending.clear();
@@ -61,8 +58,7 @@ impl PassState {
     // The epoch has moved: nothing that was read counts any more.
     fn forget(&mut self, epoch: u64)
         requires { epoch ≤ MAX_EPOCH }
-        ensures knows { know_of self.new ≡ record (know_of self.old) { epoch = epoch; pending = []; checked = [] } }
-        ensures slots { length self.new.own ≡ length self.old.own }
+        ensures { Learns self.old self.new (with_epoch epoch) }
     {
         self.epoch = epoch;
         self.pending.clear();
@@ -71,8 +67,7 @@ impl PassState {
 
     // An epoch is read: the slots that the pass unlinked may be stamped with it.
     fn reread(&mut self)
-        ensures knows { know_of self.new ≡ record (know_of self.old) { own = λ s. reread ((know_of self.old).own s) } }
-        ensures slots { length self.new.own ≡ length self.old.own }
+        ensures { Learns self.old self.new with_all_reread }
     {
         holdings::reread_all(&mut self.own);
     }
@@ -80,9 +75,8 @@ impl PassState {
     // The pass has read this epoch.
     fn read_epoch(&mut self, epoch: u64) -> Result<(), AllocError>
         requires { epoch ≤ MAX_EPOCH }
-        ensures knows { OnOk result (know_of self.new ≡ read_epoch (know_of self.old) epoch) }
-        ensures slots { length self.new.own ≡ length self.old.own }
-        ensures err { OnErr result (self.new ≡ self.old) }
+        ensures learned { OnOk result (Learns self.old self.new (λ know. read_epoch know epoch)) }
+        ensures refused { OnErr result (self.new ≡ self.old) }
     {
         if epoch == self.epoch {
             self.confirm()?;
@@ -95,9 +89,9 @@ impl PassState {
 
     // A link was loaded.
     fn load_link(&mut self, at: At, word: u64) -> Result<(), AllocError>
-        ensures knows { OnOk result (know_of self.new ≡ with_pending (know_of self.old) (Read.LinkAt at (link_of word))) }
-        ensures slots { length self.new.own ≡ length self.old.own }
-        ensures err { OnErr result (self.new ≡ self.old) }
+        ensures learned { OnOk result (Learns self.old self.new
+            (λ know. with_pending know (Read.LinkAt at (link_of word)))) }
+        ensures refused { OnErr result (self.new ≡ self.old) }
     {
         self.add_pending(Read::LinkAt(at, decode(word)))
     }
@@ -105,27 +99,27 @@ impl PassState {
     // The birth of a slot was loaded.
     fn load_birth(&mut self, slot: u32, birth: u64) -> Result<(), AllocError>
         requires { birth ≤ MAX_EPOCH }
-        ensures knows { OnOk result (know_of self.new ≡ with_pending (know_of self.old) (Read.BirthOf slot birth)) }
-        ensures slots { length self.new.own ≡ length self.old.own }
-        ensures err { OnErr result (self.new ≡ self.old) }
+        ensures learned { OnOk result (Learns self.old self.new
+            (λ know. with_pending know (Read.BirthOf slot birth))) }
+        ensures refused { OnErr result (self.new ≡ self.old) }
     {
         self.add_pending(Read::BirthOf(slot, birth))
     }
 
     // The key of a slot was loaded.
     fn load_key(&mut self, slot: u32, key: u64) -> Result<(), AllocError>
-        ensures knows { OnOk result (know_of self.new ≡ with_pending (know_of self.old) (Read.KeyOf slot key)) }
-        ensures slots { length self.new.own ≡ length self.old.own }
-        ensures err { OnErr result (self.new ≡ self.old) }
+        ensures learned { OnOk result (Learns self.old self.new
+            (λ know. with_pending know (Read.KeyOf slot key))) }
+        ensures refused { OnErr result (self.new ≡ self.old) }
     {
         self.add_pending(Read::KeyOf(slot, key))
     }
 
     // The value of a slot was loaded.
     fn load_value(&mut self, slot: u32, value: u64) -> Result<(), AllocError>
-        ensures knows { OnOk result (know_of self.new ≡ with_pending (know_of self.old) (Read.ValueOf slot value)) }
-        ensures slots { length self.new.own ≡ length self.old.own }
-        ensures err { OnErr result (self.new ≡ self.old) }
+        ensures learned { OnOk result (Learns self.old self.new
+            (λ know. with_pending know (Read.ValueOf slot value))) }
+        ensures refused { OnErr result (self.new ≡ self.old) }
     {
         self.add_pending(Read::ValueOf(slot, value))
     }
@@ -133,8 +127,8 @@ impl PassState {
     // The slot that the pass unlinked is stamped, and free.
     fn store_stamp(&mut self, slot: u32, stamp: u64)
         requires { slot < length self.old.own }
-        ensures knows { know_of self.new ≡ with_own (know_of self.old) slot (Some (Holding.Free stamp)) }
-        ensures slots { length self.new.own ≡ length self.old.own }
+        ensures { Learns self.old self.new
+            (λ know. with_own know slot (Some (Holding.Free stamp))) }
     {
         self.put(slot, Some(Holding::Free(stamp)));
     }
@@ -142,8 +136,7 @@ impl PassState {
     // A slot is put back into the shared pool.
     fn raise(&mut self, slot: u32)
         requires { slot < length self.old.own }
-        ensures knows { know_of self.new ≡ with_own (know_of self.old) slot None }
-        ensures slots { length self.new.own ≡ length self.old.own }
+        ensures { Learns self.old self.new (λ know. with_own know slot None) }
     {
         self.put(slot, None);
     }
@@ -151,8 +144,8 @@ impl PassState {
     // A slot was taken out of the shared pool, with its stamp.
     fn take_flag(&mut self, slot: u32, stamp: u64)
         requires { slot < length self.old.own }
-        ensures knows { know_of self.new ≡ with_own (know_of self.old) slot (Some (Holding.Free stamp)) }
-        ensures slots { length self.new.own ≡ length self.old.own }
+        ensures { Learns self.old self.new
+            (λ know. with_own know slot (Some (Holding.Free stamp))) }
     {
         self.put(slot, Some(Holding::Free(stamp)));
     }
@@ -161,18 +154,18 @@ impl PassState {
     fn bear(&mut self, slot: u32, birth: u64)
         requires slot { slot < length self.old.own }
         requires birth { birth ≡ self.old.epoch }
-        ensures knows { know_of self.new ≡ with_own (know_of self.old) slot (Some (Holding.InHand (stamp_in ((know_of self.old).own slot)) birth None None None)) }
-        ensures slots { length self.new.own ≡ length self.old.own }
+        ensures { Learns self.old self.new (λ know. with_own know slot
+            (Some (Holding.InHand (newborn (stamp_in (know.own slot)) birth)))) }
     {
         let stamp = holdings::stamp_in(self.own[slot as usize]);
-        self.put(slot, Some(Holding::InHand(stamp, birth, None, None, None)));
+        self.put(slot, Some(Holding::InHand(holdings::newborn(stamp, birth))));
     }
 
     // The key of a slot in hand is stored.
     fn store_key(&mut self, slot: u32, key: u64)
         requires slot { slot < length self.old.own }
-        ensures knows { know_of self.new ≡ with_own (know_of self.old) slot (with_key ((know_of self.old).own slot) key) }
-        ensures slots { length self.new.own ≡ length self.old.own }
+        ensures { Learns self.old self.new
+            (λ know. with_own know slot (with_key (know.own slot) key)) }
     {
         let holding = self.holding(slot);
         self.put(slot, holdings::with_key(holding, key));
@@ -181,8 +174,8 @@ impl PassState {
     // The value of a slot in hand is stored.
     fn store_value(&mut self, slot: u32, value: u64)
         requires slot { slot < length self.old.own }
-        ensures knows { know_of self.new ≡ with_own (know_of self.old) slot (with_value ((know_of self.old).own slot) value) }
-        ensures slots { length self.new.own ≡ length self.old.own }
+        ensures { Learns self.old self.new
+            (λ know. with_own know slot (with_value (know.own slot) value)) }
     {
         let holding = self.holding(slot);
         self.put(slot, holdings::with_value(holding, value));
@@ -191,8 +184,8 @@ impl PassState {
     // The link of a slot in hand is stored.
     fn store_link(&mut self, slot: u32, link: Link)
         requires slot { slot < length self.old.own }
-        ensures knows { know_of self.new ≡ with_own (know_of self.old) slot (with_link ((know_of self.old).own slot) link) }
-        ensures slots { length self.new.own ≡ length self.old.own }
+        ensures { Learns self.old self.new
+            (λ know. with_own know slot (with_link (know.own slot) link)) }
     {
         let holding = self.holding(slot);
         self.put(slot, holdings::with_link(holding, link));
@@ -201,7 +194,8 @@ impl PassState {
     // The link of a slot in hand that is ready to be published.
     fn link_in_hand(&self, shape: &OpeningShape, pred: At, expected: u64, slot: u32) -> Link
         requires slot { slot < length self.now.own }
-        requires ready { MayPublish shape.now self.now.checked pred (link_of expected) (slice_index_or self.now.own slot None) }
+        requires ready { MayPublish shape.now self.now.checked pred (link_of expected)
+            (slice_index_or self.now.own slot None) }
         ensures link { result ≡ link_in_hand (slice_index_or self.now.own slot None) }
         ensures fits { IsLink result }
     {
@@ -218,9 +212,9 @@ impl PassState {
     ) -> Result<(), AllocError>
         requires slots { length self.old.own ≡ shape.now.slots }
         requires accepted { Accepts shape.now (know_of self.old) (Step.Publish pred expected slot) }
-        ensures learned { OnOk result (know_of self.new ≡ learn (Step.Publish pred expected slot) expected 0 (know_of self.old)) }
-        ensures slots { length self.new.own ≡ length self.old.own }
-        ensures err { OnErr result (self.new ≡ self.old) }
+        ensures learned { OnOk result
+            (Learns self.old self.new (learn (Step.Publish pred expected slot) expected 0)) }
+        ensures refused { OnErr result (self.new ≡ self.old) }
     {
         let link = self.new_link(
             shape,
@@ -262,9 +256,9 @@ impl PassState {
     ) -> Result<(), AllocError>
         requires slots { length self.old.own ≡ shape.now.slots }
         requires accepted { Accepts shape.now (know_of self.old) (Step.Mark slot expected) }
-        ensures learned { OnOk result (know_of self.new ≡ learn (Step.Mark slot expected) expected 0 (know_of self.old)) }
-        ensures slots { length self.new.own ≡ length self.old.own }
-        ensures err { OnErr result (self.new ≡ self.old) }
+        ensures learned { OnOk result
+            (Learns self.old self.new (learn (Step.Mark slot expected) expected 0)) }
+        ensures refused { OnErr result (self.new ≡ self.old) }
     {
         let link = self.new_link(shape, Step::Mark { slot, expected });
         self.add_checked(&[Read::LinkAt(At::Slot(slot), link)])
@@ -280,9 +274,9 @@ impl PassState {
     ) -> Result<(), AllocError>
         requires slots { length self.old.own ≡ shape.now.slots }
         requires accepted { Accepts shape.now (know_of self.old) (Step.Unlink pred expected slot) }
-        ensures learned { OnOk result (know_of self.new ≡ learn (Step.Unlink pred expected slot) expected 0 (know_of self.old)) }
-        ensures slots { length self.new.own ≡ length self.old.own }
-        ensures err { OnErr result (self.new ≡ self.old) }
+        ensures learned { OnOk result
+            (Learns self.old self.new (learn (Step.Unlink pred expected slot) expected 0)) }
+        ensures refused { OnErr result (self.new ≡ self.old) }
     {
         let link = self.new_link(
             shape,
@@ -308,11 +302,9 @@ impl PassState {
     ) -> Result<(), AllocError>
         requires slots { length self.old.own ≡ shape.now.slots }
         requires accepted { Accepts shape.now (know_of self.old) step }
-        requires epoch { step ≡ Step.ReadEpoch → found ≤ MAX_EPOCH }
-        requires birth { (s : ℕ) → step ≡ Step.LoadBirth s → found ≤ MAX_EPOCH }
-        ensures learned { OnOk result (know_of self.new ≡ learn step found stamp (know_of self.old)) }
-        ensures slots { length self.new.own ≡ length self.old.own }
-        ensures err { OnErr result (self.new ≡ self.old) }
+        requires room { HasRoom step found }
+        ensures learned { OnOk result (Learns self.old self.new (learn step found stamp)) }
+        ensures refused { OnErr result (self.new ≡ self.old) }
     {
         match step {
             Step::ReadEpoch => self.read_epoch(found)?,

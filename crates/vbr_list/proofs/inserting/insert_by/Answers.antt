@@ -1,16 +1,18 @@
-use Rattle.std.proofs.Common.{rules, ap, ◌≡◌, ◌+◌, ◌*◌, ◌<◌, [], arith}
+use Rattle.std.proofs.Common.{rules, ap, ℕ, subst, ◌≡◌, ◌+◌, ◌*◌, ◌<◌, [], arith}
+use Rattle.std.specs.Prelude.{IfOk}
 use Rattle.vbr_words.specs.Dimensions.{Dimensions}
-use Rattle.vbr_core.specs.declared.history.Op.TheVariants.{Insert}
-use Rattle.vbr_slots.specs.Calls.{Quiet}
+use Rattle.vbr_machine.specs.History.{set_call}
+use Rattle.vbr_machine.specs.declared.history.Op.TheVariants.{Insert}
+use Rattle.vbr_slots.specs.Calls.{Made, Quiet}
 use Rattle.vbr_slots.proofs.Lemmas.{alone_first, alone_then, quiet_on, same_on}
 use Rattle.vbr_pools.proofs.Lemmas.{had_then, longer, needed_before, shared_on, shares_more}
 use Rattle.vbr_pools.specs.Budgets.{most_to_take}
 use Rattle.vbr_slots.specs.Alone.{IsAlone}
-use Rattle.vbr_list.specs.Budgets.{LacksSteps, listed_for}
-use Rattle.vbr_list.specs.Inserting.{InsertIsShort}
+use Rattle.vbr_list.specs.Budgets.{LacksSteps, enough_to_search, listed_for}
+use Rattle.vbr_list.specs.Inserting.{InsertIsShort, LinksNone}
 use Rattle.vbr_list.specs.Refusals.{IsRefused}
 use Rattle.vbr_list.specs.declared.refusal.Refusal.TheVariants.{NoSlot}
-use Rattle.vbr_list.proofs.Going.{bucket_is}
+use Rattle.vbr_list.proofs.Going.{bucket_is, ok_as}
 use Rattle.vbr_list.proofs.Sufficing.{answered_or_spent, each_error, lacks, never_refused, no_more_listed}
 use Rattle.vbr_list.proofs.LonePasses.{alone, each_alone}
 use Rattle.vbr_list.proofs.Preparing.{each_same, each_seen, each_since, refused_first, refused_second, within_all, within_on}
@@ -32,13 +34,13 @@ returns-in-Err-clause-calls c =
       alone = tt;
       quiet = search rules;
       hand = search rules;
-      steps = within_all c.prepare.ensures.counts;
+      steps = within_all c.prepare.ensures.prepares.counts;
       spares = record {
         advances = search rules;
         kept = search rules;
-        had = c.prepare.ensures.had;
+        had = c.prepare.ensures.prepares.had;
         shared = search rules;
-        refused = refused_first c.args.at.now.pass.now c.prepare.new.self.at.pass.now c.args.key c.args.budget c.in-Err.refusal c.in-Err.ensures.refused;
+        refused = refused_first c.args.at.now.pass.now c.prepare.new.self.at.pass.now c.args.key c.args.budget c.in-Err.refusal c.in-Err.ensures.refused.says;
         within = search rules;
         ready = search rules;
       };
@@ -50,15 +52,15 @@ returns-in-Ok-None-clause-calls c =
     rw same (record {
       same = search rules;
       made = search rules;
-      alone = (let x = rw c.in-Ok-None.field-0-is at c.in-Ok-None.ensures.prepared in
+      alone = (let x = rw c.in-Ok-None.field-0-is at c.in-Ok-None.ensures.prepared.is in
           alone c.law.ensures.shape c.law.ensures.low x.0);
       quiet = tt;
       hand = search rules;
-      steps = within_all c.prepare.ensures.counts;
+      steps = within_all c.prepare.ensures.prepares.counts;
       spares = record {
         advances = search rules;
         kept = search rules;
-        had = c.prepare.ensures.had;
+        had = c.prepare.ensures.prepares.had;
         shared = search rules;
         refused = tt;
         within = tt;
@@ -72,34 +74,39 @@ returns-in-Ok-Some-clause-calls c =
     let p = c.args.at.now.pass.now in
     let q = c.prepare.new.self.at.pass.now in
     let r = c.link.new.self.at.pass.now in
-    let first = (rw c.in-Ok-Some.field-0-is at c.in-Ok-Some.ensures.prepared).0 in
-    let made = rw c.prepare.ensures.call.key at c.link.ensures.made in
-    let counts = rw c.prepare.ensures.call.budget at c.link.ensures.counts in
-    let refused = rw c.prepare.ensures.call.budget at c.link.ensures.refused in
+    let first = (rw c.in-Ok-Some.field-0-is at c.in-Ok-Some.ensures.prepared.is).0 in
+    let call = c.prepare.ensures.prepares.call in
+    let d = c.prepare.new.self in
+    let e = c.link.new.self in
+    let made : IfOk c.link.result (λ reply. Made (set_call q.trace.who Insert c.args.key reply) q.trace r.trace) = ok_as c.link.result (λ reply x. rw call.key at x) c.link.ensures.made in
+    let counts = rw call.budget at c.link.ensures.links.counts in
+    let quiet = each_error (LinksNone d e) (λ refusal. Quiet q.trace r.trace) c.link.result (λ refusal none. none.quiet) c.link.ensures.refused in
+    let refused = each_error (LinksNone d e) (λ refusal. InsertIsShort q r d.used c.args.budget refusal) c.link.result (λ refusal none. let P : ℕ → Type 0 = λ b. InsertIsShort q r d.used b refusal in subst P call.budget none.says) c.link.ensures.refused in
+    let short = each_error (LinksNone d e) (λ refusal. IsAlone q.trace r.trace → c.args.budget < d.used + enough_to_search q.trace c.args.key) c.link.result (λ refusal none alone. let less : d.budget < d.used + enough_to_search q.trace d.key = none.short alone in rw (call.key, call.budget) at less) c.link.ensures.refused in
     let since = each_since p.trace q.trace r.trace Insert c.args.key c.link.result first made in
-    let more = each_seen q.trace r.trace Insert c.args.key c.link.result made c.link.ensures.quiet in
+    let more = each_seen q.trace r.trace Insert c.args.key c.link.result made quiet in
     let n = listed_for p.trace c.args.key in
     let most = most_to_take p.trace.shape p.pool in
-    let within = each_error (λ refusal. IsAlone q.trace r.trace → c.args.budget < c.prepare.new.self.used + 9 * listed_for q.trace c.args.key + 11) (λ refusal. IsAlone p.trace r.trace → LacksSteps (18 * n + most + 14) c.args.budget refusal) c.link.result
+    let within = each_error (λ refusal. IsAlone q.trace r.trace → c.args.budget < d.used + enough_to_search q.trace c.args.key) (λ refusal. IsAlone p.trace r.trace → LacksSteps (18 * n + most + 14) c.args.budget refusal) c.link.result
     (λ refusal short alone. (
     let u = short (alone_then first.same.who first.seen more.0 alone) in
-    let v = c.in-Ok-Some.ensures.few (alone_first first.seen more.0 alone) in
+    let v = c.in-Ok-Some.ensures.prepared.few (alone_first first.seen more.0 alone) in
     let w = no_more_listed p c.law.ensures q.trace c.args.key first (alone_first first.seen more.0 alone) in
     lacks (18 * n + most + 14) c.args.budget refusal (omega (arith, u, v, w))))
-    (rw (c.prepare.ensures.call.key, c.prepare.ensures.call.budget) at c.link.ensures.short) in
+    short in
     rw same (record {
-      same = same_on first.same (each_same q.trace r.trace Insert c.args.key c.link.result made c.link.ensures.quiet);
+      same = same_on first.same (each_same q.trace r.trace Insert c.args.key c.link.result made quiet);
       made = since;
       alone = each_alone p.trace r.trace Insert c.args.key c.link.result c.law.ensures.shape c.law.ensures.low since;
-      quiet = each_error (λ refusal. Quiet q.trace r.trace) (λ refusal. Quiet p.trace r.trace) c.link.result (λ refusal later. quiet_on first later) c.link.ensures.quiet;
+      quiet = each_error (λ refusal. Quiet q.trace r.trace) (λ refusal. Quiet p.trace r.trace) c.link.result (λ refusal later. quiet_on first later) quiet;
       hand = search rules;
-      steps = within_all (within_on c.prepare.ensures.counts counts.counts counts.within.0 counts.within.1);
+      steps = within_all (within_on c.prepare.ensures.prepares.counts counts.counts counts.within.0 counts.within.1);
       spares = record {
-        advances = needed_before {p = p} {q = q} {r = r} c.prepare.ensures.advances more.0 more.1 c.link.ensures.takes_no_slot.count;
+        advances = needed_before {p = p} {q = q} {r = r} c.prepare.ensures.prepares.advances more.0 more.1 c.link.ensures.links.takes_no_slot.count;
         kept = search rules;
-        had = had_then p q r c.link.result c.prepare.ensures.had c.link.ensures.had;
-        shared = shared_on p q r 2 c.prepare.ensures.shared (longer q r c.link.ensures.takes_no_slot.grows) (shares_more q r c.link.ensures.takes_no_slot.shared);
-        refused = each_error (λ refusal. InsertIsShort q r c.prepare.new.self.used c.args.budget refusal) (λ refusal. IsRefused p r c.args.key c.args.budget refusal) c.link.result (refused_second p q r c.args.key c.prepare.ensures.counts) refused;
+        had = had_then p q r c.link.result c.prepare.ensures.prepares.had c.link.ensures.had;
+        shared = shared_on p q r 2 c.prepare.ensures.prepares.shared (longer q r c.link.ensures.links.takes_no_slot.grows) (shares_more q r c.link.ensures.links.takes_no_slot.shared);
+        refused = each_error (λ refusal. InsertIsShort q r c.prepare.new.self.used c.args.budget refusal) (λ refusal. IsRefused p r c.args.key c.args.budget refusal) c.link.result (refused_second p q r c.args.key c.prepare.ensures.prepares.counts) refused;
         within = within;
         ready = λ some alone enough. answered_or_spent p r c.args.budget n c.link.result some alone enough
             (each_error (λ refusal. InsertIsShort q r c.prepare.new.self.used c.args.budget refusal) (λ refusal. refusal ≡ NoSlot → p.pool ≡ []) c.link.result (never_refused p.pool q r c.prepare.new.self.used c.args.budget) refused)

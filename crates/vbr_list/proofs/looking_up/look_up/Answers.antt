@@ -1,12 +1,12 @@
-use Rattle.std.proofs.Common.{rules, ◌≡◌, ◌+◌, ◌*◌, ◌<◌, ◌≤◌, true, false, refl, sym, ◌∙◌, arith, inr, ap}
-use Rattle.vbr_core.specs.History.{set_call}
-use Rattle.vbr_core.specs.declared.history.Op.TheVariants.{Has}
+use Rattle.std.proofs.Common.{rules, ◌≡◌, ◌+◌, ◌<◌, ◌≤◌, true, false, refl, sym, ◌∙◌, arith, inr, ap}
+use Rattle.vbr_machine.specs.History.{set_call}
+use Rattle.vbr_machine.specs.declared.history.Op.TheVariants.{Has}
 use Rattle.vbr_slots.proofs.Lemmas.{answer_on, loads_on, quiet_on, same_on}
 use Rattle.vbr_pools.proofs.Lemmas.{counts_on, none_on, took_all}
 use Rattle.vbr_words.specs.Dimensions.{Dimensions}
 use Rattle.vbr_list.proofs.Going.{bucket_is, call_on, call_refl, counts_step, goes_on, goes_step, within_call, within_of}
 use Rattle.vbr_list.proofs.Observing.{observed, observes_on}
-use Rattle.vbr_list.specs.Budgets.{listed_for}
+use Rattle.vbr_list.specs.Budgets.{enough_to_look_up}
 use Rattle.vbr_list.proofs.Nearing.{at_first, first_lost, first_of, then_of}
 use Rattle.vbr_list.proofs.Passing.{peeks_on, peeks_refl}
 use Rattle.vbr_list.proofs.LonePasses.{alone}
@@ -16,15 +16,15 @@ use Rattle.vbr_list.proofs.looking_up.look_up.Goals as goal
 pub loop-sight-preserved : goal.loop-sight-preserved
 loop-sight-preserved c =
     let fits = c.if-not-affords.ensures in
-    let before = peeks_on c.loop-sight.invariant.3 c.look.ensures.goes c.look.ensures.observes c.look.ensures.more (rw c.loop-sight.invariant.2 at (within_call (call_on c.loop-sight.invariant.0 c.look.ensures.call))) in
-    let a = c.look.ensures.goes.quiet in
-    let b = c.in_default-settle_look_up.ensures.quiet in (
-      call_on (call_on c.loop-sight.invariant.0 c.look.ensures.call) c.settle_look_up.ensures.call,
+    let before = peeks_on c.loop-sight.invariant.3 c.look.ensures.goes.goes c.look.ensures.observes c.look.ensures.goes.more (rw c.loop-sight.invariant.2 at (within_call (call_on c.loop-sight.invariant.0 c.look.ensures.goes.call))) in
+    let a = c.look.ensures.goes.goes.quiet in
+    let b = c.in_default-settle_look_up.ensures.rolls.quiet in (
+      call_on (call_on c.loop-sight.invariant.0 c.look.ensures.goes.call) c.settle_look_up.ensures.call,
       c.loop-sight.invariant.1,
       c.loop-sight.invariant.2,
-      rw c.settle_look_up.ensures.used (peeks_on before (goes_step c.look.new.self.used 1 b c.settle_look_up.ensures.took c.settle_look_up.ensures.own c.settle_look_up.ensures.takes_no_slot) (observed c.settle_look_up.ensures.only_loads c.in_default-settle_look_up.ensures.adds_none) (omega arith) (let e = (c.look.ensures.call.budget ∙ c.loop-sight.invariant.0.budget ∙ c.loop-sight.invariant.2) in omega (arith, fits, e))),
+      rw c.settle_look_up.ensures.used (peeks_on before (goes_step c.look.new.self.used 1 b c.settle_look_up.ensures.keeps.took c.settle_look_up.ensures.keeps.own c.settle_look_up.ensures.keeps.takes_no_slot) (observed c.settle_look_up.ensures.only_loads c.in_default-settle_look_up.ensures.rolls.adds_none) (omega arith) (let e = (c.look.ensures.goes.call.budget ∙ c.loop-sight.invariant.0.budget ∙ c.loop-sight.invariant.2) in omega (arith, fits, e))),
       first_lost c.args.at.now.pass.now c.loop-sight.call.at.pass.now c.settle_look_up.new.self.at.pass.now c.loop-sight.invariant.4 c.loop-sight.invariant.3.tries.goes.quiet (quiet_on a b)
-          (λ alone. c.in_default-settle_look_up.ensures.wins (c.in-Some.ensures.alone (first_of a b alone)).stands (then_of a b alone)),
+          (λ alone. c.in_default-settle_look_up.ensures.rolls.wins (c.in-Some.ensures.sight.alone (first_of a b alone)).stands (then_of a b alone)),
     )
 
 pub loop-sight-init : goal.loop-sight-init
@@ -40,40 +40,40 @@ invariant_of-call-2 c = record {
 pub returns-in_default-clause-took : goal.returns-in_default-clause-took
 returns-in_default-clause-took c =
     let same : c.at-1.given.0 ≡ c.look.new.self.at.pass.now = search rules in
-    rw same (took_all (goes_on c.loop-sight.invariant.3.tries.goes c.look.ensures.goes).counts)
+    rw same (took_all (goes_on c.loop-sight.invariant.3.tries.goes c.look.ensures.goes.goes).counts)
 
 pub returns-then-not-affords-clause-took : goal.returns-then-not-affords-clause-took
 returns-then-not-affords-clause-took c =
     let same : c.at-then-not-affords-1.given.0 ≡ c.look.new.self.at.pass.now = search rules in
-    rw same (took_all (goes_on c.loop-sight.invariant.3.tries.goes c.look.ensures.goes).counts)
+    rw same (took_all (goes_on c.loop-sight.invariant.3.tries.goes c.look.ensures.goes.goes).counts)
 
 pub returns-in-Ok-clause-took : goal.returns-in-Ok-clause-took
 returns-in-Ok-clause-took c =
     let same : c.at-in-Ok-1.given.0 ≡ c.settle_look_up.new.self.at.pass.now = search rules in
-    rw (same, c.settle_look_up.ensures.used) (took_all (counts_on (goes_on c.loop-sight.invariant.3.tries.goes c.look.ensures.goes).counts (counts_step c.look.new.self.used 1 c.settle_look_up.ensures.took)))
+    rw (same, c.settle_look_up.ensures.used) (took_all (counts_on (goes_on c.loop-sight.invariant.3.tries.goes c.look.ensures.goes.goes).counts (counts_step c.look.new.self.used 1 c.settle_look_up.ensures.keeps.took)))
 
 pub returns-in_default-clause-calls : goal.returns-in_default-clause-calls
 returns-in_default-clause-calls c =
     let same : c.at-1.given.0 ≡ c.look.new.self.at.pass.now = search rules in
     rw same (record {
-      same = (quiet_on c.loop-sight.invariant.3.tries.goes.quiet c.look.ensures.goes.quiet).same;
+      same = (quiet_on c.loop-sight.invariant.3.tries.goes.quiet c.look.ensures.goes.goes.quiet).same;
       made = tt;
       alone = tt;
-      quiet = (goes_on c.loop-sight.invariant.3.tries.goes c.look.ensures.goes).quiet;
+      quiet = (goes_on c.loop-sight.invariant.3.tries.goes c.look.ensures.goes.goes).quiet;
       hand = search rules;
-      steps = within_of c.look.new.self.used c.args.budget (rw c.loop-sight.invariant.2 at (within_call (call_on c.loop-sight.invariant.0 c.look.ensures.call))) (goes_on c.loop-sight.invariant.3.tries.goes c.look.ensures.goes).counts;
+      steps = within_of c.look.new.self.used c.args.budget (rw c.loop-sight.invariant.2 at (within_call (call_on c.loop-sight.invariant.0 c.look.ensures.goes.call))) (goes_on c.loop-sight.invariant.3.tries.goes c.look.ensures.goes.goes).counts;
       spares = record {
         only_loads = (observes_on c.loop-sight.invariant.3.observes c.look.ensures.observes).only_loads;
         adds = tt;
         adds_none = (observes_on c.loop-sight.invariant.3.observes c.look.ensures.observes).adds_none;
-        takes_no_slot = (goes_on c.loop-sight.invariant.3.tries.goes c.look.ensures.goes).hand.takes_no_slot;
+        takes_no_slot = (goes_on c.loop-sight.invariant.3.tries.goes c.look.ensures.goes.goes).hand.takes_no_slot;
         refused = (record {
-          took = took_all (goes_on c.loop-sight.invariant.3.tries.goes c.look.ensures.goes).counts;
-          within = rw c.loop-sight.invariant.2 at (within_call (call_on c.loop-sight.invariant.0 c.look.ensures.call));
-          short = rw (c.loop-sight.invariant.0.budget ∙ c.loop-sight.invariant.2) at c.in_default.ensures.tired;
+          took = took_all (goes_on c.loop-sight.invariant.3.tries.goes c.look.ensures.goes.goes).counts;
+          within = rw c.loop-sight.invariant.2 at (within_call (call_on c.loop-sight.invariant.0 c.look.ensures.goes.call));
+          short = rw (c.loop-sight.invariant.0.budget ∙ c.loop-sight.invariant.2) at c.in_default.ensures.tired.tired;
         });
         within = (λ alone.
-            let x : c.args.budget < 0 + 5 * listed_for c.args.at.now.pass.now.trace c.args.key + 11 = at_first (λ q since. c.args.budget < since + 5 * listed_for q.trace c.args.key + 11) c.args.at.now.pass.now c.loop-sight.call.at.pass.now c.look.new.self.at.pass.now c.loop-sight.invariant.4 c.loop-sight.invariant.3.tries.goes.quiet c.look.ensures.goes.quiet alone (rw ((c.loop-sight.invariant.0.key ∙ c.loop-sight.invariant.1), (c.loop-sight.invariant.0.budget ∙ c.loop-sight.invariant.2)) at c.in_default.ensures.short) in
+            let x : c.args.budget < 0 + enough_to_look_up c.args.at.now.pass.now.trace c.args.key = at_first (λ q since. c.args.budget < since + enough_to_look_up q.trace c.args.key) c.args.at.now.pass.now c.loop-sight.call.at.pass.now c.look.new.self.at.pass.now c.loop-sight.invariant.4 c.loop-sight.invariant.3.tries.goes.quiet c.look.ensures.goes.goes.quiet alone (rw ((c.loop-sight.invariant.0.key ∙ c.loop-sight.invariant.1), (c.loop-sight.invariant.0.budget ∙ c.loop-sight.invariant.2)) at c.in_default.ensures.tired.short) in
             omega (arith, x));
       };
     })
@@ -82,22 +82,22 @@ pub returns-then-not-affords-clause-calls : goal.returns-then-not-affords-clause
 returns-then-not-affords-clause-calls c =
     let same : c.at-then-not-affords-1.given.0 ≡ c.look.new.self.at.pass.now = search rules in
     rw same (record {
-      same = (quiet_on c.loop-sight.invariant.3.tries.goes.quiet c.look.ensures.goes.quiet).same;
+      same = (quiet_on c.loop-sight.invariant.3.tries.goes.quiet c.look.ensures.goes.goes.quiet).same;
       made = tt;
       alone = tt;
-      quiet = (goes_on c.loop-sight.invariant.3.tries.goes c.look.ensures.goes).quiet;
+      quiet = (goes_on c.loop-sight.invariant.3.tries.goes c.look.ensures.goes.goes).quiet;
       hand = search rules;
-      steps = within_of c.look.new.self.used c.args.budget (rw c.loop-sight.invariant.2 at (within_call (call_on c.loop-sight.invariant.0 c.look.ensures.call))) (goes_on c.loop-sight.invariant.3.tries.goes c.look.ensures.goes).counts;
+      steps = within_of c.look.new.self.used c.args.budget (rw c.loop-sight.invariant.2 at (within_call (call_on c.loop-sight.invariant.0 c.look.ensures.goes.call))) (goes_on c.loop-sight.invariant.3.tries.goes c.look.ensures.goes.goes).counts;
       spares = record {
         only_loads = (observes_on c.loop-sight.invariant.3.observes c.look.ensures.observes).only_loads;
         adds = tt;
         adds_none = (observes_on c.loop-sight.invariant.3.observes c.look.ensures.observes).adds_none;
-        takes_no_slot = (goes_on c.loop-sight.invariant.3.tries.goes c.look.ensures.goes).hand.takes_no_slot;
+        takes_no_slot = (goes_on c.loop-sight.invariant.3.tries.goes c.look.ensures.goes.goes).hand.takes_no_slot;
         refused = search rules;
         within = (λ alone.
             let short : ¬ (c.look.new.self.used + 8 ≤ c.look.new.self.budget) = λ h. (let f = c.if-not-affords.true in let z = c.affords.ensures.1 h in let w : false ≡ true = sym f ∙ z in cc) in
-            let x : c.args.budget < 0 + 5 * listed_for c.args.at.now.pass.now.trace c.args.key + 11 = at_first (λ q since. c.args.budget < since + 5 * listed_for q.trace c.args.key + 11) c.args.at.now.pass.now c.loop-sight.call.at.pass.now c.look.new.self.at.pass.now c.loop-sight.invariant.4 c.loop-sight.invariant.3.tries.goes.quiet c.look.ensures.goes.quiet alone
-            (λ then. let f = (rw (c.loop-sight.invariant.0.key ∙ c.loop-sight.invariant.1) at c.in-Some.ensures.alone then).paid in let e = (c.look.ensures.call.budget ∙ c.loop-sight.invariant.0.budget ∙ c.loop-sight.invariant.2) in omega (arith, f, short, e)) in
+            let x : c.args.budget < 0 + enough_to_look_up c.args.at.now.pass.now.trace c.args.key = at_first (λ q since. c.args.budget < since + enough_to_look_up q.trace c.args.key) c.args.at.now.pass.now c.loop-sight.call.at.pass.now c.look.new.self.at.pass.now c.loop-sight.invariant.4 c.loop-sight.invariant.3.tries.goes.quiet c.look.ensures.goes.goes.quiet alone
+            (λ then. let f = (rw (c.loop-sight.invariant.0.key ∙ c.loop-sight.invariant.1) at c.in-Some.ensures.sight.alone then).paid in let e = (c.look.ensures.goes.call.budget ∙ c.loop-sight.invariant.0.budget ∙ c.loop-sight.invariant.2) in omega (arith, f, short, e)) in
             omega (arith, x));
       };
     })
@@ -106,22 +106,22 @@ pub returns-in-Ok-clause-calls : goal.returns-in-Ok-clause-calls
 returns-in-Ok-clause-calls c =
     let same : c.at-in-Ok-1.given.0 ≡ c.settle_look_up.new.self.at.pass.now = search rules in
     rw same (record {
-      same = same_on (quiet_on c.loop-sight.invariant.3.tries.goes.quiet c.look.ensures.goes.quiet).same c.in-Ok.ensures.made.same;
-      made = made_since (quiet_on c.loop-sight.invariant.3.tries.goes.quiet c.look.ensures.goes.quiet) (rw (c.look.ensures.call.key ∙ c.loop-sight.invariant.0.key ∙ c.loop-sight.invariant.1) at c.in-Ok.ensures.made);
-      alone = alone c.law.ensures.shape c.law.ensures.low (made_since (quiet_on c.loop-sight.invariant.3.tries.goes.quiet c.look.ensures.goes.quiet) (rw (c.look.ensures.call.key ∙ c.loop-sight.invariant.0.key ∙ c.loop-sight.invariant.1) at c.in-Ok.ensures.made));
+      same = same_on (quiet_on c.loop-sight.invariant.3.tries.goes.quiet c.look.ensures.goes.goes.quiet).same c.in-Ok.ensures.answers.made.same;
+      made = made_since (quiet_on c.loop-sight.invariant.3.tries.goes.quiet c.look.ensures.goes.goes.quiet) (rw (c.look.ensures.goes.call.key ∙ c.loop-sight.invariant.0.key ∙ c.loop-sight.invariant.1) at c.in-Ok.ensures.answers.made);
+      alone = alone c.law.ensures.shape c.law.ensures.low (made_since (quiet_on c.loop-sight.invariant.3.tries.goes.quiet c.look.ensures.goes.goes.quiet) (rw (c.look.ensures.goes.call.key ∙ c.loop-sight.invariant.0.key ∙ c.loop-sight.invariant.1) at c.in-Ok.ensures.answers.made));
       quiet = tt;
       hand = search rules;
       steps = (let fits = c.if-not-affords.ensures in
-          let e = (c.look.ensures.call.budget ∙ c.loop-sight.invariant.0.budget ∙ c.loop-sight.invariant.2) in
-          within_of (c.look.new.self.used + 1) c.args.budget (omega (arith, fits, e)) (counts_on (goes_on c.loop-sight.invariant.3.tries.goes c.look.ensures.goes).counts (counts_step c.look.new.self.used 1 c.settle_look_up.ensures.took)));
+          let e = (c.look.ensures.goes.call.budget ∙ c.loop-sight.invariant.0.budget ∙ c.loop-sight.invariant.2) in
+          within_of (c.look.new.self.used + 1) c.args.budget (omega (arith, fits, e)) (counts_on (goes_on c.loop-sight.invariant.3.tries.goes c.look.ensures.goes.goes).counts (counts_step c.look.new.self.used 1 c.settle_look_up.ensures.keeps.took)));
       spares = record {
         only_loads = (let before = observes_on c.loop-sight.invariant.3.observes c.look.ensures.observes in
             loads_on before.only_loads c.settle_look_up.ensures.only_loads);
         adds = (let before = observes_on c.loop-sight.invariant.3.observes c.look.ensures.observes in
-            let same = (quiet_on c.loop-sight.invariant.3.tries.goes.quiet c.look.ensures.goes.quiet).same in
-            answer_on (λ who. (set_call who Has c.args.key c.in-Ok.reply)) same before.adds_none (rw (c.look.ensures.call.key ∙ c.loop-sight.invariant.0.key ∙ c.loop-sight.invariant.1) at c.in-Ok.ensures.adds));
+            let same = (quiet_on c.loop-sight.invariant.3.tries.goes.quiet c.look.ensures.goes.goes.quiet).same in
+            answer_on (λ who. (set_call who Has c.args.key c.in-Ok.reply)) same before.adds_none (rw (c.look.ensures.goes.call.key ∙ c.loop-sight.invariant.0.key ∙ c.loop-sight.invariant.1) at c.in-Ok.ensures.answers.adds));
         adds_none = tt;
-        takes_no_slot = none_on (goes_on c.loop-sight.invariant.3.tries.goes c.look.ensures.goes).hand.takes_no_slot c.settle_look_up.ensures.takes_no_slot;
+        takes_no_slot = none_on (goes_on c.loop-sight.invariant.3.tries.goes c.look.ensures.goes.goes).hand.takes_no_slot c.settle_look_up.ensures.keeps.takes_no_slot;
         refused = tt;
         within = tt;
       };

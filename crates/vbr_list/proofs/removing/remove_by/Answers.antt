@@ -2,28 +2,28 @@ use Rattle.std.proofs.Common.{rules, sym, ◌∙◌, arith, ap}
 use Rattle.vbr_slots.proofs.Lemmas.{quiet_on, same_on}
 use Rattle.vbr_pools.proofs.Lemmas.{counts_on, none_on, took_all}
 use Rattle.vbr_words.specs.Dimensions.{Dimensions}
-use Rattle.vbr_list.proofs.Going.{bucket_is, call_on, goes_on, tries_on, within_call, within_of}
+use Rattle.vbr_list.proofs.Going.{bucket_is, call_on, goes_on, room_left, tries_on, within_call, within_of}
+use Rattle.vbr_list.proofs.Clearing.{leaves_since}
 use Rattle.vbr_list.proofs.LonePasses.{alone}
-use Rattle.std.proofs.Common.{◌≡◌, ◌+◌, ◌*◌, ◌<◌, ◌≤◌, true, false}
-use Rattle.vbr_list.specs.Budgets.{listed_for}
+use Rattle.std.proofs.Common.{◌≡◌, ◌+◌, ◌<◌, ◌≤◌, true, false}
+use Rattle.vbr_list.specs.Budgets.{enough_to_search}
 use Rattle.vbr_list.proofs.Nearing.{at_first, first_lost, first_of, then_of}
 use Rattle.vbr_list.proofs.Preparing.{made_since}
 use Rattle.vbr_list.proofs.removing.remove_by.Goals as goal
 
 pub loop-found-preserved : goal.loop-found-preserved
 loop-found-preserved c =
-    let s = c.settle_remove.ensures in
-    let found = tries_on c.loop-found.invariant.3 c.search.ensures.goes c.search.ensures.more (rw c.loop-found.invariant.2 at (within_call (call_on c.loop-found.invariant.0 c.search.ensures.call))) in
-    let low = s.used.0 in
-    let a = c.search.ensures.goes.quiet in
-    let b = c.in_default-settle_remove.ensures.quiet in
-    let same = call_on (call_on c.loop-found.invariant.0 c.search.ensures.call) c.settle_remove.ensures.call in (
+    let s = c.settle_remove.ensures.settles in
+    let found = tries_on c.loop-found.invariant.3 c.search.ensures.goes.goes c.search.ensures.goes.more (rw c.loop-found.invariant.2 at (within_call (call_on c.loop-found.invariant.0 c.search.ensures.goes.call))) in
+    let a = c.search.ensures.goes.goes.quiet in
+    let b = c.in_default-settle_remove.ensures.rolls.quiet in
+    let same = call_on (call_on c.loop-found.invariant.0 c.search.ensures.goes.call) c.settle_remove.ensures.settles.call in (
       same,
       c.loop-found.invariant.1,
       c.loop-found.invariant.2,
-      tries_on found (record { quiet = c.in_default-settle_remove.ensures.quiet; counts = s.counts; hand = s.hand }) (omega arith) (rw c.loop-found.invariant.2 at (within_call same)),
+      tries_on found (record { quiet = c.in_default-settle_remove.ensures.rolls.quiet; counts = s.counts; hand = s.hand }) (let low = c.settle_remove.ensures.settles.more in omega (arith, low)) (rw c.loop-found.invariant.2 at (within_call same)),
       first_lost c.args.at.now.pass.now c.loop-found.call.at.pass.now c.settle_remove.new.self.at.pass.now c.loop-found.invariant.4 c.loop-found.invariant.3.goes.quiet (quiet_on a b)
-          (λ alone. let f = c.in-Some.ensures.alone (first_of a b alone) in c.in_default-settle_remove.ensures.wins f.pred.stands f.cur (then_of a b alone)),
+          (λ alone. let f = c.in-Some.ensures.found.alone (first_of a b alone) in c.in_default-settle_remove.ensures.rolls.wins f.pred.stands f.cur (then_of a b alone)),
     )
 
 pub invariant_of-call-2 : goal.invariant_of-call-2
@@ -36,37 +36,38 @@ invariant_of-call-2 c = record {
 pub returns-in_default-clause-took : goal.returns-in_default-clause-took
 returns-in_default-clause-took c =
     let same : c.at-1.given.0 ≡ c.search.new.self.at.pass.now = search rules in
-    rw same (took_all (goes_on c.loop-found.invariant.3.goes c.search.ensures.goes).counts)
+    rw same (took_all (goes_on c.loop-found.invariant.3.goes c.search.ensures.goes.goes).counts)
 
 pub returns-then-not-affords-clause-took : goal.returns-then-not-affords-clause-took
 returns-then-not-affords-clause-took c =
     let same : c.at-then-not-affords-1.given.0 ≡ c.search.new.self.at.pass.now = search rules in
-    rw same (took_all (goes_on c.loop-found.invariant.3.goes c.search.ensures.goes).counts)
+    rw same (took_all (goes_on c.loop-found.invariant.3.goes c.search.ensures.goes.goes).counts)
 
 pub returns-in-Ok-clause-took : goal.returns-in-Ok-clause-took
 returns-in-Ok-clause-took c =
     let same : c.at-in-Ok-1.given.0 ≡ c.settle_remove.new.self.at.pass.now = search rules in
-    rw same (took_all (counts_on (goes_on c.loop-found.invariant.3.goes c.search.ensures.goes).counts c.settle_remove.ensures.counts))
+    rw same (took_all (counts_on (goes_on c.loop-found.invariant.3.goes c.search.ensures.goes.goes).counts c.settle_remove.ensures.settles.counts))
 
 pub returns-in_default-clause-calls : goal.returns-in_default-clause-calls
 returns-in_default-clause-calls c =
     let same : c.at-1.given.0 ≡ c.search.new.self.at.pass.now = search rules in
     rw same (record {
-      same = (quiet_on c.loop-found.invariant.3.goes.quiet c.search.ensures.goes.quiet).same;
+      same = (quiet_on c.loop-found.invariant.3.goes.quiet c.search.ensures.goes.goes.quiet).same;
       made = tt;
       alone = tt;
-      quiet = (goes_on c.loop-found.invariant.3.goes c.search.ensures.goes).quiet;
+      quiet = (goes_on c.loop-found.invariant.3.goes c.search.ensures.goes.goes).quiet;
       hand = search rules;
-      steps = within_of c.search.new.self.used c.args.budget (rw c.loop-found.invariant.2 at (within_call (call_on c.loop-found.invariant.0 c.search.ensures.call))) (goes_on c.loop-found.invariant.3.goes c.search.ensures.goes).counts;
+      steps = within_of c.search.new.self.used c.args.budget (rw c.loop-found.invariant.2 at (within_call (call_on c.loop-found.invariant.0 c.search.ensures.goes.call))) (goes_on c.loop-found.invariant.3.goes c.search.ensures.goes.goes).counts;
       spares = record {
-        takes_no_slot = (goes_on c.loop-found.invariant.3.goes c.search.ensures.goes).hand.takes_no_slot;
+        takes_no_slot = (goes_on c.loop-found.invariant.3.goes c.search.ensures.goes.goes).hand.takes_no_slot;
+        unlists = tt;
         refused = (record {
-          took = took_all (goes_on c.loop-found.invariant.3.goes c.search.ensures.goes).counts;
-          within = rw c.loop-found.invariant.2 at (within_call (call_on c.loop-found.invariant.0 c.search.ensures.call));
-          short = rw (c.loop-found.invariant.0.budget ∙ c.loop-found.invariant.2) at c.in_default.ensures.tired;
+          took = took_all (goes_on c.loop-found.invariant.3.goes c.search.ensures.goes.goes).counts;
+          within = rw c.loop-found.invariant.2 at (within_call (call_on c.loop-found.invariant.0 c.search.ensures.goes.call));
+          short = rw (c.loop-found.invariant.0.budget ∙ c.loop-found.invariant.2) at c.in_default.ensures.tired.tired;
         });
         within = (λ alone.
-            let x : c.args.budget < 0 + 9 * listed_for c.args.at.now.pass.now.trace c.args.key + 11 = at_first (λ q since. c.args.budget < since + 9 * listed_for q.trace c.args.key + 11) c.args.at.now.pass.now c.loop-found.call.at.pass.now c.search.new.self.at.pass.now c.loop-found.invariant.4 c.loop-found.invariant.3.goes.quiet c.search.ensures.goes.quiet alone (rw ((c.loop-found.invariant.0.key ∙ c.loop-found.invariant.1), (c.loop-found.invariant.0.budget ∙ c.loop-found.invariant.2)) at c.in_default.ensures.short) in
+            let x : c.args.budget < 0 + enough_to_search c.args.at.now.pass.now.trace c.args.key = at_first (λ q since. c.args.budget < since + enough_to_search q.trace c.args.key) c.args.at.now.pass.now c.loop-found.call.at.pass.now c.search.new.self.at.pass.now c.loop-found.invariant.4 c.loop-found.invariant.3.goes.quiet c.search.ensures.goes.goes.quiet alone (rw ((c.loop-found.invariant.0.key ∙ c.loop-found.invariant.1), (c.loop-found.invariant.0.budget ∙ c.loop-found.invariant.2)) at c.in_default.ensures.tired.short) in
             omega (arith, x));
       };
     })
@@ -75,19 +76,20 @@ pub returns-then-not-affords-clause-calls : goal.returns-then-not-affords-clause
 returns-then-not-affords-clause-calls c =
     let same : c.at-then-not-affords-1.given.0 ≡ c.search.new.self.at.pass.now = search rules in
     rw same (record {
-      same = (quiet_on c.loop-found.invariant.3.goes.quiet c.search.ensures.goes.quiet).same;
+      same = (quiet_on c.loop-found.invariant.3.goes.quiet c.search.ensures.goes.goes.quiet).same;
       made = tt;
       alone = tt;
-      quiet = (goes_on c.loop-found.invariant.3.goes c.search.ensures.goes).quiet;
+      quiet = (goes_on c.loop-found.invariant.3.goes c.search.ensures.goes.goes).quiet;
       hand = search rules;
-      steps = within_of c.search.new.self.used c.args.budget (rw c.loop-found.invariant.2 at (within_call (call_on c.loop-found.invariant.0 c.search.ensures.call))) (goes_on c.loop-found.invariant.3.goes c.search.ensures.goes).counts;
+      steps = within_of c.search.new.self.used c.args.budget (rw c.loop-found.invariant.2 at (within_call (call_on c.loop-found.invariant.0 c.search.ensures.goes.call))) (goes_on c.loop-found.invariant.3.goes c.search.ensures.goes.goes).counts;
       spares = record {
-        takes_no_slot = (goes_on c.loop-found.invariant.3.goes c.search.ensures.goes).hand.takes_no_slot;
+        takes_no_slot = (goes_on c.loop-found.invariant.3.goes c.search.ensures.goes.goes).hand.takes_no_slot;
+        unlists = tt;
         refused = search rules;
         within = (λ alone.
             let short : ¬ (c.search.new.self.used + 8 ≤ c.search.new.self.budget) = λ h. (let f = c.if-not-affords.true in let z = c.affords.ensures.1 h in let w : false ≡ true = sym f ∙ z in cc) in
-            let x : c.args.budget < 0 + 9 * listed_for c.args.at.now.pass.now.trace c.args.key + 11 = at_first (λ q since. c.args.budget < since + 9 * listed_for q.trace c.args.key + 11) c.args.at.now.pass.now c.loop-found.call.at.pass.now c.search.new.self.at.pass.now c.loop-found.invariant.4 c.loop-found.invariant.3.goes.quiet c.search.ensures.goes.quiet alone
-            (λ then. let f = (rw (c.loop-found.invariant.0.key ∙ c.loop-found.invariant.1) at c.in-Some.ensures.alone then).paid in let e = (c.search.ensures.call.budget ∙ c.loop-found.invariant.0.budget ∙ c.loop-found.invariant.2) in omega (arith, f, short, e)) in
+            let x : c.args.budget < 0 + enough_to_search c.args.at.now.pass.now.trace c.args.key = at_first (λ q since. c.args.budget < since + enough_to_search q.trace c.args.key) c.args.at.now.pass.now c.loop-found.call.at.pass.now c.search.new.self.at.pass.now c.loop-found.invariant.4 c.loop-found.invariant.3.goes.quiet c.search.ensures.goes.goes.quiet alone
+            (λ then. let f = (rw (c.loop-found.invariant.0.key ∙ c.loop-found.invariant.1) at c.in-Some.ensures.found.alone then).paid in let e = (c.search.ensures.goes.call.budget ∙ c.loop-found.invariant.0.budget ∙ c.loop-found.invariant.2) in omega (arith, f, short, e)) in
             omega (arith, x));
       };
     })
@@ -96,14 +98,20 @@ pub returns-in-Ok-clause-calls : goal.returns-in-Ok-clause-calls
 returns-in-Ok-clause-calls c =
     let same : c.at-in-Ok-1.given.0 ≡ c.settle_remove.new.self.at.pass.now = search rules in
     rw same (record {
-      same = same_on (quiet_on c.loop-found.invariant.3.goes.quiet c.search.ensures.goes.quiet).same c.in-Ok.ensures.made.same;
-      made = made_since (quiet_on c.loop-found.invariant.3.goes.quiet c.search.ensures.goes.quiet) (rw (c.search.ensures.call.key ∙ c.loop-found.invariant.0.key ∙ c.loop-found.invariant.1) at c.in-Ok.ensures.made);
-      alone = alone c.law.ensures.shape c.law.ensures.low (made_since (quiet_on c.loop-found.invariant.3.goes.quiet c.search.ensures.goes.quiet) (rw (c.search.ensures.call.key ∙ c.loop-found.invariant.0.key ∙ c.loop-found.invariant.1) at c.in-Ok.ensures.made));
+      same = same_on (quiet_on c.loop-found.invariant.3.goes.quiet c.search.ensures.goes.goes.quiet).same c.in-Ok.ensures.answers.made.same;
+      made = made_since (quiet_on c.loop-found.invariant.3.goes.quiet c.search.ensures.goes.goes.quiet) (rw (c.search.ensures.goes.call.key ∙ c.loop-found.invariant.0.key ∙ c.loop-found.invariant.1) at c.in-Ok.ensures.answers.made);
+      alone = alone c.law.ensures.shape c.law.ensures.low (made_since (quiet_on c.loop-found.invariant.3.goes.quiet c.search.ensures.goes.goes.quiet) (rw (c.search.ensures.goes.call.key ∙ c.loop-found.invariant.0.key ∙ c.loop-found.invariant.1) at c.in-Ok.ensures.answers.made));
       quiet = tt;
       hand = search rules;
-      steps = within_of c.settle_remove.new.self.used c.args.budget (rw c.loop-found.invariant.2 at (within_call (call_on (call_on c.loop-found.invariant.0 c.search.ensures.call) c.settle_remove.ensures.call))) (counts_on (goes_on c.loop-found.invariant.3.goes c.search.ensures.goes).counts c.settle_remove.ensures.counts);
+      steps = within_of c.settle_remove.new.self.used c.args.budget (rw c.loop-found.invariant.2 at (within_call (call_on (call_on c.loop-found.invariant.0 c.search.ensures.goes.call) c.settle_remove.ensures.settles.call))) (counts_on (goes_on c.loop-found.invariant.3.goes c.search.ensures.goes.goes).counts c.settle_remove.ensures.settles.counts);
       spares = record {
-        takes_no_slot = none_on (goes_on c.loop-found.invariant.3.goes c.search.ensures.goes).hand.takes_no_slot c.settle_remove.ensures.hand.takes_no_slot;
+        takes_no_slot = none_on (goes_on c.loop-found.invariant.3.goes c.search.ensures.goes.goes).hand.takes_no_slot c.settle_remove.ensures.settles.hand.takes_no_slot;
+        unlists = λ yes left.
+            let a = quiet_on c.loop-found.invariant.3.goes.quiet c.search.ensures.goes.goes.quiet in
+            let kept = call_on (call_on c.loop-found.invariant.0 c.search.ensures.goes.call) c.settle_remove.ensures.settles.call in
+            let room = room_left c.settle_remove.new.self.used c.args.budget (counts_on (goes_on c.loop-found.invariant.3.goes c.search.ensures.goes.goes).counts c.settle_remove.ensures.settles.counts) left in
+            let budget = kept.budget ∙ c.loop-found.invariant.2 in
+            leaves_since c.settle_remove.new.self.at.pass.now.trace c.args.key c.law.ensures.shape a (rw (c.search.ensures.goes.call.key ∙ c.loop-found.invariant.0.key ∙ c.loop-found.invariant.1) at c.in-Ok.ensures.answers.unlists yes (omega (arith, room, budget)));
         refused = tt;
         within = tt;
       };

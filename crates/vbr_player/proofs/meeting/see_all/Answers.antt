@@ -1,5 +1,5 @@
 use Rattle.std.proofs.Common.{sym, ◌∙◌, arith}
-use Rattle.vbr_core.proofs.Lemmas.{begins_for_begins}
+use Rattle.vbr_machine.proofs.Lemmas.{begins_for_begins}
 use Rattle.vbr_slots.proofs.Lemmas.{quiet_on}
 use Rattle.vbr_player.proofs.AllMet.{of_at, put_back, seen_more, seen_all}
 use Rattle.vbr_player.proofs.meeting.see_all.Goals as goal

@@ -1,6 +1,6 @@
 use Rattle.std.proofs.Common.{◌≡◌, take}
 use Rattle.std.specs.Prelude.{All}
-use Rattle.vbr_core.specs.Runs.{Begins}
+use Rattle.vbr_machine.specs.Runs.{Begins}
 use Rattle.vbr_slots.specs.Calls.{Quiet}
 use Rattle.vbr_slots.specs.Views.{KeepsPool}
 use Rattle.vbr_player.proofs.meeting.see_all.Given as goal

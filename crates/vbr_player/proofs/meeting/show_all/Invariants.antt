@@ -1,7 +1,7 @@
 use Rattle.std.proofs.Common.{◌≡◌, take}
 use Rattle.std.specs.Prelude.{All}
 use Rattle.std.specs.List.{AllZip}
-use Rattle.vbr_core.specs.Runs.{Begins}
+use Rattle.vbr_machine.specs.Runs.{Begins}
 use Rattle.vbr_player.specs.Meeting.{HasSeenMore}
 use Rattle.vbr_player.proofs.meeting.show_all.Given as goal
 

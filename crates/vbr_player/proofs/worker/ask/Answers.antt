@@ -1,5 +1,5 @@
 use Rattle.vbr_player.proofs.Replying.{replied}
-use Rattle.vbr_core.specs.declared.history.Op.TheVariants.{Insert, Remove, Has}
+use Rattle.vbr_machine.specs.declared.history.Op.TheVariants.{Insert, Remove, Has}
 use Rattle.vbr_player.proofs.worker.ask.Goals as goal
 
 pub returns-in-Insert : goal.returns-in-Insert

@@ -4,7 +4,7 @@ use Rattle.std.specs.Vec.{vec_capacity}
 use Rattle.std.proofs.lemmas.List.{length_push}
 use Rattle.vbr_words.specs.Words.{link_of}
 use Rattle.vbr_words.specs.declared.link.Link.{Link}
-use Rattle.vbr_core.specs.Accounts.{incarnations_after}
+use Rattle.vbr_machine.specs.Accounts.{incarnations_after}
 use Rattle.vbr_set.specs.Walking.{keyed}
 use Rattle.vbr_set.proofs.Gathering.{Gathered, gathered_as, gathered_linked, gathered_marked, gathered_skip}
 use Rattle.vbr_set.proofs.closing.gather.Goals as goal

@@ -1,7 +1,7 @@
 use Rattle.std.proofs.Common.{ℕ, ◌≡◌, ◌+◌, ◌≤◌, List, length}
 use Rattle.std.specs.Vec.{vec_capacity}
-use Rattle.vbr_core.specs.Accounts.{incarnations_after}
-use Rattle.vbr_core.specs.declared.event.Event.{Event}
+use Rattle.vbr_machine.specs.Accounts.{incarnations_after}
+use Rattle.vbr_machine.specs.declared.event.Event.{Event}
 use Rattle.vbr_set.specs.Walking.{AreAfter, NotesLists, keyed}
 use Rattle.vbr_set.proofs.Gathering.{Gathered}
 use Rattle.vbr_set.proofs.closing.gather.Given as goal

@@ -2,7 +2,7 @@ use Rattle.std.proofs.Common.{◌≡◌, Bool, List, length, sym, ap, ◌∙◌,
 use Rattle.std.specs.Prelude.{slice_index}
 use Rattle.std.proofs.lemmas.List.Sorted.{length_permutation}
 use Rattle.vbr_words.specs.declared.place.Place.TheVariants as place
-use Rattle.vbr_core.specs.Accounts.{incarnations_after}
+use Rattle.vbr_machine.specs.Accounts.{incarnations_after}
 use Rattle.vbr_slots.proofs.Lemmas.{whole}
 use Rattle.vbr_set.specs.Walking.{NotesLists, keyed}
 use Rattle.vbr_set.proofs.LinkedKeys.{lists_keys}

@@ -1,5 +1,5 @@
 use Rattle.std.proofs.Common.{ℕ, ◌<◌, Option, sym, ◌∙◌, subst, arith}
-use Rattle.vbr_core.specs.Accounts.{incarnations_after}
+use Rattle.vbr_machine.specs.Accounts.{incarnations_after}
 use Rattle.vbr_set.specs.Walking.{keyed}
 use Rattle.vbr_set.proofs.Walks.{left, walk_ends, walk_first, walk_nearer, walk_next, walked_as}
 use Rattle.vbr_set.proofs.walking.note_list.Goals as goal

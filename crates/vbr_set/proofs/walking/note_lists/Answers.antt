@@ -1,5 +1,5 @@
 use Rattle.std.proofs.Common.{◌≡◌, ℕ, subst, arith}
-use Rattle.vbr_core.specs.Accounts.{incarnations_after}
+use Rattle.vbr_machine.specs.Accounts.{incarnations_after}
 use Rattle.vbr_set.specs.Walking.{keyed}
 use Rattle.vbr_set.proofs.Walks.{NotedBelow, lists_end}
 use Rattle.vbr_set.proofs.walking.note_lists.Goals as goal

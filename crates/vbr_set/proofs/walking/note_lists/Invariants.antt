@@ -1,6 +1,6 @@
 use Rattle.std.proofs.Common.{ℕ, List}
-use Rattle.vbr_core.specs.Accounts.{incarnations_after}
-use Rattle.vbr_core.specs.declared.event.Event.{Event}
+use Rattle.vbr_machine.specs.Accounts.{incarnations_after}
+use Rattle.vbr_machine.specs.declared.event.Event.{Event}
 use Rattle.vbr_set.specs.Walking.{AreAfter, keyed}
 use Rattle.vbr_set.proofs.Walks.{NotedBelow}
 use Rattle.vbr_set.proofs.walking.note_lists.Given as goal

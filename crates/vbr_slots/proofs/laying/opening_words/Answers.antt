@@ -2,9 +2,9 @@
 use Rattle.std.proofs.Common.{◌≡◌, suc, ◌-◌, ◌<◌, ◌≤◌, drop, length, refl, sym, ap, ◌∙◌, subst, arith}
 use Rattle.vbr_words.specs.Dimensions.{Dimensions}
 use Rattle.vbr_words.specs.declared.link.TheConstants.{MAX_SLOTS}
-use Rattle.vbr_core.specs.Machine.{World}
-use Rattle.vbr_core.specs.Making.{opening_from}
-use Rattle.vbr_core.proofs.Lemmas.{opening_all, opening_step}
+use Rattle.vbr_machine.specs.Machine.{World}
+use Rattle.vbr_machine.specs.Making.{opening_from}
+use Rattle.vbr_machine.proofs.Lemmas.{opening_all, opening_step}
 use Rattle.vbr_slots.specs.Words.{AreWordsOf}
 use Rattle.vbr_slots.proofs.Openings.{heads_fit, whole}
 use Rattle.vbr_slots.proofs.laying.opening_words.Goals as goal

@@ -1,6 +1,6 @@
 -- The keys from a number on are linked.
 use Rattle.std.proofs.Common.{◌≤◌, length}
-use Rattle.vbr_core.specs.Making.{opening_from}
+use Rattle.vbr_machine.specs.Making.{opening_from}
 use Rattle.vbr_slots.specs.Words.{AreWordsOf}
 use Rattle.vbr_slots.proofs.laying.opening_words.Given as goal
 

@@ -1,9 +1,9 @@
 -- The list is worked at this shape.
 use Rattle.std.proofs.Common.{◌≡◌, ℕ, List, sym, subst, rules}
 use Rattle.vbr_words.specs.Dimensions.{Dimensions}
-use Rattle.vbr_core.specs.Machine.{opening}
-use Rattle.vbr_core.specs.declared.event.Effect.{Effect}
-use Rattle.vbr_core.specs.declared.event.Step.{Step}
+use Rattle.vbr_machine.specs.Machine.{opening}
+use Rattle.vbr_machine.specs.declared.event.Effect.{Effect}
+use Rattle.vbr_machine.specs.declared.event.Step.{Step}
 use Rattle.vbr_event_lists.specs.Worked.{AreWorked, three_slots}
 use Rattle.vbr_event_lists.specs.Valued.{valued, with_values}
 use Rattle.vbr_event_lists.specs.declared.lists.TheConstants.{REBORN_SLOT, REBORN_SLOT_WORDS}

@@ -1,7 +1,7 @@
 -- The list is worked at this shape.
 use Rattle.std.proofs.Common.{◌≡◌, sym, subst, rules}
 use Rattle.vbr_words.specs.Dimensions.{Dimensions}
-use Rattle.vbr_core.specs.Machine.{opening}
+use Rattle.vbr_machine.specs.Machine.{opening}
 use Rattle.vbr_event_lists.specs.Worked.{AreWorked, three_slots}
 use Rattle.vbr_event_lists.specs.declared.lists.TheConstants.{SAME_WORD, SAME_WORD_WORDS}
 use Rattle.vbr_event_lists.proofs.Lemmas.{same_word}

@@ -1,7 +1,7 @@
 -- Each row is the first of those that are left.
 use Rattle.std.proofs.Common.{◌≡◌, ℕ, List, ◌∷◌, Bool, cond, sym, ap, ◌∙◌, subst, rules}
-use Rattle.vbr_core.specs.declared.event.Effect.{Effect}
-use Rattle.vbr_core.specs.declared.event.Step.{Step}
+use Rattle.vbr_machine.specs.declared.event.Effect.{Effect}
+use Rattle.vbr_machine.specs.declared.event.Step.{Step}
 use Rattle.vbr_event_lists.specs.Worked.{others_of}
 use Rattle.vbr_table_rows.specs.Following.{BothFollow}
 use Rattle.vbr_table_rows.proofs.listed_calls.Following.{stands_next}

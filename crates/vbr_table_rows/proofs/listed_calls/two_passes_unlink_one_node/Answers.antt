@@ -1,7 +1,7 @@
 -- The list is worked at this shape.
 use Rattle.std.proofs.Common.{◌≡◌, sym, subst, rules}
 use Rattle.vbr_words.specs.Dimensions.{Dimensions}
-use Rattle.vbr_core.specs.Machine.{opening}
+use Rattle.vbr_machine.specs.Machine.{opening}
 use Rattle.vbr_event_lists.specs.Worked.{AreWorked, one_slot}
 use Rattle.vbr_event_lists.specs.declared.lists.TheConstants.{TWO_HELPERS, TWO_HELPERS_WORDS}
 use Rattle.vbr_event_lists.proofs.Lemmas.{two_helpers}

@@ -1,7 +1,7 @@
 -- The first rows of the list are worked at this shape.
 use Rattle.std.proofs.Common.{◌≡◌, sym, subst, take, rules}
 use Rattle.vbr_words.specs.Dimensions.{Dimensions}
-use Rattle.vbr_core.specs.Machine.{opening}
+use Rattle.vbr_machine.specs.Machine.{opening}
 use Rattle.vbr_event_lists.specs.Worked.{AreWorked, many_epochs}
 use Rattle.vbr_event_lists.specs.declared.standing.TheConstants.{STANDING, STANDING_WORDS}
 use Rattle.vbr_event_lists.proofs.Lemmas.{first_worked, standing}

@@ -1,6 +1,6 @@
 use Rattle.std.proofs.Common.{subst, rules}
 use Rattle.vbr_words.specs.Dimensions.{Dimensions}
-use Rattle.vbr_core.specs.Acceptance.{Accepts}
+use Rattle.vbr_machine.specs.Acceptance.{Accepts}
 use Rattle.vbr_slots.specs.LookUps.{look_up}
 use Rattle.vbr_slots.specs.Views.{knows}
 use Rattle.vbr_access.proofs.LookUps.{look_up_accepted, look_up_adds, look_up_adds_none, look_up_confirmed, look_up_failed, look_up_keeps, look_up_loads, look_up_lost, look_up_made, look_up_takes_no_slot}
@@ -13,33 +13,33 @@ confirm_look_up-requires-clause-accepted c =
 
 pub returns-in-Ok-clause-keeps : goal.returns-in-Ok-clause-keeps
 returns-in-Ok-clause-keeps c = record {
-  took = search rules;
-  own = search rules;
-  takes_no_slot = look_up_takes_no_slot c.args.present c.args.key c.args.held.now.at c.args.held.now.word c.in-Ok.ensures.step c.confirm_look_up.ensures.pool;
-  keeps = look_up_keeps c.args.present c.args.key c.args.held.now.at c.args.held.now.word c.in-Ok.ensures.step;
+  keeps = record {
+    took = search rules;
+    own = search rules;
+    takes_no_slot = look_up_takes_no_slot c.args.present c.args.key c.args.held.now.at c.args.held.now.word c.in-Ok.ensures.found.did c.in-Ok.ensures.found.keeps;
+    keeps = look_up_keeps c.args.present c.args.key c.args.held.now.at c.args.held.now.word c.in-Ok.ensures.found.did;
+  };
+  only_loads = look_up_loads c.args.present c.args.key c.args.held.now.at c.args.held.now.word c.in-Ok.ensures.found.did;
 }
-
-pub returns-in-Ok-clause-only_loads : goal.returns-in-Ok-clause-only_loads
-returns-in-Ok-clause-only_loads c = look_up_loads c.args.present c.args.key c.args.held.now.at c.args.held.now.word c.in-Ok.ensures.step
 
 pub returns-in-Err-clause-keeps : goal.returns-in-Err-clause-keeps
 returns-in-Err-clause-keeps c = record {
-  took = search rules;
-  own = search rules;
-  takes_no_slot = look_up_takes_no_slot c.args.present c.args.key c.args.held.now.at c.args.held.now.word c.in-Err.ensures.step.0 c.confirm_look_up.ensures.pool;
-  keeps = look_up_keeps c.args.present c.args.key c.args.held.now.at c.args.held.now.word c.in-Err.ensures.step.0;
+  keeps = record {
+    took = search rules;
+    own = search rules;
+    takes_no_slot = look_up_takes_no_slot c.args.present c.args.key c.args.held.now.at c.args.held.now.word c.in-Err.ensures.other.did c.in-Err.ensures.other.keeps;
+    keeps = look_up_keeps c.args.present c.args.key c.args.held.now.at c.args.held.now.word c.in-Err.ensures.other.did;
+  };
+  only_loads = look_up_loads c.args.present c.args.key c.args.held.now.at c.args.held.now.word c.in-Err.ensures.other.did;
 }
 
-pub returns-in-Err-clause-only_loads : goal.returns-in-Err-clause-only_loads
-returns-in-Err-clause-only_loads c = look_up_loads c.args.present c.args.key c.args.held.now.at c.args.held.now.word c.in-Err.ensures.step.0
-
-pub returns-in-Ok-clause-answered : goal.returns-in-Ok-clause-answered
-returns-in-Ok-clause-answered c = record { made = look_up_made c.args.at.now.pass.now _ c.law.ensures c.args.key c.args.held.now c.args.present c.requires.decides c.in-Ok.ensures.step; adds = look_up_adds c.args.at.now.pass.now _ c.law.ensures c.args.key c.args.held.now c.args.present c.requires.decides c.in-Ok.ensures.step }
+pub returns-in-Ok-clause-answers : goal.returns-in-Ok-clause-answers
+returns-in-Ok-clause-answers c = record { made = look_up_made c.args.at.now.pass.now _ c.law.ensures c.args.key c.args.held.now c.args.present c.requires.decides c.in-Ok.ensures.found.did; adds = look_up_adds c.args.at.now.pass.now _ c.law.ensures c.args.key c.args.held.now c.args.present c.requires.decides c.in-Ok.ensures.found.did }
 
 pub returns-in-Err-clause-lost : goal.returns-in-Err-clause-lost
 returns-in-Err-clause-lost c = record {
-  quiet = look_up_failed c.args.at.now.pass.now _ c.law.ensures c.args.key c.args.held.now c.args.present _ c.in-Err.ensures.step.0 c.in-Err.ensures.step.1;
-  adds_none = look_up_adds_none c.args.at.now.pass.now _ c.law.ensures c.args.key c.args.held.now c.args.present _ c.in-Err.ensures.step.0 c.in-Err.ensures.step.1;
-  lost = look_up_lost c.args.at.now.pass.now _ c.law.ensures c.args.key c.args.held.now c.args.present _ c.in-Err.ensures.step.0 c.in-Err.ensures.step.1;
-  wins = λ alone stands. look_up_confirmed c.args.at.now.pass.now _ c.law.ensures c.args.key c.args.held.now c.args.present _ alone c.in-Err.ensures.step.0 c.in-Err.ensures.step.1 stands;
+  quiet = look_up_failed c.args.at.now.pass.now _ c.law.ensures c.args.key c.args.held.now c.args.present _ c.in-Err.ensures.other.did c.in-Err.ensures.other.unexpected;
+  adds_none = look_up_adds_none c.args.at.now.pass.now _ c.law.ensures c.args.key c.args.held.now c.args.present _ c.in-Err.ensures.other.did c.in-Err.ensures.other.unexpected;
+  lost = look_up_lost c.args.at.now.pass.now _ c.law.ensures c.args.key c.args.held.now c.args.present _ c.in-Err.ensures.other.did c.in-Err.ensures.other.unexpected;
+  wins = λ alone stands. look_up_confirmed c.args.at.now.pass.now _ c.law.ensures c.args.key c.args.held.now c.args.present _ alone c.in-Err.ensures.other.did c.in-Err.ensures.other.unexpected stands;
 }

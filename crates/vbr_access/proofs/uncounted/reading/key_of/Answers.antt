@@ -1,8 +1,8 @@
 use Rattle.std.proofs.Common.{◌∙◌, subst, ◌<◌}
 use Rattle.vbr_words.specs.declared.place.At.{At}
 use Rattle.vbr_words.specs.Dimensions.{Dimensions}
-use Rattle.vbr_core.specs.Acceptance.{IsAtIn}
-use Rattle.vbr_core.specs.Membership.{IsHeldPlace}
+use Rattle.vbr_machine.specs.Acceptance.{IsAtIn}
+use Rattle.vbr_machine.specs.Membership.{IsHeldPlace}
 use Rattle.vbr_slots.specs.Views.{knows}
 use Rattle.vbr_access.proofs.Accepted.{place_in, place_held, slot_found}
 use Rattle.vbr_access.proofs.ReadCalls.{apart, key_in_two, key_rolls, key_told}

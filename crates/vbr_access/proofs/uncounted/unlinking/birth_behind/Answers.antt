@@ -1,12 +1,11 @@
 use Rattle.std.proofs.Common.{ℕ, ◌<◌, sym, ap, ◌∙◌, subst, Option, ◌≡◌, rules}
 use Rattle.vbr_words.specs.Dimensions.{Dimensions}
-use Rattle.vbr_words.specs.Words.{link_of}
 use Rattle.vbr_words.specs.declared.link.Link.{Link}
-use Rattle.vbr_core.specs.Membership.{BirthNamed}
+use Rattle.vbr_machine.specs.Membership.{BirthNamed}
 use Rattle.vbr_slots.specs.Views.{knows}
 use Rattle.vbr_access.specs.Held.{held_of}
 use Rattle.vbr_access.specs.Reading.{ReadsIn}
-use Rattle.vbr_access.specs.Steps.{birth_steps}
+use Rattle.vbr_access.specs.Steps.{birth_steps, steps_to_birth}
 use Rattle.vbr_access.proofs.AloneReads.{birth_still}
 use Rattle.vbr_access.proofs.Accepted.{named_slot, slot_in, slot_found}
 use Rattle.vbr_access.proofs.CheckedReads.{birth_keeps, birth_read}
@@ -24,7 +23,7 @@ load_birth-birth-requires-clause-held c = slot_found c.args.at.now.pass.now c.la
 pub returns-then-now-marked-clause-reads : goal.returns-then-now-marked-clause-reads
 returns-then-now-marked-clause-reads c =
     let p = c.args.at.now.pass.now in
-    let two : birth_steps (link_of c.args.marked.now.word).slot ≡ 2 = ap birth_steps (ap (λ (l : Link). l.slot) (sym c.decode.ensures.link) ∙ c.in-Some.is) in
+    let two : steps_to_birth c.args.marked.now.word ≡ 2 = ap birth_steps (ap (λ (l : Link). l.slot) (sym c.decode.ensures.link) ∙ c.in-Some.is) in
     let first = birth_in_one (fit p c.law.ensures) c.load_birth-birth.ensures.step c.load_birth-birth.ensures.pool in
     let then = epoch_in_one (fit_on (fit p c.law.ensures) first) c.read_epoch-now.ensures.step c.read_epoch-now.ensures.pool in
     let P : ℕ → Type 0 = ReadsIn p c.read_epoch-now.new.self in
@@ -33,7 +32,7 @@ returns-then-now-marked-clause-reads c =
 pub returns-clause-reads : goal.returns-clause-reads
 returns-clause-reads c =
     let p = c.args.at.now.pass.now in
-    let two : birth_steps (link_of c.args.marked.now.word).slot ≡ 2 = ap birth_steps (ap (λ (l : Link). l.slot) (sym c.decode.ensures.link) ∙ c.in-Some.is) in
+    let two : steps_to_birth c.args.marked.now.word ≡ 2 = ap birth_steps (ap (λ (l : Link). l.slot) (sym c.decode.ensures.link) ∙ c.in-Some.is) in
     let first = birth_in_one (fit p c.law.ensures) c.load_birth-birth.ensures.step c.load_birth-birth.ensures.pool in
     let then = epoch_in_one (fit_on (fit p c.law.ensures) first) c.read_epoch-now.ensures.step c.read_epoch-now.ensures.pool in
     let P : ℕ → Type 0 = ReadsIn p c.read_epoch-now.new.self in
@@ -48,4 +47,7 @@ returns-clause-birth c =
     }
 
 pub returns-then-now-marked-clause-moved : goal.returns-then-now-marked-clause-moved
-returns-then-now-marked-clause-moved c = record { moved = search rules; still = λ fresh alone. c.if-now-marked.true (birth_still c.load_birth-birth.ensures.step c.read_epoch-now.ensures.step alone c.law.ensures.shape fresh ∙ sym c.requires.marked.held.epoch) }
+returns-then-now-marked-clause-moved c = record {
+  some = search rules;
+  rolls = record { moved = search rules; still = λ fresh alone. c.if-now-marked.true (birth_still c.load_birth-birth.ensures.step c.read_epoch-now.ensures.step alone c.law.ensures.shape fresh ∙ sym c.requires.marked.held.epoch) };
+}

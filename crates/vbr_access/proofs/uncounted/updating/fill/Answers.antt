@@ -2,8 +2,8 @@ use Rattle.std.proofs.Common.{◌≡◌, ℕ, ◌<◌, Option, sym, ap, ◌∙�
 use Rattle.vbr_words.specs.Dimensions.{Dimensions}
 use Rattle.vbr_words.specs.Words.{link_of, word_of}
 use Rattle.vbr_words.specs.declared.link.Link.{Link}
-use Rattle.vbr_core.specs.Acceptance.{IsNextIn, IsNextHeld}
-use Rattle.vbr_core.specs.Links.{link_to}
+use Rattle.vbr_machine.specs.Acceptance.{IsNextIn, IsNextHeld}
+use Rattle.vbr_machine.specs.Links.{link_to}
 use Rattle.vbr_slots.specs.Views.{knows}
 use Rattle.vbr_slots.proofs.Lemmas.{alone_two, key_stored_leaves, link_stored_leaves, quiet_on}
 use Rattle.vbr_pools.proofs.Lemmas.{did_none, none_on}

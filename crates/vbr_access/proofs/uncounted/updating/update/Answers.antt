@@ -1,24 +1,19 @@
-use Rattle.std.proofs.Common.{ℕ, Some, true, arith, sym, ap, ◌∙◌, subst, refl, rules}
+use Rattle.std.proofs.Common.{ℕ, Some, arith, sym, ap, ◌∙◌, subst, refl, rules}
 use Rattle.vbr_words.specs.Dimensions.{Dimensions}
 use Rattle.vbr_words.specs.Words.{link_of, word_of}
-use Rattle.vbr_core.specs.History.{set_call}
-use Rattle.vbr_core.specs.Acceptance.{IsAtIn, IsInRange}
-use Rattle.vbr_core.specs.Links.{link_to}
-use Rattle.vbr_core.specs.declared.event.Step.TheVariants.{Publish}
-use Rattle.vbr_core.specs.Membership.{StandsBehind}
-use Rattle.vbr_core.specs.declared.history.Op.TheVariants.{Insert}
-use Rattle.vbr_slots.specs.Calls.{Made}
+use Rattle.vbr_machine.specs.Acceptance.{IsAtIn}
+use Rattle.vbr_machine.specs.Links.{link_to}
+use Rattle.vbr_machine.specs.Membership.{StandsBehind}
 use Rattle.vbr_slots.specs.Views.{knows}
-use Rattle.vbr_slots.proofs.Lemmas.{made_on}
 use Rattle.vbr_pools.proofs.Lemmas.{did_none, none_on}
 use Rattle.vbr_access.specs.Held.{IsFilled}
 use Rattle.vbr_access.proofs.Keeping.{keeps_on, held_kept, birth_named_kept, behind_kept, before_kept}
 use Rattle.vbr_access.proofs.WrittenLinks.{fits, birth_in_hand_low, birth_at_low}
 use Rattle.vbr_access.proofs.WonExchanges.{publish_keeps}
-use Rattle.vbr_access.proofs.Accepted.{place_in}
+use Rattle.vbr_access.proofs.Accepted.{accepted_checked, place_in}
 use Rattle.vbr_access.proofs.Filled.{hand_filled, hand_at, publish_accepted, publish_writes, publish_made}
 use Rattle.vbr_access.proofs.KeptSlots.{publish_none}
-use Rattle.vbr_access.proofs.ExchangeCalls.{publish_lost}
+use Rattle.vbr_access.proofs.ExchangeCalls.{publish_lost, publish_told}
 use Rattle.vbr_access.proofs.uncounted.updating.update.Goals as goal
 
 pub link_to-new-requires : goal.link_to-new-requires
@@ -37,31 +32,17 @@ publish-requires-clause-pred c =
     let P : Dimensions → Type 0 = λ shape. IsAtIn shape c.args.pred.now.at in
     subst P c.fill.new.at.own.1 (place_in c.fill.new.at.pass.now c.law.ensures c.args.pred.now (held_kept c.args.pred.now c.fill.ensures.stores.keeps c.requires.gap.held))
 
-pub publish-requires-clause-held : goal.publish-requires-clause-held
-publish-requires-clause-held c =
+pub publish-requires-clause-checked : goal.publish-requires-clause-checked
+publish-requires-clause-checked c =
     let p = c.fill.new.at.pass.now in
     let k = c.fill.ensures.stores.keeps in
     let hand = hand_filled p c.args.hand c.args.key (link_to (link_of c.args.pred.now.word).slot c.args.hand.birth c.birth_named-birth.result) (c.fill.ensures.fills.hand ∙ c.requires.hand.slot) c.fill.ensures.fills.filled in
     let at = hand_at p c.law.ensures c.args.hand hand c.slot-slot.result c.slot-slot.ensures in
     let Q : ℕ → Type 0 = λ s. IsFilled ((knows p.trace).own s) c.args.hand.birth c.args.key (link_to (link_of c.args.pred.now.word).slot c.args.hand.birth c.birth_named-birth.result) in
     let P : Dimensions → Type 0 = λ shape. StandsBehind shape (knows p.trace) c.args.pred.now.at c.args.key in
-    (publish_accepted p c.law.ensures c.args.pred.now c.slot-slot.result c.args.key c.args.hand.birth c.birth_named-birth.result (held_kept c.args.pred.now k c.requires.gap.held) (subst Q (sym c.slot-slot.ensures) c.fill.ensures.fills.filled)
+    accepted_checked c.fill.new.at.own (publish_accepted p c.law.ensures c.args.pred.now c.slot-slot.result c.args.key c.args.hand.birth c.birth_named-birth.result (held_kept c.args.pred.now k c.requires.gap.held) (subst Q (sym c.slot-slot.ensures) c.fill.ensures.fills.filled)
     (ap (λ (d : Dimensions). d.values) c.fill.new.at.own.1 ∙ c.kind.ensures) c.requires.gap.unmarked at.0 (birth_named_kept (link_of c.args.pred.now.word).slot c.birth_named-birth.result k c.birth_named-birth.ensures)
-    (subst P (sym c.fill.ensures.fills.quiet.same.shape) (behind_kept c.args.at.now.pass.now.trace.shape c.args.pred.now.at c.args.key k c.requires.gap.behind)) (before_kept c.args.key (link_of c.args.pred.now.word).slot k c.requires.gap.before)).held
-
-pub publish-requires-clause-in_range : goal.publish-requires-clause-in_range
-publish-requires-clause-in_range c =
-    let p = c.fill.new.at.pass.now in
-    let k = c.fill.ensures.stores.keeps in
-    let hand = hand_filled p c.args.hand c.args.key (link_to (link_of c.args.pred.now.word).slot c.args.hand.birth c.birth_named-birth.result) (c.fill.ensures.fills.hand ∙ c.requires.hand.slot) c.fill.ensures.fills.filled in
-    let at = hand_at p c.law.ensures c.args.hand hand c.slot-slot.result c.slot-slot.ensures in
-    let Q : ℕ → Type 0 = λ s. IsFilled ((knows p.trace).own s) c.args.hand.birth c.args.key (link_to (link_of c.args.pred.now.word).slot c.args.hand.birth c.birth_named-birth.result) in
-    let P : Dimensions → Type 0 = λ shape. StandsBehind shape (knows p.trace) c.args.pred.now.at c.args.key in
-    let R : Dimensions → Type 0 = λ shape. IsInRange shape (knows p.trace) (Publish c.args.pred.now.at c.args.pred.now.word c.slot-slot.result) in
-    subst R c.fill.new.at.own.1
-    (publish_accepted p c.law.ensures c.args.pred.now c.slot-slot.result c.args.key c.args.hand.birth c.birth_named-birth.result (held_kept c.args.pred.now k c.requires.gap.held) (subst Q (sym c.slot-slot.ensures) c.fill.ensures.fills.filled)
-    (ap (λ (d : Dimensions). d.values) c.fill.new.at.own.1 ∙ c.kind.ensures) c.requires.gap.unmarked at.0 (birth_named_kept (link_of c.args.pred.now.word).slot c.birth_named-birth.result k c.birth_named-birth.ensures)
-    (subst P (sym c.fill.ensures.fills.quiet.same.shape) (behind_kept c.args.at.now.pass.now.trace.shape c.args.pred.now.at c.args.key k c.requires.gap.behind)) (before_kept c.args.key (link_of c.args.pred.now.word).slot k c.requires.gap.before)).in_range
+    (subst P (sym c.fill.ensures.fills.quiet.same.shape) (behind_kept c.args.at.now.pass.now.trace.shape c.args.pred.now.at c.args.key k c.requires.gap.behind)) (before_kept c.args.key (link_of c.args.pred.now.word).slot k c.requires.gap.before))
 
 pub publish-requires-clause-new : goal.publish-requires-clause-new
 publish-requires-clause-new c =
@@ -73,10 +54,10 @@ publish-requires-clause-new c =
 pub returns-in-Ok-clause-stores : goal.returns-in-Ok-clause-stores
 returns-in-Ok-clause-stores c = record {
   took = search rules;
-  keeps = keeps_on c.fill.ensures.stores.keeps (publish_keeps c.in-Ok.ensures.step);
+  keeps = keeps_on c.fill.ensures.stores.keeps (publish_keeps c.in-Ok.ensures.found.did);
   pool = search rules;
   takes_no_slot = (let hand = c.fill.ensures.fills.hand ∙ c.requires.hand.slot ∙ ap Some (sym c.slot-slot.ensures) in
-      none_on c.fill.ensures.stores.takes_no_slot (publish_none c.fill.new.at.pass.now c.publish.new.self c.in-Ok.ensures.step hand c.publish.ensures.pool));
+      none_on c.fill.ensures.stores.takes_no_slot (publish_none c.fill.new.at.pass.now c.publish.new.self c.in-Ok.ensures.found.did hand c.in-Ok.ensures.found.pool));
 }
 
 pub returns-in-Err-clause-stores : goal.returns-in-Err-clause-stores
@@ -84,18 +65,15 @@ returns-in-Err-clause-stores c = record {
   took = search rules;
   keeps = search rules;
   pool = search rules;
-  takes_no_slot = none_on c.fill.ensures.stores.takes_no_slot (did_none c.in-Err.ensures.step.0 refl (c.publish.ensures.pool, c.in-Err.ensures.err));
+  takes_no_slot = none_on c.fill.ensures.stores.takes_no_slot (did_none c.in-Err.ensures.other.did refl c.in-Err.ensures.other.keeps);
 }
 
 pub returns-in-Ok-clause-inserted : goal.returns-in-Ok-clause-inserted
-returns-in-Ok-clause-inserted c = record {
-  made = (let p = c.fill.new.at.pass.now in
-      let Q : ℕ → Type 0 = λ s. IsFilled ((knows p.trace).own s) c.args.hand.birth c.args.key (link_to (link_of c.args.pred.now.word).slot c.args.hand.birth c.birth_named-birth.result) in
-      let made = publish_made p c.law.ensures c.args.pred.now c.slot-slot.result c.args.key c.args.hand.birth c.birth_named-birth.result (held_kept c.args.pred.now c.fill.ensures.stores.keeps c.requires.gap.held) (subst Q (sym c.slot-slot.ensures) c.fill.ensures.fills.filled) (ap (λ (d : Dimensions). d.values) c.fill.new.at.own.1 ∙ c.kind.ensures) c.in-Ok.ensures.step in
-      let P : ℕ → Type 0 = λ who. Made (set_call who Insert c.args.key true) c.args.at.now.pass.now.trace c.publish.new.self.trace in
-      subst P c.fill.ensures.fills.quiet.same.who (made_on c.fill.ensures.fills.quiet made));
-  spent = search rules;
-}
+returns-in-Ok-clause-inserted c =
+    let p = c.fill.new.at.pass.now in
+    let Q : ℕ → Type 0 = λ s. IsFilled ((knows p.trace).own s) c.args.hand.birth c.args.key (link_to (link_of c.args.pred.now.word).slot c.args.hand.birth c.birth_named-birth.result) in
+    let made = publish_made p c.law.ensures c.args.pred.now c.slot-slot.result c.args.key c.args.hand.birth c.birth_named-birth.result (held_kept c.args.pred.now c.fill.ensures.stores.keeps c.requires.gap.held) (subst Q (sym c.slot-slot.ensures) c.fill.ensures.fills.filled) (ap (λ (d : Dimensions). d.values) c.fill.new.at.own.1 ∙ c.kind.ensures) c.in-Ok.ensures.found.did in
+    publish_told c.args.at.now.pass.now p c.publish.new.self c.fill.ensures.fills.quiet made (search rules)
 
 pub returns-in-Err-clause-lost : goal.returns-in-Err-clause-lost
-returns-in-Err-clause-lost c = record { same = search rules; hand = search rules; exchange = publish_lost c.args.pred.now c.law.ensures.shape c.fill.ensures.fills.quiet c.fill.ensures.stores.keeps (λ alone. c.fill.ensures.fills.stands alone c.requires.gap.unmarked) c.in-Err.ensures.step.0 c.in-Err.ensures.step.1 }
+returns-in-Err-clause-lost c = record { same = search rules; hand = search rules; exchange = publish_lost c.args.pred.now c.law.ensures.shape c.fill.ensures.fills.quiet c.fill.ensures.stores.keeps (λ alone. c.fill.ensures.fills.stands alone c.requires.gap.unmarked) c.in-Err.ensures.other.did c.in-Err.ensures.other.unexpected }

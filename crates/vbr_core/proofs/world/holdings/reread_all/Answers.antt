@@ -1,7 +1,7 @@
 use Rattle.std.proofs.Common.{arith, get_or, None}
 use Rattle.std.proofs.lemmas.List.{get_or_default}
 use Rattle.std.proofs.lemmas.List.Edits.{map_over_more}
-use Rattle.vbr_core.specs.Learning.{reread}
+use Rattle.vbr_machine.specs.Learning.{reread}
 use Rattle.vbr_core.proofs.world.holdings.reread_all.Goals as goal
 
 -- one more holding is reread

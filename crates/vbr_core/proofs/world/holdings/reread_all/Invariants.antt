@@ -1,5 +1,5 @@
 use Rattle.std.proofs.Common.{◌≡◌, ◌++◌, map, take, drop}
-use Rattle.vbr_core.specs.Learning.{reread}
+use Rattle.vbr_machine.specs.Learning.{reread}
 use Rattle.vbr_core.proofs.world.holdings.reread_all.Given as goal
 
 -- the holdings up to this point are as they are once the epoch is read, and the others are as they were

@@ -1,5 +1,5 @@
 use Rattle.std.proofs.Common.{◌≡◌, drop}
-use Rattle.vbr_core.specs.Knowledge.{birth_in}
+use Rattle.vbr_machine.specs.Knowledge.{birth_in}
 use Rattle.vbr_core.proofs.world.reads.birth_in.Given as goal
 
 -- the reads behind this point answer what all of them do

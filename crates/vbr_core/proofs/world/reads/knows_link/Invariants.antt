@@ -1,5 +1,5 @@
 use Rattle.std.proofs.Common.{◌≡◌, drop}
-use Rattle.vbr_core.specs.Knowledge.{knows_link}
+use Rattle.vbr_machine.specs.Knowledge.{knows_link}
 use Rattle.vbr_core.proofs.world.reads.knows_link.Given as goal
 
 -- the reads behind this point answer what all of them do

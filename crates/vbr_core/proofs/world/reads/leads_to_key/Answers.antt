@@ -1,5 +1,5 @@
 use Rattle.std.proofs.Common.{ℕ, Option, refl, arith, true≢false, sym, ◌∙◌}
-use Rattle.vbr_core.specs.Acceptance.{KnowsKeyOf}
+use Rattle.vbr_machine.specs.Acceptance.{KnowsKeyOf}
 use Rattle.vbr_core.proofs.MarkedSearches.{reached, reached_here, never, none_yet, one_turn, same_slot}
 use Rattle.vbr_core.proofs.world.reads.leads_to_key.Goals as goal
 

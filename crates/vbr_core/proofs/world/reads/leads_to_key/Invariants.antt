@@ -1,5 +1,5 @@
 use Rattle.std.proofs.Common.{◌≡◌, ℕ, ◌<◌}
-use Rattle.vbr_core.specs.Acceptance.{KnowsKeyOf, after_turns}
+use Rattle.vbr_machine.specs.Acceptance.{KnowsKeyOf, after_turns}
 use Rattle.vbr_core.proofs.world.reads.leads_to_key.Given as goal
 
 -- the walk has come here in so many turns, and reached no checked key before

@@ -2,7 +2,7 @@ use Rattle.std.proofs.Common.{◌-◌}
 use Rattle.vbr_slots.specs.Calls.{Quiet}
 use Rattle.vbr_pools.specs.KeptSlots.{HasStill, TakesNoSlot}
 use Rattle.vbr_list.specs.Inserting.{CountsWithin, HasHandAndRoom}
-use Rattle.vbr_list.specs.Calls.{IsSameCall}
+use Rattle.vbr_list.specs.Pieces.{IsSameCall}
 use Rattle.vbr_list.proofs.call.Call.link.Given as goal
 use Rattle.vbr_list.proofs.Traversals.{IsFirst}
 

@@ -1,5 +1,5 @@
 use Rattle.std.proofs.Common.{◌-◌}
-use Rattle.vbr_list.specs.Calls.{IsSameCall}
+use Rattle.vbr_list.specs.Pieces.{IsSameCall}
 use Rattle.vbr_list.proofs.call.Call.walk.Given as goal
 use Rattle.vbr_list.proofs.Traversals.{Looks}
 

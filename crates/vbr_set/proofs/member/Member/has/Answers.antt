@@ -1,5 +1,5 @@
 use Rattle.std.proofs.Common.{refl, subst}
-use Rattle.vbr_core.specs.declared.history.Op.TheVariants.{Has}
+use Rattle.vbr_machine.specs.declared.history.Op.TheVariants.{Has}
 use Rattle.vbr_set.specs.MemberView.{member_view}
 use Rattle.vbr_set.specs.Members.{MemberView, Called}
 use Rattle.vbr_set.proofs.member.Member.has.Goals as goal

@@ -1,6 +1,6 @@
 use Rattle.std.proofs.Common.{◌≡◌, ℕ, false, List, [], ap, ◌∙◌, subst}
 use Rattle.vbr_words.specs.Dimensions.{Dimensions, IsShape}
-use Rattle.vbr_core.specs.declared.event.Event.{Event}
+use Rattle.vbr_machine.specs.declared.event.Event.{Event}
 use Rattle.vbr_slots.specs.Closing.{Ends}
 use Rattle.vbr_slots.specs.Views.{TableView}
 use Rattle.vbr_set.specs.Closing.{Reports}

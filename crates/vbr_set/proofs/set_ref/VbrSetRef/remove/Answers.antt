@@ -1,5 +1,5 @@
 use Rattle.std.proofs.Common.{refl, subst}
-use Rattle.vbr_core.specs.declared.history.Op.TheVariants.{Remove}
+use Rattle.vbr_machine.specs.declared.history.Op.TheVariants.{Remove}
 use Rattle.vbr_set.specs.SetRefView.{set_ref_view}
 use Rattle.vbr_set.specs.Members.{MemberView, Called}
 use Rattle.vbr_set.proofs.set_ref.VbrSetRef.remove.Goals as goal

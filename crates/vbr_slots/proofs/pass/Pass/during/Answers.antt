@@ -16,4 +16,4 @@ pub returns : goal.returns
 returns g c =
     let worked = c.work-result in
     let gave : FnOnceReturnsAtMut g.W.FnOnce c.args.work c.args.self.now worked.result worked.new.arg2 = record { shown = _; shows = c.self.view_is; left = _; met = worked.ensures; leaves = refl } in
-    (worked.result.1, c.requires.counts worked.result worked.new.arg2 gave, gave)
+    record { used = worked.result.1; took = c.requires.counts worked.result worked.new.arg2 gave; gave = gave }

@@ -1,9 +1,9 @@
 use Rattle.std.proofs.Common.{◌≡◌, ℕ, List, [], ◌∷◌, ◌++◌, length, ap, ◌∙◌, subst, sym, arith, rules, None}
 use Rattle.vbr_words.specs.Dimensions.{Dimensions, IsShape}
-use Rattle.vbr_core.specs.Machine as machine
-use Rattle.vbr_core.specs.Runs.{IsRun, know_after}
-use Rattle.vbr_core.specs.declared.event.Event.{Event}
-use Rattle.vbr_core.proofs.Lemmas.{is_run_first}
+use Rattle.vbr_machine.specs.Machine as machine
+use Rattle.vbr_machine.specs.Runs.{IsRun, know_after}
+use Rattle.vbr_machine.specs.declared.event.Event.{Event}
+use Rattle.vbr_machine.proofs.Lemmas.{is_run_first}
 use Rattle.vbr_slots.specs.declared.rule.Opening.{Opening}
 use Rattle.vbr_slots.specs.Rule.{with_opened, first_opened}
 use Rattle.vbr_slots.specs.Views.{TableView, counted_steps, steps_in}

@@ -1,5 +1,5 @@
 use Rattle.std.proofs.Common.{[], refl, sym, ap, ◌∙◌, subst}
-use Rattle.vbr_core.specs.Runs.{Begins}
+use Rattle.vbr_machine.specs.Runs.{Begins}
 use Rattle.vbr_slots.specs.Rule.{first_opened, first_seen, noted}
 use Rattle.vbr_slots.specs.Tokens.{SeenView}
 use Rattle.vbr_slots.specs.Views.{Trace}

@@ -1,5 +1,6 @@
+use Rattle.vbr_slots.specs.Stepping.{opening_of}
 use Rattle.vbr_slots.specs.Views.{event_of}
 use Rattle.vbr_slots.proofs.slots.Slots.exchange.Given as goal
 
 abbrev pub ghosts-exchange_as : goal.ghosts-exchange_as
-ghosts-exchange_as g a = record { event = event_of a.runner.now.who a.step; opening = record { shape = a.self.now.shape; passes = a.self.now.passes } }
+ghosts-exchange_as g a = record { event = event_of a.runner.now.who a.step; opening = opening_of a.self.now }

@@ -1,6 +1,6 @@
 use Rattle.std.proofs.Common.{[], refl, sym, ap}
 use Rattle.std.specs.Prelude.{bit_or}
-use Rattle.vbr_core.specs.Machine.{word_made}
+use Rattle.vbr_machine.specs.Machine.{word_made}
 use Rattle.vbr_slots.specs.Views.{Trace}
 use Rattle.vbr_slots.proofs.Learning.{shows_itself}
 use Rattle.vbr_slots.proofs.Steps.{asks, known, low_of, done, stays_sound, did}

@@ -1,9 +1,10 @@
-use Rattle.vbr_core.specs.declared.event.Step.TheVariants.{ReadEpoch}
+use Rattle.vbr_machine.specs.declared.event.Step.TheVariants.{ReadEpoch}
+use Rattle.vbr_slots.specs.Stepping.{opening_of}
 use Rattle.vbr_slots.specs.Views.{event_of}
 use Rattle.vbr_slots.proofs.slots.Slots.load_node.Given as goal
 
 abbrev pub ghosts-load_as : goal.ghosts-load_as
-ghosts-load_as g a = record { event = event_of a.runner.now.who a.step; opening = record { shape = a.self.now.shape; passes = a.self.now.passes } }
+ghosts-load_as g a = record { event = event_of a.runner.now.who a.step; opening = opening_of a.self.now }
 
 abbrev pub ghosts-read_epoch_as : goal.ghosts-read_epoch_as
-ghosts-read_epoch_as g a = record { event = event_of a.runner.now.who ReadEpoch; opening = record { shape = a.self.now.shape; passes = a.self.now.passes } }
+ghosts-read_epoch_as g a = record { event = event_of a.runner.now.who ReadEpoch; opening = opening_of a.self.now }

@@ -1,5 +1,5 @@
 use Rattle.std.proofs.Common.{[], refl, sym, ap, ◌∙◌}
-use Rattle.vbr_core.specs.declared.event.Step.TheVariants.{ReadEpoch}
+use Rattle.vbr_machine.specs.declared.event.Step.TheVariants.{ReadEpoch}
 use Rattle.vbr_words.specs.declared.place.Place.TheVariants.{Epoch}
 use Rattle.vbr_slots.specs.Views.{Trace, knows}
 use Rattle.vbr_slots.proofs.Learning.{shows_itself}

@@ -1,5 +1,5 @@
 use Rattle.std.proofs.Common.{ap, ◌∙◌, rules}
-use Rattle.vbr_core.specs.declared.event.Step.{Step}
+use Rattle.vbr_machine.specs.declared.event.Step.{Step}
 use Rattle.vbr_slots.specs.Tried.{last_tried, tried_by}
 use Rattle.vbr_slots.proofs.Tried.{keeps_tried, look_up_tries_none}
 use Rattle.vbr_slots.proofs.stepper.Stepper.confirm_look_up.Goals as goal

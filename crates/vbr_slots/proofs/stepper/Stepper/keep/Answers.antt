@@ -1,7 +1,7 @@
 use Rattle.std.proofs.Common.{◌≡◌, ℕ, ◌<◌, Bool, true, false, List, [], ◌∷◌, ◌++◌, Option, Some, None, cond, sym, ap, ◌∙◌, subst, ⊎_elim}
 use Rattle.std.specs.Prelude.{Contains}
 use Rattle.vbr_words.specs.Dimensions.{IsShape}
-use Rattle.vbr_core.specs.Acceptance.{MayBear, IsInHand}
+use Rattle.vbr_machine.specs.Acceptance.{MayBear, IsInHand}
 use Rattle.vbr_slots.specs.declared.stepper.Stepper.TheInside.{Inside}
 use Rattle.vbr_slots.specs.Pools.{OwnPool, hand_without}
 use Rattle.vbr_slots.specs.Tried.{last_tried}

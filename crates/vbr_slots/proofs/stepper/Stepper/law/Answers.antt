@@ -1,7 +1,8 @@
-use Rattle.std.proofs.Common.{rules, ◌<◌}
+use Rattle.std.proofs.Common.{rules, ◌<◌, ◌≤◌, length}
 use Rattle.vbr_words.specs.Dimensions.{IsShape}
-use Rattle.vbr_core.proofs.Lemmas.{every_run}
+use Rattle.vbr_machine.proofs.Lemmas.{every_run}
 use Rattle.vbr_slots.specs.Pools.{OwnPool}
+use Rattle.vbr_slots.specs.declared.pass.TheConstants.{POOL}
 use Rattle.vbr_slots.specs.Views.{knows}
 use Rattle.vbr_slots.proofs.stepper.Stepper.law.Goals as goal
 
@@ -11,4 +12,5 @@ returns c =
     let shape : IsShape p.trace.shape = search rules in
     let low : p.trace.who < p.trace.passes = search rules in
     let own : OwnPool p.trace.shape (knows p.trace) p.pool p.hand = search rules in
-    record { shape = shape; low = low; is_run = c.who-who.ensures.is_run; own = own; safe = every_run p.trace.shape p.trace.passes p.trace.seen shape c.who-who.ensures.is_run }
+    let room : length p.pool ≤ POOL = search rules in
+    record { shape = shape; low = low; room = room; is_run = c.who-who.ensures.is_run; own = own; safe = every_run p.trace.shape p.trace.passes p.trace.seen shape c.who-who.ensures.is_run }

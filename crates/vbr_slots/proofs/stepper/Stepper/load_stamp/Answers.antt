@@ -1,5 +1,5 @@
 use Rattle.std.proofs.Common.{◌≡◌, subst, refl, rules}
-use Rattle.vbr_core.specs.Acceptance.{MayBear, stamp_in}
+use Rattle.vbr_machine.specs.Acceptance.{MayBear, stamp_in}
 use Rattle.vbr_slots.specs.Views.{PassView, knows}
 use Rattle.vbr_slots.proofs.Passes.{stamp_loaded}
 use Rattle.vbr_slots.proofs.Tried.{keeps_tried}

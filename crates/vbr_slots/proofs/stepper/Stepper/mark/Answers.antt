@@ -1,7 +1,7 @@
 use Rattle.std.proofs.Common.{sym, ap, ◌∙◌, refl, rules}
 use Rattle.vbr_words.specs.Words.{word_of}
 use Rattle.vbr_words.proofs.Lemmas.{word_of-link_of}
-use Rattle.vbr_core.specs.Machine.{Exchange}
+use Rattle.vbr_machine.specs.Machine.{Exchange}
 use Rattle.vbr_slots.proofs.Tried.{keeps_tried}
 use Rattle.vbr_slots.proofs.stepper.Stepper.mark.Goals as goal
 

@@ -1,7 +1,7 @@
 use Rattle.std.proofs.Common.{sym, ap, ◌∙◌, subst, refl}
 use Rattle.std.specs.Prelude.{ℕ, ◌<◌, List, Contains}
 use Rattle.vbr_words.specs.Dimensions.{Dimensions, IsShape}
-use Rattle.vbr_core.specs.Acceptance.{IsFree}
+use Rattle.vbr_machine.specs.Acceptance.{IsFree}
 use Rattle.vbr_slots.specs.Views.{Trace, PassView, knows}
 use Rattle.vbr_slots.proofs.Passes.{pool_raised}
 use Rattle.vbr_slots.proofs.Pools.{outside}

@@ -8,9 +8,9 @@ invariant_of-self g c =
     record {
       shape = search rules;
       pool = search rules;
-      tried = keeps_tried c.load_and_epoch.ensures.2 refl (keeps_tried c.load_and_epoch.ensures.1 refl c.self.invariant.tried);
+      tried = keeps_tried c.load_and_epoch.ensures.read refl (keeps_tried c.load_and_epoch.ensures.loaded refl c.self.invariant.tried);
       low = search rules;
     }
 
 pub returns-clause-reads : goal.returns-clause-reads
-returns-clause-reads g c = reads c.args.self.now _ c.load_and_epoch.ensures.0 c.self.view_is c.load_and_epoch.ensures.1 c.load_and_epoch.ensures.2 refl refl
+returns-clause-reads g c = reads c.args.self.now _ c.load_and_epoch.ensures.between c.self.view_is c.load_and_epoch.ensures.loaded c.load_and_epoch.ensures.read refl refl

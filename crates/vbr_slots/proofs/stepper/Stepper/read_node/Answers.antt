@@ -8,10 +8,10 @@ invariant_of-self g c =
     record {
       shape = search rules;
       pool = search rules;
-      tried = keeps_tried c.load_node.ensures.4 refl (keeps_tried c.load_node.ensures.3 refl (keeps_tried c.load_node.ensures.2 refl c.self.invariant.tried));
+      tried = keeps_tried c.load_node.ensures.loads.read refl (keeps_tried c.load_node.ensures.loads.loaded refl (keeps_tried c.load_node.ensures.born refl c.self.invariant.tried));
       low = search rules;
     }
 
 pub returns-clause-reads : goal.returns-clause-reads
 returns-clause-reads g c =
-    reads_node c.args.self.now _ c.load_node.ensures.0 c.load_node.ensures.1 c.self.view_is c.load_node.ensures.2 c.load_node.ensures.3 c.load_node.ensures.4 refl refl
+    reads_node c.args.self.now _ c.load_node.ensures.first c.load_node.ensures.loads.between c.self.view_is c.load_node.ensures.born c.load_node.ensures.loads.loaded c.load_node.ensures.loads.read refl refl

@@ -1,6 +1,6 @@
-use Rattle.std.proofs.Common.{◌<◌, sym, ap, ◌∙◌, subst}
+use Rattle.std.proofs.Common.{◌<◌, sym, ap, ◌∙◌, subst, rules}
 use Rattle.vbr_words.specs.Dimensions.{Dimensions, IsShape}
-use Rattle.vbr_core.specs.Acceptance.{MayBear}
+use Rattle.vbr_machine.specs.Acceptance.{MayBear}
 use Rattle.vbr_slots.specs.Views.{PassView, knows}
 use Rattle.vbr_slots.proofs.Passes.{taken_new, pool_taken}
 use Rattle.vbr_slots.proofs.Pools.{pooled_may}
@@ -29,8 +29,13 @@ invariant_of-self-2 g c =
       low = subst (λ (s : Dimensions). c.args.slot < s.slots) (sym (d.same.1 ∙ ap (λ (v : PassView). v.trace.shape) c.self.view_is ∙ c.requires.own.1)) c.requires.slot;
     }
 
-pub returns-then-has_flag-clause-outside : goal.returns-then-has_flag-clause-outside
-returns-then-has_flag-clause-outside g c = λ has.
-    let p = c.self.inside in
-    let new = taken_new p.runner c.fetch_and-found.new.runner c.args.slot c.fetch_and-found.result c.self.invariant.shape c.fetch_and-found.ensures (sym c.has_flag.ensures ∙ c.if-has_flag.true) in
-    subst MayBear new (pooled_may p.runner.shape (knows p.runner) c.args.slot p.pool.items p.hand c.self.invariant.pool has)
+pub returns-then-has_flag-clause-taken : goal.returns-then-has_flag-clause-taken
+returns-then-has_flag-clause-taken g c = record {
+  found = c.fetch_and-found.result;
+  did = search rules;
+  there = search rules;
+  outside = λ has. (let p = c.self.inside in
+      let new = taken_new p.runner c.fetch_and-found.new.runner c.args.slot c.fetch_and-found.result c.self.invariant.shape c.fetch_and-found.ensures (sym c.has_flag.ensures ∙ c.if-has_flag.true) in
+      subst MayBear new (pooled_may p.runner.shape (knows p.runner) c.args.slot p.pool.items p.hand c.self.invariant.pool has));
+  keeps = search rules;
+}

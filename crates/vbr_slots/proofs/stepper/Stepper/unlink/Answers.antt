@@ -1,8 +1,8 @@
 use Rattle.std.proofs.Common.{◌<◌, sym, ap, subst, refl}
 use Rattle.vbr_words.specs.Dimensions.{Dimensions, IsShape}
-use Rattle.vbr_core.specs.Acceptance.{Accepts}
-use Rattle.vbr_core.specs.declared.event.Step.{Step}
-use Rattle.vbr_core.specs.declared.event.Step.TheVariants.{Unlink}
+use Rattle.vbr_machine.specs.Acceptance.{Accepts}
+use Rattle.vbr_machine.specs.declared.event.Step.{Step}
+use Rattle.vbr_machine.specs.declared.event.Step.TheVariants.{Unlink}
 use Rattle.vbr_slots.specs.Views.{Trace, PassView, knows}
 use Rattle.vbr_slots.proofs.Passes.{pool_unlinked}
 use Rattle.vbr_slots.proofs.Tried.{keeps_tried}
@@ -14,7 +14,7 @@ invariant_of-self g c =
     let d = c.exchange-found.ensures in
     let step : Step = Unlink c.args.pred c.args.expected c.args.slot in
     let now = c.args.self.now.trace in
-    let ok : Accepts c.args.slots.now.shape (knows now) step = record { in_shape = (c.requires.pred, c.requires.slot); owned = tt; held = c.requires.held; in_range = c.requires.in_range; below_last = tt } in
+    let ok : Accepts c.args.slots.now.shape (knows now) step = record { in_shape = (c.requires.pred, c.requires.slot); owned = tt; held = c.requires.checked.held; in_range = c.requires.checked.in_range; below_last = tt } in
     let mine : Accepts now.shape (knows now) step = subst (λ (s : Dimensions). Accepts s (knows now) step) (sym c.requires.own.1) ok in
     let accepted : Accepts p.runner.shape (knows p.runner) step = subst (λ (t : Trace). Accepts t.shape (knows t) step) (sym (ap (λ (v : PassView). v.trace) c.self.view_is)) mine in
     record {

@@ -1,9 +1,9 @@
 -- Each turn links the key before those that are linked; after the last, all are.
 use Rattle.std.proofs.Common.{◌≡◌, suc, ◌-◌, ◌<◌, length, refl, ap, ◌∙◌, arith}
 use Rattle.vbr_words.specs.Dimensions.{Dimensions}
-use Rattle.vbr_core.specs.Making.{opening_from}
+use Rattle.vbr_machine.specs.Making.{opening_from}
 use Rattle.vbr_core.specs.Kept.{world_of}
-use Rattle.vbr_core.proofs.OpenedWorlds.{opening_step, opening_all}
+use Rattle.vbr_machine.proofs.Lemmas.{opening_step, opening_all}
 use Rattle.vbr_core.proofs.world.lists.Lists.opened.Goals as goal
 
 pub loop-number-preserved : goal.loop-number-preserved
@@ -16,12 +16,16 @@ loop-number-preserved c =
     record {
       low = omega (arith, low);
       world = opening_step shape lists.shape c.loop-number.number (c.loop-number.number - 1) _ _ _ (world_of lists) (world_of c.link_key.new.self) c.loop-number.invariant.shape c.loop-number.invariant.world last (omega (arith, inside)) refl c.value_at.ensures inside (omega arith) c.link_key.ensures.written;
-      shape = c.link_key.ensures.stays.0 ∙ c.loop-number.invariant.shape;
-      passes = c.link_key.ensures.stays.1 ∙ c.loop-number.invariant.passes;
+      shape = c.link_key.ensures.shape ∙ c.loop-number.invariant.shape;
+      passes = c.link_key.ensures.passes ∙ c.loop-number.invariant.passes;
     }
 
-pub returns-clause-opening : goal.returns-clause-opening
-returns-clause-opening c =
+pub returns : goal.returns
+returns c =
     let shape : Dimensions = record c.args.shape { keys = c.args.keys.now; payloads = c.args.values.now } in
     let none : c.loop-number.number ≡ 0 = (let test = c.loop-number-test.false in omega (arith, test)) in
-    c.loop-number.invariant.world ∙ ap (opening_from shape) none ∙ opening_all shape
+    record {
+      world = c.loop-number.invariant.world ∙ ap (opening_from shape) none ∙ opening_all shape;
+      shape = c.loop-number.invariant.shape;
+      passes = c.loop-number.invariant.passes;
+    }

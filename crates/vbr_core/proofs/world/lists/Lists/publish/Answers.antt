@@ -1,10 +1,18 @@
 -- First the link is written, and then the slot is put into the bucket's list.
-use Rattle.std.proofs.Common.{◌∙◌}
+use Rattle.std.proofs.Common.{ℕ, ap, ◌∙◌}
 use Rattle.vbr_words.specs.Words.{link_of}
+use Rattle.vbr_machine.specs.declared.knowledge.SlotPlace.TheVariants.{Listed}
 use Rattle.vbr_core.specs.Kept.{world_of}
+use Rattle.vbr_core.specs.KeptWrites.{with_link_and_place}
 use Rattle.vbr_core.proofs.KeptWorlds.{put_after_link}
 use Rattle.vbr_core.proofs.world.lists.Lists.publish.Goals as goal
 
-pub returns-clause-written : goal.returns-clause-written
-returns-clause-written c =
-    rw (← c.bucket_of-bucket.ensures.bucket) (c.put_slot.ensures.written ∙ put_after_link _ (world_of c.args.self.now) c.args.pred (link_of c.args.link) c.args.slot _ c.put_link.ensures.written)
+pub returns : goal.returns
+returns c = record {
+  written =
+      c.put_slot.ensures.written
+      ∙ put_after_link _ (world_of c.args.self.now) c.args.pred (link_of c.args.link) c.args.slot (Listed c.bucket_of-bucket.result) c.put_link.ensures.written
+      ∙ ap (λ (bucket : ℕ). with_link_and_place c.args.pred (link_of c.args.link) c.args.slot (Listed bucket) (world_of c.args.self.now)) c.bucket_of-bucket.ensures.bucket;
+  shape = c.put_slot.ensures.shape ∙ c.put_link.ensures.shape;
+  passes = c.put_slot.ensures.passes ∙ c.put_link.ensures.passes;
+}

@@ -1,5 +1,5 @@
 use Rattle.std.proofs.Common.{◌≡◌, rules, unwrap_or}
-use Rattle.vbr_core.specs.Knowledge.{birth_at}
+use Rattle.vbr_machine.specs.Knowledge.{birth_at}
 use Rattle.vbr_core.proofs.KeptPasses.{birth_at-fits}
 use Rattle.vbr_core.proofs.world.passes.PassState.birth_at.Goals as goal
 

@@ -1,5 +1,5 @@
 use Rattle.std.proofs.Common.{◌≡◌, rules, unwrap_or}
-use Rattle.vbr_core.specs.Knowledge.{birth_of}
+use Rattle.vbr_machine.specs.Knowledge.{birth_of}
 use Rattle.vbr_core.proofs.KeptPasses.{birth_of-fits}
 use Rattle.vbr_core.proofs.world.passes.PassState.birth_of.Goals as goal
 

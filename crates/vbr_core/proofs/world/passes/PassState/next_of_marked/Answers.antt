@@ -1,6 +1,6 @@
 use Rattle.std.proofs.Common.{◌≡◌, rules}
-use Rattle.vbr_core.specs.Knowledge.{marked_in}
-use Rattle.vbr_core.specs.Acceptance.{next_of_marked}
+use Rattle.vbr_machine.specs.Knowledge.{marked_in}
+use Rattle.vbr_machine.specs.Acceptance.{next_of_marked}
 use Rattle.vbr_core.proofs.KeptPasses.{next-fits}
 use Rattle.vbr_core.proofs.world.passes.PassState.next_of_marked.Goals as goal
 

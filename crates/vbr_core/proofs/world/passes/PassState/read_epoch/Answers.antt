@@ -5,11 +5,14 @@ use Rattle.vbr_core.proofs.world.passes.PassState.read_epoch.Goals as goal
 use Rattle.vbr_core.proofs.world.passes.PassState.read_epoch.Goals.{then-epoch-self+in_ok-confirm, else-epoch-self}
 
 -- the epoch has moved or not, and then the slots are reread
-pub returns-clause-knows : goal.returns-clause-knows
-returns-clause-knows c =
+pub returns-clause-learned : goal.returns-clause-learned
+returns-clause-learned c =
     let know = know_of c.args.self.now in
     let between = know_of c.if-epoch-self.self in
-    elim c.if-epoch-self.branch [
-      | then-epoch-self+in_ok-confirm w ↦ read_epoch-same know between (know_of c.reread.new.self) c.args.epoch (search rules) (search rules) c.reread.ensures.knows
-      | else-epoch-self w ↦ read_epoch-moved know between (know_of c.reread.new.self) c.args.epoch (search rules) (search rules) c.reread.ensures.knows
-    ]
+    record {
+      knows = elim c.if-epoch-self.branch [
+        | then-epoch-self+in_ok-confirm w ↦ read_epoch-same know between (know_of c.reread.new.self) c.args.epoch (search rules) (search rules) c.reread.ensures.knows
+        | else-epoch-self w ↦ read_epoch-moved know between (know_of c.reread.new.self) c.args.epoch (search rules) (search rules) c.reread.ensures.knows
+      ];
+      slots = search rules;
+    }

@@ -1,0 +1,94 @@
+/* Handles that go round among four threads, by a release and an acquire and nothing else. Each handle has keys of its own,
+   so each answer is known, by what the threads before noted in plain memory that goes along.
+
+       handover [ROUNDS [FAULT]]
+
+   With FAULT 1 the hand-over is relaxed, and with 2 a handle is given on before its last call: programs that are wrong,
+   for ThreadSanitizer to find. */
+#include "vbr.h"
+
+#include <pthread.h>
+#include <sched.h>
+#include <stdatomic.h>
+#include <stdio.h>
+#include <stdlib.h>
+#include <string.h>
+
+#define CHECK(x) do { if (!(x)) { fprintf(stderr, "handover.c:%d: %s\n", __LINE__, #x); exit(1); } } while (0)
+
+enum { THREADS = 4, HANDLES = 4, KEYS = 16, SLOTS = HANDLES * (KEYS + 64) };
+
+struct baton {
+    vbr_handle handle;
+    atomic_int turn; /* whose turn it is; what is above belongs to that thread */
+    unsigned char held[KEYS];
+    uint64_t random;
+    long calls;
+    char padding[64];
+};
+
+static struct baton batons[HANDLES];
+static long rounds = 2000;
+static int fault;
+
+static void call(struct baton *b, int id) {
+    b->random ^= b->random << 13;
+    b->random ^= b->random >> 7;
+    b->random ^= b->random << 17;
+    unsigned number = (unsigned)(b->random >> 32) % KEYS, kind = (unsigned)(b->random >> 40) % 3;
+    uint64_t key = number * (uint64_t)HANDLES + (uint64_t)id;
+    uint32_t budget = VBR_AMPLE_BUDGET(SLOTS);
+    int there = b->held[number];
+    if (kind == 0) CHECK(vbr_has(&b->handle, key, budget) == (there ? VBR_YES : VBR_NO));
+    if (kind == 1) CHECK(vbr_insert(&b->handle, key, budget) == (there ? VBR_NO : VBR_YES));
+    if (kind == 2) CHECK(vbr_remove(&b->handle, key, budget) == (there ? VBR_YES : VBR_NO));
+    if (kind > 0) b->held[number] = kind == 1;
+    b->calls++;
+}
+
+static void *work(void *of) {
+    int id = *(int *)of, next = (id + 1) % THREADS;
+    for (long round = 0; round < rounds; round++)
+        for (int h = 0; h < HANDLES; h++) {
+            struct baton *b = &batons[h];
+            memory_order acquires = fault == 1 ? memory_order_relaxed : memory_order_acquire;
+            memory_order releases = fault == 1 ? memory_order_relaxed : memory_order_release;
+            for (int turns = 0; atomic_load_explicit(&b->turn, acquires) != id; turns++)
+                if (turns % 64 == 63) sched_yield();
+            call(b, h);
+            atomic_store_explicit(&b->turn, next, releases);
+            if (fault == 2 && !vbr_has(&b->handle, 0, 8)) sched_yield();
+        }
+    return NULL;
+}
+
+int main(int count, char **words) {
+    vbr_handle handles[HANDLES] = {{0}};
+    pthread_t threads[THREADS];
+    int ids[THREADS];
+    vbr_totals report = {0};
+    uint64_t keys[HANDLES * KEYS] = {0};
+    uint32_t want = 0;
+    if (count > 1) rounds = atol(words[1]);
+    if (count > 2) fault = atoi(words[2]);
+    CHECK(vbr_open(handles, HANDLES, SLOTS, HANDLES * KEYS, VBR_MAX_EPOCH) == VBR_NO);
+    for (int h = 0; h < HANDLES; h++) {
+        batons[h].handle = handles[h]; /* moved: the old place is not used again */
+        batons[h].random = 88172645463325252u + (uint64_t)h;
+        atomic_init(&batons[h].turn, 0);
+    }
+    for (int i = 0; i < THREADS; i++) {
+        ids[i] = i;
+        CHECK(!pthread_create(&threads[i], NULL, work, &ids[i]));
+    }
+    for (int i = 0; i < THREADS; i++) CHECK(!pthread_join(threads[i], NULL));
+    for (int h = 0; h < HANDLES; h++) {
+        CHECK(batons[h].calls == THREADS * rounds);
+        for (int i = 0; i < KEYS; i++) want += batons[h].held[i];
+        CHECK(vbr_close(&batons[h].handle, keys, HANDLES * KEYS, &report) == (h == HANDLES - 1 ? VBR_YES : VBR_NO));
+    }
+    CHECK(report.live == want);
+    for (uint32_t i = 0; i < want; i++) CHECK(batons[keys[i] % HANDLES].held[keys[i] / HANDLES]);
+    printf("handles handed over in C: passed, %ld times each\n", THREADS * rounds);
+    return 0;
+}

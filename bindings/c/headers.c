@@ -1,0 +1,72 @@
+/* The headers in C99 to C23 and C++11 to C++23, with every warning: each name of them is used once, and the program runs. */
+#include "vbr.h"
+#include "vbr_lend.h"
+
+#include <stdio.h>
+
+#define CHECK(x) do { if (!(x)) { fprintf(stderr, "headers.c:%d: %s\n", __LINE__, #x); return 1; } } while (0)
+
+enum { KEYS = 8, HANDLES = 2, SLOTS = KEYS + HANDLES * 64, BUDGET = VBR_AMPLE_BUDGET(SLOTS) };
+
+/* Each answer once: a compiler that knows the enum tells where one is missing. */
+static const char *text_of(vbr_answer answer) {
+    switch (answer) {
+    case VBR_NO: return "no";
+    case VBR_YES: return "yes";
+    case VBR_OUT_OF_STEPS: return "out of steps";
+    case VBR_NO_SLOT: return "no slot";
+    case VBR_EPOCH_SPENT: return "epoch spent";
+    case VBR_EMPTY: return "empty";
+    case VBR_IN_USE: return "in use";
+    case VBR_BAD_SHAPE: return "bad shape";
+    case VBR_BAD_COUNT: return "bad count";
+    case VBR_NO_MEMORY: return "no memory";
+    case VBR_LOST: return "lost";
+    case VBR_BAD_KEYS: return "bad keys";
+    case VBR_NO_ROOM: return "no room";
+    case VBR_MISSING: return "missing";
+    case VBR_MIXED: return "mixed";
+    }
+    return "another";
+}
+
+static int check(void) {
+    static const uint64_t opening[2] = {3, 4};
+#ifdef __cplusplus
+    vbr_handle handle[HANDLES] = {}, none = {};
+    vbr_totals report = {};
+    vbr_lender lender = {};
+    static_assert(noexcept(vbr_has(&none, 1, 8)) && noexcept(vbr_drop(&none)), "no call throws");
+#else
+    vbr_handle handle[HANDLES] = {{0}}, none = {0};
+    vbr_totals report = {0};
+    vbr_lender lender = {0};
+#endif
+    uint64_t keys[KEYS] = {0};
+    CHECK(sizeof(vbr_answer) == 4 && sizeof(vbr_handle) == sizeof(void *) && sizeof(vbr_totals) == 24);
+    CHECK(VBR_VERSION == 1000000 * VBR_VERSION_MAJOR + 1000 * VBR_VERSION_MINOR + VBR_VERSION_PATCH);
+    CHECK(VBR_AMPLE_BUDGET(64) == 100001 && VBR_AMPLE_BUDGET(VBR_MAX_SLOTS) >= 18 * 3 + VBR_MAX_SLOTS / 64 + 20);
+    CHECK(VBR_MAX_HANDLES == 64 && VBR_MAX_BUCKETS == 16777216 && VBR_MAX_EPOCH == (UINT64_C(1) << 39) - 1);
+    CHECK(vbr_open(handle, HANDLES, SLOTS, KEYS, VBR_MAX_EPOCH) == VBR_NO);
+    CHECK(vbr_version() == VBR_VERSION && vbr_epoch(&handle[0]) == 1 && vbr_last_epoch(&handle[0]) == VBR_MAX_EPOCH);
+    CHECK(vbr_slots(&handle[0]) == SLOTS && vbr_buckets(&handle[0]) == KEYS);
+    CHECK(vbr_open_with(handle, HANDLES, SLOTS, KEYS, VBR_MAX_EPOCH, opening, 2) == VBR_IN_USE);
+    vbr_lender_init(&lender, handle, HANDLES);
+    vbr_handle *mine = vbr_lend(&lender);
+    CHECK(mine == &handle[0]);
+    vbr_answer added = vbr_insert(mine, 5, BUDGET);
+    CHECK(added == VBR_YES && text_of(added)[0] == 'y' && text_of(vbr_has(&none, 5, BUDGET))[0] == 'e');
+    vbr_give_back(&lender, mine);
+    CHECK(vbr_has(&handle[1], 5, BUDGET) == VBR_YES && vbr_remove(&handle[1], 6, BUDGET) == VBR_NO);
+    CHECK(vbr_close_all(handle, HANDLES, keys, 0, &report) == VBR_NO_ROOM && report.live == 1);
+    CHECK(vbr_close(&handle[0], keys, KEYS, &report) == VBR_NO && vbr_close(&handle[1], keys, KEYS, &report) == VBR_YES);
+    CHECK(report.live == 1 && keys[0] == 5);
+    vbr_drop(&none);
+    return 0;
+}
+
+int main(void) {
+    if (check()) return 1;
+    puts("each name of the headers: passed");
+    return 0;
+}

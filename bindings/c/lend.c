@@ -1,0 +1,112 @@
+/* Eight threads that borrow three handles: each handle is one thread's at a time, answers are those of one set, and a lender
+   whose handles are all lent says so at once.
+
+       lend [ROUNDS [FAULT]]
+
+   With FAULT 1 a handle is used behind its return: a program that is wrong, for ThreadSanitizer to find. */
+#include "vbr_lend.h"
+
+#include <pthread.h>
+#include <sched.h>
+#include <stdio.h>
+#include <stdlib.h>
+
+#define CHECK(x) do { if (!(x)) { fprintf(stderr, "lend.c:%d: %s\n", __LINE__, #x); exit(1); } } while (0)
+
+enum { THREADS = 8, HANDLES = 3, KEYS = 64, SLOTS = KEYS + 64 * HANDLES };
+
+struct worker {
+    int id, balance[KEYS];
+    uint64_t random;
+    long lent, refused;
+};
+
+static vbr_handle handles[HANDLES];
+static long used[HANDLES]; /* of each handle's calls: plain memory, written by its borrower */
+static vbr_lender lender;
+static struct worker workers[THREADS];
+static long rounds = 50000;
+static int fault;
+
+static void *work(void *of) {
+    struct worker *w = of;
+    const uint32_t budget = VBR_AMPLE_BUDGET(SLOTS);
+    while (w->lent < rounds) {
+        vbr_handle *mine = vbr_lend(&lender);
+        if (!mine) {
+            w->refused++;
+            sched_yield();
+            continue;
+        }
+        w->lent++;
+        w->random ^= w->random << 13;
+        w->random ^= w->random >> 7;
+        w->random ^= w->random << 17;
+        int key = (int)(w->random >> 32 & (KEYS - 1));
+        vbr_answer answer = w->random >> 40 & 1 ? vbr_insert(mine, (uint64_t)key, budget) : vbr_remove(mine, (uint64_t)key, budget);
+        CHECK(answer == VBR_YES || answer == VBR_NO);
+        if (answer == VBR_YES) w->balance[key] += w->random >> 40 & 1 ? 1 : -1;
+        used[mine - handles]++;
+        vbr_give_back(&lender, mine);
+        if (fault) {
+            (void)!vbr_has(mine, 0, 8);
+            sched_yield();
+        }
+    }
+    return NULL;
+}
+
+static int none_is_left(void) {
+    vbr_handle *mine[HANDLES];
+    for (int i = 0; i < HANDLES; i++) CHECK((mine[i] = vbr_lend(&lender)) == &handles[i]);
+    CHECK(vbr_lend(&lender) == NULL && vbr_lend(&lender) == NULL);
+    vbr_give_back(&lender, mine[1]);
+    CHECK(vbr_lend(&lender) == mine[1] && vbr_lend(&lender) == NULL);
+    for (int i = 0; i < HANDLES; i++) vbr_give_back(&lender, mine[i]);
+    return 1;
+}
+
+static void as_many_as_there_are(void) {
+    static vbr_handle all[64];
+    static vbr_lender of_all;
+    CHECK(vbr_lend(&of_all) == NULL);
+    vbr_lender_init(&of_all, all, 64);
+    for (int i = 0; i < 64; i++) CHECK(vbr_lend(&of_all) == &all[i]);
+    CHECK(vbr_lend(&of_all) == NULL);
+    vbr_give_back(&of_all, &all[63]);
+    CHECK(vbr_lend(&of_all) == &all[63]);
+}
+
+int main(int count, char **words) {
+    pthread_t threads[THREADS];
+    uint64_t keys[KEYS] = {0};
+    vbr_totals report = {0};
+    long calls = 0, refused = 0;
+    uint32_t want = 0;
+    if (count > 1) rounds = atol(words[1]);
+    if (count > 2) fault = atoi(words[2]);
+    as_many_as_there_are();
+    CHECK(vbr_open(handles, HANDLES, SLOTS, KEYS, VBR_MAX_EPOCH) == VBR_NO);
+    vbr_lender_init(&lender, handles, HANDLES);
+    CHECK(none_is_left());
+    for (int i = 0; i < THREADS; i++) {
+        workers[i].id = i;
+        workers[i].random = 88172645463325252u + (uint64_t)i;
+        CHECK(!pthread_create(&threads[i], NULL, work, &workers[i]));
+    }
+    for (int i = 0; i < THREADS; i++) CHECK(!pthread_join(threads[i], NULL));
+    for (int i = 0; i < THREADS; i++) refused += workers[i].refused;
+    for (int i = 0; i < HANDLES; i++) calls += used[i];
+    CHECK(calls == THREADS * rounds && none_is_left());
+    for (int key = 0; key < KEYS; key++) {
+        int sum = 0;
+        for (int i = 0; i < THREADS; i++) sum += workers[i].balance[key];
+        CHECK(sum == 0 || sum == 1);
+        CHECK(vbr_has(&handles[0], (uint64_t)key, VBR_AMPLE_BUDGET(SLOTS)) == (sum ? VBR_YES : VBR_NO));
+        want += (uint32_t)sum;
+    }
+    for (int i = 0; i < HANDLES; i++) CHECK(vbr_close(&handles[i], keys, KEYS, &report) == (i == HANDLES - 1 ? VBR_YES : VBR_NO));
+    CHECK(report.live == want);
+    printf("lent handles in C: passed, %ld loans, %ld times none was free\n", calls, refused);
+    return 0;
+}

@@ -1,0 +1,152 @@
+// The set in C++: the example of vbr.hpp, ranges of keys, closes, ends of handles, and loans.
+#include "vbr.hpp"
+
+#include <cstdio>
+#include <list>
+#include <set>
+#include <thread>
+#include <type_traits>
+#if __cplusplus >= 202002L
+#include <span>
+#endif
+
+#define CHECK(x) do { if (!(x)) { std::fprintf(stderr, "example.cpp:%d: %s\n", __LINE__, #x); return 1; } } while (0)
+
+// What doesn't compile: a copy of a handle, and an answer or a close as a bool.
+static_assert(!std::is_copy_constructible_v<vbr::handle> && !std::is_copy_assignable_v<vbr::handle>);
+static_assert(std::is_nothrow_move_constructible_v<vbr::handle> && std::is_nothrow_move_assignable_v<vbr::handle>);
+static_assert(!std::is_constructible_v<bool, vbr::answer> && !std::is_constructible_v<bool, vbr::closed>);
+static_assert(!std::is_constructible_v<bool, vbr::open_answer> && !std::is_constructible_v<bool, vbr::opened>);
+static_assert(!std::is_convertible_v<vbr::answer, int> && !std::is_convertible_v<vbr::loan, bool>);
+static_assert(vbr::shape::for_keys(1000, 2).slots == 1128 && vbr::shape::for_keys(1000, 2).buckets == 1024);
+static_assert(vbr::shape::for_keys(0, 1).buckets == 1 && vbr::shape::for_keys(~0u, 1).slots == vbr::max_slots + 1);
+
+static int example() {
+    auto [opened, handles] = vbr::open(vbr::shape::for_keys(1024, 2), 2);
+    if (opened != vbr::open_answer::done) return 1;
+    vbr::answer added = handles[0].insert(5, 100000);     // yes: 5 was absent
+    vbr::answer there = handles[1].has(5, 100000);        // yes, from another thread too
+    vbr::closed first = handles[0].close();               // others_are_open
+    vbr::closed last = handles[1].close();                // last: last.report->keys is {5}
+    CHECK(added == vbr::answer::yes && there == vbr::answer::yes);
+    CHECK(first.answer == vbr::close_answer::others_are_open && !first.report);
+    CHECK(last.answer == vbr::close_answer::last && last.report->keys == std::vector<std::uint64_t>{5});
+    CHECK(handles[0].has(5, 100000) == vbr::answer::empty && handles[1].close().answer == vbr::close_answer::empty);
+    return 0;
+}
+
+static int refusals() {
+    vbr::shape small{2, 1, 1};
+    auto [opened, handles] = vbr::open(small, 1);
+    CHECK(opened == vbr::open_answer::done && handles.size() == 1);
+    vbr::handle one = std::move(handles[0]);
+    CHECK(one.is_open() && !handles[0].is_open());
+    CHECK(one.epoch() == 1 && one.last_epoch() == 1 && one.slots() == 2 && one.buckets() == 1);
+    CHECK(handles[0].epoch() == 0 && handles[0].slots() == 0);
+    CHECK(one.insert(1, 1000) == vbr::answer::yes && one.insert(2, 1000) == vbr::answer::yes);
+    vbr::answer full = one.insert(3, 1000);
+    CHECK(full == vbr::answer::no_slot && vbr::is_refusal(full) && !vbr::is_refusal(vbr::answer::no));
+    CHECK(one.remove(1, 1000) == vbr::answer::yes && one.insert(3, 1000) == vbr::answer::epoch_spent);
+    CHECK(one.has(2, 1) == vbr::answer::out_of_steps && vbr::to_string(full)[0] == 'n');
+    CHECK(vbr::open(vbr::shape{}, 1).answer == vbr::open_answer::bad_shape);
+    CHECK(vbr::open(small, 0).answer == vbr::open_answer::bad_count && vbr::open(small, 65).handles.empty());
+    CHECK(vbr::open_with(small, 1, {5, 5}).answer == vbr::open_answer::bad_keys);
+    return 0;
+}
+
+// The report of a set that opens with a range of keys.
+template <class Keys>
+static std::vector<std::uint64_t> kept(const Keys &keys) {
+    auto opened = vbr::open_with(vbr::shape::for_keys(8, 1), 1, keys);
+    if (opened.answer != vbr::open_answer::done) return {};
+    vbr::closed last = opened.handles[0].close();
+    return last.report ? last.report->keys : std::vector<std::uint64_t>{};
+}
+
+static int ranges() {
+    const std::vector<std::uint64_t> want{2, 5, 9};
+    const std::uint64_t array[] = {2, 5, 9};
+    CHECK(kept(want) == want && kept(array) == want && kept(std::set<std::uint64_t>{9, 2, 5}) == want);
+    CHECK(kept(std::list<std::uint32_t>{2, 5, 9}) == want && kept(std::vector<std::uint64_t>{}).empty());
+#if __cplusplus >= 202002L
+    CHECK(kept(std::span(want)) == want && kept(std::span(array).first(0)).empty());
+#endif
+    auto opened = vbr::open_with(vbr::shape::for_keys(8, 1), 1, {2, 5, 9});
+    CHECK(opened.answer == vbr::open_answer::done && opened.handles[0].close().report->keys == want);
+    return 0;
+}
+
+// Handles whose life ends lose nothing: the last one is told all, whichever it is, and in whatever thread.
+static int ends() {
+    for (std::size_t last = 0; last < 3; last++) {
+        auto opened = vbr::open(vbr::shape::for_keys(64, 3), 3);
+        CHECK(opened.answer == vbr::open_answer::done);
+        vbr::handle kept = std::move(opened.handles[last]);
+        std::vector<std::thread> threads;
+        for (std::size_t i = 0; i < 3; i++)
+            if (i != last)
+                threads.emplace_back([mine = std::move(opened.handles[i]), i]() mutable {
+                    for (std::uint64_t key = i; key < 60; key += 3)
+                        if (mine.insert(key, 100000) != vbr::answer::yes) return;
+                    if (i == 1) mine = vbr::handle();
+                });
+        for (std::thread &thread : threads) thread.join();
+        threads.clear();
+        vbr::closed closed = kept.close();
+        CHECK(closed.answer == vbr::close_answer::last && closed.report->keys.size() == 40 && closed.report->free == 64 + 3 * 64 - 40);
+    }
+    return 0;
+}
+
+// Closes at the same time: one of them, and one alone, is the last.
+static int closes_at_once() {
+    for (int round = 0; round < 200; round++) {
+        auto opened = vbr::open_with(vbr::shape::for_keys(8, 4), 4, {1, 2, 3});
+        CHECK(opened.answer == vbr::open_answer::done);
+        std::atomic<int> reports{0}, others{0};
+        std::vector<std::thread> threads;
+        for (vbr::handle &each : opened.handles)
+            threads.emplace_back([&reports, &others, mine = std::move(each)]() mutable {
+                vbr::closed told = mine.close();
+                if (told.answer == vbr::close_answer::last && told.report->keys.size() == 3) reports++;
+                if (told.answer == vbr::close_answer::others_are_open) others++;
+            });
+        for (std::thread &thread : threads) thread.join();
+        CHECK(reports == 1 && others == 3);
+    }
+    return 0;
+}
+
+static int loans() {
+    auto opened = vbr::open(vbr::shape::for_keys(1000, 2), 2);
+    CHECK(opened.answer == vbr::open_answer::done);
+    vbr::lender lender(std::move(opened.handles));
+    {
+        vbr::loan one = lender.lend(), two = lender.lend(), none = lender.lend();
+        CHECK(one && two && !none && one->insert(1000, 100000) == vbr::answer::yes);
+    }
+    std::atomic<int> wrong{0};
+    std::vector<std::thread> threads;
+    for (std::uint64_t i = 0; i < 6; i++)
+        threads.emplace_back([&lender, &wrong, i] {
+            for (std::uint64_t key = i; key < 600;) {
+                vbr::loan mine = lender.lend();
+                if (!mine) {
+                    std::this_thread::yield();
+                    continue;
+                }
+                if (mine->insert(key, 100000) != vbr::answer::yes) wrong++;
+                key += 6;
+            }
+        });
+    for (std::thread &thread : threads) thread.join();
+    vbr::closed closed = lender.close();
+    CHECK(wrong == 0 && closed.answer == vbr::close_answer::last && closed.report->keys.size() == 601);
+    return 0;
+}
+
+int main() {
+    if (example() || refusals() || ranges() || ends() || closes_at_once() || loans()) return 1;
+    std::puts("example in C++: passed");
+    return 0;
+}

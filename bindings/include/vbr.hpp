@@ -1,0 +1,359 @@
+/* The set of vbr.h for C++17 and later: handles that are moved and never copied, answers that aren't read as true or false by
+   mistake, openings that take any range of keys, and closes that give the keys as a vector.
+
+       auto [opened, handles] = vbr::open(vbr::shape::for_keys(1024, 2), 2);
+       if (opened != vbr::open_answer::done) return 1;
+       vbr::answer added = handles[0].insert(5, 100000);     // yes: 5 was absent
+       vbr::answer there = handles[1].has(5, 100000);        // yes, from another thread too
+       vbr::closed first = handles[0].close();               // others_are_open
+       vbr::closed last = handles[1].close();                // last: last.report->keys is {5}
+
+   It is a header over the calls of vbr.h, which says what each asks and answers, and links with the same library. Only
+   openings and closes take memory; where a vector finds none they throw std::bad_alloc and leave all as it was. */
+#ifndef VBR_HPP
+#define VBR_HPP
+
+#include "vbr.h"
+
+#include <atomic>
+#include <cstddef>
+#include <cstdint>
+#include <initializer_list>
+#include <iterator>
+#include <memory>
+#include <optional>
+#include <type_traits>
+#include <utility>
+#include <vector>
+
+namespace vbr {
+
+inline constexpr std::uint32_t max_slots = VBR_MAX_SLOTS;
+inline constexpr std::uint32_t max_buckets = VBR_MAX_BUCKETS;
+inline constexpr std::uint64_t max_epoch = VBR_MAX_EPOCH;
+inline constexpr std::size_t max_handles = VBR_MAX_HANDLES;
+
+/* A budget that no call runs out of in short buckets, in a set of so many slots. */
+constexpr std::uint32_t ample_budget(std::uint32_t slots) noexcept { return VBR_AMPLE_BUDGET(slots); }
+
+/* How many slots and buckets a set has, and its last epoch. */
+struct shape {
+    std::uint32_t slots = 0;
+    std::uint32_t buckets = 0;
+    std::uint64_t last_epoch = max_epoch;
+
+    /* The shape for this many keys at one time and this many handles: a slot for each key and 64 for each handle, and the
+       least power of two that isn't below the number of keys for the buckets. */
+    static constexpr shape for_keys(std::uint32_t keys, std::size_t handles) noexcept {
+        shape made;
+        std::uint64_t slots = std::uint64_t{keys} + 64 * (handles < max_handles ? handles : max_handles);
+        made.slots = slots <= max_slots ? static_cast<std::uint32_t>(slots) : max_slots + 1;
+        made.buckets = 1;
+        while (made.buckets < keys && made.buckets < max_buckets) made.buckets *= 2;
+        return made;
+    }
+};
+
+/* What a call on a key answers. It is no bool, so it is compared. */
+enum class [[nodiscard]] answer : std::int32_t {
+    no = VBR_NO,
+    yes = VBR_YES,
+    out_of_steps = VBR_OUT_OF_STEPS, /* the budget is spent; no call was made */
+    no_slot = VBR_NO_SLOT,           /* insert: the key is absent and no slot is free; no call was made */
+    epoch_spent = VBR_EPOCH_SPENT,   /* insert: the key is absent and the last epoch is spent; no call was made */
+    empty = VBR_EMPTY                /* the handle is empty */
+};
+
+/* What an opening answers. */
+enum class [[nodiscard]] open_answer : std::int32_t {
+    done = VBR_NO,
+    bad_shape = VBR_BAD_SHAPE, /* a number of the shape is out of range */
+    bad_count = VBR_BAD_COUNT, /* the number of handles is not from 1 to 64 */
+    no_memory = VBR_NO_MEMORY,
+    bad_keys = VBR_BAD_KEYS /* the keys do not ascend, or there are more than slots */
+};
+
+/* What a close answers. */
+enum class [[nodiscard]] close_answer : std::int32_t {
+    others_are_open = VBR_NO,
+    last = VBR_YES,            /* the set is closed, and there is a report */
+    empty = VBR_EMPTY,         /* the handle is empty */
+    no_memory = VBR_NO_MEMORY, /* it is the last, and stays as it was */
+    lost = VBR_LOST            /* it was the last, and a pass is not there; no program is known to get it */
+};
+
+/* Whether a call was refused, so that none was made. */
+constexpr bool is_refusal(answer told) noexcept { return static_cast<std::int32_t>(told) < 0; }
+
+constexpr const char *to_string(answer told) noexcept {
+    switch (told) {
+    case answer::no: return "no";
+    case answer::yes: return "yes";
+    case answer::out_of_steps: return "out of steps";
+    case answer::no_slot: return "no slot is free";
+    case answer::epoch_spent: return "the last epoch is spent";
+    case answer::empty: return "the handle is empty";
+    }
+    return "unknown";
+}
+
+/* What a closed set held. */
+struct report {
+    std::vector<std::uint64_t> keys; /* ascending */
+    std::uint64_t epoch = 0;
+    std::uint32_t marked = 0; /* how many removed nodes were still in a list */
+    std::uint32_t free = 0;   /* how many slots had no node in a list */
+};
+
+/* What a close answers, with the report of the last one. */
+struct [[nodiscard]] closed {
+    close_answer answer;
+    std::optional<vbr::report> report;
+};
+
+namespace detail {
+
+/* What the handles of a set share: how many are open, and those that were closed, which the last one gives back. */
+struct shared {
+    std::atomic<std::size_t> open{0};
+    std::uint32_t slots = 0;
+    vbr_handle parked[max_handles] = {};
+};
+
+} // namespace detail
+
+/* A handle to a set, or an empty one: one thread at a time makes calls with it. Its end closes it without a report, which
+   takes no memory and loses nothing: the handle that is closed last is told the keys. */
+class handle {
+public:
+    handle() noexcept = default;
+    handle(handle &&other) noexcept : raw(std::exchange(other.raw, vbr_handle{})), number(other.number), shared(std::move(other.shared)) {}
+    handle(const handle &) = delete;
+    handle &operator=(const handle &) = delete;
+    ~handle() { end(); }
+
+    handle &operator=(handle &&other) noexcept {
+        if (this != &other) {
+            end();
+            raw = std::exchange(other.raw, vbr_handle{});
+            number = other.number;
+            shared = std::move(other.shared);
+        }
+        return *this;
+    }
+
+    /* Whether there is a set behind it. */
+    bool is_open() const noexcept { return raw.owned != nullptr; }
+
+    /* Adds a key: yes if it was absent. */
+    answer insert(std::uint64_t key, std::uint32_t budget) noexcept { return answer{static_cast<std::int32_t>(vbr_insert(&raw, key, budget))}; }
+
+    /* Takes a key out: yes if it was there. */
+    answer remove(std::uint64_t key, std::uint32_t budget) noexcept { return answer{static_cast<std::int32_t>(vbr_remove(&raw, key, budget))}; }
+
+    /* Whether a key is there: yes or no. It isn't const, since it changes what the handle owns. */
+    answer has(std::uint64_t key, std::uint32_t budget) noexcept { return answer{static_cast<std::int32_t>(vbr_has(&raw, key, budget))}; }
+
+    /* The last epoch that the handle read in a call: 1 before its first, and 0 for an empty handle. */
+    std::uint64_t epoch() noexcept { return vbr_epoch(&raw); }
+
+    /* What the set was opened with; 0 for an empty handle. */
+    std::uint64_t last_epoch() noexcept { return vbr_last_epoch(&raw); }
+    std::uint32_t slots() noexcept { return vbr_slots(&raw); }
+    std::uint32_t buckets() noexcept { return vbr_buckets(&raw); }
+
+    /* Closes the handle, and leaves it empty. The last one of its set gives the report, whose keys take memory then and
+       only then; where there is none it stays open. */
+    closed close() {
+        if (!is_open()) return {close_answer::empty, std::nullopt};
+        if (!is_last()) return {close_answer::others_are_open, std::nullopt};
+        return close_last();
+    }
+
+private:
+    friend struct opened;
+    template <class Open>
+    friend struct opened open_by(const shape &, std::size_t, const Open &);
+
+    /* Whether all others are closed. If not, this one is then closed too: it is parked for the last one. */
+    bool is_last() noexcept {
+        if (shared->open.load(std::memory_order_acquire) == 1) return true;
+        shared->parked[number] = raw;
+        if (shared->open.fetch_sub(1, std::memory_order_acq_rel) == 1) {
+            shared->open.store(1, std::memory_order_relaxed);
+            shared->parked[number] = vbr_handle{};
+            return true;
+        }
+        raw = vbr_handle{};
+        shared.reset();
+        return false;
+    }
+
+    /* Closes the handles that are parked: others are open, so nothing is told and no memory is needed. */
+    void close_parked() noexcept {
+        vbr_totals none = {};
+        std::uint64_t no_key = 0;
+        for (vbr_handle &other : shared->parked)
+            if (other.owned != nullptr && vbr_close(&other, &no_key, 0, &none) != VBR_NO) vbr_drop(&other);
+    }
+
+    closed close_last() {
+        std::vector<std::uint64_t> keys(shared->slots);
+        vbr_totals totals = {};
+        close_parked();
+        auto answer = close_answer{static_cast<std::int32_t>(vbr_close(&raw, keys.data(), keys.size(), &totals))};
+        if (answer == close_answer::no_memory) return {answer, std::nullopt};
+        shared.reset();
+        if (answer != close_answer::last) return {answer, std::nullopt};
+        keys.resize(totals.live);
+        keys.shrink_to_fit();
+        return {answer, report{std::move(keys), totals.epoch, totals.marked, totals.free}};
+    }
+
+    void end() noexcept {
+        if (!is_open() || !is_last()) return;
+        close_parked();
+        vbr_drop(&raw);
+        shared.reset();
+    }
+
+    vbr_handle raw = {};
+    std::size_t number = 0;
+    std::shared_ptr<detail::shared> shared;
+};
+
+/* What an opening answers, with as many handles as were asked for if it is done, and none otherwise. */
+struct [[nodiscard]] opened {
+    open_answer answer;
+    std::vector<handle> handles;
+};
+
+template <class Open>
+opened open_by(const shape &wanted, std::size_t count, const Open &call) {
+    auto shared = std::make_shared<detail::shared>();
+    vbr_handle raw[max_handles] = {};
+    std::vector<handle> handles(count <= max_handles ? count : 0);
+    auto answer = open_answer{static_cast<std::int32_t>(call(raw, handles.size()))};
+    if (answer != open_answer::done) return {answer, {}};
+    shared->open.store(count, std::memory_order_relaxed);
+    shared->slots = wanted.slots;
+    for (std::size_t i = 0; i < count; i++) {
+        handles[i].raw = raw[i];
+        handles[i].number = i;
+        handles[i].shared = shared;
+    }
+    return {answer, std::move(handles)};
+}
+
+/* Opens an empty set with `count` handles, from 1 to 64. */
+inline opened open(const shape &wanted, std::size_t count) {
+    return open_by(wanted, count, [&](vbr_handle *handles, std::size_t number) {
+        return vbr_open(handles, number, wanted.slots, wanted.buckets, wanted.last_epoch);
+    });
+}
+
+/* Opens a set of these keys, which ascend, each above the one before. */
+inline opened open_with(const shape &wanted, std::size_t count, const std::uint64_t *keys, std::size_t key_count) {
+    static constexpr std::uint64_t no_key = 0;
+    return open_by(wanted, count, [&](vbr_handle *handles, std::size_t number) {
+        return vbr_open_with(handles, number, wanted.slots, wanted.buckets, wanted.last_epoch, key_count ? keys : &no_key, key_count);
+    });
+}
+
+inline opened open_with(const shape &wanted, std::size_t count, std::initializer_list<std::uint64_t> keys) {
+    return open_with(wanted, count, keys.begin(), keys.size());
+}
+
+namespace detail {
+
+template <class Keys, class = void>
+struct is_array_of_keys : std::false_type {};
+
+template <class Keys>
+struct is_array_of_keys<Keys, std::void_t<decltype(std::data(std::declval<const Keys &>())), decltype(std::size(std::declval<const Keys &>()))>>
+    : std::is_convertible<decltype(std::data(std::declval<const Keys &>())), const std::uint64_t *> {};
+
+} // namespace detail
+
+/* The same with any range of unsigned numbers: an array or a vector of std::uint64_t is read where it is, and others, as a
+   std::set, are copied first. */
+template <class Keys>
+opened open_with(const shape &wanted, std::size_t count, const Keys &keys) {
+    using key = std::decay_t<decltype(*std::begin(keys))>;
+    static_assert(std::is_unsigned_v<key> && !std::is_same_v<key, bool>, "keys are unsigned numbers");
+    if constexpr (detail::is_array_of_keys<Keys>::value) {
+        return open_with(wanted, count, std::data(keys), std::size(keys));
+    } else {
+        std::vector<std::uint64_t> copy;
+        for (key each : keys) copy.push_back(each);
+        return open_with(wanted, count, copy.data(), copy.size());
+    }
+}
+
+class lender;
+
+/* A handle on loan, or none; its end gives it back. It is tested by `if (loan)` and used as a pointer. */
+class [[nodiscard]] loan {
+public:
+    loan(loan &&other) noexcept : owner(std::exchange(other.owner, nullptr)), number(other.number) {}
+    loan &operator=(loan &&) = delete;
+    ~loan();
+    explicit operator bool() const noexcept { return owner != nullptr; }
+    handle &operator*() const noexcept;
+    handle *operator->() const noexcept { return &**this; }
+
+private:
+    friend class lender;
+    loan(lender *from, std::size_t which) noexcept : owner(from), number(which) {}
+    lender *owner;
+    std::size_t number;
+};
+
+/* Lends handles of a set, up to 64, to threads that come and go: at once or not at all, without a lock. A loan and its return
+   are one atomic operation each on a word that all threads share, so keep a loan for as many calls as can be. */
+class lender {
+public:
+    explicit lender(std::vector<handle> handles) noexcept : owned(std::move(handles)) {
+        std::size_t count = owned.size();
+        free.store(count >= max_handles ? ~std::uint64_t{0} : (std::uint64_t{1} << count) - 1, std::memory_order_relaxed);
+    }
+    lender(const lender &) = delete;
+    lender &operator=(const lender &) = delete;
+
+    /* A free handle, or none where each was lent at a moment of the call. It tries each handle at most once. */
+    loan lend() noexcept {
+        std::uint64_t untried = ~std::uint64_t{0}, seen = free.load(std::memory_order_relaxed);
+        while (seen & untried) {
+            std::size_t number = 0;
+            while (!((seen & untried) >> number & 1)) number++;
+            std::uint64_t bit = std::uint64_t{1} << number;
+            seen = free.fetch_and(~bit, std::memory_order_acquire);
+            if (seen & bit) return loan(this, number);
+            untried &= ~bit;
+        }
+        return loan(nullptr, 0);
+    }
+
+    /* Closes all handles, and gives the report. There is no loan meanwhile. */
+    closed close() {
+        closed last{close_answer::empty, std::nullopt};
+        for (handle &each : owned)
+            if (each.is_open()) last = each.close();
+        return last;
+    }
+
+private:
+    friend class loan;
+    std::vector<handle> owned;
+    std::atomic<std::uint64_t> free{0};
+};
+
+inline loan::~loan() {
+    if (owner) owner->free.fetch_or(std::uint64_t{1} << number, std::memory_order_release);
+}
+
+inline handle &loan::operator*() const noexcept { return owner->owned[number]; }
+
+} // namespace vbr
+
+#endif

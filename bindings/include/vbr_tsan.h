@@ -1,0 +1,113 @@
+/* What ThreadSanitizer is told of the set, which is compiled without it. vbr.h includes this where a program is compiled
+   with -fsanitize=thread, in C and C++; a program needs no line for it.
+
+   The calls go through functions that tell it
+   - that a handle is used: two threads that use one, with no order between them, are reported;
+   - that what a thread did before it inserted a key comes before what a thread does that then finds it, and what it did
+     before it removed one before what a thread does that then finds it absent;
+   - that what was done before a handle was closed comes before what the last close tells.
+
+   So a right program is silent, and one that reads what it didn't look up, or what is absent, is reported. The sanitizer
+   has a place for each of 16,384 groups of keys, whatever the set, and takes an insert or a remove that is answered no or
+   refused for one that is answered yes: where keys of a group meet, or after such an answer, it may miss a race. */
+#ifndef VBR_TSAN_H
+#define VBR_TSAN_H
+
+#include "vbr.h"
+
+#ifdef __cplusplus
+extern "C" {
+#endif
+
+void __tsan_acquire(void *address);
+void __tsan_release(void *address);
+void __tsan_write8(void *address);
+
+/* For each group of keys whom inserts come before, and whom removes; then whom closes come before. */
+#define VBR_TSAN_GROUPS (1u << 14)
+__attribute__((weak)) uint64_t vbr_tsan_places[2 * VBR_TSAN_GROUPS + 1];
+
+#ifdef __cplusplus
+}
+#endif
+
+static inline void *vbr_tsan_there(uint64_t key) {
+    return &vbr_tsan_places[2 * (key * 0x9E3779B97F4A7C15u >> 50)];
+}
+
+static inline void *vbr_tsan_gone(uint64_t key) {
+    return &vbr_tsan_places[2 * (key * 0x9E3779B97F4A7C15u >> 50) + 1];
+}
+
+static inline void *vbr_tsan_closed(void) {
+    return &vbr_tsan_places[2 * VBR_TSAN_GROUPS];
+}
+
+/* A call on a handle writes what the handle owns. */
+static inline void vbr_tsan_uses(const vbr_handle *handle) {
+    if (handle->owned) __tsan_write8(handle->owned);
+}
+
+VBR_NODISCARD static inline vbr_answer vbr_tsan_insert(vbr_handle *handle, uint64_t key, uint32_t budget) VBR_NOEXCEPT {
+    vbr_tsan_uses(handle);
+    __tsan_release(vbr_tsan_there(key));
+    vbr_answer answer = vbr_insert(handle, key, budget);
+    if (answer == VBR_YES) __tsan_acquire(vbr_tsan_gone(key));
+    if (answer == VBR_NO) __tsan_acquire(vbr_tsan_there(key));
+    return answer;
+}
+
+VBR_NODISCARD static inline vbr_answer vbr_tsan_remove(vbr_handle *handle, uint64_t key, uint32_t budget) VBR_NOEXCEPT {
+    vbr_tsan_uses(handle);
+    __tsan_release(vbr_tsan_gone(key));
+    vbr_answer answer = vbr_remove(handle, key, budget);
+    if (answer == VBR_YES) __tsan_acquire(vbr_tsan_there(key));
+    if (answer == VBR_NO) __tsan_acquire(vbr_tsan_gone(key));
+    return answer;
+}
+
+VBR_NODISCARD static inline vbr_answer vbr_tsan_has(vbr_handle *handle, uint64_t key, uint32_t budget) VBR_NOEXCEPT {
+    vbr_tsan_uses(handle);
+    vbr_answer answer = vbr_has(handle, key, budget);
+    if (answer == VBR_YES) __tsan_acquire(vbr_tsan_there(key));
+    if (answer == VBR_NO) __tsan_acquire(vbr_tsan_gone(key));
+    return answer;
+}
+
+VBR_NODISCARD static inline vbr_answer vbr_tsan_close(vbr_handle *handle, uint64_t *keys, size_t room, vbr_totals *report) VBR_NOEXCEPT {
+    vbr_tsan_uses(handle);
+    __tsan_release(vbr_tsan_closed());
+    vbr_answer answer = vbr_close(handle, keys, room, report);
+    if (answer == VBR_YES || answer == VBR_LOST) __tsan_acquire(vbr_tsan_closed());
+    return answer;
+}
+
+VBR_NODISCARD static inline vbr_answer vbr_tsan_close_all(vbr_handle *handles, size_t count, uint64_t *keys, size_t room,
+                                                          vbr_totals *report) VBR_NOEXCEPT {
+    for (size_t i = 0; i < count; i++) vbr_tsan_uses(&handles[i]);
+    __tsan_release(vbr_tsan_closed());
+    vbr_answer answer = vbr_close_all(handles, count, keys, room, report);
+    if (answer == VBR_YES) __tsan_acquire(vbr_tsan_closed());
+    return answer;
+}
+
+static inline void vbr_tsan_drop(vbr_handle *handle) VBR_NOEXCEPT {
+    vbr_tsan_uses(handle);
+    __tsan_release(vbr_tsan_closed());
+    vbr_drop(handle);
+}
+
+VBR_NODISCARD static inline uint64_t vbr_tsan_epoch(vbr_handle *handle) VBR_NOEXCEPT {
+    vbr_tsan_uses(handle);
+    return vbr_epoch(handle);
+}
+
+#define vbr_epoch(handle) vbr_tsan_epoch(handle)
+#define vbr_insert(handle, key, budget) vbr_tsan_insert(handle, key, budget)
+#define vbr_remove(handle, key, budget) vbr_tsan_remove(handle, key, budget)
+#define vbr_has(handle, key, budget) vbr_tsan_has(handle, key, budget)
+#define vbr_close(handle, keys, room, report) vbr_tsan_close(handle, keys, room, report)
+#define vbr_close_all(handles, count, keys, room, report) vbr_tsan_close_all(handles, count, keys, room, report)
+#define vbr_drop(handle) vbr_tsan_drop(handle)
+
+#endif

@@ -1,5 +1,0 @@
-use Rattle.vbr_core.proofs.RunsGoOn.{begins_run}
-use Rattle.vbr_core.proofs.laws.a_beginning_is_a_run.Goals as goal
-
-pub returns : goal.returns
-returns c = λ shape passes moment run ok begins. begins_run shape passes moment run begins ok

@@ -1,5 +1,0 @@
-use Rattle.vbr_core.proofs.RunForms.{absent_behind_marked}
-use Rattle.vbr_core.proofs.laws.absent_behind_marked.Goals as goal
-
-pub returns : goal.returns
-returns c = λ shape passes run pass at link last key is ok k m q leads i j. absent_behind_marked shape passes run is ok pass at link last k m q leads key i j

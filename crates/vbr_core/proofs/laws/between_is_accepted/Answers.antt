@@ -1,5 +1,0 @@
-use Rattle.vbr_core.proofs.NamedKeys.{between_accepted}
-use Rattle.vbr_core.proofs.laws.between_is_accepted.Goals as goal
-
-pub returns : goal.returns
-returns c = λ shape know op key at expected inside not between. between_accepted shape know op key at expected inside not between

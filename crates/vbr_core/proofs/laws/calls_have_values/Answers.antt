@@ -1,5 +1,0 @@
-use Rattle.vbr_core.proofs.ToldValues.{run_values}
-use Rattle.vbr_core.proofs.laws.calls_have_values.Goals as goal
-
-pub returns : goal.returns
-returns c = run_values

@@ -1,5 +1,0 @@
-use Rattle.vbr_core.proofs.OpenedMaps.{opens_with_entries}
-use Rattle.vbr_core.proofs.laws.entries_open_as_their_map.Goals as goal
-
-pub returns : goal.returns
-returns c = opens_with_entries

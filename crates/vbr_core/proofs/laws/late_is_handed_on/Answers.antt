@@ -1,4 +1,0 @@
-use Rattle.vbr_core.proofs.laws.late_is_handed_on.Goals as goal
-
-pub returns : goal.returns
-returns call = λ shape a c n e s q l. s.lists.handed c n e q l

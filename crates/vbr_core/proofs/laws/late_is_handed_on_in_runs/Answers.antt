@@ -1,5 +1,0 @@
-use Rattle.vbr_core.proofs.RunMoments.{late_on}
-use Rattle.vbr_core.proofs.laws.late_is_handed_on_in_runs.Goals as goal
-
-pub returns : goal.returns
-returns c = late_on

@@ -1,7 +1,0 @@
-use Rattle.vbr_core.specs.Incarnations.{at_opening}
-use Rattle.vbr_core.proofs.SoundAfter.{sound_at_first}
-use Rattle.vbr_core.proofs.ToldCalls.{tells_at_first, tells_after}
-use Rattle.vbr_core.proofs.laws.lawful_is_legal.Goals as goal
-
-pub returns : goal.returns
-returns c = λ shape entries up lawful. tells_after shape (at_opening shape) entries (sound_at_first shape up) (tells_at_first shape up) lawful

@@ -1,5 +1,0 @@
-use Rattle.vbr_core.proofs.LoadsLeave.{loads_leave}
-use Rattle.vbr_core.proofs.laws.loads_leave_the_words.Goals as goal
-
-pub returns : goal.returns
-returns c = λ shape w pass step place load. loads_leave shape w pass step load place

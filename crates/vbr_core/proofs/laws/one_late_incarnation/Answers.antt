@@ -1,5 +1,0 @@
-use Rattle.vbr_core.proofs.Slots.{one_late}
-use Rattle.vbr_core.proofs.laws.one_late_incarnation.Goals as goal
-
-pub returns : goal.returns
-returns call = λ shape a c d e s q bc bd lc ld. one_late s.slots c d e q lc ld bc bd

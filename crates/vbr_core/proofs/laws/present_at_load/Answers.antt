@@ -1,5 +1,0 @@
-use Rattle.vbr_core.proofs.RunForms.{present_at_load}
-use Rattle.vbr_core.proofs.laws.present_at_load.Goals as goal
-
-pub returns : goal.returns
-returns c = λ shape passes moment run pass at link key is ok was. present_at_load shape passes moment run is ok pass at link was key

@@ -1,5 +1,0 @@
-use Rattle.vbr_core.proofs.RunMoments.{pair_on}
-use Rattle.vbr_core.proofs.laws.same_link_same_pair_in_runs.Goals as goal
-
-pub returns : goal.returns
-returns c = pair_on

@@ -1,5 +1,0 @@
-use Rattle.vbr_core.proofs.Growth.{grows_after}
-use Rattle.vbr_core.proofs.laws.the_past_stays.Goals as goal
-
-pub returns : goal.returns
-returns c = grows_after

@@ -1,5 +1,0 @@
-use Rattle.vbr_core.proofs.Slots.{late_last}
-use Rattle.vbr_core.proofs.laws.unmoved_is_last.Goals as goal
-
-pub returns : goal.returns
-returns call = λ shape a c s l. late_last s.slots c l

@@ -1,5 +1,0 @@
-use Rattle.vbr_core.proofs.RunMoments.{holds_last}
-use Rattle.vbr_core.proofs.laws.unmoved_is_last_in_runs.Goals as goal
-
-pub returns : goal.returns
-returns c = holds_last

@@ -1,0 +1,45 @@
+-- What a pass that is kept in lists learns.
+use Rattle.std.specs.Prelude.{◌≡◌, ◌≤◌, ℕ, List, [], ◌++◌, length, slice_index_or}
+use Rattle.std.specs.List.{AllByRecursion}
+use Rattle.vbr_words.specs.declared.shape.TheConstants.{MAX_EPOCH}
+use Rattle.vbr_machine.specs.Knowledge.{Know}
+use Rattle.vbr_machine.specs.Learning.{reread}
+use Rattle.vbr_machine.specs.Put.{put}
+use Rattle.vbr_machine.specs.declared.event.Step.{Step}
+use Rattle.vbr_machine.specs.declared.event.Step.TheVariants.{ReadEpoch, LoadBirth}
+use Rattle.vbr_core.specs.Kept.{KeptPass, know_of, opening_pass}
+
+-- what a pass knows is changed so, and it has as many slots in its list
+pub record Learns (old new : KeptPass) (change : Know → Know) : Type 0 where
+  pub knows : know_of new ≡ change (know_of old)
+  pub slots : length new.own ≡ length old.own
+
+-- the epoch has not moved: what was pending is checked
+abbrev pub with_all_checked : Know → Know
+with_all_checked know = record know { pending = []; checked = know.checked ++ know.pending }
+
+-- the epoch is now this one: nothing that was read counts any more
+abbrev pub with_epoch : ℕ → Know → Know
+with_epoch epoch know = record know { epoch = epoch; pending = []; checked = [] }
+
+-- each slot that the pass unlinked may be stamped
+abbrev pub with_all_reread : Know → Know
+with_all_reread know = record know { own = λ s. reread (know.own s) }
+
+-- each pass has so many slots in its list
+abbrev pub HaveSlots : ℕ → List KeptPass → Type 0
+HaveSlots slots passes = AllByRecursion (λ pass. length pass.own ≡ slots) passes
+
+-- what the pass with a number knows
+abbrev pub known_by : List KeptPass → ℕ → Know
+known_by passes p = know_of (slice_index_or passes p opening_pass)
+
+-- an epoch and a birth that are found have room in words
+pub record HasRoom (step : Step) (found : ℕ) : Type 0 where
+  pub epoch : step ≡ ReadEpoch → found ≤ MAX_EPOCH
+  pub birth : (s : ℕ) → step ≡ LoadBirth s → found ≤ MAX_EPOCH
+
+-- what the pass with a number knows is changed so, and no other's; and each has as many slots as before
+pub record LearnsAt (old new : List KeptPass) (p : ℕ) (change : Know → Know) : Type 0 where
+  pub knows : ◌≡◌ {A = ℕ → Know} (known_by new) (put (known_by old) p (change (known_by old p)))
+  pub count : length new ≡ length old

@@ -1,0 +1,24 @@
+-- What a replay of events leads to, or where and why it stops.
+use Rattle.std.specs.Prelude.{◌≡◌, ℕ, ◌<◌, List, length, ◌⊎◌, take, slice_get, Some}
+use Rattle.vbr_words.specs.Dimensions.{Dimensions}
+use Rattle.vbr_machine.specs.declared.event.Event.{Event}
+use Rattle.vbr_machine.specs.declared.event.CoreRefusal.{CoreRefusal}
+use Rattle.vbr_machine.specs.declared.event.CoreRefusal.TheVariants.{NoSuchPass, NoMemory}
+use Rattle.vbr_machine.specs.Runs.{IsRun, Refuses, world_after}
+use Rattle.vbr_machine.specs.Safety.{IsSafe}
+use Rattle.vbr_core.specs.Kept.{KeptWorld, world_of}
+
+-- the events are a run, which is safe, and the world is the one after it, with so many passes
+pub record IsReplayed (opened : Dimensions) (count : ℕ) (events : List Event) (kept : KeptWorld) : Type 0 where
+  pub run : IsRun opened count events
+  pub safe : IsSafe opened events
+  pub world : world_of kept ≡ world_after opened events
+  pub shape : kept.shape ≡ opened
+  pub passes : length kept.passes ≡ count
+
+-- where and why a replay stops: no such number of passes or no memory at the opening, or the first event that is refused after those before it
+abbrev pub StopsAt : Dimensions → ℕ → List Event → ℕ → CoreRefusal → Type 0
+StopsAt shape passes events index refusal =
+    ((index ≡ 0) × (refusal ≡ NoSuchPass) × ((passes ≡ 0) ⊎ (64 < passes)))
+    ⊎ (((index ≡ 0) × (refusal ≡ NoMemory))
+    ⊎ ((event : Event) × (slice_get events index ≡ Some event) × IsRun shape passes (take index events) × Refuses shape passes (world_after shape (take index events)) event refusal))

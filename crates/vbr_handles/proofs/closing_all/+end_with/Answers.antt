@@ -1,0 +1,32 @@
+use Rattle.std.proofs.Common.{length, sym, ap, subst, rules, arith}
+use Rattle.std.specs.Prelude.{IsSome}
+use Rattle.std.proofs.lemmas.List.Elements.{All-rest}
+use Rattle.vbr_set.specs.AllMembers.{AreOfOneSet}
+use Rattle.vbr_handles.specs.declared.handle.Handle.{Handle}
+use Rattle.vbr_handles.proofs.AllHandles.{ends_more, moved}
+use Rattle.vbr_handles.proofs.closing_all.+end_with.Goals as goal
+
+pub end_with-requires : goal.end_with-requires
+end_with-requires t c =
+    let handles = c.args.handles.now in
+    let first = c.in-Some.first.now in
+    let others = c.in-Some.others.now in
+    let split = c.in-Some.ensures.cases.0 in
+    let measure = c.decreases in
+    let shorter = ap (λ xs. length xs) split in
+    let longer = c.in-Ok.ensures.len in
+    let same = moved c.args.members.items c.push.new.self.items c.in-Some-take_out.member first others handles (search rules) split (search rules) in (
+      omega arith,
+      (
+        All-rest (λ (h : Handle). IsSome h.member) first others handles split c.requires.full,
+        (subst AreOfOneSet (sym same) c.requires.one_set, (let room = c.requires.room in let more = c.in-Ok.ensures.capacity in omega arith)),
+      ),
+    )
+
+pub returns-in-Ok-end_with-clause-ends : goal.returns-in-Ok-end_with-clause-ends
+returns-in-Ok-end_with-clause-ends t c =
+    let handles = c.args.handles.now in
+    let first = c.in-Some.first.now in
+    let others = c.in-Some.others.now in
+    let same = moved c.args.members.items c.push.new.self.items c.in-Some-take_out.member first others handles (search rules) c.in-Some.ensures.cases.0 (search rules) in
+    ends_more _ _ c.take_out.new.self c.end_with.new.handles c.args.room c.in-Ok-end_with.report same c.take_out.ensures.left c.in-Ok-end_with.ensures.ends

@@ -1,0 +1,128 @@
+-- A key is clear at a moment: no marked node of it is in a list. What a walk to the key shows of that, and what follows for a node that the pass has marked.
+use Rattle.std.proofs.Common.{◌≡◌, ℕ, ◌+◌, ◌≤◌, arith, Bool, true, false, List, [], ◌∷◌, ◌++◌, Option, Some, None, refl, sym, ap, ◌∙◌, subst}
+use Rattle.std.specs.Prelude.{IfSome, IfNone}
+use Rattle.vbr_words.specs.Dimensions.{Dimensions, IsShape}
+use Rattle.vbr_words.specs.Words.{link_of}
+use Rattle.vbr_words.specs.declared.link.Link.{Link}
+use Rattle.vbr_words.specs.declared.place.At.TheVariants.{Slot}
+use Rattle.vbr_machine.specs.Accounts.{incarnations_after}
+use Rattle.vbr_machine.specs.Calls.{own_calls}
+use Rattle.vbr_machine.specs.History.{set_call}
+use Rattle.vbr_machine.specs.Knowledge.{Know}
+use Rattle.vbr_machine.specs.Machine.{link_at}
+use Rattle.vbr_machine.specs.Membership.{Knows, IsHeldPlace, KeyAt, StandsBehind, StandsBefore}
+use Rattle.vbr_machine.specs.Moments.{WasShown}
+use Rattle.vbr_machine.specs.Removals.{MarkedLeft, NoneMarked}
+use Rattle.vbr_machine.specs.Runs.{IsRun, know_after, world_after}
+use Rattle.vbr_machine.specs.declared.event.Event.{Event}
+use Rattle.vbr_machine.specs.declared.history.Op.TheVariants.{Remove}
+use Rattle.vbr_machine.specs.declared.knowledge.Read.TheVariants.{LinkAt, KeyOf}
+use Rattle.vbr_machine.proofs.Lemmas.{left_since, marked_left, none_marked_between, none_marked_here, none_marked_skipped}
+use Rattle.vbr_slots.specs.Calls.{IsSame, Made, Quiet}
+use Rattle.vbr_slots.specs.Views.{Trace, knows}
+use Rattle.vbr_slots.proofs.Lemmas.{moment_after, moment_before}
+use Rattle.vbr_access.specs.Moments.{IsRead}
+use Rattle.vbr_access.specs.declared.held.Held.{Held}
+use Rattle.vbr_list.specs.Found.{CurStood, IsFound}
+use Rattle.vbr_list.specs.Leaving.{Leaves, WasClear}
+use Rattle.vbr_list.specs.Places.{IsEnd}
+use Rattle.vbr_list.specs.Pieces.{trace_in}
+use Rattle.vbr_list.specs.Traversing.{Finds, SearchTires}
+use Rattle.vbr_list.specs.declared.call.Call.{Call}
+use Rattle.vbr_list.specs.declared.found.Found.{Found}
+use Rattle.vbr_list.proofs.Moments.{key_known, stands_before}
+
+-- ---- what a read link shows
+
+module _ {p q : Trace} (held : Held) (shape : IsShape p.shape) (same : IsSame p q) (read : IsRead p q held) (unmarked : (link_of held.word).mark ≡ false) where
+  was_known : (moment : List Event) → know_after q.shape moment q.who ≡ know_after p.shape moment p.who
+  was_known moment = λ i. know_after (same.shape i) moment (same.who i)
+
+  was_shown : WasShown q.shape read.stood.moment q.seen q.who held.at (link_of held.word)
+  was_shown = record {
+    begins = read.stood.within.to;
+    epoch = ap (λ (k : Know). k.epoch) (was_known read.stood.moment) ∙ read.stood.epoch ∙ read.known.epoch;
+    held = let P : Know → Type 0 = λ k. IsHeldPlace k held.at in subst P (sym (was_known read.stood.moment)) read.stood.place;
+    shown = ap (λ (s : Dimensions). link_at (world_after s read.stood.moment) held.at) same.shape ∙ read.stood.shown;
+    known = read.known.link;
+    unmarked = unmarked;
+  }
+
+  shape_now : IsShape q.shape
+  shape_now = let P : Dimensions → Type 0 = IsShape in subst P (sym same.shape) shape
+
+  clear_then : (key : ℕ) → NoneMarked (incarnations_after q.shape read.stood.moment) key → WasClear p q key
+  clear_then key none = record {
+    moment = read.stood.moment;
+    within = read.stood.within;
+    none = let P : Dimensions → Type 0 = λ s. NoneMarked (incarnations_after s read.stood.moment) key in subst P same.shape none;
+  }
+
+  -- of the key of the place
+  clear_here : (key : ℕ) → KeyAt (knows q) held.at key → WasClear p q key
+  clear_here key k = clear_then key (none_marked_here q.shape q.passes read.stood.moment q.seen shape_now read.stood.within.is_run q.who held.at (link_of held.word) was_shown key k)
+
+  -- of a key between the place and what its link names
+  clear_between : (key : ℕ) → StandsBehind q.shape (knows q) held.at key → StandsBefore (knows q) key (link_of held.word).slot → WasClear p q key
+  clear_between key i j = clear_then key (none_marked_between q.shape q.passes read.stood.moment q.seen shape_now read.stood.within.is_run q.who held.at (link_of held.word) was_shown key i j)
+
+  -- of the key of a slot whose marked link names the same
+  pub clear_skipped : (s key : ℕ) (frozen : Link) → StandsBehind q.shape (knows q) held.at key → Knows (knows q) (LinkAt (Slot s) frozen) → frozen.mark ≡ true → frozen.slot ≡ (link_of held.word).slot → Knows (knows q) (KeyOf s key) → WasClear p q key
+  clear_skipped s key frozen i k m e j = clear_then key (none_marked_skipped q.shape q.passes read.stood.moment q.seen shape_now read.stood.within.is_run q.who held.at (link_of held.word) was_shown s key frozen i k m e j)
+
+-- ---- where a traversal has come to the key
+
+pub clear_found : {p q : Trace} (key : ℕ) (found : Found) → IsShape p.shape → IsSame p q → IsFound p q key found → WasClear p q key
+clear_found {p} {q} key found shape same x = go found.cur found.present x.locates.end x.cur_stood
+  where
+    pred : Held
+    pred = found.pred
+
+    absent : (cur : Option Held) → IsEnd (knows q) key pred cur false → WasClear p q key
+    absent cur y = clear_between pred shape same (record { known = x.locates.pred.held; stood = x.stood }) x.locates.pred.unmarked key x.locates.pred.behind (stands_before (knows q) key pred cur y)
+
+    go : (cur : Option Held) (present : Bool) → IsEnd (knows q) key pred cur present → CurStood p q cur → WasClear p q key
+    go None present y z = absent None (y.0, refl)
+    go (Some cur) true y z = clear_here cur shape same (record { known = y.held; stood = z }) y.unmarked key (key_known (knows q) key pred cur y)
+    go (Some cur) false y z = absent (Some cur) y
+
+-- of a walk that ended with room in its budget
+pub clear_walked : (c d : Call) (found : Option Found) → IsShape (trace_in c).shape → IsSame (trace_in c) (trace_in d) → IfSome found (Finds c d) → IfNone found (SearchTires c d) → d.used + 8 ≤ c.budget → WasClear (trace_in c) (trace_in d) c.key
+clear_walked c d None shape same x tired room = let short = tired.tired in absurd (omega (arith, short, room))
+clear_walked c d (Some found) shape same x tired room = clear_found c.key found shape same x.found
+
+-- ---- a part of what the pass did
+
+pub clear_before : {p q r : Trace} {key : ℕ} → WasClear p q key → Quiet q r → WasClear p r key
+clear_before x b = record { moment = x.moment; within = moment_before x.within b; none = x.none }
+
+pub clear_since : {p q r : Trace} {key : ℕ} → Quiet p q → WasClear q r key → WasClear p r key
+clear_since {p} {q} {r} {key} a x = record {
+  moment = x.moment;
+  within = moment_after a.seen x.within;
+  none = let P : Dimensions → Type 0 = λ s. NoneMarked (incarnations_after s x.moment) key in subst P a.same.shape x.none;
+}
+
+-- ---- the node that a remove has marked
+
+-- once the key is clear, it has left
+pub leaves_clear : {p q r : Trace} {key : ℕ} → IsShape p.shape → Made (set_call p.who Remove key true) p q → IsSame q r → WasClear q r key → Leaves p r key
+leaves_clear {p} {q} {r} {key} shape made same x =
+    let P : Dimensions → Type 0 = λ s. NoneMarked (incarnations_after s x.moment) key in
+    marked_left p.shape p.passes shape p.seen q.seen x.moment r.seen p.who (set_call p.who Remove key true) run made.seen x.within.from x.within.to refl refl calls (subst P made.same.shape x.none)
+  where
+    run : IsRun p.shape p.passes r.seen
+    run =
+        let P : Dimensions → Type 0 = λ s. IsRun s p.passes r.seen in
+        let Q : ℕ → Type 0 = λ n. IsRun r.shape n r.seen in
+        subst P (same.shape ∙ made.same.shape) (subst Q (same.passes ∙ made.same.passes) x.within.is_run)
+
+    calls : own_calls p.shape q.seen p.who ≡ own_calls p.shape p.seen p.who ++ set_call p.who Remove key true ∷ []
+    calls = sym (λ i. own_calls (made.same.shape i) q.seen (made.same.who i)) ∙ made.calls
+
+-- what has left since a moment has left since an earlier one
+pub leaves_since : {p q : Trace} (r : Trace) (key : ℕ) → IsShape p.shape → Quiet p q → Leaves q r key → Leaves p r key
+leaves_since {p} {q} r key shape a x =
+    let P : Dimensions → Type 0 = λ s. MarkedLeft s q.seen r.seen q.who key in
+    let Q : ℕ → Type 0 = λ w. MarkedLeft p.shape q.seen r.seen w key in
+    left_since p.shape p.passes shape p.seen q.seen r.seen p.who key a.seen (subst Q a.same.who (subst P a.same.shape x))

@@ -1,0 +1,61 @@
+use Rattle.std.proofs.Common.{◌+◌, ℕ, sym, ◌∙◌, subst, arith}
+use Rattle.vbr_words.specs.Dimensions.{Dimensions}
+use Rattle.vbr_words.specs.Words.{link_of}
+use Rattle.vbr_words.specs.declared.place.At.{At}
+use Rattle.vbr_machine.specs.Acceptance.{IsUnlinked}
+use Rattle.vbr_machine.specs.Membership.{StandsBehind}
+use Rattle.vbr_machine.specs.declared.knowledge.Read.TheVariants.{KeyOf}
+use Rattle.vbr_slots.specs.Views.{knows}
+use Rattle.vbr_slots.proofs.Lemmas.{quiet_on}
+use Rattle.vbr_pools.proofs.Lemmas.{counts_on}
+use Rattle.vbr_pools.specs.Retiring.{is_kept}
+use Rattle.vbr_access.specs.Keeping.{Unlinks}
+use Rattle.vbr_access.proofs.Lemmas.{behind_kept}
+use Rattle.vbr_list.specs.Pieces.{Goes}
+use Rattle.vbr_list.proofs.Clearing.{clear_before, clear_skipped}
+use Rattle.vbr_list.proofs.Going.{counts_step, took_same}
+use Rattle.vbr_list.proofs.KeptHands.{helped_hand, retired_hand}
+use Rattle.vbr_list.proofs.Nearing.{first_of, then_of, helped_alone}
+use Rattle.vbr_list.proofs.Reaching.{helped, retired_keeps}
+use Rattle.vbr_list.proofs.helping.unlink_and_retire.Goals as goal
+
+pub returns-in-Ok-clause-goes : goal.returns-in-Ok-clause-goes
+returns-in-Ok-clause-goes c = λ used.
+    let a = c.unlink-outcome.ensures in
+    let b = c.retire.ensures.retires in
+    let q = c.unlink-outcome.new.at.pass.now in
+    let P : ℕ → Type 0 = λ s. IsUnlinked ((knows q.trace).own s) in
+    let Q : ℕ → Type 0 = λ s. Unlinks s c.args.at.now.pass.now q in
+    subst (λ (n : ℕ). Goes c.args.at.now.pass.now c.retire.new.at.pass.now used n) (omega arith)
+    (record {
+      quiet = quiet_on a.stays.quiet b.quiet;
+      counts = counts_on (counts_step used c.steps_to_unlink-used.result (took_same c.steps_to_unlink-used.result _ c.steps_to_unlink-used.ensures.is a.stays.took)) (counts_step (used + c.steps_to_unlink-used.result) c.retire.result b.took);
+      hand = helped_hand a.stays.own (subst Q (sym (rw c.in-Ok.is at c.unlink-outcome.ensures.unlinked).slot) (rw c.in-Ok.is at c.unlink-outcome.ensures.unlinked).unlinks) (retired_hand c.in-Ok.unlinked.slot c.law-in-Ok.ensures.own (subst P (sym (rw c.in-Ok.is at c.unlink-outcome.ensures.unlinked).slot) (rw c.in-Ok.is at c.unlink-outcome.ensures.unlinked).owned) b.known b.pool b.hand b.takes_no_slot) b.known;
+    })
+
+pub returns-in-Ok-clause-unlinks : goal.returns-in-Ok-clause-unlinks
+returns-in-Ok-clause-unlinks c =
+    let p = c.args.at.now.pass.now in
+    let q = c.unlink-outcome.new.at.pass.now in
+    let r = c.retire.new.at.pass.now in
+    let a = c.unlink-outcome.ensures.stays.quiet in
+    let b = c.retire.ensures.retires.quiet in
+    let won = rw c.in-Ok.is at c.unlink-outcome.ensures.unlinked in
+    record {
+      helps = λ e. record {
+        come = λ key is. helped key c.args.pred.now c.in-Ok.place is won.keeps won.at won.still won.read a b (retired_keeps (knows q.trace) (knows r.trace) c.in-Ok.unlinked.slot (is_kept q.pool) c.retire.ensures.retires.known (sym e ∙ won.read.known.epoch));
+        alone = λ key is fresh stands alone.
+            let l = c.retire.ensures.retires.alone (then_of a b alone) in
+            helped_alone p.trace q.trace r.trace key c.args.pred.now c.in-Ok.place is.inside won.at a.same.shape b.same.shape (won.alone (first_of a b alone) stands) l.0 l.1;
+      };
+      stays = λ fresh stands alone.
+          let u = won.alone (first_of a b alone) stands in
+          let l = c.retire.ensures.retires.alone (then_of a b alone) in
+          won.read.known.epoch ∙ won.keeps.epoch ∙ sym fresh ∙ sym u.epoch ∙ sym l.0.epoch ∙ l.1;
+      clear = λ key k behind.
+          let P : At → Type 0 = λ t. StandsBehind q.trace.shape (knows q.trace) t key in
+          let Q : Dimensions → Type 0 = λ s. StandsBehind s (knows q.trace) c.args.pred.now.at key in
+          clear_before (clear_skipped c.in-Ok.place c.law.ensures.shape a.same won.read won.still c.args.marked.slot key (link_of c.args.marked.word)
+          (subst P (sym won.at) (subst Q (sym a.same.shape) (behind_kept p.trace.shape c.args.pred.now.at key won.keeps behind)))
+          (won.keeps.reads _ c.requires.may.marked.held.link) c.requires.may.marked.mark (sym won.next) (won.keeps.reads (KeyOf c.args.marked.slot key) k)) b;
+    }

@@ -1,0 +1,47 @@
+-- Helping to unlink a marked node. Only contracts of private functions cite this.
+use Rattle.std.specs.Prelude.{◌≡◌, ℕ, ◌+◌, false}
+use Rattle.vbr_words.specs.Words.{link_of}
+use Rattle.vbr_words.specs.declared.place.At.TheVariants.{Slot}
+use Rattle.vbr_machine.specs.Membership.{KeyAt, StandsBehind}
+use Rattle.vbr_slots.specs.Alone.{IsAlone, IsFresh}
+use Rattle.vbr_slots.specs.Views.{PassView, Trace, knows}
+use Rattle.vbr_access.specs.Alone.{StandsNow}
+use Rattle.vbr_access.specs.Held.{IsHeld, IsMarked, Names}
+use Rattle.vbr_access.specs.declared.held.Held.{Held}
+use Rattle.vbr_access.specs.declared.held.Marked.{Marked}
+use Rattle.vbr_access.specs.declared.rollback.Rollback.{Rollback}
+use Rattle.vbr_list.specs.Leaving.{WasClear}
+use Rattle.vbr_list.specs.Nearing.{HelpsAlone}
+use Rattle.vbr_list.specs.Pieces.{Goes}
+use Rattle.vbr_list.specs.Places.{IsPred}
+use Rattle.vbr_list.specs.Traversing.{HasComeTo}
+
+-- ---- what it asks
+
+-- a place is held by its unmarked link, and so is the marked node that this names
+pub record MayHelp (p : Trace) (pred : Held) (gone : Marked) : Type 0 where
+  pub held : IsHeld (knows p) pred
+  pub unmarked : (link_of pred.word).mark ≡ false
+  pub marked : IsMarked (knows p) gone
+  pub names : Names pred gone.slot
+
+-- ---- what it tells
+
+-- in so many steps, whatever was used before
+abbrev pub GoesIn : PassView → PassView → ℕ → Type 0
+GoesIn p q steps = (used : ℕ) → Goes p q used (used + steps)
+
+-- the pass came on to the place with its new link, if it stood before a key; alone, one node fewer is behind it
+pub record Helps (p q : PassView) (pred place : Held) : Type 0 where
+  pub come : (key : ℕ) → IsPred p.trace.shape (knows p.trace) key pred → HasComeTo p.trace q.trace key place
+  pub alone : (key : ℕ) → IsPred p.trace.shape (knows p.trace) key pred → IsFresh p.trace → StandsNow p.trace pred → IsAlone p.trace q.trace → HelpsAlone p.trace q.trace key pred place
+
+-- the pass rolled back, which it doesn't alone, where the place stood as it is held
+abbrev pub HelpsNone : PassView → PassView → Held → Rollback → Type 0
+HelpsNone p q pred rollback = IsFresh p.trace → StandsNow p.trace pred → IsAlone p.trace q.trace → ⊥
+
+-- the marked node was unlinked and retired, so no marked node of its key was in a list; where the epoch stayed, that helped, and alone it stays
+pub record Retires (p q : PassView) (pred : Held) (gone : Marked) (place : Held) : Type 0 where
+  pub helps : place.epoch ≡ (knows q.trace).epoch → Helps p q pred place
+  pub stays : IsFresh p.trace → StandsNow p.trace pred → IsAlone p.trace q.trace → place.epoch ≡ (knows q.trace).epoch
+  pub clear : (key : ℕ) → KeyAt (knows p.trace) (Slot gone.slot) key → StandsBehind p.trace.shape (knows p.trace) pred.at key → WasClear p.trace q.trace key

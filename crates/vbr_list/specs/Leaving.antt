@@ -1,0 +1,30 @@
+-- A removed node leaves its list: what a remove promises besides its answer.
+use Rattle.std.specs.Prelude.{◌≡◌, ℕ, ◌<◌, Bool, true, List, Result, IfOk, IfErr}
+use Rattle.vbr_machine.specs.Accounts.{incarnations_after}
+use Rattle.vbr_machine.specs.Removals.{MarkedLeft, NoneMarked}
+use Rattle.vbr_machine.specs.declared.event.Event.{Event}
+use Rattle.vbr_slots.specs.Alone.{IsAlone}
+use Rattle.vbr_slots.specs.Calls.{Moment}
+use Rattle.vbr_slots.specs.Views.{PassView, Trace}
+use Rattle.vbr_pools.specs.KeptSlots.{TakesNoSlot}
+use Rattle.vbr_pools.specs.Refusals.{LeavesRoom}
+use Rattle.vbr_list.specs.Budgets.{enough_to_search}
+use Rattle.vbr_list.specs.Refusals.{IsTired}
+use Rattle.vbr_list.specs.declared.refusal.Refusal.{Refusal}
+
+-- at a moment of what the pass did, no marked node of the key was in a list
+pub record WasClear (p q : Trace) (key : ℕ) : Type 0 where
+  pub moment : List Event
+  pub within : Moment p q moment
+  pub none : NoneMarked (incarnations_after p.shape moment) key
+
+-- since then the pass has marked an incarnation of the key, which has left all lists
+abbrev pub Leaves : Trace → Trace → ℕ → Type 0
+Leaves p q key = MarkedLeft p.shape p.seen q.seen p.who key
+
+-- what a remove promises besides: it advances no epoch and loses no slot; where it answers yes, the node that it marked has left its list, unless its steps leave no room in the budget for one more piece; it is refused for want of steps alone, and alone it has steps enough with a budget that is known before
+pub record SparesRemove (p q : PassView) (key budget : ℕ) (answer : Result Bool Refusal) : Type 0 where
+  pub takes_no_slot : TakesNoSlot p q
+  pub unlists : IfOk answer (λ removed. removed ≡ true → LeavesRoom p q budget → Leaves p.trace q.trace key)
+  pub refused : IfErr answer (IsTired p q budget)
+  pub within : IfErr answer (λ refusal. IsAlone p.trace q.trace → budget < enough_to_search p.trace key)

@@ -1,0 +1,82 @@
+-- A piece of a call in progress: what stays of the call, and what its pass did. Only contracts of private functions cite this.
+use Rattle.std.specs.Prelude.{◌≡◌, ℕ, ◌+◌, ◌<◌, ◌≤◌, Bool, length, Some}
+use Rattle.vbr_machine.specs.History.{set_call}
+use Rattle.vbr_machine.specs.declared.history.Op.{Op}
+use Rattle.vbr_slots.specs.Alone.{IsAlone, LeavesLists}
+use Rattle.vbr_slots.specs.AtTables.{IsSameTable}
+use Rattle.vbr_slots.specs.Calls.{AddsNone, Made, OnlyLoads, Quiet}
+use Rattle.vbr_slots.specs.Views.{PassView, Trace, knows}
+use Rattle.vbr_slots.specs.declared.pass.TheConstants.{POOL}
+use Rattle.vbr_pools.specs.KeptSlots.{TakesNoSlot}
+use Rattle.vbr_pools.specs.Steps.{CountsSteps}
+use Rattle.vbr_list.specs.declared.call.Call.{Call}
+
+-- ---- a call in progress
+
+-- its pass, and what that has seen
+abbrev pub pass_in : Call → PassView
+pass_in c = c.at.pass.now
+
+abbrev pub trace_in : Call → Trace
+trace_in c = c.at.pass.now.trace
+
+-- its budget has room for one more piece
+abbrev pub HasRoom : Call → Type 0
+HasRoom c = c.used + 8 ≤ c.budget
+
+-- the call is at the same table, by the same pass, for the same key, and has the same budget
+pub record IsSameCall (c d : Call) : Type 0 where
+  pub at : IsSameTable c.at d.at
+  pub key : d.key ≡ c.key
+  pub bucket : d.bucket ≡ c.bucket
+  pub budget : d.budget ≡ c.budget
+
+-- what the pass has seen since is its own
+abbrev pub WasAlone : Call → Call → Type 0
+WasAlone c d = IsAlone (trace_in c) (trace_in d)
+
+-- the pass made the call, with this reply
+abbrev pub Replies : Op → Call → Call → Bool → Type 0
+Replies op c d reply = Made (set_call (trace_in c).who op c.key reply) (trace_in c) (trace_in d)
+
+-- ---- what a piece keeps
+
+-- the slot in hand stays, with what is known of it, and so does a free place in the own pool; and it is what a call leaves that takes no slot
+pub record KeepsHand (p q : PassView) : Type 0 where
+  pub hand : q.hand ≡ p.hand
+  pub in_hand : (s : ℕ) → p.hand ≡ Some s → (knows q.trace).own s ≡ (knows p.trace).own s
+  pub room : length p.pool < POOL → length q.pool < POOL
+  pub takes_no_slot : TakesNoSlot p q
+
+-- what was done made no call, its steps are counted, and the slot in hand stays
+pub record Goes (p q : PassView) (before since : ℕ) : Type 0 where
+  pub quiet : Quiet p.trace q.trace
+  pub counts : CountsSteps p.trace q.trace before since
+  pub hand : KeepsHand p q
+
+-- the call is the same one, and has gone on so
+pub record GoesOn (c d : Call) : Type 0 where
+  pub call : IsSameCall c d
+  pub goes : Goes (pass_in c) (pass_in d) c.used d.used
+  pub more : c.used ≤ d.used
+
+-- the call is the same one, and may have been answered: its steps are counted, and the slot in hand stays
+pub record Settles (c d : Call) : Type 0 where
+  pub call : IsSameCall c d
+  pub counts : CountsSteps (trace_in c) (trace_in d) c.used d.used
+  pub hand : KeepsHand (pass_in c) (pass_in d)
+  pub more : c.used < d.used
+
+-- the pass only observed: it made loads alone, and added no event to the chronicle
+pub record Observes (p q : Trace) : Type 0 where
+  pub only_loads : OnlyLoads p q
+  pub adds_none : AddsNone p q
+
+-- so it did, and alone it left the lists as they were
+pub record OnlyLooks (p q : Trace) : Type 0 where
+  pub observes : Observes p q
+  pub leaves : IsAlone p q → LeavesLists p q
+
+-- one step, or up to eight
+abbrev pub IsPiece : ℕ → ℕ → Type 0
+IsPiece before since = (before < since) × (since ≤ before + 8)

@@ -1,0 +1,53 @@
+-- The lemmas of vbr_machine that proofs of other crates cite: they import from here, and from no other module of its proofs.
+
+-- Functions with one value changed.
+pub use Rattle.vbr_machine.proofs.Puts.{put_here, put_other}
+-- What both outcomes of a test leave is left.
+pub use Rattle.vbr_machine.proofs.Branches.{by_both}
+-- The lists of the buckets: what follows a listed incarnation is listed, no two stand before the same one, keys are different, and no key lies between neighbours.
+pub use Rattle.vbr_machine.proofs.Lists.{keys_differ, next_listed}
+-- Nodes of one list, by their slots, and how many of them stand behind a place: from a place to its successor they are one fewer.
+pub use Rattle.vbr_machine.proofs.ListedNodes.{in_list_from, in_list_is, slot_is_one, stands_in, stands_key, stands_there}
+-- The confirming loads.
+pub use Rattle.vbr_machine.proofs.ConfirmSteps.{found_at}
+-- Along every run the world, the incarnations and the notes agree, and the chronicle is lawful.
+pub use Rattle.vbr_machine.proofs.EveryRun.{run_agrees, step_agrees}
+-- What a flag word tells of a slot of the shape, and what a step on a flag leaves there.
+pub use Rattle.vbr_machine.proofs.SlotFlags.{flag_in, flag_shared, flag_won, same_word, taken_word, unflagged, word_told}
+pub use Rattle.vbr_machine.proofs.SlotFlags.{flag_clear, flag_set, flags_fit, flags_of_first, flags_whole, no_flags}
+-- Runs go on: what more events do to the world, and that the events of others leave what a pass knows, may do and has called.
+pub use Rattle.vbr_machine.proofs.RunsGoOn.{added_own, begins_for-snoc, begins_for_begins, begins_for_know, begins_for_refl, begins_refl, begins_run, is_run_snoc}
+pub use Rattle.vbr_machine.proofs.RunsGoOn.{begins_trans, calls_after, calls_by-append, is_run_after, is_run_after_others, is_run_before, is_run_first}
+pub use Rattle.vbr_machine.proofs.RunsGoOn.{is_run_last, know_after-snoc, know_other, know_own, others_leave_calls, others_leave_it_accepted}
+pub use Rattle.vbr_machine.proofs.RunsGoOn.{others_leave_know, own_calls-snoc, world_after-append, world_after-snoc}
+-- The words after a step: the word at its place is that of its operation, and no other word changes.
+pub use Rattle.vbr_machine.proofs.WordsAfter.{place_in, word_elsewhere, word_here}
+-- What a pass knows of its slots, against the words: a slot that it takes or unlinks was not its own, and a stamp that it knows is the stamp that stands there.
+pub use Rattle.vbr_machine.proofs.OwnedSlots.{stamp_known, taken_unowned, unlinked_unowned}
+-- Every run is safe.
+pub use Rattle.vbr_machine.proofs.SafeRuns.{every_run}
+-- The events of one pass in the chronicle of a run: what others do adds none, and its own step adds what happens by it.
+pub use Rattle.vbr_machine.proofs.OwnEntries.{others_leave_entries, own_entries-snoc}
+-- What is known by membership: each known read is of an incarnation that the pass holds, and what a search finds is any known one.
+pub use Rattle.vbr_machine.proofs.KnownReads.{birth_held, slot_held}
+-- What runs say to the layers above: of what a pass knows by membership, of the keys that were in the set when a link was loaded, and of chains of marked links.
+pub use Rattle.vbr_machine.proofs.RunForms.{absent_at_load, confirmed_call_is, head_unmarked, held_in_bucket, known_accepts, link_held, link_loaded}
+pub use Rattle.vbr_machine.proofs.RunForms.{marked_call_is, none_marked_between, none_marked_here, none_marked_skipped, present_at_load, written_is}
+-- Removed incarnations: the one that a remove marked has left its list, once no marked one of its key is in a list.
+pub use Rattle.vbr_machine.proofs.Removals.{left_since, marked_left}
+-- What runs say of how many nodes stand behind a place that a pass holds, whose link is still the one that it has checked.
+pub use Rattle.vbr_machine.proofs.ListedRuns.{named_there, one_fewer_behind, raise_epoch, raise_leaves, raise_links, read_leaves, stamp_epoch}
+pub use Rattle.vbr_machine.proofs.ListedRuns.{stamp_leaves, stamp_links, unlink_makes, unlink_takes_one}
+-- A node comes into a list by a publication alone: a step by which its pass makes no call adds none.
+pub use Rattle.vbr_machine.proofs.ListedGrowth.{calls_or_adds_none}
+-- The link of a place that a pass holds unmarked, while the pass fills a slot in its hand.
+pub use Rattle.vbr_machine.proofs.ListedLinks.{key_leaves_links, link_leaves_links}
+-- What the lists stand for while the keys that a world opens with are linked, from the last on: the bare world before the first, and all of them after the last. A world that opens with none is the bare one.
+pub use Rattle.vbr_machine.proofs.OpenedWorlds.{bare, key_linked, opening_all, opening_none, opening_step}
+-- The first key of a bucket, from a number on.
+pub use Rattle.vbr_machine.proofs.OpeningKeys.{FirstOrNone, IsFirst, first_or_none}
+-- Where each slot is after a safe run, and that the numbers of slots that are somewhere add up; sums over passes.
+pub use Rattle.vbr_machine.proofs.Whereabouts.{somewhere}
+pub use Rattle.vbr_machine.proofs.SlotsAddUp.{add_up, sum_none}
+-- A slot that is outside the shared pool stays outside while no flag is raised.
+pub use Rattle.vbr_machine.proofs.OutsidePool.{IsRaise, NoneRaises, count_none, none_shared, stays_outside}

@@ -1,0 +1,129 @@
+-- A node comes into a list by a publication alone: a step by which its pass makes no call adds none.
+use Rattle.std.proofs.Common.{◌≡◌, ◌≢◌, ℕ, ◌≤◌, Bool, true, false, List, [], ◌∷◌, ◌++◌, Option, Some, None, refl, sym, ap, ◌∙◌, subst, arith, inl, inr}
+use Rattle.std.specs.Option.{option_to_list}
+use Rattle.std.specs.Prelude.{◌==◌, ◌&&◌, ◌⊎◌, if◌then◌else◌}
+use Rattle.std.proofs.lemmas.Bool.{and_left, cases_eq}
+use Rattle.vbr_words.specs.Flags.{has_flag}
+use Rattle.vbr_words.specs.Dimensions.{Dimensions, IsShape}
+use Rattle.vbr_words.specs.declared.place.At.{At}
+use Rattle.vbr_words.specs.declared.place.At.TheVariants.{Head}
+use Rattle.vbr_words.specs.Buckets.{bucket_of}
+use Rattle.vbr_machine.specs.Acceptance.{Accepts}
+use Rattle.vbr_machine.specs.Accounts.{incarnations_after, notes_after, happens, just, entry_of_call, born_in}
+use Rattle.vbr_machine.specs.Calls.{calls_added}
+use Rattle.vbr_machine.specs.Chronicles.{Entry, Advances, Gains, Probes, Keyed, Valued, Aims, Inserts, Raises, Removes, Stamps, Unlinks, Answers, Allowed, becomes, incarnations_from, IsLawful}
+use Rattle.vbr_machine.specs.Images.{key_shown}
+use Rattle.vbr_machine.specs.Incarnations.{Marked, Incarnations, last_in}
+use Rattle.vbr_machine.specs.Opened.{opening_keys}
+use Rattle.vbr_machine.specs.Learning.{call_of, link_written}
+use Rattle.vbr_machine.specs.Machine.{found}
+use Rattle.vbr_machine.specs.Nodes.{behind, is_behind, is_listed, state_shown}
+use Rattle.vbr_machine.specs.Notes.{before_at}
+use Rattle.vbr_machine.specs.Put.{put}
+use Rattle.vbr_machine.specs.Runs.{IsRun, world_after, know_after}
+use Rattle.vbr_machine.specs.declared.event.Event.{Event}
+use Rattle.vbr_machine.specs.declared.history.Call.{Call}
+use Rattle.vbr_machine.specs.declared.event.Step.{Step}
+use Rattle.vbr_machine.specs.declared.event.Step.TheVariants.{ReadEpoch, Advance, LoadStamp, StoreStamp, Raise, TakeFlag, StoreBirth, StoreKey, StoreLink, LoadLink, LoadBirth, LoadKey, Publish, Mark, Unlink, ConfirmPresent, ConfirmAbsent, LoadValue, StoreValue}
+use Rattle.vbr_machine.proofs.EveryRun.{incarnations_after-snoc, run_agrees, step_agrees}
+use Rattle.vbr_machine.proofs.ListedNodes.{behind_same, count_same, stamps_none, unlinks_add_none}
+use Rattle.vbr_machine.proofs.ListedRuns.{birth_leaves}
+use Rattle.vbr_machine.proofs.Puts.{put_here, put_other}
+
+-- ---- one event
+
+-- a key that is stored in a slot in hand is none of a list
+keyed_none : (shape : Dimensions) (a : Incarnations) (pass c key bucket h : ℕ) → Allowed shape (opening_keys shape) a pass (Keyed c key) → behind shape (becomes shape a pass (Keyed c key)) bucket (Head h) ≡ behind shape a bucket (Head h)
+keyed_none shape a pass c key bucket h al = count_same (is_behind shape (becomes shape a pass (Keyed c key)) bucket (Head h)) (is_behind shape a bucket (Head h)) shape.slots (λ s l. same (a.last s))
+  where
+    in_bucket : Incarnations → Option ℕ → Bool
+    in_bucket b l = (is_listed (state_shown b l) && (bucket_of shape (key_shown b l) == bucket)) && true
+
+    unlisted : (b : Incarnations) (d : ℕ) → is_listed (b.state d) ≡ false → in_bucket b (Some d) ≡ false
+    unlisted b d e = and_left _ _ (and_left _ _ e)
+
+    same : (l : Option ℕ) → in_bucket (becomes shape a pass (Keyed c key)) l ≡ in_bucket a l
+    same None = refl
+    same (Some d) = go (cases_eq d c)
+      where
+        go : (d ≡ c) ⊎ (d ≢ c) → in_bucket (becomes shape a pass (Keyed c key)) (Some d) ≡ in_bucket a (Some d)
+        go (inl e) =
+            let none : is_listed (a.state d) ≡ false = ap (λ n. is_listed (a.state n)) e ∙ ap is_listed al in
+            unlisted (becomes shape a pass (Keyed c key)) d none ∙ sym (unlisted a d none)
+        go (inr ne) = ap (λ k. (is_listed (a.state d) && (bucket_of shape k == bucket)) && true) (put_other a.key c key d ne)
+
+-- a marking leaves the node in its list
+removes_none : (shape : Dimensions) (a : Incarnations) (pass c bucket : ℕ) (at : At) → Allowed shape (opening_keys shape) a pass (Removes c) → behind shape (becomes shape a pass (Removes c)) bucket at ≡ behind shape a bucket at
+removes_none shape a pass c bucket at al = behind_same shape a (becomes shape a pass (Removes c)) bucket at (λ s. same (a.last s)) refl refl
+  where
+    same : (l : Option ℕ) → is_listed (state_shown (becomes shape a pass (Removes c)) l) ≡ is_listed (state_shown a l)
+    same None = refl
+    same (Some d) = go (cases_eq d c)
+      where
+        go : (d ≡ c) ⊎ (d ≢ c) → is_listed (put a.state c Marked d) ≡ is_listed (a.state d)
+        go (inl e) = ap (λ n. is_listed (put a.state c Marked n)) e ∙ ap is_listed (put_here a.state c Marked) ∙ sym (ap (λ n. is_listed (a.state n)) e ∙ ap is_listed al)
+        go (inr ne) = ap is_listed (put_other a.state c Marked d ne)
+
+-- ---- one step
+
+no_more : (m n : ℕ) → m ≡ n → m ≤ n
+no_more m n e = omega (arith, e)
+
+-- what a test chooses of two adds none where neither does
+either_adds_none : (shape : Dimensions) (a : Incarnations) (bucket h : ℕ) (t : Bool) (xs ys : List Entry) → behind shape (incarnations_from shape a xs) bucket (Head h) ≤ behind shape a bucket (Head h) → behind shape (incarnations_from shape a ys) bucket (Head h) ≤ behind shape a bucket (Head h) →
+    behind shape (incarnations_from shape a (if t then xs else ys)) bucket (Head h) ≤ behind shape a bucket (Head h)
+either_adds_none shape a bucket h true xs ys x y = x
+either_adds_none shape a bucket h false xs ys x y = y
+
+-- entries that add no node to the list of a bucket
+abbrev pub AddsNoNode : Dimensions → Incarnations → ℕ → ℕ → List Entry → Type 0
+AddsNoNode shape a bucket h entries = behind shape (incarnations_from shape a entries) bucket (Head h) ≤ behind shape a bucket (Head h)
+
+module _ (shape : Dimensions) (passes : ℕ) (run : List Event) (is : IsShape shape) (ok : IsRun shape passes run) (p bucket h : ℕ) where
+  abbrev a : Incarnations
+  a = incarnations_after shape run
+
+  same : (entries : List Entry) → behind shape (incarnations_from shape (incarnations_after shape run) entries) bucket (Head h) ≡ behind shape (incarnations_after shape run) bucket (Head h) → AddsNoNode shape (incarnations_after shape run) bucket h entries
+  same entries e = no_more (behind shape (incarnations_from shape (incarnations_after shape run) entries) bucket (Head h)) (behind shape (incarnations_after shape run) bucket (Head h)) e
+
+  confirmed : (t : Bool) (call : Option Call) → AddsNoNode shape (incarnations_after shape run) bucket h (if t then entry_of_call p call else [])
+  confirmed true None = same [] refl
+  confirmed true (Some call) = same (just p (Answers call)) refl
+  confirmed false call = same [] refl
+
+  one : (step : Step) → calls_added shape (world_after shape run) p step ≡ [] → IsLawful shape (opening_keys shape) (incarnations_after shape run) (happens shape (world_after shape run) (incarnations_after shape run) p step) →
+      behind shape (incarnations_from shape (incarnations_after shape run) (happens shape (world_after shape run) (incarnations_after shape run) p step)) bucket (Head h) ≤ behind shape (incarnations_after shape run) bucket (Head h)
+  one ReadEpoch n l = same [] refl
+  one (LoadStamp s) n l = same [] refl
+  one (LoadLink at) n l = same [] refl
+  one (LoadBirth s) n l = same [] refl
+  one (LoadKey s) n l = same [] refl
+  one (LoadValue s) n l = same [] refl
+  one (Advance from) n l = either_adds_none shape a bucket h (found shape (world_after shape run) (Advance from) == from) (just p Advances) [] (same (just p Advances) refl) (same [] refl)
+  one (StoreStamp s stamp) n l = same (just p (Stamps (last_in a s) stamp)) (stamps_none shape (opening_keys shape) a p (last_in a s) stamp bucket (Head h) l.0)
+  one (Raise s) n l = same (just p (Raises s)) refl
+  one (TakeFlag s) n l = either_adds_none shape a bucket h (has_flag (found shape (world_after shape run) (TakeFlag s)) s) (just p (Gains s)) (just p (Probes s)) (same (just p (Gains s)) refl) (same (just p (Probes s)) refl)
+  one (StoreBirth s birth) n l = same (born_in a p s birth ((know_after shape run p).own s)) (birth_leaves shape a p s birth bucket h ((know_after shape run p).own s) (run_agrees shape passes run is ok).sound l)
+  one (StoreKey s key) n l = same (just p (Keyed (last_in a s) key)) (keyed_none shape a p (last_in a s) key bucket h l.0)
+  one (StoreValue s value) n l = same (just p (Valued (last_in a s) value)) refl
+  one (StoreLink s next) n l = same (just p (Aims (last_in a s) (link_written (know_after shape run p) (StoreLink s next)))) refl
+  one (Publish pred expected s) n l = published (found shape (world_after shape run) (Publish pred expected s) == expected) n
+    where
+      published : (t : Bool) → option_to_list (if t then call_of shape p (know_after shape run p) (Publish pred expected s) else None) ≡ [] → AddsNoNode shape (incarnations_after shape run) bucket h (if t then just p (Inserts (last_in a s) (before_at a pred)) else [])
+      published true n = absurd (cc)
+      published false n = same [] refl
+  one (Mark s expected) n l = marked (found shape (world_after shape run) (Mark s expected) == expected) l
+    where
+      marked : (t : Bool) → IsLawful shape (opening_keys shape) a (if t then just p (Removes (last_in a s)) else []) → AddsNoNode shape (incarnations_after shape run) bucket h (if t then just p (Removes (last_in a s)) else [])
+      marked true l = same (just p (Removes (last_in a s))) (removes_none shape a p (last_in a s) bucket (Head h) l.0)
+      marked false l = same [] refl
+  one (Unlink pred expected s) n l = either_adds_none shape a bucket h (found shape (world_after shape run) (Unlink pred expected s) == expected) (just p (Unlinks (last_in a s) (before_at a pred))) [] (unlinks_add_none shape a p bucket (last_in a s) (before_at a pred) (Head h)) (same [] refl)
+  one (ConfirmPresent op s expected) n l = confirmed (found shape (world_after shape run) (ConfirmPresent op s expected) == expected) (call_of shape p (know_after shape run p) (ConfirmPresent op s expected))
+  one (ConfirmAbsent op key at expected) n l = confirmed (found shape (world_after shape run) (ConfirmAbsent op key at expected) == expected) (call_of shape p (know_after shape run p) (ConfirmAbsent op key at expected))
+
+  -- a law: a step by which its pass makes no call adds no node to a list
+  pub calls_or_adds_none : (step : Step) → Accepts shape (know_after shape run p) step → calls_added shape (world_after shape run) p step ≡ [] →
+      behind shape (incarnations_after shape (run ++ (record { pass = p; step = step }) ∷ [])) bucket (Head h) ≤ behind shape (incarnations_after shape run) bucket (Head h)
+  calls_or_adds_none step accepts none =
+      let P : Incarnations → Type 0 = λ b. behind shape b bucket (Head h) ≤ behind shape (incarnations_after shape run) bucket (Head h) in
+      subst P (sym (incarnations_after-snoc shape run (record { pass = p; step = step }))) (one step none (step_agrees shape (world_after shape run) (incarnations_after shape run) (notes_after shape run) p step (run_agrees shape passes run is ok) accepts).0)

@@ -1,0 +1,215 @@
+-- The steps on a slot that its pass owns, and the taking of a flag, but for stamps and births.
+use Rattle.std.proofs.Common.{◌≡◌, ◌≢◌, ℕ, ◌<◌, ◌≤◌, true, Option, Some, None, refl, arith, sym, ap, ◌∙◌}
+use Rattle.std.specs.Prelude.{unwrap_or}
+use Rattle.vbr_words.specs.Dimensions.{Dimensions}
+use Rattle.vbr_words.specs.Words.{IsLink}
+use Rattle.vbr_machine.specs.Put.{put}
+use Rattle.vbr_machine.specs.Opened.{opening_keys}
+use Rattle.vbr_machine.specs.Links.{link_to}
+use Rattle.vbr_machine.specs.Knowledge.{Know, birth_of}
+use Rattle.vbr_machine.specs.Acceptance.{Accepts, IsFree, IsNextIn}
+use Rattle.vbr_machine.specs.Learning.{with_own, with_key, with_value, with_link, link_written, birth_in_hand}
+use Rattle.vbr_machine.specs.Machine.{World, after}
+use Rattle.vbr_machine.specs.Incarnations.{State, Incarnations, last_in}
+use Rattle.vbr_machine.specs.Images.{key_shown, value_shown, link_shown}
+use Rattle.vbr_machine.specs.Chronicles.{IsRetired, IsStamped, Allowed, Gains, Raises, Keyed, Valued, Aims, becomes}
+use Rattle.vbr_machine.specs.Sound.{PlaceFits, SlotsSound}
+use Rattle.vbr_machine.specs.Notes.{Notes}
+use Rattle.vbr_machine.specs.Agreement.{IsNoted, OwnFits, Fits, Agrees}
+use Rattle.vbr_machine.specs.declared.event.Step.TheVariants.{Raise, TakeFlag, StoreKey, StoreValue, StoreLink}
+use Rattle.vbr_machine.specs.declared.knowledge.Holding.{Holding}
+use Rattle.vbr_machine.specs.declared.knowledge.Holding.TheVariants.{Free, Unlinked, InHand}
+use Rattle.vbr_machine.specs.declared.knowledge.SlotPlace.{SlotPlace}
+use Rattle.vbr_machine.specs.declared.knowledge.SlotPlace.TheVariants.{Shared, Own, Hand, Listed}
+use Rattle.vbr_machine.proofs.Puts.{put_here, put_other}
+use Rattle.vbr_machine.proofs.Growth.{grows}
+use Rattle.vbr_machine.proofs.SlotFlags.{flag_told}
+use Rattle.vbr_machine.proofs.Searches.{birth_low}
+use Rattle.vbr_machine.proofs.Noted.{knows_on, knows_own}
+use Rattle.vbr_machine.proofs.OwnSlots.{IsSlotKept, owns_changed, lasts_differ}
+use Rattle.vbr_machine.proofs.Shown.{image_kept, fits_kept, to_next_same, link_kept, key_kept, value_kept, birth_kept}
+use Rattle.vbr_machine.proofs.Steps.{StepAgrees, agrees_next, agrees_still, puts_same, at_put, hand_facts, own_not_of, hand_not_of}
+
+-- another slot where only the place of one has changed
+moved_beside : (a : Incarnations) (s v : ℕ) (place : SlotPlace) → v ≢ s → IsSlotKept a (record a { place = put a.place s place }) v
+moved_beside a s v place ne = record { place = put_other a.place s place v ne; last = refl; stamp = refl; untouched = λ c _. record { state = refl; birth = refl; key = refl; is_keyed = refl; value = refl; is_valued = refl; link = refl; is_aimed = refl } }
+
+-- what is known of a free slot
+free_facts : (a : Incarnations) (p s e : ℕ) (holding : Option Holding) → OwnFits a p e holding (a.place s) (a.last s) (a.stamp s) → IsFree holding → (a.place s ≡ Own p) × IsRetired a (a.last s)
+free_facts a p s e None h o = absurd o
+free_facts a p s e (Some (Free known)) h o = (h.0, h.1)
+free_facts a p s e (Some (Unlinked seen)) h o = absurd o
+free_facts a p s e (Some (InHand known)) h o = absurd o
+
+pub step_raise : (shape : Dimensions) (w : World) (a : Incarnations) (notes : ℕ → Notes) (p s : ℕ) → Agrees shape w a notes → Accepts shape (w.know p) (Raise s) → StepAgrees shape w a notes p (Raise s)
+step_raise shape w a notes p s g ok =
+    let b = becomes shape a p (Raises s) in
+    let v = after shape w p (Raise s) in
+    let al : (a.place s ≡ Own p) × IsRetired a (a.last s) = free_facts a p s (w.know p).epoch ((w.know p).own s) (g.owns p s) ok.owned in (
+      (al, tt),
+      agrees_next shape w v a notes (put notes p (notes p)) p (Raises s) g al
+          (fits_kept a b refl refl refl refl g.fits)
+          (image_kept v w a b g.image.epoch refl refl refl refl refl refl (puts_same w.place a.place s Shared g.image.place) refl refl refl refl refl refl refl refl refl refl g.image)
+          (knows_own b w.know notes p s None (knows_on g.sound (grows shape (opening_keys shape) a p (Raises s) g.sound al) w.know notes g.knows))
+          (owns_changed a b w.know p s (with_own (w.know p) s None) refl (λ i ne. put_other (w.know p).own s None i ne)
+          (own_not_of p (a.place s) al.0)
+          (λ q ne. rw (put_here a.place s Shared) tt)
+          (λ i ne. moved_beside a s i Shared ne)
+          (rw (put_here (w.know p).own s None, put_here a.place s Shared) tt)
+          g.owns)
+          g.calls g.births,
+    )
+
+-- a slot in the shared pool is retired
+shared_retired : {shape : Dimensions} {a : Incarnations} → SlotsSound shape a → (s : ℕ) → a.place s ≡ Shared → IsRetired a (a.last s)
+shared_retired {shape} {a} g s e = go (a.last s) refl
+  where
+    stamped : (st : State) (k : ℕ) → PlaceFits shape Shared st k → IsStamped st
+    stamped st k h = grind arith
+
+    go : (l : Option ℕ) → a.last s ≡ l → IsRetired a l
+    go None q = tt
+    go (Some c) q = stamped (a.state c) (a.key c) (rw e at (g.placed c s q))
+
+-- who is retired stays so where only a place changes
+retired_beside : (a : Incarnations) (s : ℕ) (place : SlotPlace) (l : Option ℕ) → IsRetired a l → IsRetired (record a { place = put a.place s place }) l
+retired_beside a s place None h = h
+retired_beside a s place (Some c) h = h
+
+pub step_take_flag : (shape : Dimensions) (w : World) (a : Incarnations) (notes : ℕ → Notes) (p s : ℕ) → Agrees shape w a notes → s < shape.slots → StepAgrees shape w a notes p (TakeFlag s)
+step_take_flag shape w a notes p s g low = go (w.place s) refl
+  where
+    won : (al : a.place s ≡ Shared) → Agrees shape (record w { know = put w.know p (with_own (w.know p) s (Some (Free (w.stamp s)))); place = put w.place s (Own p) }) (becomes shape a p (Gains s)) (put notes p (notes p))
+    won al =
+        let b = becomes shape a p (Gains s) in
+        let x = with_own (w.know p) s (Some (Free (w.stamp s))) in
+        let v = record w { know = put w.know p x; place = put w.place s (Own p) } in
+        agrees_next shape w v a notes (put notes p (notes p)) p (Gains s) g al
+        (fits_kept a b refl refl refl refl g.fits)
+        (image_kept v w a b g.image.epoch refl refl refl refl refl refl (puts_same w.place a.place s (Own p) g.image.place) refl refl refl refl refl refl refl refl refl refl g.image)
+        (knows_own b w.know notes p s (Some (Free (w.stamp s))) (knows_on g.sound (grows shape (opening_keys shape) a p (Gains s) g.sound al) w.know notes g.knows))
+        (owns_changed a b w.know p s x refl (λ i ne. put_other (w.know p).own s (Some (Free (w.stamp s))) i ne)
+        (λ q ne. rw al tt)
+        (own_not_of p (put a.place s (Own p) s) (put_here a.place s (Own p)))
+        (λ i ne. moved_beside a s i (Own p) ne)
+        (rw (put_here (w.know p).own s (Some (Free (w.stamp s)))) (put_here a.place s (Own p), retired_beside a s (Own p) (a.last s) (shared_retired g.sound.slots s al), sym (g.image.stamp s)))
+        g.owns)
+        g.calls g.births
+
+    at : (place : SlotPlace) → w.place s ≡ place → a.place s ≡ place
+    at place e = sym (g.image.place s) ∙ e
+
+    go : (place : SlotPlace) → w.place s ≡ place → StepAgrees shape w a notes p (TakeFlag s)
+    go Shared e = rw (flag_told shape w s Shared low e) ((at Shared e, tt), won (at Shared e))
+    go (Own q) e = rw (flag_told shape w s (Own q) low e) ((λ z. let y = at (Own q) e in cc, tt), agrees_still shape w a notes p g)
+    go (Hand q) e = rw (flag_told shape w s (Hand q) low e) ((λ z. let y = at (Hand q) e in cc, tt), agrees_still shape w a notes p g)
+    go (Listed q) e = rw (flag_told shape w s (Listed q) low e) ((λ z. let y = at (Listed q) e in cc, tt), agrees_still shape w a notes p g)
+
+pub step_store_key : (shape : Dimensions) (w : World) (a : Incarnations) (notes : ℕ → Notes) (p s key : ℕ) → Agrees shape w a notes → Accepts shape (w.know p) (StoreKey s key) → StepAgrees shape w a notes p (StoreKey s key)
+step_store_key shape w a notes p s key g ok =
+    let x = hand_facts a p s (w.know p).epoch ((w.know p).own s) (g.owns p s) ok.owned in
+    let c = last_in a s in
+    let b = becomes shape a p (Keyed c key) in
+    let v = after shape w p (StoreKey s key) in
+    let own = with_key ((w.know p).own s) key in
+    let i = g.image in (
+      (x.state, tt),
+      agrees_next shape w v a notes (put notes p (notes p)) p (Keyed c key) g x.state
+          (fits_kept a b refl refl refl refl g.fits)
+          (record {
+            epoch = i.epoch;
+            head = λ k. i.head k ∙ sym (to_next_same a b refl refl 0 (a.first k));
+            link = λ k. i.link k ∙ sym (link_kept a b refl refl (a.last k) (λ d _. (refl, refl, refl)));
+            birth = λ k. i.birth k ∙ sym (birth_kept a b (a.last k) (λ d _. refl));
+            key = at_put (λ k y. y ≡ key_shown b (a.last k)) w.key s key (rw x.last (sym (put_here a.key c key))) (λ k ne. i.key k ∙ sym (key_kept a b (a.last k) (λ d e. put_other a.key c key d (lasts_differ g.sound.slots k s c d ne x.last e))));
+            value = λ k. i.value k ∙ sym (value_kept a b (a.last k) (λ d _. refl));
+            stamp = i.stamp;
+            place = i.place;
+          })
+          (knows_own b w.know notes p s own (knows_on g.sound (grows shape (opening_keys shape) a p (Keyed c key) g.sound x.state) w.know notes g.knows))
+          (owns_changed a b w.know p s (with_own (w.know p) s own) refl (λ k ne. put_other (w.know p).own s own k ne)
+          (hand_not_of p (a.place s) x.place)
+          (hand_not_of p (a.place s) x.place)
+          (λ k ne. record { place = refl; last = refl; stamp = refl; untouched = λ d e. let nd = lasts_differ g.sound.slots k s c d ne x.last e in record { state = refl; birth = refl; key = put_other a.key c key d nd; is_keyed = put_other a.is_keyed c true d nd; value = refl; is_valued = refl; link = refl; is_aimed = refl } })
+          (rw (put_here (w.know p).own s own, x.holding_is) (x.place, record { node = c; last_is = x.last; state = x.state; born = x.born; birth_is = x.birth_is; keyed = (put_here a.is_keyed c true, put_here a.key c key); valued = x.valued; aimed = x.aimed }, x.stamp_is))
+          g.owns)
+          g.calls g.births,
+    )
+
+pub step_store_value : (shape : Dimensions) (w : World) (a : Incarnations) (notes : ℕ → Notes) (p s value : ℕ) → Agrees shape w a notes → Accepts shape (w.know p) (StoreValue s value) → StepAgrees shape w a notes p (StoreValue s value)
+step_store_value shape w a notes p s value g ok =
+    let x = hand_facts a p s (w.know p).epoch ((w.know p).own s) (g.owns p s) ok.owned in
+    let c = last_in a s in
+    let b = becomes shape a p (Valued c value) in
+    let v = after shape w p (StoreValue s value) in
+    let own = with_value ((w.know p).own s) value in
+    let i = g.image in (
+      ((x.state, ok.in_shape.1), tt),
+      agrees_next shape w v a notes (put notes p (notes p)) p (Valued c value) g (x.state, ok.in_shape.1)
+          (fits_kept a b refl refl refl refl g.fits)
+          (record {
+            epoch = i.epoch;
+            head = λ k. i.head k ∙ sym (to_next_same a b refl refl 0 (a.first k));
+            link = λ k. i.link k ∙ sym (link_kept a b refl refl (a.last k) (λ d _. (refl, refl, refl)));
+            birth = λ k. i.birth k ∙ sym (birth_kept a b (a.last k) (λ d _. refl));
+            key = λ k. i.key k ∙ sym (key_kept a b (a.last k) (λ d _. refl));
+            value = at_put (λ k y. y ≡ value_shown b (a.last k)) w.value s value (rw x.last (sym (put_here a.value c value))) (λ k ne. i.value k ∙ sym (value_kept a b (a.last k) (λ d e. put_other a.value c value d (lasts_differ g.sound.slots k s c d ne x.last e))));
+            stamp = i.stamp;
+            place = i.place;
+          })
+          (knows_own b w.know notes p s own (knows_on g.sound (grows shape (opening_keys shape) a p (Valued c value) g.sound (x.state, ok.in_shape.1)) w.know notes g.knows))
+          (owns_changed a b w.know p s (with_own (w.know p) s own) refl (λ k ne. put_other (w.know p).own s own k ne)
+          (hand_not_of p (a.place s) x.place)
+          (hand_not_of p (a.place s) x.place)
+          (λ k ne. record { place = refl; last = refl; stamp = refl; untouched = λ d e. let nd = lasts_differ g.sound.slots k s c d ne x.last e in record { state = refl; birth = refl; key = refl; is_keyed = refl; value = put_other a.value c value d nd; is_valued = put_other a.is_valued c true d nd; link = refl; is_aimed = refl } })
+          (rw (put_here (w.know p).own s own, x.holding_is) (x.place, record { node = c; last_is = x.last; state = x.state; born = x.born; birth_is = x.birth_is; keyed = x.keyed; valued = (put_here a.is_valued c true, put_here a.value c value); aimed = x.aimed }, x.stamp_is))
+          g.owns)
+          g.calls g.births,
+    )
+
+-- the link that a pass stores has room in a word
+aimed_fits : {shape : Dimensions} {a : Incarnations} → Fits shape a → (know : Know) (notes : Notes) (next : Option ℕ) (birth : ℕ) → IsNoted a know notes → birth ≤ know.epoch → IsNextIn shape next → IsLink (link_to next birth (unwrap_or (birth_of know.checked next) 0))
+aimed_fits f know notes None birth k le h = record { slot = tt; version = let u = f.epoch in let v = f.is_shape.last_epoch in let w = k.epoch in omega arith }
+aimed_fits {shape} {a} f know notes (Some s) birth k le h = record {
+  slot = let v = f.is_shape.slots in omega arith;
+  version = let u = f.epoch in let v = f.is_shape.last_epoch in let w = k.epoch in let x = birth_low a know.epoch notes.checked know.checked s k.checked_reads k.checked in omega arith;
+}
+
+pub step_store_link : (shape : Dimensions) (w : World) (a : Incarnations) (notes : ℕ → Notes) (p s : ℕ) (next : Option ℕ) → Agrees shape w a notes → Accepts shape (w.know p) (StoreLink s next) → StepAgrees shape w a notes p (StoreLink s next)
+step_store_link shape w a notes p s next g ok =
+    let x = hand_facts a p s (w.know p).epoch ((w.know p).own s) (g.owns p s) ok.owned in
+    let c = last_in a s in
+    let link = link_written (w.know p) (StoreLink s next) in
+    let b = becomes shape a p (Aims c link) in
+    let v = after shape w p (StoreLink s next) in
+    let own = with_link ((w.know p).own s) link in
+    let i = g.image in
+    let birth : birth_in_hand ((w.know p).own s) ≡ a.birth c = ap birth_in_hand x.holding_is ∙ sym x.birth_is in
+    let al : Allowed shape (opening_keys shape) a p (Aims c link) = (x.state, refl, (let z = birth in omega arith)) in (
+      (al, tt),
+      agrees_next shape w v a notes (put notes p (notes p)) p (Aims c link) g al
+          (record {
+            is_shape = g.fits.is_shape;
+            epoch = g.fits.epoch;
+            slot = g.fits.slot;
+            link = at_put (λ d y. IsLink y) a.link c link (aimed_fits g.fits (w.know p) (notes p) next (birth_in_hand ((w.know p).own s)) (g.knows p) (let z = birth in let y = x.born in omega arith) ok.in_shape.1) (λ d ne. g.fits.link d);
+          })
+          (record {
+            epoch = i.epoch;
+            head = λ k. i.head k ∙ sym (to_next_same a b refl refl 0 (a.first k));
+            link = at_put (λ k y. y ≡ link_shown b (a.last k)) w.link s link (rw (x.last, x.state) (sym (put_here a.link c link))) (λ k ne. i.link k ∙ sym (link_kept a b refl refl (a.last k) (λ d e. (refl, put_other a.link c link d (lasts_differ g.sound.slots k s c d ne x.last e), refl))));
+            birth = λ k. i.birth k ∙ sym (birth_kept a b (a.last k) (λ d _. refl));
+            key = λ k. i.key k ∙ sym (key_kept a b (a.last k) (λ d _. refl));
+            value = λ k. i.value k ∙ sym (value_kept a b (a.last k) (λ d _. refl));
+            stamp = i.stamp;
+            place = i.place;
+          })
+          (knows_own b w.know notes p s own (knows_on g.sound (grows shape (opening_keys shape) a p (Aims c link) g.sound al) w.know notes g.knows))
+          (owns_changed a b w.know p s (with_own (w.know p) s own) refl (λ k ne. put_other (w.know p).own s own k ne)
+          (hand_not_of p (a.place s) x.place)
+          (hand_not_of p (a.place s) x.place)
+          (λ k ne. record { place = refl; last = refl; stamp = refl; untouched = λ d e. let nd = lasts_differ g.sound.slots k s c d ne x.last e in record { state = refl; birth = refl; key = refl; is_keyed = refl; value = refl; is_valued = refl; link = put_other a.link c link d nd; is_aimed = put_other a.is_aimed c true d nd } })
+          (rw (put_here (w.know p).own s own) (rw (ap (λ h. with_link h link) x.holding_is) (x.place, record { node = c; last_is = x.last; state = x.state; born = x.born; birth_is = x.birth_is; keyed = x.keyed; valued = x.valued; aimed = (put_here a.is_aimed c true, put_here a.link c link) }, x.stamp_is)))
+          g.owns)
+          g.calls g.births,
+    )

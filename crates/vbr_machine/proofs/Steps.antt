@@ -1,0 +1,209 @@
+-- What it is that a step keeps the agreement, and the agreement at opening.
+use Rattle.std.proofs.Common.{◌≡◌, ◌≢◌, ℕ, ◌-◌, ◌^◌, ◌<◌, ◌≤◌, min, Bool, true, false, Option, Some, None, refl, arith, sym, ap, ◌∙◌, inl, inr}
+use Rattle.std.specs.Prelude.{◌⊎◌, if◌then◌else◌}
+use Rattle.std.proofs.lemmas.List.{get_or_past}
+use Rattle.std.proofs.lemmas.Bool.{cases_eq, cond-true, cond-false}
+use Rattle.vbr_words.specs.Dimensions.{Dimensions, IsShape}
+use Rattle.vbr_machine.specs.Put.{put}
+use Rattle.vbr_machine.specs.Opened.{opening_keys, key_count, has_opening_key, key_number, value_number, opening_birth, first_key, key_behind, link_to_key, link_at_opening}
+use Rattle.vbr_machine.specs.Machine.{World, opening, after}
+use Rattle.vbr_machine.specs.Incarnations.{Incarnations, opening_last, at_opening, last_in}
+use Rattle.vbr_machine.specs.Incarnations as state
+use Rattle.vbr_machine.specs.Images.{birth_shown, key_shown, value_shown, link_to_next, link_in_state, link_shown, IsImage}
+use Rattle.vbr_machine.specs.Chronicles.{Happening, IsLawful, Allowed, becomes, incarnations_from}
+use Rattle.vbr_machine.specs.Notes.{Notes, no_notes, notes_with}
+use Rattle.vbr_machine.specs.Accounts.{happens}
+use Rattle.vbr_words.specs.Buckets.{bucket_of}
+use Rattle.vbr_machine.specs.Acceptance.{IsInHand, IsUnlinked, IsReread}
+use Rattle.vbr_machine.specs.Agreement.{IsNotOf, IsStored, OwnFits, AllKnowRight, Owns, Fits, Agrees}
+use Rattle.vbr_machine.specs.declared.event.Step.{Step}
+use Rattle.vbr_machine.specs.declared.knowledge.Unpublished.{Unpublished}
+use Rattle.vbr_machine.specs.declared.knowledge.Holding.{Holding}
+use Rattle.vbr_machine.specs.declared.knowledge.Holding.TheVariants.{Free, Unlinked, InHand}
+use Rattle.vbr_machine.specs.declared.knowledge.SlotPlace.{SlotPlace}
+use Rattle.vbr_machine.specs.declared.knowledge.SlotPlace.TheVariants.{Shared, Own, Hand, Listed}
+use Rattle.vbr_machine.proofs.Puts.{put_here, put_other}
+use Rattle.vbr_machine.proofs.OpeningKeys.{opens_with_one_or_none}
+use Rattle.vbr_machine.proofs.SoundAfter.{state_at_first, sound_at_first, sound_kept}
+use Rattle.vbr_machine.proofs.ToldCalls.{tells_at_first, tells_kept}
+use Rattle.vbr_machine.proofs.Noted.{knows_same}
+
+-- what an accepted step adds to the chronicle is lawful, and the world, the incarnations and the notes agree after it
+abbrev pub StepAgrees : Dimensions → World → Incarnations → (ℕ → Notes) → ℕ → Step → Type 0
+StepAgrees shape w a notes p step =
+    IsLawful shape (opening_keys shape) a (happens shape w a p step)
+    × Agrees shape (after shape w p step) (incarnations_from shape a (happens shape w a p step))
+    (put notes p (notes_with shape w (incarnations_from shape a (happens shape w a p step)) p step (notes p)))
+
+-- the link of a key at opening
+link_at_first : (shape : Dimensions) (holder_birth : ℕ) (number : Option ℕ) → link_to_key shape holder_birth number ≡ link_to_next (at_opening shape) holder_birth number
+link_at_first shape holder_birth None = refl
+link_at_first shape holder_birth (Some number) = refl
+
+link_shown_at_first : (shape : Dimensions) (s : ℕ) → link_at_opening shape s ≡ link_shown (at_opening shape) (opening_last shape s)
+link_shown_at_first shape s = go (opens_with_one_or_none shape s)
+  where
+    go : ((s < key_count shape) × (has_opening_key shape s ≡ true)) ⊎ ((key_count shape ≤ s) × (has_opening_key shape s ≡ false)) → link_at_opening shape s ≡ link_shown (at_opening shape) (opening_last shape s)
+    go (inl low) =
+        cond-true (has_opening_key shape s) _ _ low.1
+        ∙ link_at_first shape (opening_birth shape s) (key_behind shape s)
+        ∙ sym (ap (link_in_state (at_opening shape) s) (state_at_first shape s low.0))
+        ∙ sym (ap (link_shown (at_opening shape)) (cond-true (has_opening_key shape s) (Some s) None low.1))
+    go (inr high) = cond-false (has_opening_key shape s) _ _ high.1 ∙ sym (ap (link_shown (at_opening shape)) (cond-false (has_opening_key shape s) (Some s) None high.1))
+
+birth_shown_at_first : (shape : Dimensions) (s : ℕ) → opening_birth shape s ≡ birth_shown (at_opening shape) (opening_last shape s)
+birth_shown_at_first shape s = go (opens_with_one_or_none shape s)
+  where
+    go : ((s < key_count shape) × (has_opening_key shape s ≡ true)) ⊎ ((key_count shape ≤ s) × (has_opening_key shape s ≡ false)) → opening_birth shape s ≡ birth_shown (at_opening shape) (opening_last shape s)
+    go (inl low) = sym (ap (birth_shown (at_opening shape)) (cond-true (has_opening_key shape s) (Some s) None low.1))
+    go (inr high) = cond-false (has_opening_key shape s) 1 0 high.1 ∙ sym (ap (birth_shown (at_opening shape)) (cond-false (has_opening_key shape s) (Some s) None high.1))
+
+key_shown_at_first : (shape : Dimensions) (s : ℕ) → key_number shape s ≡ key_shown (at_opening shape) (opening_last shape s)
+key_shown_at_first shape s = go (opens_with_one_or_none shape s)
+  where
+    go : ((s < key_count shape) × (has_opening_key shape s ≡ true)) ⊎ ((key_count shape ≤ s) × (has_opening_key shape s ≡ false)) → key_number shape s ≡ key_shown (at_opening shape) (opening_last shape s)
+    go (inl low) = sym (ap (key_shown (at_opening shape)) (cond-true (has_opening_key shape s) (Some s) None low.1))
+    go (inr high) = get_or_past shape.keys s 0 high.0 ∙ sym (ap (key_shown (at_opening shape)) (cond-false (has_opening_key shape s) (Some s) None high.1))
+
+value_shown_at_first : (shape : Dimensions) (s : ℕ) → value_number shape s ≡ value_shown (at_opening shape) (opening_last shape s)
+value_shown_at_first shape s = go (opens_with_one_or_none shape s)
+  where
+    go : ((s < key_count shape) × (has_opening_key shape s ≡ true)) ⊎ ((key_count shape ≤ s) × (has_opening_key shape s ≡ false)) → value_number shape s ≡ value_shown (at_opening shape) (opening_last shape s)
+    go (inl low) = sym (ap (value_shown (at_opening shape)) (cond-true (has_opening_key shape s) (Some s) None low.1))
+    go (inr high) = cond-false (has_opening_key shape s) _ 0 high.1 ∙ sym (ap (value_shown (at_opening shape)) (cond-false (has_opening_key shape s) (Some s) None high.1))
+
+-- the words at opening are the image of the incarnations then
+image_at_first : (shape : Dimensions) → IsImage (opening shape) (at_opening shape)
+image_at_first shape = record {
+  epoch = refl;
+  head = λ b. link_at_first shape 0 (first_key shape b);
+  link = link_shown_at_first shape;
+  birth = birth_shown_at_first shape;
+  key = key_shown_at_first shape;
+  value = value_shown_at_first shape;
+  stamp = λ s. refl;
+  place = λ s. refl;
+}
+
+-- no pass owns a slot
+no_owner_at_first : (b : Bool) (bucket pass : ℕ) → IsNotOf pass (if b then Listed bucket else Shared)
+no_owner_at_first true bucket pass = tt
+no_owner_at_first false bucket pass = tt
+
+pub agrees_at_first : (shape : Dimensions) → IsShape shape → Agrees shape (opening shape) (at_opening shape) (λ p. no_notes)
+agrees_at_first shape is = record {
+  sound = sound_at_first shape is.ascending;
+  tells = tells_at_first shape is.ascending;
+  fits = record { is_shape = is; epoch = let u = is.some_epoch in omega arith; slot = λ c low. let few = is.few in omega (arith, few); link = λ c. record { slot = tt; version = omega arith } };
+  image = image_at_first shape;
+  knows = λ p. record { epoch = omega arith; checked_reads = refl; pending_reads = refl; checked_shown = tt; pending_shown = tt; checked = tt; pending = λ e. tt };
+  owns = λ p s. no_owner_at_first (has_opening_key shape s) (bucket_of shape (key_number shape s)) p;
+  calls = refl;
+  births = let few = is.few in let slots = is.slots in omega (arith, few, slots);
+}
+
+-- after one allowed event
+pub agrees_next : (shape : Dimensions) (w v : World) (a : Incarnations) (notes new : ℕ → Notes) (p : ℕ) (what : Happening) → Agrees shape w a notes → Allowed shape (opening_keys shape) a p what →
+    Fits shape (becomes shape a p what) → IsImage v (becomes shape a p what) → AllKnowRight (becomes shape a p what) v.know new → Owns (becomes shape a p what) v.know → v.calls ≡ (becomes shape a p what).calls → v.births ≡ min (becomes shape a p what).count (2 ^ 64 - 1) → Agrees shape v (becomes shape a p what) new
+agrees_next shape w v a notes new p what g al f i k o c n = record {
+  sound = sound_kept shape (opening_keys shape) a p what g.sound al;
+  tells = tells_kept shape a p what g.sound g.tells al;
+  fits = f;
+  image = i;
+  knows = k;
+  owns = o;
+  calls = c;
+  births = n;
+}
+
+-- where nothing happened
+pub agrees_still : (shape : Dimensions) (w : World) (a : Incarnations) (notes : ℕ → Notes) (p : ℕ) → Agrees shape w a notes → Agrees shape w a (put notes p (notes p))
+agrees_still shape w a notes p g = record {
+  sound = g.sound;
+  tells = g.tells;
+  fits = g.fits;
+  image = g.image;
+  knows = knows_same a w.know notes p g.knows;
+  owns = g.owns;
+  calls = g.calls;
+  births = g.births;
+}
+
+-- ---- puts
+
+-- functions that are the same everywhere are so once a value is put
+pub puts_same : {A : Type 0} (f g : ℕ → A) (i : ℕ) (x : A) → ((j : ℕ) → f j ≡ g j) → (j : ℕ) → put f i x j ≡ put g i x j
+puts_same {A} f g i x same j = go (cases_eq j i)
+  where
+    go : (j ≡ i) ⊎ (j ≢ i) → put f i x j ≡ put g i x j
+    go (inl e) = rw (e, put_here f i x, put_here g i x) refl
+    go (inr ne) = rw (put_other f i x j ne, put_other g i x j ne) (same j)
+
+-- what holds of the value that was put, and of the others
+pub at_put : {A : Type 0} (P : ℕ → A → Type 0) (f : ℕ → A) (i : ℕ) (x : A) → P i x → ((j : ℕ) → j ≢ i → P j (f j)) → (j : ℕ) → P j (put f i x j)
+at_put {A} P f i x here there j = go (cases_eq j i)
+  where
+    go : (j ≡ i) ⊎ (j ≢ i) → P j (put f i x j)
+    go (inl e) = rw (e, put_here f i x) here
+    go (inr ne) = rw (put_other f i x j ne) (there j ne)
+
+-- ---- what a pass owns
+
+-- a slot in hand of the pass
+pub record HandFacts (a : Incarnations) (p s epoch : ℕ) (holding : Option Holding) : Type 0 where
+  pub last : a.last s ≡ Some (last_in a s)
+  pub state : a.state (last_in a s) ≡ state.InHand p
+  pub place : a.place s ≡ Hand p
+  pub known : Unpublished
+  pub holding_is : holding ≡ Some (InHand known)
+  pub stamp_is : a.stamp s ≡ known.stamp
+  pub born : a.birth (last_in a s) ≤ epoch
+  pub birth_is : a.birth (last_in a s) ≡ known.birth
+  pub keyed : IsStored (a.is_keyed (last_in a s)) (a.key (last_in a s)) known.key
+  pub valued : IsStored (a.is_valued (last_in a s)) (a.value (last_in a s)) known.value
+  pub aimed : IsStored (a.is_aimed (last_in a s)) (a.link (last_in a s)) known.link
+
+pub hand_facts : (a : Incarnations) (p s epoch : ℕ) (holding : Option Holding) → OwnFits a p epoch holding (a.place s) (a.last s) (a.stamp s) → IsInHand holding → HandFacts a p s epoch holding
+hand_facts a p s epoch None h o = absurd o
+hand_facts a p s epoch (Some (Free known)) h o = absurd o
+hand_facts a p s epoch (Some (Unlinked seen)) h o = absurd o
+hand_facts a p s epoch (Some (InHand known)) h o =
+    let x = h.1 in
+    let l : last_in a s ≡ x.node = rw x.last_is refl in
+    record {
+      last = x.last_is ∙ ap Some (sym l);
+      state = ap a.state l ∙ x.state;
+      place = h.0;
+      known = known;
+      holding_is = refl;
+      stamp_is = h.2;
+      born = rw l x.born;
+      birth_is = ap a.birth l ∙ x.birth_is;
+      keyed = rw l x.keyed;
+      valued = rw l x.valued;
+      aimed = rw l x.aimed;
+    }
+
+-- a slot that the pass unlinked
+pub record UnlinkedFacts (a : Incarnations) (p s epoch : ℕ) (holding : Option Holding) : Type 0 where
+  pub last : a.last s ≡ Some (last_in a s)
+  pub at : ℕ
+  pub state : a.state (last_in a s) ≡ state.Unlinked p at
+  pub place : a.place s ≡ Own p
+  pub seen : IsReread holding → at ≤ epoch
+
+pub unlinked_facts : (a : Incarnations) (p s epoch : ℕ) (holding : Option Holding) → OwnFits a p epoch holding (a.place s) (a.last s) (a.stamp s) → IsUnlinked holding → UnlinkedFacts a p s epoch holding
+unlinked_facts a p s epoch None h o = absurd o
+unlinked_facts a p s epoch (Some (Free known)) h o = absurd o
+unlinked_facts a p s epoch (Some (InHand known)) h o = absurd o
+unlinked_facts a p s epoch (Some (Unlinked reread)) h o =
+    let x = h.1 in
+    let l : last_in a s ≡ x.node = rw x.last_is refl in
+    record { last = x.last_is ∙ ap Some (sym l); at = x.at; state = ap a.state l ∙ x.state; place = h.0; seen = λ t. x.seen (grind arith) }
+
+-- a slot that is a pass's own or in its hand is no other's
+pub own_not_of : (p : ℕ) (place : SlotPlace) → place ≡ Own p → (q : ℕ) → q ≢ p → IsNotOf q place
+own_not_of p place e q ne = rw e (λ z. ne (sym z))
+
+pub hand_not_of : (p : ℕ) (place : SlotPlace) → place ≡ Hand p → (q : ℕ) → q ≢ p → IsNotOf q place
+hand_not_of p place e q ne = rw e (λ z. ne (sym z))

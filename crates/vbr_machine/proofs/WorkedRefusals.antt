@@ -1,0 +1,55 @@
+-- Each refusal of the core, computed once, on a shape of one slot, one bucket and one epoch, with one pass.
+use Rattle.std.proofs.Common.{◌≡◌, [], ◌∷◌, take, refl, rules, tests, false}
+use Rattle.vbr_words.specs.Dimensions.{Dimensions}
+use Rattle.vbr_words.specs.Flags.{has_flag, first_bits, flag_word}
+use Rattle.vbr_words.specs.Words.{word_of, link_of}
+use Rattle.vbr_words.specs.Buckets.{bucket_of}
+use Rattle.vbr_machine.specs.Machine.{opening}
+use Rattle.vbr_machine.specs.Runs.{IsRun, Refuses, world_after}
+use Rattle.vbr_machine.specs.declared.event.Step.TheVariants.{ReadEpoch, Advance, TakeFlag, StoreBirth, StoreKey, LoadKey}
+use Rattle.vbr_machine.specs.declared.event.Effect.TheVariants.{Won, Lost}
+use Rattle.vbr_machine.specs.declared.event.CoreRefusal.TheVariants.{NoSuchPass, NotOwned, NotHeld, OutOfRange, EpochLast}
+use Rattle.vbr_machine.proofs.WorkedLists.{by, shape_of_three, reborn_slot, effects_from}
+
+abbrev one_of_each : Dimensions
+one_of_each = record { slots = 1; buckets = 1; spread = false; last_epoch = 1; values = false; keys = []; payloads = [] }
+
+pub no_such_pass : Refuses one_of_each 1 (opening one_of_each) (by 1 ReadEpoch) NoSuchPass
+unfolding bucket_of link_of word_of has_flag first_bits flag_word
+no_such_pass = search (rules, tests)
+
+pub key_of_a_slot_not_owned : Refuses one_of_each 1 (opening one_of_each) (by 0 (StoreKey 0 5)) NotOwned
+unfolding bucket_of link_of word_of has_flag first_bits flag_word
+key_of_a_slot_not_owned = search (rules, tests)
+
+pub key_of_a_slot_not_held : Refuses one_of_each 1 (opening one_of_each) (by 0 (LoadKey 0)) NotHeld
+unfolding bucket_of link_of word_of has_flag first_bits flag_word
+key_of_a_slot_not_held = search (rules, tests)
+
+pub slot_outside : Refuses one_of_each 1 (opening one_of_each) (by 0 (TakeFlag 1)) OutOfRange
+unfolding bucket_of link_of word_of has_flag first_bits flag_word
+slot_outside = search (rules, tests)
+
+pub epoch_zero : Refuses one_of_each 1 (opening one_of_each) (by 0 (Advance 0)) OutOfRange
+unfolding bucket_of link_of word_of has_flag first_bits flag_word
+epoch_zero = search (rules, tests)
+
+pub last_epoch : Refuses one_of_each 1 (opening one_of_each) (by 0 (Advance 1)) EpochLast
+unfolding bucket_of link_of word_of has_flag first_bits flag_word
+last_epoch = search (rules, tests)
+
+pub birth_above_the_epoch : Refuses one_of_each 1 (world_after one_of_each (by 0 (TakeFlag 0) ∷ [])) (by 0 (StoreBirth 0 2)) OutOfRange
+unfolding bucket_of link_of word_of has_flag first_bits flag_word
+birth_above_the_epoch = search (rules, tests)
+
+pub birth_at_the_stamp : Refuses shape_of_three 2 (world_after shape_of_three (take 32 reborn_slot)) (by 0 (StoreBirth 1 1)) OutOfRange
+unfolding bucket_of link_of word_of has_flag first_bits flag_word
+birth_at_the_stamp = search (rules, tests)
+
+pub flag_taken_twice : IsRun one_of_each 1 (by 0 (TakeFlag 0) ∷ by 0 (TakeFlag 0) ∷ [])
+unfolding bucket_of link_of word_of has_flag first_bits flag_word
+flag_taken_twice = search (rules, tests)
+
+pub flag_taken_twice_effects : effects_from one_of_each (opening one_of_each) (by 0 (TakeFlag 0) ∷ by 0 (TakeFlag 0) ∷ []) ≡ Won ∷ Lost 0 ∷ []
+unfolding bucket_of link_of word_of has_flag first_bits flag_word
+flag_taken_twice_effects = refl

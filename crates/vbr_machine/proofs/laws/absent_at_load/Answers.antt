@@ -1,0 +1,5 @@
+use Rattle.vbr_machine.proofs.RunForms.{absent_at_load}
+use Rattle.vbr_machine.proofs.laws.absent_at_load.Goals as goal
+
+pub returns : goal.returns
+returns c = λ shape passes moment run pass at link key is ok was. absent_at_load shape passes moment run is ok pass at link was key

@@ -1,0 +1,5 @@
+use Rattle.vbr_machine.proofs.RunForms.{confirmed_present, confirmed_absent}
+use Rattle.vbr_machine.proofs.laws.confirmed_at_load.Goals as goal
+
+pub returns : goal.returns
+returns c = λ shape passes run pass op s key at expected is ok. ((λ accepts q k. confirmed_present shape passes run is ok pass op s expected key accepts q k), (λ accepts q. confirmed_absent shape passes run is ok pass op key at expected accepts q))

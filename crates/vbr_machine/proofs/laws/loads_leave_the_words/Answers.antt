@@ -1,0 +1,5 @@
+use Rattle.vbr_machine.proofs.LoadsLeave.{loads_leave}
+use Rattle.vbr_machine.proofs.laws.loads_leave_the_words.Goals as goal
+
+pub returns : goal.returns
+returns c = λ shape w pass step place load. loads_leave shape w pass step load place

@@ -1,0 +1,5 @@
+use Rattle.vbr_machine.proofs.UnlinkedInTurn.{in_turn_before}
+use Rattle.vbr_machine.proofs.laws.one_unstamped_at_a_time.Goals as goal
+
+pub returns : goal.returns
+returns c = λ shape moment run pass. in_turn_before shape pass moment run

@@ -1,0 +1,5 @@
+use Rattle.vbr_machine.proofs.RunMoments.{pair_on}
+use Rattle.vbr_machine.proofs.laws.same_link_same_pair_in_runs.Goals as goal
+
+pub returns : goal.returns
+returns c = pair_on

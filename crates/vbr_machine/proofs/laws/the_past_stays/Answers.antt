@@ -1,0 +1,5 @@
+use Rattle.vbr_machine.proofs.Growth.{grows_after}
+use Rattle.vbr_machine.proofs.laws.the_past_stays.Goals as goal
+
+pub returns : goal.returns
+returns c = grows_after

@@ -1,0 +1,5 @@
+use Rattle.vbr_machine.proofs.RunMoments.{holds_last}
+use Rattle.vbr_machine.proofs.laws.unmoved_is_last_in_runs.Goals as goal
+
+pub returns : goal.returns
+returns c = holds_last

@@ -1,0 +1,214 @@
+-- The events of a chronicle: where each is allowed, and what it makes.
+use Rattle.std.specs.Prelude.{◌≡◌, ◌≢◌, ℕ, ◌+◌, ◌<◌, ◌≤◌, Bool, true, false, List, [], ◌∷◌, ◌++◌, Option, Some, None, ◌==◌, filter}
+use Rattle.vbr_words.specs.Dimensions.{Dimensions}
+use Rattle.vbr_words.specs.declared.link.Link.{Link}
+use Rattle.vbr_machine.specs.Put.{put}
+use Rattle.vbr_machine.specs.Keys.{Keys}
+use Rattle.vbr_words.specs.Buckets.{bucket_of}
+use Rattle.vbr_machine.specs.Opened.{opening_payloads}
+use Rattle.vbr_machine.specs.History.{reply_of, set_after, values_after, GivesValue}
+use Rattle.vbr_machine.specs.Incarnations.{State, InHand, GivenUp, Linked, Marked, Unlinked, Stamped, Incarnations, payload_of}
+use Rattle.vbr_machine.specs.Images.{link_to_next, key_shown, value_shown, link_shown}
+use Rattle.vbr_machine.specs.declared.history.Call.{Call}
+use Rattle.vbr_machine.specs.declared.history.Op.{Op}
+use Rattle.vbr_machine.specs.declared.history.Op.TheVariants.{Insert, Remove, Has, Get}
+use Rattle.vbr_machine.specs.declared.knowledge.SlotPlace.{SlotPlace}
+use Rattle.vbr_machine.specs.declared.knowledge.SlotPlace.TheVariants.{Shared, Own, Hand, Listed}
+
+-- what stands before a node in a list: the head of a bucket, or an incarnation
+pub data Before : Type 0 where
+  AtHead : (bucket : ℕ) → Before
+  AtNode : (node : ℕ) → Before
+
+-- what happens: the epoch advances; a pass gains, probes or raises a slot; an incarnation is given up, born, keyed, valued, aimed, linked, marked, unlinked or stamped; a call that changes nothing is answered
+pub data Happening : Type 0 where
+  Advances : Happening
+  Gains : (slot : ℕ) → Happening
+  Probes : (slot : ℕ) → Happening
+  Raises : (slot : ℕ) → Happening
+  GivesUp : (node : ℕ) → Happening
+  Bears : (slot : ℕ) → (birth : ℕ) → Happening
+  Keyed : (node : ℕ) → (key : ℕ) → Happening
+  Valued : (node : ℕ) → (value : ℕ) → Happening
+  Aims : (node : ℕ) → (link : Link) → Happening
+  Inserts : (node : ℕ) → (behind : Before) → Happening
+  Removes : (node : ℕ) → Happening
+  Unlinks : (node : ℕ) → (behind : Before) → Happening
+  Stamps : (node : ℕ) → (stamp : ℕ) → Happening
+  Answers : (call : Call) → Happening
+
+-- an event of a chronicle: what happens, and by which pass
+pub record Entry : Type 0 where
+  pub pass : ℕ
+  pub what : Happening
+
+-- ---- where an event is allowed
+
+-- stamped
+abbrev pub IsStamped : State → Type 0
+IsStamped (Stamped at stamp) = Unit {0}
+IsStamped _ = ⊥
+
+-- nothing was born in the slot yet, or its last incarnation is stamped
+abbrev pub IsRetired : Incarnations → Option ℕ → Type 0
+IsRetired a None = Unit {0}
+IsRetired a (Some c) = IsStamped (a.state c)
+
+-- the last incarnation of the slot was given up
+abbrev pub IsGivenUp : Incarnations → Option ℕ → Type 0
+IsGivenUp a None = ⊥
+IsGivenUp a (Some c) = a.state c ≡ GivenUp
+
+-- a slot at this place may be born in: it is the pass's own and retired, or in its hand and just given up
+abbrev pub MayBeBornIn : Incarnations → ℕ → ℕ → SlotPlace → Type 0
+MayBeBornIn a pass s (Own p) = (p ≡ pass) × IsRetired a (a.last s)
+MayBeBornIn a pass s (Hand p) = (p ≡ pass) × IsGivenUp a (a.last s)
+MayBeBornIn a pass s _ = ⊥
+
+-- the successor of what stands before
+abbrev pub next_of : Incarnations → Before → Option ℕ
+next_of a (AtHead b) = a.first b
+next_of a (AtNode c) = a.next c
+
+-- what stands before is a head, or linked
+abbrev pub IsOpen : Incarnations → Before → Type 0
+IsOpen a (AtHead b) = Unit {0}
+IsOpen a (AtNode c) = a.state c ≡ Linked
+
+-- a key belongs behind what stands before: in the same bucket, and above its key
+abbrev pub BelongsBehind : Dimensions → Incarnations → Before → ℕ → Type 0
+BelongsBehind shape a (AtHead b) key = bucket_of shape key ≡ b
+BelongsBehind shape a (AtNode c) key = (bucket_of shape key ≡ bucket_of shape (a.key c)) × (a.key c < key)
+
+-- a key belongs before a successor, if there is one
+abbrev pub BelongsBefore : Incarnations → ℕ → Option ℕ → Type 0
+BelongsBefore a key None = Unit {0}
+BelongsBefore a key (Some c) = key < a.key c
+
+-- an incarnation may be linked behind what stands before
+pub record MayInsert (shape : Dimensions) (a : Incarnations) (pass node : ℕ) (behind : Before) : Type 0 where
+  pub in_hand : a.state node ≡ InHand pass
+  pub keyed : a.is_keyed node ≡ true
+  pub aimed : a.is_aimed node ≡ true
+  pub is_open : IsOpen a behind
+  pub link : a.link node ≡ link_to_next a (a.birth node) (next_of a behind)
+  pub above : BelongsBehind shape a behind (a.key node)
+  pub below : BelongsBefore a (a.key node) (next_of a behind)
+  pub valued : shape.values ≡ true → a.is_valued node ≡ true
+
+-- an incarnation that the pass unlinked may be stamped with an epoch since then
+abbrev pub MayStamp : State → ℕ → ℕ → ℕ → Type 0
+MayStamp (Unlinked by at) pass stamp epoch = (by ≡ pass) × (at ≤ stamp) × (stamp ≤ epoch)
+MayStamp _ pass stamp epoch = ⊥
+
+-- a call that changes nothing: a look-up, an insert answered no, or a remove answered no
+abbrev pub ChangesNothing : Op → Bool → Type 0
+ChangesNothing Has reply = Unit {0}
+ChangesNothing Get reply = Unit {0}
+ChangesNothing op reply = reply ≡ false
+
+-- an event is allowed after a chronicle that has made these incarnations; the set of keys is the one that the history opened with
+abbrev pub Allowed : Dimensions → Keys → Incarnations → ℕ → Happening → Type 0
+Allowed shape keys a pass Advances = a.epoch < shape.last_epoch
+Allowed shape keys a pass (Gains s) = a.place s ≡ Shared
+Allowed shape keys a pass (Probes s) = a.place s ≢ Shared
+Allowed shape keys a pass (Raises s) = (a.place s ≡ Own pass) × IsRetired a (a.last s)
+Allowed shape keys a pass (GivesUp c) = a.state c ≡ InHand pass
+Allowed shape keys a pass (Bears s birth) = MayBeBornIn a pass s (a.place s) × (a.stamp s < birth) × (birth ≤ a.epoch)
+Allowed shape keys a pass (Keyed c key) = a.state c ≡ InHand pass
+Allowed shape keys a pass (Valued c value) = (a.state c ≡ InHand pass) × (shape.values ≡ true)
+Allowed shape keys a pass (Aims c link) = (a.state c ≡ InHand pass) × (link.mark ≡ false) × (a.birth c ≤ link.version)
+Allowed shape keys a pass (Inserts c behind) = MayInsert shape a pass c behind
+Allowed shape keys a pass (Removes c) = a.state c ≡ Linked
+Allowed shape keys a pass (Unlinks c behind) = (a.state c ≡ Marked) × IsOpen a behind × (next_of a behind ≡ Some c)
+Allowed shape keys a pass (Stamps c stamp) = MayStamp (a.state c) pass stamp a.epoch
+Allowed shape keys a pass (Answers call) =
+    (call.who ≡ pass) × ChangesNothing call.op call.reply × (call.reply ≡ reply_of (set_after keys a.calls) call.op call.key)
+    × GivesValue (values_after (opening_payloads shape) a.calls) call.op call.key call.reply call.value
+
+-- ---- what an event makes
+
+-- the calls that an event makes
+abbrev pub calls_made : Dimensions → Incarnations → ℕ → Happening → List Call
+calls_made shape a pass (Inserts c behind) = record { who = pass; op = Insert; key = a.key c; reply = true; value = payload_of shape a c } ∷ []
+calls_made shape a pass (Removes c) = record { who = pass; op = Remove; key = a.key c; reply = true; value = payload_of shape a c } ∷ []
+calls_made shape a pass (Answers call) = call ∷ []
+calls_made shape a pass _ = []
+
+-- the first of each bucket once the successor of what stands before has changed
+abbrev pub first_with : (ℕ → Option ℕ) → Before → Option ℕ → ℕ → Option ℕ
+first_with first (AtHead b) next = put first b next
+first_with first (AtNode c) next = first
+
+-- the successors once that of what stands before has changed
+abbrev pub next_with : (ℕ → Option ℕ) → Before → Option ℕ → ℕ → Option ℕ
+next_with successors (AtHead b) next = successors
+next_with successors (AtNode c) next = put successors c next
+
+-- the epoch at which an incarnation was unlinked
+abbrev pub unlinked_at : State → ℕ
+unlinked_at (Unlinked pass at) = at
+unlinked_at (Stamped at stamp) = at
+unlinked_at _ = 0
+
+-- the incarnations once one more event has happened
+abbrev pub becomes : Dimensions → Incarnations → ℕ → Happening → Incarnations
+becomes shape a pass Advances = record a { epoch = a.epoch + 1 }
+becomes shape a pass (Gains s) = record a { place = put a.place s (Own pass) }
+becomes shape a pass (Probes s) = a
+becomes shape a pass (Raises s) = record a { place = put a.place s Shared }
+becomes shape a pass (GivesUp c) = record a { state = put a.state c GivenUp }
+becomes shape a pass (Bears s birth) =
+    record a {
+      count = a.count + 1;
+      slot = put a.slot a.count s;
+      birth = put a.birth a.count birth;
+      key = put a.key a.count (key_shown a (a.last s));
+      is_keyed = put a.is_keyed a.count false;
+      value = put a.value a.count (value_shown a (a.last s));
+      is_valued = put a.is_valued a.count false;
+      link = put a.link a.count (link_shown a (a.last s));
+      is_aimed = put a.is_aimed a.count false;
+      next = put a.next a.count None;
+      state = put a.state a.count (InHand pass);
+      last = put a.last s (Some a.count);
+      place = put a.place s (Hand pass);
+    }
+becomes shape a pass (Keyed c key) = record a { key = put a.key c key; is_keyed = put a.is_keyed c true }
+becomes shape a pass (Valued c value) = record a { value = put a.value c value; is_valued = put a.is_valued c true }
+becomes shape a pass (Aims c link) = record a { link = put a.link c link; is_aimed = put a.is_aimed c true }
+becomes shape a pass (Inserts c behind) =
+    record a {
+      first = first_with a.first behind (Some c);
+      next = next_with (put a.next c (next_of a behind)) behind (Some c);
+      state = put a.state c Linked;
+      place = put a.place (a.slot c) (Listed (bucket_of shape (a.key c)));
+      calls = a.calls ++ calls_made shape a pass (Inserts c behind);
+    }
+becomes shape a pass (Removes c) = record a { state = put a.state c Marked; calls = a.calls ++ calls_made shape a pass (Removes c) }
+becomes shape a pass (Unlinks c behind) =
+    record a {
+      first = first_with a.first behind (a.next c);
+      next = next_with a.next behind (a.next c);
+      state = put a.state c (Unlinked pass a.epoch);
+      place = put a.place (a.slot c) (Own pass);
+    }
+becomes shape a pass (Stamps c stamp) =
+    record a { state = put a.state c (Stamped (unlinked_at (a.state c)) stamp); stamp = put a.stamp (a.slot c) stamp }
+becomes shape a pass (Answers call) = record a { calls = a.calls ++ calls_made shape a pass (Answers call) }
+
+-- ---- chronicles
+
+-- the incarnations that a chronicle leads to
+abbrev pub incarnations_from : Dimensions → Incarnations → List Entry → Incarnations
+incarnations_from shape a [] = a
+incarnations_from shape a (entry ∷ entries) = incarnations_from shape (becomes shape a entry.pass entry.what) entries
+
+-- a chronicle is lawful where each event is allowed after those before it
+abbrev pub IsLawful : Dimensions → Keys → Incarnations → List Entry → Type 0
+IsLawful shape keys a [] = Unit {0}
+IsLawful shape keys a (entry ∷ entries) = Allowed shape keys a entry.pass entry.what × IsLawful shape keys (becomes shape a entry.pass entry.what) entries
+
+-- the events of one pass, in their order
+abbrev pub entries_by : ℕ → List Entry → List Entry
+entries_by pass entries = filter (λ entry. entry.pass == pass) entries

@@ -1,0 +1,85 @@
+-- The incarnations of the slots: what a chronicle has made so far.
+use Rattle.std.specs.Prelude.{ℕ, ◌≤◌, Bool, List, [], Option, Some, None, unwrap_or, if◌then◌else◌}
+use Rattle.vbr_words.specs.Dimensions.{Dimensions}
+use Rattle.vbr_words.specs.declared.link.Link.{Link}
+use Rattle.vbr_machine.specs.Links.{opening_link}
+use Rattle.vbr_machine.specs.Opened.{key_count, has_opening_key, key_number, value_number, kept, opening_birth, first_key, key_behind, opening_place}
+use Rattle.vbr_machine.specs.declared.history.Call.{Call}
+use Rattle.vbr_machine.specs.declared.knowledge.SlotPlace.{SlotPlace}
+
+-- what has become of an incarnation: it is not born yet, in hand of a pass, given up, linked, marked, unlinked by a pass at an epoch, or stamped after it was unlinked at an epoch
+pub data State : Type 0 where
+  Unborn : State
+  InHand : (pass : ℕ) → State
+  GivenUp : State
+  Linked : State
+  Marked : State
+  Unlinked : (pass : ℕ) → (at : ℕ) → State
+  Stamped : (at : ℕ) → (stamp : ℕ) → State
+
+-- all incarnations so far. Each has a number, which is never given twice; an incarnation has at first the key, the value and the link that its slot showed before its birth
+pub record Incarnations : Type 0 where
+  pub epoch : ℕ
+  pub count : ℕ  -- how many were born: they are those below
+  pub slot : ℕ → ℕ  -- of an incarnation, as are those down to its state
+  pub birth : ℕ → ℕ
+  pub key : ℕ → ℕ
+  pub is_keyed : ℕ → Bool  -- whether its key was stored since its birth
+  pub value : ℕ → ℕ
+  pub is_valued : ℕ → Bool  -- whether its value was stored since its birth
+  pub link : ℕ → Link  -- its link until it is linked
+  pub is_aimed : ℕ → Bool  -- whether its link was stored since its birth
+  pub next : ℕ → Option ℕ  -- its successor
+  pub state : ℕ → State
+  pub first : ℕ → Option ℕ  -- the first incarnation in the list of a bucket
+  pub last : ℕ → Option ℕ  -- the last incarnation that was born in a slot
+  pub place : ℕ → SlotPlace  -- of a slot
+  pub stamp : ℕ → ℕ  -- of a slot
+  pub calls : List Call
+
+-- what has become of an incarnation at opening: those of the opening keys are linked
+abbrev pub opening_state : Dimensions → ℕ → State
+opening_state shape c = if has_opening_key shape c then Linked else Unborn
+
+-- the incarnation of a slot at opening, if it has one
+abbrev pub opening_last : Dimensions → ℕ → Option ℕ
+opening_last shape s = if has_opening_key shape s then Some s else None
+
+-- the incarnations at opening: one of each opening key, with its number, in the slot of that number
+abbrev pub at_opening : Dimensions → Incarnations
+at_opening shape =
+    record {
+      epoch = 1;
+      count = key_count shape;
+      slot = λ c. c;
+      birth = opening_birth shape;
+      key = key_number shape;
+      is_keyed = has_opening_key shape;
+      value = value_number shape;
+      is_valued = has_opening_key shape;
+      link = λ c. opening_link;
+      is_aimed = has_opening_key shape;
+      next = key_behind shape;
+      state = opening_state shape;
+      first = first_key shape;
+      last = opening_last shape;
+      place = opening_place shape;
+      stamp = λ s. 0;
+      calls = [];
+    }
+
+-- the value of an incarnation where nodes have values, and otherwise none
+abbrev pub payload_of : Dimensions → Incarnations → ℕ → Option ℕ
+payload_of shape a c = kept shape (Some (a.value c))
+
+-- an incarnation is late for an epoch while it is linked or marked, and also after, if it was unlinked at this epoch or later
+abbrev pub IsLate : State → ℕ → Type 0
+IsLate Linked epoch = Unit {0}
+IsLate Marked epoch = Unit {0}
+IsLate (Unlinked pass at) epoch = epoch ≤ at
+IsLate (Stamped at stamp) epoch = epoch ≤ at
+IsLate _ epoch = ⊥
+
+-- the last incarnation of a slot, where one was born
+abbrev pub last_in : Incarnations → ℕ → ℕ
+last_in a s = unwrap_or (a.last s) 0

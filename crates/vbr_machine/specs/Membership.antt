@@ -1,0 +1,166 @@
+-- What a pass knows by membership: whatever is among its checked reads, and not only the first that a search finds.
+use Rattle.std.specs.Prelude.{◌≡◌, ◌≢◌, ℕ, ◌<◌, Bool, true, false, Option, Some, None}
+use Rattle.std.specs.List.{Contains}
+use Rattle.vbr_words.specs.Dimensions.{Dimensions}
+use Rattle.vbr_words.specs.Words.{link_of}
+use Rattle.vbr_words.specs.declared.link.Link.{Link}
+use Rattle.vbr_words.specs.declared.place.At.{At}
+use Rattle.vbr_words.specs.declared.place.At.TheVariants.{Head, Slot}
+use Rattle.vbr_machine.specs.Links.{link_to, marked}
+use Rattle.vbr_machine.specs.Knowledge.{Know}
+use Rattle.vbr_words.specs.Buckets.{bucket_of}
+use Rattle.vbr_machine.specs.Acceptance.{HasValue, IsInShape, IsOwned, IsInRange, IsBelowLast}
+use Rattle.vbr_machine.specs.Learning.{birth_in_hand}
+use Rattle.vbr_machine.specs.declared.history.Op.{Op}
+use Rattle.vbr_machine.specs.declared.history.Op.TheVariants.{Insert, Get}
+use Rattle.vbr_machine.specs.declared.event.Step.{Step}
+use Rattle.vbr_machine.specs.declared.event.Step.TheVariants.{StoreLink, LoadLink, LoadBirth, LoadKey, LoadValue, Publish, Mark, Unlink, ConfirmPresent, ConfirmAbsent}
+use Rattle.vbr_machine.specs.declared.knowledge.Read.{Read}
+use Rattle.vbr_machine.specs.declared.knowledge.Read.TheVariants.{LinkAt, BirthOf, KeyOf, ValueOf}
+use Rattle.vbr_machine.specs.declared.knowledge.Unpublished.{Unpublished}
+use Rattle.vbr_machine.specs.declared.knowledge.Holding.{Holding}
+use Rattle.vbr_machine.specs.declared.knowledge.Holding.TheVariants.{InHand}
+
+-- a read is known: it is among the checked reads
+pub record Knows (know : Know) (read : Read) : Type 0 where
+  pub among : Contains know.checked read
+
+-- ---- held
+
+-- a slot is held: a known link names it
+pub record IsHeldSlot (know : Know) (s : ℕ) : Type 0 where
+  pub at : At
+  pub link : Link
+  pub known : Knows know (LinkAt at link)
+  pub names : link.slot ≡ Some s
+
+-- a place is held: a head always is
+abbrev pub IsHeldPlace : Know → At → Type 0
+IsHeldPlace know (Head b) = Unit {0}
+IsHeldPlace know (Slot s) = IsHeldSlot know s
+
+-- a place is held in a bucket: the head of the bucket is, and so is a slot that is named by a known link at a place that is held in the bucket
+pub data HeldIn (know : Know) : At → ℕ → Type 0 where
+  at_head : (b : ℕ) → HeldIn know (Head b) b
+  behind : (at : At) → (link : Link) → (s : ℕ) → (b : ℕ) → HeldIn know at b → Knows know (LinkAt at link) → link.slot ≡ Some s → HeldIn know (Slot s) b
+
+-- known marked links lead from a link to another: to itself, and to a known marked link of the slot that is named by one to which they lead
+pub data LeadsTo (know : Know) (link : Link) : Link → Type 0 where
+  itself : LeadsTo know link link
+  onward : (last : Link) → (s : ℕ) → (next : Link) → LeadsTo know link last → last.slot ≡ Some s → Knows know (LinkAt (Slot s) next) → next.mark ≡ true → LeadsTo know link next
+
+-- ---- births and keys
+
+-- this birth is known at a place: 0 at a head
+abbrev pub BirthAt : Know → At → ℕ → Type 0
+BirthAt know (Head b) birth = birth ≡ 0
+BirthAt know (Slot s) birth = Knows know (BirthOf s birth)
+
+-- this birth is known of what a link names: 0 of none
+abbrev pub BirthNamed : Know → Option ℕ → ℕ → Type 0
+BirthNamed know None birth = birth ≡ 0
+BirthNamed know (Some s) birth = Knows know (BirthOf s birth)
+
+-- this key is known at a place: none is at a head
+abbrev pub KeyAt : Know → At → ℕ → Type 0
+KeyAt know (Head b) key = ⊥
+KeyAt know (Slot s) key = Knows know (KeyOf s key)
+
+-- a key stands behind a place: in its bucket, and above a key that is known there if it is a slot
+abbrev pub StandsBehind : Dimensions → Know → At → ℕ → Type 0
+StandsBehind shape know (Head b) key = bucket_of shape key ≡ b
+StandsBehind shape know (Slot s) key = (here : ℕ) × Knows know (KeyOf s here) × (bucket_of shape key ≡ bucket_of shape here) × (here < key)
+
+-- a key stands before what a link names: below a key that is known of it, if it names a slot
+abbrev pub StandsBefore : Know → ℕ → Option ℕ → Type 0
+StandsBefore know key None = Unit {0}
+StandsBefore know key (Some s) = (there : ℕ) × Knows know (KeyOf s there) × (key < there)
+
+-- a key stands before what known marked links lead to from a link
+pub record StandsBeforeOn (know : Know) (key : ℕ) (link : Link) : Type 0 where
+  pub last : Link
+  pub leads : LeadsTo know link last
+  pub before : StandsBefore know key last.slot
+
+-- ---- what is written
+
+-- an unlinking behind a place writes this link: to what a known marked link of the slot names, by births that are known there and of that
+pub record IsUnlinkLink (know : Know) (pred : At) (s : ℕ) (new : Link) : Type 0 where
+  pub frozen : Link
+  pub known : Knows know (LinkAt (Slot s) frozen)
+  pub is_marked : frozen.mark ≡ true
+  pub birth : ℕ
+  pub birth_known : BirthAt know pred birth
+  pub next_birth : ℕ
+  pub next_known : BirthNamed know frozen.slot next_birth
+  pub is : new ≡ link_to frozen.slot birth next_birth
+
+-- the step writes this link, by births and a marked link that are known; other steps write none
+abbrev pub WritesLink : Know → Step → Link → Type 0
+WritesLink know (StoreLink s next) new = (birth : ℕ) × BirthNamed know next birth × (new ≡ link_to next (birth_in_hand (know.own s)) birth)
+WritesLink know (Publish pred expected s) new = (birth : ℕ) × BirthAt know pred birth × (new ≡ link_to (Some s) birth (birth_in_hand (know.own s)))
+WritesLink know (Mark s expected) new = new ≡ marked (link_of expected)
+WritesLink know (Unlink pred expected s) new = IsUnlinkLink know pred s new
+WritesLink know _ new = ⊥
+
+-- ---- acceptance
+
+-- what a link names, if anything, is held, and a birth of it is known
+abbrev pub IsNextKnown : Know → Option ℕ → Type 0
+IsNextKnown know None = Unit {0}
+IsNextKnown know (Some s) = IsHeldSlot know s × ((birth : ℕ) × Knows know (BirthOf s birth))
+
+-- a value of a slot is known where nodes have values, as the test says
+abbrev pub KnowsValue : Bool → Know → ℕ → Type 0
+KnowsValue true know s = (value : ℕ) × Knows know (ValueOf s value)
+KnowsValue false know s = Unit {0}
+
+-- a value of a slot is known where the operation is one that gives it
+abbrev pub KnowsValueFor : Op → Know → ℕ → Type 0
+KnowsValueFor Get know s = (value : ℕ) × Knows know (ValueOf s value)
+KnowsValueFor _ know s = Unit {0}
+
+-- the reads that the step asks for are known
+abbrev pub IsKnown : Dimensions → Know → Step → Type 0
+IsKnown shape know (StoreLink s next) = IsNextKnown know next
+IsKnown shape know (LoadLink at) = IsHeldPlace know at
+IsKnown shape know (LoadBirth s) = IsHeldSlot know s
+IsKnown shape know (LoadKey s) = IsHeldSlot know s
+IsKnown shape know (LoadValue s) = IsHeldSlot know s
+IsKnown shape know (Publish pred expected s) = Knows know (LinkAt pred (link_of expected)) × ((birth : ℕ) × BirthAt know pred birth)
+IsKnown shape know (Mark s expected) = Knows know (LinkAt (Slot s) (link_of expected)) × ((key : ℕ) × Knows know (KeyOf s key)) × KnowsValue shape.values know s
+IsKnown shape know (Unlink pred expected s) = Knows know (LinkAt pred (link_of expected)) × ((new : Link) × IsUnlinkLink know pred s new)
+IsKnown shape know (ConfirmPresent op s expected) = Knows know (LinkAt (Slot s) (link_of expected)) × ((key : ℕ) × Knows know (KeyOf s key)) × KnowsValueFor op know s
+IsKnown shape know (ConfirmAbsent op key at expected) = Knows know (LinkAt at (link_of expected))
+IsKnown shape know _ = Unit {0}
+
+-- what is in hand is ready: its key and link, and its value where nodes have values, were stored since its birth, the link names what the expected link names, by a birth that is known of that, and the key stands between
+pub record IsReadyKnown (shape : Dimensions) (know : Know) (pred : At) (expected : Link) (known : Unpublished) : Type 0 where
+  pub key : ℕ
+  pub key_is : known.key ≡ Some key
+  pub named : ℕ
+  pub named_known : BirthNamed know expected.slot named
+  pub link_is : known.link ≡ Some (link_to expected.slot known.birth named)
+  pub behind : StandsBehind shape know pred key
+  pub before : StandsBefore know key expected.slot
+  pub valued : HasValue shape.values known.value
+
+-- a slot in hand that is ready
+abbrev pub MayPublishKnown : Dimensions → Know → At → Link → Option Holding → Type 0
+MayPublishKnown shape know pred expected (Some (InHand known)) = IsReadyKnown shape know pred expected known
+MayPublishKnown shape know pred expected _ = ⊥
+
+-- the step's numbers are in range
+abbrev pub IsInRangeKnown : Dimensions → Know → Step → Type 0
+IsInRangeKnown shape know (Publish pred expected s) = ((link_of expected).mark ≡ false) × MayPublishKnown shape know pred (link_of expected) (know.own s)
+IsInRangeKnown shape know (ConfirmAbsent op key at expected) =
+    ((link_of expected).mark ≡ false) × (op ≢ Insert) × StandsBehind shape know at key × StandsBeforeOn know key (link_of expected)
+IsInRangeKnown shape know step = IsInRange shape know step
+
+-- the core accepts the step of a pass that knows this: as acceptance by searches, but any known key, birth or marked link serves
+pub record AcceptsKnown (shape : Dimensions) (know : Know) (step : Step) : Type 0 where
+  pub in_shape : IsInShape shape step
+  pub owned : IsOwned know step
+  pub known : IsKnown shape know step
+  pub in_range : IsInRangeKnown shape know step
+  pub below_last : IsBelowLast shape step

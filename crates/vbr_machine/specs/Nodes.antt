@@ -1,0 +1,85 @@
+-- The nodes of lists, counted by slots: each slot has at most one, its last incarnation.
+use Rattle.std.specs.Prelude.{ℕ, zero, suc, Bool, true, false, ◌==◌, ◌&&◌, Option, Some, None, nat_lt, List, if◌then◌else◌, ◌≡◌}
+use Rattle.vbr_words.specs.Dimensions.{Dimensions}
+use Rattle.vbr_words.specs.declared.place.At.{At}
+use Rattle.vbr_words.specs.declared.place.At.TheVariants.{Head, Slot}
+use Rattle.vbr_words.specs.Buckets.{bucket_of}
+use Rattle.vbr_machine.specs.Accounts.{incarnations_after}
+use Rattle.vbr_machine.specs.Images.{key_shown}
+use Rattle.vbr_machine.specs.Incarnations.{State, Unborn, Linked, Marked, Incarnations}
+use Rattle.vbr_machine.specs.declared.event.Event.{Event}
+use Rattle.vbr_machine.specs.Sound.{IsListed}
+
+-- what has become of an incarnation; none is not born
+abbrev pub state_shown : Incarnations → Option ℕ → State
+state_shown a None = Unborn
+state_shown a (Some c) = a.state c
+
+-- what has become of the last incarnation of a slot
+abbrev pub state_in : Incarnations → ℕ → State
+state_in a s = state_shown a (a.last s)
+
+-- whether an incarnation is in a list, and unmarked
+abbrev pub is_linked : State → Bool
+is_linked Linked = true
+is_linked _ = false
+
+-- whether an incarnation is in a list, and marked
+abbrev pub is_marked : State → Bool
+is_marked Marked = true
+is_marked _ = false
+
+-- whether an incarnation is in a list
+abbrev pub is_listed : State → Bool
+is_listed Linked = true
+is_listed Marked = true
+is_listed _ = false
+
+-- the key of the last incarnation of a slot
+abbrev pub key_in_slot : Incarnations → ℕ → ℕ
+key_in_slot a s = key_shown a (a.last s)
+
+-- whether the node of a slot is in the list of a bucket
+abbrev pub is_in_list : Dimensions → Incarnations → ℕ → ℕ → Bool
+is_in_list shape a bucket s = is_listed (state_in a s) && (bucket_of shape (key_in_slot a s) == bucket)
+
+-- whether a place is in a list: a head is, and a slot whose last incarnation is
+abbrev pub is_there : Incarnations → At → Bool
+is_there a (Head b) = true
+is_there a (Slot s) = is_listed (state_in a s)
+
+-- how many of the slots below a number pass a test
+abbrev pub count_below : (ℕ → Bool) → ℕ → ℕ
+count_below test zero = 0
+count_below test (suc s) = if test s then suc (count_below test s) else count_below test s
+
+-- whether a key lies behind a place: behind a head each does, and behind a slot one that is above the key of its last incarnation
+abbrev pub is_above : Incarnations → At → ℕ → Bool
+is_above a (Head b) key = true
+is_above a (Slot t) key = nat_lt (key_in_slot a t) key
+
+-- whether the node of a slot stands in the list of a bucket, behind a place
+abbrev pub is_behind : Dimensions → Incarnations → ℕ → At → ℕ → Bool
+is_behind shape a bucket at s = is_in_list shape a bucket s && is_above a at (key_in_slot a s)
+
+-- how many nodes, linked or marked, stand in the list of a bucket behind a place
+abbrev pub behind : Dimensions → Incarnations → ℕ → At → ℕ
+behind shape a bucket at = count_below (is_behind shape a bucket at) shape.slots
+
+-- how many nodes are linked after a run
+abbrev pub linked_after : Dimensions → List Event → ℕ
+linked_after shape run = count_below (λ s. is_linked (state_in (incarnations_after shape run) s)) shape.slots
+
+-- how many nodes are marked, and still in a list
+abbrev pub marked_after : Dimensions → List Event → ℕ
+marked_after shape run = count_below (λ s. is_marked (state_in (incarnations_after shape run) s)) shape.slots
+
+-- the last incarnation of a slot is this one, and it is in a list
+pub record Stands (a : Incarnations) (s c : ℕ) : Type 0 where
+  pub last : a.last s ≡ Some c
+  pub listed : IsListed (a.state c)
+
+-- the node of a slot is in the list of a bucket
+pub record InList (shape : Dimensions) (a : Incarnations) (bucket s c : ℕ) : Type 0 where
+  pub stands : Stands a s c
+  pub of_bucket : bucket_of shape (a.key c) ≡ bucket

@@ -1,0 +1,71 @@
+-- Where a lone insert finds no slot, all slots are taken up.
+use Rattle.std.proofs.Common.{◌≡◌, ◌≢◌, ℕ, ◌+◌, ◌-◌, ◌*◌, ◌<◌, ◌≤◌, List, [], length, Err, arith, subst, ap, ◌∙◌, inl, inr}
+use Rattle.vbr_words.specs.Dimensions.{Dimensions}
+use Rattle.vbr_machine.specs.History.{set_after}
+use Rattle.vbr_machine.specs.Keys.{AreKeysOf}
+use Rattle.vbr_machine.specs.Nodes.{marked_after}
+use Rattle.vbr_machine.specs.Opened.{opening_keys}
+use Rattle.vbr_machine.specs.Whereabouts.{InSharedPool, InSet, number_at, number_had}
+use Rattle.vbr_machine.specs.declared.history.Call.{Call}
+use Rattle.vbr_machine.specs.declared.history.Op.TheVariants.{Insert}
+use Rattle.vbr_machine.proofs.Lemmas.{add_up, run_agrees, somewhere}
+use Rattle.vbr_slots.specs.Alone.{IsAlone}
+use Rattle.vbr_slots.specs.PassLaw.{PassLaw}
+use Rattle.vbr_slots.specs.Views.{PassView}
+use Rattle.vbr_slots.specs.declared.pass.TheConstants.{POOL}
+use Rattle.vbr_pools.specs.Counts.{flags_raised}
+use Rattle.vbr_pools.specs.KeptSlots.{SharesWhereFull}
+use Rattle.vbr_list.specs.Refusals.{FoundNoSlot}
+use Rattle.vbr_list.specs.declared.refusal.Refusal.TheVariants.{NoSlot}
+use Rattle.vbr_set.specs.Histories.{calls_of}
+use Rattle.vbr_set.specs.Members.{Called, MemberView}
+use Rattle.vbr_set.specs.Room.{AreTakenUp, HasAllSlots, OthersAreBetweenCalls}
+use Rattle.vbr_set.proofs.CountedKeys.{counted_keys}
+use Rattle.vbr_set.proofs.HavingSlots.{all_called}
+use Rattle.vbr_set.proofs.RoomLeft.{none_had, none_in_shared_pool}
+use Rattle.vbr_set.proofs.RoomOfOthers.{had_between, sum_but_at_most, sum_but_none}
+
+-- a pool that is empty isn't full, so no flag was raised
+none_raised : (p q : PassView) → q.pool ≡ [] → SharesWhereFull 2 p q → flags_raised q.trace ≡ flags_raised p.trace
+none_raised p q empty (inl same) = same
+none_raised p q empty (inr full) = absurd (let none = ap (length {A = ℕ}) empty in omega arith)
+
+module _ (m n : MemberView) (key budget : ℕ) (law : PassLaw n.pass) (all : HasAllSlots m.pass) (c : Called Insert m n key budget (Err NoSlot)) (alone : IsAlone m.pass.trace n.pass.trace) where
+  abbrev p : PassView
+  p = m.pass
+
+  abbrev q : PassView
+  q = n.pass
+
+  found : FoundNoSlot p q key
+  found = c.spares.refused
+
+  none_shared : number_at q.trace.shape q.trace.seen InSharedPool ≡ 0
+  none_shared = ap (λ (shape : Dimensions). number_at shape q.trace.seen InSharedPool) c.same.shape ∙ none_in_shared_pool alone c.same.who (none_raised p q found.still c.spares.shared) found.outside
+
+  none_own : number_had q.trace.shape q.trace.seen q.trace.who ≡ 0
+  none_own = none_had q (all_called Insert m n key budget (Err NoSlot) all c) found.still c.hand
+
+  in_set : (keys : List ℕ) → AreKeysOf keys (set_after (opening_keys q.trace.shape) (calls_of q.trace.shape q.trace.seen)) → length keys ≡ number_at q.trace.shape q.trace.seen InSet
+  in_set keys are =
+      let g = run_agrees q.trace.shape q.trace.passes q.trace.seen law.shape law.is_run in
+      counted_keys g.sound g.fits g.tells keys (subst (λ (calls : List Call). AreKeysOf keys (set_after (opening_keys q.trace.shape) calls)) g.calls are)
+
+  pub taken_up : AreTakenUp q.trace
+  taken_up keys are =
+      let sum = add_up q.trace.shape q.trace.passes q.trace.seen (somewhere q.trace.shape q.trace.passes q.trace.seen law.safe law.is_run) in
+      let others = sum_but_none q.trace.passes q.trace.who (number_had q.trace.shape q.trace.seen) none_own in
+      let a = none_shared in
+      let b = in_set keys are in
+      omega arith
+
+  pub suffices : OthersAreBetweenCalls q.trace → (keys : List ℕ) → AreKeysOf keys (set_after (opening_keys q.trace.shape) (calls_of q.trace.shape q.trace.seen)) → q.trace.shape.slots ≤ length keys + marked_after q.trace.shape q.trace.seen + POOL * (q.trace.passes - 1)
+  suffices between keys are =
+      let up = taken_up keys are in
+      let few = sum_but_at_most q.trace.passes q.trace.who POOL (number_had q.trace.shape q.trace.seen) law.low each in
+      omega arith
+    where
+      each : (i : ℕ) → i < q.trace.passes → i ≢ q.trace.who → number_had q.trace.shape q.trace.seen i ≤ POOL
+      each i low ne =
+          let o = between i low ne in
+          subst (λ (who : ℕ). number_had q.trace.shape q.trace.seen who ≤ POOL) o.1 (had_between o.0 q.trace o.2)

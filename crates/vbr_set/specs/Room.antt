@@ -1,0 +1,38 @@
+-- Where the slots of a set are when an insert finds none, and how many the other passes have.
+use Rattle.std.specs.Prelude.{◌≡◌, ◌≢◌, ℕ, ◌+◌, ◌<◌, ◌==◌, List, length, None, if◌then◌else◌}
+use Rattle.vbr_machine.specs.Acceptance.{IsUnlinked, MayBear}
+use Rattle.vbr_machine.specs.Keys.{AreKeysOf}
+use Rattle.vbr_machine.specs.History.{set_after}
+use Rattle.vbr_machine.specs.Nodes.{marked_after}
+use Rattle.vbr_machine.specs.Opened.{opening_keys}
+use Rattle.vbr_machine.specs.Runs.{BeginsFor}
+use Rattle.vbr_machine.specs.Whereabouts.{number_had, sum_of}
+use Rattle.vbr_slots.specs.PassLaw.{PassLaw}
+use Rattle.vbr_slots.specs.Views.{PassView, Trace, knows}
+use Rattle.vbr_pools.specs.KeptSlots.{HasSlot}
+use Rattle.vbr_set.specs.Histories.{calls_of}
+
+-- each slot that the pass may give birth in is in its own pool or its hand, and it has stamped each that it unlinked
+pub record HasAllSlots (p : PassView) : Type 0 where
+  pub free : (slot : ℕ) → MayBear ((knows p.trace).own slot) → HasSlot p slot
+  pub stamped : (slot : ℕ) → ¬ (IsUnlinked ((knows p.trace).own slot))
+
+-- how many slots the other passes have, in their own pools, in their hands and unstamped, after what the pass has seen
+abbrev pub had_by_others : Trace → ℕ
+had_by_others p = sum_of p.passes (λ pass. if pass == p.who then 0 else number_had p.shape p.seen pass)
+
+-- all slots are taken up, after what the pass has seen: by one for each key of the set, by the marked ones, and by what the other passes have
+abbrev pub AreTakenUp : Trace → Type 0
+AreTakenUp p = (keys : List ℕ) → AreKeysOf keys (set_after (opening_keys p.shape) (calls_of p.shape p.seen)) → p.shape.slots ≡ length keys + marked_after p.shape p.seen + had_by_others p
+
+-- a pass stands between two calls, after what another has seen, which is all that it did: it has all its slots, and none in its hand
+pub record IsBetweenCalls (p : PassView) (q : Trace) : Type 0 where
+  pub law : PassLaw p
+  pub shape : p.trace.shape ≡ q.shape
+  pub seen : BeginsFor p.trace.who p.trace.seen q.seen
+  pub has_all : HasAllSlots p
+  pub empty_hand : p.hand ≡ None
+
+-- each other pass of the set stands between two calls
+abbrev pub OthersAreBetweenCalls : Trace → Type 0
+OthersAreBetweenCalls q = (who : ℕ) → who < q.passes → who ≢ q.who → (p : PassView) × (p.trace.who ≡ who) × IsBetweenCalls p q

@@ -1,0 +1,54 @@
+//! Telling what is in a set that stays open.
+ghost use Rattle.std.specs.Prelude.{◌≡◌, ◌≤◌, false, length, IfOk};
+ghost use Rattle.vbr_slots.specs.Closing.{AllOf};
+ghost use Rattle.vbr_set.specs.Closing.{Closes};
+
+use crate::closing::report_of;
+use crate::report::Report;
+use crate::set::VbrSet;
+use std::alloc::{AllocError, Global};
+use vbr_slots::Pass;
+
+impl VbrSet {
+    /// Tells what is in the set, as [`VbrSet::close`] does, and the set stays open: the keys that the
+    /// calls of all passes leave in a set with the keys that it opened with, in one legal history, which
+    /// begins with what each pass has seen and has just the calls that it has made. The passes stay as
+    /// they were, whatever it answers: it makes no step.
+    ///
+    /// It has all passes, so no other call runs. It goes once over the words, once over the buckets and
+    /// once over the slots, and takes 9 bytes for each slot and 8 for each word, all of it before it
+    /// looks at any. It refuses only where there is no room for these.
+    ///
+    /// # Example
+    ///
+    /// ```rattle file=crates/vbr_set_rows/src/refusals/set.rt
+    /// match set.report(alloc, passes) {
+    ///     Ok(report) => Some((report, false)),
+    /// ```
+    pub fn report(&self, alloc: Global, passes: &mut [Pass]) -> Result<Report, AllocError>
+        requires of_set { AllOf self.now passes.old }
+        requires all { self.now.passes ≤ length passes.old }
+        ensures same { passes.new ≡ passes.old }
+        ensures report { IfOk result (Closes self.now passes.old) }
+    {
+        let shape = self.slots.shape();
+        let keys = Vec::with_capacity(alloc, shape.slots() as usize)?;
+        let notes = vec![in alloc; false; shape.slots() as usize]?;
+        let words = self.slots.snapshot(alloc, passes)?;
+        Ok(report_of(&shape, &words, notes, keys))
+    }
+
+    // As [`VbrSet::report`], by passes that lie in a vector.
+    pub(crate) fn report_by(
+        &self,
+        alloc: Global,
+        passes: &mut Vec<Pass>,
+    ) -> Result<Report, AllocError>
+        requires of_set { AllOf self.now passes.old.items }
+        requires all { self.now.passes ≤ length passes.old.items }
+        ensures same { passes.new.items ≡ passes.old.items }
+        ensures report { IfOk result (Closes self.now passes.old.items) }
+    {
+        self.report(alloc, passes)
+    }
+}
