@@ -1,4 +1,6 @@
 // Memory that vbr.hpp is refused: it throws std::bad_alloc, and all stays as it was; and the closes that need none ask for none.
+// Memory that the library is refused while it closes a set: all handles stay as they were. A set is closed by vbr_close_all.
+// Link with -Wl,--wrap=malloc,--wrap=vbr_close.
 #include "vbr.hpp"
 
 #include <cstdio>
@@ -7,12 +9,25 @@
 
 #define CHECK(x) do { if (!(x)) { std::fprintf(stderr, "memory.cpp:%d: %s\n", __LINE__, #x); return 1; } } while (0)
 
-static bool refuses = false;
+static bool refuses = false;         // what this program asks for
+static bool library_refuses = false; // what the library asks for
 static long asked = 0;
+static int closed_alone = 0; // calls of vbr_close
+
+extern "C" {
+void *__real_malloc(std::size_t size);
+void *__wrap_malloc(std::size_t size);
+void *__wrap_malloc(std::size_t size) { return library_refuses ? nullptr : __real_malloc(size); }
+vbr_answer __wrap_vbr_close(vbr_handle *handle, std::uint64_t *keys, std::size_t room, vbr_totals *report);
+vbr_answer __wrap_vbr_close(vbr_handle *, std::uint64_t *, std::size_t, vbr_totals *) {
+    closed_alone++;
+    return VBR_LOST;
+}
+}
 
 [[gnu::noinline]] void *operator new(std::size_t size) {
     asked++;
-    void *block = refuses ? nullptr : std::malloc(size);
+    void *block = refuses ? nullptr : __real_malloc(size);
     if (!block) throw std::bad_alloc();
     return block;
 }
@@ -46,9 +61,27 @@ int main() {
     CHECK(throws([&handle = handles[2]] { static_cast<void>(handle.close()); }));
     CHECK(handles[2].is_open() && handles[2].has(5, 100000) == vbr::answer::yes);
     CHECK(handles[2].insert(6, 100000) == vbr::answer::yes);
+    for (std::uint64_t key = 7; key < 9; key++) {
+        library_refuses = true;
+        vbr::closed refused = handles[2].close();
+        library_refuses = false;
+        CHECK(refused.answer == vbr::close_answer::no_memory && !refused.report && handles[2].is_open());
+        CHECK(handles[2].has(5, 100000) == vbr::answer::yes && handles[2].insert(key, 100000) == vbr::answer::yes);
+    }
     vbr::closed last = handles[2].close();
-    CHECK(last.answer == vbr::close_answer::last && last.report->keys == (std::vector<std::uint64_t>{5, 6}));
-    CHECK(last.report->keys.capacity() == 2);
+    CHECK(last.answer == vbr::close_answer::last && last.report->keys == (std::vector<std::uint64_t>{5, 6, 7, 8}));
+    CHECK(last.report->keys.capacity() == 4 && last.report->free == shape.slots - 4);
+    {
+        auto other = vbr::open(shape, 3); // a close that is refused, and then no other: the set goes with the last handle
+        other.handles.pop_back();
+        vbr::handle kept = std::move(other.handles[0]);
+        other.handles.clear();
+        library_refuses = true;
+        vbr::closed refused = kept.close();
+        library_refuses = false;
+        CHECK(refused.answer == vbr::close_answer::no_memory && kept.is_open());
+    }
+    CHECK(closed_alone == 0);
     std::puts("refused memory in C++: passed");
     return 0;
 }

@@ -113,9 +113,10 @@ struct [[nodiscard]] closed {
 
 namespace detail {
 
-/* What the handles of a set share: how many are open, and those that were closed, which the last one gives back. */
+/* What the handles of a set share: how many are open, of how many, and those that were closed, each at its number. */
 struct shared {
     std::atomic<std::size_t> open{0};
+    std::size_t count = 0;
     std::uint32_t slots = 0;
     vbr_handle parked[max_handles] = {};
 };
@@ -189,30 +190,28 @@ private:
         return false;
     }
 
-    /* Closes the handles that are parked: others are open, so nothing is told and no memory is needed. */
-    void close_parked() noexcept {
-        vbr_totals none = {};
-        std::uint64_t no_key = 0;
-        for (vbr_handle &other : shared->parked)
-            if (other.owned != nullptr && vbr_close(&other, &no_key, 0, &none) != VBR_NO) vbr_drop(&other);
-    }
-
+    /* Closes all handles of the set at once. Where it is refused memory they stay as they were. */
     closed close_last() {
         std::vector<std::uint64_t> keys(shared->slots);
         vbr_totals totals = {};
-        close_parked();
-        auto answer = close_answer{static_cast<std::int32_t>(vbr_close(&raw, keys.data(), keys.size(), &totals))};
-        if (answer == close_answer::no_memory) return {answer, std::nullopt};
-        shared.reset();
-        if (answer != close_answer::last) return {answer, std::nullopt};
+        std::swap(shared->parked[number], raw);
+        vbr_answer code = vbr_close_all(shared->parked, shared->count, keys.data(), keys.size(), &totals);
+        std::swap(shared->parked[number], raw);
+        if (code == VBR_NO_MEMORY) return {close_answer::no_memory, std::nullopt};
+        end_last();
+        if (code != VBR_YES) return {close_answer::lost, std::nullopt};
         keys.resize(totals.live);
         keys.shrink_to_fit();
-        return {answer, report{std::move(keys), totals.epoch, totals.marked, totals.free}};
+        return {close_answer::last, report{std::move(keys), totals.epoch, totals.marked, totals.free}};
     }
 
     void end() noexcept {
-        if (!is_open() || !is_last()) return;
-        close_parked();
+        if (is_open() && is_last()) end_last();
+    }
+
+    /* Drops all handles, empty ones too, which takes no memory. */
+    void end_last() noexcept {
+        for (vbr_handle &other : shared->parked) vbr_drop(&other);
         vbr_drop(&raw);
         shared.reset();
     }
@@ -236,6 +235,7 @@ opened open_by(const shape &wanted, std::size_t count, const Open &call) {
     auto answer = open_answer{static_cast<std::int32_t>(call(raw, handles.size()))};
     if (answer != open_answer::done) return {answer, {}};
     shared->open.store(count, std::memory_order_relaxed);
+    shared->count = count;
     shared->slots = wanted.slots;
     for (std::size_t i = 0; i < count; i++) {
         handles[i].raw = raw[i];

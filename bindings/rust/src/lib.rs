@@ -54,6 +54,7 @@ use core::error::Error;
 use core::ffi::c_void;
 use core::fmt;
 use core::marker::PhantomData;
+use core::mem::swap;
 use core::ops::{Deref, DerefMut};
 use core::ptr::{null_mut, NonNull};
 use core::sync::atomic::{AtomicPtr, AtomicU64, AtomicUsize, Ordering};
@@ -109,7 +110,7 @@ extern "C" {
     fn vbr_slots(handle: *mut Raw) -> u32;
     fn vbr_buckets(handle: *mut Raw) -> u32;
     fn vbr_version() -> u32;
-    fn vbr_close(handle: *mut Raw, keys: *mut u64, room: usize, told: *mut ReportNumbers) -> i32;
+    fn vbr_close_all(handles: *mut Raw, count: usize, keys: *mut u64, room: usize, told: *mut ReportNumbers) -> i32;
     fn vbr_drop(handle: *mut Raw);
 }
 
@@ -370,10 +371,12 @@ impl Drop for Lent<'_> {
     }
 }
 
-/// What the handles of a set share: how many are open, and those that were closed, which the last one gives back. So the
-/// last one is known before the library is asked for the report, and memory is needed for one report alone.
+/// What the handles of a set share: how many are open, and those that were closed. So the last one is known before the
+/// library is asked for the report: it closes all of them at once, and memory is needed for one report alone.
 struct Shared {
     open: AtomicUsize,
+    /// How many handles the set was opened with.
+    count: usize,
     slots: u32,
     parked: [AtomicPtr<c_void>; MAX_HANDLES],
 }
@@ -396,7 +399,7 @@ fn open_by(shape: Shape, handles: usize, open: impl FnOnce(*mut Raw, usize) -> i
         _ => return Err(OpenError::Memory),
     }
     let parked = [const { AtomicPtr::new(null_mut()) }; MAX_HANDLES];
-    shared.push(Shared { open: AtomicUsize::new(count), slots: shape.slots, parked });
+    shared.push(Shared { open: AtomicUsize::new(count), count, slots: shape.slots, parked });
     // Whoever closes the last handle frees it.
     let shared = NonNull::from(Box::leak(shared.into_boxed_slice())).cast::<Shared>();
     opened.extend(raw.into_iter().take(count).enumerate().map(|(number, raw)| Handle {
@@ -529,10 +532,15 @@ impl Handle {
             return Err(CloseError::Memory(Unclosed(self)));
         }
         keys.resize(shared.slots as usize, 0);
-        shared.close_parked();
+        let mut all = shared.take_parked();
+        swap(&mut all[self.number], self.raw.get_mut());
         let mut told = ReportNumbers::default();
-        // SAFETY: `self` is exclusive, and `keys` has as much room as is told.
-        match unsafe { vbr_close(self.raw.get(), keys.as_mut_ptr(), keys.len(), &mut told) } {
+        // SAFETY: these are all handles of the set, nothing else has one of them, and `keys` has as much room as is told.
+        let code = unsafe { vbr_close_all(all.as_mut_ptr(), shared.count, keys.as_mut_ptr(), keys.len(), &mut told) };
+        // They are empty now, or stay as they were.
+        swap(&mut all[self.number], self.raw.get_mut());
+        shared.park(all);
+        match code {
             1 => {
                 let ReportNumbers { epoch, live, marked, free } = told;
                 keys.truncate(live as usize);
@@ -564,16 +572,14 @@ impl Handle {
 }
 
 impl Shared {
-    /// Closes the handles that are parked. One is open still, so nothing is told and no memory is needed.
-    fn close_parked(&self) {
-        for parked in &self.parked {
-            let mut raw = Raw(parked.swap(null_mut(), Ordering::Relaxed));
-            if !raw.0.is_null() {
-                let mut told = ReportNumbers::default();
-                let mut none = [0];
-                // SAFETY: who parked the handle never uses it again.
-                unsafe { vbr_close(&mut raw, none.as_mut_ptr(), 0, &mut told) };
-            }
+    /// The handles that are parked, each at its number.
+    fn take_parked(&self) -> [Raw; MAX_HANDLES] {
+        self.parked.each_ref().map(|it| Raw(it.swap(null_mut(), Ordering::Relaxed)))
+    }
+
+    fn park(&self, handles: [Raw; MAX_HANDLES]) {
+        for (place, handle) in self.parked.iter().zip(handles) {
+            place.store(handle.0, Ordering::Relaxed);
         }
     }
 }
@@ -586,7 +592,9 @@ impl Drop for Handle {
         // SAFETY: all others are closed, so nothing else reaches what they shared, which was one boxed value; and `&mut`
         // is exclusive. A handle that is empty, after its close, stays so.
         unsafe {
-            shared.as_ref().close_parked();
+            for mut handle in shared.as_ref().take_parked() {
+                vbr_drop(&mut handle);
+            }
             vbr_drop(self.raw.get());
             drop(Box::from_raw(shared.as_ptr()));
         }

@@ -1,23 +1,45 @@
 //! Memory of the crate's own: the last close alone asks for some, it is refused without loss, and what isn't needed is given
-//! back.
+//! back. Where the library is refused memory for a close, all handles stay as they were.
 use std::alloc::{GlobalAlloc, Layout, System};
-use std::sync::atomic::{AtomicBool, AtomicUsize, Ordering};
+use std::cell::Cell;
+use std::ffi::c_void;
 use vbr::{CloseError, OpenError, Set, Shape};
 
-/// Counts what is asked for, and refuses it while it is told to.
+/// Counts what this thread asks for, and refuses it while it is told to.
 struct Counting;
 
-static REFUSES: AtomicBool = AtomicBool::new(false);
-static ASKED: AtomicUsize = AtomicUsize::new(0);
+thread_local! {
+    static ASKED: Cell<usize> = const { Cell::new(0) };
+    /// Whether the crate is refused memory, and whether the library is.
+    static REFUSES: Cell<bool> = const { Cell::new(false) };
+    static LIBRARY_REFUSES: Cell<bool> = const { Cell::new(false) };
+}
+
+extern "C" {
+    fn __libc_malloc(size: usize) -> *mut c_void;
+}
+
+/// The C library's, which the set's library calls.
+#[no_mangle]
+extern "C" fn malloc(size: usize) -> *mut c_void {
+    if LIBRARY_REFUSES.get() {
+        return std::ptr::null_mut();
+    }
+    // SAFETY: as malloc.
+    unsafe { __libc_malloc(size) }
+}
 
 // SAFETY: it is the system's allocator, or no memory.
 unsafe impl GlobalAlloc for Counting {
     unsafe fn alloc(&self, layout: Layout) -> *mut u8 {
-        ASKED.fetch_add(layout.size(), Ordering::Relaxed);
-        if REFUSES.load(Ordering::Relaxed) {
+        ASKED.set(ASKED.get() + layout.size());
+        if REFUSES.get() {
             return std::ptr::null_mut();
         }
-        System.alloc(layout)
+        let refuses = LIBRARY_REFUSES.replace(false);
+        let block = System.alloc(layout);
+        LIBRARY_REFUSES.set(refuses);
+        block
     }
 
     unsafe fn dealloc(&self, block: *mut u8, layout: Layout) {
@@ -29,9 +51,16 @@ unsafe impl GlobalAlloc for Counting {
 static COUNTING: Counting = Counting;
 
 fn refused<T>(call: impl FnOnce() -> T) -> T {
-    REFUSES.store(true, Ordering::Relaxed);
+    REFUSES.set(true);
     let told = call();
-    REFUSES.store(false, Ordering::Relaxed);
+    REFUSES.set(false);
+    told
+}
+
+fn refused_in_the_library<T>(call: impl FnOnce() -> T) -> T {
+    LIBRARY_REFUSES.set(true);
+    let told = call();
+    LIBRARY_REFUSES.set(false);
     told
 }
 
@@ -43,23 +72,47 @@ fn one_report_and_no_loss() {
     let mut handles = Set::open(shape, 3).expect("a set");
     assert_eq!(handles[0].insert(5, 100_000), Ok(true));
     assert_eq!(handles[2].insert(7, 100_000), Ok(true));
-    let before = ASKED.load(Ordering::Relaxed);
+    let before = ASKED.get();
     let last = refused(|| {
         let last = handles.pop().expect("three handles");
         drop(handles.pop());
         assert!(handles.pop().expect("three handles").close().expect("no memory is needed").is_none());
         last
     });
-    assert_eq!(ASKED.load(Ordering::Relaxed), before);
+    assert_eq!(ASKED.get(), before);
     let Err(CloseError::Memory(unclosed)) = refused(|| last.close()) else {
         panic!("a report without memory");
     };
     let mut handle = unclosed.into_handle();
     assert_eq!(handle.has(5, 100_000), Ok(true));
     assert_eq!(handle.insert(6, 100_000), Ok(true));
-    let before = ASKED.load(Ordering::Relaxed);
+    let before = ASKED.get();
     let report = handle.close().expect("memory").expect("the last handle");
-    assert_eq!(ASKED.load(Ordering::Relaxed) - before, 8 * (1_000 + 3 * 64) + 8 * 3);
+    assert_eq!(ASKED.get() - before, 8 * (1_000 + 3 * 64) + 8 * 3);
     assert_eq!(report.keys, [5, 6, 7]);
     assert_eq!(report.keys.capacity(), 3);
+}
+
+#[test]
+fn a_close_that_the_library_refuses() {
+    let shape = Shape::for_keys(1_000, 3);
+    assert_eq!(refused_in_the_library(|| Set::open(shape, 3).err()), Some(OpenError::Memory));
+    let mut handles = Set::open(shape, 3).expect("a set");
+    for (key, handle) in (5..).zip(&mut handles) {
+        assert_eq!(handle.insert(key, 100_000), Ok(true));
+    }
+    let mut handle = handles.remove(1);
+    drop(handles);
+    for key in 8..10 {
+        let Err(CloseError::Memory(unclosed)) = refused_in_the_library(|| handle.close()) else {
+            panic!("a report without memory");
+        };
+        handle = unclosed.into_handle();
+        assert_eq!((handle.has(5, 100_000), handle.insert(key, 100_000)), (Ok(true), Ok(true)));
+    }
+    let report = handle.close().expect("memory").expect("the last handle");
+    assert_eq!((report.keys, report.free), (vec![5, 6, 7, 8, 9], shape.slots - 5));
+    let mut handles = Set::open(shape, 2).expect("a set");
+    drop(handles.pop());
+    assert!(refused_in_the_library(|| handles.remove(0).close()).is_err());
 }
