@@ -16,6 +16,9 @@ static int empty_handles(void) {
     CHECK(vbr_has(&none, 1, BUDGET) == VBR_EMPTY);
     CHECK(vbr_close(&none, keys, 4, &report) == VBR_EMPTY);
     vbr_drop(&none);
+    report.live = keys[0] = 77;
+    CHECK(vbr_close(NULL, keys, 4, &report) == VBR_EMPTY && keys[0] == 77 && report.live == 77);
+    vbr_drop(NULL);
     return 0;
 }
 

@@ -29,7 +29,7 @@
    of a set. A full handle that is forgotten keeps its set open: no other one is then the last.
 
    Pointers. None that a call is given is null, even where the number beside it is 0: then any aligned
-   address does. Each is aligned for its type, and names as many values as that number says, or one. All
+   address does. Only the handle of vbr_close and vbr_drop may be: a null one is taken for an empty one. Each is aligned for its type, and names as many values as that number says, or one. All
    of these are initialised before the call, those too that it only writes, as {0} does it: what
    vbr_close does not write it leaves as it was. They belong to the call while it runs, and to the caller
    afterwards: no two pointers of a call name the same bytes, and no other call or thread has these
@@ -96,7 +96,8 @@ extern "C" {
 #define VBR_VERSION_PATCH 0
 #define VBR_VERSION (VBR_VERSION_MAJOR * 1000000u + VBR_VERSION_MINOR * 1000u + VBR_VERSION_PATCH)
 
-/* VBR_NODISCARD: an answer that is thrown away may be a refusal. VBR_NOEXCEPT: no call throws or unwinds. */
+/* VBR_NODISCARD: an answer that is thrown away may be a refusal. VBR_NOEXCEPT: no call throws or unwinds. VBR_NONNULL: no
+   pointer is null. VBR_NONNULL_REST: none is but the first. */
 #if (defined(__cplusplus) && __cplusplus >= 201703L) || (defined(__STDC_VERSION__) && __STDC_VERSION__ > 201710L)
 #define VBR_NODISCARD [[nodiscard]]
 #elif defined(__GNUC__)
@@ -108,6 +109,13 @@ extern "C" {
 #define VBR_NOEXCEPT noexcept
 #else
 #define VBR_NOEXCEPT
+#endif
+#ifdef __GNUC__
+#define VBR_NONNULL __attribute__((nonnull))
+#define VBR_NONNULL_REST __attribute__((nonnull(2, 4)))
+#else
+#define VBR_NONNULL
+#define VBR_NONNULL_REST
 #endif
 
 #define VBR_MAX_SLOTS 16777215u
@@ -129,7 +137,7 @@ typedef enum vbr_answer {
     VBR_OUT_OF_STEPS = -1, /* insert, remove, has: the budget is spent; no call was made */
     VBR_NO_SLOT = -2,      /* insert: the key is absent and no slot is free; no call was made */
     VBR_EPOCH_SPENT = -3,  /* insert: the key is absent and the last epoch is spent; no call was made */
-    VBR_EMPTY = -4,        /* the handle is empty; nothing was done */
+    VBR_EMPTY = -4,        /* the handle is empty, or null where it may be; nothing was done */
     VBR_IN_USE = -5,       /* open: one of the handles is not empty; nothing was done */
     VBR_BAD_SHAPE = -6,    /* open: slots, buckets or last_epoch is out of range; nothing was done */
     VBR_BAD_COUNT = -7,    /* open: count is not from 1 to 64; nothing was done */
@@ -160,39 +168,39 @@ typedef struct vbr_totals {
    VBR_BAD_SHAPE, VBR_BAD_COUNT or VBR_NO_MEMORY, tested in this order, and the handles are as they
    were. */
 VBR_NODISCARD vbr_answer vbr_open(vbr_handle *handles, size_t count, uint32_t slots, uint32_t buckets,
-                                  uint64_t last_epoch) VBR_NOEXCEPT;
+                                  uint64_t last_epoch) VBR_NOEXCEPT VBR_NONNULL;
 
 /* Opens a set of `key_count` keys, which ascend, each above the one before, and fills the handles as
    vbr_open does: VBR_NO. Else VBR_IN_USE, VBR_BAD_SHAPE, VBR_BAD_COUNT, VBR_BAD_KEYS or VBR_NO_MEMORY,
    tested in this order, and the handles are as they were. The epoch is 1. It takes the memory of
    vbr_open, and 8 bytes for each key while it runs, and goes once over the keys. */
 VBR_NODISCARD vbr_answer vbr_open_with(vbr_handle *handles, size_t count, uint32_t slots, uint32_t buckets,
-                                       uint64_t last_epoch, const uint64_t *keys, size_t key_count) VBR_NOEXCEPT;
+                                       uint64_t last_epoch, const uint64_t *keys, size_t key_count) VBR_NOEXCEPT VBR_NONNULL;
 
 /* Adds a key, in at most `budget` steps: VBR_YES if it was absent, VBR_NO if it was there. Else VBR_OUT_OF_STEPS,
    VBR_NO_SLOT, VBR_EPOCH_SPENT or VBR_EMPTY. It takes no memory and never waits. */
-VBR_NODISCARD vbr_answer vbr_insert(vbr_handle *handle, uint64_t key, uint32_t budget) VBR_NOEXCEPT;
+VBR_NODISCARD vbr_answer vbr_insert(vbr_handle *handle, uint64_t key, uint32_t budget) VBR_NOEXCEPT VBR_NONNULL;
 
 /* Takes a key out, in at most `budget` steps: VBR_YES if it was there, VBR_NO if it was absent. Else VBR_OUT_OF_STEPS
    or VBR_EMPTY. It takes no memory and never waits. */
-VBR_NODISCARD vbr_answer vbr_remove(vbr_handle *handle, uint64_t key, uint32_t budget) VBR_NOEXCEPT;
+VBR_NODISCARD vbr_answer vbr_remove(vbr_handle *handle, uint64_t key, uint32_t budget) VBR_NOEXCEPT VBR_NONNULL;
 
 /* Looks a key up, in at most `budget` steps, all of them loads: VBR_YES if it is there, VBR_NO if it is absent. Else
    VBR_OUT_OF_STEPS or VBR_EMPTY. It takes no memory and never waits. */
-VBR_NODISCARD vbr_answer vbr_has(vbr_handle *handle, uint64_t key, uint32_t budget) VBR_NOEXCEPT;
+VBR_NODISCARD vbr_answer vbr_has(vbr_handle *handle, uint64_t key, uint32_t budget) VBR_NOEXCEPT VBR_NONNULL;
 
 /* The last epoch that the handle read in a call: 1 before its first, and 0 for an empty handle. It makes no step, so others
    may have advanced the epoch since. Renew the set before it comes to vbr_last_epoch. */
-VBR_NODISCARD uint64_t vbr_epoch(vbr_handle *handle) VBR_NOEXCEPT;
+VBR_NODISCARD uint64_t vbr_epoch(vbr_handle *handle) VBR_NOEXCEPT VBR_NONNULL;
 
 /* The last epoch that the set was opened with, and 0 for an empty handle. */
-VBR_NODISCARD uint64_t vbr_last_epoch(vbr_handle *handle) VBR_NOEXCEPT;
+VBR_NODISCARD uint64_t vbr_last_epoch(vbr_handle *handle) VBR_NOEXCEPT VBR_NONNULL;
 
 /* How many slots the set was opened with, and 0 for an empty handle. */
-VBR_NODISCARD uint32_t vbr_slots(vbr_handle *handle) VBR_NOEXCEPT;
+VBR_NODISCARD uint32_t vbr_slots(vbr_handle *handle) VBR_NOEXCEPT VBR_NONNULL;
 
 /* How many buckets the set was opened with, and 0 for an empty handle. */
-VBR_NODISCARD uint32_t vbr_buckets(vbr_handle *handle) VBR_NOEXCEPT;
+VBR_NODISCARD uint32_t vbr_buckets(vbr_handle *handle) VBR_NOEXCEPT VBR_NONNULL;
 
 /* The version of the library, which is VBR_VERSION where the header is of the same one. It has no handle, and can't fail. */
 VBR_NODISCARD uint32_t vbr_version(void) VBR_NOEXCEPT;
@@ -203,9 +211,9 @@ VBR_NODISCARD uint32_t vbr_version(void) VBR_NOEXCEPT;
    are initialised before.
    VBR_NO_MEMORY and VBR_NO_ROOM leave the last handle full: close it again, drop it, or go on with it. As
    many keys as the set has slots always have room; where these have not, VBR_NO_ROOM writes the report and
-   no key, and report->live is how many keys there are. Else nothing is written. VBR_LOST: a pass is not
-   there, and the set is gone; no program is known to get it. */
-VBR_NODISCARD vbr_answer vbr_close(vbr_handle *handle, uint64_t *keys, size_t room, vbr_totals *report) VBR_NOEXCEPT;
+   no key, and report->live is how many keys there are. Else nothing is written. VBR_EMPTY: the handle is
+   empty, or null. VBR_LOST: a pass is not there, and the set is gone; no program is known to get it. */
+VBR_NODISCARD vbr_answer vbr_close(vbr_handle *handle, uint64_t *keys, size_t room, vbr_totals *report) VBR_NOEXCEPT VBR_NONNULL_REST;
 
 /* Closes a set by all `count` handles that were opened with it, in any order, and leaves them empty:
    VBR_YES, with the report and its keys, as vbr_close writes them. No other thread is in a call on one of
@@ -214,11 +222,11 @@ VBR_NODISCARD vbr_answer vbr_close(vbr_handle *handle, uint64_t *keys, size_t ro
    VBR_MISSING, they are fewer than were opened, or count is 0; VBR_NO_MEMORY; VBR_NO_ROOM, as in a close.
    Handles of different sets are told by a probe, which is tested and not proved: do not rely on it. */
 VBR_NODISCARD vbr_answer vbr_close_all(vbr_handle *handles, size_t count, uint64_t *keys, size_t room,
-                                       vbr_totals *report) VBR_NOEXCEPT;
+                                       vbr_totals *report) VBR_NOEXCEPT VBR_NONNULL;
 
 /* Gives a handle up, empty or full, and leaves it empty. Its pass is given back as by a close, and no
    report is told: the last handle of the set that is closed still gets it, and with the last one dropped
-   the set ends. It needs no memory. */
+   the set ends. It needs no memory. With a null pointer it does nothing. */
 void vbr_drop(vbr_handle *handle) VBR_NOEXCEPT;
 
 #ifdef __cplusplus

@@ -45,7 +45,7 @@ static inline void *vbr_tsan_closed(void) {
 
 /* A call on a handle writes what the handle owns. */
 static inline void vbr_tsan_uses(const vbr_handle *handle) {
-    if (handle->owned) __tsan_write8(handle->owned);
+    if (handle && handle->owned) __tsan_write8(handle->owned);
 }
 
 VBR_NODISCARD static inline vbr_answer vbr_tsan_insert(vbr_handle *handle, uint64_t key, uint32_t budget) VBR_NOEXCEPT {
