@@ -1,5 +1,7 @@
-//! Finds the static library: in the directory that `VBR_LIB_DIR` names, or else by pkg-config. Pages (`DOCS_RS`) need none.
+//! Finds the static library: in the directory that `VBR_LIB_DIR` names, or else by pkg-config, or else among the files that
+//! were built before, where the crate lies in its repository and that has them. Pages (`DOCS_RS`) need none.
 use std::env;
+use std::path::Path;
 use std::process::Command;
 
 fn main() {
@@ -9,7 +11,7 @@ fn main() {
     if env::var_os("DOCS_RS").is_some() {
         return;
     }
-    let dir = env::var("VBR_LIB_DIR").ok().or_else(installed);
+    let dir = env::var("VBR_LIB_DIR").ok().or_else(installed).or_else(built_before);
     let Some(dir) = dir else {
         panic!(
             "libvbr.a is not found: run `make install PREFIX=DIR` in the repository and put DIR/lib/pkgconfig \
@@ -26,4 +28,13 @@ fn installed() -> Option<String> {
     let told = Command::new("pkg-config").args(["--variable=libdir", "vbr"]).output().ok()?;
     let dir = String::from_utf8(told.stdout).ok()?.trim().to_owned();
     (told.status.success() && !dir.is_empty()).then_some(dir)
+}
+
+/// The folder `prebuilt` of the repository, two above the crate.
+fn built_before() -> Option<String> {
+    let dir = Path::new(&env::var_os("CARGO_MANIFEST_DIR")?).join("../../prebuilt");
+    if !["libvbr.a", "ORIGIN"].iter().all(|it| dir.join(it).is_file()) {
+        return None;
+    }
+    Some(dir.canonicalize().ok()?.to_str()?.to_owned())
 }
