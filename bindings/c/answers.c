@@ -147,6 +147,18 @@ static int dropped_handles(void) {
     return 0;
 }
 
+/* A handle that a program forgets: its pass isn't lost, and the set stays open, so no other close is the last. */
+static int forgotten_handle(void) {
+    vbr_handle two[2] = {{0}};
+    CHECK(vbr_open(two, 2, 8, 2, 100) == VBR_NO && vbr_insert(&two[0], 5, BUDGET) == VBR_YES);
+    vbr_handle forgotten = two[0];
+    report.live = 77;
+    CHECK(vbr_close_all(&two[1], 1, keys, 4, &report) == VBR_MISSING);
+    CHECK(vbr_close(&two[1], keys, 4, &report) == VBR_NO && report.live == 77);
+    vbr_drop(&forgotten); /* the set ends here, and not before */
+    return 0;
+}
+
 static int closed_at_once(void) {
     vbr_handle three[3] = {{0}}, other[2] = {{0}};
     CHECK(vbr_close_all(three, 0, keys, 4, &report) == VBR_MISSING);
@@ -174,8 +186,7 @@ static int closed_at_once(void) {
 
 int main(void) {
     if (empty_handles() || refused_openings() || refused_keys() || opened_with_keys() || calls_and_closes() ||
-        spent_epoch() || shown_numbers() || dropped_handles() ||
-        closed_at_once())
+        spent_epoch() || shown_numbers() || dropped_handles() || forgotten_handle() || closed_at_once())
         return 1;
     puts("answers in C: passed");
     return 0;

@@ -1,9 +1,10 @@
-// The set in C++: the example of vbr.hpp, ranges of keys, closes, ends of handles, and loans.
+// The set in C++: the example of vbr.hpp, ranges of keys, closes, ends of handles, exceptions, and loans.
 #include "vbr.hpp"
 
 #include <cstdio>
 #include <list>
 #include <set>
+#include <stdexcept>
 #include <thread>
 #include <type_traits>
 #if __cplusplus >= 202002L
@@ -98,6 +99,44 @@ static int ends() {
     return 0;
 }
 
+// Inserts a key by each of the handles that are open, and throws: it owns the handles, so they end.
+static void inserts_and_throws(std::vector<vbr::handle> owned) {
+    for (std::size_t i = 0; i < owned.size(); i++)
+        if (owned[i].is_open() && vbr::is_refusal(owned[i].insert(i, 100000))) return;
+    throw std::runtime_error("given up");
+}
+
+// An exception that ends handles loses nothing: the last close is told all, whichever handle is kept; and a loan is given back.
+static int exceptions() {
+    for (std::size_t last = 0; last < 3; last++) {
+        auto opened = vbr::open(vbr::shape::for_keys(64, 3), 3);
+        CHECK(opened.answer == vbr::open_answer::done);
+        vbr::handle kept = std::move(opened.handles[last]);
+        bool caught = false;
+        try {
+            inserts_and_throws(std::move(opened.handles));
+        } catch (const std::runtime_error &) {
+            caught = true;
+        }
+        CHECK(caught && kept.insert(last, 100000) == vbr::answer::yes);
+        vbr::closed closed = kept.close();
+        CHECK(closed.answer == vbr::close_answer::last && closed.report->keys == (std::vector<std::uint64_t>{0, 1, 2}));
+    }
+    auto opened = vbr::open(vbr::shape::for_keys(64, 1), 1);
+    CHECK(opened.answer == vbr::open_answer::done);
+    vbr::lender lender(std::move(opened.handles));
+    try {
+        vbr::loan mine = lender.lend();
+        CHECK(mine && mine->insert(5, 100000) == vbr::answer::yes && !lender.lend());
+        throw std::runtime_error("given up");
+    } catch (const std::runtime_error &) {
+        CHECK(lender.lend());
+    }
+    vbr::closed closed = lender.close();
+    CHECK(closed.answer == vbr::close_answer::last && closed.report->keys == std::vector<std::uint64_t>{5});
+    return 0;
+}
+
 // Closes at the same time: one of them, and one alone, is the last.
 static int closes_at_once() {
     for (int round = 0; round < 200; round++) {
@@ -146,7 +185,7 @@ static int loans() {
 }
 
 int main() {
-    if (example() || refusals() || ranges() || ends() || closes_at_once() || loans()) return 1;
+    if (example() || refusals() || ranges() || ends() || exceptions() || closes_at_once() || loans()) return 1;
     std::puts("example in C++: passed");
     return 0;
 }

@@ -143,7 +143,8 @@ typedef enum vbr_answer {
     VBR_BAD_COUNT = -7,    /* open: count is not from 1 to 64; nothing was done */
     VBR_NO_MEMORY = -8,    /* open: nothing was done; close: it is the last and stays as it was */
     VBR_LOST = -9,         /* close: it was the last, and a pass is not there; the set is gone. A handle
-                              that is dropped gives its pass back, so no program is known to get this */
+                              that is dropped gives its pass back, and one that is forgotten keeps its
+                              set open (VBR_NO), so no program is known to get this */
     VBR_BAD_KEYS = -10,    /* open_with: the keys do not ascend, or there are more than slots; nothing
                               was done */
     VBR_NO_ROOM = -11,     /* close: it is the last and stays as it was; the report tells how many keys */

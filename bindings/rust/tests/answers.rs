@@ -1,5 +1,5 @@
 //! Each answer of the crate once.
-use vbr::{ample_budget, CloseError, OpenError, Refusal, Set, Shape, ShapeError, Unclosed, MAX_BUCKETS, MAX_EPOCH, MAX_SLOTS};
+use vbr::{ample_budget, CloseError, Handle, OpenError, Refusal, Set, Shape, ShapeError, Unclosed, MAX_BUCKETS, MAX_EPOCH, MAX_SLOTS};
 
 const BUDGET: u32 = 100_000;
 
@@ -130,6 +130,44 @@ fn a_thread_that_panics() {
 }
 
 #[test]
+fn handles_that_a_question_mark_drops() {
+    fn gives_up(mut owned: Vec<Handle>) -> Result<(), Refusal> {
+        for (key, handle) in (5..).zip(&mut owned) {
+            handle.insert(key, BUDGET)?;
+        }
+        owned[0].insert(9, 1)?;
+        unreachable!("a budget of one step is enough");
+    }
+    for last in 0..3 {
+        let mut handles = Set::open(Shape::for_keys(8, 3), 3).expect("a set");
+        let mut kept = handles.remove(last);
+        assert_eq!(gives_up(handles), Err(Refusal::OutOfSteps));
+        assert_eq!(kept.insert(7, BUDGET), Ok(true));
+        let report = kept.close().expect("a report").expect("the last handle");
+        assert_eq!((report.keys, report.free), (vec![5, 6, 7], 8 + 3 * 64 - 3));
+    }
+    fn gives_up_a_loan(set: &Set) -> Result<bool, Refusal> {
+        let mut mine = set.lend().expect("a free handle");
+        mine.insert(5, BUDGET)?;
+        assert!(set.lend().is_none());
+        mine.insert(9, 1)
+    }
+    let set = Set::lending(Shape::for_keys(8, 1), 1).expect("a set");
+    assert_eq!(gives_up_a_loan(&set), Err(Refusal::OutOfSteps));
+    assert!(set.lend().is_some());
+    assert_eq!(set.close().expect("a report").keys, [5]);
+}
+
+#[test]
+fn a_handle_that_is_forgotten() {
+    let mut handles = Set::open(Shape::for_keys(8, 2), 2).expect("a set");
+    let last = handles.pop().expect("two handles");
+    let forgotten = std::mem::ManuallyDrop::new(handles.pop().expect("two handles"));
+    assert!(last.close().expect("no error").is_none());
+    drop(std::mem::ManuallyDrop::into_inner(forgotten));
+}
+
+#[test]
 fn errors_pass_as_any_error() {
     fn is_any<T: std::error::Error + Send + Sync + 'static>() {}
     is_any::<OpenError>();
@@ -145,7 +183,7 @@ fn errors_pass_as_any_error() {
     }
     assert_eq!(runs().unwrap_err().to_string(), "0 slots are not from 1 to 16777215");
     let goes_on = Unclosed::into_handle;
-    let _: fn(Unclosed) -> vbr::Handle = goes_on;
+    let _: fn(Unclosed) -> Handle = goes_on;
 }
 
 #[test]
