@@ -57,6 +57,9 @@
    each step is a sequentially consistent atomic. ThreadSanitizer is told so by vbr_tsan.h, which this header includes
    where the program is compiled for it.
 
+   How many keys are in the set is told by no call while threads run. Count the inserts and removes that are answered
+   VBR_YES, in a counter for each thread, or read the report of a close.
+
    Budgets. A call makes at most `budget` steps, each one atomic operation on a word that the
    threads share, and never waits for another thread. A look-up makes loads alone, so it writes nothing
    that another thread can see. While the other handles make no step, wherever they stand still, a call
@@ -167,43 +170,65 @@ typedef struct vbr_totals {
 
 /* Opens an empty set and fills `count` handles, which are empty, so each is {0}: VBR_NO. Else VBR_IN_USE,
    VBR_BAD_SHAPE, VBR_BAD_COUNT or VBR_NO_MEMORY, tested in this order, and the handles are as they
-   were. */
+   were.
+
+       vbr_handle handle[2] = {{0}};
+       if (vbr_open(handle, 2, 1024 + 2 * 64, 1024, VBR_MAX_EPOCH) != VBR_NO) return 1; */
 VBR_NODISCARD vbr_answer vbr_open(vbr_handle *handles, size_t count, uint32_t slots, uint32_t buckets,
                                   uint64_t last_epoch) VBR_NOEXCEPT VBR_NONNULL;
 
 /* Opens a set of `key_count` keys, which ascend, each above the one before, and fills the handles as
    vbr_open does: VBR_NO. Else VBR_IN_USE, VBR_BAD_SHAPE, VBR_BAD_COUNT, VBR_BAD_KEYS or VBR_NO_MEMORY,
    tested in this order, and the handles are as they were. The epoch is 1. It takes the memory of
-   vbr_open, and 8 bytes for each key while it runs, and goes once over the keys. */
+   vbr_open, and 8 bytes for each key while it runs, and goes once over the keys.
+
+       static const uint64_t some[3] = {2, 5, 9};
+       if (vbr_open_with(handle, 2, 1024 + 2 * 64, 1024, VBR_MAX_EPOCH, some, 3) != VBR_NO) return 1; */
 VBR_NODISCARD vbr_answer vbr_open_with(vbr_handle *handles, size_t count, uint32_t slots, uint32_t buckets,
                                        uint64_t last_epoch, const uint64_t *keys, size_t key_count) VBR_NOEXCEPT VBR_NONNULL;
 
 /* Adds a key, in at most `budget` steps: VBR_YES if it was absent, VBR_NO if it was there. Else VBR_OUT_OF_STEPS,
-   VBR_NO_SLOT, VBR_EPOCH_SPENT or VBR_EMPTY. It takes no memory and never waits. */
+   VBR_NO_SLOT, VBR_EPOCH_SPENT or VBR_EMPTY. It takes no memory and never waits.
+
+       if (vbr_insert(&handle[0], 5, 100000) == VBR_YES) added++; // this call added 5 */
 VBR_NODISCARD vbr_answer vbr_insert(vbr_handle *handle, uint64_t key, uint32_t budget) VBR_NOEXCEPT VBR_NONNULL;
 
 /* Takes a key out, in at most `budget` steps: VBR_YES if it was there, VBR_NO if it was absent. Else VBR_OUT_OF_STEPS
-   or VBR_EMPTY. It takes no memory and never waits. */
+   or VBR_EMPTY. It takes no memory and never waits.
+
+       if (vbr_remove(&handle[1], 5, 100000) == VBR_YES) taken++; // this call took 5 out */
 VBR_NODISCARD vbr_answer vbr_remove(vbr_handle *handle, uint64_t key, uint32_t budget) VBR_NOEXCEPT VBR_NONNULL;
 
 /* Looks a key up, in at most `budget` steps, all of them loads: VBR_YES if it is there, VBR_NO if it is absent. Else
-   VBR_OUT_OF_STEPS or VBR_EMPTY. It takes no memory and never waits. */
+   VBR_OUT_OF_STEPS or VBR_EMPTY. It takes no memory and never waits.
+
+       if (vbr_has(&handle[1], 5, 100000) == VBR_YES) there++; // 5 was there during the call */
 VBR_NODISCARD vbr_answer vbr_has(vbr_handle *handle, uint64_t key, uint32_t budget) VBR_NOEXCEPT VBR_NONNULL;
 
 /* The last epoch that the handle read in a call: 1 before its first, and 0 for an empty handle. It makes no step, so others
-   may have advanced the epoch since. Renew the set before it comes to vbr_last_epoch. */
+   may have advanced the epoch since. Renew the set before it comes to vbr_last_epoch.
+
+       int is_near = vbr_epoch(&handle[0]) + 1000 >= vbr_last_epoch(&handle[0]); // then renew the set */
 VBR_NODISCARD uint64_t vbr_epoch(vbr_handle *handle) VBR_NOEXCEPT VBR_NONNULL;
 
-/* The last epoch that the set was opened with, and 0 for an empty handle. */
+/* The last epoch that the set was opened with, and 0 for an empty handle.
+
+       uint64_t left = vbr_last_epoch(&handle[0]) - vbr_epoch(&handle[0]); */
 VBR_NODISCARD uint64_t vbr_last_epoch(vbr_handle *handle) VBR_NOEXCEPT VBR_NONNULL;
 
-/* How many slots the set was opened with, and 0 for an empty handle. */
+/* How many slots the set was opened with, and 0 for an empty handle.
+
+       uint32_t budget = VBR_AMPLE_BUDGET(vbr_slots(&handle[0])); */
 VBR_NODISCARD uint32_t vbr_slots(vbr_handle *handle) VBR_NOEXCEPT VBR_NONNULL;
 
-/* How many buckets the set was opened with, and 0 for an empty handle. */
+/* How many buckets the set was opened with, and 0 for an empty handle.
+
+       int is_crowded = 3 > 2 * vbr_buckets(&handle[0]); // three keys, and more than two for each bucket */
 VBR_NODISCARD uint32_t vbr_buckets(vbr_handle *handle) VBR_NOEXCEPT VBR_NONNULL;
 
-/* The version of the library, which is VBR_VERSION where the header is of the same one. It has no handle, and can't fail. */
+/* The version of the library, which is VBR_VERSION where the header is of the same one. It has no handle, and can't fail.
+
+       if (vbr_version() != VBR_VERSION) return 1; // the library is of another version than the header */
 VBR_NODISCARD uint32_t vbr_version(void) VBR_NOEXCEPT;
 
 /* Gives the pass back and leaves the handle empty: VBR_NO while others of its set are open. The last one
@@ -213,7 +238,10 @@ VBR_NODISCARD uint32_t vbr_version(void) VBR_NOEXCEPT;
    VBR_NO_MEMORY and VBR_NO_ROOM leave the last handle full: close it again, drop it, or go on with it. As
    many keys as the set has slots always have room; where these have not, VBR_NO_ROOM writes the report and
    no key, and report->live is how many keys there are. Else nothing is written. VBR_EMPTY: the handle is
-   empty, or null. VBR_LOST: a pass is not there, and the set is gone; no program is known to get it. */
+   empty, or null. VBR_LOST: a pass is not there, and the set is gone; no program is known to get it.
+
+       vbr_answer first = vbr_close(&handle[0], keys, 8, &report); // VBR_NO: the other handle is open
+       vbr_answer last = vbr_close(&handle[1], keys, 8, &report);  // VBR_YES: report.live keys are in front of keys */
 VBR_NODISCARD vbr_answer vbr_close(vbr_handle *handle, uint64_t *keys, size_t room, vbr_totals *report) VBR_NOEXCEPT VBR_NONNULL_REST;
 
 /* Closes a set by all `count` handles that were opened with it, in any order, and leaves them empty:
@@ -221,13 +249,17 @@ VBR_NODISCARD vbr_answer vbr_close(vbr_handle *handle, uint64_t *keys, size_t ro
    them. The keys are what all calls on these handles leave. It takes the memory of a close.
    Else the handles stay as they were: VBR_EMPTY, one is empty; VBR_MIXED, two are of different sets;
    VBR_MISSING, they are fewer than were opened, or count is 0; VBR_NO_MEMORY; VBR_NO_ROOM, as in a close.
-   Handles of different sets are told by a probe, which is tested and not proved: do not rely on it. */
+   Handles of different sets are told by a probe, which is tested and not proved: do not rely on it.
+
+       vbr_answer closed = vbr_close_all(handle, 2, keys, 8, &report); // VBR_YES: report.live is 3, keys are 2, 5, 9 */
 VBR_NODISCARD vbr_answer vbr_close_all(vbr_handle *handles, size_t count, uint64_t *keys, size_t room,
                                        vbr_totals *report) VBR_NOEXCEPT VBR_NONNULL;
 
 /* Gives a handle up, empty or full, and leaves it empty. Its pass is given back as by a close, and no
    report is told: the last handle of the set that is closed still gets it, and with the last one dropped
-   the set ends. It needs no memory. With a null pointer it does nothing. */
+   the set ends. It needs no memory. With a null pointer it does nothing.
+
+       vbr_drop(&handle[0]); // the close of handle[1] is told the report */
 void vbr_drop(vbr_handle *handle) VBR_NOEXCEPT;
 
 #ifdef __cplusplus

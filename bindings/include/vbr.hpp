@@ -9,7 +9,9 @@
        vbr::closed last = handles[1].close();                // last: last.report->keys is {5}
 
    It is a header over the calls of vbr.h, which says what each asks and answers, and links with the same library. Only
-   openings and closes take memory; where a vector finds none they throw std::bad_alloc and leave all as it was. */
+   openings and closes take memory; where a vector finds none they throw std::bad_alloc and leave all as it was. How many
+   keys are in the set is told by no call while threads run: count the inserts and removes that are answered yes, or read
+   the report of the last close. */
 #ifndef VBR_HPP
 #define VBR_HPP
 

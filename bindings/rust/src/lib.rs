@@ -37,6 +37,10 @@
 //! ([`core::mem::forget`]) is never closed, and neither is its set. Threads that come and go, or are more than 64, borrow
 //! handles by [`Set::lend`]. After a fork the child uses no handle, unless the process had one thread.
 //!
+//! No call is a point of cancellation; but Rust doesn't say what becomes of a thread that is cancelled (`pthread_cancel`),
+//! so cancel none that has a handle. A call in which a signal comes goes on afterwards. The handler may insert, remove and
+//! look up with a handle that nothing else uses; it opens, closes and drops none, since these take memory or free it.
+//!
 //! How many keys are in the set isn't told while threads run. Count the inserts and removes that are answered yes, or
 //! read the report of the last close.
 //!
@@ -60,19 +64,40 @@ use core::ptr::{null_mut, NonNull};
 use core::sync::atomic::{AtomicPtr, AtomicU64, AtomicUsize, Ordering};
 
 /// The greatest number of slots.
+///
+/// ```
+/// assert_eq!(vbr::Shape::new(vbr::MAX_SLOTS, 1, 1).check(), Ok(()));
+/// ```
 pub const MAX_SLOTS: u32 = 16_777_215;
 
 /// The greatest number of buckets. Open with as many as keys, a power of two: a bucket then has about one
 /// node, and takes 8 bytes.
+///
+/// ```
+/// assert!(vbr::Shape::new(1, vbr::MAX_BUCKETS + 1, 1).check().is_err());
+/// ```
 pub const MAX_BUCKETS: u32 = 16_777_216;
 
 /// The greatest last epoch.
+///
+/// ```
+/// assert_eq!(vbr::Shape::for_keys(8, 1).last_epoch, vbr::MAX_EPOCH);
+/// ```
 pub const MAX_EPOCH: u64 = 549_755_813_887;
 
 /// The greatest number of handles of a set.
+///
+/// ```
+/// let handles = vbr::Set::open(vbr::Shape::for_keys(8, vbr::MAX_HANDLES), vbr::MAX_HANDLES);
+/// assert_eq!(handles.map(|it| it.len()), Ok(64));
+/// ```
 pub const MAX_HANDLES: usize = 64;
 
 /// The version of the library: major * 1000000 + minor * 1000 + patch.
+///
+/// ```
+/// assert_eq!(vbr::version(), 2_000); // 0.2.0
+/// ```
 pub fn version() -> u32 {
     // SAFETY: it takes nothing.
     unsafe { vbr_version() }
@@ -122,6 +147,11 @@ extern "C" {
 ///
 /// Keys are spread over the buckets by a multiplication, so keys with a pattern (in sequence, multiples of
 /// a page, pointers) do no harm; keys that somebody chooses to fall into one bucket do.
+///
+/// ```
+/// let shape = vbr::Shape { slots: 1_024 + 2 * 64, buckets: 1_024, last_epoch: vbr::MAX_EPOCH };
+/// assert_eq!(shape, vbr::Shape::for_keys(1_024, 2));
+/// ```
 #[derive(Clone, Copy, Debug, PartialEq, Eq, Hash)]
 pub struct Shape {
     /// From 1 to [`MAX_SLOTS`].
@@ -134,6 +164,10 @@ pub struct Shape {
 
 impl Shape {
     /// A shape of these numbers, which [`Set::open`] tests.
+    ///
+    /// ```
+    /// assert_eq!(vbr::Shape::new(128, 64, 1_000), vbr::Shape { slots: 128, buckets: 64, last_epoch: 1_000 });
+    /// ```
     pub const fn new(slots: u32, buckets: u32, last_epoch: u64) -> Shape {
         Shape { slots, buckets, last_epoch }
     }
@@ -152,6 +186,12 @@ impl Shape {
 
     /// The first of the three numbers that is out of its range, as [`Set::open`] tests them.
     ///
+    /// ```
+    /// use vbr::{Shape, ShapeError};
+    ///
+    /// assert_eq!(Shape::new(0, 0, 1).check(), Err(ShapeError::Slots(0)));
+    /// ```
+    ///
     /// # Errors
     ///
     /// That number.
@@ -166,11 +206,23 @@ impl Shape {
 }
 
 /// A budget that no call runs out of in short buckets, in a set of so many slots.
+///
+/// ```
+/// let shape = vbr::Shape::for_keys(1_000_000, 1);
+/// assert_eq!(vbr::ample_budget(shape.slots), 115_626);
+/// ```
 pub const fn ample_budget(slots: u32) -> u32 {
     100_000 + slots / 64
 }
 
 /// A set. It is used through its handles: [`Set::open`] gives them, and [`Set::lending`] keeps them and lends them.
+///
+/// ```
+/// # use vbr::{Set, Shape};
+/// let set = Set::lending_with(Shape::for_keys(8, 2), 2, &[2, 5])?;
+/// assert!(set.lend().expect("two are free").has(5, 100_000)?);
+/// # Ok::<(), Box<dyn std::error::Error>>(())
+/// ```
 pub struct Set {
     handles: Box<[UnsafeCell<Handle>]>,
     /// A bit for each handle that isn't lent.
@@ -270,6 +322,13 @@ impl Set {
 
     /// Opens a set of these keys, as [`Set::open_with`] does, that lends its handles.
     ///
+    /// ```
+    /// # use vbr::{Set, Shape};
+    /// let set = Set::lending_with(Shape::for_keys(8, 2), 2, &[2, 5, 9])?;
+    /// assert_eq!(set.close()?.keys, [2, 5, 9]);
+    /// # Ok::<(), Box<dyn std::error::Error>>(())
+    /// ```
+    ///
     /// # Errors
     ///
     /// Those of [`Set::open_with`].
@@ -294,6 +353,17 @@ impl Set {
     /// A loan and its return are one atomic operation each on a word that all threads share: a look-up with a loan of its
     /// own takes several times as long as one without, and more where several threads borrow at the same time. So keep a
     /// loan for as many calls as can be, and keep none while the thread waits for something else.
+    ///
+    /// ```
+    /// # use vbr::{Set, Shape};
+    /// let set = Set::lending(Shape::for_keys(8, 1), 1)?;
+    /// let mut mine = set.lend().expect("the one handle");
+    /// assert!(mine.insert(5, 100_000)?);
+    /// assert!(set.lend().is_none());
+    /// drop(mine);
+    /// assert!(set.lend().is_some());
+    /// # Ok::<(), Box<dyn std::error::Error>>(())
+    /// ```
     #[inline]
     pub fn lend(&self) -> Option<Lent<'_>> {
         let mut untried = u64::MAX;
@@ -310,6 +380,14 @@ impl Set {
     }
 
     /// Closes all handles, and tells what was in the set.
+    ///
+    /// ```
+    /// # use vbr::{Set, Shape};
+    /// let set = Set::lending(Shape::for_keys(8, 2), 2)?;
+    /// set.lend().expect("two are free").insert(5, 100_000)?;
+    /// assert_eq!(set.close()?.keys, [5]);
+    /// # Ok::<(), Box<dyn std::error::Error>>(())
+    /// ```
     ///
     /// # Errors
     ///
@@ -334,6 +412,15 @@ impl fmt::Debug for Set {
 /// next borrower does.
 ///
 /// It may go to another thread, and is not `Sync`.
+///
+/// ```
+/// # use vbr::{Handle, Set, Shape};
+/// let set = Set::lending(Shape::for_keys(8, 1), 1)?;
+/// let mut mine = set.lend().expect("the one handle");
+/// let handle: &mut Handle = &mut mine;
+/// assert!(handle.insert(5, 100_000)?);
+/// # Ok::<(), Box<dyn std::error::Error>>(())
+/// ```
 ///
 /// ```compile_fail
 /// fn is_sync<T: Sync>() {}
@@ -415,6 +502,15 @@ fn open_by(shape: Shape, handles: usize, open: impl FnOnce(*mut Raw, usize) -> i
 /// It may go to another thread, and is neither `Clone` nor `Sync`. One that is dropped is closed, and nothing is lost by
 /// it: the handle that is closed last gets the report. Where the last one is dropped, the set goes with it.
 ///
+/// ```
+/// # use vbr::{Set, Shape};
+/// let mut handles = Set::open(Shape::for_keys(8, 2), 2)?;
+/// let mut other = handles.pop().expect("two handles");
+/// std::thread::spawn(move || other.insert(5, 100_000)).join().expect("a thread")?;
+/// assert!(handles[0].has(5, 100_000)?);
+/// # Ok::<(), Box<dyn std::error::Error>>(())
+/// ```
+///
 /// ```compile_fail
 /// fn is_clone<T: Clone>() {}
 /// is_clone::<vbr::Handle>();
@@ -460,6 +556,14 @@ impl Handle {
     /// Takes a key out, in at most `budget` steps, and says whether it was there. While the other handles
     /// stand still, 9n + 11 are enough, with n nodes in the bucket of the key.
     ///
+    /// ```
+    /// # use vbr::{Set, Shape};
+    /// let mut handle = Set::open_with(Shape::for_keys(8, 1), 1, &[5])?.remove(0);
+    /// assert!(handle.remove(5, 1_000)?);
+    /// assert!(!handle.remove(5, 1_000)?);
+    /// # Ok::<(), Box<dyn std::error::Error>>(())
+    /// ```
+    ///
     /// # Errors
     ///
     /// [`Refusal::OutOfSteps`] alone. No call was made then.
@@ -475,6 +579,13 @@ impl Handle {
     /// It changes what the handle owns, and nothing that another handle sees, so it takes `&self` of a type that is not
     /// `Sync`.
     ///
+    /// ```
+    /// # use vbr::{Set, Shape};
+    /// let handle = Set::open_with(Shape::for_keys(8, 1), 1, &[5])?.remove(0);
+    /// assert!(handle.has(5, 1_000)? && !handle.has(6, 1_000)?);
+    /// # Ok::<(), Box<dyn std::error::Error>>(())
+    /// ```
+    ///
     /// # Errors
     ///
     /// [`Refusal::OutOfSteps`] alone. No call was made then.
@@ -486,6 +597,14 @@ impl Handle {
 
     /// The last epoch that the handle read in a call; 1 before its first. It makes no step, so others may
     /// have advanced the epoch since. Renew the set before it comes to [`Handle::last_epoch`].
+    ///
+    /// ```
+    /// # use vbr::{Set, Shape};
+    /// let handle = Set::open(Shape::new(8, 2, 100), 1)?.remove(0);
+    /// let is_near = handle.epoch() + 10 >= handle.last_epoch(); // then renew the set
+    /// assert!(!is_near);
+    /// # Ok::<(), Box<dyn std::error::Error>>(())
+    /// ```
     #[inline]
     pub fn epoch(&self) -> u64 {
         // SAFETY: one thread at a time has the handle, which is not `Sync`, and the call lends it to nobody.
@@ -493,6 +612,13 @@ impl Handle {
     }
 
     /// The last epoch of the set.
+    ///
+    /// ```
+    /// # use vbr::{Set, Shape};
+    /// let handle = Set::open(Shape::new(8, 2, 100), 1)?.remove(0);
+    /// assert_eq!(handle.last_epoch(), 100);
+    /// # Ok::<(), Box<dyn std::error::Error>>(())
+    /// ```
     #[inline]
     pub fn last_epoch(&self) -> u64 {
         // SAFETY: one thread at a time has the handle, which is not `Sync`, and the call lends it to nobody.
@@ -500,6 +626,13 @@ impl Handle {
     }
 
     /// How many slots the set has.
+    ///
+    /// ```
+    /// # use vbr::{ample_budget, Set, Shape};
+    /// let handle = Set::open(Shape::new(640, 2, 100), 1)?.remove(0);
+    /// assert_eq!(ample_budget(handle.slots()), 100_010);
+    /// # Ok::<(), Box<dyn std::error::Error>>(())
+    /// ```
     #[inline]
     pub fn slots(&self) -> u32 {
         // SAFETY: one thread at a time has the handle, which is not `Sync`, and the call lends it to nobody.
@@ -507,6 +640,13 @@ impl Handle {
     }
 
     /// How many buckets the set has.
+    ///
+    /// ```
+    /// # use vbr::{Set, Shape};
+    /// let handle = Set::open(Shape::for_keys(1_000, 1), 1)?.remove(0);
+    /// assert_eq!(handle.buckets(), 1_024);
+    /// # Ok::<(), Box<dyn std::error::Error>>(())
+    /// ```
     #[inline]
     pub fn buckets(&self) -> u32 {
         // SAFETY: one thread at a time has the handle, which is not `Sync`, and the call lends it to nobody.
@@ -516,6 +656,15 @@ impl Handle {
     /// Closes the handle. The answer is `None` while other handles of the set are open; the last one is told what is in
     /// the set. It alone takes memory: 8 bytes for each slot, of which what isn't needed is given back, and as much as the
     /// words of the set and 9 bytes for each slot while it runs.
+    ///
+    /// ```
+    /// # use vbr::{Set, Shape};
+    /// let mut handles = Set::open_with(Shape::for_keys(8, 2), 2, &[5, 7])?;
+    /// let last = handles.pop().expect("two handles");
+    /// assert!(handles.remove(0).close()?.is_none());
+    /// assert_eq!(last.close()?.expect("the last handle").keys, [5, 7]);
+    /// # Ok::<(), Box<dyn std::error::Error>>(())
+    /// ```
     ///
     /// # Errors
     ///
@@ -619,6 +768,15 @@ fn answer(code: i32) -> Result<bool, Refusal> {
 }
 
 /// What a set held when it was closed.
+///
+/// ```
+/// # use vbr::{Set, Shape};
+/// let mut handle = Set::open(Shape::for_keys(8, 1), 1)?.remove(0);
+/// handle.insert(5, 1_000)?;
+/// let report = handle.close()?.expect("the only handle");
+/// assert_eq!((report.keys, report.epoch, report.marked, report.free), (vec![5], 1, 0, 8 + 64 - 1));
+/// # Ok::<(), Box<dyn std::error::Error>>(())
+/// ```
 #[derive(Clone, Debug, PartialEq, Eq)]
 pub struct Report {
     /// The keys in the set, ascending.
@@ -632,6 +790,11 @@ pub struct Report {
 }
 
 /// Why a set was not opened.
+///
+/// ```
+/// # use vbr::{OpenError, Set, Shape};
+/// assert_eq!(Set::open_with(Shape::for_keys(8, 1), 1, &[7, 5]).unwrap_err(), OpenError::Keys);
+/// ```
 #[derive(Clone, Copy, Debug, PartialEq, Eq)]
 pub enum OpenError {
     /// A number of the shape is out of range: the first such one.
@@ -645,6 +808,12 @@ pub enum OpenError {
 }
 
 /// The number of a shape that is out of its range.
+///
+/// ```
+/// # use vbr::{Set, Shape};
+/// let error = Set::open(Shape::new(8, 0, 100), 1).unwrap_err();
+/// assert_eq!(error.to_string(), "0 buckets are not from 1 to 16777216");
+/// ```
 #[derive(Clone, Copy, Debug, PartialEq, Eq)]
 pub enum ShapeError {
     /// The number of slots is not from 1 to [`MAX_SLOTS`].
@@ -656,6 +825,14 @@ pub enum ShapeError {
 }
 
 /// Why a call gave no answer. It made no call then.
+///
+/// ```
+/// # use vbr::{Refusal, Set, Shape};
+/// let mut handle = Set::open_with(Shape::new(1, 1, 100), 1, &[5])?.remove(0);
+/// assert_eq!(handle.insert(6, 1_000), Err(Refusal::NoSlot));
+/// assert_eq!(handle.insert(6, 1), Err(Refusal::OutOfSteps));
+/// # Ok::<(), Box<dyn std::error::Error>>(())
+/// ```
 #[derive(Clone, Copy, Debug, PartialEq, Eq)]
 pub enum Refusal {
     /// The budget is spent.
@@ -667,6 +844,20 @@ pub enum Refusal {
 }
 
 /// Why the last handle got no report.
+///
+/// ```
+/// # use vbr::{CloseError, Handle, Report};
+/// fn report_of(handle: Handle) -> Result<Option<Report>, Handle> {
+///     match handle.close() {
+///         Ok(report) => Ok(report), // None: others are open
+///         Err(CloseError::Memory(unclosed)) => Err(unclosed.into_handle()),
+///         Err(CloseError::Lost) => Ok(None),
+///     }
+/// }
+/// # let handle = vbr::Set::open_with(vbr::Shape::for_keys(8, 1), 1, &[5])?.remove(0);
+/// # assert_eq!(report_of(handle).expect("memory").expect("the only handle").keys, [5]);
+/// # Ok::<(), Box<dyn std::error::Error>>(())
+/// ```
 #[derive(Debug)]
 pub enum CloseError {
     /// It was the last handle, and a pass of the set is not there. The set is gone. No program is known to get this.
@@ -676,6 +867,13 @@ pub enum CloseError {
 }
 
 /// A handle that couldn't be closed, within an error that threads may share.
+///
+/// ```
+/// # use vbr::{Handle, Unclosed};
+/// fn goes_on(unclosed: Unclosed) -> Result<bool, vbr::Refusal> {
+///     unclosed.into_handle().has(5, 1_000)
+/// }
+/// ```
 #[derive(Debug)]
 pub struct Unclosed(Handle);
 
@@ -684,6 +882,23 @@ unsafe impl Sync for Unclosed {}
 
 impl Unclosed {
     /// The handle, to go on with, or to be closed again.
+    ///
+    /// ```
+    /// # use vbr::{CloseError, Handle, Report};
+    /// /// Closes the last handle, and waits for memory where there is none.
+    /// fn close(mut handle: Handle) -> Option<Report> {
+    ///     loop {
+    ///         match handle.close() {
+    ///             Err(CloseError::Memory(unclosed)) => handle = unclosed.into_handle(),
+    ///             other => return other.ok()?,
+    ///         }
+    ///         std::thread::yield_now();
+    ///     }
+    /// }
+    /// # let handle = vbr::Set::open(vbr::Shape::for_keys(8, 1), 1)?.remove(0);
+    /// # assert!(close(handle).is_some());
+    /// # Ok::<(), vbr::OpenError>(())
+    /// ```
     pub fn into_handle(self) -> Handle {
         self.0
     }

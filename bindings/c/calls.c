@@ -1,0 +1,69 @@
+/* Each call of the headers, as the example in its comment has it: tests/pages sees that these lines are those. */
+#include "vbr.h"
+#include "vbr_lend.h"
+
+#include <stdio.h>
+
+#define CHECK(x) do { if (!(x)) { fprintf(stderr, "calls.c:%d: %s\n", __LINE__, #x); return 1; } } while (0)
+
+static vbr_totals report;
+static uint64_t keys[8];
+
+static int one_by_one(void) {
+    int added = 0, there = 0, taken = 0;
+    vbr_handle handle[2] = {{0}};
+    if (vbr_open(handle, 2, 1024 + 2 * 64, 1024, VBR_MAX_EPOCH) != VBR_NO) return 1;
+    if (vbr_insert(&handle[0], 5, 100000) == VBR_YES) added++; // this call added 5
+    if (vbr_insert(&handle[0], 6, 100000) == VBR_YES) added++;
+    if (vbr_has(&handle[1], 5, 100000) == VBR_YES) there++; // 5 was there during the call
+    if (vbr_remove(&handle[1], 5, 100000) == VBR_YES) taken++; // this call took 5 out
+    CHECK(added == 2 && there == 1 && taken == 1);
+    vbr_answer first = vbr_close(&handle[0], keys, 8, &report); // VBR_NO: the other handle is open
+    vbr_answer last = vbr_close(&handle[1], keys, 8, &report);  // VBR_YES: report.live keys are in front of keys
+    CHECK(first == VBR_NO && last == VBR_YES && report.live == 1 && keys[0] == 6);
+    return 0;
+}
+
+static int all_at_once(void) {
+    vbr_handle handle[2] = {{0}};
+    static const uint64_t some[3] = {2, 5, 9};
+    if (vbr_open_with(handle, 2, 1024 + 2 * 64, 1024, VBR_MAX_EPOCH, some, 3) != VBR_NO) return 1;
+    if (vbr_version() != VBR_VERSION) return 1; // the library is of another version than the header
+    int is_near = vbr_epoch(&handle[0]) + 1000 >= vbr_last_epoch(&handle[0]); // then renew the set
+    uint64_t left = vbr_last_epoch(&handle[0]) - vbr_epoch(&handle[0]);
+    uint32_t budget = VBR_AMPLE_BUDGET(vbr_slots(&handle[0]));
+    int is_crowded = 3 > 2 * vbr_buckets(&handle[0]); // three keys, and more than two for each bucket
+    CHECK(!is_near && left == VBR_MAX_EPOCH - 1 && budget == 100018 && !is_crowded);
+    vbr_answer closed = vbr_close_all(handle, 2, keys, 8, &report); // VBR_YES: report.live is 3, keys are 2, 5, 9
+    CHECK(closed == VBR_YES && report.live == 3 && keys[0] == 2 && keys[1] == 5 && keys[2] == 9);
+    return 0;
+}
+
+static int given_up(void) {
+    vbr_handle handle[2] = {{0}};
+    if (vbr_open(handle, 2, 1024 + 2 * 64, 1024, VBR_MAX_EPOCH) != VBR_NO) return 1;
+    vbr_drop(&handle[0]); // the close of handle[1] is told the report
+    CHECK(vbr_close(&handle[1], keys, 8, &report) == VBR_YES && report.live == 0);
+    return 0;
+}
+
+static int lent(void) {
+    vbr_handle handle[2] = {{0}};
+    if (vbr_open(handle, 2, 1024 + 2 * 64, 1024, VBR_MAX_EPOCH) != VBR_NO) return 1;
+    vbr_lender lender = {0};
+    vbr_lender_init(&lender, handle, 2);
+    vbr_handle *mine = vbr_lend(&lender); // NULL: both are lent
+    if (mine) {
+        vbr_answer added = vbr_insert(mine, 5, 100000);
+        vbr_give_back(&lender, mine); // and mine isn't used any more
+        CHECK(added == VBR_YES);
+    }
+    CHECK(vbr_close_all(handle, 2, keys, 8, &report) == VBR_YES && report.live == 1);
+    return 0;
+}
+
+int main(void) {
+    if (one_by_one() || all_at_once() || given_up() || lent()) return 1;
+    puts("examples of each call in C: passed");
+    return 0;
+}
