@@ -1,0 +1,55 @@
+/* What it costs to open, close and renew a set, in seconds: costs [largest]
+   A set of a million keys; with `largest` also the greatest one there can be, empty and with sixteen million keys. A renewal is
+   a close of all handles and an opening with the keys of the report. */
+#include "vbr.h"
+
+#include <stdio.h>
+#include <stdlib.h>
+#include <string.h>
+#include <time.h>
+
+#define CHECK(x) do { if (!(x)) { fprintf(stderr, "costs.c:%d: %s\n", __LINE__, #x); exit(1); } } while (0)
+
+enum { HANDLES = 4, ROUNDS = 5 };
+
+static double now(void) {
+    struct timespec t;
+    CHECK(timespec_get(&t, TIME_UTC) == TIME_UTC);
+    return (double)t.tv_sec + (double)t.tv_nsec / 1e9;
+}
+
+static double least(double a, double b) { return a < b ? a : b; }
+
+static void measure(const char *what, uint32_t slots, uint32_t buckets, uint32_t count) {
+    double opening = 1e9, closing = 1e9, renewal = 1e9;
+    uint64_t *keys = calloc(slots, sizeof *keys), step = UINT64_MAX / (count + 1);
+    CHECK(keys);
+    for (int round = 0; round < ROUNDS; round++) {
+        vbr_handle handle[HANDLES] = {{0}};
+        vbr_totals report = {0};
+        for (uint64_t i = 0; i < count; i++) keys[i] = i * step + (i * 0x9E3779B97F4A7C15u >> 20) % step;
+        double begun = now();
+        if (count) CHECK(vbr_open_with(handle, HANDLES, slots, buckets, VBR_MAX_EPOCH, keys, count) == VBR_NO);
+        else CHECK(vbr_open(handle, HANDLES, slots, buckets, VBR_MAX_EPOCH) == VBR_NO);
+        double opened = now();
+        CHECK(vbr_close_all(handle, HANDLES, keys, slots, &report) == VBR_YES && report.live == count);
+        double closed = now();
+        CHECK(vbr_open_with(handle, HANDLES, slots, buckets, VBR_MAX_EPOCH, keys, report.live) == VBR_NO);
+        double renewed = now();
+        for (int i = 0; i < HANDLES; i++) vbr_drop(&handle[i]);
+        opening = least(opening, opened - begun), closing = least(closing, closed - opened), renewal = least(renewal, renewed - opened);
+    }
+    free(keys);
+    printf("%-44s opening %6.3f, closing %6.3f, renewal %6.3f s\n", what, opening, closing, renewal);
+}
+
+int main(int argc, char **argv) {
+    measure("1,048,576 slots and buckets, empty", 1048576, 1048576, 0);
+    measure("1,048,576 slots and buckets, 1,000,000 keys", 1048576, 1048576, 1000000);
+    if (argc > 1 && !strcmp(argv[1], "largest")) {
+        measure("the largest set, empty", VBR_MAX_SLOTS, VBR_MAX_BUCKETS, 0);
+        measure("the largest set, 16,000,000 keys", VBR_MAX_SLOTS, VBR_MAX_BUCKETS, 16000000);
+    }
+    puts("costs in C: passed");
+    return 0;
+}
