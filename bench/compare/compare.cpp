@@ -199,6 +199,9 @@ void warn(const std::vector<Cell> &cells) {
         if (cell.best().disturbance.is_great())
             std::fprintf(stderr, "compare: disturbed in all runs: %s: other work had %.0f %% of the processors in the best\n",
                          cell.name().c_str(), 100 * cell.best().disturbance.all());
+        if (cell.best().seconds < 0.1)
+            std::fprintf(stderr, "compare: short: %s: the best run took %.1f ms, too few for the count of other work\n",
+                         cell.name().c_str(), 1000 * cell.best().seconds);
         if (cell.median_seconds() > 1.2 * cell.best().seconds)
             std::fprintf(stderr, "compare: uneven: %s: the best run took %.1f ms, the median one %.1f ms\n", cell.name().c_str(),
                          1000 * cell.best().seconds, 1000 * cell.median_seconds());

@@ -20,15 +20,15 @@ struct Workload {
     uint64_t operations;          // of all threads
     uint64_t run;                 // from which the random numbers come
 
-    bool is_fill() const { return has + insert + remove == 0; }
+    constexpr bool is_fill() const { return has + insert + remove == 0; }
 
     // How many keys the set has as the calls are made: of a mix about half of them, which are put in before.
-    uint64_t keys() const { return is_fill() ? range : range / 2; }
+    constexpr uint64_t keys() const { return is_fill() ? range : range / 2; }
 
-    // Of each set that has them: a power of two, and at least one for two keys.
-    size_t buckets() const {
+    // Of each set that has them: a power of two, and at least one for each key of a fill, and one for two keys of a mix.
+    constexpr size_t buckets() const {
         size_t buckets = 1;
-        while (buckets < keys() / 2) buckets *= 2;
+        while (buckets < (is_fill() ? keys() : keys() / 2)) buckets *= 2;
         return buckets;
     }
 
