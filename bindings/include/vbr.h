@@ -29,9 +29,10 @@
    of a set. A full handle that is forgotten keeps its set open: no other one is then the last.
 
    Pointers. None that a call is given is null, even where the number beside it is 0: then any aligned
-   address does. Only the handle of vbr_close and vbr_drop may be: a null one is taken for an empty one. Each is aligned for its type, and names as many values as that number says, or one. All
-   of these are initialised before the call, those too that it only writes, as {0} does it: what
-   vbr_close does not write it leaves as it was. They belong to the call while it runs, and to the caller
+   address does. Only the handle of vbr_close and vbr_drop may be: a null one is taken for an empty one.
+   Each is aligned for its type, and names as many values as that number says, or one. All of these are
+   initialised before the call, those too that it only writes, as {0} does it: what vbr_close does not
+   write it leaves as it was. They belong to the call while it runs, and to the caller
    afterwards: no two pointers of a call name the same bytes, and no other call or thread has these
    meanwhile. The keys of vbr_open_with are only read, so others may read them meanwhile.
 
@@ -242,7 +243,8 @@ VBR_NODISCARD uint32_t vbr_version(void) VBR_NOEXCEPT;
 
        vbr_answer first = vbr_close(&handle[0], keys, 8, &report); // VBR_NO: the other handle is open
        vbr_answer last = vbr_close(&handle[1], keys, 8, &report);  // VBR_YES: report.live keys are in front of keys */
-VBR_NODISCARD vbr_answer vbr_close(vbr_handle *handle, uint64_t *keys, size_t room, vbr_totals *report) VBR_NOEXCEPT VBR_NONNULL_REST;
+VBR_NODISCARD vbr_answer vbr_close(vbr_handle *handle, uint64_t *keys, size_t room,
+                                   vbr_totals *report) VBR_NOEXCEPT VBR_NONNULL_REST;
 
 /* Closes a set by all `count` handles that were opened with it, in any order, and leaves them empty:
    VBR_YES, with the report and its keys, as vbr_close writes them. No other thread is in a call on one of
