@@ -80,9 +80,9 @@ fn gather(shape: &Shape, words: &[u64], notes: &[bool], keys: &mut Vec<u64>) -> 
     ensures gathered { (opening : List ℕ) (run : List Event) →
         AreAfter (keyed shape.now opening) words.now run →
         NotesLists (keyed shape.now opening) (incarnations_after (keyed shape.now opening) run)
-            notes.now →
+        notes.now →
         (keys.new.items
-            ≡ linked_keys (incarnations_after (keyed shape.now opening) run) shape.now.slots)
+        ≡ linked_keys (incarnations_after (keyed shape.now opening) run) shape.now.slots)
         × (result.0 ≡ linked_after (keyed shape.now opening) run)
         × (result.1 ≡ marked_after (keyed shape.now opening) run) }
 {

@@ -25,7 +25,7 @@ fn note_list(shape: &Shape, words: &[u64], bucket: u32, notes: &mut [bool])
     requires room { length notes.old ≡ shape.now.slots }
     ensures { (keys : List ℕ) (run : List Event) → AreAfter (keyed shape.now keys) words.now run →
         NotesList (keyed shape.now keys) (incarnations_after (keyed shape.now keys) run)
-            bucket notes.old notes.new }
+        bucket notes.old notes.new }
 {
     let mut next = next_at(shape, words, Place::Head(bucket));
     while let Some(slot) = next {
@@ -42,7 +42,7 @@ pub(crate) fn note_lists(shape: &Shape, words: &[u64], notes: &mut [bool])
     requires none { (s : ℕ) → is_noted notes.old s ≡ false }
     ensures { (keys : List ℕ) (run : List Event) → AreAfter (keyed shape.now keys) words.now run →
         NotesLists (keyed shape.now keys) (incarnations_after (keyed shape.now keys) run)
-            notes.new }
+        notes.new }
 {
     for bucket in 0..shape.buckets() {
         note_list(shape, words, bucket, notes);
