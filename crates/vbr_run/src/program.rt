@@ -60,12 +60,12 @@ pub fn run<T: Threads + Wait, R: Read, W: Write, E: Write>(
 ) -> u8
     ensures answers { AnswersCommand (map (λ argument. argument.now) arguments.now)
         (R.remaining reader.old) (record {
-      output_before = W.contents writer.old;
-      output = W.contents writer.new;
-      errors_before = E.contents errors.old;
-      errors = E.contents errors.new;
-      status = result;
-    }) }
+          output_before = W.contents writer.old;
+          output = W.contents writer.new;
+          errors_before = E.contents errors.old;
+          errors = E.contents errors.new;
+          status = result;
+        }) }
     ensures unread { result ≡ USAGE → reader.new ≡ reader.old }
     ensures unplayed { IsFaulty (map (λ argument. argument.now) arguments.now) →
         reader.new ≡ reader.old }
