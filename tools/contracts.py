@@ -9,8 +9,7 @@ import re
 
 CLAUSES, COLUMNS = 8, 100
 # Crates whose contracts are still longer or wider.
-OPEN = """vbr_bench vbr_c vbr_handles vbr_player vbr_run vbr_script vbr_set vbr_set_rows
-    vbr_settings vbr_table_rows vbr_transcript vbr_words""".split()
+OPEN = []
 
 # What is called on the shared words, in its order: the calls of the kit's `atomic_table`. `split_seat` and `join_seat` are a
 # load each, by its README.

@@ -43,7 +43,8 @@ impl Mix {
     #[inline]
     pub fn op_at(&self, place: u32) -> Op
         ensures has { result ≡ Op.Has ↔ place < self.now.has }
-        ensures insert { result ≡ Op.Insert ↔ (self.now.has ≤ place) × (place < self.now.has + self.now.insert) }
+        ensures insert { result ≡ Op.Insert
+            ↔ (self.now.has ≤ place) × (place < self.now.has + self.now.insert) }
         ensures remove { result ≡ Op.Remove ↔ self.now.has + self.now.insert ≤ place }
     {
         if place < self.has {

@@ -79,7 +79,8 @@ pub extern "C" fn vbr_open_with(
     last_epoch: u64,
     keys: &[u64],
 ) -> i32
-    ensures { TellsOpeningWith handles.old handles.new (spread_shape slots buckets last_epoch keys.now) result }
+    ensures { TellsOpeningWith handles.old handles.new
+        (spread_shape slots buckets last_epoch keys.now) result }
 {
     let numbers = ShapeNumbers {
         slots,
@@ -212,7 +213,8 @@ pub extern "C" fn vbr_close(
     keys: &mut [u64],
     report: &mut ReportNumbers,
 ) -> i32
-    ensures { TellsClose handle.old.member handle.new.member keys.old keys.new report.old report.new result }
+    ensures { TellsClose handle.old.member handle.new.member keys.old keys.new
+        report.old report.new result }
 {
     numbers::close(alloc, handle, keys, report)
 }

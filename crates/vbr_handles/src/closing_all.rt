@@ -64,8 +64,10 @@ fn end_with(
     requires full { AreFull handles.old }
     requires one_set { AreOfOneSet (members.items ++ members_in handles.old) }
     requires room { length members.items + length handles.old ≤ vec_capacity members }
-    ensures ends { IfOk result (EndsAll (members.items ++ members_in handles.old) handles.new room) }
-    ensures not { IfErr result (λ e. IsUnended members.items handles.old handles.new room e.0 e.1.items) }
+    ensures ends { IfOk result
+        (EndsAll (members.items ++ members_in handles.old) handles.new room) }
+    ensures not { IfErr result
+        (λ e. IsUnended members.items handles.old handles.new room e.0 e.1.items) }
 {
     let Some((first, others)) = handles.split_first_mut() else {
         return end_all(alloc, members, room);

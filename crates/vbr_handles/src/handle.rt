@@ -61,7 +61,8 @@ impl Handle {
     }
 
     fn into_parts(self) -> Option<Parts<Member, Global>>
-        ensures { IfSome result (λ p. self.member ≡ Some p.value) × (IsSome self.member → IsSome result) }
+        ensures { IfSome result (λ p. self.member ≡ Some p.value)
+            × (IsSome self.member → IsSome result) }
     {
         let Handle { at, alloc } = self;
         if at.is_null() {

@@ -8,7 +8,8 @@ use vbr_set::Member;
 
 impl Handle {
     pub fn is_empty(&mut self) -> bool
-        ensures { (result ≡ false → IsSome self.old.member) × (result ≡ true → self.old.member ≡ None) × (self.new ≡ self.old) }
+        ensures { (result ≡ false → IsSome self.old.member)
+            × (result ≡ true → self.old.member ≡ None) × (self.new ≡ self.old) }
     {
         self.at.is_null()
     }

@@ -70,7 +70,8 @@ pub fn open(alloc: Global, handles: &mut [Handle], slots: u32, buckets: u32, las
 
 /// Opens a set of these keys for handles, as [`crate::open_with`] does.
 pub fn open_with(alloc: Global, handles: &mut [Handle], numbers: ShapeNumbers, keys: &[u64]) -> i32
-    ensures { TellsOpeningWith handles.old handles.new (spread_shape numbers.slots numbers.buckets numbers.last_epoch keys.now) result }
+    ensures { TellsOpeningWith handles.old handles.new
+        (spread_shape numbers.slots numbers.buckets numbers.last_epoch keys.now) result }
 {
     open_code(crate::opening::open_with(alloc, handles, numbers, keys))
 }
@@ -108,7 +109,8 @@ pub fn has(handle: &mut Handle, key: u64, budget: u32) -> i32
 /// Closes a handle, as [`crate::close`] does, and writes the report where there is one: its keys in front
 /// of those that were there, where all have room, and else its numbers alone.
 pub fn close(alloc: Global, handle: &mut Handle, keys: &mut [u64], told: &mut ReportNumbers) -> i32
-    ensures { TellsClose handle.old.member handle.new.member keys.old keys.new told.old told.new result }
+    ensures { TellsClose handle.old.member handle.new.member keys.old keys.new
+        told.old told.new result }
 {
     let answer = crate::closing::close(alloc, handle, keys.len());
     match &answer {

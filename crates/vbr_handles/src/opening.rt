@@ -37,8 +37,10 @@ pub struct ShapeNumbers {
 impl ShapeNumbers {
     // The shape of these numbers, with keys spread over the buckets; none, if one of them is out of range.
     fn shape(self) -> Option<Shape>
-        ensures some { IfSome result (λ shape. shape ≡ spread_shape self.slots self.buckets self.last_epoch []) }
-        ensures in_range { result ≡ None → ¬ (IsShape (spread_shape self.slots self.buckets self.last_epoch [])) }
+        ensures some { IfSome result
+            (λ shape. shape ≡ spread_shape self.slots self.buckets self.last_epoch []) }
+        ensures in_range { result ≡ None →
+            ¬ (IsShape (spread_shape self.slots self.buckets self.last_epoch [])) }
     {
         let narrow = Shape::new(self.slots, 1, self.last_epoch).ok()?;
         narrow.spread_over(self.buckets).ok()
@@ -72,7 +74,8 @@ pub fn open_with(
     numbers: ShapeNumbers,
     keys: &[u64],
 ) -> Result<(), OpenRefusal>
-    ensures { Opens handles.old handles.new (spread_shape numbers.slots numbers.buckets numbers.last_epoch keys.now) result }
+    ensures { Opens handles.old handles.new
+        (spread_shape numbers.slots numbers.buckets numbers.last_epoch keys.now) result }
 {
     if !are_empty(handles) {
         return Err(OpenRefusal::InUse);
@@ -127,7 +130,8 @@ fn ascend(keys: &[u64]) -> bool
 
 // A handle for each member.
 fn box_all(alloc: Global, members: Vec<Member>) -> Result<Vec<Handle>, AllocError>
-    ensures members { IfOk result (λ handles. map (λ h. h.member) handles.items ≡ map Some members.items) }
+    ensures members { IfOk result
+        (λ handles. map (λ h. h.member) handles.items ≡ map Some members.items) }
 {
     let mut handles = Vec::with_capacity(alloc, members.len())?;
     for member in members {

@@ -17,7 +17,8 @@ use vbr_transcript::{Reply, RunError, merge};
 // The replies that workers have to these lines, in script order.
 pub fn merged(alloc: Global, lines: &[Line], own: Vec<Vec<Reply>>) -> Result<Vec<Reply>, AllocError>
     requires { HaveReplies (map (λ replies. replies.items) own.items) lines.now }
-    ensures { IfOk result (λ replies. IsMerged lines.now (map (λ replies. replies.items) own.items) replies.items) }
+    ensures { IfOk result
+        (λ replies. IsMerged lines.now (map (λ replies. replies.items) own.items) replies.items) }
 {
     let mut replies = Vec::with_capacity(alloc, lines.len())?;
     merge(alloc, lines, &own, &mut replies)?;
@@ -59,7 +60,8 @@ pub fn take_apart(
     workers: Vec<Worker>,
 ) -> Result<(Vec<Pass>, Vec<Vec<Reply>>), AllocError>
     ensures passes { IfOk result (λ parts. parts.0.items ≡ passes_of workers.entry.items) }
-    ensures replies { IfOk result (λ parts. map (λ replies. replies.items) parts.1.items ≡ replies_of workers.entry.items) }
+    ensures replies { IfOk result
+        (λ parts. map (λ replies. replies.items) parts.1.items ≡ replies_of workers.entry.items) }
 {
     let mut passes = Vec::with_capacity(alloc, workers.len())?;
     let mut own = Vec::with_capacity(alloc, workers.len())?;

@@ -40,7 +40,8 @@ fn see_all(caller: &mut VbrSetRef, others: &mut [Worker])
     ensures set { caller.new.set ≡ caller.old.set }
     ensures quiet { Quiet caller.old.pass.trace caller.new.pass.trace }
     ensures pool { KeepsPool caller.old.pass caller.new.pass }
-    ensures seen { All (λ other. Begins other.caller.pass.trace.seen caller.new.pass.trace.seen) others.old }
+    ensures seen { All
+        (λ other. Begins other.caller.pass.trace.seen caller.new.pass.trace.seen) others.old }
 {
     for other in others.iter_mut() {
         caller.meet(&mut other.caller);
@@ -52,7 +53,8 @@ fn show_all(caller: &mut VbrSetRef, others: &mut [Worker])
     requires { All (λ other. other.caller.set ≡ caller.old.set) others.old }
     ensures same { caller.new ≡ caller.old }
     ensures looks { AllZip HasSeenMore others.old others.new }
-    ensures seen { All (λ other. Begins caller.old.pass.trace.seen other.caller.pass.trace.seen) others.new }
+    ensures seen { All
+        (λ other. Begins caller.old.pass.trace.seen other.caller.pass.trace.seen) others.new }
 {
     for other in others.iter_mut() {
         other.caller.meet(caller);

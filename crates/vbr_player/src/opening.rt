@@ -12,9 +12,11 @@ use vbr_transcript::RunError;
 
 // Opens an empty set, with a pass for each worker.
 pub fn open(alloc: Global, config: &Config) -> Result<(VbrSet, Vec<Pass>), RunError>
-    ensures set { IfOk result (λ opened. (opened.0.shape ≡ config.now.shape) × (opened.0.passes ≡ config.now.workers)) }
+    ensures set { IfOk result (λ opened.
+        (opened.0.shape ≡ config.now.shape) × (opened.0.passes ≡ config.now.workers)) }
     ensures some { IfOk result (λ opened. 0 < opened.0.passes) }
-    ensures passes { IfOk result (λ opened. opened.1.items ≡ new_passes opened.0 0 opened.0.passes) }
+    ensures passes { IfOk result
+        (λ opened. opened.1.items ≡ new_passes opened.0 0 opened.0.passes) }
     ensures memory { IfErr result (λ error. error ≡ RunError.Memory) }
 {
     match VbrSet::open(alloc, config.shape(), config.workers()) {

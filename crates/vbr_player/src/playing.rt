@@ -51,7 +51,8 @@ pub fn play<RT: Threads + Wait, R: Read, W: Write, G: Gate + Sync>(
     writer: &mut W,
     gate: &G,
 ) -> Result<Totals, RunError>
-    ensures { Plays config (R.remaining reader.old) (W.contents writer.old) (W.contents writer.new) result }
+    ensures { Plays config (R.remaining reader.old)
+        (W.contents writer.old) (W.contents writer.new) result }
 {
     let text = read_text(alloc, reader)?;
     let script = parse_script(alloc, &text, config.workers())?;

@@ -32,7 +32,9 @@ pub fn play_sets<R: Threads + Wait, G: Gate + Sync>(
     requires new { opened.1.items ≡ new_passes opened.0 0 opened.0.passes }
     requires some { 0 < opened.0.passes }
     ensures one_each { IfOk result (λ ended. length ended.0.items ≡ length whole.entry.lines.now) }
-    ensures explained { IfOk result (λ ended. AreExplained opened.0.shape opened.0.passes script.now.renewals.items (zip whole.entry.lines.now ended.0.items) ended.1.keys.items ended.1.epoch) }
+    ensures explained { IfOk result (λ ended. AreExplained opened.0.shape opened.0.passes
+        script.now.renewals.items (zip whole.entry.lines.now ended.0.items)
+        ended.1.keys.items ended.1.epoch) }
     ensures fault { IfErr result IsWant }
 {
     let mut replies = Vec::with_capacity(alloc, whole.lines.len())?;

@@ -58,15 +58,17 @@ pub fn run<T: Threads + Wait, R: Read, W: Write, E: Write>(
     writer: &mut W,
     errors: &mut E,
 ) -> u8
-    ensures answers { AnswersCommand (map (λ argument. argument.now) arguments.now) (R.remaining reader.old) (record {
-      output_before = W.contents writer.old;
-      output = W.contents writer.new;
-      errors_before = E.contents errors.old;
-      errors = E.contents errors.new;
-      status = result;
-    }) }
+    ensures answers { AnswersCommand (map (λ argument. argument.now) arguments.now)
+        (R.remaining reader.old) (record {
+          output_before = W.contents writer.old;
+          output = W.contents writer.new;
+          errors_before = E.contents errors.old;
+          errors = E.contents errors.new;
+          status = result;
+        }) }
     ensures unread { result ≡ USAGE → reader.new ≡ reader.old }
-    ensures unplayed { IsFaulty (map (λ argument. argument.now) arguments.now) → reader.new ≡ reader.old }
+    ensures unplayed { IsFaulty (map (λ argument. argument.now) arguments.now) →
+        reader.new ≡ reader.old }
 {
     match read_options(alloc, arguments) {
         Ok(config) => match play(rt, alloc, config, reader, writer, &NoGate) {

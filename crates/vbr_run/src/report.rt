@@ -41,7 +41,8 @@ pub fn report<E: Write>(errors: &mut E, error: RunError) -> u8
 }
 
 fn report_script<E: Write>(errors: &mut E, line: u64, kind: ScriptFault)
-    ensures { AppendsSome (E.contents errors.old) (E.contents errors.new) (error_line (Script line kind)) }
+    ensures { AppendsSome (E.contents errors.old) (E.contents errors.new)
+        (error_line (Script line kind)) }
 {
     let mut number = itoa::Buffer::new();
     let mut place = itoa::Buffer::new();

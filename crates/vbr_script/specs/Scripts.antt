@@ -1,7 +1,8 @@
 -- The script that a text of bytes is, and its first fault.
-use Rattle.std.specs.Prelude.{◌≢◌, ℕ, ◌+◌, ◌<◌, ◌≤◌, Bool, true, false, nat_lt, List, [], ◌∷◌, map, All, count_by, Option, Some, None, if◌then◌else◌}
+use Rattle.std.specs.Prelude.{◌≡◌, ◌≢◌, ℕ, ◌+◌, ◌<◌, ◌≤◌, Bool, true, false, nat_lt, List, [], ◌∷◌, length, map, All, count_by, Option, Some, None, if◌then◌else◌}
 use Rattle.vbr_machine.specs.declared.history.Op.TheVariants.{Get}
 use Rattle.vbr_script.specs.declared.script.Line.{Line}
+use Rattle.vbr_script.specs.declared.script.Script.{Script}
 use Rattle.vbr_script.specs.declared.script.ScriptFault.{ScriptFault}
 use Rattle.vbr_script.specs.declared.script.ScriptFault.TheVariants.{TooMany}
 use Rattle.vbr_script.specs.declared.script.Meaning.{Meaning}
@@ -95,3 +96,17 @@ pub record ArePhased (workers phases : ℕ) (lines : List Line) : Type 0 where
 abbrev pub AreRenewalsFrom : ℕ → ℕ → List ℕ → Type 0
 AreRenewalsFrom phase phases [] = Unit {0}
 AreRenewalsFrom phase phases (renewal ∷ renewals) = (phase ≤ renewal) × (renewal + 1 < phases) × AreRenewalsFrom (renewal + 1) phases renewals
+
+-- the script of a text without a fault, for so many workers: its operations, phases and renewals are those of the text, in order and within the limits
+pub record IsScriptOf (workers : ℕ) (text : List ℕ) (script : Script) : Type 0 where
+  pub faultless : first_fault workers text ≡ None
+  pub lines : script.lines.items ≡ script_of workers text
+  pub phases : script.phases ≡ phases_of workers text
+  pub renewals : script.renewals.items ≡ renewals_of workers text
+  pub phased : ArePhased workers script.phases script.lines.items
+  pub renewed : AreRenewalsFrom 0 script.phases script.renewals.items
+  pub limits : (length script.lines.items ≤ MAX_OPERATIONS) × (script.phases ≤ MAX_SYNCS + 1)
+
+-- a text has an operation or a renewal before its first fault
+abbrev pub HasSome : ℕ → List ℕ → Type 0
+HasSome workers text = 0 < length (script_of workers text) + length (renewals_of workers text)

@@ -3,9 +3,8 @@ ghost use Rattle.std.specs.Prelude.{◌≡◌, ◌≤◌, ◌<◌, ◌+◌, ◌^
 ghost use Rattle.vbr_script.specs.Text.{tokens_of};
 ghost use Rattle.vbr_script.specs.Number.{number_below};
 ghost use Rattle.vbr_script.specs.Grammar.{meaning_of, lone_token};
-ghost use Rattle.vbr_script.specs.Scripts.{script_of, phases_of, renewals_of, first_fault, limited, ArePhased, AreRenewalsFrom};
+ghost use Rattle.vbr_script.specs.Scripts.{first_fault, limited, HasSome, IsScriptOf};
 ghost use Rattle.vbr_script.specs.declared.script.ScriptFault.{ScriptFault};
-ghost use Rattle.vbr_script.specs.declared.script.TheConstants.{MAX_OPERATIONS, MAX_SYNCS};
 
 use crate::number::number;
 use crate::operation::operation;
@@ -28,16 +27,10 @@ use std::alloc::Global;
 /// let script = parse_script(alloc, &text, config.workers())?;
 /// ```
 pub fn parse_script(alloc: Global, text: &[u8], workers: u32) -> Result<Script, ScriptError>
-    ensures lines { IfOk result (λ script. script.lines.items ≡ script_of workers text.now) }
-    ensures phases { IfOk result (λ script. script.phases ≡ phases_of workers text.now) }
-    ensures renewals { IfOk result (λ script. script.renewals.items ≡ renewals_of workers text.now) }
-    ensures phased { IfOk result (λ script. ArePhased workers script.phases script.lines.items) }
-    ensures renewed { IfOk result (λ script. AreRenewalsFrom 0 script.phases script.renewals.items) }
-    ensures limits { IfOk result (λ script. (length script.lines.items ≤ MAX_OPERATIONS) × (script.phases ≤ MAX_SYNCS + 1)) }
-    ensures faultless { OnOk result (first_fault workers text.now ≡ None) }
+    ensures script { IfOk result (IsScriptOf workers text.now) }
     ensures fault { (line : ℕ) (kind : ScriptFault) → IsErrOf result (ScriptError.Fault line kind) →
         first_fault workers text.now ≡ Some (line, kind) }
-    ensures memory_only_for_a_line { IsErrOf result ScriptError.Memory → 0 < length (script_of workers text.now) + length (renewals_of workers text.now) }
+    ensures memory_only_for_a_line { IsErrOf result ScriptError.Memory → HasSome workers text.now }
 {
     let mut lines = Vec::new(alloc);
     let mut renewals = Vec::new(alloc);

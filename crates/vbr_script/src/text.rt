@@ -8,7 +8,8 @@ use memchr::memchr;
 // The first line of a text, and the text after its line feed, if it has one.
 pub fn first_line(text: &[u8]) -> (&[u8], Option<&[u8]>)
     ensures { MatchOption result.1 (lines_of text.now ≡ result.0.now ∷ [])
-        (λ rest. (lines_of text.now ≡ result.0.now ∷ lines_of rest.now) × (length rest.now < length text.now)) }
+        (λ rest. (lines_of text.now ≡ result.0.now ∷ lines_of rest.now)
+        × (length rest.now < length text.now)) }
 {
     match memchr(b'\n', text) {
         Some(end) => (without_return(&text[..end]), Some(&text[end + 1..])),

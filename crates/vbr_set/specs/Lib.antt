@@ -14,6 +14,7 @@ pub mod SetRefView
 pub mod Seats
 pub mod Ends
 pub mod Room
+pub mod Laws
 pub mod AllMembers
 pub mod Apart
 pub mod Names

@@ -1,11 +1,13 @@
 -- What two passes share that have met.
-use Rattle.std.specs.Prelude.{◌≡◌}
+use Rattle.std.specs.Prelude.{◌≡◌, ℕ}
 use Rattle.vbr_machine.specs.Opened.{opening_keys}
 use Rattle.vbr_machine.specs.History.{IsLegal}
 use Rattle.vbr_machine.specs.Runs.{BeginsFor}
 use Rattle.vbr_machine.specs.Calls.{own_calls}
 use Rattle.vbr_slots.specs.Calls.{Quiet, made_by}
-use Rattle.vbr_slots.specs.Views.{Trace}
+use Rattle.vbr_machine.specs.declared.event.Step.TheVariants.{ReadEpoch}
+use Rattle.vbr_slots.specs.Views.{Did, KeepsPool, PassView, Trace}
+use Rattle.vbr_access.specs.Soundness.{HasSafeRun}
 use Rattle.vbr_set.specs.Histories.{calls_of, ExchangesAreRight, ReadsAreRight}
 
 -- the pass made no call; what it has then seen begins with what the other has seen, and has no other event of it; its calls are legal from the opening keys, and those of the other are just those that it has made
@@ -16,3 +18,11 @@ pub record Shares (p other q : Trace) : Type 0 where
   pub theirs : own_calls q.shape q.seen other.who ≡ made_by other
   pub exchanges : ExchangesAreRight q.shape q.seen
   pub reads : ReadsAreRight q.shape q.seen
+
+-- a pass has met another: it made one step, a load of the epoch, and no call; its slots are as they were; what it has then seen is a safe run, which begins with what the other has seen and has no other event of it
+pub record HasMet (p other q : PassView) : Type 0 where
+  pub step : (epoch : ℕ) × Did ReadEpoch p.trace q.trace epoch
+  pub pool : KeepsPool p q
+  pub met : BeginsFor other.trace.who other.trace.seen q.trace.seen
+  pub shares : Shares p.trace other.trace q.trace
+  pub safe : HasSafeRun q.trace

@@ -38,7 +38,8 @@ impl VbrSet {
     pub fn insert(&self, pass: &mut Pass, key: u64, budget: u32) -> Result<bool, Refusal>
         requires own { IsOf pass.old.trace self.now }
         requires empty_hand { pass.old.hand ≡ None }
-        ensures { Called Insert (as_member self.now pass.old) (as_member self.now pass.new) key budget result }
+        ensures { Called Insert (as_member self.now pass.old) (as_member self.now pass.new)
+            key budget result }
     {
         pass.law();
         let answer = insert(&self.slots, pass, key, budget);
@@ -70,7 +71,8 @@ impl VbrSet {
     pub fn remove(&self, pass: &mut Pass, key: u64, budget: u32) -> Result<bool, Refusal>
         requires own { IsOf pass.old.trace self.now }
         requires empty_hand { pass.old.hand ≡ None }
-        ensures { Called Remove (as_member self.now pass.old) (as_member self.now pass.new) key budget result }
+        ensures { Called Remove (as_member self.now pass.old) (as_member self.now pass.new)
+            key budget result }
     {
         pass.law();
         let answer = remove(&self.slots, pass, key, budget);
@@ -104,7 +106,8 @@ impl VbrSet {
     pub fn has(&self, pass: &mut Pass, key: u64, budget: u32) -> Result<bool, Refusal>
         requires own { IsOf pass.old.trace self.now }
         requires empty_hand { pass.old.hand ≡ None }
-        ensures { Called Has (as_member self.now pass.old) (as_member self.now pass.new) key budget result }
+        ensures { Called Has (as_member self.now pass.old) (as_member self.now pass.new)
+            key budget result }
     {
         pass.law();
         let answer = has(&self.slots, pass, key, budget);

@@ -77,9 +77,14 @@ fn gather(shape: &Shape, words: &[u64], notes: &[bool], keys: &mut Vec<u64>) -> 
     requires room { (keys.old.items ≡ []) × (shape.now.slots ≤ vec_capacity keys.old) }
     ensures fit { result.0 + result.1 ≤ shape.now.slots }
     ensures each { length keys.new.items ≡ result.0 }
-    ensures gathered { (opening : List ℕ) (run : List Event) → AreAfter (keyed shape.now opening) words.now run → NotesLists (keyed shape.now opening) (incarnations_after (keyed shape.now opening) run) notes.now →
-        (keys.new.items ≡ linked_keys (incarnations_after (keyed shape.now opening) run) shape.now.slots)
-        × (result.0 ≡ linked_after (keyed shape.now opening) run) × (result.1 ≡ marked_after (keyed shape.now opening) run) }
+    ensures gathered { (opening : List ℕ) (run : List Event) →
+        AreAfter (keyed shape.now opening) words.now run →
+        NotesLists (keyed shape.now opening) (incarnations_after (keyed shape.now opening) run)
+        notes.now →
+        (keys.new.items
+        ≡ linked_keys (incarnations_after (keyed shape.now opening) run) shape.now.slots)
+        × (result.0 ≡ linked_after (keyed shape.now opening) run)
+        × (result.1 ≡ marked_after (keyed shape.now opening) run) }
 {
     let mut live = 0;
     let mut marked = 0;
@@ -107,10 +112,14 @@ pub(crate) fn report_of(
     mut notes: Vec<bool>,
     mut keys: Vec<u64>,
 ) -> Report
-    requires run { (opening : List ℕ) × (run : List Event) × AreAfter (keyed shape.now opening) words.now run }
-    requires notes { (length notes.items ≡ shape.now.slots) × ((s : ℕ) → is_noted notes.items s ≡ false) }
+    requires run { (opening : List ℕ) × (run : List Event)
+        × AreAfter (keyed shape.now opening) words.now run }
+    requires notes { (length notes.items ≡ shape.now.slots)
+        × ((s : ℕ) → is_noted notes.items s ≡ false) }
     requires room { (keys.items ≡ []) × (shape.now.slots ≤ vec_capacity keys) }
-    ensures { (opening : List ℕ) (run : List Event) → AreAfter (keyed shape.now opening) words.now run → Reports (keyed shape.now opening) run result }
+    ensures { (opening : List ℕ) (run : List Event) →
+        AreAfter (keyed shape.now opening) words.now run →
+        Reports (keyed shape.now opening) run result }
 {
     note_lists(shape, words, &mut notes);
     let (live, marked) = gather(shape, words, &notes, &mut keys);

@@ -39,7 +39,8 @@ impl Play<Option<Pass>, SeatKnows> for Lays {
     ghost use Rattle.std.specs.Prelude.{◌≡◌, [], ◌∷◌, Some};
     ghost use Rattle.vbr_slots.specs.Views.{PassView};
 
-    ghost then = { λ _ before _ after. (pass : PassView) → before.1 ≡ (0, Some pass) ∷ [] → after ≡ (Some (Some pass), []) };
+    ghost then = { λ _ before _ after. (pass : PassView) →
+        before.1 ≡ (0, Some pass) ∷ [] → after ≡ (Some (Some pass), []) };
 }
 
 /// A mailbox for one pass of a set.
@@ -56,7 +57,8 @@ impl Mailbox {
         set: &VbrSet,
     ) -> Result<(Mailbox, Seat<Option<Pass>, SeatKnows>), AllocError>
         ensures set { IfOk result (λ r. r.0.table.shared.key ≡ set.now) }
-        ensures seat { IfOk result (λ r. (r.1.table_id ≡ r.0.table.shared.table_id) × (r.1.id ≡ 0) × (r.1.me ≡ (None, []))) }
+        ensures seat { IfOk result (λ r. (r.1.table_id ≡ r.0.table.shared.table_id)
+            × (r.1.id ≡ 0) × (r.1.me ≡ (None, []))) }
     {
         let (table, seat) = Table::vacant(alloc, &[0], 1, set)?;
         Ok((Mailbox { table }, seat))
@@ -64,7 +66,8 @@ impl Mailbox {
 
     /// Lays a pass into the mailbox.
     pub(crate) fn put(&self, seat: &mut Seat<Option<Pass>, SeatKnows>, pass: Pass)
-        requires seat { (seat.old.table_id ≡ self.now.table.shared.table_id) × (seat.old.id ≡ 0) × (seat.old.me ≡ (None, [])) }
+        requires seat { (seat.old.table_id ≡ self.now.table.shared.table_id)
+            × (seat.old.id ≡ 0) × (seat.old.me ≡ (None, [])) }
         requires ready { IsIdle self.now.table.shared.key pass }
         ensures same { (seat.new.table_id ≡ seat.old.table_id) × (seat.new.id ≡ 0) }
         ensures laid { seat.new.me ≡ (Some (Some pass), []) }

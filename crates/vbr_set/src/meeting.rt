@@ -1,10 +1,7 @@
 //! The meeting of two passes.
-ghost use Rattle.std.specs.Prelude.{◌≡◌, ℕ};
-ghost use Rattle.vbr_machine.specs.Runs.{BeginsFor};
-ghost use Rattle.vbr_machine.specs.declared.event.Step.TheVariants.{ReadEpoch};
-ghost use Rattle.vbr_slots.specs.Views.{IsOf, Did, KeepsPool};
-ghost use Rattle.vbr_access.specs.Soundness.{HasSafeRun};
-ghost use Rattle.vbr_set.specs.Meetings.{Shares};
+ghost use Rattle.std.specs.Prelude.{◌≡◌};
+ghost use Rattle.vbr_slots.specs.Views.{IsOf};
+ghost use Rattle.vbr_set.specs.Meetings.{HasMet};
 
 use crate::set::VbrSet;
 use vbr_slots::Pass;
@@ -26,12 +23,8 @@ impl VbrSet {
     pub fn meet(&self, pass: &mut Pass, other: &mut Pass)
         requires own { IsOf pass.old.trace self.now }
         requires other { IsOf other.old.trace self.now }
-        ensures step { (epoch : ℕ) × Did ReadEpoch pass.old.trace pass.new.trace epoch }
-        ensures pool { KeepsPool pass.old pass.new }
         ensures same { other.new ≡ other.old }
-        ensures met { BeginsFor other.old.trace.who other.old.trace.seen pass.new.trace.seen }
-        ensures shares { Shares pass.old.trace other.old.trace pass.new.trace }
-        ensures safe { HasSafeRun pass.new.trace }
+        ensures meets { HasMet pass.old other.old pass.new }
     {
         pass.law();
         self.slots.meet(pass, other);

@@ -67,7 +67,8 @@ impl Member {
     ///
     /// Memory and errors are those of a close.
     pub fn report_last(self, alloc: Global) -> Result<Option<(Report, Member)>, EndError>
-        ensures report { IfOk result (λ told. IfSome told (λ last. EndsWith self.set self.pass last.0)) }
+        ensures report { IfOk result
+            (λ told. IfSome told (λ last. EndsWith self.set self.pass last.0)) }
         ensures same { IfOk result (λ told. IfSome told (λ last. last.1 ≡ self)) }
         ensures stays { IfErr result (IsBack self.set self.pass) }
         ensures alone { self.set.passes ≡ 1 → IsLast result }
@@ -93,7 +94,8 @@ pub(crate) fn leave(
     pass: Pass,
 ) -> Option<(VbrSet, Vec<Mailbox>, Pass)>
     requires ready { IsIdle (arc_value common).set pass }
-    requires seat { IsSeatOf (arc_value common).mailboxes.items pass.trace.who seat.table_id seat.id seat.me }
+    requires seat { IsSeatOf (arc_value common).mailboxes.items pass.trace.who
+        seat.table_id seat.id seat.me }
     ensures set { IfSome result (λ r. r.0 ≡ (arc_value common).set) }
     ensures mailboxes { IfSome result (λ r. AreMailboxesOf (arc_value common).set r.1.items) }
     ensures pass { IfSome result (λ r. r.2 ≡ pass) }

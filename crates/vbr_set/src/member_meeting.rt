@@ -1,10 +1,6 @@
 //! The meeting of two members.
-ghost use Rattle.std.specs.Prelude.{◌≡◌, ℕ};
-ghost use Rattle.vbr_machine.specs.Runs.{BeginsFor};
-ghost use Rattle.vbr_machine.specs.declared.event.Step.TheVariants.{ReadEpoch};
-ghost use Rattle.vbr_slots.specs.Views.{Did, KeepsPool};
-ghost use Rattle.vbr_access.specs.Soundness.{HasSafeRun};
-ghost use Rattle.vbr_set.specs.Meetings.{Shares};
+ghost use Rattle.std.specs.Prelude.{◌≡◌};
+ghost use Rattle.vbr_set.specs.Meetings.{HasMet};
 
 use crate::member::Member;
 
@@ -24,12 +20,8 @@ impl Member {
     pub fn meet(&mut self, other: &mut Member)
         requires { other.old.set ≡ self.old.set }
         ensures set { self.new.set ≡ self.old.set }
-        ensures step { (epoch : ℕ) × Did ReadEpoch self.old.pass.trace self.new.pass.trace epoch }
-        ensures pool { KeepsPool self.old.pass self.new.pass }
         ensures same { other.new ≡ other.old }
-        ensures met { BeginsFor other.old.pass.trace.who other.old.pass.trace.seen self.new.pass.trace.seen }
-        ensures shares { Shares self.old.pass.trace other.old.pass.trace self.new.pass.trace }
-        ensures safe { HasSafeRun self.new.pass.trace }
+        ensures meets { HasMet self.old.pass other.old.pass self.new.pass }
     {
         self.share.set().meet(&mut self.pass, &mut other.pass);
     }

@@ -39,7 +39,8 @@ impl Member {
     /// let members = Member::open(alloc, Shape::new(64, 16, MAX_EPOCH)?, 4)?;
     /// ```
     pub fn open(alloc: Global, shape: Shape, passes: u32) -> Result<Vec<Member>, OpenError>
-        ensures members { IfOk result (λ members. AreNew (record shape { values = false }) passes members.items) }
+        ensures members { IfOk result
+            (λ members. AreNew (record shape { values = false }) passes members.items) }
         ensures refused { IsErrOf result OpenError.Passes ↔ ((passes ≡ 0) ⊎ (64 < passes)) }
     {
         let _slots = shape.slots();
@@ -72,7 +73,8 @@ impl Member {
     ) -> Result<Vec<Member>, OpenError>
         requires ascending { IsStrictlyIncreasing keys.now }
         requires few { length keys.now ≤ shape.slots }
-        ensures members { IfOk result (λ members. AreNew (record shape { values = false; keys = keys.now }) passes members.items) }
+        ensures members { IfOk result (λ members.
+            AreNew (record shape { values = false; keys = keys.now }) passes members.items) }
         ensures refused { IsErrOf result OpenError.Passes ↔ ((passes ≡ 0) ⊎ (64 < passes)) }
     {
         let (set, opened) = VbrSet::open_with(alloc, shape, passes, keys)?;
@@ -102,7 +104,8 @@ fn make_mailboxes(
     set: &VbrSet,
     count: usize,
 ) -> Result<(Vec<Mailbox>, Vec<Seat<Option<Pass>, SeatKnows>>), AllocError>
-    ensures mailboxes { IfOk result (λ r. All (λ mailbox. mailbox.table.shared.key ≡ set.now) r.0.items) }
+    ensures mailboxes { IfOk result
+        (λ r. All (λ mailbox. mailbox.table.shared.key ≡ set.now) r.0.items) }
     ensures seats { IfOk result (λ r. AreSeats r.0.items 0 r.1.items) }
     ensures count { IfOk result (λ r. length r.1.items ≡ count) }
 {
@@ -120,7 +123,8 @@ fn make_mailboxes(
 fn hand_out(alloc: Global, set: VbrSet, mut passes: Vec<Pass>) -> Result<Vec<Member>, AllocError>
     requires new { passes.items ≡ new_passes set 0 (length passes.items) }
     requires all { set.passes ≡ length passes.items }
-    ensures { IfOk result (λ members. members.items ≡ map (λ pass. record { set = set; pass = pass }) passes.items) }
+    ensures { IfOk result (λ members.
+        members.items ≡ map (λ pass. record { set = set; pass = pass }) passes.items) }
 {
     if passes.len() > 1 {
         return share_out(alloc, set, passes);
@@ -136,7 +140,8 @@ fn hand_out(alloc: Global, set: VbrSet, mut passes: Vec<Pass>) -> Result<Vec<Mem
 fn share_out(alloc: Global, set: VbrSet, passes: Vec<Pass>) -> Result<Vec<Member>, AllocError>
     requires new { passes.items ≡ new_passes set 0 (length passes.items) }
     requires others { HasOthers set }
-    ensures { IfOk result (λ members. members.items ≡ map (λ pass. record { set = set; pass = pass }) passes.items) }
+    ensures { IfOk result (λ members.
+        members.items ≡ map (λ pass. record { set = set; pass = pass }) passes.items) }
 {
     let (mailboxes, seats) = make_mailboxes(alloc, &set, passes.len())?;
     let mut members = Vec::with_capacity(alloc, passes.len())?;

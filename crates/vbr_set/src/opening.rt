@@ -29,7 +29,8 @@ impl VbrSet {
     /// match VbrSet::open(alloc, shape, passes) {
     /// ```
     pub fn open(alloc: Global, shape: Shape, passes: u32) -> Result<(VbrSet, Vec<Pass>), OpenError>
-        ensures table { IfOk result (λ r. (r.0.shape ≡ record shape { values = false }) × (r.0.passes ≡ passes)) }
+        ensures table { IfOk result (λ r.
+            (r.0.shape ≡ record shape { values = false }) × (r.0.passes ≡ passes)) }
         ensures passes { IfOk result (λ r. r.1.items ≡ new_passes r.0 0 passes) }
         ensures refused { IsErrOf result OpenError.Passes ↔ ((passes ≡ 0) ⊎ (64 < passes)) }
     {
@@ -65,7 +66,9 @@ impl VbrSet {
     ) -> Result<(VbrSet, Vec<Pass>), OpenError>
         requires ascending { IsStrictlyIncreasing keys.now }
         requires few { length keys.now ≤ shape.slots }
-        ensures table { IfOk result (λ r. (r.0.shape ≡ record shape { values = false; keys = keys.now }) × (r.0.passes ≡ passes)) }
+        ensures table { IfOk result (λ r.
+            (r.0.shape ≡ record shape { values = false; keys = keys.now })
+            × (r.0.passes ≡ passes)) }
         ensures passes { IfOk result (λ r. r.1.items ≡ new_passes r.0 0 passes) }
         ensures refused { IsErrOf result OpenError.Passes ↔ ((passes ≡ 0) ⊎ (64 < passes)) }
     {

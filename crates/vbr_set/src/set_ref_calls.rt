@@ -1,11 +1,8 @@
 //! The calls of a pass with a reference to its set.
-ghost use Rattle.std.specs.Prelude.{◌≡◌, ℕ, [], None};
-ghost use Rattle.vbr_machine.specs.Runs.{BeginsFor};
-ghost use Rattle.vbr_machine.specs.declared.event.Step.TheVariants.{ReadEpoch};
+ghost use Rattle.std.specs.Prelude.{◌≡◌, [], None};
 ghost use Rattle.vbr_machine.specs.declared.history.Op.TheVariants.{Insert, Remove, Has};
-ghost use Rattle.vbr_slots.specs.Views.{Did, IsOf, KeepsPool};
-ghost use Rattle.vbr_access.specs.Soundness.{HasSafeRun};
-ghost use Rattle.vbr_set.specs.Meetings.{Shares};
+ghost use Rattle.vbr_slots.specs.Views.{IsOf};
+ghost use Rattle.vbr_set.specs.Meetings.{HasMet};
 ghost use Rattle.vbr_set.specs.Members.{Called};
 ghost use Rattle.vbr_set.specs.Tokens.{CatchesUp, IsTokenOf};
 
@@ -108,12 +105,8 @@ impl<'s> VbrSetRef<'s> {
     pub fn meet(&mut self, other: &mut VbrSetRef)
         requires { other.old.set ≡ self.old.set }
         ensures set { self.new.set ≡ self.old.set }
-        ensures step { (epoch : ℕ) × Did ReadEpoch self.old.pass.trace self.new.pass.trace epoch }
-        ensures pool { KeepsPool self.old.pass self.new.pass }
         ensures same { other.new ≡ other.old }
-        ensures met { BeginsFor other.old.pass.trace.who other.old.pass.trace.seen self.new.pass.trace.seen }
-        ensures shares { Shares self.old.pass.trace other.old.pass.trace self.new.pass.trace }
-        ensures safe { HasSafeRun self.new.pass.trace }
+        ensures meets { HasMet self.old.pass other.old.pass self.new.pass }
     {
         self.set.meet(&mut self.pass, &mut other.pass);
     }

@@ -20,10 +20,12 @@ fn next_at(shape: &Shape, words: &[u64], place: Place) -> Option<u32>
 // Notes the slots whose nodes are in the list of a bucket.
 fn note_list(shape: &Shape, words: &[u64], bucket: u32, notes: &mut [bool])
     requires bucket { bucket < shape.now.buckets }
-    requires run { (keys : List ℕ) × (run : List Event) × AreAfter (keyed shape.now keys) words.now run }
+    requires run { (keys : List ℕ) × (run : List Event)
+        × AreAfter (keyed shape.now keys) words.now run }
     requires room { length notes.old ≡ shape.now.slots }
     ensures { (keys : List ℕ) (run : List Event) → AreAfter (keyed shape.now keys) words.now run →
-        NotesList (keyed shape.now keys) (incarnations_after (keyed shape.now keys) run) bucket notes.old notes.new }
+        NotesList (keyed shape.now keys) (incarnations_after (keyed shape.now keys) run)
+        bucket notes.old notes.new }
 {
     let mut next = next_at(shape, words, Place::Head(bucket));
     while let Some(slot) = next {
@@ -34,11 +36,13 @@ fn note_list(shape: &Shape, words: &[u64], bucket: u32, notes: &mut [bool])
 
 /// Notes the slots whose nodes are in lists.
 pub(crate) fn note_lists(shape: &Shape, words: &[u64], notes: &mut [bool])
-    requires run { (keys : List ℕ) × (run : List Event) × AreAfter (keyed shape.now keys) words.now run }
+    requires run { (keys : List ℕ) × (run : List Event)
+        × AreAfter (keyed shape.now keys) words.now run }
     requires room { length notes.old ≡ shape.now.slots }
     requires none { (s : ℕ) → is_noted notes.old s ≡ false }
     ensures { (keys : List ℕ) (run : List Event) → AreAfter (keyed shape.now keys) words.now run →
-        NotesLists (keyed shape.now keys) (incarnations_after (keyed shape.now keys) run) notes.new }
+        NotesLists (keyed shape.now keys) (incarnations_after (keyed shape.now keys) run)
+        notes.new }
 {
     for bucket in 0..shape.buckets() {
         note_list(shape, words, bucket, notes);

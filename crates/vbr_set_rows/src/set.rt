@@ -12,7 +12,8 @@ use vbr_set::{CloseError, OpenError, Pass, Refusal, Report, Shape, VbrSet, VbrSe
 
 // Opens a set. What found no memory left nothing, so it is tried again.
 fn open(alloc: Global, shape: Shape, passes: u32) -> Result<(VbrSet, Vec<Pass>), OpenError>
-    ensures table { IfOk result (λ r. (r.0.shape ≡ record shape { values = false }) × (r.0.passes ≡ passes)) }
+    ensures table { IfOk result (λ r.
+        (r.0.shape ≡ record shape { values = false }) × (r.0.passes ≡ passes)) }
     ensures passes { IfOk result (λ r. r.1.items ≡ new_passes r.0 0 passes) }
 {
     match VbrSet::open(alloc, shape, passes) {

@@ -11,6 +11,7 @@ use Rattle.clap.specs.declared.builder.value_parser.ValueParser.TheVariants as v
 use Rattle.vbr_settings.specs.declared.config.TheConstants.{MAX_WORKERS}
 use Rattle.vbr_words.specs.Shapes.{shape_error}
 use Rattle.vbr_words.specs.declared.shape.ShapeError.{ShapeError}
+use Rattle.vbr_words.specs.declared.shape.TheConstants.{MAX_EPOCH}
 use Rattle.vbr_settings.specs.Settings.{Settings}
 use Rattle.vbr_settings.specs.declared.options.OptionsError.{OptionsError}
 use Rattle.vbr_settings.specs.declared.options.OptionsError.TheVariants as options_error
@@ -92,6 +93,51 @@ settings_among rows = record {
 -- the settings that a command line gives, each option with what is given for it, or else with its own value
 unfoldable pub settings_of : List Text → Settings
 settings_of arguments = settings_among (matches_of command_line arguments)
+
+-- the settings that the program's name alone gives: each option's own value
+abbrev pub own_settings : Settings
+own_settings = record {
+  shape = record {
+    slots = 1024;
+    buckets = 16;
+    spread = false;
+    last_epoch = MAX_EPOCH;
+    values = false;
+    keys = [];
+    payloads = [];
+  };
+  workers = 1;
+  budget = 100000;
+  epoch = false;
+}
+
+-- arguments that give each option once, with a value of which none is its own
+abbrev pub each_option : List Text
+each_option =
+    codes "--workers" ∷ codes "4"
+    ∷ codes "--slots" ∷ codes "512"
+    ∷ codes "--buckets=8"
+    ∷ codes "--last-epoch" ∷ codes "7"
+    ∷ codes "--budget" ∷ codes "1000000"
+    ∷ codes "--epoch"
+    ∷ []
+
+-- the settings that those arguments give
+abbrev pub settings_of_each : Settings
+settings_of_each = record {
+  shape = record {
+    slots = 512;
+    buckets = 8;
+    spread = false;
+    last_epoch = 7;
+    values = false;
+    keys = [];
+    payloads = [];
+  };
+  workers = 4;
+  budget = 1000000;
+  epoch = true;
+}
 
 -- what is wrong with the shape of settings
 abbrev pub shape_fault : Settings → Option ShapeError

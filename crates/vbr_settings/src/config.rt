@@ -23,11 +23,26 @@ impl Model for Config {
 
     ghost Value = { Settings };
 
-    ghost view = { λ c. record { shape = c.shape; workers = c.workers; budget = c.budget; epoch = c.epoch } };
+    ghost view = { λ c. record {
+      shape = c.shape;
+      workers = c.workers;
+      budget = c.budget;
+      epoch = c.epoch;
+    } };
 
-    ghost invariant = { λ c. AreSettings (record { shape = c.shape; workers = c.workers; budget = c.budget; epoch = c.epoch }) };
+    ghost invariant = { λ c. AreSettings (record {
+      shape = c.shape;
+      workers = c.workers;
+      budget = c.budget;
+      epoch = c.epoch;
+    }) };
 
-    ghost inverse = { λ s. record { shape = s.shape; workers = s.workers; budget = s.budget; epoch = s.epoch } };
+    ghost inverse = { λ s. record {
+      shape = s.shape;
+      workers = s.workers;
+      budget = s.budget;
+      epoch = s.epoch;
+    } };
 }
 
 /// Why a script can't be played so.
@@ -53,7 +68,12 @@ impl Config {
     /// ```
     pub fn new(shape: Shape, workers: u32, budget: u32, epoch: bool) -> Result<Self, ConfigError>
         ensures { MatchResult result
-            (λ config. (config_error workers ≡ None) × (config ≡ record { shape = record shape { values = false }; workers = workers; budget = budget; epoch = epoch }))
+            (λ config. (config_error workers ≡ None) × (config ≡ record {
+              shape = record shape { values = false };
+              workers = workers;
+              budget = budget;
+              epoch = epoch;
+            }))
             (λ error. config_error workers ≡ Some error) }
     {
         if workers == 0 || workers > MAX_WORKERS {

@@ -2,7 +2,7 @@
 ghost use Rattle.std.specs.Prelude.{◌≡◌, ◌⊎◌, ℕ, List, [], ◌∷◌, Some, true, false, IfOk, IfErr, MatchResult, map, fold, codes};
 ghost use Rattle.clap.specs.Words.{app_of, rule_of, rows_of, found_of, with_rule, kind_of};
 ghost use Rattle.vbr_words.specs.declared.shape.TheConstants.{MAX_EPOCH};
-ghost use Rattle.vbr_settings.specs.Options.{AreOptions, faults, number_option, switch, shape_options, command_line, settings_of, settings_among, number_among, is_among, HasNumber, IsSwitch, AreComplete, shape_fault, GivesSettings, IsOptionsErrorOf};
+ghost use Rattle.vbr_settings.specs.Options.{AreOptions, faults, own_settings, each_option, settings_of_each, number_option, switch, shape_options, command_line, settings_of, settings_among, number_among, is_among, HasNumber, IsSwitch, AreComplete, shape_fault, GivesSettings, IsOptionsErrorOf};
 ghost use Rattle.vbr_settings.specs.declared.options.OptionsError.TheVariants.{Usage, Unshaped};
 
 use crate::config::{Config, MAX_WORKERS};
@@ -125,7 +125,8 @@ impl From<ShapeError> for OptionsError {
 /// Arguments that the command takes lack nothing but a shape, or memory.
 pub fn read_options(alloc: Global, arguments: &[&str]) -> Result<Config, OptionsError>
     ensures ok { IfOk result (GivesSettings (map (λ argument. argument.now) arguments.entry.now)) }
-    ensures error { IfErr result (IsOptionsErrorOf (map (λ argument. argument.now) arguments.entry.now)) }
+    ensures error { IfErr result
+        (IsOptionsErrorOf (map (λ argument. argument.now) arguments.entry.now)) }
 {
     let matches = command(alloc)?.try_get_matches_from(arguments)?;
     Ok(config_of(&matches)?)
@@ -135,9 +136,9 @@ pub fn read_options(alloc: Global, arguments: &[&str]) -> Result<Config, Options
 /// option its own value, and each option may be given.
 pub fn knows_its_options()
     ensures name_alone { (name : List ℕ) → AreOptions (name ∷ [])
-        × (settings_of (name ∷ []) ≡ record { shape = record { slots = 1024; buckets = 16; spread = false; last_epoch = MAX_EPOCH; values = false; keys = []; payloads = [] }; workers = 1; budget = 100000; epoch = false }) }
-    ensures all_given { (name : List ℕ) → AreOptions (name ∷ codes "--workers" ∷ codes "4" ∷ codes "--slots" ∷ codes "512" ∷ codes "--buckets=8" ∷ codes "--last-epoch" ∷ codes "7" ∷ codes "--budget" ∷ codes "1000000" ∷ codes "--epoch" ∷ [])
-        × (settings_of (name ∷ codes "--workers" ∷ codes "4" ∷ codes "--slots" ∷ codes "512" ∷ codes "--buckets=8" ∷ codes "--last-epoch" ∷ codes "7" ∷ codes "--budget" ∷ codes "1000000" ∷ codes "--epoch" ∷ []) ≡ record { shape = record { slots = 512; buckets = 8; spread = false; last_epoch = 7; values = false; keys = []; payloads = [] }; workers = 4; budget = 1000000; epoch = true }) }
+        × (settings_of (name ∷ []) ≡ own_settings) }
+    ensures all_given { (name : List ℕ) → AreOptions (name ∷ each_option)
+        × (settings_of (name ∷ each_option) ≡ settings_of_each) }
 {}
 
 /// A law: command lines that are refused, and with which kind of error. A number out of its option's
@@ -188,7 +189,8 @@ fn command<'a>(alloc: Global) -> Result<Command<'a>, Error>
 
 // The command with the options that give the set's shape.
 fn with_shape<'a>(alloc: Global, command: Command<'a>) -> Result<Command<'a>, Error>
-    ensures options { IfOk result (λ shaped. app_of shaped ≡ fold with_rule (app_of command.entry) shape_options) }
+    ensures options { IfOk result
+        (λ shaped. app_of shaped ≡ fold with_rule (app_of command.entry) shape_options) }
     ensures memory { IfErr result (λ e. kind_of e ≡ ErrorKind.OutOfMemory) }
 {
     let slots = number(alloc, "slots", SLOTS_HELP, 0, MOST, "1024");
@@ -241,7 +243,8 @@ fn switch<'a>(alloc: Global, name: &'a str, help: &'a str) -> Arg<'a>
 fn config_of(matches: &ArgMatches) -> Result<Config, ShapeError>
     requires { AreComplete (rows_of (found_of matches.now)) }
     ensures { MatchResult result
-        (λ config. (shape_fault (settings_among (rows_of (found_of matches.now))) ≡ None) × (config ≡ settings_among (rows_of (found_of matches.now))))
+        (λ config. (shape_fault (settings_among (rows_of (found_of matches.now))) ≡ None)
+        × (config ≡ settings_among (rows_of (found_of matches.now))))
         (λ error. shape_fault (settings_among (rows_of (found_of matches.now))) ≡ Some error) }
 {
     let shape = shape_of(matches)?;
@@ -255,7 +258,8 @@ fn config_of(matches: &ArgMatches) -> Result<Config, ShapeError>
 fn shape_of(matches: &ArgMatches) -> Result<Shape, ShapeError>
     requires { AreComplete (rows_of (found_of matches.now)) }
     ensures { MatchResult result
-        (λ shape. (shape_fault (settings_among (rows_of (found_of matches.now))) ≡ None) × (shape ≡ (settings_among (rows_of (found_of matches.now))).shape))
+        (λ shape. (shape_fault (settings_among (rows_of (found_of matches.now))) ≡ None)
+        × (shape ≡ (settings_among (rows_of (found_of matches.now))).shape))
         (λ error. shape_fault (settings_among (rows_of (found_of matches.now))) ≡ Some error) }
 {
     let slots = number_of(matches, "slots") as u32;

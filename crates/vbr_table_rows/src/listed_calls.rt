@@ -31,7 +31,8 @@ fn exchanged(answer: Result<(), u64>) -> Effect
 
 // The effect of a confirming load.
 fn confirmed(answer: Result<(), u64>, reply: bool) -> Effect
-    ensures { MatchResult answer (λ _. result ≡ Effect.Answered reply) (λ found. result ≡ Effect.Lost found) }
+    ensures { MatchResult answer
+        (λ _. result ≡ Effect.Answered reply) (λ found. result ≡ Effect.Lost found) }
 {
     match answer {
         Ok(()) => Effect::Answered(reply),

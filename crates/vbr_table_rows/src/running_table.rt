@@ -62,7 +62,8 @@ pub fn two_passes(
     slots: u32,
     last_epoch: u64,
 ) -> (Slots, Pass, Pass)
-    ensures shape { (result.0.shape.slots ≡ slots) × (result.0.shape.buckets ≡ 1) × (result.0.shape.last_epoch ≡ last_epoch) }
+    ensures shape { (result.0.shape.slots ≡ slots) × (result.0.shape.buckets ≡ 1)
+        × (result.0.shape.last_epoch ≡ last_epoch) }
     ensures bare { result.0.shape.values ≡ false }
     ensures passes { result.0.passes ≡ 2 }
     ensures first { result.1 ≡ new_pass result.0 0 }
@@ -175,11 +176,13 @@ fn take_both<R: Threads + Sync>(rt: &R, alloc: Global, shape: Shape) -> Option<V
         rt,
         move ||
             requires { IsOf first.trace table.now × (0 < table.now.shape.slots) }
-            ensures { IsOf result.trace table.entry.now × HasEvent result.trace.seen (event_of first.trace.who (TakeFlag 0)) }
+            ensures { IsOf result.trace table.entry.now
+                × HasEvent result.trace.seen (event_of first.trace.who (TakeFlag 0)) }
         { take(table, first, 0) },
         move ||
             requires { IsOf second.trace table.now × (1 < table.now.shape.slots) }
-            ensures { IsOf result.trace table.entry.now × HasEvent result.trace.seen (event_of second.trace.who (TakeFlag 1)) }
+            ensures { IsOf result.trace table.entry.now
+                × HasEvent result.trace.seen (event_of second.trace.who (TakeFlag 1)) }
         { take(table, second, 1) },
     );
     gather(alloc, slots, first, second)

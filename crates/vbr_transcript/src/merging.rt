@@ -16,7 +16,8 @@ pub fn merge(
 ) -> Result<(), AllocError>
     requires replies { HaveReplies (map (λ replies. replies.items) own.now) lines.now }
     requires empty { merged.old.items ≡ [] }
-    ensures { OnOk result (IsMerged lines.now (map (λ replies. replies.items) own.now) merged.new.items) }
+    ensures { OnOk result
+        (IsMerged lines.now (map (λ replies. replies.items) own.now) merged.new.items) }
 {
     let mut next = vec![in alloc; 0usize; own.len()]?;
     for line in lines {

@@ -13,7 +13,8 @@ pub struct WriteFault;
 // Writes all of the text. After a fault the writer holds a beginning of it.
 fn write_text<W: Write>(writer: &mut W, text: &[u8]) -> Result<(), WriteFault>
     ensures ok { OnOk result (Appends (W.contents writer.old) (W.contents writer.new) text.now) }
-    ensures fault { OnErr result (AppendsSome (W.contents writer.old) (W.contents writer.new) text.now) }
+    ensures fault { OnErr result
+        (AppendsSome (W.contents writer.old) (W.contents writer.new) text.now) }
 {
     let mut at = 0;
     while at < text.len() {
@@ -28,7 +29,8 @@ fn write_text<W: Write>(writer: &mut W, text: &[u8]) -> Result<(), WriteFault>
 /// Writes all of the text, and flushes. After a fault the writer holds a beginning of the text.
 pub fn write_whole<W: Write>(writer: &mut W, text: &[u8]) -> Result<(), WriteFault>
     ensures ok { OnOk result (Appends (W.contents writer.old) (W.contents writer.new) text.now) }
-    ensures fault { OnErr result (AppendsSome (W.contents writer.old) (W.contents writer.new) text.now) }
+    ensures fault { OnErr result
+        (AppendsSome (W.contents writer.old) (W.contents writer.new) text.now) }
 {
     write_text(writer, text)?;
     match writer.flush() {
@@ -39,7 +41,8 @@ pub fn write_whole<W: Write>(writer: &mut W, text: &[u8]) -> Result<(), WriteFau
 
 /// Writes one text after another, as far as it can.
 pub fn write_pieces<W: Write>(writer: &mut W, pieces: &[&[u8]])
-    ensures { AppendsSome (W.contents writer.old) (W.contents writer.new) (flat_map (λ piece. piece.now) pieces.now) }
+    ensures { AppendsSome (W.contents writer.old) (W.contents writer.new)
+        (flat_map (λ piece. piece.now) pieces.now) }
 {
     for piece in pieces {
         match write_text(writer, piece) {

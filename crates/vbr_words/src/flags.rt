@@ -75,10 +75,15 @@ pub fn full_flags(shape: &Shape, number: u32) -> u64
 /// A law: the flag word of a slot has its flag exactly where it is set, and has room for no more
 /// than a `u64`. Where the flag of one slot is set or cleared, the word is that of one `|` or `&`.
 pub fn flag_words_have_flags()
-    ensures has { (is_set : ℕ → Bool) (slot : ℕ) → has_flag (flag_word is_set (word_of_flag slot)) slot ≡ is_set slot }
+    ensures has { (is_set : ℕ → Bool) (slot : ℕ) →
+        has_flag (flag_word is_set (word_of_flag slot)) slot ≡ is_set slot }
     ensures is_word { (is_set : ℕ → Bool) (number : ℕ) → flag_word is_set number < 2 ^ 64 }
-    ensures set { (before after : ℕ → Bool) (slot : ℕ) → ((other : ℕ) → other ≢ slot → after other ≡ before other) → after slot ≡ true →
-        flag_word after (word_of_flag slot) ≡ bit_or (flag_word before (word_of_flag slot)) (flag_of slot) }
-    ensures cleared { (before after : ℕ → Bool) (slot : ℕ) → ((other : ℕ) → other ≢ slot → after other ≡ before other) → after slot ≡ false →
-        flag_word after (word_of_flag slot) ≡ bit_and (flag_word before (word_of_flag slot)) (all_but slot) }
+    ensures set { (before after : ℕ → Bool) (slot : ℕ) →
+        ((other : ℕ) → other ≢ slot → after other ≡ before other) → after slot ≡ true →
+        flag_word after (word_of_flag slot)
+        ≡ bit_or (flag_word before (word_of_flag slot)) (flag_of slot) }
+    ensures cleared { (before after : ℕ → Bool) (slot : ℕ) →
+        ((other : ℕ) → other ≢ slot → after other ≡ before other) → after slot ≡ false →
+        flag_word after (word_of_flag slot)
+        ≡ bit_and (flag_word before (word_of_flag slot)) (all_but slot) }
 {}

@@ -116,5 +116,6 @@ pub fn word_count(shape: &Shape) -> usize
 pub fn places_are_apart()
     ensures apart { (shape : Dimensions) (p q : Place) → IsIn shape p → IsIn shape q →
         index_of shape p ≡ index_of shape q → p ≡ q }
-    ensures in_range { (shape : Dimensions) (p : Place) → IsIn shape p → index_of shape p < words_in shape }
+    ensures in_range { (shape : Dimensions) (p : Place) → IsIn shape p →
+        index_of shape p < words_in shape }
 {}

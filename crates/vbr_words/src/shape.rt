@@ -40,11 +40,33 @@ impl Model for Shape {
 
     ghost Value = { Dimensions };
 
-    ghost view = { λ s. record { slots = s.slots; buckets = s.buckets; spread = s.spread; last_epoch = s.last_epoch; values = s.values; keys = []; payloads = [] } };
+    ghost view = { λ s. record {
+      slots = s.slots;
+      buckets = s.buckets;
+      spread = s.spread;
+      last_epoch = s.last_epoch;
+      values = s.values;
+      keys = [];
+      payloads = [];
+    } };
 
-    ghost invariant = { λ s. IsShape (record { slots = s.slots; buckets = s.buckets; spread = s.spread; last_epoch = s.last_epoch; values = s.values; keys = []; payloads = [] }) };
+    ghost invariant = { λ s. IsShape (record {
+      slots = s.slots;
+      buckets = s.buckets;
+      spread = s.spread;
+      last_epoch = s.last_epoch;
+      values = s.values;
+      keys = [];
+      payloads = [];
+    }) };
 
-    ghost inverse = { λ d. record { slots = d.slots; buckets = d.buckets; last_epoch = d.last_epoch; spread = d.spread; values = d.values } };
+    ghost inverse = { λ d. record {
+      slots = d.slots;
+      buckets = d.buckets;
+      last_epoch = d.last_epoch;
+      spread = d.spread;
+      values = d.values;
+    } };
 }
 
 /// Why three numbers are no shape. The tests are made in this order.
@@ -102,7 +124,15 @@ impl Shape {
     /// faulty one.
     pub fn new(slots: u32, buckets: u32, last_epoch: u64) -> Result<Self, ShapeError>
         ensures { MatchResult result
-            (λ shape. (shape_error slots buckets last_epoch ≡ None) × (shape ≡ record { slots = slots; buckets = buckets; spread = false; last_epoch = last_epoch; values = false; keys = []; payloads = [] }))
+            (λ shape. (shape_error slots buckets last_epoch ≡ None) × (shape ≡ record {
+              slots = slots;
+              buckets = buckets;
+              spread = false;
+              last_epoch = last_epoch;
+              values = false;
+              keys = [];
+              payloads = [];
+            }))
             (λ error. shape_error slots buckets last_epoch ≡ Some error) }
     {
         if slots == 0 || slots > MAX_SLOTS {
@@ -130,7 +160,8 @@ impl Shape {
     /// fall into one bucket it does nothing.
     pub fn spread_over(self, buckets: u32) -> Result<Self, SpreadError>
         ensures { MatchResult result
-            (λ shape. (0 < buckets) × (buckets ≤ MAX_SPREAD_BUCKETS) × (shape ≡ record self { buckets = buckets; spread = true }))
+            (λ shape. (0 < buckets) × (buckets ≤ MAX_SPREAD_BUCKETS)
+            × (shape ≡ record self { buckets = buckets; spread = true }))
             (λ error. (buckets ≡ 0) ⊎ (MAX_SPREAD_BUCKETS < buckets)) }
     {
         if buckets == 0 || buckets > MAX_SPREAD_BUCKETS {

@@ -14,9 +14,9 @@ loop-other-preserved c =
     record {
       same = put_back c.args.others.now c.loop-other.others c.loop-other.other-index c.other-item.result c.meet.new.other before.same met.same;
       set = met.set ∙ before.set;
-      quiet = quiet_on before.quiet met.shares.quiet;
-      pool = (met.pool.0 ∙ before.pool.0, met.pool.1 ∙ before.pool.1);
-      seen = seen_more c.args.others.now c.loop-other.others c.loop-other.other-index c.other-item.result c.loop-other.caller.pass.trace.seen c.meet.new.self.pass.trace.seen before.same c.loop-other-test.true before.seen met.shares.quiet.seen (begins_for_begins _ _ _ met.met);
+      quiet = quiet_on before.quiet met.meets.shares.quiet;
+      pool = (met.meets.pool.0 ∙ before.pool.0, met.meets.pool.1 ∙ before.pool.1);
+      seen = seen_more c.args.others.now c.loop-other.others c.loop-other.other-index c.other-item.result c.loop-other.caller.pass.trace.seen c.meet.new.self.pass.trace.seen before.same c.loop-other-test.true before.seen met.meets.shares.quiet.seen (begins_for_begins _ _ _ met.meets.met);
     }
 
 pub returns-clause-seen : goal.returns-clause-seen

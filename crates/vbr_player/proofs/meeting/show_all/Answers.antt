@@ -20,8 +20,8 @@ loop-other-preserved c =
     let i = c.loop-other.invariant in
     record {
       same = met.same ∙ i.same;
-      looks = shown_more c.args.others.now c.loop-other.others c.loop-other.other-index c.other-item.result c.meet.new.self c.loop-other-test.true i.looks met.set met.shares.quiet met.pool;
-      seen = sees_more c.args.caller.now.pass.trace.seen c.args.others.now c.loop-other.others c.loop-other.other-index _ c.loop-other-test.true i.looks i.seen (subst (λ (m : MemberView). Begins m.pass.trace.seen c.meet.new.self.pass.trace.seen) i.same (begins_for_begins _ _ _ met.met));
+      looks = shown_more c.args.others.now c.loop-other.others c.loop-other.other-index c.other-item.result c.meet.new.self c.loop-other-test.true i.looks met.set met.meets.shares.quiet met.meets.pool;
+      seen = sees_more c.args.caller.now.pass.trace.seen c.args.others.now c.loop-other.others c.loop-other.other-index _ c.loop-other-test.true i.looks i.seen (subst (λ (m : MemberView). Begins m.pass.trace.seen c.meet.new.self.pass.trace.seen) i.same (begins_for_begins _ _ _ met.meets.met));
     }
 
 pub returns-clause-seen : goal.returns-clause-seen

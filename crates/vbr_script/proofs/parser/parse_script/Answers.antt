@@ -35,14 +35,17 @@ loop-phase-preserved c =
       place = omega arith;
     }
 
-pub returns-in-None-clause-phased : goal.returns-in-None-clause-phased
-returns-in-None-clause-phased c =
+pub returns-in-None-clause-script : goal.returns-in-None-clause-script
+returns-in-None-clause-script c =
     let lines : c.match-limited.lines.items ≡ script_of c.args.workers c.args.text.now = search rules in
     let phases : c.match-limited.phase + 1 ≡ phases_of c.args.workers c.args.text.now = search rules in
-    rw (lines, phases) (phased c.args.workers c.args.text.now)
-
-pub returns-in-None-clause-renewed : goal.returns-in-None-clause-renewed
-returns-in-None-clause-renewed c =
     let renewals : c.match-limited.renewals.items ≡ renewals_of c.args.workers c.args.text.now = search rules in
-    let phases : c.match-limited.phase + 1 ≡ phases_of c.args.workers c.args.text.now = search rules in
-    rw (renewals, phases) (renewed c.args.workers c.args.text.now)
+    record {
+      faultless = search rules;
+      lines = lines;
+      phases = phases;
+      renewals = renewals;
+      phased = rw (lines, phases) (phased c.args.workers c.args.text.now);
+      renewed = rw (renewals, phases) (renewed c.args.workers c.args.text.now);
+      limits = (search rules, search rules);
+    }

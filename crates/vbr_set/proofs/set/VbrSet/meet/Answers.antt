@@ -2,9 +2,11 @@ use Rattle.std.proofs.Common.{sym, ◌∙◌}
 use Rattle.vbr_set.proofs.Histories.{met_safe, shares}
 use Rattle.vbr_set.proofs.set.VbrSet.meet.Goals as goal
 
-pub returns-clause-shares : goal.returns-clause-shares
-returns-clause-shares c =
-    shares c.law.ensures.shape (c.requires.other.1 ∙ sym c.requires.own.1) c.meet.ensures.step.1 c.meet.ensures.met
-
-pub returns-clause-safe : goal.returns-clause-safe
-returns-clause-safe c = met_safe c.law.ensures.shape c.meet.ensures.step.1
+pub returns-clause-meets : goal.returns-clause-meets
+returns-clause-meets c = record {
+  step = c.meet.ensures.step;
+  pool = c.meet.ensures.pool;
+  met = c.meet.ensures.met;
+  shares = shares c.law.ensures.shape (c.requires.other.1 ∙ sym c.requires.own.1) c.meet.ensures.step.1 c.meet.ensures.met;
+  safe = met_safe c.law.ensures.shape c.meet.ensures.step.1;
+}

@@ -1,0 +1,67 @@
+-- What the laws of a set say: those of tokens, and those of room.
+use Rattle.std.specs.Prelude.{◌≡◌, ℕ, ◌+◌, ◌-◌, ◌*◌, ◌≤◌, Bool, Err, List, Result, length}
+use Rattle.vbr_machine.specs.History.{set_after}
+use Rattle.vbr_machine.specs.Keys.{AreKeysOf}
+use Rattle.vbr_machine.specs.Nodes.{marked_after}
+use Rattle.vbr_machine.specs.Opened.{opening_keys}
+use Rattle.vbr_machine.specs.Runs.{Begins}
+use Rattle.vbr_machine.specs.declared.event.Step.TheVariants.{ReadEpoch}
+use Rattle.vbr_machine.specs.declared.history.Call.{Call}
+use Rattle.vbr_machine.specs.declared.history.Op.{Op}
+use Rattle.vbr_machine.specs.declared.history.Op.TheVariants.{Insert}
+use Rattle.vbr_slots.specs.Alone.{IsAlone}
+use Rattle.vbr_slots.specs.Calls.{IsSame}
+use Rattle.vbr_slots.specs.PassLaw.{PassLaw}
+use Rattle.vbr_slots.specs.Tokens.{SeenView}
+use Rattle.vbr_slots.specs.Views.{Did, KeepsPool, PassView, TableView, Trace, new_pass}
+use Rattle.vbr_slots.specs.declared.pass.TheConstants.{POOL}
+use Rattle.vbr_list.specs.declared.refusal.Refusal.{Refusal}
+use Rattle.vbr_list.specs.declared.refusal.Refusal.TheVariants.{NoSlot}
+use Rattle.vbr_set.specs.Answers.{Answers}
+use Rattle.vbr_set.specs.Histories.{calls_of}
+use Rattle.vbr_set.specs.Members.{Called, MemberView}
+use Rattle.vbr_set.specs.Room.{AreTakenUp, HasAllSlots, OthersAreBetweenCalls}
+use Rattle.vbr_set.specs.Tokens.{CatchesUp, IsChain, IsTokenOf, Precedes, end_of}
+
+-- ---- tokens
+
+-- who catches up with the last token of a chain catches up with the first
+abbrev pub TokensHandOn : Type 0
+TokensHandOn =
+    (set : TableView) (first : SeenView) (tokens : List SeenView) (p q : PassView)
+    → IsChain first tokens → CatchesUp set p (end_of first tokens) q → CatchesUp set p first q
+
+-- a call that was answered before a token was made stands before each call that is answered after somebody caught up with it, or with one further down its chain
+abbrev pub CallsStayInOrder : Type 0
+CallsStayInOrder =
+    (set : TableView) (one other : Call) (g h k : Trace) (first : SeenView) (tokens : List SeenView) (p q : PassView) (r s : Trace)
+    → Answers one g h → IsSame h k → Begins h.seen k.seen → IsTokenOf set k first → IsChain first tokens
+    → CatchesUp set p (end_of first tokens) q → IsSame q.trace r → Begins q.trace.seen r.seen → Answers other r s
+    → Precedes one other (calls_of s.shape s.seen)
+
+-- ---- room
+
+-- a pass has all its slots when it is opened, and behind each call, answered or refused, each meeting and each catching up
+pub record PassesHaveAllTheirSlots : Type 0 where
+  pub opened : (set : TableView) (who : ℕ) → HasAllSlots (new_pass set who)
+  pub called : (op : Op) (m n : MemberView) (key budget : ℕ) (answer : Result Bool Refusal) → HasAllSlots m.pass → Called op m n key budget answer → HasAllSlots n.pass
+  pub met : (p q : PassView) (epoch : ℕ) → HasAllSlots p → Did ReadEpoch p.trace q.trace epoch → KeepsPool p q → HasAllSlots q
+  pub caught : (set : TableView) (p q : PassView) (token : SeenView) → HasAllSlots p → CatchesUp set p token q → HasAllSlots q
+
+-- a pass that has all its slots was told that there is no slot for an insert, and no other pass made a step meanwhile
+pub record FoundNoSlot (m n : MemberView) (key budget : ℕ) : Type 0 where
+  pub law : PassLaw n.pass
+  pub has_all : HasAllSlots m.pass
+  pub called : Called Insert m n key budget (Err NoSlot)
+  pub alone : IsAlone m.pass.trace n.pass.trace
+
+-- an insert that is alone finds no slot only where all slots are taken up
+abbrev pub NoSlotAlone : Type 0
+NoSlotAlone = (m n : MemberView) (key budget : ℕ) → FoundNoSlot m n key budget → AreTakenUp n.pass.trace
+
+-- besides, all slots but 64 for each other pass have a key of the set or a marked node, where each other pass stands between two calls
+abbrev pub SlotsThatSuffice : Type 0
+SlotsThatSuffice =
+    (m n : MemberView) (key budget : ℕ) (keys : List ℕ) → FoundNoSlot m n key budget → OthersAreBetweenCalls n.pass.trace
+    → AreKeysOf keys (set_after (opening_keys n.pass.trace.shape) (calls_of n.pass.trace.shape n.pass.trace.seen))
+    → n.pass.trace.shape.slots ≤ length keys + marked_after n.pass.trace.shape n.pass.trace.seen + POOL * (n.pass.trace.passes - 1)
