@@ -6,7 +6,7 @@ use Rattle.vbr_slots.specs.Calls.{Took}
 use Rattle.vbr_slots.specs.Views.{Trace, PassView, Did}
 use Rattle.vbr_slots.proofs.Lemmas.{did_took, took_none, took_on}
 use Rattle.vbr_pools.specs.Pieces.{Uses}
-use Rattle.vbr_pools.specs.Steps.{CountsSteps, TookWithin}
+use Rattle.vbr_pools.specs.Steps.{CountsSteps}
 
 pub counts_none : (p : Trace) (n : ℕ) → CountsSteps p p n n
 counts_none p n = record { steps = 0; sum = omega arith; took = took_none p }

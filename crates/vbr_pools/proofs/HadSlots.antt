@@ -9,7 +9,6 @@ use Rattle.vbr_slots.specs.Views.{PassView, Trace, knows}
 use Rattle.vbr_pools.specs.GivingBack.{PutsBack}
 use Rattle.vbr_pools.specs.Hands.{HandView}
 use Rattle.vbr_pools.specs.KeptSlots.{HasSlot, HasStill, HasAllButOne, HasUnpublished, PoolGrows}
-use Rattle.vbr_pools.specs.Refusals.{LeavesPool}
 use Rattle.vbr_pools.specs.Taking.{IsTaken}
 use Rattle.vbr_pools.proofs.PoolLists.{stays_in}
 

@@ -12,15 +12,15 @@ use Rattle.vbr_slots.specs.Calls.{Quiet}
 use Rattle.vbr_slots.specs.Pools.{hand_without}
 use Rattle.vbr_slots.specs.Tried.{last_tried}
 use Rattle.vbr_slots.specs.Views.{Trace, PassView, KeepsPool, Did, knows}
-use Rattle.vbr_slots.proofs.Lemmas.{alone_first, alone_then, did_quiet, did_seen, quiet_on, quiet_refl}
+use Rattle.vbr_slots.proofs.Lemmas.{alone_first, alone_then, did_quiet, did_seen, quiet_on}
 use Rattle.vbr_pools.specs.KeptSlots.{TakesNoSlot}
 use Rattle.vbr_pools.specs.Pieces.{HasSlots, Probes, WinsNone}
 use Rattle.vbr_pools.specs.SharedPool.{WasOutside, ComesBefore, CameByFlag}
 use Rattle.vbr_pools.specs.Steps.{CountsSteps}
 use Rattle.vbr_pools.specs.declared.refusal.TakeRefusal.TheVariants.{OutOfSteps, NoSlot}
-use Rattle.vbr_pools.proofs.AloneWinning.{Probed, probed_first, probed_lost, probed_next, probed_few}
-use Rattle.vbr_pools.proofs.Advancing.{same_advances, same_flags, none_refl, none_given, none_known, none_on}
-use Rattle.vbr_pools.proofs.Counting.{counts_none, counts_one, counts_on, took_all}
+use Rattle.vbr_pools.proofs.AloneWinning.{Probed, probed_lost, probed_next, probed_few}
+use Rattle.vbr_pools.proofs.Advancing.{same_advances, same_flags, none_given, none_known, none_on}
+use Rattle.vbr_pools.proofs.Counting.{counts_one, counts_on, took_all}
 use Rattle.vbr_pools.proofs.Moments.{came, missed, missed_before, missed_after}
 
 -- so many probes were made on a way once round the slots: from the first slot of the word of the flag that was tried last up to the last one, and then, up to that first one, from slot 0 on;
