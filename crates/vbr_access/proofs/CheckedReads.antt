@@ -2,7 +2,6 @@
 use Rattle.std.proofs.Common.{◌≡◌, ℕ, false, refl, sym, ◌∙◌, subst}
 use Rattle.vbr_words.specs.Dimensions.{Dimensions, IsShape}
 use Rattle.vbr_words.specs.Words.{link_of}
-use Rattle.vbr_words.specs.declared.place.At.{At}
 use Rattle.vbr_words.specs.declared.place.At.TheVariants.{Head, Slot}
 use Rattle.vbr_words.specs.Buckets.{bucket_of}
 use Rattle.vbr_machine.specs.Membership.{Knows, IsHeldSlot, HeldIn}
@@ -23,14 +22,8 @@ use Rattle.vbr_access.proofs.Moments.{stood_at_load}
 pub epoch_quiet : {p q : Trace} {epoch : ℕ} → Did ReadEpoch p q epoch → Quiet p q
 epoch_quiet d = did_quiet d (λ know. refl)
 
-pub link_quiet : {p q : Trace} {at : At} {word : ℕ} → Did (LoadLink at) p q word → Quiet p q
-link_quiet d = did_quiet d (λ know. refl)
-
 pub birth_quiet : {p q : Trace} {s birth : ℕ} → Did (LoadBirth s) p q birth → Quiet p q
 birth_quiet d = did_quiet d (λ know. refl)
-
-pub key_quiet : {p q : Trace} {s key : ℕ} → Did (LoadKey s) p q key → Quiet p q
-key_quiet d = did_quiet d (λ know. refl)
 
 -- ---- a head
 

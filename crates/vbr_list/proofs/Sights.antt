@@ -6,11 +6,8 @@ use Rattle.vbr_words.specs.declared.place.At.{At}
 use Rattle.vbr_words.specs.declared.place.At.TheVariants.{Head, Slot}
 use Rattle.vbr_machine.specs.Knowledge.{Know}
 use Rattle.vbr_machine.specs.Membership.{KeyAt}
-use Rattle.vbr_slots.specs.Views.{Trace}
-use Rattle.vbr_access.specs.Alone.{StandsNow}
 use Rattle.vbr_access.specs.Held.{IsHeld, IsSlot}
 use Rattle.vbr_access.specs.LookUps.{DecidesKey}
-use Rattle.vbr_list.specs.Nearing.{SightStands}
 use Rattle.vbr_list.specs.Places.{IsSight, held_in, is_present}
 use Rattle.vbr_list.specs.declared.looking.Sight.{Sight}
 use Rattle.vbr_list.specs.declared.looking.Sight.TheVariants.{Present, Absent}
@@ -31,7 +28,3 @@ module _ (shape : Dimensions) (know : Know) (key : ℕ) where
   pub sight_answers : (sight : Sight) → IsSight shape know key sight → DecidesKey shape know key (held_in sight) (is_present sight)
   sight_answers (Present node) s = (keyed_slot know node.at key s.2, s.2)
   sight_answers (Absent pred) s = (s.0.behind, s.1)
-
-pub sight_stands : (q : Trace) (sight : Sight) → SightStands q sight → StandsNow q (held_in sight)
-sight_stands q (Present node) s = s
-sight_stands q (Absent pred) s = s

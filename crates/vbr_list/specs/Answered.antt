@@ -10,7 +10,7 @@ use Rattle.vbr_pools.specs.Advances.{AdvancesWhereNeeded}
 use Rattle.vbr_pools.specs.KeptSlots.{HasUnpublished, KeepsSlots, SharesWhereFull, TakesNoSlot}
 use Rattle.vbr_pools.specs.Steps.{TookWithin}
 use Rattle.vbr_list.specs.Alone.{AnswersAlone}
-use Rattle.vbr_list.specs.Budgets.{IsAnsweredOrSpent, LacksSteps, enough_to_insert, enough_to_look_up, enough_with_a_slot}
+use Rattle.vbr_list.specs.Budgets.{IsAnsweredOrSpent, LacksSteps, enough_to_insert, enough_to_look_up, enough_with_a_slot, look_up_costs}
 use Rattle.vbr_list.specs.Leaving.{SparesRemove}
 use Rattle.vbr_list.specs.Refusals.{IsRefused, IsTired}
 use Rattle.vbr_list.specs.declared.refusal.Refusal.{Refusal}
@@ -25,7 +25,7 @@ pub record SparesInsert (p q : PassView) (key budget : ℕ) (answer : Result Boo
   pub within : IfErr answer (λ refusal. IsAlone p.trace q.trace → LacksSteps (enough_to_insert p key) budget refusal)
   pub ready : p.pool ≢ [] → IsAlone p.trace q.trace → enough_with_a_slot p.trace key ≤ budget → IsAnsweredOrSpent answer
 
--- what a look-up promises besides: all its steps are loads, and its answer is all that it adds to the chronicle; it advances no epoch, loses no slot, and is refused for want of steps alone; alone it has steps enough with a budget that is known before
+-- what a look-up promises besides: all its steps are loads, and its answer is all that it adds to the chronicle; it advances no epoch, loses no slot, and is refused for want of steps alone; alone it has steps enough with a budget that is known before, and its answer costs no more than is known before
 pub record SparesHas (p q : PassView) (key budget : ℕ) (answer : Result Bool Refusal) : Type 0 where
   pub only_loads : OnlyLoads p.trace q.trace
   pub adds : IfOk answer (λ reply. AddsAnswer (set_call p.trace.who Has key reply) p.trace q.trace)
@@ -33,6 +33,7 @@ pub record SparesHas (p q : PassView) (key budget : ℕ) (answer : Result Bool R
   pub takes_no_slot : TakesNoSlot p q
   pub refused : IfErr answer (IsTired p q budget)
   pub within : IfErr answer (λ refusal. IsAlone p.trace q.trace → budget < enough_to_look_up p.trace key)
+  pub costs : IfOk answer (λ reply. IsAlone p.trace q.trace → TookWithin p.trace q.trace (look_up_costs p.trace key))
 
 -- what a call promises besides its answer; no set has a get
 abbrev pub Spares : Op → PassView → PassView → ℕ → ℕ → Result Bool Refusal → Type 0

@@ -28,6 +28,14 @@ enough_to_insert p key = 18 * listed_for p.trace key + most_to_take p.trace.shap
 abbrev pub enough_with_a_slot : Trace → ℕ → ℕ
 enough_with_a_slot p key = 18 * listed_for p key + 82
 
+-- the most that a call costs which is answered to a pass that is alone: a look-up five steps for each node, and four
+abbrev pub look_up_costs : Trace → ℕ → ℕ
+look_up_costs p key = 5 * listed_for p key + 4
+
+-- to find where a key stands: nine for each, and three
+abbrev pub find_costs : Trace → ℕ → ℕ
+find_costs p key = 9 * listed_for p key + 3
+
 -- a refusal for want of steps comes of a budget below so many
 abbrev pub LacksSteps : ℕ → ℕ → Refusal → Type 0
 LacksSteps steps budget (OutOfSteps used) = budget < steps

@@ -5,7 +5,7 @@ use Rattle.vbr_slots.specs.Calls.{Quiet, Took}
 use Rattle.vbr_slots.specs.Views.{PassView, Trace, knows}
 use Rattle.vbr_access.specs.Moments.{Stood, WasSo}
 use Rattle.vbr_access.specs.declared.held.Held.{Held}
-use Rattle.vbr_list.specs.Budgets.{enough_to_search}
+use Rattle.vbr_list.specs.Budgets.{enough_to_search, find_costs}
 use Rattle.vbr_list.specs.Leaving.{WasClear}
 use Rattle.vbr_list.specs.Places.{Locates}
 use Rattle.vbr_list.specs.Refusals.{IsTired}
@@ -23,7 +23,7 @@ pub record IsFound (p q : Trace) (key : ℕ) (found : Found) : Type 0 where
   pub stood : Stood p q found.pred
   pub cur_stood : CurStood p q found.cur
 
--- a find made no call, and tells where the key stood at moments of it, within its budget; and at a moment no marked node of the key was in a list
+-- a find made no call, and tells where the key stood at moments of it, within its budget; and at a moment no marked node of the key was in a list; alone it costs no more than is known before
 pub record FindsIn (p q : PassView) (key budget : ℕ) (told : Found) : Type 0 where
   pub quiet : Quiet p.trace q.trace
   pub found : IsFound p.trace q.trace key told
@@ -31,6 +31,7 @@ pub record FindsIn (p q : PassView) (key budget : ℕ) (told : Found) : Type 0 w
   pub clear : WasClear p.trace q.trace key
   pub within : told.used ≤ budget
   pub took : Took p.trace q.trace told.used
+  pub costs : IsAlone p.trace q.trace → told.used ≤ find_costs p.trace key
 
 -- a find gave up for want of steps, and made no call; a pass that was alone had fewer than are enough for the nodes that were listed
 pub record GivesUp (p q : PassView) (key budget : ℕ) (refusal : Refusal) : Type 0 where

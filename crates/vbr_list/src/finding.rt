@@ -39,7 +39,7 @@ impl Call<'_> {
 /// room.
 ///
 /// OutOfSteps is its one refusal. While the other passes stand still, a budget of 9n + 11 is enough,
-/// with n nodes in the key's bucket.
+/// with n nodes in the key's bucket, and what is found took at most 9n + 3 steps.
 pub fn find(slots: &Slots, pass: &mut Pass, key: u64, budget: u32) -> Result<Found, Refusal>
     requires own { IsOf pass.old.trace slots.now }
     requires empty_hand { pass.old.hand ≡ None }

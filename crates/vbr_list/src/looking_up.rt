@@ -59,7 +59,7 @@ fn told_by(sight: Sight) -> (Held, bool)
 /// another, and one for the answer.
 ///
 /// OutOfSteps is its one refusal. While the other passes stand still, a budget of 5n + 11 is enough,
-/// with n nodes in the key's bucket.
+/// with n nodes in the key's bucket, and what is answered took at most 5n + 4 steps.
 pub fn has(slots: &Slots, pass: &mut Pass, key: u64, budget: u32) -> Result<bool, Refusal>
     requires own { IsOf pass.old.trace slots.now }
     requires empty_hand { pass.old.hand ≡ None }

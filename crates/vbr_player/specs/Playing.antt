@@ -25,11 +25,6 @@ IsWant error.Memory = Unit {0}
 IsWant error.Worker = Unit {0}
 IsWant _ = ⊥
 
--- why a text couldn't be played: the first fault of its script, or want of memory or of a thread
-abbrev pub IsFaultOf : ℕ → List ℕ → RunError → Type 0
-IsFaultOf workers text (error.Script line kind) = first_fault workers text ≡ Some (line, kind)
-IsFaultOf workers text e = IsWant e
-
 -- The player's answer, by the bytes that the reader had left and those that the writer held before and after.
 -- Done: the layout of a run of the script that was read is appended. A script fault is the first of the text.
 -- A write fault leaves a beginning of a run's layout, and any other fault leaves the writer as it was.

@@ -6,7 +6,7 @@ use Rattle.vbr_slots.specs.Calls.{Took}
 use Rattle.vbr_slots.specs.Views.{Trace, PassView, Did}
 use Rattle.vbr_slots.proofs.Lemmas.{did_took, took_none, took_on}
 use Rattle.vbr_pools.specs.Pieces.{Uses}
-use Rattle.vbr_pools.specs.Steps.{CountsSteps, TookWithin}
+use Rattle.vbr_pools.specs.Steps.{CountsSteps}
 
 pub counts_none : (p : Trace) (n : ℕ) → CountsSteps p p n n
 counts_none p n = record { steps = 0; sum = omega arith; took = took_none p }
@@ -17,9 +17,6 @@ counts_one n d = record { steps = 1; sum = omega arith; took = did_took d }
 pub counts_on : {p q r : Trace} {a b c : ℕ} → CountsSteps p q a b → CountsSteps q r b c → CountsSteps p r a c
 counts_on x y = record { steps = x.steps + y.steps; sum = (let e = x.sum in let f = y.sum in omega arith); took = took_on x.steps y.steps x.took y.took }
 
-pub counts_same : {p q r : Trace} {a b : ℕ} → q ≡ r → CountsSteps p q a b → CountsSteps p r a b
-counts_same {p} {q} {r} {a} {b} e x = subst (λ (t : Trace). CountsSteps p t a b) e x
-
 pub uses_on : {p q r : PassView} {budget a b c m n : ℕ} → Uses p q budget a b m → Uses q r budget b c n → Uses p r budget a c (m + n)
 uses_on x y = record { counts = counts_on x.counts y.counts; within = y.within; at_most = (let e = x.at_most in let f = y.at_most in omega arith) }
 
@@ -29,10 +26,6 @@ uses_more n le x = record { counts = x.counts; within = x.within; at_most = (let
 -- counted from none
 pub took_all : {p q : Trace} {used : ℕ} → CountsSteps p q 0 used → Took p q used
 took_all {p} {q} {used} x = subst (Took p q) (let e = x.sum in omega arith) x.took
-
--- steps that are told are no more than those within which they were made
-pub took_within : {p q : Trace} {n most : ℕ} → Took p q n → TookWithin p q most → n ≤ most
-took_within took within = let told = took.made in let made = within.took.made in let low = within.within in omega (arith, told, made, low)
 
 -- a budget that doesn't afford a piece has no room for it
 pub no_room : (used budget : ℕ) (b : Bool) → b ≡ false → (used + 8 ≤ budget → b ≡ true) → budget < used + 8

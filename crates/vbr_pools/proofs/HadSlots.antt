@@ -9,12 +9,8 @@ use Rattle.vbr_slots.specs.Views.{PassView, Trace, knows}
 use Rattle.vbr_pools.specs.GivingBack.{PutsBack}
 use Rattle.vbr_pools.specs.Hands.{HandView}
 use Rattle.vbr_pools.specs.KeptSlots.{HasSlot, HasStill, HasAllButOne, HasUnpublished, PoolGrows}
-use Rattle.vbr_pools.specs.Refusals.{LeavesPool}
 use Rattle.vbr_pools.specs.Taking.{IsTaken}
 use Rattle.vbr_pools.proofs.PoolLists.{stays_in}
-
-pub had_refl : (p : PassView) → HasStill p p
-had_refl p slot has = has
 
 pub had_on : (p q r : PassView) → HasStill p q → HasStill q r → HasStill p r
 had_on p q r first then slot has = then slot (first slot has)
@@ -32,12 +28,6 @@ had_taken {p} {q} {hand} none taken slot (inl in_pool) = go (cases_eq slot hand.
     go (inl is) = inr (let h = taken.births.in_hand.slot in cc)
     go (inr other) = inl (subst (λ (l : List ℕ). Contains l slot) (sym taken.births.rest) (stays_in hand.slot p.pool slot other in_pool))
 had_taken {p} {q} {hand} none taken slot (inr in_hand) = absurd (cc)
-
--- no slot comes into the hand
-pub had_left : (p q : PassView) → p.hand ≡ None → LeavesPool p q → HasStill p q
-had_left p q none (inl same) slot (inl in_pool) = inl (subst (λ (l : List ℕ). Contains l slot) (sym same) in_pool)
-had_left p q none (inr claimed) slot (inl in_pool) = let in_none : Contains [] slot = subst (λ (l : List ℕ). Contains l slot) claimed.0 in_pool in let low = in_none.1 in absurd (omega arith)
-had_left p q none left slot (inr in_hand) = absurd (cc)
 
 -- the slot in hand goes back into the pool
 pub had_back : (p q : PassView) (kept : ℕ) → p.hand ≡ Some kept → q.pool ≡ p.pool ++ kept ∷ [] → HasStill p q
@@ -70,7 +60,3 @@ pub had_then : {E : Type 0} (p q r : PassView) (answer : Result Bool E) → HasS
 had_then p q r (Ok true) first then = (then.0, λ slot has other. then.1 slot (first slot has) other)
 had_then p q r (Ok false) first then = λ slot has. then slot (first slot has)
 had_then p q r (Err error) first then = λ slot has. then slot (first slot has)
-
--- a call that is refused publishes none
-pub had_error : {E : Type 0} (p q : PassView) (answer : Result Bool E) (error : E) → answer ≡ Err error → HasStill p q → HasUnpublished p q answer
-had_error {E} p q answer error is has = subst (λ (a : Result Bool E). HasUnpublished p q a) (sym is) has

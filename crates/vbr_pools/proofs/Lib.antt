@@ -13,5 +13,4 @@ mod EpochReads
 mod Choosing
 mod Takings
 mod HadSlots
-mod Lent
 pub mod Lemmas

@@ -12,15 +12,15 @@ use Rattle.vbr_slots.specs.Calls.{Quiet}
 use Rattle.vbr_slots.specs.Pools.{hand_without}
 use Rattle.vbr_slots.specs.Tried.{last_tried}
 use Rattle.vbr_slots.specs.Views.{Trace, PassView, KeepsPool, Did, knows}
-use Rattle.vbr_slots.proofs.Lemmas.{alone_first, alone_then, did_quiet, did_seen, quiet_on, quiet_refl}
+use Rattle.vbr_slots.proofs.Lemmas.{alone_first, alone_then, did_quiet, did_seen, quiet_on}
 use Rattle.vbr_pools.specs.KeptSlots.{TakesNoSlot}
 use Rattle.vbr_pools.specs.Pieces.{HasSlots, Probes, WinsNone}
 use Rattle.vbr_pools.specs.SharedPool.{WasOutside, ComesBefore, CameByFlag}
 use Rattle.vbr_pools.specs.Steps.{CountsSteps}
 use Rattle.vbr_pools.specs.declared.refusal.TakeRefusal.TheVariants.{OutOfSteps, NoSlot}
-use Rattle.vbr_pools.proofs.AloneWinning.{Probed, probed_first, probed_lost, probed_next, probed_few}
-use Rattle.vbr_pools.proofs.Advancing.{same_advances, same_flags, none_refl, none_given, none_known, none_on}
-use Rattle.vbr_pools.proofs.Counting.{counts_none, counts_one, counts_on, took_all}
+use Rattle.vbr_pools.proofs.AloneWinning.{Probed, probed_lost, probed_next, probed_few}
+use Rattle.vbr_pools.proofs.Advancing.{same_advances, same_flags, none_given, none_known, none_on}
+use Rattle.vbr_pools.proofs.Counting.{counts_one, counts_on, took_all}
 use Rattle.vbr_pools.proofs.Moments.{came, missed, missed_before, missed_after}
 
 -- so many probes were made on a way once round the slots: from the first slot of the word of the flag that was tried last up to the last one, and then, up to that first one, from slot 0 on;
@@ -37,22 +37,6 @@ pub record Winning (p q : PassView) (budget used start next end : ℕ) : Type 0 
   pub ahead : (slot : ℕ) → slot < p.trace.shape.slots → start ≤ slot → slot < next → WasOutside p.trace q.trace slot
   pub round : end ≡ start → (slot : ℕ) → slot < p.trace.shape.slots → (start ≤ slot) ⊎ (slot < next) → WasOutside p.trace q.trace slot
   pub alone : IsAlone p.trace q.trace → (end ≡ p.trace.shape.slots → Probed q.trace (word_of_flag start) 0 used next) × (end ≡ start → Probed q.trace (word_of_flag start) (flag_words p.trace.shape.slots) used next)
-
--- before the first probe
-pub win_first : (p : PassView) (budget start end : ℕ) → start ≡ 64 * word_of_flag (last_tried p.trace) → start < p.trace.shape.slots → end ≡ p.trace.shape.slots → Winning p p budget 0 start start end
-win_first p budget start end begins low all = record {
-  quiet = quiet_refl p.trace;
-  pool = (refl, refl);
-  none = none_refl p;
-  counts = counts_none p.trace 0;
-  within = omega arith;
-  begins = begins;
-  low = low;
-  turn = inl (all, omega arith, low);
-  ahead = λ slot in_shape from less. absurd (omega (arith, from, less));
-  round = λ over. absurd (omega (arith, over, all, low));
-  alone = λ alone. ((λ is. probed_first p.trace start), (λ over. absurd (omega (arith, over, all, low))));
-}
 
 -- what comes next is no further than the next word
 next_low : (word slot next : ℕ) → IsNextFlag word slot next → next ≤ 64 * (slot / 64 + 1)
@@ -130,10 +114,6 @@ module _ {p q r : PassView} {budget used start slot end next n : ℕ} (at : Winn
 
       few : IsAlone p.trace r.trace → word_of_flag start + (used + 1) ≤ flag_words p.trace.shape.slots + word_of_flag 0
       few alone = let lost_first = probed_lost d (alone_here alone) lost (word_of_flag start) 0 used ((at.alone (alone_before alone)).0 first.0) in let low = first.2 in omega (arith, lost_first, low)
-
--- a slot that is probed is one of the shape
-pub win_low : {p q : PassView} {budget used start slot end : ℕ} → Winning p q budget used start slot end → slot < end → slot < p.trace.shape.slots
-win_low {p} {start = start} {slot = slot} {end = end} at below = ⊎_elim (λ (first : (end ≡ p.trace.shape.slots) × (start ≤ slot) × (slot < p.trace.shape.slots)). first.2) (λ (over : end ≡ start). (let l = at.low in omega (arith, l, over, below))) at.turn
 
 -- a pass that was alone made no more probes than there are flag words, and one more that won
 few : {p q : PassView} {budget used start slot end : ℕ} → Winning p q budget used start slot end → slot < end → IsAlone p.trace q.trace → used ≤ flag_words p.trace.shape.slots

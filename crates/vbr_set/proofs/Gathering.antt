@@ -22,9 +22,6 @@ pub record Gathered (a : Incarnations) (slot : ℕ) (keys : List ℕ) (live mark
   pub live_is : live ≡ count_below (λ s. is_linked (state_in a s)) slot
   pub marked_is : marked ≡ count_below (λ s. is_marked (state_in a s)) slot
 
-gathered_none : (a : Incarnations) → Gathered a 0 [] 0 0
-gathered_none a = record { keys_are = refl; live_is = refl; marked_is = refl }
-
 -- the same, of other names
 pub gathered_as : {a : Incarnations} {s l m live marked : ℕ} {k keys : List ℕ} → keys ≡ k → live ≡ l → marked ≡ m → Gathered a s k l m → Gathered a s keys live marked
 gathered_as k l m g = record { keys_are = k ∙ g.keys_are; live_is = l ∙ g.live_is; marked_is = m ∙ g.marked_is }

@@ -1,11 +1,10 @@
 -- The seats of the mailboxes of a set, while its members are made.
-use Rattle.std.proofs.Common.{◌≡◌, ℕ, zero, suc, ◌+◌, List, [], ◌∷◌, ◌++◌, map, length, sym, refl, ap, ◌∙◌, subst, arith, Option, None, append_assoc}
+use Rattle.std.proofs.Common.{◌≡◌, ℕ, zero, suc, ◌+◌, List, [], ◌∷◌, ◌++◌, length, sym, refl, ap, ◌∙◌, subst, arith, Option, None}
 use Rattle.std.proofs.lemmas.List.{get_or_append_left, get_or_push, length-append}
 use Rattle.std.proofs.lemmas.List.Elements.{All-push, All-same}
 use Rattle.atomic_table.specs.Seated.{TableId}
 use Rattle.atomic_table.specs.Table.{Me}
 use Rattle.vbr_slots.specs.Views.{PassView, TableView, new_passes}
-use Rattle.vbr_set.specs.Members.{MemberView}
 use Rattle.vbr_set.specs.Mailboxes.{IsIdle, SeatKnows}
 use Rattle.vbr_set.specs.Seats.{MailboxSeat, AreSeats}
 use Rattle.vbr_set.specs.Sharing.{IsSeatOf, AreMailboxesOf}
@@ -61,22 +60,6 @@ seated set mailboxes who (suc n) [] e s = absurd (omega arith)
 seated set mailboxes who (suc n) (seat ∷ seats) e s =
     let shorter : length seats ≡ n = omega arith in
     (record { own = (refl, refl, refl); empty_hand = refl }, s.0, seated set mailboxes (suc who) n seats shorter s.1)
-
--- the first pass with its seat, and the others
-pub seated_rest : (set : TableView) (mailboxes : List Mailbox) (passes rest : List PassView) (pass : PassView) (seats others : List MailboxSeat) (seat : MailboxSeat) → passes ≡ pass ∷ rest → seats ≡ seat ∷ others
-    → AreSeated set mailboxes passes seats → IsIdle set pass × IsSeatOf mailboxes pass.trace.who seat.table_id seat.id seat.me × AreSeated set mailboxes rest others
-seated_rest set mailboxes passes rest pass seats others seat e f s = subst (λ (x : List PassView × List MailboxSeat). AreSeated set mailboxes x.0 x.1) (λ i. (e i, f i)) s
-
--- there is a seat for each pass
-pub seat_there : (set : TableView) (mailboxes : List Mailbox) (passes rest : List PassView) (pass : PassView) (seats : List MailboxSeat) → passes ≡ pass ∷ rest → seats ≡ [] → AreSeated set mailboxes passes seats → ⊥
-seat_there set mailboxes passes rest pass seats e f s = subst (λ (x : List PassView × List MailboxSeat). AreSeated set mailboxes x.0 x.1) (λ i. (e i, f i)) s
-
--- the members that are made and those still to be made
-pub made_more : (set : TableView) (members members' all : List MemberView) (passes rest : List PassView) (pass : PassView) → passes ≡ pass ∷ rest → members' ≡ members ++ record { set = set; pass = pass } ∷ []
-    → members ++ map (λ p. record { set = set; pass = p }) passes ≡ all → members' ++ map (λ p. record { set = set; pass = p }) rest ≡ all
-made_more set members members' all passes rest pass e f made =
-    let mk : PassView → MemberView = λ p. record { set = set; pass = p } in
-    ap (λ (ms : List MemberView). ms ++ map mk rest) f ∙ append_assoc members (mk pass ∷ []) (map mk rest) ∙ ap (λ (ps : List PassView). members ++ map mk ps) (sym e) ∙ made
 
 -- an opening has so many passes
 new_count : (set : TableView) (who n : ℕ) → length (new_passes set who n) ≡ n

@@ -1,7 +1,7 @@
 -- A walk along the list of a bucket: the slots noted so far are those whose nodes stand before the one that is reached.
-use Rattle.std.proofs.Common.{◌≡◌, ◌≢◌, ℕ, ◌+◌, ◌-◌, ◌^◌, ◌<◌, Bool, true, false, List, length, set, Option, Some, None, refl, sym, ap, ◌∙◌, subst, inl, inr, arith, get_or-set_other, get_or-set_same}
-use Rattle.std.specs.Prelude.{slice_index, nat_lt, nat_eq, ◌&&◌, ◌||◌, ◌⊎◌}
-use Rattle.std.proofs.lemmas.Bool.{and_from, and_left, cases_Bool, cases_eq, le-ltb, lt-ltb}
+use Rattle.std.proofs.Common.{◌≡◌, ◌≢◌, ℕ, ◌-◌, ◌^◌, ◌<◌, Bool, true, false, List, length, set, Option, Some, None, refl, sym, ap, ◌∙◌, subst, inl, inr, arith, get_or-set_other, get_or-set_same}
+use Rattle.std.specs.Prelude.{slice_index, nat_lt, ◌&&◌, ◌||◌, ◌⊎◌}
+use Rattle.std.proofs.lemmas.Bool.{and_from, and_left, cases_Bool, cases_eq, lt-ltb}
 use Rattle.std.proofs.lemmas.Bool.Decides.{nat_tests}
 use Rattle.vbr_words.specs.Dimensions.{Dimensions}
 use Rattle.vbr_words.specs.Places.{index_of}
@@ -204,20 +204,6 @@ is_below shape a bucket s = is_listed (state_in a s) && nat_lt (bucket_of shape 
 -- the slots whose nodes are in the lists of the buckets below this one are noted
 pub record NotedBelow (shape : Dimensions) (a : Incarnations) (bucket : ℕ) (notes : List Bool) : Type 0 where
   pub notes_are : (s : ℕ) → s < shape.slots → is_noted notes s ≡ is_below shape a bucket s
-
-pub lists_first : (shape : Dimensions) (a : Incarnations) (notes : List Bool) → ((s : ℕ) → is_noted notes s ≡ false) → NotedBelow shape a 0 notes
-lists_first shape a notes none = record { notes_are = λ s low. none s ∙ sym (no (is_listed (state_in a s)) (bucket_of shape (key_in_slot a s))) }
-  where
-    no : (b : Bool) (k : ℕ) → (b && nat_lt k 0) ≡ false
-    no true k = le-ltb k 0 (omega arith)
-    no false k = refl
-
-pub lists_next : (shape : Dimensions) (a : Incarnations) (bucket : ℕ) (before now : List Bool) → NotedBelow shape a bucket before → NotesList shape a bucket before now → NotedBelow shape a (bucket + 1) now
-lists_next shape a bucket before now below list = record { notes_are = λ s low. list s low ∙ ap (λ b. b || is_in_list shape a bucket s) (below.notes_are s low) ∙ both (is_listed (state_in a s)) (bucket_of shape (key_in_slot a s)) }
-  where
-    both : (b : Bool) (k : ℕ) → ((b && nat_lt k bucket) || (b && nat_eq k bucket)) ≡ (b && nat_lt k (bucket + 1))
-    both true k = grind (arith, nat_tests)
-    both false k = refl
 
 pub lists_end : (shape : Dimensions) (a : Incarnations) (notes : List Bool) → NotedBelow shape a shape.buckets notes → 0 < shape.buckets → NotesLists shape a notes
 lists_end shape a notes below some s low = below.notes_are s low ∙ all (is_listed (state_in a s)) (bucket_of-lt shape (key_in_slot a s) some)

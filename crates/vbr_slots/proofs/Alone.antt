@@ -40,9 +40,6 @@ all_back : (who : ℕ) (xs ys : List Event) → OnlyEventsOf who (xs ++ ys) → 
 all_back who [] ys h = h
 all_back who (x ∷ xs) ys h = all_back who xs ys h.1
 
-pub alone_refl : (p : Trace) → IsAlone p p
-alone_refl p = record { own = []; each = tt; seen = sym (append-nil p.seen) }
-
 -- what was done is what was done first, and then the rest
 in_parts : (p q r : Trace) (x : Begins p.seen q.seen) (y : Begins q.seen r.seen) (a : IsAlone p r) → a.own ≡ x.0 ++ y.0
 in_parts p q r x y a = append_cancel_left p.seen a.own (x.0 ++ y.0) (sym a.seen ∙ y.1 ∙ ap (λ l. l ++ y.0) x.1 ∙ append_assoc p.seen x.0 y.0)

@@ -3,7 +3,6 @@ use Rattle.std.proofs.Common.{◌≡◌, ◌≢◌, ◌⊎◌, inl, inr, ℕ, ze
 use Rattle.std.specs.Prelude.{◌&&◌, bit_and}
 use Rattle.std.proofs.Math.Seq.{take-append_seam}
 use Rattle.std.proofs.lemmas.Bool.Decides.{nat_tests}
-use Rattle.std.proofs.lemmas.List.{length-replicate}
 use mathlib.Core.Logic.{dite}
 use native.Mathlib.Decide.{ℕ_discrete}
 use Rattle.vbr_words.specs.Dimensions.{Dimensions}
@@ -57,29 +56,6 @@ not_below s x y = grind (arith, nat_tests)
 below : {A : Type 0} (s n : ℕ) (x y : A) → s < n → (if nat_lt s n then x else y) ≡ x
 below s n x y low = grind (arith, nat_tests)
 
--- the epoch and the shape on words that are all 0
-pub laid_first : (shape : Dimensions) (words : List ℕ) → words ≡ replicate (words_in shape) 0 → AreLaid shape (laid shape 0 0) (set (set words 0 1) 1 (machine.shape_word shape))
-laid_first shape words is =
-    let count : length words ≡ words_in shape = ap length is ∙ length-replicate (words_in shape) 0 in
-    let v : ℕ = machine.shape_word shape in
-    let wide = length-set words 0 1 in
-    let blank : (i : ℕ) → get_or words i 0 ≡ 0 = λ i. ap (λ (ws : List ℕ). get_or ws i 0) is ∙ get_or-replicate (words_in shape) i in
-    let other : (i : ℕ) → 1 < i → get_or (set (set words 0 1) 1 v) i 0 ≡ 0 = λ i high. get_or-set_other (set words 0 1) 1 i v 0 (λ z. absurd (omega arith)) ∙ get_or-set_other words 0 i 1 0 (λ z. absurd (omega arith)) ∙ blank i in
-    let first : get_or (set (set words 0 1) 1 v) 0 0 ≡ 1 = get_or-set_other (set words 0 1) 1 0 v 0 (λ z. absurd (omega arith)) ∙ get_or-set_same words 0 1 0 (omega arith) in
-    let second : get_or (set (set words 0 1) 1 v) 1 0 ≡ v = get_or-set_same (set words 0 1) 1 v 0 (omega arith) in
-    record { count = length-set (set words 0 1) 1 v ∙ wide ∙ count; each = each (set (set words 0 1) 1 v) first second other }
-  where
-    each : (laid_words : List ℕ) → get_or laid_words 0 0 ≡ 1 → get_or laid_words 1 0 ≡ machine.shape_word shape → ((i : ℕ) → 1 < i → get_or laid_words i 0 ≡ 0) → (place : Place) → IsIn shape place → get_or laid_words (index_of shape place) 0 ≡ laid shape 0 0 place
-    each ws first second other Epoch here = first
-    each ws first second other ShapeWord here = second
-    each ws first second other (Head b) here = other _ (omega arith)
-    each ws first second other (LinkOf s) here = other _ (omega arith) ∙ sym (not_below s MARK 0)
-    each ws first second other (Birth s) here = other _ (omega arith)
-    each ws first second other (Stamp s) here = other _ (omega arith)
-    each ws first second other (Key s) here = other _ (omega arith)
-    each ws first second other (Value s) here = other _ (omega arith)
-    each ws first second other (Flags number) here = other _ (omega arith) ∙ sym (not_below number (flag_word (λ s. nat_lt s shape.slots) number) 0)
-
 -- a list that was written back in front of nothing else
 pub whole : {A : Type 0} (n : ℕ) (xs rest : List A) → n ≡ length xs → take n (xs ++ rest) ≡ xs
 whole n xs rest is = ap (λ (m : ℕ). take m (xs ++ rest)) is ∙ take-append_seam xs rest
@@ -96,37 +72,6 @@ laid_at shape before after words place value here is others are =
           (λ same. ap (λ (j : ℕ). get_or (set words i value) j 0) same ∙ get_or-set_same words i value 0 low ∙ sym is ∙ ap after (sym (same_place shape q place q_in here same)))
           (λ other. get_or-set_other words i (index_of shape q) value 0 other ∙ are.each q q_in ∙ sym (others q (λ same. other (ap (index_of shape) same))));
     }
-
--- one more link
-pub laid_link : (shape : Dimensions) (i : ℕ) (words : List ℕ) → i < shape.slots → AreLaid shape (laid shape i 0) words → AreLaid shape (laid shape (i + 1) 0) (set words (index_of shape (LinkOf i)) MARK)
-laid_link shape i words low are = laid_at shape (laid shape i 0) (laid shape (i + 1) 0) words (LinkOf i) MARK low (below-same i MARK 0) others are
-  where
-    others : (q : Place) → q ≢ LinkOf i → laid shape (i + 1) 0 q ≡ laid shape i 0 q
-    others Epoch ne = refl
-    others ShapeWord ne = refl
-    others (Head b) ne = refl
-    others (LinkOf s) ne = sym (below-other s i MARK 0 (λ e. ne (ap LinkOf e)))
-    others (Birth s) ne = refl
-    others (Stamp s) ne = refl
-    others (Key s) ne = refl
-    others (Value s) ne = refl
-    others (Flags number) ne = refl
-
--- one more flag word
-pub laid_flags : (shape : Dimensions) (links i value : ℕ) (words : List ℕ) → i < flag_words shape.slots → value ≡ flag_word (λ s. nat_lt s shape.slots) i → AreLaid shape (laid shape links i) words → AreLaid shape (laid shape links (i + 1)) (set words (index_of shape (Flags i)) value)
-laid_flags shape links i value words low is are =
-    laid_at shape (laid shape links i) (laid shape links (i + 1)) words (Flags i) value low (below-same i (flag_word (λ s. nat_lt s shape.slots) i) 0 ∙ sym is) others are
-  where
-    others : (q : Place) → q ≢ Flags i → laid shape links (i + 1) q ≡ laid shape links i q
-    others Epoch ne = refl
-    others ShapeWord ne = refl
-    others (Head b) ne = refl
-    others (LinkOf s) ne = refl
-    others (Birth s) ne = refl
-    others (Stamp s) ne = refl
-    others (Key s) ne = refl
-    others (Value s) ne = refl
-    others (Flags number) ne = sym (below-other number i (flag_word (λ s. nat_lt s shape.slots) number) 0 (λ e. ne (ap Flags e)))
 
 blank_link : word_of opening_link ≡ MARK
 unfolding word_of

@@ -73,10 +73,6 @@ changes shape know know' slot holding pool hand is may in_hand o = record {
 pub takes_in_hand : (shape : Dimensions) (know : Know) (slot : ℕ) (pool : List ℕ) (hand : Option ℕ) → slot < shape.slots → IsInHand (know.own slot) → ¬ (Contains pool slot) → OwnPool shape know pool hand → OwnPool shape know pool (Some slot)
 takes_in_hand shape know slot pool hand low in_hand not o = record { pooled = o.pooled; apart = o.apart; in_hand = (low, in_hand, not) }
 
--- nothing is in hand any more
-pub empties : (shape : Dimensions) (know : Know) (pool : List ℕ) (hand : Option ℕ) → OwnPool shape know pool hand → OwnPool shape know pool None
-empties shape know pool hand o = record { pooled = o.pooled; apart = o.apart; in_hand = tt }
-
 hand_joined : (shape : Dimensions) (know : Know) (slot : ℕ) (pool : List ℕ) (hand : Option ℕ) → HandFits shape know pool hand → HandFits shape know (pool ++ slot ∷ []) (hand_without slot hand)
 hand_joined shape know slot pool None h = tt
 hand_joined shape know slot pool (Some t) h = go (t == slot) refl

@@ -15,7 +15,7 @@ invariant_of-call-2 c = record {
 pub returns-in-Some-clause-found : goal.returns-in-Some-clause-found
 returns-in-Some-clause-found c =
     let same : c.at-1.given.0 ≡ c.search.new.self.at.pass.now = search rules in
-    rw same (record { quiet = search rules; found = search rules; was_so = was_so c.args.key c.in-Some.found c.law.ensures.shape c.search.ensures.goes.goes.quiet.same c.in-Some.ensures.found.found; clear = clear_found c.args.key c.in-Some.found c.law.ensures.shape c.search.ensures.goes.goes.quiet.same c.in-Some.ensures.found.found; within = search rules; took = search rules })
+    rw same (record { quiet = search rules; found = search rules; was_so = was_so c.args.key c.in-Some.found c.law.ensures.shape c.search.ensures.goes.goes.quiet.same c.in-Some.ensures.found.found; clear = clear_found c.args.key c.in-Some.found c.law.ensures.shape c.search.ensures.goes.goes.quiet.same c.in-Some.ensures.found.found; within = search rules; took = search rules; costs = λ alone. let paid = (c.in-Some.ensures.found.alone alone).paid in let used = c.in-Some.ensures.found.used in omega (arith, paid, used) })
 
 pub returns-in-None-clause-tired : goal.returns-in-None-clause-tired
 returns-in-None-clause-tired c =

@@ -1,12 +1,12 @@
-use Rattle.std.proofs.Common.{rules, ◌≡◌, ◌+◌, ◌<◌, ◌≤◌, true, false, refl, sym, ◌∙◌, arith, inr, ap}
+use Rattle.std.proofs.Common.{rules, ◌≡◌, ◌+◌, ◌*◌, ◌<◌, ◌≤◌, true, false, refl, sym, ◌∙◌, arith, inr, ap}
 use Rattle.vbr_machine.specs.History.{set_call}
 use Rattle.vbr_machine.specs.declared.history.Op.TheVariants.{Has}
-use Rattle.vbr_slots.proofs.Lemmas.{answer_on, loads_on, quiet_on, same_on}
+use Rattle.vbr_slots.proofs.Lemmas.{alone_first, answer_on, loads_on, quiet_on, same_on}
 use Rattle.vbr_pools.proofs.Lemmas.{counts_on, none_on, took_all}
 use Rattle.vbr_words.specs.Dimensions.{Dimensions}
 use Rattle.vbr_list.proofs.Going.{bucket_is, call_on, call_refl, counts_step, goes_on, goes_step, within_call, within_of}
 use Rattle.vbr_list.proofs.Observing.{observed, observes_on}
-use Rattle.vbr_list.specs.Budgets.{enough_to_look_up}
+use Rattle.vbr_list.specs.Budgets.{enough_to_look_up, listed_for, look_up_costs}
 use Rattle.vbr_list.proofs.Nearing.{at_first, first_lost, first_of, then_of}
 use Rattle.vbr_list.proofs.Passing.{peeks_on, peeks_refl}
 use Rattle.vbr_list.proofs.LonePasses.{alone}
@@ -75,6 +75,7 @@ returns-in_default-clause-calls c =
         within = (λ alone.
             let x : c.args.budget < 0 + enough_to_look_up c.args.at.now.pass.now.trace c.args.key = at_first (λ q since. c.args.budget < since + enough_to_look_up q.trace c.args.key) c.args.at.now.pass.now c.loop-sight.call.at.pass.now c.look.new.self.at.pass.now c.loop-sight.invariant.4 c.loop-sight.invariant.3.tries.goes.quiet c.look.ensures.goes.goes.quiet alone (rw ((c.loop-sight.invariant.0.key ∙ c.loop-sight.invariant.1), (c.loop-sight.invariant.0.budget ∙ c.loop-sight.invariant.2)) at c.in_default.ensures.tired.short) in
             omega (arith, x));
+        costs = tt;
       };
     })
 
@@ -99,6 +100,7 @@ returns-then-not-affords-clause-calls c =
             let x : c.args.budget < 0 + enough_to_look_up c.args.at.now.pass.now.trace c.args.key = at_first (λ q since. c.args.budget < since + enough_to_look_up q.trace c.args.key) c.args.at.now.pass.now c.loop-sight.call.at.pass.now c.look.new.self.at.pass.now c.loop-sight.invariant.4 c.loop-sight.invariant.3.tries.goes.quiet c.look.ensures.goes.goes.quiet alone
             (λ then. let f = (rw (c.loop-sight.invariant.0.key ∙ c.loop-sight.invariant.1) at c.in-Some.ensures.sight.alone then).paid in let e = (c.look.ensures.goes.call.budget ∙ c.loop-sight.invariant.0.budget ∙ c.loop-sight.invariant.2) in omega (arith, f, short, e)) in
             omega (arith, x));
+        costs = tt;
       };
     })
 
@@ -124,5 +126,11 @@ returns-in-Ok-clause-calls c =
         takes_no_slot = none_on (goes_on c.loop-sight.invariant.3.tries.goes c.look.ensures.goes.goes).hand.takes_no_slot c.settle_look_up.ensures.keeps.takes_no_slot;
         refused = tt;
         within = tt;
+        costs = (λ whole.
+            let first = quiet_on c.loop-sight.invariant.3.tries.goes.quiet c.look.ensures.goes.goes.quiet in
+            let alone = alone_first first.seen c.in-Ok.ensures.answers.made.seen whole in
+            let x : c.look.new.self.used ≤ 0 + 3 + 5 * listed_for c.args.at.now.pass.now.trace c.args.key = at_first (λ q since. c.look.new.self.used ≤ since + 3 + 5 * listed_for q.trace c.args.key) c.args.at.now.pass.now c.loop-sight.call.at.pass.now c.look.new.self.at.pass.now c.loop-sight.invariant.4 c.loop-sight.invariant.3.tries.goes.quiet c.look.ensures.goes.goes.quiet alone
+            (λ then. (rw (c.loop-sight.invariant.0.key ∙ c.loop-sight.invariant.1) at c.in-Some.ensures.sight.alone then).paid) in
+            within_of (c.look.new.self.used + 1) (look_up_costs c.args.at.now.pass.now.trace c.args.key) (omega (arith, x)) (counts_on (goes_on c.loop-sight.invariant.3.tries.goes c.look.ensures.goes.goes).counts (counts_step c.look.new.self.used 1 c.settle_look_up.ensures.keeps.took)));
       };
     })
