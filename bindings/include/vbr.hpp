@@ -91,7 +91,7 @@ constexpr const char *to_string(answer told) noexcept {
     case answer::no: return "no";
     case answer::yes: return "yes";
     case answer::out_of_steps: return "out of steps";
-    case answer::no_slot: return "the handle found no slot";
+    case answer::no_slot: return "no slot was found";
     case answer::epoch_spent: return "the last epoch is spent";
     case answer::empty: return "the handle is empty";
     }

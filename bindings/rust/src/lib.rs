@@ -726,7 +726,7 @@ impl fmt::Display for Refusal {
     fn fmt(&self, f: &mut fmt::Formatter<'_>) -> fmt::Result {
         f.write_str(match self {
             Refusal::OutOfSteps => "the budget of steps is spent",
-            Refusal::NoSlot => "the handle found no slot",
+            Refusal::NoSlot => "no slot was found",
             Refusal::EpochSpent => "the last epoch is spent",
         })
     }
