@@ -42,7 +42,8 @@ pub fn passes_have_all_their_slots()
 pub fn passes_unlink_in_turn()
     ensures opened { (set : TableView) (who : ℕ) → UnlinkedInTurn (new_trace set who) }
     ensures called { (op : Op) (m n : MemberView) (key budget : ℕ) (answer : Result Bool Refusal) →
-        HasAllSlots m.pass → UnlinkedInTurn m.pass.trace → Called op m n key budget answer → UnlinkedInTurn n.pass.trace }
+        HasAllSlots m.pass → UnlinkedInTurn m.pass.trace → Called op m n key budget answer →
+        UnlinkedInTurn n.pass.trace }
     ensures met { (p q : Trace) (epoch : ℕ) → UnlinkedInTurn p → Did ReadEpoch p q epoch → UnlinkedInTurn q }
     ensures caught { (set : TableView) (p q : PassView) (token : SeenView) →
         UnlinkedInTurn p.trace → CatchesUp set p token q → UnlinkedInTurn q.trace }
