@@ -1,10 +1,10 @@
 /* Slots by the rule of vbr.h, the most keys at one time and 64 for each handle, are enough: a set is filled with that many
-   keys, four threads remove them all, and then one thread puts as many others in. No insert may be told that no slot is
-   free, and the report counts the removed nodes that are still in a list.
+   keys, four threads remove them all, and then one thread puts as many others in. No insert may be told VBR_NO_SLOT,
+   and the report counts the removed nodes that are still in a list.
 
        refill [RUNS [KEYS]]
 
-   plays that many runs of each of three kinds:
+   plays that many runs of each of three kinds, four of 262,144 keys where it isn't told:
    - neighbours: the threads take the next key off a counter that they share. Keys that follow each other are neighbours in
      a list: they have one bucket where it has several;
    - in step: the same, and for the first sixteenth of the keys the threads begin each remove together;
@@ -37,7 +37,7 @@ struct worker {
 
 static struct worker workers[THREADS];
 static uint64_t first[MAX_KEYS], ascending[MAX_KEYS], second[MAX_KEYS], left[MAX_KEYS];
-static uint32_t key_count = 1 << 16, budget;
+static uint32_t key_count = 1 << 18, budget;
 static enum kind kind;
 static atomic_uint taken, arrived;
 
@@ -117,7 +117,7 @@ static uint32_t play(vbr_totals *report) {
 }
 
 int main(int count, char **words) {
-    long runs = count > 1 ? atol(words[1]) : 6;
+    long runs = count > 1 ? atol(words[1]) : 4;
     if (count > 2) key_count = (uint32_t)atol(words[2]);
     CHECK(runs > 0 && key_count >= THREADS && key_count <= MAX_KEYS && key_count % THREADS == 0);
     CHECK(MIXER * INVERSE == 1);

@@ -71,19 +71,29 @@
    that runs out of steps made no call: give it up, or make it again, with twice the budget if that may have been too
    small. The same budget is enough later only if it was the other threads that cost the steps.
 
-   Memory and sizes. The words of a set take 8 * (2 + buckets + 4 * slots + slots / 64) bytes, the
-   last part rounded up, in one block, and each handle about 1,200 bytes besides; opening and
-   closing take as much as the words again while they run, and the last close 9 bytes more for each
-   slot. A key in the set takes a slot, and so does a removed node that no handle has taken back
-   yet; each handle may keep up to 64 free slots to itself. So open with 64 slots more for each
-   handle than keys. Open with as many buckets as keys, a power of two: a bucket then has about one
-   node, and takes 8 bytes. Keys are spread over the buckets by a multiplication, so keys with a
-   pattern (in sequence, multiples of a page, pointers) do no harm; keys that somebody chooses to fall
-   into one bucket do, and each call then passes them all. Only inserts advance the epoch, and once the last one is
-   spent inserts of absent keys may be refused: the greatest lasts fifteen hours at ten million inserts
-   a second that advance it, as one in sixteen does of a cache that takes sixteen keys out at a time. Before it is spent a set is renewed: close all its handles, and open one with the keys of
-   the report by vbr_open_with, at epoch 1. The numbers are 1 to VBR_MAX_SLOTS slots, 1 to VBR_MAX_BUCKETS buckets, and 1 to
-   VBR_MAX_EPOCH as the last epoch; the most slots and buckets take 673 million bytes. */
+   Memory and sizes. The words of a set take 8 * (2 + buckets + 4 * slots + slots / 64) bytes, the last part rounded
+   up, in one block, and each handle about 1,200 bytes besides; opening and closing take as much as the words again
+   while they run, and the last close 9 bytes more for each slot. Open with a slot for each key that is in the set at
+   one time, and 64 for each handle (see Slots). Open with as many buckets as keys, a power of two: a bucket then has
+   about one node, and takes 8 bytes. Keys are spread over the buckets by a multiplication, so keys with a pattern (in
+   sequence, multiples of a page, pointers) do no harm; keys that somebody chooses to fall into one bucket do, and
+   each call then passes them all. Only inserts advance the epoch, and once the last one is spent inserts of absent
+   keys may be refused: the greatest lasts fifteen hours at ten million inserts a second that advance it, as one in
+   sixteen does of a cache that takes sixteen keys out at a time. Before it is spent a set is renewed: close all its
+   handles, and open one with the keys of the report by vbr_open_with, at epoch 1. The numbers are 1 to VBR_MAX_SLOTS
+   slots, 1 to VBR_MAX_BUCKETS buckets, and 1 to VBR_MAX_EPOCH as the last epoch; the most slots and buckets take 673
+   million bytes.
+
+   Slots. Each slot is in one place: in the pool that all handles share, with one handle, under a key, or in a
+   removed node that is still in its list. A handle keeps slots to itself, at most 64 between two calls. A remove
+   that is answered VBR_YES has taken its node out of its list, unless its budget ended first; that of
+   VBR_AMPLE_BUDGET doesn't end in short buckets. What a small one leaves in a list comes back with the next insert
+   or remove that passes it, in the same bucket, or with a renewal. VBR_NO_SLOT says that the handle had no slot of
+   its own and found none in the shared pool; other handles may keep free ones. Where no other handle makes a step
+   during an insert, and each stands between two calls, it comes only if the keys, the removed nodes that are still
+   in lists, and 64 for each other handle are no fewer than the slots. Of an insert that calls of others overlap that
+   isn't proved. At VBR_NO_SLOT remove keys, let a handle that has free slots make the insert, or make it again; a
+   greater budget alone doesn't help. */
 #ifndef VBR_H
 #define VBR_H
 
@@ -139,7 +149,7 @@ typedef enum vbr_answer {
     VBR_NO = 0,            /* the answer is no; of vbr_open: done; of vbr_close: others are open */
     VBR_YES = 1,           /* the answer is yes; of vbr_close: it was the last, the set is closed */
     VBR_OUT_OF_STEPS = -1, /* insert, remove, has: the budget is spent; no call was made */
-    VBR_NO_SLOT = -2,      /* insert: the key is absent and no slot is free; no call was made */
+    VBR_NO_SLOT = -2,      /* insert: the key is absent, and the handle found no slot; no call was made */
     VBR_EPOCH_SPENT = -3,  /* insert: the key is absent and the last epoch is spent; no call was made */
     VBR_EMPTY = -4,        /* the handle is empty, or null where it may be; nothing was done */
     VBR_IN_USE = -5,       /* open: one of the handles is not empty; nothing was done */
@@ -189,13 +199,15 @@ VBR_NODISCARD vbr_answer vbr_open_with(vbr_handle *handles, size_t count, uint32
                                        uint64_t last_epoch, const uint64_t *keys, size_t key_count) VBR_NOEXCEPT VBR_NONNULL;
 
 /* Adds a key, in at most `budget` steps: VBR_YES if it was absent, VBR_NO if it was there. Else VBR_OUT_OF_STEPS,
-   VBR_NO_SLOT, VBR_EPOCH_SPENT or VBR_EMPTY. It takes no memory and never waits.
+   VBR_NO_SLOT, VBR_EPOCH_SPENT or VBR_EMPTY. At VBR_NO_SLOT remove keys, let a handle that has free slots make the
+   insert, or make it again. It takes no memory and never waits.
 
        if (vbr_insert(&handle[0], 5, 100000) == VBR_YES) added++; // this call added 5 */
 VBR_NODISCARD vbr_answer vbr_insert(vbr_handle *handle, uint64_t key, uint32_t budget) VBR_NOEXCEPT VBR_NONNULL;
 
 /* Takes a key out, in at most `budget` steps: VBR_YES if it was there, VBR_NO if it was absent. Else VBR_OUT_OF_STEPS
-   or VBR_EMPTY. It takes no memory and never waits.
+   or VBR_EMPTY. Where it answers VBR_YES the node of the key has left its list, unless the budget ended first; then the
+   next insert or remove that passes the node takes it out. It takes no memory and never waits.
 
        if (vbr_remove(&handle[1], 5, 100000) == VBR_YES) taken++; // this call took 5 out */
 VBR_NODISCARD vbr_answer vbr_remove(vbr_handle *handle, uint64_t key, uint32_t budget) VBR_NOEXCEPT VBR_NONNULL;

@@ -45,7 +45,8 @@ struct shape {
     std::uint64_t last_epoch = max_epoch;
 
     /* The shape for this many keys at one time and this many handles: a slot for each key and 64 for each handle, and the
-       least power of two that isn't below the number of keys for the buckets. */
+       least power of two that isn't below the number of keys for the buckets. vbr.h says under "Slots" what that is enough
+       for, and what to do at answer::no_slot. */
     static constexpr shape for_keys(std::uint32_t keys, std::size_t handles) noexcept {
         shape made;
         std::uint64_t slots = std::uint64_t{keys} + 64 * (handles < max_handles ? handles : max_handles);
@@ -61,7 +62,7 @@ enum class [[nodiscard]] answer : std::int32_t {
     no = VBR_NO,
     yes = VBR_YES,
     out_of_steps = VBR_OUT_OF_STEPS, /* the budget is spent; no call was made */
-    no_slot = VBR_NO_SLOT,           /* insert: the key is absent and no slot is free; no call was made */
+    no_slot = VBR_NO_SLOT,           /* insert: the key is absent, and the handle found no slot; no call was made */
     epoch_spent = VBR_EPOCH_SPENT,   /* insert: the key is absent and the last epoch is spent; no call was made */
     empty = VBR_EMPTY                /* the handle is empty */
 };
@@ -92,7 +93,7 @@ constexpr const char *to_string(answer told) noexcept {
     case answer::no: return "no";
     case answer::yes: return "yes";
     case answer::out_of_steps: return "out of steps";
-    case answer::no_slot: return "no slot is free";
+    case answer::no_slot: return "no slot was found";
     case answer::epoch_spent: return "the last epoch is spent";
     case answer::empty: return "the handle is empty";
     }

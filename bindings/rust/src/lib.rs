@@ -141,9 +141,18 @@ extern "C" {
 
 /// How many slots and buckets a set has, and its last epoch.
 ///
-/// A set takes `8 * (2 + buckets + 4 * slots + slots.div_ceil(64))` bytes for its words. A key takes a slot, and so does a
-/// removed node that no handle has taken back yet; each handle may keep up to 64 free slots to itself.
+/// A set takes `8 * (2 + buckets + 4 * slots + slots.div_ceil(64))` bytes for its words.
 /// The last epoch says how often slots can be used again before inserts are refused for good.
+///
+/// Open with a slot for each key that is in the set at one time, and 64 for each handle. Each slot is in one place: in
+/// the pool that all handles share, with one handle, under a key, or in a removed node that is still in its list. A
+/// handle keeps slots to itself, at most 64 between two calls. A remove that is answered yes has taken its node out of
+/// its list, unless its budget ended first; that of [`ample_budget`] doesn't end in short buckets. What a small one leaves
+/// in a list comes back with the next insert or remove that passes it, in the same bucket, or with a renewal.
+///
+/// Where no other handle makes a step during an insert, and each stands between two calls, [`Refusal::NoSlot`] comes
+/// only if the keys, the removed nodes that are still in lists, and 64 for each other handle are no fewer than the
+/// slots. Of an insert that calls of others overlap that isn't proved.
 ///
 /// Keys are spread over the buckets by a multiplication, so keys with a pattern (in sequence, multiples of
 /// a page, pointers) do no harm; keys that somebody chooses to fall into one bucket do.
@@ -556,6 +565,9 @@ impl Handle {
     /// Takes a key out, in at most `budget` steps, and says whether it was there. While the other handles
     /// stand still, 9n + 11 are enough, with n nodes in the bucket of the key.
     ///
+    /// Where it was there, its node has left its list, unless the budget ended first: then the next insert or remove that
+    /// passes the node takes it out.
+    ///
     /// ```
     /// # use vbr::{Set, Shape};
     /// let mut handle = Set::open_with(Shape::for_keys(8, 1), 1, &[5])?.remove(0);
@@ -837,7 +849,9 @@ pub enum ShapeError {
 pub enum Refusal {
     /// The budget is spent.
     OutOfSteps,
-    /// An insert of an absent key found no free slot.
+    /// An insert of an absent key found no slot: its handle had none of its own, and none was found in the shared pool.
+    /// Other handles may keep free ones. Remove keys, let a handle that has free slots make the insert, or make it again;
+    /// a greater budget alone doesn't help.
     NoSlot,
     /// An insert of an absent key would have needed an epoch beyond the last one.
     EpochSpent,
@@ -935,7 +949,7 @@ impl fmt::Display for Refusal {
     fn fmt(&self, f: &mut fmt::Formatter<'_>) -> fmt::Result {
         f.write_str(match self {
             Refusal::OutOfSteps => "the budget of steps is spent",
-            Refusal::NoSlot => "no slot is free",
+            Refusal::NoSlot => "no slot was found",
             Refusal::EpochSpent => "the last epoch is spent",
         })
     }

@@ -10,7 +10,7 @@ use Rattle.vbr_machine.specs.declared.event.Step.TheVariants.{Publish}
 use Rattle.vbr_machine.proofs.Lemmas.{put_here, put_other}
 use Rattle.vbr_slots.specs.Views.{PassView, Did, knows}
 use Rattle.vbr_pools.specs.KeptSlots.{HasSlot, HasFree, TakesNoSlot}
-use Rattle.vbr_pools.proofs.Lemmas.{did_stamps, grows_same, same_advances, same_flags}
+use Rattle.vbr_pools.proofs.Lemmas.{did_stamps, did_turn, grows_same, same_advances, same_flags}
 use Rattle.vbr_access.proofs.WonExchanges.{publish_learned}
 
 -- the slot that is published goes out of the hand, and the others stay
@@ -25,4 +25,4 @@ free_kept p q {pred} {expected} {slot} d hand pool s h =
     stays other (inr e) = let same : s ≡ slot = cc in absurd (other same)
 
 pub publish_none : (p q : PassView) {pred : At} {expected slot : ℕ} → Did (Publish pred expected slot) p.trace q.trace expected → p.hand ≡ Some slot → q.pool ≡ p.pool → TakesNoSlot p q
-publish_none p q d hand pool = record { count = same_advances d refl; kept = record { free = free_kept p q d hand pool; stamped = did_stamps d refl }; grows = grows_same p q pool; shared = inl (same_flags d refl) }
+publish_none p q d hand pool = record { count = same_advances d refl; kept = record { free = free_kept p q d hand pool; stamped = did_stamps d refl; turn = did_turn d }; grows = grows_same p q pool; shared = inl (same_flags d refl) }

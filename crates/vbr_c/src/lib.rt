@@ -94,8 +94,8 @@ pub extern "C" fn vbr_open_with(
 /// handles stand still, 18n + slots + 82 are enough, with n nodes in the key's bucket.
 ///
 /// Refusals, after which no call was made and the handle can go on: -1, the steps leave no room in the
-/// budget; -2, the key was absent and no slot is free; -3, the key was absent and the last epoch is
-/// spent; -4, the handle is empty.
+/// budget; -2, the key was absent and the handle found no slot; -3, the key was absent and the last
+/// epoch is spent; -4, the handle is empty.
 ///
 /// ```c file=bindings/c/example.c
 /// vbr_answer added = vbr_insert(&handle[0], 5, 100000);       /* VBR_YES: 5 was absent */

@@ -13,7 +13,7 @@ use Rattle.vbr_slots.specs.declared.pass.TheConstants.{POOL}
 use Rattle.vbr_slots.specs.Pools.{OwnPool}
 use Rattle.vbr_slots.specs.Pools as pools
 use Rattle.vbr_slots.specs.Views.{PassView, knows}
-use Rattle.vbr_pools.specs.KeptSlots.{TakesNoSlot}
+use Rattle.vbr_pools.specs.KeptSlots.{StaysInTurn, TakesNoSlot}
 use Rattle.vbr_pools.specs.Retiring.{is_kept, know_retired, pool_retired}
 use Rattle.vbr_pools.proofs.Lemmas.{none_on, none_refl}
 use Rattle.vbr_access.specs.Keeping.{KeepsOwn, Unlinks}
@@ -93,12 +93,12 @@ retired_stamped know later epoch slot kept is u =
     free false x = x
 
 -- a slot is unlinked, and then retired
-pub helped_hand : {p q r : PassView} {slot : ℕ} → KeepsOwn p q → Unlinks slot p q → KeepsHand q r → knows r.trace ≡ know_retired (knows q.trace) (knows r.trace).epoch slot (is_kept q.pool) → KeepsHand p r
-helped_hand {p} {q} {r} {slot} x u y known = record {
+pub helped_hand : {p q r : PassView} {slot : ℕ} → KeepsOwn p q → Unlinks slot p q → KeepsHand q r → StaysInTurn q.trace r.trace → knows r.trace ≡ know_retired (knows q.trace) (knows r.trace).epoch slot (is_kept q.pool) → KeepsHand p r
+helped_hand {p} {q} {r} {slot} x u y turn known = record {
   hand = y.hand ∙ x.hand;
   in_hand = λ s e. y.in_hand s (x.hand ∙ e) ∙ x.in_hand s e;
   room = λ h. y.room (let P : List ℕ → Type 0 = λ l. length l < POOL in subst P (sym x.pool) h);
-  takes_no_slot = unlinks_none p q r u y.takes_no_slot (retired_stamped (knows q.trace) (knows r.trace) (knows r.trace).epoch slot (is_kept q.pool) known);
+  takes_no_slot = unlinks_none p q r u y.takes_no_slot turn (retired_stamped (knows q.trace) (knows r.trace) (knows r.trace).epoch slot (is_kept q.pool) known);
 }
 
 -- ---- the hand itself

@@ -49,5 +49,7 @@ pub use Rattle.vbr_machine.proofs.OpeningKeys.{FirstOrNone, IsFirst, first_or_no
 -- Where each slot is after a safe run, and that the numbers of slots that are somewhere add up; sums over passes.
 pub use Rattle.vbr_machine.proofs.Whereabouts.{somewhere}
 pub use Rattle.vbr_machine.proofs.SlotsAddUp.{add_up, sum_none}
+-- Where a pass unlinks in turn, one slot at most is unstamped with it at any moment.
+pub use Rattle.vbr_machine.proofs.UnlinkedInTurn.{in_turn_before}
 -- A slot that is outside the shared pool stays outside while no flag is raised.
 pub use Rattle.vbr_machine.proofs.OutsidePool.{IsRaise, NoneRaises, count_none, none_shared, stays_outside}

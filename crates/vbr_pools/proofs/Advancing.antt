@@ -25,7 +25,8 @@ use Rattle.vbr_slots.specs.Views.{Trace, PassView, Did, KeepsPool, knows, event_
 use Rattle.vbr_slots.proofs.Lemmas.{did_moment, moment_after}
 use Rattle.vbr_pools.specs.Advances.{AdvancesOnce, AdvancesWhereNeeded}
 use Rattle.vbr_pools.specs.Counts.{is_advance, is_raise, is_unlink, advances_or_gives, made_of, advances, flags_raised}
-use Rattle.vbr_pools.specs.KeptSlots.{HasSlot, CouldTake, HasFree, StampsUnlinked, KeepsSlots, PoolGrows, SharesWhereFull, TakesNoSlot}
+use Rattle.vbr_pools.specs.KeptSlots.{GoesInTurn, HasSlot, CouldTake, HasFree, StampsUnlinked, KeepsSlots, PoolGrows, SharesWhereFull, TakesNoSlot}
+use Rattle.vbr_pools.proofs.InTurn.{did_turn}
 
 abbrev made_in : (Step → Bool) → ℕ → List Event → ℕ
 made_in is who events = count_by (λ (e : Event). (e.pass == who) && is e.step) events
@@ -87,18 +88,18 @@ pub free_on : (p q r : PassView) → HasFree p q → HasFree q r → HasFree p r
 free_on p q r a b s h = b s (h.0, λ m. a s (m, h.1))
 
 pub keeps_refl : (p : PassView) → KeepsSlots p p
-keeps_refl p = record { free = λ s h. h.1 h.0; stamped = λ s u. u }
+keeps_refl p = record { free = λ s h. h.1 h.0; stamped = λ s u. u; turn = λ all turn. turn }
 
 pub keeps_on : (p q r : PassView) → KeepsSlots p q → KeepsSlots q r → KeepsSlots p r
-keeps_on p q r a b = record { free = free_on p q r a.free b.free; stamped = λ s u. a.stamped s (b.stamped s u) }
+keeps_on p q r a b = record { free = free_on p q r a.free b.free; stamped = λ s u. a.stamped s (b.stamped s u); turn = λ all turn. b.turn (λ s u. all s (a.stamped s u)) (a.turn all turn) }
 
 -- what doesn't give the pass a slot that it may give birth in leaves it what it could take
 pub free_pool : (p q : PassView) → KeepsPool p q → ((s : ℕ) → MayBear ((knows q.trace).own s) → MayBear ((knows p.trace).own s)) → HasFree p q
 free_pool p q pool may s h = subst (λ (x : List ℕ × Option ℕ). Contains x.0 s ⊎ (x.1 ≡ Some s)) (λ i. (sym pool.0 i, sym pool.1 i)) (h.1 (may s h.0))
 
 -- and so does what teaches nothing of slots
-pub keeps_known : (p q : PassView) → KeepsPool p q → ((s : ℕ) → (knows q.trace).own s ≡ (knows p.trace).own s) → KeepsSlots p q
-keeps_known p q pool same = record { free = free_pool p q pool (λ s m. subst MayBear (same s) m); stamped = λ s u. subst IsUnlinked (same s) u }
+pub keeps_known : (p q : PassView) → KeepsPool p q → GoesInTurn p.trace q.trace → ((s : ℕ) → (knows q.trace).own s ≡ (knows p.trace).own s) → KeepsSlots p q
+keeps_known p q pool turn same = record { free = free_pool p q pool (λ s m. subst MayBear (same s) m); stamped = λ s u. subst IsUnlinked (same s) u; turn = turn }
 
 -- ---- the own pool, and the shared one
 
@@ -151,8 +152,8 @@ none_on {p} {q} {r} a b = record {
 pub none_kept : {p q : PassView} → advances q.trace ≡ advances p.trace → flags_raised q.trace ≡ flags_raised p.trace → KeepsPool p q → KeepsSlots p q → TakesNoSlot p q
 none_kept {p} {q} same flags pool kept = record { count = same; kept = kept; grows = grows_same p q pool.0; shared = inl flags }
 
-pub none_known : {p q : PassView} → advances q.trace ≡ advances p.trace → flags_raised q.trace ≡ flags_raised p.trace → KeepsPool p q → knows q.trace ≡ knows p.trace → TakesNoSlot p q
-none_known {p} {q} same flags pool known = none_kept same flags pool (keeps_known p q pool (λ s. ap (λ (k : Know). k.own s) known))
+pub none_known : {p q : PassView} → advances q.trace ≡ advances p.trace → flags_raised q.trace ≡ flags_raised p.trace → KeepsPool p q → GoesInTurn p.trace q.trace → knows q.trace ≡ knows p.trace → TakesNoSlot p q
+none_known {p} {q} same flags pool turn known = none_kept same flags pool (keeps_known p q pool turn (λ s. ap (λ (k : Know). k.own s) known))
 
 -- a slot that is given back
 pub none_back : (p q : PassView) (slot : ℕ) → q.trace ≡ p.trace → q.pool ≡ p.pool ++ slot ∷ [] → KeepsSlots p q → TakesNoSlot p q
@@ -343,7 +344,7 @@ no_unlink (ConfirmAbsent op key at expected) e = refl
 pub did_none : {step : Step} {p q : PassView} {r : ℕ} → Did step p.trace q.trace r → advances_or_gives step ≡ false → KeepsPool p q → TakesNoSlot p q
 did_none {step} {p} {q} {r} d e pool =
     none_kept (same_advances d (no_advance step e)) (same_flags d (no_raise step e)) pool
-    (record { free = free_pool p q pool (λ s m. may_before step r _ (knows p.trace) s e (subst (λ (k : Know). MayBear (k.own s)) d.know m)); stamped = did_stamps d (no_unlink step e) })
+    (record { free = free_pool p q pool (λ s m. may_before step r _ (knows p.trace) s e (subst (λ (k : Know). MayBear (k.own s)) d.know m)); stamped = did_stamps d (no_unlink step e); turn = did_turn d })
 
 -- a step that gives the pass a slot, which is then kept in its pool
 module _ {step : Step} {p q r : PassView} {slot n : ℕ} (d : Did step p.trace q.trace n) (still : is_advance step ≡ false) (dark : is_raise step ≡ false) (left : is_unlink step ≡ false) (others : (s : ℕ) → s ≢ slot → MayBear ((knows q.trace).own s) → MayBear ((knows p.trace).own s)) (stays : KeepsPool p q) (same : r.trace ≡ q.trace) (pool : r.pool ≡ q.pool ++ slot ∷ []) (hand : r.hand ≡ hand_without slot q.hand) where
@@ -362,6 +363,7 @@ module _ {step : Step} {p q r : PassView} {slot n : ℕ} (d : Did step p.trace q
           ⊎_elim (λ (is : s ≡ slot). inl (subst (λ (l : List ℕ). Contains l s) (sym now_pool) (Contains-append_right p.pool (slot ∷ []) s (0, omega arith, sym is))))
           (λ (other : s ≢ slot). stays_here s other (h.1 (others s other (subst (λ (t : Trace). MayBear ((knows t).own s)) same h.0)))) (cases_eq s slot);
       stamped = λ s u. did_stamps d left s (subst (λ (t : Trace). IsUnlinked ((knows t).own s)) same u);
+      turn = subst (λ (t : Trace). GoesInTurn p.trace t) (sym same) (did_turn d);
     };
     grows = (slot ∷ [], now_pool);
     shared = inl (ap (λ (t : Trace). flags_raised t) same ∙ same_flags d dark);

@@ -16,6 +16,7 @@ use Rattle.vbr_pools.specs.Hands.{HandView}
 use Rattle.vbr_pools.specs.Pieces.{BearsNone, IsBorn, IsStampedBelow}
 use Rattle.vbr_pools.specs.KeptSlots.{HasSlot, HasFree}
 use Rattle.vbr_pools.specs.declared.refusal.TakeRefusal.TheVariants.{OutOfSteps}
+use Rattle.vbr_pools.proofs.InTurn.{did_turn}
 use Rattle.vbr_pools.proofs.Advancing.{did_stamps, nobody, same_advances, same_flags}
 use Rattle.vbr_pools.proofs.Counting.{counts_none, counts_one}
 use Rattle.vbr_pools.proofs.PoolLists.{stays_in, without_one, without_shorter}
@@ -66,7 +67,7 @@ module _ (p q : PassView) (slot : ℕ) (d : Did (StoreBirth slot (knows p.trace)
     };
     leaves = record {
       quiet = did_quiet d (λ know. refl);
-      kept = record { free = free_born empty pool in_hand; stamped = did_stamps d refl };
+      kept = record { free = free_born empty pool in_hand; stamped = did_stamps d refl; turn = did_turn d };
       one = (let few = without_one slot p.pool apart in let e = ap length pool in omega arith);
       flags = same_flags d refl;
       advances = same_advances d refl;

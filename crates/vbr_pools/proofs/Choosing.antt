@@ -19,6 +19,7 @@ use Rattle.vbr_pools.specs.Steps.{CountsSteps}
 use Rattle.vbr_pools.specs.Taking.{IsOldest}
 use Rattle.vbr_pools.specs.declared.refusal.TakeRefusal.{TakeRefusal}
 use Rattle.vbr_pools.specs.declared.refusal.TakeRefusal.TheVariants.{OutOfSteps, EpochSpent}
+use Rattle.vbr_pools.proofs.InTurn.{did_turn}
 use Rattle.vbr_pools.proofs.Advancing.{same_advances, same_flags, nobody, keeps_on, keeps_refl, keeps_known, shared_on, none_on, did_none, once, once_after, once_before}
 use Rattle.vbr_pools.proofs.Counting.{counts_none, counts_one, counts_on, uses_on, uses_more}
 use Rattle.vbr_pools.proofs.Moments.{epoch_told}
@@ -35,7 +36,7 @@ none_read read pool looked = none_on (did_none read refl pool) looked
 
 -- and where the epoch is advanced and read
 kept_raised : (p q r : PassView) {e n f : ℕ} → Did (Advance e) p.trace q.trace n → Did ReadEpoch q.trace r.trace f → KeepsPool p q → KeepsPool q r → KeepsSlots p r
-kept_raised p q r advance again keeps still = keeps_on p q r (keeps_known p q keeps (λ s. ap (λ (k : Know). k.own s) advance.know)) (let none : TakesNoSlot q r = did_none again refl still in none.kept)
+kept_raised p q r advance again keeps still = keeps_on p q r (keeps_known p q keeps (did_turn advance) (λ s. ap (λ (k : Know). k.own s) advance.know)) (let none : TakesNoSlot q r = did_none again refl still in none.kept)
 
 shared_raised : (p q r : PassView) {e n f : ℕ} → Did (Advance e) p.trace q.trace n → Did ReadEpoch q.trace r.trace f → SharesWhereFull 1 p r
 shared_raised p q r advance again = inl (same_flags again refl ∙ same_flags advance refl)

@@ -8,7 +8,7 @@ use Rattle.vbr_slots.specs.Pools.{hand_without}
 use Rattle.vbr_slots.specs.Views.{PassView, Trace, knows}
 use Rattle.vbr_pools.specs.GivingBack.{PutsBack}
 use Rattle.vbr_pools.specs.Hands.{HandView}
-use Rattle.vbr_pools.specs.KeptSlots.{HasSlot, HasStill, HasAllButOne, HasUnpublished, PoolGrows}
+use Rattle.vbr_pools.specs.KeptSlots.{HasSlot, HasStill, HasAllButOne, HasUnpublished, PoolGrows, UnlinkedInTurn}
 use Rattle.vbr_pools.specs.Taking.{IsTaken}
 use Rattle.vbr_pools.proofs.PoolLists.{stays_in}
 
@@ -44,6 +44,7 @@ put_back p q slot hand same back left = record {
   kept = record {
     free = λ s could. had_back p q slot hand back s (could.1 (subst (λ (t : Trace). MayBear ((knows t).own s)) same could.0));
     stamped = λ s u. subst (λ (t : Trace). IsUnlinked ((knows t).own s)) same u;
+    turn = λ all turn. subst (λ (t : Trace). UnlinkedInTurn t) (sym same) turn;
   };
 }
 

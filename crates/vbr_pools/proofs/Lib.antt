@@ -4,6 +4,7 @@ mod Moments
 mod AloneRetirement
 mod Retirement
 mod Counting
+mod InTurn
 mod Advancing
 mod Scanning
 mod AloneWinning

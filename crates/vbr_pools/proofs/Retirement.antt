@@ -27,6 +27,7 @@ use Rattle.vbr_slots.specs.Views.{Trace, PassView, TableView, KeepsPool, Did, Is
 use Rattle.vbr_slots.proofs.Lemmas.{did_moment, did_quiet, did_took, moment_before, quiet_on, took_on}
 use Rattle.vbr_pools.specs.KeptSlots.{TakesNoSlot}
 use Rattle.vbr_pools.specs.Retiring.{Retires, Stamps, is_kept, know_retired}
+use Rattle.vbr_pools.proofs.InTurn.{did_stay_turn}
 use Rattle.vbr_pools.proofs.Advancing.{same_advances, did_stamps, free_pool, grows_same, none_on, did_none, none_given}
 use Rattle.vbr_pools.proofs.AloneRetirement.{retired_leaves, retired_fresh, raised_leaves, raised_fresh}
 use Rattle.vbr_pools.proofs.Moments.{epoch_told, epoch_stood}
@@ -80,6 +81,7 @@ module _ {p q r : PassView} {slot e n : ℕ} (read : Did ReadEpoch p.trace q.tra
           free = free_pool q t (pool ∙ sym stays.0, hand ∙ still.1)
               (λ s m. ⊎_elim (λ (is : s ≡ slot). gone s is m) (λ (other : s ≢ slot). others s other (subst MayBear (ap (λ (k : Know). k.own s) raise.know ∙ put_other (knows r.trace).own _ _ s other) m)) (cases_eq s slot));
           stamped = λ s u. did_stamps stamp refl s (did_stamps raise refl s u);
+          turn = λ all turn. did_stay_turn raise refl (did_stay_turn stamp refl turn);
         };
         grows = grows_same q t (pool ∙ sym stays.0);
         shared = inr (let e = ap length pool in omega arith);
@@ -176,6 +178,7 @@ module _ {p q r : PassView} {slot gone e n : ℕ} (is : IsShape p.trace.shape) (
         count = sym (ap (λ (b : Bool). cond b 2 3) kept);
         quiet = retired_quiet read stamp;
         takes_no_slot = kept_none read stamp stays still refl pool hand;
+        turn = λ turn. did_stay_turn stamp refl (did_stay_turn read refl turn);
         stamped = stamped read stamp;
         known = known_stamped read stamp ∙ ap (know_retired (knows p.trace) (knows r.trace).epoch slot) (sym kept);
         pool = pool ∙ ap (λ (l : List ℕ). l ++ slot ∷ []) (still.0 ∙ stays.0) ∙ sym (ap (λ (b : Bool). cond b (p.pool ++ slot ∷ []) p.pool) kept);
@@ -197,6 +200,7 @@ module _ {p q r : PassView} {slot gone e n : ℕ} (is : IsShape p.trace.shape) (
     count = sym (ap (λ (b : Bool). cond b 2 3) left);
     quiet = quiet_all;
     takes_no_slot = raised_none read stamp stays still raise pool_stays hand full;
+    turn = λ turn. did_stay_turn raise refl (did_stay_turn stamp refl (did_stay_turn read refl turn));
     stamped = subst (λ (epoch : ℕ). Stamps p.trace t.trace slot epoch) (sym (epoch_told raise)) (stamped_before (stamped read stamp) (did_quiet raise (λ know. refl)));
     known = known_raised read stamp raise ∙ ap (know_retired (knows p.trace) (knows t.trace).epoch slot) (sym left);
     pool = pool_stays ∙ sym (ap (λ (b : Bool). cond b (p.pool ++ slot ∷ []) p.pool) left);

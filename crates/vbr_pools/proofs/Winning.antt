@@ -19,6 +19,7 @@ use Rattle.vbr_pools.specs.SharedPool.{WasOutside, ComesBefore, CameByFlag}
 use Rattle.vbr_pools.specs.Steps.{CountsSteps}
 use Rattle.vbr_pools.specs.declared.refusal.TakeRefusal.TheVariants.{OutOfSteps, NoSlot}
 use Rattle.vbr_pools.proofs.AloneWinning.{Probed, probed_lost, probed_next, probed_few}
+use Rattle.vbr_pools.proofs.InTurn.{did_turn}
 use Rattle.vbr_pools.proofs.Advancing.{same_advances, same_flags, none_given, none_known, none_on}
 use Rattle.vbr_pools.proofs.Counting.{counts_one, counts_on, took_all}
 use Rattle.vbr_pools.proofs.Moments.{came, missed, missed_before, missed_after}
@@ -51,7 +52,7 @@ module _ {p q r : PassView} {budget used start slot end next n : ℕ} (at : Winn
   more = did_quiet d (λ know. refl)
 
   none_lost : TakesNoSlot p r
-  none_lost = none_on at.none (none_known (same_advances d refl) (same_flags d refl) stays (d.know ∙ lost_flag _ (knows q.trace)))
+  none_lost = none_on at.none (none_known (same_advances d refl) (same_flags d refl) stays (did_turn d) (d.know ∙ lost_flag _ (knows q.trace)))
 
   still : {s : ℕ} → WasOutside p.trace q.trace s → WasOutside p.trace r.trace s
   still w = missed_before w more

@@ -2,6 +2,7 @@
 use Rattle.std.specs.Prelude.{◌≡◌, ◌≢◌, ℕ, ◌+◌, ◌≤◌, Bool, true, List, ◌++◌, length, Result, Ok, Some, Contains, ◌⊎◌}
 use Rattle.vbr_machine.specs.Acceptance.{IsUnlinked, MayBear}
 use Rattle.vbr_machine.specs.Knowledge.{Know}
+use Rattle.vbr_machine.specs.Whereabouts.{UnlinksInTurn}
 use Rattle.vbr_slots.specs.declared.pass.TheConstants.{POOL}
 use Rattle.vbr_slots.specs.Views.{Trace, PassView, knows}
 use Rattle.vbr_pools.specs.Counts.{advances, flags_raised}
@@ -35,10 +36,27 @@ HasFree p q = (slot : ℕ) → CouldTake p (knows q.trace) slot → HasSlot q sl
 abbrev pub StampsUnlinked : Trace → Trace → Type 0
 StampsUnlinked p q = (slot : ℕ) → IsUnlinked ((knows q).own slot) → IsUnlinked ((knows p).own slot)
 
--- no slot of the pass is lost: what it unlinked since it has stamped, and each slot that it could take then is in its own pool or in its hand
+-- the pass has stamped each slot that it unlinked
+abbrev pub HasStampedAll : Trace → Type 0
+HasStampedAll p = (slot : ℕ) → ¬ (IsUnlinked ((knows p).own slot))
+
+-- whenever the pass unlinked a slot in what it has seen, or tried to, it had stamped each that it had unlinked before
+abbrev pub UnlinkedInTurn : Trace → Type 0
+UnlinkedInTurn p = UnlinksInTurn p.shape p.seen p.who
+
+-- a pass that had unlinked in turn has done so since
+abbrev pub StaysInTurn : Trace → Trace → Type 0
+StaysInTurn p q = UnlinkedInTurn p → UnlinkedInTurn q
+
+-- it has, if it had stamped each slot that it had unlinked
+abbrev pub GoesInTurn : Trace → Trace → Type 0
+GoesInTurn p q = HasStampedAll p → StaysInTurn p q
+
+-- no slot of the pass is lost: what it unlinked since it has stamped, one slot before it unlinked the next, and each slot that it could take then is in its own pool or in its hand
 pub record KeepsSlots (p q : PassView) : Type 0 where
   pub free : HasFree p q
   pub stamped : StampsUnlinked p.trace q.trace
+  pub turn : GoesInTurn p.trace q.trace
 
 -- the own pool has what it had, and perhaps more behind
 abbrev pub PoolGrows : PassView → PassView → Type 0

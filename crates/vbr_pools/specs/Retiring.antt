@@ -10,7 +10,7 @@ use Rattle.vbr_slots.specs.declared.pass.TheConstants.{POOL}
 use Rattle.vbr_slots.specs.Alone.{IsAlone, IsFresh, LeavesLists}
 use Rattle.vbr_slots.specs.Calls.{Moment, Quiet, Took}
 use Rattle.vbr_slots.specs.Views.{PassView, Trace, event_of, knows}
-use Rattle.vbr_pools.specs.KeptSlots.{TakesNoSlot}
+use Rattle.vbr_pools.specs.KeptSlots.{StaysInTurn, TakesNoSlot}
 
 -- the pass read the epoch during the call, and stamped the slot with it after that
 pub record Stamps (p q : Trace) (slot epoch : ℕ) : Type 0 where
@@ -37,12 +37,13 @@ steps_to_retire pool = if is_kept pool then 2 else 3
 abbrev pub know_retired : Know → ℕ → ℕ → Bool → Know
 know_retired know epoch slot kept = with_own (read_epoch know epoch) slot (if kept then Some (Free epoch) else None)
 
--- the slot was stamped in so many steps, and is in the own pool, or in the shared one where that has no place but the one for a hand; no call was made, and no slot was taken; and a pass that was alone left the lists as they were
+-- the slot was stamped in so many steps, and is in the own pool, or in the shared one where that has no place but the one for a hand; no call was made, no slot was taken, and a pass that had unlinked in turn has done so since; and a pass that was alone left the lists as they were
 pub record Retires (p q : PassView) (slot steps : ℕ) : Type 0 where
   pub took : Took p.trace q.trace steps
   pub count : steps ≡ steps_to_retire p.pool
   pub quiet : Quiet p.trace q.trace
   pub takes_no_slot : TakesNoSlot p q
+  pub turn : StaysInTurn p.trace q.trace
   pub stamped : Stamps p.trace q.trace slot (knows q.trace).epoch
   pub known : knows q.trace ≡ know_retired (knows p.trace) (knows q.trace).epoch slot (is_kept p.pool)
   pub pool : q.pool ≡ pool_retired p.pool slot

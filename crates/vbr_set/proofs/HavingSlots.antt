@@ -1,14 +1,17 @@
--- A pass has all its slots, from call to call.
-use Rattle.std.proofs.Common.{ℕ, Bool, Result, subst, refl}
+-- A pass has all its slots, and has unlinked in turn, from call to call.
+use Rattle.std.proofs.Common.{ℕ, Bool, Result, List, [], ◌∷◌, subst, sym, refl}
+use Rattle.vbr_words.specs.Dimensions.{Dimensions}
 use Rattle.vbr_machine.specs.Acceptance.{IsUnlinked, MayBear}
 use Rattle.vbr_machine.specs.Knowledge.{Know}
+use Rattle.vbr_machine.specs.Whereabouts.{UnlinksInTurn}
+use Rattle.vbr_machine.specs.declared.event.Event.{Event}
 use Rattle.vbr_machine.specs.declared.event.Step.TheVariants.{ReadEpoch}
 use Rattle.vbr_machine.specs.declared.history.Op.{Op}
 use Rattle.vbr_machine.specs.declared.history.Op.TheVariants.{Insert, Remove, Has, Get}
 use Rattle.vbr_slots.specs.Tokens.{SeenView}
-use Rattle.vbr_slots.specs.Views.{Did, KeepsPool, PassView, TableView}
-use Rattle.vbr_pools.specs.KeptSlots.{HasSlot, KeepsSlots}
-use Rattle.vbr_pools.proofs.Lemmas.{did_none}
+use Rattle.vbr_slots.specs.Views.{Did, KeepsPool, PassView, TableView, Trace, new_trace}
+use Rattle.vbr_pools.specs.KeptSlots.{HasSlot, KeepsSlots, UnlinkedInTurn}
+use Rattle.vbr_pools.proofs.Lemmas.{did_none, did_stay_turn, turn_others}
 use Rattle.vbr_list.specs.declared.refusal.Refusal.{Refusal}
 use Rattle.vbr_set.specs.Members.{Called, MemberView}
 use Rattle.vbr_set.specs.Room.{HasAllSlots}
@@ -35,3 +38,25 @@ all_caught set p q token all c =
   where
     has : (slot : ℕ) → HasSlot p slot → HasSlot q slot
     has slot h = rw (c.pool.0, c.pool.1) h
+
+-- ---- in turn
+
+pub turn_opened : (set : TableView) (who : ℕ) → UnlinkedInTurn (new_trace set who)
+turn_opened set who [] later pred expected s e = absurd (cc)
+turn_opened set who (x ∷ before) later pred expected s e = absurd (cc)
+
+pub turn_called : (op : Op) (m n : MemberView) (key budget : ℕ) (answer : Result Bool Refusal) → HasAllSlots m.pass → UnlinkedInTurn m.pass.trace → Called op m n key budget answer → UnlinkedInTurn n.pass.trace
+turn_called Insert m n key budget answer all turn c = c.spares.kept.turn all.stamped turn
+turn_called Remove m n key budget answer all turn c = c.spares.takes_no_slot.kept.turn all.stamped turn
+turn_called Has m n key budget answer all turn c = c.spares.takes_no_slot.kept.turn all.stamped turn
+turn_called Get m n key budget answer all turn c = absurd c.spares
+
+pub turn_met : (p q : Trace) (epoch : ℕ) → UnlinkedInTurn p → Did ReadEpoch p q epoch → UnlinkedInTurn q
+turn_met p q epoch turn did = did_stay_turn did refl turn
+
+pub turn_caught : (set : TableView) (p q : PassView) (token : SeenView) → UnlinkedInTurn p.trace → CatchesUp set p token q → UnlinkedInTurn q.trace
+turn_caught set p q token turn c =
+    subst P (λ i. (sym c.since.same.1 i, sym c.since.seen i, sym c.since.same.3 i)) (turn_others p.trace.shape p.trace.seen c.since.rest p.trace.who c.since.none turn)
+  where
+    P : Dimensions × List Event × ℕ → Type 0
+    P x = UnlinksInTurn x.0 x.1 x.2

@@ -5,6 +5,8 @@ use Rattle.vbr_machine.specs.Keys.{AreKeysOf}
 use Rattle.vbr_machine.specs.Nodes.{marked_after}
 use Rattle.vbr_machine.specs.Opened.{opening_keys}
 use Rattle.vbr_machine.specs.Runs.{Begins}
+use Rattle.vbr_machine.specs.Whereabouts.{Unstamped, number_at}
+use Rattle.vbr_machine.specs.declared.event.Event.{Event}
 use Rattle.vbr_machine.specs.declared.event.Step.TheVariants.{ReadEpoch}
 use Rattle.vbr_machine.specs.declared.history.Call.{Call}
 use Rattle.vbr_machine.specs.declared.history.Op.{Op}
@@ -13,8 +15,9 @@ use Rattle.vbr_slots.specs.Alone.{IsAlone}
 use Rattle.vbr_slots.specs.Calls.{IsSame}
 use Rattle.vbr_slots.specs.PassLaw.{PassLaw}
 use Rattle.vbr_slots.specs.Tokens.{SeenView}
-use Rattle.vbr_slots.specs.Views.{Did, KeepsPool, PassView, TableView, Trace, new_pass}
+use Rattle.vbr_slots.specs.Views.{Did, KeepsPool, PassView, TableView, Trace, new_pass, new_trace}
 use Rattle.vbr_slots.specs.declared.pass.TheConstants.{POOL}
+use Rattle.vbr_pools.specs.KeptSlots.{UnlinkedInTurn}
 use Rattle.vbr_list.specs.declared.refusal.Refusal.{Refusal}
 use Rattle.vbr_list.specs.declared.refusal.Refusal.TheVariants.{NoSlot}
 use Rattle.vbr_set.specs.Answers.{Answers}
@@ -47,6 +50,17 @@ pub record PassesHaveAllTheirSlots : Type 0 where
   pub called : (op : Op) (m n : MemberView) (key budget : ℕ) (answer : Result Bool Refusal) → HasAllSlots m.pass → Called op m n key budget answer → HasAllSlots n.pass
   pub met : (p q : PassView) (epoch : ℕ) → HasAllSlots p → Did ReadEpoch p.trace q.trace epoch → KeepsPool p q → HasAllSlots q
   pub caught : (set : TableView) (p q : PassView) (token : SeenView) → HasAllSlots p → CatchesUp set p token q → HasAllSlots q
+
+-- a pass has unlinked in turn when it is opened, and behind each call, answered or refused, each meeting and each catching up
+pub record PassesUnlinkInTurn : Type 0 where
+  pub opened : (set : TableView) (who : ℕ) → UnlinkedInTurn (new_trace set who)
+  pub called : (op : Op) (m n : MemberView) (key budget : ℕ) (answer : Result Bool Refusal) → HasAllSlots m.pass → UnlinkedInTurn m.pass.trace → Called op m n key budget answer → UnlinkedInTurn n.pass.trace
+  pub met : (p q : Trace) (epoch : ℕ) → UnlinkedInTurn p → Did ReadEpoch p q epoch → UnlinkedInTurn q
+  pub caught : (set : TableView) (p q : PassView) (token : SeenView) → UnlinkedInTurn p.trace → CatchesUp set p token q → UnlinkedInTurn q.trace
+
+-- a pass that has unlinked in turn had at most one slot unlinked and not yet stamped at each moment of what it has seen
+abbrev pub OneUnstampedAtEachMoment : Type 0
+OneUnstampedAtEachMoment = (p : Trace) (moment : List Event) → UnlinkedInTurn p → Begins moment p.seen → number_at p.shape moment (Unstamped p.who) ≤ 1
 
 -- a pass that has all its slots was told that there is no slot for an insert, and no other pass made a step meanwhile
 pub record FoundNoSlot (m n : MemberView) (key budget : ℕ) : Type 0 where

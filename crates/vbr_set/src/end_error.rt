@@ -6,7 +6,8 @@ use std::fmt;
 /// Why the last member of a set got no report.
 #[derive(Drop)]
 pub enum EndError {
-    /// A pass never came back: its member was dropped. The set is gone.
+    /// A pass never came back. The set is gone. A member that is dropped gives its pass back, so no
+    /// program is known to get this.
     Lost,
     /// There is no memory for the report. The member is as it was: it can make calls, and be closed
     /// again.

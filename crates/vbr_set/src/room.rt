@@ -1,11 +1,24 @@
 //! The laws of room: how many slots a set needs. Each function says its law in its contract, and does
 //! nothing.
-ghost use Rattle.vbr_set.specs.Laws.{NoSlotAlone, PassesHaveAllTheirSlots, SlotsThatSuffice};
+ghost use Rattle.vbr_set.specs.Laws.{NoSlotAlone, OneUnstampedAtEachMoment, PassesHaveAllTheirSlots, PassesUnlinkInTurn, SlotsThatSuffice};
 
 /// A law: a pass has all its slots in its own pool and its hand, and none unstamped, when it is opened,
 /// and behind each call, answered or refused, each meeting and each catching up.
 pub fn passes_have_all_their_slots()
     ensures { PassesHaveAllTheirSlots }
+{}
+
+/// A law: a pass has unlinked in turn, each slot only once it had stamped all that it had unlinked
+/// before, when it is opened, and behind each call, answered or refused, each meeting and each catching
+/// up.
+pub fn passes_unlink_in_turn()
+    ensures { PassesUnlinkInTurn }
+{}
+
+/// A law: a pass that has unlinked in turn had at most one slot unlinked and not yet stamped at each
+/// moment of what it has seen, in the middle of its calls too.
+pub fn one_unstamped_at_each_moment()
+    ensures { OneUnstampedAtEachMoment }
 {}
 
 /// A law: an insert that is alone is told NoSlot only where the keys of the set, the marked nodes and

@@ -35,10 +35,14 @@ are a part.
 
 The output has a line for each operation, in script order: yes or no. An insert
 is answered yes where the key was absent, a remove and a has where it was
-present. A refused operation has the line full (no slot is left), spent (no
-epoch is left) or tired (the budget of steps is used up). Then come the totals:
-how many inserts, removes and look-ups were answered yes, how many operations
-were refused, and the keys that are left, ascending.
+present. A refused operation has one of these lines, and made no call:
+
+  tired  the budget of steps is used up; a greater --budget helps, or more --buckets
+  full   an insert found no slot; more --slots help, or fewer keys
+  spent  no epoch is left; a line renew helps, or a greater --last-epoch
+
+Then come the totals: how many inserts, removes and look-ups were answered yes,
+how many operations were refused, and the keys that are left, ascending.
 
 Exit status 0 says that the script was played, also where operations were refused.
 Else one line on standard error tells what was wrong; for status 2 it may be text
@@ -82,7 +86,8 @@ prints
 
 const WORKERS_HELP: &str = "How many workers play the script, from 1 to 16";
 
-const SLOTS_HELP: &str = "How many slots the set has, from 1 to 16777215";
+const SLOTS_HELP: &str =
+    "How many slots the set has, from 1 to 16777215: the most keys at one time, and 64 for each worker";
 
 const BUCKETS_HELP: &str = "How many buckets the set has, from 1 to 65536";
 

@@ -30,7 +30,7 @@ returns-in-Ok-clause-goes c = λ used.
     (record {
       quiet = quiet_on a.stays.quiet b.quiet;
       counts = counts_on (counts_step used c.steps_to_unlink-used.result (took_same c.steps_to_unlink-used.result _ c.steps_to_unlink-used.ensures.is a.stays.took)) (counts_step (used + c.steps_to_unlink-used.result) c.retire.result b.took);
-      hand = helped_hand a.stays.own (subst Q (sym (rw c.in-Ok.is at c.unlink-outcome.ensures.unlinked).slot) (rw c.in-Ok.is at c.unlink-outcome.ensures.unlinked).unlinks) (retired_hand c.in-Ok.unlinked.slot c.law-in-Ok.ensures.own (subst P (sym (rw c.in-Ok.is at c.unlink-outcome.ensures.unlinked).slot) (rw c.in-Ok.is at c.unlink-outcome.ensures.unlinked).owned) b.known b.pool b.hand b.takes_no_slot) b.known;
+      hand = helped_hand a.stays.own (subst Q (sym (rw c.in-Ok.is at c.unlink-outcome.ensures.unlinked).slot) (rw c.in-Ok.is at c.unlink-outcome.ensures.unlinked).unlinks) (retired_hand c.in-Ok.unlinked.slot c.law-in-Ok.ensures.own (subst P (sym (rw c.in-Ok.is at c.unlink-outcome.ensures.unlinked).slot) (rw c.in-Ok.is at c.unlink-outcome.ensures.unlinked).owned) b.known b.pool b.hand b.takes_no_slot) b.turn b.known;
     })
 
 pub returns-in-Ok-clause-unlinks : goal.returns-in-Ok-clause-unlinks
