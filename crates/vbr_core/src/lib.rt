@@ -9,4 +9,4 @@ pub use vbr_machine::{
     Call, CoreRefusal, Effect, Event, Holding, Op, PlainMap, PlainSet, Read, SlotPlace, Step,
     Unpublished, keys_and_values, laws,
 };
-pub use world::{World, WorldRefusal, replay};
+pub use world::{World, WorldRefusal, replay, replay_with_entries};

@@ -221,16 +221,52 @@ pub fn replay(
     ensures passes { ((passes ≡ 0) ⊎ (64 < passes)) → result ≡ Err (0, CoreRefusal.NoSuchPass) }
     ensures stops { IfErr result (λ e. StopsAt shape passes events.now e.0 e.1) }
 {
-    let mut world = match World::open(alloc, shape, passes) {
-        Ok(world) => world,
-        Err(WorldRefusal::Passes) => return Err((0, CoreRefusal::NoSuchPass)),
-        Err(WorldRefusal::NoMemory) => return Err((0, CoreRefusal::NoMemory)),
-    };
+    match World::open(alloc, shape, passes) {
+        Ok(world) => go_on(world, events),
+        Err(WorldRefusal::Passes) => Err((0, CoreRefusal::NoSuchPass)),
+        Err(WorldRefusal::NoMemory) => Err((0, CoreRefusal::NoMemory)),
+    }
+}
+
+/// The world of a map that events lead to from its opening with these entries on, as
+/// [`World::open_with_entries`] has it; the rest is as [`replay`] has it, and so are the refusals.
+pub fn replay_with_entries(
+    alloc: Global,
+    shape: Shape,
+    passes: u32,
+    entries: &[(u64, u64)],
+    events: &[Event],
+) -> Result<World, (usize, CoreRefusal)>
+    requires values { shape.values ≡ true }
+    requires ascending { IsStrictlyIncreasing (keys_listed entries.now) }
+    requires few { length entries.now ≤ shape.slots }
+    ensures run { IfOk result (IsReplayed
+        (with_entries shape (keys_listed entries.now) (values_listed entries.now))
+        passes events.now) }
+    ensures passes { ((passes ≡ 0) ⊎ (64 < passes)) → result ≡ Err (0, CoreRefusal.NoSuchPass) }
+    ensures stops { IfErr result (λ e. StopsAt
+        (with_entries shape (keys_listed entries.now) (values_listed entries.now))
+        passes events.now e.0 e.1) }
+{
+    match World::open_with_entries(alloc, shape, passes, entries) {
+        Ok(world) => go_on(world, events),
+        Err(WorldRefusal::Passes) => Err((0, CoreRefusal::NoSuchPass)),
+        Err(WorldRefusal::NoMemory) => Err((0, CoreRefusal::NoMemory)),
+    }
+}
+
+// The world that events lead to from one that was just opened; or where they stop, and why.
+fn go_on(mut world: World, events: &[Event]) -> Result<World, (usize, CoreRefusal)>
+    requires opening { IsOpening world.shape (length world.passes) world }
+    ensures run { IfOk result (IsReplayed world.shape (length world.passes) events.now) }
+    ensures stops { IfErr result
+        (λ e. StopsAt world.shape (length world.passes) events.now e.0 e.1) }
+{
+    prove!(world.lists.shape.slots() > 0);
     for (index, event) in events.iter().enumerate() {
         if let Err(refusal) = world.step(*event) {
             return Err((index, refusal));
         }
     }
-    prove!(shape.slots() > 0);
     Ok(world)
 }

@@ -7,9 +7,10 @@ use Rattle.vbr_words.specs.Buckets.{bucket_of}
 use Rattle.vbr_machine.specs.Machine.{World, opening}
 use Rattle.vbr_machine.specs.declared.event.Effect.{Effect}
 use Rattle.vbr_machine.specs.declared.event.Step.{Step}
-use Rattle.vbr_event_lists.specs.Worked.{AreWorked, three_slots, one_slot}
+use Rattle.vbr_event_lists.specs.Worked.{AreWorked, three_slots, one_slot, many_epochs}
 use Rattle.vbr_event_lists.specs.Valued.{valued, with_values}
 use Rattle.vbr_event_lists.specs.declared.lists.TheConstants.{REBORN_SLOT, SAME_WORD, TWO_HELPERS, REBORN_SLOT_WORDS, SAME_WORD_WORDS, TWO_HELPERS_WORDS}
+use Rattle.vbr_event_lists.specs.declared.standing.TheConstants.{STANDING_WITH_VALUES, STANDING_WORDS}
 use Rattle.vbr_event_lists.specs.declared.valued.TheConstants.{STORED_VALUE, STORED_VALUE_WORDS}
 use Rattle.vbr_event_lists.proofs.WorkedRows.{left_after, worked_in_two}
 
@@ -41,3 +42,7 @@ reborn_slot_with_values = worked_in_parts (valued three_slots) 4 10 (with_values
 pub same_word_with_values : AreWorked (valued three_slots) (opening (valued three_slots)) (with_values SAME_WORD) SAME_WORD_WORDS
 unfolding bucket_of link_of word_of has_flag first_bits flag_word
 same_word_with_values = worked_in_parts (valued three_slots) 3 10 (with_values SAME_WORD) (opening (valued three_slots)) SAME_WORD_WORDS (search (rules, tests), (search (rules, tests), (search (rules, tests), search (rules, tests))))
+
+pub standing_with_values : AreWorked (valued many_epochs) (opening (valued many_epochs)) STANDING_WITH_VALUES STANDING_WORDS
+unfolding bucket_of link_of word_of has_flag first_bits flag_word
+standing_with_values = worked_in_parts (valued many_epochs) 3 10 STANDING_WITH_VALUES (opening (valued many_epochs)) STANDING_WORDS (search (rules, tests), (search (rules, tests), (search (rules, tests), search (rules, tests))))

@@ -2,11 +2,16 @@
 //! world that opens with entries. The calls are those of a plain map.
 ghost use Rattle.std.specs.Prelude.{◌≡◌, true, false, IfOk};
 
-use crate::world::{call, events_of, expect, follow, look, make, stop_of, word_at};
+use crate::world::{
+    ABSENT, call, events_of, expect, expect_stamp, expect_whole, follow, look, look_up_behind,
+    make, stop_of, word_at,
+};
 use std::alloc::{AllocError, Global};
 use std::process::Abort;
 use std::test::Fail;
-use vbr_core::{Call, CoreRefusal, Effect, Event, Op, PlainMap, SlotPlace, Step, World};
+use vbr_core::{
+    Call, CoreRefusal, Effect, Event, Op, PlainMap, SlotPlace, Step, World, replay_with_entries,
+};
 use vbr_event_lists::{REBORN_SLOT, Row, SAME_WORD, STORED_VALUE, TWO_HELPERS, with_values};
 use vbr_words::{At, Place, Shape};
 
@@ -141,6 +146,56 @@ fn two_helpers(rt: HostRuntime) -> Result<(), Fail> {
         1,
     );
     Ok(expect_map(&rt, rt.alloc(), &[], &calls)?)
+}
+
+/// A look-up passes a marked node as it does without values, once its marked link is checked.
+#[test]
+fn a_look_up_passes_a_marked_node_with_a_value(rt: HostRuntime) -> Result<(), Fail> {
+    let shape = Shape::new(1, 1, 10)?.with_values();
+    let insert = valued(0, Op::Insert, 7, 107);
+    let remove = valued(0, Op::Remove, 7, 107);
+    let checked = with_values(rt.alloc(), &TWO_HELPERS[..16])?;
+    let wanted = Ok(Effect::Answered(false));
+    let calls = [insert, remove, ABSENT];
+    look_up_behind(&rt, rt.alloc(), shape, &checked, wanted, &calls)?;
+    let unchecked = with_values(rt.alloc(), &TWO_HELPERS[..15])?;
+    let wanted = Err(CoreRefusal::NotHeld);
+    look_up_behind(
+        &rt,
+        rt.alloc(),
+        shape,
+        &unchecked,
+        wanted,
+        &[insert, remove],
+    )
+}
+
+/// The value of each of three keys is stored once in the first 35 rows.
+#[test]
+fn replays_a_list_with_values(rt: HostRuntime) -> Result<(), Fail> {
+    let rows = with_values(rt.alloc(), &REBORN_SLOT)?;
+    let shape = Shape::new(3, 1, 10)?.with_values();
+    expect_stamp(&rt, rt.alloc(), shape, &rows, 35)?;
+    let shape = Shape::new(1, 1, 10)?.with_values();
+    expect_whole(&rt, rt.alloc(), shape, &STORED_VALUE, (3, 1, 1))
+}
+
+#[test]
+fn opens_fresh_with_values(rt: HostRuntime) -> Result<(), Fail> {
+    let looks = [
+        (0, Place::Epoch, 1),
+        (0, Place::ShapeWord, 167_772_161),
+        (0, Place::Head(0), 0),
+        (0, Place::LinkOf(0), 16_777_216),
+        (0, Place::Birth(0), 0),
+        (0, Place::Stamp(0), 0),
+        (0, Place::Key(0), 0),
+        (0, Place::Value(0), 0),
+        (0, Place::Flags(0), 1),
+    ];
+    let shape = Shape::new(1, 1, 10)?.with_values();
+    follow(&rt, rt.alloc(), shape, &[], &looks)?;
+    Ok(())
 }
 
 #[test]
@@ -354,42 +409,83 @@ fn opens_with_entries(rt: HostRuntime) -> Result<(), Fail> {
     Ok(())
 }
 
-/// The first node of bucket 1 is that of 5: a pass gets its value, and takes it out.
+// The entries that a world opens with.
+const ENTRIES: [(u64, u64); 3] = [(2, 102), (5, 105), (9, 109)];
+
+// The first node of bucket 1 is that of 5: a pass gets its value, and takes it out.
+const GOT_AND_TAKEN: [Row; 9] = [
+    (0, Step::ReadEpoch, Effect::Value(1)),
+    (
+        0,
+        Step::LoadLink { at: At::Head(1) },
+        Effect::Value(33_554_434),
+    ),
+    (0, Step::ReadEpoch, Effect::Value(1)),
+    (0, Step::LoadKey { slot: 1 }, Effect::Value(5)),
+    (0, Step::LoadValue { slot: 1 }, Effect::Value(105)),
+    (
+        0,
+        Step::LoadLink { at: At::Slot(1) },
+        Effect::Value(33_554_435),
+    ),
+    (0, Step::ReadEpoch, Effect::Value(1)),
+    (
+        0,
+        Step::ConfirmPresent {
+            op: Op::Get,
+            slot: 1,
+            expected: 33_554_435,
+        },
+        Effect::Answered(true),
+    ),
+    (
+        0,
+        Step::Mark {
+            slot: 1,
+            expected: 33_554_435,
+        },
+        Effect::Won,
+    ),
+];
+
 #[test]
 fn gives_the_values_of_its_opening(rt: HostRuntime) -> Result<(), Fail> {
     let shape = Shape::new(4, 2, 10)?.with_values();
-    let entries = [(2, 102), (5, 105), (9, 109)];
-    let mut world = World::open_with_entries(rt.alloc(), shape, 2, &entries)?;
-    let get = Step::ConfirmPresent {
-        op: Op::Get,
-        slot: 1,
-        expected: 33_554_435,
-    };
-    let mark = Step::Mark {
-        slot: 1,
-        expected: 33_554_435,
-    };
-    let rows = [
-        (Step::ReadEpoch, Effect::Value(1)),
-        (
-            Step::LoadLink { at: At::Head(1) },
-            Effect::Value(33_554_434),
-        ),
-        (Step::ReadEpoch, Effect::Value(1)),
-        (Step::LoadKey { slot: 1 }, Effect::Value(5)),
-        (Step::LoadValue { slot: 1 }, Effect::Value(105)),
-        (
-            Step::LoadLink { at: At::Slot(1) },
-            Effect::Value(33_554_435),
-        ),
-        (Step::ReadEpoch, Effect::Value(1)),
-        (get, Effect::Answered(true)),
-        (mark, Effect::Won),
-    ];
-    for (step, effect) in rows {
-        make(&rt, &mut world, Event { pass: 0, step }, effect);
+    let mut world = World::open_with_entries(rt.alloc(), shape, 2, &ENTRIES)?;
+    for (pass, step, effect) in GOT_AND_TAKEN {
+        make(&rt, &mut world, Event { pass, step }, effect);
     }
     let calls = [valued(0, Op::Get, 5, 105), valued(0, Op::Remove, 5, 105)];
     assert_eq!(rt; world.calls(), calls.as_slice());
-    Ok(expect_map(&rt, rt.alloc(), &entries, &calls)?)
+    Ok(expect_map(&rt, rt.alloc(), &ENTRIES, &calls)?)
+}
+
+/// The same events from the opening on, and then the load of a key that isn't held.
+#[test]
+fn replays_from_entries(rt: HostRuntime) -> Result<(), Fail> {
+    let shape = Shape::new(4, 2, 10)?.with_values();
+    let mut events = events_of(rt.alloc(), &GOT_AND_TAKEN, 9)?;
+    let world = replay_with_entries(rt.alloc(), shape, 1, &ENTRIES, &events)?;
+    let calls = [valued(0, Op::Get, 5, 105), valued(0, Op::Remove, 5, 105)];
+    assert_eq!(rt; world.calls(), calls.as_slice());
+    assert_eq!(rt; world.incarnations(), 3);
+    let looks = [
+        (9, Place::Head(1), 33_554_434),
+        (9, Place::LinkOf(1), 50_331_651),
+        (9, Place::Value(1), 105),
+        (9, Place::Value(2), 109),
+        (9, Place::Value(3), 0),
+    ];
+    assert_eq!(rt; look(&rt, &world, shape, 9, &looks), 5);
+    let step = Step::LoadKey { slot: 3 };
+    events.push(Event { pass: 0, step })?;
+    for (passes, stop) in [
+        (0, (0, CoreRefusal::NoSuchPass)),
+        (1, (9, CoreRefusal::NotHeld)),
+        (65, (0, CoreRefusal::NoSuchPass)),
+    ] {
+        let told = replay_with_entries(rt.alloc(), shape, passes, &ENTRIES, &events).err();
+        assert_eq!(rt; told, Some(stop), "{passes} passes");
+    }
+    Ok(())
 }

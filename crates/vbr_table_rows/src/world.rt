@@ -7,7 +7,7 @@ use std::test::Fail;
 use vbr_core::{
     Call, CoreRefusal, Effect, Event, Op, SlotPlace, Step, World, WorldRefusal, replay,
 };
-use vbr_event_lists::{REBORN_SLOT, Row, SAME_WORD, TWO_HELPERS};
+use vbr_event_lists::{REBORN_SLOT, Row, SAME_WORD, TWO_HELPERS, with_values};
 use vbr_words::flags::flag_words;
 use vbr_words::{At, Place, Shape};
 
@@ -197,20 +197,26 @@ const LOOK_UP: Step = Step::ConfirmAbsent {
     expected: 33_554_433,
 };
 
-// What a look-up is answered behind so many rows of the list of two helpers, and the calls that are
+// The call of that look-up.
+pub(crate) const ABSENT: Call = Call {
+    who: 1,
+    op: Op::Has,
+    key: 7,
+    reply: false,
+    value: None,
+};
+
+// What a look-up is answered behind the first rows of the list of two helpers, and the calls that are
 // then made.
-fn look_up_behind(
+pub(crate) fn look_up_behind(
     rt: &impl Abort,
     alloc: Global,
-    rows: usize,
+    shape: Shape,
+    rows: &[Row],
     wanted: Result<Effect, CoreRefusal>,
     calls: &[Call],
 ) -> Result<(), Fail> {
-    let shape = Shape::new(1, 1, 10)?;
-    let Some(first) = TWO_HELPERS.get(..rows) else {
-        panic!(rt; "the list has no {rows} rows")
-    };
-    let mut world = follow(rt, alloc, shape, first, &[])?;
+    let mut world = follow(rt, alloc, shape, rows, &[])?;
     let event = Event {
         pass: 1,
         step: LOOK_UP,
@@ -223,22 +229,19 @@ fn look_up_behind(
 /// A look-up passes a marked node, even one that has the key itself.
 #[test]
 fn a_look_up_passes_a_marked_node(rt: HostRuntime) -> Result<(), Fail> {
-    let no = Call {
-        who: 1,
-        op: Op::Has,
-        key: 7,
-        reply: false,
-        value: None,
-    };
-    let calls = [call(0, Op::Insert, 7), call(0, Op::Remove, 7), no];
-    look_up_behind(&rt, rt.alloc(), 16, Ok(Effect::Answered(false)), &calls)
+    let shape = Shape::new(1, 1, 10)?;
+    let calls = [call(0, Op::Insert, 7), call(0, Op::Remove, 7), ABSENT];
+    let wanted = Ok(Effect::Answered(false));
+    look_up_behind(&rt, rt.alloc(), shape, &TWO_HELPERS[..16], wanted, &calls)
 }
 
 /// It passes none whose marked link isn't checked.
 #[test]
 fn a_look_up_checks_the_marked_link(rt: HostRuntime) -> Result<(), Fail> {
+    let shape = Shape::new(1, 1, 10)?;
     let calls = [call(0, Op::Insert, 7), call(0, Op::Remove, 7)];
-    look_up_behind(&rt, rt.alloc(), 15, Err(CoreRefusal::NotHeld), &calls)
+    let wanted = Err(CoreRefusal::NotHeld);
+    look_up_behind(&rt, rt.alloc(), shape, &TWO_HELPERS[..15], wanted, &calls)
 }
 
 // The events of the first rows of a list, so many.
@@ -266,47 +269,68 @@ pub(crate) fn stop_of(
     replay(alloc, shape, passes, events).err()
 }
 
-#[test]
-fn replays_a_list(rt: HostRuntime) -> Result<(), Fail> {
-    let shape = Shape::new(3, 1, 10)?;
-    let mut events = events_of(rt.alloc(), &REBORN_SLOT, 32)?;
-    let world = replay(rt.alloc(), shape, 2, &events)?;
+// Replays the first rows of the list of a reborn slot, so many, the last of which stamps slot 1 with
+// epoch 1. A birth there at the stamp is then refused.
+pub(crate) fn expect_stamp(
+    rt: &impl Abort,
+    alloc: Global,
+    shape: Shape,
+    rows: &[Row],
+    count: usize,
+) -> Result<(), Fail> {
+    let mut events = events_of(alloc, rows, count)?;
+    let world = replay(alloc, shape, 2, &events)?;
     assert_eq!(rt; word_at(&world, shape, Place::Stamp(1)), Some(1));
-    // a birth at the stamp
     events.push(Event {
         pass: 0,
         step: Step::StoreBirth { slot: 1, birth: 1 },
     })?;
-    let stop = stop_of(rt.alloc(), shape, 2, &events);
-    assert_eq!(rt; stop, Some((32, CoreRefusal::OutOfRange)));
+    let stop = stop_of(alloc, shape, 2, &events);
+    assert_eq!(rt; stop, Some((count, CoreRefusal::OutOfRange)));
     Ok(())
 }
 
-// The world that a whole list leads to.
-fn replay_whole(alloc: Global, shape: Shape, rows: &[Row]) -> Result<World, Fail> {
+#[test]
+fn replays_a_list(rt: HostRuntime) -> Result<(), Fail> {
+    expect_stamp(&rt, rt.alloc(), Shape::new(3, 1, 10)?, &REBORN_SLOT, 32)
+}
+
+// Replays a whole list, and compares the number of its calls, that of its incarnations, and the epoch.
+pub(crate) fn expect_whole(
+    rt: &impl Abort,
+    alloc: Global,
+    shape: Shape,
+    rows: &[Row],
+    wanted: (usize, u64, u64),
+) -> Result<(), Fail> {
     let events = events_of(alloc, rows, rows.len())?;
-    Ok(replay(alloc, shape, 2, &events)?)
+    let world = replay(alloc, shape, 2, &events)?;
+    let (calls, incarnations, epoch) = wanted;
+    assert_eq!(rt; world.calls().len(), calls);
+    assert_eq!(rt; world.incarnations(), incarnations);
+    assert_eq!(rt; world.word(Place::Epoch), epoch);
+    Ok(())
 }
 
 #[test]
 fn replays_each_list_whole(rt: HostRuntime) -> Result<(), Fail> {
-    let rows: [(&[Row], u32, usize, u64, u64); 3] = [
-        (&REBORN_SLOT, 3, 4, 4, 2),
-        (&SAME_WORD, 3, 4, 3, 5),
-        (&TWO_HELPERS, 1, 2, 1, 1),
+    let rows: [(&[Row], u32, (usize, u64, u64)); 3] = [
+        (&REBORN_SLOT, 3, (4, 4, 2)),
+        (&SAME_WORD, 3, (4, 3, 5)),
+        (&TWO_HELPERS, 1, (2, 1, 1)),
     ];
-    for (list, slots, calls, incarnations, epoch) in rows {
-        let world = replay_whole(rt.alloc(), Shape::new(slots, 1, 10)?, list)?;
-        assert_eq!(rt; world.calls().len(), calls);
-        assert_eq!(rt; world.incarnations(), incarnations);
-        assert_eq!(rt; world.word(Place::Epoch), epoch);
+    for (list, slots, wanted) in rows {
+        let shape = Shape::new(slots, 1, 10)?;
+        expect_whole(&rt, rt.alloc(), shape, list, wanted)?;
+        let valued_rows = with_values(rt.alloc(), list)?;
+        let valued = shape.with_values();
+        expect_whole(&rt, rt.alloc(), valued, &valued_rows, wanted)?;
     }
     Ok(())
 }
 
-#[test]
-fn refuses_events(rt: HostRuntime) -> Result<(), Fail> {
-    let shape = Shape::new(1, 1, 1)?;
+// Replays events that are refused, each alone, and a birth above the epoch.
+fn expect_refusals(rt: &impl Abort, alloc: Global, shape: Shape) {
     let rows = [
         (1, Step::ReadEpoch, CoreRefusal::NoSuchPass),
         (0, Step::StoreKey { slot: 0, key: 5 }, CoreRefusal::NotOwned),
@@ -316,7 +340,7 @@ fn refuses_events(rt: HostRuntime) -> Result<(), Fail> {
         (0, Step::Advance { from: 1 }, CoreRefusal::EpochLast),
     ];
     for (pass, step, refusal) in rows {
-        let stop = stop_of(rt.alloc(), shape, 1, &[Event { pass, step }]);
+        let stop = stop_of(alloc, shape, 1, &[Event { pass, step }]);
         assert_eq!(rt; stop, Some((0, refusal)), "{step:?}");
     }
     let take = Event {
@@ -327,8 +351,15 @@ fn refuses_events(rt: HostRuntime) -> Result<(), Fail> {
         pass: 0,
         step: Step::StoreBirth { slot: 0, birth: 2 },
     };
-    let stop = stop_of(rt.alloc(), shape, 1, &[take, birth]);
+    let stop = stop_of(alloc, shape, 1, &[take, birth]);
     assert_eq!(rt; stop, Some((1, CoreRefusal::OutOfRange)));
+}
+
+#[test]
+fn refuses_events(rt: HostRuntime) -> Result<(), Fail> {
+    let shape = Shape::new(1, 1, 1)?;
+    expect_refusals(&rt, rt.alloc(), shape);
+    expect_refusals(&rt, rt.alloc(), shape.with_values());
     Ok(())
 }
 
@@ -337,7 +368,9 @@ fn refuses_events(rt: HostRuntime) -> Result<(), Fail> {
 fn takes_a_slot_once(rt: HostRuntime) -> Result<(), Fail> {
     let take = Step::TakeFlag { slot: 0 };
     let rows = [(0, take, Effect::Won), (0, take, Effect::Lost(0))];
-    follow(&rt, rt.alloc(), Shape::new(1, 1, 1)?, &rows, &[])?;
+    let shape = Shape::new(1, 1, 1)?;
+    follow(&rt, rt.alloc(), shape, &rows, &[])?;
+    follow(&rt, rt.alloc(), shape.with_values(), &rows, &[])?;
     Ok(())
 }
 
