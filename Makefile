@@ -139,11 +139,13 @@ check:
 test:
 	@tools/needs test
 	@tools/docs-check
+	@tools/layout
 	@tools/test
 
 gate:
 	@tools/needs gate
 	@tools/docs-check
+	@tools/layout
 	@RT_JOBS="$${RT_JOBS:-$$(getconf _NPROCESSORS_ONLN)}" $(RT) ci
 	@tools/after-gate
 	@tests/tools

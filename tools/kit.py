@@ -1,6 +1,6 @@
 """More of the Rattle kit than the commands of `rt`: its own Python, and its LLVM tools.
 
-No page of the kit promises these. They are what they are in one kit, MADE_FOR, with which the tools here were tried; with
+No page of the kit promises these. They are what they are in the kits of MADE_FOR, with which the tools here were tried; with
 another the tools stop, and say so. ANY_KIT=1 has them go on."""
 import functools
 import importlib.machinery
@@ -9,7 +9,7 @@ import os
 import subprocess
 import sys
 
-MADE_FOR = "rattle-kit-13f logic dac8208d650f15bf"
+MADE_FOR = "rattle-kit-13b logic dac8208d650f15bf", "rattle-kit-13f logic dac8208d650f15bf"
 RT = os.environ.get("RT", "rt")
 
 
@@ -25,10 +25,10 @@ def said(word):
 def folder():
     """The kit's folder; stops where this isn't the kit that the tools were made for."""
     found = said("version")
-    if found != MADE_FOR and os.environ.get("ANY_KIT") != "1":
+    if found not in MADE_FOR and os.environ.get("ANY_KIT") != "1":
         sys.exit(
-            f"{os.path.relpath(sys.argv[0])}: it was made for {MADE_FOR}, whose own Python and LLVM tools it uses, and `{RT}` is {found}. "
-            "Use that kit; or set ANY_KIT=1 to go on with this one, and once all works put its version into MADE_FOR of tools/kit.py"
+            f"{os.path.relpath(sys.argv[0])}: it was made for {' and '.join(MADE_FOR)}, whose own Python and LLVM tools it uses, and `{RT}` is {found}. "
+            "Use one of those; or set ANY_KIT=1 to go on with this one, and once all works put its version into MADE_FOR of tools/kit.py"
         )
     return os.path.dirname(said("doc"))
 

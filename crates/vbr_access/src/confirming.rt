@@ -12,7 +12,7 @@ use crate::held::Held;
 use crate::rollback::Rollback;
 use crate::uncounted;
 use vbr_machine::Op;
-use vbr_slots::{Pass, Slots};
+use vbr_slots::{AtTable, Pass, Slots};
 use vbr_words::At;
 
 /// Answers, in one step, that the key of a node is present: a look-up with yes, an insert with no.
@@ -27,7 +27,18 @@ pub fn confirm_present(slots: &Slots, pass: &mut Pass, op: Op, held: &Held) -> R
     ensures answers { OnOk result (AnswersPresent pass.old.trace pass.new.trace op held.now) }
     ensures lost { IfErr result (FindsAnother pass.old.trace pass.new.trace held.now) }
 {
-    pass.at(slots, |at| (uncounted::confirm_present(at, op, held), 1))
+    pass.during(
+        |pass|
+            requires own { IsOf pass.old.trace slots.now }
+            requires node { IsPresent (knows pass.old.trace) held.now }
+            requires op { IsOther Remove op }
+        {
+            (
+                uncounted::confirm_present(&mut AtTable { slots, pass }, op, held),
+                1,
+            )
+        },
+    )
 }
 
 /// Answers, in one step, that a key is absent: a look-up or a remove with no. It would stand behind
@@ -49,9 +60,17 @@ pub fn confirm_absent(
     ensures answers { OnOk result (AnswersAbsent pass.old.trace pass.new.trace op key) }
     ensures lost { IfErr result (FindsAnother pass.old.trace pass.new.trace pred.now) }
 {
-    pass.at(
-        slots,
-        |at| (uncounted::confirm_absent(at, op, key, pred), 1),
+    pass.during(
+        |pass|
+            requires own { IsOf pass.old.trace slots.now }
+            requires gap { IsAbsent pass.old.trace.shape (knows pass.old.trace) key pred.now }
+            requires op { IsOther Insert op }
+        {
+            (
+                uncounted::confirm_absent(&mut AtTable { slots, pass }, op, key, pred),
+                1,
+            )
+        },
     )
 }
 
@@ -75,8 +94,16 @@ pub fn confirm_look_up(
     ensures answers { OnOk result (AnswersLookUp pass.old.trace pass.new.trace key present) }
     ensures lost { IfErr result (FindsAnother pass.old.trace pass.new.trace held.now) }
 {
-    pass.at(
-        slots,
-        |at| (uncounted::confirm_look_up(at, key, held, present), 1),
+    pass.during(
+        |pass|
+            requires own { IsOf pass.old.trace slots.now }
+            requires held { IsUnmarked (knows pass.old.trace) held.now }
+            requires decides { TellsKey pass.old.trace key held.now present }
+        {
+            (
+                uncounted::confirm_look_up(&mut AtTable { slots, pass }, key, held, present),
+                1,
+            )
+        },
     )
 }

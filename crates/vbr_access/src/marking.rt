@@ -7,7 +7,7 @@ ghost use Rattle.vbr_access.specs.Exchanges.{RemovesKey, LosesExchange};
 use crate::held::{Held, Marked};
 use crate::rollback::Rollback;
 use crate::uncounted;
-use vbr_slots::{Pass, Slots};
+use vbr_slots::{AtTable, Pass, Slots};
 use vbr_words::{At, with_mark};
 
 /// Marks a node, in one step: the pass has removed its key. It does so only where the node's link
@@ -21,5 +21,10 @@ pub fn mark(slots: &Slots, pass: &mut Pass, held: &Held) -> Result<Marked, Rollb
     ensures removed { IfOk result (RemovesKey pass.old.trace pass.new.trace held.now) }
     ensures lost { IfErr result (LosesExchange pass.old.trace pass.new.trace held.now) }
 {
-    pass.at(slots, |at| (uncounted::mark(at, held), 1))
+    pass.during(
+        |pass|
+            requires own { IsOf pass.old.trace slots.now }
+            requires node { IsPresent (knows pass.old.trace) held.now }
+        { (uncounted::mark(&mut AtTable { slots, pass }, held), 1) },
+    )
 }

@@ -9,11 +9,11 @@ ghost use Rattle.vbr_access.specs.Reading.{ReadsIn, RollsBack, steps_to_next};
 use crate::held::{Checkpoint, Held};
 use crate::rollback::Rollback;
 use vbr_slots::AtTable;
-use vbr_words::{At, decode};
+use vbr_words::{At, Nodes, decode};
 
 /// As [`crate::checkpoint`].
 #[inline]
-pub fn checkpoint(at: &mut AtTable<'_>) -> Checkpoint
+pub fn checkpoint<N: Nodes>(at: &mut AtTable<'_, N>) -> Checkpoint
     ensures table { IsSameTable at.old at.new }
     ensures reads { ReadsIn (pass_of at.old) (pass_of at.new) 1 }
     ensures point { IsCheckpoint (pass_of at.old) (pass_of at.new) result.epoch }
@@ -26,7 +26,11 @@ pub fn checkpoint(at: &mut AtTable<'_>) -> Checkpoint
 
 /// As [`crate::first`].
 #[inline]
-pub fn first(at: &mut AtTable<'_>, point: &Checkpoint, bucket: u32) -> Result<Held, Rollback>
+pub fn first<N: Nodes>(
+    at: &mut AtTable<'_, N>,
+    point: &Checkpoint,
+    bucket: u32,
+) -> Result<Held, Rollback>
     requires point { point.now.epoch ≡ (knows (trace_of at.old)).epoch }
     requires bucket { bucket < at.old.slots.now.shape.buckets }
     ensures table { IsSameTable at.old at.new }
@@ -51,7 +55,7 @@ pub fn first(at: &mut AtTable<'_>, point: &Checkpoint, bucket: u32) -> Result<He
 
 /// As [`crate::next`].
 #[inline]
-pub fn next(at: &mut AtTable<'_>, held: &Held) -> Result<Option<Held>, Rollback>
+pub fn next<N: Nodes>(at: &mut AtTable<'_, N>, held: &Held) -> Result<Option<Held>, Rollback>
     requires held { IsHeld (knows (trace_of at.old)) held.now }
     ensures table { IsSameTable at.old at.new }
     ensures reads { ReadsIn (pass_of at.old) (pass_of at.new) (steps_to_next held.now) }
@@ -77,7 +81,7 @@ pub fn next(at: &mut AtTable<'_>, held: &Held) -> Result<Option<Held>, Rollback>
 
 /// As [`crate::key_of`].
 #[inline]
-pub fn key_of(at: &mut AtTable<'_>, node: &Held) -> Result<u64, Rollback>
+pub fn key_of<N: Nodes>(at: &mut AtTable<'_, N>, node: &Held) -> Result<u64, Rollback>
     requires held { IsHeld (knows (trace_of at.old)) node.now }
     requires slot { IsSlot node.now.at }
     ensures table { IsSameTable at.old at.new }
