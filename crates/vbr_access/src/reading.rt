@@ -1,9 +1,10 @@
 //! Checkpoints and checked reads.
-ghost use Rattle.std.specs.Prelude.{◌≡◌, ◌<◌, IfOk, IfErr};
+ghost use Rattle.std.specs.Prelude.{◌≡◌, ◌<◌, true, IfOk, IfErr};
 ghost use Rattle.vbr_slots.specs.Views.{IsOf, knows};
 ghost use Rattle.vbr_access.specs.Held.{IsSlot, IsHeld};
 ghost use Rattle.vbr_access.specs.Reading.{IsCheckpoint, IsHeadRead, IsKeyRead, IsNextRead};
 ghost use Rattle.vbr_access.specs.Reading.{ReadsIn, RollsBack, steps_to_next};
+ghost use Rattle.vbr_access.specs.Values.{IsValueRead};
 
 use crate::held::{Checkpoint, Held};
 use crate::rollback::Rollback;
@@ -99,6 +100,29 @@ pub fn key_of<N: Nodes>(slots: &Slots<N>, pass: &mut Pass, node: &Held) -> Resul
             requires held { IsHeld (knows pass.old.trace) node.now }
             requires slot { IsSlot node.now.at }
         { (uncounted::key_of(&mut AtTable { slots, pass }, node), 2) },
+    )
+}
+
+/// Reads the value of a node, in two steps, at a table whose nodes have values.
+///
+/// EpochMoved is its one error, as of [`first`].
+#[inline]
+pub fn value_of<N: Nodes>(slots: &Slots<N>, pass: &mut Pass, node: &Held) -> Result<u64, Rollback>
+    requires own { IsOf pass.old.trace slots.now }
+    requires values { slots.now.shape.values ≡ true }
+    requires held { IsHeld (knows pass.old.trace) node.now }
+    requires slot { IsSlot node.now.at }
+    ensures reads { ReadsIn pass.old pass.new 2 }
+    ensures value { IfOk result (IsValueRead pass.old pass.new node.now.at) }
+    ensures moved { IfErr result (RollsBack pass.old pass.new) }
+{
+    pass.during(
+        |pass|
+            requires own { IsOf pass.old.trace slots.now }
+            requires values { slots.now.shape.values ≡ true }
+            requires held { IsHeld (knows pass.old.trace) node.now }
+            requires slot { IsSlot node.now.at }
+        { (uncounted::value_of(&mut AtTable { slots, pass }, node), 2) },
     )
 }
 

@@ -1,10 +1,11 @@
 //! Checkpoints and checked reads.
-ghost use Rattle.std.specs.Prelude.{◌≡◌, ◌<◌, IfOk, IfErr};
+ghost use Rattle.std.specs.Prelude.{◌≡◌, ◌<◌, true, IfOk, IfErr};
 ghost use Rattle.vbr_slots.specs.AtTables.{IsSameTable, pass_of, trace_of};
 ghost use Rattle.vbr_slots.specs.Views.{knows};
 ghost use Rattle.vbr_access.specs.Held.{IsSlot, IsHeld};
 ghost use Rattle.vbr_access.specs.Reading.{IsCheckpoint, IsHeadRead, IsKeyRead, IsNextRead};
 ghost use Rattle.vbr_access.specs.Reading.{ReadsIn, RollsBack, steps_to_next};
+ghost use Rattle.vbr_access.specs.Values.{IsValueRead};
 
 use crate::held::{Checkpoint, Held};
 use crate::rollback::Rollback;
@@ -99,4 +100,27 @@ pub fn key_of<N: Nodes>(at: &mut AtTable<'_, N>, node: &Held) -> Result<u64, Rol
         return Err(Rollback::EpochMoved { now });
     }
     Ok(key)
+}
+
+/// As [`crate::value_of`].
+#[inline]
+pub fn value_of<N: Nodes>(at: &mut AtTable<'_, N>, node: &Held) -> Result<u64, Rollback>
+    requires values { at.old.slots.now.shape.values ≡ true }
+    requires held { IsHeld (knows (trace_of at.old)) node.now }
+    requires slot { IsSlot node.now.at }
+    ensures table { IsSameTable at.old at.new }
+    ensures reads { ReadsIn (pass_of at.old) (pass_of at.new) 2 }
+    ensures value { IfOk result (IsValueRead (pass_of at.old) (pass_of at.new) node.now.at) }
+    ensures moved { IfErr result (RollsBack (pass_of at.old) (pass_of at.new)) }
+{
+    at.law();
+    let At::Slot(slot) = node.at else {
+        unreachable!()
+    };
+    let before = at.epoch();
+    let (value, now) = at.pass.read_value(at.slots, slot);
+    if now != before {
+        return Err(Rollback::EpochMoved { now });
+    }
+    Ok(value)
 }
