@@ -1,5 +1,5 @@
 -- What the core accepts of a pass, by what it holds.
-use Rattle.std.proofs.Common.{◌≡◌, ◌≢◌, ℕ, ◌<◌, false, subst}
+use Rattle.std.proofs.Common.{◌≡◌, ◌≢◌, ℕ, ◌<◌, true, false, subst}
 use Rattle.std.specs.Prelude.{IsTrue}
 use Rattle.vbr_words.specs.Dimensions.{Dimensions}
 use Rattle.vbr_words.specs.Words.{link_of}
@@ -21,7 +21,8 @@ use Rattle.vbr_slots.specs.Views.{PassView, TableView, Trace, IsOf, knows}
 use Rattle.vbr_access.specs.Held.{IsHeld, Names}
 use Rattle.vbr_slots.specs.PassLaw.{PassLaw}
 use Rattle.vbr_access.specs.declared.held.Held.{Held}
-use Rattle.vbr_access.proofs.NoValues.{no_value_known, no_value_for, op_in}
+use Rattle.vbr_access.specs.Values.{IsAsked, IsValued}
+use Rattle.vbr_access.proofs.NoValues.{op_asked, value_known, value_known_for}
 use Rattle.vbr_access.proofs.PlacesInShape.{link_in, held_in}
 
 -- a step that the core accepts of a pass is checked for its table
@@ -59,26 +60,29 @@ module _ (p : PassView) (sound : PassLaw p) where
       let R : At → Type 0 = λ i. KeyAt (knows p.trace) i k.0 in
       (subst P at (place_in held h), subst Q at h.link, (k.0, subst R at k.1))
 
-  pub mark_accepted : p.trace.shape.values ≡ false → (held : Held) (s : ℕ) → IsHeld (knows p.trace) held → held.at ≡ Slot s → ((key : ℕ) × KeyAt (knows p.trace) held.at key) → (link_of held.word).mark ≡ false → Accepts p.trace.shape (knows p.trace) (Mark s held.word)
-  mark_accepted bare held s h at k unmarked =
+  pub mark_accepted : (held : Held) (s : ℕ) → IsHeld (knows p.trace) held → held.at ≡ Slot s → ((key : ℕ) × KeyAt (knows p.trace) held.at key) → (link_of held.word).mark ≡ false → IsValued p.trace held.at → Accepts p.trace.shape (knows p.trace) (Mark s held.word)
+  mark_accepted held s h at k unmarked valued =
       let n = node held s h at k in
-      known_accepts p.trace.shape p.trace.passes p.trace.seen sound.shape sound.is_run p.trace.who (Mark s held.word) (record { in_shape = n.0; owned = tt; known = (n.1, n.2, no_value_known bare (knows p.trace) s); in_range = unmarked; below_last = tt })
+      let V : At → Type 0 = IsValued p.trace in
+      known_accepts p.trace.shape p.trace.passes p.trace.seen sound.shape sound.is_run p.trace.who (Mark s held.word) (record { in_shape = n.0; owned = tt; known = (n.1, n.2, value_known p.trace.shape.values (knows p.trace) s (subst V at valued)); in_range = unmarked; below_last = tt })
 
-  pub present_accepted : (op : Op) (held : Held) (s : ℕ) → IsHeld (knows p.trace) held → held.at ≡ Slot s → ((key : ℕ) × KeyAt (knows p.trace) held.at key) → (link_of held.word).mark ≡ false → op ≢ Remove → op ≢ Get → Accepts p.trace.shape (knows p.trace) (ConfirmPresent op s held.word)
-  present_accepted op held s h at k unmarked not other =
+  pub present_accepted : (op : Op) (held : Held) (s : ℕ) → IsHeld (knows p.trace) held → held.at ≡ Slot s → ((key : ℕ) × KeyAt (knows p.trace) held.at key) → (link_of held.word).mark ≡ false → op ≢ Remove → IsAsked p.trace op held.at → Accepts p.trace.shape (knows p.trace) (ConfirmPresent op s held.word)
+  present_accepted op held s h at k unmarked not asked =
       let n = node held s h at k in
+      let V : At → Type 0 = IsAsked p.trace op in
+      let asks = subst V at asked in
       known_accepts p.trace.shape p.trace.passes p.trace.seen sound.shape sound.is_run p.trace.who (ConfirmPresent op s held.word) (record {
-        in_shape = (n.0, op_in p.trace.shape op other);
+        in_shape = (n.0, op_asked p.trace.shape op (λ get. (asks get).0));
         owned = tt;
-        known = (n.1, n.2, no_value_for (knows p.trace) s op other);
+        known = (n.1, n.2, value_known_for op (knows p.trace) s (λ get. (asks get).1));
         in_range = (unmarked, not);
         below_last = tt;
       })
 
-  pub absent_accepted : (op : Op) (key : ℕ) (pred : Held) → IsHeld (knows p.trace) pred → StandsBehind p.trace.shape (knows p.trace) pred.at key → StandsBeforeOn (knows p.trace) key (link_of pred.word) → (link_of pred.word).mark ≡ false → op ≢ Insert → op ≢ Get → Accepts p.trace.shape (knows p.trace) (ConfirmAbsent op key pred.at pred.word)
-  absent_accepted op key pred h i j unmarked not other =
+  pub absent_accepted : (op : Op) (key : ℕ) (pred : Held) → IsHeld (knows p.trace) pred → StandsBehind p.trace.shape (knows p.trace) pred.at key → StandsBeforeOn (knows p.trace) key (link_of pred.word) → (link_of pred.word).mark ≡ false → op ≢ Insert → (op ≡ Get → p.trace.shape.values ≡ true) → Accepts p.trace.shape (knows p.trace) (ConfirmAbsent op key pred.at pred.word)
+  absent_accepted op key pred h i j unmarked not asked =
       known_accepts p.trace.shape p.trace.passes p.trace.seen sound.shape sound.is_run p.trace.who (ConfirmAbsent op key pred.at pred.word) (record {
-        in_shape = (place_in pred h, op_in p.trace.shape op other);
+        in_shape = (place_in pred h, op_asked p.trace.shape op asked);
         owned = tt;
         known = h.link;
         in_range = (unmarked, not, i, j);

@@ -7,7 +7,7 @@ use Rattle.vbr_words.specs.declared.place.At.TheVariants.{Slot}
 use Rattle.vbr_machine.specs.Images.{link_shown_at}
 use Rattle.vbr_machine.specs.Incarnations.{Incarnations}
 use Rattle.vbr_machine.specs.declared.event.Step.{Step}
-use Rattle.vbr_machine.specs.declared.event.Step.TheVariants.{ReadEpoch, LoadLink, LoadBirth, LoadKey}
+use Rattle.vbr_machine.specs.declared.event.Step.TheVariants.{ReadEpoch, LoadLink, LoadBirth, LoadKey, LoadValue}
 use Rattle.vbr_slots.specs.Alone.{IsAlone, nodes, IsFresh}
 use Rattle.vbr_slots.specs.Views.{Trace, Did, knows}
 use Rattle.vbr_slots.proofs.Lemmas.{alone_three, alone_two, epoch_now, link_now, looks}
@@ -42,6 +42,10 @@ module _ {p q r : Trace} {s key epoch : ℕ} (load : Did (LoadKey s) p q key) (r
 
   pub key_still : IsShape p.shape → IsFresh p → epoch ≡ (knows p).epoch
   key_still is fresh = epoch_now (shape_on load is) read (parts load read alone).1 ∙ ap (λ (a : Incarnations). a.epoch) (looks load (parts load read alone).0 (λ w a. refl)) ∙ fresh
+
+module _ {p q r : Trace} {s value epoch : ℕ} (load : Did (LoadValue s) p q value) (read : Did ReadEpoch q r epoch) (alone : IsAlone p r) where
+  pub value_still : IsShape p.shape → IsFresh p → epoch ≡ (knows p).epoch
+  value_still is fresh = epoch_now (shape_on load is) read (parts load read alone).1 ∙ ap (λ (a : Incarnations). a.epoch) (looks load (parts load read alone).0 (λ w a. refl)) ∙ fresh
 
 module _ {p q r : Trace} {s birth epoch : ℕ} (load : Did (LoadBirth s) p q birth) (read : Did ReadEpoch q r epoch) (alone : IsAlone p r) where
   pub birth_looks : nodes r ≡ nodes p

@@ -5,8 +5,8 @@ use Rattle.vbr_words.specs.Words.{link_of}
 use Rattle.vbr_words.specs.declared.place.At.TheVariants.{Head, Slot}
 use Rattle.vbr_words.specs.Buckets.{bucket_of}
 use Rattle.vbr_machine.specs.Membership.{Knows, IsHeldSlot, HeldIn}
-use Rattle.vbr_machine.specs.declared.event.Step.TheVariants.{ReadEpoch, LoadLink, LoadBirth, LoadKey}
-use Rattle.vbr_machine.specs.declared.knowledge.Read.TheVariants.{LinkAt, BirthOf, KeyOf}
+use Rattle.vbr_machine.specs.declared.event.Step.TheVariants.{ReadEpoch, LoadLink, LoadBirth, LoadKey, LoadValue}
+use Rattle.vbr_machine.specs.declared.knowledge.Read.TheVariants.{LinkAt, BirthOf, KeyOf, ValueOf}
 use Rattle.vbr_machine.proofs.Lemmas.{head_unmarked, held_in_bucket}
 use Rattle.vbr_slots.specs.Calls.{Quiet}
 use Rattle.vbr_slots.specs.Views.{Trace, Did, knows}
@@ -14,7 +14,7 @@ use Rattle.vbr_slots.proofs.Lemmas.{did_quiet, did_run, did_same, quiet_refl, sa
 use Rattle.vbr_access.specs.Keeping.{Keeps}
 use Rattle.vbr_access.specs.Moments.{IsRead}
 use Rattle.vbr_access.proofs.Keeping.{keeps_on, slot_kept, held_in_kept}
-use Rattle.vbr_access.proofs.ReadSteps.{link_loaded, link_loaded_keeps, link_loaded_stays, birth_loaded, birth_loaded_keeps, key_loaded, key_loaded_keeps, unmoved_keeps, unmoved_checks}
+use Rattle.vbr_access.proofs.ReadSteps.{link_loaded, link_loaded_keeps, link_loaded_stays, birth_loaded, birth_loaded_keeps, key_loaded, key_loaded_keeps, value_loaded, value_loaded_keeps, unmoved_keeps, unmoved_checks}
 use Rattle.vbr_access.proofs.Moments.{stood_at_load}
 
 -- ---- what is quiet
@@ -86,6 +86,18 @@ module _ {p q r : Trace} {s key epoch : ℕ} (load : Did (LoadKey s) p q key) (r
       let P : Dimensions → Type 0 = IsShape in
       let Q : Dimensions → Type 0 = λ shape. bucket_of shape key ≡ b in
       subst Q k.shape (held_in_bucket r.shape r.passes r.seen (subst P (sym k.shape) shape) (did_run read) r.who s b key (held_in_kept (Slot s) b key_keeps h) key_read)
+
+-- ---- a value
+
+module _ {p q r : Trace} {s value epoch : ℕ} (load : Did (LoadValue s) p q value) (read : Did ReadEpoch q r epoch) (same : epoch ≡ (knows p).epoch) where
+  value_unmoved : epoch ≡ (knows q).epoch
+  value_unmoved = same ∙ sym (value_loaded_keeps load).epoch
+
+  pub value_keeps : Keeps (knows p) (knows r)
+  value_keeps = keeps_on (value_loaded_keeps load) (unmoved_keeps read value_unmoved)
+
+  pub value_read : Knows (knows r) (ValueOf s value)
+  value_read = unmoved_checks read value_unmoved (ValueOf s value) (value_loaded load)
 
 -- ---- a birth
 

@@ -1,19 +1,18 @@
 -- A step that exchanges a link word, as what its call tells.
 use Rattle.std.proofs.Common.{◌≡◌, ◌≢◌, ℕ, true, false, refl, sym, ap, ◌∙◌, subst}
-use Rattle.std.specs.Prelude.{Result, Ok, Err, IfErr, None}
-use Rattle.vbr_words.specs.Dimensions.{IsShape}
+use Rattle.std.specs.Prelude.{Option, Result, Ok, Err, IfErr, None, Some}
+use Rattle.vbr_words.specs.Dimensions.{Dimensions, IsShape}
 use Rattle.vbr_words.specs.Words.{link_of}
 use Rattle.vbr_words.specs.declared.link.Link.{Link}
 use Rattle.vbr_words.specs.declared.place.At.{At}
 use Rattle.vbr_words.specs.declared.place.At.TheVariants.{Slot}
 use Rattle.vbr_machine.specs.Acceptance.{IsUnlinked}
-use Rattle.vbr_machine.specs.History.{set_call}
 use Rattle.vbr_machine.specs.Images.{link_shown_at}
 use Rattle.vbr_machine.specs.Links.{link_to, marked}
 use Rattle.vbr_machine.specs.Membership.{BirthAt, KeyAt, Knows}
 use Rattle.vbr_machine.specs.Runs.{IsRun}
 use Rattle.vbr_machine.specs.declared.event.Step.TheVariants.{Mark, Publish, Unlink}
-use Rattle.vbr_machine.specs.declared.history.Op.TheVariants.{Insert}
+use Rattle.vbr_machine.specs.declared.history.Op.TheVariants.{Insert, Remove}
 use Rattle.vbr_machine.specs.declared.knowledge.Read.TheVariants.{LinkAt}
 use Rattle.vbr_slots.specs.Alone.{IsAlone, IsFresh}
 use Rattle.vbr_slots.specs.Calls.{Made, Quiet}
@@ -24,6 +23,8 @@ use Rattle.vbr_pools.specs.Hands.{UnlinkedView}
 use Rattle.vbr_pools.specs.KeptSlots.{TakesNoSlot}
 use Rattle.vbr_pools.proofs.Lemmas.{none_on}
 use Rattle.vbr_access.specs.Alone.{StandsNow}
+use Rattle.vbr_access.specs.Values.{InsertsEntry, RemovesEntry, ValueAt, entry_call}
+use Rattle.vbr_access.proofs.NoValues.{none_kept, not_valued}
 use Rattle.vbr_access.specs.Exchanges.{InsertsKey, IsUnmarked, LosesExchange, RemovesKey, UnlinksNode, UnlinksNone}
 use Rattle.vbr_access.specs.Held.{IsHeld, IsMarked, Names}
 use Rattle.vbr_access.specs.Keeping.{Keeps}
@@ -43,25 +44,51 @@ use Rattle.vbr_access.proofs.WonExchanges.{mark_keeps, mark_known, publish_lost_
 
 -- ---- a mark
 
-pub mark_told : {p q : Trace} {s word : ℕ} (node : Held) → IsShape p.shape → IsRun p.shape p.passes p.seen → p.shape.values ≡ false → IsHeld (knows p) node → node.at ≡ Slot s → Did (Mark s node.word) p q node.word → link_of word ≡ marked (link_of node.word)
-    → RemovesKey p q node (record { slot = s; birth = node.birth; word = word; epoch = node.epoch })
-mark_told {p} {q} {s} {word} node shape is_run bare held at d link =
+pub mark_told : {p q : Trace} {s word : ℕ} (node : Held) → IsShape p.shape → IsRun p.shape p.passes p.seen → IsHeld (knows p) node → node.at ≡ Slot s → Did (Mark s node.word) p q node.word → link_of word ≡ marked (link_of node.word)
+    → RemovesEntry p q node (record { slot = s; birth = node.birth; word = word; epoch = node.epoch })
+mark_told {p} {q} {s} {word} node shape is_run held at d link =
     let B : At → Type 0 = λ at. BirthAt (knows q) at node.birth in
     let L : Link → Type 0 = λ link. Knows (knows q) (LinkAt (Slot s) link) in
     let h = held_kept node (mark_keeps d) held in
     record {
-      made = λ key k. (let K : At → Type 0 = λ at. KeyAt (knows p) at key in mark_made shape is_run bare d key (subst K at k));
+      made = (λ key value k v.
+          let K : At → Type 0 = λ at. KeyAt (knows p) at key in
+          let V : At → Type 0 = λ at. ValueAt (knows p) at value in
+          mark_made shape is_run d key value (subst K at k) (λ has. subst V at (v has)));
       at = sym at;
       link = link;
       held = record { held = record { epoch = h.epoch; link = subst L (sym link) (mark_known d); birth = subst B at h.birth }; mark = ap (λ (l : Link). l.mark) link };
     }
 
+-- where nodes have no values, an entry is a key
+pub key_removed : {p q : Trace} {node : Held} {now : Marked} → p.shape.values ≡ false → RemovesEntry p q node now → RemovesKey p q node now
+key_removed {p} {q} bare removed = record {
+  made = (λ key k.
+      let P : Option ℕ → Type 0 = λ value. Made (record { who = p.who; op = Remove; key = key; reply = true; value = value }) p q in
+      subst P (none_kept p.shape bare (Some 0)) (removed.made key 0 k (λ has. not_valued bare has)));
+  at = removed.at;
+  link = removed.link;
+  held = removed.held;
+}
+
 -- ---- a publication, after what filled the hand
 
-pub publish_told : {key : ℕ} (p q r : PassView) → Quiet p.trace q.trace → Made (set_call q.trace.who Insert key true) q.trace r.trace → r.hand ≡ None → InsertsKey p r key
-publish_told {key} p q r fill made spent = record {
-  made = (let P : ℕ → Type 0 = λ who. Made (set_call who Insert key true) p.trace r.trace in subst P fill.same.who (made_on fill made));
+pub entry_told : {key value : ℕ} (p q r : PassView) → Quiet p.trace q.trace → Made (entry_call q.trace.shape q.trace.who Insert key true value) q.trace r.trace → r.hand ≡ None → InsertsEntry p r key value
+entry_told {key} {value} p q r fill made spent = record {
+  made = (let P : ℕ → Dimensions → Type 0 = λ who shape. Made (entry_call shape who Insert key true value) p.trace r.trace in
+      let one : P q.trace.who q.trace.shape = made_on fill made in
+      let Q : Dimensions → Type 0 = P q.trace.who in
+      let R : ℕ → Type 0 = λ who. P who p.trace.shape in
+      subst R fill.same.who (subst Q fill.same.shape one));
   spent = spent;
+}
+
+-- where nodes have no values, an entry is a key
+pub key_inserted : {key value : ℕ} {p q : PassView} → p.trace.shape.values ≡ false → InsertsEntry p q key value → InsertsKey p q key
+key_inserted {key} {value} {p} {q} bare inserted = record {
+  made = (let P : Option ℕ → Type 0 = λ v. Made (record { who = p.trace.who; op = Insert; key = key; reply = true; value = v }) p.trace q.trace in
+      subst P (none_kept p.trace.shape bare (Some value)) inserted.made);
+  spent = inserted.spent;
 }
 
 pub publish_lost : {p q r : Trace} {s found : ℕ} (pred : Held) → IsShape q.shape → Quiet p q → Keeps (knows p) (knows q) → (IsAlone p q → StandsNow p pred → StandsNow q pred) → Did (Publish pred.at pred.word s) q r found → found ≢ pred.word → LosesExchange p r pred (LostExchange found)

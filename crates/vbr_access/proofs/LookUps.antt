@@ -59,16 +59,16 @@ look_up_keeps present key at word d = keeps_at at present key word d
 
 module _ (p : PassView) (sound : PassLaw p) (key : ℕ) (held : Held) (h : IsHeld (knows p.trace) held) (unmarked : (link_of held.word).mark ≡ false) where
   accepted_at : (at : At) → held.at ≡ at → (present : Bool) → DecidesKey p.trace.shape (knows p.trace) key held present → Accepts p.trace.shape (knows p.trace) (look_up present key at held.word)
-  accepted_at (Slot s) e true a = present_accepted p sound Has held s h e (key, a.1) unmarked no_remove no_get
+  accepted_at (Slot s) e true a = present_accepted p sound Has held s h e (key, a.1) unmarked no_remove (λ get. absurd (no_get get))
   accepted_at (Head b) e true a = absurd (subst IsSlot e a.0)
-  accepted_at at e false a = subst (λ (x : At). Accepts p.trace.shape (knows p.trace) (ConfirmAbsent Has key x held.word)) e (absent_accepted p sound Has key held h a.0 a.1 unmarked no_insert no_get)
+  accepted_at at e false a = subst (λ (x : At). Accepts p.trace.shape (knows p.trace) (ConfirmAbsent Has key x held.word)) e (absent_accepted p sound Has key held h a.0 a.1 unmarked no_insert (λ get. absurd (no_get get)))
 
   pub look_up_accepted : (present : Bool) → DecidesKey p.trace.shape (knows p.trace) key held present → Accepts p.trace.shape (knows p.trace) (look_up present key held.at held.word)
   look_up_accepted present a = accepted_at held.at refl present a
 
 module _ (p : PassView) (q : Trace) (sound : PassLaw p) (key : ℕ) (held : Held) where
   made_at : (at : At) → held.at ≡ at → (present : Bool) → DecidesKey p.trace.shape (knows p.trace) key held present → Did (look_up present key at held.word) p.trace q held.word → Made (set_call p.trace.who Has key present) p.trace q
-  made_at (Slot s) e true a d = present_made sound.shape sound.is_run no_get d key (subst (λ (x : At). KeyAt (knows p.trace) x key) e a.1)
+  made_at (Slot s) e true a d = present_made sound.shape sound.is_run d key 0 (subst (λ (x : At). KeyAt (knows p.trace) x key) e a.1) (λ get. absurd (no_get get))
   made_at (Head b) e true a d = absurd (subst IsSlot e a.0)
   made_at at e false a d = absent_made d
 
@@ -92,7 +92,7 @@ module _ (p : PassView) (q : Trace) (sound : PassLaw p) (key : ℕ) (held : Held
   look_up_lost present found d ne = (ne, lost_at held.at present found d ne, look_up_keeps present key held.at held.word d)
 
   adds_at : (at : At) → held.at ≡ at → (present : Bool) → DecidesKey p.trace.shape (knows p.trace) key held present → Did (look_up present key at held.word) p.trace q held.word → AddsAnswer (set_call p.trace.who Has key present) p.trace q
-  adds_at (Slot s) e true a d = present_adds sound.shape sound.is_run no_get d key (subst (λ (x : At). KeyAt (knows p.trace) x key) e a.1)
+  adds_at (Slot s) e true a d = present_adds sound.shape sound.is_run d key 0 (subst (λ (x : At). KeyAt (knows p.trace) x key) e a.1) (λ get. absurd (no_get get))
   adds_at (Head b) e true a d = absurd (subst IsSlot e a.0)
   adds_at at e false a d = absent_adds d
 

@@ -16,12 +16,13 @@ use Rattle.vbr_machine.specs.declared.event.Step.TheVariants.{Mark, ConfirmPrese
 use Rattle.vbr_machine.specs.declared.history.Call.{Call}
 use Rattle.vbr_machine.specs.declared.history.Op.{Op}
 use Rattle.vbr_machine.specs.declared.history.Op.TheVariants.{Remove, Get}
-use Rattle.vbr_machine.specs.declared.knowledge.Read.TheVariants.{KeyOf}
+use Rattle.vbr_machine.specs.declared.knowledge.Read.TheVariants.{KeyOf, ValueOf}
 use Rattle.vbr_machine.proofs.Lemmas.{confirmed_call_is, marked_call_is, others_leave_know}
 use Rattle.vbr_slots.specs.Calls.{Quiet, Made, made_by, entries_of, AddsNone, AddsAnswer}
 use Rattle.vbr_slots.specs.Views.{Trace, Did, knows}
 use Rattle.vbr_slots.proofs.Lemmas.{did_calls, did_entries, did_run, did_same, did_seen}
-use Rattle.vbr_access.proofs.NoValues.{none_kept, none_told}
+use Rattle.vbr_access.specs.Values.{entry_call, found_call}
+use Rattle.vbr_access.proofs.NoValues.{none_told}
 use Rattle.vbr_access.proofs.Moments.{won, lost, answers_same, unanswered}
 
 -- a step that succeeds makes its call
@@ -52,27 +53,29 @@ other expected r n ne e = ne_eqb n expected (λ x. ne (sym e ∙ x))
 
 -- ---- a mark
 
-pub mark_made : {s expected : ℕ} {p q : Trace} → IsShape p.shape → IsRun p.shape p.passes p.seen → p.shape.values ≡ false → Did (Mark s expected) p q expected → (key : ℕ) → Knows (knows p) (KeyOf s key) → Made (set_call p.who Remove key true) p q
-mark_made {s} {expected} {p} {q} is run bare d key k =
-    succeeded d (set_call p.who Remove key true) (eq-eqb _ expected (won expected _ d.shows.answers))
-    (marked_call_is p.shape p.passes p.seen is run p.who s expected key 0 k (λ has. absurd (cc)) ∙ ap (λ (v : Option ℕ). Some (record { who = p.who; op = Remove; key = key; reply = true; value = v })) (none_kept p.shape bare (Some 0)))
+pub mark_made : {s expected : ℕ} {p q : Trace} → IsShape p.shape → IsRun p.shape p.passes p.seen → Did (Mark s expected) p q expected → (key value : ℕ) → Knows (knows p) (KeyOf s key) → (p.shape.values ≡ true → Knows (knows p) (ValueOf s value)) → Made (entry_call p.shape p.who Remove key true value) p q
+mark_made {s} {expected} {p} {q} is run d key value k v =
+    succeeded d (entry_call p.shape p.who Remove key true value) (eq-eqb _ expected (won expected _ d.shows.answers))
+    (marked_call_is p.shape p.passes p.seen is run p.who s expected key value k v)
 
 pub mark_failed : {s expected found : ℕ} {p q : Trace} → Did (Mark s expected) p q found → found ≢ expected → Quiet p q
 mark_failed {s} {expected} {found} d ne = failed d (other expected found _ ne (lost expected found _ ne d.shows.answers))
 
 -- ---- confirming loads
 
--- the call of a key that is present, by an operation that asks for no value
-present_call : (op : Op) (s expected : ℕ) (p : Trace) → IsShape p.shape → IsRun p.shape p.passes p.seen → op ≢ Get → (key : ℕ) → Knows (knows p) (KeyOf s key) →
-    call_of p.shape p.who (knows p) (ConfirmPresent op s expected) ≡ Some (set_call p.who op key (present_reply op))
-present_call op s expected p is run other key k =
-    confirmed_call_is p.shape p.passes p.seen is run p.who op s expected key 0 k (λ get. absurd (other get))
-    ∙ ap (λ (v : Option ℕ). Some (record { who = p.who; op = op; key = key; reply = present_reply op; value = v })) (none_told op other (Some 0))
+-- the call of an entry that is present
+present_call : (op : Op) (s expected : ℕ) (p : Trace) → IsShape p.shape → IsRun p.shape p.passes p.seen → (key value : ℕ) → Knows (knows p) (KeyOf s key) → (op ≡ Get → Knows (knows p) (ValueOf s value)) →
+    call_of p.shape p.who (knows p) (ConfirmPresent op s expected) ≡ Some (found_call p.who op key value)
+present_call op s expected p is run key value k v = confirmed_call_is p.shape p.passes p.seen is run p.who op s expected key value k v
 
-pub present_made : {op : Op} {s expected : ℕ} {p q : Trace} → IsShape p.shape → IsRun p.shape p.passes p.seen → op ≢ Get → Did (ConfirmPresent op s expected) p q expected → (key : ℕ) → Knows (knows p) (KeyOf s key) → Made (set_call p.who op key (present_reply op)) p q
-present_made {op} {s} {expected} {p} {q} is run other d key k =
-    succeeded d (set_call p.who op key (present_reply op)) (eq-eqb _ expected (answers_same (present_reply op) expected _ d.shows.answers))
-    (present_call op s expected p is run other key k)
+-- an operation that asks for no value makes the call of a set
+pub of_set : (who : ℕ) (op : Op) (key : ℕ) → op ≢ Get → found_call who op key 0 ≡ set_call who op key (present_reply op)
+of_set who op key other = ap (λ (v : Option ℕ). record { who = who; op = op; key = key; reply = present_reply op; value = v }) (none_told op other (Some 0))
+
+pub present_made : {op : Op} {s expected : ℕ} {p q : Trace} → IsShape p.shape → IsRun p.shape p.passes p.seen → Did (ConfirmPresent op s expected) p q expected → (key value : ℕ) → Knows (knows p) (KeyOf s key) → (op ≡ Get → Knows (knows p) (ValueOf s value)) → Made (found_call p.who op key value) p q
+present_made {op} {s} {expected} {p} {q} is run d key value k v =
+    succeeded d (found_call p.who op key value) (eq-eqb _ expected (answers_same (present_reply op) expected _ d.shows.answers))
+    (present_call op s expected p is run key value k v)
 
 pub present_failed : {op : Op} {s expected found : ℕ} {p q : Trace} → Did (ConfirmPresent op s expected) p q found → found ≢ expected → Quiet p q
 present_failed {op} {s} {expected} {found} d ne = failed d (other expected found _ ne (unanswered (present_reply op) expected found _ ne d.shows.answers))
@@ -85,11 +88,11 @@ absent_failed {op} {key} {at} {expected} {found} d ne = failed d (other expected
 
 -- ---- what confirming loads add to the chronicle
 
-pub present_adds : {op : Op} {s expected : ℕ} {p q : Trace} → IsShape p.shape → IsRun p.shape p.passes p.seen → op ≢ Get → Did (ConfirmPresent op s expected) p q expected → (key : ℕ) → Knows (knows p) (KeyOf s key) → AddsAnswer (set_call p.who op key (present_reply op)) p q
-present_adds {op} {s} {expected} {p} {q} is run other d key k =
+pub present_adds : {op : Op} {s expected : ℕ} {p q : Trace} → IsShape p.shape → IsRun p.shape p.passes p.seen → Did (ConfirmPresent op s expected) p q expected → (key value : ℕ) → Knows (knows p) (KeyOf s key) → (op ≡ Get → Knows (knows p) (ValueOf s value)) → AddsAnswer (found_call p.who op key value) p q
+present_adds {op} {s} {expected} {p} {q} is run d key value k v =
     let w = world_after p.shape (p.seen ++ d.rest) in
     let step : Step = ConfirmPresent op s expected in
-    let made = ap (λ (k : Know). call_of p.shape p.who k step) (others_leave_know p.shape p.seen d.rest p.who d.none) ∙ present_call op s expected p is run other key k in
+    let made = ap (λ (k : Know). call_of p.shape p.who k step) (others_leave_know p.shape p.seen d.rest p.who d.none) ∙ present_call op s expected p is run key value k v in
     let t = eq-eqb _ expected (answers_same (present_reply op) expected _ d.shows.answers) in
     record { entries = did_entries d ∙ ap (λ (b : Bool). entries_of p ++ cond b (entries.entry_of_call p.who (call_of p.shape p.who (w.know p.who) step)) []) t ∙ ap (λ (call : Option Call). entries_of p ++ entries.entry_of_call p.who call) made }
 

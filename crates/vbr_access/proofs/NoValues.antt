@@ -1,11 +1,12 @@
 -- Steps of a table whose nodes have no values, and operations that ask for none.
-use Rattle.std.proofs.Common.{◌≡◌, ◌≢◌, ℕ, Bool, false, Option, None, cond, refl, sym, ap, subst}
+use Rattle.std.proofs.Common.{◌≡◌, ◌≢◌, ℕ, Bool, true, false, Option, None, cond, refl, sym, ap, subst, Some}
 use Rattle.vbr_words.specs.Dimensions.{Dimensions}
 use Rattle.vbr_machine.specs.Acceptance.{HasValue, IsOpIn}
 use Rattle.vbr_machine.specs.Knowledge.{Know}
 use Rattle.vbr_machine.specs.Learning.{present_value}
-use Rattle.vbr_machine.specs.Membership.{KnowsValue, KnowsValueFor}
+use Rattle.vbr_machine.specs.Membership.{Knows, KnowsValue, KnowsValueFor}
 use Rattle.vbr_machine.specs.Opened.{kept}
+use Rattle.vbr_machine.specs.declared.knowledge.Read.TheVariants.{ValueOf}
 use Rattle.vbr_machine.specs.declared.history.Op.{Op}
 use Rattle.vbr_machine.specs.declared.history.Op.TheVariants.{Insert, Remove, Has, Get}
 
@@ -39,3 +40,34 @@ none_told Insert other value = refl
 none_told Remove other value = refl
 none_told Has other value = refl
 none_told Get other value = absurd (other refl)
+
+-- ---- where nodes may have values
+
+-- what is asked where nodes have values holds where they have none
+pub not_valued : {values : Bool} {A : Type 0} → values ≡ false → values ≡ true → A
+not_valued bare has = absurd (cc)
+
+pub value_known : (values : Bool) (know : Know) (s : ℕ) → (values ≡ true → (value : ℕ) × Knows know (ValueOf s value)) → KnowsValue values know s
+value_known true know s valued = valued refl
+value_known false know s valued = tt
+
+pub value_known_for : (op : Op) (know : Know) (s : ℕ) → (op ≡ Get → (value : ℕ) × Knows know (ValueOf s value)) → KnowsValueFor op know s
+value_known_for Insert know s asked = tt
+value_known_for Remove know s asked = tt
+value_known_for Has know s asked = tt
+value_known_for Get know s asked = asked refl
+
+pub op_asked : (shape : Dimensions) (op : Op) → (op ≡ Get → shape.values ≡ true) → IsOpIn shape op
+op_asked shape Insert asked = tt
+op_asked shape Remove asked = tt
+op_asked shape Has asked = tt
+op_asked shape Get asked = asked refl
+
+-- a value that is known in hand, where nodes have values
+pub value_asked : (values : Bool) (known : Option ℕ) (value : ℕ) → (values ≡ true → known ≡ Some value) → HasValue values known
+value_asked true known value valued = let P : Option ℕ → Type 0 = HasValue true in subst P (sym (valued refl)) refl
+value_asked false known value valued = tt
+
+pub kept_same : (values : Bool) (known : Option ℕ) (value : ℕ) → (values ≡ true → known ≡ Some value) → cond values known None ≡ cond values (Some value) None
+kept_same true known value valued = valued refl
+kept_same false known value valued = refl

@@ -12,7 +12,7 @@ use Rattle.vbr_machine.specs.Learning.{call_of, read_epoch, reread}
 use Rattle.vbr_machine.specs.Loads.{IsLoad}
 use Rattle.vbr_machine.specs.Machine.{World}
 use Rattle.vbr_machine.specs.declared.event.Step.{Step}
-use Rattle.vbr_machine.specs.declared.event.Step.TheVariants.{ReadEpoch, LoadLink, LoadBirth, LoadKey}
+use Rattle.vbr_machine.specs.declared.event.Step.TheVariants.{ReadEpoch, LoadLink, LoadBirth, LoadKey, LoadValue}
 use Rattle.vbr_machine.specs.declared.knowledge.Holding.{Holding}
 use Rattle.vbr_machine.specs.declared.knowledge.Holding.TheVariants.{Free, InHand, Unlinked}
 use Rattle.vbr_slots.specs.PassLaw.{PassLaw}
@@ -27,13 +27,14 @@ use Rattle.vbr_access.specs.Held.{IsHeld, Names}
 use Rattle.vbr_access.specs.Keeping.{Keeps}
 use Rattle.vbr_access.specs.Reading.{IsHeadRead, IsKeyRead, IsNextRead, ReadsIn, RollsBack}
 use Rattle.vbr_access.specs.Rollbacks.{IsMoved}
+use Rattle.vbr_access.specs.Values.{IsValueRead}
 use Rattle.vbr_access.specs.declared.held.Held.{Held}
 use Rattle.vbr_access.specs.declared.rollback.Rollback.TheVariants.{EpochMoved}
 use Rattle.vbr_access.proofs.Accepted.{named_slot}
-use Rattle.vbr_access.proofs.AloneReads.{head_stands, head_still, key_still, node_stands, node_still}
-use Rattle.vbr_access.proofs.CheckedReads.{head_is_unmarked, head_keeps, head_read, key_keeps, key_of_bucket, key_read, node_keeps, node_read}
+use Rattle.vbr_access.proofs.AloneReads.{head_stands, head_still, key_still, node_stands, node_still, value_still}
+use Rattle.vbr_access.proofs.CheckedReads.{head_is_unmarked, head_keeps, head_read, key_keeps, key_of_bucket, key_read, node_keeps, node_read, value_keeps, value_read}
 use Rattle.vbr_access.proofs.Keeping.{keeps_on}
-use Rattle.vbr_access.proofs.ReadSteps.{birth_loaded_keeps, key_loaded_keeps, link_loaded_keeps, moved}
+use Rattle.vbr_access.proofs.ReadSteps.{birth_loaded_keeps, key_loaded_keeps, link_loaded_keeps, moved, value_loaded_keeps}
 
 -- ---- what a read needs of its pass, which a read keeps
 
@@ -125,6 +126,9 @@ module _ {p q : PassView} {r : ℕ} where
   pub birth_in_one : {s : ℕ} → IsFit p → Did (LoadBirth s) p.trace q.trace r → KeepsPool p q → ReadsIn p q 1
   birth_in_one f d pool = one f d pool (λ know. refl) (λ know. refl) (λ w a. refl) refl (λ s is. ap (λ (k : Know). k.own s) d.know)
 
+  pub value_in_one : {s : ℕ} → IsFit p → Did (LoadValue s) p.trace q.trace r → KeepsPool p q → ReadsIn p q 1
+  value_in_one f d pool = one f d pool (λ know. refl) (λ know. refl) (λ w a. refl) refl (λ s is. ap (λ (k : Know). k.own s) d.know)
+
   pub key_in_one : {s : ℕ} → IsFit p → Did (LoadKey s) p.trace q.trace r → KeepsPool p q → ReadsIn p q 1
   key_in_one f d pool = one f d pool (λ know. refl) (λ know. refl) (λ w a. refl) refl (λ s is. ap (λ (k : Know). k.own s) d.know)
 
@@ -136,6 +140,9 @@ module _ {p q : PassView} {word epoch : ℕ} (law : PassLaw p) where
 
   pub key_in_two : {s : ℕ} → Reads (LoadKey s) p q word epoch → ReadsIn p q 2
   key_in_two x = let first = key_in_one (fit p law) x.loaded x.pool_loaded in reads_on first (epoch_in_one (fit_on (fit p law) first) x.read x.pool_read)
+
+  pub value_in_two : {s : ℕ} → Reads (LoadValue s) p q word epoch → ReadsIn p q 2
+  value_in_two x = let first = value_in_one (fit p law) x.loaded x.pool_loaded in reads_on first (epoch_in_one (fit_on (fit p law) first) x.read x.pool_read)
 
   pub node_in_three : {s birth : ℕ} → ReadsNode s p q birth word epoch → ReadsIn p q 3
   node_in_three x =
@@ -167,6 +174,11 @@ key_told {p} {q} {s} {key} at law is x same =
     let P : At → Type 0 = λ at. IsKeyRead p q at key in
     subst P (sym is) (record { keeps = key_keeps x.loaded x.read same; key = key_read x.loaded x.read same; bucket = λ b h. key_of_bucket x.loaded x.read same law.shape b h })
 
+pub value_told : {p q : PassView} {s value epoch : ℕ} (at : At) → at ≡ Slot s → Reads (LoadValue s) p q value epoch → epoch ≡ (knows p.trace).epoch → IsValueRead p q at value
+value_told {p} {q} {s} {value} at is x same =
+    let P : At → Type 0 = λ at. IsValueRead p q at value in
+    subst P (sym is) (record { keeps = value_keeps x.loaded x.read same; value = value_read x.loaded x.read same })
+
 -- ---- the epoch has moved
 
 pub apart : {a b e : ℕ} → a ≢ b → b ≡ e → a ≢ e
@@ -188,6 +200,12 @@ module _ {p q : PassView} {word epoch : ℕ} (law : PassLaw p) where
   key_rolls x other = record {
     moved = has_moved p.trace (key_loaded_keeps x.loaded) x.read other;
     still = λ fresh alone. other (key_still x.loaded x.read alone law.shape fresh);
+  }
+
+  pub value_rolls : {s : ℕ} → Reads (LoadValue s) p q word epoch → epoch ≢ (knows p.trace).epoch → RollsBack p q (EpochMoved epoch)
+  value_rolls x other = record {
+    moved = has_moved p.trace (value_loaded_keeps x.loaded) x.read other;
+    still = λ fresh alone. other (value_still x.loaded x.read alone law.shape fresh);
   }
 
   pub node_rolls : {s birth : ℕ} → ReadsNode s p q birth word epoch → epoch ≢ (knows p.trace).epoch → RollsBack p q (EpochMoved epoch)

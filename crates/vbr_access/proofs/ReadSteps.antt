@@ -9,9 +9,9 @@ use Rattle.vbr_words.specs.declared.place.At.{At}
 use Rattle.vbr_machine.specs.Knowledge.{Know}
 use Rattle.vbr_machine.specs.Learning.{read_epoch, reread, with_pending}
 use Rattle.vbr_machine.specs.Membership.{Knows}
-use Rattle.vbr_machine.specs.declared.event.Step.TheVariants.{ReadEpoch, LoadLink, LoadBirth, LoadKey}
+use Rattle.vbr_machine.specs.declared.event.Step.TheVariants.{ReadEpoch, LoadLink, LoadBirth, LoadKey, LoadValue}
 use Rattle.vbr_machine.specs.declared.knowledge.Read.{Read}
-use Rattle.vbr_machine.specs.declared.knowledge.Read.TheVariants.{LinkAt, BirthOf, KeyOf}
+use Rattle.vbr_machine.specs.declared.knowledge.Read.TheVariants.{LinkAt, BirthOf, KeyOf, ValueOf}
 use Rattle.vbr_slots.specs.Views.{Trace, Did, knows}
 use Rattle.vbr_access.specs.Keeping.{Keeps}
 
@@ -52,6 +52,13 @@ module _ {p q : Trace} {s key : ℕ} (d : Did (LoadKey s) p q key) where
 
   pub key_loaded : Contains (knows q).pending (KeyOf s key)
   key_loaded = pending_new _ _ _ d.know
+
+module _ {p q : Trace} {s value : ℕ} (d : Did (LoadValue s) p q value) where
+  pub value_loaded_keeps : Keeps (knows p) (knows q)
+  value_loaded_keeps = pending_keeps _ _ _ d.know
+
+  pub value_loaded : Contains (knows q).pending (ValueOf s value)
+  value_loaded = pending_new _ _ _ d.know
 
 -- ---- the epoch is read
 

@@ -10,3 +10,4 @@ pub mod LookUps
 pub mod Reading
 pub mod Answering
 pub mod Exchanges
+pub mod Values

@@ -1,5 +1,5 @@
 //! Answers by one more load of a link word.
-ghost use Rattle.std.specs.Prelude.{OnOk, IfErr};
+ghost use Rattle.std.specs.Prelude.{◌≡◌, ◌≢◌, OnOk, IfErr};
 ghost use Rattle.vbr_machine.specs.declared.history.Op.TheVariants.{Insert, Remove};
 ghost use Rattle.vbr_slots.specs.Views.{IsOf, knows};
 ghost use Rattle.vbr_access.specs.Answering.{AnswersAbsent, AnswersLookUp, AnswersPresent};
@@ -7,13 +7,14 @@ ghost use Rattle.vbr_access.specs.Answering.{FindsAnother, IsAbsent, IsOther, Is
 ghost use Rattle.vbr_access.specs.Answering.{KeepsByLoad};
 ghost use Rattle.vbr_access.specs.Exchanges.{IsUnmarked};
 ghost use Rattle.vbr_access.specs.LookUps.{TellsKey};
+ghost use Rattle.vbr_access.specs.Values.{AnswersEntry, IsAsked, IsOtherIn};
 
 use crate::held::Held;
 use crate::rollback::Rollback;
 use crate::uncounted;
 use vbr_machine::Op;
-use vbr_slots::{Pass, Slots};
-use vbr_words::At;
+use vbr_slots::{AtTable, Pass, Slots};
+use vbr_words::{At, Nodes};
 
 /// Answers, in one step, that the key of a node is present: a look-up with yes, an insert with no.
 /// It does so only where the node's link is still the unmarked one that is held. Else it answers
@@ -27,7 +28,50 @@ pub fn confirm_present(slots: &Slots, pass: &mut Pass, op: Op, held: &Held) -> R
     ensures answers { OnOk result (AnswersPresent pass.old.trace pass.new.trace op held.now) }
     ensures lost { IfErr result (FindsAnother pass.old.trace pass.new.trace held.now) }
 {
-    pass.at(slots, |at| (uncounted::confirm_present(at, op, held), 1))
+    pass.during(
+        |pass|
+            requires own { IsOf pass.old.trace slots.now }
+            requires node { IsPresent (knows pass.old.trace) held.now }
+            requires op { IsOther Remove op }
+        {
+            (
+                uncounted::confirm_present(&mut AtTable { slots, pass }, op, held),
+                1,
+            )
+        },
+    )
+}
+
+/// As [`confirm_present`], at a table of either kind, and for a get too: where nodes have values and
+/// the one of this node was checked, a get gives it.
+#[inline]
+pub fn confirm_present_entry<N: Nodes>(
+    slots: &Slots<N>,
+    pass: &mut Pass,
+    op: Op,
+    held: &Held,
+) -> Result<(), Rollback>
+    requires own { IsOf pass.old.trace slots.now }
+    requires node { IsPresent (knows pass.old.trace) held.now }
+    requires op { op ≢ Remove }
+    requires asked { IsAsked pass.old.trace op held.now.at }
+    ensures keeps { KeepsByLoad pass.old pass.new }
+    ensures answers { OnOk result (AnswersEntry pass.old.trace pass.new.trace op held.now) }
+    ensures lost { IfErr result (FindsAnother pass.old.trace pass.new.trace held.now) }
+{
+    pass.during(
+        |pass|
+            requires own { IsOf pass.old.trace slots.now }
+            requires node { IsPresent (knows pass.old.trace) held.now }
+            requires op { op ≢ Remove }
+            requires asked { IsAsked pass.old.trace op held.now.at }
+        {
+            (
+                uncounted::confirm_present_entry(&mut AtTable { slots, pass }, op, held),
+                1,
+            )
+        },
+    )
 }
 
 /// Answers, in one step, that a key is absent: a look-up or a remove with no. It would stand behind
@@ -49,9 +93,47 @@ pub fn confirm_absent(
     ensures answers { OnOk result (AnswersAbsent pass.old.trace pass.new.trace op key) }
     ensures lost { IfErr result (FindsAnother pass.old.trace pass.new.trace pred.now) }
 {
-    pass.at(
-        slots,
-        |at| (uncounted::confirm_absent(at, op, key, pred), 1),
+    pass.during(
+        |pass|
+            requires own { IsOf pass.old.trace slots.now }
+            requires gap { IsAbsent pass.old.trace.shape (knows pass.old.trace) key pred.now }
+            requires op { IsOther Insert op }
+        {
+            (
+                uncounted::confirm_absent(&mut AtTable { slots, pass }, op, key, pred),
+                1,
+            )
+        },
+    )
+}
+
+/// As [`confirm_absent`], at a table of either kind: where nodes have values, a get is answered too.
+#[inline]
+pub fn confirm_absent_entry<N: Nodes>(
+    slots: &Slots<N>,
+    pass: &mut Pass,
+    op: Op,
+    key: u64,
+    pred: &Held,
+) -> Result<(), Rollback>
+    requires own { IsOf pass.old.trace slots.now }
+    requires gap { IsAbsent pass.old.trace.shape (knows pass.old.trace) key pred.now }
+    requires op { IsOtherIn pass.old.trace.shape Insert op }
+    ensures keeps { KeepsByLoad pass.old pass.new }
+    ensures answers { OnOk result (AnswersAbsent pass.old.trace pass.new.trace op key) }
+    ensures lost { IfErr result (FindsAnother pass.old.trace pass.new.trace pred.now) }
+{
+    pass.during(
+        |pass|
+            requires own { IsOf pass.old.trace slots.now }
+            requires gap { IsAbsent pass.old.trace.shape (knows pass.old.trace) key pred.now }
+            requires op { IsOtherIn pass.old.trace.shape Insert op }
+        {
+            (
+                uncounted::confirm_absent_entry(&mut AtTable { slots, pass }, op, key, pred),
+                1,
+            )
+        },
     )
 }
 
@@ -61,8 +143,8 @@ pub fn confirm_absent(
 /// LostExchange, and no call was made. Which of the two it is can't be foreseen, so it takes no
 /// branch.
 #[inline]
-pub fn confirm_look_up(
-    slots: &Slots,
+pub fn confirm_look_up<N: Nodes>(
+    slots: &Slots<N>,
     pass: &mut Pass,
     key: u64,
     held: &Held,
@@ -75,8 +157,16 @@ pub fn confirm_look_up(
     ensures answers { OnOk result (AnswersLookUp pass.old.trace pass.new.trace key present) }
     ensures lost { IfErr result (FindsAnother pass.old.trace pass.new.trace held.now) }
 {
-    pass.at(
-        slots,
-        |at| (uncounted::confirm_look_up(at, key, held, present), 1),
+    pass.during(
+        |pass|
+            requires own { IsOf pass.old.trace slots.now }
+            requires held { IsUnmarked (knows pass.old.trace) held.now }
+            requires decides { TellsKey pass.old.trace key held.now present }
+        {
+            (
+                uncounted::confirm_look_up(&mut AtTable { slots, pass }, key, held, present),
+                1,
+            )
+        },
     )
 }

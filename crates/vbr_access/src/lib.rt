@@ -17,10 +17,12 @@ pub mod uncounted;
 pub mod unlinking;
 pub mod updating;
 
-pub use confirming::{confirm_absent, confirm_look_up, confirm_present};
+pub use confirming::{
+    confirm_absent, confirm_absent_entry, confirm_look_up, confirm_present, confirm_present_entry,
+};
 pub use held::{Checkpoint, Held, Marked};
-pub use marking::mark;
-pub use reading::{checkpoint, first, key_of, next};
+pub use marking::{mark, mark_entry};
+pub use reading::{checkpoint, first, key_of, next, value_of};
 pub use rollback::Rollback;
 pub use unlinking::unlink;
 pub use updating::update;

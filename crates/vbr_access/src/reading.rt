@@ -1,24 +1,29 @@
 //! Checkpoints and checked reads.
-ghost use Rattle.std.specs.Prelude.{◌≡◌, ◌<◌, IfOk, IfErr};
+ghost use Rattle.std.specs.Prelude.{◌≡◌, ◌<◌, true, IfOk, IfErr};
 ghost use Rattle.vbr_slots.specs.Views.{IsOf, knows};
 ghost use Rattle.vbr_access.specs.Held.{IsSlot, IsHeld};
 ghost use Rattle.vbr_access.specs.Reading.{IsCheckpoint, IsHeadRead, IsKeyRead, IsNextRead};
 ghost use Rattle.vbr_access.specs.Reading.{ReadsIn, RollsBack, steps_to_next};
+ghost use Rattle.vbr_access.specs.Values.{IsValueRead};
 
 use crate::held::{Checkpoint, Held};
 use crate::rollback::Rollback;
 use crate::uncounted;
-use vbr_slots::{Pass, Slots};
-use vbr_words::{At, decode};
+use vbr_slots::{AtTable, Pass, Slots};
+use vbr_words::{At, Nodes, decode};
 
 /// Reads the epoch, in one step: a checkpoint to roll back to. It can't fail.
 #[inline]
-pub fn checkpoint(slots: &Slots, pass: &mut Pass) -> Checkpoint
+pub fn checkpoint<N: Nodes>(slots: &Slots<N>, pass: &mut Pass) -> Checkpoint
     requires { IsOf pass.old.trace slots.now }
     ensures reads { ReadsIn pass.old pass.new 1 }
     ensures point { IsCheckpoint pass.old pass.new result.epoch }
 {
-    pass.at(slots, |at| (uncounted::checkpoint(at), 1))
+    pass.during(
+        |pass|
+            requires own { IsOf pass.old.trace slots.now }
+        { (uncounted::checkpoint(&mut AtTable { slots, pass }), 1) },
+    )
 }
 
 /// Reads the head of a bucket, in two steps.
@@ -26,8 +31,8 @@ pub fn checkpoint(slots: &Slots, pass: &mut Pass) -> Checkpoint
 /// EpochMoved is its one error: the epoch is another one than the checkpoint's, and nothing is held
 /// any more but the heads.
 #[inline]
-pub fn first(
-    slots: &Slots,
+pub fn first<N: Nodes>(
+    slots: &Slots<N>,
     pass: &mut Pass,
     point: &Checkpoint,
     bucket: u32,
@@ -39,14 +44,29 @@ pub fn first(
     ensures head { IfOk result (IsHeadRead pass.old pass.new bucket) }
     ensures moved { IfErr result (RollsBack pass.old pass.new) }
 {
-    pass.at(slots, |at| (uncounted::first(at, point, bucket), 2))
+    pass.during(
+        |pass|
+            requires own { IsOf pass.old.trace slots.now }
+            requires point { point.now.epoch ≡ (knows pass.old.trace).epoch }
+            requires bucket { bucket < slots.now.shape.buckets }
+        {
+            (
+                uncounted::first(&mut AtTable { slots, pass }, point, bucket),
+                2,
+            )
+        },
+    )
 }
 
 /// Reads the node that a link names, in three steps; a link to none needs no step, and gives none.
 ///
 /// EpochMoved is its one error, as of [`first`].
 #[inline]
-pub fn next(slots: &Slots, pass: &mut Pass, held: &Held) -> Result<Option<Held>, Rollback>
+pub fn next<N: Nodes>(
+    slots: &Slots<N>,
+    pass: &mut Pass,
+    held: &Held,
+) -> Result<Option<Held>, Rollback>
     requires own { IsOf pass.old.trace slots.now }
     requires held { IsHeld (knows pass.old.trace) held.now }
     ensures reads { ReadsIn pass.old pass.new (steps_to_next held.now) }
@@ -54,14 +74,19 @@ pub fn next(slots: &Slots, pass: &mut Pass, held: &Held) -> Result<Option<Held>,
     ensures moved { IfErr result (RollsBack pass.old pass.new) }
 {
     let used = steps_to_read_next(held);
-    pass.at(slots, |at| (uncounted::next(at, held), used))
+    pass.during(
+        |pass|
+            requires own { IsOf pass.old.trace slots.now }
+            requires held { IsHeld (knows pass.old.trace) held.now }
+        { (uncounted::next(&mut AtTable { slots, pass }, held), used) },
+    )
 }
 
 /// Reads the key of a node, in two steps.
 ///
 /// EpochMoved is its one error, as of [`first`].
 #[inline]
-pub fn key_of(slots: &Slots, pass: &mut Pass, node: &Held) -> Result<u64, Rollback>
+pub fn key_of<N: Nodes>(slots: &Slots<N>, pass: &mut Pass, node: &Held) -> Result<u64, Rollback>
     requires own { IsOf pass.old.trace slots.now }
     requires held { IsHeld (knows pass.old.trace) node.now }
     requires slot { IsSlot node.now.at }
@@ -69,7 +94,36 @@ pub fn key_of(slots: &Slots, pass: &mut Pass, node: &Held) -> Result<u64, Rollba
     ensures key { IfOk result (IsKeyRead pass.old pass.new node.now.at) }
     ensures moved { IfErr result (RollsBack pass.old pass.new) }
 {
-    pass.at(slots, |at| (uncounted::key_of(at, node), 2))
+    pass.during(
+        |pass|
+            requires own { IsOf pass.old.trace slots.now }
+            requires held { IsHeld (knows pass.old.trace) node.now }
+            requires slot { IsSlot node.now.at }
+        { (uncounted::key_of(&mut AtTable { slots, pass }, node), 2) },
+    )
+}
+
+/// Reads the value of a node, in two steps, at a table whose nodes have values.
+///
+/// EpochMoved is its one error, as of [`first`].
+#[inline]
+pub fn value_of<N: Nodes>(slots: &Slots<N>, pass: &mut Pass, node: &Held) -> Result<u64, Rollback>
+    requires own { IsOf pass.old.trace slots.now }
+    requires values { slots.now.shape.values ≡ true }
+    requires held { IsHeld (knows pass.old.trace) node.now }
+    requires slot { IsSlot node.now.at }
+    ensures reads { ReadsIn pass.old pass.new 2 }
+    ensures value { IfOk result (IsValueRead pass.old pass.new node.now.at) }
+    ensures moved { IfErr result (RollsBack pass.old pass.new) }
+{
+    pass.during(
+        |pass|
+            requires own { IsOf pass.old.trace slots.now }
+            requires values { slots.now.shape.values ≡ true }
+            requires held { IsHeld (knows pass.old.trace) node.now }
+            requires slot { IsSlot node.now.at }
+        { (uncounted::value_of(&mut AtTable { slots, pass }, node), 2) },
+    )
 }
 
 // How many steps it takes to read what the link that is held names.

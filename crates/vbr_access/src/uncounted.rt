@@ -6,8 +6,10 @@ pub mod reading;
 pub mod unlinking;
 pub mod updating;
 
-pub use confirming::{confirm_absent, confirm_look_up, confirm_present};
-pub use marking::mark;
-pub use reading::{checkpoint, first, key_of, next};
+pub use confirming::{
+    confirm_absent, confirm_absent_entry, confirm_look_up, confirm_present, confirm_present_entry,
+};
+pub use marking::{mark, mark_entry};
+pub use reading::{checkpoint, first, key_of, next, value_of};
 pub use unlinking::{steps_to_unlink, unlink};
-pub use updating::update;
+pub use updating::{update, update_entry};

@@ -10,8 +10,8 @@ use crate::links::link_to;
 use crate::rollback::Rollback;
 use crate::uncounted;
 use vbr_pools::Unlinked;
-use vbr_slots::{Pass, Slots};
-use vbr_words::decode;
+use vbr_slots::{AtTable, Pass, Slots};
+use vbr_words::{Nodes, decode};
 
 /// Unlinks a marked node behind `pred`, whose link names it: the slot is the pass's, to be retired,
 /// and `pred` comes back with its new link, which names what the marked link named. It does so only
@@ -22,8 +22,8 @@ use vbr_words::decode;
 /// LostExchange says that another link stood there, and EpochMoved, that the epoch is another one
 /// than the one under which they are held: then nothing is held any more but the heads.
 #[inline]
-pub fn unlink(
-    slots: &Slots,
+pub fn unlink<N: Nodes>(
+    slots: &Slots<N>,
     pass: &mut Pass,
     pred: &Held,
     marked: Marked,
@@ -36,9 +36,16 @@ pub fn unlink(
     ensures unlinked { IfOk result (UnlinksNode pass.old pass.new pred.now marked) }
     ensures failed { IfErr result (UnlinksNone pass.old pass.new pred.now) }
 {
-    pass.at(slots, |at| {
-        let outcome = uncounted::unlink(at, pred, marked);
-        let used = uncounted::steps_to_unlink(marked.word, &outcome);
-        (outcome, used)
-    })
+    pass.during(
+        |pass|
+            requires own { IsOf pass.old.trace slots.now }
+            requires pred { IsUnmarked (knows pass.old.trace) pred.now }
+            requires marked { IsMarked (knows pass.old.trace) marked }
+            requires names { Names pred.now marked.slot }
+        {
+            let outcome = uncounted::unlink(&mut AtTable { slots, pass }, pred, marked);
+            let used = uncounted::steps_to_unlink(marked.word, &outcome);
+            (outcome, used)
+        },
+    )
 }

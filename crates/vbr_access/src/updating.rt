@@ -10,7 +10,7 @@ use crate::links::link_to;
 use crate::rollback::Rollback;
 use crate::uncounted;
 use vbr_pools::Hand;
-use vbr_slots::{Pass, Slots};
+use vbr_slots::{AtTable, Pass, Slots};
 use vbr_words::decode;
 
 /// Links the slot in hand with this key between `pred` and `succ`, in three steps: the pass has
@@ -34,7 +34,18 @@ pub fn update(
     ensures inserted { IfOk result (λ _. InsertsKey pass.old pass.new key) }
     ensures lost { IfErr result (GivesBack pass.old pass.new pred.now hand) }
 {
-    pass.at_with(slots, (hand, succ), |at, (hand, succ)| {
-        (uncounted::update(at, pred, succ, key, hand), 3)
-    })
+    pass.during_with(
+        (hand, succ),
+        |pass, (hand, succ)|
+            requires own { IsOf pass.old.trace slots.now }
+            requires gap { IsGap pass.old.trace key pred.now }
+            requires succ { IsSucc (knows pass.old.trace) pred.now succ }
+            requires hand { IsHandOf pass.old hand }
+        {
+            (
+                uncounted::update(&mut AtTable { slots, pass }, pred, succ, key, hand),
+                3,
+            )
+        },
+    )
 }

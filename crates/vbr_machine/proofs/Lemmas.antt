@@ -41,7 +41,7 @@ pub use Rattle.vbr_machine.proofs.ListedRuns.{stamp_leaves, stamp_links, unlink_
 -- A node comes into a list by a publication alone: a step by which its pass makes no call adds none.
 pub use Rattle.vbr_machine.proofs.ListedGrowth.{calls_or_adds_none}
 -- The link of a place that a pass holds unmarked, while the pass fills a slot in its hand.
-pub use Rattle.vbr_machine.proofs.ListedLinks.{key_leaves_links, link_leaves_links}
+pub use Rattle.vbr_machine.proofs.ListedLinks.{key_leaves_links, link_leaves_links, value_leaves_links}
 -- What the lists stand for while the keys that a world opens with are linked, from the last on: the bare world before the first, and all of them after the last. A world that opens with none is the bare one.
 pub use Rattle.vbr_machine.proofs.OpenedWorlds.{bare, key_linked, opening_all, opening_none, opening_step}
 -- The first key of a bucket, from a number on.

@@ -13,7 +13,7 @@ use Rattle.vbr_machine.specs.Learning.{link_written}
 use Rattle.vbr_machine.specs.Membership.{Knows}
 use Rattle.vbr_machine.specs.Runs.{IsRun, know_after, world_after}
 use Rattle.vbr_machine.specs.declared.event.Event.{Event}
-use Rattle.vbr_machine.specs.declared.event.Step.TheVariants.{StoreKey, StoreLink}
+use Rattle.vbr_machine.specs.declared.event.Step.TheVariants.{StoreKey, StoreLink, StoreValue}
 use Rattle.vbr_machine.specs.declared.knowledge.Read.TheVariants.{LinkAt}
 use Rattle.vbr_machine.proofs.EveryRun.{incarnations_after-snoc, run_agrees}
 use Rattle.vbr_machine.proofs.HeldReads.{same_pair}
@@ -30,6 +30,10 @@ module _ (shape : Dimensions) (passes : ℕ) (run : List Event) (is : IsShape sh
   -- a law: a key that is stored leaves each link
   pub key_leaves_links : (s key : ℕ) (at : At) → link_shown_at (incarnations_after shape (run ++ (record { pass = p; step = StoreKey s key }) ∷ [])) at ≡ link_shown_at (incarnations_after shape run) at
   key_leaves_links s key at = ap (λ a. link_shown_at a at) (incarnations_after-snoc shape run (record { pass = p; step = StoreKey s key }))
+
+  -- a law: a value that is stored leaves each link
+  pub value_leaves_links : (s value : ℕ) (at : At) → link_shown_at (incarnations_after shape (run ++ (record { pass = p; step = StoreValue s value }) ∷ [])) at ≡ link_shown_at (incarnations_after shape run) at
+  value_leaves_links s value at = ap (λ a. link_shown_at a at) (incarnations_after-snoc shape run (record { pass = p; step = StoreValue s value }))
 
   -- a law: a link that is stored in a slot in hand leaves one that is known unmarked and stands
   pub link_leaves_links : (s : ℕ) (next : Option ℕ) (at : At) (link : Link) → Knows (know_after shape run p) (LinkAt at link) → link.mark ≡ false → link_shown_at (incarnations_after shape run) at ≡ link →

@@ -7,7 +7,8 @@ ghost use Rattle.vbr_pools.specs.Taking.{IsTaken, Takes};
 use crate::hand::Hand;
 use crate::refusal::TakeRefusal;
 use crate::uncounted;
-use vbr_slots::{Pass, Slots};
+use vbr_slots::{AtTable, Pass, Slots};
+use vbr_words::Nodes;
 
 /// Takes a slot, and gives birth to a new incarnation there, above the slot's stamp: a slot of the
 /// own pool, the oldest that may be born in; or, where that pool is empty, the first of the shared
@@ -22,12 +23,17 @@ use vbr_slots::{Pass, Slots};
 ///
 /// With slots in the own pool a budget of 80 is enough, whatever others do; with none, one of w + 13
 /// is, while the other passes stand still, where w is the number of flag words.
-pub fn take(slots: &Slots, pass: &mut Pass, budget: u32) -> Result<Hand, TakeRefusal>
+pub fn take<N: Nodes>(slots: &Slots<N>, pass: &mut Pass, budget: u32) -> Result<Hand, TakeRefusal>
     requires own { IsOf pass.old.trace slots.now }
     requires empty_hand { pass.old.hand ≡ None }
     ensures takes { Takes pass.old pass.new budget }
     ensures taken { IfOk result (IsTaken pass.old pass.new) }
     ensures refused { IfErr result (RefusesTake pass.old pass.new budget) }
 {
-    pass.at(slots, |at| uncounted::take(at, budget))
+    pass.during(
+        |pass|
+            requires own { IsOf pass.old.trace slots.now }
+            requires empty_hand { pass.old.hand ≡ None }
+        { uncounted::take(&mut AtTable { slots, pass }, budget) },
+    )
 }

@@ -16,8 +16,8 @@ use Rattle.vbr_machine.specs.Runs.{IsRun, Begins, NoneOf, world_after}
 use Rattle.vbr_machine.specs.declared.event.Event.{Event}
 use Rattle.vbr_machine.specs.declared.event.Effect.TheVariants.{Value}
 use Rattle.vbr_machine.specs.declared.event.Step.{Step}
-use Rattle.vbr_machine.specs.declared.event.Step.TheVariants.{ReadEpoch, LoadLink, StoreStamp, Raise, StoreKey, StoreLink}
-use Rattle.vbr_machine.proofs.Lemmas.{begins_trans, calls_or_adds_none, is_run_before, is_run_last, key_leaves_links, link_leaves_links, link_loaded, own_calls-snoc, raise_epoch, raise_leaves, raise_links, read_leaves, run_agrees, stamp_epoch, stamp_leaves, stamp_links}
+use Rattle.vbr_machine.specs.declared.event.Step.TheVariants.{ReadEpoch, LoadLink, StoreStamp, Raise, StoreKey, StoreLink, StoreValue}
+use Rattle.vbr_machine.proofs.Lemmas.{begins_trans, calls_or_adds_none, is_run_before, is_run_last, key_leaves_links, link_leaves_links, link_loaded, own_calls-snoc, raise_epoch, raise_leaves, raise_links, read_leaves, run_agrees, stamp_epoch, stamp_leaves, stamp_links, value_leaves_links}
 use Rattle.vbr_machine.specs.Calls.{calls_added, own_calls}
 use Rattle.vbr_machine.specs.Membership.{Knows}
 use Rattle.vbr_machine.specs.declared.history.Call.{Call}
@@ -189,6 +189,11 @@ raise_leaves_lists {p} {q} {s} is d alone =
 pub key_stored_leaves : {p q : Trace} {s key r : ℕ} (at : At) → IsShape p.shape → Did (StoreKey s key) p q r → IsAlone p q → link_shown_at (nodes q) at ≡ link_shown_at (nodes p) at
 key_stored_leaves {p} {q} {s} {key} at is d alone =
     ap (λ a. link_shown_at a at) (nodes_next d alone) ∙ key_leaves_links p.shape p.passes p.seen is (run_was d alone) p.who s key at
+
+-- and so does a value
+pub value_stored_leaves : {p q : Trace} {s value r : ℕ} (at : At) → IsShape p.shape → Did (StoreValue s value) p q r → IsAlone p q → link_shown_at (nodes q) at ≡ link_shown_at (nodes p) at
+value_stored_leaves {p} {q} {s} {value} at is d alone =
+    ap (λ a. link_shown_at a at) (nodes_next d alone) ∙ value_leaves_links p.shape p.passes p.seen is (run_was d alone) p.who s value at
 
 -- a link that is stored in a slot in hand leaves one that is known unmarked, and stands
 pub link_stored_leaves : {p q : Trace} {s r : ℕ} {next : Option ℕ} (at : At) (link : Link) → IsShape p.shape → Did (StoreLink s next) p q r → IsAlone p q → Knows (knows p) (LinkAt at link) → link.mark ≡ false → link_shown_at (nodes p) at ≡ link → link_shown_at (nodes q) at ≡ link

@@ -1,5 +1,5 @@
 -- The index of a link word.
-use Rattle.std.proofs.Common.{◌≡◌, ℕ, ◌+◌, ◌*◌, refl}
+use Rattle.std.proofs.Common.{◌≡◌, ◌+◌, refl}
 use Rattle.vbr_words.specs.Dimensions.{Dimensions}
 use Rattle.vbr_words.specs.Places.{index_of, place_of, node_words}
 use Rattle.vbr_words.specs.declared.place.At.{At}

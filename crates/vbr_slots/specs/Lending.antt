@@ -1,11 +1,9 @@
--- What a pass is told of work to which it lends its stepper: alone, at its table, or there with a value.
+-- What a pass is told of work to which it lends its stepper: alone, or with a value.
 use Rattle.std.specs.Prelude.{◌≡◌, ℕ}
-use Rattle.std.specs.Fn.{Once, FnOnceTakesAtMut, FnOnceReturnsAtMut}
+use Rattle.std.specs.Fn.{Once, FnOnceReturnsAtMut}
 use denote.Ref.{MutBor}
-use Rattle.vbr_slots.specs.declared.at_table.AtTable.{AtTable}
-use Rattle.vbr_slots.specs.AtTables.{IsAt, IsSameTable}
 use Rattle.vbr_slots.specs.Calls.{Took}
-use Rattle.vbr_slots.specs.Views.{PassView, TableView}
+use Rattle.vbr_slots.specs.Views.{PassView}
 
 -- ---- alone
 
@@ -19,28 +17,7 @@ pub record Lends {F R : Type 0} (g : Once F (MutBor PassView × Unit {0}) ((R ×
   pub took : Took p.trace q.trace used
   pub gave : FnOnceReturnsAtMut g f p (result, used) q
 
--- ---- at a table
-
--- the work may be called once with the pass at its table
-abbrev pub TakesTable : {F R : Type 0} → Once F (MutBor AtTable × Unit {0}) (R × (MutBor AtTable × Unit {0})) → F → TableView → PassView → Type 0
-TakesTable g f t p = (at : AtTable) → IsAt at t p → FnOnceTakesAtMut g f at
-
--- the work leaves the pass at its table, and tells how many steps it took
-abbrev pub TellsStepsAt : {F R : Type 0} → Once F (MutBor AtTable × Unit {0}) ((R × ℕ) × (MutBor AtTable × Unit {0})) → F → TableView → PassView → Type 0
-TellsStepsAt {F} {R} g f t p =
-    (at : AtTable) (told : R × ℕ) (left : AtTable) → IsAt at t p → FnOnceReturnsAtMut g f at told left → IsSameTable at left × Took p.trace left.pass.now.trace told.1
-
--- the result is what the work gave, which left the pass as it is, after as many steps as it told
-pub record LendsAt {F R : Type 0} (g : Once F (MutBor AtTable × Unit {0}) ((R × ℕ) × (MutBor AtTable × Unit {0}))) (f : F) (t : TableView) (p q : PassView) (result : R) : Type 0 where
-  pub at : AtTable
-  pub is : IsAt at t p
-  pub left : AtTable
-  pub leaves : left.pass.now ≡ q
-  pub used : ℕ
-  pub took : Took p.trace q.trace used
-  pub gave : FnOnceReturnsAtMut g f at (result, used) left
-
--- ---- at a table, with a value
+-- ---- with a value
 
 -- the work f may be called once at a `&mut` to x and at the value a
 abbrev pub TakesWith : {F T A R : Type 0} → Once F (MutBor T × (A × Unit {0})) R → F → T → A → Type 0
@@ -54,21 +31,13 @@ pub record ReturnsWith {F T A R : Type 0} (g : Once F (MutBor T × (A × Unit {0
   pub met : g.post f (shown, (a, tt)) (r, (left, tt))
   pub leaves : left.now ≡ x'
 
--- the work may be called once with the pass at its table and with the value
-abbrev pub TakesTableWith : {F A R : Type 0} → Once F (MutBor AtTable × (A × Unit {0})) R → F → TableView → PassView → A → Type 0
-TakesTableWith g f t p a = (at : AtTable) → IsAt at t p → TakesWith g f at a
-
--- the work leaves the pass at its table, and tells how many steps it took
-abbrev pub TellsStepsWith : {F A R : Type 0} → Once F (MutBor AtTable × (A × Unit {0})) ((R × ℕ) × (MutBor AtTable × Unit {0})) → F → TableView → PassView → A → Type 0
-TellsStepsWith {F} {A} {R} g f t p a =
-    (at : AtTable) (told : R × ℕ) (left : AtTable) → IsAt at t p → ReturnsWith g f at a told left → IsSameTable at left × Took p.trace left.pass.now.trace told.1
+-- the work tells how many steps the pass took
+abbrev pub TellsStepsWith : {F A R : Type 0} → Once F (MutBor PassView × (A × Unit {0})) ((R × ℕ) × (MutBor PassView × Unit {0})) → F → PassView → A → Type 0
+TellsStepsWith {F} {A} {R} g f p a =
+    (told : R × ℕ) (q : PassView) → ReturnsWith g f p a told q → Took p.trace q.trace told.1
 
 -- the result is what the work gave, which left the pass as it is, after as many steps as it told
-pub record LendsWith {F A R : Type 0} (g : Once F (MutBor AtTable × (A × Unit {0})) ((R × ℕ) × (MutBor AtTable × Unit {0}))) (f : F) (t : TableView) (p q : PassView) (a : A) (result : R) : Type 0 where
-  pub at : AtTable
-  pub is : IsAt at t p
-  pub left : AtTable
-  pub leaves : left.pass.now ≡ q
+pub record LendsWith {F A R : Type 0} (g : Once F (MutBor PassView × (A × Unit {0})) ((R × ℕ) × (MutBor PassView × Unit {0}))) (f : F) (p q : PassView) (a : A) (result : R) : Type 0 where
   pub used : ℕ
   pub took : Took p.trace q.trace used
-  pub gave : ReturnsWith g f at a (result, used) left
+  pub gave : ReturnsWith g f p a (result, used) q

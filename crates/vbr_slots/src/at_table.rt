@@ -5,19 +5,20 @@ ghost use Rattle.vbr_slots.specs.Views.{IsOf, knows};
 
 use crate::slots::Slots;
 use crate::stepper::Stepper;
+use vbr_words::{Keys, Nodes};
 
 /// A pass at its table, for a call: the table, and what makes the steps of the pass there. A pass lends
 /// it ([`crate::Pass::at`]), and counts the steps of the whole call at once.
 #[derive(Drop)]
-pub struct AtTable<'c> {
+pub struct AtTable<'c, N: Nodes = Keys> {
     /// The table.
-    pub slots: &'c Slots,
+    pub slots: &'c Slots<N>,
     /// What makes the steps of the pass.
     pub pass: &'c mut Stepper,
     ghost own: { IsOf pass.now.trace slots.now },
 }
 
-impl AtTable<'_> {
+impl<N: Nodes> AtTable<'_, N> {
     /// The law of passes, as [`crate::Pass::law`]. It does nothing.
     #[inline]
     pub fn law(&self)

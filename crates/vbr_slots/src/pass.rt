@@ -3,13 +3,11 @@ ghost use Rattle.std.specs.Fn.{FnOnceTakesAtMut};
 ghost use Rattle.std.specs.Prelude.{◌≡◌, ◌<◌, ◌≤◌, ◌⊎◌, [], ◌∷◌, ◌+◌, ◌++◌, length, Some, Contains};
 ghost use Rattle.vbr_machine.specs.Acceptance.{IsFree};
 ghost use Rattle.vbr_machine.specs.Runs.{IsRun};
-ghost use Rattle.vbr_slots.specs.Lending.{Lends, LendsAt, LendsWith, TakesTable, TakesTableWith, TellsSteps, TellsStepsAt, TellsStepsWith};
+ghost use Rattle.vbr_slots.specs.Lending.{Lends, LendsWith, TakesWith, TellsSteps, TellsStepsWith};
 ghost use Rattle.vbr_slots.specs.PassLaw.{PassLaw};
 ghost use Rattle.vbr_slots.specs.Pools.{OwnPool, hand_without};
-ghost use Rattle.vbr_slots.specs.Views.{IsOf, counted_steps, knows, steps_of};
+ghost use Rattle.vbr_slots.specs.Views.{counted_steps, knows, steps_of};
 
-use crate::at_table::AtTable;
-use crate::slots::Slots;
 use crate::stepper::Stepper;
 use std::marker::Model;
 
@@ -121,42 +119,18 @@ impl Pass {
         result
     }
 
-    /// Lends what makes its steps together with their table, and then counts once how many the work tells
-    /// that it made: its result is what the work gives beside that number.
+    /// As [`Pass::during`], for work that takes a value for good.
     #[inline]
-    pub fn at<R, W: FnOnce(&mut AtTable<'_>) -> (R, u32)>(&mut self, slots: &Slots, work: W) -> R
-        requires own { IsOf self.old.trace slots.now }
-        requires takes { TakesTable W.FnOnce work slots.now self.old }
-        requires counts { TellsStepsAt W.FnOnce work slots.now self.old }
-        ensures { LendsAt W.FnOnce work slots.now self.old self.new result }
-    {
-        let mut at = AtTable {
-            slots,
-            pass: &mut self.stepper,
-        };
-        let (result, used) = work(&mut at);
-        self.steps = steps_after(self.steps, used);
-        result
-    }
-
-    /// As [`Pass::at`], for work that takes a value for good.
-    #[inline]
-    pub fn at_with<A, R, W: FnOnce(&mut AtTable<'_>, A) -> (R, u32)>(
+    pub fn during_with<A, R, W: FnOnce(&mut Stepper, A) -> (R, u32)>(
         &mut self,
-        slots: &Slots,
         given: A,
         work: W,
     ) -> R
-        requires own { IsOf self.old.trace slots.now }
-        requires takes { TakesTableWith W.FnOnce work slots.now self.old given }
-        requires counts { TellsStepsWith W.FnOnce work slots.now self.old given }
-        ensures { LendsWith W.FnOnce work slots.now self.old self.new given result }
+        requires takes { TakesWith W.FnOnce work self.old given }
+        requires counts { TellsStepsWith W.FnOnce work self.old given }
+        ensures { LendsWith W.FnOnce work self.old self.new given result }
     {
-        let mut at = AtTable {
-            slots,
-            pass: &mut self.stepper,
-        };
-        let (result, used) = work(&mut at, given);
+        let (result, used) = work(&mut self.stepper, given);
         self.steps = steps_after(self.steps, used);
         result
     }

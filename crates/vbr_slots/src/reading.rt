@@ -1,9 +1,9 @@
 //! Loads in a row that end with a read of the epoch. What they loaded is checked where the epoch is the
 //! one that the pass read before. Their steps are counted together.
-ghost use Rattle.std.specs.Prelude.{◌≡◌, ◌<◌, IsTrue};
+ghost use Rattle.std.specs.Prelude.{◌≡◌, ◌<◌, true, IsTrue};
 ghost use Rattle.vbr_machine.specs.Acceptance.{IsAtIn};
 ghost use Rattle.vbr_machine.specs.Knowledge.{holds, holds_at};
-ghost use Rattle.vbr_machine.specs.declared.event.Step.TheVariants.{LoadLink, LoadKey};
+ghost use Rattle.vbr_machine.specs.declared.event.Step.TheVariants.{LoadLink, LoadKey, LoadValue};
 ghost use Rattle.vbr_slots.specs.Reads.{Reads, ReadsNode};
 ghost use Rattle.vbr_slots.specs.Views.{IsOf, KeepsPool, knows};
 
@@ -39,6 +39,20 @@ impl<N: Nodes> Slots<N> {
         ensures pool { KeepsPool pass.old pass.new }
     {
         pass.during(|stepper| (stepper.read_key(self, slot), 2))
+    }
+
+    /// Loads the value of a held slot, and reads the epoch, in two steps: gives the value and the
+    /// epoch, which checks the read as in [`Slots::read_link`].
+    #[inline]
+    pub fn read_value(&self, pass: &mut Pass, slot: u32) -> (u64, u64)
+        requires own { IsOf pass.old.trace self.now }
+        requires values { self.now.shape.values ≡ true }
+        requires slot { slot < self.now.shape.slots }
+        requires held { IsTrue (holds (knows pass.old.trace).checked slot) }
+        ensures reads { Reads (LoadValue slot) pass.old pass.new result.0 result.1 }
+        ensures pool { KeepsPool pass.old pass.new }
+    {
+        pass.during(|stepper| (stepper.read_value(self, slot), 2))
     }
 
     /// Loads the birth and the link word of a held slot, and reads the epoch, in three steps: gives the

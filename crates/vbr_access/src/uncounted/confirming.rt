@@ -1,5 +1,5 @@
 //! Answers by one more load of a link word.
-ghost use Rattle.std.specs.Prelude.{OnOk, IfErr};
+ghost use Rattle.std.specs.Prelude.{◌≢◌, OnOk, IfErr};
 ghost use Rattle.vbr_machine.specs.declared.history.Op.TheVariants.{Insert, Remove};
 ghost use Rattle.vbr_slots.specs.AtTables.{IsSameTable, trace_of, pass_of};
 ghost use Rattle.vbr_slots.specs.Views.{knows};
@@ -8,12 +8,13 @@ ghost use Rattle.vbr_access.specs.Answering.{FindsAnother, IsAbsent, IsOther, Is
 ghost use Rattle.vbr_access.specs.Answering.{KeepsByLoad};
 ghost use Rattle.vbr_access.specs.Exchanges.{IsUnmarked};
 ghost use Rattle.vbr_access.specs.LookUps.{TellsKey};
+ghost use Rattle.vbr_access.specs.Values.{AnswersEntry, IsAsked, IsOtherIn};
 
 use crate::held::Held;
 use crate::rollback::Rollback;
 use vbr_machine::Op;
 use vbr_slots::AtTable;
-use vbr_words::At;
+use vbr_words::{At, Nodes};
 
 /// As [`crate::confirm_present`].
 #[inline]
@@ -23,6 +24,24 @@ pub fn confirm_present(at: &mut AtTable<'_>, op: Op, held: &Held) -> Result<(), 
     ensures table { IsSameTable at.old at.new }
     ensures keeps { KeepsByLoad (pass_of at.old) (pass_of at.new) }
     ensures answers { OnOk result (AnswersPresent (trace_of at.old) (trace_of at.new) op held.now) }
+    ensures lost { IfErr result (FindsAnother (trace_of at.old) (trace_of at.new) held.now) }
+{
+    confirm_present_entry(at, op, held)
+}
+
+/// As [`crate::confirm_present_entry`].
+#[inline]
+pub fn confirm_present_entry<N: Nodes>(
+    at: &mut AtTable<'_, N>,
+    op: Op,
+    held: &Held,
+) -> Result<(), Rollback>
+    requires node { IsPresent (knows (trace_of at.old)) held.now }
+    requires op { op ≢ Remove }
+    requires asked { IsAsked (trace_of at.old) op held.now.at }
+    ensures table { IsSameTable at.old at.new }
+    ensures keeps { KeepsByLoad (pass_of at.old) (pass_of at.new) }
+    ensures answers { OnOk result (AnswersEntry (trace_of at.old) (trace_of at.new) op held.now) }
     ensures lost { IfErr result (FindsAnother (trace_of at.old) (trace_of at.new) held.now) }
 {
     at.law();
@@ -45,6 +64,24 @@ pub fn confirm_absent(at: &mut AtTable<'_>, op: Op, key: u64, pred: &Held) -> Re
     ensures answers { OnOk result (AnswersAbsent (trace_of at.old) (trace_of at.new) op key) }
     ensures lost { IfErr result (FindsAnother (trace_of at.old) (trace_of at.new) pred.now) }
 {
+    confirm_absent_entry(at, op, key, pred)
+}
+
+/// As [`crate::confirm_absent_entry`].
+#[inline]
+pub fn confirm_absent_entry<N: Nodes>(
+    at: &mut AtTable<'_, N>,
+    op: Op,
+    key: u64,
+    pred: &Held,
+) -> Result<(), Rollback>
+    requires gap { IsAbsent (trace_of at.old).shape (knows (trace_of at.old)) key pred.now }
+    requires op { IsOtherIn (trace_of at.old).shape Insert op }
+    ensures table { IsSameTable at.old at.new }
+    ensures keeps { KeepsByLoad (pass_of at.old) (pass_of at.new) }
+    ensures answers { OnOk result (AnswersAbsent (trace_of at.old) (trace_of at.new) op key) }
+    ensures lost { IfErr result (FindsAnother (trace_of at.old) (trace_of at.new) pred.now) }
+{
     at.law();
     match at
         .pass
@@ -57,8 +94,8 @@ pub fn confirm_absent(at: &mut AtTable<'_>, op: Op, key: u64, pred: &Held) -> Re
 
 /// As [`crate::confirm_look_up`].
 #[inline]
-pub fn confirm_look_up(
-    at: &mut AtTable<'_>,
+pub fn confirm_look_up<N: Nodes>(
+    at: &mut AtTable<'_, N>,
     key: u64,
     held: &Held,
     present: bool,

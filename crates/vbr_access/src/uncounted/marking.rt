@@ -4,11 +4,12 @@ ghost use Rattle.vbr_slots.specs.AtTables.{IsSameTable, trace_of, pass_of};
 ghost use Rattle.vbr_slots.specs.Views.{knows};
 ghost use Rattle.vbr_access.specs.Answering.{KeepsIn, IsPresent};
 ghost use Rattle.vbr_access.specs.Exchanges.{RemovesKey, LosesExchange};
+ghost use Rattle.vbr_access.specs.Values.{IsValued, RemovesEntry};
 
 use crate::held::{Held, Marked};
 use crate::rollback::Rollback;
 use vbr_slots::AtTable;
-use vbr_words::{At, with_mark};
+use vbr_words::{At, Nodes, with_mark};
 
 /// As [`crate::mark`].
 #[inline]
@@ -19,8 +20,21 @@ pub fn mark(at: &mut AtTable<'_>, held: &Held) -> Result<Marked, Rollback>
     ensures removed { IfOk result (RemovesKey (trace_of at.old) (trace_of at.new) held.now) }
     ensures lost { IfErr result (LosesExchange (trace_of at.old) (trace_of at.new) held.now) }
 {
-    at.law();
     at.slots.kind();
+    mark_entry(at, held)
+}
+
+/// As [`crate::mark_entry`].
+#[inline]
+pub fn mark_entry<N: Nodes>(at: &mut AtTable<'_, N>, held: &Held) -> Result<Marked, Rollback>
+    requires node { IsPresent (knows (trace_of at.old)) held.now }
+    requires valued { IsValued (trace_of at.old) held.now.at }
+    ensures table { IsSameTable at.old at.new }
+    ensures keeps { KeepsIn (pass_of at.old) (pass_of at.new) 1 }
+    ensures removed { IfOk result (RemovesEntry (trace_of at.old) (trace_of at.new) held.now) }
+    ensures lost { IfErr result (LosesExchange (trace_of at.old) (trace_of at.new) held.now) }
+{
+    at.law();
     let At::Slot(slot) = held.at else {
         unreachable!()
     };

@@ -1,19 +1,20 @@
 //! Checkpoints and checked reads.
-ghost use Rattle.std.specs.Prelude.{◌≡◌, ◌<◌, IfOk, IfErr};
+ghost use Rattle.std.specs.Prelude.{◌≡◌, ◌<◌, true, IfOk, IfErr};
 ghost use Rattle.vbr_slots.specs.AtTables.{IsSameTable, pass_of, trace_of};
 ghost use Rattle.vbr_slots.specs.Views.{knows};
 ghost use Rattle.vbr_access.specs.Held.{IsSlot, IsHeld};
 ghost use Rattle.vbr_access.specs.Reading.{IsCheckpoint, IsHeadRead, IsKeyRead, IsNextRead};
 ghost use Rattle.vbr_access.specs.Reading.{ReadsIn, RollsBack, steps_to_next};
+ghost use Rattle.vbr_access.specs.Values.{IsValueRead};
 
 use crate::held::{Checkpoint, Held};
 use crate::rollback::Rollback;
 use vbr_slots::AtTable;
-use vbr_words::{At, decode};
+use vbr_words::{At, Nodes, decode};
 
 /// As [`crate::checkpoint`].
 #[inline]
-pub fn checkpoint(at: &mut AtTable<'_>) -> Checkpoint
+pub fn checkpoint<N: Nodes>(at: &mut AtTable<'_, N>) -> Checkpoint
     ensures table { IsSameTable at.old at.new }
     ensures reads { ReadsIn (pass_of at.old) (pass_of at.new) 1 }
     ensures point { IsCheckpoint (pass_of at.old) (pass_of at.new) result.epoch }
@@ -26,7 +27,11 @@ pub fn checkpoint(at: &mut AtTable<'_>) -> Checkpoint
 
 /// As [`crate::first`].
 #[inline]
-pub fn first(at: &mut AtTable<'_>, point: &Checkpoint, bucket: u32) -> Result<Held, Rollback>
+pub fn first<N: Nodes>(
+    at: &mut AtTable<'_, N>,
+    point: &Checkpoint,
+    bucket: u32,
+) -> Result<Held, Rollback>
     requires point { point.now.epoch ≡ (knows (trace_of at.old)).epoch }
     requires bucket { bucket < at.old.slots.now.shape.buckets }
     ensures table { IsSameTable at.old at.new }
@@ -51,7 +56,7 @@ pub fn first(at: &mut AtTable<'_>, point: &Checkpoint, bucket: u32) -> Result<He
 
 /// As [`crate::next`].
 #[inline]
-pub fn next(at: &mut AtTable<'_>, held: &Held) -> Result<Option<Held>, Rollback>
+pub fn next<N: Nodes>(at: &mut AtTable<'_, N>, held: &Held) -> Result<Option<Held>, Rollback>
     requires held { IsHeld (knows (trace_of at.old)) held.now }
     ensures table { IsSameTable at.old at.new }
     ensures reads { ReadsIn (pass_of at.old) (pass_of at.new) (steps_to_next held.now) }
@@ -77,7 +82,7 @@ pub fn next(at: &mut AtTable<'_>, held: &Held) -> Result<Option<Held>, Rollback>
 
 /// As [`crate::key_of`].
 #[inline]
-pub fn key_of(at: &mut AtTable<'_>, node: &Held) -> Result<u64, Rollback>
+pub fn key_of<N: Nodes>(at: &mut AtTable<'_, N>, node: &Held) -> Result<u64, Rollback>
     requires held { IsHeld (knows (trace_of at.old)) node.now }
     requires slot { IsSlot node.now.at }
     ensures table { IsSameTable at.old at.new }
@@ -95,4 +100,27 @@ pub fn key_of(at: &mut AtTable<'_>, node: &Held) -> Result<u64, Rollback>
         return Err(Rollback::EpochMoved { now });
     }
     Ok(key)
+}
+
+/// As [`crate::value_of`].
+#[inline]
+pub fn value_of<N: Nodes>(at: &mut AtTable<'_, N>, node: &Held) -> Result<u64, Rollback>
+    requires values { at.old.slots.now.shape.values ≡ true }
+    requires held { IsHeld (knows (trace_of at.old)) node.now }
+    requires slot { IsSlot node.now.at }
+    ensures table { IsSameTable at.old at.new }
+    ensures reads { ReadsIn (pass_of at.old) (pass_of at.new) 2 }
+    ensures value { IfOk result (IsValueRead (pass_of at.old) (pass_of at.new) node.now.at) }
+    ensures moved { IfErr result (RollsBack (pass_of at.old) (pass_of at.new)) }
+{
+    at.law();
+    let At::Slot(slot) = node.at else {
+        unreachable!()
+    };
+    let before = at.epoch();
+    let (value, now) = at.pass.read_value(at.slots, slot);
+    if now != before {
+        return Err(Rollback::EpochMoved { now });
+    }
+    Ok(value)
 }

@@ -12,11 +12,11 @@ use crate::links::link_to;
 use crate::rollback::Rollback;
 use vbr_pools::Unlinked;
 use vbr_slots::AtTable;
-use vbr_words::decode;
+use vbr_words::{Nodes, decode};
 
 // The birth of what a marked link names, in two steps; 0 of none, without a step.
 #[inline]
-fn birth_behind(at: &mut AtTable<'_>, marked: &Marked) -> Result<u64, Rollback>
+fn birth_behind<N: Nodes>(at: &mut AtTable<'_, N>, marked: &Marked) -> Result<u64, Rollback>
     requires marked { IsMarked (knows (trace_of at.old)) marked.now }
     ensures table { IsSameTable at.old at.new }
     ensures reads { ReadsIn (pass_of at.old) (pass_of at.new) (steps_to_birth marked.now.word) }
@@ -37,8 +37,8 @@ fn birth_behind(at: &mut AtTable<'_>, marked: &Marked) -> Result<u64, Rollback>
 
 /// As [`crate::unlink`].
 #[inline]
-pub fn unlink(
-    at: &mut AtTable<'_>,
+pub fn unlink<N: Nodes>(
+    at: &mut AtTable<'_, N>,
     pred: &Held,
     marked: Marked,
 ) -> Result<(Unlinked, Held), Rollback>

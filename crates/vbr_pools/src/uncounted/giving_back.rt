@@ -7,10 +7,11 @@ ghost use Rattle.vbr_pools.specs.Hands.{IsHandOf};
 
 use crate::hand::Hand;
 use vbr_slots::AtTable;
+use vbr_words::Nodes;
 
 /// As [`crate::give_back`].
 #[inline]
-pub fn give_back(at: &mut AtTable<'_>, hand: Hand)
+pub fn give_back<N: Nodes>(at: &mut AtTable<'_, N>, hand: Hand)
     requires hand { IsHandOf (pass_of at.old) hand }
     requires room { length (pass_of at.old).pool < POOL }
     ensures table { IsSameTable at.old at.new }

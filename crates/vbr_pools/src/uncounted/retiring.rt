@@ -7,11 +7,12 @@ ghost use Rattle.vbr_pools.specs.Retiring.{Retires};
 use crate::unlinked::Unlinked;
 use vbr_slots::AtTable;
 use vbr_slots::pass::POOL;
+use vbr_words::Nodes;
 
 /// As [`crate::retire`]. It is compiled into its callers, so that what a call has in hand stays in
 /// registers.
 #[inline(always)]
-pub fn retire(at: &mut AtTable<'_>, unlinked: Unlinked) -> u32
+pub fn retire<N: Nodes>(at: &mut AtTable<'_, N>, unlinked: Unlinked) -> u32
     requires unlinked { IsUnlinked ((knows (trace_of at.old)).own unlinked.slot) }
     ensures table { IsSameTable at.old at.new }
     ensures retires { Retires (pass_of at.old) (pass_of at.new) unlinked.slot result }

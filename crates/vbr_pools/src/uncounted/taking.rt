@@ -15,10 +15,11 @@ use crate::budget::affords;
 use crate::hand::Hand;
 use crate::refusal::TakeRefusal;
 use vbr_slots::AtTable;
+use vbr_words::Nodes;
 use vbr_words::flags::{FLAGS, next_flag};
 
 /// As [`crate::take`], and tells how many steps it made.
-pub fn take(at: &mut AtTable<'_>, budget: u32) -> (Result<Hand, TakeRefusal>, u32)
+pub fn take<N: Nodes>(at: &mut AtTable<'_, N>, budget: u32) -> (Result<Hand, TakeRefusal>, u32)
     requires empty_hand { (pass_of at.old).hand ≡ None }
     ensures table { IsSameTable at.old at.new }
     ensures took { Took (trace_of at.old) (trace_of at.new) result.1 }
@@ -33,7 +34,10 @@ pub fn take(at: &mut AtTable<'_>, budget: u32) -> (Result<Hand, TakeRefusal>, u3
 }
 
 // Takes a slot piece by piece. Returns the hand, or why there is none, each with how many steps were made.
-fn take_on(at: &mut AtTable<'_>, budget: u32) -> Result<(Hand, u32), (TakeRefusal, u32)>
+fn take_on<N: Nodes>(
+    at: &mut AtTable<'_, N>,
+    budget: u32,
+) -> Result<(Hand, u32), (TakeRefusal, u32)>
     requires empty_hand { (pass_of at.old).hand ≡ None }
     ensures table { IsSameTable at.old at.new }
     ensures took { Took (trace_of at.old) (trace_of at.new) (told_steps result) }
@@ -50,7 +54,7 @@ fn take_on(at: &mut AtTable<'_>, budget: u32) -> Result<(Hand, u32), (TakeRefusa
 // round the flag words, and begins with that of the slot that the pass tried last. It probes the first
 // slot of each, and then the lowest whose flag it found there, until the word has none. Returns how many
 // steps were used.
-fn win_slot(at: &mut AtTable<'_>, budget: u32) -> Result<u32, (TakeRefusal, u32)>
+fn win_slot<N: Nodes>(at: &mut AtTable<'_, N>, budget: u32) -> Result<u32, (TakeRefusal, u32)>
     requires empty_hand { (pass_of at.old).hand ≡ None }
     ensures table { IsSameTable at.old at.new }
     ensures probes { Probes (pass_of at.old) (pass_of at.new) }
@@ -91,7 +95,11 @@ fn win_slot(at: &mut AtTable<'_>, budget: u32) -> Result<u32, (TakeRefusal, u32)
 // Reads the epoch and chooses the oldest slot of the own pool that is stamped below it. If there is none,
 // advances the epoch, where it is still that one and not the last, and chooses the oldest slot. Returns
 // the slot, and how many steps were used.
-fn choose(at: &mut AtTable<'_>, budget: u32, used: u32) -> Result<(u32, u32), (TakeRefusal, u32)>
+fn choose<N: Nodes>(
+    at: &mut AtTable<'_, N>,
+    budget: u32,
+    used: u32,
+) -> Result<(u32, u32), (TakeRefusal, u32)>
     requires some { (pass_of at.old).pool ≢ [] }
     requires empty_hand { (pass_of at.old).hand ≡ None }
     requires within { used ≤ budget }
@@ -122,8 +130,8 @@ fn choose(at: &mut AtTable<'_>, budget: u32, used: u32) -> Result<(u32, u32), (T
 
 // The oldest slot of the own pool that is stamped below an epoch, if there is one, and how many steps
 // were used.
-fn scan(
-    at: &mut AtTable<'_>,
+fn scan<N: Nodes>(
+    at: &mut AtTable<'_, N>,
     epoch: u64,
     budget: u32,
     mut used: u32,
@@ -150,8 +158,8 @@ fn scan(
 
 // Gives birth to an incarnation in a slot of the own pool that is stamped below the epoch. Returns the
 // hand, and how many steps were used.
-fn bear(
-    at: &mut AtTable<'_>,
+fn bear<N: Nodes>(
+    at: &mut AtTable<'_, N>,
     slot: u32,
     budget: u32,
     used: u32,

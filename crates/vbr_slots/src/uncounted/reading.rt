@@ -1,9 +1,9 @@
 //! Loads in a row that end with a read of the epoch. What they loaded is checked where the epoch is the
 //! one that the pass read before. Their steps are counted together.
-ghost use Rattle.std.specs.Prelude.{◌≡◌, ◌<◌, IsTrue};
+ghost use Rattle.std.specs.Prelude.{◌≡◌, ◌<◌, true, IsTrue};
 ghost use Rattle.vbr_machine.specs.Acceptance.{IsAtIn};
 ghost use Rattle.vbr_machine.specs.Knowledge.{holds, holds_at};
-ghost use Rattle.vbr_machine.specs.declared.event.Step.TheVariants.{LoadLink, LoadKey};
+ghost use Rattle.vbr_machine.specs.declared.event.Step.TheVariants.{LoadLink, LoadKey, LoadValue};
 ghost use Rattle.vbr_slots.specs.Reads.{Reads, ReadsNode};
 ghost use Rattle.vbr_slots.specs.Views.{IsOf, KeepsPool, knows};
 
@@ -36,6 +36,23 @@ impl Stepper {
         ensures pool { KeepsPool self.old self.new }
     {
         slots.load_and_epoch(&mut self.runner, Step::LoadKey { slot }, Place::Key(slot))
+    }
+
+    /// As [`Slots::read_value`].
+    #[inline]
+    pub fn read_value<N: Nodes>(&mut self, slots: &Slots<N>, slot: u32) -> (u64, u64)
+        requires own { IsOf self.old.trace slots.now }
+        requires values { slots.now.shape.values ≡ true }
+        requires slot { slot < slots.now.shape.slots }
+        requires held { IsTrue (holds (knows self.old.trace).checked slot) }
+        ensures reads { Reads (LoadValue slot) self.old self.new result.0 result.1 }
+        ensures pool { KeepsPool self.old self.new }
+    {
+        slots.load_and_epoch(
+            &mut self.runner,
+            Step::LoadValue { slot },
+            Place::Value(slot),
+        )
     }
 
     /// As [`Slots::read_node`].

@@ -7,12 +7,12 @@ use Rattle.vbr_access.proofs.LookUps.{look_up_accepted, look_up_adds, look_up_ad
 use Rattle.vbr_access.proofs.uncounted.confirming.confirm_look_up.Goals as goal
 
 pub confirm_look_up-requires-clause-accepted : goal.confirm_look_up-requires-clause-accepted
-confirm_look_up-requires-clause-accepted c =
+confirm_look_up-requires-clause-accepted g c =
     let P : Dimensions → Type 0 = λ shape. Accepts shape (knows c.args.at.now.pass.now.trace) (look_up c.args.present c.args.key c.args.held.now.at c.args.held.now.word) in
     subst P c.args.at.now.own.1 (look_up_accepted c.args.at.now.pass.now c.law.ensures c.args.key c.args.held.now c.requires.held.held c.requires.held.unmarked c.args.present c.requires.decides)
 
 pub returns-in-Ok-clause-keeps : goal.returns-in-Ok-clause-keeps
-returns-in-Ok-clause-keeps c = record {
+returns-in-Ok-clause-keeps g c = record {
   keeps = record {
     took = search rules;
     own = search rules;
@@ -23,7 +23,7 @@ returns-in-Ok-clause-keeps c = record {
 }
 
 pub returns-in-Err-clause-keeps : goal.returns-in-Err-clause-keeps
-returns-in-Err-clause-keeps c = record {
+returns-in-Err-clause-keeps g c = record {
   keeps = record {
     took = search rules;
     own = search rules;
@@ -34,10 +34,10 @@ returns-in-Err-clause-keeps c = record {
 }
 
 pub returns-in-Ok-clause-answers : goal.returns-in-Ok-clause-answers
-returns-in-Ok-clause-answers c = record { made = look_up_made c.args.at.now.pass.now _ c.law.ensures c.args.key c.args.held.now c.args.present c.requires.decides c.in-Ok.ensures.found.did; adds = look_up_adds c.args.at.now.pass.now _ c.law.ensures c.args.key c.args.held.now c.args.present c.requires.decides c.in-Ok.ensures.found.did }
+returns-in-Ok-clause-answers g c = record { made = look_up_made c.args.at.now.pass.now _ c.law.ensures c.args.key c.args.held.now c.args.present c.requires.decides c.in-Ok.ensures.found.did; adds = look_up_adds c.args.at.now.pass.now _ c.law.ensures c.args.key c.args.held.now c.args.present c.requires.decides c.in-Ok.ensures.found.did }
 
 pub returns-in-Err-clause-lost : goal.returns-in-Err-clause-lost
-returns-in-Err-clause-lost c = record {
+returns-in-Err-clause-lost g c = record {
   quiet = look_up_failed c.args.at.now.pass.now _ c.law.ensures c.args.key c.args.held.now c.args.present _ c.in-Err.ensures.other.did c.in-Err.ensures.other.unexpected;
   adds_none = look_up_adds_none c.args.at.now.pass.now _ c.law.ensures c.args.key c.args.held.now c.args.present _ c.in-Err.ensures.other.did c.in-Err.ensures.other.unexpected;
   lost = look_up_lost c.args.at.now.pass.now _ c.law.ensures c.args.key c.args.held.now c.args.present _ c.in-Err.ensures.other.did c.in-Err.ensures.other.unexpected;

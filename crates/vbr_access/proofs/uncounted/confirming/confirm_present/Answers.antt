@@ -1,67 +1,25 @@
-use Rattle.std.proofs.Common.{◌<◌, subst, refl, rules}
-use Rattle.vbr_words.specs.Dimensions.{Dimensions}
-use Rattle.vbr_words.specs.declared.place.At.{At}
-use Rattle.vbr_machine.specs.Membership.{KeyAt}
-use Rattle.vbr_slots.specs.Views.{knows}
-use Rattle.vbr_slots.proofs.Lemmas.{did_loads}
-use Rattle.vbr_pools.proofs.Lemmas.{did_none}
-use Rattle.std.proofs.Common.{◌≡◌}
-use Rattle.vbr_words.specs.Words.{link_of}
-use Rattle.vbr_machine.specs.Images.{link_shown_at}
-use Rattle.vbr_slots.specs.Alone.{nodes}
-use Rattle.vbr_access.specs.Answering.{AnswersPresent}
-use Rattle.vbr_access.proofs.AloneExchanges.{present_confirmed}
-use Rattle.vbr_access.proofs.Accepted.{accepted_checked, present_accepted}
-use Rattle.vbr_access.proofs.MadeCalls.{present_made, present_failed, present_adds, present_adds_none}
+use Rattle.std.proofs.Common.{◌≢◌, subst}
+use Rattle.std.specs.Prelude.{Result, Ok, Err, OnOk}
+use Rattle.vbr_machine.specs.declared.history.Call.{Call}
+use Rattle.vbr_machine.specs.declared.history.Op.{Op}
+use Rattle.vbr_machine.specs.declared.history.Op.TheVariants.{Get}
+use Rattle.vbr_slots.specs.Views.{Trace}
+use Rattle.vbr_access.specs.Answering.{AnswersPresent, IsAnswered}
+use Rattle.vbr_access.specs.Values.{AnswersEntry}
+use Rattle.vbr_access.specs.declared.held.Held.{Held}
+use Rattle.vbr_access.specs.declared.rollback.Rollback.{Rollback}
+use Rattle.vbr_access.proofs.MadeCalls.{of_set}
 use Rattle.vbr_access.proofs.uncounted.confirming.confirm_present.Goals as goal
 
-pub confirm_present-requires-clause-slot : goal.confirm_present-requires-clause-slot
-confirm_present-requires-clause-slot c =
-    let P : Dimensions → Type 0 = λ shape. c.in-Slot.slot < shape.slots in
-    subst P c.args.at.now.own.1 (present_accepted c.args.at.now.pass.now c.law.ensures c.args.op c.args.held.now c.in-Slot.slot c.requires.node.held c.in-Slot.is c.requires.node.key c.requires.node.unmarked c.requires.op.other c.requires.op.no_get).in_shape.0
+pub confirm_present_entry-requires-clause-asked : goal.confirm_present_entry-requires-clause-asked
+confirm_present_entry-requires-clause-asked c = λ get. absurd (c.requires.op.no_get get)
 
-pub confirm_present-requires-clause-checked : goal.confirm_present-requires-clause-checked
-confirm_present-requires-clause-checked c = accepted_checked c.args.at.now.own (present_accepted c.args.at.now.pass.now c.law.ensures c.args.op c.args.held.now c.in-Slot.slot c.requires.node.held c.in-Slot.is c.requires.node.key c.requires.node.unmarked c.requires.op.other c.requires.op.no_get)
+answered : (p q : Trace) (op : Op) (node : Held) → op ≢ Get → AnswersEntry p q op node → AnswersPresent p q op node
+answered p q op node other told = λ key k. subst (λ (call : Call). IsAnswered p q call) (of_set p.who op key other) (told.answers key 0 k (λ get. absurd (other get)))
 
-pub returns-in-Ok-clause-keeps : goal.returns-in-Ok-clause-keeps
-returns-in-Ok-clause-keeps c = record {
-  keeps = record {
-    took = search rules;
-    own = search rules;
-    takes_no_slot = did_none c.in-Ok.ensures.found.did refl c.in-Ok.ensures.found.keeps;
-    keeps = search rules;
-  };
-  only_loads = did_loads c.in-Ok.ensures.found.did (λ know. refl);
-}
+of_entry : (p q : Trace) (op : Op) (node : Held) → op ≢ Get → (result : Result (Unit {0}) Rollback) → OnOk result (AnswersEntry p q op node) → OnOk result (AnswersPresent p q op node)
+of_entry p q op node other (Ok done) told = answered p q op node other told
+of_entry p q op node other (Err rollback) told = tt
 
-pub returns-in-Err-clause-keeps : goal.returns-in-Err-clause-keeps
-returns-in-Err-clause-keeps c = record {
-  keeps = record {
-    took = search rules;
-    own = search rules;
-    takes_no_slot = did_none c.in-Err.ensures.other.did refl c.in-Err.ensures.other.keeps;
-    keeps = search rules;
-  };
-  only_loads = did_loads c.in-Err.ensures.other.did (λ know. refl);
-}
-
-answered : (c : goal.In-Ok) → AnswersPresent c.args.at.now.pass.now.trace c.confirm_present.new.self.trace c.args.op c.args.held.now
-answered c = λ key k. record {
-  made = (let P : At → Type 0 = λ at. KeyAt (knows c.args.at.now.pass.now.trace) at key in
-      present_made c.law.ensures.shape c.law.ensures.is_run c.requires.op.no_get c.in-Ok.ensures.found.did key (subst P c.in-Slot.is k));
-  adds = (let P : At → Type 0 = λ at. KeyAt (knows c.args.at.now.pass.now.trace) at key in
-      present_adds c.law.ensures.shape c.law.ensures.is_run c.requires.op.no_get c.in-Ok.ensures.found.did key (subst P c.in-Slot.is k));
-}
-
-pub returns-in-Ok-clause-answers : goal.returns-in-Ok-clause-answers
-returns-in-Ok-clause-answers c = answered c
-
-pub returns-in-Err-clause-lost : goal.returns-in-Err-clause-lost
-returns-in-Err-clause-lost c = record {
-  quiet = present_failed c.in-Err.ensures.other.did c.in-Err.ensures.other.unexpected;
-  adds_none = present_adds_none c.in-Err.ensures.other.did c.in-Err.ensures.other.unexpected;
-  lost = search rules;
-  wins = (λ alone stands.
-      let P : At → Type 0 = λ at. link_shown_at (nodes c.args.at.now.pass.now.trace) at ≡ link_of c.args.held.now.word in
-      present_confirmed c.law.ensures.shape alone c.args.op c.in-Slot.slot c.args.held.now.word c.in-Err.ensures.other.did c.in-Err.ensures.other.unexpected (subst P c.in-Slot.is stands));
-}
+pub returns-clause-answers : goal.returns-clause-answers
+returns-clause-answers c = of_entry c.args.at.now.pass.now.trace c.confirm_present_entry.new.at.pass.now.trace c.args.op c.args.held.now c.requires.op.no_get c.confirm_present_entry.result c.confirm_present_entry.ensures.answers

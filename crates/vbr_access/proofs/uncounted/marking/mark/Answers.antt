@@ -1,51 +1,22 @@
-use Rattle.std.proofs.Common.{◌<◌, ap, ◌∙◌, subst, refl, rules}
+use Rattle.std.proofs.Common.{ap, ◌∙◌}
+use Rattle.std.specs.Prelude.{Result, Ok, Err, IfOk}
 use Rattle.vbr_words.specs.Dimensions.{Dimensions}
-use Rattle.vbr_words.specs.declared.place.At.{At}
-use Rattle.vbr_slots.specs.Views.{knows}
-use Rattle.vbr_pools.proofs.Lemmas.{did_none}
-use Rattle.std.proofs.Common.{◌≡◌}
-use Rattle.vbr_words.specs.Words.{link_of}
-use Rattle.vbr_machine.specs.Images.{link_shown_at}
-use Rattle.vbr_slots.specs.Alone.{nodes}
-use Rattle.vbr_access.proofs.AloneExchanges.{mark_wins}
-use Rattle.vbr_access.proofs.Accepted.{accepted_checked, mark_accepted}
-use Rattle.vbr_access.proofs.WonExchanges.{mark_keeps}
-use Rattle.vbr_access.proofs.MadeCalls.{mark_failed}
-use Rattle.vbr_access.proofs.ExchangeCalls.{mark_told}
+use Rattle.vbr_slots.specs.Views.{Trace}
+use Rattle.vbr_access.specs.Exchanges.{RemovesKey}
+use Rattle.vbr_access.specs.Values.{RemovesEntry}
+use Rattle.vbr_access.specs.declared.held.Held.{Held}
+use Rattle.vbr_access.specs.declared.held.Marked.{Marked}
+use Rattle.vbr_access.specs.declared.rollback.Rollback.{Rollback}
+use Rattle.vbr_access.proofs.ExchangeCalls.{key_removed}
+use Rattle.vbr_access.proofs.NoValues.{not_valued}
 use Rattle.vbr_access.proofs.uncounted.marking.mark.Goals as goal
 
-pub mark-requires-clause-slot : goal.mark-requires-clause-slot
-mark-requires-clause-slot c =
-    let P : Dimensions → Type 0 = λ shape. c.in-Slot.slot < shape.slots in
-    subst P c.args.at.now.own.1 (mark_accepted c.args.at.now.pass.now c.law.ensures (ap (λ (d : Dimensions). d.values) c.args.at.now.own.1 ∙ c.kind.ensures) c.args.held.now c.in-Slot.slot c.requires.node.held c.in-Slot.is c.requires.node.key c.requires.node.unmarked).in_shape
+pub mark_entry-requires-clause-valued : goal.mark_entry-requires-clause-valued
+mark_entry-requires-clause-valued c = λ has. not_valued (ap (λ (d : Dimensions). d.values) c.args.at.now.own.1 ∙ c.kind.ensures) has
 
-pub mark-requires-clause-checked : goal.mark-requires-clause-checked
-mark-requires-clause-checked c = accepted_checked c.args.at.now.own (mark_accepted c.args.at.now.pass.now c.law.ensures (ap (λ (d : Dimensions). d.values) c.args.at.now.own.1 ∙ c.kind.ensures) c.args.held.now c.in-Slot.slot c.requires.node.held c.in-Slot.is c.requires.node.key c.requires.node.unmarked)
+of_entry : {p q : Trace} {node : Held} (result : Result Marked Rollback) → ((now : Marked) → RemovesEntry p q node now → RemovesKey p q node now) → IfOk result (RemovesEntry p q node) → IfOk result (RemovesKey p q node)
+of_entry (Ok now) key removed = key now removed
+of_entry (Err rollback) key removed = tt
 
-pub returns-in-Ok-clause-keeps : goal.returns-in-Ok-clause-keeps
-returns-in-Ok-clause-keeps c = record {
-  took = search rules;
-  own = search rules;
-  takes_no_slot = did_none c.in-Ok.ensures.found.did refl c.in-Ok.ensures.found.keeps;
-  keeps = mark_keeps c.in-Ok.ensures.found.did;
-}
-
-pub returns-in-Err-clause-keeps : goal.returns-in-Err-clause-keeps
-returns-in-Err-clause-keeps c = record {
-  took = search rules;
-  own = search rules;
-  takes_no_slot = did_none c.in-Err.ensures.other.did refl c.in-Err.ensures.other.keeps;
-  keeps = search rules;
-}
-
-pub returns-in-Ok-clause-removed : goal.returns-in-Ok-clause-removed
-returns-in-Ok-clause-removed c = mark_told c.args.held.now c.law.ensures.shape c.law.ensures.is_run (ap (λ (d : Dimensions). d.values) c.args.at.now.own.1 ∙ c.kind.ensures) c.requires.node.held c.in-Slot.is c.in-Ok.ensures.found.did c.with_mark.ensures
-
-pub returns-in-Err-clause-lost : goal.returns-in-Err-clause-lost
-returns-in-Err-clause-lost c = record {
-  quiet = mark_failed c.in-Err.ensures.other.did c.in-Err.ensures.other.unexpected;
-  lost = search rules;
-  wins = (λ alone stands.
-      let P : At → Type 0 = λ at. link_shown_at (nodes c.args.at.now.pass.now.trace) at ≡ link_of c.args.held.now.word in
-      mark_wins c.law.ensures.shape alone c.in-Slot.slot c.args.held.now.word c.in-Err.ensures.other.did c.in-Err.ensures.other.unexpected (subst P c.in-Slot.is stands));
-}
+pub returns-clause-removed : goal.returns-clause-removed
+returns-clause-removed c = of_entry c.mark_entry.result (λ now removed. key_removed (ap (λ (d : Dimensions). d.values) c.args.at.now.own.1 ∙ c.kind.ensures) removed) c.mark_entry.ensures.removed

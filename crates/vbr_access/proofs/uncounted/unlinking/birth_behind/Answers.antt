@@ -13,15 +13,15 @@ use Rattle.vbr_access.proofs.ReadCalls.{birth_in_one, epoch_in_one, fit, fit_on,
 use Rattle.vbr_access.proofs.uncounted.unlinking.birth_behind.Goals as goal
 
 pub load_birth-birth-requires-clause-slot : goal.load_birth-birth-requires-clause-slot
-load_birth-birth-requires-clause-slot c =
+load_birth-birth-requires-clause-slot g c =
     let P : Dimensions → Type 0 = λ shape. c.in-Some.slot < shape.slots in
     subst P c.args.at.now.own.1 (slot_in c.args.at.now.pass.now c.law.ensures c.in-Some.slot (named_slot (held_of c.args.marked.now) c.in-Some.slot c.requires.marked.held (ap (λ (l : Link). l.slot) (sym c.decode.ensures.link) ∙ c.in-Some.is)))
 
 pub load_birth-birth-requires-clause-held : goal.load_birth-birth-requires-clause-held
-load_birth-birth-requires-clause-held c = slot_found c.args.at.now.pass.now c.law.ensures c.in-Some.slot (named_slot (held_of c.args.marked.now) c.in-Some.slot c.requires.marked.held (ap (λ (l : Link). l.slot) (sym c.decode.ensures.link) ∙ c.in-Some.is))
+load_birth-birth-requires-clause-held g c = slot_found c.args.at.now.pass.now c.law.ensures c.in-Some.slot (named_slot (held_of c.args.marked.now) c.in-Some.slot c.requires.marked.held (ap (λ (l : Link). l.slot) (sym c.decode.ensures.link) ∙ c.in-Some.is))
 
 pub returns-then-now-marked-clause-reads : goal.returns-then-now-marked-clause-reads
-returns-then-now-marked-clause-reads c =
+returns-then-now-marked-clause-reads g c =
     let p = c.args.at.now.pass.now in
     let two : steps_to_birth c.args.marked.now.word ≡ 2 = ap birth_steps (ap (λ (l : Link). l.slot) (sym c.decode.ensures.link) ∙ c.in-Some.is) in
     let first = birth_in_one (fit p c.law.ensures) c.load_birth-birth.ensures.step c.load_birth-birth.ensures.pool in
@@ -30,7 +30,7 @@ returns-then-now-marked-clause-reads c =
     subst P (sym two) (reads_on first then)
 
 pub returns-clause-reads : goal.returns-clause-reads
-returns-clause-reads c =
+returns-clause-reads g c =
     let p = c.args.at.now.pass.now in
     let two : steps_to_birth c.args.marked.now.word ≡ 2 = ap birth_steps (ap (λ (l : Link). l.slot) (sym c.decode.ensures.link) ∙ c.in-Some.is) in
     let first = birth_in_one (fit p c.law.ensures) c.load_birth-birth.ensures.step c.load_birth-birth.ensures.pool in
@@ -39,7 +39,7 @@ returns-clause-reads c =
     subst P (sym two) (reads_on first then)
 
 pub returns-clause-birth : goal.returns-clause-birth
-returns-clause-birth c =
+returns-clause-birth g c =
     let P : Option ℕ → Type 0 = λ o. BirthNamed (knows c.read_epoch-now.new.self.trace) o c.load_birth-birth.result in
     record {
       keeps = birth_keeps c.load_birth-birth.ensures.step c.read_epoch-now.ensures.step (c.if-now-marked.false ∙ c.requires.marked.held.epoch);
@@ -47,7 +47,7 @@ returns-clause-birth c =
     }
 
 pub returns-then-now-marked-clause-moved : goal.returns-then-now-marked-clause-moved
-returns-then-now-marked-clause-moved c = record {
+returns-then-now-marked-clause-moved g c = record {
   some = search rules;
   rolls = record { moved = search rules; still = λ fresh alone. c.if-now-marked.true (birth_still c.load_birth-birth.ensures.step c.read_epoch-now.ensures.step alone c.law.ensures.shape fresh ∙ sym c.requires.marked.held.epoch) };
 }
