@@ -48,7 +48,12 @@ pub fn find(slots: &Slots, pass: &mut Pass, key: u64, budget: u32) -> Result<Fou
     ensures found { IfOk result (FindsIn pass.old pass.new key budget) }
     ensures tired { IfErr result (GivesUp pass.old pass.new key budget) }
 {
-    pass.at(slots, |at| find_by(at, key, budget))
+    pass.during(
+        |pass|
+            requires own { IsOf pass.old.trace slots.now }
+            requires empty_hand { pass.old.hand ≡ None }
+        { find_by(&mut AtTable { slots, pass }, key, budget) },
+    )
 }
 
 // As `find`, where no step is counted; and how many steps were made.

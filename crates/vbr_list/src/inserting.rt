@@ -163,7 +163,12 @@ pub fn insert(slots: &Slots, pass: &mut Pass, key: u64, budget: u32) -> Result<b
     requires empty_hand { pass.old.hand ≡ None }
     ensures { Calls Insert pass.old pass.new key budget result }
 {
-    pass.at(slots, |at| insert_by(at, key, budget))
+    pass.during(
+        |pass|
+            requires own { IsOf pass.old.trace slots.now }
+            requires empty_hand { pass.old.hand ≡ None }
+        { insert_by(&mut AtTable { slots, pass }, key, budget) },
+    )
 }
 
 // As `insert`, where no step is counted; and how many steps were made.

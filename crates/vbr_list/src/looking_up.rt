@@ -65,7 +65,12 @@ pub fn has(slots: &Slots, pass: &mut Pass, key: u64, budget: u32) -> Result<bool
     requires empty_hand { pass.old.hand ≡ None }
     ensures { Calls Has pass.old pass.new key budget result }
 {
-    pass.at(slots, |at| look_up(at, key, budget))
+    pass.during(
+        |pass|
+            requires own { IsOf pass.old.trace slots.now }
+            requires empty_hand { pass.old.hand ≡ None }
+        { look_up(&mut AtTable { slots, pass }, key, budget) },
+    )
 }
 
 // As `has`, where no step is counted; and how many steps were made.

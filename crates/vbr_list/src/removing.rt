@@ -140,7 +140,12 @@ pub fn remove(slots: &Slots, pass: &mut Pass, key: u64, budget: u32) -> Result<b
     requires empty_hand { pass.old.hand ≡ None }
     ensures { Calls Remove pass.old pass.new key budget result }
 {
-    pass.at(slots, |at| remove_by(at, key, budget))
+    pass.during(
+        |pass|
+            requires own { IsOf pass.old.trace slots.now }
+            requires empty_hand { pass.old.hand ≡ None }
+        { remove_by(&mut AtTable { slots, pass }, key, budget) },
+    )
 }
 
 // As `remove`, where no step is counted; and how many steps were made.
