@@ -95,8 +95,7 @@ fn mark_one_entry(rt: &impl Abort, slots: &Slots<Entries>, pass: &mut Pass) -> M
     mark_entry(slots, pass, &node).expect(rt, "the link is unmarked")
 }
 
-/// Where nodes have values, the value of a node is read in as many steps as its key, and the link that
-/// is marked is all that a removal changes.
+/// A node with a value is read and marked, in eleven steps. Of the words, only its link changes.
 #[test]
 fn an_entry_is_read_and_marked(rt: HostRuntime) -> Result<(), Fail> {
     let (slots, mut passes) = open_with_one_entry(rt.alloc(), Shape::new(1, 1, 10)?)?;
