@@ -1,12 +1,14 @@
 //! Checked access: checkpoints, reads that a moved epoch rolls back, and the steps that calls make.
-ghost use Rattle.std.specs.Prelude.{◌<◌};
-ghost use Rattle.vbr_slots.specs.Views.{IsOf};
+ghost use Rattle.std.specs.Prelude.{◌≡◌, ◌<◌, ◌≤◌, true, IfOk};
+ghost use Rattle.vbr_slots.specs.Views.{IsOf, new_passes};
 
-use crate::running_table::{expect_pass, two_passes};
+use crate::running_table::{close, expect_pass, two_passes};
+use std::alloc::Global;
 use std::process::Abort;
-use vbr_access::{Held, Rollback, checkpoint, first, next};
-use vbr_slots::{Pass, Slots};
-use vbr_words::At;
+use std::test::Fail;
+use vbr_access::{Held, Marked, Rollback, checkpoint, first, key_of, mark_entry, next, value_of};
+use vbr_slots::{OpenError, Pass, Slots};
+use vbr_words::{At, Entries, Shape};
 
 // The epoch moves between a checkpoint and the read of a head.
 fn roll_back(rt: &impl Abort, slots: &Slots, pass: &mut Pass, other: &mut Pass)
@@ -51,4 +53,71 @@ fn a_moved_epoch_rolls_back(rt: HostRuntime) {
     expect_pass(&rt, &pass, (0, 2, 3));
     read_head(&rt, &slots, &mut pass);
     expect_pass(&rt, &pass, (0, 2, 6));
+}
+
+// Opens a table with one pass and one entry, 7 with 107. What found no memory left nothing, so it is
+// tried again.
+fn open_with_one_entry(
+    alloc: Global,
+    shape: Shape,
+) -> Result<(Slots<Entries>, Vec<Pass>), OpenError>
+    requires few { 1 ≤ shape.slots }
+    ensures buckets { IfOk result (λ r. r.0.shape.buckets ≡ shape.buckets) }
+    ensures values { IfOk result (λ r. r.0.shape.values ≡ true) }
+    ensures count { IfOk result (λ r. r.0.passes ≡ 1) }
+    ensures passes { IfOk result (λ r. r.1.items ≡ new_passes r.0 0 1) }
+{
+    match Slots::open_with_entries(alloc, shape, 1, &[(7, 107)]) {
+        Err(OpenError::Memory) => Slots::open_with_entries(alloc, shape, 1, &[(7, 107)]),
+        opened => opened,
+    }
+}
+
+// Reads the one node, whose key is 7 and whose value is 107, and marks it.
+fn mark_one_entry(rt: &impl Abort, slots: &Slots<Entries>, pass: &mut Pass) -> Marked
+    requires own { IsOf pass.old.trace slots.now }
+    requires bucket { 0 < slots.now.shape.buckets }
+    requires values { slots.now.shape.values ≡ true }
+    ensures own { IsOf pass.new.trace slots.now }
+{
+    let point = checkpoint(slots, pass);
+    let head = first(slots, pass, &point, 0).expect(rt, "the epoch has not moved");
+    assert_eq!(rt; (head.at, head.word), (At::Head(0), 33_554_433));
+    let Some(node) = next(slots, pass, &head).expect(rt, "the epoch has not moved") else {
+        panic!(rt; "no node")
+    };
+    assert!(rt; node.word == 33_554_432);
+    assert_eq!(rt; (node.at, node.birth), (At::Slot(0), 1));
+    let key = key_of(slots, pass, &node).expect(rt, "the epoch has not moved");
+    assert_eq!(rt; key, 7);
+    let value = value_of(slots, pass, &node).expect(rt, "the epoch has not moved");
+    assert_eq!(rt; value, 107);
+    mark_entry(slots, pass, &node).expect(rt, "the link is unmarked")
+}
+
+/// A node with a value is read and marked, in eleven steps. Of the words, only its link changes.
+#[test]
+fn an_entry_is_read_and_marked(rt: HostRuntime) -> Result<(), Fail> {
+    let (slots, mut passes) = open_with_one_entry(rt.alloc(), Shape::new(1, 1, 10)?)?;
+    let Some(mut pass) = passes.pop() else {
+        panic!(rt; "no pass")
+    };
+    let marked = mark_one_entry(&rt, &slots, &mut pass);
+    let wanted = Marked {
+        slot: 0,
+        birth: 1,
+        word: 50_331_648,
+        epoch: 1,
+    };
+    assert_eq!(rt; marked, wanted);
+    expect_pass(&rt, &pass, (0, 1, 11));
+    passes.push(pass).ok().ok_or("no room")?;
+    match close(slots, rt.alloc(), passes) {
+        Ok(words) => assert_eq!(rt;
+            words.as_slice(),
+            [1, 167_772_161, 33_554_433, 50_331_648, 1, 0, 7, 107, 0].as_slice()
+        ),
+        Err(_) => panic!(rt; "not closed"),
+    }
+    Ok(())
 }

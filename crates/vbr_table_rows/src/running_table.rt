@@ -37,19 +37,31 @@ pub fn open_two(alloc: Global, shape: Shape) -> Option<(Slots, Pass, Pass)>
     Some((slots, first, second))
 }
 
-// A table with two passes, whose nodes have values, without an entry. What found no memory left nothing,
-// so it is tried again.
+// Opens a table whose nodes have values, without an entry. What found no memory left nothing, so it is
+// tried again.
+fn open_with_values(
+    alloc: Global,
+    shape: Shape,
+    passes: u32,
+) -> Result<(Slots<Entries>, Vec<Pass>), OpenError>
+    requires values { shape.values ≡ true }
+    ensures table { IfOk result (λ r. (r.0.shape ≡ shape) × (r.0.passes ≡ passes)) }
+    ensures passes { IfOk result (λ r. r.1.items ≡ new_passes r.0 0 passes) }
+{
+    match Slots::open_with_entries(alloc, shape, passes, &[]) {
+        Err(OpenError::Memory) => Slots::open_with_entries(alloc, shape, passes, &[]),
+        opened => opened,
+    }
+}
+
+// A table with two passes, whose nodes have values, without an entry.
 pub fn open_two_with_values(alloc: Global, shape: Shape) -> Option<(Slots<Entries>, Pass, Pass)>
     requires values { shape.values ≡ true }
     ensures table { IfSome result (λ r. (r.0.shape ≡ shape) × (r.0.passes ≡ 2)) }
     ensures first { IfSome result (λ r. r.1 ≡ new_pass r.0 0) }
     ensures second { IfSome result (λ r. r.2 ≡ new_pass r.0 1) }
 {
-    let opened = match Slots::open_with_entries(alloc, shape, 2, &[]) {
-        Err(OpenError::Memory) => Slots::open_with_entries(alloc, shape, 2, &[]),
-        opened => opened,
-    };
-    let (slots, mut passes) = opened.ok()?;
+    let (slots, mut passes) = open_with_values(alloc, shape, 2).ok()?;
     let second = passes.pop()?;
     let first = passes.pop()?;
     Some((slots, first, second))
@@ -234,6 +246,35 @@ fn opens_and_closes(rt: HostRuntime) -> Result<(), Fail> {
     Ok(())
 }
 
+#[test]
+fn opens_and_closes_with_values(rt: HostRuntime) -> Result<(), Fail> {
+    let shape = Shape::new(1, 1, 10)?.with_values();
+    assert!(rt;
+        matches!(
+            open_with_values(rt.alloc(), shape, 0),
+            Err(OpenError::Passes)
+        )
+    );
+    assert!(rt;
+        matches!(
+            open_with_values(rt.alloc(), shape, 65),
+            Err(OpenError::Passes)
+        )
+    );
+    let (slots, passes) = open_with_values(rt.alloc(), shape, 2)?;
+    assert!(rt; slots.shape() == shape);
+    match close(slots, rt.alloc(), passes) {
+        Ok(words) => {
+            assert_eq!(rt;
+                words.as_slice(),
+                [1, 167_772_161, 0, 16_777_216, 0, 0, 0, 0, 1].as_slice()
+            )
+        }
+        Err(_) => panic!(rt; "not closed"),
+    }
+    Ok(())
+}
+
 // Opens a table with three keys. What found no memory left nothing, so it is tried again.
 fn open_with_three(alloc: Global, shape: Shape) -> Result<(Slots, Vec<Pass>), OpenError>
     requires bare { shape.values ≡ false }
@@ -336,7 +377,7 @@ fn opens_with_entries(rt: HostRuntime) -> Result<(), Fail> {
 
 // Two passes reach for slot 0 and advance the epoch, and the first of them wins both. Once it has put the
 // slot back, the other takes it.
-fn share(rt: &impl Abort, slots: &Slots, a: &mut Pass, b: &mut Pass)
+fn share<N: Nodes>(rt: &impl Abort, slots: &Slots<N>, a: &mut Pass, b: &mut Pass)
     requires first { IsOf a.old.trace slots.now }
     requires second { IsOf b.old.trace slots.now }
     requires shape { (0 < slots.now.shape.slots) × (1 < slots.now.shape.last_epoch) }
@@ -355,10 +396,10 @@ fn share(rt: &impl Abort, slots: &Slots, a: &mut Pass, b: &mut Pass)
 }
 
 // Closes a table without its second pass, which is refused, and then with both.
-fn close_late(
+fn close_late<N: Nodes>(
     rt: &impl Abort,
     alloc: Global,
-    slots: Slots,
+    slots: Slots<N>,
     first: Pass,
     second: Pass,
 ) -> Option<Vec<u64>>
@@ -406,6 +447,36 @@ fn two_passes_share_a_slot(rt: HostRuntime) {
 }
 
 #[test]
+fn two_passes_share_a_slot_with_a_value(rt: HostRuntime) -> Result<(), Fail> {
+    let shape = Shape::new(2, 1, 10)?.with_values();
+    let Some((slots, mut a, mut b)) = open_two_with_values(rt.alloc(), shape) else {
+        panic!(rt; "no memory")
+    };
+    share(&rt, &slots, &mut a, &mut b);
+    expect_pass(&rt, &a, (0, 1, 5));
+    expect_pass(&rt, &b, (1, 2, 4));
+    let words = close_late(&rt, rt.alloc(), slots, a, b).expect(&rt, "the table is closed");
+    let wanted = [
+        2,
+        167_772_162,
+        0,
+        16_777_216,
+        0,
+        0,
+        0,
+        0,
+        16_777_216,
+        0,
+        0,
+        0,
+        0,
+        2,
+    ];
+    assert_eq!(rt; words.as_slice(), wanted.as_slice());
+    Ok(())
+}
+
+#[test]
 fn a_slot_is_born_in(rt: HostRuntime) -> Result<(), Fail> {
     let Some((slots, mut a, b)) = open_two(rt.alloc(), Shape::new(1, 1, 10)?) else {
         panic!(rt; "no memory")
@@ -428,6 +499,30 @@ fn a_slot_is_born_in(rt: HostRuntime) -> Result<(), Fail> {
 }
 
 #[test]
+fn a_slot_is_born_in_with_a_value(rt: HostRuntime) -> Result<(), Fail> {
+    let shape = Shape::new(1, 1, 10)?.with_values();
+    let Some((slots, mut a, b)) = open_two_with_values(rt.alloc(), shape) else {
+        panic!(rt; "no memory")
+    };
+    assert!(rt; slots.read_epoch(&mut a) == 1);
+    assert!(rt; slots.take_flag(&mut a, 0).is_ok());
+    assert!(rt; slots.load_stamp(&mut a, 0) == 0);
+    slots.store_birth(&mut a, 0);
+    assert!(rt; a.in_hand() == Some(0) && a.pool().is_empty());
+    slots.store_key(&mut a, 0, 7);
+    slots.store_value(&mut a, 0, 107);
+    slots.store_link(&mut a, 0, 33_554_432);
+    let Some(words) = close_two(rt.alloc(), slots, a, b) else {
+        panic!(rt; "no words")
+    };
+    assert_eq!(rt;
+        words.as_slice(),
+        [1, 167_772_161, 0, 33_554_432, 1, 0, 7, 107, 0].as_slice()
+    );
+    Ok(())
+}
+
+#[test]
 fn one_pass_bears_a_slot(rt: HostRuntime) -> Result<(), Fail> {
     let (slots, mut passes) = open(rt.alloc(), Shape::new(1, 1, 10)?, 1)?;
     let Some(mut a) = passes.pop() else {
@@ -443,6 +538,30 @@ fn one_pass_bears_a_slot(rt: HostRuntime) -> Result<(), Fail> {
         Ok(words) => assert_eq!(rt;
             words.as_slice(),
             [1, 167_772_161, 0, 33_554_432, 1, 0, 7, 0].as_slice()
+        ),
+        Err(_) => panic!(rt; "not closed"),
+    }
+    Ok(())
+}
+
+#[test]
+fn one_pass_bears_a_slot_with_a_value(rt: HostRuntime) -> Result<(), Fail> {
+    let shape = Shape::new(1, 1, 10)?.with_values();
+    let (slots, mut passes) = open_with_values(rt.alloc(), shape, 1)?;
+    let Some(mut a) = passes.pop() else {
+        panic!(rt; "no pass")
+    };
+    assert!(rt; slots.read_epoch(&mut a) == 1);
+    assert!(rt; slots.take_flag(&mut a, 0).is_ok());
+    slots.store_birth(&mut a, 0);
+    slots.store_key(&mut a, 0, 7);
+    slots.store_value(&mut a, 0, 107);
+    slots.store_link(&mut a, 0, 33_554_432);
+    passes.push(a).ok().ok_or("no room")?;
+    match close(slots, rt.alloc(), passes) {
+        Ok(words) => assert_eq!(rt;
+            words.as_slice(),
+            [1, 167_772_161, 0, 33_554_432, 1, 0, 7, 107, 0].as_slice()
         ),
         Err(_) => panic!(rt; "not closed"),
     }

@@ -4,8 +4,8 @@ use Rattle.std.specs.Prelude.{List, Result, Ok, Err, unwrap_or}
 use Rattle.vbr_words.specs.Words.{link_of, word_of}
 use Rattle.vbr_machine.specs.Links.{link_to}
 use Rattle.vbr_machine.specs.Knowledge.{Know, birth_of}
-use Rattle.vbr_machine.specs.Learning.{birth_in_hand, with_key}
-use Rattle.vbr_machine.specs.declared.event.Step.TheVariants.{ReadEpoch, LoadStamp, TakeFlag, StoreBirth, StoreKey}
+use Rattle.vbr_machine.specs.Learning.{birth_in_hand, with_key, with_value}
+use Rattle.vbr_machine.specs.declared.event.Step.TheVariants.{ReadEpoch, LoadStamp, TakeFlag, StoreBirth, StoreKey, StoreValue}
 use Rattle.vbr_machine.specs.declared.knowledge.Read.{Read}
 use Rattle.vbr_machine.specs.declared.knowledge.Holding.{Holding}
 use Rattle.vbr_machine.specs.declared.knowledge.Holding.TheVariants.{Free, Unlinked, InHand}
@@ -40,6 +40,15 @@ keyed (Some (InHand known)) key = refl
 
 pub keyed_birth : (p q : Trace) (s key r : ℕ) → Did (StoreKey s key) p q r → birth_in_hand ((knows q).own s) ≡ birth_in_hand ((knows p).own s)
 keyed_birth p q s key r d = ap birth_in_hand (ap (λ (k : Know). k.own s) d.know ∙ put_here (knows p).own s _) ∙ keyed ((knows p).own s) key
+
+valued : (holding : Option Holding) (value : ℕ) → birth_in_hand (with_value holding value) ≡ birth_in_hand holding
+valued None value = refl
+valued (Some (Free stamp)) value = refl
+valued (Some (Unlinked reread)) value = refl
+valued (Some (InHand known)) value = refl
+
+pub valued_birth : (p q : Trace) (s value r : ℕ) → Did (StoreValue s value) p q r → birth_in_hand ((knows q).own s) ≡ birth_in_hand ((knows p).own s)
+valued_birth p q s value r d = ap birth_in_hand (ap (λ (k : Know). k.own s) d.know ∙ put_here (knows p).own s _) ∙ valued ((knows p).own s) value
 
 -- ---- the link word 33554432: to none, with version 1
 
