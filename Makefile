@@ -148,11 +148,6 @@ gate:
 	@tools/layout
 	@RT_JOBS="$${RT_JOBS:-$$(getconf _NPROCESSORS_ONLN)}" $(RT) ci
 	@tools/after-gate
-	@tests/tools
-	@SOAK=100000000 bindings/test
-	@tests/faults
-	@tests/fuzz/run --kept
-	@tests/fuzz/run 300000 20000
 	@tools/prebuilt --gate
 	@echo 'make gate: ok'
 

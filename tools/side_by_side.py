@@ -1,4 +1,7 @@
-"""Commands that wait for one another, as many at a time as there are processors and memory for."""
+"""Commands that wait for one another, as many at a time as there are processors and memory for.
+
+The first of them is the one with the longest chain of work behind it. It has all processors that it can use. A check leaves
+processors idle at its beginning and its end, so the others run beside it, on half as many jobs and at a lower priority."""
 import os
 import signal
 import subprocess
@@ -8,6 +11,8 @@ import time
 from crates import ROOT
 
 LOGS = f"{ROOT}/target/log"
+# The priority of what runs beside the first: so much nicer.
+NICER = 10
 
 
 def processors():
@@ -23,7 +28,7 @@ class Task:
     def __init__(self, name, words, after=(), most=1, work=1, memory=0, cwd=ROOT, what="proved", alone=False):
         self.name, self.words, self.after, self.most, self.work = name, words, list(after), most, work
         self.memory, self.cwd, self.what, self.alone = memory, cwd, what, alone
-        self.jobs, self.status, self.seconds, self.worked = 0, None, 0, 0
+        self.jobs, self.is_first, self.status, self.seconds, self.worked = 0, True, None, 0, 0
 
     def log(self):
         return f"{LOGS}/{self.name}.log"
@@ -32,11 +37,12 @@ class Task:
         with open(self.log(), encoding="utf-8", errors="replace") as it:
             return it.read()
 
-    def start(self, jobs):
+    def start(self, jobs, is_first):
         os.makedirs(LOGS, exist_ok=True)
-        self.jobs, self.began = jobs, time.monotonic()
+        self.jobs, self.is_first, self.began = jobs, is_first, time.monotonic()
+        words = self.words(jobs) if is_first else ["nice", "-n", str(NICER), *self.words(jobs)]
         with open(self.log(), "wb") as log:
-            self.ran = subprocess.Popen(self.words(jobs), cwd=self.cwd, stdin=subprocess.DEVNULL, stdout=log, stderr=subprocess.STDOUT, start_new_session=True)
+            self.ran = subprocess.Popen(words, cwd=self.cwd, stdin=subprocess.DEVNULL, stdout=log, stderr=subprocess.STDOUT, start_new_session=True)
 
     def has_ended(self):
         pid, status, used = os.wait4(self.ran.pid, os.WNOHANG)
@@ -73,20 +79,26 @@ def chains(tasks):
 
 
 def begin(ready, running, behind, lanes, memory, say):
-    """Starts what can be started of these, those with the longest chains first. They share the processors by their chains."""
+    """Starts what can be started of these, those with the longest chains first. The first has the processors; the others share
+    what it can't use, and half as many again, by their chains."""
     ready = sorted(ready, key=lambda it: -behind[it.name])
     for at, task in enumerate(ready):
-        idle = lanes - sum(it.jobs for it in running)
-        if idle < 1:
-            return
-        share = round(idle * behind[task.name] / sum(behind[it.name] for it in ready[at:]))
-        jobs = max(1, min(task.most, share, idle))
+        is_first = not any(it.is_first for it in running)
+        if is_first:
+            jobs = min(task.most, lanes)
+        else:
+            first = sum(it.jobs for it in running if it.is_first)
+            idle = max(lanes - first, lanes // 2) - sum(it.jobs for it in running if not it.is_first)
+            if idle < 1:
+                return
+            share = round(idle * behind[task.name] / sum(behind[it.name] for it in ready[at:]))
+            jobs = max(1, min(task.most, share, idle))
         room = memory - sum(it.takes(it.jobs) for it in running)
         while jobs > 1 and task.takes(jobs) > room:
             jobs -= 1
         if running and task.takes(jobs) > room:
             continue
-        task.start(jobs)
+        task.start(jobs, is_first)
         running.append(task)
         say(task)
 
