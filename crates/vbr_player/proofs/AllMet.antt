@@ -1,54 +1,73 @@
 -- Workers that meet one of them, and that one then meets, have all met.
-use Rattle.std.proofs.Common.{◌≡◌, ℕ, zero, suc, ◌+◌, ◌<◌, ◌≤◌, List, [], ◌∷◌, ◌++◌, length, get_or, take, drop, refl, sym, ap, ◌∙◌, subst, arith}
+use Rattle.std.proofs.Common.{◌≡◌, ℕ, zero, suc, ◌+◌, ◌-◌, ◌<◌, ◌≤◌, List, [], ◌∷◌, ◌++◌, length, get_or, take, drop, refl, sym, ap, ◌∙◌, subst, arith, length-append}
 use Rattle.std.specs.Prelude.{All}
 use Rattle.std.specs.List.{AllZip}
 use Rattle.std.proofs.Math.ListN.{set}
 use Rattle.std.proofs.Math.Seq.{take-append_seam}
-use Rattle.std.proofs.lemmas.List.{take_all, take_more_set}
+use Rattle.std.proofs.lemmas.List.{get_or-set_other, take_all, take_more_set}
 use Rattle.std.proofs.lemmas.List.Elements.{All-nil, All-head, All-tail, All-cons, All-push, All-more}
 use Rattle.vbr_machine.specs.Runs.{Begins}
 use Rattle.vbr_machine.specs.declared.event.Event.{Event}
 use Rattle.vbr_machine.proofs.Lemmas.{begins_refl, begins_trans}
-use Rattle.vbr_slots.proofs.Lemmas.{same_on, same_refl}
-use Rattle.vbr_slots.specs.Calls.{Quiet}
-use Rattle.vbr_slots.specs.Views.{TableView, KeepsPool}
+use Rattle.vbr_slots.proofs.Lemmas.{quiet_on, quiet_refl}
+use Rattle.vbr_slots.specs.Views.{PassView, TableView}
+use Rattle.vbr_set.specs.Meetings.{HasMet}
 use Rattle.vbr_set.specs.Members.{MemberView}
-use Rattle.vbr_player.specs.Meeting.{AreOfOne, HasSeenMore, Meets, MeetsOthers}
+use Rattle.vbr_player.specs.Meeting.{AreOfOne, HasLooked, HasSeenMore, Meets, MeetsOthers}
 use Rattle.vbr_player.specs.declared.worker.Worker.{Worker}
 use Rattle.vbr_player.proofs.Starting.{one_behind}
 use Rattle.vbr_player.proofs.Zips.{zip-length, zip-snoc}
 
 -- ---- looking on
 
-pub looks_refl : (p : Worker) → HasSeenMore p p
-looks_refl p = record { set = refl; same = same_refl p.caller.pass.trace; seen = begins_refl p.caller.pass.trace.seen; calls = refl; pool = refl; hand = refl; replies = refl }
+pub unmoved : (m : MemberView) → HasLooked 0 m m
+unmoved m = record { set = refl; quiet = quiet_refl m.pass.trace; pool = (refl, refl); met = (0, refl); steps = omega arith }
 
-pub looks_on : (p q r : Worker) → HasSeenMore p q → HasSeenMore q r → HasSeenMore p r
-looks_on p q r first then =
-    record {
-      set = then.set ∙ first.set;
-      same = same_on first.same then.same;
-      seen = begins_trans p.caller.pass.trace.seen q.caller.pass.trace.seen r.caller.pass.trace.seen first.seen then.seen;
-      calls = then.calls ∙ first.calls;
-      pool = then.pool ∙ first.pool;
-      hand = then.hand ∙ first.hand;
-      replies = then.replies ∙ first.replies;
-    }
+-- one more is met
+pub meets_more : {times : ℕ} (m n : MemberView) (other : PassView) (l : MemberView) → HasLooked times m n → l.set ≡ n.set → HasMet n.pass other l.pass → HasLooked (times + 1) m l
+meets_more m n other l first same met = record {
+  set = same ∙ first.set;
+  quiet = quiet_on first.quiet met.shares.quiet;
+  pool = (met.pool.0 ∙ first.pool.0, met.pool.1 ∙ first.pool.1);
+  met = (suc first.met.0, (n, first.met.1, same, other, met));
+  steps = (let made = met.step.1.steps in let few = first.steps in omega arith);
+}
 
-pub all_look : (ps : List Worker) → AllZip HasSeenMore ps ps
-all_look [] = tt
-all_look (p ∷ ps) = (looks_refl p, all_look ps)
+-- one is
+pub meets_one : (m : MemberView) (other : PassView) (l : MemberView) → l.set ≡ m.set → HasMet m.pass other l.pass → HasLooked 1 m l
+meets_one m other l same met = meets_more m m other l (unmoved m) same met
 
--- one of them looks once more
-looks_set : (ps qs : List Worker) (i : ℕ) (d r : Worker) → i < length qs → AllZip HasSeenMore ps qs → HasSeenMore (get_or qs i d) r → AllZip HasSeenMore ps (set qs i r)
-looks_set (p ∷ ps) (q ∷ qs) zero d r inside looks look = (looks_on p q r looks.0 look, looks.1)
-looks_set (p ∷ ps) (q ∷ qs) (suc i) d r inside looks look = (looks.0, looks_set ps qs i d r (omega arith) looks.1 look)
-looks_set ps [] i d r inside looks look = absurd (omega arith)
-looks_set [] (q ∷ qs) i d r inside looks look = absurd looks
+-- so many at most, so more at most
+looks_within : (few most : ℕ) (p q : Worker) → few ≤ most → HasSeenMore few p q → HasSeenMore most p q
+looks_within few most p q less looks = record {
+  looked = record {
+    set = looks.looked.set;
+    quiet = looks.looked.quiet;
+    pool = looks.looked.pool;
+    met = looks.looked.met;
+    steps = (let made = looks.looked.steps in omega arith);
+  };
+  replies = looks.replies;
+}
 
--- a worker that has met looks on
-pub met_looks : (p : Worker) (q : MemberView) → q.set ≡ p.caller.set → Quiet p.caller.pass.trace q.pass.trace → KeepsPool p.caller.pass q.pass → HasSeenMore p (record { caller = q; replies = p.replies })
-met_looks p q set quiet keeps = record { set = set; same = quiet.same; seen = quiet.seen; calls = quiet.calls; pool = keeps.0; hand = keeps.1; replies = refl }
+all_within : (few most : ℕ) (ps qs : List Worker) → (0 < length ps → few ≤ most) → AllZip (HasSeenMore few) ps qs → AllZip (HasSeenMore most) ps qs
+all_within few most [] [] less looks = tt
+all_within few most (p ∷ ps) (q ∷ qs) less looks =
+    let within : few ≤ most = less (omega arith) in
+    (looks_within few most p q within looks.0, all_within few most ps qs (λ some. within) looks.1)
+all_within few most [] (q ∷ qs) less looks = absurd looks
+all_within few most (p ∷ ps) [] less looks = absurd looks
+
+pub all_look : (most : ℕ) (ps : List Worker) → AllZip (HasSeenMore most) ps ps
+all_look most [] = tt
+all_look most (p ∷ ps) = (looks_within 0 most p p (omega arith) (record { looked = unmoved p.caller; replies = refl }), all_look most ps)
+
+-- one of them looks
+looks_set : (most : ℕ) (ps qs : List Worker) (i : ℕ) (d r : Worker) → i < length qs → AllZip (HasSeenMore most) ps qs → HasSeenMore most (get_or ps i d) r → AllZip (HasSeenMore most) ps (set qs i r)
+looks_set most (p ∷ ps) (q ∷ qs) zero d r inside looks look = (look, looks.1)
+looks_set most (p ∷ ps) (q ∷ qs) (suc i) d r inside looks look = (looks.0, looks_set most ps qs i d r (omega arith) looks.1 look)
+looks_set most ps [] i d r inside looks look = absurd (omega arith)
+looks_set most [] (q ∷ qs) i d r inside looks look = absurd looks
 
 -- ---- one worker and some others
 
@@ -80,27 +99,37 @@ seen_all ps i run all seen = subst (All (λ (p : Worker). Begins p.caller.pass.t
 
 -- ---- one pass is shown to workers
 
+-- those from one on are as they were
+abbrev pub AreLeft : ℕ → List Worker → List Worker → Type 0
+AreLeft i ps qs = (k : ℕ) (d : Worker) → i ≤ k → get_or qs k d ≡ get_or ps k d
+
 -- one worker more looks
-pub shown_more : (ps qs : List Worker) (i : ℕ) (d : Worker) (q : MemberView) → i < length ps → AllZip HasSeenMore ps qs → q.set ≡ (get_or qs i d).caller.set → Quiet (get_or qs i d).caller.pass.trace q.pass.trace → KeepsPool (get_or qs i d).caller.pass q.pass → AllZip HasSeenMore ps (set qs i (record { caller = q; replies = (get_or qs i d).replies }))
-shown_more ps qs i d q inside looks same quiet keeps =
-    looks_set ps qs i d (record { caller = q; replies = (get_or qs i d).replies }) (omega (arith, zip-length HasSeenMore ps qs looks)) looks (met_looks (get_or qs i d) q same quiet keeps)
+pub shown_more : (ps qs : List Worker) (i : ℕ) (d : Worker) (other : PassView) (q : MemberView) → i < length ps → AllZip (HasSeenMore 1) ps qs → AreLeft i ps qs → q.set ≡ (get_or qs i d).caller.set → HasMet (get_or qs i d).caller.pass other q.pass → AllZip (HasSeenMore 1) ps (set qs i (record { caller = q; replies = (get_or qs i d).replies }))
+shown_more ps qs i d other q inside looks left same met =
+    let now : Worker = record { caller = q; replies = (get_or qs i d).replies } in
+    let look : HasSeenMore 1 (get_or qs i d) now = record { looked = meets_one (get_or qs i d).caller other q same met; replies = refl } in
+    looks_set 1 ps qs i d now (omega (arith, zip-length (HasSeenMore 1) ps qs looks)) looks (subst (λ (w : Worker). HasSeenMore 1 w now) (left i d (omega arith)) look)
+
+-- the others are as they were
+pub left_more : (ps qs : List Worker) (i : ℕ) (r : Worker) → AreLeft i ps qs → AreLeft (i + 1) ps (set qs i r)
+left_more ps qs i r left = λ k d later. get_or-set_other qs i k r d (λ same. omega arith) ∙ left k d (omega arith)
 
 -- and has seen what the pass has
-pub sees_more : (seen : List Event) (ps qs : List Worker) (i : ℕ) (r : Worker) → i < length ps → AllZip HasSeenMore ps qs → All (λ q. Begins seen q.caller.pass.trace.seen) (take i qs) → Begins seen r.caller.pass.trace.seen → All (λ q. Begins seen q.caller.pass.trace.seen) (take (i + 1) (set qs i r))
+pub sees_more : (seen : List Event) (ps qs : List Worker) (i : ℕ) (r : Worker) → i < length ps → AllZip (HasSeenMore 1) ps qs → All (λ q. Begins seen q.caller.pass.trace.seen) (take i qs) → Begins seen r.caller.pass.trace.seen → All (λ q. Begins seen q.caller.pass.trace.seen) (take (i + 1) (set qs i r))
 sees_more seen ps qs i r inside looks before now =
     let P = λ (q : Worker). Begins seen q.caller.pass.trace.seen in
-    subst (All P) (sym (take_more_set qs i r (omega (arith, zip-length HasSeenMore ps qs looks)))) (All-push P (take i qs) r before now)
+    subst (All P) (sym (take_more_set qs i r (omega (arith, zip-length (HasSeenMore 1) ps qs looks)))) (All-push P (take i qs) r before now)
 
 -- a worker is of the set that it was of
-pub still_of : (set : TableView) (ps qs : List Worker) (i : ℕ) (d : Worker) → i < length ps → AllZip HasSeenMore ps qs → All (λ p. p.caller.set ≡ set) ps → (get_or qs i d).caller.set ≡ set
-still_of set (p ∷ ps) (q ∷ qs) zero d inside looks of = looks.0.set ∙ All-head (λ (w : Worker). w.caller.set ≡ set) p ps of
+pub still_of : (set : TableView) (ps qs : List Worker) (i : ℕ) (d : Worker) → i < length ps → AllZip (HasSeenMore 1) ps qs → All (λ p. p.caller.set ≡ set) ps → (get_or qs i d).caller.set ≡ set
+still_of set (p ∷ ps) (q ∷ qs) zero d inside looks of = looks.0.looked.set ∙ All-head (λ (w : Worker). w.caller.set ≡ set) p ps of
 still_of set (p ∷ ps) (q ∷ qs) (suc i) d inside looks of = still_of set ps qs i d (omega arith) looks.1 (All-tail (λ (w : Worker). w.caller.set ≡ set) p ps of)
 still_of set [] qs i d inside looks of = absurd (omega arith)
 still_of set (p ∷ ps) [] i d inside looks of = absurd looks
 
 -- all of them do
-pub all_see : (seen : List Event) (ps qs : List Worker) (i : ℕ) → length ps ≤ i → AllZip HasSeenMore ps qs → All (λ q. Begins seen q.caller.pass.trace.seen) (take i qs) → All (λ q. Begins seen q.caller.pass.trace.seen) qs
-all_see seen ps qs i all looks before = subst (All (λ (q : Worker). Begins seen q.caller.pass.trace.seen)) (take_all i qs (omega (arith, zip-length HasSeenMore ps qs looks))) before
+pub all_see : (seen : List Event) (ps qs : List Worker) (i : ℕ) → length ps ≤ i → AllZip (HasSeenMore 1) ps qs → All (λ q. Begins seen q.caller.pass.trace.seen) (take i qs) → All (λ q. Begins seen q.caller.pass.trace.seen) qs
+all_see seen ps qs i all looks before = subst (All (λ (q : Worker). Begins seen q.caller.pass.trace.seen)) (take_all i qs (omega (arith, zip-length (HasSeenMore 1) ps qs looks))) before
 
 -- ---- a pass that meets workers
 
@@ -109,10 +138,10 @@ pub still_here : (ps qs : List Worker) (p q : MemberView) → qs ≡ ps → q.se
 still_here ps qs p q are set of = subst (All (λ (w : Worker). w.caller.set ≡ q.set)) (sym are) (λ k d inside. of k d inside ∙ sym set)
 
 -- the pass has seen them, and was shown to them
-pub seen_and_shown : (ps same qs : List Worker) (p mid q : MemberView) → same ≡ ps → mid.set ≡ p.set → Quiet p.pass.trace mid.pass.trace → KeepsPool p.pass mid.pass → All (λ w. Begins w.caller.pass.trace.seen mid.pass.trace.seen) ps → q ≡ mid → AllZip HasSeenMore same qs → All (λ w. Begins mid.pass.trace.seen w.caller.pass.trace.seen) qs → MeetsOthers p q ps qs
-seen_and_shown ps same qs p mid q are set quiet pool from is looks to =
+pub seen_and_shown : (ps same qs : List Worker) (p mid q : MemberView) → same ≡ ps → HasLooked (length ps) p mid → All (λ w. Begins w.caller.pass.trace.seen mid.pass.trace.seen) ps → q ≡ mid → AllZip (HasSeenMore 1) same qs → All (λ w. Begins mid.pass.trace.seen w.caller.pass.trace.seen) qs → MeetsOthers p q ps qs
+seen_and_shown ps same qs p mid q are looked from is looks to =
     subst (λ (m : MemberView). MeetsOthers p m ps qs) (sym is)
-    (record { set = set; quiet = quiet; pool = pool; looks = subst (λ (ws : List Worker). AllZip HasSeenMore ws qs) are looks; from = from; to = to })
+    (record { looked = looked; looks = subst (λ (ws : List Worker). AllZip (HasSeenMore 1) ws qs) are looks; from = from; to = to })
 
 -- ---- all workers
 
@@ -133,17 +162,21 @@ of_others ps before same last are is of =
 pub all_met : (ps before after : List Worker) (last : Worker) (q : MemberView) → ps ≡ before ++ last ∷ [] → MeetsOthers last.caller q before after → Meets ps (after ++ record { caller = q; replies = last.replies } ∷ [])
 all_met ps before after last q are met =
     let now : Worker = record { caller = q; replies = last.replies } in
+    let long : length before ≡ length (before ++ last ∷ []) - 1 = omega (arith, length-append before (last ∷ [])) in
+    let most = length (before ++ last ∷ []) - 1 in
+    let look : HasSeenMore most last now = subst (λ (k : ℕ). HasSeenMore k last now) long (record { looked = met.looked; replies = refl }) in
+    let looks : AllZip (HasSeenMore most) before after = all_within 1 most before after (λ some. omega arith) met.looks in
     subst (λ (ws : List Worker). Meets ws (after ++ now ∷ [])) (sym are)
     (record {
-      looks = zip-snoc HasSeenMore before after last now met.looks (met_looks last q met.set met.quiet met.pool);
+      looks = zip-snoc (HasSeenMore most) before after last now looks look;
       moment = q.pass.trace.seen;
-      from = All-push (λ (p : Worker). Begins p.caller.pass.trace.seen q.pass.trace.seen) before last met.from met.quiet.seen;
+      from = All-push (λ (p : Worker). Begins p.caller.pass.trace.seen q.pass.trace.seen) before last met.from met.looked.quiet.seen;
       to = All-push (λ (p : Worker). Begins q.pass.trace.seen p.caller.pass.trace.seen) after now met.to (begins_refl q.pass.trace.seen);
     })
 
 -- workers that met, written back
 pub met_back : (before same after : List Worker) (p q : MemberView) (len : ℕ) → len ≡ length before → same ≡ before → MeetsOthers p q same after → MeetsOthers p q before (take len (after ++ drop (length after) before))
 met_back before same after p q len all is met =
-    let as_many : length after ≡ length same = zip-length HasSeenMore same after met.looks in
+    let as_many : length after ≡ length same = zip-length (HasSeenMore 1) same after met.looks in
     let back : take len (after ++ drop (length after) before) ≡ after = rw (all ∙ sym (as_many ∙ ap length is)) (take-append_seam after (drop (length after) before)) in
     subst (MeetsOthers p q before) (sym back) (subst (λ (ws : List Worker). MeetsOthers p q ws after) is met)

@@ -1,6 +1,8 @@
 mod Slices
 mod Replying
 mod Working
+mod Calling
+mod Lone
 mod Starting
 mod AllMet
 mod Standing

@@ -1,5 +1,5 @@
 -- The lines of the next phase, behind those of the phases before.
-use Rattle.std.proofs.Common.{◌≡◌, ℕ, ◌+◌, ◌-◌, ◌<◌, ◌≤◌, List, [], ◌++◌, length, take, drop, sym, ap, subst, ◌∙◌, arith, append-nil, length-drop}
+use Rattle.std.proofs.Common.{◌≡◌, ℕ, ◌+◌, ◌-◌, ◌*◌, ◌<◌, ◌≤◌, List, [], ◌++◌, length, take, drop, sym, ap, subst, ◌∙◌, arith, append-nil, length-drop}
 use Rattle.std.specs.Prelude.{nat_le, All}
 use Rattle.std.specs.List.{prefix_len}
 use Rattle.std.proofs.Math.Seq.{take-add}
@@ -45,11 +45,11 @@ cuts script first n phase is early up =
     }
 
 -- no lines are left behind the last phase
-pub all_played : (set : TableView) (script : List Line) (first phase phases count : ℕ) (workers : List Worker) → phase ≡ phases → All (λ line. line.phase < phases) script → AscendFrom phase (drop first script) → Stand set script (take first script) count phase workers → Stand set script script count phases workers
-all_played set script first phase phases count workers is below up stand =
+pub all_played : (set : TableView) (budget : ℕ) (script : List Line) (first from phase phases count : ℕ) (workers : List Worker) → phase ≡ phases → All (λ line. line.phase < phases) script → AscendFrom phase (drop first script) → Stand set budget script (take first script) count from phase workers → Stand set budget script script count from phases workers
+all_played set budget script first from phase phases count workers is below up stand =
     let none : drop first script ≡ [] = none_left phases (drop first script) (subst (λ (k : ℕ). AscendFrom k (drop first script)) is up) (All-drop (λ (line : Line). line.phase < phases) first script below) in
     let all : take first script ≡ script = sym (append-nil (take first script)) ∙ ap (λ (lines : List Line). take first script ++ lines) (sym none) ∙ take-append-drop first script in
-    subst (λ (k : List Line × ℕ). Stand set script k.0 count k.1 workers) (λ i. (all i, is i)) stand
+    subst (λ (k : List Line × ℕ). Stand set budget script k.0 count from k.1 workers) (λ i. (all i, is i)) stand
 
 -- the rest of some lines
 pub rest_of : (lines : List Line) (first : ℕ) → take (length lines - first) (drop first lines) ≡ drop first lines
@@ -60,12 +60,12 @@ pub slice_of : (lines : List Line) (first n : ℕ) → take (first + n - first) 
 slice_of lines first n = ap (λ (k : ℕ). take k (drop first lines)) (let e : first + n - first ≡ n = omega arith in e)
 
 -- the workers have room for the lines of the next phase
-pub next_room : (set : TableView) (script : List Line) (first n phase count : ℕ) (workers : List Worker) → Cuts script first n phase → Stand set script (take first script) count phase workers → HaveRoom workers (take (first + n - first) (drop first script))
-next_room set script first n phase count workers cut stand =
-    subst (λ (lines : List Line). HaveRoom workers lines) (sym (slice_of script first n)) (all_room set script (take first script) (take n (drop first script)) (drop (first + n) script) workers cut.left stand.played)
+pub next_room : (set : TableView) (budget : ℕ) (script : List Line) (first n from phase count : ℕ) (workers : List Worker) → Cuts script first n phase → Stand set budget script (take first script) count from phase workers → HaveRoom workers (take (first + n - first) (drop first script))
+next_room set budget script first n from phase count workers cut stand =
+    subst (λ (lines : List Line). HaveRoom workers lines) (sym (slice_of script first n)) (all_room set budget ((count - 1) * (phase - from)) script (take first script) (take n (drop first script)) (drop (first + n) script) workers cut.left stand.played)
 
 -- they stand behind it when they have played it and met
-pub stand_behind : (set : TableView) (script : List Line) (first n phase count : ℕ) (ws us : List Worker) → Cuts script first n phase → Stand set script (take first script) count phase ws → PlayedAndMet (take (first + n - first) (drop first script)) ws us → Stand set script (take (first + n) script) count (phase + 1) us
-stand_behind set script first n phase count ws us cut stand next =
-    let played : PlayedAndMet (take n (drop first script)) ws us = subst (λ (lines : List Line). PlayedAndMet lines ws us) (slice_of script first n) next in
-    subst (λ (lines : List Line). Stand set script lines count (phase + 1) us) (sym cut.taken) (stand_next set script (take first script) (take n (drop first script)) count phase ws us cut.up_to stand played)
+pub stand_behind : (set : TableView) (budget : ℕ) (script : List Line) (first n from phase count : ℕ) (ws us : List Worker) → Cuts script first n phase → Stand set budget script (take first script) count from phase ws → PlayedAndMet budget (take (first + n - first) (drop first script)) ws us → Stand set budget script (take (first + n) script) count from (phase + 1) us
+stand_behind set budget script first n from phase count ws us cut stand next =
+    let played : PlayedAndMet budget (take n (drop first script)) ws us = subst (λ (lines : List Line). PlayedAndMet budget lines ws us) (slice_of script first n) next in
+    subst (λ (lines : List Line). Stand set budget script lines count from (phase + 1) us) (sym cut.taken) (stand_next set budget script (take first script) (take n (drop first script)) count from phase ws us cut.up_to stand played)

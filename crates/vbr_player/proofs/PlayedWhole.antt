@@ -1,5 +1,5 @@
 -- Workers that have played a whole script, and whose passes came to the end of a run, have played it by that run.
-use Rattle.std.proofs.Common.{◌≡◌, ℕ, zero, suc, ◌+◌, ◌<◌, List, [], ◌∷◌, length, get_or, inl, inr, refl, sym, ap, subst, ◌∙◌, arith}
+use Rattle.std.proofs.Common.{◌≡◌, ◌≢◌, ℕ, zero, suc, ◌+◌, ◌-◌, ◌*◌, ◌<◌, ◌≤◌, List, [], ◌∷◌, length, get_or, inl, inr, refl, sym, ap, subst, ◌∙◌, arith}
 use Rattle.std.proofs.lemmas.Bool.{cases_lt}
 use Rattle.std.proofs.lemmas.List.{length-map}
 use Rattle.std.proofs.lemmas.List.Elements.{All-head}
@@ -13,10 +13,12 @@ use Rattle.vbr_machine.specs.declared.event.Event.{Event}
 use Rattle.vbr_machine.specs.declared.history.Op.{Op}
 use Rattle.vbr_machine.proofs.Lemmas.{begins_for_begins, begins_trans, others_leave_calls}
 use Rattle.vbr_slots.specs.Closing.{EachSeen}
-use Rattle.vbr_slots.specs.Views.{Trace, TableView}
-use Rattle.vbr_transcript.specs.Calls.{Outcome, answered_calls, lines_by}
+use Rattle.vbr_slots.specs.Views.{Trace, TableView, new_pass, steps_in, steps_of}
+use Rattle.vbr_set.specs.Members.{as_member}
+use Rattle.vbr_transcript.specs.Calls.{Outcome, answered_calls, lines_by, outcomes_by}
+use Rattle.vbr_player.specs.Calling.{ArePlayed, PlaysOwn, ample}
 use Rattle.vbr_player.specs.Ending.{passes_of}
-use Rattle.vbr_transcript.specs.Merging.{replies_by, HaveReplies}
+use Rattle.vbr_transcript.specs.Merging.{replies_by, HaveReplies, IsMerged}
 use Rattle.vbr_transcript.specs.Phases.{EndsWithin, HavePlayed}
 use Rattle.vbr_transcript.specs.Runs.{MayBeAnswered}
 use Rattle.vbr_script.specs.Scripts.{ArePhased}
@@ -26,37 +28,39 @@ use Rattle.vbr_transcript.specs.declared.reply.Reply.{Reply}
 use Rattle.vbr_transcript.specs.declared.reply.Reply.TheVariants.{Yes, No, Full, Spent, Tired}
 use Rattle.vbr_player.specs.declared.worker.Worker.{Worker}
 use Rattle.vbr_script.specs.declared.script.Line.{Line}
-use Rattle.vbr_transcript.proofs.Lemmas.{epoch_begins, none_beyond}
+use Rattle.vbr_transcript.proofs.Lemmas.{all_lines, all_outcomes, epoch_begins, none_beyond, outcomes_by-own}
+use Rattle.vbr_player.proofs.Calling.{steps_seen}
+use Rattle.vbr_player.proofs.Lone.{lone_untired}
 use Rattle.vbr_player.proofs.Standing.{as_many}
 
 -- ---- one worker
 
 -- the worker of a number has that number, has replied to its lines, and has seen what begins the run
-pub record IsAt (set : TableView) (script : List Line) (run : List Event) (who : ℕ) (own : List Reply) : Type 0 where
+pub record IsAt (set : TableView) (budget most : ℕ) (script : List Line) (run : List Event) (who : ℕ) (own : List Reply) : Type 0 where
   pub worker : Worker
   pub number : worker.caller.pass.trace.who ≡ who
-  pub played : HasPlayed set script script worker
+  pub played : HasPlayed set budget most script script worker
   pub seen : BeginsFor worker.caller.pass.trace.who worker.caller.pass.trace.seen run
   pub replies : worker.replies.items ≡ own
 
 -- there is a worker of each number
-is_at : (set : TableView) (script : List Line) (run : List Event) (n : ℕ) (workers : List Worker) → AreNumberedFrom n workers → ((k : ℕ) (d : Worker) → k < length workers → HasPlayed set script script (get_or workers k d)) → EachSeen run (passes_of workers) → (i : ℕ) → i < length workers → IsAt set script run (n + i) (replies_by i (replies_of workers))
-is_at set script run n [] numbered played seen i inside = absurd (omega arith)
-is_at set script run n (worker ∷ workers) numbered played seen zero inside = record {
+is_at : (set : TableView) (budget most : ℕ) (script : List Line) (run : List Event) (n : ℕ) (workers : List Worker) → AreNumberedFrom n workers → ((k : ℕ) (d : Worker) → k < length workers → HasPlayed set budget most script script (get_or workers k d)) → EachSeen run (passes_of workers) → (i : ℕ) → i < length workers → IsAt set budget most script run (n + i) (replies_by i (replies_of workers))
+is_at set budget most script run n [] numbered played seen i inside = absurd (omega arith)
+is_at set budget most script run n (worker ∷ workers) numbered played seen zero inside = record {
   worker = worker;
   number = numbered.0 ∙ omega arith;
   played = played 0 worker inside;
   seen = seen.0;
   replies = refl;
 }
-is_at set script run n (worker ∷ workers) numbered played seen (suc i) inside =
+is_at set budget most script run n (worker ∷ workers) numbered played seen (suc i) inside =
     let same : suc n + i ≡ n + suc i = omega arith in
-    subst (λ (who : ℕ). IsAt set script run who (replies_by i (replies_of workers))) same
-    (is_at set script run (suc n) workers numbered.1 (λ k d below. played (suc k) d (omega arith)) seen.1 i (omega arith))
+    subst (λ (who : ℕ). IsAt set budget most script run who (replies_by i (replies_of workers))) same
+    (is_at set budget most script run (suc n) workers numbered.1 (λ k d below. played (suc k) d (omega arith)) seen.1 i (omega arith))
 
 -- its calls in the run are its answered lines
-called_at : (set : TableView) (script : List Line) (run : List Event) (who : ℕ) (own : List Reply) → IsAt set script run who own → own_calls set.shape run who ≡ answered_calls (zip (lines_by who script) own)
-called_at set script run who own at =
+called_at : (set : TableView) (budget most : ℕ) (script : List Line) (run : List Event) (who : ℕ) (own : List Reply) → IsAt set budget most script run who own → own_calls set.shape run who ≡ answered_calls (zip (lines_by who script) own)
+called_at set budget most script run who own at =
     let trace = at.worker.caller.pass.trace in
     let rest = at.seen in
     let calls : own_calls set.shape run trace.who ≡ own_calls set.shape trace.seen trace.who = ap (λ (events : List Event). own_calls set.shape events trace.who) rest.1 ∙ others_leave_calls set.shape trace.seen rest.0 trace.who rest.2 in
@@ -71,8 +75,8 @@ may_be_answered p run op Full begins safe tells = tells
 may_be_answered p run op Spent begins safe tells = (tells.0, omega (arith, tells.1, epoch_begins p.shape p.seen run begins, safe.epoch))
 may_be_answered p run op Tired begins safe tells = tt
 
-answers_at : (set : TableView) (script : List Line) (run : List Event) (who : ℕ) (own : List Reply) → IsSafe set.shape run → IsAt set script run who own → All (λ outcome. MayBeAnswered set.shape.last_epoch (world_after set.shape run).epoch outcome.0.op outcome.1) (zip (lines_by who script) own)
-answers_at set script run who own safe at =
+answers_at : (set : TableView) (budget most : ℕ) (script : List Line) (run : List Event) (who : ℕ) (own : List Reply) → IsSafe set.shape run → IsAt set budget most script run who own → All (λ outcome. MayBeAnswered set.shape.last_epoch (world_after set.shape run).epoch outcome.0.op outcome.1) (zip (lines_by who script) own)
+answers_at set budget most script run who own safe at =
     let trace = at.worker.caller.pass.trace in
     let begins = begins_for_begins trace.who trace.seen run at.seen in
     let may : (shape : Dimensions) → Outcome → Type 0 = λ shape outcome. MayBeAnswered shape.last_epoch (world_after shape run).epoch outcome.0.op outcome.1 in
@@ -83,13 +87,13 @@ answers_at set script run who own safe at =
 -- ---- all workers
 
 -- each worker has a reply to each of its lines
-pub have_replies : (set : TableView) (script : List Line) (count phases : ℕ) (workers : List Worker) → ArePhased count phases script → Stand set script script count phases workers → HaveReplies (replies_of workers) script
-have_replies set script count phases workers phased stand = record {
+pub have_replies : (set : TableView) (budget : ℕ) (script : List Line) (count from phases : ℕ) (workers : List Worker) → ArePhased count phases script → Stand set budget script script count from phases workers → HaveReplies (replies_of workers) script
+have_replies set budget script count from phases workers phased stand = record {
   workers = λ k d inside. let below = phased.workers_below k d inside in omega (arith, below, stand.count_is, length-map workers (λ (worker : Worker). worker.replies.items));
   one_each = λ who. elim (cases_lt who (length workers)) [
     | inl one ↦
         let same : 0 + who ≡ who = omega arith in
-        subst (λ (k : ℕ). length (replies_by who (replies_of workers)) ≡ length (lines_by k script)) same (as_many set script script 0 workers stand.numbered stand.played who one)
+        subst (λ (k : ℕ). length (replies_by who (replies_of workers)) ≡ length (lines_by k script)) same (as_many set budget ((count - 1) * (phases - from)) script script 0 workers stand.numbered stand.played who one)
     | inr none ↦
         let no_replies : replies_by who (replies_of workers) ≡ [] = get_or-eq_default (replies_of workers) [] (omega (arith, none, length-map workers (λ (worker : Worker). worker.replies.items))) in
         let no_lines : lines_by who script ≡ [] = none_beyond count who script (omega (arith, none, stand.count_is)) phased.workers_below in
@@ -106,15 +110,62 @@ ends_within set script phase (worker ∷ workers) run some ended seen = record {
   called = ended.called;
 }
 
+-- the worker of a number is at it
+worker_at : (set : TableView) (budget : ℕ) (script : List Line) (count from phases : ℕ) (workers : List Worker) (run : List Event) → Stand set budget script script count from phases workers → EachSeen run (passes_of workers) → (who : ℕ) → who < count → IsAt set budget ((count - 1) * (phases - from)) script run who (replies_by who (replies_of workers))
+worker_at set budget script count from phases workers run stand seen who below =
+    let most = (count - 1) * (phases - from) in
+    let same : 0 + who ≡ who = omega arith in
+    subst (λ (k : ℕ). IsAt set budget most script run k (replies_by who (replies_of workers))) same (is_at set budget most script run 0 workers stand.numbered stand.played seen who (omega (arith, stand.count_is)))
+
 -- they have played the script by the run
-pub have_played : (set : TableView) (script : List Line) (count phases : ℕ) (workers : List Worker) (run : List Event) → 0 < count → Stand set script script count phases workers → EachSeen run (passes_of workers) → IsSafe set.shape run → HavePlayed set.shape count phases script (replies_of workers) run
-have_played set script count phases workers run some stand seen safe = record {
-  called = λ who below. called_at set script run who (replies_by who (replies_of workers)) (at who below);
-  ends = λ phase below. subst (λ (n : ℕ). EndsWithin set.shape n script (replies_of workers) run phase) stand.count_is (ends_within set script phase workers run (omega (arith, some, stand.count_is)) (stand.ended phase below) seen);
-  answers = λ who below. answers_at set script run who (replies_by who (replies_of workers)) safe (at who below);
+pub have_played : (set : TableView) (budget : ℕ) (script : List Line) (count from phases : ℕ) (workers : List Worker) (run : List Event) → 0 < count → Stand set budget script script count from phases workers → EachSeen run (passes_of workers) → IsSafe set.shape run → HavePlayed set.shape count phases script (replies_of workers) run
+have_played set budget script count from phases workers run some stand seen safe =
+    let most = (count - 1) * (phases - from) in
+    let at = worker_at set budget script count from phases workers run stand seen in
+    record {
+      called = λ who below. called_at set budget most script run who (replies_by who (replies_of workers)) (at who below);
+      ends = λ phase below. subst (λ (n : ℕ). EndsWithin set.shape n script (replies_of workers) run phase) stand.count_is (ends_within set script phase workers run (omega (arith, some, stand.count_is)) (stand.ended phase below) seen);
+      answers = λ who below. answers_at set budget most script run who (replies_by who (replies_of workers)) safe (at who below);
+    }
+
+-- ---- calls in turn
+
+-- a list beside one as long
+zip_long : {X Y : Type 0} (xs : List X) (ys : List Y) → length ys ≡ length xs → length (zip xs ys) ≡ length ys
+zip_long [] [] same = refl
+zip_long [] (y ∷ ys) same = absurd (omega arith)
+zip_long (x ∷ xs) [] same = refl
+zip_long (x ∷ xs) (y ∷ ys) same = ap suc (zip_long xs ys (omega arith))
+
+-- a worker played its own outcomes
+own_at : (set : TableView) (budget most : ℕ) (script : List Line) (run : List Event) (who : ℕ) (own : List Reply) → IsAt set budget most script run who own → PlaysOwn set budget (zip (lines_by who script) own) run who × (steps_in who run ≤ budget * length (zip (lines_by who script) own) + most)
+own_at set budget most script run who own at =
+    let trace = at.worker.caller.pass.trace in let replies = at.worker.replies.items in
+    let P : ℕ × List Reply → Type 0 = λ k. PlaysOwn set budget (zip (lines_by k.0 script) k.1) run k.0 × (steps_in k.0 run ≤ budget * length (zip (lines_by k.0 script) k.1) + most) in
+    let made : steps_in trace.who run ≡ steps_of trace = steps_seen trace.who trace.seen run at.seen in
+    let long : length (zip (lines_by trace.who script) replies) ≡ length replies = zip_long (lines_by trace.who script) replies at.played.one_each in
+    let steps : steps_in trace.who run ≤ budget * length (zip (lines_by trace.who script) replies) + most = rw long (let few = at.played.steps in omega arith) in
+    subst P (λ i. (at.number i, at.replies i)) (record { last = at.worker.caller; calls = at.played.in_turn; seen = at.seen }, steps)
+
+-- so they have, and a lone one with an ample budget was never tired
+pub are_played : (set : TableView) (budget : ℕ) (script : List Line) (from phases : ℕ) (workers : List Worker) (replies : List Reply) (run : List Event) → ArePhased set.passes phases script → Stand set budget script script set.passes from phases workers → EachSeen run (passes_of workers) → IsMerged script (replies_of workers) replies → ArePlayed set.passes budget set.shape (phases - from) (zip script replies) run
+are_played set budget script from phases workers replies run phased stand seen merged = record {
+  set = set;
+  shaped = refl;
+  counted = refl;
+  own = λ who below. (own who below).0;
+  steps = λ who below. (own who below).1;
+  untired = λ one enough. all_outcomes (λ outcome. outcome.1 ≢ Tired) set.passes (zip script replies) (all_lines (λ (line : Line). line.worker < set.passes) script replies phased.workers_below) (λ who below. untired one enough who below);
 }
   where
-    at : (who : ℕ) → who < count → IsAt set script run who (replies_by who (replies_of workers))
-    at who below =
-        let same : 0 + who ≡ who = omega arith in
-        subst (λ (k : ℕ). IsAt set script run k (replies_by who (replies_of workers))) same (is_at set script run 0 workers stand.numbered stand.played seen who (omega (arith, stand.count_is)))
+    own : (who : ℕ) → who < set.passes → PlaysOwn set budget (outcomes_by who (zip script replies)) run who × (steps_in who run ≤ budget * length (outcomes_by who (zip script replies)) + (set.passes - 1) * (phases - from))
+    own who below =
+        let are : outcomes_by who (zip script replies) ≡ zip (lines_by who script) (replies_by who (replies_of workers)) = outcomes_by-own who script replies (replies_by who (replies_of workers)) merged.one_each (merged.own_order who) in
+        subst (λ (outcomes : List Outcome). PlaysOwn set budget outcomes run who × (steps_in who run ≤ budget * length outcomes + (set.passes - 1) * (phases - from))) (sym are)
+        (own_at set budget ((set.passes - 1) * (phases - from)) script run who (replies_by who (replies_of workers)) (worker_at set budget script set.passes from phases workers run stand seen who below))
+
+    untired : set.passes ≡ 1 → ample set.shape ≤ budget → (who : ℕ) → who < set.passes → All (λ outcome. outcome.1 ≢ Tired) (outcomes_by who (zip script replies))
+    untired one enough who below =
+        let first : 0 ≡ who = omega arith in
+        let mine = (own who below).0 in
+        lone_untired set budget (outcomes_by who (zip script replies)) (as_member set (new_pass set who)) mine.last one enough (record { table = refl; shape = refl; passes = refl; who = sym first }) mine.calls

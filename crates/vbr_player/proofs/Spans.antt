@@ -15,6 +15,7 @@ use Rattle.vbr_transcript.specs.Calls.{Outcome}
 use Rattle.vbr_transcript.specs.Runs.{AreExplained}
 use Rattle.vbr_transcript.specs.declared.reply.Reply.{Reply}
 use Rattle.vbr_transcript.proofs.Lemmas.{all_lines, ascend_lower, last_set, one_more_set, zip-append}
+use Rattle.vbr_player.specs.Calling.{ArePlayed}
 use Rattle.vbr_player.specs.Spans.{HasPlayedSpan, IsFollowed, IsSpan}
 use Rattle.vbr_player.proofs.Phasing.{rest_of, slice_of}
 use Rattle.vbr_player.proofs.Slices.{all_from, next_phase}
@@ -79,17 +80,17 @@ is_last_span workers phases script first from phased up order =
 -- ---- set after set
 
 -- the first lines of a script were played on sets, of which this is the one that is played next: whatever it and those behind it are asked completes what all are asked
-pub record HavePlayedSets (opened : TableView) (script : List Line) (renewals : List ℕ) (phases : ℕ) (set : TableView) (first phase i : ℕ) (replies : List Reply) : Type 0 where
+pub record HavePlayedSets (opened : TableView) (budget : ℕ) (script : List Line) (renewals : List ℕ) (phases : ℕ) (set : TableView) (first phase i : ℕ) (replies : List Reply) : Type 0 where
   pub inside : first ≤ length script
   pub long : length replies ≡ first
   pub workers : set.passes ≡ opened.passes
   pub later : AscendFrom phase (drop first script)
   pub order : phase ≤ phases
   pub renewed : AreRenewalsFrom phase phases (drop i renewals)
-  pub goes : (rest : List Reply) (listed : List ℕ) (epoch : ℕ) → AreExplained set.shape set.passes (drop i renewals) (zip (drop first script) rest) listed epoch → AreExplained opened.shape opened.passes renewals (zip script (replies ++ rest)) listed epoch
+  pub goes : (rest : List Reply) (listed : List ℕ) (epoch : ℕ) → AreExplained (ArePlayed set.passes budget) set.shape set.passes phase phases (drop i renewals) (zip (drop first script) rest) listed epoch → AreExplained (ArePlayed opened.passes budget) opened.shape opened.passes 0 phases renewals (zip script (replies ++ rest)) listed epoch
 
-pub none_played : (opened : TableView) (script : List Line) (renewals : List ℕ) (phases : ℕ) → ArePhased opened.passes phases script → AreRenewalsFrom 0 phases renewals → HavePlayedSets opened script renewals phases opened 0 0 0 []
-none_played opened script renewals phases phased renewed = record {
+pub none_played : (opened : TableView) (budget : ℕ) (script : List Line) (renewals : List ℕ) (phases : ℕ) → ArePhased opened.passes phases script → AreRenewalsFrom 0 phases renewals → HavePlayedSets opened budget script renewals phases opened 0 0 0 []
+none_played opened budget script renewals phases phased renewed = record {
   inside = omega arith;
   long = refl;
   workers = refl;
@@ -111,32 +112,32 @@ pub no_renewal : (renewals lent : List ℕ) (i : ℕ) → lent ≡ renewals → 
 no_renewal renewals lent i same past = drop_all i renewals (subst (λ (some : List ℕ). length some ≤ i) same past)
 
 -- it is behind the phases so far, and not the last phase
-pub renewal_in : (opened : TableView) (script : List Line) (renewals : List ℕ) (phases : ℕ) (set : TableView) (first phase i renewal : ℕ) (replies : List Reply) → drop i renewals ≡ renewal ∷ drop (i + 1) renewals → HavePlayedSets opened script renewals phases set first phase i replies → (phase ≤ renewal) × (renewal + 1 < phases)
-renewal_in opened script renewals phases set first phase i renewal replies here so_far =
+pub renewal_in : (opened : TableView) (budget : ℕ) (script : List Line) (renewals : List ℕ) (phases : ℕ) (set : TableView) (first phase i renewal : ℕ) (replies : List Reply) → drop i renewals ≡ renewal ∷ drop (i + 1) renewals → HavePlayedSets opened budget script renewals phases set first phase i replies → (phase ≤ renewal) × (renewal + 1 < phases)
+renewal_in opened budget script renewals phases set first phase i renewal replies here so_far =
     let renewed : AreRenewalsFrom phase phases (renewal ∷ drop (i + 1) renewals) = subst (AreRenewalsFrom phase phases) here so_far.renewed in
     (renewed.0, renewed.1)
 
 -- the phases and the workers are those of the set
-pub phased_here : (opened : TableView) (script : List Line) (renewals : List ℕ) (phases : ℕ) (set : TableView) (first phase i : ℕ) (replies : List Reply) → ArePhased opened.passes phases script → HavePlayedSets opened script renewals phases set first phase i replies → ArePhased set.passes phases script
-phased_here opened script renewals phases set first phase i replies phased so_far = subst (λ (workers : ℕ). ArePhased workers phases script) (sym so_far.workers) phased
+pub phased_here : (opened : TableView) (budget : ℕ) (script : List Line) (renewals : List ℕ) (phases : ℕ) (set : TableView) (first phase i : ℕ) (replies : List Reply) → ArePhased opened.passes phases script → HavePlayedSets opened budget script renewals phases set first phase i replies → ArePhased set.passes phases script
+phased_here opened budget script renewals phases set first phase i replies phased so_far = subst (λ (workers : ℕ). ArePhased workers phases script) (sym so_far.workers) phased
 
 -- what a set was asked goes on with what the next ones are
-goes_on : (set next : TableView) (renewal : ℕ) (renewals : List ℕ) (script : List Line) (first n : ℕ) (more rest : List Reply) (listed : List ℕ) (epoch : ℕ) → CutsSpan script first n renewal → IsFollowed set (take n (drop first script)) more next → AreExplained next.shape next.passes renewals (zip (drop (first + n) script) rest) listed epoch → AreExplained set.shape set.passes (renewal ∷ renewals) (zip (drop first script) (more ++ rest)) listed epoch
-goes_on set next renewal renewals script first n more rest listed epoch cut followed explained =
+goes_on : (set next : TableView) (budget from phases renewal : ℕ) (renewals : List ℕ) (script : List Line) (first n : ℕ) (more rest : List Reply) (listed : List ℕ) (epoch : ℕ) → CutsSpan script first n renewal → IsFollowed set budget (take n (drop first script)) (renewal + 1 - from) more next → AreExplained (ArePlayed next.passes budget) next.shape next.passes (renewal + 1) phases renewals (zip (drop (first + n) script) rest) listed epoch → AreExplained (ArePlayed set.passes budget) set.shape set.passes from phases (renewal ∷ renewals) (zip (drop first script) (more ++ rest)) listed epoch
+goes_on set next budget from phases renewal renewals script first n more rest listed epoch cut followed explained =
     let slice = take n (drop first script) in
     let back = drop (first + n) script in
     let played = followed.played in
     let follows : (next.shape, next.passes) ≡ (record set.shape { keys = followed.report.keys.items }, set.passes) = λ i. (followed.shape i, followed.passes i) in
-    let then : AreExplained (record set.shape { keys = followed.report.keys.items }) set.passes renewals (zip back rest) listed epoch = subst (λ (k : Dimensions × ℕ). AreExplained k.0 k.1 renewals (zip back rest) listed epoch) follows explained in
+    let then : AreExplained (ArePlayed set.passes budget) (record set.shape { keys = followed.report.keys.items }) set.passes (renewal + 1) phases renewals (zip back rest) listed epoch = subst (λ (k : Dimensions × ℕ). AreExplained (ArePlayed k.1 budget) k.0 k.1 (renewal + 1) phases renewals (zip back rest) listed epoch) follows explained in
     let late : All (λ line. renewal < line.phase) back = λ k d inside. let high = all_from (renewal + 1) (renewal + 1) back (omega arith) cut.late k d inside in omega arith in
     let outcomes : zip (drop first script) (more ++ rest) ≡ zip slice more ++ zip back rest = ap (λ (lines : List Line). zip lines (more ++ rest)) cut.rest ∙ zip-append slice back more rest played.one_each in
-    subst (λ (some : List Outcome). AreExplained set.shape set.passes (renewal ∷ renewals) some listed epoch) (sym outcomes)
-    (one_more_set set.shape set.passes renewal renewals (zip slice more) (zip back rest) played.run followed.report.keys.items listed epoch (all_lines (λ (line : Line). line.phase ≤ renewal) slice more cut.early) (all_lines (λ (line : Line). renewal < line.phase) back rest late) played.of_set played.keys then)
+    subst (λ (some : List Outcome). AreExplained (ArePlayed set.passes budget) set.shape set.passes from phases (renewal ∷ renewals) some listed epoch) (sym outcomes)
+    (one_more_set (ArePlayed set.passes budget) set.shape set.passes from phases renewal renewals (zip slice more) (zip back rest) played.run followed.report.keys.items listed epoch (all_lines (λ (line : Line). line.phase ≤ renewal) slice more cut.early) (all_lines (λ (line : Line). renewal < line.phase) back rest late) played.of_set played.keys then)
 
 -- one more set was played
-pub one_more_played : (opened : TableView) (script : List Line) (renewals : List ℕ) (phases : ℕ) (set next : TableView) (first phase i n renewal : ℕ) (replies more : List Reply) → drop i renewals ≡ renewal ∷ drop (i + 1) renewals → first + n ≤ length script → CutsSpan script first n renewal → HavePlayedSets opened script renewals phases set first phase i replies → IsFollowed set (take (first + n - first) (drop first script)) more next → HavePlayedSets opened script renewals phases next (first + n) (renewal + 1) (i + 1) (replies ++ more)
-one_more_played opened script renewals phases set next first phase i n renewal replies more here inside cut so_far told =
-    let followed : IsFollowed set (take n (drop first script)) more next = subst (λ (lines : List Line). IsFollowed set lines more next) (slice_of script first n) told in
+pub one_more_played : (opened : TableView) (budget : ℕ) (script : List Line) (renewals : List ℕ) (phases : ℕ) (set next : TableView) (first phase i n renewal : ℕ) (replies more : List Reply) → drop i renewals ≡ renewal ∷ drop (i + 1) renewals → first + n ≤ length script → CutsSpan script first n renewal → HavePlayedSets opened budget script renewals phases set first phase i replies → IsFollowed set budget (take (first + n - first) (drop first script)) (renewal + 1 - phase) more next → HavePlayedSets opened budget script renewals phases next (first + n) (renewal + 1) (i + 1) (replies ++ more)
+one_more_played opened budget script renewals phases set next first phase i n renewal replies more here inside cut so_far told =
+    let followed : IsFollowed set budget (take n (drop first script)) (renewal + 1 - phase) more next = subst (λ (lines : List Line). IsFollowed set budget lines (renewal + 1 - phase) more next) (slice_of script first n) told in
     let slice : length (take n (drop first script)) ≡ n = length-take_inside script first n inside in
     let renewed : AreRenewalsFrom phase phases (renewal ∷ drop (i + 1) renewals) = subst (AreRenewalsFrom phase phases) here so_far.renewed in
     record {
@@ -147,19 +148,27 @@ one_more_played opened script renewals phases set next first phase i n renewal r
       order = omega (arith, renewed.1);
       renewed = renewed.2;
       goes = λ rest listed epoch explained.
-          let whole = goes_on set next renewal (drop (i + 1) renewals) script first n more rest listed epoch cut followed explained in
-          let here_too = subst (λ (some : List ℕ). AreExplained set.shape set.passes some (zip (drop first script) (more ++ rest)) listed epoch) (sym here) whole in
-          subst (λ (some : List Reply). AreExplained opened.shape opened.passes renewals (zip script some) listed epoch) (sym (append_assoc replies more rest)) (so_far.goes (more ++ rest) listed epoch here_too);
+          let whole = goes_on set next budget phase phases renewal (drop (i + 1) renewals) script first n more rest listed epoch cut followed explained in
+          let here_too = subst (λ (some : List ℕ). AreExplained (ArePlayed set.passes budget) set.shape set.passes phase phases some (zip (drop first script) (more ++ rest)) listed epoch) (sym here) whole in
+          subst (λ (some : List Reply). AreExplained (ArePlayed opened.passes budget) opened.shape opened.passes 0 phases renewals (zip script some) listed epoch) (sym (append_assoc replies more rest)) (so_far.goes (more ++ rest) listed epoch here_too);
     }
   where
     length-take_inside : (lines : List Line) (first n : ℕ) → first + n ≤ length lines → length (take n (drop first lines)) ≡ n
     length-take_inside lines first n inside = omega (arith, length-take n (drop first lines), length-drop first lines)
 
 -- the last set was played
-pub all_sets : (opened : TableView) (script : List Line) (renewals : List ℕ) (phases : ℕ) (set : TableView) (first phase i : ℕ) (replies more : List Reply) (report : Report) → drop i renewals ≡ [] → HavePlayedSets opened script renewals phases set first phase i replies → HasPlayedSpan set (take (length script - first) (drop first script)) more report → (length (replies ++ more) ≡ length script) × AreExplained opened.shape opened.passes renewals (zip script (replies ++ more)) report.keys.items report.epoch
-all_sets opened script renewals phases set first phase i replies more report none so_far told =
-    let played : HasPlayedSpan set (drop first script) more report = subst (λ (lines : List Line). HasPlayedSpan set lines more report) (rest_of script first) told in
-    let last = last_set set.shape set.passes (zip (drop first script) more) played.run report.keys.items report.epoch played.of_set played.keys played.epoch in (
+pub all_sets : (opened : TableView) (budget : ℕ) (script : List Line) (renewals : List ℕ) (phases : ℕ) (set : TableView) (first phase i : ℕ) (replies more : List Reply) (report : Report) → drop i renewals ≡ [] → HavePlayedSets opened budget script renewals phases set first phase i replies → HasPlayedSpan set budget (take (length script - first) (drop first script)) (phases - phase) more report → (length (replies ++ more) ≡ length script) × AreExplained (ArePlayed opened.passes budget) opened.shape opened.passes 0 phases renewals (zip script (replies ++ more)) report.keys.items report.epoch
+all_sets opened budget script renewals phases set first phase i replies more report none so_far told =
+    let played : HasPlayedSpan set budget (drop first script) (phases - phase) more report = subst (λ (lines : List Line). HasPlayedSpan set budget lines (phases - phase) more report) (rest_of script first) told in
+    let last = last_set (ArePlayed set.passes budget) set.shape set.passes phase phases (zip (drop first script) more) played.run report.keys.items report.epoch played.of_set played.keys played.epoch in (
       (let inside = so_far.inside in omega (arith, length-append replies more, so_far.long, played.one_each, length-drop first script)),
-      so_far.goes more report.keys.items report.epoch (subst (λ (some : List ℕ). AreExplained set.shape set.passes some (zip (drop first script) more) report.keys.items report.epoch) (sym none) last),
+      so_far.goes more report.keys.items report.epoch (subst (λ (some : List ℕ). AreExplained (ArePlayed set.passes budget) set.shape set.passes phase phases some (zip (drop first script) more) report.keys.items report.epoch) (sym none) last),
     )
+
+-- ---- a span's lines and budget by other names
+
+pub played_as : (set : TableView) (b budget : ℕ) (some lines : List Line) (phases : ℕ) (replies : List Reply) (report : Report) → b ≡ budget → some ≡ lines → HasPlayedSpan set b some phases replies report → HasPlayedSpan set budget lines phases replies report
+played_as set b budget some lines phases replies report same are played = subst (λ (k : ℕ × List Line). HasPlayedSpan set k.0 k.1 phases replies report) (λ i. (same i, are i)) played
+
+pub followed_as : (set : TableView) (b budget : ℕ) (some lines : List Line) (phases : ℕ) (replies : List Reply) (next : TableView) → b ≡ budget → some ≡ lines → IsFollowed set b some phases replies next → IsFollowed set budget lines phases replies next
+followed_as set b budget some lines phases replies next same are followed = subst (λ (k : ℕ × List Line). IsFollowed set k.0 k.1 phases replies next) (λ i. (same i, are i)) followed

@@ -1,9 +1,10 @@
 -- Workers that play a phase and meet stand behind it.
-use Rattle.std.proofs.Common.{◌≡◌, ℕ, zero, suc, ◌+◌, ◌<◌, ◌≤◌, List, [], ◌∷◌, ◌++◌, length, refl, sym, ap, ap₂, subst, ◌∙◌, inl, inr, append-nil, arith, length-append}
+use Rattle.std.proofs.Common.{◌≡◌, ℕ, zero, suc, ◌+◌, ◌-◌, ◌*◌, ◌<◌, ◌≤◌, List, [], ◌∷◌, ◌++◌, length, refl, sym, ap, ap₂, subst, ◌∙◌, inl, inr, append-nil, arith, length-append}
 use Rattle.std.specs.Prelude.{zip, All, Vec}
 use Rattle.std.specs.Global.{Global}
 use Rattle.std.specs.List.{AllZip}
 use Rattle.std.specs.Vec.{vec_capacity}
+use Rattle.std.proofs.Math.Nat.{mul-suc}
 use Rattle.std.proofs.lemmas.Bool.{cases_lt}
 use Rattle.std.proofs.lemmas.List.Elements.{All-nil, All-cons, All-head, All-tail, All-append}
 use Rattle.vbr_words.specs.Dimensions.{Dimensions}
@@ -14,8 +15,10 @@ use Rattle.vbr_machine.specs.declared.event.Event.{Event}
 use Rattle.vbr_machine.specs.declared.history.Call.{Call}
 use Rattle.vbr_machine.proofs.Lemmas.{begins_trans, calls_by-append}
 use Rattle.vbr_slots.specs.Calls.{made_by}
-use Rattle.vbr_slots.specs.Views.{TableView}
+use Rattle.vbr_slots.specs.Views.{TableView, new_pass, steps_of}
+use Rattle.vbr_set.specs.Members.{as_member}
 use Rattle.vbr_transcript.specs.Calls.{Outcome, answered_calls, lines_by, lines_up_to}
+use Rattle.vbr_player.specs.Calling.{CallsInTurn}
 use Rattle.vbr_player.specs.Meeting.{AreOfOne, HasSeenMore, Meets, PlayedAndMet}
 use Rattle.vbr_transcript.specs.Merging.{replies_by}
 use Rattle.vbr_player.specs.Standing.{replies_of, AreNumberedFrom, HasPlayed, HasEnded, Stand}
@@ -24,14 +27,15 @@ use Rattle.vbr_script.specs.declared.script.Line.{Line}
 use Rattle.vbr_transcript.specs.declared.reply.Reply.{Reply}
 use Rattle.vbr_player.specs.declared.worker.Worker.{Worker}
 use Rattle.vbr_transcript.proofs.Lemmas.{calls_begin, zip-append, zip_longer}
+use Rattle.vbr_player.proofs.Calling.{turns_met, turns_on}
 use Rattle.vbr_player.proofs.Slices.{lines_by-append, called_more, replied_more}
 use Rattle.vbr_player.proofs.Working.{all_tell_on}
 
 -- ---- one worker
 
 -- it has room for the next lines
-pub room_for : (set : TableView) (script front slice back : List Line) (w : Worker) → script ≡ (front ++ slice) ++ back → HasPlayed set script front w → HasRoom w slice
-room_for set script front slice back w whole has =
+pub room_for : (set : TableView) (budget most : ℕ) (script front slice back : List Line) (w : Worker) → script ≡ (front ++ slice) ++ back → HasPlayed set budget most script front w → HasRoom w slice
+room_for set budget most script front slice back w whole has =
     let who = w.caller.pass.trace.who in
     let all : length (lines_by who script) ≡ length (lines_by who front) + length (lines_by who slice) + length (lines_by who back) =
     ap (λ (lines : List Line). length (lines_by who lines)) whole ∙ ap length (lines_by-append who (front ++ slice) back) ∙ length-append (lines_by who (front ++ slice)) (lines_by who back)
@@ -40,8 +44,8 @@ room_for set script front slice back w whole has =
     omega arith
 
 -- it has played them too
-pub played_more : (set : TableView) (script front slice : List Line) (w v : Worker) → HasPlayed set script front w → Played slice w v → HasPlayed set script (front ++ slice) v
-played_more set script front slice w v has played =
+pub played_more : (set : TableView) (budget most : ℕ) (script front slice : List Line) (w v : Worker) → HasPlayed set budget most script front w → Played budget slice w v → HasPlayed set budget most script (front ++ slice) v
+played_more set budget most script front slice w v has played =
     let who = w.caller.pass.trace.who in
     let same : v.caller.pass.trace.who ≡ who = played.same.who in
     let lines = front ++ slice in
@@ -53,8 +57,12 @@ played_more set script front slice w v has played =
     let early : All told (zip (lines_by who front) w.replies.items) = all_tell_on (zip (lines_by who front) w.replies.items) played.same played.seen has.tells in
     let tells : All told (zip (lines_by who lines) (w.replies.items ++ played.more)) = subst (All told) (sym outcomes) (All-append told (zip (lines_by who front) w.replies.items) (zip (lines_by who slice) played.more) early played.tells) in
     let are : (who, w.replies.items ++ played.more) ≡ (v.caller.pass.trace.who, v.replies.items) = λ i. (sym same i, sym played.replies i) in
-    let P : ℕ × List Reply → Type 0 = λ k. (length k.1 ≡ length (lines_by k.0 lines)) × (made_by v.caller.pass.trace ≡ answered_calls (zip (lines_by k.0 lines) k.1)) × All told (zip (lines_by k.0 lines) k.1) in
-    let now = subst P are (replied, called, tells) in
+    let P : ℕ × List Reply → Type 0 = λ k. (length k.1 ≡ length (lines_by k.0 lines)) × (made_by v.caller.pass.trace ≡ answered_calls (zip (lines_by k.0 lines) k.1)) × All told (zip (lines_by k.0 lines) k.1) × CallsInTurn budget (zip (lines_by k.0 lines) k.1) (as_member set (new_pass set k.0)) v.caller × (steps_of v.caller.pass.trace ≤ budget * length k.1 + most) in
+    let in_turn : CallsInTurn budget (zip (lines_by who lines) (w.replies.items ++ played.more)) (as_member set (new_pass set who)) v.caller = subst (λ (some : List Outcome). CallsInTurn budget some (as_member set (new_pass set who)) v.caller) (sym outcomes) (turns_on budget (as_member set (new_pass set who)) w.caller v.caller (zip (lines_by who front) w.replies.items) (zip (lines_by who slice) played.more) has.in_turn played.in_turn) in
+    let steps : steps_of v.caller.pass.trace ≤ budget * length (w.replies.items ++ played.more) + most =
+    let long : length (w.replies.items ++ played.more) ≡ length w.replies.items + length played.more = length-append w.replies.items played.more in
+    rw long (let a = has.steps in let b = played.steps in omega arith) in
+    let now = subst P are (replied, called, tells, in_turn, steps) in
     let enough : length (lines_by v.caller.pass.trace.who script) ≡ length (lines_by who script) = ap (λ (k : ℕ). length (lines_by k script)) same in
     let had = has.room in let grows = played.room in
     record {
@@ -63,24 +71,31 @@ played_more set script front slice w v has played =
       one_each = now.0;
       calls = now.1;
       tells = now.2;
+      in_turn = now.3;
+      steps = now.4;
       room = omega arith;
     }
 
 -- it has, when it has looked
-pub played_looks : (set : TableView) (script lines : List Line) (v u : Worker) → HasPlayed set script lines v → HasSeenMore v u → HasPlayed set script lines u
-played_looks set script lines v u has looks =
+pub played_looks : (set : TableView) (budget most more : ℕ) (script lines : List Line) (v u : Worker) → HasPlayed set budget most script lines v → HasSeenMore more v u → HasPlayed set budget (most + more) script lines u
+played_looks set budget most more script lines v u has looks =
+    let quiet = looks.looked.quiet in
     let who = v.caller.pass.trace.who in
     let told = λ (outcome : Outcome). TellsReply u.caller.pass.trace outcome.0.op outcome.1 in
-    let tells : All told (zip (lines_by who lines) v.replies.items) = all_tell_on (zip (lines_by who lines) v.replies.items) looks.same looks.seen has.tells in
-    let are : (who, v.replies) ≡ (u.caller.pass.trace.who, u.replies) = λ i. (sym looks.same.who i, sym looks.replies i) in
-    let P : ℕ × Vec Reply Global → Type 0 = λ k. (length k.1.items ≡ length (lines_by k.0 lines)) × (made_by u.caller.pass.trace ≡ answered_calls (zip (lines_by k.0 lines) k.1.items)) × All told (zip (lines_by k.0 lines) k.1.items) × (length (lines_by k.0 script) ≤ vec_capacity k.1) in
-    let now = subst P are (has.one_each, looks.calls ∙ has.calls, tells, has.room) in
+    let tells : All told (zip (lines_by who lines) v.replies.items) = all_tell_on (zip (lines_by who lines) v.replies.items) quiet.same quiet.seen has.tells in
+    let are : (who, v.replies) ≡ (u.caller.pass.trace.who, u.replies) = λ i. (sym quiet.same.who i, sym looks.replies i) in
+    let P : ℕ × Vec Reply Global → Type 0 = λ k. (length k.1.items ≡ length (lines_by k.0 lines)) × (made_by u.caller.pass.trace ≡ answered_calls (zip (lines_by k.0 lines) k.1.items)) × All told (zip (lines_by k.0 lines) k.1.items) × (length (lines_by k.0 script) ≤ vec_capacity k.1) × CallsInTurn budget (zip (lines_by k.0 lines) k.1.items) (as_member set (new_pass set k.0)) u.caller × (steps_of u.caller.pass.trace ≤ budget * length k.1.items + (most + more)) in
+    let in_turn = turns_met budget (as_member set (new_pass set who)) v.caller u.caller (zip (lines_by who lines) v.replies.items) has.in_turn looks.looked.met in
+    let steps : steps_of u.caller.pass.trace ≤ budget * length v.replies.items + (most + more) = let a = has.steps in let b = looks.looked.steps in omega arith in
+    let now = subst P are (has.one_each, quiet.calls ∙ has.calls, tells, has.room, in_turn, steps) in
     record {
-      set_is = looks.set ∙ has.set_is;
-      of = (looks.same.table ∙ has.of.0, looks.same.shape ∙ has.of.1, looks.same.passes ∙ has.of.2);
+      set_is = looks.looked.set ∙ has.set_is;
+      of = (quiet.same.table ∙ has.of.0, quiet.same.shape ∙ has.of.1, quiet.same.passes ∙ has.of.2);
       one_each = now.0;
       calls = now.1;
       tells = now.2;
+      in_turn = now.4;
+      steps = now.5;
       room = now.3;
     }
 
@@ -121,10 +136,10 @@ pub record GoesOn (w u : Worker) : Type 0 where
   pub more : List Reply
   pub replies : u.replies.items ≡ w.replies.items ++ more
 
-goes_on : (slice : List Line) (w v u : Worker) → Played slice w v → HasSeenMore v u → GoesOn w u
-goes_on slice w v u played looks =
+goes_on : (budget most : ℕ) (slice : List Line) (w v u : Worker) → Played budget slice w v → HasSeenMore most v u → GoesOn w u
+goes_on budget most slice w v u played looks =
     record {
-      seen = begins_trans w.caller.pass.trace.seen v.caller.pass.trace.seen u.caller.pass.trace.seen played.seen looks.seen;
+      seen = begins_trans w.caller.pass.trace.seen v.caller.pass.trace.seen u.caller.pass.trace.seen played.seen looks.looked.quiet.seen;
       more = played.more;
       replies = ap (λ (rs : Vec Reply Global). rs.items) looks.replies ∙ played.replies;
     }
@@ -171,85 +186,97 @@ calls_between shape who before moment after from to same =
     none_between (own_calls shape before who) (calls_by who first.0) (calls_by who then.0) (own_calls shape moment who) front (sym same ∙ back)
 
 -- a worker that has met has called its lines at the moment of the meeting
-one_called : (set : TableView) (script lines : List Line) (moment : List Event) (v u : Worker) (who : ℕ) → u.caller.pass.trace.who ≡ who → HasPlayed set script lines u → HasSeenMore v u → Begins v.caller.pass.trace.seen moment → Begins moment u.caller.pass.trace.seen → own_calls set.shape moment who ≡ answered_calls (zip (lines_by who lines) u.replies.items)
-one_called set script lines moment v u who number has looks from to =
+one_called : (set : TableView) (budget most more : ℕ) (script lines : List Line) (moment : List Event) (v u : Worker) (who : ℕ) → u.caller.pass.trace.who ≡ who → HasPlayed set budget most script lines u → HasSeenMore more v u → Begins v.caller.pass.trace.seen moment → Begins moment u.caller.pass.trace.seen → own_calls set.shape moment who ≡ answered_calls (zip (lines_by who lines) u.replies.items)
+one_called set budget most more script lines moment v u who number has looks from to =
+    let quiet = looks.looked.quiet in
     let shape : u.caller.pass.trace.shape ≡ set.shape = has.of.1 in
     let at_last : own_calls u.caller.pass.trace.shape u.caller.pass.trace.seen u.caller.pass.trace.who ≡ own_calls set.shape u.caller.pass.trace.seen who = ap₂ (λ (d : Dimensions) (k : ℕ). own_calls d u.caller.pass.trace.seen k) shape number in
-    let at_first : own_calls v.caller.pass.trace.shape v.caller.pass.trace.seen v.caller.pass.trace.who ≡ own_calls set.shape v.caller.pass.trace.seen who = ap₂ (λ (d : Dimensions) (k : ℕ). own_calls d v.caller.pass.trace.seen k) (sym looks.same.shape ∙ shape) (sym looks.same.who ∙ number) in
-    let same : own_calls set.shape u.caller.pass.trace.seen who ≡ own_calls set.shape v.caller.pass.trace.seen who = sym at_last ∙ looks.calls ∙ at_first in
+    let at_first : own_calls v.caller.pass.trace.shape v.caller.pass.trace.seen v.caller.pass.trace.who ≡ own_calls set.shape v.caller.pass.trace.seen who = ap₂ (λ (d : Dimensions) (k : ℕ). own_calls d v.caller.pass.trace.seen k) (sym quiet.same.shape ∙ shape) (sym quiet.same.who ∙ number) in
+    let same : own_calls set.shape u.caller.pass.trace.seen who ≡ own_calls set.shape v.caller.pass.trace.seen who = sym at_last ∙ quiet.calls ∙ at_first in
     let then : own_calls set.shape u.caller.pass.trace.seen who ≡ answered_calls (zip (lines_by who lines) u.replies.items) = sym at_last ∙ has.calls ∙ ap (λ (k : ℕ). answered_calls (zip (lines_by k lines) u.replies.items)) number in
     calls_between set.shape who v.caller.pass.trace.seen moment u.caller.pass.trace.seen from to same ∙ sym same ∙ then
 
 -- and so have all
-all_called : (set : TableView) (script lines : List Line) (moment : List Event) (n : ℕ) (vs us : List Worker) → AreNumberedFrom n us → All (HasPlayed set script lines) us → AllZip HasSeenMore vs us → All (λ v. Begins v.caller.pass.trace.seen moment) vs → All (λ u. Begins moment u.caller.pass.trace.seen) us → (i : ℕ) → i < length us → own_calls set.shape moment (n + i) ≡ answered_calls (zip (lines_by (n + i) lines) (replies_by i (replies_of us)))
-all_called set script lines moment n vs [] numbered played looks from to i inside = absurd (omega arith)
-all_called set script lines moment n [] (u ∷ us) numbered played looks from to i inside = absurd looks
-all_called set script lines moment n (v ∷ vs) (u ∷ us) numbered played looks from to zero inside =
+all_called : (set : TableView) (budget most more : ℕ) (script lines : List Line) (moment : List Event) (n : ℕ) (vs us : List Worker) → AreNumberedFrom n us → All (HasPlayed set budget most script lines) us → AllZip (HasSeenMore more) vs us → All (λ v. Begins v.caller.pass.trace.seen moment) vs → All (λ u. Begins moment u.caller.pass.trace.seen) us → (i : ℕ) → i < length us → own_calls set.shape moment (n + i) ≡ answered_calls (zip (lines_by (n + i) lines) (replies_by i (replies_of us)))
+all_called set budget most more script lines moment n vs [] numbered played looks from to i inside = absurd (omega arith)
+all_called set budget most more script lines moment n [] (u ∷ us) numbered played looks from to i inside = absurd looks
+all_called set budget most more script lines moment n (v ∷ vs) (u ∷ us) numbered played looks from to zero inside =
     let number : u.caller.pass.trace.who ≡ n + 0 = omega (arith, numbered.0) in
-    one_called set script lines moment v u (n + 0) number (All-head (HasPlayed set script lines) u us played) looks.0 (All-head (λ (w : Worker). Begins w.caller.pass.trace.seen moment) v vs from) (All-head (λ (w : Worker). Begins moment w.caller.pass.trace.seen) u us to)
-all_called set script lines moment n (v ∷ vs) (u ∷ us) numbered played looks from to (suc i) inside =
+    one_called set budget most more script lines moment v u (n + 0) number (All-head (HasPlayed set budget most script lines) u us played) looks.0 (All-head (λ (w : Worker). Begins w.caller.pass.trace.seen moment) v vs from) (All-head (λ (w : Worker). Begins moment w.caller.pass.trace.seen) u us to)
+all_called set budget most more script lines moment n (v ∷ vs) (u ∷ us) numbered played looks from to (suc i) inside =
     let same : suc n + i ≡ n + suc i = omega arith in
     subst (λ (k : ℕ). own_calls set.shape moment k ≡ answered_calls (zip (lines_by k lines) (replies_by i (replies_of us)))) same
-    (all_called set script lines moment (suc n) vs us numbered.1 (All-tail (HasPlayed set script lines) u us played) looks.1 (All-tail (λ (w : Worker). Begins w.caller.pass.trace.seen moment) v vs from) (All-tail (λ (w : Worker). Begins moment w.caller.pass.trace.seen) u us to) i (omega arith))
+    (all_called set budget most more script lines moment (suc n) vs us numbered.1 (All-tail (HasPlayed set budget most script lines) u us played) looks.1 (All-tail (λ (w : Worker). Begins w.caller.pass.trace.seen moment) v vs from) (All-tail (λ (w : Worker). Begins moment w.caller.pass.trace.seen) u us to) i (omega arith))
 
 -- a worker has as many replies as lines
-pub as_many : (set : TableView) (script lines : List Line) (n : ℕ) (us : List Worker) → AreNumberedFrom n us → All (HasPlayed set script lines) us → (i : ℕ) → i < length us → length (replies_by i (replies_of us)) ≡ length (lines_by (n + i) lines)
-as_many set script lines n [] numbered played i inside = absurd (omega arith)
-as_many set script lines n (u ∷ us) numbered played zero inside =
+pub as_many : (set : TableView) (budget most : ℕ) (script lines : List Line) (n : ℕ) (us : List Worker) → AreNumberedFrom n us → All (HasPlayed set budget most script lines) us → (i : ℕ) → i < length us → length (replies_by i (replies_of us)) ≡ length (lines_by (n + i) lines)
+as_many set budget most script lines n [] numbered played i inside = absurd (omega arith)
+as_many set budget most script lines n (u ∷ us) numbered played zero inside =
     let number : u.caller.pass.trace.who ≡ n + 0 = omega (arith, numbered.0) in
-    (All-head (HasPlayed set script lines) u us played).one_each ∙ ap (λ (k : ℕ). length (lines_by k lines)) number
-as_many set script lines n (u ∷ us) numbered played (suc i) inside =
+    (All-head (HasPlayed set budget most script lines) u us played).one_each ∙ ap (λ (k : ℕ). length (lines_by k lines)) number
+as_many set budget most script lines n (u ∷ us) numbered played (suc i) inside =
     let same : suc n + i ≡ n + suc i = omega arith in
-    as_many set script lines (suc n) us numbered.1 (All-tail (HasPlayed set script lines) u us played) i (omega arith) ∙ ap (λ (k : ℕ). length (lines_by k lines)) same
+    as_many set budget most script lines (suc n) us numbered.1 (All-tail (HasPlayed set budget most script lines) u us played) i (omega arith) ∙ ap (λ (k : ℕ). length (lines_by k lines)) same
 
 -- where workers that have played the lines up to a phase have met, it has ended
-has_ended : (set : TableView) (script lines : List Line) (phase : ℕ) (vs us : List Worker) → lines_up_to phase script ≡ lines → AreNumberedFrom 0 us → All (HasPlayed set script lines) us → Meets vs us → HasEnded set script phase us
-has_ended set script lines phase vs us are numbered played meets =
+has_ended : (set : TableView) (budget most : ℕ) (script lines : List Line) (phase : ℕ) (vs us : List Worker) → lines_up_to phase script ≡ lines → AreNumberedFrom 0 us → All (HasPlayed set budget most script lines) us → Meets vs us → HasEnded set script phase us
+has_ended set budget most script lines phase vs us are numbered played meets =
     record {
       seen = meets.moment;
       begins = meets.to;
       replied = λ who inside.
-          let many = as_many set script lines 0 us numbered played who inside in
+          let many = as_many set budget most script lines 0 us numbered played who inside in
           let zero_who : 0 + who ≡ who = omega arith in
           let own : length (lines_by who (lines_up_to phase script)) ≡ length (lines_by (0 + who) lines) = ap (λ (ls : List Line). length (lines_by who ls)) are ∙ ap (λ (k : ℕ). length (lines_by k lines)) (sym zero_who) in
           omega arith;
       called = λ who inside.
           let zero_who : 0 + who ≡ who = omega arith in
-          subst (λ (k : ℕ × List Line). own_calls set.shape meets.moment k.0 ≡ answered_calls (zip (lines_by k.0 k.1) (replies_by who (replies_of us)))) (λ i. (zero_who i, sym are i)) (all_called set script lines meets.moment 0 vs us numbered played meets.looks meets.from meets.to who inside);
+          subst (λ (k : ℕ × List Line). own_calls set.shape meets.moment k.0 ≡ answered_calls (zip (lines_by k.0 k.1) (replies_by who (replies_of us)))) (λ i. (zero_who i, sym are i)) (all_called set budget most (length vs - 1) script lines meets.moment 0 vs us numbered played meets.looks meets.from meets.to who inside);
     }
 
 -- ---- the next phase
 
 -- workers of one set are so when they have played
-pub are_of_played : (lines : List Line) (ws vs : List Worker) → AreOfOne ws → AllZip (Played lines) ws vs → AreOfOne vs
-are_of_played lines ws vs of played =
-    record { set = of.set; all = all_from_zip (Played lines) (λ w. w.caller.set ≡ of.set) (λ v. v.caller.set ≡ of.set) (λ w v is p. p.set ∙ is) ws vs of.all played }
+pub are_of_played : (budget : ℕ) (lines : List Line) (ws vs : List Worker) → AreOfOne ws → AllZip (Played budget lines) ws vs → AreOfOne vs
+are_of_played budget lines ws vs of played =
+    record { set = of.set; all = all_from_zip (Played budget lines) (λ w. w.caller.set ≡ of.set) (λ v. v.caller.set ≡ of.set) (λ w v is p. p.set ∙ is) ws vs of.all played }
 
 -- workers that have played are of one set
-pub are_of_stand : (set : TableView) (script lines : List Line) (count phases : ℕ) (ws : List Worker) → Stand set script lines count phases ws → AreOfOne ws
-are_of_stand set script lines count phases ws stand = record { set = set; all = λ k d inside. (stand.played k d inside).set_is }
+pub are_of_stand : (set : TableView) (budget : ℕ) (script lines : List Line) (count from phases : ℕ) (ws : List Worker) → Stand set budget script lines count from phases ws → AreOfOne ws
+are_of_stand set budget script lines count from phases ws stand = record { set = set; all = λ k d inside. (stand.played k d inside).set_is }
 
 -- all have room for the next lines
-pub all_room : (set : TableView) (script front slice back : List Line) (ws : List Worker) → script ≡ (front ++ slice) ++ back → All (HasPlayed set script front) ws → HaveRoom ws slice
-all_room set script front slice back ws whole played = λ k d inside. room_for set script front slice back _ whole (played k d inside)
+pub all_room : (set : TableView) (budget most : ℕ) (script front slice back : List Line) (ws : List Worker) → script ≡ (front ++ slice) ++ back → All (HasPlayed set budget most script front) ws → HaveRoom ws slice
+all_room set budget most script front slice back ws whole played = λ k d inside. room_for set budget most script front slice back _ whole (played k d inside)
+
+-- one phase more, and the steps of its meeting
+one_more_phase : (others from phase most : ℕ) → from ≤ phase → most ≡ others → others * (phase - from) + most ≡ others * (phase + 1 - from)
+one_more_phase others from phase most order is =
+    let next : suc (phase - from) ≡ phase + 1 - from = omega arith in
+    ap (λ (k : ℕ). others * (phase - from) + k) is ∙ sym (mul-suc others (phase - from)) ∙ ap (λ (k : ℕ). others * k) next
 
 -- workers that have played a phase and met stand behind it
-pub stand_next : (set : TableView) (script front slice : List Line) (count phase : ℕ) (ws us : List Worker) → lines_up_to phase script ≡ front ++ slice → Stand set script front count phase ws → PlayedAndMet slice ws us → Stand set script (front ++ slice) count (phase + 1) us
-stand_next set script front slice count phase ws us are stand next =
+pub stand_next : (set : TableView) (budget : ℕ) (script front slice : List Line) (count from phase : ℕ) (ws us : List Worker) → lines_up_to phase script ≡ front ++ slice → Stand set budget script front count from phase ws → PlayedAndMet budget slice ws us → Stand set budget script (front ++ slice) count from (phase + 1) us
+stand_next set budget script front slice count from phase ws us are stand next =
     let vs = next.apart in let played = next.played in let meets = next.meets in
     let lines = front ++ slice in
-    let early : All (HasPlayed set script lines) vs = all_from_zip (Played slice) (HasPlayed set script front) (HasPlayed set script lines) (λ w v. played_more set script front slice w v) ws vs stand.played played in
-    let all : All (HasPlayed set script lines) us = all_from_zip HasSeenMore (HasPlayed set script lines) (HasPlayed set script lines) (λ v u. played_looks set script lines v u) vs us early meets.looks in
-    let numbered : AreNumberedFrom 0 us = numbered_zip HasSeenMore (λ v u looks. looks.same.who) 0 vs us (numbered_zip (Played slice) (λ w v p. p.same.who) 0 ws vs stand.numbered played) meets.looks in
-    let on : AllZip GoesOn ws us = zip_zip (Played slice) HasSeenMore GoesOn (goes_on slice) ws vs us played meets.looks in
+    let most = (count - 1) * (phase - from) in let more = length vs - 1 in
+    let early : All (HasPlayed set budget most script lines) vs = all_from_zip (Played budget slice) (HasPlayed set budget most script front) (HasPlayed set budget most script lines) (λ w v. played_more set budget most script front slice w v) ws vs stand.played played in
+    let late : All (HasPlayed set budget (most + more) script lines) us = all_from_zip (HasSeenMore more) (HasPlayed set budget most script lines) (HasPlayed set budget (most + more) script lines) (λ v u. played_looks set budget most more script lines v u) vs us early meets.looks in
+    let as_many_apart : length vs ≡ length ws = zip_length (Played budget slice) ws vs played in
+    let others : more ≡ count - 1 = ap (λ (k : ℕ). k - 1) (as_many_apart ∙ stand.count_is) in
+    let all : All (HasPlayed set budget ((count - 1) * (phase + 1 - from)) script lines) us = subst (λ (k : ℕ). All (HasPlayed set budget k script lines) us) (one_more_phase (count - 1) from phase more stand.order others) late in
+    let numbered : AreNumberedFrom 0 us = numbered_zip (HasSeenMore more) (λ v u looks. looks.looked.quiet.same.who) 0 vs us (numbered_zip (Played budget slice) (λ w v p. p.same.who) 0 ws vs stand.numbered played) meets.looks in
+    let on : AllZip GoesOn ws us = zip_zip (Played budget slice) (HasSeenMore more) GoesOn (goes_on budget more slice) ws vs us played meets.looks in
     record {
       count_is = zip_length GoesOn ws us on ∙ stand.count_is;
+      order = (let before = stand.order in omega arith);
       numbered = numbered;
       played = all;
       ended = λ p below. elim (cases_lt p phase) [
         | inl before ↦ ended_later set script p ws us on (stand.ended p before)
         | inr now ↦
             let this : phase ≡ p = omega arith in
-            subst (λ (k : ℕ). HasEnded set script k us) this (has_ended set script lines phase vs us are numbered all meets)
+            subst (λ (k : ℕ). HasEnded set script k us) this (has_ended set budget (most + more) script lines phase vs us are numbered late meets)
       ];
     }

@@ -12,12 +12,14 @@ use Rattle.vbr_slots.specs.Calls.{IsSame, made_by}
 use Rattle.vbr_slots.specs.Views.{Trace}
 use Rattle.vbr_slots.proofs.Lemmas.{same_on}
 use Rattle.vbr_transcript.specs.Calls.{Outcome, answer_of, answered_calls, lines_by}
+use Rattle.vbr_player.specs.Calling.{CallsInTurn}
 use Rattle.vbr_player.specs.Working.{TellsReply, Played, HasRoom}
 use Rattle.vbr_script.specs.declared.script.Line.{Line}
 use Rattle.vbr_transcript.specs.declared.reply.Reply.{Reply}
 use Rattle.vbr_transcript.specs.declared.reply.Reply.TheVariants.{Yes, No, Full, Spent, Tired}
 use Rattle.vbr_player.specs.declared.worker.Worker.{Worker}
 use Rattle.vbr_transcript.proofs.Lemmas.{epoch_begins, zip-append}
+use Rattle.vbr_player.proofs.Calling.{turns_on}
 
 -- what a reply told stays so
 pub tells_on : {q r : Trace} (op : Op) (reply : Reply) → IsSame q r → Begins q.seen r.seen → TellsReply q op reply → TellsReply r op reply
@@ -50,8 +52,8 @@ answered-append xs ys = flat_map-append (λ (outcome : Outcome). answer_of outco
 -- ---- what was played
 
 -- some lines were, and then others
-pub played_on : (lines more : List Line) (p q r : Worker) → Played lines p q → Played more q r → Played (lines ++ more) p r
-played_on lines more p q r first then =
+pub played_on : (budget : ℕ) (lines more : List Line) (p q r : Worker) → Played budget lines p q → Played budget more q r → Played budget (lines ++ more) p r
+played_on budget lines more p q r first then =
     let who = p.caller.pass.trace.who in
     let told = λ (outcome : Outcome). TellsReply r.caller.pass.trace outcome.0.op outcome.1 in
     let mine : List Line → List Line = λ some. lines_by who some in
@@ -73,19 +75,23 @@ played_on lines more p q r first then =
           ∙ append_assoc (made_by p.caller.pass.trace) (answered_calls (zip (lines_by who lines) first.more)) (answered_calls (zip (lines_by who more) then.more))
           ∙ ap (λ cs. made_by p.caller.pass.trace ++ cs) (sym (answered-append (zip (lines_by who lines) first.more) (zip (lines_by who more) then.more)) ∙ ap answered_calls (sym both));
       tells = subst (λ (outcomes : List Outcome). All told outcomes) (sym both) (All-append told (zip (lines_by who lines) first.more) (zip (lines_by who more) then.more) early late);
+      in_turn = subst (λ (outcomes : List Outcome). CallsInTurn budget outcomes p.caller r.caller) (sym both) (turns_on budget p.caller q.caller r.caller (zip (lines_by who lines) first.more) (zip (lines_by who more) then.more) first.in_turn (subst (λ (w : ℕ). CallsInTurn budget (zip (lines_by w more) then.more) q.caller r.caller) same then.in_turn));
+      steps =
+          let long : length (first.more ++ then.more) ≡ length first.more + length then.more = length-append first.more then.more in
+          rw long (let a = first.steps in let b = then.steps in omega arith);
       room = let a = first.room in let b = then.room in omega arith;
     }
 
 -- the next line was too
-pub played_next : (lines : List Line) (i : ℕ) (d : Line) (p q r : Worker) → i < length lines → Played (take i lines) p q → Played (get_or lines i d ∷ []) q r → Played (take (i + 1) lines) p r
-played_next lines i d p q r inside first then =
-    subst (λ (some : List Line). Played some p r) (sym (take_more lines i d inside)) (played_on (take i lines) (get_or lines i d ∷ []) p q r first then)
+pub played_next : (budget : ℕ) (lines : List Line) (i : ℕ) (d : Line) (p q r : Worker) → i < length lines → Played budget (take i lines) p q → Played budget (get_or lines i d ∷ []) q r → Played budget (take (i + 1) lines) p r
+played_next budget lines i d p q r inside first then =
+    subst (λ (some : List Line). Played budget some p r) (sym (take_more lines i d inside)) (played_on budget (take i lines) (get_or lines i d ∷ []) p q r first then)
 
 -- ---- room
 
 -- room for some lines and others is left for the others when the first were played
-pub room_on : (lines more : List Line) (p q : Worker) → Played lines p q → HasRoom p (lines ++ more) → HasRoom q more
-room_on lines more p q played room =
+pub room_on : (budget : ℕ) (lines more : List Line) (p q : Worker) → Played budget lines p q → HasRoom p (lines ++ more) → HasRoom q more
+room_on budget lines more p q played room =
     let who = p.caller.pass.trace.who in
     let all : length (lines_by who (lines ++ more)) ≡ length (lines_by who lines) + length (lines_by who more) = ap length (lines_by-append who lines more) ∙ length-append (lines_by who lines) (lines_by who more) in
     let had : length q.replies.items ≡ length p.replies.items + length played.more = ap length played.replies ∙ length-append p.replies.items played.more in
@@ -100,7 +106,7 @@ room_front lines more p room =
     omega arith
 
 -- room for the next line
-pub room_next : (lines : List Line) (i : ℕ) (d : Line) (p q : Worker) → i < length lines → Played (take i lines) p q → HasRoom p lines → HasRoom q (get_or lines i d ∷ [])
-room_next lines i d p q inside played room =
+pub room_next : (budget : ℕ) (lines : List Line) (i : ℕ) (d : Line) (p q : Worker) → i < length lines → Played budget (take i lines) p q → HasRoom p lines → HasRoom q (get_or lines i d ∷ [])
+room_next budget lines i d p q inside played room =
     let parts : lines ≡ take i lines ++ (get_or lines i d ∷ drop (i + 1) lines) = sym (take-append-drop i lines) ∙ ap (λ (rest : List Line). take i lines ++ rest) (drop-cons lines i d inside ∙ ap (λ (n : ℕ). get_or lines i d ∷ drop n lines) (sym (add-one i))) in
-    room_front (get_or lines i d ∷ []) (drop (i + 1) lines) q (room_on (take i lines) (get_or lines i d ∷ drop (i + 1) lines) p q played (subst (λ (some : List Line). HasRoom p some) parts room))
+    room_front (get_or lines i d ∷ []) (drop (i + 1) lines) q (room_on budget (take i lines) (get_or lines i d ∷ drop (i + 1) lines) p q played (subst (λ (some : List Line). HasRoom p some) parts room))

@@ -10,9 +10,9 @@ use Rattle.vbr_player.specs.declared.worker.Worker.{Worker}
 abbrev pub passes_of : List Worker → List PassView
 passes_of workers = map (λ worker. worker.caller.pass) workers
 
--- the passes and the replies are those of workers, one for each pass of a set, that have played lines, all of them in so many phases
-pub record PlayedWhole (set : TableView) (script : List Line) (phases : ℕ) (passes : List PassView) (replies : List (List Reply)) : Type 0 where
+-- the passes and the replies are those of workers, one for each pass of a set, that have played lines, all of them in the phases from one on and up to another, which isn't among them
+pub record PlayedWhole (set : TableView) (budget : ℕ) (script : List Line) (from phases : ℕ) (passes : List PassView) (replies : List (List Reply)) : Type 0 where
   pub workers : List Worker
-  pub stand : Stand set script script set.passes phases workers
+  pub stand : Stand set budget script script set.passes from phases workers
   pub passes_are : passes ≡ passes_of workers
   pub replies_are : replies ≡ replies_of workers

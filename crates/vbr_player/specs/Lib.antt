@@ -1,3 +1,4 @@
+pub mod Calling
 pub mod Working
 pub mod Starting
 pub mod Meeting

@@ -1,22 +1,23 @@
 -- What the player does with a reader and a writer.
 use Rattle.std.specs.Prelude.{◌≡◌, ℕ, List, Option, Some, None, Result, Ok, Err}
 use Rattle.std.specs.Io.KnownBytes.{Keeps, Appends}
-use Rattle.vbr_script.specs.Scripts.{first_fault, renewals_of, script_of}
+use Rattle.vbr_script.specs.Scripts.{first_fault, phases_of, renewals_of, script_of}
 use Rattle.vbr_transcript.specs.Reading.{IsInput}
 use Rattle.vbr_transcript.specs.Runs.{IsScriptRun}
 use Rattle.vbr_transcript.specs.Layout.{layout_of}
 use Rattle.vbr_transcript.specs.Writing.{AppendsSome}
+use Rattle.vbr_player.specs.Calling.{ArePlayed}
 use Rattle.vbr_transcript.specs.declared.reply.Reply.{Reply}
 use Rattle.vbr_transcript.specs.declared.totals.Totals.{Totals}
 use Rattle.vbr_transcript.specs.declared.error.RunError.{RunError}
 use Rattle.vbr_transcript.specs.declared.error.RunError.TheVariants as error
 use Rattle.vbr_settings.specs.Settings.{Settings}
 
--- the text is a script for the workers, and the output is the layout of a run of it with these totals
+-- the text is a script for the workers, and the output is the layout of a run of it with these totals, which they played with the budget
 abbrev pub Prints : Settings → List ℕ → Totals → List ℕ → Type 0
 Prints settings text totals output =
     (replies : List Reply) × (first_fault settings.workers text ≡ None)
-    × IsScriptRun settings.shape settings.workers (renewals_of settings.workers text) (script_of settings.workers text) replies totals
+    × IsScriptRun (ArePlayed settings.workers settings.budget) settings.shape settings.workers (phases_of settings.workers text) (renewals_of settings.workers text) (script_of settings.workers text) replies totals
     × (output ≡ layout_of settings.epoch replies totals)
 
 -- want of memory, or of a thread for a worker

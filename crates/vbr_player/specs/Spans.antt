@@ -12,6 +12,7 @@ use Rattle.vbr_script.specs.declared.script.Line.{Line}
 use Rattle.vbr_transcript.specs.Merging.{IsMerged}
 use Rattle.vbr_transcript.specs.Runs.{IsSetRun}
 use Rattle.vbr_transcript.specs.declared.reply.Reply.{Reply}
+use Rattle.vbr_player.specs.Calling.{ArePlayed}
 use Rattle.vbr_player.specs.Ending.{PlayedWhole}
 
 -- lines of so many workers, in phases from one on and up to another, which isn't among them, one after the other
@@ -20,23 +21,23 @@ pub record IsSpan (workers from to : ℕ) (lines : List Line) : Type 0 where
   pub phased : ArePhased workers to lines
   pub ascend : AscendFrom from lines
 
--- the passes of a set have played lines, in phases below a number, with these replies in script order
-pub record PlayedSpan (set : TableView) (lines : List Line) (phases : ℕ) (passes : List PassView) (replies : List Reply) : Type 0 where
+-- the passes of a set have played lines, in the phases from one on and up to another, with these replies in script order
+pub record PlayedSpan (set : TableView) (budget : ℕ) (lines : List Line) (from phases : ℕ) (passes : List PassView) (replies : List Reply) : Type 0 where
   pub own : List (List Reply)
-  pub whole : PlayedWhole set lines phases passes own
+  pub whole : PlayedWhole set budget lines from phases passes own
   pub merged : IsMerged lines own replies
 
--- a set has played lines, with these replies, and was closed with this report
-pub record HasPlayedSpan (set : TableView) (lines : List Line) (replies : List Reply) (report : Report) : Type 0 where
+-- a set has played lines, in so many phases, with these replies, and was closed with this report
+pub record HasPlayedSpan (set : TableView) (budget : ℕ) (lines : List Line) (phases : ℕ) (replies : List Reply) (report : Report) : Type 0 where
   pub one_each : length replies ≡ length lines
   pub run : List Event
-  pub of_set : IsSetRun set.shape set.passes (zip lines replies) run
+  pub of_set : IsSetRun (ArePlayed set.passes budget) set.shape set.passes phases (zip lines replies) run
   pub keys : AreKeysOf report.keys.items (set_after (opening_keys set.shape) (world_after set.shape run).calls)
   pub epoch : report.epoch ≡ (world_after set.shape run).epoch
 
--- a set has played lines, with these replies, and another follows it, which has as many passes and opened with the keys that it left
-pub record IsFollowed (set : TableView) (lines : List Line) (replies : List Reply) (next : TableView) : Type 0 where
+-- a set has played lines, in so many phases, with these replies, and another follows it, which has as many passes and opened with the keys that it left
+pub record IsFollowed (set : TableView) (budget : ℕ) (lines : List Line) (phases : ℕ) (replies : List Reply) (next : TableView) : Type 0 where
   pub report : Report
-  pub played : HasPlayedSpan set lines replies report
+  pub played : HasPlayedSpan set budget lines phases replies report
   pub shape : next.shape ≡ record set.shape { keys = report.keys.items }
   pub passes : next.passes ≡ set.passes

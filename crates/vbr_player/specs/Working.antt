@@ -1,42 +1,24 @@
 -- What playing lines does to a worker.
-use Rattle.std.specs.Prelude.{◌≡◌, ◌+◌, ◌≤◌, Bool, true, false, List, ◌++◌, length, zip, All, Result, Ok, Err}
+use Rattle.std.specs.Prelude.{◌≡◌, ℕ, ◌+◌, ◌*◌, ◌≤◌, List, ◌++◌, length, zip, All}
 use Rattle.std.specs.List.{AllZip}
 use Rattle.std.specs.Vec.{vec_capacity}
 use Rattle.vbr_machine.specs.Runs.{Begins, world_after}
 use Rattle.vbr_machine.specs.declared.history.Op.{Op}
 use Rattle.vbr_machine.specs.declared.history.Op.TheVariants.{Insert}
 use Rattle.vbr_slots.specs.Calls.{IsSame, made_by}
-use Rattle.vbr_slots.specs.Views.{Trace}
-use Rattle.vbr_list.specs.declared.refusal.Refusal.{Refusal}
-use Rattle.vbr_list.specs.declared.refusal.Refusal.TheVariants.{OutOfSteps, NoSlot, EpochSpent}
-use Rattle.vbr_set.specs.Members.{MemberView}
-use Rattle.vbr_transcript.specs.Calls.{answer_of, answered_calls, lines_by}
+use Rattle.vbr_slots.specs.Views.{Trace, steps_of}
+use Rattle.vbr_transcript.specs.Calls.{answered_calls, lines_by}
+use Rattle.vbr_player.specs.Calling.{CallsInTurn}
 use Rattle.vbr_script.specs.declared.script.Line.{Line}
 use Rattle.vbr_transcript.specs.declared.reply.Reply.{Reply}
-use Rattle.vbr_transcript.specs.declared.reply.Reply.TheVariants.{Yes, No, Full, Spent, Tired}
+use Rattle.vbr_transcript.specs.declared.reply.Reply.TheVariants.{Full, Spent}
 use Rattle.vbr_player.specs.declared.worker.Worker.{Worker}
-
--- the reply that an answer of the set is
-abbrev pub reply_told : Result Bool Refusal → Reply
-reply_told (Ok true) = Yes
-reply_told (Ok false) = No
-reply_told (Err (OutOfSteps used)) = Tired
-reply_told (Err NoSlot) = Full
-reply_told (Err (EpochSpent epoch)) = Spent
 
 -- what a reply tells of the pass that was given it: an insert alone finds the set full or its epochs spent, and they are spent once it has seen the last epoch come
 abbrev pub TellsReply : Trace → Op → Reply → Type 0
 TellsReply q op Full = op ≡ Insert
 TellsReply q op Spent = (op ≡ Insert) × (q.shape.last_epoch ≤ (world_after q.shape q.seen).epoch)
 TellsReply q op _ = Unit {0}
-
--- a pass of a set was given this reply to a line: it has seen more, and has made the call that the line is with this reply, or none where it was refused
-pub record Replied (line : Line) (reply : Reply) (p q : MemberView) : Type 0 where
-  pub set : q.set ≡ p.set
-  pub same : IsSame p.pass.trace q.pass.trace
-  pub seen : Begins p.pass.trace.seen q.pass.trace.seen
-  pub calls : made_by q.pass.trace ≡ made_by p.pass.trace ++ answer_of line reply
-  pub tells : TellsReply q.pass.trace line.op reply
 
 -- a worker has room for a reply to each of its own lines among these
 abbrev pub HasRoom : Worker → List Line → Type 0
@@ -46,8 +28,8 @@ HasRoom p lines = length p.replies.items + length (lines_by p.caller.pass.trace.
 abbrev pub HaveRoom : List Worker → List Line → Type 0
 HaveRoom workers lines = All (λ worker. HasRoom worker lines) workers
 
--- a worker played its own lines among these, in order: each was given a reply, and the calls that its pass made are those that were answered
-pub record Played (lines : List Line) (p q : Worker) : Type 0 where
+-- a worker played its own lines among these, in order, with a budget for each: each was given the reply of its call, the calls that its pass made are those that were answered, and the steps that it made are within the budgets
+pub record Played (budget : ℕ) (lines : List Line) (p q : Worker) : Type 0 where
   pub set : q.caller.set ≡ p.caller.set
   pub same : IsSame p.caller.pass.trace q.caller.pass.trace
   pub seen : Begins p.caller.pass.trace.seen q.caller.pass.trace.seen
@@ -56,8 +38,10 @@ pub record Played (lines : List Line) (p q : Worker) : Type 0 where
   pub one_each : length more ≡ length (lines_by p.caller.pass.trace.who lines)
   pub calls : made_by q.caller.pass.trace ≡ made_by p.caller.pass.trace ++ answered_calls (zip (lines_by p.caller.pass.trace.who lines) more)
   pub tells : All (λ outcome. TellsReply q.caller.pass.trace outcome.0.op outcome.1) (zip (lines_by p.caller.pass.trace.who lines) more)
+  pub in_turn : CallsInTurn budget (zip (lines_by p.caller.pass.trace.who lines) more) p.caller q.caller
+  pub steps : steps_of q.caller.pass.trace ≤ steps_of p.caller.pass.trace + budget * length more
   pub room : vec_capacity p.replies ≤ vec_capacity q.replies
 
 -- each of the workers did
-abbrev pub EachPlayed : List Line → List Worker → List Worker → Type 0
-EachPlayed lines before after = AllZip (Played lines) before after
+abbrev pub EachPlayed : ℕ → List Line → List Worker → List Worker → Type 0
+EachPlayed budget lines before after = AllZip (Played budget lines) before after

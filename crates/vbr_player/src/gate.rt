@@ -2,7 +2,7 @@
 use vbr_transcript::Reply;
 
 /// What the workers of a run do round each call, each in its own thread. A line is given by its index
-/// in the lines of the script.
+/// in the lines of the script. That it is told of each call is tested; no contract says it.
 pub trait Gate {
     /// Comes before the call of a line.
     fn before(&self, worker: u32, line: u64);

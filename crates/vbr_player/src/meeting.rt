@@ -1,10 +1,8 @@
 // The meeting of all workers.
-ghost use Rattle.std.specs.Prelude.{◌≡◌, All};
+ghost use Rattle.std.specs.Prelude.{◌≡◌, All, length};
 ghost use Rattle.std.specs.List.{AllZip};
-ghost use Rattle.vbr_slots.specs.Calls.{Quiet};
-ghost use Rattle.vbr_slots.specs.Views.{KeepsPool};
 ghost use Rattle.vbr_machine.specs.Runs.{Begins};
-ghost use Rattle.vbr_player.specs.Meeting.{AreOfOne, HasSeenMore, Meets, MeetsOthers};
+ghost use Rattle.vbr_player.specs.Meeting.{AreOfOne, HasLooked, HasSeenMore, Meets, MeetsOthers};
 
 use crate::worker::Worker;
 use vbr_set::VbrSetRef;
@@ -37,9 +35,7 @@ fn meet_others(caller: &mut VbrSetRef, others: &mut [Worker])
 fn see_all(caller: &mut VbrSetRef, others: &mut [Worker])
     requires { All (λ other. other.caller.set ≡ caller.old.set) others.old }
     ensures same { others.new ≡ others.old }
-    ensures set { caller.new.set ≡ caller.old.set }
-    ensures quiet { Quiet caller.old.pass.trace caller.new.pass.trace }
-    ensures pool { KeepsPool caller.old.pass caller.new.pass }
+    ensures looked { HasLooked (length others.old) caller.old caller.new }
     ensures seen { All
         (λ other. Begins other.caller.pass.trace.seen caller.new.pass.trace.seen) others.old }
 {
@@ -52,7 +48,7 @@ fn see_all(caller: &mut VbrSetRef, others: &mut [Worker])
 fn show_all(caller: &mut VbrSetRef, others: &mut [Worker])
     requires { All (λ other. other.caller.set ≡ caller.old.set) others.old }
     ensures same { caller.new ≡ caller.old }
-    ensures looks { AllZip HasSeenMore others.old others.new }
+    ensures looks { AllZip (HasSeenMore 1) others.old others.new }
     ensures seen { All
         (λ other. Begins caller.old.pass.trace.seen other.caller.pass.trace.seen) others.new }
 {

@@ -1,5 +1,5 @@
 // The set of a script and its workers, before the first phase.
-ghost use Rattle.std.specs.Prelude.{◌≡◌, ◌==◌, ◌<◌, [], None, count_by, IfOk, IfErr};
+ghost use Rattle.std.specs.Prelude.{◌≡◌, ℕ, ◌==◌, ◌<◌, [], None, count_by, IfOk, IfErr};
 ghost use Rattle.vbr_slots.specs.Views.{IsOf, new_passes};
 ghost use Rattle.vbr_player.specs.Standing.{IsNew, Stand};
 
@@ -34,7 +34,8 @@ pub fn workers_of<'w>(
     passes: Vec<Pass>,
 ) -> Result<Vec<Worker<'w>>, AllocError>
     requires { passes.items ≡ new_passes set.now 0 set.now.passes }
-    ensures { IfOk result (λ workers. Stand set.now lines.now [] set.now.passes 0 workers.items) }
+    ensures { IfOk result (λ workers.
+        (budget : ℕ) → Stand set.now budget lines.now [] set.now.passes 0 0 workers.items) }
 {
     let mut workers = Vec::with_capacity(alloc, passes.len())?;
     for pass in passes {

@@ -38,7 +38,8 @@ impl<'p, G> Part<'p, G> {
     pub fn slice(&self, first: usize, end: usize) -> Part<'p, G>
         requires order { first ≤ end }
         requires inside { end ≤ length self.now.lines.now }
-        ensures { result.lines.now ≡ take (end - first) (drop first self.now.lines.now) }
+        ensures lines { result.lines.now ≡ take (end - first) (drop first self.now.lines.now) }
+        ensures budget { result.budget ≡ self.now.budget }
     {
         Part {
             lines: &self.lines[first..end],

@@ -26,8 +26,8 @@ pub fn play_phase<'e, R: Threads + Wait, G: Gate + Sync>(
 ) -> Result<Vec<Worker<'e>>, RunError>
     requires of { AreOfOne workers.items }
     requires room { HaveRoom workers.items part.lines.now }
-    ensures met { IfOk result
-        (λ met. PlayedAndMet part.entry.lines.now workers.entry.items met.items) }
+    ensures met { IfOk result (λ met. PlayedAndMet part.entry.budget
+        part.entry.lines.now workers.entry.items met.items) }
     ensures fault { IfErr result IsWant }
 {
     let workers = thread::scope(
@@ -35,8 +35,8 @@ pub fn play_phase<'e, R: Threads + Wait, G: Gate + Sync>(
         rt,
         move |scope| -> Result<Vec<Worker>, RunError>
             requires { HaveRoom workers.items part.lines.now }
-            ensures played { IfOk result
-                (λ played. EachPlayed part.entry.lines.now workers.entry.items played.items) }
+            ensures played { IfOk result (λ played. EachPlayed part.entry.budget
+                part.entry.lines.now workers.entry.items played.items) }
             ensures fault { IfErr result IsWant }
         { play_apart(scope, rt, alloc, part, workers) },
     )?;
@@ -52,8 +52,8 @@ fn play_apart<'s, 'e, R: Threads + Wait, G: Gate + Sync>(
     workers: Vec<Worker<'e>>,
 ) -> Result<Vec<Worker<'e>>, RunError>
     requires { HaveRoom workers.items part.lines.now }
-    ensures played { IfOk result
-        (λ played. EachPlayed part.entry.lines.now workers.entry.items played.items) }
+    ensures played { IfOk result (λ played. EachPlayed part.entry.budget
+        part.entry.lines.now workers.entry.items played.items) }
     ensures fault { IfErr result IsWant }
 {
     let mut turns = Vec::with_capacity(alloc, workers.len())?;

@@ -28,8 +28,8 @@ pub fn play_span<'e, R: Threads + Wait, G: Gate + Sync>(
 ) -> Result<(Vec<Pass>, Vec<Reply>), RunError>
     requires span { IsSpan set.now.passes span.from span.to span.part.lines.now }
     requires new { passes.items ≡ new_passes set.now 0 set.now.passes }
-    ensures played { IfOk result (λ played. PlayedSpan set.now
-        span.entry.part.lines.now span.entry.to played.0.items played.1.items) }
+    ensures played { IfOk result (λ played. PlayedSpan set.now span.entry.part.budget
+        span.entry.part.lines.now span.entry.from span.entry.to played.0.items played.1.items) }
     ensures fault { IfErr result IsWant }
 {
     let whole = span.part;

@@ -4,6 +4,7 @@ ghost use Rattle.vbr_slots.specs.Views.{new_passes};
 ghost use Rattle.vbr_script.specs.Scripts.{ArePhased, AreRenewalsFrom};
 ghost use Rattle.vbr_script.specs.declared.script.TheConstants.{MAX_SYNCS};
 ghost use Rattle.vbr_transcript.specs.Runs.{AreExplained};
+ghost use Rattle.vbr_player.specs.Calling.{ArePlayed};
 ghost use Rattle.vbr_player.specs.Playing.{IsWant};
 
 use crate::ending::{close, renew};
@@ -32,8 +33,9 @@ pub fn play_sets<R: Threads + Wait, G: Gate + Sync>(
     requires new { opened.1.items ≡ new_passes opened.0 0 opened.0.passes }
     requires some { 0 < opened.0.passes }
     ensures one_each { IfOk result (λ ended. length ended.0.items ≡ length whole.entry.lines.now) }
-    ensures explained { IfOk result (λ ended. AreExplained opened.0.shape opened.0.passes
-        script.now.renewals.items (zip whole.entry.lines.now ended.0.items)
+    ensures explained { IfOk result (λ ended. AreExplained
+        (ArePlayed opened.0.passes whole.entry.budget) opened.0.shape opened.0.passes
+        0 script.now.phases script.now.renewals.items (zip whole.entry.lines.now ended.0.items)
         ended.1.keys.items ended.1.epoch) }
     ensures fault { IfErr result IsWant }
 {

@@ -11,15 +11,16 @@ use std::thread::{Promise, PromisedHandle, Scope, Threads};
 use vbr_script::Line;
 use vbr_transcript::RunError;
 
-/// That a worker will have played these lines.
+/// That a worker will have played these lines, with this budget for each.
 #[derive(Drop)]
 pub struct WillPlay<'l> {
     pub before: Snapshot<Worker<'l>>,
     pub lines: &'l [Line],
+    pub budget: u32,
 }
 
 impl<'l> Promise<Worker<'l>> for WillPlay<'l> {
-    ghost kept_by = { λ p r. Played p.lines.now p.before.value r };
+    ghost kept_by = { λ p r. Played p.budget p.lines.now p.before.value r };
 }
 
 /// What a worker does in a phase.
@@ -36,7 +37,8 @@ pub fn take_turn<'s, 'e, G: Gate + Sync>(
     scope: &'s Scope<'s, &'e ()>,
     task: Task<'e, G>,
 ) -> Result<Turn<'e>, RunError>
-    ensures turn { IfOk result (λ turn. IsFor task.entry.part.lines.now turn task.entry.worker) }
+    ensures turn { IfOk result (λ turn.
+        IsFor task.entry.part.budget task.entry.part.lines.now turn task.entry.worker) }
     ensures fault { IfErr result (λ error. error ≡ RunError.Worker) }
 {
     let who = task.worker.caller.pass().who();
@@ -46,6 +48,7 @@ pub fn take_turn<'s, 'e, G: Gate + Sync>(
     let promise = WillPlay {
         before: Snapshot::of(&task.worker),
         lines: task.part.lines,
+        budget: task.part.budget,
     };
     Ok(Turn::Started(begin(scope, promise, task, play)?))
 }

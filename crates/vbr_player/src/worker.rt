@@ -1,7 +1,9 @@
 // A worker: it plays its lines of a script, one after the other.
 ghost use Rattle.std.specs.Prelude.{◌≡◌, ◌≢◌, [], ◌∷◌};
 ghost use Rattle.vbr_machine.specs.declared.history.Op.TheVariants.{Get};
-ghost use Rattle.vbr_player.specs.Working.{reply_told, HasRoom, Replied, Played};
+ghost use Rattle.vbr_set.specs.Members.{Called};
+ghost use Rattle.vbr_player.specs.Calling.{reply_told};
+ghost use Rattle.vbr_player.specs.Working.{HasRoom, Played};
 
 use crate::gate::Gate;
 use crate::part::{Part, Task};
@@ -19,7 +21,7 @@ pub struct Worker<'w> {
 
 // Plays a worker's own lines, in order: what its thread runs.
 pub fn play<'w, G: Gate>(task: Task<'w, G>) -> Worker<'w>
-    ensures { Played task.entry.part.lines.now task.entry.worker result }
+    ensures { Played task.entry.part.budget task.entry.part.lines.now task.entry.worker result }
 {
     let Task { part, mut worker } = task;
     let mut index = part.first;
@@ -35,7 +37,7 @@ impl<'w> Worker<'w> {
     fn play_line<G: Gate>(&mut self, part: &Part<G>, line: &Line, index: u64)
         requires room { HasRoom self.old (line.now ∷ []) }
         requires no_get { line.now.op ≢ Get }
-        ensures { Played (line.now ∷ []) self.old self.new }
+        ensures { Played part.now.budget (line.now ∷ []) self.old self.new }
     {
         let who = self.caller.pass().who();
         if line.worker != who {
@@ -52,9 +54,8 @@ impl<'w> Worker<'w> {
 
 // Makes the call of a line.
 fn ask(caller: &mut VbrSetRef, line: &Line, budget: u32) -> Result<bool, Refusal>
-    requires own { line.now.worker ≡ caller.old.pass.trace.who }
-    requires no_get { line.now.op ≢ Get }
-    ensures { Replied line.now (reply_told result) caller.old caller.new }
+    requires { line.now.op ≢ Get }
+    ensures { Called line.now.op caller.old caller.new line.now.key budget result }
 {
     match line.op {
         Op::Insert => caller.insert(line.key, budget),

@@ -14,7 +14,7 @@ use Rattle.vbr_transcript.specs.Calls.{Outcome, answered_calls, lines_by, lines_
 use Rattle.vbr_transcript.specs.Merging.{replies_by, IsMerged}
 use Rattle.vbr_script.specs.Scripts.{ArePhased}
 use Rattle.vbr_transcript.specs.Phases.{HaveCalled, HavePlayed}
-use Rattle.vbr_transcript.specs.Runs.{EndsIn, MayBeAnswered, IsSetRun}
+use Rattle.vbr_transcript.specs.Runs.{EndsIn, Manner, MayBeAnswered, IsSetRun}
 use Rattle.vbr_script.specs.declared.script.Line.{Line}
 use Rattle.vbr_transcript.specs.declared.reply.Reply.{Reply}
 use Rattle.vbr_machine.proofs.Lemmas.{begins_run}
@@ -84,8 +84,8 @@ ends shape workers phases phase lines own replies run phased merged is_run playe
 ]
 
 -- what the workers have played by a safe run are the outcomes of one set, with the replies that they have merged
-pub set_run_of_workers : (shape : Dimensions) (workers phases : ℕ) (lines : List Line) (own : List (List Reply)) (replies : List Reply) (run : List Event) → ArePhased workers phases lines → IsMerged lines own replies → machine.IsRun shape workers run → IsSafe shape run → HavePlayed shape workers phases lines own run → IsSetRun shape workers (zip lines replies) run
-set_run_of_workers shape workers phases lines own replies run phased merged is_run safe played =
+pub set_run_of_workers : (manner : Manner) (shape : Dimensions) (workers phases since : ℕ) (lines : List Line) (own : List (List Reply)) (replies : List Reply) (run : List Event) → manner shape since (zip lines replies) run → ArePhased workers phases lines → IsMerged lines own replies → machine.IsRun shape workers run → IsSafe shape run → HavePlayed shape workers phases lines own run → IsSetRun manner shape workers since (zip lines replies) run
+set_run_of_workers manner shape workers phases since lines own replies run in_manner phased merged is_run safe played =
     let of_worker = λ (who : ℕ). outcomes_by-own who lines replies (replies_by who own) merged.one_each (merged.own_order who) in
     let all = λ (who : ℕ). own_order shape workers who run lines own (zip lines replies) is_run played.called phased.workers_below (of_worker who) in
     let may = λ (outcome : Outcome). MayBeAnswered shape.last_epoch (world_after shape run).epoch outcome.0.op outcome.1 in
@@ -98,4 +98,5 @@ set_run_of_workers shape workers phases lines own replies run phased merged is_r
         phases = λ phase. ends shape workers phases phase lines own replies run phased merged is_run played all;
       };
       refusals = all_outcomes may workers (zip lines replies) (all_lines (λ (line : Line). line.worker < workers) lines replies phased.workers_below) (λ who below. subst (All may) (sym (of_worker who)) (played.answers who below));
+      played = in_manner;
     }

@@ -1,6 +1,6 @@
 -- Sets that follow one another: what one was asked, and behind it what the next ones were, are the outcomes of all.
-use Rattle.std.proofs.Common.{◌≡◌, ℕ, ◌<◌, ◌≤◌, true, false, List, [], ◌∷◌, ◌++◌, inl, inr, refl, sym, ap, ap₂, subst, ◌∙◌, append_assoc, append-nil, arith}
-use Rattle.std.proofs.lemmas.Bool.{cases_lt}
+use Rattle.std.proofs.Common.{◌≡◌, ◌≢◌, ℕ, suc, ◌+◌, ◌-◌, ◌<◌, ◌≤◌, Bool, true, false, cond, eqb, length, List, [], ◌∷◌, ◌++◌, inl, inr, refl, sym, ap, ap₂, subst, ◌∙◌, append_assoc, append-nil, arith}
+use Rattle.std.proofs.lemmas.Bool.{cases_eq, cases_lt, eq-eqb}
 use Rattle.std.proofs.lemmas.Bool.Decides.{nat_tests}
 use Rattle.std.proofs.lemmas.List.Concat.{flat_map-append}
 use Rattle.std.proofs.lemmas.List.Elements.{filter-append}
@@ -9,12 +9,13 @@ use Rattle.vbr_words.specs.Dimensions.{Dimensions}
 use Rattle.vbr_machine.specs.Keys.{Keys, keys_of, AreKeysOf}
 use Rattle.vbr_machine.specs.Opened.{opening_keys}
 use Rattle.vbr_machine.specs.History.{IsLegal, keys_after, set_after, calls_by}
-use Rattle.vbr_machine.specs.Runs.{world_after}
+use Rattle.vbr_machine.specs.Runs.{IsRun, world_after}
 use Rattle.vbr_machine.specs.declared.event.Event.{Event}
 use Rattle.vbr_machine.specs.declared.history.Call.{Call}
 use Rattle.vbr_machine.proofs.Lemmas.{calls_by-append}
 use Rattle.vbr_transcript.specs.Calls.{Outcome, answer_of, answered_calls, outcomes_up_to, outcomes_past}
-use Rattle.vbr_transcript.specs.Runs.{EndsIn, Explains, IsSetRun, AreOfSets, AreExplained}
+use Rattle.vbr_transcript.specs.Runs.{EndsIn, Explains, Manner, IsSetRun, AreOfSets, AreExplained}
+use Rattle.vbr_transcript.proofs.CoreCalls.{no_calls_beyond}
 use Rattle.vbr_transcript.proofs.Filters.{filter_all, filter_none}
 
 -- ---- histories, end to end
@@ -123,22 +124,51 @@ explains-append keys calls more front back cut early late first then = record {
   ];
 }
 
+-- ---- a lone worker
+
+-- where no other caller has calls, those of the first are all
+all_own : (calls : List Call) → ((other : ℕ) → other ≢ 0 → calls_by other calls ≡ []) → calls_by 0 calls ≡ calls
+all_own [] none = refl
+all_own (call ∷ calls) none = elim (cases_eq call.who 0) [
+  | inl first ↦ rw (eq-eqb call.who 0 first) (ap (λ (rest : List Call). call ∷ rest) (all_own calls (λ other differs. left (eqb call.who other) (calls_by other calls) (none other differs))))
+  | inr later ↦ absurd (kept (eqb call.who call.who) (calls_by call.who calls) (eq-eqb call.who call.who refl) (none call.who later))
+]
+  where
+    left : (b : Bool) (rest : List Call) → cond b (call ∷ rest) rest ≡ [] → rest ≡ []
+    left true rest is = absurd (let e : suc (length rest) ≡ 0 = ap length is in omega arith)
+    left false rest is = is
+
+    kept : (b : Bool) (rest : List Call) → b ≡ true → cond b (call ∷ rest) rest ≡ [] → ⊥
+    kept true rest own is = let e : suc (length rest) ≡ 0 = ap length is in omega arith
+    kept false rest own is = absurd (cc)
+
+-- the calls of a lone worker are its answered operations
+lone_calls : (shape : Dimensions) (workers : ℕ) (outcomes : List Outcome) (run : List Event) → IsRun shape workers run → Explains (opening_keys shape) (world_after shape run).calls outcomes → workers ≡ 1 → (world_after shape run).calls ≡ answered_calls outcomes
+lone_calls shape workers outcomes run is_run explains one =
+    sym (all_own (world_after shape run).calls none)
+    ∙ explains.own_order 0
+    ∙ all_own (answered_calls outcomes) (λ other differs. sym (explains.own_order other) ∙ none other differs)
+  where
+    none : (other : ℕ) → other ≢ 0 → calls_by other (world_after shape run).calls ≡ []
+    none other differs = no_calls_beyond shape workers other run (omega arith) is_run
+
 -- ---- sets
 
 -- what the last set was asked, with the keys that it leaves
-pub last_set : (shape : Dimensions) (workers : ℕ) (outcomes : List Outcome) (run : List Event) (listed : List ℕ) (epoch : ℕ) → IsSetRun shape workers outcomes run → AreKeysOf listed (set_after (opening_keys shape) (world_after shape run).calls) → epoch ≡ (world_after shape run).epoch → AreExplained shape workers [] outcomes listed epoch
-last_set shape workers outcomes run listed epoch of_set keys last = record {
+pub last_set : (manner : Manner) (shape : Dimensions) (workers from phases : ℕ) (outcomes : List Outcome) (run : List Event) (listed : List ℕ) (epoch : ℕ) → IsSetRun manner shape workers (phases - from) outcomes run → AreKeysOf listed (set_after (opening_keys shape) (world_after shape run).calls) → epoch ≡ (world_after shape run).epoch → AreExplained manner shape workers from phases [] outcomes listed epoch
+last_set manner shape workers from phases outcomes run listed epoch of_set keys last = record {
   history = (world_after shape run).calls;
   sets = (run, of_set, refl, last);
   explains = of_set.explains;
   keys = keys;
+  plain = lone_calls shape workers outcomes run of_set.is_run of_set.explains;
 }
 
 -- what a set was asked, and behind the phase of its renewal what the later ones were
-pub one_more_set : (shape : Dimensions) (workers renewal : ℕ) (renewals : List ℕ) (front back : List Outcome) (run : List Event) (keys listed : List ℕ) (epoch : ℕ)
-    → All (λ outcome. outcome.0.phase ≤ renewal) front → All (λ outcome. renewal < outcome.0.phase) back → IsSetRun shape workers front run → AreKeysOf keys (set_after (opening_keys shape) (world_after shape run).calls)
-    → AreExplained (record shape { keys = keys }) workers renewals back listed epoch → AreExplained shape workers (renewal ∷ renewals) (front ++ back) listed epoch
-one_more_set shape workers renewal renewals front back run keys listed epoch early late of_set are rest =
+pub one_more_set : (manner : Manner) (shape : Dimensions) (workers from phases renewal : ℕ) (renewals : List ℕ) (front back : List Outcome) (run : List Event) (keys listed : List ℕ) (epoch : ℕ)
+    → All (λ outcome. outcome.0.phase ≤ renewal) front → All (λ outcome. renewal < outcome.0.phase) back → IsSetRun manner shape workers (renewal + 1 - from) front run → AreKeysOf keys (set_after (opening_keys shape) (world_after shape run).calls)
+    → AreExplained manner (record shape { keys = keys }) workers (renewal + 1) phases renewals back listed epoch → AreExplained manner shape workers from phases (renewal ∷ renewals) (front ++ back) listed epoch
+one_more_set manner shape workers from phases renewal renewals front back run keys listed epoch early late of_set are rest =
     let calls = (world_after shape run).calls in
     let opens : keys_of keys ≡ set_after (opening_keys shape) calls = same_keys keys (set_after (opening_keys shape) calls) are in
     let then : Explains (set_after (opening_keys shape) calls) rest.history back = subst (λ (some : Keys). Explains some rest.history back) opens rest.explains in
@@ -147,13 +177,16 @@ one_more_set shape workers renewal renewals front back run keys listed epoch ear
       history = calls ++ rest.history;
       sets = (
         run,
-        subst (λ (some : List Outcome). IsSetRun shape workers some run) (sym (cut_front renewal front back early late)) of_set,
+        subst (λ (some : List Outcome). IsSetRun manner shape workers (renewal + 1 - from) some run) (sym (cut_front renewal front back early late)) of_set,
         keys,
         are,
         rest.history,
-        subst (λ (some : List Outcome). AreOfSets (record shape { keys = keys }) workers renewals some rest.history epoch) (sym (cut_back renewal front back early late)) rest.sets,
+        subst (λ (some : List Outcome). AreOfSets manner (record shape { keys = keys }) workers (renewal + 1) phases renewals some rest.history epoch) (sym (cut_back renewal front back early late)) rest.sets,
         refl,
       );
       explains = explains-append (opening_keys shape) calls rest.history front back renewal early late of_set.explains then;
       keys = subst (AreKeysOf listed) (sym (set_after-append (opening_keys shape) calls rest.history)) left;
+      plain = λ one.
+          ap₂ (λ (a b : List Call). a ++ b) (lone_calls shape workers front run of_set.is_run of_set.explains one) (rest.plain one)
+          ∙ sym (flat_map-append (λ (outcome : Outcome). answer_of outcome.0 outcome.1) front back);
     }

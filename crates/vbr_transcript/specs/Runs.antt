@@ -1,5 +1,5 @@
 -- A run of a script: a reply for each of its operations, and totals, that the calls of one run of the core for each of its sets explain.
-use Rattle.std.specs.Prelude.{◌≡◌, ℕ, Bool, true, false, ◌&&◌, List, [], ◌∷◌, ◌++◌, length, zip, All, count_by}
+use Rattle.std.specs.Prelude.{◌≡◌, ℕ, ◌+◌, ◌-◌, Bool, true, false, ◌&&◌, List, [], ◌∷◌, ◌++◌, length, zip, All, count_by}
 use Rattle.vbr_words.specs.Dimensions.{Dimensions}
 use Rattle.vbr_machine.specs.Keys.{Keys, AreKeysOf}
 use Rattle.vbr_machine.specs.Opened.{opening_keys}
@@ -78,34 +78,40 @@ pub record Counts (totals : Totals) (outcomes : List Outcome) : Type 0 where
 
 -- ---- the sets
 
--- these outcomes are those of one set: a safe run of the core, whose passes are the workers, has the calls that explain them, and none is a refusal that a set at the run's epoch doesn't give
-pub record IsSetRun (shape : Dimensions) (workers : ℕ) (outcomes : List Outcome) (run : List Event) : Type 0 where
+-- what is claimed besides of how the workers of a set play, which their player says: by the set's shape, how many phases are played on it, the outcomes and the run
+abbrev pub Manner : Type 1
+Manner = Dimensions → ℕ → List Outcome → List Event → Type 0
+
+-- these outcomes are those of one set: a safe run of the core, whose passes are the workers, has the calls that explain them, none is a refusal that a set at the run's epoch doesn't give, and the workers played in the manner that is claimed
+pub record IsSetRun (manner : Manner) (shape : Dimensions) (workers phases : ℕ) (outcomes : List Outcome) (run : List Event) : Type 0 where
   pub is_run : machine.IsRun shape workers run
   pub safe : IsSafe shape run
   pub explains : Explains (opening_keys shape) (world_after shape run).calls outcomes
   pub refusals : All (λ outcome. MayBeAnswered shape.last_epoch (world_after shape run).epoch outcome.0.op outcome.1) outcomes
+  pub played : manner shape phases outcomes run
 
--- outcomes are those of sets, one after the other: behind the phase of each renewal the set is closed, and the next is opened with the keys that its calls left. The history is the calls of all sets in their order, and the epoch is that of the last
-abbrev pub AreOfSets : Dimensions → ℕ → List ℕ → List Outcome → List Call → ℕ → Type 0
-AreOfSets shape workers [] outcomes history epoch =
-    (run : List Event) × IsSetRun shape workers outcomes run × (history ≡ (world_after shape run).calls) × (epoch ≡ (world_after shape run).epoch)
-AreOfSets shape workers (renewal ∷ renewals) outcomes history epoch =
-    (run : List Event) × IsSetRun shape workers (outcomes_up_to renewal outcomes) run
+-- outcomes are those of sets, one after the other, on which the phases from one on and up to another, which isn't among them, are played: behind the phase of each renewal the set is closed, and the next is opened with the keys that its calls left. The history is the calls of all sets in their order, and the epoch is that of the last
+abbrev pub AreOfSets : Manner → Dimensions → ℕ → ℕ → ℕ → List ℕ → List Outcome → List Call → ℕ → Type 0
+AreOfSets manner shape workers from phases [] outcomes history epoch =
+    (run : List Event) × IsSetRun manner shape workers (phases - from) outcomes run × (history ≡ (world_after shape run).calls) × (epoch ≡ (world_after shape run).epoch)
+AreOfSets manner shape workers from phases (renewal ∷ renewals) outcomes history epoch =
+    (run : List Event) × IsSetRun manner shape workers (renewal + 1 - from) (outcomes_up_to renewal outcomes) run
     × (keys : List ℕ) × AreKeysOf keys (set_after (opening_keys shape) (world_after shape run).calls)
-    × (later : List Call) × AreOfSets (record shape { keys = keys }) workers renewals (outcomes_past renewal outcomes) later epoch
+    × (later : List Call) × AreOfSets manner (record shape { keys = keys }) workers (renewal + 1) phases renewals (outcomes_past renewal outcomes) later epoch
     × (history ≡ (world_after shape run).calls ++ later)
 
--- sets give these outcomes: one history of all of them explains the outcomes, from the keys of the first; the keys that it leaves, and the epoch of the last set, are these
-pub record AreExplained (shape : Dimensions) (workers : ℕ) (renewals : List ℕ) (outcomes : List Outcome) (listed : List ℕ) (epoch : ℕ) : Type 0 where
+-- sets give these outcomes: one history of all of them explains the outcomes, from the keys of the first; the keys that it leaves, and the epoch of the last set, are these; and a lone worker has the answers of a plain set, since the history is just its answered operations
+pub record AreExplained (manner : Manner) (shape : Dimensions) (workers from phases : ℕ) (renewals : List ℕ) (outcomes : List Outcome) (listed : List ℕ) (epoch : ℕ) : Type 0 where
   pub history : List Call
-  pub sets : AreOfSets shape workers renewals outcomes history epoch
+  pub sets : AreOfSets manner shape workers from phases renewals outcomes history epoch
   pub explains : Explains (opening_keys shape) history outcomes
   pub keys : AreKeysOf listed (set_after (opening_keys shape) history)
+  pub plain : workers ≡ 1 → history ≡ answered_calls outcomes
 
 -- ---- the run
 
--- replies and totals of a run of a script, with so many workers, on a set of this shape that is renewed behind these phases: each line has a reply; sets give these outcomes, with the keys and the epoch of the totals, which count the outcomes
-pub record IsScriptRun (shape : Dimensions) (workers : ℕ) (renewals : List ℕ) (lines : List Line) (replies : List Reply) (totals : Totals) : Type 0 where
+-- replies and totals of a run of a script, with so many workers, in so many phases, on a set of this shape that is renewed behind these of them: each line has a reply; sets give these outcomes, with the keys and the epoch of the totals, which count the outcomes
+pub record IsScriptRun (manner : Manner) (shape : Dimensions) (workers phases : ℕ) (renewals : List ℕ) (lines : List Line) (replies : List Reply) (totals : Totals) : Type 0 where
   pub one_each : length replies ≡ length lines
-  pub explained : AreExplained shape workers renewals (zip lines replies) totals.keys.items totals.epoch
+  pub explained : AreExplained manner shape workers 0 phases renewals (zip lines replies) totals.keys.items totals.epoch
   pub counts : Counts totals (zip lines replies)

@@ -20,7 +20,7 @@ loop-worker-preserved g c =
     let all : c.loop-worker.yielded ++ (c.in-Some.worker ∷ into_iter_items c.next.new.self) ≡ c.args.workers.items = ap (λ (ws : List Worker). c.loop-worker.yielded ++ ws) (sym {A = List Worker} c.in-Some.ensures.steps.0) ∙ i.all in
     let lines = c.args.part.lines.now in
     record {
-      turns = subst (λ (turns : List Turn). AreFor lines turns (c.loop-worker.yielded ++ c.in-Some.worker ∷ [])) (sym c.in-Ok.ensures.items) (zip-snoc (IsFor lines) c.loop-worker.turns.items c.loop-worker.yielded c.in_ok-turn.turn c.in-Some.worker i.turns c.in_ok-turn.ensures.turn);
+      turns = subst (λ (turns : List Turn). AreFor c.args.part.budget lines turns (c.loop-worker.yielded ++ c.in-Some.worker ∷ [])) (sym c.in-Ok.ensures.items) (zip-snoc (IsFor c.args.part.budget lines) c.loop-worker.turns.items c.loop-worker.yielded c.in_ok-turn.turn c.in-Some.worker i.turns c.in_ok-turn.ensures.turn);
       all = append_assoc c.loop-worker.yielded (c.in-Some.worker ∷ []) (into_iter_items c.next.new.self) ∙ all;
     }
 
@@ -28,8 +28,8 @@ pub returns : goal.returns
 returns g c =
     let i = c.loop-worker.invariant in
     let whole = none_left c.loop-worker.yielded (into_iter_items c.loop-worker.worker-iterator) c.args.workers.items (sym c.loop-worker.worker-iterator.rest.ok.0 ∙ c.in-None.ensures.steps.0) i.all in
-    let are = subst (AreFor c.args.part.lines.now c.loop-worker.turns.items) whole i.turns in
+    let are = subst (AreFor c.args.part.budget c.args.part.lines.now c.loop-worker.turns.items) whole i.turns in
     record {
-      played = each_played_if c.args.part.lines.now c.loop-worker.turns.items c.args.workers.items c.join_all.result are c.join_all.ensures.ended;
+      played = each_played_if c.args.part.budget c.args.part.lines.now c.loop-worker.turns.items c.args.workers.items c.join_all.result are c.join_all.ensures.ended;
       fault = c.join_all.ensures.fault;
     }

@@ -1,12 +1,13 @@
-use Rattle.vbr_player.proofs.Replying.{replied}
-use Rattle.vbr_machine.specs.declared.history.Op.TheVariants.{Insert, Remove, Has}
+use Rattle.std.proofs.Common.{sym, subst}
+use Rattle.vbr_machine.specs.declared.history.Op.{Op}
+use Rattle.vbr_set.specs.Members.{Called}
 use Rattle.vbr_player.proofs.worker.ask.Goals as goal
 
 pub returns-in-Insert : goal.returns-in-Insert
-returns-in-Insert c = replied c.args.line.now Insert c.args.caller.now c.insert.new.self c.args.budget c.insert.result c.in-Insert.is c.requires.own c.insert.ensures
+returns-in-Insert c = subst (λ (op : Op). Called op c.args.caller.now c.insert.new.self c.args.line.now.key c.args.budget c.insert.result) (sym c.in-Insert.is) c.insert.ensures
 
 pub returns-in-Remove : goal.returns-in-Remove
-returns-in-Remove c = replied c.args.line.now Remove c.args.caller.now c.remove.new.self c.args.budget c.remove.result c.in-Remove.is c.requires.own c.remove.ensures
+returns-in-Remove c = subst (λ (op : Op). Called op c.args.caller.now c.remove.new.self c.args.line.now.key c.args.budget c.remove.result) (sym c.in-Remove.is) c.remove.ensures
 
 pub returns-in-Has : goal.returns-in-Has
-returns-in-Has c = replied c.args.line.now Has c.args.caller.now c.has.new.self c.args.budget c.has.result c.in-Has.is c.requires.own c.has.ensures
+returns-in-Has c = subst (λ (op : Op). Called op c.args.caller.now c.has.new.self c.args.line.now.key c.args.budget c.has.result) (sym c.in-Has.is) c.has.ensures
