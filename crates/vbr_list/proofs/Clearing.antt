@@ -1,6 +1,7 @@
 -- A key is clear at a moment: no marked node of it is in a list. What a walk to the key shows of that, and what follows for a node that the pass has marked.
 use Rattle.std.proofs.Common.{◌≡◌, ℕ, ◌+◌, ◌≤◌, arith, Bool, true, false, List, [], ◌∷◌, ◌++◌, Option, Some, None, refl, sym, ap, ◌∙◌, subst}
 use Rattle.std.specs.Prelude.{IfSome, IfNone}
+use Rattle.vbr_words.specs.declared.nodes.Nodes.{Ghosts}
 use Rattle.vbr_words.specs.Dimensions.{Dimensions, IsShape}
 use Rattle.vbr_words.specs.Words.{link_of}
 use Rattle.vbr_words.specs.declared.link.Link.{Link}
@@ -87,7 +88,7 @@ clear_found {p} {q} key found shape same x = go found.cur found.present x.locate
     go (Some cur) false y z = absent (Some cur) y
 
 -- of a walk that ended with room in its budget
-pub clear_walked : (c d : Call) (found : Option Found) → IsShape (trace_in c).shape → IsSame (trace_in c) (trace_in d) → IfSome found (Finds c d) → IfNone found (SearchTires c d) → d.used + 8 ≤ c.budget → WasClear (trace_in c) (trace_in d) c.key
+pub clear_walked : {N : Type 0} {kind : Ghosts N} → (c d : Call N kind) (found : Option Found) → IsShape (trace_in c).shape → IsSame (trace_in c) (trace_in d) → IfSome found (Finds c d) → IfNone found (SearchTires c d) → d.used + 8 ≤ c.budget → WasClear (trace_in c) (trace_in d) c.key
 clear_walked c d None shape same x tired room = let short = tired.tired in absurd (omega (arith, short, room))
 clear_walked c d (Some found) shape same x tired room = clear_found c.key found shape same x.found
 

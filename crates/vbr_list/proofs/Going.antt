@@ -1,6 +1,7 @@
 -- Pieces one after another: they make no call, their steps add up, and the slot in hand stays.
 use Rattle.std.proofs.Common.{◌≡◌, ℕ, ◌+◌, ◌≤◌, [], Result, Ok, Err, refl, sym, ap, ◌∙◌, subst, arith}
 use Rattle.std.specs.Prelude.{IfOk}
+use Rattle.vbr_words.specs.declared.nodes.Nodes.{Ghosts}
 use Rattle.vbr_words.specs.Dimensions.{Dimensions}
 use Rattle.vbr_words.specs.Buckets.{bucket_of}
 use Rattle.vbr_slots.specs.Calls.{IsSame, Quiet, Took}
@@ -59,14 +60,14 @@ unfolding bucket_of
 bucket_is a b bare bucket key e g f = f ∙ ap (λ (shape : Dimensions). bucket_of shape key) g ∙ ap (λ (shape : Dimensions). bucket_of shape key) (sym e)
 
 -- a call stays the same one from piece to piece
-pub call_on : {b c d : Call} → IsSameCall b c → IsSameCall c d → IsSameCall b d
+pub call_on : {N : Type 0} {kind : Ghosts N} → {b c d : Call N kind} → IsSameCall b c → IsSameCall c d → IsSameCall b d
 call_on x y = record { at = record { pass = y.at.pass ∙ x.at.pass; slots = y.at.slots ∙ x.at.slots }; key = y.key ∙ x.key; bucket = y.bucket ∙ x.bucket; budget = y.budget ∙ x.budget }
 
-pub call_refl : (c : Call) → IsSameCall c c
+pub call_refl : {N : Type 0} {kind : Ghosts N} → (c : Call N kind) → IsSameCall c c
 call_refl c = record { at = record { pass = refl; slots = refl }; key = refl; bucket = refl; budget = refl }
 
 -- the steps of a call are within the budget that it began with
-pub within_call : {c d : Call} → IsSameCall c d → d.used ≤ c.budget
+pub within_call : {N : Type 0} {kind : Ghosts N} → {c d : Call N kind} → IsSameCall c d → d.used ≤ c.budget
 within_call {c} {d} x = let u = d.within in let e = x.budget in omega (arith, u, e)
 
 -- what follows of each value is so of the value that was given

@@ -2,6 +2,7 @@
 use Rattle.std.proofs.Common.{◌≡◌, ◌≢◌, ℕ, ◌+◌, ◌-◌, ◌<◌, ◌≤◌, Bool, true, false, List, [], ◌∷◌, length, Result, Ok, Err, inl, refl, sym, subst, arith}
 use Rattle.std.specs.Prelude.{IfOk, IfErr}
 use Rattle.std.specs.Result.{is_ok}
+use Rattle.vbr_words.specs.declared.nodes.Nodes.{Ghosts}
 use Rattle.vbr_words.specs.Dimensions.{Dimensions}
 use Rattle.vbr_machine.specs.History.{set_call}
 use Rattle.vbr_machine.specs.Runs.{Begins, IsRun}
@@ -37,7 +38,7 @@ within_same {p} {q} {r} {a} {b} e x = record { counts = subst (λ (t : Trace). C
 -- ---- before a slot is linked
 
 -- what takes no slot and keeps the hand
-pub prepares_none : (c d : Call) → IsSameCall c d → CountsWithin (trace_in c) (trace_in d) c.used d.used c.budget → TakesNoSlot (pass_in c) (pass_in d) → (pass_in d).hand ≡ (pass_in c).hand → Prepares c d
+pub prepares_none : {N : Type 0} {kind : Ghosts N} → (c d : Call N kind) → IsSameCall c d → CountsWithin (trace_in c) (trace_in d) c.used d.used c.budget → TakesNoSlot (pass_in c) (pass_in d) → (pass_in d).hand ≡ (pass_in c).hand → Prepares c d
 prepares_none c d same counts none hand = record {
   call = same;
   counts = counts;
@@ -48,7 +49,7 @@ prepares_none c d same counts none hand = record {
 }
 
 -- a slot is taken after that
-pub prepares_on : (c d e : Call) → IsSameCall c d → CountsWithin (trace_in c) (trace_in d) c.used d.used c.budget → Quiet (trace_in c) (trace_in d) → TakesNoSlot (pass_in c) (pass_in d) → (pass_in d).hand ≡ (pass_in c).hand → length (pass_in d).pool ≤ length (pass_in e).pool + 1 → Prepares d e → Prepares c e
+pub prepares_on : {N : Type 0} {kind : Ghosts N} → (c d e : Call N kind) → IsSameCall c d → CountsWithin (trace_in c) (trace_in d) c.used d.used c.budget → Quiet (trace_in c) (trace_in d) → TakesNoSlot (pass_in c) (pass_in d) → (pass_in d).hand ≡ (pass_in c).hand → length (pass_in d).pool ≤ length (pass_in e).pool + 1 → Prepares d e → Prepares c e
 prepares_on c d e same counts quiet none hand one x =
     let P : ℕ → Type 0 = λ budget. CountsWithin (trace_in d) (trace_in e) d.used e.used budget in
     let y = subst P same.budget x.counts in

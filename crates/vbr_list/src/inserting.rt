@@ -21,27 +21,9 @@ use vbr_pools::budget::affords;
 use vbr_pools::uncounted::{give_back, take};
 use vbr_pools::{Hand, TakeRefusal};
 use vbr_slots::{AtTable, Pass, Slots};
+use vbr_words::Nodes;
 
-impl Call<'_> {
-    // Answers an insert with no, in one step, if the link of the node that was found is as it was read.
-    #[inline]
-    fn deny(&mut self, found: &Found) -> Result<(), Rollback>
-        requires locates { LocatesFor self.old found.now }
-        requires present { found.now.present ≡ true }
-        requires room { HasRoom self.old }
-        ensures call { IsSameCall self.old self.new }
-        ensures keeps { KeepsIn (pass_in self.old) (pass_in self.new) 1 }
-        ensures used { self.new.used ≡ self.old.used + 1 }
-        ensures made { IfOk result (λ _. Replies Insert self.old self.new false) }
-        ensures rolls { IfErr result (λ r. DeniesNone self.old self.new found.now) }
-    {
-        let Some(cur) = &found.cur else {
-            unreachable!()
-        };
-        self.used += 1;
-        confirm_present(&mut self.at, Op::Insert, cur)
-    }
-
+impl<N: Nodes> Call<'_, N> {
     // Takes a slot with what is left of the budget.
     fn provide(&mut self) -> Result<Hand, Refusal>
         requires empty_hand { (pass_in self.old).hand ≡ None }
@@ -64,6 +46,27 @@ impl Call<'_> {
                 TakeRefusal::EpochSpent { epoch } => Err(Refusal::EpochSpent { epoch }),
             },
         }
+    }
+}
+
+impl Call<'_> {
+    // Answers an insert with no, in one step, if the link of the node that was found is as it was read.
+    #[inline]
+    fn deny(&mut self, found: &Found) -> Result<(), Rollback>
+        requires locates { LocatesFor self.old found.now }
+        requires present { found.now.present ≡ true }
+        requires room { HasRoom self.old }
+        ensures call { IsSameCall self.old self.new }
+        ensures keeps { KeepsIn (pass_in self.old) (pass_in self.new) 1 }
+        ensures used { self.new.used ≡ self.old.used + 1 }
+        ensures made { IfOk result (λ _. Replies Insert self.old self.new false) }
+        ensures rolls { IfErr result (λ r. DeniesNone self.old self.new found.now) }
+    {
+        let Some(cur) = &found.cur else {
+            unreachable!()
+        };
+        self.used += 1;
+        confirm_present(&mut self.at, Op::Insert, cur)
     }
 
     // Looks for the key without a hand: a hand, once the key was found absent; or none, and the answer is

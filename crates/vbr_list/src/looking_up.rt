@@ -17,8 +17,9 @@ use vbr_access::uncounted::confirm_look_up;
 use vbr_access::{Held, Rollback};
 use vbr_pools::budget::affords;
 use vbr_slots::{AtTable, Pass, Slots};
+use vbr_words::Nodes;
 
-impl Call<'_> {
+impl<N: Nodes> Call<'_, N> {
     // Answers a look-up by what it came to, in one step, if the link that was read still stands there.
     #[inline(always)]
     fn settle_look_up(&mut self, sight: Sight) -> Result<bool, Rollback>
@@ -60,7 +61,12 @@ fn told_by(sight: Sight) -> (Held, bool)
 ///
 /// OutOfSteps is its one refusal. While the other passes stand still, a budget of 5n + 11 is enough,
 /// with n nodes in the key's bucket, and what is answered took at most 5n + 4 steps.
-pub fn has(slots: &Slots, pass: &mut Pass, key: u64, budget: u32) -> Result<bool, Refusal>
+pub fn has<N: Nodes>(
+    slots: &Slots<N>,
+    pass: &mut Pass,
+    key: u64,
+    budget: u32,
+) -> Result<bool, Refusal>
     requires own { IsOf pass.old.trace slots.now }
     requires empty_hand { pass.old.hand ≡ None }
     ensures { Calls Has pass.old pass.new key budget result }
@@ -74,7 +80,7 @@ pub fn has(slots: &Slots, pass: &mut Pass, key: u64, budget: u32) -> Result<bool
 }
 
 // As `has`, where no step is counted; and how many steps were made.
-fn look_up(at: &mut AtTable<'_>, key: u64, budget: u32) -> (Result<bool, Refusal>, u32)
+fn look_up<N: Nodes>(at: &mut AtTable<'_, N>, key: u64, budget: u32) -> (Result<bool, Refusal>, u32)
     requires empty_hand { (pass_of at.old).hand ≡ None }
     ensures table { IsSameTable at.old at.new }
     ensures took { Took (trace_of at.old) (trace_of at.new) result.1 }

@@ -19,13 +19,14 @@ use vbr_access::{Held, Marked, Rollback};
 use vbr_machine::Op;
 use vbr_pools::budget::affords;
 use vbr_slots::{AtTable, Pass, Slots};
+use vbr_words::Nodes;
 
 // Walks to the key as `find` does, with what is left of a budget, and so helps to unlink each marked
 // node that it meets: when it has come to the key, no marked node of the key was in a list at a moment.
 // Gives how many steps are used then. Few removes lose their unlinking, so it is done apart from them.
 #[cold]
 #[inline(never)]
-fn walk_apart(at: &mut AtTable<'_>, key: u64, budget: u32, used: u32) -> u32
+fn walk_apart<N: Nodes>(at: &mut AtTable<'_, N>, key: u64, budget: u32, used: u32) -> u32
     requires within { used ≤ budget }
     ensures table { IsSameTable at.old at.new }
     ensures goes { Goes (pass_of at.old) (pass_of at.new) used result }
@@ -50,7 +51,7 @@ fn walk_apart(at: &mut AtTable<'_>, key: u64, budget: u32, used: u32) -> u32
 // As `walk_apart`, by a copy of what is lent, so that a remove that wins its unlinking has all of its
 // own in registers.
 #[inline(always)]
-fn walk_by_copy(at: &mut AtTable<'_>, key: u64, budget: u32, used: u32) -> u32
+fn walk_by_copy<N: Nodes>(at: &mut AtTable<'_, N>, key: u64, budget: u32, used: u32) -> u32
     requires within { used ≤ budget }
     ensures table { IsSameTable at.old at.new }
     ensures goes { Goes (pass_of at.old) (pass_of at.new) used result }
@@ -65,7 +66,7 @@ fn walk_by_copy(at: &mut AtTable<'_>, key: u64, budget: u32, used: u32) -> u32
     walk_apart(&mut copy, key, budget, used)
 }
 
-impl Call<'_> {
+impl<N: Nodes> Call<'_, N> {
     // Unlinks and retires the node that was marked; where that is lost, walks on until it is out of
     // its list, by this pass or another.
     #[inline]
@@ -81,7 +82,9 @@ impl Call<'_> {
             self.used = walk_by_copy(&mut self.at, self.key, self.budget, self.used);
         }
     }
+}
 
+impl Call<'_> {
     // Marks the node that was found: the key is removed, and nothing rolls back past that. Then takes
     // the node out of its list, as far as the budget has room.
     #[inline]

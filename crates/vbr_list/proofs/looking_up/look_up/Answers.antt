@@ -14,7 +14,7 @@ use Rattle.vbr_list.proofs.Preparing.{made_since}
 use Rattle.vbr_list.proofs.looking_up.look_up.Goals as goal
 
 pub loop-sight-preserved : goal.loop-sight-preserved
-loop-sight-preserved c =
+loop-sight-preserved g c =
     let fits = c.if-not-affords.ensures in
     let before = peeks_on c.loop-sight.invariant.3 c.look.ensures.goes.goes c.look.ensures.observes c.look.ensures.goes.more (rw c.loop-sight.invariant.2 at (within_call (call_on c.loop-sight.invariant.0 c.look.ensures.goes.call))) in
     let a = c.look.ensures.goes.goes.quiet in
@@ -28,32 +28,32 @@ loop-sight-preserved c =
     )
 
 pub loop-sight-init : goal.loop-sight-init
-loop-sight-init c = (call_refl _, refl, refl, peeks_refl c.args.at.now.pass.now 0 c.args.budget (omega arith), inr (refl, refl))
+loop-sight-init g c = (call_refl _, refl, refl, peeks_refl c.args.at.now.pass.now 0 c.args.budget (omega arith), inr (refl, refl))
 
 pub invariant_of-call-2 : goal.invariant_of-call-2
-invariant_of-call-2 c = record {
+invariant_of-call-2 g c = record {
   of_key = bucket_is c.args.at.now.pass.now.trace.shape _ c.shape.result c.bucket_of.result c.args.key c.args.at.now.own.1 c.shape.ensures.bare c.bucket_of.ensures.bucket;
   in_shape = let same = ap (λ (d : Dimensions). d.buckets) c.shape.ensures.bare in let low = c.bucket_of.ensures.in_shape in omega (arith, same, low);
   within = omega arith;
 }
 
 pub returns-in_default-clause-took : goal.returns-in_default-clause-took
-returns-in_default-clause-took c =
+returns-in_default-clause-took g c =
     let same : c.at-1.given.0 ≡ c.look.new.self.at.pass.now = search rules in
     rw same (took_all (goes_on c.loop-sight.invariant.3.tries.goes c.look.ensures.goes.goes).counts)
 
 pub returns-then-not-affords-clause-took : goal.returns-then-not-affords-clause-took
-returns-then-not-affords-clause-took c =
+returns-then-not-affords-clause-took g c =
     let same : c.at-then-not-affords-1.given.0 ≡ c.look.new.self.at.pass.now = search rules in
     rw same (took_all (goes_on c.loop-sight.invariant.3.tries.goes c.look.ensures.goes.goes).counts)
 
 pub returns-in-Ok-clause-took : goal.returns-in-Ok-clause-took
-returns-in-Ok-clause-took c =
+returns-in-Ok-clause-took g c =
     let same : c.at-in-Ok-1.given.0 ≡ c.settle_look_up.new.self.at.pass.now = search rules in
     rw (same, c.settle_look_up.ensures.used) (took_all (counts_on (goes_on c.loop-sight.invariant.3.tries.goes c.look.ensures.goes.goes).counts (counts_step c.look.new.self.used 1 c.settle_look_up.ensures.keeps.took)))
 
 pub returns-in_default-clause-calls : goal.returns-in_default-clause-calls
-returns-in_default-clause-calls c =
+returns-in_default-clause-calls g c =
     let same : c.at-1.given.0 ≡ c.look.new.self.at.pass.now = search rules in
     rw same (record {
       same = (quiet_on c.loop-sight.invariant.3.tries.goes.quiet c.look.ensures.goes.goes.quiet).same;
@@ -80,7 +80,7 @@ returns-in_default-clause-calls c =
     })
 
 pub returns-then-not-affords-clause-calls : goal.returns-then-not-affords-clause-calls
-returns-then-not-affords-clause-calls c =
+returns-then-not-affords-clause-calls g c =
     let same : c.at-then-not-affords-1.given.0 ≡ c.look.new.self.at.pass.now = search rules in
     rw same (record {
       same = (quiet_on c.loop-sight.invariant.3.tries.goes.quiet c.look.ensures.goes.goes.quiet).same;
@@ -105,7 +105,7 @@ returns-then-not-affords-clause-calls c =
     })
 
 pub returns-in-Ok-clause-calls : goal.returns-in-Ok-clause-calls
-returns-in-Ok-clause-calls c =
+returns-in-Ok-clause-calls g c =
     let same : c.at-in-Ok-1.given.0 ≡ c.settle_look_up.new.self.at.pass.now = search rules in
     rw same (record {
       same = same_on (quiet_on c.loop-sight.invariant.3.tries.goes.quiet c.look.ensures.goes.goes.quiet).same c.in-Ok.ensures.answers.made.same;

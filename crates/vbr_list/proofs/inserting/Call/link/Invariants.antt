@@ -3,7 +3,7 @@ use Rattle.vbr_slots.specs.Calls.{Quiet}
 use Rattle.vbr_pools.specs.KeptSlots.{HasStill, TakesNoSlot}
 use Rattle.vbr_list.specs.Inserting.{CountsWithin, HasHandAndRoom}
 use Rattle.vbr_list.specs.Pieces.{IsSameCall}
-use Rattle.vbr_list.proofs.call.Call.link.Given as goal
+use Rattle.vbr_list.proofs.inserting.Call.link.Given as goal
 use Rattle.vbr_list.proofs.Traversals.{IsFirst}
 
 abbrev pub invariant-loop-found : goal.invariant-loop-found

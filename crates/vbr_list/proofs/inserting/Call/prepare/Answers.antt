@@ -11,7 +11,7 @@ use Rattle.vbr_list.proofs.Moments.{found_since, was_so}
 use Rattle.vbr_list.proofs.Nearing.{at_first, first_lost, first_of, then_of}
 use Rattle.vbr_list.proofs.Preparing.{if_err, if_ok, made_since, prepares_none, prepares_on, refuses_after, within_on, within_tries}
 use Rattle.vbr_list.proofs.Sufficing.{lacks_more, take_after, take_least}
-use Rattle.vbr_list.proofs.call.Call.prepare.Goals as goal
+use Rattle.vbr_list.proofs.inserting.Call.prepare.Goals as goal
 
 pub loop-found-preserved : goal.loop-found-preserved
 loop-found-preserved c =

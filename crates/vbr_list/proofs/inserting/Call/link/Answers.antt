@@ -8,7 +8,7 @@ use Rattle.vbr_list.specs.Budgets.{enough_to_search}
 use Rattle.vbr_list.proofs.Going.{call_on, within_call}
 use Rattle.vbr_list.proofs.Nearing.{at_first, first_lost, first_of, then_of}
 use Rattle.vbr_list.proofs.Preparing.{made_since, within_on, within_same}
-use Rattle.vbr_list.proofs.call.Call.link.Goals as goal
+use Rattle.vbr_list.proofs.inserting.Call.link.Goals as goal
 
 pub loop-found-preserved : goal.loop-found-preserved
 loop-found-preserved c =

@@ -1,7 +1,7 @@
 use Rattle.std.proofs.Common.{rules}
 use Rattle.vbr_slots.specs.Views.{knows}
 use Rattle.vbr_list.proofs.Passing.{before_named}
-use Rattle.vbr_list.proofs.call.Call.settle_remove.Goals as goal
+use Rattle.vbr_list.proofs.removing.Call.settle_remove.Goals as goal
 
 pub confirm_absent-outcome-requires-clause-gap : goal.confirm_absent-outcome-requires-clause-gap
 confirm_absent-outcome-requires-clause-gap c =

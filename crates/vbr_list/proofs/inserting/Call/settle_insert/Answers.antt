@@ -3,7 +3,7 @@ use Rattle.vbr_slots.specs.Views.{Trace}
 use Rattle.vbr_pools.specs.Steps.{CountsSteps}
 use Rattle.vbr_pools.proofs.Lemmas.{had_back, had_grown, had_on, had_spent, none_back, none_on}
 use Rattle.vbr_list.proofs.Going.{counts_step}
-use Rattle.vbr_list.proofs.call.Call.settle_insert.Goals as goal
+use Rattle.vbr_list.proofs.inserting.Call.settle_insert.Goals as goal
 
 pub returns-then-found-clause-publishes : goal.returns-then-found-clause-publishes
 returns-then-found-clause-publishes c =

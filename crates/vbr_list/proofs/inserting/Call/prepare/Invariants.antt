@@ -1,6 +1,6 @@
 use Rattle.std.proofs.Common.{◌-◌}
 use Rattle.vbr_list.specs.Pieces.{IsSameCall}
-use Rattle.vbr_list.proofs.call.Call.prepare.Given as goal
+use Rattle.vbr_list.proofs.inserting.Call.prepare.Given as goal
 use Rattle.vbr_list.proofs.Traversals.{IsFirst, Tries}
 
 abbrev pub invariant-loop-found : goal.invariant-loop-found

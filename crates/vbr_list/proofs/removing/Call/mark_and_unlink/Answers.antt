@@ -9,7 +9,7 @@ use Rattle.vbr_list.proofs.Going.{counts_step}
 use Rattle.vbr_list.proofs.KeptHands.{hand_on, own_kept}
 use Rattle.vbr_list.proofs.Moments.{key_found}
 use Rattle.vbr_list.proofs.Reaching.{key_kept, pred_on}
-use Rattle.vbr_list.proofs.call.Call.mark_and_unlink.Goals as goal
+use Rattle.vbr_list.proofs.removing.Call.mark_and_unlink.Goals as goal
 
 pub unlink_marked-requires-clause-marked : goal.unlink_marked-requires-clause-marked
 unlink_marked-requires-clause-marked c =
