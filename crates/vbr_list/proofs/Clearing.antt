@@ -8,7 +8,7 @@ use Rattle.vbr_words.specs.declared.link.Link.{Link}
 use Rattle.vbr_words.specs.declared.place.At.TheVariants.{Slot}
 use Rattle.vbr_machine.specs.Accounts.{incarnations_after}
 use Rattle.vbr_machine.specs.Calls.{own_calls}
-use Rattle.vbr_machine.specs.History.{set_call}
+use Rattle.vbr_machine.specs.declared.history.Call.{Call as ListedCall}
 use Rattle.vbr_machine.specs.Knowledge.{Know}
 use Rattle.vbr_machine.specs.Machine.{link_at}
 use Rattle.vbr_machine.specs.Membership.{Knows, IsHeldPlace, KeyAt, StandsBehind, StandsBefore}
@@ -107,10 +107,10 @@ clear_since {p} {q} {r} {key} a x = record {
 -- ---- the node that a remove has marked
 
 -- once the key is clear, it has left
-pub leaves_clear : {p q r : Trace} {key : ℕ} → IsShape p.shape → Made (set_call p.who Remove key true) p q → IsSame q r → WasClear q r key → Leaves p r key
-leaves_clear {p} {q} {r} {key} shape made same x =
+pub leaves_clear : {p q r : Trace} {key : ℕ} {value : Option ℕ} → IsShape p.shape → Made (record { who = p.who; op = Remove; key = key; reply = true; value = value }) p q → IsSame q r → WasClear q r key → Leaves p r key
+leaves_clear {p} {q} {r} {key} {value} shape made same x =
     let P : Dimensions → Type 0 = λ s. NoneMarked (incarnations_after s x.moment) key in
-    marked_left p.shape p.passes shape p.seen q.seen x.moment r.seen p.who (set_call p.who Remove key true) run made.seen x.within.from x.within.to refl refl calls (subst P made.same.shape x.none)
+    marked_left p.shape p.passes shape p.seen q.seen x.moment r.seen p.who call run made.seen x.within.from x.within.to refl refl calls (subst P made.same.shape x.none)
   where
     run : IsRun p.shape p.passes r.seen
     run =
@@ -118,7 +118,10 @@ leaves_clear {p} {q} {r} {key} shape made same x =
         let Q : ℕ → Type 0 = λ n. IsRun r.shape n r.seen in
         subst P (same.shape ∙ made.same.shape) (subst Q (same.passes ∙ made.same.passes) x.within.is_run)
 
-    calls : own_calls p.shape q.seen p.who ≡ own_calls p.shape p.seen p.who ++ set_call p.who Remove key true ∷ []
+    call : ListedCall
+    call = record { who = p.who; op = Remove; key = key; reply = true; value = value }
+
+    calls : own_calls p.shape q.seen p.who ≡ own_calls p.shape p.seen p.who ++ call ∷ []
     calls = sym (λ i. own_calls (made.same.shape i) q.seen (made.same.who i)) ∙ made.calls
 
 -- what has left since a moment has left since an earlier one

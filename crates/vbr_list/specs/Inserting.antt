@@ -14,7 +14,7 @@ use Rattle.vbr_pools.specs.Steps.{CountsSteps}
 use Rattle.vbr_access.specs.Alone.{NextStands, StandsNow}
 use Rattle.vbr_access.specs.Moments.{WasSo}
 use Rattle.vbr_list.specs.Budgets.{LacksSteps, enough_to_search, listed_for}
-use Rattle.vbr_list.specs.Pieces.{IsPiece, IsSameCall, Replies, WasAlone, pass_in, trace_in}
+use Rattle.vbr_list.specs.Pieces.{IsPiece, IsSameCall, Replies, Stores, WasAlone, pass_in, trace_in}
 use Rattle.vbr_list.specs.Refusals.{FoundNoSlot}
 use Rattle.vbr_list.specs.declared.call.Call.{Call}
 use Rattle.vbr_list.specs.declared.found.Found.{Found}
@@ -123,8 +123,8 @@ pub record Publishes {N : Type 0} {kind : Ghosts N} (c d : Call N kind) : Type 0
   pub takes_no_slot : TakesNoSlot (pass_in c) (pass_in d)
 
 -- the insert is answered, and its hand is empty
-pub record InsertAnswers {N : Type 0} {kind : Ghosts N} (c d : Call N kind) (reply : Bool) : Type 0 where
-  pub made : Replies Insert c d reply
+pub record InsertAnswers {N : Type 0} {kind : Ghosts N} (value : ℕ) (c d : Call N kind) (reply : Bool) : Type 0 where
+  pub made : Stores value c d reply
   pub spent : (pass_in d).hand ≡ None
 
 -- it isn't answered, and the hand comes back, which doesn't happen alone, where what was found stands

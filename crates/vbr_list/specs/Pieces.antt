@@ -1,5 +1,5 @@
 -- A piece of a call in progress: what stays of the call, and what its pass did. Only contracts of private functions cite this.
-use Rattle.std.specs.Prelude.{◌≡◌, ℕ, ◌+◌, ◌<◌, ◌≤◌, Bool, length, Some}
+use Rattle.std.specs.Prelude.{◌≡◌, ℕ, ◌+◌, ◌<◌, ◌≤◌, Bool, length, Option, Some}
 use Rattle.vbr_words.specs.declared.nodes.Nodes.{Ghosts}
 use Rattle.vbr_machine.specs.History.{set_call}
 use Rattle.vbr_machine.specs.declared.history.Op.{Op}
@@ -10,6 +10,7 @@ use Rattle.vbr_slots.specs.Views.{PassView, Trace, knows}
 use Rattle.vbr_slots.specs.declared.pass.TheConstants.{POOL}
 use Rattle.vbr_pools.specs.KeptSlots.{TakesNoSlot}
 use Rattle.vbr_pools.specs.Steps.{CountsSteps}
+use Rattle.vbr_list.specs.Told.{given_in, stored_in}
 use Rattle.vbr_list.specs.declared.call.Call.{Call}
 
 -- ---- a call in progress
@@ -39,6 +40,14 @@ WasAlone c d = IsAlone (trace_in c) (trace_in d)
 -- the pass made the call, with this reply
 abbrev pub Replies : {N : Type 0} {kind : Ghosts N} → Op → Call N kind → Call N kind → Bool → Type 0
 Replies op c d reply = Made (set_call (trace_in c).who op c.key reply) (trace_in c) (trace_in d)
+
+-- the pass made the call with this answer, which gives a value where nodes have values
+abbrev pub Gives : {N : Type 0} {kind : Ghosts N} → Op → Call N kind → Call N kind → Option ℕ → Type 0
+Gives op c d answer = Made (given_in (trace_in c) op c.key answer) (trace_in c) (trace_in d)
+
+-- the pass made the insert of this value with this reply
+abbrev pub Stores : {N : Type 0} {kind : Ghosts N} → ℕ → Call N kind → Call N kind → Bool → Type 0
+Stores value c d reply = Made (stored_in (trace_in c) c.key value reply) (trace_in c) (trace_in d)
 
 -- ---- what a piece keeps
 

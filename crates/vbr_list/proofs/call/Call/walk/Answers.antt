@@ -127,7 +127,7 @@ returns-clause-sight g c =
     let none = no_slot c.decode.result.slot (sym c.is_some.ensures ∙ c.loop-here-test.false) in
     record {
       sees = absent_at_end c.loop-here.pred c.loop-here.here c.loop-here.invariant.1.look (ap (λ (l : Link). l.slot) (sym c.decode.ensures.link) ∙ none);
-      alone = λ alone. let near = c.loop-here.invariant.1.passes alone in let paid = near.paid in record { stands = near.last.stands; paid = omega (arith, paid) };
+      alone = λ alone. let near = c.loop-here.invariant.1.passes alone in let paid = near.paid in record { fresh = near.last.fresh; stands = near.last.stands; paid = omega (arith, paid) };
     }
 
 pub returns-in-Err-clause-stopped : goal.returns-in-Err-clause-stopped
