@@ -5,6 +5,7 @@ mod ShownNodes
 mod Walks
 mod Gathering
 mod LinkedKeys
+mod LinkedEntries
 mod Closings
 mod Mailboxes
 mod Seats

@@ -2,12 +2,11 @@
 use Rattle.std.proofs.Common.{◌≡◌, ℕ, zero, suc, ◌<◌, ◌≤◌, Bool, true, false, cond, List, [], ◌∷◌, ◌++◌, refl, sym, ap, ◌∙◌, subst, ⊎_elim, inl, inr, arith}
 use Rattle.std.specs.Prelude.{◌⊎◌, ◌||◌, nat_eq}
 use Rattle.std.specs.List.{IsDistinct, list_any}
-use Rattle.std.specs.List.Sorted.{IsPermutation, IsSorted}
-use Rattle.std.specs.Ordering.{nat_cmp}
+use Rattle.std.specs.List.Sorted.{IsNonDecreasing, IsPermutation}
 use Rattle.std.proofs.lemmas.Bool.{cases_Bool, cases_lt, eq-eqb, eqb-true, false_from_ne_true, false≢true, or_cases, or_left, or_right, true≢false}
 use Rattle.std.proofs.lemmas.Cmp.{nat_eq_equiv}
 use Rattle.std.proofs.lemmas.List.Folds.{list_any-append}
-use Rattle.std.proofs.lemmas.List.Sorted.{IsNonDecreasingBy-from_sort, list_any-IsPermutation}
+use Rattle.std.proofs.lemmas.List.Sorted.{list_any-IsPermutation}
 use Rattle.std.proofs.lemmas.Map.Keys.{IsDistinct-IsPermutation, IsDistinct-push, IsStrictlyIncreasing-from_distinct}
 use Rattle.vbr_words.specs.Dimensions.{Dimensions}
 use Rattle.vbr_machine.specs.Accounts.{incarnations_after}
@@ -37,11 +36,11 @@ linked_from (Unlinked p at) e = absurd (false≢true e)
 linked_from (Stamped at stamp) e = absurd (false≢true e)
 
 -- the last incarnation of the slot is this one, and it is linked
-record IsLinkedIn (a : Incarnations) (s c : ℕ) : Type 0 where
-  stands : Stands a s c
-  linked : a.state c ≡ Linked
+pub record IsLinkedIn (a : Incarnations) (s c : ℕ) : Type 0 where
+  pub stands : Stands a s c
+  pub linked : a.state c ≡ Linked
 
-linked_in : (a : Incarnations) (s : ℕ) → is_linked (state_in a s) ≡ true → (c : ℕ) × IsLinkedIn a s c
+pub linked_in : (a : Incarnations) (s : ℕ) → is_linked (state_in a s) ≡ true → (c : ℕ) × IsLinkedIn a s c
 linked_in a s e =
     let is = linked_from (state_in a s) e in
     let node = stands_in a s (ap is_listed is) in
@@ -139,13 +138,13 @@ set_is {shape} {a} sound fits tells key = same_tests _ _ there only
         has_is a shape.slots key (record { slot = a.slot c.0; low = at.0; linked = ap is_linked (stands_state at.1 ∙ c.1); is = stands_key at.1 ∙ c.2 })
 
 -- sorted, they are the list of the set
-pub lists_keys : {shape : Dimensions} {words : List ℕ} {run : List Event} → AreAfter shape words run → (keys sorted : List ℕ) → keys ≡ linked_keys (incarnations_after shape run) shape.slots → IsPermutation keys sorted → IsSorted nat_cmp sorted → AreKeysOf sorted (set_after (opening_keys shape) (calls_of shape run))
+pub lists_keys : {shape : Dimensions} {words : List ℕ} {run : List Event} → AreAfter shape words run → (keys sorted : List ℕ) → keys ≡ linked_keys (incarnations_after shape run) shape.slots → IsPermutation keys sorted → IsNonDecreasing sorted → AreKeysOf sorted (set_after (opening_keys shape) (calls_of shape run))
 lists_keys {shape} {words} {run} x keys sorted are moved up =
     let a = incarnations_after shape run in
     let g = agrees x in
     let apart_keys = subst (λ (l : List ℕ). IsDistinct nat_eq l) (sym are) (distinct g.sound shape.slots) in
     record {
-      ascending = IsStrictlyIncreasing-from_distinct sorted (IsNonDecreasingBy-from_sort (λ y. y) sorted up) (IsDistinct-IsPermutation nat_eq (λ m n. nat_eq_equiv.symm m n) keys sorted moved apart_keys);
+      ascending = IsStrictlyIncreasing-from_distinct sorted up (IsDistinct-IsPermutation nat_eq (λ m n. nat_eq_equiv.symm m n) keys sorted moved apart_keys);
       same = λ key.
           sym (list_any-IsPermutation (nat_eq key) keys sorted moved)
           ∙ ap (list_any (nat_eq key)) are

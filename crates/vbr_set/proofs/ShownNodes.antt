@@ -1,4 +1,4 @@
--- The nodes that the words of a closed table show: of each slot the link and the key of its last incarnation, and what stands in the lists.
+-- The nodes that the words of a closed table show: of each slot the link, the key and the value of its last incarnation, and what stands in the lists.
 use Rattle.std.proofs.Common.{◌≡◌, ℕ, ◌<◌, List, Option, refl, sym, ap, ◌∙◌}
 use Rattle.std.specs.Prelude.{slice_index}
 use Rattle.vbr_words.specs.Dimensions.{Dimensions}
@@ -10,7 +10,7 @@ use Rattle.vbr_words.specs.declared.place.Place.TheVariants as place
 use Rattle.vbr_words.proofs.Lemmas.{link_of-word_of}
 use Rattle.vbr_machine.specs.Accounts.{incarnations_after, notes_after}
 use Rattle.vbr_machine.specs.Agreement.{Agrees}
-use Rattle.vbr_machine.specs.Images.{slot_shown, link_in_state, link_shown, link_shown_at}
+use Rattle.vbr_machine.specs.Images.{slot_shown, link_in_state, link_shown, link_shown_at, value_shown}
 use Rattle.vbr_machine.specs.Incarnations.{State, Unborn, InHand, GivenUp, Linked, Marked, Unlinked, Stamped, Incarnations}
 use Rattle.vbr_machine.specs.Runs.{world_after}
 use Rattle.vbr_machine.specs.Safety.{IsSafe}
@@ -35,6 +35,9 @@ link_read {shape} {words} {run} x (Slot s) is = ap link_of (x.are.each (place.Li
 
 pub key_read : {shape : Dimensions} {words : List ℕ} {run : List Event} → AreAfter shape words run → (s : ℕ) → s < shape.slots → slice_index words (index_of shape (place.Key s)) ≡ key_in_slot (incarnations_after shape run) s
 key_read x s is = x.are.each (place.Key s) is ∙ (agrees x).image.key s
+
+pub value_read : {shape : Dimensions} {words : List ℕ} {run : List Event} → AreAfter shape words run → (s : ℕ) → IsIn shape (place.Value s) → slice_index words (index_of shape (place.Value s)) ≡ value_shown (incarnations_after shape run) ((incarnations_after shape run).last s)
+value_read x s is = x.are.each (place.Value s) is ∙ (agrees x).image.value s
 
 -- ---- nodes in lists
 

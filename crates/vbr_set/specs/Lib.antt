@@ -4,8 +4,11 @@ pub mod Meetings
 pub mod Tokens
 pub mod Closing
 pub mod Renewing
+pub mod MapClosing
+pub mod MapRenewing
 pub mod Messages
 pub mod Walking
+pub mod Contents
 pub mod Mailboxes
 pub mod Members
 pub mod Sharing

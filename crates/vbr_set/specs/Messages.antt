@@ -4,7 +4,7 @@ use Rattle.vbr_set.specs.declared.renew_error.RenewError.{RenewError}
 use Rattle.vbr_set.specs.declared.renew_error.RenewError.TheVariants.{Missing, Memory, Closed}
 
 -- what is printed of a renewal that is refused
-abbrev pub renew_error_text : RenewError → List ℕ
+abbrev pub renew_error_text : {S R : Type 0} → RenewError S R → List ℕ
 renew_error_text (Missing set passes) = codes "there are fewer passes than were opened"
 renew_error_text (Memory set passes) = codes "there is no memory to close it"
 renew_error_text (Closed report) = codes "it is closed, and there is no memory to open it anew"

@@ -13,14 +13,18 @@ pub record Renews (set : TableView) (passes : List PassView) (new : TableView) :
   pub shape : new.shape ≡ record set.shape { keys = report.keys.items }
   pub count : new.passes ≡ set.passes
 
--- where a renewal is refused, the set and the passes come back as they were; or the set is closed, and the report is that of its close
-abbrev pub IsUnrenewed : RenewError → TableView → List PassView → Type 0
-IsUnrenewed (Missing t ps) set passes = (t ≡ set) × (ps.items ≡ passes)
-IsUnrenewed (Memory t ps) set passes = (t ≡ set) × (ps.items ≡ passes)
-IsUnrenewed (Closed report) set passes = Closes set passes report
+-- where a renewal is refused, the table and the passes come back as they were; or it is closed, and the report is that of its close
+abbrev pub IsUnrenewedBy : {R : Type 0} → (TableView → List PassView → R → Type 0) → RenewError TableView R → TableView → List PassView → Type 0
+IsUnrenewedBy closes (Missing t ps) set passes = (t ≡ set) × (ps.items ≡ passes)
+IsUnrenewedBy closes (Memory t ps) set passes = (t ≡ set) × (ps.items ≡ passes)
+IsUnrenewedBy closes (Closed report) set passes = closes set passes report
+
+-- the same of a set
+abbrev pub IsUnrenewed : RenewError TableView Report → TableView → List PassView → Type 0
+IsUnrenewed = IsUnrenewedBy Closes
 
 -- passes are missing; the other errors are that there is no memory
-abbrev pub LacksPasses : RenewError → Type 0
+abbrev pub LacksPasses : {S R : Type 0} → RenewError S R → Type 0
 LacksPasses (Missing t ps) = Unit {0}
 LacksPasses (Memory t ps) = ⊥
 LacksPasses (Closed report) = ⊥

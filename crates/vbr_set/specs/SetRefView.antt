@@ -5,10 +5,10 @@ use Rattle.vbr_set.specs.Members.{MemberView}
 use Rattle.vbr_set.specs.declared.set_ref.VbrSetRef.TheInside.{Inside}
 
 -- what contracts see
-abbrev pub set_ref_view : Inside → MemberView
+abbrev pub set_ref_view : {N : Type 0} → Inside N → MemberView
 set_ref_view r = record { set = r.set.now; pass = r.pass }
 
 -- its pass is of the set, and has no slot in hand
-pub record IsSetRef (r : Inside) : Type 0 where
+pub record IsSetRef {N : Type 0} (r : Inside N) : Type 0 where
   pub own : IsOf r.pass.trace r.set.now
   pub empty_hand : r.pass.hand ≡ None

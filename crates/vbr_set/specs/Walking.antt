@@ -7,9 +7,13 @@ use Rattle.vbr_machine.specs.declared.event.Event.{Event}
 use Rattle.vbr_slots.specs.Words.{AreWordsOf}
 use Rattle.vbr_machine.specs.Nodes.{state_in, is_linked, is_listed, is_in_list, key_in_slot}
 
--- a shape with keys that a set of it opened with
-abbrev pub keyed : Dimensions → List ℕ → Dimensions
-keyed shape keys = record shape { keys = keys }
+-- keys that a table opened with, and their values
+abbrev pub Opening : Type 0
+Opening = List ℕ × List ℕ
+
+-- a shape with these
+abbrev pub keyed : Dimensions → Opening → Dimensions
+keyed shape opening = record shape { keys = opening.0; payloads = opening.1 }
 
 -- the words are those of the world after a run of a shape
 pub record AreAfter (shape : Dimensions) (words : List ℕ) (run : List Event) : Type 0 where
@@ -30,7 +34,12 @@ NotesList shape a bucket before now = (s : ℕ) → s < shape.slots → is_noted
 abbrev pub NotesLists : Dimensions → Incarnations → List Bool → Type 0
 NotesLists shape a notes = (s : ℕ) → s < shape.slots → is_noted notes s ≡ is_listed (state_in a s)
 
+module _ {T : Type 0} where
+  -- what is told of the linked nodes in the slots below a number, slot by slot
+  abbrev pub linked_of : (ℕ → T) → Incarnations → ℕ → List T
+  linked_of tell a zero = []
+  linked_of tell a (suc s) = if is_linked (state_in a s) then linked_of tell a s ++ tell s ∷ [] else linked_of tell a s
+
 -- the keys of the linked nodes in the slots below a number
 abbrev pub linked_keys : Incarnations → ℕ → List ℕ
-linked_keys a zero = []
-linked_keys a (suc s) = if is_linked (state_in a s) then linked_keys a s ++ key_in_slot a s ∷ [] else linked_keys a s
+linked_keys a n = linked_of (key_in_slot a) a n

@@ -41,9 +41,14 @@ pub mod calls;
 pub mod close_all_error;
 pub mod closing;
 mod common;
+mod contents;
 pub mod end_error;
 pub mod laws;
 mod mailbox;
+pub mod map_closing;
+pub mod map_opening;
+pub mod map_renewing;
+pub mod map_report;
 pub mod meeting;
 pub mod member;
 pub mod member_calls;
@@ -67,10 +72,10 @@ mod walking;
 
 pub use close_all_error::CloseAllError;
 pub use end_error::EndError;
+pub use map_report::MapReport;
 pub use member::Member;
 pub use renew_error::RenewError;
 pub use report::Report;
-pub use set::VbrSet;
 pub use set_ref::VbrSetRef;
 pub use vbr_list::Refusal;
 pub use vbr_machine::{Call, Op};
@@ -78,3 +83,14 @@ pub use vbr_slots::{CloseError, OpenError, Pass, Seen};
 pub use vbr_words::link::MAX_SLOTS;
 pub use vbr_words::shape::{MAX_BUCKETS, MAX_EPOCH, MAX_SPREAD_BUCKETS};
 pub use vbr_words::{Shape, ShapeError, SpreadError};
+use vbr_words::{Entries, Keys};
+
+/// A set of `u64` keys, shared by the passes that were opened with it.
+pub type VbrSet = set::VbrSet<Keys>;
+
+/// A map from `u64` keys to `u64` values, shared by the passes that were opened with it. The value of a key
+/// is fixed until the key is removed.
+pub type VbrMap = set::VbrSet<Entries>;
+
+/// A pass with a reference to its map, as [`VbrSetRef`] is one with a reference to its set.
+pub type VbrMapRef<'s> = set_ref::VbrSetRef<'s, Entries>;

@@ -5,8 +5,9 @@ ghost use Rattle.vbr_set.specs.Meetings.{HasMet};
 
 use crate::set::VbrSet;
 use vbr_slots::Pass;
+use vbr_words::Nodes;
 
-impl VbrSet {
+impl<N: Nodes> VbrSet<N> {
     /// Lets the pass see all that the other has seen: the two then share one legal history, in which
     /// the other has just the calls that it has made. It is one step, a load of the epoch, counted for
     /// the pass; the other stays as it was. It can't fail. It alone says that the other has made no call

@@ -7,10 +7,10 @@ ghost use Rattle.vbr_set.specs.Members.{AreNew, as_member};
 ghost use Rattle.vbr_set.specs.Seats.{AreSeats};
 ghost use Rattle.vbr_set.specs.Sharing.{HasOthers, IsPart, set_shared};
 
+use crate::VbrSet;
 use crate::common::Common;
 use crate::mailbox::{Mailbox, SeatKnows};
 use crate::member::Member;
-use crate::set::VbrSet;
 use crate::share::Share;
 use atomic_table::Seat;
 use std::alloc::{AllocError, Global};

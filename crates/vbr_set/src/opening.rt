@@ -3,7 +3,7 @@ ghost use Rattle.std.specs.Prelude.{◌≡◌, ◌<◌, ◌≤◌, ◌↔◌, �
 ghost use Rattle.std.specs.List.Sorted.{IsStrictlyIncreasing};
 ghost use Rattle.vbr_slots.specs.Views.{new_passes};
 
-use crate::set::VbrSet;
+use crate::VbrSet;
 use std::alloc::Global;
 use vbr_slots::{OpenError, Pass, Slots};
 use vbr_words::Shape;

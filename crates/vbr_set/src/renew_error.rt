@@ -1,23 +1,23 @@
-//! Why a set was not renewed.
+//! Why a set or a map was not renewed.
 use crate::report::Report;
 use crate::set::VbrSet;
 use std::error::Error;
 use std::fmt;
 use vbr_slots::Pass;
 
-/// Why a set was not renewed. The tests are made in this order.
+/// Why a set was not renewed, or a map, which `S` then is. The tests are made in this order.
 #[derive(Drop)]
-pub enum RenewError {
+pub enum RenewError<S = VbrSet, R = Report> {
     /// There are fewer passes than were opened. All comes back as it was.
-    Missing(VbrSet, Vec<Pass>),
+    Missing(S, Vec<Pass>),
     /// There is no memory to close the set. All comes back as it was.
-    Memory(VbrSet, Vec<Pass>),
+    Memory(S, Vec<Pass>),
     /// The set is closed, and there is no memory to open it anew: [`VbrSet::open_with`] with the keys of
-    /// the report goes on from there.
-    Closed(Report),
+    /// the report goes on from there, and so does the call of a map with the entries of its report.
+    Closed(R),
 }
 
-impl fmt::Debug for RenewError {
+impl<S, R> fmt::Debug for RenewError<S, R> {
     fn fmt<W: fmt::Write>(&self, f: &mut fmt::Formatter<W>) -> fmt::Result {
         match self {
             RenewError::Missing(_, _) => write!(f, "Missing"),
@@ -27,7 +27,7 @@ impl fmt::Debug for RenewError {
     }
 }
 
-impl fmt::Display for RenewError {
+impl<S, R> fmt::Display for RenewError<S, R> {
     ghost use Rattle.std.specs.Prelude.{Some};
     ghost use Rattle.vbr_set.specs.Messages.{renew_error_text};
 
@@ -45,4 +45,4 @@ impl fmt::Display for RenewError {
     }
 }
 
-impl Error for RenewError {}
+impl<S: Drop, R: Drop> Error for RenewError<S, R> {}

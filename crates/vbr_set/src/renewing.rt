@@ -4,8 +4,8 @@ ghost use Rattle.vbr_slots.specs.Closing.{AllOf};
 ghost use Rattle.vbr_slots.specs.Views.{new_passes};
 ghost use Rattle.vbr_set.specs.Renewing.{IsUnrenewed, LacksPasses, Renews};
 
+use crate::VbrSet;
 use crate::renew_error::RenewError;
-use crate::set::VbrSet;
 use std::alloc::Global;
 use vbr_slots::{CloseError, OpenError, Pass};
 

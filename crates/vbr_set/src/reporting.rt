@@ -1,13 +1,15 @@
 //! Telling what is in a set that stays open.
-ghost use Rattle.std.specs.Prelude.{◌≡◌, ◌≤◌, false, length, IfOk};
+ghost use Rattle.std.specs.Prelude.{◌≡◌, ◌≤◌, length, IfOk};
 ghost use Rattle.vbr_slots.specs.Closing.{AllOf};
 ghost use Rattle.vbr_set.specs.Closing.{Closes};
+ghost use Rattle.vbr_set.specs.Contents.{TellsEnd};
 
-use crate::closing::report_of;
+use crate::contents::{Contents, Listed, contents_of};
 use crate::report::Report;
 use crate::set::VbrSet;
 use std::alloc::{AllocError, Global};
 use vbr_slots::Pass;
+use vbr_words::Nodes;
 
 impl VbrSet {
     /// Tells what is in the set, as [`VbrSet::close`] does, and the set stays open: the keys that the
@@ -31,11 +33,8 @@ impl VbrSet {
         ensures same { passes.new ≡ passes.old }
         ensures report { IfOk result (Closes self.now passes.old) }
     {
-        let shape = self.slots.shape();
-        let keys = Vec::with_capacity(alloc, shape.slots() as usize)?;
-        let notes = vec![in alloc; false; shape.slots() as usize]?;
-        let words = self.slots.snapshot(alloc, passes)?;
-        Ok(report_of(&shape, &words, notes, keys))
+        let told = self.look(alloc, passes)?;
+        Ok(Report::of(told))
     }
 
     // As [`VbrSet::report`], by passes that lie in a vector.
@@ -50,5 +49,26 @@ impl VbrSet {
         ensures report { IfOk result (Closes self.now passes.old.items) }
     {
         self.report(alloc, passes)
+    }
+}
+
+impl<N: Nodes> VbrSet<N> {
+    // Tells what the words of a set or a map tell, which stays open, as [`VbrSet::report`].
+    pub(crate) fn look<T: Listed>(
+        &self,
+        alloc: Global,
+        passes: &mut [Pass],
+    ) -> Result<Contents<T>, AllocError>
+        requires of_set { AllOf self.now passes.old }
+        requires all { self.now.passes ≤ length passes.old }
+        requires kind { N.VALUES ≡ T.VALUES }
+        ensures same { passes.new ≡ passes.old }
+        ensures told { IfOk result (TellsEnd T.shown self.now passes.old) }
+    {
+        let shape = self.slots.shape();
+        let listed = Vec::with_capacity(alloc, shape.slots() as usize)?;
+        let notes = vec![in alloc; false; shape.slots() as usize]?;
+        let words = self.slots.snapshot(alloc, passes)?;
+        Ok(contents_of(&shape, &words, notes, listed))
     }
 }

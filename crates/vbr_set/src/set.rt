@@ -1,31 +1,32 @@
-//! The set.
+//! The set, and the map.
 ghost use Rattle.std.specs.Prelude.{◌≡◌, []};
 
 use std::marker::Model;
 use vbr_slots::Slots;
-use vbr_words::Shape;
+use vbr_words::{Keys, Nodes, Shape};
 
-/// A set of `u64` keys, shared by the passes that were opened with it.
+/// A set of `u64` keys, shared by the passes that were opened with it; or a map from such keys to `u64`
+/// values, where its nodes are [`vbr_words::Entries`].
 #[derive(Drop)]
-pub struct VbrSet {
-    pub(crate) slots: Slots,
+pub struct VbrSet<N: Nodes = Keys> {
+    pub(crate) slots: Slots<N>,
     // how many passes it was opened with
     pub(crate) count: u32,
 }
 
-impl Model for VbrSet {
-    ghost use Rattle.std.specs.Prelude.{◌≡◌, false};
+impl<N: Nodes> Model for VbrSet<N> {
+    ghost use Rattle.std.specs.Prelude.{◌≡◌};
     ghost use Rattle.vbr_slots.specs.Views.{TableView};
 
     ghost Value = { TableView };
 
     ghost view = { λ s. s.slots };
 
-    ghost invariant = { λ s. (s.count ≡ s.slots.passes) × (s.slots.shape.values ≡ false) };
+    ghost invariant = { λ s. (s.count ≡ s.slots.passes) × (s.slots.shape.values ≡ N.VALUES) };
 }
 
-impl VbrSet {
-    /// Its shape, without the keys that it opened with.
+impl<N: Nodes> VbrSet<N> {
+    /// Its shape, without the keys and values that it opened with.
     #[inline]
     pub fn shape(&self) -> Shape
         ensures { result ≡ record self.now.shape { keys = []; payloads = [] } }

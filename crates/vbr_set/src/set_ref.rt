@@ -4,6 +4,7 @@ ghost use Rattle.std.specs.Prelude.{◌≡◌};
 use crate::set::VbrSet;
 use std::marker::Model;
 use vbr_slots::Pass;
+use vbr_words::{Keys, Nodes};
 
 /// A pass with a reference to its set: what a thread needs to make calls of a set that another has.
 ///
@@ -15,12 +16,12 @@ use vbr_slots::Pass;
 ///
 /// [`Member`]: crate::Member
 #[derive(Drop)]
-pub struct VbrSetRef<'s> {
-    pub(crate) set: &'s VbrSet,
+pub struct VbrSetRef<'s, N: Nodes = Keys> {
+    pub(crate) set: &'s VbrSet<N>,
     pub(crate) pass: Pass,
 }
 
-impl<'s> Model for VbrSetRef<'s> {
+impl<'s, N: Nodes> Model for VbrSetRef<'s, N> {
     ghost use Rattle.vbr_set.specs.Members.{MemberView};
 
     ghost Value = { MemberView };

@@ -10,9 +10,9 @@ use crate::set::VbrSet;
 use crate::set_ref::VbrSetRef;
 use vbr_list::Refusal;
 use vbr_slots::{Pass, Seen};
-use vbr_words::Shape;
+use vbr_words::{Nodes, Shape};
 
-impl VbrSet {
+impl<N: Nodes> VbrSet<N> {
     /// Puts a pass beside a reference to its set. From here on its calls ask nothing of their caller. It
     /// makes no step, and can't fail.
     ///
@@ -22,7 +22,7 @@ impl VbrSet {
     /// let mut caller = set.with_pass(pass);
     /// ```
     #[inline]
-    pub fn with_pass(&self, pass: Pass) -> VbrSetRef<'_>
+    pub fn with_pass(&self, pass: Pass) -> VbrSetRef<'_, N>
         requires own { IsOf pass.trace self.now }
         requires empty_hand { pass.hand ≡ None }
         ensures { result ≡ record { set = self.now; pass = pass } }
@@ -92,7 +92,9 @@ impl<'s> VbrSetRef<'s> {
     {
         self.set.has(&mut self.pass, key, budget)
     }
+}
 
+impl<'s, N: Nodes> VbrSetRef<'s, N> {
     /// Lets its pass see all that another of its set has seen: [`VbrSet::meet`]. It is one step, and
     /// can't fail. `a.meet(&mut b)` lets `a` see what `b` has seen.
     ///
@@ -102,7 +104,7 @@ impl<'s> VbrSetRef<'s> {
     /// caller.meet(other);
     /// ```
     #[inline]
-    pub fn meet(&mut self, other: &mut VbrSetRef)
+    pub fn meet(&mut self, other: &mut VbrSetRef<N>)
         requires { other.old.set ≡ self.old.set }
         ensures set { self.new.set ≡ self.old.set }
         ensures same { other.new ≡ other.old }

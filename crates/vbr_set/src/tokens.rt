@@ -5,8 +5,9 @@ ghost use Rattle.vbr_set.specs.Tokens.{CatchesUp, IsTokenOf};
 
 use crate::set::VbrSet;
 use vbr_slots::{Pass, Seen};
+use vbr_words::Nodes;
 
-impl VbrSet {
+impl<N: Nodes> VbrSet<N> {
     /// A token of what the pass has seen, its answered calls among it. It is no step, and the pass stays
     /// as it was; it costs one load, whose value is dropped. It can't fail.
     #[inline]

@@ -4,7 +4,7 @@ ghost use Rattle.vbr_words.specs.Places.{IsIn, index_of, words_in};
 ghost use Rattle.vbr_words.specs.Words.{link_of};
 ghost use Rattle.vbr_machine.specs.Accounts.{incarnations_after};
 ghost use Rattle.vbr_machine.specs.declared.event.Event.{Event};
-ghost use Rattle.vbr_set.specs.Walking.{AreAfter, NotesList, NotesLists, is_noted, keyed};
+ghost use Rattle.vbr_set.specs.Walking.{AreAfter, NotesList, NotesLists, Opening, is_noted, keyed};
 
 use vbr_words::{Place, Shape, decode, place_index};
 
@@ -20,11 +20,12 @@ fn next_at(shape: &Shape, words: &[u64], place: Place) -> Option<u32>
 // Notes the slots whose nodes are in the list of a bucket.
 fn note_list(shape: &Shape, words: &[u64], bucket: u32, notes: &mut [bool])
     requires bucket { bucket < shape.now.buckets }
-    requires run { (keys : List ℕ) × (run : List Event)
-        × AreAfter (keyed shape.now keys) words.now run }
+    requires run { (opening : Opening) × (run : List Event)
+        × AreAfter (keyed shape.now opening) words.now run }
     requires room { length notes.old ≡ shape.now.slots }
-    ensures { (keys : List ℕ) (run : List Event) → AreAfter (keyed shape.now keys) words.now run →
-        NotesList (keyed shape.now keys) (incarnations_after (keyed shape.now keys) run)
+    ensures { (opening : Opening) (run : List Event) →
+        AreAfter (keyed shape.now opening) words.now run →
+        NotesList (keyed shape.now opening) (incarnations_after (keyed shape.now opening) run)
         bucket notes.old notes.new }
 {
     let mut next = next_at(shape, words, Place::Head(bucket));
@@ -36,12 +37,13 @@ fn note_list(shape: &Shape, words: &[u64], bucket: u32, notes: &mut [bool])
 
 /// Notes the slots whose nodes are in lists.
 pub(crate) fn note_lists(shape: &Shape, words: &[u64], notes: &mut [bool])
-    requires run { (keys : List ℕ) × (run : List Event)
-        × AreAfter (keyed shape.now keys) words.now run }
+    requires run { (opening : Opening) × (run : List Event)
+        × AreAfter (keyed shape.now opening) words.now run }
     requires room { length notes.old ≡ shape.now.slots }
     requires none { (s : ℕ) → is_noted notes.old s ≡ false }
-    ensures { (keys : List ℕ) (run : List Event) → AreAfter (keyed shape.now keys) words.now run →
-        NotesLists (keyed shape.now keys) (incarnations_after (keyed shape.now keys) run)
+    ensures { (opening : Opening) (run : List Event) →
+        AreAfter (keyed shape.now opening) words.now run →
+        NotesLists (keyed shape.now opening) (incarnations_after (keyed shape.now opening) run)
         notes.new }
 {
     for bucket in 0..shape.buckets() {

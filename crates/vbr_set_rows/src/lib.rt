@@ -4,6 +4,8 @@
 #[cfg(test)]
 mod emptying;
 #[cfg(test)]
+mod maps;
+#[cfg(test)]
 mod members;
 #[cfg(test)]
 mod refusals;

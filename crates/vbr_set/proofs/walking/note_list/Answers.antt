@@ -5,7 +5,7 @@ use Rattle.vbr_set.proofs.Walks.{left, walk_ends, walk_first, walk_nearer, walk_
 use Rattle.vbr_set.proofs.walking.note_list.Goals as goal
 
 pub loop-next-init : goal.loop-next-init
-loop-next-init c = λ keys run x. walked_as (sym c.next_at-next.ensures) (walk_first x c.args.bucket c.args.notes.now c.requires.bucket)
+loop-next-init c = λ opening run x. walked_as (sym c.next_at-next.ensures) (walk_first x c.args.bucket c.args.notes.now c.requires.bucket)
 
 pub bounds-notes-slot : goal.bounds-notes-slot
 bounds-notes-slot c =
@@ -25,10 +25,10 @@ loop-next-smaller c =
     (walk_nearer c.requires.run.2 c.args.bucket c.args.notes.now c.loop-next.notes c.in-Some.slot (λ i. let fit = c.type_inv.words i in omega arith) walked)
 
 pub loop-next-preserved : goal.loop-next-preserved
-loop-next-preserved c = λ keys run x.
+loop-next-preserved c = λ opening run x.
     walked_as (sym c.next_at-next-in-Some.ensures)
-    (walk_next x c.args.bucket c.args.notes.now c.loop-next.notes c.in-Some.slot (c.loop-next.auto.notes ∙ c.requires.room) (walked_as c.in-Some.is (c.loop-next.invariant keys run x)))
+    (walk_next x c.args.bucket c.args.notes.now c.loop-next.notes c.in-Some.slot (c.loop-next.auto.notes ∙ c.requires.room) (walked_as c.in-Some.is (c.loop-next.invariant opening run x)))
 
 pub returns : goal.returns
-returns c = λ keys run x.
-    walk_ends (keyed c.args.shape.now keys) (incarnations_after (keyed c.args.shape.now keys) run) c.args.bucket c.args.notes.now c.loop-next.notes (walked_as c.in_default.is (c.loop-next.invariant keys run x))
+returns c = λ opening run x.
+    walk_ends (keyed c.args.shape.now opening) (incarnations_after (keyed c.args.shape.now opening) run) c.args.bucket c.args.notes.now c.loop-next.notes (walked_as c.in_default.is (c.loop-next.invariant opening run x))

@@ -3,7 +3,7 @@ use Rattle.vbr_set.proofs.Histories.{met_safe, shares}
 use Rattle.vbr_set.proofs.set.VbrSet.meet.Goals as goal
 
 pub returns-clause-meets : goal.returns-clause-meets
-returns-clause-meets c = record {
+returns-clause-meets g c = record {
   step = c.meet.ensures.step;
   pool = c.meet.ensures.pool;
   met = c.meet.ensures.met;

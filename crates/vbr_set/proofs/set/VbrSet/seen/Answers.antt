@@ -6,7 +6,7 @@ use Rattle.vbr_slots.specs.Views.{TableView}
 use Rattle.vbr_set.proofs.set.VbrSet.seen.Goals as goal
 
 pub returns-clause-tells : goal.returns-clause-tells
-returns-clause-tells c = let w = c.args.pass.now.trace in record {
+returns-clause-tells g c = let w = c.args.pass.now.trace in record {
   pass = c.requires.own;
   table = c.seen.ensures.table ∙ ap (λ (t : TableView). t.table) c.self.view_is;
   seen = c.seen.ensures.seen;

@@ -1,0 +1,22 @@
+use Rattle.std.proofs.Common.{◌≡◌, Bool, List, length, sym, ap, ◌∙◌, subst, arith}
+use Rattle.std.specs.Prelude.{slice_index}
+use Rattle.vbr_words.specs.declared.place.Place.TheVariants as place
+use Rattle.vbr_machine.specs.Accounts.{incarnations_after}
+use Rattle.vbr_slots.proofs.Lemmas.{whole}
+use Rattle.vbr_set.specs.Walking.{NotesLists, keyed}
+use Rattle.vbr_set.proofs.contents.contents_of.Goals as goal
+
+pub returns : goal.returns
+returns g c = λ opening run x.
+    let shape = keyed c.args.shape.now opening in
+    let a = incarnations_after shape run in
+    let long : c.args.notes.len ≡ length c.note_lists.new.notes = (let l = c.args.notes.ok in let k = c.note_lists.auto.notes in let m = c.deref_mut.ensures.len in omega arith) in
+    let told = c.gather-live.ensures.gathered opening run x (subst (λ (l : List Bool). NotesLists shape a l) (sym (c.deref.ensures.value ∙ whole c.args.notes.len c.note_lists.new.notes _ long)) (c.note_lists.ensures opening run x)) in
+    record {
+      listed = told.0;
+      epoch = ap (slice_index c.args.words.now) c.place_index.ensures.index ∙ x.are.each place.Epoch tt;
+      live = told.1;
+      one_each = c.gather-live.ensures.each;
+      marked = told.2;
+      free = (let fit = c.gather-live.ensures.fit in let slots = c.slots.ensures.slots in omega arith);
+    }

@@ -1,0 +1,67 @@
+//! Maps that open with entries, and maps that are renewed.
+ghost use Rattle.std.specs.Prelude.{◌≡◌, length, IfOk};
+ghost use Rattle.vbr_slots.specs.Views.{new_passes};
+
+use std::alloc::Global;
+use std::process::Abort;
+use std::test::Fail;
+use vbr_set::{MapReport, Pass, Shape, VbrMap};
+
+const ENTRIES: [(u64, u64); 3] = [(2, 70), (5, 71), (9, 70)];
+
+// Opens a map with three entries in four slots, and with two passes.
+fn open_three(alloc: Global) -> Result<(VbrMap, Vec<Pass>), Fail>
+    ensures passes { IfOk result (λ r. r.1.items ≡ new_passes r.0 0 2) }
+    ensures two { IfOk result (λ r. r.0.passes ≡ 2) }
+{
+    Ok(VbrMap::open_with(alloc, Shape::new(4, 2, 10)?, 2, &ENTRIES)?)
+}
+
+// Whether a report is that of these three entries.
+fn expect_three(rt: &impl Abort, report: &MapReport) {
+    assert_eq!(rt; report.entries.as_slice(), ENTRIES.as_slice());
+    let told = (report.epoch, report.live, report.marked, report.free);
+    assert_eq!(rt; told, (1, 3, 0, 1));
+}
+
+/// The entries are there before any call, and a map that is closed at once tells them.
+#[test]
+fn opens_with_entries(rt: HostRuntime) -> Result<(), Fail> {
+    let (map, passes) = open_three(rt.alloc())?;
+    expect_three(&rt, &map.close(rt.alloc(), passes)?);
+    Ok(())
+}
+
+/// A map that stays open tells the same.
+#[test]
+fn tells_its_entries(rt: HostRuntime) -> Result<(), Fail> {
+    let (map, mut passes) = open_three(rt.alloc())?;
+    expect_three(&rt, &map.report(rt.alloc(), &mut passes)?);
+    expect_three(&rt, &map.close(rt.alloc(), passes)?);
+    Ok(())
+}
+
+/// A renewal carries the values.
+#[test]
+fn a_map_is_renewed(rt: HostRuntime) -> Result<(), Fail> {
+    let (map, passes) = open_three(rt.alloc())?;
+    let (map, passes) = map.renew(rt.alloc(), passes)?;
+    assert_eq!(rt; passes.len(), 2);
+    expect_three(&rt, &map.close(rt.alloc(), passes)?);
+    Ok(())
+}
+
+/// Fewer passes than were opened close no map, and all of them do afterwards.
+#[test]
+fn a_map_waits_for_its_passes(rt: HostRuntime) -> Result<(), Fail> {
+    let (map, mut passes) = open_three(rt.alloc())?;
+    let Some(last) = passes.pop() else {
+        panic!(rt; "no pass")
+    };
+    let Err(vbr_set::CloseError::Missing(map, mut passes)) = map.close(rt.alloc(), passes) else {
+        panic!(rt; "closed without a pass")
+    };
+    passes.push(last)?;
+    expect_three(&rt, &map.close(rt.alloc(), passes)?);
+    Ok(())
+}
