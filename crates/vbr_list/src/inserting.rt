@@ -187,9 +187,10 @@ fn insert_key(at: &mut AtTable<'_>, key: u64, budget: u32) -> (Result<bool, Refu
     insert_by(at, key, 0, budget)
 }
 
-/// As [`insert`], at a table whose nodes have values: stores an entry, a key and its value, where the
-/// key was absent, and says whether it was. Where it was present, its value stays. The value is
-/// stored before the node is published, in a step of its own, and fixed from then on.
+/// As [`insert`], at a table whose nodes have values: puts an entry, a key with its value, into the
+/// map, and says whether the key was absent. Where it was there, its value stays. The value is stored
+/// before the node is published, in one step more than an insert makes, and is fixed from then on. Its
+/// refusals and the budgets that are enough are those of [`insert`].
 pub fn insert_entry(
     slots: &Slots<Entries>,
     pass: &mut Pass,

@@ -168,8 +168,9 @@ fn remove_key(at: &mut AtTable<'_>, key: u64, budget: u32) -> (Result<bool, Refu
 }
 
 /// As [`remove`], at a table whose nodes have values: gives the value that was stored with the key,
-/// if the key was there. It is read before the node is marked, and fixed since the node was
-/// published, so it is the one that the mark removes.
+/// if the key was there. It is read before the node is marked, in two steps more than a remove makes,
+/// and was fixed when the node was published, so it is that of the entry which the mark removes. Its
+/// refusal and the budget that is enough are those of [`remove`].
 pub fn remove_entry(
     slots: &Slots<Entries>,
     pass: &mut Pass,
