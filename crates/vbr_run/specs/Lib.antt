@@ -11,6 +11,7 @@ pub use Rattle.vbr_transcript.specs.Phases
 pub use Rattle.vbr_transcript.specs.Layout
 pub use Rattle.vbr_transcript.specs.Writing
 pub use Rattle.vbr_settings.specs.Settings
+pub use Rattle.vbr_player.specs.Calling
 pub use Rattle.vbr_player.specs.Working
 pub use Rattle.vbr_player.specs.Starting
 pub use Rattle.vbr_player.specs.Meeting
