@@ -1,13 +1,14 @@
 -- A key is clear at a moment: no marked node of it is in a list. What a walk to the key shows of that, and what follows for a node that the pass has marked.
 use Rattle.std.proofs.Common.{◌≡◌, ℕ, ◌+◌, ◌≤◌, arith, Bool, true, false, List, [], ◌∷◌, ◌++◌, Option, Some, None, refl, sym, ap, ◌∙◌, subst}
 use Rattle.std.specs.Prelude.{IfSome, IfNone}
+use Rattle.vbr_words.specs.declared.nodes.Nodes.{Ghosts}
 use Rattle.vbr_words.specs.Dimensions.{Dimensions, IsShape}
 use Rattle.vbr_words.specs.Words.{link_of}
 use Rattle.vbr_words.specs.declared.link.Link.{Link}
 use Rattle.vbr_words.specs.declared.place.At.TheVariants.{Slot}
 use Rattle.vbr_machine.specs.Accounts.{incarnations_after}
 use Rattle.vbr_machine.specs.Calls.{own_calls}
-use Rattle.vbr_machine.specs.History.{set_call}
+use Rattle.vbr_machine.specs.declared.history.Call.{Call as ListedCall}
 use Rattle.vbr_machine.specs.Knowledge.{Know}
 use Rattle.vbr_machine.specs.Machine.{link_at}
 use Rattle.vbr_machine.specs.Membership.{Knows, IsHeldPlace, KeyAt, StandsBehind, StandsBefore}
@@ -87,7 +88,7 @@ clear_found {p} {q} key found shape same x = go found.cur found.present x.locate
     go (Some cur) false y z = absent (Some cur) y
 
 -- of a walk that ended with room in its budget
-pub clear_walked : (c d : Call) (found : Option Found) → IsShape (trace_in c).shape → IsSame (trace_in c) (trace_in d) → IfSome found (Finds c d) → IfNone found (SearchTires c d) → d.used + 8 ≤ c.budget → WasClear (trace_in c) (trace_in d) c.key
+pub clear_walked : {N : Type 0} {kind : Ghosts N} → (c d : Call N kind) (found : Option Found) → IsShape (trace_in c).shape → IsSame (trace_in c) (trace_in d) → IfSome found (Finds c d) → IfNone found (SearchTires c d) → d.used + 8 ≤ c.budget → WasClear (trace_in c) (trace_in d) c.key
 clear_walked c d None shape same x tired room = let short = tired.tired in absurd (omega (arith, short, room))
 clear_walked c d (Some found) shape same x tired room = clear_found c.key found shape same x.found
 
@@ -106,10 +107,10 @@ clear_since {p} {q} {r} {key} a x = record {
 -- ---- the node that a remove has marked
 
 -- once the key is clear, it has left
-pub leaves_clear : {p q r : Trace} {key : ℕ} → IsShape p.shape → Made (set_call p.who Remove key true) p q → IsSame q r → WasClear q r key → Leaves p r key
-leaves_clear {p} {q} {r} {key} shape made same x =
+pub leaves_clear : {p q r : Trace} {key : ℕ} {value : Option ℕ} → IsShape p.shape → Made (record { who = p.who; op = Remove; key = key; reply = true; value = value }) p q → IsSame q r → WasClear q r key → Leaves p r key
+leaves_clear {p} {q} {r} {key} {value} shape made same x =
     let P : Dimensions → Type 0 = λ s. NoneMarked (incarnations_after s x.moment) key in
-    marked_left p.shape p.passes shape p.seen q.seen x.moment r.seen p.who (set_call p.who Remove key true) run made.seen x.within.from x.within.to refl refl calls (subst P made.same.shape x.none)
+    marked_left p.shape p.passes shape p.seen q.seen x.moment r.seen p.who call run made.seen x.within.from x.within.to refl refl calls (subst P made.same.shape x.none)
   where
     run : IsRun p.shape p.passes r.seen
     run =
@@ -117,7 +118,10 @@ leaves_clear {p} {q} {r} {key} shape made same x =
         let Q : ℕ → Type 0 = λ n. IsRun r.shape n r.seen in
         subst P (same.shape ∙ made.same.shape) (subst Q (same.passes ∙ made.same.passes) x.within.is_run)
 
-    calls : own_calls p.shape q.seen p.who ≡ own_calls p.shape p.seen p.who ++ set_call p.who Remove key true ∷ []
+    call : ListedCall
+    call = record { who = p.who; op = Remove; key = key; reply = true; value = value }
+
+    calls : own_calls p.shape q.seen p.who ≡ own_calls p.shape p.seen p.who ++ call ∷ []
     calls = sym (λ i. own_calls (made.same.shape i) q.seen (made.same.who i)) ∙ made.calls
 
 -- what has left since a moment has left since an earlier one

@@ -1,6 +1,7 @@
 -- Pieces one after another: they make no call, their steps add up, and the slot in hand stays.
 use Rattle.std.proofs.Common.{◌≡◌, ℕ, ◌+◌, ◌≤◌, [], Result, Ok, Err, refl, sym, ap, ◌∙◌, subst, arith}
 use Rattle.std.specs.Prelude.{IfOk}
+use Rattle.vbr_words.specs.declared.nodes.Nodes.{Ghosts}
 use Rattle.vbr_words.specs.Dimensions.{Dimensions}
 use Rattle.vbr_words.specs.Buckets.{bucket_of}
 use Rattle.vbr_slots.specs.Calls.{IsSame, Quiet, Took}
@@ -10,7 +11,8 @@ use Rattle.vbr_pools.specs.KeptSlots.{TakesNoSlot}
 use Rattle.vbr_pools.specs.Refusals.{LeavesRoom}
 use Rattle.vbr_pools.specs.Steps.{CountsSteps, TookWithin}
 use Rattle.vbr_pools.proofs.Lemmas.{counts_none, counts_on, took_all}
-use Rattle.vbr_access.specs.Keeping.{KeepsOwn}
+use Rattle.vbr_machine.specs.Knowledge.{Know}
+use Rattle.vbr_access.specs.Keeping.{Keeps, KeepsOwn}
 use Rattle.vbr_access.specs.Reading.{ReadsIn}
 use Rattle.vbr_list.specs.Pieces.{Goes, IsSameCall}
 use Rattle.vbr_list.specs.declared.call.Call.{Call}
@@ -46,6 +48,10 @@ tries_on x y le high = record { goes = goes_on x.goes y; within = (let u = x.wit
 pub took_same : {p q : Trace} (m n : ℕ) → m ≡ n → Took p q n → Took p q m
 took_same {p} {q} m n e took = subst (Took p q) (sym e) took
 
+-- a call that reads, whose steps are counted in another form
+pub goes_counted : {p q : PassView} (a m n : ℕ) → m ≡ n → ReadsIn p q n → Goes p q a (a + m)
+goes_counted a m n e x = goes_step a m x.quiet (took_same m n e x.took) x.own x.takes_no_slot
+
 pub within_of : {p q : Trace} (used budget : ℕ) → used ≤ budget → CountsSteps p q 0 used → TookWithin p q budget
 within_of used budget le counts = record { steps = used; within = le; took = took_all counts }
 
@@ -59,17 +65,21 @@ unfolding bucket_of
 bucket_is a b bare bucket key e g f = f ∙ ap (λ (shape : Dimensions). bucket_of shape key) g ∙ ap (λ (shape : Dimensions). bucket_of shape key) (sym e)
 
 -- a call stays the same one from piece to piece
-pub call_on : {b c d : Call} → IsSameCall b c → IsSameCall c d → IsSameCall b d
+pub call_on : {N : Type 0} {kind : Ghosts N} → {b c d : Call N kind} → IsSameCall b c → IsSameCall c d → IsSameCall b d
 call_on x y = record { at = record { pass = y.at.pass ∙ x.at.pass; slots = y.at.slots ∙ x.at.slots }; key = y.key ∙ x.key; bucket = y.bucket ∙ x.bucket; budget = y.budget ∙ x.budget }
 
-pub call_refl : (c : Call) → IsSameCall c c
+pub call_refl : {N : Type 0} {kind : Ghosts N} → (c : Call N kind) → IsSameCall c c
 call_refl c = record { at = record { pass = refl; slots = refl }; key = refl; bucket = refl; budget = refl }
 
 -- the steps of a call are within the budget that it began with
-pub within_call : {c d : Call} → IsSameCall c d → d.used ≤ c.budget
+pub within_call : {N : Type 0} {kind : Ghosts N} → {c d : Call N kind} → IsSameCall c d → d.used ≤ c.budget
 within_call {c} {d} x = let u = d.within in let e = x.budget in omega (arith, u, e)
 
 -- what follows of each value is so of the value that was given
 pub ok_as : {T E : Type 0} {P Q : T → Type 0} (x : Result T E) → ((value : T) → P value → Q value) → IfOk x P → IfOk x Q
 ok_as (Ok value) f p = f value p
 ok_as (Err error) f p = tt
+
+-- what is known stays where nothing is done
+pub keeps_still : (know : Know) → Keeps know know
+keeps_still know = record { epoch = refl; reads = λ read k. k }

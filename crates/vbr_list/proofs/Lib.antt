@@ -12,4 +12,6 @@ mod Sights
 mod Preparing
 mod Sufficing
 mod LonePasses
+mod Told
+mod ValueReads
 pub mod Lemmas

@@ -1,25 +1,30 @@
 -- A pass that is its table's only one made all the calls of its run, and those are legal.
-use Rattle.std.proofs.Common.{◌≡◌, ℕ, ◌<◌, Bool, List, [], ◌∷◌, ◌++◌, Result, Ok, Err, refl, sym, ap, ◌∙◌, subst, arith}
+use Rattle.std.proofs.Common.{◌≡◌, ℕ, ◌<◌, List, [], ◌∷◌, ◌++◌, Result, Ok, Err, refl, sym, ap, ◌∙◌, subst, arith}
 use Rattle.std.specs.Prelude.{IfOk}
 use Rattle.vbr_words.specs.Dimensions.{Dimensions, IsShape}
 use Rattle.vbr_machine.specs.Calls.{calls_added}
-use Rattle.vbr_machine.specs.History.{IsLegal, calls_by, keys_after, reply_of, set_after, set_call}
+use Rattle.vbr_machine.specs.History.{GiveStored, GivesValue, IsLegal, Payloads, calls_by, keys_after, payloads_after, reply_of, set_after, values_after}
 use Rattle.vbr_machine.specs.Keys.{Keys}
-use Rattle.vbr_machine.specs.Opened.{opening_keys}
+use Rattle.vbr_machine.specs.Opened.{opening_keys, opening_payloads}
 use Rattle.vbr_machine.specs.Machine.{World, opening, after}
 use Rattle.vbr_machine.specs.Runs.{AreAccepted, IsRun, world_from}
 use Rattle.vbr_machine.specs.declared.event.Event.{Event}
 use Rattle.vbr_machine.specs.declared.history.Call.{Call}
-use Rattle.vbr_machine.specs.declared.history.Op.{Op}
 use Rattle.vbr_machine.proofs.Lemmas.{added_own, calls_after, calls_by-append, every_run}
 use Rattle.vbr_slots.specs.Calls.{Made, made_by}
 use Rattle.vbr_slots.specs.Views.{Trace}
 use Rattle.vbr_list.specs.Alone.{AnswersAlone}
+use Rattle.vbr_list.specs.Answered.{GivesAlone}
 
 -- the last call of a legal history has the reply of the set before it
 legal_last : (keys : Keys) (calls : List Call) (x : Call) → IsLegal keys (calls ++ x ∷ []) → x.reply ≡ reply_of (set_after keys calls) x.op x.key
 legal_last keys [] x legal = legal.0
 legal_last keys (c ∷ cs) x legal = legal_last (keys_after keys c.op c.key c.reply) cs x legal.1
+
+-- the last call of a history that gives what was stored has the value of the map before it
+stored_last : (payloads : Payloads) (calls : List Call) (x : Call) → GiveStored payloads (calls ++ x ∷ []) → GivesValue (values_after payloads calls) x.op x.key x.reply x.value
+stored_last payloads [] x stored = stored.0
+stored_last payloads (c ∷ cs) x stored = stored_last (payloads_after payloads c.op c.key c.reply c.value) cs x stored.1
 
 -- where all events are of one pass, so are all calls
 lone_from : (shape : Dimensions) (passes who : ℕ) (w : World) (events : List Event) → passes ≡ 1 → who < passes → AreAccepted shape passes w events → calls_by who w.calls ≡ w.calls → calls_by who (world_from shape w events).calls ≡ (world_from shape w events).calls
@@ -39,15 +44,27 @@ lone_legal p shape low run one =
     let all = lone_from p.shape p.passes p.who (opening p.shape) p.seen one low run refl in
     subst (IsLegal (opening_keys p.shape)) (sym all) (every_run p.shape p.passes p.seen shape run).legal
 
-pub alone : {p q : Trace} {op : Op} {key : ℕ} {reply : Bool} → IsShape p.shape → p.who < p.passes → Made (set_call p.who op key reply) p q → AnswersAlone p op key reply
-alone {p} {q} {op} {key} {reply} shape low made one =
-    let call : Call = (set_call p.who op key reply) in
+-- and give what was stored
+lone_stored : (p : Trace) → IsShape p.shape → p.who < p.passes → IsRun p.shape p.passes p.seen → p.passes ≡ 1 → GiveStored (opening_payloads p.shape) (made_by p)
+lone_stored p shape low run one =
+    let all = lone_from p.shape p.passes p.who (opening p.shape) p.seen one low run refl in
+    subst (GiveStored (opening_payloads p.shape)) (sym all) (every_run p.shape p.passes p.seen shape run).values
+
+pub alone : {p q : Trace} {call : Call} → IsShape p.shape → p.who < p.passes → Made call p q → AnswersAlone p call.op call.key call.reply
+alone {p} {q} {call} shape low made one =
     let low_now : q.who < q.passes = rw (made.same.who, made.same.passes) low in
     let legal = lone_legal q (let P : Dimensions → Type 0 = IsShape in subst P (sym made.same.shape) shape) low_now made.is_run (made.same.passes ∙ one) in
     let there = subst (λ (d : Dimensions). IsLegal (opening_keys d) (made_by q)) made.same.shape legal in
     legal_last (opening_keys p.shape) (made_by p) call (subst (IsLegal (opening_keys p.shape)) made.calls there)
 
+pub gives_alone : {p q : Trace} {call : Call} → IsShape p.shape → p.who < p.passes → Made call p q → GivesAlone p call
+gives_alone {p} {q} {call} shape low made one =
+    let low_now : q.who < q.passes = rw (made.same.who, made.same.passes) low in
+    let stored = lone_stored q (let P : Dimensions → Type 0 = IsShape in subst P (sym made.same.shape) shape) low_now made.is_run (made.same.passes ∙ one) in
+    let there = subst (λ (d : Dimensions). GiveStored (opening_payloads d) (made_by q)) made.same.shape stored in
+    stored_last (opening_payloads p.shape) (made_by p) call (subst (GiveStored (opening_payloads p.shape)) made.calls there)
+
 -- an answer, if there is one
-pub each_alone : {E : Type 0} (p q : Trace) (op : Op) (key : ℕ) (answer : Result Bool E) → IsShape p.shape → p.who < p.passes → IfOk answer (λ reply. Made (set_call p.who op key reply) p q) → IfOk answer (λ reply. AnswersAlone p op key reply)
-each_alone p q op key (Ok reply) shape low made = alone shape low made
-each_alone p q op key (Err refusal) shape low made = tt
+pub each_alone : {A E : Type 0} (p q : Trace) (told : A → Call) (answer : Result A E) → IsShape p.shape → p.who < p.passes → IfOk answer (λ reply. Made (told reply) p q) → IfOk answer (λ reply. AnswersAlone p (told reply).op (told reply).key (told reply).reply)
+each_alone p q told (Ok reply) shape low made = alone shape low made
+each_alone p q told (Err refusal) shape low made = tt

@@ -152,11 +152,11 @@ passes_marked p q r key before a b pred here node x l fresh sum y = record { las
 
 -- at the node with the key
 pub sight_present : (p q r : Trace) (key before a b : ℕ) (pred here node : Held) → Passes p q key before a pred here → b ≡ a + 5 → StillAt r node × (ahead_for q key here ≡ suc (ahead_for r key node)) → SeenAlone p r key before b (Present node)
-sight_present p q r key before a b pred here node x sum y = record { stands = y.0.stands; paid = (let u = x.paid in let v = y.1 in omega (arith, u, v, sum)) }
+sight_present p q r key before a b pred here node x sum y = record { fresh = y.0.fresh; stands = y.0.stands; paid = (let u = x.paid in let v = y.1 in omega (arith, u, v, sum)) }
 
 -- at a node with a greater key
 pub sight_absent : (p q r : Trace) (key before a b : ℕ) (pred here node : Held) → Passes p q key before a pred here → LeavesLists q r → b ≡ a + 5 → StillAt r node × (ahead_for q key here ≡ suc (ahead_for r key node)) → SeenAlone p r key before b (Absent pred)
-sight_absent p q r key before a b pred here node x l sum y = record { stands = stands_on q r pred l x.last.stands; paid = (let u = x.paid in let v = y.1 in omega (arith, u, v, sum)) }
+sight_absent p q r key before a b pred here node x l sum y = record { fresh = y.0.fresh; stands = stands_on q r pred l x.last.stands; paid = (let u = x.paid in let v = y.1 in omega (arith, u, v, sum)) }
 
 -- ---- again
 

@@ -2,9 +2,11 @@
 use Rattle.std.proofs.Common.{◌≡◌, ◌≢◌, ℕ, ◌+◌, ◌-◌, ◌<◌, ◌≤◌, Bool, true, false, List, [], ◌∷◌, length, Result, Ok, Err, inl, refl, sym, subst, arith}
 use Rattle.std.specs.Prelude.{IfOk, IfErr}
 use Rattle.std.specs.Result.{is_ok}
+use Rattle.vbr_words.specs.declared.nodes.Nodes.{Ghosts}
 use Rattle.vbr_words.specs.Dimensions.{Dimensions}
 use Rattle.vbr_machine.specs.History.{set_call}
 use Rattle.vbr_machine.specs.Runs.{Begins, IsRun}
+use Rattle.vbr_machine.specs.declared.history.Call.{Call as ListedCall}
 use Rattle.vbr_machine.specs.declared.history.Op.{Op}
 use Rattle.vbr_slots.specs.Calls.{IsSame, Quiet, Made}
 use Rattle.vbr_slots.specs.Views.{Trace, PassView}
@@ -37,7 +39,7 @@ within_same {p} {q} {r} {a} {b} e x = record { counts = subst (λ (t : Trace). C
 -- ---- before a slot is linked
 
 -- what takes no slot and keeps the hand
-pub prepares_none : (c d : Call) → IsSameCall c d → CountsWithin (trace_in c) (trace_in d) c.used d.used c.budget → TakesNoSlot (pass_in c) (pass_in d) → (pass_in d).hand ≡ (pass_in c).hand → Prepares c d
+pub prepares_none : {N : Type 0} {kind : Ghosts N} → (c d : Call N kind) → IsSameCall c d → CountsWithin (trace_in c) (trace_in d) c.used d.used c.budget → TakesNoSlot (pass_in c) (pass_in d) → (pass_in d).hand ≡ (pass_in c).hand → Prepares c d
 prepares_none c d same counts none hand = record {
   call = same;
   counts = counts;
@@ -48,7 +50,7 @@ prepares_none c d same counts none hand = record {
 }
 
 -- a slot is taken after that
-pub prepares_on : (c d e : Call) → IsSameCall c d → CountsWithin (trace_in c) (trace_in d) c.used d.used c.budget → Quiet (trace_in c) (trace_in d) → TakesNoSlot (pass_in c) (pass_in d) → (pass_in d).hand ≡ (pass_in c).hand → length (pass_in d).pool ≤ length (pass_in e).pool + 1 → Prepares d e → Prepares c e
+pub prepares_on : {N : Type 0} {kind : Ghosts N} → (c d e : Call N kind) → IsSameCall c d → CountsWithin (trace_in c) (trace_in d) c.used d.used c.budget → Quiet (trace_in c) (trace_in d) → TakesNoSlot (pass_in c) (pass_in d) → (pass_in d).hand ≡ (pass_in c).hand → length (pass_in d).pool ≤ length (pass_in e).pool + 1 → Prepares d e → Prepares c e
 prepares_on c d e same counts quiet none hand one x =
     let P : ℕ → Type 0 = λ budget. CountsWithin (trace_in d) (trace_in e) d.used e.used budget in
     let y = subst P same.budget x.counts in
@@ -105,18 +107,18 @@ pub if_err : {T E : Type 0} {P : Type 0} (x : Result T E) → is_ok x ≡ false 
 if_err (Ok value) e p = absurd (cc)
 if_err (Err error) e p = p
 
-pub each_since : {E : Type 0} (p q r : Trace) (op : Op) (key : ℕ) (answer : Result Bool E) → Quiet p q → IfOk answer (λ reply. Made (set_call q.who op key reply) q r) → IfOk answer (λ reply. Made (set_call p.who op key reply) p r)
-each_since p q r op key (Ok reply) quiet made = made_since quiet made
-each_since p q r op key (Err error) quiet made = tt
+pub each_since : {A E : Type 0} (p q r : Trace) (then told : A → ListedCall) (answer : Result A E) → Quiet p q → ((reply : A) → then reply ≡ told reply) → IfOk answer (λ reply. Made (then reply) q r) → IfOk answer (λ reply. Made (told reply) p r)
+each_since p q r then told (Ok reply) quiet same made = subst (λ (call : ListedCall). Made call p r) (same reply) (made_on quiet made)
+each_since p q r then told (Err error) quiet same made = tt
 
-pub each_same : {E : Type 0} (p q : Trace) (op : Op) (key : ℕ) (answer : Result Bool E) → IfOk answer (λ reply. Made (set_call p.who op key reply) p q) → IfErr answer (λ _. Quiet p q) → IsSame p q
-each_same p q op key (Ok reply) made quiet = made.same
-each_same p q op key (Err error) made quiet = quiet.same
+pub each_same : {A E : Type 0} (p q : Trace) (told : A → ListedCall) (answer : Result A E) → IfOk answer (λ reply. Made (told reply) p q) → IfErr answer (λ _. Quiet p q) → IsSame p q
+each_same p q told (Ok reply) made quiet = made.same
+each_same p q told (Err error) made quiet = quiet.same
 
 -- the pass has seen more, answer or not
-pub each_seen : {E : Type 0} (p q : Trace) (op : Op) (key : ℕ) (answer : Result Bool E) → IfOk answer (λ reply. Made (set_call p.who op key reply) p q) → IfErr answer (λ _. Quiet p q) → Begins p.seen q.seen × (IsRun p.shape p.passes p.seen → IsRun q.shape q.passes q.seen)
-each_seen p q op key (Ok reply) made quiet = (made.seen, λ _. made.is_run)
-each_seen p q op key (Err error) made quiet = (quiet.seen, quiet.is_run)
+pub each_seen : {A E : Type 0} (p q : Trace) (told : A → ListedCall) (answer : Result A E) → IfOk answer (λ reply. Made (told reply) p q) → IfErr answer (λ _. Quiet p q) → Begins p.seen q.seen × (IsRun p.shape p.passes p.seen → IsRun q.shape q.passes q.seen)
+each_seen p q told (Ok reply) made quiet = (made.seen, λ _. made.is_run)
+each_seen p q told (Err error) made quiet = (quiet.seen, quiet.is_run)
 
 -- a call that was prepared is refused for want of steps
 pub refused_second : (p q r : PassView) {b budget : ℕ} (key : ℕ) → CountsWithin p.trace q.trace 0 b budget → (refusal : Refusal) → InsertIsShort q r b budget refusal → IsRefused p r key budget refusal

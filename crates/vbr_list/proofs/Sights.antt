@@ -1,18 +1,23 @@
 -- What a look-up came to, as what its answer asks.
-use Rattle.std.proofs.Common.{◌≡◌, ℕ, false}
+use Rattle.std.proofs.Common.{◌≡◌, ℕ, ◌+◌, ◌*◌, ◌≤◌, Bool, true, false, arith}
 use Rattle.vbr_words.specs.Dimensions.{Dimensions}
 use Rattle.vbr_words.specs.Words.{link_of}
 use Rattle.vbr_words.specs.declared.place.At.{At}
 use Rattle.vbr_words.specs.declared.place.At.TheVariants.{Head, Slot}
 use Rattle.vbr_machine.specs.Knowledge.{Know}
 use Rattle.vbr_machine.specs.Membership.{KeyAt}
+use Rattle.vbr_slots.specs.Views.{Trace}
+use Rattle.vbr_access.specs.Alone.{StandsNow}
 use Rattle.vbr_access.specs.Held.{IsHeld, IsSlot}
 use Rattle.vbr_access.specs.LookUps.{DecidesKey}
+use Rattle.vbr_list.specs.Budgets.{answer_costs, listed_for}
+use Rattle.vbr_list.specs.LookingUp.{steps_to_answer}
+use Rattle.vbr_list.specs.Nearing.{SightStands}
 use Rattle.vbr_list.specs.Places.{IsSight, held_in, is_present}
 use Rattle.vbr_list.specs.declared.looking.Sight.{Sight}
 use Rattle.vbr_list.specs.declared.looking.Sight.TheVariants.{Present, Absent}
 
-keyed_slot : (know : Know) (at : At) (key : ℕ) → KeyAt know at key → IsSlot at
+pub keyed_slot : (know : Know) (at : At) (key : ℕ) → KeyAt know at key → IsSlot at
 keyed_slot know (Head b) key k = absurd k
 keyed_slot know (Slot s) key k = tt
 
@@ -28,3 +33,14 @@ module _ (shape : Dimensions) (know : Know) (key : ℕ) where
   pub sight_answers : (sight : Sight) → IsSight shape know key sight → DecidesKey shape know key (held_in sight) (is_present sight)
   sight_answers (Present node) s = (keyed_slot know node.at key s.2, s.2)
   sight_answers (Absent pred) s = (s.0.behind, s.1)
+
+-- the link that is to confirm it
+pub sight_stands : (q : Trace) (sight : Sight) → SightStands q sight → StandsNow q (held_in sight)
+sight_stands q (Present node) stands = stands
+sight_stands q (Absent pred) stands = stands
+
+-- ---- what its answer costs
+
+pub costs_enough : (gives : Bool) (p : Trace) (key before since : ℕ) → before ≤ 3 + 5 * listed_for p key → since ≤ before + steps_to_answer gives → since ≤ answer_costs gives p key
+costs_enough true p key before since paid few = omega (arith, paid, few)
+costs_enough false p key before since paid few = omega (arith, paid, few)

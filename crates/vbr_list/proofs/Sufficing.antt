@@ -68,3 +68,8 @@ answered_or_spent p q budget n (Err (EpochSpent epoch)) some alone enough none l
 pub each_error : {A E : Type 0} (P Q : E → Type 0) (x : Result A E) → ((e : E) → P e → Q e) → IfErr x P → IfErr x Q
 each_error P Q (Ok a) f h = tt
 each_error P Q (Err e) f h = f e h
+
+-- what is so of any error is so of an answer's
+pub any_error : {A E : Type 0} {P : E → Type 0} (x : Result A E) → ((e : E) → P e) → IfErr x P
+any_error (Ok a) f = tt
+any_error (Err e) f = f e

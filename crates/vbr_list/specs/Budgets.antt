@@ -1,5 +1,5 @@
 -- The budgets that suffice a pass that is alone: it is refused for want of steps only below them.
-use Rattle.std.specs.Prelude.{ℕ, ◌+◌, ◌*◌, ◌<◌, Result, Ok, Err}
+use Rattle.std.specs.Prelude.{ℕ, ◌+◌, ◌*◌, ◌<◌, Bool, true, false, Result, Ok, Err}
 use Rattle.vbr_words.specs.declared.place.At.TheVariants.{Head}
 use Rattle.vbr_words.specs.Buckets.{bucket_of}
 use Rattle.vbr_slots.specs.Alone.{ahead}
@@ -31,6 +31,15 @@ enough_with_a_slot p key = 18 * listed_for p key + 82
 -- the most that a call costs which is answered to a pass that is alone: a look-up five steps for each node, and four
 abbrev pub look_up_costs : Trace → ℕ → ℕ
 look_up_costs p key = 5 * listed_for p key + 4
+
+-- a get five for each, and six
+abbrev pub get_costs : Trace → ℕ → ℕ
+get_costs p key = 5 * listed_for p key + 6
+
+-- one of these
+abbrev pub answer_costs : Bool → Trace → ℕ → ℕ
+answer_costs true = get_costs
+answer_costs false = look_up_costs
 
 -- to find where a key stands: nine for each, and three
 abbrev pub find_costs : Trace → ℕ → ℕ

@@ -23,8 +23,8 @@ abbrev pub Leaves : Trace → Trace → ℕ → Type 0
 Leaves p q key = MarkedLeft p.shape p.seen q.seen p.who key
 
 -- what a remove promises besides: it advances no epoch and loses no slot; where it answers yes, the node that it marked has left its list, unless its steps leave no room in the budget for one more piece; it is refused for want of steps alone, and alone it has steps enough with a budget that is known before
-pub record SparesRemove (p q : PassView) (key budget : ℕ) (answer : Result Bool Refusal) : Type 0 where
+pub record SparesRemove {A : Type 0} (yes : A → Bool) (p q : PassView) (key budget : ℕ) (answer : Result A Refusal) : Type 0 where
   pub takes_no_slot : TakesNoSlot p q
-  pub unlists : IfOk answer (λ removed. removed ≡ true → LeavesRoom p q budget → Leaves p.trace q.trace key)
+  pub unlists : IfOk answer (λ removed. yes removed ≡ true → LeavesRoom p q budget → Leaves p.trace q.trace key)
   pub refused : IfErr answer (IsTired p q budget)
   pub within : IfErr answer (λ refusal. IsAlone p.trace q.trace → budget < enough_to_search p.trace key)

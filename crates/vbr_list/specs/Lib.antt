@@ -4,11 +4,13 @@ pub mod Refusals
 pub mod Leaving
 pub mod Found
 pub mod Alone
+pub mod Told
 pub mod Answered
 pub mod Pieces
 pub mod Nearing
 pub mod Traversing
 pub mod Helping
+pub mod Valuing
 pub mod LookingUp
 pub mod Inserting
 pub mod Removing

@@ -59,5 +59,6 @@ SightStands q (Absent pred) = StandsNow q pred
 
 -- what a look-up leaves that came to the key, or to where it is absent
 pub record SeenAlone (p q : Trace) (key before since : ℕ) (sight : Sight) : Type 0 where
+  pub fresh : IsFresh q
   pub stands : SightStands q sight
   pub paid : since ≤ before + 3 + 5 * listed_for p key

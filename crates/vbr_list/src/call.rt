@@ -3,13 +3,14 @@ ghost use Rattle.std.specs.Prelude.{◌≡◌, ◌<◌, ◌≤◌};
 ghost use Rattle.vbr_words.specs.Buckets.{bucket_of};
 
 use vbr_slots::AtTable;
+use vbr_words::{Keys, Nodes};
 
 /// A call in progress: the pass at its table, for which key, in what bucket that is, and how many
 /// steps of its budget are used. Its methods are the pieces of calls. Nothing counts its steps in the
 /// pass until it ends.
 #[derive(Drop)]
-pub(crate) struct Call<'c> {
-    pub(crate) at: AtTable<'c>,
+pub(crate) struct Call<'c, N: Nodes = Keys> {
+    pub(crate) at: AtTable<'c, N>,
     pub(crate) key: u64,
     pub(crate) bucket: u32,
     pub(crate) budget: u32,

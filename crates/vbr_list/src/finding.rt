@@ -13,8 +13,9 @@ use crate::found::Found;
 use crate::refusal::Refusal;
 use crate::traversal::Stop;
 use vbr_slots::{AtTable, Pass, Slots};
+use vbr_words::Nodes;
 
-impl Call<'_> {
+impl<N: Nodes> Call<'_, N> {
     /// Traverses until it comes to the key; none where the budget has no room for one more piece.
     #[inline(always)]
     pub(crate) fn search(&mut self) -> Option<Found>
@@ -40,7 +41,12 @@ impl Call<'_> {
 ///
 /// OutOfSteps is its one refusal. While the other passes stand still, a budget of 9n + 11 is enough,
 /// with n nodes in the key's bucket, and what is found took at most 9n + 3 steps.
-pub fn find(slots: &Slots, pass: &mut Pass, key: u64, budget: u32) -> Result<Found, Refusal>
+pub fn find<N: Nodes>(
+    slots: &Slots<N>,
+    pass: &mut Pass,
+    key: u64,
+    budget: u32,
+) -> Result<Found, Refusal>
     requires own { IsOf pass.old.trace slots.now }
     requires empty_hand { pass.old.hand ≡ None }
     ensures hand { pass.new.hand ≡ None }
@@ -57,7 +63,11 @@ pub fn find(slots: &Slots, pass: &mut Pass, key: u64, budget: u32) -> Result<Fou
 }
 
 // As `find`, where no step is counted; and how many steps were made.
-fn find_by(at: &mut AtTable<'_>, key: u64, budget: u32) -> (Result<Found, Refusal>, u32)
+fn find_by<N: Nodes>(
+    at: &mut AtTable<'_, N>,
+    key: u64,
+    budget: u32,
+) -> (Result<Found, Refusal>, u32)
     requires empty_hand { (pass_of at.old).hand ≡ None }
     ensures table { IsSameTable at.old at.new }
     ensures took { Took (trace_of at.old) (trace_of at.new) result.1 }

@@ -7,12 +7,13 @@ use vbr_access::uncounted::{steps_to_unlink, unlink};
 use vbr_access::{Held, Marked, Rollback};
 use vbr_pools::uncounted::retire;
 use vbr_slots::AtTable;
+use vbr_words::Nodes;
 
 /// Unlinks a marked node behind a place and retires it: gives the place with its new link, and how
 /// many steps it made, one to six.
 #[inline(always)]
-pub(crate) fn unlink_and_retire(
-    at: &mut AtTable<'_>,
+pub(crate) fn unlink_and_retire<N: Nodes>(
+    at: &mut AtTable<'_, N>,
     pred: &Held,
     marked: Marked,
 ) -> (Result<Held, Rollback>, u32)
@@ -38,8 +39,8 @@ pub(crate) fn unlink_and_retire(
 /// As [`unlink_and_retire`], for a traversal that goes on from the place: it rolls back too where the
 /// epoch has moved since.
 #[inline(always)]
-pub(crate) fn help(
-    at: &mut AtTable<'_>,
+pub(crate) fn help<N: Nodes>(
+    at: &mut AtTable<'_, N>,
     pred: &Held,
     marked: Marked,
 ) -> (Result<Held, Rollback>, u32)
@@ -65,7 +66,11 @@ pub(crate) fn help(
 
 // As `help`, in a function of its own.
 #[inline(never)]
-fn help_apart(at: &mut AtTable<'_>, pred: Held, marked: Marked) -> (Result<Held, Rollback>, u32)
+fn help_apart<N: Nodes>(
+    at: &mut AtTable<'_, N>,
+    pred: Held,
+    marked: Marked,
+) -> (Result<Held, Rollback>, u32)
     requires may { MayHelp (trace_of at.old) pred marked }
     ensures table { IsSameTable at.old at.new }
     ensures goes { GoesIn (pass_of at.old) (pass_of at.new) result.1 }
@@ -79,8 +84,8 @@ fn help_apart(at: &mut AtTable<'_>, pred: Held, marked: Marked) -> (Result<Held,
 /// As [`help`], by a copy of what is lent, so that a traversal that meets no marked node has all of its
 /// own in registers.
 #[inline(always)]
-pub(crate) fn help_by_copy(
-    at: &mut AtTable<'_>,
+pub(crate) fn help_by_copy<N: Nodes>(
+    at: &mut AtTable<'_, N>,
     pred: Held,
     marked: Marked,
 ) -> (Result<Held, Rollback>, u32)

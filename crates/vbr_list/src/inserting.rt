@@ -6,23 +6,26 @@ ghost use Rattle.vbr_slots.specs.AtTables.{IsSameTable, pass_of, trace_of};
 ghost use Rattle.vbr_slots.specs.Calls.{Quiet, Took};
 ghost use Rattle.vbr_slots.specs.Views.{IsOf};
 ghost use Rattle.vbr_access.specs.Answering.{KeepsIn};
-ghost use Rattle.vbr_list.specs.Answered.{Calls};
+ghost use Rattle.vbr_list.specs.Answered.{Calls, CallsAs, CallsInsert, SparesInsert};
 ghost use Rattle.vbr_list.specs.Inserting.{DeniesNone, GivesHandBack, HasHandAndRoom, InsertAnswers, Links, LinksNone, Prepares, PreparesHand, PreparesNone, Provides, ProvidesNone, Publishes};
-ghost use Rattle.vbr_list.specs.Pieces.{HasRoom, IsSameCall, Replies, pass_in, trace_in};
+ghost use Rattle.vbr_list.specs.Pieces.{HasRoom, IsSameCall, Replies, Stores, pass_in, trace_in};
+ghost use Rattle.vbr_list.specs.Told.{stored_in};
 ghost use Rattle.vbr_list.specs.Traversing.{LocatesFor};
 
 use crate::call::Call;
 use crate::found::Found;
 use crate::refusal::Refusal;
+use crate::valuing::steps_to_update;
 use vbr_access::Rollback;
-use vbr_access::uncounted::{confirm_present, update};
+use vbr_access::uncounted::{confirm_present_entry, update_entry};
 use vbr_machine::Op;
 use vbr_pools::budget::affords;
 use vbr_pools::uncounted::{give_back, take};
 use vbr_pools::{Hand, TakeRefusal};
 use vbr_slots::{AtTable, Pass, Slots};
+use vbr_words::{Entries, Nodes};
 
-impl Call<'_> {
+impl<N: Nodes> Call<'_, N> {
     // Answers an insert with no, in one step, if the link of the node that was found is as it was read.
     #[inline]
     fn deny(&mut self, found: &Found) -> Result<(), Rollback>
@@ -39,7 +42,7 @@ impl Call<'_> {
             unreachable!()
         };
         self.used += 1;
-        confirm_present(&mut self.at, Op::Insert, cur)
+        confirm_present_entry(&mut self.at, Op::Insert, cur)
     }
 
     // Takes a slot with what is left of the budget.
@@ -92,15 +95,16 @@ impl Call<'_> {
         }
     }
 
-    // Answers an insert by what was found, with a slot in hand; else the hand comes back.
+    // Answers an insert by what was found, with a slot in hand, which gets the value where nodes have
+    // values; else the hand comes back.
     #[inline]
-    fn settle_insert(&mut self, found: &Found, hand: Hand) -> Result<bool, Hand>
+    fn settle_insert(&mut self, found: &Found, value: u64, hand: Hand) -> Result<bool, Hand>
         requires locates { LocatesFor self.old found.now }
         requires hand { HasHandAndRoom (pass_in self.old) hand }
         requires room { HasRoom self.old }
         ensures publishes { Publishes self.old self.new }
         ensures had { HasUnpublished (pass_in self.old) (pass_in self.new) result }
-        ensures answers { IfOk result (InsertAnswers self.old self.new) }
+        ensures answers { IfOk result (InsertAnswers value self.old self.new) }
         ensures back { IfErr result (GivesHandBack self.old self.new found.now) }
     {
         if found.present {
@@ -110,12 +114,13 @@ impl Call<'_> {
             give_back(&mut self.at, hand);
             return Ok(false);
         }
-        self.used += 3;
-        match update(
+        self.used += steps_to_update(self.at.slots);
+        match update_entry(
             &mut self.at,
             &found.pred,
             found.cur.as_ref(),
             self.key,
+            value,
             hand,
         ) {
             Ok(()) => Ok(true),
@@ -124,11 +129,11 @@ impl Call<'_> {
     }
 
     // Links the slot in hand, or answers no where the key has come meanwhile. The hand is spent.
-    fn link(&mut self, mut hand: Hand) -> Result<bool, Refusal>
+    fn link(&mut self, value: u64, mut hand: Hand) -> Result<bool, Refusal>
         requires hand { HasHandAndRoom (pass_in self.old) hand }
         ensures links { Links self.old self.new }
         ensures had { HasUnpublished (pass_in self.old) (pass_in self.new) result }
-        ensures made { IfOk result (Replies Insert self.old self.new) }
+        ensures made { IfOk result (Stores value self.old self.new) }
         ensures refused { IfErr result (LinksNone self.old self.new) }
     {
         loop {
@@ -140,7 +145,7 @@ impl Call<'_> {
                 give_back(&mut self.at, hand);
                 return Err(Refusal::OutOfSteps { used: self.used });
             }
-            match self.settle_insert(&found, hand) {
+            match self.settle_insert(&found, value, hand) {
                 Ok(reply) => return Ok(reply),
                 Err(back) => hand = back,
             }
@@ -167,16 +172,74 @@ pub fn insert(slots: &Slots, pass: &mut Pass, key: u64, budget: u32) -> Result<b
         |pass|
             requires own { IsOf pass.old.trace slots.now }
             requires empty_hand { pass.old.hand ≡ None }
-        { insert_by(&mut AtTable { slots, pass }, key, budget) },
+        { insert_key(&mut AtTable { slots, pass }, key, budget) },
     )
 }
 
 // As `insert`, where no step is counted; and how many steps were made.
-fn insert_by(at: &mut AtTable<'_>, key: u64, budget: u32) -> (Result<bool, Refusal>, u32)
+fn insert_key(at: &mut AtTable<'_>, key: u64, budget: u32) -> (Result<bool, Refusal>, u32)
     requires empty_hand { (pass_of at.old).hand ≡ None }
     ensures table { IsSameTable at.old at.new }
     ensures took { Took (trace_of at.old) (trace_of at.new) result.1 }
     ensures calls { Calls Insert (pass_of at.old) (pass_of at.new) key budget result.0 }
+{
+    at.slots.kind();
+    insert_by(at, key, 0, budget)
+}
+
+/// As [`insert`], at a table whose nodes have values: puts an entry, a key with its value, into the
+/// map, and says whether the key was absent. Where it was there, its value stays. The value is stored
+/// before the node is published, in one step more than an insert makes, and is fixed from then on. Its
+/// refusals and the budgets that are enough are those of [`insert`].
+pub fn insert_entry(
+    slots: &Slots<Entries>,
+    pass: &mut Pass,
+    key: u64,
+    value: u64,
+    budget: u32,
+) -> Result<bool, Refusal>
+    requires own { IsOf pass.old.trace slots.now }
+    requires empty_hand { pass.old.hand ≡ None }
+    ensures { CallsInsert pass.old pass.new key value budget result }
+{
+    pass.during(
+        |pass|
+            requires own { IsOf pass.old.trace slots.now }
+            requires empty_hand { pass.old.hand ≡ None }
+        { insert_value(&mut AtTable { slots, pass }, key, value, budget) },
+    )
+}
+
+// As `insert_entry`, where no step is counted; and how many steps were made.
+fn insert_value(
+    at: &mut AtTable<'_, Entries>,
+    key: u64,
+    value: u64,
+    budget: u32,
+) -> (Result<bool, Refusal>, u32)
+    requires empty_hand { (pass_of at.old).hand ≡ None }
+    ensures table { IsSameTable at.old at.new }
+    ensures took { Took (trace_of at.old) (trace_of at.new) result.1 }
+    ensures calls { CallsInsert (pass_of at.old) (pass_of at.new) key value budget result.0 }
+{
+    at.law();
+    at.slots.kind();
+    insert_by(at, key, value, budget)
+}
+
+// The insert of a key, with its value where nodes have values; and how many steps were made.
+fn insert_by<N: Nodes>(
+    at: &mut AtTable<'_, N>,
+    key: u64,
+    value: u64,
+    budget: u32,
+) -> (Result<bool, Refusal>, u32)
+    requires empty_hand { (pass_of at.old).hand ≡ None }
+    ensures table { IsSameTable at.old at.new }
+    ensures took { Took (trace_of at.old) (trace_of at.new) result.1 }
+    ensures calls { CallsAs (stored_in (trace_of at.old) key value)
+        (SparesInsert (pass_of at.old) (pass_of at.new) key budget)
+        (pass_of at.old) (pass_of at.new) budget result.0 }
 {
     at.law();
     let mut call = Call {
@@ -192,6 +255,6 @@ fn insert_by(at: &mut AtTable<'_>, key: u64, budget: u32) -> (Result<bool, Refus
     match call.prepare() {
         Err(refusal) => (Err(refusal), call.used),
         Ok(None) => (Ok(false), call.used),
-        Ok(Some(hand)) => (call.link(hand), call.used),
+        Ok(Some(hand)) => (call.link(value, hand), call.used),
     }
 }

@@ -1,5 +1,6 @@
-//! Michael's list in one bucket of a set (Michael 2002), over slots that are used again (Sheffi,
-//! Herlihy and Petrank 2021): where a key stands, and look-ups, inserts and removes of it.
+//! Michael's list in one bucket of a set or a map (Michael 2002), over slots that are used again
+//! (Sheffi, Herlihy and Petrank 2021): where a key stands, and look-ups, inserts and removes of it,
+//! and, where nodes have values, gets of its value.
 //!
 //! A call goes in pieces. A traversal starts at the head of the bucket and visits node after node,
 //! and helps to unlink the marked ones that it meets. Whatever rolls back before the answer leads
@@ -17,10 +18,11 @@ pub mod looking_up;
 pub mod refusal;
 pub mod removing;
 mod traversal;
+mod valuing;
 
 pub use finding::find;
 pub use found::Found;
-pub use inserting::insert;
-pub use looking_up::has;
+pub use inserting::{insert, insert_entry};
+pub use looking_up::{get, has};
 pub use refusal::Refusal;
-pub use removing::remove;
+pub use removing::{remove, remove_entry};

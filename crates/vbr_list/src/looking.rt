@@ -10,7 +10,7 @@ use crate::call::Call;
 use crate::traversal::{Stop, Visited};
 use vbr_access::{Held, Marked};
 use vbr_pools::budget::affords;
-use vbr_words::{At, decode};
+use vbr_words::{At, Nodes, decode};
 
 /// What a look-up came to.
 #[derive(Clone, Copy)]
@@ -34,7 +34,7 @@ fn held_of(marked: Marked) -> Held
     }
 }
 
-impl Call<'_> {
+impl<N: Nodes> Call<'_, N> {
     // One walk from the head to the key, past marked nodes.
     #[inline(always)]
     fn walk(&mut self) -> Result<Sight, Stop>

@@ -1,41 +1,121 @@
 //! Look-ups.
-ghost use Rattle.std.specs.Prelude.{◌≡◌, ◌+◌, None, IfOk, IfErr};
+ghost use Rattle.std.specs.Prelude.{◌≡◌, ◌+◌, ◌≤◌, true, false, None, IfOk, IfErr, is_some};
 ghost use Rattle.vbr_machine.specs.declared.history.Op.TheVariants.{Has};
 ghost use Rattle.vbr_slots.specs.AtTables.{IsSameTable, pass_of, trace_of};
 ghost use Rattle.vbr_slots.specs.Calls.{OnlyLoads, Took};
 ghost use Rattle.vbr_slots.specs.Views.{IsOf};
-ghost use Rattle.vbr_access.specs.Answering.{KeepsIn};
-ghost use Rattle.vbr_list.specs.Answered.{Calls};
-ghost use Rattle.vbr_list.specs.LookingUp.{IsSightFor, LookUpAnswers, LookUpRollsBack};
-ghost use Rattle.vbr_list.specs.Pieces.{HasRoom, IsSameCall, pass_in, trace_in};
+ghost use Rattle.vbr_list.specs.Answered.{Calls, CallsAs, CallsGet, SparesLookUp};
+ghost use Rattle.vbr_list.specs.Budgets.{answer_costs};
+ghost use Rattle.vbr_list.specs.declared.looking.Sight.TheVariants.{Present, Absent};
+ghost use Rattle.vbr_list.specs.LookingUp.{IsAskedOf, IsSightFor, LookUpAnswers, LookUpRollsBack, steps_to_answer};
+ghost use Rattle.vbr_list.specs.Pieces.{HasRoom, Settles, trace_in};
 ghost use Rattle.vbr_list.specs.Places.{held_in, is_present};
+ghost use Rattle.vbr_list.specs.Told.{given_in, look_up_op};
 
 use crate::call::Call;
 use crate::looking::Sight;
 use crate::refusal::Refusal;
-use vbr_access::uncounted::confirm_look_up;
+use crate::valuing::{is_yes, steps_to_value_of, value_if_any};
+use vbr_access::uncounted::{confirm_absent_entry, confirm_look_up, confirm_present_entry};
 use vbr_access::{Held, Rollback};
+use vbr_machine::Op;
 use vbr_pools::budget::affords;
 use vbr_slots::{AtTable, Pass, Slots};
+use vbr_words::{Entries, Nodes};
 
-impl Call<'_> {
+impl<N: Nodes> Call<'_, N> {
     // Answers a look-up by what it came to, in one step, if the link that was read still stands there.
     #[inline(always)]
-    fn settle_look_up(&mut self, sight: Sight) -> Result<bool, Rollback>
+    fn answer_has(&mut self, sight: Sight) -> Result<Option<u64>, Rollback>
         requires sight { IsSightFor self.old sight }
         requires room { HasRoom self.old }
-        ensures call { IsSameCall self.old self.new }
-        ensures keeps { KeepsIn (pass_in self.old) (pass_in self.new) 1 }
-        ensures used { self.new.used ≡ self.old.used + 1 }
+        ensures settles { Settles self.old self.new }
+        ensures few { self.new.used ≡ self.old.used + 1 }
         ensures only_loads { OnlyLoads (trace_in self.old) (trace_in self.new) }
-        ensures answers { IfOk result (LookUpAnswers self.old self.new) }
+        ensures answers { IfOk result (LookUpAnswers false self.old self.new) }
         ensures rolls { IfErr result (LookUpRollsBack self.old self.new sight) }
     {
         let (held, present) = told_by(sight);
+        let outcome = confirm_look_up(&mut self.at, self.key, &held, present);
         self.used += 1;
-        confirm_look_up(&mut self.at, self.key, &held, present)?;
-        Ok(present)
+        match outcome {
+            Ok(()) => Ok(without_value(present)),
+            Err(rollback) => Err(rollback),
+        }
     }
+
+    // Answers a get with the value of the node with the key, in two steps for it and one more, if the
+    // epoch and the node's link still stand.
+    #[inline(always)]
+    fn give_value(&mut self, node: &Held) -> Result<Option<u64>, Rollback>
+        requires sight { IsSightFor self.old (Present node.now) }
+        requires values { (trace_in self.old).shape.values ≡ true }
+        requires room { HasRoom self.old }
+        ensures settles { Settles self.old self.new }
+        ensures few { self.new.used ≤ self.old.used + 3 }
+        ensures only_loads { OnlyLoads (trace_in self.old) (trace_in self.new) }
+        ensures answers { IfOk result (LookUpAnswers true self.old self.new) }
+        ensures rolls { IfErr result (LookUpRollsBack self.old self.new (Present node.now)) }
+    {
+        let read = value_if_any(&mut self.at, node);
+        self.used += steps_to_value_of(self.at.slots);
+        let value = read?;
+        let outcome = confirm_present_entry(&mut self.at, Op::Get, node);
+        self.used += 1;
+        match outcome {
+            Ok(()) => Ok(Some(value)),
+            Err(rollback) => Err(rollback),
+        }
+    }
+
+    // Answers a get with no, in one step, if the link of the last place before the key still stands.
+    #[inline(always)]
+    fn give_none(&mut self, pred: &Held) -> Result<Option<u64>, Rollback>
+        requires sight { IsSightFor self.old (Absent pred.now) }
+        requires values { (trace_in self.old).shape.values ≡ true }
+        requires room { HasRoom self.old }
+        ensures settles { Settles self.old self.new }
+        ensures few { self.new.used ≤ self.old.used + 3 }
+        ensures only_loads { OnlyLoads (trace_in self.old) (trace_in self.new) }
+        ensures answers { IfOk result (LookUpAnswers true self.old self.new) }
+        ensures rolls { IfErr result (LookUpRollsBack self.old self.new (Absent pred.now)) }
+    {
+        let outcome = confirm_absent_entry(&mut self.at, Op::Get, self.key, pred);
+        self.used += 1;
+        match outcome {
+            Ok(()) => Ok(None),
+            Err(rollback) => Err(rollback),
+        }
+    }
+
+    // Answers a look-up, or a get, by what it came to.
+    #[inline(always)]
+    fn settle_look_up(&mut self, gives: bool, sight: Sight) -> Result<Option<u64>, Rollback>
+        requires sight { IsSightFor self.old sight }
+        requires asked { IsAskedOf self.old gives }
+        requires room { HasRoom self.old }
+        ensures settles { Settles self.old self.new }
+        ensures few { self.new.used ≤ self.old.used + steps_to_answer gives }
+        ensures only_loads { OnlyLoads (trace_in self.old) (trace_in self.new) }
+        ensures answers { IfOk result (LookUpAnswers gives self.old self.new) }
+        ensures rolls { IfErr result (LookUpRollsBack self.old self.new sight) }
+    {
+        if !gives {
+            return self.answer_has(sight);
+        }
+        match sight {
+            Sight::Present(node) => self.give_value(&node),
+            Sight::Absent(pred) => self.give_none(&pred),
+        }
+    }
+}
+
+// Yes without a value, or no.
+#[inline(always)]
+fn without_value(present: bool) -> Option<u64>
+    ensures { is_some result ≡ present }
+{
+    if present { Some(0) } else { None }
 }
 
 // What is held that tells, and whether it tells that the key is present.
@@ -60,7 +140,12 @@ fn told_by(sight: Sight) -> (Held, bool)
 ///
 /// OutOfSteps is its one refusal. While the other passes stand still, a budget of 5n + 11 is enough,
 /// with n nodes in the key's bucket, and what is answered took at most 5n + 4 steps.
-pub fn has(slots: &Slots, pass: &mut Pass, key: u64, budget: u32) -> Result<bool, Refusal>
+pub fn has<N: Nodes>(
+    slots: &Slots<N>,
+    pass: &mut Pass,
+    key: u64,
+    budget: u32,
+) -> Result<bool, Refusal>
     requires own { IsOf pass.old.trace slots.now }
     requires empty_hand { pass.old.hand ≡ None }
     ensures { Calls Has pass.old pass.new key budget result }
@@ -69,16 +154,81 @@ pub fn has(slots: &Slots, pass: &mut Pass, key: u64, budget: u32) -> Result<bool
         |pass|
             requires own { IsOf pass.old.trace slots.now }
             requires empty_hand { pass.old.hand ≡ None }
-        { look_up(&mut AtTable { slots, pass }, key, budget) },
+        { look_up_key(&mut AtTable { slots, pass }, key, budget) },
     )
 }
 
 // As `has`, where no step is counted; and how many steps were made.
-fn look_up(at: &mut AtTable<'_>, key: u64, budget: u32) -> (Result<bool, Refusal>, u32)
+fn look_up_key<N: Nodes>(
+    at: &mut AtTable<'_, N>,
+    key: u64,
+    budget: u32,
+) -> (Result<bool, Refusal>, u32)
     requires empty_hand { (pass_of at.old).hand ≡ None }
     ensures table { IsSameTable at.old at.new }
     ensures took { Took (trace_of at.old) (trace_of at.new) result.1 }
     ensures calls { Calls Has (pass_of at.old) (pass_of at.new) key budget result.0 }
+{
+    let (answer, used) = look_up(at, key, false, budget);
+    (is_yes(answer), used)
+}
+
+/// As [`has`], at a table whose nodes have values: gives the value that is stored with a key, if the
+/// key is there, in two steps more. The answer's point is the same load, after the value was read in
+/// an epoch that stood.
+///
+/// OutOfSteps is its one refusal. While the other passes stand still, a budget of 5n + 11 is enough,
+/// with n nodes in the key's bucket, and what is answered took at most 5n + 6 steps.
+pub fn get(
+    slots: &Slots<Entries>,
+    pass: &mut Pass,
+    key: u64,
+    budget: u32,
+) -> Result<Option<u64>, Refusal>
+    requires own { IsOf pass.old.trace slots.now }
+    requires empty_hand { pass.old.hand ≡ None }
+    ensures { CallsGet pass.old pass.new key budget result }
+{
+    pass.during(
+        |pass|
+            requires own { IsOf pass.old.trace slots.now }
+            requires empty_hand { pass.old.hand ≡ None }
+        { look_up_value(&mut AtTable { slots, pass }, key, budget) },
+    )
+}
+
+// As `get`, where no step is counted; and how many steps were made.
+fn look_up_value(
+    at: &mut AtTable<'_, Entries>,
+    key: u64,
+    budget: u32,
+) -> (Result<Option<u64>, Refusal>, u32)
+    requires empty_hand { (pass_of at.old).hand ≡ None }
+    ensures table { IsSameTable at.old at.new }
+    ensures took { Took (trace_of at.old) (trace_of at.new) result.1 }
+    ensures calls { CallsGet (pass_of at.old) (pass_of at.new) key budget result.0 }
+{
+    at.law();
+    at.slots.kind();
+    look_up(at, key, true, budget)
+}
+
+// The look-up of a key, which gives its value if it is to; and how many steps were made.
+#[inline(always)]
+fn look_up<N: Nodes>(
+    at: &mut AtTable<'_, N>,
+    key: u64,
+    gives: bool,
+    budget: u32,
+) -> (Result<Option<u64>, Refusal>, u32)
+    requires empty_hand { (pass_of at.old).hand ≡ None }
+    requires asked { gives ≡ true → (trace_of at.old).shape.values ≡ true }
+    ensures table { IsSameTable at.old at.new }
+    ensures took { Took (trace_of at.old) (trace_of at.new) result.1 }
+    ensures calls { CallsAs (given_in (trace_of at.old) (look_up_op gives) key)
+        (SparesLookUp (given_in (trace_of at.old) (look_up_op gives) key)
+        (answer_costs gives (trace_of at.old) key) (pass_of at.old) (pass_of at.new) key budget)
+        (pass_of at.old) (pass_of at.new) budget result.0 }
 {
     at.law();
     let mut call = Call {
@@ -98,8 +248,8 @@ fn look_up(at: &mut AtTable<'_>, key: u64, budget: u32) -> (Result<bool, Refusal
         if !affords(call.budget, call.used) {
             return (Err(Refusal::OutOfSteps { used: call.used }), call.used);
         }
-        if let Ok(reply) = call.settle_look_up(sight) {
-            return (Ok(reply), call.used);
+        if let Ok(answer) = call.settle_look_up(gives, sight) {
+            return (Ok(answer), call.used);
         }
     }
 }

@@ -1,31 +1,34 @@
 //! Removes.
-ghost use Rattle.std.specs.Prelude.{◌≡◌, ◌+◌, ◌≤◌, true, None, IfOk, IfErr};
+ghost use Rattle.std.specs.Prelude.{◌≡◌, ◌+◌, ◌≤◌, true, None, IfOk, IfErr, is_some};
 ghost use Rattle.vbr_machine.specs.declared.history.Op.TheVariants.{Remove};
 ghost use Rattle.vbr_slots.specs.AtTables.{IsSameTable, pass_of, trace_of};
 ghost use Rattle.vbr_slots.specs.Calls.{Took};
 ghost use Rattle.vbr_slots.specs.Views.{IsOf};
-ghost use Rattle.vbr_list.specs.Answered.{Calls};
-ghost use Rattle.vbr_list.specs.Leaving.{WasClear};
+ghost use Rattle.vbr_list.specs.Answered.{Calls, CallsAs, CallsRemove};
+ghost use Rattle.vbr_list.specs.Leaving.{SparesRemove, WasClear};
 ghost use Rattle.vbr_list.specs.Pieces.{Goes, GoesOn, HasRoom, Settles};
 ghost use Rattle.vbr_list.specs.Removing.{Clears, IsMarkedFor, RemoveAnswers, RemoveRollsBack};
+ghost use Rattle.vbr_list.specs.Told.{given_in};
 ghost use Rattle.vbr_list.specs.Traversing.{LocatesFor};
 
 use crate::call::Call;
 use crate::found::Found;
 use crate::helping::unlink_and_retire;
 use crate::refusal::Refusal;
-use vbr_access::uncounted::{confirm_absent, mark};
+use crate::valuing::{is_yes, steps_to_value_of, value_if_any};
+use vbr_access::uncounted::{confirm_absent_entry, mark_entry};
 use vbr_access::{Held, Marked, Rollback};
 use vbr_machine::Op;
 use vbr_pools::budget::affords;
 use vbr_slots::{AtTable, Pass, Slots};
+use vbr_words::{Entries, Nodes};
 
 // Walks to the key as `find` does, with what is left of a budget, and so helps to unlink each marked
 // node that it meets: when it has come to the key, no marked node of the key was in a list at a moment.
 // Gives how many steps are used then. Few removes lose their unlinking, so it is done apart from them.
 #[cold]
 #[inline(never)]
-fn walk_apart(at: &mut AtTable<'_>, key: u64, budget: u32, used: u32) -> u32
+fn walk_apart<N: Nodes>(at: &mut AtTable<'_, N>, key: u64, budget: u32, used: u32) -> u32
     requires within { used ≤ budget }
     ensures table { IsSameTable at.old at.new }
     ensures goes { Goes (pass_of at.old) (pass_of at.new) used result }
@@ -50,7 +53,7 @@ fn walk_apart(at: &mut AtTable<'_>, key: u64, budget: u32, used: u32) -> u32
 // As `walk_apart`, by a copy of what is lent, so that a remove that wins its unlinking has all of its
 // own in registers.
 #[inline(always)]
-fn walk_by_copy(at: &mut AtTable<'_>, key: u64, budget: u32, used: u32) -> u32
+fn walk_by_copy<N: Nodes>(at: &mut AtTable<'_, N>, key: u64, budget: u32, used: u32) -> u32
     requires within { used ≤ budget }
     ensures table { IsSameTable at.old at.new }
     ensures goes { Goes (pass_of at.old) (pass_of at.new) used result }
@@ -65,7 +68,7 @@ fn walk_by_copy(at: &mut AtTable<'_>, key: u64, budget: u32, used: u32) -> u32
     walk_apart(&mut copy, key, budget, used)
 }
 
-impl Call<'_> {
+impl<N: Nodes> Call<'_, N> {
     // Unlinks and retires the node that was marked; where that is lost, walks on until it is out of
     // its list, by this pass or another.
     #[inline]
@@ -82,10 +85,11 @@ impl Call<'_> {
         }
     }
 
-    // Marks the node that was found: the key is removed, and nothing rolls back past that. Then takes
-    // the node out of its list, as far as the budget has room.
+    // Marks the node that was found, once its value was read where nodes have values: the key is
+    // removed, and nothing rolls back past that. Then takes the node out of its list, as far as the
+    // budget has room.
     #[inline]
-    fn mark_and_unlink(&mut self, found: &Found) -> Result<bool, Rollback>
+    fn mark_and_unlink(&mut self, found: &Found) -> Result<Option<u64>, Rollback>
         requires locates { LocatesFor self.old found.now }
         requires present { found.now.present ≡ true }
         requires room { HasRoom self.old }
@@ -97,18 +101,21 @@ impl Call<'_> {
             unreachable!()
         };
         self.at.law();
-        let outcome = mark(&mut self.at, cur);
+        let read = value_if_any(&mut self.at, cur);
+        self.used += steps_to_value_of(self.at.slots);
+        let value = read?;
+        let outcome = mark_entry(&mut self.at, cur);
         self.used += 1;
         let marked = outcome?;
         if affords(self.budget, self.used) {
             self.unlink_marked(&found.pred, marked);
         }
-        Ok(true)
+        Ok(Some(value))
     }
 
     // Answers a remove by what was found.
     #[inline]
-    fn settle_remove(&mut self, found: &Found) -> Result<bool, Rollback>
+    fn settle_remove(&mut self, found: &Found) -> Result<Option<u64>, Rollback>
         requires locates { LocatesFor self.old found.now }
         requires room { HasRoom self.old }
         ensures settles { Settles self.old self.new }
@@ -118,10 +125,10 @@ impl Call<'_> {
         if found.present {
             return self.mark_and_unlink(found);
         }
-        let outcome = confirm_absent(&mut self.at, Op::Remove, self.key, &found.pred);
+        let outcome = confirm_absent_entry(&mut self.at, Op::Remove, self.key, &found.pred);
         self.used += 1;
         outcome?;
-        Ok(false)
+        Ok(None)
     }
 }
 
@@ -144,16 +151,72 @@ pub fn remove(slots: &Slots, pass: &mut Pass, key: u64, budget: u32) -> Result<b
         |pass|
             requires own { IsOf pass.old.trace slots.now }
             requires empty_hand { pass.old.hand ≡ None }
-        { remove_by(&mut AtTable { slots, pass }, key, budget) },
+        { remove_key(&mut AtTable { slots, pass }, key, budget) },
     )
 }
 
 // As `remove`, where no step is counted; and how many steps were made.
-fn remove_by(at: &mut AtTable<'_>, key: u64, budget: u32) -> (Result<bool, Refusal>, u32)
+fn remove_key(at: &mut AtTable<'_>, key: u64, budget: u32) -> (Result<bool, Refusal>, u32)
     requires empty_hand { (pass_of at.old).hand ≡ None }
     ensures table { IsSameTable at.old at.new }
     ensures took { Took (trace_of at.old) (trace_of at.new) result.1 }
     ensures calls { Calls Remove (pass_of at.old) (pass_of at.new) key budget result.0 }
+{
+    at.slots.kind();
+    let (answer, used) = remove_by(at, key, budget);
+    (is_yes(answer), used)
+}
+
+/// As [`remove`], at a table whose nodes have values: gives the value that was stored with the key,
+/// if the key was there. It is read before the node is marked, in two steps more than a remove makes,
+/// and was fixed when the node was published, so it is that of the entry which the mark removes. Its
+/// refusal and the budget that is enough are those of [`remove`].
+pub fn remove_entry(
+    slots: &Slots<Entries>,
+    pass: &mut Pass,
+    key: u64,
+    budget: u32,
+) -> Result<Option<u64>, Refusal>
+    requires own { IsOf pass.old.trace slots.now }
+    requires empty_hand { pass.old.hand ≡ None }
+    ensures { CallsRemove pass.old pass.new key budget result }
+{
+    pass.during(
+        |pass|
+            requires own { IsOf pass.old.trace slots.now }
+            requires empty_hand { pass.old.hand ≡ None }
+        { remove_value(&mut AtTable { slots, pass }, key, budget) },
+    )
+}
+
+// As `remove_entry`, where no step is counted; and how many steps were made.
+fn remove_value(
+    at: &mut AtTable<'_, Entries>,
+    key: u64,
+    budget: u32,
+) -> (Result<Option<u64>, Refusal>, u32)
+    requires empty_hand { (pass_of at.old).hand ≡ None }
+    ensures table { IsSameTable at.old at.new }
+    ensures took { Took (trace_of at.old) (trace_of at.new) result.1 }
+    ensures calls { CallsRemove (pass_of at.old) (pass_of at.new) key budget result.0 }
+{
+    at.law();
+    at.slots.kind();
+    remove_by(at, key, budget)
+}
+
+// The remove of a key, with its value where nodes have values; and how many steps were made.
+fn remove_by<N: Nodes>(
+    at: &mut AtTable<'_, N>,
+    key: u64,
+    budget: u32,
+) -> (Result<Option<u64>, Refusal>, u32)
+    requires empty_hand { (pass_of at.old).hand ≡ None }
+    ensures table { IsSameTable at.old at.new }
+    ensures took { Took (trace_of at.old) (trace_of at.new) result.1 }
+    ensures calls { CallsAs (given_in (trace_of at.old) Remove key)
+        (SparesRemove is_some (pass_of at.old) (pass_of at.new) key budget)
+        (pass_of at.old) (pass_of at.new) budget result.0 }
 {
     at.law();
     let mut call = Call {
@@ -173,8 +236,8 @@ fn remove_by(at: &mut AtTable<'_>, key: u64, budget: u32) -> (Result<bool, Refus
         if !affords(call.budget, call.used) {
             return (Err(Refusal::OutOfSteps { used: call.used }), call.used);
         }
-        if let Ok(reply) = call.settle_remove(&found) {
-            return (Ok(reply), call.used);
+        if let Ok(answer) = call.settle_remove(&found) {
+            return (Ok(answer), call.used);
         }
     }
 }

@@ -13,7 +13,7 @@ use crate::helping::help_by_copy;
 use vbr_access::uncounted::{checkpoint, first, key_of, next};
 use vbr_access::{Held, Marked, Rollback};
 use vbr_pools::budget::affords;
-use vbr_words::decode;
+use vbr_words::{Nodes, decode};
 
 /// What a visit comes to behind a place.
 #[derive(Clone, Copy)]
@@ -35,7 +35,7 @@ pub(crate) enum Stop {
     Tired,
 }
 
-impl Call<'_> {
+impl<N: Nodes> Call<'_, N> {
     // Starts at the head of the bucket, in three steps.
     #[inline(always)]
     pub(crate) fn start(&mut self) -> Result<Held, Rollback>

@@ -5,6 +5,8 @@
 #[cfg(test)]
 mod access;
 #[cfg(test)]
+mod entries;
+#[cfg(test)]
 mod flag_words;
 #[cfg(test)]
 mod list;

@@ -20,7 +20,7 @@ use Rattle.vbr_list.proofs.Reaching.{helped, retired_keeps}
 use Rattle.vbr_list.proofs.helping.unlink_and_retire.Goals as goal
 
 pub returns-in-Ok-clause-goes : goal.returns-in-Ok-clause-goes
-returns-in-Ok-clause-goes c = λ used.
+returns-in-Ok-clause-goes g c = λ used.
     let a = c.unlink-outcome.ensures in
     let b = c.retire.ensures.retires in
     let q = c.unlink-outcome.new.at.pass.now in
@@ -34,7 +34,7 @@ returns-in-Ok-clause-goes c = λ used.
     })
 
 pub returns-in-Ok-clause-unlinks : goal.returns-in-Ok-clause-unlinks
-returns-in-Ok-clause-unlinks c =
+returns-in-Ok-clause-unlinks g c =
     let p = c.args.at.now.pass.now in
     let q = c.unlink-outcome.new.at.pass.now in
     let r = c.retire.new.at.pass.now in

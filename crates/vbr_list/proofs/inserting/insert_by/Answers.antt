@@ -1,7 +1,6 @@
-use Rattle.std.proofs.Common.{rules, ap, ℕ, subst, ◌≡◌, ◌+◌, ◌*◌, ◌<◌, [], arith}
+use Rattle.std.proofs.Common.{rules, ap, false, ℕ, subst, ◌≡◌, ◌+◌, ◌*◌, ◌<◌, [], arith}
 use Rattle.std.specs.Prelude.{IfOk}
 use Rattle.vbr_words.specs.Dimensions.{Dimensions}
-use Rattle.vbr_machine.specs.History.{set_call}
 use Rattle.vbr_machine.specs.declared.history.Op.TheVariants.{Insert}
 use Rattle.vbr_slots.specs.Calls.{Made, Quiet}
 use Rattle.vbr_slots.proofs.Lemmas.{alone_first, alone_then, quiet_on, same_on}
@@ -16,17 +15,19 @@ use Rattle.vbr_list.proofs.Going.{bucket_is, ok_as}
 use Rattle.vbr_list.proofs.Sufficing.{answered_or_spent, each_error, lacks, never_refused, no_more_listed}
 use Rattle.vbr_list.proofs.LonePasses.{alone, each_alone}
 use Rattle.vbr_list.proofs.Preparing.{each_same, each_seen, each_since, refused_first, refused_second, within_all, within_on}
+use Rattle.vbr_list.specs.Told.{stored_in}
+use Rattle.vbr_list.proofs.Told.{stored_same, told_as, told_bare}
 use Rattle.vbr_list.proofs.inserting.insert_by.Goals as goal
 
 pub invariant_of-call-2 : goal.invariant_of-call-2
-invariant_of-call-2 c = record {
+invariant_of-call-2 g c = record {
   of_key = bucket_is c.args.at.now.pass.now.trace.shape _ c.shape.result c.bucket_of.result c.args.key c.args.at.now.own.1 c.shape.ensures.bare c.bucket_of.ensures.bucket;
   in_shape = let same = ap (λ (d : Dimensions). d.buckets) c.shape.ensures.bare in let low = c.bucket_of.ensures.in_shape in omega (arith, same, low);
   within = omega arith;
 }
 
 pub returns-in-Err-clause-calls : goal.returns-in-Err-clause-calls
-returns-in-Err-clause-calls c =
+returns-in-Err-clause-calls g c =
     let same : c.at-1.given.0 ≡ c.prepare.new.self.at.pass.now = search rules in
     rw same (record {
       same = search rules;
@@ -47,11 +48,11 @@ returns-in-Err-clause-calls c =
     })
 
 pub returns-in-Ok-None-clause-calls : goal.returns-in-Ok-None-clause-calls
-returns-in-Ok-None-clause-calls c =
+returns-in-Ok-None-clause-calls g c =
     let same : c.at-in-Ok-None-1.given.0 ≡ c.prepare.new.self.at.pass.now = search rules in
     rw same (record {
       same = search rules;
-      made = search rules;
+      made = told_as (told_bare c.args.at.now.pass.now.trace.shape c.args.at.now.pass.now.trace.who Insert c.args.key false) (rw c.in-Ok-None.field-0-is at c.in-Ok-None.ensures.prepared.is).0;
       alone = (let x = rw c.in-Ok-None.field-0-is at c.in-Ok-None.ensures.prepared.is in
           alone c.law.ensures.shape c.law.ensures.low x.0);
       quiet = tt;
@@ -69,7 +70,7 @@ returns-in-Ok-None-clause-calls c =
     })
 
 pub returns-in-Ok-Some-clause-calls : goal.returns-in-Ok-Some-clause-calls
-returns-in-Ok-Some-clause-calls c =
+returns-in-Ok-Some-clause-calls g c =
     let same : c.at-in-Ok-Some-1.given.0 ≡ c.link.new.self.at.pass.now = search rules in
     let p = c.args.at.now.pass.now in
     let q = c.prepare.new.self.at.pass.now in
@@ -78,13 +79,13 @@ returns-in-Ok-Some-clause-calls c =
     let call = c.prepare.ensures.prepares.call in
     let d = c.prepare.new.self in
     let e = c.link.new.self in
-    let made : IfOk c.link.result (λ reply. Made (set_call q.trace.who Insert c.args.key reply) q.trace r.trace) = ok_as c.link.result (λ reply x. rw call.key at x) c.link.ensures.made in
+    let made : IfOk c.link.result (λ reply. Made (stored_in q.trace c.args.key c.args.value reply) q.trace r.trace) = ok_as c.link.result (λ reply x. rw call.key at x) c.link.ensures.made in
     let counts = rw call.budget at c.link.ensures.links.counts in
     let quiet = each_error (LinksNone d e) (λ refusal. Quiet q.trace r.trace) c.link.result (λ refusal none. none.quiet) c.link.ensures.refused in
     let refused = each_error (LinksNone d e) (λ refusal. InsertIsShort q r d.used c.args.budget refusal) c.link.result (λ refusal none. let P : ℕ → Type 0 = λ b. InsertIsShort q r d.used b refusal in subst P call.budget none.says) c.link.ensures.refused in
     let short = each_error (LinksNone d e) (λ refusal. IsAlone q.trace r.trace → c.args.budget < d.used + enough_to_search q.trace c.args.key) c.link.result (λ refusal none alone. let less : d.budget < d.used + enough_to_search q.trace d.key = none.short alone in rw (call.key, call.budget) at less) c.link.ensures.refused in
-    let since = each_since p.trace q.trace r.trace Insert c.args.key c.link.result first made in
-    let more = each_seen q.trace r.trace Insert c.args.key c.link.result made quiet in
+    let since = each_since p.trace q.trace r.trace (stored_in q.trace c.args.key c.args.value) (stored_in p.trace c.args.key c.args.value) c.link.result first (stored_same first.same c.args.key c.args.value) made in
+    let more = each_seen q.trace r.trace (stored_in q.trace c.args.key c.args.value) c.link.result made quiet in
     let n = listed_for p.trace c.args.key in
     let most = most_to_take p.trace.shape p.pool in
     let within = each_error (λ refusal. IsAlone q.trace r.trace → c.args.budget < d.used + enough_to_search q.trace c.args.key) (λ refusal. IsAlone p.trace r.trace → LacksSteps (18 * n + most + 14) c.args.budget refusal) c.link.result
@@ -95,9 +96,9 @@ returns-in-Ok-Some-clause-calls c =
     lacks (18 * n + most + 14) c.args.budget refusal (omega (arith, u, v, w))))
     short in
     rw same (record {
-      same = same_on first.same (each_same q.trace r.trace Insert c.args.key c.link.result made quiet);
+      same = same_on first.same (each_same q.trace r.trace (stored_in q.trace c.args.key c.args.value) c.link.result made quiet);
       made = since;
-      alone = each_alone p.trace r.trace Insert c.args.key c.link.result c.law.ensures.shape c.law.ensures.low since;
+      alone = each_alone p.trace r.trace (stored_in p.trace c.args.key c.args.value) c.link.result c.law.ensures.shape c.law.ensures.low since;
       quiet = each_error (λ refusal. Quiet q.trace r.trace) (λ refusal. Quiet p.trace r.trace) c.link.result (λ refusal later. quiet_on first later) quiet;
       hand = search rules;
       steps = within_all (within_on c.prepare.ensures.prepares.counts counts.counts counts.within.0 counts.within.1);

@@ -1,59 +1,64 @@
-use Rattle.std.proofs.Common.{rules, ◌≡◌, ◌+◌, ◌*◌, ◌<◌, ◌≤◌, true, false, refl, sym, ◌∙◌, arith, inr, ap}
-use Rattle.vbr_machine.specs.History.{set_call}
-use Rattle.vbr_machine.specs.declared.history.Op.TheVariants.{Has}
+use Rattle.std.proofs.Common.{rules, ◌≡◌, ◌+◌, ◌*◌, ◌<◌, ◌≤◌, true, false, refl, sym, ◌∙◌, arith, inr, ap, subst}
 use Rattle.vbr_slots.proofs.Lemmas.{alone_first, answer_on, loads_on, quiet_on, same_on}
 use Rattle.vbr_pools.proofs.Lemmas.{counts_on, none_on, took_all}
 use Rattle.vbr_words.specs.Dimensions.{Dimensions}
-use Rattle.vbr_list.proofs.Going.{bucket_is, call_on, call_refl, counts_step, goes_on, goes_step, within_call, within_of}
+use Rattle.vbr_list.proofs.Going.{bucket_is, call_on, call_refl, goes_on, within_call, within_of}
 use Rattle.vbr_list.proofs.Observing.{observed, observes_on}
-use Rattle.vbr_list.specs.Budgets.{enough_to_look_up, listed_for, look_up_costs}
+use Rattle.vbr_list.specs.Budgets.{answer_costs, enough_to_look_up, listed_for}
+use Rattle.vbr_list.specs.Told.{given_call, kept_call, look_up_op}
+use Rattle.vbr_slots.specs.Calls.{AddsAnswer}
 use Rattle.vbr_list.proofs.Nearing.{at_first, first_lost, first_of, then_of}
 use Rattle.vbr_list.proofs.Passing.{peeks_on, peeks_refl}
 use Rattle.vbr_list.proofs.LonePasses.{alone}
-use Rattle.vbr_list.proofs.Preparing.{made_since}
+use Rattle.vbr_list.proofs.Sights.{costs_enough}
+use Rattle.vbr_list.proofs.Told.{given_same, told_since}
 use Rattle.vbr_list.proofs.looking_up.look_up.Goals as goal
 
+pub settle_look_up-requires-clause-asked : goal.settle_look_up-requires-clause-asked
+settle_look_up-requires-clause-asked g c = λ gives. ap (λ (d : Dimensions). d.values) (quiet_on c.loop-sight.invariant.3.tries.goes.quiet c.look.ensures.goes.goes.quiet).same.shape ∙ c.requires.asked gives
+
 pub loop-sight-preserved : goal.loop-sight-preserved
-loop-sight-preserved c =
-    let fits = c.if-not-affords.ensures in
+loop-sight-preserved g c =
     let before = peeks_on c.loop-sight.invariant.3 c.look.ensures.goes.goes c.look.ensures.observes c.look.ensures.goes.more (rw c.loop-sight.invariant.2 at (within_call (call_on c.loop-sight.invariant.0 c.look.ensures.goes.call))) in
+    let s = c.settle_look_up.ensures.settles in
     let a = c.look.ensures.goes.goes.quiet in
-    let b = c.in_default-settle_look_up.ensures.rolls.quiet in (
-      call_on (call_on c.loop-sight.invariant.0 c.look.ensures.goes.call) c.settle_look_up.ensures.call,
+    let b = c.in_default-settle_look_up.ensures.rolls.quiet in
+    let same = call_on (call_on c.loop-sight.invariant.0 c.look.ensures.goes.call) s.call in (
+      same,
       c.loop-sight.invariant.1,
       c.loop-sight.invariant.2,
-      rw c.settle_look_up.ensures.used (peeks_on before (goes_step c.look.new.self.used 1 b c.settle_look_up.ensures.keeps.took c.settle_look_up.ensures.keeps.own c.settle_look_up.ensures.keeps.takes_no_slot) (observed c.settle_look_up.ensures.only_loads c.in_default-settle_look_up.ensures.rolls.adds_none) (omega arith) (let e = (c.look.ensures.goes.call.budget ∙ c.loop-sight.invariant.0.budget ∙ c.loop-sight.invariant.2) in omega (arith, fits, e))),
+      peeks_on before (record { quiet = b; counts = s.counts; hand = s.hand }) (observed c.settle_look_up.ensures.only_loads c.in_default-settle_look_up.ensures.rolls.adds_none) (let low = s.more in omega (arith, low)) (rw c.loop-sight.invariant.2 at (within_call same)),
       first_lost c.args.at.now.pass.now c.loop-sight.call.at.pass.now c.settle_look_up.new.self.at.pass.now c.loop-sight.invariant.4 c.loop-sight.invariant.3.tries.goes.quiet (quiet_on a b)
-          (λ alone. c.in_default-settle_look_up.ensures.rolls.wins (c.in-Some.ensures.sight.alone (first_of a b alone)).stands (then_of a b alone)),
+          (λ alone. let sight = c.in-Some.ensures.sight.alone (first_of a b alone) in c.in_default-settle_look_up.ensures.rolls.wins sight.fresh sight.stands (then_of a b alone)),
     )
 
 pub loop-sight-init : goal.loop-sight-init
-loop-sight-init c = (call_refl _, refl, refl, peeks_refl c.args.at.now.pass.now 0 c.args.budget (omega arith), inr (refl, refl))
+loop-sight-init g c = (call_refl _, refl, refl, peeks_refl c.args.at.now.pass.now 0 c.args.budget (omega arith), inr (refl, refl))
 
 pub invariant_of-call-2 : goal.invariant_of-call-2
-invariant_of-call-2 c = record {
+invariant_of-call-2 g c = record {
   of_key = bucket_is c.args.at.now.pass.now.trace.shape _ c.shape.result c.bucket_of.result c.args.key c.args.at.now.own.1 c.shape.ensures.bare c.bucket_of.ensures.bucket;
   in_shape = let same = ap (λ (d : Dimensions). d.buckets) c.shape.ensures.bare in let low = c.bucket_of.ensures.in_shape in omega (arith, same, low);
   within = omega arith;
 }
 
 pub returns-in_default-clause-took : goal.returns-in_default-clause-took
-returns-in_default-clause-took c =
+returns-in_default-clause-took g c =
     let same : c.at-1.given.0 ≡ c.look.new.self.at.pass.now = search rules in
     rw same (took_all (goes_on c.loop-sight.invariant.3.tries.goes c.look.ensures.goes.goes).counts)
 
 pub returns-then-not-affords-clause-took : goal.returns-then-not-affords-clause-took
-returns-then-not-affords-clause-took c =
+returns-then-not-affords-clause-took g c =
     let same : c.at-then-not-affords-1.given.0 ≡ c.look.new.self.at.pass.now = search rules in
     rw same (took_all (goes_on c.loop-sight.invariant.3.tries.goes c.look.ensures.goes.goes).counts)
 
 pub returns-in-Ok-clause-took : goal.returns-in-Ok-clause-took
-returns-in-Ok-clause-took c =
+returns-in-Ok-clause-took g c =
     let same : c.at-in-Ok-1.given.0 ≡ c.settle_look_up.new.self.at.pass.now = search rules in
-    rw (same, c.settle_look_up.ensures.used) (took_all (counts_on (goes_on c.loop-sight.invariant.3.tries.goes c.look.ensures.goes.goes).counts (counts_step c.look.new.self.used 1 c.settle_look_up.ensures.keeps.took)))
+    rw same (took_all (counts_on (goes_on c.loop-sight.invariant.3.tries.goes c.look.ensures.goes.goes).counts c.settle_look_up.ensures.settles.counts))
 
 pub returns-in_default-clause-calls : goal.returns-in_default-clause-calls
-returns-in_default-clause-calls c =
+returns-in_default-clause-calls g c =
     let same : c.at-1.given.0 ≡ c.look.new.self.at.pass.now = search rules in
     rw same (record {
       same = (quiet_on c.loop-sight.invariant.3.tries.goes.quiet c.look.ensures.goes.goes.quiet).same;
@@ -80,7 +85,7 @@ returns-in_default-clause-calls c =
     })
 
 pub returns-then-not-affords-clause-calls : goal.returns-then-not-affords-clause-calls
-returns-then-not-affords-clause-calls c =
+returns-then-not-affords-clause-calls g c =
     let same : c.at-then-not-affords-1.given.0 ≡ c.look.new.self.at.pass.now = search rules in
     rw same (record {
       same = (quiet_on c.loop-sight.invariant.3.tries.goes.quiet c.look.ensures.goes.goes.quiet).same;
@@ -105,32 +110,38 @@ returns-then-not-affords-clause-calls c =
     })
 
 pub returns-in-Ok-clause-calls : goal.returns-in-Ok-clause-calls
-returns-in-Ok-clause-calls c =
+returns-in-Ok-clause-calls g c =
     let same : c.at-in-Ok-1.given.0 ≡ c.settle_look_up.new.self.at.pass.now = search rules in
+    let p = c.args.at.now.pass.now in
+    let q = c.look.new.self.at.pass.now in
+    let r = c.settle_look_up.new.self.at.pass.now in
+    let op = look_up_op c.args.gives in
+    let first = quiet_on c.loop-sight.invariant.3.tries.goes.quiet c.look.ensures.goes.goes.quiet in
+    let call = call_on (call_on c.loop-sight.invariant.0 c.look.ensures.goes.call) c.settle_look_up.ensures.settles.call in
+    let key = c.look.ensures.goes.call.key ∙ c.loop-sight.invariant.0.key ∙ c.loop-sight.invariant.1 in
+    let answered = rw key at c.in-Ok.ensures.answers.made in
+    let made = told_since first (given_same first.same op c.args.key c.in-Ok.answer) answered in
+    let before = observes_on c.loop-sight.invariant.3.observes c.look.ensures.observes in
+    let counts = counts_on (goes_on c.loop-sight.invariant.3.tries.goes c.look.ensures.goes.goes).counts c.settle_look_up.ensures.settles.counts in
+    let S : Dimensions → Type 0 = λ shape. AddsAnswer (kept_call shape (given_call q.trace.who op c.args.key c.in-Ok.answer)) q.trace r.trace in
     rw same (record {
-      same = same_on (quiet_on c.loop-sight.invariant.3.tries.goes.quiet c.look.ensures.goes.goes.quiet).same c.in-Ok.ensures.answers.made.same;
-      made = made_since (quiet_on c.loop-sight.invariant.3.tries.goes.quiet c.look.ensures.goes.goes.quiet) (rw (c.look.ensures.goes.call.key ∙ c.loop-sight.invariant.0.key ∙ c.loop-sight.invariant.1) at c.in-Ok.ensures.answers.made);
-      alone = alone c.law.ensures.shape c.law.ensures.low (made_since (quiet_on c.loop-sight.invariant.3.tries.goes.quiet c.look.ensures.goes.goes.quiet) (rw (c.look.ensures.goes.call.key ∙ c.loop-sight.invariant.0.key ∙ c.loop-sight.invariant.1) at c.in-Ok.ensures.answers.made));
+      same = same_on first.same answered.same;
+      made = made;
+      alone = alone c.law.ensures.shape c.law.ensures.low made;
       quiet = tt;
       hand = search rules;
-      steps = (let fits = c.if-not-affords.ensures in
-          let e = (c.look.ensures.goes.call.budget ∙ c.loop-sight.invariant.0.budget ∙ c.loop-sight.invariant.2) in
-          within_of (c.look.new.self.used + 1) c.args.budget (omega (arith, fits, e)) (counts_on (goes_on c.loop-sight.invariant.3.tries.goes c.look.ensures.goes.goes).counts (counts_step c.look.new.self.used 1 c.settle_look_up.ensures.keeps.took)));
+      steps = within_of c.settle_look_up.new.self.used c.args.budget (rw c.loop-sight.invariant.2 at (within_call call)) counts;
       spares = record {
-        only_loads = (let before = observes_on c.loop-sight.invariant.3.observes c.look.ensures.observes in
-            loads_on before.only_loads c.settle_look_up.ensures.only_loads);
-        adds = (let before = observes_on c.loop-sight.invariant.3.observes c.look.ensures.observes in
-            let same = (quiet_on c.loop-sight.invariant.3.tries.goes.quiet c.look.ensures.goes.goes.quiet).same in
-            answer_on (λ who. (set_call who Has c.args.key c.in-Ok.reply)) same before.adds_none (rw (c.look.ensures.goes.call.key ∙ c.loop-sight.invariant.0.key ∙ c.loop-sight.invariant.1) at c.in-Ok.ensures.answers.adds));
+        only_loads = loads_on before.only_loads c.settle_look_up.ensures.only_loads;
+        adds = answer_on (λ who. kept_call p.trace.shape (given_call who op c.args.key c.in-Ok.answer)) first.same before.adds_none (subst S first.same.shape (rw key at c.in-Ok.ensures.answers.adds));
         adds_none = tt;
-        takes_no_slot = none_on (goes_on c.loop-sight.invariant.3.tries.goes c.look.ensures.goes.goes).hand.takes_no_slot c.settle_look_up.ensures.keeps.takes_no_slot;
+        takes_no_slot = none_on (goes_on c.loop-sight.invariant.3.tries.goes c.look.ensures.goes.goes).hand.takes_no_slot c.settle_look_up.ensures.settles.hand.takes_no_slot;
         refused = tt;
         within = tt;
         costs = (λ whole.
-            let first = quiet_on c.loop-sight.invariant.3.tries.goes.quiet c.look.ensures.goes.goes.quiet in
-            let alone = alone_first first.seen c.in-Ok.ensures.answers.made.seen whole in
-            let x : c.look.new.self.used ≤ 0 + 3 + 5 * listed_for c.args.at.now.pass.now.trace c.args.key = at_first (λ q since. c.look.new.self.used ≤ since + 3 + 5 * listed_for q.trace c.args.key) c.args.at.now.pass.now c.loop-sight.call.at.pass.now c.look.new.self.at.pass.now c.loop-sight.invariant.4 c.loop-sight.invariant.3.tries.goes.quiet c.look.ensures.goes.goes.quiet alone
+            let alone = alone_first first.seen answered.seen whole in
+            let x : c.look.new.self.used ≤ 0 + 3 + 5 * listed_for p.trace c.args.key = at_first (λ q since. c.look.new.self.used ≤ since + 3 + 5 * listed_for q.trace c.args.key) p c.loop-sight.call.at.pass.now q c.loop-sight.invariant.4 c.loop-sight.invariant.3.tries.goes.quiet c.look.ensures.goes.goes.quiet alone
             (λ then. (rw (c.loop-sight.invariant.0.key ∙ c.loop-sight.invariant.1) at c.in-Some.ensures.sight.alone then).paid) in
-            within_of (c.look.new.self.used + 1) (look_up_costs c.args.at.now.pass.now.trace c.args.key) (omega (arith, x)) (counts_on (goes_on c.loop-sight.invariant.3.tries.goes c.look.ensures.goes.goes).counts (counts_step c.look.new.self.used 1 c.settle_look_up.ensures.keeps.took)));
+            within_of c.settle_look_up.new.self.used (answer_costs c.args.gives p.trace c.args.key) (costs_enough c.args.gives p.trace c.args.key c.look.new.self.used c.settle_look_up.new.self.used (omega (arith, x)) c.settle_look_up.ensures.few) counts);
       };
     })

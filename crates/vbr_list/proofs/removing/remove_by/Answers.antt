@@ -8,11 +8,12 @@ use Rattle.vbr_list.proofs.LonePasses.{alone}
 use Rattle.std.proofs.Common.{◌≡◌, ◌+◌, ◌<◌, ◌≤◌, true, false}
 use Rattle.vbr_list.specs.Budgets.{enough_to_search}
 use Rattle.vbr_list.proofs.Nearing.{at_first, first_lost, first_of, then_of}
-use Rattle.vbr_list.proofs.Preparing.{made_since}
+use Rattle.vbr_machine.specs.declared.history.Op.TheVariants.{Remove}
+use Rattle.vbr_list.proofs.Told.{given_same, told_since}
 use Rattle.vbr_list.proofs.removing.remove_by.Goals as goal
 
 pub loop-found-preserved : goal.loop-found-preserved
-loop-found-preserved c =
+loop-found-preserved g c =
     let s = c.settle_remove.ensures.settles in
     let found = tries_on c.loop-found.invariant.3 c.search.ensures.goes.goes c.search.ensures.goes.more (rw c.loop-found.invariant.2 at (within_call (call_on c.loop-found.invariant.0 c.search.ensures.goes.call))) in
     let a = c.search.ensures.goes.goes.quiet in
@@ -23,33 +24,33 @@ loop-found-preserved c =
       c.loop-found.invariant.2,
       tries_on found (record { quiet = c.in_default-settle_remove.ensures.rolls.quiet; counts = s.counts; hand = s.hand }) (let low = c.settle_remove.ensures.settles.more in omega (arith, low)) (rw c.loop-found.invariant.2 at (within_call same)),
       first_lost c.args.at.now.pass.now c.loop-found.call.at.pass.now c.settle_remove.new.self.at.pass.now c.loop-found.invariant.4 c.loop-found.invariant.3.goes.quiet (quiet_on a b)
-          (λ alone. let f = c.in-Some.ensures.found.alone (first_of a b alone) in c.in_default-settle_remove.ensures.rolls.wins f.pred.stands f.cur (then_of a b alone)),
+          (λ alone. let f = c.in-Some.ensures.found.alone (first_of a b alone) in c.in_default-settle_remove.ensures.rolls.wins f.pred.fresh f.pred.stands f.cur (then_of a b alone)),
     )
 
 pub invariant_of-call-2 : goal.invariant_of-call-2
-invariant_of-call-2 c = record {
+invariant_of-call-2 g c = record {
   of_key = bucket_is c.args.at.now.pass.now.trace.shape _ c.shape.result c.bucket_of.result c.args.key c.args.at.now.own.1 c.shape.ensures.bare c.bucket_of.ensures.bucket;
   in_shape = let same = ap (λ (d : Dimensions). d.buckets) c.shape.ensures.bare in let low = c.bucket_of.ensures.in_shape in omega (arith, same, low);
   within = omega arith;
 }
 
 pub returns-in_default-clause-took : goal.returns-in_default-clause-took
-returns-in_default-clause-took c =
+returns-in_default-clause-took g c =
     let same : c.at-1.given.0 ≡ c.search.new.self.at.pass.now = search rules in
     rw same (took_all (goes_on c.loop-found.invariant.3.goes c.search.ensures.goes.goes).counts)
 
 pub returns-then-not-affords-clause-took : goal.returns-then-not-affords-clause-took
-returns-then-not-affords-clause-took c =
+returns-then-not-affords-clause-took g c =
     let same : c.at-then-not-affords-1.given.0 ≡ c.search.new.self.at.pass.now = search rules in
     rw same (took_all (goes_on c.loop-found.invariant.3.goes c.search.ensures.goes.goes).counts)
 
 pub returns-in-Ok-clause-took : goal.returns-in-Ok-clause-took
-returns-in-Ok-clause-took c =
+returns-in-Ok-clause-took g c =
     let same : c.at-in-Ok-1.given.0 ≡ c.settle_remove.new.self.at.pass.now = search rules in
     rw same (took_all (counts_on (goes_on c.loop-found.invariant.3.goes c.search.ensures.goes.goes).counts c.settle_remove.ensures.settles.counts))
 
 pub returns-in_default-clause-calls : goal.returns-in_default-clause-calls
-returns-in_default-clause-calls c =
+returns-in_default-clause-calls g c =
     let same : c.at-1.given.0 ≡ c.search.new.self.at.pass.now = search rules in
     rw same (record {
       same = (quiet_on c.loop-found.invariant.3.goes.quiet c.search.ensures.goes.goes.quiet).same;
@@ -73,7 +74,7 @@ returns-in_default-clause-calls c =
     })
 
 pub returns-then-not-affords-clause-calls : goal.returns-then-not-affords-clause-calls
-returns-then-not-affords-clause-calls c =
+returns-then-not-affords-clause-calls g c =
     let same : c.at-then-not-affords-1.given.0 ≡ c.search.new.self.at.pass.now = search rules in
     rw same (record {
       same = (quiet_on c.loop-found.invariant.3.goes.quiet c.search.ensures.goes.goes.quiet).same;
@@ -95,12 +96,12 @@ returns-then-not-affords-clause-calls c =
     })
 
 pub returns-in-Ok-clause-calls : goal.returns-in-Ok-clause-calls
-returns-in-Ok-clause-calls c =
+returns-in-Ok-clause-calls g c =
     let same : c.at-in-Ok-1.given.0 ≡ c.settle_remove.new.self.at.pass.now = search rules in
     rw same (record {
       same = same_on (quiet_on c.loop-found.invariant.3.goes.quiet c.search.ensures.goes.goes.quiet).same c.in-Ok.ensures.answers.made.same;
-      made = made_since (quiet_on c.loop-found.invariant.3.goes.quiet c.search.ensures.goes.goes.quiet) (rw (c.search.ensures.goes.call.key ∙ c.loop-found.invariant.0.key ∙ c.loop-found.invariant.1) at c.in-Ok.ensures.answers.made);
-      alone = alone c.law.ensures.shape c.law.ensures.low (made_since (quiet_on c.loop-found.invariant.3.goes.quiet c.search.ensures.goes.goes.quiet) (rw (c.search.ensures.goes.call.key ∙ c.loop-found.invariant.0.key ∙ c.loop-found.invariant.1) at c.in-Ok.ensures.answers.made));
+      made = told_since (quiet_on c.loop-found.invariant.3.goes.quiet c.search.ensures.goes.goes.quiet) (given_same (quiet_on c.loop-found.invariant.3.goes.quiet c.search.ensures.goes.goes.quiet).same Remove c.args.key c.in-Ok.answer) (rw (c.search.ensures.goes.call.key ∙ c.loop-found.invariant.0.key ∙ c.loop-found.invariant.1) at c.in-Ok.ensures.answers.made);
+      alone = alone c.law.ensures.shape c.law.ensures.low (told_since (quiet_on c.loop-found.invariant.3.goes.quiet c.search.ensures.goes.goes.quiet) (given_same (quiet_on c.loop-found.invariant.3.goes.quiet c.search.ensures.goes.goes.quiet).same Remove c.args.key c.in-Ok.answer) (rw (c.search.ensures.goes.call.key ∙ c.loop-found.invariant.0.key ∙ c.loop-found.invariant.1) at c.in-Ok.ensures.answers.made));
       quiet = tt;
       hand = search rules;
       steps = within_of c.settle_remove.new.self.used c.args.budget (rw c.loop-found.invariant.2 at (within_call (call_on (call_on c.loop-found.invariant.0 c.search.ensures.goes.call) c.settle_remove.ensures.settles.call))) (counts_on (goes_on c.loop-found.invariant.3.goes c.search.ensures.goes.goes).counts c.settle_remove.ensures.settles.counts);

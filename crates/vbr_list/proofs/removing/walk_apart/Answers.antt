@@ -5,14 +5,14 @@ use Rattle.vbr_list.proofs.Going.{bucket_is}
 use Rattle.vbr_list.proofs.removing.walk_apart.Goals as goal
 
 pub invariant_of-call-2 : goal.invariant_of-call-2
-invariant_of-call-2 c = record {
+invariant_of-call-2 g c = record {
   of_key = bucket_is c.args.at.now.pass.now.trace.shape _ c.shape.result c.bucket_of.result c.args.key c.args.at.now.own.1 c.shape.ensures.bare c.bucket_of.ensures.bucket;
   in_shape = let same = ap (λ (d : Dimensions). d.buckets) c.shape.ensures.bare in let low = c.bucket_of.ensures.in_shape in omega (arith, same, low);
   within = omega arith;
 }
 
 pub returns : goal.returns
-returns c =
+returns g c =
     let same : c.at-1.given.0 ≡ c.search.new.self.at.pass.now = search rules in
     record {
       table = search rules;

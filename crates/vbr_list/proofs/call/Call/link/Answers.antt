@@ -7,11 +7,12 @@ use Rattle.vbr_pools.proofs.Lemmas.{had_back, had_grown, had_on, had_then, no_ro
 use Rattle.vbr_list.specs.Budgets.{enough_to_search}
 use Rattle.vbr_list.proofs.Going.{call_on, within_call}
 use Rattle.vbr_list.proofs.Nearing.{at_first, first_lost, first_of, then_of}
-use Rattle.vbr_list.proofs.Preparing.{made_since, within_on, within_same}
+use Rattle.vbr_list.proofs.Preparing.{within_on, within_same}
+use Rattle.vbr_list.proofs.Told.{stored_same, told_since}
 use Rattle.vbr_list.proofs.call.Call.link.Goals as goal
 
 pub loop-found-preserved : goal.loop-found-preserved
-loop-found-preserved c =
+loop-found-preserved g c =
     let s = c.search.ensures.goes in
     let back = c.in-Err.ensures.back in
     let more = c.settle_insert.ensures.publishes in
@@ -32,7 +33,7 @@ loop-found-preserved c =
     )
 
 pub returns-in_default-clause-links : goal.returns-in_default-clause-links
-returns-in_default-clause-links c =
+returns-in_default-clause-links g c =
     let s = c.search.ensures.goes in
     let begun = call_on c.loop-found.invariant.0 s.call in
     record {
@@ -43,13 +44,13 @@ returns-in_default-clause-links c =
     }
 
 pub returns-in_default-clause-had : goal.returns-in_default-clause-had
-returns-in_default-clause-had c =
+returns-in_default-clause-had g c =
     let s = c.search.ensures.goes.goes.hand in
     let q = c.search.new.self.at.pass.now in
     had_on c.args.self.now.at.pass.now q c.give_back.new.at.pass.now (had_on c.args.self.now.at.pass.now c.loop-found.self.at.pass.now q c.loop-found.invariant.5 (had_grown c.loop-found.self.at.pass.now q s.takes_no_slot.grows s.hand)) (had_back q c.give_back.new.at.pass.now c.loop-found.hand.slot (s.hand ∙ c.loop-found.invariant.4.is.slot) c.give_back.ensures.back.pool)
 
 pub returns-then-not-affords-clause-links : goal.returns-then-not-affords-clause-links
-returns-then-not-affords-clause-links c =
+returns-then-not-affords-clause-links g c =
     let s = c.search.ensures.goes in
     let begun = call_on c.loop-found.invariant.0 s.call in
     record {
@@ -60,13 +61,13 @@ returns-then-not-affords-clause-links c =
     }
 
 pub returns-then-not-affords-clause-had : goal.returns-then-not-affords-clause-had
-returns-then-not-affords-clause-had c =
+returns-then-not-affords-clause-had g c =
     let s = c.search.ensures.goes.goes.hand in
     let q = c.search.new.self.at.pass.now in
     had_on c.args.self.now.at.pass.now q c.give_back-then-not-affords.new.at.pass.now (had_on c.args.self.now.at.pass.now c.loop-found.self.at.pass.now q c.loop-found.invariant.5 (had_grown c.loop-found.self.at.pass.now q s.takes_no_slot.grows s.hand)) (had_back q c.give_back-then-not-affords.new.at.pass.now c.loop-found.hand.slot (s.hand ∙ c.loop-found.invariant.4.is.slot) c.give_back-then-not-affords.ensures.back.pool)
 
 pub returns-in_default-clause-refused : goal.returns-in_default-clause-refused
-returns-in_default-clause-refused c =
+returns-in_default-clause-refused g c =
     let s = c.search.ensures.goes in
     let begun = call_on c.loop-found.invariant.0 s.call in
     let tired = c.in_default.ensures.tired in
@@ -79,7 +80,7 @@ returns-in_default-clause-refused c =
     }
 
 pub returns-then-not-affords-clause-refused : goal.returns-then-not-affords-clause-refused
-returns-then-not-affords-clause-refused c =
+returns-then-not-affords-clause-refused g c =
     let s = c.search.ensures.goes in
     let begun = call_on c.loop-found.invariant.0 s.call in
     let short = rw begun.budget at (no_room c.search.new.self.used c.search.new.self.budget c.affords.result c.if-not-affords.true c.affords.ensures.1) in
@@ -93,7 +94,7 @@ returns-then-not-affords-clause-refused c =
     }
 
 pub returns-in-Ok-clause-links : goal.returns-in-Ok-clause-links
-returns-in-Ok-clause-links c =
+returns-in-Ok-clause-links g c =
     let s = c.search.ensures.goes in
     let more = c.settle_insert.ensures.publishes in
     let begun = call_on c.loop-found.invariant.0 s.call in
@@ -107,11 +108,13 @@ returns-in-Ok-clause-links c =
     }
 
 pub returns-in-Ok-clause-had : goal.returns-in-Ok-clause-had
-returns-in-Ok-clause-had c =
+returns-in-Ok-clause-had g c =
     let s = c.search.ensures.goes.goes.hand in
     let q = c.search.new.self.at.pass.now in
     let then = had_then c.args.self.now.at.pass.now q c.settle_insert.new.self.at.pass.now c.settle_insert.result (had_on c.args.self.now.at.pass.now c.loop-found.self.at.pass.now q c.loop-found.invariant.5 (had_grown c.loop-found.self.at.pass.now q s.takes_no_slot.grows s.hand)) c.settle_insert.ensures.had in
     rw c.in-Ok.is at then
 
 pub returns-in-Ok-clause-made : goal.returns-in-Ok-clause-made
-returns-in-Ok-clause-made c = made_since (quiet_on c.loop-found.invariant.1 c.search.ensures.goes.goes.quiet) (rw (call_on c.loop-found.invariant.0 c.search.ensures.goes.call).key at c.in-Ok.ensures.answers.made)
+returns-in-Ok-clause-made g c =
+    let quiet = quiet_on c.loop-found.invariant.1 c.search.ensures.goes.goes.quiet in
+    told_since quiet (stored_same quiet.same c.args.self.now.key c.args.value c.in-Ok.reply) (rw (call_on c.loop-found.invariant.0 c.search.ensures.goes.call).key at c.in-Ok.ensures.answers.made)

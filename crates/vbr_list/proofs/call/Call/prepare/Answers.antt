@@ -14,7 +14,7 @@ use Rattle.vbr_list.proofs.Sufficing.{lacks_more, take_after, take_least}
 use Rattle.vbr_list.proofs.call.Call.prepare.Goals as goal
 
 pub loop-found-preserved : goal.loop-found-preserved
-loop-found-preserved c =
+loop-found-preserved g c =
     let s = c.search.ensures.goes in
     let d = c.deny.ensures in
     let fits = c.affords.ensures.0 c.if-not-affords.false in
@@ -28,35 +28,35 @@ loop-found-preserved c =
     )
 
 pub returns-in_default-clause-prepares : goal.returns-in_default-clause-prepares
-returns-in_default-clause-prepares c =
+returns-in_default-clause-prepares g c =
     let s = c.search.ensures.goes in
     let begun = goes_on c.loop-found.invariant.1.goes s.goes in
     let same = call_on c.loop-found.invariant.0 s.call in
     prepares_none c.args.self.now c.search.new.self same (within_on (within_tries c.loop-found.invariant.1) s.goes.counts s.more (within_call same)) begun.hand.takes_no_slot begun.hand.hand
 
 pub returns-then-not-affords-clause-prepares : goal.returns-then-not-affords-clause-prepares
-returns-then-not-affords-clause-prepares c =
+returns-then-not-affords-clause-prepares g c =
     let s = c.search.ensures.goes in
     let begun = goes_on c.loop-found.invariant.1.goes s.goes in
     let same = call_on c.loop-found.invariant.0 s.call in
     prepares_none c.args.self.now c.search.new.self same (within_on (within_tries c.loop-found.invariant.1) s.goes.counts s.more (within_call same)) begun.hand.takes_no_slot begun.hand.hand
 
 pub returns-in_err-hand-clause-prepares : goal.returns-in_err-hand-clause-prepares
-returns-in_err-hand-clause-prepares c =
+returns-in_err-hand-clause-prepares g c =
     let s = c.search.ensures.goes in
     let begun = goes_on c.loop-found.invariant.1.goes s.goes in
     let same = call_on c.loop-found.invariant.0 s.call in
     prepares_on c.args.self.now c.search.new.self c.provide.new.self same (within_on (within_tries c.loop-found.invariant.1) s.goes.counts s.more (within_call same)) begun.quiet begun.hand.takes_no_slot begun.hand.hand c.provide.ensures.one c.provide.ensures.prepares
 
 pub returns-then-not-found-clause-prepares : goal.returns-then-not-found-clause-prepares
-returns-then-not-found-clause-prepares c =
+returns-then-not-found-clause-prepares g c =
     let s = c.search.ensures.goes in
     let begun = goes_on c.loop-found.invariant.1.goes s.goes in
     let same = call_on c.loop-found.invariant.0 s.call in
     prepares_on c.args.self.now c.search.new.self c.provide.new.self same (within_on (within_tries c.loop-found.invariant.1) s.goes.counts s.more (within_call same)) begun.quiet begun.hand.takes_no_slot begun.hand.hand c.provide.ensures.one c.provide.ensures.prepares
 
 pub returns-then-is_ok-clause-prepares : goal.returns-then-is_ok-clause-prepares
-returns-then-is_ok-clause-prepares c =
+returns-then-is_ok-clause-prepares g c =
     let s = c.search.ensures.goes in
     let d = c.deny.ensures in
     let begun = goes_on c.loop-found.invariant.1.goes s.goes in
@@ -68,7 +68,7 @@ returns-then-is_ok-clause-prepares c =
     prepares_none c.args.self.now c.deny.new.self (call_on same d.call) (subst P (sym d.used) (within_on counts (counts_step c.search.new.self.used 1 d.keeps.took) (omega arith) (omega (arith, fits, budget)))) (none_on begun.hand.takes_no_slot d.keeps.takes_no_slot) (d.keeps.own.hand ∙ begun.hand.hand)
 
 pub returns-in_default-clause-refused : goal.returns-in_default-clause-refused
-returns-in_default-clause-refused c =
+returns-in_default-clause-refused g c =
     let s = c.search.ensures.goes in
     let begun = goes_on c.loop-found.invariant.1.goes s.goes in
     let same = call_on c.loop-found.invariant.0 s.call in
@@ -82,7 +82,7 @@ returns-in_default-clause-refused c =
     }
 
 pub returns-then-not-affords-clause-refused : goal.returns-then-not-affords-clause-refused
-returns-then-not-affords-clause-refused c =
+returns-then-not-affords-clause-refused g c =
     let s = c.search.ensures.goes in
     let begun = goes_on c.loop-found.invariant.1.goes s.goes in
     let same = call_on c.loop-found.invariant.0 s.call in
@@ -96,7 +96,7 @@ returns-then-not-affords-clause-refused c =
     }
 
 pub returns-in_err-hand-clause-refused : goal.returns-in_err-hand-clause-refused
-returns-in_err-hand-clause-refused c =
+returns-in_err-hand-clause-refused g c =
     let s = c.search.ensures.goes in
     let begun = goes_on c.loop-found.invariant.1.goes s.goes in
     let same = call_on c.loop-found.invariant.0 s.call in
@@ -123,7 +123,7 @@ returns-in_err-hand-clause-refused c =
     })
 
 pub returns-then-is_ok-clause-prepared : goal.returns-then-is_ok-clause-prepared
-returns-then-is_ok-clause-prepared c =
+returns-then-is_ok-clause-prepared g c =
     let s = c.search.ensures.goes in
     let d = c.deny.ensures in
     let begun = goes_on c.loop-found.invariant.1.goes s.goes in
@@ -136,7 +136,7 @@ returns-then-is_ok-clause-prepared c =
     }
 
 pub returns-then-not-found-clause-prepared : goal.returns-then-not-found-clause-prepared
-returns-then-not-found-clause-prepared c =
+returns-then-not-found-clause-prepared g c =
     let s = c.search.ensures.goes in
     let begun = goes_on c.loop-found.invariant.1.goes s.goes in
     let d = c.provide.ensures.quiet in

@@ -8,7 +8,7 @@ use Rattle.vbr_list.proofs.Preparing.{spent_rest}
 use Rattle.vbr_list.proofs.call.Call.provide.Goals as goal
 
 pub returns-in-Ok-clause-prepares : goal.returns-in-Ok-clause-prepares
-returns-in-Ok-clause-prepares c = record {
+returns-in-Ok-clause-prepares g c = record {
   call = search rules;
   counts = search rules;
   advances = search rules;
@@ -18,7 +18,7 @@ returns-in-Ok-clause-prepares c = record {
 }
 
 pub returns-in-EpochSpent-clause-refused : goal.returns-in-EpochSpent-clause-refused
-returns-in-EpochSpent-clause-refused c =
+returns-in-EpochSpent-clause-refused g c =
     let p = c.args.self.now.at.pass.now in
     let q = c.take-outcome.new.at.pass.now in
     let left = c.args.self.now.budget - c.args.self.now.used in

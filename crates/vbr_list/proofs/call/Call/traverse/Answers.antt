@@ -7,13 +7,13 @@ use Rattle.vbr_list.proofs.Reaching.{pred_inside, pred_on, stood_since, traverse
 use Rattle.vbr_list.proofs.call.Call.traverse.Goals as goal
 
 pub visit-requires-clause-pred : goal.visit-requires-clause-pred
-visit-requires-clause-pred c = rw c.loop-pred.invariant.0.key (pred_inside c.loop-pred.invariant.1.reached.is)
+visit-requires-clause-pred g c = rw c.loop-pred.invariant.0.key (pred_inside c.loop-pred.invariant.1.reached.is)
 
 pub help-requires-clause-pred : goal.help-requires-clause-pred
-help-requires-clause-pred c = rw (c.visit.ensures.goes.call.key, c.loop-pred.invariant.0.key) (pred_on c.args.self.now.key c.loop-pred.pred c.visit.ensures.goes.goes.quiet.same c.in-Ok-Marked.ensures.met.keeps c.loop-pred.invariant.1.reached.is)
+help-requires-clause-pred g c = rw (c.visit.ensures.goes.call.key, c.loop-pred.invariant.0.key) (pred_on c.args.self.now.key c.loop-pred.pred c.visit.ensures.goes.goes.quiet.same c.in-Ok-Marked.ensures.met.keeps c.loop-pred.invariant.1.reached.is)
 
 pub loop-pred-preserved : goal.loop-pred-preserved
-loop-pred-preserved c =
+loop-pred-preserved g c =
     let v = c.visit.ensures.goes in
     let met = rw c.in-Ok-Smaller.field-0-is at c.in-Ok-Smaller.ensures.met in
     let x = c.visit.ensures.used in
@@ -32,7 +32,7 @@ loop-pred-preserved c =
     )
 
 pub loop-pred-preserved-in-Ok-help : goal.loop-pred-preserved-in-Ok-help
-loop-pred-preserved-in-Ok-help c =
+loop-pred-preserved-in-Ok-help g c =
     let v = c.visit.ensures.goes in
     let h = c.help.ensures.goes in
     let i = c.loop-pred.invariant.1 in
@@ -60,35 +60,35 @@ loop-pred-preserved-in-Ok-help c =
     )
 
 pub returns-in-Err-clause-goes : goal.returns-in-Err-clause-goes
-returns-in-Err-clause-goes c = record {
+returns-in-Err-clause-goes g c = record {
   call = call_on c.loop-pred.invariant.0 c.visit.ensures.goes.call;
   goes = goes_on c.loop-pred.invariant.1.tries.goes c.visit.ensures.goes.goes;
   more = omega arith;
 }
 
 pub returns-then-not-affords-3-clause-goes : goal.returns-then-not-affords-3-clause-goes
-returns-then-not-affords-3-clause-goes c = record {
+returns-then-not-affords-3-clause-goes g c = record {
   call = call_on c.loop-pred.invariant.0 c.visit.ensures.goes.call;
   goes = goes_on c.loop-pred.invariant.1.tries.goes c.visit.ensures.goes.goes;
   more = omega arith;
 }
 
 pub returns-in-Ok-Beyond-clause-goes : goal.returns-in-Ok-Beyond-clause-goes
-returns-in-Ok-Beyond-clause-goes c = record {
+returns-in-Ok-Beyond-clause-goes g c = record {
   call = call_on c.loop-pred.invariant.0 c.visit.ensures.goes.call;
   goes = goes_on c.loop-pred.invariant.1.tries.goes c.visit.ensures.goes.goes;
   more = omega arith;
 }
 
 pub returns-in-Err-help-clause-goes : goal.returns-in-Err-help-clause-goes
-returns-in-Err-help-clause-goes c = record {
+returns-in-Err-help-clause-goes g c = record {
   call = call_on c.loop-pred.invariant.0 (call_on c.visit.ensures.goes.call c.help.ensures.goes.call);
   goes = goes_on c.loop-pred.invariant.1.tries.goes (goes_on c.visit.ensures.goes.goes c.help.ensures.goes.goes);
   more = omega arith;
 }
 
 pub returns-in-Ok-Beyond-clause-found : goal.returns-in-Ok-Beyond-clause-found
-returns-in-Ok-Beyond-clause-found c =
+returns-in-Ok-Beyond-clause-found g c =
     let v = c.visit.ensures.goes.goes.quiet in
     let i = c.loop-pred.invariant.1 in
     let met = rw c.in-Ok-Beyond.field-0-is at c.in-Ok-Beyond.ensures.met in
@@ -103,7 +103,7 @@ returns-in-Ok-Beyond-clause-found c =
     }
 
 pub returns-in-Err-clause-stopped : goal.returns-in-Err-clause-stopped
-returns-in-Err-clause-stopped c =
+returns-in-Err-clause-stopped g c =
     let i = c.loop-pred.invariant.1 in
     let v = c.visit.ensures.goes.goes.quiet in (
       omega arith,
@@ -111,7 +111,7 @@ returns-in-Err-clause-stopped c =
     )
 
 pub returns-then-not-affords-3-clause-stopped : goal.returns-then-not-affords-3-clause-stopped
-returns-then-not-affords-3-clause-stopped c =
+returns-then-not-affords-3-clause-stopped g c =
     let i = c.loop-pred.invariant.1 in
     let v = c.visit.ensures.goes.goes.quiet in
     let b = c.visit.ensures.goes.call.budget ∙ c.loop-pred.invariant.0.budget in
@@ -128,7 +128,7 @@ returns-then-not-affords-3-clause-stopped c =
     }
 
 pub returns-in-Err-help-clause-stopped : goal.returns-in-Err-help-clause-stopped
-returns-in-Err-help-clause-stopped c =
+returns-in-Err-help-clause-stopped g c =
     let i = c.loop-pred.invariant.1 in
     let v = c.visit.ensures.goes.goes.quiet in
     let h = c.help.ensures.goes.goes.quiet in (

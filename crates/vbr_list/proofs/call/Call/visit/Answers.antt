@@ -16,7 +16,7 @@ in_three None some x = absurd (cc)
 in_three (Some s) some x = x
 
 pub returns-in_err-here-clause-goes : goal.returns-in_err-here-clause-goes
-returns-in_err-here-clause-goes c =
+returns-in_err-here-clause-goes g c =
     let three = in_three (link_of c.args.pred.now.word).slot c.requires.some c.next-node.ensures.reads in
     record {
       call = search rules;
@@ -25,10 +25,10 @@ returns-in_err-here-clause-goes c =
     }
 
 pub returns-in_err-here-clause-looks : goal.returns-in_err-here-clause-looks
-returns-in_err-here-clause-looks c = looks_read (reads_on c.next-node.ensures.reads c.key_of-read.ensures.reads)
+returns-in_err-here-clause-looks g c = looks_read (reads_on c.next-node.ensures.reads c.key_of-read.ensures.reads)
 
 pub returns-then-here-self-clause-goes : goal.returns-then-here-self-clause-goes
-returns-then-here-self-clause-goes c =
+returns-then-here-self-clause-goes g c =
     let three = in_three (link_of c.args.pred.now.word).slot c.requires.some c.next-node.ensures.reads in
     record {
       call = search rules;
@@ -37,10 +37,10 @@ returns-then-here-self-clause-goes c =
     }
 
 pub returns-then-here-self-clause-looks : goal.returns-then-here-self-clause-looks
-returns-then-here-self-clause-looks c = looks_read (reads_on c.next-node.ensures.reads c.key_of-read.ensures.reads)
+returns-then-here-self-clause-looks g c = looks_read (reads_on c.next-node.ensures.reads c.key_of-read.ensures.reads)
 
 pub returns-else-here-self-clause-goes : goal.returns-else-here-self-clause-goes
-returns-else-here-self-clause-goes c =
+returns-else-here-self-clause-goes g c =
     let three = in_three (link_of c.args.pred.now.word).slot c.requires.some c.next-node.ensures.reads in
     record {
       call = search rules;
@@ -49,10 +49,10 @@ returns-else-here-self-clause-goes c =
     }
 
 pub returns-else-here-self-clause-looks : goal.returns-else-here-self-clause-looks
-returns-else-here-self-clause-looks c = looks_read (reads_on c.next-node.ensures.reads c.key_of-read.ensures.reads)
+returns-else-here-self-clause-looks g c = looks_read (reads_on c.next-node.ensures.reads c.key_of-read.ensures.reads)
 
 pub returns-then-here-self-clause-met : goal.returns-then-here-self-clause-met
-returns-then-here-self-clause-met c =
+returns-then-here-self-clause-met g c =
     let n = rw c.in-Some.is at c.in_ok-node.ensures.next.read in
     record {
       keeps = keeps_on c.in_ok-node.ensures.next.keeps c.in_ok-here.ensures.key.keeps;
@@ -74,7 +74,7 @@ returns-then-here-self-clause-met c =
     }
 
 pub returns-else-here-self-clause-met : goal.returns-else-here-self-clause-met
-returns-else-here-self-clause-met c =
+returns-else-here-self-clause-met g c =
     let n = rw c.in-Some.is at c.in_ok-node.ensures.next.read in
     let high : c.args.self.now.key ≤ c.in_ok-here.here = let f = c.if-here-self.false in omega arith in
     record {
@@ -97,13 +97,13 @@ returns-else-here-self-clause-met c =
     }
 
 pub returns-in_err-here-clause-moved : goal.returns-in_err-here-clause-moved
-returns-in_err-here-clause-moved c =
+returns-in_err-here-clause-moved g c =
     let x = c.in_ok-node.ensures in
     let y = c.in_err-here.ensures in
     either c.from_residual-in_err-here.result (λ fresh alone. y.moved.still (fresh_kept c.args.self.now.at.pass.now.trace c.next-node.new.at.pass.now.trace (x.reads.looks (first_of x.reads.quiet y.reads.quiet alone)) x.next.keeps fresh) (then_of x.reads.quiet y.reads.quiet alone))
 
 pub returns-in-Some-of-clause-met : goal.returns-in-Some-of-clause-met
-returns-in-Some-of-clause-met c =
+returns-in-Some-of-clause-met g c =
     let x = c.in_ok-node.ensures in
     let n = rw c.in-Some.is at x.next.read in
     let m = rw c.in-Some.is at x.next.stands in

@@ -15,7 +15,7 @@ no_slot None e = refl
 no_slot (Some s) e = absurd (cc)
 
 pub loop-here-init : goal.loop-here-init
-loop-here-init c =
+loop-here-init g c =
     let fits = c.affords.ensures.0 c.if-not-affords.false in
     let used = c.in-Ok.ensures.used in
     let head = c.in-Ok.ensures.head in (
@@ -29,7 +29,7 @@ loop-here-init c =
     )
 
 pub loop-here-preserved-in-Ok-Marked : goal.loop-here-preserved-in-Ok-Marked
-loop-here-preserved-in-Ok-Marked c =
+loop-here-preserved-in-Ok-Marked g c =
     let v = c.visit.ensures.goes in
     let met = rw c.in-Ok-Marked.field-0-is at c.in-Ok-Marked.ensures.met in
     let x = c.visit.ensures.used in
@@ -49,7 +49,7 @@ loop-here-preserved-in-Ok-Marked c =
     )
 
 pub loop-here-preserved : goal.loop-here-preserved
-loop-here-preserved c =
+loop-here-preserved g c =
     let v = c.visit.ensures.goes in
     let met = rw c.in-Ok-Smaller.field-0-is at c.in-Ok-Smaller.ensures.met in
     let come = rw c.loop-here.invariant.0.key at met.visits in
@@ -66,37 +66,37 @@ loop-here-preserved c =
     )
 
 pub returns-in-Err-clause-goes : goal.returns-in-Err-clause-goes
-returns-in-Err-clause-goes c = record {
+returns-in-Err-clause-goes g c = record {
   call = call_on c.loop-here.invariant.0 c.visit.ensures.goes.call;
   goes = goes_on c.loop-here.invariant.1.peeks.tries.goes c.visit.ensures.goes.goes;
   more = omega arith;
 }
 
 pub returns-in-Err-clause-observes : goal.returns-in-Err-clause-observes
-returns-in-Err-clause-observes c = observes_on c.loop-here.invariant.1.peeks.observes c.visit.ensures.looks.observes
+returns-in-Err-clause-observes g c = observes_on c.loop-here.invariant.1.peeks.observes c.visit.ensures.looks.observes
 
 pub returns-in-Ok-Beyond-default-true-clause-goes : goal.returns-in-Ok-Beyond-default-true-clause-goes
-returns-in-Ok-Beyond-default-true-clause-goes c = record {
+returns-in-Ok-Beyond-default-true-clause-goes g c = record {
   call = call_on c.loop-here.invariant.0 c.visit.ensures.goes.call;
   goes = goes_on c.loop-here.invariant.1.peeks.tries.goes c.visit.ensures.goes.goes;
   more = omega arith;
 }
 
 pub returns-in-Ok-Beyond-default-true-clause-observes : goal.returns-in-Ok-Beyond-default-true-clause-observes
-returns-in-Ok-Beyond-default-true-clause-observes c = observes_on c.loop-here.invariant.1.peeks.observes c.visit.ensures.looks.observes
+returns-in-Ok-Beyond-default-true-clause-observes g c = observes_on c.loop-here.invariant.1.peeks.observes c.visit.ensures.looks.observes
 
 pub returns-in-Ok-Beyond-default-false-clause-goes : goal.returns-in-Ok-Beyond-default-false-clause-goes
-returns-in-Ok-Beyond-default-false-clause-goes c = record {
+returns-in-Ok-Beyond-default-false-clause-goes g c = record {
   call = call_on c.loop-here.invariant.0 c.visit.ensures.goes.call;
   goes = goes_on c.loop-here.invariant.1.peeks.tries.goes c.visit.ensures.goes.goes;
   more = omega arith;
 }
 
 pub returns-in-Ok-Beyond-default-false-clause-observes : goal.returns-in-Ok-Beyond-default-false-clause-observes
-returns-in-Ok-Beyond-default-false-clause-observes c = observes_on c.loop-here.invariant.1.peeks.observes c.visit.ensures.looks.observes
+returns-in-Ok-Beyond-default-false-clause-observes g c = observes_on c.loop-here.invariant.1.peeks.observes c.visit.ensures.looks.observes
 
 pub returns-in-Ok-Beyond-default-true-clause-sight : goal.returns-in-Ok-Beyond-default-true-clause-sight
-returns-in-Ok-Beyond-default-true-clause-sight c =
+returns-in-Ok-Beyond-default-true-clause-sight g c =
     let v = c.visit.ensures.goes.goes.quiet in
     let met = rw (c.in-Ok-Beyond-default-true.field-0-is, c.in-Ok-Beyond-default-true.field-0-1-test) at c.in-Ok-Beyond-default-true.ensures.met in
     let visits = rw c.loop-here.invariant.0.key at met.visits in
@@ -109,7 +109,7 @@ returns-in-Ok-Beyond-default-true-clause-sight c =
     }
 
 pub returns-in-Ok-Beyond-default-false-clause-sight : goal.returns-in-Ok-Beyond-default-false-clause-sight
-returns-in-Ok-Beyond-default-false-clause-sight c =
+returns-in-Ok-Beyond-default-false-clause-sight g c =
     let v = c.visit.ensures.goes.goes.quiet in
     let met = rw (c.in-Ok-Beyond-default-false.field-0-is, c.in-Ok-Beyond-default-false.field-0-1-test) at c.in-Ok-Beyond-default-false.ensures.met in
     let visits = rw c.loop-here.invariant.0.key at met.visits in
@@ -123,15 +123,15 @@ returns-in-Ok-Beyond-default-false-clause-sight c =
     }
 
 pub returns-clause-sight : goal.returns-clause-sight
-returns-clause-sight c =
+returns-clause-sight g c =
     let none = no_slot c.decode.result.slot (sym c.is_some.ensures ∙ c.loop-here-test.false) in
     record {
       sees = absent_at_end c.loop-here.pred c.loop-here.here c.loop-here.invariant.1.look (ap (λ (l : Link). l.slot) (sym c.decode.ensures.link) ∙ none);
-      alone = λ alone. let near = c.loop-here.invariant.1.passes alone in let paid = near.paid in record { stands = near.last.stands; paid = omega (arith, paid) };
+      alone = λ alone. let near = c.loop-here.invariant.1.passes alone in let paid = near.paid in record { fresh = near.last.fresh; stands = near.last.stands; paid = omega (arith, paid) };
     }
 
 pub returns-in-Err-clause-stopped : goal.returns-in-Err-clause-stopped
-returns-in-Err-clause-stopped c =
+returns-in-Err-clause-stopped g c =
     let a = c.loop-here.invariant.1.peeks.tries.goes.quiet in
     let v = c.visit.ensures.goes.goes.quiet in (
       omega arith,

@@ -1,0 +1,127 @@
+-- The calls that answers tell, at tables of both kinds, and the same record of a call with another answer.
+use Rattle.std.proofs.Common.{◌≡◌, ℕ, Bool, true, false, Option, Some, None, Result, Ok, Err, refl, sym, ap, subst}
+use Rattle.std.specs.Prelude.{is_some, if◌then◌else◌}
+use Rattle.vbr_words.specs.Dimensions.{Dimensions}
+use Rattle.vbr_machine.specs.History.{set_call}
+use Rattle.vbr_machine.specs.Opened.{kept}
+use Rattle.vbr_machine.specs.declared.history.Call.{Call}
+use Rattle.vbr_machine.specs.declared.history.Op.{Op}
+use Rattle.vbr_machine.specs.declared.history.Op.TheVariants.{Insert}
+use Rattle.vbr_slots.specs.Calls.{AddsAnswer, IsSame, Made, Quiet}
+use Rattle.vbr_slots.specs.PassLaw.{PassLaw}
+use Rattle.vbr_slots.specs.Views.{PassView, Trace}
+use Rattle.vbr_slots.proofs.Lemmas.{made_on}
+use Rattle.vbr_list.specs.Alone.{AnswersAlone}
+use Rattle.vbr_list.specs.Answered.{CallsAs, CallsEntry, SparesLookUp}
+use Rattle.vbr_list.specs.Leaving.{SparesRemove}
+use Rattle.vbr_list.specs.Told.{given_call, given_in, is_yes, kept_call, stored_call, stored_in}
+use Rattle.vbr_list.specs.declared.refusal.Refusal.{Refusal}
+use Rattle.vbr_list.proofs.LonePasses.{gives_alone}
+
+-- ---- what is kept
+
+none_kept : (values : Bool) (value : Option ℕ) → value ≡ None → (if values then value else None) ≡ None
+none_kept true value none = none
+none_kept false value none = refl
+
+pub kept_none : (shape : Dimensions) → kept shape None ≡ None
+kept_none shape = none_kept shape.values None refl
+
+kept_all : (shape : Dimensions) (value : Option ℕ) → shape.values ≡ true → kept shape value ≡ value
+kept_all shape value has = ap (λ (values : Bool). if values then value else None) has
+
+kept_bare : (shape : Dimensions) (value : Option ℕ) → shape.values ≡ false → kept shape value ≡ None
+kept_bare shape value bare = ap (λ (values : Bool). if values then value else None) bare
+
+-- a call without a value is the same at each table
+pub told_bare : (shape : Dimensions) (who : ℕ) (op : Op) (key : ℕ) (reply : Bool) → set_call who op key reply ≡ kept_call shape (set_call who op key reply)
+told_bare shape who op key reply = ap (λ (value : Option ℕ). record { who = who; op = op; key = key; reply = reply; value = value }) (sym (kept_none shape))
+
+-- where nodes have values, a call keeps its own
+pub stored_kept : (p : Trace) (key value : ℕ) → p.shape.values ≡ true → (reply : Bool) → stored_in p key value reply ≡ stored_call p.who key value reply
+stored_kept p key value has reply = ap (λ (kept : Option ℕ). record { who = p.who; op = Insert; key = key; reply = reply; value = kept }) (kept_all p.shape (if reply then Some value else None) has)
+
+pub given_kept : (p : Trace) (op : Op) (key : ℕ) → p.shape.values ≡ true → (answer : Option ℕ) → given_in p op key answer ≡ given_call p.who op key answer
+given_kept p op key has answer = ap (λ (kept : Option ℕ). record { who = p.who; op = op; key = key; reply = is_some answer; value = kept }) (kept_all p.shape (given_call p.who op key answer).value has)
+
+-- where they have none, it is the call of a set
+pub stored_bare : (p : Trace) (key value : ℕ) → p.shape.values ≡ false → (reply : Bool) → stored_in p key value reply ≡ set_call p.who Insert key reply
+stored_bare p key value bare reply = ap (λ (kept : Option ℕ). record { who = p.who; op = Insert; key = key; reply = reply; value = kept }) (kept_bare p.shape (if reply then Some value else None) bare)
+
+pub given_bare : (p : Trace) (op : Op) (key : ℕ) → p.shape.values ≡ false → (answer : Option ℕ) → given_in p op key answer ≡ set_call p.who op key (is_some answer)
+given_bare p op key bare answer = ap (λ (kept : Option ℕ). record { who = p.who; op = op; key = key; reply = is_some answer; value = kept }) (kept_bare p.shape (given_call p.who op key answer).value bare)
+
+-- ---- a part of what the pass did
+
+pub given_same : {p q : Trace} → IsSame p q → (op : Op) (key : ℕ) (answer : Option ℕ) → given_in q op key answer ≡ given_in p op key answer
+given_same same op key answer = λ i. kept_call (same.shape i) (given_call (same.who i) op key answer)
+
+pub stored_same : {p q : Trace} → IsSame p q → (key value : ℕ) (reply : Bool) → stored_in q key value reply ≡ stored_in p key value reply
+stored_same same key value reply = λ i. kept_call (same.shape i) (stored_call (same.who i) key value reply)
+
+pub told_as : {p q : Trace} {x y : Call} → x ≡ y → Made x p q → Made y p q
+told_as {p} {q} same made = subst (λ (call : Call). Made call p q) same made
+
+pub told_since : {p q r : Trace} {x y : Call} → Quiet p q → x ≡ y → Made x q r → Made y p r
+told_since quiet same made = told_as same (made_on quiet made)
+
+-- ---- another answer
+
+pub calls_as : {A : Type 0} {f g : A → Call} {S T : Result A Refusal → Type 0} {p q : PassView} {budget : ℕ} (answer : Result A Refusal) → CallsAs f S p q budget answer → ((reply : A) → f reply ≡ g reply) → (S answer → T answer) → CallsAs g T p q budget answer
+calls_as {p = p} {q = q} (Ok reply) x same spares = record {
+  same = x.same;
+  made = told_as (same reply) x.made;
+  alone = subst (λ (call : Call). AnswersAlone p.trace call.op call.key call.reply) (same reply) x.alone;
+  quiet = tt;
+  hand = x.hand;
+  steps = x.steps;
+  spares = spares x.spares;
+}
+calls_as (Err refusal) x same spares = record { same = x.same; made = tt; alone = tt; quiet = x.quiet; hand = x.hand; steps = x.steps; spares = spares x.spares }
+
+pub calls_yes : {f : Option ℕ → Call} {g : Bool → Call} {S : Result (Option ℕ) Refusal → Type 0} {T : Result Bool Refusal → Type 0} {p q : PassView} {budget : ℕ} (answer : Result (Option ℕ) Refusal) → CallsAs f S p q budget answer → ((given : Option ℕ) → f given ≡ g (is_some given)) → (S answer → T (is_yes answer)) → CallsAs g T p q budget (is_yes answer)
+calls_yes {p = p} {q = q} (Ok given) x same spares = record {
+  same = x.same;
+  made = told_as (same given) x.made;
+  alone = subst (λ (call : Call). AnswersAlone p.trace call.op call.key call.reply) (same given) x.alone;
+  quiet = tt;
+  hand = x.hand;
+  steps = x.steps;
+  spares = spares x.spares;
+}
+calls_yes (Err refusal) x same spares = record { same = x.same; made = tt; alone = tt; quiet = x.quiet; hand = x.hand; steps = x.steps; spares = spares x.spares }
+
+-- and with its value
+pub calls_entry : {A : Type 0} {told : A → Call} {S : Result A Refusal → Type 0} {p q : PassView} {budget : ℕ} (answer : Result A Refusal) → PassLaw p → CallsAs told S p q budget answer → CallsEntry told S p q budget answer
+calls_entry {p = p} {q = q} (Ok reply) law x = record { calls = x; gives = gives_alone law.shape law.low x.made }
+calls_entry (Err refusal) law x = record { calls = x; gives = tt }
+
+-- ---- what a call promises besides
+
+pub look_up_as : {A : Type 0} {f g : A → Call} {most : ℕ} {p q : PassView} {key budget : ℕ} (answer : Result A Refusal) → SparesLookUp f most p q key budget answer → ((reply : A) → f reply ≡ g reply) → SparesLookUp g most p q key budget answer
+look_up_as {p = p} {q = q} (Ok reply) x same = record {
+  only_loads = x.only_loads;
+  adds = subst (λ (call : Call). AddsAnswer call p.trace q.trace) (same reply) x.adds;
+  adds_none = tt;
+  takes_no_slot = x.takes_no_slot;
+  refused = tt;
+  within = tt;
+  costs = x.costs;
+}
+look_up_as (Err refusal) x same = record { only_loads = x.only_loads; adds = tt; adds_none = x.adds_none; takes_no_slot = x.takes_no_slot; refused = x.refused; within = x.within; costs = tt }
+
+pub look_up_yes : {f : Option ℕ → Call} {g : Bool → Call} {most : ℕ} {p q : PassView} {key budget : ℕ} (answer : Result (Option ℕ) Refusal) → SparesLookUp f most p q key budget answer → ((given : Option ℕ) → f given ≡ g (is_some given)) → SparesLookUp g most p q key budget (is_yes answer)
+look_up_yes {p = p} {q = q} (Ok given) x same = record {
+  only_loads = x.only_loads;
+  adds = subst (λ (call : Call). AddsAnswer call p.trace q.trace) (same given) x.adds;
+  adds_none = tt;
+  takes_no_slot = x.takes_no_slot;
+  refused = tt;
+  within = tt;
+  costs = x.costs;
+}
+look_up_yes (Err refusal) x same = record { only_loads = x.only_loads; adds = tt; adds_none = x.adds_none; takes_no_slot = x.takes_no_slot; refused = x.refused; within = x.within; costs = tt }
+
+pub remove_yes : {p q : PassView} {key budget : ℕ} (answer : Result (Option ℕ) Refusal) → SparesRemove is_some p q key budget answer → SparesRemove (λ removed. removed) p q key budget (is_yes answer)
+remove_yes (Ok given) x = record { takes_no_slot = x.takes_no_slot; unlists = x.unlists; refused = tt; within = tt }
+remove_yes (Err refusal) x = record { takes_no_slot = x.takes_no_slot; unlists = tt; refused = x.refused; within = x.within }

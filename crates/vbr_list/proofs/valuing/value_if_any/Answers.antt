@@ -1,0 +1,37 @@
+use Rattle.std.proofs.Common.{◌≡◌, Bool, true, false, sym, ap, ◌∙◌, subst}
+use Rattle.vbr_words.specs.Dimensions.{Dimensions}
+use Rattle.vbr_slots.specs.Views.{knows}
+use Rattle.vbr_access.specs.Reading.{ReadsIn, RollsBack}
+use Rattle.vbr_list.specs.Valuing.{LosesValue, steps_where}
+use Rattle.vbr_list.proofs.Going.{keeps_still, ok_as}
+use Rattle.vbr_list.proofs.Sufficing.{each_error}
+use Rattle.vbr_list.proofs.ValueReads.{reads_still}
+use Rattle.vbr_list.proofs.valuing.value_if_any.Goals as goal
+
+pub value_of-requires-clause-values : goal.value_of-requires-clause-values
+value_of-requires-clause-values g c = c.kind.ensures ∙ sym c.VALUES.ensures ∙ c.if-VALUES.true
+
+pub returns-then-VALUES-clause-reads : goal.returns-then-VALUES-clause-reads
+returns-then-VALUES-clause-reads g c =
+    let has : c.args.at.now.pass.now.trace.shape.values ≡ true = ap (λ (d : Dimensions). d.values) c.args.at.now.own.1 ∙ c.kind.ensures ∙ sym c.VALUES.ensures ∙ c.if-VALUES.true in
+    let P : Bool → Type 0 = λ values. ReadsIn c.args.at.now.pass.now c.value_of.new.at.pass.now (steps_where values) in
+    subst P (sym has) c.value_of.ensures.reads
+
+pub returns-then-VALUES-clause-value : goal.returns-then-VALUES-clause-value
+returns-then-VALUES-clause-value g c = ok_as c.value_of.result (λ value x. record { keeps = x.keeps; value = λ has. x.value }) c.value_of.ensures.value
+
+pub returns-then-VALUES-clause-moved : goal.returns-then-VALUES-clause-moved
+returns-then-VALUES-clause-moved g c =
+    let has : c.args.at.now.pass.now.trace.shape.values ≡ true = ap (λ (d : Dimensions). d.values) c.args.at.now.own.1 ∙ c.kind.ensures ∙ sym c.VALUES.ensures ∙ c.if-VALUES.true in
+    each_error (RollsBack c.args.at.now.pass.now c.value_of.new.at.pass.now) (LosesValue c.args.at.now.pass.now c.value_of.new.at.pass.now) c.value_of.result (λ rollback rolls. record { some = has; rolls = rolls }) c.value_of.ensures.moved
+
+pub returns-else-VALUES-clause-reads : goal.returns-else-VALUES-clause-reads
+returns-else-VALUES-clause-reads g c =
+    let bare : c.args.at.now.pass.now.trace.shape.values ≡ false = ap (λ (d : Dimensions). d.values) c.args.at.now.own.1 ∙ c.kind.ensures ∙ sym c.VALUES.ensures ∙ c.if-VALUES.false in
+    let P : Bool → Type 0 = λ values. ReadsIn c.args.at.now.pass.now c.args.at.now.pass.now (steps_where values) in
+    subst P (sym bare) (reads_still c.args.at.now.pass.now)
+
+pub returns-else-VALUES-clause-value : goal.returns-else-VALUES-clause-value
+returns-else-VALUES-clause-value g c =
+    let bare : c.args.at.now.pass.now.trace.shape.values ≡ false = ap (λ (d : Dimensions). d.values) c.args.at.now.own.1 ∙ c.kind.ensures ∙ sym c.VALUES.ensures ∙ c.if-VALUES.false in
+    record { keeps = keeps_still (knows c.args.at.now.pass.now.trace); value = λ has. (let e : true ≡ false = sym has ∙ bare in absurd (cc)) }

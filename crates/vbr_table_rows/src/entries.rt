@@ -1,0 +1,288 @@
+//! The list of one bucket where nodes have values: worked calls of a map, with their steps.
+ghost use Rattle.std.specs.Prelude.{◌≡◌, None};
+ghost use Rattle.vbr_slots.specs.Views.{IsOf};
+
+use crate::running_table::{close_two, open_two_with_values};
+use std::alloc::Global;
+use std::process::Abort;
+use std::test::Fail;
+use vbr_list::{Refusal, get, has, insert_entry, remove_entry};
+use vbr_slots::{Pass, Slots};
+use vbr_words::{Entries, Shape};
+
+// A call of a map, with its key, and what it is answered.
+#[derive(Clone, Copy)]
+enum Made {
+    Insert(u64, u64, Result<bool, Refusal>),
+    Remove(u64, Result<Option<u64>, Refusal>),
+    Get(u64, Result<Option<u64>, Refusal>),
+    Has(u64, Result<bool, Refusal>),
+}
+
+// What is made on a table with two passes, 0 and 1, or looked at there.
+#[derive(Clone, Copy)]
+enum Row<'a> {
+    // A call of a pass, with its budget.
+    Call(u32, u32, Made),
+    // How many steps the last call made.
+    Steps(u64),
+    // The epoch that a pass knows.
+    Epoch(u32, u64),
+    // The slots in a pass's own pool. It has none in hand.
+    Pool(u32, &'a [u32]),
+}
+
+// Makes a call, compares what it is answered, and tells how many steps it made.
+fn call(rt: &impl Abort, slots: &Slots<Entries>, pass: &mut Pass, budget: u32, made: Made) -> u64
+    requires own { IsOf pass.old.trace slots.now }
+    requires empty_hand { pass.old.hand ≡ None }
+    ensures own { IsOf pass.new.trace slots.now }
+    ensures hand { pass.new.hand ≡ None }
+{
+    let before = pass.steps();
+    match made {
+        Made::Insert(key, value, answer) => {
+            let told = insert_entry(slots, pass, key, value, budget);
+            assert_eq!(rt; told, answer, "insert {key}");
+        }
+        Made::Remove(key, answer) => {
+            let told = remove_entry(slots, pass, key, budget);
+            assert_eq!(rt; told, answer, "remove {key}");
+        }
+        Made::Get(key, answer) => {
+            let told = get(slots, pass, key, budget);
+            assert_eq!(rt; told, answer, "get {key}");
+        }
+        Made::Has(key, answer) => {
+            let told = has(slots, pass, key, budget);
+            assert_eq!(rt; told, answer, "has {key}");
+        }
+    }
+    pass.steps().saturating_sub(before)
+}
+
+// Makes rows one after another.
+fn play(rt: &impl Abort, slots: &Slots<Entries>, a: &mut Pass, b: &mut Pass, rows: &[Row])
+    requires first { IsOf a.old.trace slots.now × (a.old.hand ≡ None) }
+    requires second { IsOf b.old.trace slots.now × (b.old.hand ≡ None) }
+    ensures first { IsOf a.new.trace slots.now × (a.new.hand ≡ None) }
+    ensures second { IsOf b.new.trace slots.now × (b.new.hand ≡ None) }
+{
+    let mut steps = 0;
+    for row in rows {
+        match *row {
+            Row::Call(0, budget, made) => steps = call(rt, slots, a, budget, made),
+            Row::Call(_, budget, made) => steps = call(rt, slots, b, budget, made),
+            Row::Steps(made) => assert_eq!(rt; steps, made),
+            Row::Epoch(who, epoch) => {
+                let pass = if who == 0 { &*a } else { &*b };
+                assert_eq!(rt; pass.epoch(), epoch);
+            }
+            Row::Pool(who, pool) => {
+                let pass = if who == 0 { &*a } else { &*b };
+                assert_eq!(rt; pass.pool(), pool);
+                assert!(rt; pass.in_hand().is_none());
+            }
+        }
+    }
+}
+
+// Makes rows on a fresh table with two passes, closes it, and gives its words.
+fn words_after(
+    rt: &impl Abort,
+    alloc: Global,
+    shape: (u32, u32, u64),
+    rows: &[Row],
+) -> Result<Vec<u64>, Fail> {
+    let (slots, buckets, last_epoch) = shape;
+    let shape = Shape::new(slots, buckets, last_epoch)?.with_values();
+    let Some((slots, mut a, mut b)) = open_two_with_values(alloc, shape) else {
+        panic!(rt; "no memory")
+    };
+    play(rt, &slots, &mut a, &mut b, rows);
+    Ok(close_two(alloc, slots, a, b).ok_or("not closed")?)
+}
+
+// Makes rows on a fresh table with two passes.
+fn expect(
+    rt: &impl Abort,
+    alloc: Global,
+    shape: (u32, u32, u64),
+    rows: &[Row],
+) -> Result<(), Fail> {
+    words_after(rt, alloc, shape, rows)?;
+    Ok(())
+}
+
+/// A value stays that of its insert: an insert of a present key is answered no, and changes nothing.
+#[test]
+fn values_come_back(rt: HostRuntime) -> Result<(), Fail> {
+    let rows = [
+        Row::Call(0, 100, Made::Insert(5, 70, Ok(true))),
+        Row::Call(0, 100, Made::Insert(5, 71, Ok(false))),
+        Row::Call(1, 100, Made::Get(5, Ok(Some(70)))),
+        Row::Call(0, 100, Made::Remove(5, Ok(Some(70)))),
+        Row::Call(1, 100, Made::Get(5, Ok(None))),
+        Row::Call(0, 100, Made::Remove(5, Ok(None))),
+        Row::Call(0, 100, Made::Insert(5, 71, Ok(true))),
+        Row::Call(1, 100, Made::Get(5, Ok(Some(71)))),
+        Row::Call(1, 100, Made::Has(5, Ok(true))),
+        Row::Call(0, 100, Made::Insert(6, 0, Ok(true))),
+        Row::Call(0, 100, Made::Get(6, Ok(Some(0)))),
+    ];
+    expect(&rt, rt.alloc(), (4, 2, 10), &rows)
+}
+
+/// A slot is used again after its stamp, with another key and another value.
+#[test]
+fn a_slot_is_used_again(rt: HostRuntime) -> Result<(), Fail> {
+    let rows = [
+        Row::Call(0, 100, Made::Insert(1, u64::MAX, Ok(true))),
+        Row::Call(0, 100, Made::Remove(1, Ok(Some(u64::MAX)))),
+        Row::Call(0, 100, Made::Insert(2, 102, Ok(true))),
+        Row::Call(0, 100, Made::Get(1, Ok(None))),
+        Row::Call(0, 100, Made::Get(2, Ok(Some(102)))),
+        Row::Epoch(0, 2),
+    ];
+    expect(&rt, rt.alloc(), (1, 1, 10), &rows)
+}
+
+/// In the last epoch a slot that is stamped with it isn't used again.
+#[test]
+fn the_last_epoch_is_spent(rt: HostRuntime) -> Result<(), Fail> {
+    let spent = Err(Refusal::EpochSpent { epoch: 1 });
+    let rows = [
+        Row::Call(0, 100, Made::Insert(1, 0, Ok(true))),
+        Row::Call(0, 100, Made::Remove(1, Ok(Some(0)))),
+        Row::Call(0, 100, Made::Insert(2, 0, spent)),
+        Row::Call(0, 100, Made::Get(1, Ok(None))),
+        Row::Pool(0, &[0]),
+        Row::Epoch(0, 1),
+    ];
+    expect(&rt, rt.alloc(), (1, 1, 1), &rows)
+}
+
+/// In a full map an absent key is refused, and a present one is answered no and keeps its value.
+#[test]
+fn a_present_key_in_a_full_map(rt: HostRuntime) -> Result<(), Fail> {
+    let rows = [
+        Row::Call(0, 100, Made::Insert(1, 101, Ok(true))),
+        Row::Call(0, 100, Made::Insert(2, 102, Err(Refusal::NoSlot))),
+        Row::Call(0, 100, Made::Insert(1, 201, Ok(false))),
+        Row::Call(0, 100, Made::Get(1, Ok(Some(101)))),
+        Row::Pool(0, &[]),
+    ];
+    expect(&rt, rt.alloc(), (1, 1, 10), &rows)
+}
+
+/// With budgets below a piece no step is made.
+#[test]
+fn budgets_below_a_piece(rt: HostRuntime) -> Result<(), Fail> {
+    let used = Refusal::OutOfSteps { used: 0 };
+    for budget in 0..8 {
+        let rows = [
+            Row::Call(0, budget, Made::Insert(1, 0, Err(used))),
+            Row::Steps(0),
+            Row::Call(0, budget, Made::Remove(1, Err(used))),
+            Row::Steps(0),
+            Row::Call(0, budget, Made::Get(1, Err(used))),
+            Row::Steps(0),
+            Row::Call(0, budget, Made::Has(1, Err(used))),
+            Row::Steps(0),
+        ];
+        expect(&rt, rt.alloc(), (1, 1, 10), &rows)?;
+    }
+    Ok(())
+}
+
+/// A get of an absent key makes the steps of a look-up; one of a present key makes two more, for the
+/// value.
+#[test]
+fn the_steps_of_a_get(rt: HostRuntime) -> Result<(), Fail> {
+    let rows = [
+        Row::Call(0, 10, Made::Get(1, Err(Refusal::OutOfSteps { used: 3 }))),
+        Row::Steps(3),
+        Row::Call(0, 11, Made::Get(1, Ok(None))),
+        Row::Steps(4),
+        Row::Call(0, 100, Made::Insert(1, 101, Ok(true))),
+        Row::Call(1, 15, Made::Get(1, Err(Refusal::OutOfSteps { used: 8 }))),
+        Row::Steps(8),
+        Row::Call(1, 16, Made::Has(1, Ok(true))),
+        Row::Steps(9),
+        Row::Call(1, 16, Made::Get(1, Ok(Some(101)))),
+        Row::Steps(11),
+    ];
+    expect(&rt, rt.alloc(), (1, 1, 10), &rows)
+}
+
+/// With 17 steps an insert takes its slot and is refused after 10, and the next one makes 13.
+#[test]
+fn a_budget_of_17(rt: HostRuntime) -> Result<(), Fail> {
+    let tired = Err(Refusal::OutOfSteps { used: 10 });
+    let rows = [
+        Row::Call(0, 17, Made::Insert(1, 101, tired)),
+        Row::Steps(10),
+        Row::Pool(0, &[0]),
+        Row::Call(0, 17, Made::Insert(1, 101, Ok(true))),
+        Row::Steps(13),
+        Row::Epoch(0, 1),
+    ];
+    let words = words_after(&rt, rt.alloc(), (1, 1, 10), &rows)?;
+    assert_eq!(rt;
+        words.as_slice(),
+        [1, 167_772_161, 33_554_433, 33_554_432, 1, 0, 1, 101, 0].as_slice()
+    );
+    Ok(())
+}
+
+/// With 18 steps it is enough for the first one, which makes 14.
+#[test]
+fn a_budget_of_18(rt: HostRuntime) -> Result<(), Fail> {
+    let rows = [
+        Row::Call(0, 18, Made::Insert(1, 101, Ok(true))),
+        Row::Steps(14),
+    ];
+    expect(&rt, rt.alloc(), (1, 1, 10), &rows)
+}
+
+/// A remove that can't unlink within its budget gives the value and leaves the marked node, and
+/// another pass unlinks it.
+#[test]
+fn a_marked_node_is_helped_away(rt: HostRuntime) -> Result<(), Fail> {
+    let rows = [
+        Row::Call(0, 100, Made::Insert(7, 107, Ok(true))),
+        Row::Call(0, 16, Made::Remove(7, Ok(Some(107)))),
+        Row::Steps(11),
+        Row::Pool(0, &[]),
+        Row::Call(1, 100, Made::Remove(7, Ok(None))),
+        Row::Steps(10),
+        Row::Pool(1, &[0]),
+    ];
+    let words = words_after(&rt, rt.alloc(), (1, 1, 10), &rows)?;
+    assert_eq!(rt;
+        words.as_slice(),
+        [1, 167_772_161, 0, 50_331_648, 1, 1, 7, 107, 0].as_slice()
+    );
+    Ok(())
+}
+
+/// A look-up and a get pass three marked nodes by, in 13 steps each.
+#[test]
+fn gets_pass_marked_nodes(rt: HostRuntime) -> Result<(), Fail> {
+    let rows = [
+        Row::Call(0, 100, Made::Insert(30, 130, Ok(true))),
+        Row::Call(0, 100, Made::Insert(20, 120, Ok(true))),
+        Row::Call(0, 100, Made::Insert(10, 110, Ok(true))),
+        Row::Call(0, 26, Made::Remove(30, Ok(Some(130)))),
+        Row::Steps(21),
+        Row::Call(0, 21, Made::Remove(20, Ok(Some(120)))),
+        Row::Steps(16),
+        Row::Call(0, 16, Made::Remove(10, Ok(Some(110)))),
+        Row::Steps(11),
+        Row::Call(1, 100, Made::Has(20, Ok(false))),
+        Row::Steps(13),
+        Row::Call(1, 100, Made::Get(20, Ok(None))),
+        Row::Steps(13),
+    ];
+    expect(&rt, rt.alloc(), (3, 1, 10), &rows)
+}
