@@ -1,5 +1,6 @@
 mod NoValues
 mod Histories
+mod MapHistories
 mod CatchingUp
 mod ShownNodes
 mod Walks

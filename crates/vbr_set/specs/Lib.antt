@@ -4,6 +4,7 @@ pub mod Meetings
 pub mod Tokens
 pub mod Closing
 pub mod Renewing
+pub mod MapCalls
 pub mod MapClosing
 pub mod MapRenewing
 pub mod Messages

@@ -7,6 +7,7 @@ ghost use Rattle.vbr_set.specs.Members.{Called, as_member};
 use crate::set::VbrSet;
 use vbr_list::{Refusal, has, insert, remove};
 use vbr_slots::Pass;
+use vbr_words::Nodes;
 
 impl VbrSet {
     /// Adds a key, in at most `budget` steps, and says whether it was absent. The answer's point is
@@ -79,7 +80,9 @@ impl VbrSet {
         pass.law();
         answer
     }
+}
 
+impl<N: Nodes> VbrSet<N> {
     /// Whether a key is in the set, in at most `budget` steps. The answer's point is one load of the
     /// call.
     ///

@@ -45,6 +45,7 @@ mod contents;
 pub mod end_error;
 pub mod laws;
 mod mailbox;
+pub mod map_calls;
 pub mod map_closing;
 pub mod map_opening;
 pub mod map_renewing;

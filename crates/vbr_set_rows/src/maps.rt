@@ -1,6 +1,6 @@
 //! Maps that open with entries, and maps that are renewed.
-ghost use Rattle.std.specs.Prelude.{◌≡◌, length, IfOk};
-ghost use Rattle.vbr_slots.specs.Views.{new_passes};
+ghost use Rattle.std.specs.Prelude.{◌≡◌, None, length, IfOk};
+ghost use Rattle.vbr_slots.specs.Views.{IsOf, new_passes};
 
 use std::alloc::Global;
 use std::process::Abort;
@@ -63,5 +63,37 @@ fn a_map_waits_for_its_passes(rt: HostRuntime) -> Result<(), Fail> {
     };
     passes.push(last)?;
     expect_three(&rt, &map.close(rt.alloc(), passes)?);
+    Ok(())
+}
+
+// One key comes, stays as it is, is given, taken out, and comes again with another value.
+fn store_and_take(rt: &impl Abort, map: &VbrMap, pass: &mut Pass)
+    requires own { IsOf pass.old.trace map.now }
+    requires empty_hand { pass.old.hand ≡ None }
+    ensures { IsOf pass.new.trace map.now }
+{
+    assert_eq!(rt; map.insert(pass, 5, 70, 100), Ok(true));
+    assert_eq!(rt; map.insert(pass, 5, 71, 100), Ok(false));
+    assert_eq!(rt; map.get(pass, 5, 100), Ok(Some(70)));
+    assert_eq!(rt; map.remove(pass, 5, 100), Ok(Some(70)));
+    assert_eq!(rt; map.get(pass, 5, 100), Ok(None));
+    assert_eq!(rt; map.insert(pass, 5, 71, 100), Ok(true));
+    assert_eq!(rt; map.get(pass, 5, 100), Ok(Some(71)));
+    assert_eq!(rt; map.has(pass, 5, 100), Ok(true));
+    assert_eq!(rt; map.insert(pass, 6, 0, 100), Ok(true));
+}
+
+/// A key has the value that was stored with it when it came, until it is removed.
+#[test]
+fn a_key_keeps_its_value(rt: HostRuntime) -> Result<(), Fail> {
+    let (map, mut passes) = VbrMap::open(rt.alloc(), Shape::new(4, 2, 10)?, 1)?;
+    let Some(mut pass) = passes.pop() else {
+        panic!(rt; "no pass")
+    };
+    store_and_take(&rt, &map, &mut pass);
+    passes.push(pass)?;
+    let report = map.close(rt.alloc(), passes)?;
+    assert_eq!(rt; report.entries.as_slice(), [(5, 71), (6, 0)].as_slice());
+    assert_eq!(rt; (report.live, report.marked, report.free), (2, 0, 2));
     Ok(())
 }
