@@ -217,13 +217,14 @@ static void check_any(const Input &input, const Answer &answer, int status) {
     const std::string &e = answer.errors;
     if (status == 0 && !e.empty()) fail("a line on standard error, with status 0");
     if (status != 0 && !answer.out.empty()) fail("something on standard output, after a fault");
+    bool is_file = is_one_line(e) && starts(e, "vbr_run: file fault: ");
     bool documented = status == 0   ? true
                       : status == 2 ? starts(e, "error: ") || (is_one_line(e) && starts(e, "vbr_run: shape fault "))
                       : status == 3 ? is_one_line(e) && starts(e, "vbr_run: script fault ")
-                      : status == 4 ? e == "vbr_run: read fault\n" || e == "vbr_run: write fault\n"
+                      : status == 4 ? e == "vbr_run: read fault\n" || e == "vbr_run: write fault\n" || is_file
                                     : status == 5 && (e == "vbr_run: no memory\n" || e == "vbr_run: no worker\n");
     if (!documented) fail("a status or a standard error that docs/FAULTS.md doesn't have");
-    if (status == 4 && input.devices == 's') fail("a device fault, and no device failed");
+    if (status == 4 && input.devices == 's' && !is_file) fail("a device fault, and no device failed");
     if (status == 5) fail("no memory, or no worker");
 }
 

@@ -1,7 +1,8 @@
-//! The program `vbr_run`: plays the script on standard input.
+//! The program `vbr_run`: plays the script in a file, or on standard input.
 #![tactic(auto)]
 
 use std::alloc::{AllocError, Global};
+use std::fs::File;
 use std::io::ErrorKind;
 use std::process::ExitCode;
 use std::{env, io};
@@ -21,6 +22,7 @@ fn main(rt: HostRuntime) -> ExitCode {
         alloc,
         &texts,
         &mut rt.stdin(),
+        &|name: &str| File::open(&rt, name),
         &mut rt.stdout(),
         &mut rt.stderr(),
     );

@@ -1,13 +1,19 @@
 -- How the program ends.
-use Rattle.std.specs.Prelude.{◌≡◌, ◌≢◌, ℕ, List, [], ◌++◌, ◌⊎◌, Option, Some, None, Result, Ok, Err, codes, decimal}
+use Rattle.std.specs.Prelude.{◌≡◌, ◌≢◌, ℕ, Bool, true, List, [], ◌∷◌, ◌++◌, ◌⊎◌, Option, Some, None, Result, Ok, Err, codes, decimal}
+use Rattle.std.specs.List.{list_any}
+use Rattle.std.specs.Str.{bytes_eq}
 use Rattle.std.specs.Io.KnownBytes.{Appends, Keeps}
-use Rattle.clap.specs.Words.{IsAmong}
+use Rattle.std.specs.IoError.{error_kind}
+use Rattle.std.specs.declared.io.Error.{Error}
+use Rattle.std.specs.declared.io.ErrorKind.{ErrorKind as IoErrorKind}
+use Rattle.std.specs.declared.io.ErrorKind.TheVariants.{NotFound, PermissionDenied}
+use Rattle.clap.specs.Words.{IsAmong, Text}
 use Rattle.clap.specs.declared.error.kind.ErrorKind.{ErrorKind}
 use Rattle.clap.specs.declared.error.kind.ErrorKind.TheVariants as asked
 use Rattle.vbr_words.specs.declared.shape.ShapeError.{ShapeError}
 use Rattle.vbr_words.specs.declared.shape.ShapeError.TheVariants as shape
 use Rattle.vbr_script.specs.Grammar.{fault_number}
-use Rattle.vbr_settings.specs.Options.{AreOptions, faults, settings_of, shape_fault}
+use Rattle.vbr_settings.specs.Options.{AreOptions, faults, settings_of, file_of, explained_of, shape_fault}
 use Rattle.vbr_settings.specs.Settings.{Settings}
 use Rattle.vbr_transcript.specs.Layout.{line}
 use Rattle.vbr_transcript.specs.Writing.{AppendsSome}
@@ -43,10 +49,25 @@ shape_fault_number shape.LastEpoch = 3
 abbrev pub shape_line : ShapeError → List ℕ
 shape_line error = line (codes "vbr_run: shape fault " ++ decimal (shape_fault_number error))
 
+-- the line on standard error of a file that isn't played, and why
+abbrev pub file_line : List ℕ → Text → List ℕ
+file_line why name = line (codes "vbr_run: file fault: " ++ why ++ codes ": " ++ name)
+
+-- why a file couldn't be opened, by the kind of the error
+abbrev pub unopened : IoErrorKind → List ℕ
+unopened NotFound = codes "no such file"
+unopened PermissionDenied = codes "permission denied"
+unopened _ = codes "can't be opened"
+
+-- the line on standard error after an error of a run whose script was in a file, if it was: where the file couldn't be read, it is named
+abbrev pub fault_line : Option Text → RunError → List ℕ
+fault_line (Some name) error.Read = file_line (codes "can't be read") name
+fault_line file e = error_line e
+
 -- The status and the standard error tell the player's answer: nothing is told of a run that was done, and else as much of the error's line as could be written.
-abbrev pub TellsRun : Result Totals RunError → Option (List ℕ) → Option (List ℕ) → ℕ → Type 0
-TellsRun (Ok totals) old new status = (status ≡ DONE) × Keeps old new
-TellsRun (Err e) old new status = (status ≡ error_status e) × AppendsSome old new (error_line e)
+abbrev pub TellsRun : Option Text → Result Totals RunError → Option (List ℕ) → Option (List ℕ) → ℕ → Type 0
+TellsRun file (Ok totals) old new status = (status ≡ DONE) × Keeps old new
+TellsRun file (Err e) old new status = (status ≡ error_status e) × AppendsSome old new (fault_line file e)
 
 -- what a run of the program leaves: what the writer and standard error held before and hold after, and the exit status
 pub record ProgramRun : Type 0 where
@@ -56,9 +77,31 @@ pub record ProgramRun : Type 0 where
   pub errors : Option (List ℕ)
   pub status : ℕ
 
--- a script that was left to read was played with these settings, and that is told
-abbrev pub IsPlayed : Settings → Option (List ℕ) → ProgramRun → Type 0
-IsPlayed settings input run = (answer : Result Totals RunError) × Plays settings input run.output_before run.output answer × TellsRun answer run.errors_before run.errors run.status
+-- a script that was left to read, in a file if one is named, was played with these settings, and that is told
+abbrev pub IsPlayed : Settings → Option Text → Option (List ℕ) → ProgramRun → Type 0
+IsPlayed settings file input run = (answer : Result Totals RunError) × Plays settings input run.output_before run.output answer × TellsRun file answer run.errors_before run.errors run.status
+
+-- a file couldn't be opened: nothing is written to standard output, and that is told
+abbrev pub IsUnopened : IoErrorKind → Text → ProgramRun → Type 0
+IsUnopened kind name run = (run.status ≡ DEVICE_FAULT) × Keeps run.output_before run.output × AppendsSome run.errors_before run.errors (file_line (unopened kind) name)
+
+-- what opening gave: what the file has left, or the kind of the error
+abbrev pub opened_as : {F : Type 0} → (F → Option (List ℕ)) → Result F Error → Result (Option (List ℕ)) IoErrorKind
+opened_as remaining (Ok file) = Ok (remaining file)
+opened_as remaining (Err e) = Err (error_kind e)
+
+-- what may be given where a file of a name is opened
+abbrev pub Opening : Type 1
+Opening = Text → Result (Option (List ℕ)) IoErrorKind → Type 0
+
+-- what a way of opening files by their names may give
+abbrev pub Gives : {F : Type 0} → (F → Option (List ℕ)) → (Text → Result F Error → Type 0) → Opening
+Gives {F} remaining opens name given = (opened : Result F Error) × opens name opened × (given ≡ opened_as remaining opened)
+
+-- a file that was opened is played, and else that is told
+abbrev pub IsFilePlayed : Settings → Text → Result (Option (List ℕ)) IoErrorKind → ProgramRun → Type 0
+IsFilePlayed settings name (Ok left) run = IsPlayed settings (Some name) left run
+IsFilePlayed settings name (Err kind) run = IsUnopened kind name run
 
 -- there is no such shape: nothing is written to standard output, and that is told
 abbrev pub IsUnshaped : ShapeError → ProgramRun → Type 0
@@ -86,25 +129,47 @@ Tells asked.DisplayHelp run = IsShown run ⊎ IsCutShort run
 Tells asked.DisplayVersion run = IsShown run ⊎ IsCutShort run
 Tells other run = IsFault run
 
--- a command line without a fault is played, or gives no shape
-abbrev pub IsTaken : List (List ℕ) → Option (List ℕ) → ProgramRun → Type 0
-IsTaken arguments input run = (faults arguments ≡ [])
-    × (((shape_fault (settings_of arguments) ≡ None) × IsPlayed (settings_of arguments) input run)
-    ⊎ ((error : ShapeError) × (shape_fault (settings_of arguments) ≡ Some error) × IsUnshaped error run))
+-- the names of the faults and refusals that are explained
+abbrev pub explained_names : List Text
+explained_names =
+    codes "shape-1" ∷ codes "shape-2" ∷ codes "shape-3"
+    ∷ codes "script-1" ∷ codes "script-2" ∷ codes "script-3" ∷ codes "script-4" ∷ codes "script-5"
+    ∷ codes "read" ∷ codes "file" ∷ codes "write" ∷ codes "memory" ∷ codes "worker"
+    ∷ codes "tired" ∷ codes "full" ∷ codes "spent"
+    ∷ []
+
+-- whether a name is explained
+unfoldable pub is_explained : Text → Bool
+is_explained name = list_any (λ known. bytes_eq name known) explained_names
+
+-- what is known by a name is told on standard output, and an unknown name is a fault
+abbrev pub Explains : Bool → ProgramRun → Type 0
+Explains true run = IsShown run ⊎ IsCutShort run
+Explains _ run = IsFault run
+
+-- what a command line without a fault asks for, by the name of what it wants explained, what is wrong with its shape, and the file that it names, is done: something is explained, or it is told that there is no such shape, or the script on standard input or in the file is played
+abbrev pub IsDone : Option Text → Option ShapeError → Option Text → Settings → Option (List ℕ) → Opening → ProgramRun → Type 0
+IsDone (Some name) shape file settings input opens run = Explains (is_explained name) run
+IsDone None (Some error) file settings input opens run = IsUnshaped error run
+IsDone None None None settings input opens run = IsPlayed settings None input run
+IsDone None None (Some name) settings input opens run = (given : Result (Option (List ℕ)) IoErrorKind) × opens name given × IsFilePlayed settings name given run
+
+-- what a command line asks for is done
+abbrev pub DoesAsked : List Text → Option (List ℕ) → Opening → ProgramRun → Type 0
+DoesAsked arguments input opens run = IsDone (explained_of arguments) (shape_fault (settings_of arguments)) (file_of arguments) (settings_of arguments) input opens run
 
 -- one of the faults of a command line is told
 abbrev pub IsRefused : List (List ℕ) → ProgramRun → Type 0
 IsRefused arguments run = (kind : ErrorKind) × IsAmong kind (faults arguments) × Tells kind run
 
--- how a run of the program ends, by its arguments: those that the command takes are played, or give no shape; and of all, what the command has for them is told, or want of memory
-pub record AnswersCommand (arguments : List (List ℕ)) (input : Option (List ℕ)) (run : ProgramRun) : Type 0 where
-  pub played : AreOptions arguments → shape_fault (settings_of arguments) ≡ None → IsPlayed (settings_of arguments) input run
-  pub unshaped : (error : ShapeError) → AreOptions arguments → shape_fault (settings_of arguments) ≡ Some error → IsUnshaped error run ⊎ LacksMemory run
-  pub answered : IsTaken arguments input run ⊎ (IsRefused arguments run ⊎ LacksMemory run)
+-- how a run of the program ends, by its arguments: what those that the command takes ask for is done; and of all others, what the command has for them is told; or else want of memory is, which a run that plays standard input tells of itself
+pub record AnswersCommand (arguments : List Text) (input : Option (List ℕ)) (opens : Opening) (run : ProgramRun) : Type 0 where
+  pub taken : AreOptions arguments → DoesAsked arguments input opens run ⊎ LacksMemory run
+  pub answered : ((faults arguments ≡ []) × DoesAsked arguments input opens run) ⊎ (IsRefused arguments run ⊎ LacksMemory run)
 
--- a command line that gives no settings to play with
-abbrev pub IsFaulty : List (List ℕ) → Type 0
-IsFaulty arguments = (faults arguments ≢ []) ⊎ ((error : ShapeError) × (shape_fault (settings_of arguments) ≡ Some error))
+-- a command line by which standard input isn't read: it is faulty, gives no shape, wants something explained, or names a file
+abbrev pub ReadsNoInput : List Text → Type 0
+ReadsNoInput arguments = (faults arguments ≢ []) ⊎ (((error : ShapeError) × (shape_fault (settings_of arguments) ≡ Some error)) ⊎ (((name : Text) × (explained_of arguments ≡ Some name)) ⊎ ((name : Text) × (file_of arguments ≡ Some name))))
 
 -- what `clap` answers in place of options is told, or want of memory, and for want of memory that alone
 pub record ShowsError (kind : ErrorKind) (run : ProgramRun) : Type 0 where

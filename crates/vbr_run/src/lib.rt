@@ -22,6 +22,7 @@
 //! nothing was written; a failing writer has a beginning of the output.
 #![tactic(auto)]
 
+mod explanations;
 pub mod program;
 mod report;
 

@@ -1,19 +1,24 @@
 //! The body of the program, and its exit statuses.
-ghost use Rattle.std.specs.Prelude.{◌≡◌, map};
+ghost use Rattle.std.specs.Prelude.{◌≡◌, ◌≢◌, ◌⊎◌, map, option_map, Some};
+ghost use Rattle.std.specs.Fn.{FnReturnsAt};
 ghost use Rattle.clap.specs.Words.{kind_of};
+ghost use Rattle.vbr_settings.specs.Options.{AreComplete, settings_among, shape_fault, file_among, explained_among};
+ghost use Rattle.vbr_settings.specs.Given.{rows_in};
 ghost use Rattle.vbr_run.specs.declared.program.TheConstants.{USAGE};
-ghost use Rattle.vbr_run.specs.Program.{AnswersCommand, IsFaulty, ShowsError};
+ghost use Rattle.vbr_run.specs.Program.{AnswersCommand, Explains, Gives, IsCutShort, IsDone, IsPlayed, IsShown, ReadsNoInput, ShowsError, is_explained};
 
-use crate::report::{report, report_shape};
+use crate::explanations::explanation;
+use crate::report::{report, report_shape, report_unopened};
 use clap::error::ErrorKind;
 use std::alloc::Global;
 use std::fmt::Display;
+use std::io;
 use std::io::{Read, Write};
 use std::sync::Wait;
 use std::thread::Threads;
 use vbr_player::{NoGate, play};
 pub use vbr_settings::knows_its_options;
-use vbr_settings::{OptionsError, read_options};
+use vbr_settings::{Config, Options, read_options};
 use vbr_transcript::{RunError, WriteFault, write_pieces, write_whole};
 
 /// The exit status of a run that was done.
@@ -31,11 +36,18 @@ pub const DEVICE_FAULT: u8 = 4;
 /// The exit status where there was no memory, or no thread for a worker.
 pub const NO_RESOURCES: u8 = 5;
 
+// The end of the line on a name that isn't known.
+const UNKNOWN: &[u8] = b"'; --help has the names\n";
+
 /// The program's body: reads the options from the arguments, of which the first is the program's name,
-/// plays the script that the reader gives, and answers the exit status. A fault is told in one line
-/// on `errors`; an error of `errors` itself is ignored. A fault in the options comes before a shape
-/// that is none, and both before anything is read; for a fault in the options `clap`'s text is
-/// written to `errors`, and with `--help` or `--version` its text is written to the writer.
+/// does what they ask for, and answers the exit status. They ask that the script is played that the
+/// reader gives, or the one in the file that they name, which `files` opens; or that a fault or a
+/// refusal is explained, for which nothing is read.
+///
+/// A fault is told in one line on `errors`; an error of `errors` itself is ignored. A fault in the
+/// options comes before a shape that is none, and both before anything is opened or read; for a fault
+/// in the options `clap`'s text is written to `errors`, and with `--help` or `--version` its text is
+/// written to the writer.
 ///
 /// # Example
 ///
@@ -45,21 +57,31 @@ pub const NO_RESOURCES: u8 = 5;
 ///     alloc,
 ///     &texts,
 ///     &mut rt.stdin(),
+///     &|name: &str| File::open(&rt, name),
 ///     &mut rt.stdout(),
 ///     &mut rt.stderr(),
 /// );
 /// ExitCode::from(status)
 /// ```
-pub fn run<T: Threads + Wait, R: Read, W: Write, E: Write>(
+pub fn run<
+    T: Threads + Wait,
+    R: Read,
+    F: Read + Drop,
+    O: Fn(&str) -> io::Result<F>,
+    W: Write,
+    E: Write,
+>(
     rt: &T,
     alloc: Global,
     arguments: &[&str],
     reader: &mut R,
+    files: &O,
     writer: &mut W,
     errors: &mut E,
 ) -> u8
+    requires { O.IsAlwaysCallable files.now }
     ensures answers { AnswersCommand (map (λ argument. argument.now) arguments.now)
-        (R.remaining reader.old) (record {
+        (R.remaining reader.old) (Gives F.remaining (FnReturnsAt O.Fn files.now)) (record {
           output_before = W.contents writer.old;
           output = W.contents writer.new;
           errors_before = E.contents errors.old;
@@ -67,16 +89,115 @@ pub fn run<T: Threads + Wait, R: Read, W: Write, E: Write>(
           status = result;
         }) }
     ensures unread { result ≡ USAGE → reader.new ≡ reader.old }
-    ensures unplayed { IsFaulty (map (λ argument. argument.now) arguments.now) →
+    ensures apart { ReadsNoInput (map (λ argument. argument.now) arguments.now) →
         reader.new ≡ reader.old }
 {
     match read_options(alloc, arguments) {
-        Ok(config) => match play(rt, alloc, config, reader, writer, &NoGate) {
-            Ok(_totals) => DONE,
-            Err(error) => report(errors, error),
+        Ok(options) => do_asked(rt, alloc, &options, reader, files, writer, errors),
+        Err(refusal) => show(alloc, &refusal, writer, errors),
+    }
+}
+
+// Does what options ask for.
+fn do_asked<
+    T: Threads + Wait,
+    R: Read,
+    F: Read + Drop,
+    O: Fn(&str) -> io::Result<F>,
+    W: Write,
+    E: Write,
+>(
+    rt: &T,
+    alloc: Global,
+    options: &Options,
+    reader: &mut R,
+    files: &O,
+    writer: &mut W,
+    errors: &mut E,
+) -> u8
+    requires callable { O.IsAlwaysCallable files.now }
+    requires complete { AreComplete (rows_in options.now) }
+    ensures done { IsDone (explained_among (rows_in options.now))
+        (shape_fault (settings_among (rows_in options.now))) (file_among (rows_in options.now))
+        (settings_among (rows_in options.now)) (R.remaining reader.old)
+        (Gives F.remaining (FnReturnsAt O.Fn files.now)) (record {
+          output_before = W.contents writer.old;
+          output = W.contents writer.new;
+          errors_before = E.contents errors.old;
+          errors = E.contents errors.new;
+          status = result;
+        }) }
+    ensures unread { result ≡ USAGE → reader.new ≡ reader.old }
+    ensures explained { (name : _) → explained_among (rows_in options.now) ≡ Some name →
+        reader.new ≡ reader.old }
+    ensures unshaped { (error : _) →
+        shape_fault (settings_among (rows_in options.now)) ≡ Some error →
+        reader.new ≡ reader.old }
+    ensures filed { (name : _) → file_among (rows_in options.now) ≡ Some name →
+        reader.new ≡ reader.old }
+{
+    if let Some(name) = options.explained() {
+        return explain(name, writer, errors);
+    }
+    match (options.config(), options.file()) {
+        (Err(error), _) => report_shape(errors, error),
+        (Ok(config), None) => play_script(rt, alloc, config, None, reader, writer, errors),
+        (Ok(config), Some(name)) => match files(name) {
+            Ok(mut file) => {
+                play_script(rt, alloc, config, Some(name), &mut file, writer, errors)
+            }
+            Err(error) => report_unopened(errors, name, error.kind()),
         },
-        Err(OptionsError::Unshaped(error)) => report_shape(errors, error),
-        Err(OptionsError::Usage(refusal)) => show(alloc, &refusal, writer, errors),
+    }
+}
+
+// Plays the script that a reader gives, which is a file if one is named.
+fn play_script<T: Threads + Wait, R: Read, W: Write, E: Write>(
+    rt: &T,
+    alloc: Global,
+    config: Config,
+    file: Option<&str>,
+    reader: &mut R,
+    writer: &mut W,
+    errors: &mut E,
+) -> u8
+    ensures played { IsPlayed config (option_map (λ name. name.now) file.entry)
+        (R.remaining reader.old) (record {
+          output_before = W.contents writer.old;
+          output = W.contents writer.new;
+          errors_before = E.contents errors.old;
+          errors = E.contents errors.new;
+          status = result;
+        }) }
+    ensures status { result ≢ USAGE }
+{
+    match play(rt, alloc, config, reader, writer, &NoGate) {
+        Ok(_totals) => DONE,
+        Err(error) => report(errors, file, error),
+    }
+}
+
+// Tells what is known by a name of faults and refusals.
+fn explain<W: Write, E: Write>(name: &str, writer: &mut W, errors: &mut E) -> u8
+    ensures { Explains (is_explained name.now) (record {
+      output_before = W.contents writer.old;
+      output = W.contents writer.new;
+      errors_before = E.contents errors.old;
+      errors = E.contents errors.new;
+      status = result;
+    }) }
+{
+    match explanation(name) {
+        Some(text) => show_text(text, writer, errors),
+        None => {
+            let pieces = [
+                b"error: nothing is explained by the name '".as_slice(),
+                name.as_bytes(),
+                UNKNOWN,
+            ];
+            write_pieces(errors, &pieces);
+            USAGE
+        }
     }
 }
 
@@ -97,17 +218,36 @@ fn show<W: Write, E: Write>(
     }) }
 {
     if refusal.kind() == ErrorKind::OutOfMemory {
-        return report(errors, RunError::Memory);
+        return report(errors, None, RunError::Memory);
     }
     let Ok(text) = refusal.to_string(alloc) else {
-        return report(errors, RunError::Memory);
+        return report(errors, None, RunError::Memory);
     };
     if refusal.use_stderr() {
         write_pieces(errors, &[text.as_bytes()]);
         return USAGE;
     }
+    show_text(&text, writer, errors)
+}
+
+// Shows a text that was asked for.
+fn show_text<W: Write, E: Write>(text: &str, writer: &mut W, errors: &mut E) -> u8
+    ensures { IsShown (record {
+      output_before = W.contents writer.old;
+      output = W.contents writer.new;
+      errors_before = E.contents errors.old;
+      errors = E.contents errors.new;
+      status = result;
+    }) ⊎ IsCutShort (record {
+      output_before = W.contents writer.old;
+      output = W.contents writer.new;
+      errors_before = E.contents errors.old;
+      errors = E.contents errors.new;
+      status = result;
+    }) }
+{
     match write_whole(writer, text.as_bytes()) {
         Ok(()) => DONE,
-        Err(WriteFault) => report(errors, RunError::Write),
+        Err(WriteFault) => report(errors, None, RunError::Write),
     }
 }

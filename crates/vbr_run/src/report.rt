@@ -1,20 +1,21 @@
 // The line on standard error, and the exit status, of a run that wasn't done.
-ghost use Rattle.std.specs.Prelude.{◌≡◌};
+ghost use Rattle.std.specs.Prelude.{◌≡◌, option_map};
 ghost use Rattle.vbr_transcript.specs.Writing.{AppendsSome};
-ghost use Rattle.vbr_run.specs.Program.{error_status, error_line, shape_line, shape_fault_number};
-ghost use Rattle.vbr_run.specs.declared.program.TheConstants.{USAGE};
-ghost use Rattle.vbr_transcript.specs.declared.error.RunError.TheVariants.{Script};
+ghost use Rattle.vbr_run.specs.Program.{error_status, error_line, fault_line, file_line, unopened, shape_line, shape_fault_number};
+ghost use Rattle.vbr_run.specs.declared.program.TheConstants.{DEVICE_FAULT, USAGE};
+ghost use Rattle.vbr_transcript.specs.declared.error.RunError.TheVariants.{Read, Script};
 
 use crate::program::{DEVICE_FAULT, NO_RESOURCES, SCRIPT_FAULT, USAGE};
-use std::io::Write;
+use std::io::{ErrorKind, Write};
 use vbr_script::ScriptFault;
 use vbr_transcript::{RunError, write_pieces};
 use vbr_words::ShapeError;
 
-// Tells an error in a line, and answers the exit status.
-pub fn report<E: Write>(errors: &mut E, error: RunError) -> u8
+// Tells an error in a line, and answers the exit status. The script was in a file, if one is named.
+pub fn report<E: Write>(errors: &mut E, file: Option<&str>, error: RunError) -> u8
     ensures status { result ≡ error_status error }
-    ensures told { AppendsSome (E.contents errors.old) (E.contents errors.new) (error_line error) }
+    ensures told { AppendsSome (E.contents errors.old) (E.contents errors.new)
+        (fault_line (option_map (λ name. name.now) file.entry) error) }
 {
     match error {
         RunError::Script { line, kind } => {
@@ -22,7 +23,7 @@ pub fn report<E: Write>(errors: &mut E, error: RunError) -> u8
             SCRIPT_FAULT
         }
         RunError::Read => {
-            write_pieces(errors, &[b"vbr_run: read fault\n".as_slice()]);
+            report_read(errors, file);
             DEVICE_FAULT
         }
         RunError::Write => {
@@ -37,6 +38,52 @@ pub fn report<E: Write>(errors: &mut E, error: RunError) -> u8
             write_pieces(errors, &[b"vbr_run: no worker\n".as_slice()]);
             NO_RESOURCES
         }
+    }
+}
+
+fn report_read<E: Write>(errors: &mut E, file: Option<&str>)
+    ensures { AppendsSome (E.contents errors.old) (E.contents errors.new)
+        (fault_line (option_map (λ name. name.now) file.entry) Read) }
+{
+    match file {
+        Some(name) => report_file(errors, "can't be read", name),
+        None => write_pieces(errors, &[b"vbr_run: read fault\n".as_slice()]),
+    }
+}
+
+// Tells why a file isn't played.
+fn report_file<E: Write>(errors: &mut E, why: &str, name: &str)
+    ensures { AppendsSome (E.contents errors.old) (E.contents errors.new)
+        (file_line why.now name.now) }
+{
+    let pieces = [
+        b"vbr_run: file fault: ".as_slice(),
+        why.as_bytes(),
+        b": ".as_slice(),
+        name.as_bytes(),
+        b"\n".as_slice(),
+    ];
+    write_pieces(errors, &pieces);
+}
+
+// Tells why a file couldn't be opened, and answers the exit status.
+pub fn report_unopened<E: Write>(errors: &mut E, name: &str, kind: ErrorKind) -> u8
+    ensures status { result ≡ DEVICE_FAULT }
+    ensures told { AppendsSome (E.contents errors.old) (E.contents errors.new)
+        (file_line (unopened kind) name.now) }
+{
+    report_file(errors, unopened(kind), name);
+    DEVICE_FAULT
+}
+
+// Why a file couldn't be opened.
+fn unopened(kind: ErrorKind) -> &'static str
+    ensures { result.now ≡ unopened kind }
+{
+    match kind {
+        ErrorKind::NotFound => "no such file",
+        ErrorKind::PermissionDenied => "permission denied",
+        _ => "can't be opened",
     }
 }
 

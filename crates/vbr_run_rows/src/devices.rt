@@ -187,10 +187,44 @@ fn failing_errors_are_ignored(rt: HostRuntime) {
         rt.alloc(),
         arguments.as_slice(),
         &mut reader,
+        &no_file,
         &mut output,
         &mut errors,
     );
     assert_eq!(rt; status, 3);
     assert!(rt; output.is_empty());
     assert_eq!(rt; errors.taken.as_slice(), b"vbr_run: ".as_slice());
+}
+
+// No file can be opened.
+fn no_file(_name: &str) -> io::Result<&'static [u8]> {
+    Err(io::Error::from(io::ErrorKind::NotFound))
+}
+
+// A file that gives an error behind its script.
+fn brittle_file(_name: &str) -> io::Result<BrittleReader> {
+    Ok(BrittleReader { bytes: SCRIPT })
+}
+
+/// A file that can't be read to its end is told by its name, and standard input is left as it was.
+#[test]
+fn a_failing_file_is_a_file_fault(rt: HostRuntime) {
+    let arguments = ["vbr_run", "a.script"];
+    let mut reader = b"0 insert".as_slice();
+    let mut output = Vec::new(rt.alloc());
+    let mut errors = Vec::new(rt.alloc());
+    let status = vbr_run::run(
+        &rt,
+        rt.alloc(),
+        arguments.as_slice(),
+        &mut reader,
+        &brittle_file,
+        &mut output,
+        &mut errors,
+    );
+    assert_eq!(rt; status, 4);
+    assert!(rt; output.is_empty());
+    assert_eq!(rt; reader, b"0 insert".as_slice());
+    let line = b"vbr_run: file fault: can't be read: a.script\n".as_slice();
+    assert_eq!(rt; errors.as_slice(), line);
 }

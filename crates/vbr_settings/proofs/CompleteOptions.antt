@@ -213,9 +213,9 @@ complete old m is p = at (args_of old) refl
 
     at : (args : List Arg) → args_of old ≡ args → AreComplete (rows_of (found_of m))
     at [] none =
-        let six : length (args_of old) ≡ 6 = as_many old options has in
+        let eight : length (args_of old) ≡ 8 = as_many old options has in
         let zero : length (args_of old) ≡ 0 = ap length none in
-        absurd (omega (arith, six, zero))
+        absurd (omega (arith, eight, zero))
     at (d ∷ rest) some =
         let workers = numbered_at old m p options 0 d (codes "workers") 1 MAX_WORKERS (codes "1") has (omega arith) refl (omega arith) in
         let slots = numbered_at old m p options 1 d (codes "slots") 0 4294967295 (codes "1024") has (omega arith) refl (omega arith) in

@@ -1,11 +1,10 @@
 -- The command line of the program, as `clap` has it.
-use Rattle.std.specs.Prelude.{◌≡◌, ◌≤◌, ℕ, Bool, true, false, ◌||◌, List, [], ◌∷◌, ◌++◌, fold, Option, Some, None, IfSome, codes}
+use Rattle.std.specs.Prelude.{◌≡◌, ◌≤◌, ℕ, Bool, true, false, ◌||◌, List, [], ◌∷◌, ◌++◌, fold, Option, Some, None, IfSome, option_and_then, if◌then◌else◌, codes}
 use Rattle.std.specs.Option.{option_map_or}
 use Rattle.std.specs.Str.{bytes_eq}
 use Rattle.std.specs.Str.Parse.{digits_value, without_leading_plus}
-use Rattle.clap.specs.Words.{App, Rule, Row, Text, new_app, new_rule, with_rule, takes, matches_of, one_of, IsUnsignedIn, kind_of}
-use Rattle.clap.specs.Words.{Kinds, HasKind, fault_of}
-use Rattle.clap.specs.declared.error.kind.ErrorKind.TheVariants.{OutOfMemory}
+use Rattle.clap.specs.Words.{App, Rule, Row, Text, new_app, new_rule, with_rule, takes, matches_of, one_of, first_of, IsUnsignedIn}
+use Rattle.clap.specs.Words.{Kinds, fault_of}
 use Rattle.clap.specs.declared.builder.action.ArgAction.TheVariants.{Set, SetTrue}
 use Rattle.clap.specs.declared.builder.value_parser.ValueParser.TheVariants as value
 use Rattle.vbr_settings.specs.declared.config.TheConstants.{MAX_WORKERS}
@@ -13,8 +12,6 @@ use Rattle.vbr_words.specs.Shapes.{shape_error}
 use Rattle.vbr_words.specs.declared.shape.ShapeError.{ShapeError}
 use Rattle.vbr_words.specs.declared.shape.TheConstants.{MAX_EPOCH}
 use Rattle.vbr_settings.specs.Settings.{Settings}
-use Rattle.vbr_settings.specs.declared.options.OptionsError.{OptionsError}
-use Rattle.vbr_settings.specs.declared.options.OptionsError.TheVariants as options_error
 
 -- an option that takes a number between two limits, and is this number where it isn't given
 abbrev pub number_option : Text → ℕ → ℕ → Text → Rule
@@ -30,6 +27,14 @@ number_option name least most default = record (new_rule name) {
 abbrev pub switch : Text → Rule
 switch name = record (new_rule name) { long = Some name; action = Some SetTrue; parser = Some value.Bool }
 
+-- an argument that is a text, has no option's name before it, and needn't be given
+abbrev pub lone_argument : Text → Rule
+lone_argument name = record (new_rule name) { action = Some Set; value_names = 1; parser = Some value.String }
+
+-- an option that takes a text, and needn't be given
+abbrev pub text_option : Text → Rule
+text_option name = record (lone_argument name) { long = Some name }
+
 -- the options that give the set's shape
 abbrev pub shape_options : List Rule
 shape_options =
@@ -38,14 +43,18 @@ shape_options =
     ∷ number_option (codes "last-epoch") 0 18446744073709551615 (codes "549755813887")
     ∷ []
 
--- the options of the program
+-- what else may be asked: that something is explained, or that a file is played
+abbrev pub asked_options : List Rule
+asked_options = text_option (codes "explain") ∷ lone_argument (codes "file") ∷ []
+
+-- the options of the program, and the file
 abbrev pub options : List Rule
 options =
     number_option (codes "workers") 1 MAX_WORKERS (codes "1")
     ∷ shape_options
     ++ number_option (codes "budget") 0 4294967295 (codes "100000")
     ∷ switch (codes "epoch")
-    ∷ []
+    ∷ asked_options
 
 -- a command that can be asked for its version
 abbrev pub with_version : App → App
@@ -94,6 +103,22 @@ settings_among rows = record {
 unfoldable pub settings_of : List Text → Settings
 settings_of arguments = settings_among (matches_of command_line arguments)
 
+-- the file that the matches of a command line name: none where it is the name of standard input
+unfoldable pub file_among : List Row → Option Text
+file_among rows = option_and_then (λ name. if bytes_eq name (codes "-") then None else Some name) (first_of (codes "file") rows)
+
+-- the name of what is to be explained, among the matches of a command line
+unfoldable pub explained_among : List Row → Option Text
+explained_among rows = first_of (codes "explain") rows
+
+-- the file that a command line names for the script, if it isn't standard input
+unfoldable pub file_of : List Text → Option Text
+file_of arguments = file_among (matches_of command_line arguments)
+
+-- the name of what a command line asks to be explained
+unfoldable pub explained_of : List Text → Option Text
+explained_of arguments = explained_among (matches_of command_line arguments)
+
 -- the settings that the program's name alone gives: each option's own value
 abbrev pub own_settings : Settings
 own_settings = record {
@@ -120,6 +145,8 @@ each_option =
     ∷ codes "--last-epoch" ∷ codes "7"
     ∷ codes "--budget" ∷ codes "1000000"
     ∷ codes "--epoch"
+    ∷ codes "--explain" ∷ codes "script-1"
+    ∷ codes "a.script"
     ∷ []
 
 -- the settings that those arguments give
@@ -166,14 +193,3 @@ pub record AreComplete (rows : List Row) : Type 0 where
   pub small_slots : number_among (codes "slots") rows ≤ 4294967295
   pub small_buckets : number_among (codes "buckets") rows ≤ 4294967295
   pub small_budget : number_among (codes "budget") rows ≤ 4294967295
-
--- a command line has no fault, and gives these settings, whose shape is one
-pub record GivesSettings (arguments : List Text) (given : Settings) : Type 0 where
-  pub faultless : faults arguments ≡ []
-  pub settings : given ≡ settings_of arguments
-  pub shaped : shape_fault (settings_of arguments) ≡ None
-
--- why a command line gives no options to play with: an error of a kind that `clap` has for it, or want of memory; or no fault but a shape that is none
-abbrev pub IsOptionsErrorOf : List Text → OptionsError → Type 0
-IsOptionsErrorOf arguments (options_error.Usage error) = HasKind (faults arguments) error × (AreOptions arguments → kind_of error ≡ OutOfMemory)
-IsOptionsErrorOf arguments (options_error.Unshaped error) = (faults arguments ≡ []) × (shape_fault (settings_of arguments) ≡ Some error)

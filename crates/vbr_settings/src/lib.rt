@@ -2,11 +2,14 @@
 //! so.
 //!
 //! A [`Config`] has the shape of the set, the number of workers, the budget of each call, and whether
-//! the epoch is told. [`read_options`] reads one off the arguments of a command line.
+//! the epoch is told. [`read_options`] reads the [`Options`] off the arguments of a command line: such
+//! a config, the file that the script is in, and whether something is to be explained in its place.
 #![tactic(auto)]
 
+pub mod command;
 pub mod config;
 pub mod options;
 
+pub use command::{knows_its_faults, knows_its_options, read_options};
 pub use config::{Config, ConfigError, MAX_WORKERS};
-pub use options::{OptionsError, knows_its_options, read_options};
+pub use options::Options;

@@ -1,62 +1,59 @@
 -- Each way through the program's body is one of the answers to its command line.
-use Rattle.std.proofs.Common.{◌≡◌, ◌≢◌, ◌⊎◌, ℕ, List, [], Option, Some, None, inl, inr, subst, sym, ◌∙◌}
-use Rattle.std.specs.Prelude.{Err}
-use Rattle.clap.specs.Words.{IsAmong, kind_of}
+use Rattle.std.proofs.Common.{◌≡◌, ◌⊎◌, ℕ, List, Option, Some, inl, inr, subst, ap, ◌∙◌}
+use Rattle.clap.specs.Words.{IsAmong, Text, kind_of}
 use Rattle.clap.specs.declared.error.kind.ErrorKind.{ErrorKind}
 use Rattle.clap.specs.declared.error.kind.ErrorKind.TheVariants as asked
 use Rattle.vbr_words.specs.declared.shape.ShapeError.{ShapeError}
-use Rattle.vbr_settings.specs.Options.{AreOptions, faults, settings_of, shape_fault}
+use Rattle.vbr_settings.specs.Options.{AreOptions, faults, settings_among, file_of, file_among, explained_of, explained_among, shape_fault}
 use Rattle.vbr_settings.specs.Settings.{Settings}
-use Rattle.vbr_transcript.specs.declared.error.RunError.TheVariants.{Memory}
-use Rattle.vbr_run.specs.Program.{AnswersCommand, IsFaulty, IsPlayed, IsRefused, IsTaken, IsUnshaped, LacksMemory, ProgramRun, ShowsError, Tells}
+use Rattle.vbr_settings.specs.Given.{IsReadOff, rows_in}
+use Rattle.vbr_settings.specs.declared.options.Options.{Options}
+use Rattle.vbr_run.specs.Program.{AnswersCommand, DoesAsked, IsDone, IsRefused, LacksMemory, Opening, ProgramRun, ShowsError, Tells, ReadsNoInput}
 use Rattle.vbr_run.proofs.program.run.Goals as goal
 
-some_or_none : (shape : Option ShapeError) (error : ShapeError) → shape ≡ None → shape ≡ Some error → ⊥
-some_or_none shape error none some = let both = sym none ∙ some in absurd (cc)
+-- ---- what was asked for
 
--- ---- played
+does : (arguments : List Text) (options : Options) (input : Option (List ℕ)) (opens : Opening) (run : ProgramRun) → IsReadOff arguments options → IsDone (explained_among (rows_in options)) (shape_fault (settings_among (rows_in options))) (file_among (rows_in options)) (settings_among (rows_in options)) input opens run → DoesAsked arguments input opens run
+does arguments options input opens run given done =
+    let named = subst (λ (name : Option Text). IsDone name (shape_fault (settings_among (rows_in options))) (file_among (rows_in options)) (settings_among (rows_in options)) input opens run) given.explained done in
+    let filed = subst (λ (file : Option Text). IsDone (explained_of arguments) (shape_fault (settings_among (rows_in options))) file (settings_among (rows_in options)) input opens run) given.file named in
+    subst (λ (settings : Settings). IsDone (explained_of arguments) (shape_fault settings) (file_of arguments) settings input opens run) given.settings filed
 
-plays : (arguments : List (List ℕ)) (input : Option (List ℕ)) (run : ProgramRun) → faults arguments ≡ [] → shape_fault (settings_of arguments) ≡ None → IsPlayed (settings_of arguments) input run → AnswersCommand arguments input run
-plays arguments input run faultless shaped played = record {
-  played = λ taken none. played;
-  unshaped = λ error taken fault. absurd (some_or_none _ error shaped fault);
-  answered = inl (faultless, inl (shaped, played));
-}
-
-plays_as : (arguments : List (List ℕ)) (input : Option (List ℕ)) (settings : Settings) (run : ProgramRun) → faults arguments ≡ [] → shape_fault (settings_of arguments) ≡ None → settings ≡ settings_of arguments → IsPlayed settings input run → AnswersCommand arguments input run
-plays_as arguments input settings run faultless shaped is played = plays arguments input run faultless shaped (subst (λ given. IsPlayed given input run) is played)
+answers : (arguments : List Text) (options : Options) (input : Option (List ℕ)) (opens : Opening) (run : ProgramRun) → IsReadOff arguments options → IsDone (explained_among (rows_in options)) (shape_fault (settings_among (rows_in options))) (file_among (rows_in options)) (settings_among (rows_in options)) input opens run → AnswersCommand arguments input opens run
+answers arguments options input opens run given done =
+    let does_so = does arguments options input opens run given done in
+    record { taken = λ taken. inl does_so; answered = inl (given.faultless, does_so) }
 
 -- ---- an answer of the option parser
 
-lacks_plays : (arguments : List (List ℕ)) (input : Option (List ℕ)) (run : ProgramRun) → LacksMemory run → IsPlayed (settings_of arguments) input run
-lacks_plays arguments input run lacks = (Err Memory, lacks.1, (lacks.0, lacks.2))
+lacks : (arguments : List Text) (input : Option (List ℕ)) (opens : Opening) (run : ProgramRun) → LacksMemory run → AnswersCommand arguments input opens run
+lacks arguments input opens run no_memory = record { taken = λ taken. inr no_memory; answered = inr (inr no_memory) }
 
-lacks : (arguments : List (List ℕ)) (input : Option (List ℕ)) (run : ProgramRun) → LacksMemory run → AnswersCommand arguments input run
-lacks arguments input run no_memory = record {
-  played = λ taken none. lacks_plays arguments input run no_memory;
-  unshaped = λ error taken fault. inr no_memory;
-  answered = inr (inr no_memory);
-}
-
-is_refused : (arguments : List (List ℕ)) (input : Option (List ℕ)) (kind : ErrorKind) (run : ProgramRun) → (kind ≡ asked.OutOfMemory) ⊎ IsAmong kind (faults arguments) → (AreOptions arguments → kind ≡ asked.OutOfMemory) → ShowsError kind run → AnswersCommand arguments input run
-is_refused arguments input kind run (inl memory) passes shown = lacks arguments input run (shown.memory memory)
-is_refused arguments input kind run (inr among) passes shown = record {
-  played = λ taken none. lacks_plays arguments input run (shown.memory (passes taken));
-  unshaped = λ error taken fault. inr (shown.memory (passes taken));
+is_refused : (arguments : List Text) (input : Option (List ℕ)) (opens : Opening) (kind : ErrorKind) (run : ProgramRun) → (kind ≡ asked.OutOfMemory) ⊎ IsAmong kind (faults arguments) → (AreOptions arguments → kind ≡ asked.OutOfMemory) → ShowsError kind run → AnswersCommand arguments input opens run
+is_refused arguments input opens kind run (inl memory) passes shown = lacks arguments input opens run (shown.memory memory)
+is_refused arguments input opens kind run (inr among) passes shown = record {
+  taken = λ taken. inr (shown.memory (passes taken));
   answered = inr (told shown.told);
 } where
   told : Tells kind run ⊎ LacksMemory run → IsRefused arguments run ⊎ LacksMemory run
   told (inl tells) = inl (kind, among, tells)
   told (inr no_memory) = inr no_memory
 
+-- ---- what isn't read
+
+apart : {S : Type 0} (arguments : List Text) (options : Options) (old new : S) → IsReadOff arguments options → ((name : Text) → explained_among (rows_in options) ≡ Some name → new ≡ old) → ((error : ShapeError) → shape_fault (settings_among (rows_in options)) ≡ Some error → new ≡ old) → ((name : Text) → file_among (rows_in options) ≡ Some name → new ≡ old) → ReadsNoInput arguments → new ≡ old
+apart arguments options old new given explained unshaped filed (inl faulty) = absurd (faulty given.faultless)
+apart arguments options old new given explained unshaped filed (inr (inl shape)) = unshaped shape.0 (ap shape_fault given.settings ∙ shape.1)
+apart arguments options old new given explained unshaped filed (inr (inr (inl name))) = explained name.0 (given.explained ∙ name.1)
+apart arguments options old new given explained unshaped filed (inr (inr (inr name))) = filed name.0 (given.file ∙ name.1)
+
 -- ---- the ways
 
-pub returns-in-Err-clause-answers : goal.returns-in-Err-clause-answers
-returns-in-Err-clause-answers g c =
-    let given = c.in-Ok.ensures.ok in
-    plays_as _ _ c.in-Ok.config _ given.faultless given.shaped given.settings (Err c.in-Err.error, c.in-Err.ensures, (c.report.ensures.status, c.report.ensures.told))
+pub returns-in-Ok-clause-answers : goal.returns-in-Ok-clause-answers
+returns-in-Ok-clause-answers g c = answers _ c.in-Ok.options _ _ _ c.in-Ok.ensures.ok c.do_asked.ensures.done
 
-pub returns-in-Err-Usage-clause-answers : goal.returns-in-Err-Usage-clause-answers
-returns-in-Err-Usage-clause-answers g c =
-    let refused = rw c.in-Err-Usage.field-0-is at c.in-Err-Usage.ensures.error in
-    is_refused _ _ (kind_of c.in-Err-Usage.refusal) _ refused.0 refused.1 c.show.ensures
+pub returns-in-Ok-clause-apart : goal.returns-in-Ok-clause-apart
+returns-in-Ok-clause-apart g c = apart _ c.in-Ok.options _ _ c.in-Ok.ensures.ok c.do_asked.ensures.explained c.do_asked.ensures.unshaped c.do_asked.ensures.filed
+
+pub returns-in-Err-clause-answers : goal.returns-in-Err-clause-answers
+returns-in-Err-clause-answers g c = is_refused _ _ _ (kind_of c.in-Err.refusal) _ c.in-Err.ensures.error.0 c.in-Err.ensures.error.1 c.show.ensures

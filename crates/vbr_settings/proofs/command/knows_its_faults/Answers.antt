@@ -2,7 +2,7 @@
 use Rattle.std.proofs.Common.{refl}
 use Rattle.clap.proofs.OnLiterals.{clap_on_literals}
 use Rattle.vbr_settings.specs.Options.{command_line, faults}
-use Rattle.vbr_settings.proofs.options.knows_its_faults.Goals as goal
+use Rattle.vbr_settings.proofs.command.knows_its_faults.Goals as goal
 
 pub returns-clause-workers : goal.returns-clause-workers
 unfolding clap_on_literals command_line faults

@@ -2,7 +2,7 @@
 use Rattle.std.proofs.Common.{◌≡◌, ap₂, ◌∙◌, refl, rules, codes}
 use Rattle.clap.specs.Words.{rule_of, with_rule}
 use Rattle.vbr_settings.specs.Options.{number_option}
-use Rattle.vbr_settings.proofs.options.with_shape.Goals as goal
+use Rattle.vbr_settings.proofs.command.with_shape.Goals as goal
 
 pub returns-clause-options : goal.returns-clause-options
 returns-clause-options c =

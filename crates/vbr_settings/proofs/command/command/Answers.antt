@@ -1,11 +1,15 @@
 -- The command that is built is the one of the definition.
 use Rattle.std.proofs.Common.{◌≡◌, ap, ap₂, ◌∙◌, rules, codes}
-use Rattle.std.specs.Prelude.{fold}
+use Rattle.std.specs.Prelude.{fold, Result, Ok, Err, IfOk}
 use Rattle.clap.specs.Words.{App, app_of, rule_of, with_rule, new_app}
 use Rattle.clap.specs.Simple.{app_of_fields}
-use Rattle.vbr_settings.specs.Options.{number_option, switch, shape_options, with_version, command_line}
+use Rattle.vbr_settings.specs.Options.{number_option, switch, shape_options, asked_options, with_version, command_line}
 use Rattle.vbr_settings.specs.declared.config.TheConstants.{MAX_WORKERS}
-use Rattle.vbr_settings.proofs.options.command.Goals as goal
+use Rattle.vbr_settings.proofs.command.command.Goals as goal
+
+of_ok : {T E : Type 0} (r : Result T E) (P Q : T → Type 0) → IfOk r P → ((x : T) → P x → Q x) → IfOk r Q
+of_ok (Ok x) P Q has weaker = weaker x has
+of_ok (Err e) P Q has weaker = tt
 
 pub returns-clause-options : goal.returns-clause-options
 unfolding command_line
@@ -18,4 +22,5 @@ returns-clause-options c =
     let one = c.in_ok-arg.ensures.shape c.number-workers.ensures.local ∙ ap₂ with_rule none workers in
     let shaped = c.in_ok-command.ensures.options ∙ ap (λ (app : App). fold with_rule app shape_options) one in
     let five = c.in_ok-arg-2.ensures.shape c.number-budget.ensures.local ∙ ap₂ with_rule shaped budget in
-    c.in_ok-arg-3.ensures.shape c.switch-epoch.ensures.local ∙ ap₂ with_rule five epoch
+    let six = c.in_ok-arg-3.ensures.shape c.switch-epoch.ensures.local ∙ ap₂ with_rule five epoch in
+    of_ok c.with_asked.result _ _ c.with_asked.ensures.options (λ asked is. is ∙ ap (λ (app : App). fold with_rule app asked_options) six)
