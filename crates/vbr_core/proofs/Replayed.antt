@@ -11,6 +11,8 @@ use Rattle.vbr_core.specs.KeptOpenings.{IsOpening}
 use Rattle.vbr_core.specs.Replays.{StopsAt}
 use Rattle.vbr_machine.specs.declared.event.Event.{Event}
 use Rattle.vbr_machine.specs.declared.event.CoreRefusal.{CoreRefusal}
+use Rattle.vbr_machine.specs.declared.event.CoreRefusal.TheVariants.{NoMemory}
+use Rattle.vbr_core.specs.Growth.{NeedsMemory}
 use Rattle.vbr_machine.proofs.Lemmas.{world_after-snoc, is_run_snoc}
 
 -- one more accepted event of a run
@@ -23,9 +25,15 @@ run_push shape same passes count events i d w next same_is count_is w_is lt run 
     )
 
 -- the first event that is refused
-pub run_stops : (shape same : Dimensions) (passes count : ℕ) (events : List Event) (i : ℕ) (d : Event) (w : World) (refusal : CoreRefusal) → same ≡ shape → count ≡ passes → w ≡ world_after shape (take i events) → i < length events → IsRun shape passes (take i events) → Refuses same count w (get_or events i d) refusal → StopsAt shape passes events i refusal
-run_stops shape same passes count events i d w refusal same_is count_is w_is lt run refused =
-    inr (inr (get_or events i d, slice_get-get_or events i d lt, run, subst (λ (at : Dimensions × ℕ × World). Refuses at.0 at.1 at.2 (get_or events i d) refusal) (λ k. (same_is k, count_is k, w_is k)) refused))
+pub run_stops : (shape same : Dimensions) (passes count : ℕ) (events : List Event) (i : ℕ) (d : Event) (w : World) (refusal : CoreRefusal) → same ≡ shape → count ≡ passes → w ≡ world_after shape (take i events) → i < length events → IsRun shape passes (take i events) → Refuses same count w (get_or events i d) refusal → (refusal ≡ NoMemory → NeedsMemory same w (get_or events i d)) → StopsAt shape passes events i refusal
+run_stops shape same passes count events i d w refusal same_is count_is w_is lt run refused grows =
+    inr (inr (record {
+      event = get_or events i d;
+      here = slice_get-get_or events i d lt;
+      run = run;
+      refused = subst (λ (at : Dimensions × ℕ × World). Refuses at.0 at.1 at.2 (get_or events i d) refusal) (λ k. (same_is k, count_is k, w_is k)) refused;
+      grows = λ lacks. subst (λ (at : Dimensions × World). NeedsMemory at.0 at.1 (get_or events i d)) (λ k. (same_is k, w_is k)) (grows lacks);
+    }))
 
 -- where a replay from an opening on stops is told of the shape and the number of passes that opened
 pub stops_from : (opened : Dimensions) (count : ℕ) (kept : KeptWorld) (events : List Event) (answer : Result KeptWorld (ℕ × CoreRefusal)) → IsOpening opened count kept → IfErr answer (λ e. StopsAt kept.shape (length kept.passes) events e.0 e.1) → IfErr answer (λ e. StopsAt opened count events e.0 e.1)

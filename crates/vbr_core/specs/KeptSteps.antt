@@ -7,6 +7,8 @@ use Rattle.vbr_machine.specs.declared.event.Event.{Event}
 use Rattle.vbr_machine.specs.declared.event.Step.{Step}
 use Rattle.vbr_machine.specs.declared.event.Effect.{Effect}
 use Rattle.vbr_machine.specs.declared.event.CoreRefusal.{CoreRefusal}
+use Rattle.vbr_machine.specs.declared.event.CoreRefusal.TheVariants.{NoMemory}
+use Rattle.vbr_core.specs.Growth.{NeedsMemory}
 use Rattle.vbr_core.specs.Kept.{KeptWorld, world_of}
 
 -- the word that a step finds
@@ -32,7 +34,8 @@ pub record IsMade (old new : KeptWorld) (event : Event) (answer : Effect) : Type
   pub effect : answer ≡ effect_of event.step (found_in old event.step)
   pub after : world_of new ≡ machine.after old.shape (world_of old) event.pass event.step
 
--- the event was refused, for this, and nothing has changed
+-- the event was refused, for this, and nothing has changed; memory lacks only where the event makes a list longer
 pub record IsRefused (old new : KeptWorld) (event : Event) (why : CoreRefusal) : Type 0 where
   pub refused : IsRefusedIn old event why
   pub unchanged : new ≡ old
+  pub grows : why ≡ NoMemory → NeedsMemory old.shape (world_of old) event

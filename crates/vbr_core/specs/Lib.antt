@@ -32,6 +32,7 @@ pub mod Answering
 pub mod Kept
 pub mod Reached
 pub mod KeptOpenings
+pub mod Growth
 pub mod KeptSteps
 pub mod KeptWrites
 pub mod KeptLearning

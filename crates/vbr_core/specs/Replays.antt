@@ -6,6 +6,7 @@ use Rattle.vbr_machine.specs.declared.event.CoreRefusal.{CoreRefusal}
 use Rattle.vbr_machine.specs.declared.event.CoreRefusal.TheVariants.{NoSuchPass, NoMemory}
 use Rattle.vbr_machine.specs.Runs.{IsRun, Refuses, world_after}
 use Rattle.vbr_machine.specs.Safety.{IsSafe}
+use Rattle.vbr_core.specs.Growth.{NeedsMemory}
 use Rattle.vbr_core.specs.Kept.{KeptWorld, world_of}
 
 -- the events are a run, which is safe, and the world is the one after it, with so many passes
@@ -16,9 +17,17 @@ pub record IsReplayed (opened : Dimensions) (count : ℕ) (events : List Event) 
   pub shape : kept.shape ≡ opened
   pub passes : length kept.passes ≡ count
 
--- where and why a replay stops: no such number of passes or no memory at the opening, or the first event that is refused after those before it
+-- the event at an index is refused, for this, after those before it, which are a run; memory lacks only where it makes a list longer
+pub record StopsIn (shape : Dimensions) (passes : ℕ) (events : List Event) (index : ℕ) (refusal : CoreRefusal) : Type 0 where
+  pub event : Event
+  pub here : slice_get events index ≡ Some event
+  pub run : IsRun shape passes (take index events)
+  pub refused : Refuses shape passes (world_after shape (take index events)) event refusal
+  pub grows : refusal ≡ NoMemory → NeedsMemory shape (world_after shape (take index events)) event
+
+-- where and why a replay stops: no such number of passes or no memory at the opening, or the first event that is refused
 abbrev pub StopsAt : Dimensions → ℕ → List Event → ℕ → CoreRefusal → Type 0
 StopsAt shape passes events index refusal =
     ((index ≡ 0) × (refusal ≡ NoSuchPass) × ((passes ≡ 0) ⊎ (64 < passes)))
     ⊎ (((index ≡ 0) × (refusal ≡ NoMemory))
-    ⊎ ((event : Event) × (slice_get events index ≡ Some event) × IsRun shape passes (take index events) × Refuses shape passes (world_after shape (take index events)) event refusal))
+    ⊎ StopsIn shape passes events index refusal)

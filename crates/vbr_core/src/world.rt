@@ -164,8 +164,9 @@ impl World {
 
     /// One step. It tests whether the pass is there, whether the step is in the shape, what the
     /// pass owns, what it has checked, the step's numbers, and the last epoch, in that order. Then
-    /// the pass learns, and a step that isn't lost writes. Where a step is refused, nothing
-    /// changes.
+    /// the pass learns, and a step that isn't lost writes. Memory is refused only to a step that
+    /// makes a list longer: the reads of its pass, pending or checked, or the calls. Where a step
+    /// is refused, nothing changes.
     pub fn step(&mut self, event: Event) -> Result<Effect, CoreRefusal>
         ensures made { IfOk result (IsMade self.old self.new event) }
         ensures refused { IfErr result (IsRefused self.old self.new event) }

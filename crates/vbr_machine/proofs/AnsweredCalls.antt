@@ -1,5 +1,6 @@
 -- Calls that are answered one after another: what a write at the first that isn't answered yet leaves.
-use Rattle.std.proofs.Common.{◌≡◌, ℕ, zero, suc, ◌+◌, ◌<◌, List, [], ◌∷◌, length, take, drop, set, get_or, Result, Ok, Err, OnErr, refl, sym, ap, ◌∙◌, add-one, subst, arith}
+use Rattle.std.proofs.Common.{◌≡◌, ℕ, zero, suc, ◌+◌, ◌<◌, List, [], ◌∷◌, length, take, drop, set, get_or, Some, Result, Ok, Err, OnErr, refl, sym, ap, ◌∙◌, add-one, subst, arith, length-drop}
+use Rattle.std.specs.Prelude.{slice_get}
 use Rattle.std.proofs.lemmas.List.{drop-set-lt}
 use Rattle.vbr_machine.specs.Maps.{StoresAsked, StoreAsked}
 use Rattle.vbr_machine.specs.declared.history.Call.{Call}
@@ -21,6 +22,14 @@ rest_after calls first i same call = drop-set-lt (i + 1) calls i call (omega ari
 -- lists that are the same begin with the same call
 first_same : (c a : Call) (cs rest : List Call) → c ∷ cs ≡ a ∷ rest → c ≡ a
 first_same c a cs rest same = cc
+
+-- a call that isn't answered yet stands among those that were asked
+pub still_asked : (calls asked : List Call) (i : ℕ) (none : Call) → i < length asked → drop i calls ≡ drop i asked → slice_get asked i ≡ Some (get_or calls i none)
+still_asked calls [] i none here same = absurd (omega (arith, here))
+still_asked [] (a ∷ rest) zero none here same = absurd (cc)
+still_asked (c ∷ cs) (a ∷ rest) zero none here same = ap Some (sym (first_same c a cs rest same))
+still_asked [] (a ∷ rest) (suc i) none here same = absurd (let none_left : 0 ≡ length (drop i rest) = ap (λ (xs : List Call). length xs) same in omega (arith, here, none_left, length-drop i rest))
+still_asked (c ∷ cs) (a ∷ rest) (suc i) none here same = still_asked cs rest i none (omega (arith, here)) same
 
 -- one more insert stores the value that was asked for
 pub stored_more : (asked calls : List Call) (i : ℕ) (none answered : Call) → i < length calls → drop i calls ≡ drop i asked → StoreAsked (take i asked) (take i calls) → StoresAsked (get_or calls i none) answered

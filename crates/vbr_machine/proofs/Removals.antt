@@ -1,5 +1,5 @@
 -- A removed incarnation leaves its list for good, and a remove that was answered yes has marked one of its key.
-use Rattle.std.proofs.Common.{◌≡◌, ◌≢◌, ℕ, suc, ◌+◌, Bool, true, List, [], ◌∷◌, ◌++◌, length, refl, sym, ap, ◌∙◌, subst, append_assoc, append-nil, eq-eqb, inl, inr, arith, length-append}
+use Rattle.std.proofs.Common.{◌≡◌, ◌≢◌, ℕ, ◌+◌, Bool, true, List, [], ◌∷◌, ◌++◌, length, refl, sym, ap, ◌∙◌, subst, append_assoc, append-nil, eq-eqb, inl, inr, arith, length-append}
 use Rattle.std.specs.Prelude.{◌==◌, ◌⊎◌}
 use Rattle.std.specs.List.{Contains}
 use Rattle.std.proofs.lemmas.Bool.{cases_eq, ne_eqb}
@@ -7,13 +7,12 @@ use Rattle.std.proofs.lemmas.Bool.Decides.{nat_tests}
 use Rattle.std.proofs.lemmas.List.{append_cancel_left}
 use Rattle.std.proofs.lemmas.List.Elements.{Contains-append_left, Contains-append_right, Contains-push, filter-append}
 use Rattle.vbr_words.specs.Dimensions.{Dimensions, IsShape}
-use Rattle.vbr_machine.specs.Put.{put}
 use Rattle.vbr_machine.specs.Keys.{Keys}
 use Rattle.vbr_machine.specs.Opened.{opening_keys}
 use Rattle.vbr_machine.specs.History.{calls_by}
 use Rattle.vbr_machine.specs.Runs.{Begins, IsRun, world_after}
 use Rattle.vbr_machine.specs.Calls.{own_calls}
-use Rattle.vbr_machine.specs.Machine.{World, opening}
+use Rattle.vbr_machine.specs.Machine.{opening}
 use Rattle.vbr_machine.specs.Incarnations.{State, Unborn, InHand, GivenUp, Linked, Marked, Unlinked, Stamped, Incarnations, at_opening}
 use Rattle.vbr_machine.specs.Chronicles.{Happening, Advances, Gains, Probes, Raises, GivesUp, Bears, Keyed, Valued, Aims, Inserts, Removes, Unlinks, Stamps, Answers, Entry, Allowed, ChangesNothing, becomes, calls_made, incarnations_from, IsLawful, entries_by}
 use Rattle.vbr_machine.specs.Accounts.{chronicle, chronicle_from, incarnations_after, notes_after, own_entries}
@@ -24,7 +23,7 @@ use Rattle.vbr_machine.specs.declared.history.Call.{Call}
 use Rattle.vbr_machine.specs.declared.history.Op.{Op}
 use Rattle.vbr_machine.specs.declared.history.Op.TheVariants.{Insert, Remove, Has, Get}
 use Rattle.vbr_machine.specs.declared.event.Event.{Event}
-use Rattle.vbr_machine.proofs.Growth.{grows, grows_after}
+use Rattle.vbr_machine.proofs.Growth.{grows_after}
 use Rattle.vbr_machine.proofs.SoundAfter.{sound_kept}
 use Rattle.vbr_machine.proofs.EveryRun.{run_agrees, run_grows, runs_agree, incarnations-append}
 use Rattle.vbr_machine.proofs.OwnEntries.{chronicle_from-append}

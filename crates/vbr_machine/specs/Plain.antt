@@ -1,5 +1,5 @@
 -- What calls of the plain set and of the plain map tell: one record for each outcome.
-use Rattle.std.specs.Prelude.{◌≡◌, ◌<◌, ℕ, Bool, true, false, List, Option, Some, length, take, drop}
+use Rattle.std.specs.Prelude.{◌≡◌, ℕ, Bool, true, false, List, Option, Some, take, drop, slice_get}
 use Rattle.vbr_machine.specs.Keys.{keys_of}
 use Rattle.vbr_machine.specs.History.{reply_of, keys_after, Leads}
 use Rattle.vbr_machine.specs.Maps.{keys_in, entries_in, entries_after, GivesEntry, MapLeads, StoreAsked}
@@ -18,10 +18,13 @@ pub record SetRefuses (old new : List ℕ) (op : Op) (key : ℕ) : Type 0 where
   pub insert : op ≡ Insert
   pub absent : keys_of old key ≡ false
 
--- calls before one that was refused are answered, from the keys before to the keys after, and that one and the others are untouched
+-- calls before one that was refused, an insert of a key that is then absent, are answered, from the keys before to the keys after, and that one and the others are untouched
 pub record SetStops (old new : List ℕ) (asked calls : List Call) : Type 0 where
   pub count : ℕ
-  pub inside : count < length asked
+  pub stopped : Call
+  pub here : slice_get asked count ≡ Some stopped
+  pub insert : stopped.op ≡ Insert
+  pub absent : keys_of new stopped.key ≡ false
   pub leads : Leads (keys_of old) (take count calls) (keys_of new)
   pub rest : drop count calls ≡ drop count asked
 
@@ -38,10 +41,13 @@ pub record MapRefuses (old new : List (ℕ × ℕ)) (op : Op) (key : ℕ) : Type
   pub insert : op ≡ Insert
   pub absent : keys_in (entries_in old) key ≡ false
 
--- calls before one that was refused are answered, from the entries before to the entries after, and that one and the others are untouched
+-- calls before one that was refused, an insert of a key that is then absent, are answered, from the entries before to the entries after, and that one and the others are untouched
 pub record MapStops (old new : List (ℕ × ℕ)) (asked calls : List Call) : Type 0 where
   pub count : ℕ
-  pub inside : count < length asked
+  pub stopped : Call
+  pub here : slice_get asked count ≡ Some stopped
+  pub insert : stopped.op ≡ Insert
+  pub absent : keys_in (entries_in new) stopped.key ≡ false
   pub leads : MapLeads (entries_in old) (take count calls) (entries_in new)
   pub stored : StoreAsked (take count asked) (take count calls)
   pub rest : drop count calls ≡ drop count asked

@@ -63,8 +63,9 @@ impl PlainMap {
 
     /// Answers calls in order, and writes each reply and each value into its call. An insert stores
     /// the value that stands in its call, or 0 where there is none. The answers make a legal
-    /// history that leads to the entries that the map then has. Where memory is refused, the calls
-    /// before that one are answered so, and the others stay as they were.
+    /// history that leads to the entries that the map then has. Memory is refused only at an insert
+    /// of a key that is absent then: the calls before it are answered so, and the others stay as
+    /// they were.
     pub fn apply_all(&mut self, calls: &mut [Call]) -> Result<(), AllocError>
         ensures requests { map request_of calls.new ≡ map request_of calls.old }
         ensures ok { OnOk result (MapLeads (entries_in self.old) calls.new (entries_in self.new)) }

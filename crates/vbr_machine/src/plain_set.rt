@@ -47,8 +47,9 @@ impl PlainSet {
     }
 
     /// Answers calls in order, and writes each reply into its call. The replies make a legal
-    /// history that leads to the keys that the set then has. Where memory is refused, the calls
-    /// before that one are answered so, and the others stay as they were.
+    /// history that leads to the keys that the set then has. Memory is refused only at an insert of
+    /// a key that is absent then: the calls before it are answered so, and the others stay as they
+    /// were.
     pub fn apply_all(&mut self, calls: &mut [Call]) -> Result<(), AllocError>
         ensures requests { map request_of calls.new ≡ map request_of calls.old }
         ensures ok { OnOk result (Leads (keys_of self.old) calls.new (keys_of self.new)) }

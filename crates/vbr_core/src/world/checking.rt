@@ -1,5 +1,5 @@
 // Whether an event is accepted, and what its pass has for it.
-ghost use Rattle.std.specs.Prelude.{◌≡◌, ◌<◌, true, length, OnOk, IfErr};
+ghost use Rattle.std.specs.Prelude.{◌≡◌, ◌≢◌, ◌<◌, true, length, OnOk, IfErr};
 ghost use Rattle.vbr_words.specs.Words.{link_of};
 ghost use Rattle.vbr_machine.specs.Acceptance.{IsInShape};
 ghost use Rattle.vbr_machine.specs.Learning.{link_written, succeeds, key_written};
@@ -15,10 +15,11 @@ use vbr_machine::{Call, CoreRefusal, Event, Step};
 use vbr_words::shape::MAX_EPOCH;
 
 impl Lists {
-    // Accepts an event, or says why not.
+    // Accepts an event, or says why not. It takes no memory.
     pub(super) fn check(&self, event: Event) -> Result<(), CoreRefusal>
         ensures accepted { OnOk result (IsAcceptedIn self.now event) }
         ensures refused { IfErr result (IsRefusedIn self.now event) }
+        ensures memory { IfErr result (λ why. why ≢ CoreRefusal.NoMemory) }
     {
         if event.pass as usize >= self.passes.len() {
             return Err(CoreRefusal::NoSuchPass);

@@ -2,6 +2,7 @@
 ghost use Rattle.std.specs.Prelude.{◌≡◌, ◌<◌, length, OnOk, OnErr};
 ghost use Rattle.vbr_machine.specs.Acceptance.{Accepts};
 ghost use Rattle.vbr_machine.specs.Learning.{learn};
+ghost use Rattle.vbr_core.specs.Growth.{NeedsMemory, ReadsMore};
 ghost use Rattle.vbr_core.specs.Kept.{world_of};
 ghost use Rattle.vbr_core.specs.KeptSteps.{IsAcceptedIn, KeepsShape, found_in};
 ghost use Rattle.vbr_core.specs.KeptLearning.{HasRoom, HaveSlots, LearnsAt, known_by};
@@ -15,13 +16,14 @@ use vbr_machine::Event;
 
 impl Lists {
     // The pass learns from an accepted step, and the call of a step that succeeds is kept. All
-    // memory is taken before anything changes.
+    // memory is taken before anything changes, and it lacks only where a list gets longer.
     pub(super) fn learn(&mut self, event: Event, found: u64) -> Result<(), AllocError>
         requires accepted { IsAcceptedIn self.old event }
         requires found { found ≡ found_in self.old event.step }
         ensures learned { OnOk result (world_of self.new
             ≡ with_answer self.old.shape (world_of self.old) event.pass event.step) }
         ensures refused { OnErr result (self.new ≡ self.old) }
+        ensures grows { OnErr result (NeedsMemory self.old.shape (world_of self.old) event) }
         ensures epoch { self.new.epoch ≡ self.old.epoch }
         ensures stays { KeepsShape self.old self.new }
     {
@@ -56,6 +58,8 @@ fn learn_at(
     ensures learned { OnOk result
         (LearnsAt passes.old.items passes.new.items event.pass (learn event.step found stamp)) }
     ensures refused { OnErr result (passes.new.items ≡ passes.old.items) }
+    ensures grows { OnErr result (ReadsMore (known_by passes.old.items event.pass)
+        (learn event.step found stamp (known_by passes.old.items event.pass))) }
     ensures slots { HaveSlots shape.now.slots passes.new.items }
 {
     let pass = &mut passes[event.pass as usize];

@@ -13,7 +13,7 @@ returns-in-Err-clause-stops c =
     let first = c.args.world in
     let world = c.loop-index.world in
     let inside : c.loop-index.index < length c.args.events.now = omega arith in
-    run_stops first.shape world.shape (length first.passes) (length world.passes) c.args.events.now c.loop-index.index _ (world_of world) c.in-Err.refusal c.loop-index.invariant.shape c.loop-index.invariant.passes c.loop-index.invariant.world inside c.loop-index.invariant.run c.in-Err.ensures.refused.refused
+    run_stops first.shape world.shape (length first.passes) (length world.passes) c.args.events.now c.loop-index.index _ (world_of world) c.in-Err.refusal c.loop-index.invariant.shape c.loop-index.invariant.passes c.loop-index.invariant.world inside c.loop-index.invariant.run c.in-Err.ensures.refused.refused c.in-Err.ensures.refused.grows
 
 pub loop-index-preserved : goal.loop-index-preserved
 loop-index-preserved c =

@@ -5,6 +5,7 @@ ghost use Rattle.vbr_words.specs.Words.{IsLink, link_of};
 ghost use Rattle.vbr_words.specs.declared.shape.TheConstants.{MAX_EPOCH};
 ghost use Rattle.vbr_machine.specs.Acceptance.{Accepts, stamp_in, MayPublish};
 ghost use Rattle.vbr_machine.specs.Learning.{newborn, with_key, with_value, with_link, link_in_hand, learn, with_own, with_checked, with_pending, read_epoch};
+ghost use Rattle.vbr_core.specs.Growth.{ReadsMore};
 ghost use Rattle.vbr_core.specs.Kept.{know_of, FitsRead, FitsHolding};
 ghost use Rattle.vbr_core.specs.KeptLearning.{HasRoom, Learns, with_all_checked, with_all_reread, with_epoch};
 
@@ -45,10 +46,11 @@ impl PassState {
         Ok(self.checked.extend_from_slice(reads)?)
     }
 
-    // The epoch hasn't moved: the pending reads are checked.
+    // The epoch hasn't moved: the pending reads are checked. Memory lacks only where there are any.
     fn confirm(&mut self) -> Result<(), AllocError>
         ensures learned { OnOk result (Learns self.old self.new with_all_checked) }
         ensures refused { OnErr result (self.new ≡ self.old) }
+        ensures grows { OnErr result (0 < length self.old.pending) }
     {
         self.checked.extend_from_slice(&self.pending)?;
         self.pending.clear();
@@ -77,6 +79,8 @@ impl PassState {
         requires { epoch ≤ MAX_EPOCH }
         ensures learned { OnOk result (Learns self.old self.new (λ know. read_epoch know epoch)) }
         ensures refused { OnErr result (self.new ≡ self.old) }
+        ensures grows { OnErr result
+            (ReadsMore (know_of self.old) (read_epoch (know_of self.old) epoch)) }
     {
         if epoch == self.epoch {
             self.confirm()?;
@@ -292,7 +296,7 @@ impl PassState {
     }
 
     // Learns what the step teaches, from the word that it found and the stamp that was shown.
-    // Where memory is refused nothing is learned.
+    // Where memory is refused nothing is learned, and there would have been more reads.
     pub fn learn(
         &mut self,
         shape: &OpeningShape,
@@ -305,6 +309,8 @@ impl PassState {
         requires room { HasRoom step found }
         ensures learned { OnOk result (Learns self.old self.new (learn step found stamp)) }
         ensures refused { OnErr result (self.new ≡ self.old) }
+        ensures grows { OnErr result
+            (ReadsMore (know_of self.old) (learn step found stamp (know_of self.old))) }
     {
         match step {
             Step::ReadEpoch => self.read_epoch(found)?,

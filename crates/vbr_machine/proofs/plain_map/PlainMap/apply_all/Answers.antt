@@ -4,9 +4,9 @@ use Rattle.std.proofs.Math.Seq.{map-set_same}
 use Rattle.std.proofs.lemmas.List.{take_more_set, set-get_or}
 use Rattle.vbr_machine.specs.History.{request_of}
 use Rattle.vbr_machine.specs.Maps.{entries_in, MapLeads, StoreAsked}
-use Rattle.vbr_machine.specs.Plain.{MapStops}
+use Rattle.vbr_machine.specs.Plain.{MapRefuses, MapStops}
 use Rattle.vbr_machine.specs.declared.history.Call.{Call}
-use Rattle.vbr_machine.proofs.AnsweredCalls.{on_err, rest_after, stored_more}
+use Rattle.vbr_machine.proofs.AnsweredCalls.{on_err, rest_after, still_asked, stored_more}
 use Rattle.vbr_machine.proofs.MapHistories.{MapLeads-push}
 use Rattle.vbr_machine.proofs.plain_map.PlainMap.apply_all.Goals as goal
 
@@ -21,12 +21,12 @@ loop-call-preserved c =
     }
 
 -- where a call was refused, what the calls before it did stands, and the call itself is as it was
-as_before : {T E : Type 0} (result : Result T E) (opening before after : List (ℕ × ℕ)) (asked calls : List Call) (i : ℕ) (none : Call) → i < length asked → after ≡ before → MapLeads (entries_in opening) (take i calls) (entries_in before) → StoreAsked (take i asked) (take i calls) → drop i calls ≡ drop i asked
+as_before : {T E : Type 0} (result : Result T E) (opening before after : List (ℕ × ℕ)) (asked calls : List Call) (i : ℕ) (none : Call) → i < length asked → MapRefuses before after (get_or calls i none).op (get_or calls i none).key → MapLeads (entries_in opening) (take i calls) (entries_in before) → StoreAsked (take i asked) (take i calls) → drop i calls ≡ drop i asked
     → OnErr result (MapStops opening after asked (set calls i (get_or calls i none)))
-as_before result opening before after asked calls i none here same leads stored rest =
-    on_err result (rw (set-get_or calls i none, same) (record { count = i; inside = here; leads = leads; stored = stored; rest = rest }))
+as_before result opening before after asked calls i none here refused leads stored rest =
+    on_err result (rw (set-get_or calls i none, refused.unchanged) (record { count = i; stopped = get_or calls i none; here = still_asked calls asked i none here rest; insert = refused.insert; absent = refused.absent; leads = leads; stored = stored; rest = rest }))
 
 pub returns-in_err-reply-clause-refused : goal.returns-in_err-reply-clause-refused
 returns-in_err-reply-clause-refused c =
     let here : c.loop-call.call-index < length c.args.calls.now = omega arith in
-    as_before c.from_residual.result _ _ _ _ _ c.loop-call.call-index _ here c.in_err-reply.ensures.refused.unchanged c.loop-call.invariant.leads c.loop-call.invariant.stored c.loop-call.invariant.rest
+    as_before c.from_residual.result _ _ _ _ _ c.loop-call.call-index _ here c.in_err-reply.ensures.refused c.loop-call.invariant.leads c.loop-call.invariant.stored c.loop-call.invariant.rest
