@@ -157,7 +157,7 @@ clients: lib
 
 faults: build
 	@tools/needs faults
-	@tools/lanes --tests vbr_set_rows
+	@tools/lanes --tests vbr_set_tests
 	@tests/faults
 
 soak:

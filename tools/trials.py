@@ -18,7 +18,7 @@ def short(library, program):
 
 
 def long(library):
-    """The trials of the gate, which leaves the program in target/, and the tests of vbr_set_rows as they were built."""
+    """The trials of the gate, which leaves the program in target/, and the tests of vbr_set_tests as they were built."""
     return [
         trial("tools", ["tests/tools"]),
         trial("clients", ["env", "SOAK=100000000", "bindings/test"], library),

@@ -26,7 +26,7 @@ use Rattle.vbr_access.specs.Alone.{StandsNow}
 use Rattle.vbr_access.specs.Values.{InsertsEntry, RemovesEntry, ValueAt, entry_call}
 use Rattle.vbr_access.proofs.NoValues.{none_kept, not_valued}
 use Rattle.vbr_access.specs.Exchanges.{InsertsKey, IsUnmarked, LosesExchange, RemovesKey, UnlinksNode, UnlinksNone}
-use Rattle.vbr_access.specs.Held.{IsHeld, IsMarked, Names}
+use Rattle.vbr_access.specs.Held.{IsHeld, HoldsMarked, Names}
 use Rattle.vbr_access.specs.Keeping.{Keeps}
 use Rattle.vbr_access.specs.Reading.{IsBirthRead, ReadsIn}
 use Rattle.vbr_access.specs.Rollbacks.{IsMovedOrLost}
@@ -100,7 +100,7 @@ publish_lost {s = s} pred shape fill keeps stands d other = record {
 
 -- ---- an unlinking, after the birth of what the marked link names
 
-module _ {p q r : PassView} {n : ℕ} (pred : Held) (gone : Marked) (named : Link) (birth : ℕ) (law : PassLaw q) (reads : ReadsIn p q n) (read : IsBirthRead p q gone.word birth) (unmarked : IsUnmarked (knows p.trace) pred) (is_marked : IsMarked (knows p.trace) gone) (names : Names pred gone.slot) (is_named : named ≡ link_of gone.word) where
+module _ {p q r : PassView} {n : ℕ} (pred : Held) (gone : Marked) (named : Link) (birth : ℕ) (law : PassLaw q) (reads : ReadsIn p q n) (read : IsBirthRead p q gone.word birth) (unmarked : IsUnmarked (knows p.trace) pred) (is_marked : HoldsMarked (knows p.trace) gone) (names : Names pred gone.slot) (is_named : named ≡ link_of gone.word) where
   pub unlink_told : (node : UnlinkedView) (new : ℕ) → node.slot ≡ gone.slot → link_of new ≡ link_to named.slot pred.birth birth → Did (Unlink pred.at pred.word gone.slot) q.trace r.trace pred.word → KeepsPool q r → IsUnlinked ((knows r.trace).own gone.slot) → UnlinksNode p r pred gone (node, record pred { word = new })
   unlink_told node new same link d pool owned =
       let held = held_kept pred read.keeps unmarked.held in

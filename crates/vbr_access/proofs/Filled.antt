@@ -6,7 +6,7 @@ use Rattle.vbr_words.specs.declared.link.Link.{Link}
 use Rattle.vbr_machine.specs.Acceptance.{IsNextIn, IsInHand, Accepts}
 use Rattle.vbr_machine.specs.Knowledge.{Know}
 use Rattle.vbr_machine.specs.Learning.{with_key, with_link, with_value, with_own, link_written, birth_in_hand, key_in_hand, value_in_hand}
-use Rattle.vbr_machine.specs.Opened.{kept}
+use Rattle.vbr_machine.specs.Opened.{payload_kept}
 use Rattle.vbr_machine.specs.Links.{link_to}
 use Rattle.vbr_machine.specs.Membership.{IsHeldSlot, IsNextKnown, BirthNamed, StandsBehind, StandsBefore, MayPublishKnown}
 use Rattle.vbr_machine.specs.declared.event.Step.TheVariants.{StoreKey, StoreValue, StoreLink, Publish}
@@ -201,6 +201,6 @@ module _ (p : PassView) (sound : PassLaw p) (pred : Held) (s key birth next : �
 
   pub publish_made : {q : Trace} (value : ℕ) → (p.trace.shape.values ≡ true → value_in_hand ((knows p.trace).own s) ≡ Some value) → Did (Publish pred.at pred.word s) p.trace q pred.word → Made (entry_call p.trace.shape p.trace.who Insert key true value) p.trace q
   publish_made value valued d = published d _
-      (ap (λ (o : Option Holding). Some (record { who = p.trace.who; op = Insert; key = key_in_hand o; reply = true; value = kept p.trace.shape (value_in_hand o) })) f.holding_is
-      ∙ ap (λ (o : Option ℕ). Some (record { who = p.trace.who; op = Insert; key = unwrap_or o 0; reply = true; value = kept p.trace.shape f.known.value })) f.key_is
+      (ap (λ (o : Option Holding). Some (record { who = p.trace.who; op = Insert; key = key_in_hand o; reply = true; value = payload_kept p.trace.shape (value_in_hand o) })) f.holding_is
+      ∙ ap (λ (o : Option ℕ). Some (record { who = p.trace.who; op = Insert; key = unwrap_or o 0; reply = true; value = payload_kept p.trace.shape f.known.value })) f.key_is
       ∙ ap (λ (v : Option ℕ). Some (record { who = p.trace.who; op = Insert; key = key; reply = true; value = v })) (kept_same p.trace.shape.values f.known.value value (λ has. sym (ap value_in_hand f.holding_is) ∙ valued has)))

@@ -3,12 +3,12 @@ use Rattle.std.proofs.Common.{◌≡◌, ℕ, Some, ◌∙◌, sym, refl}
 use Rattle.vbr_words.specs.declared.place.At.{At}
 use Rattle.vbr_words.specs.declared.place.At.TheVariants.{Head, Slot}
 use Rattle.vbr_machine.specs.Knowledge.{Know}
-use Rattle.vbr_machine.specs.Membership.{IsHeldSlot, IsHeldPlace, HeldIn, at_head, behind, BirthAt, BirthNamed, KeyAt, StandsBehind, StandsBefore}
+use Rattle.vbr_machine.specs.Membership.{IsHeldSlot, IsHeldPlace, HeldIn, at_head, at_slot, BirthAt, BirthNamed, KeyAt, StandsBehind, StandsBefore}
 use Rattle.vbr_machine.specs.declared.knowledge.Read.TheVariants.{LinkAt}
 use Rattle.vbr_words.specs.Dimensions.{Dimensions}
 use Rattle.vbr_words.specs.Words.{link_of}
 use Rattle.std.proofs.Common.{Option, None}
-use Rattle.vbr_access.specs.Held.{IsHeld, IsMarked, held_of}
+use Rattle.vbr_access.specs.Held.{IsHeld, HoldsMarked, held_of}
 use Rattle.vbr_access.specs.Keeping.{Keeps}
 use Rattle.vbr_access.specs.declared.held.Held.{Held}
 use Rattle.vbr_access.specs.declared.held.Marked.{Marked}
@@ -43,16 +43,16 @@ key_kept (Slot s) key k h = k.reads _ h
 -- a place that is held in a bucket stays held there
 pub held_in_kept : {a b : Know} (at : At) (bucket : ℕ) → Keeps a b → HeldIn a at bucket → HeldIn b at bucket
 held_in_kept _ _ k (at_head bucket) = at_head bucket
-held_in_kept _ _ k (behind at link s bucket h known names) = behind at link s bucket (held_in_kept at bucket k h) (k.reads (LinkAt at link) known) names
+held_in_kept _ _ k (at_slot at link s bucket h known names) = at_slot at link s bucket (held_in_kept at bucket k h) (k.reads (LinkAt at link) known) names
 
 -- and so is what its link names
 pub held_in_next : {know : Know} (held : Held) (s bucket : ℕ) → IsHeld know held → (link_of held.word).slot ≡ Some s → HeldIn know held.at bucket → HeldIn know (Slot s) bucket
-held_in_next held s bucket h names i = behind held.at (link_of held.word) s bucket i h.link names
+held_in_next held s bucket h names i = at_slot held.at (link_of held.word) s bucket i h.link names
 
 pub held_kept : {a b : Know} (held : Held) → Keeps a b → IsHeld a held → IsHeld b held
 held_kept held k h = record { epoch = h.epoch ∙ sym k.epoch; link = k.reads _ h.link; birth = birth_kept held.at held.birth k h.birth }
 
-pub marked_kept : {a b : Know} (marked : Marked) → Keeps a b → IsMarked a marked → IsMarked b marked
+pub marked_kept : {a b : Know} (marked : Marked) → Keeps a b → HoldsMarked a marked → HoldsMarked b marked
 marked_kept marked k h = record { held = held_kept (held_of marked) k h.held; mark = h.mark }
 
 -- ---- where keys stand

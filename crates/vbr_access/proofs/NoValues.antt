@@ -5,14 +5,14 @@ use Rattle.vbr_machine.specs.Acceptance.{HasValue, IsOpIn}
 use Rattle.vbr_machine.specs.Knowledge.{Know}
 use Rattle.vbr_machine.specs.Learning.{present_value}
 use Rattle.vbr_machine.specs.Membership.{Knows, KnowsValue, KnowsValueFor}
-use Rattle.vbr_machine.specs.Opened.{kept}
+use Rattle.vbr_machine.specs.Opened.{payload_kept}
 use Rattle.vbr_machine.specs.declared.knowledge.Read.TheVariants.{ValueOf}
 use Rattle.vbr_machine.specs.declared.history.Op.{Op}
 use Rattle.vbr_machine.specs.declared.history.Op.TheVariants.{Insert, Remove, Has, Get}
 
 -- ---- where nodes have no values
 
-pub none_kept : (shape : Dimensions) → shape.values ≡ false → (value : Option ℕ) → kept shape value ≡ None
+pub none_kept : (shape : Dimensions) → shape.values ≡ false → (value : Option ℕ) → payload_kept shape value ≡ None
 none_kept shape bare value = ap (λ (t : Bool). cond t value None) bare
 
 -- ---- an operation that asks for no value

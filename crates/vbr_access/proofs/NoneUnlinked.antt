@@ -10,13 +10,13 @@ use Rattle.vbr_machine.proofs.Lemmas.{put_other}
 use Rattle.vbr_slots.specs.Views.{PassView, Did, KeepsPool, knows}
 use Rattle.vbr_pools.specs.KeptSlots.{StaysInTurn, TakesNoSlot}
 use Rattle.vbr_pools.proofs.Lemmas.{did_turn, free_on, free_pool, grows_on, grows_same, longer, none_known, same_advances, same_flags, shared_on}
-use Rattle.vbr_access.specs.Keeping.{Unlinks}
+use Rattle.vbr_access.specs.Keeping.{KeepsUnlinked}
 use Rattle.vbr_access.proofs.WonExchanges.{unlink_learned, unlink_lost_same, unlink_owns}
 
 pub lost_none : {p q : PassView} {pred : At} {expected slot found : ℕ} → Did (Unlink pred expected slot) p.trace q.trace found → found ≢ expected → KeepsPool p q → TakesNoSlot p q
 lost_none d other pool = none_known (same_advances d refl) (same_flags d refl) pool (did_turn d) (unlink_lost_same d other)
 
-pub won_unlinks : {p q : PassView} {pred : At} {expected slot : ℕ} → Did (Unlink pred expected slot) p.trace q.trace expected → KeepsPool p q → Unlinks slot p q
+pub won_unlinks : {p q : PassView} {pred : At} {expected slot : ℕ} → Did (Unlink pred expected slot) p.trace q.trace expected → KeepsPool p q → KeepsUnlinked slot p q
 won_unlinks {p} {q} {pred} {expected} {slot} d pool = record {
   count = same_advances d refl;
   free = free_pool p q pool (λ s m. ⊎_elim (λ (is : s ≡ slot). absurd (subst MayBear (ap (knows q.trace).own is ∙ unlink_owns d) m)) (λ (other : s ≢ slot). subst MayBear (stays s other) m) (cases_eq s slot));
@@ -30,7 +30,7 @@ won_unlinks {p} {q} {pred} {expected} {slot} d pool = record {
     stays s other = ap (λ (k : Know). k.own s) (unlink_learned d) ∙ put_other (knows p.trace).own slot (Some (Unlinked false)) s other
 
 -- what was done before the unlinking
-pub unlinks_on : {slot : ℕ} (p q r : PassView) → TakesNoSlot p q → Unlinks slot q r → Unlinks slot p r
+pub unlinks_on : {slot : ℕ} (p q r : PassView) → TakesNoSlot p q → KeepsUnlinked slot q r → KeepsUnlinked slot p r
 unlinks_on p q r a b = record {
   count = b.count ∙ a.count;
   free = free_on p q r a.kept.free b.free;
@@ -41,7 +41,7 @@ unlinks_on p q r a b = record {
 }
 
 -- once the slot is stamped, none is lost
-pub unlinks_none : {slot : ℕ} (p q r : PassView) → Unlinks slot p q → TakesNoSlot q r → StaysInTurn q.trace r.trace → ¬ (IsUnlinked ((knows r.trace).own slot)) → TakesNoSlot p r
+pub unlinks_none : {slot : ℕ} (p q r : PassView) → KeepsUnlinked slot p q → TakesNoSlot q r → StaysInTurn q.trace r.trace → ¬ (IsUnlinked ((knows r.trace).own slot)) → TakesNoSlot p r
 unlinks_none {slot} p q r a b turn stamped = record {
   count = b.count ∙ a.count;
   kept = record {

@@ -11,7 +11,7 @@ use Rattle.vbr_machine.specs.declared.event.Step.TheVariants.{Unlink}
 use Rattle.vbr_slots.specs.Calls.{Quiet}
 use Rattle.vbr_slots.specs.Views.{Trace, PassView, Did, knows}
 use Rattle.vbr_slots.proofs.Lemmas.{did_quiet}
-use Rattle.vbr_access.specs.Held.{IsHeld, IsMarked, Names}
+use Rattle.vbr_access.specs.Held.{IsHeld, HoldsMarked, Names}
 use Rattle.vbr_access.specs.Moments.{IsRead}
 use Rattle.vbr_slots.specs.PassLaw.{PassLaw}
 use Rattle.vbr_access.specs.declared.held.Held.{Held}
@@ -26,7 +26,7 @@ use Rattle.vbr_access.proofs.WrittenLinks.{unlink_link, fits, birth_at_low, birt
 pub unlink_quiet : {p q : Trace} {pred : At} {expected s r : ℕ} → Did (Unlink pred expected s) p q r → Quiet p q
 unlink_quiet d = did_quiet d (λ know. refl)
 
-module _ (p : PassView) (sound : PassLaw p) (pred : Held) (marked : Marked) (link : Link) (birth : ℕ) (h : IsHeld (knows p.trace) pred) (m : IsMarked (knows p.trace) marked) (is : link ≡ link_of marked.word) (k : BirthNamed (knows p.trace) (link_of marked.word).slot birth) where
+module _ (p : PassView) (sound : PassLaw p) (pred : Held) (marked : Marked) (link : Link) (birth : ℕ) (h : IsHeld (knows p.trace) pred) (m : HoldsMarked (knows p.trace) marked) (is : link ≡ link_of marked.word) (k : BirthNamed (knows p.trace) (link_of marked.word).slot birth) where
   writes : IsUnlinkLink (knows p.trace) pred.at marked.slot (link_to link.slot pred.birth birth)
   writes = unlink_link pred marked link birth h m is k
 

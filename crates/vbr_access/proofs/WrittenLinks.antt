@@ -11,7 +11,7 @@ use Rattle.vbr_machine.specs.Knowledge.{Know}
 use Rattle.vbr_machine.specs.Learning.{birth_in_hand}
 use Rattle.vbr_machine.specs.Membership.{BirthAt, BirthNamed, IsUnlinkLink}
 use Rattle.vbr_slots.specs.Views.{PassView, knows}
-use Rattle.vbr_access.specs.Held.{IsHeld, IsMarked}
+use Rattle.vbr_access.specs.Held.{IsHeld, HoldsMarked}
 use Rattle.vbr_slots.specs.PassLaw.{PassLaw}
 use Rattle.vbr_access.specs.declared.held.Held.{Held}
 use Rattle.vbr_access.specs.declared.held.Marked.{Marked}
@@ -35,7 +35,7 @@ module _ (p : PassView) (sound : PassLaw p) where
   fits slot holder named low i j = record { slot = low; version = let high = sound.shape.last_epoch in omega (arith, high, i, j) }
 
 -- the link that an unlinking writes
-pub unlink_link : {know : Know} (pred : Held) (marked : Marked) (link : Link) (birth : ℕ) → IsHeld know pred → IsMarked know marked → link ≡ link_of marked.word → BirthNamed know (link_of marked.word).slot birth → IsUnlinkLink know pred.at marked.slot (link_to link.slot pred.birth birth)
+pub unlink_link : {know : Know} (pred : Held) (marked : Marked) (link : Link) (birth : ℕ) → IsHeld know pred → HoldsMarked know marked → link ≡ link_of marked.word → BirthNamed know (link_of marked.word).slot birth → IsUnlinkLink know pred.at marked.slot (link_to link.slot pred.birth birth)
 unlink_link pred marked link birth h m is k = record {
   frozen = link_of marked.word;
   known = m.held.link;

@@ -13,8 +13,8 @@ use Rattle.vbr_slots.specs.Views.{PassView, Trace, knows}
 use Rattle.vbr_pools.specs.Hands.{HandView, IsHandOf, UnlinkedView}
 use Rattle.vbr_pools.specs.KeptSlots.{TakesNoSlot}
 use Rattle.vbr_access.specs.Alone.{StandsNow, UnlinksAlone}
-use Rattle.vbr_access.specs.Held.{IsFilled, IsHeld, IsMarked, held_of}
-use Rattle.vbr_access.specs.Keeping.{Keeps, KeepsOwn, Unlinks}
+use Rattle.vbr_access.specs.Held.{IsFilled, IsHeld, HoldsMarked, held_of}
+use Rattle.vbr_access.specs.Keeping.{Keeps, KeepsOwn, KeepsUnlinked}
 use Rattle.vbr_access.specs.Moments.{IsRead}
 use Rattle.vbr_access.specs.Rollbacks.{IsLost, IsMovedOrLost}
 use Rattle.vbr_access.specs.declared.held.Held.{Held}
@@ -42,7 +42,7 @@ pub record RemovesKey (p q : Trace) (node : Held) (now : Marked) : Type 0 where
   pub made : (key : ℕ) → KeyAt (knows p) node.at key → Made (set_call p.who Remove key true) p q
   pub at : (held_of now).at ≡ node.at
   pub link : link_of now.word ≡ marked (link_of node.word)
-  pub held : IsMarked (knows q) now
+  pub held : HoldsMarked (knows q) now
 
 -- another link stood where one was held: no call was made; for a pass that was alone, what is held hadn't stood
 pub record LosesExchange (p q : Trace) (held : Held) (rollback : Rollback) : Type 0 where
@@ -83,7 +83,7 @@ pub record StaysIn (p q : PassView) (steps : ℕ) : Type 0 where
 
 -- the slot is unlinked and has to be stamped; what is held behind it is read, unmarked, and names what the marked link named; a pass that was alone leaves one node fewer
 pub record UnlinksNode (p q : PassView) (pred : Held) (gone : Marked) (told : UnlinkedView × Held) : Type 0 where
-  pub unlinks : Unlinks gone.slot p q
+  pub unlinks : KeepsUnlinked gone.slot p q
   pub keeps : Keeps (knows p.trace) (knows q.trace)
   pub slot : told.0.slot ≡ gone.slot
   pub owned : IsUnlinked ((knows q.trace).own gone.slot)

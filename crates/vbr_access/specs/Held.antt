@@ -25,7 +25,7 @@ abbrev pub held_of : Marked → Held
 held_of marked = record { at = Slot marked.slot; birth = marked.birth; word = marked.word; epoch = marked.epoch }
 
 -- a marked node is held, and its link is marked
-pub record IsMarked (know : Know) (marked : Marked) : Type 0 where
+pub record HoldsMarked (know : Know) (marked : Marked) : Type 0 where
   pub held : IsHeld know (held_of marked)
   pub mark : (link_of marked.word).mark ≡ true
 

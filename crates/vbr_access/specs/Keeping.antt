@@ -20,7 +20,7 @@ pub record KeepsOwn (p q : PassView) : Type 0 where
   pub in_hand : (s : ℕ) → p.hand ≡ Some s → (knows q.trace).own s ≡ (knows p.trace).own s
 
 -- the pass unlinked this slot and has it to stamp, and else did what a call does that takes no slot: no other slot is lost, and it unlinked in turn
-pub record Unlinks (slot : ℕ) (p q : PassView) : Type 0 where
+pub record KeepsUnlinked (slot : ℕ) (p q : PassView) : Type 0 where
   pub count : advances q.trace ≡ advances p.trace
   pub free : HasFree p q
   pub others : (other : ℕ) → other ≢ slot → IsUnlinked ((knows q.trace).own other) → IsUnlinked ((knows p.trace).own other)

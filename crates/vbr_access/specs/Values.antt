@@ -9,7 +9,7 @@ use Rattle.vbr_machine.specs.Images.{link_shown_at}
 use Rattle.vbr_machine.specs.Learning.{present_reply, present_value, value_in_hand, with_value}
 use Rattle.vbr_machine.specs.Links.{marked}
 use Rattle.vbr_machine.specs.Membership.{KeyAt, Knows}
-use Rattle.vbr_machine.specs.Opened.{kept}
+use Rattle.vbr_machine.specs.Opened.{payload_kept}
 use Rattle.vbr_machine.specs.declared.history.Call.{Call}
 use Rattle.vbr_machine.specs.declared.history.Op.{Op}
 use Rattle.vbr_machine.specs.declared.history.Op.TheVariants.{Get, Insert, Remove}
@@ -21,7 +21,7 @@ use Rattle.vbr_slots.specs.Views.{PassView, Trace, knows}
 use Rattle.vbr_access.specs.Answering.{IsAnswered}
 use Rattle.vbr_pools.specs.Hands.{HandView}
 use Rattle.vbr_access.specs.Exchanges.{FillsHand}
-use Rattle.vbr_access.specs.Held.{IsMarked, held_of}
+use Rattle.vbr_access.specs.Held.{HoldsMarked, held_of}
 use Rattle.vbr_access.specs.Keeping.{Keeps}
 use Rattle.vbr_access.specs.declared.held.Held.{Held}
 use Rattle.vbr_access.specs.declared.held.Marked.{Marked}
@@ -50,7 +50,7 @@ pub record IsOtherIn (shape : Dimensions) (refused op : Op) : Type 0 where
 
 -- the call of an entry: it has the value, where nodes have values
 abbrev pub entry_call : Dimensions → ℕ → Op → ℕ → Bool → ℕ → Call
-entry_call shape who op key reply value = record { who = who; op = op; key = key; reply = reply; value = kept shape (Some value) }
+entry_call shape who op key reply value = record { who = who; op = op; key = key; reply = reply; value = payload_kept shape (Some value) }
 
 -- the call that finds an entry present: a get gives its value
 abbrev pub found_call : ℕ → Op → ℕ → ℕ → Call
@@ -68,7 +68,7 @@ pub record RemovesEntry (p q : Trace) (node : Held) (now : Marked) : Type 0 wher
   pub made : (key value : ℕ) → KeyAt (knows p) node.at key → (p.shape.values ≡ true → ValueAt (knows p) node.at value) → Made (entry_call p.shape p.who Remove key true value) p q
   pub at : (held_of now).at ≡ node.at
   pub link : link_of now.word ≡ marked (link_of node.word)
-  pub held : IsMarked (knows q) now
+  pub held : HoldsMarked (knows q) now
 
 -- it answered by the presence of the entry of a node
 pub record AnswersEntry (p q : Trace) (op : Op) (node : Held) : Type 0 where

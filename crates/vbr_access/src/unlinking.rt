@@ -2,7 +2,7 @@
 ghost use Rattle.std.specs.Prelude.{IfOk, IfErr};
 ghost use Rattle.vbr_slots.specs.Views.{IsOf, knows};
 ghost use Rattle.vbr_access.specs.Exchanges.{StaysIn, UnlinksNode, UnlinksNone, IsUnmarked};
-ghost use Rattle.vbr_access.specs.Held.{IsMarked, Names};
+ghost use Rattle.vbr_access.specs.Held.{HoldsMarked, Names};
 ghost use Rattle.vbr_access.specs.Steps.{steps_to_unlink};
 
 use crate::held::{Held, Marked};
@@ -30,7 +30,7 @@ pub fn unlink<N: Nodes>(
 ) -> Result<(Unlinked, Held), Rollback>
     requires own { IsOf pass.old.trace slots.now }
     requires pred { IsUnmarked (knows pass.old.trace) pred.now }
-    requires marked { IsMarked (knows pass.old.trace) marked }
+    requires marked { HoldsMarked (knows pass.old.trace) marked }
     requires names { Names pred.now marked.slot }
     ensures stays { StaysIn pass.old pass.new (steps_to_unlink marked.word result) }
     ensures unlinked { IfOk result (UnlinksNode pass.old pass.new pred.now marked) }
@@ -40,7 +40,7 @@ pub fn unlink<N: Nodes>(
         |pass|
             requires own { IsOf pass.old.trace slots.now }
             requires pred { IsUnmarked (knows pass.old.trace) pred.now }
-            requires marked { IsMarked (knows pass.old.trace) marked }
+            requires marked { HoldsMarked (knows pass.old.trace) marked }
             requires names { Names pred.now marked.slot }
         {
             let outcome = uncounted::unlink(&mut AtTable { slots, pass }, pred, marked);

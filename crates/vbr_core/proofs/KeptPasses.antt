@@ -15,7 +15,7 @@ use Rattle.vbr_machine.specs.Put.{put}
 use Rattle.vbr_machine.specs.Knowledge.{Know, birth_in, birth_at, birth_of, marked_in, same_at}
 use Rattle.vbr_machine.specs.Acceptance.{MayPublish, next_of_marked}
 use Rattle.vbr_machine.specs.Learning.{link_in_hand, reread, read_epoch, with_own}
-use Rattle.vbr_core.specs.Kept.{KeptPass, know_of, FitsRead, FitsHolding}
+use Rattle.vbr_core.specs.WorldInLists.{KeptPass, know_of, FitsRead, FitsHolding}
 use Rattle.vbr_machine.specs.declared.knowledge.Read.{Read}
 use Rattle.vbr_machine.specs.declared.knowledge.Read.TheVariants.{LinkAt, BirthOf, KeyOf, ValueOf}
 use Rattle.vbr_machine.specs.declared.knowledge.Holding.{Holding}

@@ -16,7 +16,7 @@ use Rattle.vbr_machine.specs.Links.{opening_link, link_to}
 use Rattle.vbr_machine.specs.Machine.{World, knows_nothing, with_link_at}
 use Rattle.vbr_machine.specs.Making.{opening_from}
 use Rattle.vbr_machine.specs.Opened.{key_count}
-use Rattle.vbr_core.specs.Kept.{KeptPass, KeptWorld, IsWhole, know_of, opening_pass, world_of}
+use Rattle.vbr_core.specs.WorldInLists.{KeptPass, KeptWorld, IsWhole, know_of, opening_pass, world_of}
 use Rattle.vbr_core.specs.KeptOpenings.{IsNew}
 use Rattle.vbr_machine.specs.declared.knowledge.SlotPlace.{SlotPlace}
 use Rattle.vbr_machine.specs.declared.knowledge.SlotPlace.TheVariants.{Shared}

@@ -7,7 +7,7 @@ use Rattle.vbr_machine.specs.Put.{put}
 use Rattle.vbr_machine.specs.Knowledge.{Know}
 use Rattle.vbr_machine.specs.Learning.{link_written, learn}
 use Rattle.vbr_machine.specs.Machine.{found, stamp_shown, with_learning, with_call}
-use Rattle.vbr_core.specs.Kept.{KeptPass, KeptWorld, IsWhole, know_of, opening_pass, world_of}
+use Rattle.vbr_core.specs.WorldInLists.{KeptPass, KeptWorld, IsWhole, know_of, opening_pass, world_of}
 use Rattle.vbr_machine.specs.Making.{call_made}
 use Rattle.vbr_core.specs.Answering.{with_answer}
 use Rattle.vbr_machine.specs.declared.history.Call.{Call}

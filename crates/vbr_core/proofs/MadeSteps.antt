@@ -12,7 +12,7 @@ use Rattle.vbr_machine.specs.Knowledge.{Know}
 use Rattle.vbr_machine.specs.Learning.{link_written, call_of, succeeds, key_written}
 use Rattle.vbr_machine.specs.Machine.{World, found, with_call, after, written}
 use Rattle.vbr_core.specs.Answering.{with_answer, WordsHaveRoom}
-use Rattle.vbr_core.specs.Kept.{KeptPass, KeptWorld, IsWhole, opening_pass, world_of}
+use Rattle.vbr_core.specs.WorldInLists.{KeptPass, KeptWorld, IsWhole, opening_pass, world_of}
 use Rattle.vbr_machine.specs.declared.event.Step.{Step}
 use Rattle.vbr_machine.specs.declared.event.Step.TheVariants.{ReadEpoch, Advance, LoadStamp, StoreStamp, Raise, TakeFlag, StoreBirth, StoreKey, StoreLink, LoadLink, LoadBirth, LoadKey, Publish, Mark, Unlink, ConfirmPresent, ConfirmAbsent, StoreValue, LoadValue}
 use Rattle.vbr_core.proofs.KeptLists.{put_here}

@@ -6,7 +6,7 @@ use Rattle.std.proofs.lemmas.Option.{slice_get-get_or}
 use Rattle.vbr_words.specs.Dimensions.{Dimensions}
 use Rattle.vbr_machine.specs.Machine.{World, after}
 use Rattle.vbr_machine.specs.Runs.{IsAccepted, Refuses, IsRun, world_after}
-use Rattle.vbr_core.specs.Kept.{KeptWorld}
+use Rattle.vbr_core.specs.WorldInLists.{KeptWorld}
 use Rattle.vbr_core.specs.KeptOpenings.{IsOpening}
 use Rattle.vbr_core.specs.Replays.{StopsAt}
 use Rattle.vbr_machine.specs.declared.event.Event.{Event}

@@ -7,7 +7,7 @@ use Rattle.vbr_machine.specs.Learning.{reread}
 use Rattle.vbr_machine.specs.Put.{put}
 use Rattle.vbr_machine.specs.declared.event.Step.{Step}
 use Rattle.vbr_machine.specs.declared.event.Step.TheVariants.{ReadEpoch, LoadBirth}
-use Rattle.vbr_core.specs.Kept.{KeptPass, know_of, opening_pass}
+use Rattle.vbr_core.specs.WorldInLists.{KeptPass, know_of, opening_pass}
 
 -- what a pass knows is changed so, and it has as many slots in its list
 pub record Learns (old new : KeptPass) (change : Know → Know) : Type 0 where

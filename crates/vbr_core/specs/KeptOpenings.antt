@@ -3,7 +3,7 @@ use Rattle.std.specs.Prelude.{◌≡◌, ℕ, List, length}
 use Rattle.vbr_words.specs.Dimensions.{Dimensions}
 use Rattle.vbr_machine.specs.Machine.{knows_nothing, opening}
 use Rattle.vbr_machine.specs.Making.{opening_from}
-use Rattle.vbr_core.specs.Kept.{KeptPass, KeptWorld, know_of, world_of}
+use Rattle.vbr_core.specs.WorldInLists.{KeptPass, KeptWorld, know_of, world_of}
 
 -- a shape that opens with these keys
 abbrev pub with_keys : Dimensions → List ℕ → Dimensions

@@ -9,7 +9,7 @@ use Rattle.vbr_machine.specs.declared.event.Effect.{Effect}
 use Rattle.vbr_machine.specs.declared.event.CoreRefusal.{CoreRefusal}
 use Rattle.vbr_machine.specs.declared.event.CoreRefusal.TheVariants.{NoMemory}
 use Rattle.vbr_core.specs.Growth.{NeedsMemory}
-use Rattle.vbr_core.specs.Kept.{KeptWorld, world_of}
+use Rattle.vbr_core.specs.WorldInLists.{KeptWorld, world_of}
 
 -- the word that a step finds
 abbrev pub found_in : KeptWorld → Step → ℕ
@@ -35,7 +35,7 @@ pub record IsMade (old new : KeptWorld) (event : Event) (answer : Effect) : Type
   pub after : world_of new ≡ machine.after old.shape (world_of old) event.pass event.step
 
 -- the event was refused, for this, and nothing has changed; memory lacks only where the event makes a list longer
-pub record IsRefused (old new : KeptWorld) (event : Event) (why : CoreRefusal) : Type 0 where
+pub record RefusesEvent (old new : KeptWorld) (event : Event) (why : CoreRefusal) : Type 0 where
   pub refused : IsRefusedIn old event why
   pub unchanged : new ≡ old
   pub grows : why ≡ NoMemory → NeedsMemory old.shape (world_of old) event

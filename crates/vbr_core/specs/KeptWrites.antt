@@ -5,7 +5,7 @@ use Rattle.vbr_words.specs.declared.place.At.{At}
 use Rattle.vbr_machine.specs.Machine.{World, counted, with_link_at}
 use Rattle.vbr_machine.specs.Put.{put}
 use Rattle.vbr_machine.specs.declared.knowledge.SlotPlace.{SlotPlace}
-use Rattle.vbr_core.specs.Kept.{KeptWorld, world_of}
+use Rattle.vbr_core.specs.WorldInLists.{KeptWorld, world_of}
 
 -- the world is changed so, and the shape and the number of passes stay
 pub record Writes (old new : KeptWorld) (change : World → World) : Type 0 where

@@ -29,7 +29,7 @@ pub use Rattle.vbr_machine.specs.Calls
 pub use Rattle.vbr_machine.specs.Messages
 pub mod OpeningMessages
 pub mod Answering
-pub mod Kept
+pub mod WorldInLists
 pub mod Reached
 pub mod KeptOpenings
 pub mod Growth

@@ -2,7 +2,7 @@
 use Rattle.std.specs.Prelude.{◌≡◌, List, length}
 use Rattle.vbr_words.specs.Dimensions.{IsShape}
 use Rattle.vbr_machine.specs.Runs.{IsRun, world_after}
-use Rattle.vbr_core.specs.Kept.{KeptWorld, world_of}
+use Rattle.vbr_core.specs.WorldInLists.{KeptWorld, world_of}
 use Rattle.vbr_machine.specs.declared.event.Event.{Event}
 
 -- the world that the lists stand for is the one after a run

@@ -7,7 +7,7 @@ use Rattle.vbr_machine.specs.declared.event.CoreRefusal.TheVariants.{NoSuchPass,
 use Rattle.vbr_machine.specs.Runs.{IsRun, Refuses, world_after}
 use Rattle.vbr_machine.specs.Safety.{IsSafe}
 use Rattle.vbr_core.specs.Growth.{NeedsMemory}
-use Rattle.vbr_core.specs.Kept.{KeptWorld, world_of}
+use Rattle.vbr_core.specs.WorldInLists.{KeptWorld, world_of}
 
 -- the events are a run, which is safe, and the world is the one after it, with so many passes
 pub record IsReplayed (opened : Dimensions) (count : ℕ) (events : List Event) (kept : KeptWorld) : Type 0 where

@@ -7,8 +7,8 @@ ghost use Rattle.vbr_machine.specs.Maps.{keys_listed, values_listed};
 ghost use Rattle.vbr_machine.specs.History.{IsLegal, GiveStored};
 ghost use Rattle.vbr_machine.specs.Machine as machine;
 ghost use Rattle.vbr_core.specs.Replays.{IsReplayed, StopsAt};
-ghost use Rattle.vbr_core.specs.Kept.{world_of};
-ghost use Rattle.vbr_core.specs.KeptSteps.{IsMade, IsRefused, KeepsShape};
+ghost use Rattle.vbr_core.specs.WorldInLists.{world_of};
+ghost use Rattle.vbr_core.specs.KeptSteps.{IsMade, RefusesEvent, KeepsShape};
 ghost use Rattle.vbr_core.specs.KeptOpenings.{IsOpening, with_entries, with_keys};
 ghost use Rattle.vbr_machine.specs.declared.event.Event.{Event};
 
@@ -39,7 +39,7 @@ pub struct World {
 }
 
 impl Model for World {
-    ghost use Rattle.vbr_core.specs.Kept.{KeptWorld};
+    ghost use Rattle.vbr_core.specs.WorldInLists.{KeptWorld};
     ghost use Rattle.vbr_core.specs.Reached.{IsReached};
 
     ghost Value = { KeptWorld };
@@ -169,7 +169,7 @@ impl World {
     /// is refused, nothing changes.
     pub fn step(&mut self, event: Event) -> Result<Effect, CoreRefusal>
         ensures made { IfOk result (IsMade self.old self.new event) }
-        ensures refused { IfErr result (IsRefused self.old self.new event) }
+        ensures refused { IfErr result (RefusesEvent self.old self.new event) }
         ensures stays { KeepsShape self.old self.new }
     {
         self.lists.step(event)

@@ -12,14 +12,14 @@ value_stored pass (StoreKey s key) = Some (pass, StoreValue s (min (key + 100) (
 value_stored pass _ = None
 
 -- rows behind one more, if there is one
-abbrev pub behind : Option (ℕ × Step × Effect) → List (ℕ × Step × Effect) → List (ℕ × Step × Effect)
-behind None rows = rows
-behind (Some row) rows = row ∷ rows
+abbrev pub after_row : Option (ℕ × Step × Effect) → List (ℕ × Step × Effect) → List (ℕ × Step × Effect)
+after_row None rows = rows
+after_row (Some row) rows = row ∷ rows
 
 -- the rows of a list, in which each store of a key is followed by that of its value
 abbrev pub with_values : List (ℕ × Step × Effect) → List (ℕ × Step × Effect)
 with_values [] = []
-with_values (row ∷ rows) = row ∷ behind (value_stored row.0 row.1) (with_values rows)
+with_values (row ∷ rows) = row ∷ after_row (value_stored row.0 row.1) (with_values rows)
 
 -- a shape whose nodes have values
 abbrev pub valued : Dimensions → Dimensions

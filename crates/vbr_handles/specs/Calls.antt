@@ -7,7 +7,7 @@ use Rattle.vbr_set.specs.declared.member.Member.{Member}
 use Rattle.vbr_handles.specs.Codes.{call_code, empty_code}
 
 -- the member made the call, and the code is that of the answer
-pub record Answered (op : Op) (m n : Member) (key budget : ℕ) (code : ℤ) : Type 0 where
+pub record TellsAnswer (op : Op) (m n : Member) (key budget : ℕ) (code : ℤ) : Type 0 where
   pub answer : Result Bool Refusal
   pub is : code ≡ call_code answer
   pub called : Called op m n key budget answer
@@ -17,4 +17,4 @@ abbrev pub TellsCall : Op → Option Member → Option Member → ℕ → ℕ �
 TellsCall op None None key budget code = code ≡ empty_code
 TellsCall op None (Some n) key budget code = ⊥
 TellsCall op (Some m) None key budget code = ⊥
-TellsCall op (Some m) (Some n) key budget code = Answered op m n key budget code
+TellsCall op (Some m) (Some n) key budget code = TellsAnswer op m n key budget code

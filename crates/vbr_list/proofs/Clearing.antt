@@ -8,7 +8,7 @@ use Rattle.vbr_words.specs.declared.link.Link.{Link}
 use Rattle.vbr_words.specs.declared.place.At.TheVariants.{Slot}
 use Rattle.vbr_machine.specs.Accounts.{incarnations_after}
 use Rattle.vbr_machine.specs.Calls.{own_calls}
-use Rattle.vbr_machine.specs.declared.history.Call.{Call as ListedCall}
+use Rattle.vbr_machine.specs.declared.history.Call.{PendingCall as ListedCall}
 use Rattle.vbr_machine.specs.Knowledge.{Know}
 use Rattle.vbr_machine.specs.Machine.{link_at}
 use Rattle.vbr_machine.specs.Membership.{Knows, IsHeldPlace, KeyAt, StandsBehind, StandsBefore}
@@ -29,7 +29,7 @@ use Rattle.vbr_list.specs.Leaving.{Leaves, WasClear}
 use Rattle.vbr_list.specs.Places.{IsEnd}
 use Rattle.vbr_list.specs.Pieces.{trace_in}
 use Rattle.vbr_list.specs.Traversing.{Finds, SearchTires}
-use Rattle.vbr_list.specs.declared.call.Call.{Call}
+use Rattle.vbr_list.specs.declared.call.PendingCall.{PendingCall}
 use Rattle.vbr_list.specs.declared.found.Found.{Found}
 use Rattle.vbr_list.proofs.Moments.{key_known, stands_before}
 
@@ -88,7 +88,7 @@ clear_found {p} {q} key found shape same x = go found.cur found.present x.locate
     go (Some cur) false y z = absent (Some cur) y
 
 -- of a walk that ended with room in its budget
-pub clear_walked : {N : Type 0} {kind : Ghosts N} → (c d : Call N kind) (found : Option Found) → IsShape (trace_in c).shape → IsSame (trace_in c) (trace_in d) → IfSome found (Finds c d) → IfNone found (SearchTires c d) → d.used + 8 ≤ c.budget → WasClear (trace_in c) (trace_in d) c.key
+pub clear_walked : {N : Type 0} {kind : Ghosts N} → (c d : PendingCall N kind) (found : Option Found) → IsShape (trace_in c).shape → IsSame (trace_in c) (trace_in d) → IfSome found (Finds c d) → IfNone found (SearchTires c d) → d.used + 8 ≤ c.budget → WasClear (trace_in c) (trace_in d) c.key
 clear_walked c d None shape same x tired room = let short = tired.tired in absurd (omega (arith, short, room))
 clear_walked c d (Some found) shape same x tired room = clear_found c.key found shape same x.found
 

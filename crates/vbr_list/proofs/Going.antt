@@ -15,7 +15,7 @@ use Rattle.vbr_machine.specs.Knowledge.{Know}
 use Rattle.vbr_access.specs.Keeping.{Keeps, KeepsOwn}
 use Rattle.vbr_access.specs.Reading.{ReadsIn}
 use Rattle.vbr_list.specs.Pieces.{Goes, IsSameCall}
-use Rattle.vbr_list.specs.declared.call.Call.{Call}
+use Rattle.vbr_list.specs.declared.call.PendingCall.{PendingCall}
 use Rattle.vbr_list.proofs.KeptHands.{hand_refl, hand_on, own_kept}
 use Rattle.vbr_list.proofs.Traversals.{Tries}
 
@@ -65,14 +65,14 @@ unfolding bucket_of
 bucket_is a b bare bucket key e g f = f ∙ ap (λ (shape : Dimensions). bucket_of shape key) g ∙ ap (λ (shape : Dimensions). bucket_of shape key) (sym e)
 
 -- a call stays the same one from piece to piece
-pub call_on : {N : Type 0} {kind : Ghosts N} → {b c d : Call N kind} → IsSameCall b c → IsSameCall c d → IsSameCall b d
+pub call_on : {N : Type 0} {kind : Ghosts N} → {b c d : PendingCall N kind} → IsSameCall b c → IsSameCall c d → IsSameCall b d
 call_on x y = record { at = record { pass = y.at.pass ∙ x.at.pass; slots = y.at.slots ∙ x.at.slots }; key = y.key ∙ x.key; bucket = y.bucket ∙ x.bucket; budget = y.budget ∙ x.budget }
 
-pub call_refl : {N : Type 0} {kind : Ghosts N} → (c : Call N kind) → IsSameCall c c
+pub call_refl : {N : Type 0} {kind : Ghosts N} → (c : PendingCall N kind) → IsSameCall c c
 call_refl c = record { at = record { pass = refl; slots = refl }; key = refl; bucket = refl; budget = refl }
 
 -- the steps of a call are within the budget that it began with
-pub within_call : {N : Type 0} {kind : Ghosts N} → {c d : Call N kind} → IsSameCall c d → d.used ≤ c.budget
+pub within_call : {N : Type 0} {kind : Ghosts N} → {c d : PendingCall N kind} → IsSameCall c d → d.used ≤ c.budget
 within_call {c} {d} x = let u = d.within in let e = x.budget in omega (arith, u, e)
 
 -- what follows of each value is so of the value that was given

@@ -16,7 +16,7 @@ use Rattle.vbr_slots.specs.Views.{PassView, knows}
 use Rattle.vbr_pools.specs.KeptSlots.{StaysInTurn, TakesNoSlot}
 use Rattle.vbr_pools.specs.Retiring.{is_kept, know_retired, pool_retired}
 use Rattle.vbr_pools.proofs.Lemmas.{none_on, none_refl}
-use Rattle.vbr_access.specs.Keeping.{KeepsOwn, Unlinks}
+use Rattle.vbr_access.specs.Keeping.{KeepsOwn, KeepsUnlinked}
 use Rattle.vbr_access.proofs.Lemmas.{unlinks_none}
 use Rattle.vbr_list.specs.Pieces.{KeepsHand}
 
@@ -93,7 +93,7 @@ retired_stamped know later epoch slot kept is u =
     free false x = x
 
 -- a slot is unlinked, and then retired
-pub helped_hand : {p q r : PassView} {slot : ℕ} → KeepsOwn p q → Unlinks slot p q → KeepsHand q r → StaysInTurn q.trace r.trace → knows r.trace ≡ know_retired (knows q.trace) (knows r.trace).epoch slot (is_kept q.pool) → KeepsHand p r
+pub helped_hand : {p q r : PassView} {slot : ℕ} → KeepsOwn p q → KeepsUnlinked slot p q → KeepsHand q r → StaysInTurn q.trace r.trace → knows r.trace ≡ know_retired (knows q.trace) (knows r.trace).epoch slot (is_kept q.pool) → KeepsHand p r
 helped_hand {p} {q} {r} {slot} x u y turn known = record {
   hand = y.hand ∙ x.hand;
   in_hand = λ s e. y.in_hand s (x.hand ∙ e) ∙ x.in_hand s e;

@@ -14,7 +14,7 @@ use Rattle.vbr_machine.proofs.Lemmas.{added_own, calls_after, calls_by-append, e
 use Rattle.vbr_slots.specs.Calls.{Made, made_by}
 use Rattle.vbr_slots.specs.Views.{Trace}
 use Rattle.vbr_list.specs.Alone.{AnswersAlone}
-use Rattle.vbr_list.specs.Answered.{GivesAlone}
+use Rattle.vbr_list.specs.Sparing.{GivesAlone}
 
 -- the last call of a legal history has the reply of the set before it
 legal_last : (keys : Keys) (calls : List Call) (x : Call) → IsLegal keys (calls ++ x ∷ []) → x.reply ≡ reply_of (set_after keys calls) x.op x.key

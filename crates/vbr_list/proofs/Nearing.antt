@@ -25,7 +25,7 @@ use Rattle.vbr_access.specs.declared.held.Marked.{Marked}
 use Rattle.vbr_access.specs.declared.rollback.Rollback.{Rollback}
 use Rattle.vbr_access.proofs.Lemmas.{fresh_kept}
 use Rattle.vbr_list.specs.Budgets.{listed_for}
-use Rattle.vbr_list.specs.Nearing.{FoundAlone, HelpsAlone, IsThere, SeenAlone, StillAt, ahead_for}
+use Rattle.vbr_list.specs.Nearing.{FoundAlone, HelpsAlone, StandsInList, SeenAlone, StillAt, ahead_for}
 use Rattle.vbr_list.specs.Places.{IsInside}
 use Rattle.vbr_list.proofs.PaidPlaces.{Nears, Passes}
 use Rattle.vbr_list.proofs.Reaching.{slot_same}
@@ -61,7 +61,7 @@ start_still (Ok h) x y fresh rolls = tt
 -- ---- a visit
 
 -- behind what the link of a place names there is one node fewer
-one_behind : (p : PassView) → PassLaw p → (key : ℕ) (pred : Held) → IsInside p.trace.shape (knows p.trace) key pred → IsThere p.trace pred → StandsNow p.trace pred → (s : ℕ) → Names pred s → ahead_for p.trace key pred ≡ suc (ahead p.trace (bucket_of p.trace.shape key) (Slot s))
+one_behind : (p : PassView) → PassLaw p → (key : ℕ) (pred : Held) → IsInside p.trace.shape (knows p.trace) key pred → StandsInList p.trace pred → StandsNow p.trace pred → (s : ℕ) → Names pred s → ahead_for p.trace key pred ≡ suc (ahead p.trace (bucket_of p.trace.shape key) (Slot s))
 one_behind p sound key pred x there stands s names =
     one_fewer_behind p.trace.shape p.trace.passes p.trace.seen sound.shape sound.is_run p.trace.who (bucket_of p.trace.shape key) pred.at (link_of pred.word) x.held.link there stands x.inside s names
 
@@ -69,7 +69,7 @@ one_behind p sound key pred x there stands s names =
 pub ahead_same : (p q : Trace) (key : ℕ) (at : At) → LeavesLists p q → q.shape ≡ p.shape → ahead q (bucket_of q.shape key) at ≡ ahead p (bucket_of p.shape key) at
 ahead_same p q key at l shape = ap (λ (s : Dimensions). ahead q (bucket_of s key) at) shape ∙ l.count (bucket_of p.shape key) at
 
-pub visited : (p : PassView) → PassLaw p → (q r : Trace) (key : ℕ) (pred node : Held) → IsInside p.trace.shape (knows p.trace) key pred → IsThere p.trace pred → StandsNow p.trace pred → IsNext p.trace q pred (Some node) → LeavesLists p.trace r → r.shape ≡ p.trace.shape → ahead_for p.trace key pred ≡ suc (ahead_for r key node)
+pub visited : (p : PassView) → PassLaw p → (q r : Trace) (key : ℕ) (pred node : Held) → IsInside p.trace.shape (knows p.trace) key pred → StandsInList p.trace pred → StandsNow p.trace pred → IsNext p.trace q pred (Some node) → LeavesLists p.trace r → r.shape ≡ p.trace.shape → ahead_for p.trace key pred ≡ suc (ahead_for r key node)
 visited p sound q r key pred node x there stands n l shape =
     one_behind p sound key pred x there stands n.0 n.1
     ∙ ap suc (sym (ahead_same p.trace r key (Slot n.0) l shape) ∙ ap (ahead r (bucket_of r.shape key)) (sym n.2))
@@ -122,13 +122,13 @@ found_beyond p q r key before a b pred node found x l shape sum y is cur =
 -- ---- past marked nodes
 
 -- a marked node behind a place of the list is in the list too
-pub named_in_list : (p : PassView) → PassLaw p → (r : Trace) (key : ℕ) (pred : Held) → IsInside p.trace.shape (knows p.trace) key pred → IsThere p.trace pred → StandsNow p.trace pred → (s : ℕ) → Names pred s → nodes r ≡ nodes p.trace → is_there (nodes r) (Slot s) ≡ true
+pub named_in_list : (p : PassView) → PassLaw p → (r : Trace) (key : ℕ) (pred : Held) → IsInside p.trace.shape (knows p.trace) key pred → StandsInList p.trace pred → StandsNow p.trace pred → (s : ℕ) → Names pred s → nodes r ≡ nodes p.trace → is_there (nodes r) (Slot s) ≡ true
 named_in_list p sound r key pred x there stands s names same =
     ap (λ a. is_there a (Slot s)) same
     ∙ named_there p.trace.shape p.trace.passes p.trace.seen sound.shape sound.is_run p.trace.who (bucket_of p.trace.shape key) pred.at (link_of pred.word) x.held.link there stands x.inside s names
 
 -- what a visit of a marked node leaves
-pub marked_alone : (p : PassView) → PassLaw p → (q : Trace) (key : ℕ) (pred node : Held) (marked : Marked) → Quiet p.trace q → IsInside p.trace.shape (knows p.trace) key pred → IsThere p.trace pred → StandsNow p.trace pred → IsNext p.trace q pred (Some node) → held_of marked ≡ node → nodes q ≡ nodes p.trace → Keeps (knows p.trace) (knows q) → IsFresh p.trace → StandsNow q node →
+pub marked_alone : (p : PassView) → PassLaw p → (q : Trace) (key : ℕ) (pred node : Held) (marked : Marked) → Quiet p.trace q → IsInside p.trace.shape (knows p.trace) key pred → StandsInList p.trace pred → StandsNow p.trace pred → IsNext p.trace q pred (Some node) → held_of marked ≡ node → nodes q ≡ nodes p.trace → Keeps (knows p.trace) (knows q) → IsFresh p.trace → StandsNow q node →
     StillAt q (held_of marked) × (ahead_for p.trace key pred ≡ suc (ahead_for q key (held_of marked))) × (is_there (nodes q) (Slot marked.slot) ≡ true)
 marked_alone p sound q key pred node marked quiet x there stands n e same keeps fresh now =
     let P : Held → Type 0 = λ h. StillAt q h × (ahead_for p.trace key pred ≡ suc (ahead_for q key h)) in

@@ -3,7 +3,7 @@ use Rattle.std.specs.Prelude.{ℕ, ◌+◌, ◌*◌, ◌≤◌}
 use Rattle.vbr_slots.specs.Views.{Trace}
 use Rattle.vbr_access.specs.declared.held.Held.{Held}
 use Rattle.vbr_list.specs.Budgets.{listed_for}
-use Rattle.vbr_list.specs.Nearing.{IsThere, StillAt, ahead_for}
+use Rattle.vbr_list.specs.Nearing.{StandsInList, StillAt, ahead_for}
 
 -- the pass stands there at a place for which nine steps were made for each node that isn't ahead any more, and three before
 pub record Nears (p q : Trace) (key before since : ℕ) (pred : Held) : Type 0 where
@@ -14,5 +14,5 @@ pub record Nears (p q : Trace) (key before since : ℕ) (pred : Held) : Type 0 w
 pub record Passes (p q : Trace) (key before since : ℕ) (pred here : Held) : Type 0 where
   pub last : StillAt q pred
   pub place : StillAt q here
-  pub there : IsThere q here
+  pub there : StandsInList q here
   pub paid : since + 5 * ahead_for q key here ≤ before + 3 + 5 * listed_for p key

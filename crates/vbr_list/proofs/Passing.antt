@@ -11,7 +11,7 @@ use Rattle.vbr_machine.specs.declared.knowledge.Read.TheVariants.{LinkAt}
 use Rattle.vbr_slots.specs.Alone.{IsAlone}
 use Rattle.vbr_slots.specs.Calls.{IsSame}
 use Rattle.vbr_slots.specs.Views.{Trace, PassView, knows}
-use Rattle.vbr_access.specs.Held.{IsMarked, Names, held_of}
+use Rattle.vbr_access.specs.Held.{HoldsMarked, Names, held_of}
 use Rattle.vbr_access.specs.Keeping.{Keeps}
 use Rattle.vbr_access.specs.declared.held.Held.{Held}
 use Rattle.vbr_access.specs.declared.held.Marked.{Marked}
@@ -36,7 +36,7 @@ pub look_at : {shape : Dimensions} {know : Know} {key : ℕ} {pred : Held} → I
 look_at x = record { before = x; inside = pred_inside x; leads = itself }
 
 -- past a marked node
-pub look_past : {p q : Trace} (key : ℕ) (pred here : Held) (marked : Marked) → IsSame p q → Keeps (knows p) (knows q) → IsLook p.shape (knows p) key pred here → IsMarked (knows q) marked → Names here marked.slot → IsLook q.shape (knows q) key pred (held_of marked)
+pub look_past : {p q : Trace} (key : ℕ) (pred here : Held) (marked : Marked) → IsSame p q → Keeps (knows p) (knows q) → IsLook p.shape (knows p) key pred here → HoldsMarked (knows q) marked → Names here marked.slot → IsLook q.shape (knows q) key pred (held_of marked)
 look_past {p} {q} key pred here marked s keeps x m names =
     let P : Dimensions → Type 0 = λ shape. HeldIn (knows q) (Slot marked.slot) (bucket_of shape key) in
     let there = held_in_kept here.at (bucket_of p.shape key) keeps x.inside.inside in

@@ -6,7 +6,7 @@ use Rattle.vbr_words.specs.declared.nodes.Nodes.{Ghosts}
 use Rattle.vbr_words.specs.Dimensions.{Dimensions}
 use Rattle.vbr_machine.specs.History.{set_call}
 use Rattle.vbr_machine.specs.Runs.{Begins, IsRun}
-use Rattle.vbr_machine.specs.declared.history.Call.{Call as ListedCall}
+use Rattle.vbr_machine.specs.declared.history.Call.{PendingCall as ListedCall}
 use Rattle.vbr_machine.specs.declared.history.Op.{Op}
 use Rattle.vbr_slots.specs.Calls.{IsSame, Quiet, Made}
 use Rattle.vbr_slots.specs.Views.{Trace, PassView}
@@ -18,10 +18,10 @@ use Rattle.vbr_pools.proofs.Lemmas.{counts_on, had_grown, had_on, keeps_on, miss
 use Rattle.vbr_access.specs.Moments.{WasSo}
 use Rattle.vbr_list.specs.Inserting.{CountsWithin, InsertIsShort, InsertShowsSpent, Prepares, RefusesInsert, TakesNone}
 use Rattle.vbr_list.specs.Pieces.{IsSameCall, pass_in, trace_in}
-use Rattle.vbr_list.specs.Refusals.{IsRefused}
+use Rattle.vbr_list.specs.Refusals.{IsRefusedInsert}
 use Rattle.vbr_list.specs.declared.refusal.Refusal.{Refusal}
 use Rattle.vbr_list.specs.declared.refusal.Refusal.TheVariants.{OutOfSteps, NoSlot, EpochSpent}
-use Rattle.vbr_list.specs.declared.call.Call.{Call}
+use Rattle.vbr_list.specs.declared.call.PendingCall.{PendingCall}
 use Rattle.vbr_list.proofs.Going.{call_on, counts_step}
 use Rattle.vbr_list.proofs.Moments.{so_before}
 use Rattle.vbr_list.proofs.Traversals.{Tries}
@@ -39,7 +39,7 @@ within_same {p} {q} {r} {a} {b} e x = record { counts = subst (λ (t : Trace). C
 -- ---- before a slot is linked
 
 -- what takes no slot and keeps the hand
-pub prepares_none : {N : Type 0} {kind : Ghosts N} → (c d : Call N kind) → IsSameCall c d → CountsWithin (trace_in c) (trace_in d) c.used d.used c.budget → TakesNoSlot (pass_in c) (pass_in d) → (pass_in d).hand ≡ (pass_in c).hand → Prepares c d
+pub prepares_none : {N : Type 0} {kind : Ghosts N} → (c d : PendingCall N kind) → IsSameCall c d → CountsWithin (trace_in c) (trace_in d) c.used d.used c.budget → TakesNoSlot (pass_in c) (pass_in d) → (pass_in d).hand ≡ (pass_in c).hand → Prepares c d
 prepares_none c d same counts none hand = record {
   call = same;
   counts = counts;
@@ -50,7 +50,7 @@ prepares_none c d same counts none hand = record {
 }
 
 -- a slot is taken after that
-pub prepares_on : {N : Type 0} {kind : Ghosts N} → (c d e : Call N kind) → IsSameCall c d → CountsWithin (trace_in c) (trace_in d) c.used d.used c.budget → Quiet (trace_in c) (trace_in d) → TakesNoSlot (pass_in c) (pass_in d) → (pass_in d).hand ≡ (pass_in c).hand → length (pass_in d).pool ≤ length (pass_in e).pool + 1 → Prepares d e → Prepares c e
+pub prepares_on : {N : Type 0} {kind : Ghosts N} → (c d e : PendingCall N kind) → IsSameCall c d → CountsWithin (trace_in c) (trace_in d) c.used d.used c.budget → Quiet (trace_in c) (trace_in d) → TakesNoSlot (pass_in c) (pass_in d) → (pass_in d).hand ≡ (pass_in c).hand → length (pass_in d).pool ≤ length (pass_in e).pool + 1 → Prepares d e → Prepares c e
 prepares_on c d e same counts quiet none hand one x =
     let P : ℕ → Type 0 = λ budget. CountsWithin (trace_in d) (trace_in e) d.used e.used budget in
     let y = subst P same.budget x.counts in
@@ -82,7 +82,7 @@ refuses_after p q r quiet some x absent more NoSlot y = record {
 refuses_after p q r quiet some x absent more (EpochSpent epoch) y = (so_before absent more, record { spent = y.spent; since = y.since; counts = within_on x y.counts.counts y.counts.within.0 y.counts.within.1; room = y.room })
 
 -- a refusal behind no steps is one of the whole call
-pub refused_first : (p q : PassView) (key budget : ℕ) (refusal : Refusal) → RefusesInsert p q key 0 budget refusal → IsRefused p q key budget refusal
+pub refused_first : (p q : PassView) (key budget : ℕ) (refusal : Refusal) → RefusesInsert p q key 0 budget refusal → IsRefusedInsert p q key budget refusal
 refused_first p q key budget (OutOfSteps used) x = record { took = took_all x.counts.counts; within = x.counts.within.1; short = x.short }
 refused_first p q key budget NoSlot x = x
 refused_first p q key budget (EpochSpent epoch) x = record { absent = x.0; spent = x.1.spent; room = record { steps = x.1.since; room = x.1.room; took = took_all x.1.counts.counts } }
@@ -121,7 +121,7 @@ each_seen p q told (Ok reply) made quiet = (made.seen, λ _. made.is_run)
 each_seen p q told (Err error) made quiet = (quiet.seen, quiet.is_run)
 
 -- a call that was prepared is refused for want of steps
-pub refused_second : (p q r : PassView) {b budget : ℕ} (key : ℕ) → CountsWithin p.trace q.trace 0 b budget → (refusal : Refusal) → InsertIsShort q r b budget refusal → IsRefused p r key budget refusal
+pub refused_second : (p q r : PassView) {b budget : ℕ} (key : ℕ) → CountsWithin p.trace q.trace 0 b budget → (refusal : Refusal) → InsertIsShort q r b budget refusal → IsRefusedInsert p r key budget refusal
 refused_second p q r key x (OutOfSteps used) y = record { took = took_all (counts_on x.counts y.counts.counts); within = y.counts.within.1; short = y.short }
 refused_second p q r key x NoSlot y = absurd y
 refused_second p q r key x (EpochSpent epoch) y = absurd y

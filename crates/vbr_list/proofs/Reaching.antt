@@ -15,7 +15,7 @@ use Rattle.vbr_slots.specs.Calls.{IsSame, Quiet}
 use Rattle.vbr_slots.specs.Views.{Trace, TableView, PassView, IsOf, knows}
 use Rattle.vbr_slots.proofs.Lemmas.{quiet_on}
 use Rattle.vbr_pools.specs.Retiring.{know_retired}
-use Rattle.vbr_access.specs.Held.{IsSlot, IsMarked}
+use Rattle.vbr_access.specs.Held.{IsSlot, HoldsMarked}
 use Rattle.vbr_access.specs.Keeping.{Keeps}
 use Rattle.vbr_access.specs.Moments.{Stood, IsRead, IsNext}
 use Rattle.vbr_slots.specs.PassLaw.{PassLaw}
@@ -134,7 +134,7 @@ traverses_on x y le high reached nears = record {
 }
 
 -- the slot of a marked node is one of the shape
-pub marked_in : (p : PassView) → PassLaw p → (t : TableView) → IsOf p.trace t → (marked : Marked) → IsMarked (knows p.trace) marked → (s : ℕ) → s ≡ marked.slot → s < t.shape.slots
+pub marked_in : (p : PassView) → PassLaw p → (t : TableView) → IsOf p.trace t → (marked : Marked) → HoldsMarked (knows p.trace) marked → (s : ℕ) → s ≡ marked.slot → s < t.shape.slots
 marked_in p sound t own marked x s e =
     let P : Dimensions → Type 0 = λ shape. marked.slot < shape.slots in
     let Q : ℕ → Type 0 = λ i. i < t.shape.slots in

@@ -13,7 +13,7 @@ use Rattle.vbr_access.specs.LookUps.{DecidesKey}
 use Rattle.vbr_list.specs.Budgets.{answer_costs, listed_for}
 use Rattle.vbr_list.specs.LookingUp.{steps_to_answer}
 use Rattle.vbr_list.specs.Nearing.{SightStands}
-use Rattle.vbr_list.specs.Places.{IsSight, held_in, is_present}
+use Rattle.vbr_list.specs.Places.{IsSight, sighted, is_present}
 use Rattle.vbr_list.specs.declared.looking.Sight.{Sight}
 use Rattle.vbr_list.specs.declared.looking.Sight.TheVariants.{Present, Absent}
 
@@ -22,20 +22,20 @@ keyed_slot know (Head b) key k = absurd k
 keyed_slot know (Slot s) key k = tt
 
 module _ (shape : Dimensions) (know : Know) (key : ℕ) where
-  pub sight_held : (sight : Sight) → IsSight shape know key sight → IsHeld know (held_in sight)
+  pub sight_held : (sight : Sight) → IsSight shape know key sight → IsHeld know (sighted sight)
   sight_held (Present node) s = s.0
   sight_held (Absent pred) s = s.0.held
 
-  pub sight_unmarked : (sight : Sight) → IsSight shape know key sight → (link_of (held_in sight).word).mark ≡ false
+  pub sight_unmarked : (sight : Sight) → IsSight shape know key sight → (link_of (sighted sight).word).mark ≡ false
   sight_unmarked (Present node) s = s.1
   sight_unmarked (Absent pred) s = s.0.unmarked
 
-  pub sight_answers : (sight : Sight) → IsSight shape know key sight → DecidesKey shape know key (held_in sight) (is_present sight)
+  pub sight_answers : (sight : Sight) → IsSight shape know key sight → DecidesKey shape know key (sighted sight) (is_present sight)
   sight_answers (Present node) s = (keyed_slot know node.at key s.2, s.2)
   sight_answers (Absent pred) s = (s.0.behind, s.1)
 
 -- the link that is to confirm it
-pub sight_stands : (q : Trace) (sight : Sight) → SightStands q sight → StandsNow q (held_in sight)
+pub sight_stands : (q : Trace) (sight : Sight) → SightStands q sight → StandsNow q (sighted sight)
 sight_stands q (Present node) stands = stands
 sight_stands q (Absent pred) stands = stands
 

@@ -3,7 +3,7 @@ use Rattle.std.proofs.Common.{◌≡◌, ℕ, Bool, true, false, Option, Some, N
 use Rattle.std.specs.Prelude.{is_some, if◌then◌else◌}
 use Rattle.vbr_words.specs.Dimensions.{Dimensions}
 use Rattle.vbr_machine.specs.History.{set_call}
-use Rattle.vbr_machine.specs.Opened.{kept}
+use Rattle.vbr_machine.specs.Opened.{payload_kept}
 use Rattle.vbr_machine.specs.declared.history.Call.{Call}
 use Rattle.vbr_machine.specs.declared.history.Op.{Op}
 use Rattle.vbr_machine.specs.declared.history.Op.TheVariants.{Insert}
@@ -12,7 +12,7 @@ use Rattle.vbr_slots.specs.PassLaw.{PassLaw}
 use Rattle.vbr_slots.specs.Views.{PassView, Trace}
 use Rattle.vbr_slots.proofs.Lemmas.{made_on}
 use Rattle.vbr_list.specs.Alone.{AnswersAlone}
-use Rattle.vbr_list.specs.Answered.{CallsAs, CallsEntry, SparesLookUp}
+use Rattle.vbr_list.specs.Sparing.{CallsAs, CallsEntry, SparesLookUp}
 use Rattle.vbr_list.specs.Leaving.{SparesRemove}
 use Rattle.vbr_list.specs.Told.{given_call, given_in, is_yes, kept_call, stored_call, stored_in}
 use Rattle.vbr_list.specs.declared.refusal.Refusal.{Refusal}
@@ -24,13 +24,13 @@ none_kept : (values : Bool) (value : Option ℕ) → value ≡ None → (if valu
 none_kept true value none = none
 none_kept false value none = refl
 
-pub kept_none : (shape : Dimensions) → kept shape None ≡ None
+pub kept_none : (shape : Dimensions) → payload_kept shape None ≡ None
 kept_none shape = none_kept shape.values None refl
 
-kept_all : (shape : Dimensions) (value : Option ℕ) → shape.values ≡ true → kept shape value ≡ value
+kept_all : (shape : Dimensions) (value : Option ℕ) → shape.values ≡ true → payload_kept shape value ≡ value
 kept_all shape value has = ap (λ (values : Bool). if values then value else None) has
 
-kept_bare : (shape : Dimensions) (value : Option ℕ) → shape.values ≡ false → kept shape value ≡ None
+kept_bare : (shape : Dimensions) (value : Option ℕ) → shape.values ≡ false → payload_kept shape value ≡ None
 kept_bare shape value bare = ap (λ (values : Bool). if values then value else None) bare
 
 -- a call without a value is the same at each table
@@ -39,17 +39,17 @@ told_bare shape who op key reply = ap (λ (value : Option ℕ). record { who = w
 
 -- where nodes have values, a call keeps its own
 pub stored_kept : (p : Trace) (key value : ℕ) → p.shape.values ≡ true → (reply : Bool) → stored_in p key value reply ≡ stored_call p.who key value reply
-stored_kept p key value has reply = ap (λ (kept : Option ℕ). record { who = p.who; op = Insert; key = key; reply = reply; value = kept }) (kept_all p.shape (if reply then Some value else None) has)
+stored_kept p key value has reply = ap (λ (payload_kept : Option ℕ). record { who = p.who; op = Insert; key = key; reply = reply; value = payload_kept }) (kept_all p.shape (if reply then Some value else None) has)
 
 pub given_kept : (p : Trace) (op : Op) (key : ℕ) → p.shape.values ≡ true → (answer : Option ℕ) → given_in p op key answer ≡ given_call p.who op key answer
-given_kept p op key has answer = ap (λ (kept : Option ℕ). record { who = p.who; op = op; key = key; reply = is_some answer; value = kept }) (kept_all p.shape (given_call p.who op key answer).value has)
+given_kept p op key has answer = ap (λ (payload_kept : Option ℕ). record { who = p.who; op = op; key = key; reply = is_some answer; value = payload_kept }) (kept_all p.shape (given_call p.who op key answer).value has)
 
 -- where they have none, it is the call of a set
 pub stored_bare : (p : Trace) (key value : ℕ) → p.shape.values ≡ false → (reply : Bool) → stored_in p key value reply ≡ set_call p.who Insert key reply
-stored_bare p key value bare reply = ap (λ (kept : Option ℕ). record { who = p.who; op = Insert; key = key; reply = reply; value = kept }) (kept_bare p.shape (if reply then Some value else None) bare)
+stored_bare p key value bare reply = ap (λ (payload_kept : Option ℕ). record { who = p.who; op = Insert; key = key; reply = reply; value = payload_kept }) (kept_bare p.shape (if reply then Some value else None) bare)
 
 pub given_bare : (p : Trace) (op : Op) (key : ℕ) → p.shape.values ≡ false → (answer : Option ℕ) → given_in p op key answer ≡ set_call p.who op key (is_some answer)
-given_bare p op key bare answer = ap (λ (kept : Option ℕ). record { who = p.who; op = op; key = key; reply = is_some answer; value = kept }) (kept_bare p.shape (given_call p.who op key answer).value bare)
+given_bare p op key bare answer = ap (λ (payload_kept : Option ℕ). record { who = p.who; op = op; key = key; reply = is_some answer; value = payload_kept }) (kept_bare p.shape (given_call p.who op key answer).value bare)
 
 -- ---- a part of what the pass did
 

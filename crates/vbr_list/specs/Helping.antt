@@ -6,7 +6,7 @@ use Rattle.vbr_machine.specs.Membership.{KeyAt, StandsBehind}
 use Rattle.vbr_slots.specs.Alone.{IsAlone, IsFresh}
 use Rattle.vbr_slots.specs.Views.{PassView, Trace, knows}
 use Rattle.vbr_access.specs.Alone.{StandsNow}
-use Rattle.vbr_access.specs.Held.{IsHeld, IsMarked, Names}
+use Rattle.vbr_access.specs.Held.{IsHeld, HoldsMarked, Names}
 use Rattle.vbr_access.specs.declared.held.Held.{Held}
 use Rattle.vbr_access.specs.declared.held.Marked.{Marked}
 use Rattle.vbr_access.specs.declared.rollback.Rollback.{Rollback}
@@ -22,7 +22,7 @@ use Rattle.vbr_list.specs.Traversing.{HasComeTo}
 pub record MayHelp (p : Trace) (pred : Held) (gone : Marked) : Type 0 where
   pub held : IsHeld (knows p) pred
   pub unmarked : (link_of pred.word).mark ≡ false
-  pub marked : IsMarked (knows p) gone
+  pub marked : HoldsMarked (knows p) gone
   pub names : Names pred gone.slot
 
 -- ---- what it tells

@@ -16,7 +16,7 @@ use Rattle.vbr_access.specs.Moments.{WasSo}
 use Rattle.vbr_list.specs.Budgets.{LacksSteps, enough_to_search, listed_for}
 use Rattle.vbr_list.specs.Pieces.{IsPiece, IsSameCall, Replies, Stores, WasAlone, pass_in, trace_in}
 use Rattle.vbr_list.specs.Refusals.{FoundNoSlot}
-use Rattle.vbr_list.specs.declared.call.Call.{Call}
+use Rattle.vbr_list.specs.declared.call.PendingCall.{PendingCall}
 use Rattle.vbr_list.specs.declared.found.Found.{Found}
 use Rattle.vbr_list.specs.declared.refusal.Refusal.{Refusal}
 use Rattle.vbr_list.specs.declared.refusal.Refusal.TheVariants.{OutOfSteps, NoSlot, EpochSpent}
@@ -66,14 +66,14 @@ InsertIsShort p q before budget (EpochSpent epoch) = ⊥
 -- ---- an answer no
 
 -- the insert isn't answered, and no call was made, which doesn't happen alone, where the node with the key stands
-pub record DeniesNone {N : Type 0} {kind : Ghosts N} (c d : Call N kind) (found : Found) : Type 0 where
+pub record DeniesNone {N : Type 0} {kind : Ghosts N} (c d : PendingCall N kind) (found : Found) : Type 0 where
   pub quiet : Quiet (trace_in c) (trace_in d)
   pub wins : NextStands (trace_in c) found.cur → WasAlone c d → ⊥
 
 -- ---- a slot is taken
 
 -- what is left before a slot is linked: the steps are within the budget, the epoch is advanced only where that is needed, no slot is lost, each slot that the pass had it has still, and one is put into the shared pool only where the own one has no more than two places left
-pub record Prepares {N : Type 0} {kind : Ghosts N} (c d : Call N kind) : Type 0 where
+pub record Prepares {N : Type 0} {kind : Ghosts N} (c d : PendingCall N kind) : Type 0 where
   pub call : IsSameCall c d
   pub counts : CountsWithin (trace_in c) (trace_in d) c.used d.used c.budget
   pub advances : AdvancesWhereNeeded (pass_in c) (pass_in d)
@@ -82,32 +82,32 @@ pub record Prepares {N : Type 0} {kind : Ghosts N} (c d : Call N kind) : Type 0 
   pub shared : SharesWhereFull 2 (pass_in c) (pass_in d)
 
 -- a slot is in hand; alone, in so many steps
-pub record Provides {N : Type 0} {kind : Ghosts N} (c d : Call N kind) (hand : HandView) : Type 0 where
+pub record Provides {N : Type 0} {kind : Ghosts N} (c d : PendingCall N kind) (hand : HandView) : Type 0 where
   pub has : HasHandAndRoom (pass_in d) hand
   pub few : WasAlone c d → d.used ≤ c.used + steps_to_take (trace_in c).shape (pass_in c).pool
 
 -- none is; alone, a budget with seven steps more has enough
-pub record ProvidesNone {N : Type 0} {kind : Ghosts N} (c d : Call N kind) (refusal : Refusal) : Type 0 where
+pub record ProvidesNone {N : Type 0} {kind : Ghosts N} (c d : PendingCall N kind) (refusal : Refusal) : Type 0 where
   pub hand : (pass_in d).hand ≡ None
   pub says : TakesNone (pass_in c) (pass_in d) c.used c.budget refusal
   pub enough : WasAlone c d → LacksSteps (c.used + steps_to_take (trace_in c).shape (pass_in c).pool + 7) c.budget refusal
 
 -- how many steps it takes a pass that is alone to come to the key and then to take a slot, beside three to start and seven that the budget needs more
-abbrev pub steps_to_prepare : {N : Type 0} {kind : Ghosts N} → Call N kind → ℕ
+abbrev pub steps_to_prepare : {N : Type 0} {kind : Ghosts N} → PendingCall N kind → ℕ
 steps_to_prepare c = 9 * listed_for (trace_in c) c.key + most_to_take (trace_in c).shape (pass_in c).pool
 
 -- the pass has answered no; or it has made no call, and has a slot in hand
-abbrev pub IsPrepared : {N : Type 0} {kind : Ghosts N} → Call N kind → Call N kind → Option HandView → Type 0
+abbrev pub IsPrepared : {N : Type 0} {kind : Ghosts N} → PendingCall N kind → PendingCall N kind → Option HandView → Type 0
 IsPrepared c d None = Replies Insert c d false × ((pass_in d).hand ≡ None)
 IsPrepared c d (Some hand) = Quiet (trace_in c) (trace_in d) × HasHandAndRoom (pass_in d) hand
 
 -- so it is; alone, in so many steps
-pub record PreparesHand {N : Type 0} {kind : Ghosts N} (c d : Call N kind) (hand : Option HandView) : Type 0 where
+pub record PreparesHand {N : Type 0} {kind : Ghosts N} (c d : PendingCall N kind) (hand : Option HandView) : Type 0 where
   pub is : IsPrepared c d hand
   pub few : WasAlone c d → d.used ≤ c.used + steps_to_prepare c + 3
 
 -- it isn't; alone, a budget with seven steps more has enough
-pub record PreparesNone {N : Type 0} {kind : Ghosts N} (c d : Call N kind) (refusal : Refusal) : Type 0 where
+pub record PreparesNone {N : Type 0} {kind : Ghosts N} (c d : PendingCall N kind) (refusal : Refusal) : Type 0 where
   pub quiet : Quiet (trace_in c) (trace_in d)
   pub hand : (pass_in d).hand ≡ None
   pub says : RefusesInsert (pass_in c) (pass_in d) c.key c.used c.budget refusal
@@ -116,32 +116,32 @@ pub record PreparesNone {N : Type 0} {kind : Ghosts N} (c d : Call N kind) (refu
 -- ---- the slot is linked
 
 -- a piece that may link it: its steps are counted, and it takes no slot
-pub record Publishes {N : Type 0} {kind : Ghosts N} (c d : Call N kind) : Type 0 where
+pub record Publishes {N : Type 0} {kind : Ghosts N} (c d : PendingCall N kind) : Type 0 where
   pub call : IsSameCall c d
   pub counts : CountsSteps (trace_in c) (trace_in d) c.used d.used
   pub used : IsPiece c.used d.used
   pub takes_no_slot : TakesNoSlot (pass_in c) (pass_in d)
 
 -- the insert is answered, and its hand is empty
-pub record InsertAnswers {N : Type 0} {kind : Ghosts N} (value : ℕ) (c d : Call N kind) (reply : Bool) : Type 0 where
+pub record InsertAnswers {N : Type 0} {kind : Ghosts N} (value : ℕ) (c d : PendingCall N kind) (reply : Bool) : Type 0 where
   pub made : Stores value c d reply
   pub spent : (pass_in d).hand ≡ None
 
 -- it isn't answered, and the hand comes back, which doesn't happen alone, where what was found stands
-pub record GivesHandBack {N : Type 0} {kind : Ghosts N} (c d : Call N kind) (found : Found) (back : HandView) : Type 0 where
+pub record GivesHandBack {N : Type 0} {kind : Ghosts N} (c d : PendingCall N kind) (found : Found) (back : HandView) : Type 0 where
   pub quiet : Quiet (trace_in c) (trace_in d)
   pub hand : HasHandAndRoom (pass_in d) back
   pub wins : StandsNow (trace_in c) found.pred → NextStands (trace_in c) found.cur → WasAlone c d → ⊥
 
 -- all its pieces: the steps are within the budget, it takes no slot, and the hand is empty then
-pub record Links {N : Type 0} {kind : Ghosts N} (c d : Call N kind) : Type 0 where
+pub record Links {N : Type 0} {kind : Ghosts N} (c d : PendingCall N kind) : Type 0 where
   pub call : IsSameCall c d
   pub counts : CountsWithin (trace_in c) (trace_in d) c.used d.used c.budget
   pub takes_no_slot : TakesNoSlot (pass_in c) (pass_in d)
   pub spent : (pass_in d).hand ≡ None
 
 -- it isn't linked, for want of steps
-pub record LinksNone {N : Type 0} {kind : Ghosts N} (c d : Call N kind) (refusal : Refusal) : Type 0 where
+pub record LinksNone {N : Type 0} {kind : Ghosts N} (c d : PendingCall N kind) (refusal : Refusal) : Type 0 where
   pub quiet : Quiet (trace_in c) (trace_in d)
   pub says : InsertIsShort (pass_in c) (pass_in d) c.used c.budget refusal
   pub short : WasAlone c d → c.budget < c.used + enough_to_search (trace_in c) c.key

@@ -5,7 +5,7 @@ pub mod Leaving
 pub mod Found
 pub mod Alone
 pub mod Told
-pub mod Answered
+pub mod Sparing
 pub mod Pieces
 pub mod Nearing
 pub mod Traversing

@@ -26,8 +26,8 @@ pub record StillAt (q : Trace) (pred : Held) : Type 0 where
   pub stands : StandsNow q pred
 
 -- the place is in a list: its link is unmarked, or what stands there is in one
-abbrev pub IsThere : Trace → Held → Type 0
-IsThere q place = ((link_of place.word).mark ≡ false) ⊎ (is_there (nodes q) place.at ≡ true)
+abbrev pub StandsInList : Trace → Held → Type 0
+StandsInList q place = ((link_of place.word).mark ≡ false) ⊎ (is_there (nodes q) place.at ≡ true)
 
 -- the steps of a visit
 abbrev pub steps_visited : Visited → ℕ

@@ -11,42 +11,42 @@ use Rattle.vbr_slots.specs.declared.pass.TheConstants.{POOL}
 use Rattle.vbr_pools.specs.KeptSlots.{TakesNoSlot}
 use Rattle.vbr_pools.specs.Steps.{CountsSteps}
 use Rattle.vbr_list.specs.Told.{given_in, stored_in}
-use Rattle.vbr_list.specs.declared.call.Call.{Call}
+use Rattle.vbr_list.specs.declared.call.PendingCall.{PendingCall}
 
 -- ---- a call in progress
 
 -- its pass, and what that has seen
-abbrev pub pass_in : {N : Type 0} {kind : Ghosts N} → Call N kind → PassView
+abbrev pub pass_in : {N : Type 0} {kind : Ghosts N} → PendingCall N kind → PassView
 pass_in c = c.at.pass.now
 
-abbrev pub trace_in : {N : Type 0} {kind : Ghosts N} → Call N kind → Trace
+abbrev pub trace_in : {N : Type 0} {kind : Ghosts N} → PendingCall N kind → Trace
 trace_in c = c.at.pass.now.trace
 
 -- its budget has room for one more piece
-abbrev pub HasRoom : {N : Type 0} {kind : Ghosts N} → Call N kind → Type 0
+abbrev pub HasRoom : {N : Type 0} {kind : Ghosts N} → PendingCall N kind → Type 0
 HasRoom c = c.used + 8 ≤ c.budget
 
 -- the call is at the same table, by the same pass, for the same key, and has the same budget
-pub record IsSameCall {N : Type 0} {kind : Ghosts N} (c d : Call N kind) : Type 0 where
+pub record IsSameCall {N : Type 0} {kind : Ghosts N} (c d : PendingCall N kind) : Type 0 where
   pub at : IsSameTable c.at d.at
   pub key : d.key ≡ c.key
   pub bucket : d.bucket ≡ c.bucket
   pub budget : d.budget ≡ c.budget
 
 -- what the pass has seen since is its own
-abbrev pub WasAlone : {N : Type 0} {kind : Ghosts N} → Call N kind → Call N kind → Type 0
+abbrev pub WasAlone : {N : Type 0} {kind : Ghosts N} → PendingCall N kind → PendingCall N kind → Type 0
 WasAlone c d = IsAlone (trace_in c) (trace_in d)
 
 -- the pass made the call, with this reply
-abbrev pub Replies : {N : Type 0} {kind : Ghosts N} → Op → Call N kind → Call N kind → Bool → Type 0
+abbrev pub Replies : {N : Type 0} {kind : Ghosts N} → Op → PendingCall N kind → PendingCall N kind → Bool → Type 0
 Replies op c d reply = Made (set_call (trace_in c).who op c.key reply) (trace_in c) (trace_in d)
 
 -- the pass made the call with this answer, which gives a value where nodes have values
-abbrev pub Gives : {N : Type 0} {kind : Ghosts N} → Op → Call N kind → Call N kind → Option ℕ → Type 0
+abbrev pub Gives : {N : Type 0} {kind : Ghosts N} → Op → PendingCall N kind → PendingCall N kind → Option ℕ → Type 0
 Gives op c d answer = Made (given_in (trace_in c) op c.key answer) (trace_in c) (trace_in d)
 
 -- the pass made the insert of this value with this reply
-abbrev pub Stores : {N : Type 0} {kind : Ghosts N} → ℕ → Call N kind → Call N kind → Bool → Type 0
+abbrev pub Stores : {N : Type 0} {kind : Ghosts N} → ℕ → PendingCall N kind → PendingCall N kind → Bool → Type 0
 Stores value c d reply = Made (stored_in (trace_in c) c.key value reply) (trace_in c) (trace_in d)
 
 -- ---- what a piece keeps
@@ -65,13 +65,13 @@ pub record Goes (p q : PassView) (before since : ℕ) : Type 0 where
   pub hand : KeepsHand p q
 
 -- the call is the same one, and has gone on so
-pub record GoesOn {N : Type 0} {kind : Ghosts N} (c d : Call N kind) : Type 0 where
+pub record GoesOn {N : Type 0} {kind : Ghosts N} (c d : PendingCall N kind) : Type 0 where
   pub call : IsSameCall c d
   pub goes : Goes (pass_in c) (pass_in d) c.used d.used
   pub more : c.used ≤ d.used
 
 -- the call is the same one, and may have been answered: its steps are counted, and the slot in hand stays
-pub record Settles {N : Type 0} {kind : Ghosts N} (c d : Call N kind) : Type 0 where
+pub record Settles {N : Type 0} {kind : Ghosts N} (c d : PendingCall N kind) : Type 0 where
   pub call : IsSameCall c d
   pub counts : CountsSteps (trace_in c) (trace_in d) c.used d.used
   pub hand : KeepsHand (pass_in c) (pass_in d)

@@ -47,9 +47,9 @@ IsSight shape know key (Present node) = IsHeld know node × ((link_of node.word)
 IsSight shape know key (Absent pred) = IsPred shape know key pred × StandsBeforeOn know key (link_of pred.word)
 
 -- what is held there, and whether it has the key
-abbrev pub held_in : Sight → Held
-held_in (Present node) = node
-held_in (Absent pred) = pred
+abbrev pub sighted : Sight → Held
+sighted (Present node) = node
+sighted (Absent pred) = pred
 
 -- whether the key was found
 abbrev pub is_present : Sight → Bool

@@ -27,7 +27,7 @@ pub record FoundSpent (p q : PassView) (key budget epoch : ℕ) : Type 0 where
   pub room : LeavesRoom p q budget
 
 -- what a refusal of an insert says
-abbrev pub IsRefused : PassView → PassView → ℕ → ℕ → Refusal → Type 0
-IsRefused p q key budget (OutOfSteps used) = IsOutOfSteps p q budget used
-IsRefused p q key budget NoSlot = FoundNoSlot p q key
-IsRefused p q key budget (EpochSpent epoch) = FoundSpent p q key budget epoch
+abbrev pub IsRefusedInsert : PassView → PassView → ℕ → ℕ → Refusal → Type 0
+IsRefusedInsert p q key budget (OutOfSteps used) = IsOutOfSteps p q budget used
+IsRefusedInsert p q key budget NoSlot = FoundNoSlot p q key
+IsRefusedInsert p q key budget (EpochSpent epoch) = FoundSpent p q key budget epoch

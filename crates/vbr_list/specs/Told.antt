@@ -1,7 +1,7 @@
 -- The call that an answer tells: an insert that is answered yes stores a value, a remove and a get that are answered yes give one, and a table whose nodes have none keeps none.
 use Rattle.std.specs.Prelude.{ℕ, Bool, true, false, Option, Some, None, Result, Ok, Err, is_some, if◌then◌else◌}
 use Rattle.vbr_words.specs.Dimensions.{Dimensions}
-use Rattle.vbr_machine.specs.Opened.{kept}
+use Rattle.vbr_machine.specs.Opened.{payload_kept}
 use Rattle.vbr_machine.specs.declared.history.Call.{Call}
 use Rattle.vbr_machine.specs.declared.history.Op.{Op}
 use Rattle.vbr_machine.specs.declared.history.Op.TheVariants.{Insert, Has, Get}
@@ -22,7 +22,7 @@ given_call who op key answer = record { who = who; op = op; key = key; reply = i
 
 -- a call as a table keeps it: with its value where nodes have values
 abbrev pub kept_call : Dimensions → Call → Call
-kept_call shape call = record { who = call.who; op = call.op; key = call.key; reply = call.reply; value = kept shape call.value }
+kept_call shape call = record { who = call.who; op = call.op; key = call.key; reply = call.reply; value = payload_kept shape call.value }
 
 -- an insert with this reply, and a call with this answer, as the table of a pass keeps them
 abbrev pub stored_in : Trace → ℕ → ℕ → Bool → Call

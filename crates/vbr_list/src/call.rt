@@ -9,7 +9,7 @@ use vbr_words::{Keys, Nodes};
 /// steps of its budget are used. Its methods are the pieces of calls. Nothing counts its steps in the
 /// pass until it ends.
 #[derive(Drop)]
-pub(crate) struct Call<'c, N: Nodes = Keys> {
+pub(crate) struct PendingCall<'c, N: Nodes = Keys> {
     pub(crate) at: AtTable<'c, N>,
     pub(crate) key: u64,
     pub(crate) bucket: u32,

@@ -8,14 +8,14 @@ ghost use Rattle.vbr_list.specs.Found.{FindsIn, GivesUp};
 ghost use Rattle.vbr_list.specs.Pieces.{GoesOn};
 ghost use Rattle.vbr_list.specs.Traversing.{Finds, SearchTires};
 
-use crate::call::Call;
+use crate::call::PendingCall;
 use crate::found::Found;
 use crate::refusal::Refusal;
 use crate::traversal::Stop;
 use vbr_slots::{AtTable, Pass, Slots};
 use vbr_words::Nodes;
 
-impl<N: Nodes> Call<'_, N> {
+impl<N: Nodes> PendingCall<'_, N> {
     /// Traverses until it comes to the key; none where the budget has no room for one more piece.
     #[inline(always)]
     pub(crate) fn search(&mut self) -> Option<Found>
@@ -77,7 +77,7 @@ fn find_by<N: Nodes>(
     ensures tired { IfErr result.0 (GivesUp (pass_of at.old) (pass_of at.new) key budget) }
 {
     at.law();
-    let mut call = Call {
+    let mut call = PendingCall {
         at: AtTable {
             slots: at.slots,
             pass: at.pass,

@@ -6,13 +6,13 @@ ghost use Rattle.vbr_slots.specs.AtTables.{IsSameTable, pass_of, trace_of};
 ghost use Rattle.vbr_slots.specs.Calls.{Quiet, Took};
 ghost use Rattle.vbr_slots.specs.Views.{IsOf};
 ghost use Rattle.vbr_access.specs.Answering.{KeepsIn};
-ghost use Rattle.vbr_list.specs.Answered.{Calls, CallsAs, CallsInsert, SparesInsert};
+ghost use Rattle.vbr_list.specs.Sparing.{Calls, CallsAs, CallsInsert, SparesInsert};
 ghost use Rattle.vbr_list.specs.Inserting.{DeniesNone, GivesHandBack, HasHandAndRoom, InsertAnswers, Links, LinksNone, Prepares, PreparesHand, PreparesNone, Provides, ProvidesNone, Publishes};
 ghost use Rattle.vbr_list.specs.Pieces.{HasRoom, IsSameCall, Replies, Stores, pass_in, trace_in};
 ghost use Rattle.vbr_list.specs.Told.{stored_in};
 ghost use Rattle.vbr_list.specs.Traversing.{LocatesFor};
 
-use crate::call::Call;
+use crate::call::PendingCall;
 use crate::found::Found;
 use crate::refusal::Refusal;
 use crate::valuing::steps_to_update;
@@ -25,7 +25,7 @@ use vbr_pools::{Hand, TakeRefusal};
 use vbr_slots::{AtTable, Pass, Slots};
 use vbr_words::{Entries, Nodes};
 
-impl<N: Nodes> Call<'_, N> {
+impl<N: Nodes> PendingCall<'_, N> {
     // Answers an insert with no, in one step, if the link of the node that was found is as it was read.
     #[inline]
     fn deny(&mut self, found: &Found) -> Result<(), Rollback>
@@ -242,7 +242,7 @@ fn insert_by<N: Nodes>(
         (pass_of at.old) (pass_of at.new) budget result.0 }
 {
     at.law();
-    let mut call = Call {
+    let mut call = PendingCall {
         at: AtTable {
             slots: at.slots,
             pass: at.pass,

@@ -6,7 +6,7 @@ ghost use Rattle.vbr_access.specs.Held.{held_of};
 ghost use Rattle.vbr_list.specs.LookingUp.{LookStops, LookTires, Sees};
 ghost use Rattle.vbr_list.specs.Pieces.{GoesOn, Observes, trace_in};
 
-use crate::call::Call;
+use crate::call::PendingCall;
 use crate::traversal::{Stop, Visited};
 use vbr_access::{Held, Marked};
 use vbr_pools::budget::affords;
@@ -34,7 +34,7 @@ fn held_of(marked: Marked) -> Held
     }
 }
 
-impl<N: Nodes> Call<'_, N> {
+impl<N: Nodes> PendingCall<'_, N> {
     // One walk from the head to the key, past marked nodes.
     #[inline(always)]
     fn walk(&mut self) -> Result<Sight, Stop>

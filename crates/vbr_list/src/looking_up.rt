@@ -4,15 +4,15 @@ ghost use Rattle.vbr_machine.specs.declared.history.Op.TheVariants.{Has};
 ghost use Rattle.vbr_slots.specs.AtTables.{IsSameTable, pass_of, trace_of};
 ghost use Rattle.vbr_slots.specs.Calls.{OnlyLoads, Took};
 ghost use Rattle.vbr_slots.specs.Views.{IsOf};
-ghost use Rattle.vbr_list.specs.Answered.{Calls, CallsAs, CallsGet, SparesLookUp};
+ghost use Rattle.vbr_list.specs.Sparing.{Calls, CallsAs, CallsGet, SparesLookUp};
 ghost use Rattle.vbr_list.specs.Budgets.{answer_costs};
 ghost use Rattle.vbr_list.specs.declared.looking.Sight.TheVariants.{Present, Absent};
 ghost use Rattle.vbr_list.specs.LookingUp.{IsAskedOf, IsSightFor, LookUpAnswers, LookUpRollsBack, steps_to_answer};
 ghost use Rattle.vbr_list.specs.Pieces.{HasRoom, Settles, trace_in};
-ghost use Rattle.vbr_list.specs.Places.{held_in, is_present};
+ghost use Rattle.vbr_list.specs.Places.{sighted, is_present};
 ghost use Rattle.vbr_list.specs.Told.{given_in, look_up_op};
 
-use crate::call::Call;
+use crate::call::PendingCall;
 use crate::looking::Sight;
 use crate::refusal::Refusal;
 use crate::valuing::{is_yes, steps_to_value_of, value_if_any};
@@ -23,7 +23,7 @@ use vbr_pools::budget::affords;
 use vbr_slots::{AtTable, Pass, Slots};
 use vbr_words::{Entries, Nodes};
 
-impl<N: Nodes> Call<'_, N> {
+impl<N: Nodes> PendingCall<'_, N> {
     // Answers a look-up by what it came to, in one step, if the link that was read still stands there.
     #[inline(always)]
     fn answer_has(&mut self, sight: Sight) -> Result<Option<u64>, Rollback>
@@ -121,7 +121,7 @@ fn without_value(present: bool) -> Option<u64>
 // What is held that tells, and whether it tells that the key is present.
 #[inline(always)]
 fn told_by(sight: Sight) -> (Held, bool)
-    ensures held { result.0 ≡ held_in sight }
+    ensures held { result.0 ≡ sighted sight }
     ensures present { result.1 ≡ is_present sight }
 {
     match sight {
@@ -231,7 +231,7 @@ fn look_up<N: Nodes>(
         (pass_of at.old) (pass_of at.new) budget result.0 }
 {
     at.law();
-    let mut call = Call {
+    let mut call = PendingCall {
         at: AtTable {
             slots: at.slots,
             pass: at.pass,

@@ -4,14 +4,14 @@ ghost use Rattle.vbr_machine.specs.declared.history.Op.TheVariants.{Remove};
 ghost use Rattle.vbr_slots.specs.AtTables.{IsSameTable, pass_of, trace_of};
 ghost use Rattle.vbr_slots.specs.Calls.{Took};
 ghost use Rattle.vbr_slots.specs.Views.{IsOf};
-ghost use Rattle.vbr_list.specs.Answered.{Calls, CallsAs, CallsRemove};
+ghost use Rattle.vbr_list.specs.Sparing.{Calls, CallsAs, CallsRemove};
 ghost use Rattle.vbr_list.specs.Leaving.{SparesRemove, WasClear};
 ghost use Rattle.vbr_list.specs.Pieces.{Goes, GoesOn, HasRoom, Settles};
 ghost use Rattle.vbr_list.specs.Removing.{Clears, IsMarkedFor, RemoveAnswers, RemoveRollsBack};
 ghost use Rattle.vbr_list.specs.Told.{given_in};
 ghost use Rattle.vbr_list.specs.Traversing.{LocatesFor};
 
-use crate::call::Call;
+use crate::call::PendingCall;
 use crate::found::Found;
 use crate::helping::unlink_and_retire;
 use crate::refusal::Refusal;
@@ -36,7 +36,7 @@ fn walk_apart<N: Nodes>(at: &mut AtTable<'_, N>, key: u64, budget: u32, used: u3
     ensures clear { result + 8 ≤ budget → WasClear (trace_of at.old) (trace_of at.new) key }
 {
     at.law();
-    let mut call = Call {
+    let mut call = PendingCall {
         at: AtTable {
             slots: at.slots,
             pass: at.pass,
@@ -68,7 +68,7 @@ fn walk_by_copy<N: Nodes>(at: &mut AtTable<'_, N>, key: u64, budget: u32, used: 
     walk_apart(&mut copy, key, budget, used)
 }
 
-impl<N: Nodes> Call<'_, N> {
+impl<N: Nodes> PendingCall<'_, N> {
     // Unlinks and retires the node that was marked; where that is lost, walks on until it is out of
     // its list, by this pass or another.
     #[inline]
@@ -219,7 +219,7 @@ fn remove_by<N: Nodes>(
         (pass_of at.old) (pass_of at.new) budget result.0 }
 {
     at.law();
-    let mut call = Call {
+    let mut call = PendingCall {
         at: AtTable {
             slots: at.slots,
             pass: at.pass,

@@ -2,12 +2,12 @@
 ghost use Rattle.std.specs.Prelude.{◌≡◌, ◌+◌, ◌≤◌, IsSome, IfOk, IfErr};
 ghost use Rattle.vbr_words.specs.Words.{link_of};
 ghost use Rattle.vbr_slots.specs.Views.{knows};
-ghost use Rattle.vbr_access.specs.Held.{IsMarked, Names};
+ghost use Rattle.vbr_access.specs.Held.{HoldsMarked, Names};
 ghost use Rattle.vbr_list.specs.Helping.{Helps, HelpsNone};
 ghost use Rattle.vbr_list.specs.Pieces.{GoesOn, HasRoom, IsPiece, OnlyLooks, WasAlone, pass_in, trace_in};
 ghost use Rattle.vbr_list.specs.Traversing.{Finds, IsInsideFor, IsPredFor, Meets, RollsBackFrom, SearchStops, Starts};
 
-use crate::call::Call;
+use crate::call::PendingCall;
 use crate::found::Found;
 use crate::helping::help_by_copy;
 use vbr_access::uncounted::{checkpoint, first, key_of, next};
@@ -35,7 +35,7 @@ pub(crate) enum Stop {
     Tired,
 }
 
-impl<N: Nodes> Call<'_, N> {
+impl<N: Nodes> PendingCall<'_, N> {
     // Starts at the head of the bucket, in three steps.
     #[inline(always)]
     pub(crate) fn start(&mut self) -> Result<Held, Rollback>
@@ -86,7 +86,7 @@ impl<N: Nodes> Call<'_, N> {
     #[inline(always)]
     fn help(&mut self, pred: Held, marked: Marked) -> Result<Held, Rollback>
         requires pred { IsPredFor self.old pred }
-        requires marked { IsMarked (knows (trace_in self.old)) marked }
+        requires marked { HoldsMarked (knows (trace_in self.old)) marked }
         requires names { Names pred marked.slot }
         requires room { HasRoom self.old }
         ensures goes { GoesOn self.old self.new }

@@ -25,7 +25,7 @@ use Rattle.vbr_machine.specs.Chronicles.{Before, AtHead, AtNode, IsOpen, Belongs
 use Rattle.vbr_machine.specs.Sound.{IsInserted, IsListed, Sound, Tells, Grows}
 use Rattle.vbr_machine.specs.Notes.{Notes}
 use Rattle.vbr_machine.specs.Removals.{NoneMarked}
-use Rattle.vbr_machine.specs.Agreement.{IsHeldIncarnation, IsHeldAt, IsHeldNext, IsGoodLink, IsPair, IsNoted, Agrees}
+use Rattle.vbr_machine.specs.Agreement.{IsHeldIncarnation, IsHeldAt, IsHeldNext, IsGoodLink, IsPair, FitsNotes, Agrees}
 use Rattle.vbr_machine.specs.declared.knowledge.Read.TheVariants.{LinkAt, KeyOf}
 use Rattle.vbr_machine.proofs.Slots.{late_inserted, listed_late}
 use Rattle.vbr_machine.proofs.Lists.{keys_differ, next_listed, no_key_between}
@@ -99,7 +99,7 @@ next_inserted a e (Some t) n h = late_inserted (a.state n) e h.late
 -- ---- then and now
 
 -- incarnations a then and b now: the known keys are those that the same incarnations had then
-module _ {shape : Dimensions} {a b : Incarnations} {know : Know} {notes : Notes} (then : Sound shape a) (grown : Grows a b) (now : Sound shape b) (noted : IsNoted b know notes) (low : know.epoch ≤ a.epoch) where
+module _ {shape : Dimensions} {a b : Incarnations} {know : Know} {notes : Notes} (then : Sound shape a) (grown : Grows a b) (now : Sound shape b) (noted : FitsNotes b know notes) (low : know.epoch ≤ a.epoch) where
   -- a key that is known at a slot
   key_then : (s c key : ℕ) → IsHeldIncarnation a know.epoch s c → Knows know (KeyOf s key) → a.key c ≡ key
   key_then s c key h m = sym (grown.key c (late_inserted (a.state c) know.epoch h.late)) ∙ known_key now noted s c key (stays_held then grown know.epoch s c low h) m
@@ -173,7 +173,7 @@ module _ {shape : Dimensions} {a b : Incarnations} {know : Know} {notes : Notes}
             omega (arith, up, key_here, key_there)
 
 -- a held place has an incarnation that is held there, if it is a slot
-pub place_held : {a : Incarnations} {know : Know} {notes : Notes} → IsNoted a know notes → (at : At) → IsHeldPlace know at → (of : Option ℕ) × IsHeldAt a know.epoch at of
+pub place_held : {a : Incarnations} {know : Know} {notes : Notes} → FitsNotes a know notes → (at : At) → IsHeldPlace know at → (of : Option ℕ) × IsHeldAt a know.epoch at of
 place_held k (Head b) h = (None, tt)
 place_held k (Slot s) h = let x = slot_held k s h in (Some x.0, x.1)
 

@@ -7,7 +7,7 @@ use Rattle.vbr_words.specs.Words.{word_of}
 use Rattle.vbr_words.specs.declared.place.At.{At}
 use Rattle.vbr_words.specs.declared.place.At.TheVariants.{Slot}
 use Rattle.vbr_machine.specs.Put.{put}
-use Rattle.vbr_machine.specs.Opened.{opening_keys, opening_payloads, kept}
+use Rattle.vbr_machine.specs.Opened.{opening_keys, opening_payloads, payload_kept}
 use Rattle.vbr_machine.specs.History.{Payloads, reply_of, set_after, values_after, GivesValue}
 use Rattle.vbr_machine.specs.Knowledge.{key_in, value_in}
 use Rattle.vbr_machine.specs.Acceptance.{IsOpIn, HasValueFor, Accepts}
@@ -15,7 +15,7 @@ use Rattle.vbr_machine.specs.Learning.{present_reply, present_value}
 use Rattle.vbr_machine.specs.Machine.{World}
 use Rattle.vbr_machine.specs.Machine as machine
 use Rattle.vbr_machine.specs.Incarnations.{Incarnations, last_in}
-use Rattle.vbr_machine.specs.Chronicles.{Allowed, Answers, ChangesNothing, becomes}
+use Rattle.vbr_machine.specs.Chronicles.{Allowed, Confirms, ChangesNothing, becomes}
 use Rattle.vbr_machine.specs.Notes.{Notes}
 use Rattle.vbr_machine.specs.Agreement.{Agrees}
 use Rattle.vbr_machine.specs.declared.history.Call.{Call}
@@ -34,15 +34,15 @@ pub use Rattle.vbr_machine.proofs.AtLoads.{found_at}
 use Rattle.vbr_machine.proofs.MarkedChains.{confirmed_absent}
 
 -- a call that changes nothing
-answer_allowed : (shape : Dimensions) (w : World) (a : Incarnations) (notes : ℕ → Notes) (p : ℕ) (call : Call) → Agrees shape w a notes → Allowed shape (opening_keys shape) a p (Answers call) →
-    Agrees shape (record w { calls = w.calls ++ call ∷ [] }) (becomes shape a p (Answers call)) (put notes p (notes p))
+answer_allowed : (shape : Dimensions) (w : World) (a : Incarnations) (notes : ℕ → Notes) (p : ℕ) (call : Call) → Agrees shape w a notes → Allowed shape (opening_keys shape) a p (Confirms call) →
+    Agrees shape (record w { calls = w.calls ++ call ∷ [] }) (becomes shape a p (Confirms call)) (put notes p (notes p))
 answer_allowed shape w a notes p call g al =
-    let b = becomes shape a p (Answers call) in
+    let b = becomes shape a p (Confirms call) in
     let v = record w { calls = w.calls ++ call ∷ [] } in
-    agrees_next shape w v a notes (put notes p (notes p)) p (Answers call) g al
+    agrees_next shape w v a notes (put notes p (notes p)) p (Confirms call) g al
     (fits_kept a b refl refl refl refl g.fits)
     (image_kept v w a b g.image.epoch refl refl refl refl refl refl g.image.place refl refl refl refl refl refl refl refl refl refl g.image)
-    (knows_same b w.know notes p (knows_on g.sound (grows shape (opening_keys shape) a p (Answers call) g.sound al) w.know notes g.knows))
+    (knows_same b w.know notes p (knows_on g.sound (grows shape (opening_keys shape) a p (Confirms call) g.sound al) w.know notes g.knows))
     (owns_kept a b w.know (λ v. record { place = refl; last = refl; stamp = refl; untouched = λ c _. record { state = refl; birth = refl; key = refl; is_keyed = refl; value = refl; is_valued = refl; link = refl; is_aimed = refl } }) g.owns)
     (ap (λ l. l ++ call ∷ []) g.calls) g.births
 
@@ -62,7 +62,7 @@ step_confirm_present shape w a notes p op s expected g ok = go (cases_Bool (word
     reply Get keys k n e = sym e
 
     -- the value of a present key is given to a get
-    gives : (o : Op) (payloads : Payloads) (k x : ℕ) (v : Option ℕ) → o ≢ Remove → IsOpIn shape o → HasValueFor o v → (IsSome v → unwrap_or v 0 ≡ x) → payloads k ≡ kept shape (Some x) → GivesValue payloads o k (present_reply o) (present_value o v)
+    gives : (o : Op) (payloads : Payloads) (k x : ℕ) (v : Option ℕ) → o ≢ Remove → IsOpIn shape o → HasValueFor o v → (IsSome v → unwrap_or v 0 ≡ x) → payloads k ≡ payload_kept shape (Some x) → GivesValue payloads o k (present_reply o) (present_value o v)
     gives Insert payloads k x v n i h e f = refl
     gives Remove payloads k x v n i h e f = absurd (n refl)
     gives Has payloads k x v n i h e f = refl
@@ -76,7 +76,7 @@ step_confirm_present shape w a notes p op s expected g ok = go (cases_Bool (word
         let k : key ≡ a.key (last_in a s) = key_is g.sound.slots (w.know p).epoch (notes p).checked (w.know p).checked s (last_in a s) (g.knows p).checked_reads (g.knows p).checked m.held ok.held.1 in
         let v = value_is g.sound.slots (w.know p).epoch (notes p).checked (w.know p).checked s (last_in a s) (g.knows p).checked_reads (g.knows p).checked m.held in
         let call : Call = record { who = p; op = op; key = key; reply = present_reply op; value = present_value op (value_in (w.know p).checked s) } in
-        let al : Allowed shape (opening_keys shape) a p (Answers call) = (refl, nothing op ok.in_range.1, reply op (set_after (opening_keys shape) a.calls) key ok.in_range.1 (rw k (g.tells.there (last_in a s) m.is_open)), gives op (values_after (opening_payloads shape) a.calls) key (a.value (last_in a s)) (value_in (w.know p).checked s) ok.in_range.1 ok.in_shape.1 ok.held.2 v (rw k (g.tells.stored (last_in a s) m.is_open))) in
+        let al : Allowed shape (opening_keys shape) a p (Confirms call) = (refl, nothing op ok.in_range.1, reply op (set_after (opening_keys shape) a.calls) key ok.in_range.1 (rw k (g.tells.there (last_in a s) m.is_open)), gives op (values_after (opening_payloads shape) a.calls) key (a.value (last_in a s)) (value_in (w.know p).checked s) ok.in_range.1 ok.in_shape.1 ok.held.2 v (rw k (g.tells.stored (last_in a s) m.is_open))) in
         rw t ((al, tt), answer_allowed shape w a notes p call g al)
 
 pub step_confirm_absent : (shape : Dimensions) (w : World) (a : Incarnations) (notes : ℕ → Notes) (p : ℕ) (op : Op) (key : ℕ) (at : At) (expected : ℕ) → Agrees shape w a notes → Accepts shape (w.know p) (ConfirmAbsent op key at expected) → StepAgrees shape w a notes p (ConfirmAbsent op key at expected)
@@ -106,5 +106,5 @@ step_confirm_absent shape w a notes p op key at expected g ok = go (cases_Bool (
         let q : machine.found shape w (ConfirmAbsent op key at expected) ≡ expected = found_at shape w at ∙ eqb-true (word_of (machine.link_at w at)) expected t in
         let ab : set_after (opening_keys shape) a.calls key ≡ false = sym (ap (λ calls. set_after (opening_keys shape) calls key) g.calls) ∙ confirmed_absent g p op key at expected ok q in
         let call : Call = record { who = p; op = op; key = key; reply = false; value = None } in
-        let al : Allowed shape (opening_keys shape) a p (Answers call) = (refl, nothing op, reply op (set_after (opening_keys shape) a.calls) key ok.in_range.1 ab, gives op (values_after (opening_payloads shape) a.calls) key) in
+        let al : Allowed shape (opening_keys shape) a p (Confirms call) = (refl, nothing op, reply op (set_after (opening_keys shape) a.calls) key ok.in_range.1 ab, gives op (values_after (opening_payloads shape) a.calls) key) in
         rw (found_at shape w at, t) ((al, tt), answer_allowed shape w a notes p call g al)

@@ -8,7 +8,7 @@ use Rattle.vbr_words.specs.declared.place.At.{At}
 use Rattle.vbr_words.specs.declared.place.At.TheVariants.{Head, Slot}
 use Rattle.vbr_machine.specs.Put.{put}
 use Rattle.vbr_machine.specs.Links.{link_to}
-use Rattle.vbr_machine.specs.Opened.{kept}
+use Rattle.vbr_machine.specs.Opened.{payload_kept}
 use Rattle.vbr_machine.specs.Machine.{World, with_link_at}
 use Rattle.vbr_machine.specs.Machine as machine
 use Rattle.vbr_machine.specs.Knowledge.{birth_of}
@@ -106,7 +106,7 @@ pub record ReadyFacts (shape : Dimensions) (a : Incarnations) (p s e : ℕ) (rea
   pub before : IsBefore reads (a.key (last_in a s)) expected.slot
   pub value_is : (x : ℕ) → value_in_hand holding ≡ Some x → a.value (last_in a s) ≡ x
   pub valued : shape.values ≡ true → a.is_valued (last_in a s) ≡ true
-  pub payload : kept shape (value_in_hand holding) ≡ payload_of shape a (last_in a s)
+  pub payload : payload_kept shape (value_in_hand holding) ≡ payload_of shape a (last_in a s)
 
 pub ready_facts : (shape : Dimensions) (a : Incarnations) (p s e : ℕ) (reads : List Read) (pred : At) (expected : Link) (holding : Option Holding) → OwnFits a p e holding (a.place s) (a.last s) (a.stamp s) → MayPublish shape reads pred expected holding → ReadyFacts shape a p s e reads pred expected holding
 ready_facts shape a p s e reads pred expected None h r = absurd r
@@ -134,5 +134,5 @@ ready_facts shape a p s e reads pred expected (Some (InHand known)) h r =
       before = rw k r.before;
       value_is = λ y e. ap a.value l ∙ stored_is (a.is_valued x.node) (a.value x.node) known.value x.valued y e;
       valued = λ e. ap a.is_valued l ∙ stored_there shape.values (a.is_valued x.node) (a.value x.node) known.value r.valued x.valued e;
-      payload = stored_kept shape.values (a.is_valued x.node) (a.value x.node) known.value r.valued x.valued ∙ ap (λ n. kept shape (Some (a.value n))) (sym l);
+      payload = stored_kept shape.values (a.is_valued x.node) (a.value x.node) known.value r.valued x.valued ∙ ap (λ n. payload_kept shape (Some (a.value n))) (sym l);
     }

@@ -4,7 +4,7 @@ use Rattle.std.proofs.lemmas.Bool.Decides.{nat_tests}
 use Rattle.vbr_words.specs.Dimensions.{Dimensions}
 use Rattle.vbr_machine.specs.Keys.{Keys}
 use Rattle.vbr_machine.specs.Incarnations.{Incarnations}
-use Rattle.vbr_machine.specs.Chronicles.{Happening, Advances, Gains, Probes, Raises, GivesUp, Bears, Keyed, Valued, Aims, Inserts, Removes, Unlinks, Stamps, Answers, AtHead, AtNode, Entry, Allowed, becomes, incarnations_from, IsLawful}
+use Rattle.vbr_machine.specs.Chronicles.{Happening, Advances, Gains, Probes, Raises, GivesUp, Bears, Keyed, Valued, Aims, Inserts, Removes, Unlinks, Stamps, Confirms, AtHead, AtNode, Entry, Allowed, becomes, incarnations_from, IsLawful}
 use Rattle.vbr_machine.specs.Sound.{IsInserted, Sound, Grows}
 use Rattle.vbr_machine.proofs.Slots.{late_inserted, inserted_late}
 use Rattle.vbr_machine.proofs.SoundAfter.{sound_kept}
@@ -27,7 +27,7 @@ grows shape keys a pass Advances s h = grows_beside a (becomes shape a pass Adva
 grows shape keys a pass (Gains v) s h = grows_beside a (becomes shape a pass (Gains v)) (omega arith) (omega arith) refl refl refl refl refl refl
 grows shape keys a pass (Probes v) s h = grows_beside a a (omega arith) (omega arith) refl refl refl refl refl refl
 grows shape keys a pass (Raises v) s h = grows_beside a (becomes shape a pass (Raises v)) (omega arith) (omega arith) refl refl refl refl refl refl
-grows shape keys a pass (Answers call) s h = grows_beside a (becomes shape a pass (Answers call)) (omega arith) (omega arith) refl refl refl refl refl refl
+grows shape keys a pass (Confirms call) s h = grows_beside a (becomes shape a pass (Confirms call)) (omega arith) (omega arith) refl refl refl refl refl refl
 grows shape keys a pass (Aims c link) s h = grows_beside a (becomes shape a pass (Aims c link)) (omega arith) (omega arith) refl refl refl refl refl refl
 grows shape keys a pass (Keyed c key) s h = record {
   epoch = omega arith;

@@ -10,11 +10,11 @@ use Rattle.vbr_machine.specs.Knowledge.{Know}
 use Rattle.vbr_words.specs.Buckets.{bucket_of}
 use Rattle.vbr_machine.specs.Learning.{reads_won, read_loaded}
 use Rattle.vbr_machine.specs.Machine.{World, found}
-use Rattle.vbr_machine.specs.Membership.{Knows, HeldIn, at_head, behind}
+use Rattle.vbr_machine.specs.Membership.{Knows, HeldIn, at_head, at_slot}
 use Rattle.vbr_machine.specs.Incarnations.{Incarnations, last_in}
 use Rattle.vbr_machine.specs.Sound.{IsInserted, Sound, Grows}
 use Rattle.vbr_machine.specs.Notes.{Note, Notes, note_of, with_read, with_won, confirmed_notes, notes_with}
-use Rattle.vbr_machine.specs.Agreement.{IsHeldIncarnation, IsHeldAt, IsHeldNext, IsGoodLink, IsGoodRead, IsGood, IsNoted}
+use Rattle.vbr_machine.specs.Agreement.{IsHeldIncarnation, IsHeldAt, IsHeldNext, IsGoodLink, IsGoodRead, IsGood, FitsNotes}
 use Rattle.vbr_machine.specs.declared.event.Step.{Step}
 use Rattle.vbr_machine.specs.declared.event.Step.TheVariants.{ReadEpoch, Publish, Mark, Unlink}
 use Rattle.vbr_machine.specs.declared.knowledge.Read.{Read}
@@ -132,7 +132,7 @@ abbrev pub IsOfBucket : Dimensions → Incarnations → ℕ → At → ℕ → T
 IsOfBucket shape a epoch (Head h) b = h ≡ b
 IsOfBucket shape a epoch (Slot s) b = (c : ℕ) → IsHeldIncarnation a epoch s c → bucket_of shape (a.key c) ≡ b
 
-module _ {shape : Dimensions} {a : Incarnations} {know : Know} {notes : Notes} (sound : Sound shape a) (noted : IsNoted a know notes) (ordered : AreOrdered shape a notes) where
+module _ {shape : Dimensions} {a : Incarnations} {know : Know} {notes : Notes} (sound : Sound shape a) (noted : FitsNotes a know notes) (ordered : AreOrdered shape a notes) where
   both : (notes : List Note) → AllByRecursion (IsGood a know.epoch) notes → AllByRecursion (IsOrdered shape a) notes → AllByRecursion (λ note. IsGood a know.epoch note × IsOrdered shape a note) notes
   both [] g h = tt
   both (note ∷ notes) g h = ((g.0, h.0), both notes g.1 h.1)
@@ -163,7 +163,7 @@ module _ {shape : Dimensions} {a : Incarnations} {know : Know} {notes : Notes} (
   -- a place that is held in a bucket is of it
   pub place_in_bucket : (at : At) (b : ℕ) → HeldIn know at b → IsOfBucket shape a know.epoch at b
   place_in_bucket _ _ (at_head b) = refl
-  place_in_bucket _ _ (behind at link s b h k q) = behind_it at link s b k q (place_in_bucket at b h)
+  place_in_bucket _ _ (at_slot at link s b h k q) = behind_it at link s b k q (place_in_bucket at b h)
 
   -- a known key of a slot that is held in a bucket is one of the bucket
   pub held_in_bucket : (s b key : ℕ) → HeldIn know (Slot s) b → Knows know (KeyOf s key) → bucket_of shape key ≡ b

@@ -8,7 +8,7 @@ use Rattle.vbr_words.specs.declared.place.At.{At}
 use Rattle.vbr_words.specs.declared.place.At.TheVariants.{Head, Slot}
 use Rattle.vbr_machine.specs.Links.{link_to}
 use Rattle.vbr_words.specs.Buckets.{bucket_of}
-use Rattle.vbr_machine.specs.Opened.{kept}
+use Rattle.vbr_machine.specs.Opened.{payload_kept}
 use Rattle.vbr_machine.specs.Knowledge.{Know, knows_link, birth_in, key_in, value_in, marked_in, holds, holds_at, birth_at, birth_of}
 use Rattle.vbr_machine.specs.Acceptance.{KnowsKeyAt, KnowsKeyOf, after_turns, LeadsToKey, next_of_marked, HasValue, HasValueFor, HasChecked, IsBehind, IsBefore, LeadsAbove, MayPublish, IsInRange, Accepts}
 use Rattle.vbr_machine.specs.Learning.{link_written, call_of, present_reply, present_value, birth_in_hand}
@@ -16,7 +16,7 @@ use Rattle.vbr_machine.specs.Membership.{Knows, IsHeldSlot, IsHeldPlace, BirthAt
 use Rattle.vbr_machine.specs.Incarnations.{Incarnations}
 use Rattle.vbr_machine.specs.Sound.{Sound}
 use Rattle.vbr_machine.specs.Notes.{Notes}
-use Rattle.vbr_machine.specs.Agreement.{IsNoted, Fits}
+use Rattle.vbr_machine.specs.Agreement.{FitsNotes, Fits}
 use Rattle.vbr_machine.specs.declared.history.Op.{Op}
 use Rattle.vbr_machine.specs.declared.history.Op.TheVariants.{Insert, Remove, Has, Get}
 use Rattle.vbr_machine.specs.declared.event.Step.{Step}
@@ -145,7 +145,7 @@ accepts_known {shape} {know} {step} ok = record { in_shape = ok.in_shape; owned 
 
 -- ---- what is known is looked up
 
-module _ {shape : Dimensions} {a : Incarnations} {know : Know} {notes : Notes} (sound : Sound shape a) (noted : IsNoted a know notes) where
+module _ {shape : Dimensions} {a : Incarnations} {know : Know} {notes : Notes} (sound : Sound shape a) (noted : FitsNotes a know notes) where
   -- a search of a key finds any known key
   pub key_looked_up : (s key : ℕ) → Knows know (KeyOf s key) → unwrap_or (key_in know.checked s) 0 ≡ key
   key_looked_up s key k =
@@ -209,7 +209,7 @@ module _ {shape : Dimensions} {a : Incarnations} {know : Know} {notes : Notes} (
   value_told Has s value k = refl
   value_told Get s value k = value_looked_up s value (k refl)
 
-  pub marked_call_is : (p s expected key value : ℕ) → Knows know (KeyOf s key) → (shape.values ≡ true → Knows know (ValueOf s value)) → call_of shape p know (Mark s expected) ≡ Some (record { who = p; op = Remove; key = key; reply = true; value = kept shape (Some value) })
+  pub marked_call_is : (p s expected key value : ℕ) → Knows know (KeyOf s key) → (shape.values ≡ true → Knows know (ValueOf s value)) → call_of shape p know (Mark s expected) ≡ Some (record { who = p; op = Remove; key = key; reply = true; value = payload_kept shape (Some value) })
   marked_call_is p s expected key value k v = λ i. Some (record { who = p; op = Remove; key = key_looked_up s key k i; reply = true; value = values_kept shape.values s value v i })
 
   pub confirmed_call_is : (p : ℕ) (op : Op) (s expected key value : ℕ) → Knows know (KeyOf s key) → (op ≡ Get → Knows know (ValueOf s value)) → call_of shape p know (ConfirmPresent op s expected) ≡ Some (record { who = p; op = op; key = key; reply = present_reply op; value = present_value op (Some value) })

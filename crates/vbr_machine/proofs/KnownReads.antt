@@ -14,7 +14,7 @@ use Rattle.vbr_machine.specs.Incarnations.{Incarnations}
 use Rattle.vbr_machine.specs.Images.{slot_shown}
 use Rattle.vbr_machine.specs.Sound.{Sound}
 use Rattle.vbr_machine.specs.Notes.{Note, Notes}
-use Rattle.vbr_machine.specs.Agreement.{IsHeldIncarnation, IsHeldNext, IsGoodLink, IsGoodRead, IsGood, reads_of, IsNoted}
+use Rattle.vbr_machine.specs.Agreement.{IsHeldIncarnation, IsHeldNext, IsGoodLink, IsGoodRead, IsGood, reads_of, FitsNotes}
 use Rattle.vbr_machine.specs.declared.knowledge.Read.{Read}
 use Rattle.vbr_machine.specs.declared.knowledge.Read.TheVariants.{LinkAt, BirthOf, KeyOf, ValueOf}
 use Rattle.vbr_machine.proofs.Slots.{one_late}
@@ -27,30 +27,30 @@ note_of_known P (note ∷ notes) read m h = ⊎_elim (λ q. (note, q, h.0)) (λ 
 
 -- ---- a known read is good
 
-pub good_read : {a : Incarnations} {know : Know} {notes : Notes} → IsNoted a know notes → (read : Read) → Knows know read → (of names : Option ℕ) × IsGoodRead a know.epoch read of names
+pub good_read : {a : Incarnations} {know : Know} {notes : Notes} → FitsNotes a know notes → (read : Read) → Knows know read → (of names : Option ℕ) × IsGoodRead a know.epoch read of names
 good_read {a} {know} {notes} k read m =
     let x = note_of_known (IsGood a know.epoch) notes.checked read (rw k.checked_reads at m.among) k.checked in
     let P : Read → Type 0 = λ r. IsGoodRead a know.epoch r x.0.of x.0.names in
     (x.0.of, x.0.names, subst P x.1 x.2)
 
-pub good_link : {a : Incarnations} {know : Know} {notes : Notes} → IsNoted a know notes → (at : At) (link : Link) → Knows know (LinkAt at link) → (of names : Option ℕ) × IsGoodLink a know.epoch at link of names
+pub good_link : {a : Incarnations} {know : Know} {notes : Notes} → FitsNotes a know notes → (at : At) (link : Link) → Knows know (LinkAt at link) → (of names : Option ℕ) × IsGoodLink a know.epoch at link of names
 good_link k at link m = good_read k (LinkAt at link) m
 
-pub birth_held : {a : Incarnations} {know : Know} {notes : Notes} → IsNoted a know notes → (s b : ℕ) → Knows know (BirthOf s b) → (c : ℕ) × IsHeldIncarnation a know.epoch s c × (a.birth c ≡ b)
+pub birth_held : {a : Incarnations} {know : Know} {notes : Notes} → FitsNotes a know notes → (s b : ℕ) → Knows know (BirthOf s b) → (c : ℕ) × IsHeldIncarnation a know.epoch s c × (a.birth c ≡ b)
 birth_held {a} {know} {notes} k s b m = go (good_read k (BirthOf s b) m)
   where
     go : ((of names : Option ℕ) × IsGoodRead a know.epoch (BirthOf s b) of names) → (c : ℕ) × IsHeldIncarnation a know.epoch s c × (a.birth c ≡ b)
     go (None, names, h) = absurd h
     go (Some c, names, h) = (c, h.0, h.1)
 
-pub key_held : {a : Incarnations} {know : Know} {notes : Notes} → IsNoted a know notes → (s key : ℕ) → Knows know (KeyOf s key) → (c : ℕ) × IsHeldIncarnation a know.epoch s c × (a.key c ≡ key)
+pub key_held : {a : Incarnations} {know : Know} {notes : Notes} → FitsNotes a know notes → (s key : ℕ) → Knows know (KeyOf s key) → (c : ℕ) × IsHeldIncarnation a know.epoch s c × (a.key c ≡ key)
 key_held {a} {know} {notes} k s key m = go (good_read k (KeyOf s key) m)
   where
     go : ((of names : Option ℕ) × IsGoodRead a know.epoch (KeyOf s key) of names) → (c : ℕ) × IsHeldIncarnation a know.epoch s c × (a.key c ≡ key)
     go (None, names, h) = absurd h
     go (Some c, names, h) = (c, h.0, h.1)
 
-pub value_held : {a : Incarnations} {know : Know} {notes : Notes} → IsNoted a know notes → (s value : ℕ) → Knows know (ValueOf s value) → (c : ℕ) × IsHeldIncarnation a know.epoch s c × (a.value c ≡ value)
+pub value_held : {a : Incarnations} {know : Know} {notes : Notes} → FitsNotes a know notes → (s value : ℕ) → Knows know (ValueOf s value) → (c : ℕ) × IsHeldIncarnation a know.epoch s c × (a.value c ≡ value)
 value_held {a} {know} {notes} k s value m = go (good_read k (ValueOf s value) m)
   where
     go : ((of names : Option ℕ) × IsGoodRead a know.epoch (ValueOf s value) of names) → (c : ℕ) × IsHeldIncarnation a know.epoch s c × (a.value c ≡ value)
@@ -58,7 +58,7 @@ value_held {a} {know} {notes} k s value m = go (good_read k (ValueOf s value) m)
     go (Some c, names, h) = (c, h.0, h.1)
 
 -- a held slot has an incarnation that is held there
-pub slot_held : {a : Incarnations} {know : Know} {notes : Notes} → IsNoted a know notes → (s : ℕ) → IsHeldSlot know s → (c : ℕ) × IsHeldIncarnation a know.epoch s c
+pub slot_held : {a : Incarnations} {know : Know} {notes : Notes} → FitsNotes a know notes → (s : ℕ) → IsHeldSlot know s → (c : ℕ) × IsHeldIncarnation a know.epoch s c
 slot_held {a} {know} {notes} k s h = let g = good_link k h.at h.link h.known in go h.link.slot g.1 h.names g.2.next
   where
     go : (v n : Option ℕ) → v ≡ Some s → IsHeldNext a know.epoch v n → (c : ℕ) × IsHeldIncarnation a know.epoch s c
@@ -73,18 +73,18 @@ pub one_held : {shape : Dimensions} {a : Incarnations} → Sound shape a → (e 
 one_held snd e s c d g h = one_late snd.slots c d e (g.slot ∙ sym h.slot) g.late h.late g.birth h.birth
 
 -- a known key of a slot is that of the incarnation held there
-pub known_key : {shape : Dimensions} {a : Incarnations} {know : Know} {notes : Notes} → Sound shape a → IsNoted a know notes → (s c key : ℕ) → IsHeldIncarnation a know.epoch s c → Knows know (KeyOf s key) → a.key c ≡ key
+pub known_key : {shape : Dimensions} {a : Incarnations} {know : Know} {notes : Notes} → Sound shape a → FitsNotes a know notes → (s c key : ℕ) → IsHeldIncarnation a know.epoch s c → Knows know (KeyOf s key) → a.key c ≡ key
 known_key {shape} {a} {know} {notes} snd k s c key h m = let x = key_held k s key m in ap a.key (one_held snd know.epoch s c x.0 h x.1) ∙ x.2
 
-pub known_birth : {shape : Dimensions} {a : Incarnations} {know : Know} {notes : Notes} → Sound shape a → IsNoted a know notes → (s c birth : ℕ) → IsHeldIncarnation a know.epoch s c → Knows know (BirthOf s birth) → a.birth c ≡ birth
+pub known_birth : {shape : Dimensions} {a : Incarnations} {know : Know} {notes : Notes} → Sound shape a → FitsNotes a know notes → (s c birth : ℕ) → IsHeldIncarnation a know.epoch s c → Knows know (BirthOf s birth) → a.birth c ≡ birth
 known_birth {shape} {a} {know} {notes} snd k s c birth h m = let x = birth_held k s birth m in ap a.birth (one_held snd know.epoch s c x.0 h x.1) ∙ x.2
 
 -- a slot has one known key
-pub one_key : {shape : Dimensions} {a : Incarnations} {know : Know} {notes : Notes} → Sound shape a → IsNoted a know notes → (s i j : ℕ) → Knows know (KeyOf s i) → Knows know (KeyOf s j) → i ≡ j
+pub one_key : {shape : Dimensions} {a : Incarnations} {know : Know} {notes : Notes} → Sound shape a → FitsNotes a know notes → (s i j : ℕ) → Knows know (KeyOf s i) → Knows know (KeyOf s j) → i ≡ j
 one_key snd k s i j m n = let x = key_held k s i m in sym x.2 ∙ known_key snd k s x.0 j x.1 n
 
 -- a slot has one known birth
-pub one_birth : {shape : Dimensions} {a : Incarnations} {know : Know} {notes : Notes} → Sound shape a → IsNoted a know notes → (s i j : ℕ) → Knows know (BirthOf s i) → Knows know (BirthOf s j) → i ≡ j
+pub one_birth : {shape : Dimensions} {a : Incarnations} {know : Know} {notes : Notes} → Sound shape a → FitsNotes a know notes → (s i j : ℕ) → Knows know (BirthOf s i) → Knows know (BirthOf s j) → i ≡ j
 one_birth snd k s i j m n = let x = birth_held k s i m in sym x.2 ∙ known_birth snd k s x.0 j x.1 n
 
 -- what a good link names has the slot that the link names
@@ -95,7 +95,7 @@ slot_named a e (Some s) None h = absurd h
 slot_named a e (Some s) (Some n) h = ap Some (sym h.slot)
 
 -- all known marked links of a slot name the same
-pub one_mark : {shape : Dimensions} {a : Incarnations} {know : Know} {notes : Notes} → Sound shape a → IsNoted a know notes → (s : ℕ) (x y : Link) → Knows know (LinkAt (Slot s) x) → Knows know (LinkAt (Slot s) y) → x.mark ≡ true → y.mark ≡ true → x.slot ≡ y.slot
+pub one_mark : {shape : Dimensions} {a : Incarnations} {know : Know} {notes : Notes} → Sound shape a → FitsNotes a know notes → (s : ℕ) (x y : Link) → Knows know (LinkAt (Slot s) x) → Knows know (LinkAt (Slot s) y) → x.mark ≡ true → y.mark ≡ true → x.slot ≡ y.slot
 one_mark {shape} {a} {know} {notes} snd k s x y m n p q = let g = good_link k (Slot s) x m in let h = good_link k (Slot s) y n in go g.0 h.0 g.1 h.1 g.2 h.2
   where
     go : (c d i j : Option ℕ) → IsGoodLink a know.epoch (Slot s) x c i → IsGoodLink a know.epoch (Slot s) y d j → x.slot ≡ y.slot
@@ -106,7 +106,7 @@ one_mark {shape} {a} {know} {notes} snd k s x y m n p q = let g = good_link k (S
         slot_named a know.epoch x.slot i g.next ∙ ap (slot_shown a) e ∙ sym (slot_named a know.epoch y.slot j h.next)
 
 -- a known link at a head is unmarked
-pub head_unmarked : {a : Incarnations} {know : Know} {notes : Notes} → IsNoted a know notes → (b : ℕ) (link : Link) → Knows know (LinkAt (Head b) link) → link.mark ≡ false
+pub head_unmarked : {a : Incarnations} {know : Know} {notes : Notes} → FitsNotes a know notes → (b : ℕ) (link : Link) → Knows know (LinkAt (Head b) link) → link.mark ≡ false
 head_unmarked {a} {know} {notes} k b link m = let g = good_link k (Head b) link m in go g.0 g.1 g.2 (cases_Bool link.mark)
   where
     go : (of names : Option ℕ) → IsGoodLink a know.epoch (Head b) link of names → (link.mark ≡ true) ⊎ (link.mark ≡ false) → link.mark ≡ false

@@ -11,7 +11,7 @@ use Rattle.vbr_words.specs.Buckets.{bucket_of}
 use Rattle.vbr_machine.specs.Acceptance.{Accepts}
 use Rattle.vbr_machine.specs.Accounts.{incarnations_after, notes_after, happens, just, entry_of_call, born_in}
 use Rattle.vbr_machine.specs.Calls.{calls_added}
-use Rattle.vbr_machine.specs.Chronicles.{Entry, Advances, Gains, Probes, Keyed, Valued, Aims, Inserts, Raises, Removes, Stamps, Unlinks, Answers, Allowed, becomes, incarnations_from, IsLawful}
+use Rattle.vbr_machine.specs.Chronicles.{Entry, Advances, Gains, Probes, Keyed, Valued, Aims, Inserts, Raises, Removes, Stamps, Unlinks, Confirms, Allowed, becomes, incarnations_from, IsLawful}
 use Rattle.vbr_machine.specs.Images.{key_shown}
 use Rattle.vbr_machine.specs.Incarnations.{Marked, Incarnations, last_in}
 use Rattle.vbr_machine.specs.Opened.{opening_keys}
@@ -88,7 +88,7 @@ module _ (shape : Dimensions) (passes : ℕ) (run : List Event) (is : IsShape sh
 
   confirmed : (t : Bool) (call : Option Call) → AddsNoNode shape (incarnations_after shape run) bucket h (if t then entry_of_call p call else [])
   confirmed true None = same [] refl
-  confirmed true (Some call) = same (just p (Answers call)) refl
+  confirmed true (Some call) = same (just p (Confirms call)) refl
   confirmed false call = same [] refl
 
   one : (step : Step) → calls_added shape (world_after shape run) p step ≡ [] → IsLawful shape (opening_keys shape) (incarnations_after shape run) (happens shape (world_after shape run) (incarnations_after shape run) p step) →

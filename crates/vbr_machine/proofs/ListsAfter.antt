@@ -8,7 +8,7 @@ use Rattle.vbr_machine.specs.Keys.{Keys}
 use Rattle.vbr_words.specs.Buckets.{bucket_of}
 use Rattle.vbr_machine.specs.Incarnations.{State, Unborn, InHand, Linked, Marked, Incarnations}
 use Rattle.vbr_machine.specs.Images.{key_shown}
-use Rattle.vbr_machine.specs.Chronicles.{Advances, Gains, Raises, GivesUp, Bears, Keyed, Valued, Aims, Removes, Stamps, Answers, Allowed, becomes}
+use Rattle.vbr_machine.specs.Chronicles.{Advances, Gains, Raises, GivesUp, Bears, Keyed, Valued, Aims, Removes, Stamps, Confirms, Allowed, becomes}
 use Rattle.vbr_machine.specs.Sound.{IsListed, IsApart, ListsSound, Sound}
 use Rattle.vbr_machine.specs.declared.history.Call.{Call}
 use Rattle.vbr_machine.proofs.Puts.{put_other}
@@ -40,8 +40,8 @@ lists_aims shape a pass c link s = lists_same shape a (becomes shape a pass (Aim
 pub lists_valued : (shape : Dimensions) (a : Incarnations) (pass c value : ℕ) → Sound shape a → ListsSound shape (becomes shape a pass (Valued c value))
 lists_valued shape a pass c value s = lists_same shape a (becomes shape a pass (Valued c value)) s.lists refl refl refl refl
 
-pub lists_answers : (shape : Dimensions) (a : Incarnations) (pass : ℕ) (call : Call) → Sound shape a → ListsSound shape (becomes shape a pass (Answers call))
-lists_answers shape a pass call s = lists_same shape a (becomes shape a pass (Answers call)) s.lists refl refl refl refl
+pub lists_answers : (shape : Dimensions) (a : Incarnations) (pass : ℕ) (call : Call) → Sound shape a → ListsSound shape (becomes shape a pass (Confirms call))
+lists_answers shape a pass call s = lists_same shape a (becomes shape a pass (Confirms call)) s.lists refl refl refl refl
 
 pub lists_gives_up : (shape : Dimensions) (keys : Keys) (a : Incarnations) (pass c : ℕ) → Sound shape a → Allowed shape keys a pass (GivesUp c) → ListsSound shape (becomes shape a pass (GivesUp c))
 lists_gives_up shape keys a pass c s h = record {

@@ -8,7 +8,7 @@ use Rattle.vbr_words.specs.declared.link.Link.{Link}
 use Rattle.vbr_words.specs.declared.place.At.{At}
 use Rattle.vbr_words.specs.declared.place.At.TheVariants.{Slot}
 use Rattle.vbr_machine.specs.Put.{put}
-use Rattle.vbr_machine.specs.Opened.{opening_keys, kept}
+use Rattle.vbr_machine.specs.Opened.{opening_keys, payload_kept}
 use Rattle.vbr_machine.specs.Links.{marked}
 use Rattle.vbr_machine.specs.Knowledge.{key_in, value_in}
 use Rattle.vbr_machine.specs.Acceptance.{Accepts}
@@ -103,5 +103,5 @@ step_mark shape w a notes p s expected g ok = go (cases_Bool (word_of (w.link s)
         let e = eqb-true (word_of (w.link s)) expected t in
         let m = link_stands shape w a notes p g (Slot s) expected ok.held.0 ok.in_range e in
         let k : unwrap_or (key_in (w.know p).checked s) 0 ≡ a.key (last_in a s) = key_is g.sound.slots (w.know p).epoch (notes p).checked (w.know p).checked s (last_in a s) (g.knows p).checked_reads (g.knows p).checked m.held ok.held.1 in
-        let l : kept shape (value_in (w.know p).checked s) ≡ payload_of shape a (last_in a s) = known_kept shape.values (value_in (w.know p).checked s) (a.value (last_in a s)) ok.held.2 (value_is g.sound.slots (w.know p).epoch (notes p).checked (w.know p).checked s (last_in a s) (g.knows p).checked_reads (g.knows p).checked m.held) in
-        rw t ((m.is_open, tt), won (link_of expected) m (sym (link_read g (Slot s)) ∙ ap link_of e) (unwrap_or (key_in (w.know p).checked s) 0) k (kept shape (value_in (w.know p).checked s)) l)
+        let l : payload_kept shape (value_in (w.know p).checked s) ≡ payload_of shape a (last_in a s) = known_kept shape.values (value_in (w.know p).checked s) (a.value (last_in a s)) ok.held.2 (value_is g.sound.slots (w.know p).epoch (notes p).checked (w.know p).checked s (last_in a s) (g.knows p).checked_reads (g.knows p).checked m.held) in
+        rw t ((m.is_open, tt), won (link_of expected) m (sym (link_read g (Slot s)) ∙ ap link_of e) (unwrap_or (key_in (w.know p).checked s) 0) k (payload_kept shape (value_in (w.know p).checked s)) l)

@@ -19,7 +19,7 @@ use Rattle.vbr_machine.specs.Incarnations.{State, Linked, Marked, Incarnations}
 use Rattle.vbr_machine.specs.Chronicles.{Before, AtHead, AtNode, IsOpen, BelongsBehind, BelongsBefore, next_of}
 use Rattle.vbr_machine.specs.Sound.{IsListed, IsRemoved, IsApart, Sound, Grows}
 use Rattle.vbr_machine.specs.Notes.{Notes}
-use Rattle.vbr_machine.specs.Agreement.{IsHeldIncarnation, IsHeldNext, IsGoodLink, IsPair, IsNoted, Agrees}
+use Rattle.vbr_machine.specs.Agreement.{IsHeldIncarnation, IsHeldNext, IsGoodLink, IsPair, FitsNotes, Agrees}
 use Rattle.vbr_machine.specs.declared.history.Op.{Op}
 use Rattle.vbr_machine.specs.declared.event.Step.TheVariants.{ConfirmAbsent}
 use Rattle.vbr_machine.specs.declared.knowledge.Read.TheVariants.{LinkAt}
@@ -103,7 +103,7 @@ pub record Reaches (a : Incarnations) (epoch : ℕ) (first : Option ℕ) (last :
   pub listed : (m : ℕ) → node ≡ Some m → IsListed (a.state m)
 
 -- a listed node that is held at a slot with a known marked link is marked now, and is followed by the one that this link names
-pub marked_node : {shape : Dimensions} {a : Incarnations} {know : Know} {notes : Notes} → Sound shape a → IsNoted a know notes → (s c : ℕ) (next : Link) → IsHeldIncarnation a know.epoch s c → IsListed (a.state c) → Knows know (LinkAt (Slot s) next) → next.mark ≡ true →
+pub marked_node : {shape : Dimensions} {a : Incarnations} {know : Know} {notes : Notes} → Sound shape a → FitsNotes a know notes → (s c : ℕ) (next : Link) → IsHeldIncarnation a know.epoch s c → IsListed (a.state c) → Knows know (LinkAt (Slot s) next) → next.mark ≡ true →
     (a.state c ≡ Marked) × IsHeldNext a know.epoch next.slot (a.next c)
 marked_node {shape} {a} {know} {notes} snd noted s c next h l k m = let g = good_link noted (Slot s) next k in go g.0 g.1 g.2
   where
@@ -115,7 +115,7 @@ marked_node {shape} {a} {know} {notes} snd noted s c next h l k m = let g = good
         (listed_removed (a.state c) l (rw same at f.0), rw (ap a.next (sym same) ∙ f.1) g.next)
 
 -- a known marked link of the slot that the last link names leads one marked node on
-one_on : {shape : Dimensions} {a : Incarnations} {know : Know} {notes : Notes} → Sound shape a → IsNoted a know notes → (first : Option ℕ) (last : Link) (s : ℕ) (next : Link) → Reaches a know.epoch first last → last.slot ≡ Some s → Knows know (LinkAt (Slot s) next) → next.mark ≡ true → Reaches a know.epoch first next
+one_on : {shape : Dimensions} {a : Incarnations} {know : Know} {notes : Notes} → Sound shape a → FitsNotes a know notes → (first : Option ℕ) (last : Link) (s : ℕ) (next : Link) → Reaches a know.epoch first last → last.slot ≡ Some s → Knows know (LinkAt (Slot s) next) → next.mark ≡ true → Reaches a know.epoch first next
 one_on {shape} {a} {know} {notes} snd noted first last s next r q k m = go last.slot r.node q r.through r.held r.listed
   where
     go : (v n : Option ℕ) → v ≡ Some s → ThroughMarked a first n → IsHeldNext a know.epoch v n → ((i : ℕ) → n ≡ Some i → IsListed (a.state i)) → Reaches a know.epoch first next
@@ -128,7 +128,7 @@ one_on {shape} {a} {know} {notes} snd noted first last s next r q k m = go last.
         record { node = a.next c; through = past c (a.next c) t x.0 refl; held = x.1; listed = λ i r. next_listed snd c i r (l c refl) }
 
 -- known marked links lead through marked nodes
-leads_through : {shape : Dimensions} {a : Incarnations} {know : Know} {notes : Notes} → Sound shape a → IsNoted a know notes → (first : Option ℕ) (link last : Link) → Reaches a know.epoch first link → LeadsTo know link last → Reaches a know.epoch first last
+leads_through : {shape : Dimensions} {a : Incarnations} {know : Know} {notes : Notes} → Sound shape a → FitsNotes a know notes → (first : Option ℕ) (link last : Link) → Reaches a know.epoch first link → LeadsTo know link last → Reaches a know.epoch first last
 leads_through snd noted first link _ r itself = r
 leads_through snd noted first link _ r (onward last s next h q k m) = one_on snd noted first last s next (leads_through snd noted first link last r h) q k m
 

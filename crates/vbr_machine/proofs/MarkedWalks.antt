@@ -13,7 +13,7 @@ use Rattle.vbr_machine.specs.Membership.{Knows, LeadsTo, itself, onward}
 use Rattle.vbr_machine.specs.Incarnations.{Incarnations}
 use Rattle.vbr_machine.specs.Sound.{Sound}
 use Rattle.vbr_machine.specs.Notes.{Notes}
-use Rattle.vbr_machine.specs.Agreement.{IsHeldIncarnation, IsHeldNext, IsGoodLink, IsNoted, Fits}
+use Rattle.vbr_machine.specs.Agreement.{IsHeldIncarnation, IsHeldNext, IsGoodLink, FitsNotes, Fits}
 use Rattle.vbr_machine.specs.declared.knowledge.Read.TheVariants.{LinkAt}
 use Rattle.vbr_machine.proofs.Slots.{late_born}
 use Rattle.vbr_machine.proofs.FoundReads.{marked_among, marked_there}
@@ -66,7 +66,7 @@ all_low n (s ∷ slots) h q e = go (cases_Bool (nat_eq q s)) (all_low n slots h.
     go (inl t) later = let x = eqb-true q s t in let y = h.0 in omega arith
     go (inr f) later = later (rw f at e)
 
-module _ {shape : Dimensions} {a : Incarnations} {know : Know} {notes : Notes} (sound : Sound shape a) (fits : Fits shape a) (noted : IsNoted a know notes) where
+module _ {shape : Dimensions} {a : Incarnations} {know : Know} {notes : Notes} (sound : Sound shape a) (fits : Fits shape a) (noted : FitsNotes a know notes) where
   -- a walk passes a slot to what any of its known marked links names
   past_known : (s : ℕ) (next : Link) → Knows know (LinkAt (Slot s) next) → next.mark ≡ true → past_marked know.checked (Some s) ≡ next.slot
   past_known s next k m = go (marked_in know.checked s) refl (marked_there know.checked s next k.among m)

@@ -10,7 +10,7 @@ use Rattle.vbr_machine.specs.Learning.{read_epoch, with_own, with_pending, with_
 use Rattle.vbr_machine.specs.Incarnations.{Incarnations}
 use Rattle.vbr_machine.specs.Sound.{Sound, Grows}
 use Rattle.vbr_machine.specs.Notes.{Note, Notes, note_of, shown_at, with_won, confirmed_notes}
-use Rattle.vbr_machine.specs.Agreement.{IsGood, IsAsShown, reads_of, IsNoted, AllKnowRight}
+use Rattle.vbr_machine.specs.Agreement.{IsGood, IsAsShown, reads_of, FitsNotes, AllKnowRight}
 use Rattle.vbr_machine.specs.declared.knowledge.Read.{Read}
 use Rattle.vbr_machine.specs.declared.knowledge.Holding.{Holding}
 use Rattle.vbr_machine.proofs.Puts.{put_here, put_other}
@@ -38,7 +38,7 @@ notes_all a P (read ∷ reads) h = (h.0, notes_all a P reads h.1)
 -- ---- one pass
 
 -- what a pass has noted stays so as the chronicle goes on
-pub noted_on : {shape : Dimensions} {a b : Incarnations} → Sound shape a → Grows a b → (know : Know) (notes : Notes) → IsNoted a know notes → IsNoted b know notes
+pub noted_on : {shape : Dimensions} {a b : Incarnations} → Sound shape a → Grows a b → (know : Know) (notes : Notes) → FitsNotes a know notes → FitsNotes b know notes
 noted_on {shape} {a} {b} s g know notes k = record {
   epoch = let u = k.epoch in let v = g.epoch in omega arith;
   checked_reads = k.checked_reads;
@@ -50,7 +50,7 @@ noted_on {shape} {a} {b} s g know notes k = record {
 }
 
 -- what it knows of its slots is nothing that it notes
-pub noted_beside : (a : Incarnations) (know other : Know) (notes : Notes) → other.epoch ≡ know.epoch → other.pending ≡ know.pending → other.checked ≡ know.checked → IsNoted a know notes → IsNoted a other notes
+pub noted_beside : (a : Incarnations) (know other : Know) (notes : Notes) → other.epoch ≡ know.epoch → other.pending ≡ know.pending → other.checked ≡ know.checked → FitsNotes a know notes → FitsNotes a other notes
 noted_beside a know other notes e p c k = record {
   epoch = rw e k.epoch;
   checked_reads = c ∙ k.checked_reads;
@@ -62,7 +62,7 @@ noted_beside a know other notes e p c k = record {
 }
 
 -- a read that is pending
-pub noted_pending : (a : Incarnations) (know : Know) (notes : Notes) (note : Note) → IsNoted a know notes → note.read ≡ note.shown → (a.epoch ≡ know.epoch → IsGood a know.epoch note) → IsNoted a (with_pending know note.read) (record notes { pending = notes.pending ++ note ∷ [] })
+pub noted_pending : (a : Incarnations) (know : Know) (notes : Notes) (note : Note) → FitsNotes a know notes → note.read ≡ note.shown → (a.epoch ≡ know.epoch → IsGood a know.epoch note) → FitsNotes a (with_pending know note.read) (record notes { pending = notes.pending ++ note ∷ [] })
 noted_pending a know notes note k shown good = record {
   epoch = k.epoch;
   checked_reads = k.checked_reads;
@@ -74,7 +74,7 @@ noted_pending a know notes note k shown good = record {
 }
 
 -- reads that are checked at once
-pub noted_checked : (a : Incarnations) (know : Know) (notes : Notes) (reads : List Read) → IsNoted a know notes → AllByRecursion (λ read. read ≡ shown_at a read) reads → AllByRecursion (λ read. IsGood a know.epoch (note_of a read)) reads → IsNoted a (with_checked know reads) (with_won a notes reads)
+pub noted_checked : (a : Incarnations) (know : Know) (notes : Notes) (reads : List Read) → FitsNotes a know notes → AllByRecursion (λ read. read ≡ shown_at a read) reads → AllByRecursion (λ read. IsGood a know.epoch (note_of a read)) reads → FitsNotes a (with_checked know reads) (with_won a notes reads)
 noted_checked a know notes reads k shown good = record {
   epoch = k.epoch;
   checked_reads = ap (λ l. l ++ reads) k.checked_reads ∙ ap (λ l. reads_of notes.checked ++ l) (sym (reads_noted a reads)) ∙ sym (reads_both notes.checked (map (note_of a) reads));
@@ -86,10 +86,10 @@ noted_checked a know notes reads k shown good = record {
 }
 
 -- an unmoved epoch confirms what is pending, and one that has moved leaves nothing
-pub noted_read : (a : Incarnations) (know : Know) (notes : Notes) (epoch : ℕ) → epoch ≡ a.epoch → IsNoted a know notes → IsNoted a (read_epoch know epoch) (confirmed_notes notes (epoch == know.epoch))
+pub noted_read : (a : Incarnations) (know : Know) (notes : Notes) (epoch : ℕ) → epoch ≡ a.epoch → FitsNotes a know notes → FitsNotes a (read_epoch know epoch) (confirmed_notes notes (epoch == know.epoch))
 noted_read a know notes epoch q k = go (cases_Bool (epoch == know.epoch))
   where
-    go : ((epoch == know.epoch) ≡ true) ⊎ ((epoch == know.epoch) ≡ false) → IsNoted a (read_epoch know epoch) (confirmed_notes notes (epoch == know.epoch))
+    go : ((epoch == know.epoch) ≡ true) ⊎ ((epoch == know.epoch) ≡ false) → FitsNotes a (read_epoch know epoch) (confirmed_notes notes (epoch == know.epoch))
     go (inl t) = rw t (record {
       epoch = k.epoch;
       checked_reads = ap (λ l. l ++ know.pending) k.checked_reads ∙ ap (λ l. reads_of notes.checked ++ l) k.pending_reads ∙ sym (reads_both notes.checked notes.pending);
@@ -107,10 +107,10 @@ pub knows_on : {shape : Dimensions} {a b : Incarnations} → Sound shape a → G
 knows_on s g know notes k = λ q. noted_on s g (know q) (notes q) (k q)
 
 -- one pass's knowledge and notes have changed
-pub knows_put : (a : Incarnations) (know : ℕ → Know) (notes : ℕ → Notes) (p : ℕ) (x : Know) (n : Notes) → AllKnowRight a know notes → IsNoted a x n → AllKnowRight a (put know p x) (put notes p n)
+pub knows_put : (a : Incarnations) (know : ℕ → Know) (notes : ℕ → Notes) (p : ℕ) (x : Know) (n : Notes) → AllKnowRight a know notes → FitsNotes a x n → AllKnowRight a (put know p x) (put notes p n)
 knows_put a know notes p x n k h = λ q. go q (cases_eq q p)
   where
-    go : (q : ℕ) → (q ≡ p) ⊎ (q ≢ p) → IsNoted a (put know p x q) (put notes p n q)
+    go : (q : ℕ) → (q ≡ p) ⊎ (q ≢ p) → FitsNotes a (put know p x q) (put notes p n q)
     go q (inl e) = rw (e, put_here know p x, put_here notes p n) h
     go q (inr ne) = rw (put_other know p x q ne, put_other notes p n q ne) (k q)
 
@@ -118,7 +118,7 @@ knows_put a know notes p x n k h = λ q. go q (cases_eq q p)
 pub knows_same : (a : Incarnations) (know : ℕ → Know) (notes : ℕ → Notes) (p : ℕ) → AllKnowRight a know notes → AllKnowRight a know (put notes p (notes p))
 knows_same a know notes p k = λ q. go q (cases_eq q p)
   where
-    go : (q : ℕ) → (q ≡ p) ⊎ (q ≢ p) → IsNoted a (know q) (put notes p (notes p) q)
+    go : (q : ℕ) → (q ≡ p) ⊎ (q ≢ p) → FitsNotes a (know q) (put notes p (notes p) q)
     go q (inl e) = rw (e, put_here notes p (notes p)) (k p)
     go q (inr ne) = rw (put_other notes p (notes p) q ne) (k q)
 

@@ -15,7 +15,7 @@ use Rattle.vbr_machine.specs.Images.{key_shown, value_shown, link_shown}
 use Rattle.vbr_machine.specs.Chronicles.{IsRetired, IsStamped, Allowed, Gains, Raises, Keyed, Valued, Aims, becomes}
 use Rattle.vbr_machine.specs.Sound.{PlaceFits, SlotsSound}
 use Rattle.vbr_machine.specs.Notes.{Notes}
-use Rattle.vbr_machine.specs.Agreement.{IsNoted, OwnFits, Fits, Agrees}
+use Rattle.vbr_machine.specs.Agreement.{FitsNotes, OwnFits, Fits, Agrees}
 use Rattle.vbr_machine.specs.declared.event.Step.TheVariants.{Raise, TakeFlag, StoreKey, StoreValue, StoreLink}
 use Rattle.vbr_machine.specs.declared.knowledge.Holding.{Holding}
 use Rattle.vbr_machine.specs.declared.knowledge.Holding.TheVariants.{Free, Unlinked, InHand}
@@ -168,7 +168,7 @@ step_store_value shape w a notes p s value g ok =
     )
 
 -- the link that a pass stores has room in a word
-aimed_fits : {shape : Dimensions} {a : Incarnations} → Fits shape a → (know : Know) (notes : Notes) (next : Option ℕ) (birth : ℕ) → IsNoted a know notes → birth ≤ know.epoch → IsNextIn shape next → IsLink (link_to next birth (unwrap_or (birth_of know.checked next) 0))
+aimed_fits : {shape : Dimensions} {a : Incarnations} → Fits shape a → (know : Know) (notes : Notes) (next : Option ℕ) (birth : ℕ) → FitsNotes a know notes → birth ≤ know.epoch → IsNextIn shape next → IsLink (link_to next birth (unwrap_or (birth_of know.checked next) 0))
 aimed_fits f know notes None birth k le h = record { slot = tt; version = let u = f.epoch in let v = f.is_shape.last_epoch in let w = k.epoch in omega arith }
 aimed_fits {shape} {a} f know notes (Some s) birth k le h = record {
   slot = let v = f.is_shape.slots in omega arith;

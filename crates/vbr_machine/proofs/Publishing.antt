@@ -10,7 +10,7 @@ use Rattle.vbr_machine.specs.Put.{put}
 use Rattle.vbr_words.specs.Buckets.{bucket_of}
 use Rattle.vbr_machine.specs.Acceptance.{Accepts}
 use Rattle.vbr_machine.specs.Learning.{with_own, with_checked, reads_won, link_written, key_in_hand, value_in_hand}
-use Rattle.vbr_machine.specs.Opened.{opening_keys, kept}
+use Rattle.vbr_machine.specs.Opened.{opening_keys, payload_kept}
 use Rattle.vbr_machine.specs.Machine.{World, with_link_at}
 use Rattle.vbr_machine.specs.Machine as machine
 use Rattle.vbr_machine.specs.Incarnations.{Linked, Incarnations, last_in}
@@ -41,7 +41,7 @@ Published shape w v a notes p pred expected s t =
 made : (shape : Dimensions) (w : World) (a : Incarnations) (notes : ℕ → Notes) (p : ℕ) (pred : At) (expected s : ℕ) (g : Agrees shape w a notes) (ok : Accepts shape (w.know p) (Publish pred expected s)) (m : LinkStands shape a (w.know p).epoch (w.know p).checked pred (link_of expected)) (v : World) →
     v.epoch ≡ w.epoch → ((k : ℕ) → v.head k ≡ machine.link_at (with_link_at w pred (link_written (w.know p) (Publish pred expected s))) (Head k)) → ((k : ℕ) → v.link k ≡ machine.link_at (with_link_at w pred (link_written (w.know p) (Publish pred expected s))) (Slot k)) →
     v.birth ≡ w.birth → v.key ≡ w.key → v.value ≡ w.value → v.stamp ≡ w.stamp → v.place ≡ put w.place s (Listed (bucket_of shape (key_in_hand ((w.know p).own s)))) →
-    v.know ≡ put w.know p (with_own (with_checked (w.know p) (reads_won (w.know p) (Publish pred expected s))) s None) → v.calls ≡ w.calls ++ record { who = p; op = Insert; key = key_in_hand ((w.know p).own s); reply = true; value = kept shape (value_in_hand ((w.know p).own s)) } ∷ [] → v.births ≡ w.births →
+    v.know ≡ put w.know p (with_own (with_checked (w.know p) (reads_won (w.know p) (Publish pred expected s))) s None) → v.calls ≡ w.calls ++ record { who = p; op = Insert; key = key_in_hand ((w.know p).own s); reply = true; value = payload_kept shape (value_in_hand ((w.know p).own s)) } ∷ [] → v.births ≡ w.births →
     Agrees shape v (becomes shape a p (Inserts (last_in a s) (before_at a pred))) (put notes p (with_won (becomes shape a p (Inserts (last_in a s) (before_at a pred))) (notes p) (reads_won (w.know p) (Publish pred expected s))))
 made shape w a notes p pred expected s g ok m v ve vh vl vb vk vw vs vp vn vc vt =
     let c = last_in a s in
@@ -77,7 +77,7 @@ made shape w a notes p pred expected s g ok m v ve vh vl vb vk vw vs vp vn vc vt
     (λ k ne. record { place = place k ∙ put_other a.place s listed k ne; last = refl; stamp = refl; untouched = λ d e. record { state = put_other a.state c Linked d (lasts_differ g.sound.slots k s c d ne r.last e); birth = refl; key = refl; is_keyed = refl; value = refl; is_valued = refl; link = refl; is_aimed = refl } })
     (rw (put_here (w.know p).own s None, place s ∙ put_here a.place s listed) tt)
     g.owns))
-    (vc ∙ ap (λ l. l ++ record { who = p; op = Insert; key = key_in_hand ((w.know p).own s); reply = true; value = kept shape (value_in_hand ((w.know p).own s)) } ∷ []) g.calls ∙ (λ i. a.calls ++ record { who = p; op = Insert; key = r.key_is i; reply = true; value = r.payload i } ∷ []))
+    (vc ∙ ap (λ l. l ++ record { who = p; op = Insert; key = key_in_hand ((w.know p).own s); reply = true; value = payload_kept shape (value_in_hand ((w.know p).own s)) } ∷ []) g.calls ∙ (λ i. a.calls ++ record { who = p; op = Insert; key = r.key_is i; reply = true; value = r.payload i } ∷ []))
     (vt ∙ g.births)
 
 pub step_publish : (shape : Dimensions) (w : World) (a : Incarnations) (notes : ℕ → Notes) (p : ℕ) (pred : At) (expected s : ℕ) → Agrees shape w a notes → Accepts shape (w.know p) (Publish pred expected s) → StepAgrees shape w a notes p (Publish pred expected s)
@@ -88,7 +88,7 @@ step_publish shape w a notes p (Head h) expected s g ok = go (word_of (w.head h)
       know = put w.know p (if t then with_own (with_checked (w.know p) (reads_won (w.know p) (Publish (Head h) expected s))) s None else w.know p);
       head = put w.head h (link_written (w.know p) (Publish (Head h) expected s));
       place = put w.place s (Listed (bucket_of shape (key_in_hand ((w.know p).own s))));
-      calls = w.calls ++ record { who = p; op = Insert; key = key_in_hand ((w.know p).own s); reply = true; value = kept shape (value_in_hand ((w.know p).own s)) } ∷ [];
+      calls = w.calls ++ record { who = p; op = Insert; key = key_in_hand ((w.know p).own s); reply = true; value = payload_kept shape (value_in_hand ((w.know p).own s)) } ∷ [];
     }
 
     go : (t : Bool) → (word_of (w.head h) == expected) ≡ t → Published shape w v a notes p (Head h) expected s t
@@ -103,7 +103,7 @@ step_publish shape w a notes p (Slot q) expected s g ok = go (word_of (w.link q)
       know = put w.know p (if t then with_own (with_checked (w.know p) (reads_won (w.know p) (Publish (Slot q) expected s))) s None else w.know p);
       link = put w.link q (link_written (w.know p) (Publish (Slot q) expected s));
       place = put w.place s (Listed (bucket_of shape (key_in_hand ((w.know p).own s))));
-      calls = w.calls ++ record { who = p; op = Insert; key = key_in_hand ((w.know p).own s); reply = true; value = kept shape (value_in_hand ((w.know p).own s)) } ∷ [];
+      calls = w.calls ++ record { who = p; op = Insert; key = key_in_hand ((w.know p).own s); reply = true; value = payload_kept shape (value_in_hand ((w.know p).own s)) } ∷ [];
     }
 
     go : (t : Bool) → (word_of (w.link q) == expected) ≡ t → Published shape w v a notes p (Slot q) expected s t

@@ -14,7 +14,7 @@ use Rattle.vbr_machine.specs.Runs.{Begins, IsRun, world_after}
 use Rattle.vbr_machine.specs.Calls.{own_calls}
 use Rattle.vbr_machine.specs.Machine.{opening}
 use Rattle.vbr_machine.specs.Incarnations.{State, Unborn, InHand, GivenUp, Linked, Marked, Unlinked, Stamped, Incarnations, at_opening}
-use Rattle.vbr_machine.specs.Chronicles.{Happening, Advances, Gains, Probes, Raises, GivesUp, Bears, Keyed, Valued, Aims, Inserts, Removes, Unlinks, Stamps, Answers, Entry, Allowed, ChangesNothing, becomes, calls_made, incarnations_from, IsLawful, entries_by}
+use Rattle.vbr_machine.specs.Chronicles.{Happening, Advances, Gains, Probes, Raises, GivesUp, Bears, Keyed, Valued, Aims, Inserts, Removes, Unlinks, Stamps, Confirms, Entry, Allowed, ChangesNothing, becomes, calls_made, incarnations_from, IsLawful, entries_by}
 use Rattle.vbr_machine.specs.Accounts.{chronicle, chronicle_from, incarnations_after, notes_after, own_entries}
 use Rattle.vbr_machine.specs.Agreement.{Agrees}
 use Rattle.vbr_machine.specs.Sound.{IsInserted, IsRemoved, Sound, Grows}
@@ -37,7 +37,7 @@ left_stays shape keys a pass Advances s h c l = l
 left_stays shape keys a pass (Gains v) s h c l = l
 left_stays shape keys a pass (Probes v) s h c l = l
 left_stays shape keys a pass (Raises v) s h c l = l
-left_stays shape keys a pass (Answers call) s h c l = l
+left_stays shape keys a pass (Confirms call) s h c l = l
 left_stays shape keys a pass (Aims d link) s h c l = l
 left_stays shape keys a pass (Keyed d key) s h c l = l
 left_stays shape keys a pass (Valued d value) s h c l = l
@@ -94,7 +94,7 @@ calls_go_on shape a (entry ∷ entries) =
     calls_by_one : (what : Happening) → (more : List Call) × ((becomes shape a entry.pass what).calls ≡ a.calls ++ more)
     calls_by_one (Inserts c behind) = (calls_made shape a entry.pass (Inserts c behind), refl)
     calls_by_one (Removes c) = (calls_made shape a entry.pass (Removes c), refl)
-    calls_by_one (Answers call) = (calls_made shape a entry.pass (Answers call), refl)
+    calls_by_one (Confirms call) = (calls_made shape a entry.pass (Confirms call), refl)
     calls_by_one Advances = none Advances refl
     calls_by_one (Gains v) = none (Gains v) refl
     calls_by_one (Probes v) = none (Probes v) refl
@@ -151,10 +151,10 @@ module _ (shape : Dimensions) (keys : Keys) (who : ℕ) (call : Call) (remove : 
   marks_or_later a pass (Bears v birth) entries s h g e rec = rec refl
   marks_or_later a pass (Unlinks d behind) entries s h g e rec = rec refl
   marks_or_later a pass (Stamps d stamp) entries s h g e rec = rec refl
-  marks_or_later a pass (Answers x) entries s h g e rec = go (cases_eq x.who who)
+  marks_or_later a pass (Confirms x) entries s h g e rec = go (cases_eq x.who who)
     where
       b : Incarnations
-      b = becomes shape a pass (Answers x)
+      b = becomes shape a pass (Confirms x)
 
       changes : (op : Op) (reply : Bool) → op ≡ Remove → reply ≡ true → ChangesNothing op reply → ⊥
       changes Insert reply o r n = cc
@@ -162,7 +162,7 @@ module _ (shape : Dimensions) (keys : Keys) (who : ℕ) (call : Call) (remove : 
       changes Has reply o r n = cc
       changes Get reply o r n = cc
 
-      go : (x.who ≡ who) ⊎ (x.who ≢ who) → IsMarkedBy (incarnations_from shape b entries) (record { pass = pass; what = Answers x } ∷ entries) who call.key
+      go : (x.who ≡ who) ⊎ (x.who ≢ who) → IsMarkedBy (incarnations_from shape b entries) (record { pass = pass; what = Confirms x } ∷ entries) who call.key
       go (inl mine) =
           let more = calls_go_on shape b entries in
           let same : x ≡ call = first_added who a.calls b.calls (incarnations_from shape b entries).calls more.0 x call refl more.1 mine e in

@@ -8,8 +8,8 @@ use Rattle.vbr_words.specs.declared.place.At.TheVariants.{Head, Slot}
 use Rattle.vbr_machine.specs.Knowledge.{Know, names, holds}
 use Rattle.vbr_machine.specs.Incarnations.{Incarnations}
 use Rattle.vbr_machine.specs.Sound.{Sound}
-use Rattle.vbr_machine.specs.Notes.{Note, Notes, IsAmong, LinkNames, Holds, HoldsJust, IsOfHeld, ReadsHeld, AreRightReads}
-use Rattle.vbr_machine.specs.Agreement.{IsHeldIncarnation, IsHeldNext, IsGoodRead, IsGood, IsAsShown, reads_of, IsNoted}
+use Rattle.vbr_machine.specs.Notes.{Note, Notes, IsAmong, LinkNames, IsHeldBy, HoldsJust, IsOfHeld, ReadsHeld, AreRightReads}
+use Rattle.vbr_machine.specs.Agreement.{IsHeldIncarnation, IsHeldNext, IsGoodRead, IsGood, IsAsShown, reads_of, FitsNotes}
 use Rattle.vbr_machine.specs.declared.knowledge.Read.{Read}
 use Rattle.vbr_machine.specs.declared.knowledge.Read.TheVariants.{LinkAt, BirthOf, KeyOf, ValueOf}
 use Rattle.vbr_machine.proofs.Slots.{one_late}
@@ -37,17 +37,17 @@ gives_held a e s c (LinkAt at link) of named g n q = go link.slot named g.next n
     go (Some t) (Some d) h p q = moved a e s t c d (cc) (cc) h
 
 -- what a pass holds is late for its epoch
-pub holds_held : (a : Incarnations) (e : ℕ) (notes : List Note) → AllByRecursion (IsGood a e) notes → (s c : ℕ) → Holds notes s c → IsHeldIncarnation a e s c
+pub holds_held : (a : Incarnations) (e : ℕ) (notes : List Note) → AllByRecursion (IsGood a e) notes → (s c : ℕ) → IsHeldBy notes s c → IsHeldIncarnation a e s c
 holds_held a e notes al s c (note, m, g) = gives_held a e s c note.read note.of note.names (among_all (IsGood a e) note notes al m) g.0 g.1
 
 -- at a slot it holds one
-pub holds_one : {shape : Dimensions} {a : Incarnations} → Sound shape a → (e : ℕ) (notes : List Note) → AllByRecursion (IsGood a e) notes → (s c d : ℕ) → Holds notes s c → Holds notes s d → c ≡ d
+pub holds_one : {shape : Dimensions} {a : Incarnations} → Sound shape a → (e : ℕ) (notes : List Note) → AllByRecursion (IsGood a e) notes → (s c d : ℕ) → IsHeldBy notes s c → IsHeldBy notes s d → c ≡ d
 holds_one {shape} {a} snd e notes al s c d hc hd =
     let x = holds_held a e notes al s c hc in
     let y = holds_held a e notes al s d hd in
     one_late snd.slots c d e (x.slot ∙ sym y.slot) x.late y.late x.birth y.birth
 
-holds_later : (note : Note) (notes : List Note) (s c : ℕ) → Holds notes s c → Holds (note ∷ notes) s c
+holds_later : (note : Note) (notes : List Note) (s c : ℕ) → IsHeldBy notes s c → IsHeldBy (note ∷ notes) s c
 holds_later note notes s c (n, m, g) = (n, inr m, g)
 
 named_some : (a : Incarnations) (e s : ℕ) (o m : Option ℕ) → names o s ≡ true → IsHeldNext a e o m → (c : ℕ) × (o ≡ Some s) × (m ≡ Some c)
@@ -56,11 +56,11 @@ named_some a e s (Some t) None q h = absurd h
 named_some a e s (Some t) (Some c) q h = let k : t ≡ s = grind (arith, nat_tests) in (c, ap Some k, refl)
 
 -- a slot that is held has an incarnation that is
-pub holds_some : (a : Incarnations) (e : ℕ) (notes : List Note) (s : ℕ) → holds (reads_of notes) s ≡ true → AllByRecursion (IsGood a e) notes → (c : ℕ) × Holds notes s c
+pub holds_some : (a : Incarnations) (e : ℕ) (notes : List Note) (s : ℕ) → holds (reads_of notes) s ≡ true → AllByRecursion (IsGood a e) notes → (c : ℕ) × IsHeldBy notes s c
 holds_some a e [] s q al = absurd (cc)
 holds_some a e (note ∷ notes) s q al = go note.read refl (λ r. let x = holds_some a e notes s r al.1 in (x.0, holds_later note notes s x.0 x.1))
   where
-    go : (read : Read) → note.read ≡ read → (holds (reads_of notes) s ≡ true → (c : ℕ) × Holds (note ∷ notes) s c) → (c : ℕ) × Holds (note ∷ notes) s c
+    go : (read : Read) → note.read ≡ read → (holds (reads_of notes) s ≡ true → (c : ℕ) × IsHeldBy (note ∷ notes) s c) → (c : ℕ) × IsHeldBy (note ∷ notes) s c
     go (BirthOf v b) r rest = rest (rw r at q)
     go (KeyOf v b) r rest = rest (rw r at q)
     go (ValueOf v b) r rest = rest (rw r at q)
@@ -78,7 +78,7 @@ holds_just {shape} {a} snd e notes al s c q h =
     let x = holds_some a e notes s q al in
     let y = holds_held a e notes al s x.0 x.1 in
     let same : x.0 ≡ c = one_late snd.slots x.0 c e (y.slot ∙ sym h.slot) y.late h.late y.birth h.birth in
-    record { held = (let P : ℕ → Type 0 = λ i. Holds notes s i in subst P same x.1); only = λ d hd. holds_one snd e notes al s d x.0 hd x.1 ∙ same }
+    record { held = (let P : ℕ → Type 0 = λ i. IsHeldBy notes s i in subst P same x.1); only = λ d hd. holds_one snd e notes al s d x.0 hd x.1 ∙ same }
 
 -- a slot that is held has one incarnation that the pass holds there
 pub holds_only : {shape : Dimensions} {a : Incarnations} → Sound shape a → (e : ℕ) (notes : List Note) → AllByRecursion (IsGood a e) notes → (s : ℕ) → holds (reads_of notes) s ≡ true → (c : ℕ) × HoldsJust notes s c
@@ -106,7 +106,7 @@ of_held_among checked note (first ∷ notes) h (inl e) = let P : Note → Type 0
 of_held_among checked note (first ∷ notes) h (inr m) = of_held_among checked note notes h.1 m
 
 -- the checked reads of a pass whose reads are of held places are right
-pub right_reads : {shape : Dimensions} {a : Incarnations} → Sound shape a → (know : Know) (notes : Notes) → IsNoted a know notes → ReadsHeldPlaces know → AreRightReads notes.checked
+pub right_reads : {shape : Dimensions} {a : Incarnations} → Sound shape a → (know : Know) (notes : Notes) → FitsNotes a know notes → ReadsHeldPlaces know → AreRightReads notes.checked
 right_reads {shape} {a} snd know notes k r note m =
     let all : AllByRecursion (IsOfHeldPlace (reads_of notes.checked)) (reads_of notes.checked) = rw k.checked_reads at r.checked in
     record {

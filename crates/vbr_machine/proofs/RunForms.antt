@@ -8,7 +8,7 @@ use Rattle.vbr_words.specs.declared.link.Link.{Link}
 use Rattle.vbr_words.specs.declared.place.At.{At}
 use Rattle.vbr_words.specs.declared.place.At.TheVariants.{Head, Slot}
 use Rattle.vbr_machine.specs.Put.{put}
-use Rattle.vbr_machine.specs.Opened.{opening_keys, kept}
+use Rattle.vbr_machine.specs.Opened.{opening_keys, payload_kept}
 use Rattle.vbr_machine.specs.History.{set_after}
 use Rattle.vbr_machine.specs.Knowledge.{key_in, birth_in}
 use Rattle.vbr_words.specs.Buckets.{bucket_of}
@@ -130,7 +130,7 @@ module _ (shape : Dimensions) (passes : ℕ) (run : List Event) (is : IsShape sh
 
   -- the calls of a mark and of a confirming load of a slot are of any known key, and of any known value
   pub marked_call_is : (s expected key value : ℕ) → Knows (know_after shape run p) (KeyOf s key) → (shape.values ≡ true → Knows (know_after shape run p) (ValueOf s value)) →
-      call_of shape p (know_after shape run p) (Mark s expected) ≡ Some (record { who = p; op = Remove; key = key; reply = true; value = kept shape (Some value) })
+      call_of shape p (know_after shape run p) (Mark s expected) ≡ Some (record { who = p; op = Remove; key = key; reply = true; value = payload_kept shape (Some value) })
   marked_call_is s expected key value k v = acceptance.marked_call_is agrees.sound (agrees.knows p) p s expected key value k v
 
   pub confirmed_call_is : (op : Op) (s expected key value : ℕ) → Knows (know_after shape run p) (KeyOf s key) → (op ≡ Get → Knows (know_after shape run p) (ValueOf s value)) →

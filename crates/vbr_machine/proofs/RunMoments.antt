@@ -7,7 +7,7 @@ use Rattle.vbr_machine.specs.Machine.{link_at}
 use Rattle.vbr_machine.specs.Runs.{Begins, IsRun, know_after, world_after}
 use Rattle.vbr_machine.specs.Incarnations.{IsLate}
 use Rattle.vbr_machine.specs.Sound.{Grows}
-use Rattle.vbr_machine.specs.Notes.{Note, Holds, IsAmong}
+use Rattle.vbr_machine.specs.Notes.{Note, IsHeldBy, IsAmong}
 use Rattle.vbr_machine.specs.Accounts.{incarnations_after, notes_after}
 use Rattle.vbr_machine.specs.Agreement.{IsHeldIncarnation, IsGoodLink, IsGoodRead, IsGood, IsPair, IsLastOf}
 use Rattle.vbr_machine.specs.Safety.{IsSafe}
@@ -39,7 +39,7 @@ late_on shape passes moment run c e is ok begins le late =
     (stays, λ n next. (run_agrees shape passes run is ok).sound.lists.handed c n e next stays)
 
 -- where the epoch is the pass's, what it holds is the last of its slot
-pub holds_last : (shape : Dimensions) (passes : ℕ) (run : List Event) (pass s c : ℕ) → IsShape shape → IsRun shape passes run → Holds (notes_after shape run pass).checked s c → (know_after shape run pass).epoch ≡ (world_after shape run).epoch → (incarnations_after shape run).last s ≡ Some c
+pub holds_last : (shape : Dimensions) (passes : ℕ) (run : List Event) (pass s c : ℕ) → IsShape shape → IsRun shape passes run → IsHeldBy (notes_after shape run pass).checked s c → (know_after shape run pass).epoch ≡ (world_after shape run).epoch → (incarnations_after shape run).last s ≡ Some c
 holds_last shape passes run pass s c is ok holds same =
     let g = run_agrees shape passes run is ok in
     let a = incarnations_after shape run in

@@ -8,7 +8,7 @@ use Rattle.vbr_words.specs.declared.link.Link.{Link}
 use Rattle.vbr_machine.specs.Put.{put}
 use Rattle.vbr_machine.specs.Keys.{Keys}
 use Rattle.vbr_machine.specs.Incarnations.{State, Unborn, InHand, Stamped, Incarnations}
-use Rattle.vbr_machine.specs.Chronicles.{Happening, Advances, Gains, Probes, Raises, GivesUp, Bears, Keyed, Valued, Aims, Inserts, Removes, Unlinks, Stamps, Answers, Before, MayBeBornIn, MayStamp, unlinked_at, Allowed, becomes}
+use Rattle.vbr_machine.specs.Chronicles.{Happening, Advances, Gains, Probes, Raises, GivesUp, Bears, Keyed, Valued, Aims, Inserts, Removes, Unlinks, Stamps, Confirms, Before, MayBeBornIn, MayStamp, unlinked_at, Allowed, becomes}
 use Rattle.vbr_machine.specs.Sound.{IsPassed, TimesFit, StampFits, SlotsSound}
 use Rattle.vbr_machine.specs.declared.history.Call.{Call}
 use Rattle.vbr_machine.specs.declared.knowledge.SlotPlace.{SlotPlace}
@@ -248,7 +248,7 @@ slots_unlinks shape keys a pass c behind s h =
       placed = λ i p q. let u = s.placed i p q in let x = s.last_born p i q in grind (arith, nat_tests);
     }
 
-slots_answers : (shape : Dimensions) (a : Incarnations) (pass : ℕ) (call : Call) → SlotsSound shape a → SlotsSound shape (becomes shape a pass (Answers call))
+slots_answers : (shape : Dimensions) (a : Incarnations) (pass : ℕ) (call : Call) → SlotsSound shape a → SlotsSound shape (becomes shape a pass (Confirms call))
 slots_answers shape a pass call s = record {
   last_born = s.last_born;
   has_last = s.has_last;
@@ -276,4 +276,4 @@ slots_kept shape keys a pass (Inserts c behind) s h = slots_inserts shape keys a
 slots_kept shape keys a pass (Removes c) s h = slots_removes shape keys a pass c s h
 slots_kept shape keys a pass (Unlinks c behind) s h = slots_unlinks shape keys a pass c behind s h
 slots_kept shape keys a pass (Stamps c stamp) s h = slots_stamps shape keys a pass c stamp s h
-slots_kept shape keys a pass (Answers call) s h = slots_answers shape a pass call s
+slots_kept shape keys a pass (Confirms call) s h = slots_answers shape a pass call s

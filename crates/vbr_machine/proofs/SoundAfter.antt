@@ -8,7 +8,7 @@ use Rattle.vbr_machine.specs.Keys.{Keys}
 use Rattle.vbr_words.specs.Buckets.{bucket_of}
 use Rattle.vbr_machine.specs.Opened.{key_count, has_opening_key, key_number, key_behind}
 use Rattle.vbr_machine.specs.Incarnations.{Unborn, Linked, Incarnations, opening_state, opening_last, at_opening}
-use Rattle.vbr_machine.specs.Chronicles.{Happening, Advances, Gains, Probes, Raises, GivesUp, Bears, Keyed, Valued, Aims, Inserts, Removes, Unlinks, Stamps, Answers, AtHead, AtNode, Entry, Allowed, becomes, incarnations_from, IsLawful}
+use Rattle.vbr_machine.specs.Chronicles.{Happening, Advances, Gains, Probes, Raises, GivesUp, Bears, Keyed, Valued, Aims, Inserts, Removes, Unlinks, Stamps, Confirms, AtHead, AtNode, Entry, Allowed, becomes, incarnations_from, IsLawful}
 use Rattle.vbr_machine.specs.Sound.{IsListed, TimesFit, StampFits, IsUnused, IsApart, ListsSound, Sound}
 use Rattle.vbr_machine.specs.declared.knowledge.SlotPlace.TheVariants.{Shared, Listed}
 use Rattle.vbr_machine.proofs.OpeningKeys.{opens_with_one_or_none, rises, first_key_is, first_key_up_to, key_behind_is, key_behind_up_to}
@@ -33,7 +33,7 @@ lists_kept shape keys a pass (Removes c) s h = lists_removes shape keys a pass c
 lists_kept shape keys a pass (Unlinks c (AtHead b)) s h = lists_unlinks_at_head shape keys a pass c b s h
 lists_kept shape keys a pass (Unlinks c (AtNode p)) s h = lists_unlinks_at_node shape keys a pass c p s h
 lists_kept shape keys a pass (Stamps c stamp) s h = lists_stamps shape keys a pass c stamp s h
-lists_kept shape keys a pass (Answers call) s h = lists_answers shape a pass call s
+lists_kept shape keys a pass (Confirms call) s h = lists_answers shape a pass call s
 
 pub sound_kept : (shape : Dimensions) (keys : Keys) (a : Incarnations) (pass : ℕ) (what : Happening) → Sound shape a → Allowed shape keys a pass what → Sound shape (becomes shape a pass what)
 sound_kept shape keys a pass what s h = record { slots = slots_kept shape keys a pass what s.slots h; lists = lists_kept shape keys a pass what s h }

@@ -7,10 +7,10 @@ use Rattle.std.proofs.lemmas.Bool.{cases_eq, cases_Bool}
 use Rattle.vbr_words.specs.Dimensions.{Dimensions}
 use Rattle.vbr_machine.specs.Put.{put}
 use Rattle.vbr_machine.specs.Keys.{Keys}
-use Rattle.vbr_machine.specs.Opened.{opening_keys, opening_payloads, kept, value_number}
+use Rattle.vbr_machine.specs.Opened.{opening_keys, opening_payloads, payload_kept, value_number}
 use Rattle.vbr_machine.specs.History.{keys_after, set_after, Payloads, payloads_after, values_after}
 use Rattle.vbr_machine.specs.Incarnations.{Linked, Marked, Incarnations, payload_of, at_opening}
-use Rattle.vbr_machine.specs.Chronicles.{Happening, Advances, Gains, Probes, Raises, GivesUp, Bears, Keyed, Valued, Aims, Inserts, Removes, Unlinks, Stamps, Answers, Before, Entry, MayInsert, ChangesNothing, Allowed, becomes, incarnations_from, IsLawful}
+use Rattle.vbr_machine.specs.Chronicles.{Happening, Advances, Gains, Probes, Raises, GivesUp, Bears, Keyed, Valued, Aims, Inserts, Removes, Unlinks, Stamps, Confirms, Before, Entry, MayInsert, ChangesNothing, Allowed, becomes, incarnations_from, IsLawful}
 use Rattle.vbr_machine.specs.Sound.{Sound, Tells}
 use Rattle.vbr_machine.specs.declared.history.Call.{Call}
 use Rattle.vbr_machine.specs.declared.history.Op.{Op}
@@ -28,7 +28,7 @@ same_calls shape a b t e f g = record {
   there = λ c h. rw (e, (f c h).1) (t.there c (f c h).0);
   only = λ k h. let u = t.only k (rw e at h) in (u.0, (g u.0 u.1).0, (g u.0 u.1).1 ∙ u.2);
   values = rw e t.values;
-  stored = λ c h. let x = f c h in rw (e, x.1) (t.stored c x.0 ∙ ap (λ v. kept shape (Some v)) (sym x.2));
+  stored = λ c h. let x = f c h in rw (e, x.1) (t.stored c x.0 ∙ ap (λ v. payload_kept shape (Some v)) (sym x.2));
 }
 
 tells_inserts : (shape : Dimensions) (a : Incarnations) (pass c : ℕ) (behind : Before) → Sound shape a → Tells shape a → MayInsert shape a pass c behind → Tells shape (becomes shape a pass (Inserts c behind))
@@ -103,7 +103,7 @@ no_value_changes payloads Remove key reply value h = refl
 no_value_changes payloads Has key reply value h = refl
 no_value_changes payloads Get key reply value h = refl
 
-tells_answers : (shape : Dimensions) (a : Incarnations) (pass : ℕ) (x : Call) → Tells shape a → Allowed shape (opening_keys shape) a pass (Answers x) → Tells shape (becomes shape a pass (Answers x))
+tells_answers : (shape : Dimensions) (a : Incarnations) (pass : ℕ) (x : Call) → Tells shape a → Allowed shape (opening_keys shape) a pass (Confirms x) → Tells shape (becomes shape a pass (Confirms x))
 tells_answers shape a pass x t h = record {
   legal = IsLegal-push (opening_keys shape) a.calls x t.legal h.2;
   there = λ d l. rw (set_after-push (opening_keys shape) a.calls x, nothing_changes (set_after (opening_keys shape) a.calls) x.op x.key x.reply h.1) (t.there d l);
@@ -126,7 +126,7 @@ tells_kept shape a pass (Inserts c behind) s t h = tells_inserts shape a pass c 
 tells_kept shape a pass (Removes c) s t h = tells_removes shape a pass c s t h
 tells_kept shape a pass (Unlinks c behind) s t h = let m = h.0 in same_calls shape a (becomes shape a pass (Unlinks c behind)) t refl (λ d e. grind (arith, nat_tests)) (λ d e. grind (arith, nat_tests))
 tells_kept shape a pass (Stamps c stamp) s t h = same_calls shape a (becomes shape a pass (Stamps c stamp)) t refl (λ d e. grind (arith, nat_tests)) (λ d e. grind (arith, nat_tests))
-tells_kept shape a pass (Answers x) s t h = tells_answers shape a pass x t h
+tells_kept shape a pass (Confirms x) s t h = tells_answers shape a pass x t h
 
 pub tells_at_first : (shape : Dimensions) → IsStrictlyIncreasing shape.keys → Tells shape (at_opening shape)
 tells_at_first shape up = record {
@@ -134,7 +134,7 @@ tells_at_first shape up = record {
   there = λ c e. key_in_set shape c (listed_at_first shape c (rw e tt));
   only = λ key e. let x = number_of key shape.keys e in (x.0, state_at_first shape x.0 x.1, x.2);
   values = tt;
-  stored = λ c e. ap (λ n. kept shape (Some (value_number shape n))) (number_is shape.keys up c (listed_at_first shape c (rw e tt)));
+  stored = λ c e. ap (λ n. payload_kept shape (Some (value_number shape n))) (number_is shape.keys up c (listed_at_first shape c (rw e tt)));
 }
 
 pub tells_after : (shape : Dimensions) (a : Incarnations) (entries : List Entry) → Sound shape a → Tells shape a → IsLawful shape (opening_keys shape) a entries → Tells shape (incarnations_from shape a entries)

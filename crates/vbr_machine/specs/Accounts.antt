@@ -7,7 +7,7 @@ use Rattle.vbr_machine.specs.Opened.{opening_keys}
 use Rattle.vbr_machine.specs.Learning.{succeeds, link_written, call_of}
 use Rattle.vbr_machine.specs.Machine.{World, opening, found, after}
 use Rattle.vbr_machine.specs.Incarnations.{Incarnations, at_opening, last_in}
-use Rattle.vbr_machine.specs.Chronicles.{Happening, Advances, Gains, Probes, Raises, GivesUp, Bears, Keyed, Valued, Aims, Inserts, Removes, Unlinks, Stamps, Answers, Entry, IsLawful, incarnations_from, entries_by}
+use Rattle.vbr_machine.specs.Chronicles.{Happening, Advances, Gains, Probes, Raises, GivesUp, Bears, Keyed, Valued, Aims, Inserts, Removes, Unlinks, Stamps, Confirms, Entry, IsLawful, incarnations_from, entries_by}
 use Rattle.vbr_machine.specs.Notes.{Notes, no_notes, before_at, notes_with, NamesLast, HoldsNext}
 use Rattle.vbr_machine.specs.declared.history.Call.{Call}
 use Rattle.vbr_machine.specs.declared.event.Event.{Event}
@@ -28,7 +28,7 @@ born_in a pass s birth _ = just pass (Bears s birth)
 -- an answer, if a call is made
 abbrev pub entry_of_call : ℕ → Option Call → List Entry
 entry_of_call pass None = []
-entry_of_call pass (Some call) = just pass (Answers call)
+entry_of_call pass (Some call) = just pass (Confirms call)
 
 -- what a step that succeeds adds to the chronicle: loads add nothing
 abbrev pub happens_if_found : Dimensions → World → Incarnations → ℕ → Step → List Entry

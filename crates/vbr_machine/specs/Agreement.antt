@@ -91,7 +91,7 @@ reads_of notes = map (λ note. note.read) notes
 -- ---- what a pass knows
 
 -- what a pass has read, against its notes: its checked notes are good for its epoch, and its pending ones are while the epoch is still that one
-pub record IsNoted (a : Incarnations) (know : Know) (notes : Notes) : Type 0 where
+pub record FitsNotes (a : Incarnations) (know : Know) (notes : Notes) : Type 0 where
   pub epoch : know.epoch ≤ a.epoch
   pub checked_reads : know.checked ≡ reads_of notes.checked
   pub pending_reads : know.pending ≡ reads_of notes.pending
@@ -102,7 +102,7 @@ pub record IsNoted (a : Incarnations) (know : Know) (notes : Notes) : Type 0 whe
 
 -- what each pass has read agrees with its notes
 abbrev pub AllKnowRight : Incarnations → (ℕ → Know) → (ℕ → Notes) → Type 0
-AllKnowRight a know notes = (pass : ℕ) → IsNoted a (know pass) (notes pass)
+AllKnowRight a know notes = (pass : ℕ) → FitsNotes a (know pass) (notes pass)
 
 -- ---- what a pass knows of its slots
 

@@ -35,7 +35,7 @@ pub data Happening : Type 0 where
   Removes : (node : ℕ) → Happening
   Unlinks : (node : ℕ) → (behind : Before) → Happening
   Stamps : (node : ℕ) → (stamp : ℕ) → Happening
-  Answers : (call : Call) → Happening
+  Confirms : (call : Call) → Happening
 
 -- an event of a chronicle: what happens, and by which pass
 pub record Entry : Type 0 where
@@ -122,7 +122,7 @@ Allowed shape keys a pass (Inserts c behind) = MayInsert shape a pass c behind
 Allowed shape keys a pass (Removes c) = a.state c ≡ Linked
 Allowed shape keys a pass (Unlinks c behind) = (a.state c ≡ Marked) × IsOpen a behind × (next_of a behind ≡ Some c)
 Allowed shape keys a pass (Stamps c stamp) = MayStamp (a.state c) pass stamp a.epoch
-Allowed shape keys a pass (Answers call) =
+Allowed shape keys a pass (Confirms call) =
     (call.who ≡ pass) × ChangesNothing call.op call.reply × (call.reply ≡ reply_of (set_after keys a.calls) call.op call.key)
     × GivesValue (values_after (opening_payloads shape) a.calls) call.op call.key call.reply call.value
 
@@ -132,7 +132,7 @@ Allowed shape keys a pass (Answers call) =
 abbrev pub calls_made : Dimensions → Incarnations → ℕ → Happening → List Call
 calls_made shape a pass (Inserts c behind) = record { who = pass; op = Insert; key = a.key c; reply = true; value = payload_of shape a c } ∷ []
 calls_made shape a pass (Removes c) = record { who = pass; op = Remove; key = a.key c; reply = true; value = payload_of shape a c } ∷ []
-calls_made shape a pass (Answers call) = call ∷ []
+calls_made shape a pass (Confirms call) = call ∷ []
 calls_made shape a pass _ = []
 
 -- the first of each bucket once the successor of what stands before has changed
@@ -195,7 +195,7 @@ becomes shape a pass (Unlinks c behind) =
     }
 becomes shape a pass (Stamps c stamp) =
     record a { state = put a.state c (Stamped (unlinked_at (a.state c)) stamp); stamp = put a.stamp (a.slot c) stamp }
-becomes shape a pass (Answers call) = record a { calls = a.calls ++ calls_made shape a pass (Answers call) }
+becomes shape a pass (Confirms call) = record a { calls = a.calls ++ calls_made shape a pass (Confirms call) }
 
 -- ---- chronicles
 

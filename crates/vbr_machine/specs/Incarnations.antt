@@ -3,7 +3,7 @@ use Rattle.std.specs.Prelude.{ℕ, ◌≤◌, Bool, List, [], Option, Some, None
 use Rattle.vbr_words.specs.Dimensions.{Dimensions}
 use Rattle.vbr_words.specs.declared.link.Link.{Link}
 use Rattle.vbr_machine.specs.Links.{opening_link}
-use Rattle.vbr_machine.specs.Opened.{key_count, has_opening_key, key_number, value_number, kept, opening_birth, first_key, key_behind, opening_place}
+use Rattle.vbr_machine.specs.Opened.{key_count, has_opening_key, key_number, value_number, payload_kept, opening_birth, first_key, key_behind, opening_place}
 use Rattle.vbr_machine.specs.declared.history.Call.{Call}
 use Rattle.vbr_machine.specs.declared.knowledge.SlotPlace.{SlotPlace}
 
@@ -70,7 +70,7 @@ at_opening shape =
 
 -- the value of an incarnation where nodes have values, and otherwise none
 abbrev pub payload_of : Dimensions → Incarnations → ℕ → Option ℕ
-payload_of shape a c = kept shape (Some (a.value c))
+payload_of shape a c = payload_kept shape (Some (a.value c))
 
 -- an incarnation is late for an epoch while it is linked or marked, and also after, if it was unlinked at this epoch or later
 abbrev pub IsLate : State → ℕ → Type 0

@@ -9,7 +9,7 @@ use Rattle.vbr_machine.specs.Put.{put}
 use Rattle.vbr_machine.specs.Links.{opening_link, link_to, marked}
 use Rattle.vbr_machine.specs.Knowledge.{Know, key_in, value_in, marked_in, birth_at, birth_of}
 use Rattle.vbr_machine.specs.Acceptance.{stamp_in, next_of_marked}
-use Rattle.vbr_machine.specs.Opened.{kept}
+use Rattle.vbr_machine.specs.Opened.{payload_kept}
 use Rattle.vbr_machine.specs.declared.history.Call.{Call}
 use Rattle.vbr_machine.specs.declared.history.Op.{Op}
 use Rattle.vbr_machine.specs.declared.history.Op.TheVariants.{Insert, Remove, Has, Get}
@@ -198,8 +198,8 @@ present_value _ value = None
 
 -- the call of a step that succeeds, if it is one that makes a call
 abbrev pub call_of : Dimensions → ℕ → Know → Step → Option Call
-call_of shape pass know (Publish pred expected s) = Some (record { who = pass; op = Insert; key = key_in_hand (know.own s); reply = true; value = kept shape (value_in_hand (know.own s)) })
-call_of shape pass know (Mark s expected) = Some (record { who = pass; op = Remove; key = unwrap_or (key_in know.checked s) 0; reply = true; value = kept shape (value_in know.checked s) })
+call_of shape pass know (Publish pred expected s) = Some (record { who = pass; op = Insert; key = key_in_hand (know.own s); reply = true; value = payload_kept shape (value_in_hand (know.own s)) })
+call_of shape pass know (Mark s expected) = Some (record { who = pass; op = Remove; key = unwrap_or (key_in know.checked s) 0; reply = true; value = payload_kept shape (value_in know.checked s) })
 call_of shape pass know (ConfirmPresent op s expected) =
     Some (record { who = pass; op = op; key = unwrap_or (key_in know.checked s) 0; reply = present_reply op; value = present_value op (value_in know.checked s) })
 call_of shape pass know (ConfirmAbsent op key at expected) = Some (record { who = pass; op = op; key = key; reply = false; value = None })

@@ -42,7 +42,7 @@ IsHeldPlace know (Slot s) = IsHeldSlot know s
 -- a place is held in a bucket: the head of the bucket is, and so is a slot that is named by a known link at a place that is held in the bucket
 pub data HeldIn (know : Know) : At → ℕ → Type 0 where
   at_head : (b : ℕ) → HeldIn know (Head b) b
-  behind : (at : At) → (link : Link) → (s : ℕ) → (b : ℕ) → HeldIn know at b → Knows know (LinkAt at link) → link.slot ≡ Some s → HeldIn know (Slot s) b
+  at_slot : (at : At) → (link : Link) → (s : ℕ) → (b : ℕ) → HeldIn know at b → Knows know (LinkAt at link) → link.slot ≡ Some s → HeldIn know (Slot s) b
 
 -- known marked links lead from a link to another: to itself, and to a known marked link of the slot that is named by one to which they lead
 pub data LeadsTo (know : Know) (link : Link) : Link → Type 0 where

@@ -110,13 +110,13 @@ abbrev pub Gives : Note → ℕ → ℕ → Type 0
 Gives note s c = LinkNames note.read s × (note.names ≡ Some c)
 
 -- a pass holds an incarnation at a slot: a checked link that names the slot gave it
-abbrev pub Holds : List Note → ℕ → ℕ → Type 0
-Holds checked s c = (note : Note) × IsAmong note checked × Gives note s c
+abbrev pub IsHeldBy : List Note → ℕ → ℕ → Type 0
+IsHeldBy checked s c = (note : Note) × IsAmong note checked × Gives note s c
 
 -- the incarnation that the pass holds at a slot, and no other
 pub record HoldsJust (checked : List Note) (s c : ℕ) : Type 0 where
-  pub held : Holds checked s c
-  pub only : (d : ℕ) → Holds checked s d → d ≡ c
+  pub held : IsHeldBy checked s c
+  pub only : (d : ℕ) → IsHeldBy checked s d → d ≡ c
 
 -- the incarnation that the pass holds at a slot is this one, which is the last of its slot
 abbrev pub HoldsLast : Incarnations → List Note → ℕ → Type 0

@@ -36,8 +36,8 @@ abbrev pub value_number : Dimensions → ℕ → ℕ
 value_number shape number = if has_opening_key shape number then slice_index_or shape.payloads number 0 else 0
 
 -- a value where nodes have values, and otherwise none
-abbrev pub kept : Dimensions → Option ℕ → Option ℕ
-kept shape value = if shape.values then value else None
+abbrev pub payload_kept : Dimensions → Option ℕ → Option ℕ
+payload_kept shape value = if shape.values then value else None
 
 -- the number of a key in a list; that behind the last where it isn't there
 abbrev pub number_in : List ℕ → ℕ → ℕ
@@ -46,7 +46,7 @@ number_in (first ∷ keys) key = if first == key then 0 else suc (number_in keys
 
 -- the value of each key, none where nodes have none
 abbrev pub opening_payloads : Dimensions → Payloads
-opening_payloads shape key = kept shape (Some (value_number shape (number_in shape.keys key)))
+opening_payloads shape key = payload_kept shape (Some (value_number shape (number_in shape.keys key)))
 
 -- ---- the lists of the buckets
 

@@ -13,7 +13,7 @@ use Rattle.vbr_machine.specs.Incarnations.{State, Incarnations, at_opening}
 use Rattle.vbr_machine.specs.Incarnations as state
 use Rattle.vbr_machine.specs.Images.{IsImage}
 use Rattle.vbr_machine.specs.Chronicles.{IsLawful}
-use Rattle.vbr_machine.specs.Notes.{Holds, HoldsJust, AreRightReads}
+use Rattle.vbr_machine.specs.Notes.{IsHeldBy, HoldsJust, AreRightReads}
 use Rattle.vbr_machine.specs.Accounts.{chronicle, incarnations_after, notes_after, IsRightExchange}
 use Rattle.vbr_machine.specs.Agreement.{IsHeldIncarnation, IsNotOf, OwnFits, reads_of}
 use Rattle.vbr_machine.specs.SlotPlaces.{ArePlaced}
@@ -90,8 +90,8 @@ pub record KnowsRight (shape : Dimensions) (run : List Event) (pass : ℕ) : Typ
   pub epoch : ((world_after shape run).know pass).epoch ≤ (world_after shape run).epoch
   pub pending : ((world_after shape run).know pass).pending ≡ reads_of (notes_after shape run pass).pending
   pub checked : ((world_after shape run).know pass).checked ≡ reads_of (notes_after shape run pass).checked
-  pub late : (s c : ℕ) → Holds (notes_after shape run pass).checked s c → IsHeldIncarnation (incarnations_after shape run) ((world_after shape run).know pass).epoch s c
-  pub one : (s c d : ℕ) → Holds (notes_after shape run pass).checked s c → Holds (notes_after shape run pass).checked s d → c ≡ d
+  pub late : (s c : ℕ) → IsHeldBy (notes_after shape run pass).checked s c → IsHeldIncarnation (incarnations_after shape run) ((world_after shape run).know pass).epoch s c
+  pub one : (s c d : ℕ) → IsHeldBy (notes_after shape run pass).checked s c → IsHeldBy (notes_after shape run pass).checked s d → c ≡ d
   pub some : (s : ℕ) → IsTrue (holds ((world_after shape run).know pass).checked s) → (c : ℕ) × HoldsJust (notes_after shape run pass).checked s c
   pub reads : AreRightReads (notes_after shape run pass).checked
   pub own : (s : ℕ) → IsOwnerRight (world_after shape run) pass s (((world_after shape run).know pass).own s)

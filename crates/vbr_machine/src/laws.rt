@@ -24,7 +24,7 @@ ghost use Rattle.vbr_machine.specs.Incarnations.{Incarnations, IsLate, Unlinked,
 ghost use Rattle.vbr_machine.specs.Chronicles.{Entry, IsLawful, incarnations_from};
 ghost use Rattle.vbr_machine.specs.Sound.{Grows, Sound, Tells};
 ghost use Rattle.vbr_machine.specs.Images.{link_shown_at};
-ghost use Rattle.vbr_machine.specs.Notes.{Note, Holds, IsAmong};
+ghost use Rattle.vbr_machine.specs.Notes.{Note, IsHeldBy, IsAmong};
 ghost use Rattle.vbr_machine.specs.Accounts.{incarnations_after, notes_after};
 ghost use Rattle.vbr_machine.specs.Agreement.{IsGoodLink, IsLastOf, IsPair};
 ghost use Rattle.vbr_machine.specs.Calls.{own_calls};
@@ -162,7 +162,7 @@ pub fn late_is_handed_on_in_runs()
 /// last of its slot.
 pub fn unmoved_is_last_in_runs()
     ensures { (shape : Dimensions) (passes : ℕ) (run : List Event) (pass s c : ℕ) →
-        IsShape shape → IsRun shape passes run → Holds (notes_after shape run pass).checked s c →
+        IsShape shape → IsRun shape passes run → IsHeldBy (notes_after shape run pass).checked s c →
         (know_after shape run pass).epoch ≡ (world_after shape run).epoch →
         (incarnations_after shape run).last s ≡ Some c }
 {}

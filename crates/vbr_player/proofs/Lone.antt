@@ -13,7 +13,7 @@ use Rattle.vbr_slots.specs.Alone.{IsAlone, OnlyEventsOf}
 use Rattle.vbr_slots.specs.Calls.{IsSame}
 use Rattle.vbr_slots.specs.Views.{PassView, TableView, Trace, new_trace}
 use Rattle.vbr_slots.proofs.Lemmas.{same_on, same_refl}
-use Rattle.vbr_list.specs.Answered.{Spares}
+use Rattle.vbr_list.specs.Sparing.{Spares}
 use Rattle.vbr_list.specs.declared.refusal.Refusal.{Refusal}
 use Rattle.vbr_list.specs.declared.refusal.Refusal.TheVariants.{OutOfSteps, NoSlot, EpochSpent}
 use Rattle.vbr_set.specs.Members.{Called, MemberView}

@@ -17,7 +17,7 @@ use Rattle.vbr_slots.proofs.Lemmas.{same_refl}
 use Rattle.vbr_list.specs.declared.refusal.Refusal.{Refusal}
 use Rattle.vbr_list.specs.declared.refusal.Refusal.TheVariants.{OutOfSteps, NoSlot, EpochSpent}
 use Rattle.vbr_set.specs.Answers.{Answers}
-use Rattle.vbr_list.specs.Answered.{Spares}
+use Rattle.vbr_list.specs.Sparing.{Spares}
 use Rattle.vbr_set.specs.Members.{MemberView, Called}
 use Rattle.vbr_transcript.specs.Calls.{Outcome, answer_of, answered_calls, lines_by}
 use Rattle.vbr_transcript.specs.declared.reply.Reply.{Reply}

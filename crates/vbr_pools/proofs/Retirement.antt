@@ -26,7 +26,7 @@ use Rattle.vbr_slots.specs.PassLaw.{PassLaw}
 use Rattle.vbr_slots.specs.Views.{Trace, PassView, TableView, KeepsPool, Did, IsOf, knows, event_of}
 use Rattle.vbr_slots.proofs.Lemmas.{did_moment, did_quiet, did_took, moment_before, quiet_on, took_on}
 use Rattle.vbr_pools.specs.KeptSlots.{TakesNoSlot}
-use Rattle.vbr_pools.specs.Retiring.{Retires, Stamps, is_kept, know_retired}
+use Rattle.vbr_pools.specs.Retiring.{Retires, StampsFreshly, is_kept, know_retired}
 use Rattle.vbr_pools.proofs.InTurn.{did_stay_turn}
 use Rattle.vbr_pools.proofs.Advancing.{same_advances, did_stamps, free_pool, grows_same, none_on, did_none, none_given}
 use Rattle.vbr_pools.proofs.AloneRetirement.{retired_leaves, retired_fresh, raised_leaves, raised_fresh}
@@ -38,7 +38,7 @@ module _ {p q r : Trace} {slot e n : ℕ} (read : Did ReadEpoch p q e) (stamp : 
   retired_quiet = quiet_on (did_quiet read (λ know. refl)) (did_quiet stamp (λ know. refl))
 
   -- it was stamped with the epoch that was read
-  stamped : Stamps p r slot (knows r).epoch
+  stamped : StampsFreshly p r slot (knows r).epoch
   stamped =
       let told : (knows r).epoch ≡ (knows q).epoch = epoch_told stamp in
       let mark = λ (who epoch : ℕ). event_of who (StoreStamp slot epoch) in
@@ -52,7 +52,7 @@ module _ {p q r : Trace} {slot e n : ℕ} (read : Did ReadEpoch p q e) (stamp : 
       }
 
 -- and more steps leave that
-stamped_before : {p q r : Trace} {slot epoch : ℕ} → Stamps p q slot epoch → Quiet q r → Stamps p r slot epoch
+stamped_before : {p q r : Trace} {slot epoch : ℕ} → StampsFreshly p q slot epoch → Quiet q r → StampsFreshly p r slot epoch
 stamped_before {p} {q} {r} a b = record {
   reading = a.reading;
   is = moment_before a.is b;
@@ -201,7 +201,7 @@ module _ {p q r : PassView} {slot gone e n : ℕ} (is : IsShape p.trace.shape) (
     quiet = quiet_all;
     takes_no_slot = raised_none read stamp stays still raise pool_stays hand full;
     turn = λ turn. did_stay_turn raise refl (did_stay_turn stamp refl (did_stay_turn read refl turn));
-    stamped = subst (λ (epoch : ℕ). Stamps p.trace t.trace slot epoch) (sym (epoch_told raise)) (stamped_before (stamped read stamp) (did_quiet raise (λ know. refl)));
+    stamped = subst (λ (epoch : ℕ). StampsFreshly p.trace t.trace slot epoch) (sym (epoch_told raise)) (stamped_before (stamped read stamp) (did_quiet raise (λ know. refl)));
     known = known_raised read stamp raise ∙ ap (know_retired (knows p.trace) (knows t.trace).epoch slot) (sym left);
     pool = pool_stays ∙ sym (ap (λ (b : Bool). cond b (p.pool ++ slot ∷ []) p.pool) left);
     hand = hand ∙ still.1 ∙ stays.1;

@@ -13,7 +13,7 @@ use Rattle.vbr_slots.specs.Views.{PassView, Trace, event_of, knows}
 use Rattle.vbr_pools.specs.KeptSlots.{StaysInTurn, TakesNoSlot}
 
 -- the pass read the epoch during the call, and stamped the slot with it after that
-pub record Stamps (p q : Trace) (slot epoch : ℕ) : Type 0 where
+pub record StampsFreshly (p q : Trace) (slot epoch : ℕ) : Type 0 where
   pub reading : List Event
   pub is : Moment p q reading
   pub was_epoch : (world_after p.shape reading).epoch ≡ epoch
@@ -44,7 +44,7 @@ pub record Retires (p q : PassView) (slot steps : ℕ) : Type 0 where
   pub quiet : Quiet p.trace q.trace
   pub takes_no_slot : TakesNoSlot p q
   pub turn : StaysInTurn p.trace q.trace
-  pub stamped : Stamps p.trace q.trace slot (knows q.trace).epoch
+  pub stamped : StampsFreshly p.trace q.trace slot (knows q.trace).epoch
   pub known : knows q.trace ≡ know_retired (knows p.trace) (knows q.trace).epoch slot (is_kept p.pool)
   pub pool : q.pool ≡ pool_retired p.pool slot
   pub hand : q.hand ≡ p.hand

@@ -159,13 +159,13 @@ abbrev pub DoesAsked : List Text → Option (List ℕ) → Opening → ProgramRu
 DoesAsked arguments input opens run = IsDone (explained_of arguments) (shape_fault (settings_of arguments)) (file_of arguments) (settings_of arguments) input opens run
 
 -- one of the faults of a command line is told
-abbrev pub IsRefused : List (List ℕ) → ProgramRun → Type 0
-IsRefused arguments run = (kind : ErrorKind) × IsAmong kind (faults arguments) × Tells kind run
+abbrev pub TellsFault : List (List ℕ) → ProgramRun → Type 0
+TellsFault arguments run = (kind : ErrorKind) × IsAmong kind (faults arguments) × Tells kind run
 
 -- how a run of the program ends, by its arguments: what those that the command takes ask for is done; and of all others, what the command has for them is told; or else want of memory is, which a run that plays standard input tells of itself
 pub record AnswersCommand (arguments : List Text) (input : Option (List ℕ)) (opens : Opening) (run : ProgramRun) : Type 0 where
   pub taken : AreOptions arguments → DoesAsked arguments input opens run ⊎ LacksMemory run
-  pub answered : ((faults arguments ≡ []) × DoesAsked arguments input opens run) ⊎ (IsRefused arguments run ⊎ LacksMemory run)
+  pub answered : ((faults arguments ≡ []) × DoesAsked arguments input opens run) ⊎ (TellsFault arguments run ⊎ LacksMemory run)
 
 -- a command line by which standard input isn't read: it is faulty, gives no shape, wants something explained, or names a file
 abbrev pub ReadsNoInput : List Text → Type 0

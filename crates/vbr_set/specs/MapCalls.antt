@@ -9,7 +9,7 @@ use Rattle.vbr_slots.specs.Views.{Trace}
 use Rattle.vbr_pools.specs.Steps.{TookWithin}
 use Rattle.vbr_access.specs.Soundness.{HasSafeRun}
 use Rattle.vbr_list.specs.Alone.{AnswersAlone}
-use Rattle.vbr_list.specs.Answered.{GivesAlone, SparesHas, SparesInsert, SparesLookUp}
+use Rattle.vbr_list.specs.Sparing.{GivesAlone, SparesHas, SparesInsert, SparesLookUp}
 use Rattle.vbr_list.specs.Budgets.{get_costs}
 use Rattle.vbr_list.specs.Leaving.{SparesRemove}
 use Rattle.vbr_list.specs.Told.{given_call, stored_call}

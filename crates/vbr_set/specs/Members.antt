@@ -8,7 +8,7 @@ use Rattle.vbr_slots.specs.Views.{PassView, TableView, new_passes}
 use Rattle.vbr_pools.specs.Steps.{TookWithin}
 use Rattle.vbr_access.specs.Soundness.{HasSafeRun}
 use Rattle.vbr_list.specs.Alone.{AnswersAlone}
-use Rattle.vbr_list.specs.Answered.{Spares}
+use Rattle.vbr_list.specs.Sparing.{Spares}
 use Rattle.vbr_list.specs.declared.refusal.Refusal.{Refusal}
 use Rattle.vbr_set.specs.Answers.{Answers}
 

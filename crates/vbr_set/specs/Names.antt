@@ -26,6 +26,6 @@ pub use Rattle.vbr_access.specs.Soundness.{HasSafeRun}
 pub use Rattle.vbr_list.specs.Alone.{AnswersAlone}
 pub use Rattle.vbr_list.specs.Budgets.{IsAnsweredOrSpent, LacksSteps, enough_to_insert, enough_to_look_up, enough_to_search, enough_with_a_slot, find_costs, listed_for, look_up_costs}
 pub use Rattle.vbr_list.specs.Leaving.{Leaves}
-pub use Rattle.vbr_list.specs.Refusals.{IsRefused, IsTired}
+pub use Rattle.vbr_list.specs.Refusals.{IsRefusedInsert, IsTired}
 pub use Rattle.vbr_list.specs.declared.refusal.Refusal.{Refusal}
 pub use Rattle.vbr_list.specs.declared.refusal.Refusal.TheVariants.{OutOfSteps, NoSlot, EpochSpent}

@@ -30,7 +30,7 @@ impl Member {
     ///
     /// # Example
     ///
-    /// ```rattle file=crates/vbr_set_rows/src/reports.rt
+    /// ```rattle file=crates/vbr_set_tests/src/reports.rt
     /// let report = Member::close_all(alloc, members)?;
     /// ```
     pub fn close_all(alloc: Global, members: Vec<Member>) -> Result<Report, CloseAllError>

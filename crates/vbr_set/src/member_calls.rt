@@ -46,7 +46,7 @@ impl Member {
     ///
     /// # Example
     ///
-    /// ```rattle file=crates/vbr_set_rows/src/worker.rt
+    /// ```rattle file=crates/vbr_set_tests/src/worker.rt
     /// let removed = self.member.remove(key, BUDGET)?;
     /// ```
     ///
@@ -68,7 +68,7 @@ impl Member {
     ///
     /// # Example
     ///
-    /// ```rattle file=crates/vbr_set_rows/src/worker.rt
+    /// ```rattle file=crates/vbr_set_tests/src/worker.rt
     /// self.member.has(key, BUDGET)
     /// ```
     ///

@@ -10,7 +10,7 @@ impl Member {
     ///
     /// # Example
     ///
-    /// ```rattle file=crates/vbr_set_rows/src/members.rt
+    /// ```rattle file=crates/vbr_set_tests/src/members.rt
     /// let answer = one.insert(key, 100);
     /// other.meet(one);
     /// ```

@@ -62,7 +62,7 @@ impl Member {
     ///
     /// # Example
     ///
-    /// ```rattle file=crates/vbr_set_rows/src/renewals.rt
+    /// ```rattle file=crates/vbr_set_tests/src/renewals.rt
     /// let members = Member::open_with(alloc, shape, 2, &report.keys)?;
     /// ```
     pub fn open_with(

@@ -11,7 +11,7 @@ impl Member {
     ///
     /// # Example
     ///
-    /// ```rattle file=crates/vbr_set_rows/src/tokens.rt
+    /// ```rattle file=crates/vbr_set_tests/src/tokens.rt
     /// let answer = one.insert(key, 100);
     /// (answer, one.seen())
     /// ...

@@ -25,7 +25,7 @@ impl VbrSet {
     ///
     /// # Example
     ///
-    /// ```rattle file=crates/vbr_set_rows/src/set.rt
+    /// ```rattle file=crates/vbr_set_tests/src/set.rt
     /// match VbrSet::open(alloc, shape, passes) {
     /// ```
     pub fn open(alloc: Global, shape: Shape, passes: u32) -> Result<(VbrSet, Vec<Pass>), OpenError>

@@ -28,7 +28,7 @@ impl VbrSet {
     ///
     /// # Example
     ///
-    /// ```rattle file=crates/vbr_set_rows/src/renewals.rt
+    /// ```rattle file=crates/vbr_set_tests/src/renewals.rt
     /// match set.renew(alloc, passes) {
     /// ```
     ///

@@ -23,7 +23,7 @@ impl VbrSet {
     ///
     /// # Example
     ///
-    /// ```rattle file=crates/vbr_set_rows/src/refusals/set.rt
+    /// ```rattle file=crates/vbr_set_tests/src/refusals/set.rt
     /// match set.report(alloc, passes) {
     ///     Ok(report) => Some((report, false)),
     /// ```

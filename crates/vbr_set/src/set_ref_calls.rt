@@ -18,7 +18,7 @@ impl<N: Nodes> VbrSet<N> {
     ///
     /// # Example
     ///
-    /// ```rattle file=crates/vbr_set_rows/src/seventy_slots.rt
+    /// ```rattle file=crates/vbr_set_tests/src/seventy_slots.rt
     /// let mut caller = set.with_pass(pass);
     /// ```
     #[inline]
@@ -43,7 +43,7 @@ impl<'s> VbrSetRef<'s> {
     ///
     /// # Example
     ///
-    /// ```rattle file=crates/vbr_set_rows/src/seventy_slots.rt
+    /// ```rattle file=crates/vbr_set_tests/src/seventy_slots.rt
     /// if caller.insert(key, BUDGET) != Ok(true) {
     /// ```
     #[inline]
@@ -63,7 +63,7 @@ impl<'s> VbrSetRef<'s> {
     ///
     /// # Example
     ///
-    /// ```rattle file=crates/vbr_set_rows/src/seventy_slots.rt
+    /// ```rattle file=crates/vbr_set_tests/src/seventy_slots.rt
     /// if caller.remove(key, BUDGET) != Ok(true) {
     /// ```
     #[inline]
@@ -83,7 +83,7 @@ impl<'s> VbrSetRef<'s> {
     ///
     /// # Example
     ///
-    /// ```rattle file=crates/vbr_set_rows/src/set.rt
+    /// ```rattle file=crates/vbr_set_tests/src/set.rt
     /// Op::Has => caller.has(key, budget),
     /// ```
     #[inline]
@@ -100,7 +100,7 @@ impl<'s, N: Nodes> VbrSetRef<'s, N> {
     ///
     /// # Example
     ///
-    /// ```rattle file=crates/vbr_set_rows/src/set.rt
+    /// ```rattle file=crates/vbr_set_tests/src/set.rt
     /// caller.meet(other);
     /// ```
     #[inline]
@@ -170,7 +170,7 @@ impl<'s, N: Nodes> VbrSetRef<'s, N> {
     ///
     /// # Example
     ///
-    /// ```rattle file=crates/vbr_set_rows/src/seventy_slots.rt
+    /// ```rattle file=crates/vbr_set_tests/src/seventy_slots.rt
     /// (caller.into_pass(), done)
     /// ```
     #[inline]

@@ -79,8 +79,8 @@ unfoldable pub number_among : Text → List Row → ℕ
 number_among name rows = option_map_or (λ text. digits_value 10 (without_leading_plus text)) (one_of name rows) 0
 
 -- whether a switch is given among the matches of a command line
-unfoldable pub is_among : Text → List Row → Bool
-is_among name rows = option_map_or (λ text. bytes_eq text (codes "true")) (one_of name rows) false
+unfoldable pub has_switch : Text → List Row → Bool
+has_switch name rows = option_map_or (λ text. bytes_eq text (codes "true")) (one_of name rows) false
 
 -- the settings that the matches of a command line give
 abbrev pub settings_among : List Row → Settings
@@ -96,7 +96,7 @@ settings_among rows = record {
   };
   workers = number_among (codes "workers") rows;
   budget = number_among (codes "budget") rows;
-  epoch = is_among (codes "epoch") rows;
+  epoch = has_switch (codes "epoch") rows;
 }
 
 -- the settings that a command line gives, each option with what is given for it, or else with its own value

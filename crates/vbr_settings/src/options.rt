@@ -1,7 +1,7 @@
 //! The options that a command line gives.
 ghost use Rattle.std.specs.Prelude.{◌≡◌, Some, None, MatchResult, option_map};
 ghost use Rattle.clap.specs.Words.{rows_of, found_of};
-ghost use Rattle.vbr_settings.specs.Options.{settings_among, number_among, is_among, file_among, explained_among, HasNumber, IsSwitch, AreComplete, shape_fault};
+ghost use Rattle.vbr_settings.specs.Options.{settings_among, number_among, has_switch, file_among, explained_among, HasNumber, IsSwitch, AreComplete, shape_fault};
 
 use crate::config::Config;
 use clap::ArgMatches;
@@ -90,7 +90,7 @@ fn number_of(matches: &ArgMatches, name: &str) -> u64
 // Whether a switch is given.
 fn is_given(matches: &ArgMatches, name: &str) -> bool
     requires { IsSwitch name.now (rows_of (found_of matches.now)) }
-    ensures { result ≡ is_among name.now (rows_of (found_of matches.now)) }
+    ensures { result ≡ has_switch name.now (rows_of (found_of matches.now)) }
 {
     matches.get_flag(name)
 }

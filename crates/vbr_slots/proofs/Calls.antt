@@ -13,7 +13,7 @@ use Rattle.vbr_machine.specs.declared.event.Event.{Event}
 use Rattle.vbr_machine.specs.declared.event.Step.{Step}
 use Rattle.vbr_machine.specs.declared.history.Call.{Call}
 use Rattle.vbr_machine.specs.Incarnations.{Incarnations}
-use Rattle.vbr_machine.specs.Chronicles.{Answers}
+use Rattle.vbr_machine.specs.Chronicles.{Confirms}
 use Rattle.vbr_machine.specs.Accounts.{just, happens, incarnations_after, own_entries}
 use Rattle.vbr_machine.proofs.Lemmas.{begins_trans, others_leave_calls, others_leave_entries, own_calls-snoc, own_entries-snoc}
 use Rattle.vbr_slots.specs.Views.{Trace, Did, counted_steps, event_of, steps_in, steps_of}
@@ -135,7 +135,7 @@ adds_on a b = record { entries = b.entries ∙ a.entries }
 
 -- what was added by steps that add none, and then by an answer of the same pass
 pub answer_on : {p q r : Trace} (call : ℕ → Call) → IsSame p q → AddsNone p q → AddsAnswer (call q.who) q r → AddsAnswer (call p.who) p r
-answer_on call same a b = record { entries = b.entries ∙ (λ i. a.entries i ++ just (same.who i) (Answers (call (same.who i)))) }
+answer_on call same a b = record { entries = b.entries ∙ (λ i. a.entries i ++ just (same.who i) (Confirms (call (same.who i)))) }
 
 -- the events after one step
 pub did_entries : {step : Step} {p q : Trace} {r : ℕ} (d : Did step p q r) → entries_of q ≡ entries_of p ++ happens p.shape (world_after p.shape (p.seen ++ d.rest)) (incarnations_after p.shape (p.seen ++ d.rest)) p.who step

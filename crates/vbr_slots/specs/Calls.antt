@@ -3,7 +3,7 @@ use Rattle.std.specs.Prelude.{◌≡◌, ℕ, ◌+◌, List, [], ◌∷◌, ◌+
 use Rattle.vbr_machine.specs.Loads.{OnlyLoadsOf}
 use Rattle.vbr_machine.specs.Runs.{IsRun, Begins}
 use Rattle.vbr_machine.specs.Calls.{own_calls}
-use Rattle.vbr_machine.specs.Chronicles.{Entry, Answers}
+use Rattle.vbr_machine.specs.Chronicles.{Entry, Confirms}
 use Rattle.vbr_machine.specs.Accounts.{just, own_entries}
 use Rattle.vbr_machine.specs.declared.event.Event.{Event}
 use Rattle.vbr_machine.specs.declared.history.Call.{Call}
@@ -44,7 +44,7 @@ pub record AddsNone (p q : Trace) : Type 0 where
 
 -- the pass added one event to the chronicle, the answer of this call
 pub record AddsAnswer (call : Call) (p q : Trace) : Type 0 where
-  pub entries : entries_of q ≡ entries_of p ++ just p.who (Answers call)
+  pub entries : entries_of q ≡ entries_of p ++ just p.who (Confirms call)
 
 -- since then the pass has made loads alone: of its own events in what it has seen none is an exchange, won or lost, and none a store
 pub record OnlyLoads (p q : Trace) : Type 0 where

@@ -43,12 +43,12 @@ MayBeAnswered last epoch op _ = Unit {0}
 -- ---- the totals
 
 -- whether two operations are the same
-abbrev pub is_same : Op → Op → Bool
-is_same Insert Insert = true
-is_same Remove Remove = true
-is_same Has Has = true
-is_same Get Get = true
-is_same a b = false
+abbrev pub same_op : Op → Op → Bool
+same_op Insert Insert = true
+same_op Remove Remove = true
+same_op Has Has = true
+same_op Get Get = true
+same_op a b = false
 
 -- whether a reply is yes
 abbrev pub is_yes : Reply → Bool
@@ -63,18 +63,18 @@ is_refusal _ = true
 
 -- whether it is this operation that was answered, and with yes
 abbrev pub is_yes_to : Op → Outcome → Bool
-is_yes_to op outcome = is_yes outcome.1 && is_same op outcome.0.op
+is_yes_to op outcome = is_yes outcome.1 && same_op op outcome.0.op
 
 -- whether an operation was refused
-abbrev pub is_refused : Outcome → Bool
-is_refused outcome = is_refusal outcome.1
+abbrev pub was_refused : Outcome → Bool
+was_refused outcome = is_refusal outcome.1
 
 -- the totals count the inserts, removes and look-ups that were answered yes, and the operations that were refused
 pub record Counts (totals : Totals) (outcomes : List Outcome) : Type 0 where
   pub inserted : totals.inserted ≡ count_by (is_yes_to Insert) outcomes
   pub removed : totals.removed ≡ count_by (is_yes_to Remove) outcomes
   pub found : totals.found ≡ count_by (is_yes_to Has) outcomes
-  pub refused : totals.refused ≡ count_by is_refused outcomes
+  pub refused : totals.refused ≡ count_by was_refused outcomes
 
 -- ---- the sets
 

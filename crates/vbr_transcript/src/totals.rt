@@ -1,6 +1,6 @@
 //! The totals of a run.
 ghost use Rattle.std.specs.Prelude.{◌≡◌, zip, count_by};
-ghost use Rattle.vbr_transcript.specs.Runs.{is_yes_to, is_refused, is_yes, is_refusal, Counts};
+ghost use Rattle.vbr_transcript.specs.Runs.{is_yes_to, was_refused, is_yes, is_refusal, Counts};
 
 use crate::reply::Reply;
 use vbr_machine::Op;
@@ -52,7 +52,7 @@ fn yes_count(lines: &[Line], replies: &[Reply], op: Op) -> u64
 
 // How many lines were refused.
 fn refused_count(lines: &[Line], replies: &[Reply]) -> u64
-    ensures { result ≡ count_by is_refused (zip lines.now replies.now) }
+    ensures { result ≡ count_by was_refused (zip lines.now replies.now) }
 {
     lines
         .iter()

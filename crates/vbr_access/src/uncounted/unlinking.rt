@@ -3,7 +3,7 @@ ghost use Rattle.std.specs.Prelude.{◌≡◌, ◌≤◌, IfOk, IfErr};
 ghost use Rattle.vbr_slots.specs.AtTables.{IsSameTable, trace_of, pass_of};
 ghost use Rattle.vbr_slots.specs.Views.{knows};
 ghost use Rattle.vbr_access.specs.Exchanges.{StaysIn, UnlinksNode, UnlinksNone, IsUnmarked};
-ghost use Rattle.vbr_access.specs.Held.{IsMarked, Names};
+ghost use Rattle.vbr_access.specs.Held.{HoldsMarked, Names};
 ghost use Rattle.vbr_access.specs.Reading.{IsBirthRead, ReadsIn, BirthMoved};
 ghost use Rattle.vbr_access.specs.Steps.{steps_to_birth, steps_to_unlink};
 
@@ -17,7 +17,7 @@ use vbr_words::{Nodes, decode};
 // The birth of what a marked link names, in two steps; 0 of none, without a step.
 #[inline]
 fn birth_behind<N: Nodes>(at: &mut AtTable<'_, N>, marked: &Marked) -> Result<u64, Rollback>
-    requires marked { IsMarked (knows (trace_of at.old)) marked.now }
+    requires marked { HoldsMarked (knows (trace_of at.old)) marked.now }
     ensures table { IsSameTable at.old at.new }
     ensures reads { ReadsIn (pass_of at.old) (pass_of at.new) (steps_to_birth marked.now.word) }
     ensures birth { IfOk result (IsBirthRead (pass_of at.old) (pass_of at.new) marked.now.word) }
@@ -43,7 +43,7 @@ pub fn unlink<N: Nodes>(
     marked: Marked,
 ) -> Result<(Unlinked, Held), Rollback>
     requires pred { IsUnmarked (knows (trace_of at.old)) pred.now }
-    requires marked { IsMarked (knows (trace_of at.old)) marked }
+    requires marked { HoldsMarked (knows (trace_of at.old)) marked }
     requires names { Names pred.now marked.slot }
     ensures table { IsSameTable at.old at.new }
     ensures stays { StaysIn (pass_of at.old) (pass_of at.new) (steps_to_unlink marked.word result) }

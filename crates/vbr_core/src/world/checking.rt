@@ -6,7 +6,7 @@ ghost use Rattle.vbr_machine.specs.Learning.{link_written, succeeds, key_written
 ghost use Rattle.vbr_machine.specs.Making.{call_made};
 ghost use Rattle.vbr_core.specs.Answering.{WordsHaveRoom};
 ghost use Rattle.vbr_machine.specs.Machine as machine;
-ghost use Rattle.vbr_core.specs.Kept.{world_of};
+ghost use Rattle.vbr_core.specs.WorldInLists.{world_of};
 ghost use Rattle.vbr_core.specs.KeptSteps.{IsAcceptedIn, IsRefusedIn, found_in};
 
 use crate::world::lists::Lists;

@@ -5,7 +5,7 @@ ghost use Rattle.vbr_words.specs.declared.shape.TheConstants.{MAX_EPOCH};
 ghost use Rattle.vbr_machine.specs.Acceptance.{IsFree, IsUnlinked, MayBear, IsInHand, IsReread, stamp_in};
 ghost use Rattle.vbr_machine.specs.Learning.{newborn, birth_in_hand, key_in_hand, value_in_hand, link_in_hand, with_key, with_value, with_link, reread};
 ghost use Rattle.vbr_machine.specs.Links.{opening_link};
-ghost use Rattle.vbr_core.specs.Kept.{FitsHolding};
+ghost use Rattle.vbr_core.specs.WorldInLists.{FitsHolding};
 
 use vbr_machine::{Holding, Unpublished};
 use vbr_words::Link;

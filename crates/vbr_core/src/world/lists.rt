@@ -3,8 +3,8 @@ ghost use Rattle.std.specs.Prelude.{◌≡◌, ◌<◌, IfOk, IfErr};
 ghost use Rattle.vbr_words.specs.Flags.{flag_word, flag_words};
 ghost use Rattle.vbr_words.specs.Places.{IsIn};
 ghost use Rattle.vbr_machine.specs.Machine as machine;
-ghost use Rattle.vbr_core.specs.Kept.{world_of};
-ghost use Rattle.vbr_core.specs.KeptSteps.{IsMade, IsRefused, KeepsShape};
+ghost use Rattle.vbr_core.specs.WorldInLists.{world_of};
+ghost use Rattle.vbr_core.specs.KeptSteps.{IsMade, RefusesEvent, KeepsShape};
 
 use crate::world::passes::PassState;
 use crate::world::shape::OpeningShape;
@@ -33,7 +33,7 @@ pub struct Lists {
 }
 
 impl Model for Lists {
-    ghost use Rattle.vbr_core.specs.Kept.{KeptWorld, IsWhole};
+    ghost use Rattle.vbr_core.specs.WorldInLists.{KeptWorld, IsWhole};
 
     ghost Value = { KeptWorld };
 
@@ -73,7 +73,7 @@ impl Lists {
     // refused, nothing changes.
     pub(super) fn step(&mut self, event: Event) -> Result<Effect, CoreRefusal>
         ensures made { IfOk result (IsMade self.old self.new event) }
-        ensures refused { IfErr result (IsRefused self.old self.new event) }
+        ensures refused { IfErr result (RefusesEvent self.old self.new event) }
         ensures stays { KeepsShape self.old self.new }
     {
         self.check(event)?;

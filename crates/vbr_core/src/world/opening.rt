@@ -4,7 +4,7 @@ ghost use Rattle.std.specs.List.{AllByRecursion};
 ghost use Rattle.std.specs.List.Sorted.{IsStrictlyIncreasing};
 ghost use Rattle.vbr_words.specs.Words.{IsLink};
 ghost use Rattle.vbr_machine.specs.Making.{with_key_ahead};
-ghost use Rattle.vbr_core.specs.Kept.{world_of};
+ghost use Rattle.vbr_core.specs.WorldInLists.{world_of};
 ghost use Rattle.vbr_core.specs.KeptOpenings.{IsBare, IsNew, IsOpening, with_entries};
 ghost use Rattle.vbr_core.specs.KeptWrites.{Writes};
 

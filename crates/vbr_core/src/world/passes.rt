@@ -7,9 +7,9 @@ ghost use Rattle.vbr_machine.specs.Links.{link_to, marked};
 ghost use Rattle.vbr_machine.specs.Knowledge.{knows_link, marked_in, birth_at, birth_of, key_in, value_in};
 ghost use Rattle.vbr_machine.specs.Acceptance.{IsInShape, IsOwned, HasChecked, IsInRange, Accepts, KnowsKeyAt, KnowsKeyOf, LeadsToKey, HasValue, HasValueFor, stamp_in, MayPublish, IsBehind, IsBefore, LeadsAbove, next_of_marked};
 ghost use Rattle.vbr_machine.specs.Learning.{key_in_hand, value_in_hand, link_written, present_value, call_of};
-ghost use Rattle.vbr_machine.specs.Opened.{kept};
+ghost use Rattle.vbr_machine.specs.Opened.{payload_kept};
 ghost use Rattle.vbr_machine.specs.Machine.{knows_nothing};
-ghost use Rattle.vbr_core.specs.Kept.{know_of, FitsHolding};
+ghost use Rattle.vbr_core.specs.WorldInLists.{know_of, FitsHolding};
 
 mod learning;
 
@@ -32,7 +32,7 @@ pub struct PassState {
 }
 
 impl Model for PassState {
-    ghost use Rattle.vbr_core.specs.Kept.{KeptPass, FitsPass};
+    ghost use Rattle.vbr_core.specs.WorldInLists.{KeptPass, FitsPass};
 
     ghost Value = { KeptPass };
 
@@ -395,7 +395,7 @@ impl PassState {
     // The value of a slot in hand that a publication tells: none where nodes have no values.
     fn value_stored(&self, shape: &OpeningShape, slot: u32) -> Option<u64>
         requires { slot < length self.now.own }
-        ensures { result ≡ kept shape.now (value_in_hand ((know_of self.now).own slot)) }
+        ensures { result ≡ payload_kept shape.now (value_in_hand ((know_of self.now).own slot)) }
     {
         if shape.has_values() {
             holdings::value_in_hand(self.holding(slot))
@@ -406,7 +406,7 @@ impl PassState {
 
     // The value of a node that a removal tells: none where nodes have no values.
     fn value_removed(&self, shape: &OpeningShape, slot: u32) -> Option<u64>
-        ensures { result ≡ kept shape.now (value_in self.now.checked slot) }
+        ensures { result ≡ payload_kept shape.now (value_in self.now.checked slot) }
     {
         if shape.has_values() {
             reads::value_in(&self.checked, slot)

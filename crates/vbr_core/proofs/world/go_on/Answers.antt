@@ -3,7 +3,7 @@ use Rattle.std.proofs.Common.{◌≡◌, ◌<◌, ◌∙◌, length, take, ap, s
 use Rattle.std.proofs.lemmas.List.{take_all}
 use Rattle.vbr_words.specs.Dimensions.{IsShape}
 use Rattle.vbr_machine.specs.Runs.{IsRun}
-use Rattle.vbr_core.specs.Kept.{KeptWorld, world_of}
+use Rattle.vbr_core.specs.WorldInLists.{KeptWorld, world_of}
 use Rattle.vbr_core.proofs.Replayed.{run_push, run_stops}
 use Rattle.vbr_machine.proofs.Lemmas.{every_run}
 use Rattle.vbr_core.proofs.world.go_on.Goals as goal

@@ -1,7 +1,7 @@
 -- The events so far are a run, and the world is the one after it.
 use Rattle.std.proofs.Common.{◌≡◌, length, take}
 use Rattle.vbr_machine.specs.Runs.{IsRun, world_after}
-use Rattle.vbr_core.specs.Kept.{world_of}
+use Rattle.vbr_core.specs.WorldInLists.{world_of}
 use Rattle.vbr_core.proofs.world.go_on.Given as goal
 
 abbrev pub invariant-loop-index : goal.invariant-loop-index

@@ -6,7 +6,7 @@ ghost use Rattle.vbr_words.specs.declared.shape.TheConstants.{MAX_EPOCH};
 ghost use Rattle.vbr_machine.specs.Acceptance.{Accepts, stamp_in, MayPublish};
 ghost use Rattle.vbr_machine.specs.Learning.{newborn, with_key, with_value, with_link, link_in_hand, learn, with_own, with_checked, with_pending, read_epoch};
 ghost use Rattle.vbr_core.specs.Growth.{ReadsMore};
-ghost use Rattle.vbr_core.specs.Kept.{know_of, FitsRead, FitsHolding};
+ghost use Rattle.vbr_core.specs.WorldInLists.{know_of, FitsRead, FitsHolding};
 ghost use Rattle.vbr_core.specs.KeptLearning.{HasRoom, Learns, with_all_checked, with_all_reread, with_epoch};
 
 use crate::world::holdings;

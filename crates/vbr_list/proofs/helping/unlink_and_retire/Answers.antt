@@ -9,7 +9,7 @@ use Rattle.vbr_slots.specs.Views.{knows}
 use Rattle.vbr_slots.proofs.Lemmas.{quiet_on}
 use Rattle.vbr_pools.proofs.Lemmas.{counts_on}
 use Rattle.vbr_pools.specs.Retiring.{is_kept}
-use Rattle.vbr_access.specs.Keeping.{Unlinks}
+use Rattle.vbr_access.specs.Keeping.{KeepsUnlinked}
 use Rattle.vbr_access.proofs.Lemmas.{behind_kept}
 use Rattle.vbr_list.specs.Pieces.{Goes}
 use Rattle.vbr_list.proofs.Clearing.{clear_before, clear_skipped}
@@ -25,7 +25,7 @@ returns-in-Ok-clause-goes g c = λ used.
     let b = c.retire.ensures.retires in
     let q = c.unlink-outcome.new.at.pass.now in
     let P : ℕ → Type 0 = λ s. IsUnlinked ((knows q.trace).own s) in
-    let Q : ℕ → Type 0 = λ s. Unlinks s c.args.at.now.pass.now q in
+    let Q : ℕ → Type 0 = λ s. KeepsUnlinked s c.args.at.now.pass.now q in
     subst (λ (n : ℕ). Goes c.args.at.now.pass.now c.retire.new.at.pass.now used n) (omega arith)
     (record {
       quiet = quiet_on a.stays.quiet b.quiet;

@@ -9,7 +9,7 @@ use Rattle.vbr_pools.specs.Budgets.{most_to_take}
 use Rattle.vbr_slots.specs.Alone.{IsAlone}
 use Rattle.vbr_list.specs.Budgets.{LacksSteps, enough_to_search, listed_for}
 use Rattle.vbr_list.specs.Inserting.{InsertIsShort, LinksNone}
-use Rattle.vbr_list.specs.Refusals.{IsRefused}
+use Rattle.vbr_list.specs.Refusals.{IsRefusedInsert}
 use Rattle.vbr_list.specs.declared.refusal.Refusal.TheVariants.{NoSlot}
 use Rattle.vbr_list.proofs.Going.{bucket_is, ok_as}
 use Rattle.vbr_list.proofs.Sufficing.{answered_or_spent, each_error, lacks, never_refused, no_more_listed}
@@ -107,7 +107,7 @@ returns-in-Ok-Some-clause-calls g c =
         kept = search rules;
         had = had_then p q r c.link.result c.prepare.ensures.prepares.had c.link.ensures.had;
         shared = shared_on p q r 2 c.prepare.ensures.prepares.shared (longer q r c.link.ensures.links.takes_no_slot.grows) (shares_more q r c.link.ensures.links.takes_no_slot.shared);
-        refused = each_error (λ refusal. InsertIsShort q r c.prepare.new.self.used c.args.budget refusal) (λ refusal. IsRefused p r c.args.key c.args.budget refusal) c.link.result (refused_second p q r c.args.key c.prepare.ensures.prepares.counts) refused;
+        refused = each_error (λ refusal. InsertIsShort q r c.prepare.new.self.used c.args.budget refusal) (λ refusal. IsRefusedInsert p r c.args.key c.args.budget refusal) c.link.result (refused_second p q r c.args.key c.prepare.ensures.prepares.counts) refused;
         within = within;
         ready = λ some alone enough. answered_or_spent p r c.args.budget n c.link.result some alone enough
             (each_error (λ refusal. InsertIsShort q r c.prepare.new.self.used c.args.budget refusal) (λ refusal. refusal ≡ NoSlot → p.pool ≡ []) c.link.result (never_refused p.pool q r c.prepare.new.self.used c.args.budget) refused)

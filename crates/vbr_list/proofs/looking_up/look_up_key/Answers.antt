@@ -2,7 +2,7 @@ use Rattle.std.proofs.Common.{◌≡◌, sym, Bool, Option, ℕ, Result, subst}
 use Rattle.std.specs.Prelude.{is_some}
 use Rattle.vbr_machine.specs.History.{set_call}
 use Rattle.vbr_machine.specs.declared.history.Op.TheVariants.{Has}
-use Rattle.vbr_list.specs.Answered.{Calls}
+use Rattle.vbr_list.specs.Sparing.{Calls}
 use Rattle.vbr_list.specs.Told.{given_in}
 use Rattle.vbr_list.specs.declared.refusal.Refusal.{Refusal}
 use Rattle.vbr_list.proofs.Told.{calls_yes, look_up_yes, told_bare}

@@ -2,7 +2,7 @@
 use Rattle.std.proofs.Common.{◌≡◌, ℕ, ◌+◌, ◌*◌, ◌%◌, ◌^◌, ◌<◌, sym, ap, ◌∙◌, subst, arith}
 use Rattle.std.proofs.Math.Facts.{Fits-of_lt}
 use Rattle.std.specs.Int.{w64}
-use Rattle.vbr_core.specs.Kept.{world_of}
+use Rattle.vbr_core.specs.WorldInLists.{world_of}
 use Rattle.vbr_machine.specs.Machine.{is_flagged}
 use Rattle.vbr_machine.proofs.Lemmas.{flags_of_first, no_flags, flag_set, flag_clear, flags_fit, flags_whole}
 use Rattle.vbr_core.proofs.world.lists.Lists.flags.Goals as goal

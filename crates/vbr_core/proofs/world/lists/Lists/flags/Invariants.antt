@@ -1,5 +1,5 @@
 use Rattle.std.proofs.Common.{◌≡◌}
-use Rattle.vbr_core.specs.Kept.{world_of}
+use Rattle.vbr_core.specs.WorldInLists.{world_of}
 use Rattle.vbr_machine.specs.Machine.{is_flagged}
 use Rattle.vbr_machine.proofs.Lemmas.{flags_of_first}
 use Rattle.vbr_core.proofs.world.lists.Lists.flags.Given as goal

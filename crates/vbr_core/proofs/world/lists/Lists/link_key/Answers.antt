@@ -2,7 +2,7 @@
 use Rattle.std.proofs.Common.{rules, ap, ◌∙◌}
 use Rattle.vbr_words.specs.Words.{link_of}
 use Rattle.vbr_words.proofs.Lemmas.{link_of-word_of}
-use Rattle.vbr_core.specs.Kept.{world_of}
+use Rattle.vbr_core.specs.WorldInLists.{world_of}
 use Rattle.vbr_machine.proofs.Lemmas.{key_linked}
 use Rattle.vbr_core.proofs.world.lists.Lists.link_key.Goals as goal
 

@@ -2,7 +2,7 @@
 use Rattle.std.proofs.Common.{◌≡◌, suc, ◌-◌, ◌<◌, length, refl, ap, ◌∙◌, arith}
 use Rattle.vbr_words.specs.Dimensions.{Dimensions}
 use Rattle.vbr_machine.specs.Making.{opening_from}
-use Rattle.vbr_core.specs.Kept.{world_of}
+use Rattle.vbr_core.specs.WorldInLists.{world_of}
 use Rattle.vbr_machine.proofs.Lemmas.{opening_step, opening_all}
 use Rattle.vbr_core.proofs.world.lists.Lists.opened.Goals as goal
 

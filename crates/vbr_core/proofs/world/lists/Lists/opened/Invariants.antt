@@ -1,7 +1,7 @@
 -- The keys from a number on are linked.
 use Rattle.std.proofs.Common.{◌≡◌, ◌≤◌, length}
 use Rattle.vbr_machine.specs.Making.{opening_from}
-use Rattle.vbr_core.specs.Kept.{world_of}
+use Rattle.vbr_core.specs.WorldInLists.{world_of}
 use Rattle.vbr_core.proofs.world.lists.Lists.opened.Given as goal
 
 abbrev pub invariant-loop-number : goal.invariant-loop-number

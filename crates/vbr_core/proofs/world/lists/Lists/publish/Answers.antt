@@ -2,7 +2,7 @@
 use Rattle.std.proofs.Common.{ℕ, ap, ◌∙◌}
 use Rattle.vbr_words.specs.Words.{link_of}
 use Rattle.vbr_machine.specs.declared.knowledge.SlotPlace.TheVariants.{Listed}
-use Rattle.vbr_core.specs.Kept.{world_of}
+use Rattle.vbr_core.specs.WorldInLists.{world_of}
 use Rattle.vbr_core.specs.KeptWrites.{with_link_and_place}
 use Rattle.vbr_core.proofs.KeptWorlds.{put_after_link}
 use Rattle.vbr_core.proofs.world.lists.Lists.publish.Goals as goal

@@ -4,7 +4,7 @@ use Rattle.vbr_words.specs.Words.{link_of}
 use Rattle.vbr_words.specs.declared.place.Place.{Place}
 use Rattle.vbr_machine.specs.Learning.{succeeds}
 use Rattle.vbr_machine.specs.Machine.{word_at}
-use Rattle.vbr_core.specs.Kept.{world_of}
+use Rattle.vbr_core.specs.WorldInLists.{world_of}
 use Rattle.vbr_core.proofs.MadeSteps.{step_made, step_lost}
 use Rattle.vbr_core.proofs.world.lists.Lists.step.Goals as goal
 use Rattle.vbr_core.proofs.world.lists.Lists.step.Goals.{then-succeeds, else-succeeds}

@@ -3,7 +3,7 @@ use Rattle.std.proofs.lemmas.Grind.{common_steps}
 use Rattle.vbr_words.specs.Words.{link_of}
 use Rattle.vbr_words.proofs.Lemmas.{IsLink-link_of}
 use Rattle.vbr_machine.specs.Learning.{link_in_hand}
-use Rattle.vbr_core.specs.Kept.{FitsHolding}
+use Rattle.vbr_core.specs.WorldInLists.{FitsHolding}
 use Rattle.vbr_core.proofs.KeptPasses.{all-at, ready-fits}
 use Rattle.vbr_core.proofs.world.passes.PassState.link_in_hand.Goals as goal
 

@@ -1,5 +1,5 @@
 use Rattle.std.proofs.Common.{rules}
-use Rattle.vbr_core.specs.Kept.{know_of}
+use Rattle.vbr_core.specs.WorldInLists.{know_of}
 use Rattle.vbr_core.proofs.KeptPasses.{read_epoch-same, read_epoch-moved}
 use Rattle.vbr_core.proofs.world.passes.PassState.read_epoch.Goals as goal
 use Rattle.vbr_core.proofs.world.passes.PassState.read_epoch.Goals.{then-epoch-self+in_ok-confirm, else-epoch-self}

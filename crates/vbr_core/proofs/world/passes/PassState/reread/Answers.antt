@@ -1,7 +1,7 @@
 use Rattle.std.proofs.Common.{◌≡◌, drop, map, length, arith, rules, ap}
 use Rattle.std.proofs.lemmas.List.{take_at, length-map}
 use Rattle.vbr_machine.specs.Learning.{reread}
-use Rattle.vbr_core.specs.Kept.{FitsHolding}
+use Rattle.vbr_core.specs.WorldInLists.{FitsHolding}
 use Rattle.vbr_core.proofs.KeptPasses.{all-map, fits-reread}
 use Rattle.vbr_core.proofs.world.passes.PassState.reread.Goals as goal
 

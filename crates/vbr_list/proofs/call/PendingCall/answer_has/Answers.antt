@@ -1,0 +1,64 @@
+use Rattle.std.proofs.Common.{rules, arith, Bool, sym, subst}
+use Rattle.vbr_machine.specs.History.{set_call}
+use Rattle.vbr_machine.specs.declared.history.Call.{Call}
+use Rattle.vbr_machine.specs.declared.history.Op.TheVariants.{Has}
+use Rattle.vbr_slots.specs.Calls.{AddsAnswer, Made}
+use Rattle.vbr_slots.specs.Views.{knows}
+use Rattle.vbr_access.specs.Exchanges.{IsUnmarked}
+use Rattle.vbr_access.specs.LookUps.{DecidesKey}
+use Rattle.vbr_access.specs.declared.held.Held.{Held}
+use Rattle.vbr_access.specs.Alone.{StandsNow}
+use Rattle.vbr_list.specs.Told.{kept_call}
+use Rattle.vbr_list.proofs.Going.{counts_step}
+use Rattle.vbr_list.proofs.KeptHands.{own_kept}
+use Rattle.vbr_list.proofs.Sights.{sight_answers, sight_held, sight_stands, sight_unmarked}
+use Rattle.vbr_list.proofs.Told.{told_bare}
+use Rattle.vbr_list.proofs.call.PendingCall.answer_has.Goals as goal
+
+pub confirm_look_up-outcome-requires-clause-held : goal.confirm_look_up-outcome-requires-clause-held
+confirm_look_up-outcome-requires-clause-held g c =
+    let p = c.args.self.now.at.pass.now.trace in
+    let P : Held → Type 0 = IsUnmarked (knows p) in
+    subst P (sym c.told_by-present.ensures.held)
+    (record { held = sight_held p.shape (knows p) c.args.self.now.key c.args.sight c.requires.sight; unmarked = sight_unmarked p.shape (knows p) c.args.self.now.key c.args.sight c.requires.sight })
+
+pub confirm_look_up-outcome-requires-clause-decides : goal.confirm_look_up-outcome-requires-clause-decides
+confirm_look_up-outcome-requires-clause-decides g c =
+    let p = c.args.self.now.at.pass.now.trace in
+    let P : Held × Bool → Type 0 = λ x. DecidesKey p.shape (knows p) c.args.self.now.key x.0 x.1 in
+    subst P (λ i. (sym c.told_by-present.ensures.held i, sym c.told_by-present.ensures.present i)) (sight_answers p.shape (knows p) c.args.self.now.key c.args.sight c.requires.sight)
+
+pub returns-in-Ok-clause-settles : goal.returns-in-Ok-clause-settles
+returns-in-Ok-clause-settles g c =
+    let keeps = c.confirm_look_up-outcome.ensures.keeps.keeps in
+    record { call = search rules; counts = counts_step c.args.self.now.used 1 keeps.took; hand = own_kept keeps.own keeps.takes_no_slot; more = omega arith }
+
+pub returns-in-Err-clause-settles : goal.returns-in-Err-clause-settles
+returns-in-Err-clause-settles g c =
+    let keeps = c.confirm_look_up-outcome.ensures.keeps.keeps in
+    record { call = search rules; counts = counts_step c.args.self.now.used 1 keeps.took; hand = own_kept keeps.own keeps.takes_no_slot; more = omega arith }
+
+pub returns-in-Ok-clause-answers : goal.returns-in-Ok-clause-answers
+returns-in-Ok-clause-answers g c =
+    let p = c.args.self.now.at.pass.now.trace in
+    let q = c.confirm_look_up-outcome.new.at.pass.now.trace in
+    let key = c.args.self.now.key in
+    let answers = c.in-Ok.ensures.answers in
+    let M : Bool → Type 0 = λ reply. Made (kept_call p.shape (set_call p.who Has key reply)) p q in
+    let A : Bool → Type 0 = λ reply. AddsAnswer (kept_call p.shape (set_call p.who Has key reply)) p q in
+    let present = sym c.without_value.ensures in
+    let same = told_bare p.shape p.who Has key c.told_by-present.result.1 in
+    record {
+      made = subst M present (subst (λ (call : Call). Made call p q) same answers.made);
+      adds = subst A present (subst (λ (call : Call). AddsAnswer call p q) same answers.adds);
+    }
+
+pub returns-in-Err-clause-rolls : goal.returns-in-Err-clause-rolls
+returns-in-Err-clause-rolls g c =
+    let p = c.args.self.now.at.pass.now.trace in
+    let lost = c.in-Err.ensures.lost in
+    record {
+      quiet = lost.quiet;
+      adds_none = lost.adds_none;
+      wins = λ fresh stands alone. lost.wins alone (let P : Held → Type 0 = StandsNow p in subst P (sym c.told_by-present.ensures.held) (sight_stands p c.args.sight stands));
+    }

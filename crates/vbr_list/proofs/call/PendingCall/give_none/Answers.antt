@@ -1,0 +1,39 @@
+use Rattle.std.proofs.Common.{rules, arith, false, subst}
+use Rattle.vbr_machine.specs.declared.history.Call.{Call}
+use Rattle.vbr_machine.specs.declared.history.Op.TheVariants.{Get}
+use Rattle.vbr_slots.specs.Calls.{AddsAnswer, Made}
+use Rattle.vbr_list.proofs.Going.{counts_step}
+use Rattle.vbr_list.proofs.KeptHands.{own_kept}
+use Rattle.vbr_list.proofs.Told.{told_bare}
+use Rattle.vbr_list.proofs.call.PendingCall.give_none.Goals as goal
+
+pub confirm_absent_entry-outcome-requires-clause-gap : goal.confirm_absent_entry-outcome-requires-clause-gap
+confirm_absent_entry-outcome-requires-clause-gap g c =
+    let s = c.requires.sight in
+    record { held = s.0.held; behind = s.0.behind; before = s.1; unmarked = s.0.unmarked }
+
+pub confirm_absent_entry-outcome-requires-clause-op : goal.confirm_absent_entry-outcome-requires-clause-op
+confirm_absent_entry-outcome-requires-clause-op g c = record { other = λ e. absurd (cc); asked = λ get. c.requires.values }
+
+pub returns-in-Ok-clause-settles : goal.returns-in-Ok-clause-settles
+returns-in-Ok-clause-settles g c =
+    let keeps = c.confirm_absent_entry-outcome.ensures.keeps.keeps in
+    record { call = search rules; counts = counts_step c.args.self.now.used 1 keeps.took; hand = own_kept keeps.own keeps.takes_no_slot; more = omega arith }
+
+pub returns-in-Err-clause-settles : goal.returns-in-Err-clause-settles
+returns-in-Err-clause-settles g c =
+    let keeps = c.confirm_absent_entry-outcome.ensures.keeps.keeps in
+    record { call = search rules; counts = counts_step c.args.self.now.used 1 keeps.took; hand = own_kept keeps.own keeps.takes_no_slot; more = omega arith }
+
+pub returns-in-Ok-clause-answers : goal.returns-in-Ok-clause-answers
+returns-in-Ok-clause-answers g c =
+    let p = c.args.self.now.at.pass.now.trace in
+    let q = c.confirm_absent_entry-outcome.new.at.pass.now.trace in
+    let answers = c.in-Ok.ensures.answers in
+    let same = told_bare p.shape p.who Get c.args.self.now.key false in
+    record { made = subst (λ (call : Call). Made call p q) same answers.made; adds = subst (λ (call : Call). AddsAnswer call p q) same answers.adds }
+
+pub returns-in-Err-clause-rolls : goal.returns-in-Err-clause-rolls
+returns-in-Err-clause-rolls g c =
+    let lost = c.in-Err.ensures.lost in
+    record { quiet = lost.quiet; adds_none = lost.adds_none; wins = λ fresh stands alone. lost.wins alone stands }

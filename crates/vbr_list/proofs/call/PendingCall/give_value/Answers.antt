@@ -1,0 +1,151 @@
+use Rattle.std.proofs.Common.{◌≡◌, ◌+◌, Some, rules, arith, sym, ap, ◌∙◌, subst}
+use Rattle.vbr_words.specs.Dimensions.{Dimensions}
+use Rattle.vbr_machine.specs.declared.history.Call.{Call}
+use Rattle.vbr_machine.specs.declared.history.Op.TheVariants.{Get}
+use Rattle.vbr_slots.specs.Calls.{AddsAnswer}
+use Rattle.vbr_slots.specs.Views.{knows}
+use Rattle.vbr_slots.proofs.Lemmas.{adds_on, answer_on, loads_on, quiet_on}
+use Rattle.vbr_pools.proofs.Lemmas.{counts_on}
+use Rattle.vbr_access.proofs.Lemmas.{held_kept}
+use Rattle.vbr_list.specs.Pieces.{Goes}
+use Rattle.vbr_list.specs.Told.{given_call, given_in}
+use Rattle.vbr_list.specs.Valuing.{steps_to_value_of, steps_where}
+use Rattle.vbr_list.proofs.Going.{counts_step, goes_counted}
+use Rattle.vbr_list.proofs.KeptHands.{hand_on, own_kept}
+use Rattle.vbr_list.proofs.Nearing.{first_of, read_leaves, stands_on, then_of}
+use Rattle.vbr_list.proofs.Reaching.{key_kept}
+use Rattle.vbr_list.proofs.Sights.{keyed_slot}
+use Rattle.vbr_list.proofs.Sufficing.{any_error}
+use Rattle.vbr_list.proofs.Told.{given_kept, told_since}
+use Rattle.vbr_list.proofs.ValueReads.{few_to_value}
+use Rattle.vbr_list.proofs.call.PendingCall.give_value.Goals as goal
+
+pub value_if_any-read-requires-clause-held : goal.value_if_any-read-requires-clause-held
+value_if_any-read-requires-clause-held g c = c.requires.sight.0
+
+pub value_if_any-read-requires-clause-slot : goal.value_if_any-read-requires-clause-slot
+value_if_any-read-requires-clause-slot g c = keyed_slot (knows c.args.self.now.at.pass.now.trace) c.args.node.now.at c.args.self.now.key c.requires.sight.2
+
+pub confirm_present_entry-outcome-requires-clause-node : goal.confirm_present_entry-outcome-requires-clause-node
+confirm_present_entry-outcome-requires-clause-node g c =
+    let s = c.requires.sight in
+    let keeps = c.in_ok-value.ensures.value.keeps in
+    record { held = held_kept c.args.node.now keeps s.0; key = (c.args.self.now.key, key_kept c.args.node.now.at c.args.self.now.key keeps s.2); unmarked = s.1 }
+
+pub confirm_present_entry-outcome-requires-clause-op : goal.confirm_present_entry-outcome-requires-clause-op
+confirm_present_entry-outcome-requires-clause-op g c = λ e. absurd (cc)
+
+pub confirm_present_entry-outcome-requires-clause-asked : goal.confirm_present_entry-outcome-requires-clause-asked
+confirm_present_entry-outcome-requires-clause-asked g c = λ get.
+    let same = ap (λ (d : Dimensions). d.values) c.value_if_any-read.ensures.reads.quiet.same.shape in
+    (same ∙ c.requires.values, (c.in_ok-value.value, c.in_ok-value.ensures.value.value c.requires.values))
+
+pub returns-in_err-value-clause-settles : goal.returns-in_err-value-clause-settles
+returns-in_err-value-clause-settles g c =
+    let p = c.args.self.now.at.pass.now in
+    let q = c.value_if_any-read.new.at.pass.now in
+    let reads = c.value_if_any-read.ensures.reads in
+    let steps : c.steps_to_value_of.result ≡ steps_to_value_of p.trace.shape = c.steps_to_value_of.ensures ∙ ap steps_to_value_of (sym c.value_if_any-read.new.at.own.1 ∙ reads.quiet.same.shape) in
+    let first : Goes p q c.args.self.now.used (c.args.self.now.used + c.steps_to_value_of.result) = goes_counted c.args.self.now.used c.steps_to_value_of.result (steps_to_value_of p.trace.shape) steps reads in
+    let two = steps ∙ ap steps_where c.requires.values in
+    record { call = search rules; counts = first.counts; hand = first.hand; more = omega (arith, two) }
+
+pub returns-in_err-value-clause-few : goal.returns-in_err-value-clause-few
+returns-in_err-value-clause-few g c =
+    let p = c.args.self.now.at.pass.now in
+    let q = c.value_if_any-read.new.at.pass.now in
+    let reads = c.value_if_any-read.ensures.reads in
+    let steps : c.steps_to_value_of.result ≡ steps_to_value_of p.trace.shape = c.steps_to_value_of.ensures ∙ ap steps_to_value_of (sym c.value_if_any-read.new.at.own.1 ∙ reads.quiet.same.shape) in
+    let first : Goes p q c.args.self.now.used (c.args.self.now.used + c.steps_to_value_of.result) = goes_counted c.args.self.now.used c.steps_to_value_of.result (steps_to_value_of p.trace.shape) steps reads in
+    let two = steps ∙ ap steps_where c.requires.values in
+    omega (arith, two)
+
+pub returns-in_err-value-clause-rolls : goal.returns-in_err-value-clause-rolls
+returns-in_err-value-clause-rolls g c =
+    let reads = c.value_if_any-read.ensures.reads in
+    let lost = c.in_err-value.ensures.moved in
+    any_error c.from_residual.result (λ rollback. record { quiet = reads.quiet; adds_none = reads.adds_none; wins = λ fresh stands alone. lost.rolls.still fresh alone })
+
+pub returns-in-Ok-clause-settles : goal.returns-in-Ok-clause-settles
+returns-in-Ok-clause-settles g c =
+    let p = c.args.self.now.at.pass.now in
+    let q = c.value_if_any-read.new.at.pass.now in
+    let reads = c.value_if_any-read.ensures.reads in
+    let steps : c.steps_to_value_of.result ≡ steps_to_value_of p.trace.shape = c.steps_to_value_of.ensures ∙ ap steps_to_value_of (sym c.value_if_any-read.new.at.own.1 ∙ reads.quiet.same.shape) in
+    let first : Goes p q c.args.self.now.used (c.args.self.now.used + c.steps_to_value_of.result) = goes_counted c.args.self.now.used c.steps_to_value_of.result (steps_to_value_of p.trace.shape) steps reads in
+    let keeps = c.confirm_present_entry-outcome.ensures.keeps.keeps in
+    record {
+      call = search rules;
+      counts = counts_on first.counts (counts_step (c.args.self.now.used + c.steps_to_value_of.result) 1 keeps.took);
+      hand = hand_on first.hand (own_kept keeps.own keeps.takes_no_slot);
+      more = omega arith;
+    }
+
+pub returns-in-Err-clause-settles : goal.returns-in-Err-clause-settles
+returns-in-Err-clause-settles g c =
+    let p = c.args.self.now.at.pass.now in
+    let q = c.value_if_any-read.new.at.pass.now in
+    let reads = c.value_if_any-read.ensures.reads in
+    let steps : c.steps_to_value_of.result ≡ steps_to_value_of p.trace.shape = c.steps_to_value_of.ensures ∙ ap steps_to_value_of (sym c.value_if_any-read.new.at.own.1 ∙ reads.quiet.same.shape) in
+    let first : Goes p q c.args.self.now.used (c.args.self.now.used + c.steps_to_value_of.result) = goes_counted c.args.self.now.used c.steps_to_value_of.result (steps_to_value_of p.trace.shape) steps reads in
+    let keeps = c.confirm_present_entry-outcome.ensures.keeps.keeps in
+    record {
+      call = search rules;
+      counts = counts_on first.counts (counts_step (c.args.self.now.used + c.steps_to_value_of.result) 1 keeps.took);
+      hand = hand_on first.hand (own_kept keeps.own keeps.takes_no_slot);
+      more = omega arith;
+    }
+
+pub returns-in-Ok-clause-few : goal.returns-in-Ok-clause-few
+returns-in-Ok-clause-few g c =
+    let p = c.args.self.now.at.pass.now in
+    let q = c.value_if_any-read.new.at.pass.now in
+    let reads = c.value_if_any-read.ensures.reads in
+    let steps : c.steps_to_value_of.result ≡ steps_to_value_of p.trace.shape = c.steps_to_value_of.ensures ∙ ap steps_to_value_of (sym c.value_if_any-read.new.at.own.1 ∙ reads.quiet.same.shape) in
+    let first : Goes p q c.args.self.now.used (c.args.self.now.used + c.steps_to_value_of.result) = goes_counted c.args.self.now.used c.steps_to_value_of.result (steps_to_value_of p.trace.shape) steps reads in
+    let few = few_to_value p.trace.shape in
+    omega (arith, steps, few)
+
+pub returns-in-Err-clause-few : goal.returns-in-Err-clause-few
+returns-in-Err-clause-few g c =
+    let p = c.args.self.now.at.pass.now in
+    let q = c.value_if_any-read.new.at.pass.now in
+    let reads = c.value_if_any-read.ensures.reads in
+    let steps : c.steps_to_value_of.result ≡ steps_to_value_of p.trace.shape = c.steps_to_value_of.ensures ∙ ap steps_to_value_of (sym c.value_if_any-read.new.at.own.1 ∙ reads.quiet.same.shape) in
+    let first : Goes p q c.args.self.now.used (c.args.self.now.used + c.steps_to_value_of.result) = goes_counted c.args.self.now.used c.steps_to_value_of.result (steps_to_value_of p.trace.shape) steps reads in
+    let few = few_to_value p.trace.shape in
+    omega (arith, steps, few)
+
+pub returns-in-Ok-clause-only_loads : goal.returns-in-Ok-clause-only_loads
+returns-in-Ok-clause-only_loads g c = loads_on c.value_if_any-read.ensures.reads.only_loads c.confirm_present_entry-outcome.ensures.keeps.only_loads
+
+pub returns-in-Err-clause-only_loads : goal.returns-in-Err-clause-only_loads
+returns-in-Err-clause-only_loads g c = loads_on c.value_if_any-read.ensures.reads.only_loads c.confirm_present_entry-outcome.ensures.keeps.only_loads
+
+pub returns-in-Ok-clause-answers : goal.returns-in-Ok-clause-answers
+returns-in-Ok-clause-answers g c =
+    let p = c.args.self.now.at.pass.now.trace in
+    let q = c.value_if_any-read.new.at.pass.now.trace in
+    let r = c.confirm_present_entry-outcome.new.at.pass.now.trace in
+    let reads = c.value_if_any-read.ensures.reads in
+    let key = c.args.self.now.key in
+    let value = c.in_ok-value.value in
+    let at = key_kept c.args.node.now.at key c.in_ok-value.ensures.value.keeps c.requires.sight.2 in
+    let answers = c.in-Ok.ensures.answers.answers key value at (λ get. c.in_ok-value.ensures.value.value c.requires.values) in
+    let told : given_call p.who Get key (Some value) ≡ given_in p Get key (Some value) = sym (given_kept p Get key c.requires.values (Some value)) in
+    let first : given_call q.who Get key (Some value) ≡ given_call p.who Get key (Some value) = λ i. given_call (reads.quiet.same.who i) Get key (Some value) in
+    record {
+      made = told_since reads.quiet (first ∙ told) answers.made;
+      adds = subst (λ (call : Call). AddsAnswer call p r) told (answer_on (λ who. given_call who Get key (Some value)) reads.quiet.same reads.adds_none answers.adds);
+    }
+
+pub returns-in-Err-clause-rolls : goal.returns-in-Err-clause-rolls
+returns-in-Err-clause-rolls g c =
+    let reads = c.value_if_any-read.ensures.reads in
+    let lost = c.in-Err.ensures.lost in
+    record {
+      quiet = quiet_on reads.quiet lost.quiet;
+      adds_none = adds_on reads.adds_none lost.adds_none;
+      wins = λ fresh stands alone.
+          lost.wins (then_of reads.quiet lost.quiet alone) (stands_on c.args.self.now.at.pass.now.trace c.value_if_any-read.new.at.pass.now.trace c.args.node.now (read_leaves reads (first_of reads.quiet lost.quiet alone)) stands);
+    }

@@ -1,0 +1,120 @@
+use Rattle.std.proofs.Common.{rules, ◌+◌, ◌<◌, ◌∙◌, sym, subst, arith}
+use Rattle.vbr_slots.specs.Alone.{IsAlone}
+use Rattle.vbr_slots.specs.Calls.{Quiet}
+use Rattle.vbr_slots.specs.Views.{Trace}
+use Rattle.vbr_slots.proofs.Lemmas.{quiet_on}
+use Rattle.vbr_pools.proofs.Lemmas.{had_back, had_grown, had_on, had_then, no_room, none_back, none_on}
+use Rattle.vbr_list.specs.Budgets.{enough_to_search}
+use Rattle.vbr_list.proofs.Going.{call_on, within_call}
+use Rattle.vbr_list.proofs.Nearing.{at_first, first_lost, first_of, then_of}
+use Rattle.vbr_list.proofs.Preparing.{within_on, within_same}
+use Rattle.vbr_list.proofs.Told.{stored_same, told_since}
+use Rattle.vbr_list.proofs.call.PendingCall.link.Goals as goal
+
+pub loop-found-preserved : goal.loop-found-preserved
+loop-found-preserved g c =
+    let s = c.search.ensures.goes in
+    let back = c.in-Err.ensures.back in
+    let more = c.settle_insert.ensures.publishes in
+    let fits = c.if-not-affords.ensures in
+    let begun = call_on c.loop-found.invariant.0 s.call in
+    let same = call_on begun more.call in
+    let p = c.args.self.now.at.pass.now in
+    let q = c.search.new.self.at.pass.now in
+    let r = c.settle_insert.new.self.at.pass.now in (
+      same,
+      quiet_on c.loop-found.invariant.1 (quiet_on s.goes.quiet back.quiet),
+      within_on (within_on c.loop-found.invariant.2 s.goes.counts s.more (within_call begun)) more.counts (omega arith) (within_call same),
+      none_on (none_on c.loop-found.invariant.3 s.goes.hand.takes_no_slot) more.takes_no_slot,
+      back.hand,
+      had_on p q r (had_on p c.loop-found.self.at.pass.now q c.loop-found.invariant.5 (had_grown c.loop-found.self.at.pass.now q s.goes.hand.takes_no_slot.grows s.goes.hand.hand)) (rw c.in-Err.is at c.settle_insert.ensures.had),
+      first_lost p c.loop-found.self.at.pass.now r c.loop-found.invariant.6 c.loop-found.invariant.1 (quiet_on s.goes.quiet back.quiet)
+          (λ alone. let f = c.in-Some.ensures.found.alone (first_of s.goes.quiet back.quiet alone) in back.wins f.pred.stands f.cur (then_of s.goes.quiet back.quiet alone)),
+    )
+
+pub returns-in_default-clause-links : goal.returns-in_default-clause-links
+returns-in_default-clause-links g c =
+    let s = c.search.ensures.goes in
+    let begun = call_on c.loop-found.invariant.0 s.call in
+    record {
+      call = search rules;
+      counts = within_same c.give_back.ensures.back.trace (within_on c.loop-found.invariant.2 s.goes.counts s.more (within_call begun));
+      takes_no_slot = none_on (none_on c.loop-found.invariant.3 s.goes.hand.takes_no_slot) (none_back c.search.new.self.at.pass.now c.give_back.new.at.pass.now c.loop-found.hand.slot c.give_back.ensures.back.trace c.give_back.ensures.back.pool c.give_back.ensures.back.kept);
+      spent = search rules;
+    }
+
+pub returns-in_default-clause-had : goal.returns-in_default-clause-had
+returns-in_default-clause-had g c =
+    let s = c.search.ensures.goes.goes.hand in
+    let q = c.search.new.self.at.pass.now in
+    had_on c.args.self.now.at.pass.now q c.give_back.new.at.pass.now (had_on c.args.self.now.at.pass.now c.loop-found.self.at.pass.now q c.loop-found.invariant.5 (had_grown c.loop-found.self.at.pass.now q s.takes_no_slot.grows s.hand)) (had_back q c.give_back.new.at.pass.now c.loop-found.hand.slot (s.hand ∙ c.loop-found.invariant.4.is.slot) c.give_back.ensures.back.pool)
+
+pub returns-then-not-affords-clause-links : goal.returns-then-not-affords-clause-links
+returns-then-not-affords-clause-links g c =
+    let s = c.search.ensures.goes in
+    let begun = call_on c.loop-found.invariant.0 s.call in
+    record {
+      call = search rules;
+      counts = within_same c.give_back-then-not-affords.ensures.back.trace (within_on c.loop-found.invariant.2 s.goes.counts s.more (within_call begun));
+      takes_no_slot = none_on (none_on c.loop-found.invariant.3 s.goes.hand.takes_no_slot) (none_back c.search.new.self.at.pass.now c.give_back-then-not-affords.new.at.pass.now c.loop-found.hand.slot c.give_back-then-not-affords.ensures.back.trace c.give_back-then-not-affords.ensures.back.pool c.give_back-then-not-affords.ensures.back.kept);
+      spent = search rules;
+    }
+
+pub returns-then-not-affords-clause-had : goal.returns-then-not-affords-clause-had
+returns-then-not-affords-clause-had g c =
+    let s = c.search.ensures.goes.goes.hand in
+    let q = c.search.new.self.at.pass.now in
+    had_on c.args.self.now.at.pass.now q c.give_back-then-not-affords.new.at.pass.now (had_on c.args.self.now.at.pass.now c.loop-found.self.at.pass.now q c.loop-found.invariant.5 (had_grown c.loop-found.self.at.pass.now q s.takes_no_slot.grows s.hand)) (had_back q c.give_back-then-not-affords.new.at.pass.now c.loop-found.hand.slot (s.hand ∙ c.loop-found.invariant.4.is.slot) c.give_back-then-not-affords.ensures.back.pool)
+
+pub returns-in_default-clause-refused : goal.returns-in_default-clause-refused
+returns-in_default-clause-refused g c =
+    let s = c.search.ensures.goes in
+    let begun = call_on c.loop-found.invariant.0 s.call in
+    let tired = c.in_default.ensures.tired in
+    let P : Trace → Type 0 = λ t. IsAlone c.args.self.now.at.pass.now.trace t in
+    let Q : Trace → Type 0 = λ t. Quiet c.args.self.now.at.pass.now.trace t in
+    record {
+      quiet = subst Q (sym c.give_back.ensures.back.trace) (quiet_on c.loop-found.invariant.1 s.goes.quiet);
+      says = record { counts = within_same c.give_back.ensures.back.trace (within_on c.loop-found.invariant.2 s.goes.counts s.more (within_call begun)); short = rw c.loop-found.invariant.0.budget at tired.tired };
+      short = λ alone. at_first (λ q since. c.args.self.now.budget < since + enough_to_search q.trace c.args.self.now.key) c.args.self.now.at.pass.now c.loop-found.self.at.pass.now c.search.new.self.at.pass.now c.loop-found.invariant.6 c.loop-found.invariant.1 s.goes.quiet (subst P c.give_back.ensures.back.trace alone) (rw (c.loop-found.invariant.0.key, c.loop-found.invariant.0.budget) at tired.short);
+    }
+
+pub returns-then-not-affords-clause-refused : goal.returns-then-not-affords-clause-refused
+returns-then-not-affords-clause-refused g c =
+    let s = c.search.ensures.goes in
+    let begun = call_on c.loop-found.invariant.0 s.call in
+    let short = rw begun.budget at (no_room c.search.new.self.used c.search.new.self.budget c.affords.result c.if-not-affords.true c.affords.ensures.1) in
+    let P : Trace → Type 0 = λ t. IsAlone c.args.self.now.at.pass.now.trace t in
+    let Q : Trace → Type 0 = λ t. Quiet c.args.self.now.at.pass.now.trace t in
+    record {
+      quiet = subst Q (sym c.give_back-then-not-affords.ensures.back.trace) (quiet_on c.loop-found.invariant.1 s.goes.quiet);
+      says = record { counts = within_same c.give_back-then-not-affords.ensures.back.trace (within_on c.loop-found.invariant.2 s.goes.counts s.more (within_call begun)); short = short };
+      short = λ alone. at_first (λ q since. c.args.self.now.budget < since + enough_to_search q.trace c.args.self.now.key) c.args.self.now.at.pass.now c.loop-found.self.at.pass.now c.search.new.self.at.pass.now c.loop-found.invariant.6 c.loop-found.invariant.1 s.goes.quiet (subst P c.give_back-then-not-affords.ensures.back.trace alone)
+          (λ then. let f = (rw c.loop-found.invariant.0.key at c.in-Some.ensures.found.alone then).paid in omega (arith, f, short));
+    }
+
+pub returns-in-Ok-clause-links : goal.returns-in-Ok-clause-links
+returns-in-Ok-clause-links g c =
+    let s = c.search.ensures.goes in
+    let more = c.settle_insert.ensures.publishes in
+    let begun = call_on c.loop-found.invariant.0 s.call in
+    let same = call_on begun more.call in
+    let fits = c.if-not-affords.ensures in
+    record {
+      call = same;
+      counts = within_on (within_on c.loop-found.invariant.2 s.goes.counts s.more (within_call begun)) more.counts (omega arith) (within_call same);
+      takes_no_slot = none_on (none_on c.loop-found.invariant.3 s.goes.hand.takes_no_slot) more.takes_no_slot;
+      spent = c.in-Ok.ensures.answers.spent;
+    }
+
+pub returns-in-Ok-clause-had : goal.returns-in-Ok-clause-had
+returns-in-Ok-clause-had g c =
+    let s = c.search.ensures.goes.goes.hand in
+    let q = c.search.new.self.at.pass.now in
+    let then = had_then c.args.self.now.at.pass.now q c.settle_insert.new.self.at.pass.now c.settle_insert.result (had_on c.args.self.now.at.pass.now c.loop-found.self.at.pass.now q c.loop-found.invariant.5 (had_grown c.loop-found.self.at.pass.now q s.takes_no_slot.grows s.hand)) c.settle_insert.ensures.had in
+    rw c.in-Ok.is at then
+
+pub returns-in-Ok-clause-made : goal.returns-in-Ok-clause-made
+returns-in-Ok-clause-made g c =
+    let quiet = quiet_on c.loop-found.invariant.1 c.search.ensures.goes.goes.quiet in
+    told_since quiet (stored_same quiet.same c.args.self.now.key c.args.value c.in-Ok.reply) (rw (call_on c.loop-found.invariant.0 c.search.ensures.goes.call).key at c.in-Ok.ensures.answers.made)

@@ -1,0 +1,173 @@
+use Rattle.std.proofs.Common.{◌≡◌, ◌+◌, ℕ, true, false, Option, Some, rules, arith, sym, ap, ◌∙◌, subst}
+use Rattle.vbr_words.specs.Dimensions.{Dimensions}
+use Rattle.vbr_words.specs.declared.place.At.{At}
+use Rattle.vbr_machine.specs.Membership.{KeyAt}
+use Rattle.vbr_machine.specs.declared.history.Op.TheVariants.{Remove}
+use Rattle.vbr_slots.specs.Views.{knows}
+use Rattle.vbr_slots.proofs.Lemmas.{made_then, quiet_on}
+use Rattle.vbr_pools.proofs.Lemmas.{counts_on}
+use Rattle.vbr_access.specs.Alone.{NextStands}
+use Rattle.vbr_access.specs.Held.{Names}
+use Rattle.vbr_access.specs.declared.held.Held.{Held}
+use Rattle.vbr_access.proofs.Lemmas.{held_kept}
+use Rattle.vbr_list.specs.Pieces.{Goes}
+use Rattle.vbr_list.specs.Valuing.{steps_to_value_of, steps_where}
+use Rattle.vbr_list.proofs.Clearing.{leaves_clear}
+use Rattle.vbr_list.proofs.Going.{counts_step, goes_counted}
+use Rattle.vbr_list.proofs.KeptHands.{hand_on, own_kept}
+use Rattle.vbr_list.proofs.Moments.{key_found}
+use Rattle.vbr_list.proofs.Nearing.{first_of, read_leaves, stands_on, then_of}
+use Rattle.vbr_list.proofs.Reaching.{key_kept, pred_on, slot_same}
+use Rattle.vbr_list.proofs.Sufficing.{any_error}
+use Rattle.vbr_list.proofs.Told.{given_same, told_since}
+use Rattle.vbr_list.proofs.ValueReads.{cur_is, slot_at}
+use Rattle.vbr_list.proofs.call.PendingCall.mark_and_unlink.Goals as goal
+
+pub value_if_any-read-requires-clause-held : goal.value_if_any-read-requires-clause-held
+value_if_any-read-requires-clause-held g c =
+    let f = c.args.found.now in
+    (cur_is (knows c.args.self.now.at.pass.now.trace) c.args.self.now.key f.pred c.in-Some.cur f.cur f.present c.requires.locates.end c.in-Some.is).held
+
+pub value_if_any-read-requires-clause-slot : goal.value_if_any-read-requires-clause-slot
+value_if_any-read-requires-clause-slot g c =
+    let f = c.args.found.now in
+    slot_at (cur_is (knows c.args.self.now.at.pass.now.trace) c.args.self.now.key f.pred c.in-Some.cur f.cur f.present c.requires.locates.end c.in-Some.is)
+
+pub mark_entry-outcome-requires-clause-node : goal.mark_entry-outcome-requires-clause-node
+mark_entry-outcome-requires-clause-node g c =
+    let f = c.args.found.now in
+    let y = cur_is (knows c.args.self.now.at.pass.now.trace) c.args.self.now.key f.pred c.in-Some.cur f.cur f.present c.requires.locates.end c.in-Some.is in
+    let key = key_found (knows c.args.self.now.at.pass.now.trace) c.args.self.now.key f.pred c.in-Some.cur f.cur f.present c.requires.locates.end c.in-Some.is c.requires.present in
+    let keeps = c.in_ok-value.ensures.value.keeps in
+    let there = key_kept c.in-Some.cur.at c.args.self.now.key keeps key in
+    record { held = held_kept c.in-Some.cur keeps y.held; key = (c.args.self.now.key, there); unmarked = y.unmarked }
+
+pub mark_entry-outcome-requires-clause-valued : goal.mark_entry-outcome-requires-clause-valued
+mark_entry-outcome-requires-clause-valued g c = λ has. (c.in_ok-value.value, c.in_ok-value.ensures.value.value (sym (ap (λ (d : Dimensions). d.values) c.value_if_any-read.ensures.reads.quiet.same.shape) ∙ has))
+
+pub unlink_marked-requires-clause-marked : goal.unlink_marked-requires-clause-marked
+unlink_marked-requires-clause-marked g c =
+    let f = c.args.found.now in
+    let y = cur_is (knows c.args.self.now.at.pass.now.trace) c.args.self.now.key f.pred c.in-Some.cur f.cur f.present c.requires.locates.end c.in-Some.is in
+    let key = key_found (knows c.args.self.now.at.pass.now.trace) c.args.self.now.key f.pred c.in-Some.cur f.cur f.present c.requires.locates.end c.in-Some.is c.requires.present in
+    let keeps = c.in_ok-value.ensures.value.keeps in
+    let there = key_kept c.in-Some.cur.at c.args.self.now.key keeps key in
+    let same = c.value_if_any-read.ensures.reads.quiet.same in
+    let valued = λ (has : c.value_if_any-read.new.at.pass.now.trace.shape.values ≡ true). c.in_ok-value.ensures.value.value (sym (ap (λ (d : Dimensions). d.values) same.shape) ∙ has) in
+    let made = c.in_ok-marked.ensures.removed.made c.args.self.now.key c.in_ok-value.value there valued in
+    let mark = c.mark_entry-outcome.ensures.keeps in
+    let removed = c.in_ok-marked.ensures.removed in
+    let pred = pred_on c.args.self.now.key f.pred made.same mark.keeps (pred_on c.args.self.now.key f.pred same keeps c.requires.locates.pred) in
+    let P : At → Type 0 = λ at. KeyAt (knows c.mark_entry-outcome.new.at.pass.now.trace) at c.args.self.now.key in
+    let Q : ℕ → Type 0 = Names f.pred in
+    record {
+      may = record { held = pred.held; unmarked = pred.unmarked; marked = removed.held; names = subst Q (slot_same c.in_ok-marked.marked.slot y.slot (removed.at ∙ y.at)) y.named };
+      key = subst P (sym removed.at) (key_kept c.in-Some.cur.at c.args.self.now.key mark.keeps there);
+      behind = pred.behind;
+    }
+
+pub returns-in_err-value-clause-settles : goal.returns-in_err-value-clause-settles
+returns-in_err-value-clause-settles g c =
+    let p = c.args.self.now.at.pass.now in
+    let q = c.value_if_any-read.new.at.pass.now in
+    let reads = c.value_if_any-read.ensures.reads in
+    let steps : c.steps_to_value_of.result ≡ steps_to_value_of p.trace.shape = c.steps_to_value_of.ensures ∙ ap steps_to_value_of (sym c.value_if_any-read.new.at.own.1 ∙ reads.quiet.same.shape) in
+    let first : Goes p q c.args.self.now.used (c.args.self.now.used + c.steps_to_value_of.result) = goes_counted c.args.self.now.used c.steps_to_value_of.result (steps_to_value_of p.trace.shape) steps reads in
+    let two = steps ∙ ap steps_where c.in_err-value.ensures.moved.some in
+    record { call = search rules; counts = first.counts; hand = first.hand; more = omega (arith, two) }
+
+pub returns-in_err-value-clause-rolls : goal.returns-in_err-value-clause-rolls
+returns-in_err-value-clause-rolls g c =
+    let lost = c.in_err-value.ensures.moved in
+    any_error c.from_residual.result (λ rollback. record { quiet = c.value_if_any-read.ensures.reads.quiet; wins = λ fresh stands next alone. lost.rolls.still fresh alone })
+
+pub returns-in_err-marked-clause-settles : goal.returns-in_err-marked-clause-settles
+returns-in_err-marked-clause-settles g c =
+    let p = c.args.self.now.at.pass.now in
+    let q = c.value_if_any-read.new.at.pass.now in
+    let reads = c.value_if_any-read.ensures.reads in
+    let steps : c.steps_to_value_of.result ≡ steps_to_value_of p.trace.shape = c.steps_to_value_of.ensures ∙ ap steps_to_value_of (sym c.value_if_any-read.new.at.own.1 ∙ reads.quiet.same.shape) in
+    let first : Goes p q c.args.self.now.used (c.args.self.now.used + c.steps_to_value_of.result) = goes_counted c.args.self.now.used c.steps_to_value_of.result (steps_to_value_of p.trace.shape) steps reads in
+    let mark = c.mark_entry-outcome.ensures.keeps in
+    record {
+      call = search rules;
+      counts = counts_on first.counts (counts_step (c.args.self.now.used + c.steps_to_value_of.result) 1 mark.took);
+      hand = hand_on first.hand (own_kept mark.own mark.takes_no_slot);
+      more = omega arith;
+    }
+
+pub returns-in_err-marked-clause-rolls : goal.returns-in_err-marked-clause-rolls
+returns-in_err-marked-clause-rolls g c =
+    let reads = c.value_if_any-read.ensures.reads in
+    let lost = c.in_err-marked.ensures.lost in
+    let p = c.args.self.now.at.pass.now.trace in
+    let P : Option Held → Type 0 = NextStands p in
+    any_error c.from_residual-in_err-marked.result (λ rollback. record {
+      quiet = quiet_on reads.quiet lost.quiet;
+      wins = λ fresh stands next alone.
+          lost.wins (then_of reads.quiet lost.quiet alone) (stands_on p c.value_if_any-read.new.at.pass.now.trace c.in-Some.cur (read_leaves reads (first_of reads.quiet lost.quiet alone)) (subst P c.in-Some.is next));
+    })
+
+pub returns-then-affords-clause-settles : goal.returns-then-affords-clause-settles
+returns-then-affords-clause-settles g c =
+    let p = c.args.self.now.at.pass.now in
+    let q = c.value_if_any-read.new.at.pass.now in
+    let reads = c.value_if_any-read.ensures.reads in
+    let steps : c.steps_to_value_of.result ≡ steps_to_value_of p.trace.shape = c.steps_to_value_of.ensures ∙ ap steps_to_value_of (sym c.value_if_any-read.new.at.own.1 ∙ reads.quiet.same.shape) in
+    let first : Goes p q c.args.self.now.used (c.args.self.now.used + c.steps_to_value_of.result) = goes_counted c.args.self.now.used c.steps_to_value_of.result (steps_to_value_of p.trace.shape) steps reads in
+    let mark = c.mark_entry-outcome.ensures.keeps in
+    let more = c.unlink_marked.ensures.goes in
+    record {
+      call = search rules;
+      counts = counts_on (counts_on first.counts (counts_step (c.args.self.now.used + c.steps_to_value_of.result) 1 mark.took)) more.goes.counts;
+      hand = hand_on (hand_on first.hand (own_kept mark.own mark.takes_no_slot)) more.goes.hand;
+      more = let m = more.more in omega (arith, m);
+    }
+
+pub returns-then-affords-clause-answers : goal.returns-then-affords-clause-answers
+returns-then-affords-clause-answers g c =
+    let f = c.args.found.now in
+    let y = cur_is (knows c.args.self.now.at.pass.now.trace) c.args.self.now.key f.pred c.in-Some.cur f.cur f.present c.requires.locates.end c.in-Some.is in
+    let key = key_found (knows c.args.self.now.at.pass.now.trace) c.args.self.now.key f.pred c.in-Some.cur f.cur f.present c.requires.locates.end c.in-Some.is c.requires.present in
+    let keeps = c.in_ok-value.ensures.value.keeps in
+    let there = key_kept c.in-Some.cur.at c.args.self.now.key keeps key in
+    let same = c.value_if_any-read.ensures.reads.quiet.same in
+    let valued = λ (has : c.value_if_any-read.new.at.pass.now.trace.shape.values ≡ true). c.in_ok-value.ensures.value.value (sym (ap (λ (d : Dimensions). d.values) same.shape) ∙ has) in
+    let made = c.in_ok-marked.ensures.removed.made c.args.self.now.key c.in_ok-value.value there valued in
+    let told = told_since c.value_if_any-read.ensures.reads.quiet (given_same same Remove c.args.self.now.key (Some c.in_ok-value.value)) made in
+    let then = c.unlink_marked.ensures.goes.goes.quiet in
+    record {
+      made = made_then told then;
+      unlists = λ yes room. leaves_clear c.law.ensures.shape told then.same (c.unlink_marked.ensures.clear room);
+    }
+
+pub returns-else-affords-clause-settles : goal.returns-else-affords-clause-settles
+returns-else-affords-clause-settles g c =
+    let p = c.args.self.now.at.pass.now in
+    let q = c.value_if_any-read.new.at.pass.now in
+    let reads = c.value_if_any-read.ensures.reads in
+    let steps : c.steps_to_value_of.result ≡ steps_to_value_of p.trace.shape = c.steps_to_value_of.ensures ∙ ap steps_to_value_of (sym c.value_if_any-read.new.at.own.1 ∙ reads.quiet.same.shape) in
+    let first : Goes p q c.args.self.now.used (c.args.self.now.used + c.steps_to_value_of.result) = goes_counted c.args.self.now.used c.steps_to_value_of.result (steps_to_value_of p.trace.shape) steps reads in
+    let mark = c.mark_entry-outcome.ensures.keeps in
+    record {
+      call = search rules;
+      counts = counts_on first.counts (counts_step (c.args.self.now.used + c.steps_to_value_of.result) 1 mark.took);
+      hand = hand_on first.hand (own_kept mark.own mark.takes_no_slot);
+      more = omega arith;
+    }
+
+pub returns-else-affords-clause-answers : goal.returns-else-affords-clause-answers
+returns-else-affords-clause-answers g c =
+    let f = c.args.found.now in
+    let y = cur_is (knows c.args.self.now.at.pass.now.trace) c.args.self.now.key f.pred c.in-Some.cur f.cur f.present c.requires.locates.end c.in-Some.is in
+    let key = key_found (knows c.args.self.now.at.pass.now.trace) c.args.self.now.key f.pred c.in-Some.cur f.cur f.present c.requires.locates.end c.in-Some.is c.requires.present in
+    let keeps = c.in_ok-value.ensures.value.keeps in
+    let there = key_kept c.in-Some.cur.at c.args.self.now.key keeps key in
+    let same = c.value_if_any-read.ensures.reads.quiet.same in
+    let valued = λ (has : c.value_if_any-read.new.at.pass.now.trace.shape.values ≡ true). c.in_ok-value.ensures.value.value (sym (ap (λ (d : Dimensions). d.values) same.shape) ∙ has) in
+    let made = c.in_ok-marked.ensures.removed.made c.args.self.now.key c.in_ok-value.value there valued in
+    let told = told_since c.value_if_any-read.ensures.reads.quiet (given_same same Remove c.args.self.now.key (Some c.in_ok-value.value)) made in
+    record {
+      made = told;
+      unlists = λ yes room. (let f = c.if-affords.false in let z = c.affords.ensures.1 room in let w : false ≡ true = sym f ∙ z in absurd (cc));
+    }

@@ -1,0 +1,153 @@
+use Rattle.std.proofs.Common.{ℕ, ◌+◌, ◌*◌, ◌<◌, ◌≤◌, Bool, sym, ◌∙◌, subst, arith}
+use Rattle.std.proofs.lemmas.Result.{err_from_is_err_and}
+use Rattle.vbr_slots.proofs.Lemmas.{alone_first, quiet_on}
+use Rattle.vbr_pools.specs.Budgets.{most_to_take}
+use Rattle.vbr_pools.proofs.Lemmas.{no_room, none_on, some_grown}
+use Rattle.vbr_access.specs.Moments.{WasSo}
+use Rattle.vbr_list.specs.Budgets.{LacksSteps, listed_for}
+use Rattle.vbr_list.specs.Inserting.{CountsWithin}
+use Rattle.vbr_list.proofs.Going.{call_on, counts_step, goes_on, goes_step, tries_on, within_call}
+use Rattle.vbr_list.proofs.Moments.{found_since, was_so}
+use Rattle.vbr_list.proofs.Nearing.{at_first, first_lost, first_of, then_of}
+use Rattle.vbr_list.proofs.Preparing.{if_err, if_ok, made_since, prepares_none, prepares_on, refuses_after, within_on, within_tries}
+use Rattle.vbr_list.proofs.Sufficing.{lacks_more, take_after, take_least}
+use Rattle.vbr_list.proofs.call.PendingCall.prepare.Goals as goal
+
+pub loop-found-preserved : goal.loop-found-preserved
+loop-found-preserved g c =
+    let s = c.search.ensures.goes in
+    let d = c.deny.ensures in
+    let fits = c.affords.ensures.0 c.if-not-affords.false in
+    let begun = call_on c.loop-found.invariant.0 s.call in
+    let found = tries_on c.loop-found.invariant.1 s.goes s.more (within_call begun) in
+    let rolls = if_err c.deny.result (sym c.is_ok.ensures.value ∙ c.if-is_ok.false) d.rolls in (
+      call_on begun d.call,
+      rw d.used (tries_on found (goes_step c.search.new.self.used 1 rolls.quiet d.keeps.took d.keeps.own d.keeps.takes_no_slot) (omega arith) (let e = begun.budget in omega (arith, fits, e))),
+      first_lost c.args.self.now.at.pass.now c.loop-found.self.at.pass.now c.deny.new.self.at.pass.now c.loop-found.invariant.2 c.loop-found.invariant.1.goes.quiet (quiet_on s.goes.quiet rolls.quiet)
+          (λ alone. rolls.wins (c.in-Some.ensures.found.alone (first_of s.goes.quiet rolls.quiet alone)).cur (then_of s.goes.quiet rolls.quiet alone)),
+    )
+
+pub returns-in_default-clause-prepares : goal.returns-in_default-clause-prepares
+returns-in_default-clause-prepares g c =
+    let s = c.search.ensures.goes in
+    let begun = goes_on c.loop-found.invariant.1.goes s.goes in
+    let same = call_on c.loop-found.invariant.0 s.call in
+    prepares_none c.args.self.now c.search.new.self same (within_on (within_tries c.loop-found.invariant.1) s.goes.counts s.more (within_call same)) begun.hand.takes_no_slot begun.hand.hand
+
+pub returns-then-not-affords-clause-prepares : goal.returns-then-not-affords-clause-prepares
+returns-then-not-affords-clause-prepares g c =
+    let s = c.search.ensures.goes in
+    let begun = goes_on c.loop-found.invariant.1.goes s.goes in
+    let same = call_on c.loop-found.invariant.0 s.call in
+    prepares_none c.args.self.now c.search.new.self same (within_on (within_tries c.loop-found.invariant.1) s.goes.counts s.more (within_call same)) begun.hand.takes_no_slot begun.hand.hand
+
+pub returns-in_err-hand-clause-prepares : goal.returns-in_err-hand-clause-prepares
+returns-in_err-hand-clause-prepares g c =
+    let s = c.search.ensures.goes in
+    let begun = goes_on c.loop-found.invariant.1.goes s.goes in
+    let same = call_on c.loop-found.invariant.0 s.call in
+    prepares_on c.args.self.now c.search.new.self c.provide.new.self same (within_on (within_tries c.loop-found.invariant.1) s.goes.counts s.more (within_call same)) begun.quiet begun.hand.takes_no_slot begun.hand.hand c.provide.ensures.one c.provide.ensures.prepares
+
+pub returns-then-not-found-clause-prepares : goal.returns-then-not-found-clause-prepares
+returns-then-not-found-clause-prepares g c =
+    let s = c.search.ensures.goes in
+    let begun = goes_on c.loop-found.invariant.1.goes s.goes in
+    let same = call_on c.loop-found.invariant.0 s.call in
+    prepares_on c.args.self.now c.search.new.self c.provide.new.self same (within_on (within_tries c.loop-found.invariant.1) s.goes.counts s.more (within_call same)) begun.quiet begun.hand.takes_no_slot begun.hand.hand c.provide.ensures.one c.provide.ensures.prepares
+
+pub returns-then-is_ok-clause-prepares : goal.returns-then-is_ok-clause-prepares
+returns-then-is_ok-clause-prepares g c =
+    let s = c.search.ensures.goes in
+    let d = c.deny.ensures in
+    let begun = goes_on c.loop-found.invariant.1.goes s.goes in
+    let same = call_on c.loop-found.invariant.0 s.call in
+    let fits = c.affords.ensures.0 c.if-not-affords.false in
+    let counts = within_on (within_tries c.loop-found.invariant.1) s.goes.counts s.more (within_call same) in
+    let budget = same.budget in
+    let P : ℕ → Type 0 = λ used. CountsWithin c.args.self.now.at.pass.now.trace c.deny.new.self.at.pass.now.trace c.args.self.now.used used c.args.self.now.budget in
+    prepares_none c.args.self.now c.deny.new.self (call_on same d.call) (subst P (sym d.used) (within_on counts (counts_step c.search.new.self.used 1 d.keeps.took) (omega arith) (omega (arith, fits, budget)))) (none_on begun.hand.takes_no_slot d.keeps.takes_no_slot) (d.keeps.own.hand ∙ begun.hand.hand)
+
+pub returns-in_default-clause-refused : goal.returns-in_default-clause-refused
+returns-in_default-clause-refused g c =
+    let s = c.search.ensures.goes in
+    let begun = goes_on c.loop-found.invariant.1.goes s.goes in
+    let same = call_on c.loop-found.invariant.0 s.call in
+    let tired = c.in_default.ensures.tired in
+    record {
+      quiet = begun.quiet;
+      hand = begun.hand.hand ∙ c.requires.empty_hand;
+      says = record { counts = within_on (within_tries c.loop-found.invariant.1) s.goes.counts s.more (within_call same); short = rw c.loop-found.invariant.0.budget at tired.tired };
+      enough = λ alone. at_first (λ q since. c.args.self.now.budget < since + (9 * listed_for q.trace c.args.self.now.key + most_to_take q.trace.shape q.pool) + 10) c.args.self.now.at.pass.now c.loop-found.self.at.pass.now c.search.new.self.at.pass.now c.loop-found.invariant.2 c.loop-found.invariant.1.goes.quiet s.goes.quiet alone
+          (λ then. let x = rw (c.loop-found.invariant.0.key, c.loop-found.invariant.0.budget) at tired.short then in let y = take_least c.loop-found.self.at.pass.now.trace.shape c.loop-found.self.at.pass.now.pool in omega (arith, x, y));
+    }
+
+pub returns-then-not-affords-clause-refused : goal.returns-then-not-affords-clause-refused
+returns-then-not-affords-clause-refused g c =
+    let s = c.search.ensures.goes in
+    let begun = goes_on c.loop-found.invariant.1.goes s.goes in
+    let same = call_on c.loop-found.invariant.0 s.call in
+    let short = rw same.budget at (no_room c.search.new.self.used c.search.new.self.budget c.affords.result c.if-not-affords.true c.affords.ensures.1) in
+    record {
+      quiet = begun.quiet;
+      hand = begun.hand.hand ∙ c.requires.empty_hand;
+      says = record { counts = within_on (within_tries c.loop-found.invariant.1) s.goes.counts s.more (within_call same); short = short };
+      enough = λ alone. at_first (λ q since. c.args.self.now.budget < since + (9 * listed_for q.trace c.args.self.now.key + most_to_take q.trace.shape q.pool) + 10) c.args.self.now.at.pass.now c.loop-found.self.at.pass.now c.search.new.self.at.pass.now c.loop-found.invariant.2 c.loop-found.invariant.1.goes.quiet s.goes.quiet alone
+          (λ then. let x = (rw c.loop-found.invariant.0.key at c.in-Some.ensures.found.alone then).paid in let y = take_least c.loop-found.self.at.pass.now.trace.shape c.loop-found.self.at.pass.now.pool in omega (arith, x, y, short));
+    }
+
+pub returns-in_err-hand-clause-refused : goal.returns-in_err-hand-clause-refused
+returns-in_err-hand-clause-refused g c =
+    let s = c.search.ensures.goes in
+    let begun = goes_on c.loop-found.invariant.1.goes s.goes in
+    let same = call_on c.loop-found.invariant.0 s.call in
+    let error = err_from_is_err_and c.from_residual.result c.from_residual.ensures.1 in
+    let refusal = c.in_err-hand.field-0.0 in
+    let none = c.in_err-hand.ensures.refused in
+    let d = c.provide.ensures.quiet in
+    let p = c.args.self.now.at.pass.now in
+    let q = c.search.new.self.at.pass.now in
+    let counts = within_on (within_tries c.loop-found.invariant.1) s.goes.counts s.more (within_call same) in
+    let so = was_so c.args.self.now.key c.in-Some.found c.law.ensures.shape begun.quiet.same (found_since c.args.self.now.key c.in-Some.found c.loop-found.invariant.1.goes.quiet (rw c.loop-found.invariant.0.key at c.in-Some.ensures.found.found)) in
+    let P : Bool → Type 0 = WasSo p.trace q.trace c.args.self.now.key in
+    rw (error.1, error.2) (record {
+      quiet = quiet_on begun.quiet d;
+      hand = none.hand;
+      says = refuses_after p q c.provide.new.self.at.pass.now begun.quiet (some_grown p q begun.hand.takes_no_slot.grows) counts (subst P c.if-not-found.true so) d refusal (rw same.budget at none.says);
+      enough = λ alone.
+          let lacks = rw same.budget at none.enough (then_of begun.quiet d alone) in
+          at_first (λ q since. LacksSteps (since + (9 * listed_for q.trace c.args.self.now.key + most_to_take q.trace.shape q.pool) + 10) c.args.self.now.budget refusal) p c.loop-found.self.at.pass.now c.provide.new.self.at.pass.now c.loop-found.invariant.2 c.loop-found.invariant.1.goes.quiet (quiet_on s.goes.quiet d) alone
+          (λ then.
+          let x = (rw c.loop-found.invariant.0.key at c.in-Some.ensures.found.alone (first_of s.goes.quiet d then)).paid in
+          let y = take_after c.loop-found.self.at.pass.now q s.goes.quiet (some_grown c.loop-found.self.at.pass.now q s.goes.hand.takes_no_slot.grows) in
+          lacks_more _ _ c.args.self.now.budget refusal (omega (arith, x, y)) lacks);
+    })
+
+pub returns-then-is_ok-clause-prepared : goal.returns-then-is_ok-clause-prepared
+returns-then-is_ok-clause-prepared g c =
+    let s = c.search.ensures.goes in
+    let d = c.deny.ensures in
+    let begun = goes_on c.loop-found.invariant.1.goes s.goes in
+    let same = call_on c.loop-found.invariant.0 s.call in
+    let made = if_ok c.deny.result (sym c.is_ok.ensures.value ∙ c.if-is_ok.true) d.made in
+    record {
+      is = (made_since begun.quiet (rw same.key at made), d.keeps.own.hand ∙ begun.hand.hand ∙ c.requires.empty_hand);
+      few = λ alone. rw d.used (at_first (λ q since. c.search.new.self.used + 1 ≤ since + (9 * listed_for q.trace c.args.self.now.key + most_to_take q.trace.shape q.pool) + 3) c.args.self.now.at.pass.now c.loop-found.self.at.pass.now c.search.new.self.at.pass.now c.loop-found.invariant.2 c.loop-found.invariant.1.goes.quiet s.goes.quiet (alone_first begun.quiet.seen made.seen alone)
+          (λ then. let x = (rw c.loop-found.invariant.0.key at c.in-Some.ensures.found.alone then).paid in let y = take_least c.loop-found.self.at.pass.now.trace.shape c.loop-found.self.at.pass.now.pool in omega (arith, x, y)));
+    }
+
+pub returns-then-not-found-clause-prepared : goal.returns-then-not-found-clause-prepared
+returns-then-not-found-clause-prepared g c =
+    let s = c.search.ensures.goes in
+    let begun = goes_on c.loop-found.invariant.1.goes s.goes in
+    let d = c.provide.ensures.quiet in
+    let hand = c.in_ok-hand.ensures.hand in
+    record {
+      is = (quiet_on begun.quiet d, hand.has);
+      few = λ alone.
+          let made = hand.few (then_of begun.quiet d alone) in
+          at_first (λ q since. c.provide.new.self.used ≤ since + (9 * listed_for q.trace c.args.self.now.key + most_to_take q.trace.shape q.pool) + 3) c.args.self.now.at.pass.now c.loop-found.self.at.pass.now c.provide.new.self.at.pass.now c.loop-found.invariant.2 c.loop-found.invariant.1.goes.quiet (quiet_on s.goes.quiet d) alone
+          (λ then.
+          let x = (rw c.loop-found.invariant.0.key at c.in-Some.ensures.found.alone (first_of s.goes.quiet d then)).paid in
+          let y = take_after c.loop-found.self.at.pass.now c.search.new.self.at.pass.now s.goes.quiet (some_grown c.loop-found.self.at.pass.now c.search.new.self.at.pass.now s.goes.hand.takes_no_slot.grows) in
+          omega (arith, x, y, made));
+    }

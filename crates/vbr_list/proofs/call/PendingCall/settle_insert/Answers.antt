@@ -1,0 +1,69 @@
+use Rattle.std.proofs.Common.{◌≡◌, false, ap, rules, arith, sym, subst, ◌∙◌}
+use Rattle.vbr_machine.specs.History.{set_call}
+use Rattle.vbr_machine.specs.declared.history.Op.TheVariants.{Insert}
+use Rattle.vbr_slots.specs.Calls.{Made}
+use Rattle.vbr_access.specs.Values.{steps_to_update}
+use Rattle.vbr_slots.specs.Views.{Trace}
+use Rattle.vbr_pools.specs.Steps.{CountsSteps}
+use Rattle.vbr_pools.proofs.Lemmas.{had_back, had_grown, had_on, had_spent, none_back, none_on}
+use Rattle.vbr_list.proofs.Going.{counts_step, took_same}
+use Rattle.vbr_list.proofs.Told.{told_as, told_bare}
+use Rattle.vbr_list.proofs.ValueReads.{few_to_update}
+use Rattle.vbr_list.proofs.call.PendingCall.settle_insert.Goals as goal
+
+pub returns-then-found-clause-publishes : goal.returns-then-found-clause-publishes
+returns-then-found-clause-publishes g c =
+    let d = c.deny.ensures in
+    let back = c.give_back.ensures.back in
+    let used = c.args.self.now.used in
+    record {
+      call = search rules;
+      counts = subst (λ (q : Trace). CountsSteps c.args.self.now.at.pass.now.trace q used c.deny.new.self.used) (sym back.trace) (rw d.used (counts_step used 1 d.keeps.took));
+      used = (omega arith, omega arith);
+      takes_no_slot = none_on d.keeps.takes_no_slot (none_back c.deny.new.self.at.pass.now c.give_back.new.at.pass.now c.args.hand.slot back.trace back.pool back.kept);
+    }
+
+pub returns-in-Ok-clause-had : goal.returns-in-Ok-clause-had
+returns-in-Ok-clause-had g c = had_spent c.args.self.now.at.pass.now c.update_entry.new.at.pass.now c.args.hand.slot c.requires.hand.is.slot c.update_entry.ensures.stores.pool
+
+pub returns-then-found-clause-had : goal.returns-then-found-clause-had
+returns-then-found-clause-had g c =
+    let p = c.args.self.now.at.pass.now in
+    let q = c.deny.new.self.at.pass.now in
+    let d = c.deny.ensures.keeps in
+    had_on p q c.give_back.new.at.pass.now (had_grown p q d.takes_no_slot.grows d.own.hand) (had_back q c.give_back.new.at.pass.now c.args.hand.slot (d.own.hand ∙ c.requires.hand.is.slot) c.give_back.ensures.back.pool)
+
+pub returns-in-Ok-clause-publishes : goal.returns-in-Ok-clause-publishes
+returns-in-Ok-clause-publishes g c =
+    let shape = c.args.self.now.at.pass.now.trace.shape in
+    let steps : c.steps_to_update.result ≡ steps_to_update shape = c.steps_to_update.ensures ∙ ap steps_to_update (sym c.args.self.now.at.own.1) in
+    let some = (few_to_update shape).0 in
+    let few = (few_to_update shape).1 in
+    record {
+      call = search rules;
+      counts = counts_step c.args.self.now.used c.steps_to_update.result (took_same c.steps_to_update.result (steps_to_update shape) steps c.update_entry.ensures.stores.took);
+      used = (omega (arith, steps, some), omega (arith, steps, few));
+      takes_no_slot = c.update_entry.ensures.stores.takes_no_slot;
+    }
+
+pub returns-in-Err-clause-publishes : goal.returns-in-Err-clause-publishes
+returns-in-Err-clause-publishes g c =
+    let shape = c.args.self.now.at.pass.now.trace.shape in
+    let steps : c.steps_to_update.result ≡ steps_to_update shape = c.steps_to_update.ensures ∙ ap steps_to_update (sym c.args.self.now.at.own.1) in
+    let some = (few_to_update shape).0 in
+    let few = (few_to_update shape).1 in
+    record {
+      call = search rules;
+      counts = counts_step c.args.self.now.used c.steps_to_update.result (took_same c.steps_to_update.result (steps_to_update shape) steps c.update_entry.ensures.stores.took);
+      used = (omega (arith, steps, some), omega (arith, steps, few));
+      takes_no_slot = c.update_entry.ensures.stores.takes_no_slot;
+    }
+
+pub returns-in-Ok-clause-answers : goal.returns-in-Ok-clause-answers
+returns-in-Ok-clause-answers g c = record { made = c.in-Ok.ensures.inserted.made; spent = c.in-Ok.ensures.inserted.spent }
+
+pub returns-then-found-clause-answers : goal.returns-then-found-clause-answers
+returns-then-found-clause-answers g c =
+    let p = c.args.self.now.at.pass.now.trace in
+    let made : Made (set_call p.who Insert c.args.self.now.key false) p c.give_back.new.at.pass.now.trace = search rules in
+    record { made = told_as (told_bare p.shape p.who Insert c.args.self.now.key false) made; spent = search rules }

@@ -1,0 +1,40 @@
+use Rattle.std.proofs.Common.{rules, ℕ, Ok, Err, arith}
+use Rattle.std.specs.Prelude.{IfOk, Result}
+use Rattle.vbr_words.specs.declared.nodes.Nodes.{Ghosts}
+use Rattle.vbr_slots.specs.Alone.{IsFresh}
+use Rattle.vbr_slots.specs.Views.{PassView}
+use Rattle.vbr_access.specs.Reading.{IsHeadRead, ReadsIn}
+use Rattle.vbr_access.specs.declared.held.Held.{Held}
+use Rattle.vbr_access.specs.declared.rollback.Rollback.{Rollback}
+use Rattle.vbr_access.proofs.Lemmas.{reads_on}
+use Rattle.vbr_list.specs.Pieces.{pass_in}
+use Rattle.vbr_list.specs.Traversing.{Starts}
+use Rattle.vbr_list.specs.declared.call.PendingCall.{PendingCall}
+use Rattle.vbr_list.proofs.Going.{goes_read}
+use Rattle.vbr_list.proofs.Nearing.{start_still, start_stands}
+use Rattle.vbr_list.proofs.Observing.{looks_read}
+use Rattle.vbr_list.proofs.Reaching.{head_reached}
+use Rattle.vbr_list.proofs.call.PendingCall.start.Goals as goal
+
+starts_at : {N : Type 0} {kind : Ghosts N} → (c d : PendingCall N kind) {q : PassView} {m n : ℕ} (head : Result Held Rollback) → ReadsIn (pass_in c) q m → ReadsIn q (pass_in d) n → IsFresh q.trace → IfOk head (IsHeadRead q (pass_in d) c.bucket) → IfOk head (Starts c d)
+starts_at c d (Ok h) x y fresh head = record {
+  come = head_reached c.bucket c.key h x.quiet y.quiet c.of_key head.at head.read head.unmarked;
+  stands = start_stands c.bucket (Ok h) x y fresh head;
+}
+starts_at c d (Err r) x y fresh head = tt
+
+pub returns-clause-goes : goal.returns-clause-goes
+returns-clause-goes g c = record {
+  call = search rules;
+  goes = goes_read c.args.self.now.used (reads_on c.checkpoint-point.ensures.reads c.first-head.ensures.reads);
+  more = omega arith;
+}
+
+pub returns-clause-looks : goal.returns-clause-looks
+returns-clause-looks g c = looks_read (reads_on c.checkpoint-point.ensures.reads c.first-head.ensures.reads)
+
+pub returns-clause-head : goal.returns-clause-head
+returns-clause-head g c = starts_at c.args.self.now _ c.first-head.result c.checkpoint-point.ensures.reads c.first-head.ensures.reads c.checkpoint-point.ensures.point.fresh c.first-head.ensures.head
+
+pub returns-clause-moved : goal.returns-clause-moved
+returns-clause-moved g c = start_still c.first-head.result c.checkpoint-point.ensures.reads c.first-head.ensures.reads c.checkpoint-point.ensures.point.fresh c.first-head.ensures.moved

@@ -1,0 +1,117 @@
+use Rattle.std.proofs.Common.{rules, ◌+◌, ◌≤◌, ℕ, Option, Some, None, arith}
+use Rattle.std.specs.Prelude.{IsSome}
+use Rattle.vbr_words.specs.Words.{link_of}
+use Rattle.vbr_access.specs.Steps.{next_steps}
+use Rattle.vbr_access.proofs.Lemmas.{fresh_kept, keeps_on, reads_on}
+use Rattle.vbr_list.proofs.Going.{goes_on, goes_read}
+use Rattle.vbr_slots.specs.Views.{PassView}
+use Rattle.vbr_access.specs.Reading.{ReadsIn}
+use Rattle.vbr_list.proofs.Nearing.{either, first_of, then_of, read_leaves, node_still_there, marked_alone, visited}
+use Rattle.vbr_list.proofs.Observing.{looks_read}
+use Rattle.vbr_list.proofs.Reaching.{node_reached, node_found, node_unmarked}
+use Rattle.vbr_list.proofs.call.PendingCall.visit.Goals as goal
+
+in_three : {p q : PassView} (next : Option ℕ) → IsSome next → ReadsIn p q (next_steps next) → ReadsIn p q 3
+in_three None some x = absurd (cc)
+in_three (Some s) some x = x
+
+pub returns-in_err-here-clause-goes : goal.returns-in_err-here-clause-goes
+returns-in_err-here-clause-goes g c =
+    let three = in_three (link_of c.args.pred.now.word).slot c.requires.some c.next-node.ensures.reads in
+    record {
+      call = search rules;
+      goes = goes_on (goes_read c.args.self.now.used three) (goes_read (c.args.self.now.used + 3) c.key_of-read.ensures.reads);
+      more = omega arith;
+    }
+
+pub returns-in_err-here-clause-looks : goal.returns-in_err-here-clause-looks
+returns-in_err-here-clause-looks g c = looks_read (reads_on c.next-node.ensures.reads c.key_of-read.ensures.reads)
+
+pub returns-then-here-self-clause-goes : goal.returns-then-here-self-clause-goes
+returns-then-here-self-clause-goes g c =
+    let three = in_three (link_of c.args.pred.now.word).slot c.requires.some c.next-node.ensures.reads in
+    record {
+      call = search rules;
+      goes = goes_on (goes_read c.args.self.now.used three) (goes_read (c.args.self.now.used + 3) c.key_of-read.ensures.reads);
+      more = omega arith;
+    }
+
+pub returns-then-here-self-clause-looks : goal.returns-then-here-self-clause-looks
+returns-then-here-self-clause-looks g c = looks_read (reads_on c.next-node.ensures.reads c.key_of-read.ensures.reads)
+
+pub returns-else-here-self-clause-goes : goal.returns-else-here-self-clause-goes
+returns-else-here-self-clause-goes g c =
+    let three = in_three (link_of c.args.pred.now.word).slot c.requires.some c.next-node.ensures.reads in
+    record {
+      call = search rules;
+      goes = goes_on (goes_read c.args.self.now.used three) (goes_read (c.args.self.now.used + 3) c.key_of-read.ensures.reads);
+      more = omega arith;
+    }
+
+pub returns-else-here-self-clause-looks : goal.returns-else-here-self-clause-looks
+returns-else-here-self-clause-looks g c = looks_read (reads_on c.next-node.ensures.reads c.key_of-read.ensures.reads)
+
+pub returns-then-here-self-clause-met : goal.returns-then-here-self-clause-met
+returns-then-here-self-clause-met g c =
+    let n = rw c.in-Some.is at c.in_ok-node.ensures.next.read in
+    record {
+      keeps = keeps_on c.in_ok-node.ensures.next.keeps c.in_ok-here.ensures.key.keeps;
+      visits = node_reached c.args.self.now.key c.in_ok-here.here c.args.pred.now c.in-Some.node c.requires.pred c.in_ok-node.ensures.next.keeps n c.in_ok-here.ensures.key.keeps c.in_ok-here.ensures.key.key c.in_ok-here.ensures.key.bucket (node_unmarked c.args.pred.now c.in-Some.node n c.in_default-of.ensures) c.if-here-self.true c.next-node.ensures.reads.quiet c.key_of-read.ensures.reads.quiet;
+      count = omega arith;
+      alone = λ fresh there stands alone.
+          let x = c.in_ok-node.ensures in
+          let y = c.in_ok-here.ensures in
+          let p = c.args.self.now.at.pass.now in
+          let q = c.next-node.new.at.pass.now.trace in
+          let r = c.key_of-read.new.at.pass.now.trace in
+          let n = rw c.in-Some.is at x.next.read in
+          let m = rw c.in-Some.is at x.next.stands in
+          let first = first_of x.reads.quiet y.reads.quiet alone in
+          let both = reads_on x.reads y.reads in (
+            node_still_there p.trace q r c.in-Some.node (x.reads.looks first) (y.reads.looks (then_of x.reads.quiet y.reads.quiet alone)) x.next.keeps y.key.keeps fresh (m first),
+            visited p c.law.ensures q r c.args.self.now.key c.args.pred.now c.in-Some.node c.requires.pred there stands n (read_leaves both alone) both.quiet.same.shape,
+          );
+    }
+
+pub returns-else-here-self-clause-met : goal.returns-else-here-self-clause-met
+returns-else-here-self-clause-met g c =
+    let n = rw c.in-Some.is at c.in_ok-node.ensures.next.read in
+    let high : c.args.self.now.key ≤ c.in_ok-here.here = let f = c.if-here-self.false in omega arith in
+    record {
+      keeps = keeps_on c.in_ok-node.ensures.next.keeps c.in_ok-here.ensures.key.keeps;
+      visits = node_found c.args.self.now.key c.in_ok-here.here c.args.pred.now c.in-Some.node n c.in_ok-here.ensures.key.keeps c.in_ok-here.ensures.key.key (node_unmarked c.args.pred.now c.in-Some.node n c.in_default-of.ensures) high c.key_of-read.ensures.reads.quiet;
+      count = omega arith;
+      alone = λ fresh there stands alone.
+          let x = c.in_ok-node.ensures in
+          let y = c.in_ok-here.ensures in
+          let p = c.args.self.now.at.pass.now in
+          let q = c.next-node.new.at.pass.now.trace in
+          let r = c.key_of-read.new.at.pass.now.trace in
+          let n = rw c.in-Some.is at x.next.read in
+          let m = rw c.in-Some.is at x.next.stands in
+          let first = first_of x.reads.quiet y.reads.quiet alone in
+          let both = reads_on x.reads y.reads in (
+            node_still_there p.trace q r c.in-Some.node (x.reads.looks first) (y.reads.looks (then_of x.reads.quiet y.reads.quiet alone)) x.next.keeps y.key.keeps fresh (m first),
+            visited p c.law.ensures q r c.args.self.now.key c.args.pred.now c.in-Some.node c.requires.pred there stands n (read_leaves both alone) both.quiet.same.shape,
+          );
+    }
+
+pub returns-in_err-here-clause-moved : goal.returns-in_err-here-clause-moved
+returns-in_err-here-clause-moved g c =
+    let x = c.in_ok-node.ensures in
+    let y = c.in_err-here.ensures in
+    either c.from_residual-in_err-here.result (λ fresh alone. y.moved.still (fresh_kept c.args.self.now.at.pass.now.trace c.next-node.new.at.pass.now.trace (x.reads.looks (first_of x.reads.quiet y.reads.quiet alone)) x.next.keeps fresh) (then_of x.reads.quiet y.reads.quiet alone))
+
+pub returns-in-Some-of-clause-met : goal.returns-in-Some-of-clause-met
+returns-in-Some-of-clause-met g c =
+    let x = c.in_ok-node.ensures in
+    let n = rw c.in-Some.is at x.next.read in
+    let m = rw c.in-Some.is at x.next.stands in
+    let of = c.in-Some-of.ensures in
+    record {
+      keeps = x.next.keeps;
+      visits = search rules;
+      count = omega arith;
+      alone = λ fresh there stands alone.
+          marked_alone c.args.self.now.at.pass.now c.law.ensures c.next-node.new.at.pass.now.trace c.args.self.now.key c.args.pred.now c.in-Some.node c.in-Some-of.marked x.reads.quiet c.requires.pred there stands n of.0 (x.reads.looks alone) x.next.keeps fresh (m alone);
+    }

@@ -1,6 +1,0 @@
-use Rattle.std.proofs.Common.{◌≡◌, None}
-use Rattle.vbr_slots.specs.Views.{IsOf}
-use Rattle.vbr_table_rows.proofs.standing_still.make_rounds.Given as goal
-
-abbrev pub invariant-loop : goal.invariant-loop
-invariant-loop g l = IsOf l.pass.trace l.slots × (l.pass.hand ≡ None)

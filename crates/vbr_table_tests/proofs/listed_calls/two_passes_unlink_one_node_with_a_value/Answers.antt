@@ -1,0 +1,17 @@
+-- The list is worked at this shape.
+use Rattle.std.proofs.Common.{◌≡◌, ℕ, List, sym, subst, rules}
+use Rattle.vbr_words.specs.Dimensions.{Dimensions}
+use Rattle.vbr_machine.specs.Machine.{opening}
+use Rattle.vbr_machine.specs.declared.event.Effect.{Effect}
+use Rattle.vbr_machine.specs.declared.event.Step.{Step}
+use Rattle.vbr_event_lists.specs.Worked.{AreWorked, one_slot}
+use Rattle.vbr_event_lists.specs.Valued.{valued, with_values}
+use Rattle.vbr_event_lists.specs.declared.lists.TheConstants.{TWO_HELPERS, TWO_HELPERS_WORDS}
+use Rattle.vbr_event_lists.proofs.Lemmas.{two_helpers_with_values}
+use Rattle.vbr_table_tests.proofs.listed_calls.two_passes_unlink_one_node_with_a_value.Goals as goal
+
+pub words_with_values_after-requires-clause-worked : goal.words_with_values_after-requires-clause-worked
+words_with_values_after-requires-clause-worked g c =
+    let shape : c.with_values-shape.result ≡ valued one_slot = search rules in
+    let rows : c.deref.result.now ≡ with_values TWO_HELPERS = search rules in
+    subst (λ (x : Dimensions × List (ℕ × Step × Effect)). AreWorked x.0 (opening x.0) x.1 TWO_HELPERS_WORDS) (λ i. (sym shape i, sym rows i)) two_helpers_with_values

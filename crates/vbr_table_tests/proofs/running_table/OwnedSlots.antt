@@ -1,0 +1,64 @@
+-- What a pass knows of its epoch and of the slot in its hand, through the steps of a test.
+use Rattle.std.proofs.Common.{◌≡◌, ℕ, Option, Some, None, refl, sym, ap, ◌∙◌, subst}
+use Rattle.std.specs.Prelude.{List, Result, Ok, Err, unwrap_or}
+use Rattle.vbr_words.specs.Words.{link_of, word_of}
+use Rattle.vbr_machine.specs.Links.{link_to}
+use Rattle.vbr_machine.specs.Knowledge.{Know, birth_of}
+use Rattle.vbr_machine.specs.Learning.{birth_in_hand, with_key, with_value}
+use Rattle.vbr_machine.specs.declared.event.Step.TheVariants.{ReadEpoch, LoadStamp, TakeFlag, StoreBirth, StoreKey, StoreValue}
+use Rattle.vbr_machine.specs.declared.knowledge.Read.{Read}
+use Rattle.vbr_machine.specs.declared.knowledge.Holding.{Holding}
+use Rattle.vbr_machine.specs.declared.knowledge.Holding.TheVariants.{Free, Unlinked, InHand}
+use Rattle.vbr_machine.proofs.Lemmas.{put_here}
+use Rattle.vbr_slots.specs.Views.{Trace, Did, knows}
+use Rattle.vbr_slots.proofs.Lemmas.{epoch_learned}
+use Rattle.vbr_table_tests.proofs.running_table.Taking.{Reached}
+
+-- the epoch that a pass knows
+pub loaded_epoch : (p q : Trace) (t r : ℕ) → Did (LoadStamp t) p q r → (knows q).epoch ≡ (knows p).epoch
+loaded_epoch p q t r d = ap (λ (k : Know). k.epoch) d.know
+
+taken_epoch : (p q : Trace) (s r : ℕ) → Did (TakeFlag s) p q r → (knows q).epoch ≡ (knows p).epoch
+taken_epoch p q s r d = ap (λ (k : Know). k.epoch) d.know ∙ epoch_learned (TakeFlag s) r _ (knows p)
+
+pub reached_epoch : {T : Type 0} (p q : Trace) (s : ℕ) (answer : Result T ℕ) → Reached s p q answer → (knows q).epoch ≡ (knows p).epoch
+reached_epoch p q s (Ok x) d = taken_epoch p q s d.0 d.1
+reached_epoch p q s (Err n) d = taken_epoch p q s n d.0
+
+pub read_epoch_is : (p q : Trace) (r : ℕ) → Did ReadEpoch p q r → (knows q).epoch ≡ r
+read_epoch_is p q r d = ap (λ (k : Know). k.epoch) d.know ∙ epoch_learned ReadEpoch r 0 (knows p)
+
+-- the birth in hand
+pub born_birth : (p q : Trace) (s birth r : ℕ) → Did (StoreBirth s birth) p q r → birth_in_hand ((knows q).own s) ≡ birth
+born_birth p q s birth r d = ap birth_in_hand (ap (λ (k : Know). k.own s) d.know ∙ put_here (knows p).own s _)
+
+keyed : (holding : Option Holding) (key : ℕ) → birth_in_hand (with_key holding key) ≡ birth_in_hand holding
+keyed None key = refl
+keyed (Some (Free stamp)) key = refl
+keyed (Some (Unlinked reread)) key = refl
+keyed (Some (InHand known)) key = refl
+
+pub keyed_birth : (p q : Trace) (s key r : ℕ) → Did (StoreKey s key) p q r → birth_in_hand ((knows q).own s) ≡ birth_in_hand ((knows p).own s)
+keyed_birth p q s key r d = ap birth_in_hand (ap (λ (k : Know). k.own s) d.know ∙ put_here (knows p).own s _) ∙ keyed ((knows p).own s) key
+
+valued : (holding : Option Holding) (value : ℕ) → birth_in_hand (with_value holding value) ≡ birth_in_hand holding
+valued None value = refl
+valued (Some (Free stamp)) value = refl
+valued (Some (Unlinked reread)) value = refl
+valued (Some (InHand known)) value = refl
+
+pub valued_birth : (p q : Trace) (s value r : ℕ) → Did (StoreValue s value) p q r → birth_in_hand ((knows q).own s) ≡ birth_in_hand ((knows p).own s)
+valued_birth p q s value r d = ap birth_in_hand (ap (λ (k : Know). k.own s) d.know ∙ put_here (knows p).own s _) ∙ valued ((knows p).own s) value
+
+-- ---- the link word 33554432: to none, with version 1
+
+pub names_none : (link_of 33554432).slot ≡ None
+unfolding link_of
+names_none = refl
+
+to_none : (checked : List Read) → 33554432 ≡ word_of (link_to None 1 (unwrap_or (birth_of checked None) 0))
+unfolding word_of
+to_none checked = refl
+
+pub is_word : (checked : List Read) (slot : Option ℕ) (birth : ℕ) → slot ≡ None → birth ≡ 1 → 33554432 ≡ word_of (link_to slot birth (unwrap_or (birth_of checked slot) 0))
+is_word checked slot birth none one = subst (λ (x : Option ℕ × ℕ). 33554432 ≡ word_of (link_to x.0 x.1 (unwrap_or (birth_of checked x.0) 0))) (λ i. (sym none i, sym one i)) (to_none checked)

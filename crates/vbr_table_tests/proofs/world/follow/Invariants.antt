@@ -1,0 +1,6 @@
+-- The world keeps its shape.
+use Rattle.std.proofs.Common.{◌≡◌}
+use Rattle.vbr_table_tests.proofs.world.follow.Given as goal
+
+abbrev pub invariant-loop-pass : goal.invariant-loop-pass
+invariant-loop-pass g l = l.world.shape ≡ l.shape

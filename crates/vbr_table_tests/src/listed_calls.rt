@@ -1,0 +1,417 @@
+//! The worked lists of events, call by call on a running table with two passes. Each list is shown to
+//! be accepted, so each call may be made; its effect is compared when it was made.
+ghost use Rattle.std.specs.Prelude.{◌≡◌, ◌≢◌, ◌<◌, ◌==◌, MatchResult, true, false};
+ghost use Rattle.vbr_machine.specs.Learning.{present_reply};
+ghost use Rattle.vbr_machine.specs.Machine.{opening};
+ghost use Rattle.vbr_slots.specs.Views.{IsOf};
+ghost use Rattle.vbr_event_lists.specs.Worked.{AreWorked, first_of, names_link, others_of};
+ghost use Rattle.vbr_table_tests.specs.Following.{Learned, May, BothFollow};
+
+use crate::running_table::{close_two, open_two, open_two_with_values};
+use std::alloc::Global;
+use std::process::Abort;
+use std::test::Fail;
+use vbr_event_lists::{
+    REBORN_SLOT, REBORN_SLOT_WORDS, Row, SAME_WORD, SAME_WORD_WORDS, STORED_VALUE,
+    STORED_VALUE_WORDS, TWO_HELPERS, TWO_HELPERS_WORDS, with_values,
+};
+use vbr_machine::{Effect, Op, Step};
+use vbr_slots::{Pass, Slots};
+use vbr_words::{Nodes, Shape, decode};
+
+// The effect of an exchange.
+fn exchanged(answer: Result<(), u64>) -> Effect
+    ensures { MatchResult answer (λ _. result ≡ Effect.Won) (λ found. result ≡ Effect.Lost found) }
+{
+    match answer {
+        Ok(()) => Effect::Won,
+        Err(found) => Effect::Lost(found),
+    }
+}
+
+// The effect of a confirming load.
+fn confirmed(answer: Result<(), u64>, reply: bool) -> Effect
+    ensures { MatchResult answer
+        (λ _. result ≡ Effect.Answered reply) (λ found. result ≡ Effect.Lost found) }
+{
+    match answer {
+        Ok(()) => Effect::Answered(reply),
+        Err(found) => Effect::Lost(found),
+    }
+}
+
+// The reply that the presence of the key gives to an operation.
+fn present_reply(op: Op) -> bool
+    ensures { result ≡ present_reply op }
+{
+    match op {
+        Op::Has | Op::Get => true,
+        _ => false,
+    }
+}
+
+// Takes a slot. What the pass then knows has the stamp of the slot, which the call doesn't answer, so
+// the stamp is loaded at once. The lists don't have this load; it adds a step and changes no word.
+fn take<N: Nodes>(rt: &impl Abort, slots: &Slots<N>, pass: &mut Pass, slot: u32)
+    requires own { IsOf pass.old.trace slots.now }
+    requires slot { slot < slots.now.shape.slots }
+    ensures { Learned (Step.TakeFlag slot) pass.old.trace pass.new.trace Effect.Won }
+{
+    assert!(rt; slots.take_flag(pass, slot).is_ok());
+    assert!(rt; slots.load_stamp(pass, slot) == 0);
+}
+
+// Makes a step by the call of its kind. In the lists each slot that is reached for is in the shared
+// pool, and each epoch that is advanced is the expected one.
+fn call<N: Nodes>(
+    rt: &impl Abort,
+    slots: &Slots<N>,
+    pass: &mut Pass,
+    step: Step,
+    new: u64,
+) -> Effect
+    requires { May slots.now pass.old.trace step new }
+    ensures { Learned step pass.old.trace pass.new.trace result }
+{
+    match step {
+        Step::ReadEpoch => Effect::Value(slots.read_epoch(pass)),
+        Step::Advance { from } => {
+            assert!(rt; slots.advance(pass, from));
+            Effect::Won
+        }
+        Step::LoadStamp { slot } => Effect::Value(slots.load_stamp(pass, slot)),
+        Step::StoreStamp { slot, .. } => {
+            slots.store_stamp(pass, slot);
+            Effect::Done
+        }
+        Step::Raise { slot } => {
+            slots.raise(pass, slot);
+            Effect::Done
+        }
+        Step::TakeFlag { slot } => {
+            take(rt, slots, pass, slot);
+            Effect::Won
+        }
+        Step::StoreBirth { slot, .. } => {
+            assert!(rt; pass.in_hand() == None);
+            slots.store_birth(pass, slot);
+            Effect::Done
+        }
+        Step::StoreKey { slot, key } => {
+            assert!(rt; pass.in_hand() == Some(slot));
+            slots.store_key(pass, slot, key);
+            Effect::Done
+        }
+        Step::StoreValue { slot, value } => {
+            assert!(rt; pass.in_hand() == Some(slot));
+            slots.store_value(pass, slot, value);
+            Effect::Done
+        }
+        Step::StoreLink { slot, next } => {
+            assert!(rt; pass.in_hand() == Some(slot));
+            assert!(rt; decode(new).slot == next);
+            slots.store_link(pass, slot, new);
+            Effect::Done
+        }
+        Step::LoadLink { at } => Effect::Value(slots.load_link(pass, at)),
+        Step::LoadBirth { slot } => Effect::Value(slots.load_birth(pass, slot)),
+        Step::LoadKey { slot } => Effect::Value(slots.load_key(pass, slot)),
+        Step::LoadValue { slot } => Effect::Value(slots.load_value(pass, slot)),
+        Step::Publish {
+            pred,
+            expected,
+            slot,
+        } => {
+            assert!(rt; pass.in_hand() == Some(slot));
+            exchanged(slots.publish(pass, pred, expected, slot, new))
+        }
+        Step::Mark { slot, expected } => exchanged(slots.mark(pass, slot, expected)),
+        Step::Unlink {
+            pred,
+            expected,
+            slot,
+        } => exchanged(slots.unlink(pass, pred, expected, slot, new)),
+        Step::ConfirmPresent { op, slot, expected } => {
+            let answer = slots.confirm_present(pass, op, slot, expected);
+            confirmed(answer, present_reply(op))
+        }
+        Step::ConfirmAbsent {
+            op,
+            key,
+            at,
+            expected,
+        } => confirmed(slots.confirm_absent(pass, op, key, at, expected), false),
+    }
+}
+
+// Makes the step of a row by its pass, and compares the effect.
+fn make<N: Nodes>(rt: &impl Abort, slots: &Slots<N>, a: &mut Pass, b: &mut Pass, row: Row, new: u64)
+    requires first { row.0 ≡ 0 → May slots.now a.old.trace row.1 new }
+    requires second { row.0 ≢ 0 → May slots.now b.old.trace row.1 new }
+    ensures first { row.0 ≡ 0 → Learned row.1 a.old.trace a.new.trace row.2 × (b.new ≡ b.old) }
+    ensures second { row.0 ≢ 0 → Learned row.1 b.old.trace b.new.trace row.2 × (a.new ≡ a.old) }
+{
+    let (who, step, effect) = row;
+    let told = if who == 0 {
+        call(rt, slots, a, step, new)
+    } else {
+        call(rt, slots, b, step, new)
+    };
+    assert_eq!(rt; told, effect, "{step:?} of pass {who}");
+}
+
+// Whether a step writes a link word that its caller names.
+fn names_link(step: Step) -> bool
+    ensures { result ≡ names_link step }
+{
+    match step {
+        Step::StoreLink { .. } | Step::Publish { .. } | Step::Unlink { .. } => true,
+        _ => false,
+    }
+}
+
+// The first of the words, and the others; 0 where there is none.
+fn first_and_others(words: &[u64]) -> (u64, &[u64])
+    ensures first { result.0 ≡ first_of words.now }
+    ensures others { result.1.now ≡ others_of words.now }
+{
+    match words.split_first() {
+        Some((first, others)) => (*first, others),
+        None => (0, words),
+    }
+}
+
+// Makes the steps of a list, with the link words that its callers name.
+pub(crate) fn follow<N: Nodes>(
+    rt: &impl Abort,
+    slots: &Slots<N>,
+    a: &mut Pass,
+    b: &mut Pass,
+    mut rows: &[Row],
+    mut words: &[u64],
+)
+    requires { BothFollow slots.now a.old.trace b.old.trace rows.now words.now }
+    ensures { IsOf a.new.trace slots.now × IsOf b.new.trace slots.now }
+{
+    while let Some((row, later)) = rows.split_first() {
+        let (first, others) = first_and_others(words);
+        make(rt, slots, a, b, *row, first);
+        if names_link(row.1) {
+            words = others;
+        }
+        rows = later;
+    }
+}
+
+// The words of a table of this shape once a list was made on it.
+fn words_after(
+    rt: &impl Abort,
+    alloc: Global,
+    shape: Shape,
+    rows: &[Row],
+    words: &[u64],
+) -> Option<Vec<u64>>
+    requires bare { shape.values ≡ false }
+    requires worked { AreWorked shape (opening shape) rows.now words.now }
+{
+    let (slots, mut a, mut b) = open_two(alloc, shape)?;
+    follow(rt, &slots, &mut a, &mut b, rows, words);
+    close_two(alloc, slots, a, b)
+}
+
+// The words of a table of this shape, whose nodes have values, once a list was made on it.
+fn words_with_values_after(
+    rt: &impl Abort,
+    alloc: Global,
+    shape: Shape,
+    rows: &[Row],
+    words: &[u64],
+) -> Option<Vec<u64>>
+    requires values { shape.values ≡ true }
+    requires worked { AreWorked shape (opening shape) rows.now words.now }
+{
+    let (slots, mut a, mut b) = open_two_with_values(alloc, shape)?;
+    follow(rt, &slots, &mut a, &mut b, rows, words);
+    close_two(alloc, slots, a, b)
+}
+
+#[test]
+fn two_passes_unlink_one_node(rt: HostRuntime) -> Result<(), Fail> {
+    let shape = Shape::new(1, 1, 10)?;
+    let Some(words) = words_after(&rt, rt.alloc(), shape, &TWO_HELPERS, &TWO_HELPERS_WORDS) else {
+        panic!(rt; "no words")
+    };
+    assert_eq!(rt;
+        words.as_slice(),
+        [1, 167_772_161, 0, 50_331_648, 1, 0, 7, 0].as_slice()
+    );
+    Ok(())
+}
+
+#[test]
+fn a_slot_is_reborn(rt: HostRuntime) -> Result<(), Fail> {
+    let shape = Shape::new(3, 1, 10)?;
+    let Some(words) = words_after(&rt, rt.alloc(), shape, &REBORN_SLOT, &REBORN_SLOT_WORDS) else {
+        panic!(rt; "no words")
+    };
+    assert_eq!(rt;
+        words.as_slice(),
+        [
+            2,
+            167_772_163,
+            67_108_866,
+            33_554_432,
+            1,
+            0,
+            30,
+            67_108_865,
+            2,
+            1,
+            10,
+            33_554_433,
+            1,
+            0,
+            25,
+            0
+        ]
+        .as_slice()
+    );
+    Ok(())
+}
+
+#[test]
+fn a_word_comes_back(rt: HostRuntime) -> Result<(), Fail> {
+    let shape = Shape::new(3, 1, 10)?;
+    let Some(words) = words_after(&rt, rt.alloc(), shape, &SAME_WORD, &SAME_WORD_WORDS) else {
+        panic!(rt; "no words")
+    };
+    assert_eq!(rt;
+        words.as_slice(),
+        [
+            5,
+            167_772_163,
+            67_108_866,
+            67_108_864,
+            2,
+            0,
+            30,
+            67_108_865,
+            2,
+            0,
+            20,
+            184_549_377,
+            5,
+            0,
+            10,
+            0
+        ]
+        .as_slice()
+    );
+    Ok(())
+}
+
+#[test]
+fn two_passes_unlink_one_node_with_a_value(rt: HostRuntime) -> Result<(), Fail> {
+    let shape = Shape::new(1, 1, 10)?.with_values();
+    let rows = with_values(rt.alloc(), &TWO_HELPERS)?;
+    let Some(words) = words_with_values_after(&rt, rt.alloc(), shape, &rows, &TWO_HELPERS_WORDS)
+    else {
+        panic!(rt; "no words")
+    };
+    assert_eq!(rt;
+        words.as_slice(),
+        [1, 167_772_161, 0, 50_331_648, 1, 0, 7, 107, 0,].as_slice()
+    );
+    Ok(())
+}
+
+#[test]
+fn a_slot_is_reborn_with_values(rt: HostRuntime) -> Result<(), Fail> {
+    let shape = Shape::new(3, 1, 10)?.with_values();
+    let rows = with_values(rt.alloc(), &REBORN_SLOT)?;
+    let Some(words) = words_with_values_after(&rt, rt.alloc(), shape, &rows, &REBORN_SLOT_WORDS)
+    else {
+        panic!(rt; "no words")
+    };
+    assert_eq!(rt;
+        words.as_slice(),
+        [
+            2,
+            167_772_163,
+            67_108_866,
+            33_554_432,
+            1,
+            0,
+            30,
+            130,
+            67_108_865,
+            2,
+            1,
+            10,
+            110,
+            33_554_433,
+            1,
+            0,
+            25,
+            125,
+            0,
+        ]
+        .as_slice()
+    );
+    Ok(())
+}
+
+#[test]
+fn a_word_comes_back_with_values(rt: HostRuntime) -> Result<(), Fail> {
+    let shape = Shape::new(3, 1, 10)?.with_values();
+    let rows = with_values(rt.alloc(), &SAME_WORD)?;
+    let Some(words) = words_with_values_after(&rt, rt.alloc(), shape, &rows, &SAME_WORD_WORDS)
+    else {
+        panic!(rt; "no words")
+    };
+    assert_eq!(rt;
+        words.as_slice(),
+        [
+            5,
+            167_772_163,
+            67_108_866,
+            67_108_864,
+            2,
+            0,
+            30,
+            130,
+            67_108_865,
+            2,
+            0,
+            20,
+            120,
+            184_549_377,
+            5,
+            0,
+            10,
+            110,
+            0,
+        ]
+        .as_slice()
+    );
+    Ok(())
+}
+
+#[test]
+fn a_stored_value_is_read_back(rt: HostRuntime) -> Result<(), Fail> {
+    let shape = Shape::new(1, 1, 10)?.with_values();
+    let Some(words) = words_with_values_after(
+        &rt,
+        rt.alloc(),
+        shape,
+        &STORED_VALUE,
+        &STORED_VALUE_WORDS,
+    ) else {
+        panic!(rt; "no words")
+    };
+    assert_eq!(rt;
+        words.as_slice(),
+        [1, 167_772_161, 33_554_433, 50_331_648, 1, 0, 7, 107, 0,].as_slice()
+    );
+    Ok(())
+}

@@ -1,0 +1,618 @@
+//! The running table: rows call by call, refusals that hand all back, and two threads.
+ghost use Rattle.std.specs.Prelude.{◌≡◌, ◌≢◌, ◌<◌, ◌≤◌, [], ◌∷◌, true, false, None, IfOk, IfErr, IfSome};
+ghost use Rattle.vbr_machine.specs.declared.event.Step.TheVariants.{TakeFlag};
+ghost use Rattle.vbr_slots.specs.Closing.{AllOf, Ends, HandsBack};
+ghost use Rattle.vbr_slots.specs.Views.{IsOf, event_of, new_pass, new_passes};
+ghost use Rattle.vbr_table_tests.specs.Taking.{HasEvent, BothTook};
+
+use std::alloc::{AllocError, Global};
+use std::process::Abort;
+use std::test::Fail;
+use std::thread::{Threads, join};
+use vbr_slots::{CloseError, OpenError, Pass, Slots};
+use vbr_words::{Entries, Nodes, Shape};
+
+// Opens a table. What found no memory left nothing, so it is tried again.
+pub fn open(alloc: Global, shape: Shape, passes: u32) -> Result<(Slots, Vec<Pass>), OpenError>
+    requires bare { shape.values ≡ false }
+    ensures table { IfOk result (λ r. (r.0.shape ≡ shape) × (r.0.passes ≡ passes)) }
+    ensures passes { IfOk result (λ r. r.1.items ≡ new_passes r.0 0 passes) }
+{
+    match Slots::open(alloc, shape, passes) {
+        Err(OpenError::Memory) => Slots::open(alloc, shape, passes),
+        opened => opened,
+    }
+}
+
+// A table with two passes.
+pub fn open_two(alloc: Global, shape: Shape) -> Option<(Slots, Pass, Pass)>
+    requires bare { shape.values ≡ false }
+    ensures table { IfSome result (λ r. (r.0.shape ≡ shape) × (r.0.passes ≡ 2)) }
+    ensures first { IfSome result (λ r. r.1 ≡ new_pass r.0 0) }
+    ensures second { IfSome result (λ r. r.2 ≡ new_pass r.0 1) }
+{
+    let (slots, mut passes) = open(alloc, shape, 2).ok()?;
+    let second = passes.pop()?;
+    let first = passes.pop()?;
+    Some((slots, first, second))
+}
+
+// Opens a table whose nodes have values, without an entry. What found no memory left nothing, so it is
+// tried again.
+fn open_with_values(
+    alloc: Global,
+    shape: Shape,
+    passes: u32,
+) -> Result<(Slots<Entries>, Vec<Pass>), OpenError>
+    requires values { shape.values ≡ true }
+    ensures table { IfOk result (λ r. (r.0.shape ≡ shape) × (r.0.passes ≡ passes)) }
+    ensures passes { IfOk result (λ r. r.1.items ≡ new_passes r.0 0 passes) }
+{
+    match Slots::open_with_entries(alloc, shape, passes, &[]) {
+        Err(OpenError::Memory) => Slots::open_with_entries(alloc, shape, passes, &[]),
+        opened => opened,
+    }
+}
+
+// A table with two passes, whose nodes have values, without an entry.
+pub fn open_two_with_values(alloc: Global, shape: Shape) -> Option<(Slots<Entries>, Pass, Pass)>
+    requires values { shape.values ≡ true }
+    ensures table { IfSome result (λ r. (r.0.shape ≡ shape) × (r.0.passes ≡ 2)) }
+    ensures first { IfSome result (λ r. r.1 ≡ new_pass r.0 0) }
+    ensures second { IfSome result (λ r. r.2 ≡ new_pass r.0 1) }
+{
+    let (slots, mut passes) = open_with_values(alloc, shape, 2).ok()?;
+    let second = passes.pop()?;
+    let first = passes.pop()?;
+    Some((slots, first, second))
+}
+
+// A fresh table with two passes, of so many slots and one bucket.
+pub fn two_passes(
+    rt: &impl Abort,
+    alloc: Global,
+    slots: u32,
+    last_epoch: u64,
+) -> (Slots, Pass, Pass)
+    ensures shape { (result.0.shape.slots ≡ slots) × (result.0.shape.buckets ≡ 1)
+        × (result.0.shape.last_epoch ≡ last_epoch) }
+    ensures bare { result.0.shape.values ≡ false }
+    ensures passes { result.0.passes ≡ 2 }
+    ensures first { result.1 ≡ new_pass result.0 0 }
+    ensures second { result.2 ≡ new_pass result.0 1 }
+{
+    let shape = Shape::new(slots, 1, last_epoch).expect(rt, "a shape");
+    open_two(alloc, shape).expect(rt, "there is memory")
+}
+
+// An empty vector with room for two passes. What found no memory left nothing, so it is tried again.
+pub fn room_for_two(alloc: Global) -> Result<Vec<Pass>, AllocError>
+    ensures { IfOk result (λ passes. passes.items ≡ []) }
+{
+    match Vec::with_capacity(alloc, 2) {
+        Err(_) => Vec::with_capacity(alloc, 2),
+        made => made,
+    }
+}
+
+// Closes a table. What found no memory left all as it was, so it is tried again.
+pub fn close<N: Nodes>(
+    slots: Slots<N>,
+    alloc: Global,
+    passes: Vec<Pass>,
+) -> Result<Vec<u64>, CloseError<Slots<N>>>
+    requires { AllOf slots passes.items }
+    ensures ok { IfOk result (λ words. Ends slots passes.items words.items) }
+    ensures back { IfErr result (λ e. HandsBack e slots passes.items) }
+{
+    match slots.close(alloc, passes) {
+        Err(CloseError::Memory(slots, passes)) => slots.close(alloc, passes),
+        closed => closed,
+    }
+}
+
+// Two passes as a list.
+fn both(alloc: Global, first: Pass, second: Pass) -> Option<Vec<Pass>>
+    ensures { IfSome result (λ passes. passes.items ≡ first ∷ second ∷ []) }
+{
+    let mut passes = room_for_two(alloc).ok()?;
+    passes.push(first).ok()?;
+    passes.push(second).ok()?;
+    Some(passes)
+}
+
+// Closes a table with two passes.
+pub fn close_two<N: Nodes>(
+    alloc: Global,
+    slots: Slots<N>,
+    first: Pass,
+    second: Pass,
+) -> Option<Vec<u64>>
+    requires { IsOf first.trace slots × IsOf second.trace slots }
+{
+    let passes = both(alloc, first, second)?;
+    close(slots, alloc, passes).ok()
+}
+
+// Closes a table with two passes, and compares its words.
+pub fn expect_words(
+    rt: &impl Abort,
+    alloc: Global,
+    slots: Slots,
+    first: Pass,
+    second: Pass,
+    words: &[u64],
+)
+    requires { IsOf first.trace slots × IsOf second.trace slots }
+{
+    let told = close_two(alloc, slots, first, second).expect(rt, "the table is closed");
+    assert_eq!(rt; told.as_slice(), words);
+}
+
+// Reaches for a slot.
+fn take(slots: &Slots, mut pass: Pass, slot: u32) -> Pass
+    requires own { IsOf pass.trace slots.now }
+    requires slot { slot < slots.now.shape.slots }
+    ensures own { IsOf result.trace slots.now }
+    ensures who { result.trace.who ≡ pass.trace.who }
+    ensures has { HasEvent result.trace.seen (event_of pass.trace.who (TakeFlag slot)) }
+{
+    let _ = slots.take_flag(&mut pass, slot);
+    pass
+}
+
+// Closes a table with two passes, each of which reached for its slot.
+fn gather(alloc: Global, slots: Slots, first: Pass, second: Pass) -> Option<Vec<u64>>
+    requires passes { slots.passes ≡ 2 }
+    requires own { IsOf first.trace slots × IsOf second.trace slots }
+    requires first { HasEvent first.trace.seen (event_of 0 (TakeFlag 0)) }
+    requires second { HasEvent second.trace.seen (event_of 1 (TakeFlag 1)) }
+    ensures { IfSome result (λ words. BothTook slots.shape words.items) }
+{
+    let passes = both(alloc, first, second)?;
+    match close(slots, alloc, passes) {
+        Ok(words) => Some(words),
+        Err(_) => None,
+    }
+}
+
+// Two threads reach for a slot each. The words are those of a run that has both steps.
+fn take_both<R: Threads + Sync>(rt: &R, alloc: Global, shape: Shape) -> Option<Vec<u64>>
+    requires slots { 1 < shape.slots }
+    requires bare { shape.values ≡ false }
+    ensures { IfSome result (λ words. BothTook shape words.items) }
+{
+    let (slots, first, second) = open_two(alloc, shape)?;
+    let table = &slots;
+    let (first, second) = join(
+        rt,
+        move ||
+            requires { IsOf first.trace table.now × (0 < table.now.shape.slots) }
+            ensures { IsOf result.trace table.entry.now
+                × HasEvent result.trace.seen (event_of first.trace.who (TakeFlag 0)) }
+        { take(table, first, 0) },
+        move ||
+            requires { IsOf second.trace table.now × (1 < table.now.shape.slots) }
+            ensures { IsOf result.trace table.entry.now
+                × HasEvent result.trace.seen (event_of second.trace.who (TakeFlag 1)) }
+        { take(table, second, 1) },
+    );
+    gather(alloc, slots, first, second)
+}
+
+#[test]
+fn two_threads_take_a_slot_each(rt: HostRuntime) -> Result<(), Fail> {
+    let shape = Shape::new(2, 1, 10)?;
+    let Some(words) = take_both(&rt, rt.alloc(), shape) else {
+        panic!(rt; "no words")
+    };
+    assert_eq!(rt;
+        words.as_slice(),
+        [
+            1,
+            167_772_162,
+            0,
+            16_777_216,
+            0,
+            0,
+            0,
+            16_777_216,
+            0,
+            0,
+            0,
+            0
+        ]
+        .as_slice()
+    );
+    Ok(())
+}
+
+#[test]
+fn opens_and_closes(rt: HostRuntime) -> Result<(), Fail> {
+    let shape = Shape::new(1, 1, 10)?;
+    assert!(rt; matches!(open(rt.alloc(), shape, 0), Err(OpenError::Passes)));
+    assert!(rt; matches!(open(rt.alloc(), shape, 65), Err(OpenError::Passes)));
+    let (slots, passes) = open(rt.alloc(), shape, 2)?;
+    assert!(rt; slots.shape() == shape);
+    match close(slots, rt.alloc(), passes) {
+        Ok(words) => {
+            assert_eq!(rt;
+                words.as_slice(),
+                [1, 167_772_161, 0, 16_777_216, 0, 0, 0, 1].as_slice()
+            )
+        }
+        Err(_) => panic!(rt; "not closed"),
+    }
+    Ok(())
+}
+
+#[test]
+fn opens_and_closes_with_values(rt: HostRuntime) -> Result<(), Fail> {
+    let shape = Shape::new(1, 1, 10)?.with_values();
+    assert!(rt;
+        matches!(
+            open_with_values(rt.alloc(), shape, 0),
+            Err(OpenError::Passes)
+        )
+    );
+    assert!(rt;
+        matches!(
+            open_with_values(rt.alloc(), shape, 65),
+            Err(OpenError::Passes)
+        )
+    );
+    let (slots, passes) = open_with_values(rt.alloc(), shape, 2)?;
+    assert!(rt; slots.shape() == shape);
+    match close(slots, rt.alloc(), passes) {
+        Ok(words) => {
+            assert_eq!(rt;
+                words.as_slice(),
+                [1, 167_772_161, 0, 16_777_216, 0, 0, 0, 0, 1].as_slice()
+            )
+        }
+        Err(_) => panic!(rt; "not closed"),
+    }
+    Ok(())
+}
+
+// Opens a table with three keys. What found no memory left nothing, so it is tried again.
+fn open_with_three(alloc: Global, shape: Shape) -> Result<(Slots, Vec<Pass>), OpenError>
+    requires bare { shape.values ≡ false }
+    requires few { 3 ≤ shape.slots }
+    ensures { IfOk result (λ r. r.1.items ≡ new_passes r.0 0 2) }
+{
+    match Slots::open_with(alloc, shape, 2, &[2, 5, 9]) {
+        Err(OpenError::Memory) => Slots::open_with(alloc, shape, 2, &[2, 5, 9]),
+        opened => opened,
+    }
+}
+
+/// Key number i stands in slot i, linked in its bucket's list. The other slots are in the shared pool.
+#[test]
+fn opens_with_keys(rt: HostRuntime) -> Result<(), Fail> {
+    let (slots, passes) = open_with_three(rt.alloc(), Shape::new(4, 2, 10)?)?;
+    let wanted = [
+        1,
+        167_772_164,
+        33_554_433,
+        33_554_434,
+        33_554_432,
+        1,
+        0,
+        2,
+        33_554_435,
+        1,
+        0,
+        5,
+        33_554_432,
+        1,
+        0,
+        9,
+        16_777_216,
+        0,
+        0,
+        0,
+        8,
+    ];
+    match close(slots, rt.alloc(), passes) {
+        Ok(words) => assert_eq!(rt; words.as_slice(), wanted.as_slice()),
+        Err(_) => panic!(rt; "not closed"),
+    }
+    Ok(())
+}
+
+// Opens a table with three entries. What found no memory left nothing, so it is tried again.
+fn open_with_three_entries(
+    alloc: Global,
+    shape: Shape,
+) -> Result<(Slots<Entries>, Vec<Pass>), OpenError>
+    requires few { 3 ≤ shape.slots }
+    ensures { IfOk result (λ r. r.1.items ≡ new_passes r.0 0 2) }
+{
+    let entries = [(2, 102), (5, 105), (9, 109)];
+    match Slots::open_with_entries(alloc, shape, 2, &entries) {
+        Err(OpenError::Memory) => Slots::open_with_entries(alloc, shape, 2, &entries),
+        opened => opened,
+    }
+}
+
+/// Where nodes have values, the value stands behind the key; the rest is as with keys alone.
+#[test]
+fn opens_with_entries(rt: HostRuntime) -> Result<(), Fail> {
+    let shape = Shape::new(4, 2, 10)?.with_values();
+    let (slots, passes) = open_with_three_entries(rt.alloc(), shape)?;
+    let wanted = [
+        1,
+        167_772_164,
+        33_554_433,
+        33_554_434,
+        33_554_432,
+        1,
+        0,
+        2,
+        102,
+        33_554_435,
+        1,
+        0,
+        5,
+        105,
+        33_554_432,
+        1,
+        0,
+        9,
+        109,
+        16_777_216,
+        0,
+        0,
+        0,
+        0,
+        8,
+    ];
+    match close(slots, rt.alloc(), passes) {
+        Ok(words) => assert_eq!(rt; words.as_slice(), wanted.as_slice()),
+        Err(_) => panic!(rt; "not closed"),
+    }
+    Ok(())
+}
+
+// Two passes reach for slot 0 and advance the epoch, and the first of them wins both. Once it has put the
+// slot back, the other takes it.
+fn share<N: Nodes>(rt: &impl Abort, slots: &Slots<N>, a: &mut Pass, b: &mut Pass)
+    requires first { IsOf a.old.trace slots.now }
+    requires second { IsOf b.old.trace slots.now }
+    requires shape { (0 < slots.now.shape.slots) × (1 < slots.now.shape.last_epoch) }
+    ensures first { IsOf a.new.trace slots.now }
+    ensures second { IsOf b.new.trace slots.now }
+{
+    assert!(rt; slots.read_epoch(a) == 1);
+    assert_eq!(rt; slots.take_flag(a, 0), Ok(()));
+    assert_eq!(rt; slots.take_flag(b, 0), Err(2));
+    assert!(rt; slots.advance(a, 1));
+    assert!(rt; !slots.advance(b, 1));
+    assert!(rt; slots.read_epoch(b) == 2);
+    assert!(rt; slots.load_stamp(a, 0) == 0);
+    slots.raise(a, 0);
+    assert_eq!(rt; slots.take_flag(b, 0), Ok(()));
+}
+
+// Closes a table without its second pass, which is refused, and then with both.
+fn close_late<N: Nodes>(
+    rt: &impl Abort,
+    alloc: Global,
+    slots: Slots<N>,
+    first: Pass,
+    second: Pass,
+) -> Option<Vec<u64>>
+    requires passes { slots.passes ≡ 2 }
+    requires own { IsOf first.trace slots × IsOf second.trace slots }
+{
+    let mut passes = room_for_two(alloc).ok()?;
+    passes.push(first).ok()?;
+    match close(slots, alloc, passes) {
+        Err(CloseError::Missing(slots, mut passes)) => {
+            passes.push(second).ok()?;
+            close(slots, alloc, passes).ok()
+        }
+        _ => panic!(rt; "closed without a pass"),
+    }
+}
+
+// Compares what a pass knows: its number, the epoch, and how many steps it made.
+pub fn expect_pass(rt: &impl Abort, pass: &Pass, wanted: (u32, u64, u64)) {
+    assert_eq!(rt; (pass.who(), pass.epoch(), pass.steps()), wanted);
+}
+
+#[test]
+fn two_passes_share_a_slot(rt: HostRuntime) {
+    let (slots, mut a, mut b) = two_passes(&rt, rt.alloc(), 2, 10);
+    share(&rt, &slots, &mut a, &mut b);
+    expect_pass(&rt, &a, (0, 1, 5));
+    expect_pass(&rt, &b, (1, 2, 4));
+    let words = close_late(&rt, rt.alloc(), slots, a, b).expect(&rt, "the table is closed");
+    let wanted = [
+        2,
+        167_772_162,
+        0,
+        16_777_216,
+        0,
+        0,
+        0,
+        16_777_216,
+        0,
+        0,
+        0,
+        2,
+    ];
+    assert_eq!(rt; words.as_slice(), wanted.as_slice());
+}
+
+#[test]
+fn two_passes_share_a_slot_with_a_value(rt: HostRuntime) -> Result<(), Fail> {
+    let shape = Shape::new(2, 1, 10)?.with_values();
+    let Some((slots, mut a, mut b)) = open_two_with_values(rt.alloc(), shape) else {
+        panic!(rt; "no memory")
+    };
+    share(&rt, &slots, &mut a, &mut b);
+    expect_pass(&rt, &a, (0, 1, 5));
+    expect_pass(&rt, &b, (1, 2, 4));
+    let words = close_late(&rt, rt.alloc(), slots, a, b).expect(&rt, "the table is closed");
+    let wanted = [
+        2,
+        167_772_162,
+        0,
+        16_777_216,
+        0,
+        0,
+        0,
+        0,
+        16_777_216,
+        0,
+        0,
+        0,
+        0,
+        2,
+    ];
+    assert_eq!(rt; words.as_slice(), wanted.as_slice());
+    Ok(())
+}
+
+#[test]
+fn a_slot_is_born_in(rt: HostRuntime) -> Result<(), Fail> {
+    let Some((slots, mut a, b)) = open_two(rt.alloc(), Shape::new(1, 1, 10)?) else {
+        panic!(rt; "no memory")
+    };
+    assert!(rt; slots.read_epoch(&mut a) == 1);
+    assert!(rt; slots.take_flag(&mut a, 0).is_ok());
+    assert!(rt; slots.load_stamp(&mut a, 0) == 0);
+    slots.store_birth(&mut a, 0);
+    assert!(rt; a.in_hand() == Some(0) && a.pool().is_empty());
+    slots.store_key(&mut a, 0, 7);
+    slots.store_link(&mut a, 0, 33_554_432);
+    let Some(words) = close_two(rt.alloc(), slots, a, b) else {
+        panic!(rt; "no words")
+    };
+    assert_eq!(rt;
+        words.as_slice(),
+        [1, 167_772_161, 0, 33_554_432, 1, 0, 7, 0].as_slice()
+    );
+    Ok(())
+}
+
+#[test]
+fn a_slot_is_born_in_with_a_value(rt: HostRuntime) -> Result<(), Fail> {
+    let shape = Shape::new(1, 1, 10)?.with_values();
+    let Some((slots, mut a, b)) = open_two_with_values(rt.alloc(), shape) else {
+        panic!(rt; "no memory")
+    };
+    assert!(rt; slots.read_epoch(&mut a) == 1);
+    assert!(rt; slots.take_flag(&mut a, 0).is_ok());
+    assert!(rt; slots.load_stamp(&mut a, 0) == 0);
+    slots.store_birth(&mut a, 0);
+    assert!(rt; a.in_hand() == Some(0) && a.pool().is_empty());
+    slots.store_key(&mut a, 0, 7);
+    slots.store_value(&mut a, 0, 107);
+    slots.store_link(&mut a, 0, 33_554_432);
+    let Some(words) = close_two(rt.alloc(), slots, a, b) else {
+        panic!(rt; "no words")
+    };
+    assert_eq!(rt;
+        words.as_slice(),
+        [1, 167_772_161, 0, 33_554_432, 1, 0, 7, 107, 0].as_slice()
+    );
+    Ok(())
+}
+
+#[test]
+fn one_pass_bears_a_slot(rt: HostRuntime) -> Result<(), Fail> {
+    let (slots, mut passes) = open(rt.alloc(), Shape::new(1, 1, 10)?, 1)?;
+    let Some(mut a) = passes.pop() else {
+        panic!(rt; "no pass")
+    };
+    assert!(rt; slots.read_epoch(&mut a) == 1);
+    assert!(rt; slots.take_flag(&mut a, 0).is_ok());
+    slots.store_birth(&mut a, 0);
+    slots.store_key(&mut a, 0, 7);
+    slots.store_link(&mut a, 0, 33_554_432);
+    passes.push(a).ok().ok_or("no room")?;
+    match close(slots, rt.alloc(), passes) {
+        Ok(words) => assert_eq!(rt;
+            words.as_slice(),
+            [1, 167_772_161, 0, 33_554_432, 1, 0, 7, 0].as_slice()
+        ),
+        Err(_) => panic!(rt; "not closed"),
+    }
+    Ok(())
+}
+
+#[test]
+fn one_pass_bears_a_slot_with_a_value(rt: HostRuntime) -> Result<(), Fail> {
+    let shape = Shape::new(1, 1, 10)?.with_values();
+    let (slots, mut passes) = open_with_values(rt.alloc(), shape, 1)?;
+    let Some(mut a) = passes.pop() else {
+        panic!(rt; "no pass")
+    };
+    assert!(rt; slots.read_epoch(&mut a) == 1);
+    assert!(rt; slots.take_flag(&mut a, 0).is_ok());
+    slots.store_birth(&mut a, 0);
+    slots.store_key(&mut a, 0, 7);
+    slots.store_value(&mut a, 0, 107);
+    slots.store_link(&mut a, 0, 33_554_432);
+    passes.push(a).ok().ok_or("no room")?;
+    match close(slots, rt.alloc(), passes) {
+        Ok(words) => assert_eq!(rt;
+            words.as_slice(),
+            [1, 167_772_161, 0, 33_554_432, 1, 0, 7, 107, 0].as_slice()
+        ),
+        Err(_) => panic!(rt; "not closed"),
+    }
+    Ok(())
+}
+
+// Advances the epoch, takes slot 0 and keeps it.
+fn take_later(rt: &impl Abort, slots: &Slots, pass: &mut Pass)
+    requires own { IsOf pass.old.trace slots.now }
+    requires shape { (0 < slots.now.shape.slots) × (1 < slots.now.shape.last_epoch) }
+    requires pool { pass.old.pool ≡ [] }
+    requires hand { pass.old.hand ≡ None }
+    ensures own { IsOf pass.new.trace slots.now }
+{
+    assert!(rt; slots.advance(pass, 1));
+    assert!(rt; slots.read_epoch(pass) == 2);
+    assert!(rt; slots.take_flag(pass, 0).is_ok());
+    assert!(rt; slots.load_stamp(pass, 0) == 0);
+    pass.keep(0);
+}
+
+// Compares what a pass has: the slots of its own pool, and none in hand.
+pub fn expect_pool(rt: &impl Abort, pass: &Pass, pool: &[u32]) {
+    assert_eq!(rt; pass.pool(), pool);
+    assert!(rt; pass.in_hand().is_none());
+}
+
+#[test]
+fn two_passes_meet(rt: HostRuntime) {
+    let (slots, mut a, mut b) = two_passes(&rt, rt.alloc(), 2, 10);
+    take_later(&rt, &slots, &mut b);
+    assert!(rt; slots.advance(&mut a, 2));
+    expect_pass(&rt, &a, (0, 1, 1));
+    slots.meet(&mut a, &mut b);
+    expect_pass(&rt, &a, (0, 3, 2));
+    expect_pool(&rt, &a, &[]);
+    expect_pass(&rt, &b, (1, 2, 4));
+    expect_pool(&rt, &b, &[0]);
+    let wanted = [
+        3,
+        167_772_162,
+        0,
+        16_777_216,
+        0,
+        0,
+        0,
+        16_777_216,
+        0,
+        0,
+        0,
+        2,
+    ];
+    expect_words(&rt, rt.alloc(), slots, a, b, &wanted);
+}
