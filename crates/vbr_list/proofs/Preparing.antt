@@ -6,7 +6,7 @@ use Rattle.vbr_words.specs.declared.nodes.Nodes.{Ghosts}
 use Rattle.vbr_words.specs.Dimensions.{Dimensions}
 use Rattle.vbr_machine.specs.History.{set_call}
 use Rattle.vbr_machine.specs.Runs.{Begins, IsRun}
-use Rattle.vbr_machine.specs.declared.history.Call.{PendingCall as ListedCall}
+use Rattle.vbr_machine.specs.declared.history.Call.{Call as ListedCall}
 use Rattle.vbr_machine.specs.declared.history.Op.{Op}
 use Rattle.vbr_slots.specs.Calls.{IsSame, Quiet, Made}
 use Rattle.vbr_slots.specs.Views.{Trace, PassView}
