@@ -12,8 +12,8 @@ use std::alloc::Global;
 use std::process::Abort;
 use std::test::Fail;
 use vbr_event_lists::{
-    REBORN_SLOT, REBORN_SLOT_WORDS, Row, SAME_WORD, SAME_WORD_WORDS, STORED_VALUE,
-    STORED_VALUE_WORDS, TWO_HELPERS, TWO_HELPERS_WORDS, with_values,
+    REBORN_SLOT, REBORN_SLOT_WORDS, Row, SAME_WORD, SAME_WORD_WORDS, STANDING_WITH_VALUES,
+    STANDING_WORDS, STORED_VALUE, STORED_VALUE_WORDS, TWO_HELPERS, TWO_HELPERS_WORDS, with_values,
 };
 use vbr_machine::{Effect, Op, Step};
 use vbr_slots::{Pass, Slots};
@@ -412,6 +412,46 @@ fn a_stored_value_is_read_back(rt: HostRuntime) -> Result<(), Fail> {
     assert_eq!(rt;
         words.as_slice(),
         [1, 167_772_161, 33_554_433, 50_331_648, 1, 0, 7, 107, 0,].as_slice()
+    );
+    Ok(())
+}
+
+#[test]
+fn a_step_of_each_kind_with_values(rt: HostRuntime) -> Result<(), Fail> {
+    let shape = Shape::new(3, 1, 10_000)?.with_values();
+    let Some(words) = words_with_values_after(
+        &rt,
+        rt.alloc(),
+        shape,
+        &STANDING_WITH_VALUES,
+        &STANDING_WORDS,
+    ) else {
+        panic!(rt; "no words")
+    };
+    assert_eq!(rt;
+        words.as_slice(),
+        [
+            2,
+            167_772_160_003,
+            33_554_434,
+            50_331_650,
+            1,
+            1,
+            7,
+            107,
+            33_554_432,
+            1,
+            0,
+            8,
+            108,
+            16_777_216,
+            0,
+            0,
+            0,
+            0,
+            5,
+        ]
+        .as_slice()
     );
     Ok(())
 }
