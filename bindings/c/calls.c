@@ -1,4 +1,5 @@
-/* Each call of the headers, as the example in its comment has it: tests/pages sees that these lines are those. */
+/* Each call of the headers, and each of their types and numbers, as the example in its comment has it: tests/pages and
+   bindings/headers see that these lines are those. */
 #include "vbr.h"
 #include "vbr_lend.h"
 
@@ -6,12 +7,12 @@
 
 #define CHECK(x) do { if (!(x)) { fprintf(stderr, "calls.c:%d: %s\n", __LINE__, #x); return 1; } } while (0)
 
-static vbr_totals report;
 static uint64_t keys[8];
 
 static int one_by_one(void) {
     int added = 0, there = 0, taken = 0;
     vbr_handle handle[2] = {{0}};
+    vbr_totals report = {0};
     if (vbr_open(handle, 2, 1024 + 2 * 64, 1024, VBR_MAX_EPOCH) != VBR_NO) return 1;
     if (vbr_insert(&handle[0], 5, 100000) == VBR_YES) added++; // this call added 5
     if (vbr_insert(&handle[0], 6, 100000) == VBR_YES) added++;
@@ -26,8 +27,10 @@ static int one_by_one(void) {
 
 static int all_at_once(void) {
     vbr_handle handle[2] = {{0}};
+    vbr_totals report = {0};
     static const uint64_t some[3] = {2, 5, 9};
     if (vbr_open_with(handle, 2, 1024 + 2 * 64, 1024, VBR_MAX_EPOCH, some, 3) != VBR_NO) return 1;
+    if (VBR_VERSION < 2000) return 1; // the header is older than 0.2.0
     if (vbr_version() != VBR_VERSION) return 1; // the library is of another version than the header
     int is_near = vbr_epoch(&handle[0]) + 1000 >= vbr_last_epoch(&handle[0]); // then renew the set
     uint64_t left = vbr_last_epoch(&handle[0]) - vbr_epoch(&handle[0]);
@@ -39,8 +42,32 @@ static int all_at_once(void) {
     return 0;
 }
 
+static int refused(void) {
+    vbr_handle handle[2] = {{0}};
+    vbr_totals report = {0};
+    if (vbr_open(handle, 2, 1024 + 2 * 64, 1024, VBR_MAX_EPOCH) != VBR_NO) return 1;
+    uint32_t budget = 1;
+    vbr_answer told = vbr_insert(&handle[0], 5, 1); // one step is too few
+    CHECK(told == VBR_OUT_OF_STEPS);
+    while (told == VBR_OUT_OF_STEPS && budget < 1u << 30) told = vbr_insert(&handle[0], 5, budget *= 2);
+    if (told < 0) return 1; // it was refused, and no call was made
+    CHECK(told == VBR_YES && budget > 8 && budget < 1000);
+    CHECK(vbr_close_all(handle, 2, keys, 8, &report) == VBR_YES && report.live == 1 && keys[0] == 5);
+    return 0;
+}
+
+static int the_most(void) {
+    uint32_t slots = 1024 + 64 * VBR_MAX_HANDLES, buckets = 1024;
+    if (slots > VBR_MAX_SLOTS || buckets > VBR_MAX_BUCKETS) return 1; // else vbr_open answers VBR_BAD_SHAPE
+    vbr_handle most[VBR_MAX_HANDLES] = {{0}};
+    if (vbr_open(most, VBR_MAX_HANDLES, slots, buckets, VBR_MAX_EPOCH) != VBR_NO) return 1;
+    for (unsigned i = 0; i < VBR_MAX_HANDLES; i++) vbr_drop(&most[i]);
+    return 0;
+}
+
 static int given_up(void) {
     vbr_handle handle[2] = {{0}};
+    vbr_totals report = {0};
     if (vbr_open(handle, 2, 1024 + 2 * 64, 1024, VBR_MAX_EPOCH) != VBR_NO) return 1;
     vbr_drop(&handle[0]); // the close of handle[1] is told the report
     CHECK(vbr_close(&handle[1], keys, 8, &report) == VBR_YES && report.live == 0);
@@ -49,6 +76,7 @@ static int given_up(void) {
 
 static int lent(void) {
     vbr_handle handle[2] = {{0}};
+    vbr_totals report = {0};
     if (vbr_open(handle, 2, 1024 + 2 * 64, 1024, VBR_MAX_EPOCH) != VBR_NO) return 1;
     vbr_lender lender = {0};
     vbr_lender_init(&lender, handle, 2);
@@ -63,7 +91,7 @@ static int lent(void) {
 }
 
 int main(void) {
-    if (one_by_one() || all_at_once() || given_up() || lent()) return 1;
+    if (one_by_one() || all_at_once() || refused() || the_most() || given_up() || lent()) return 1;
     puts("examples of each call in C: passed");
     return 0;
 }

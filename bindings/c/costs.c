@@ -1,6 +1,7 @@
 /* What it costs to open, close and renew a set, in seconds: costs [largest]
    A set of a million keys; with `largest` also the greatest one there can be, empty and with sixteen million keys. A renewal is
-   a close of all handles and an opening with the keys of the report. */
+   a close of all handles and an opening with the keys of the report; it takes no longer than these two do, but for a margin
+   for what else the machine does. */
 #include "vbr.h"
 
 #include <stdio.h>
@@ -40,6 +41,7 @@ static void measure(const char *what, uint32_t slots, uint32_t buckets, uint32_t
         opening = least(opening, opened - begun), closing = least(closing, closed - opened), renewal = least(renewal, renewed - opened);
     }
     free(keys);
+    CHECK(renewal < 2 * (opening + closing));
     printf("%-44s opening %6.3f, closing %6.3f, renewal %6.3f s\n", what, opening, closing, renewal);
 }
 

@@ -3,8 +3,8 @@
 
        handover [ROUNDS [FAULT]]
 
-   With FAULT 1 the hand-over is relaxed, and with 2 a handle is given on before its last call: programs that are wrong,
-   for ThreadSanitizer to find. */
+   With FAULT 1 the hand-over is relaxed, with 2 a handle is given on before its last call, and with 3 before it is asked for
+   the number of slots: programs that are wrong, for ThreadSanitizer to find. */
 #include "vbr.h"
 
 #include <pthread.h>
@@ -58,6 +58,7 @@ static void *work(void *of) {
             call(b, h);
             atomic_store_explicit(&b->turn, next, releases);
             if (fault == 2 && !vbr_has(&b->handle, 0, 8)) sched_yield();
+            if (fault == 3 && !vbr_slots(&b->handle)) sched_yield();
         }
     return NULL;
 }

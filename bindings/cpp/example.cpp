@@ -1,10 +1,11 @@
-// The set in C++: the example of vbr.hpp, ranges of keys, closes, ends of handles, exceptions, and loans.
+// The set in C++: the examples of vbr.hpp (bindings/headers sees that their lines are here), ranges of keys, closes, ends of handles, exceptions, and loans.
 #include "vbr.hpp"
 
 #include <cstdio>
 #include <list>
 #include <set>
 #include <stdexcept>
+#include <string>
 #include <thread>
 #include <type_traits>
 #if __cplusplus >= 202002L
@@ -33,6 +34,42 @@ static int example() {
     CHECK(first.answer == vbr::close_answer::others_are_open && !first.report);
     CHECK(last.answer == vbr::close_answer::last && last.report->keys == std::vector<std::uint64_t>{5});
     CHECK(handles[0].has(5, 100000) == vbr::answer::empty && handles[1].close().answer == vbr::close_answer::empty);
+    return 0;
+}
+
+// A call of each kind, as the comments of vbr.hpp have them.
+static int calls() {
+    constexpr vbr::shape shape{1024 + 2 * 64, 1024, vbr::max_epoch};
+    constexpr std::uint32_t budget = vbr::ample_budget(shape.slots);
+    const std::vector<std::uint64_t> want{2, 5};
+    vbr::opened some = vbr::open_with(shape, 1, want.data(), want.size());
+    CHECK(some.answer == vbr::open_answer::done);
+    vbr::handle mine = std::move(some.handles[0]);
+    int added = 0, taken = 0, there = 0;
+    if (!mine.is_open()) return 1; // it is empty: moved from, or closed
+    if (mine.slots() != shape.slots || mine.buckets() != shape.buckets) return 1;
+    if (mine.insert(6, budget) == vbr::answer::yes) added++; // this call added 6
+    if (mine.remove(6, budget) == vbr::answer::yes) taken++; // this call took 6 out
+    if (vbr::is_refusal(mine.insert(7, budget))) return 1;
+    if (mine.has(7, budget) == vbr::answer::yes) there++; // 7 was there during the call
+    const char *text = vbr::to_string(mine.has(8, 1)); // "out of steps": one is too few
+    bool is_near = mine.epoch() + 1000 >= mine.last_epoch(); // then renew the set
+    CHECK(added == 1 && taken == 1 && there == 1 && !is_near && std::string(text) == "out of steps");
+    vbr::closed told = mine.close(); // told.report is there where told.answer is last
+    if (told.answer == vbr::close_answer::no_memory) return 1; // the handle is as it was, and can be closed again
+    std::uint64_t sum = 0;
+    for (std::uint64_t key : told.report->keys) sum += key;
+    CHECK(told.answer == vbr::close_answer::last && sum == 2 + 5 + 7);
+    return 0;
+}
+
+// As many handles as a set can have, moved from a vector of them.
+static int the_most() {
+    vbr::opened most = vbr::open(vbr::shape::for_keys(1024, vbr::max_handles), vbr::max_handles);
+    CHECK(most.answer == vbr::open_answer::done && most.handles.size() == 64);
+    vbr::handle mine = std::move(most.handles[0]); // handles are moved, and never copied
+    most.handles.clear();
+    CHECK(mine.close().answer == vbr::close_answer::last);
     return 0;
 }
 
@@ -170,7 +207,7 @@ static int loans() {
         threads.emplace_back([&lender, &wrong, i] {
             for (std::uint64_t key = i; key < 600;) {
                 vbr::loan mine = lender.lend();
-                if (!mine) {
+                if (!mine) { // all are lent at the moment
                     std::this_thread::yield();
                     continue;
                 }
@@ -185,7 +222,7 @@ static int loans() {
 }
 
 int main() {
-    if (example() || refusals() || ranges() || ends() || exceptions() || closes_at_once() || loans()) return 1;
+    if (example() || calls() || the_most() || refusals() || ranges() || ends() || exceptions() || closes_at_once() || loans()) return 1;
     std::puts("example in C++: passed");
     return 0;
 }

@@ -10,6 +10,7 @@
 #define CHECK(x) do { if (!(x)) { std::fprintf(stderr, "memory.cpp:%d: %s\n", __LINE__, #x); return 1; } } while (0)
 
 static bool refuses = false;         // what this program asks for
+static long granted = -1;            // how many blocks it still gets, where that isn't below 0
 static bool library_refuses = false; // what the library asks for
 static long asked = 0;
 static int closed_alone = 0; // calls of vbr_close
@@ -27,7 +28,8 @@ vbr_answer __wrap_vbr_close(vbr_handle *, std::uint64_t *, std::size_t, vbr_tota
 
 [[gnu::noinline]] void *operator new(std::size_t size) {
     asked++;
-    void *block = refuses ? nullptr : __real_malloc(size);
+    void *block = refuses || granted == 0 ? nullptr : __real_malloc(size);
+    if (granted > 0) granted--;
     if (!block) throw std::bad_alloc();
     return block;
 }
@@ -80,6 +82,14 @@ int main() {
         vbr::closed refused = kept.close();
         library_refuses = false;
         CHECK(refused.answer == vbr::close_answer::no_memory && kept.is_open());
+    }
+    {
+        auto other = vbr::open_with(shape, 1, {5, 7}); // memory for the report, and none to shorten it
+        granted = 1;
+        vbr::closed long_one = other.handles[0].close();
+        granted = -1;
+        CHECK(long_one.answer == vbr::close_answer::last && long_one.report->keys == (std::vector<std::uint64_t>{5, 7}));
+        CHECK(long_one.report->keys.capacity() == shape.slots);
     }
     CHECK(closed_alone == 0);
     std::puts("refused memory in C++: passed");

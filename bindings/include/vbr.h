@@ -19,7 +19,7 @@
 
    Link with -lvbr (`pkg-config --cflags --libs vbr`). The library needs nothing but malloc, realloc and
    free, each block aligned to 16 bytes as these align it, what copies and fills memory, and madvise, by which it offers
-   large blocks to the kernel for large pages.
+   large blocks to the kernel for large pages. It is built for processors of x86-64-v2 and later, under Linux.
 
    Who owns what. A set is opened with 1 to 64 handles, and each handle owns one pass of the set, the
    right to make calls, and a share of the set. A handle is all zero while it is empty: write {0}, or {} in
@@ -75,7 +75,8 @@
    up, in one block, and each handle about 1,200 bytes besides; opening and closing take as much as the words again
    while they run, and the last close 9 bytes more for each slot. Open with a slot for each key that is in the set at
    one time, and 64 for each handle (see Slots). Open with as many buckets as keys, a power of two: a bucket then has
-   about one node, and takes 8 bytes. Keys are spread over the buckets by a multiplication, so keys with a pattern (in
+   about one node, and takes 8 bytes. Give keys that are there at the start to vbr_open_with, which lays them all in one go;
+   by inserts a million took three times as long. Keys are spread over the buckets by a multiplication, so keys with a pattern (in
    sequence, multiples of a page, pointers) do no harm; keys that somebody chooses to fall into one bucket do, and
    each call then passes them all. Only inserts advance the epoch, and once the last one is spent inserts of absent
    keys may be refused: the greatest lasts fifteen hours at ten million inserts a second that advance it, as one in
@@ -104,7 +105,9 @@
 extern "C" {
 #endif
 
-/* The version of this header, and the same as one number. vbr_version tells that of the library. */
+/* The version of this header, and the same as one number. vbr_version tells that of the library.
+
+       if (VBR_VERSION < 2000) return 1; // the header is older than 0.2.0 */
 #define VBR_VERSION_MAJOR 0
 #define VBR_VERSION_MINOR 2
 #define VBR_VERSION_PATCH 0
@@ -132,15 +135,27 @@ extern "C" {
 #define VBR_NONNULL_REST
 #endif
 
+/* The most slots, buckets and handles of a set, and the greatest last epoch.
+
+       uint32_t slots = 1024 + 64 * VBR_MAX_HANDLES, buckets = 1024;
+       if (slots > VBR_MAX_SLOTS || buckets > VBR_MAX_BUCKETS) return 1; // else vbr_open answers VBR_BAD_SHAPE
+       vbr_handle most[VBR_MAX_HANDLES] = {{0}};
+       if (vbr_open(most, VBR_MAX_HANDLES, slots, buckets, VBR_MAX_EPOCH) != VBR_NO) return 1; */
 #define VBR_MAX_SLOTS 16777215u
 #define VBR_MAX_BUCKETS 16777216u
 #define VBR_MAX_EPOCH 549755813887ull
 #define VBR_MAX_HANDLES 64u
 
-/* A budget that no call runs out of in short buckets, in a set of so many slots. */
+/* A budget that no call runs out of in short buckets, in a set of so many slots.
+
+       uint32_t budget = VBR_AMPLE_BUDGET(vbr_slots(&handle[0])); */
 #define VBR_AMPLE_BUDGET(slots) (100000u + (slots) / 64u)
 
-/* What a call answers. Numbers below 0 are refusals. */
+/* What a call answers. Numbers below 0 are refusals.
+
+       vbr_answer told = vbr_insert(&handle[0], 5, 1); // one step is too few
+       while (told == VBR_OUT_OF_STEPS && budget < 1u << 30) told = vbr_insert(&handle[0], 5, budget *= 2);
+       if (told < 0) return 1; // it was refused, and no call was made */
 #ifdef __cplusplus
 typedef enum vbr_answer : int32_t {
 #else
@@ -148,7 +163,7 @@ typedef enum vbr_answer {
 #endif
     VBR_NO = 0,            /* the answer is no; of vbr_open: done; of vbr_close: others are open */
     VBR_YES = 1,           /* the answer is yes; of vbr_close: it was the last, the set is closed */
-    VBR_OUT_OF_STEPS = -1, /* insert, remove, has: the budget is spent; no call was made */
+    VBR_OUT_OF_STEPS = -1, /* insert, remove, has: the budget is spent; no call was made; a greater budget may help */
     VBR_NO_SLOT = -2,      /* insert: the key is absent, and the handle found no slot; no call was made */
     VBR_EPOCH_SPENT = -3,  /* insert: the key is absent and the last epoch is spent; no call was made */
     VBR_EMPTY = -4,        /* the handle is empty, or null where it may be; nothing was done */
@@ -166,12 +181,16 @@ typedef enum vbr_answer {
     VBR_MIXED = -13        /* close_all: handles of different sets; they are as they were */
 } vbr_answer;
 
-/* A handle to a set, or {0}. */
+/* A handle to a set, or {0}.
+
+       vbr_handle handle[2] = {{0}}; */
 typedef struct vbr_handle {
     void *owned;
 } vbr_handle;
 
-/* What a closed set held. */
+/* What a closed set held.
+
+       vbr_totals report = {0}; */
 typedef struct vbr_totals {
     uint64_t epoch;  /* the epoch */
     uint32_t live;   /* how many keys were in the set */

@@ -11,7 +11,11 @@
    It is a header over the calls of vbr.h, which says what each asks and answers, and links with the same library. Only
    openings and closes take memory; where a vector finds none they throw std::bad_alloc and leave all as it was. How many
    keys are in the set is told by no call while threads run: count the inserts and removes that are answered yes, or read
-   the report of the last close. */
+   the report of the last close.
+
+   A handle may go to another thread by whatever orders the two. Where a thread ends, or an exception leaves a function, the
+   handles that it owned end too, which closes them; nothing is lost. What vbr.h says of cancelled threads, signals and forks
+   holds here as well: a signal handler inserts, removes and looks up, and opens, closes and ends no handle. */
 #ifndef VBR_HPP
 #define VBR_HPP
 
@@ -30,15 +34,23 @@
 
 namespace vbr {
 
+/* The most slots, buckets and handles of a set, and the greatest last epoch.
+
+       vbr::opened most = vbr::open(vbr::shape::for_keys(1024, vbr::max_handles), vbr::max_handles); */
 inline constexpr std::uint32_t max_slots = VBR_MAX_SLOTS;
 inline constexpr std::uint32_t max_buckets = VBR_MAX_BUCKETS;
 inline constexpr std::uint64_t max_epoch = VBR_MAX_EPOCH;
 inline constexpr std::size_t max_handles = VBR_MAX_HANDLES;
 
-/* A budget that no call runs out of in short buckets, in a set of so many slots. */
+/* A budget that no call runs out of in short buckets, in a set of so many slots.
+
+       constexpr std::uint32_t budget = vbr::ample_budget(shape.slots); */
 constexpr std::uint32_t ample_budget(std::uint32_t slots) noexcept { return VBR_AMPLE_BUDGET(slots); }
 
-/* How many slots and buckets a set has, and its last epoch. */
+/* How many slots and buckets a set has, and its last epoch. Keys that are there at the start are best given to open_with,
+   which lays them all in one go; by inserts a million took three times as long.
+
+       constexpr vbr::shape shape{1024 + 2 * 64, 1024, vbr::max_epoch}; */
 struct shape {
     std::uint32_t slots = 0;
     std::uint32_t buckets = 0;
@@ -46,7 +58,9 @@ struct shape {
 
     /* The shape for this many keys at one time and this many handles: a slot for each key and 64 for each handle, and the
        least power of two that isn't below the number of keys for the buckets. vbr.h says under "Slots" what that is enough
-       for, and what to do at answer::no_slot. */
+       for, and what to do at answer::no_slot.
+
+           auto [opened, handles] = vbr::open(vbr::shape::for_keys(1024, 2), 2); */
     static constexpr shape for_keys(std::uint32_t keys, std::size_t handles) noexcept {
         shape made;
         std::uint64_t slots = std::uint64_t{keys} + 64 * (handles < max_handles ? handles : max_handles);
@@ -57,17 +71,21 @@ struct shape {
     }
 };
 
-/* What a call on a key answers. It is no bool, so it is compared. */
+/* What a call on a key answers. It is no bool, so it is compared.
+
+       if (mine.insert(6, budget) == vbr::answer::yes) added++; // this call added 6 */
 enum class [[nodiscard]] answer : std::int32_t {
     no = VBR_NO,
     yes = VBR_YES,
-    out_of_steps = VBR_OUT_OF_STEPS, /* the budget is spent; no call was made */
+    out_of_steps = VBR_OUT_OF_STEPS, /* the budget is spent; no call was made; a greater budget may help */
     no_slot = VBR_NO_SLOT,           /* insert: the key is absent, and the handle found no slot; no call was made */
-    epoch_spent = VBR_EPOCH_SPENT,   /* insert: the key is absent and the last epoch is spent; no call was made */
+    epoch_spent = VBR_EPOCH_SPENT,   /* insert: the key is absent and the last epoch is spent; no call was made; renew the set */
     empty = VBR_EMPTY                /* the handle is empty */
 };
 
-/* What an opening answers. */
+/* What an opening answers.
+
+       if (opened != vbr::open_answer::done) return 1; */
 enum class [[nodiscard]] open_answer : std::int32_t {
     done = VBR_NO,
     bad_shape = VBR_BAD_SHAPE, /* a number of the shape is out of range */
@@ -76,7 +94,9 @@ enum class [[nodiscard]] open_answer : std::int32_t {
     bad_keys = VBR_BAD_KEYS /* the keys do not ascend, or there are more than slots */
 };
 
-/* What a close answers. */
+/* What a close answers.
+
+       if (told.answer == vbr::close_answer::no_memory) return 1; // the handle is as it was, and can be closed again */
 enum class [[nodiscard]] close_answer : std::int32_t {
     others_are_open = VBR_NO,
     last = VBR_YES,            /* the set is closed, and there is a report */
@@ -85,9 +105,14 @@ enum class [[nodiscard]] close_answer : std::int32_t {
     lost = VBR_LOST            /* it was the last, and a pass is not there; no program is known to get it */
 };
 
-/* Whether a call was refused, so that none was made. */
+/* Whether a call was refused, so that none was made.
+
+       if (vbr::is_refusal(mine.insert(7, budget))) return 1; */
 constexpr bool is_refusal(answer told) noexcept { return static_cast<std::int32_t>(told) < 0; }
 
+/* An answer in words.
+
+       const char *text = vbr::to_string(mine.has(8, 1)); // "out of steps": one is too few */
 constexpr const char *to_string(answer told) noexcept {
     switch (told) {
     case answer::no: return "no";
@@ -100,7 +125,9 @@ constexpr const char *to_string(answer told) noexcept {
     return "unknown";
 }
 
-/* What a closed set held. */
+/* What a closed set held.
+
+       for (std::uint64_t key : told.report->keys) sum += key; */
 struct report {
     std::vector<std::uint64_t> keys; /* ascending */
     std::uint64_t epoch = 0;
@@ -108,7 +135,9 @@ struct report {
     std::uint32_t free = 0;   /* how many slots had no node in a list */
 };
 
-/* What a close answers, with the report of the last one. */
+/* What a close answers, with the report of the last one.
+
+       vbr::closed told = mine.close(); // told.report is there where told.answer is last */
 struct [[nodiscard]] closed {
     close_answer answer;
     std::optional<vbr::report> report;
@@ -127,7 +156,9 @@ struct shared {
 } // namespace detail
 
 /* A handle to a set, or an empty one: one thread at a time makes calls with it. Its end closes it without a report, which
-   takes no memory and loses nothing: the handle that is closed last is told the keys. */
+   takes no memory and loses nothing: the handle that is closed last is told the keys.
+
+       vbr::handle mine = std::move(most.handles[0]); // handles are moved, and never copied */
 class handle {
 public:
     handle() noexcept = default;
@@ -146,28 +177,43 @@ public:
         return *this;
     }
 
-    /* Whether there is a set behind it. */
+    /* Whether there is a set behind it.
+
+           if (!mine.is_open()) return 1; // it is empty: moved from, or closed */
     bool is_open() const noexcept { return raw.owned != nullptr; }
 
-    /* Adds a key: yes if it was absent. */
+    /* Adds a key: yes if it was absent.
+
+           if (mine.insert(6, budget) == vbr::answer::yes) added++; // this call added 6 */
     answer insert(std::uint64_t key, std::uint32_t budget) noexcept { return answer{static_cast<std::int32_t>(vbr_insert(&raw, key, budget))}; }
 
-    /* Takes a key out: yes if it was there. */
+    /* Takes a key out: yes if it was there.
+
+           if (mine.remove(6, budget) == vbr::answer::yes) taken++; // this call took 6 out */
     answer remove(std::uint64_t key, std::uint32_t budget) noexcept { return answer{static_cast<std::int32_t>(vbr_remove(&raw, key, budget))}; }
 
-    /* Whether a key is there: yes or no. It isn't const, since it changes what the handle owns. */
+    /* Whether a key is there: yes or no. It isn't const, since it changes what the handle owns.
+
+           if (mine.has(7, budget) == vbr::answer::yes) there++; // 7 was there during the call */
     answer has(std::uint64_t key, std::uint32_t budget) noexcept { return answer{static_cast<std::int32_t>(vbr_has(&raw, key, budget))}; }
 
-    /* The last epoch that the handle read in a call: 1 before its first, and 0 for an empty handle. */
+    /* The last epoch that the handle read in a call: 1 before its first, and 0 for an empty handle. Renew the set before it
+       comes to last_epoch: close all its handles, and open a set with the keys of the report.
+
+           bool is_near = mine.epoch() + 1000 >= mine.last_epoch(); // then renew the set */
     std::uint64_t epoch() noexcept { return vbr_epoch(&raw); }
 
-    /* What the set was opened with; 0 for an empty handle. */
+    /* What the set was opened with; 0 for an empty handle.
+
+           if (mine.slots() != shape.slots || mine.buckets() != shape.buckets) return 1; */
     std::uint64_t last_epoch() noexcept { return vbr_last_epoch(&raw); }
     std::uint32_t slots() noexcept { return vbr_slots(&raw); }
     std::uint32_t buckets() noexcept { return vbr_buckets(&raw); }
 
     /* Closes the handle, and leaves it empty. The last one of its set gives the report, whose keys take memory then and
-       only then; where there is none it stays open. */
+       only then; where there is none it stays open.
+
+           vbr::closed told = mine.close(); // told.report is there where told.answer is last */
     closed close() {
         if (!is_open()) return {close_answer::empty, std::nullopt};
         if (!is_last()) return {close_answer::others_are_open, std::nullopt};
@@ -224,12 +270,15 @@ private:
     std::shared_ptr<detail::shared> shared;
 };
 
-/* What an opening answers, with as many handles as were asked for if it is done, and none otherwise. */
+/* What an opening answers, with as many handles as were asked for if it is done, and none otherwise.
+
+       auto [opened, handles] = vbr::open(vbr::shape::for_keys(1024, 2), 2); */
 struct [[nodiscard]] opened {
     open_answer answer;
     std::vector<handle> handles;
 };
 
+/* What both openings do, by the call of vbr.h that they are given. It is no part of the interface. */
 template <class Open>
 opened open_by(const shape &wanted, std::size_t count, const Open &call) {
     auto shared = std::make_shared<detail::shared>();
@@ -248,14 +297,18 @@ opened open_by(const shape &wanted, std::size_t count, const Open &call) {
     return {answer, std::move(handles)};
 }
 
-/* Opens an empty set with `count` handles, from 1 to 64. */
+/* Opens an empty set with `count` handles, from 1 to 64.
+
+       auto [opened, handles] = vbr::open(vbr::shape::for_keys(1024, 2), 2); */
 inline opened open(const shape &wanted, std::size_t count) {
     return open_by(wanted, count, [&](vbr_handle *handles, std::size_t number) {
         return vbr_open(handles, number, wanted.slots, wanted.buckets, wanted.last_epoch);
     });
 }
 
-/* Opens a set of these keys, which ascend, each above the one before. */
+/* Opens a set of these keys, which ascend, each above the one before.
+
+       vbr::opened some = vbr::open_with(shape, 1, want.data(), want.size()); */
 inline opened open_with(const shape &wanted, std::size_t count, const std::uint64_t *keys, std::size_t key_count) {
     static constexpr std::uint64_t no_key = 0;
     return open_by(wanted, count, [&](vbr_handle *handles, std::size_t number) {
@@ -263,6 +316,9 @@ inline opened open_with(const shape &wanted, std::size_t count, const std::uint6
     });
 }
 
+/* The same with a list of keys.
+
+       auto opened = vbr::open_with(vbr::shape::for_keys(8, 1), 1, {2, 5, 9}); */
 inline opened open_with(const shape &wanted, std::size_t count, std::initializer_list<std::uint64_t> keys) {
     return open_with(wanted, count, keys.begin(), keys.size());
 }
@@ -279,7 +335,9 @@ struct is_array_of_keys<Keys, std::void_t<decltype(std::data(std::declval<const 
 } // namespace detail
 
 /* The same with any range of unsigned numbers: an array or a vector of std::uint64_t is read where it is, and others, as a
-   std::set, are copied first. */
+   std::set, are copied first.
+
+       auto opened = vbr::open_with(vbr::shape::for_keys(8, 1), 1, keys); */
 template <class Keys>
 opened open_with(const shape &wanted, std::size_t count, const Keys &keys) {
     using key = std::decay_t<decltype(*std::begin(keys))>;
@@ -295,7 +353,10 @@ opened open_with(const shape &wanted, std::size_t count, const Keys &keys) {
 
 class lender;
 
-/* A handle on loan, or none; its end gives it back. It is tested by `if (loan)` and used as a pointer. */
+/* A handle on loan, or none; its end gives it back. It is tested by `if (loan)` and used as a pointer.
+
+       vbr::loan mine = lender.lend();
+       if (!mine) { // all are lent at the moment */
 class [[nodiscard]] loan {
 public:
     loan(loan &&other) noexcept : owner(std::exchange(other.owner, nullptr)), number(other.number) {}
@@ -313,7 +374,9 @@ private:
 };
 
 /* Lends handles of a set, up to 64, to threads that come and go: at once or not at all, without a lock. A loan and its return
-   are one atomic operation each on a word that all threads share, so keep a loan for as many calls as can be. */
+   are one atomic operation each on a word that all threads share, so keep a loan for as many calls as can be.
+
+       vbr::lender lender(std::move(opened.handles)); */
 class lender {
 public:
     explicit lender(std::vector<handle> handles) noexcept : owned(std::move(handles)) {
@@ -323,7 +386,9 @@ public:
     lender(const lender &) = delete;
     lender &operator=(const lender &) = delete;
 
-    /* A free handle, or none where each was lent at a moment of the call. It tries each handle at most once. */
+    /* A free handle, or none where each was lent at a moment of the call. It tries each handle at most once.
+
+           vbr::loan mine = lender.lend(); */
     loan lend() noexcept {
         std::uint64_t untried = ~std::uint64_t{0}, seen = free.load(std::memory_order_relaxed);
         while (seen & untried) {
@@ -337,7 +402,9 @@ public:
         return loan(nullptr, 0);
     }
 
-    /* Closes all handles, and gives the report. There is no loan meanwhile. */
+    /* Closes all handles, and gives the report. There is no loan meanwhile.
+
+           vbr::closed closed = lender.close(); */
     closed close() {
         closed last{close_answer::empty, std::nullopt};
         for (handle &each : owned)

@@ -16,7 +16,7 @@
    and to give back are one atomic operation each on a word that all threads share, so many short loans make the threads
    pass that word's cache line around: a look-up with a loan of its own takes several times as long as one without, and
    more with several threads. Keep a handle for as many calls as can be. At most 64 handles are lent at a time; there are
-   no more in a set.
+   no more in a set. No pointer that a call is given is null.
 
    What is done with a handle before it is given back comes before what the next borrower does (a release and an acquire).
    The handles and the lender stay where they are while there are loans. A signal handler may borrow. Once all are given
@@ -26,7 +26,9 @@
 
 #include "vbr.h"
 
-/* Open handles of a set, and a bit for each: whether it is free. All zero: no handles. */
+/* Open handles of a set, and a bit for each: whether it is free. All zero: no handles.
+
+       vbr_lender lender = {0}; */
 typedef struct vbr_lender {
     vbr_handle *handles;
     uint64_t free;

@@ -102,7 +102,25 @@ VBR_NODISCARD static inline uint64_t vbr_tsan_epoch(vbr_handle *handle) VBR_NOEX
     return vbr_epoch(handle);
 }
 
+VBR_NODISCARD static inline uint64_t vbr_tsan_last_epoch(vbr_handle *handle) VBR_NOEXCEPT {
+    vbr_tsan_uses(handle);
+    return vbr_last_epoch(handle);
+}
+
+VBR_NODISCARD static inline uint32_t vbr_tsan_slots(vbr_handle *handle) VBR_NOEXCEPT {
+    vbr_tsan_uses(handle);
+    return vbr_slots(handle);
+}
+
+VBR_NODISCARD static inline uint32_t vbr_tsan_buckets(vbr_handle *handle) VBR_NOEXCEPT {
+    vbr_tsan_uses(handle);
+    return vbr_buckets(handle);
+}
+
 #define vbr_epoch(handle) vbr_tsan_epoch(handle)
+#define vbr_last_epoch(handle) vbr_tsan_last_epoch(handle)
+#define vbr_slots(handle) vbr_tsan_slots(handle)
+#define vbr_buckets(handle) vbr_tsan_buckets(handle)
 #define vbr_insert(handle, key, budget) vbr_tsan_insert(handle, key, budget)
 #define vbr_remove(handle, key, budget) vbr_tsan_remove(handle, key, budget)
 #define vbr_has(handle, key, budget) vbr_tsan_has(handle, key, budget)

@@ -27,7 +27,9 @@
 //! stands before that one in the history whose answers the later caller gets: once a thread is told that a
 //! key was inserted, and nobody removes it, [`Handle::has`] answers yes.
 //!
-//! What a thread wrote before it inserted a key can be read by a thread that then finds the key.
+//! What a thread wrote before it inserted a key can be read by a thread that then finds the key. ThreadSanitizer doesn't see
+//! into the library, and this crate tells it nothing, as the header for C does: under it what is ordered by the set alone may
+//! be told as a race.
 //!
 //! # Threads
 //!
@@ -156,6 +158,9 @@ extern "C" {
 ///
 /// Keys are spread over the buckets by a multiplication, so keys with a pattern (in sequence, multiples of
 /// a page, pointers) do no harm; keys that somebody chooses to fall into one bucket do.
+///
+/// Keys that are there at the start are best given to [`Set::open_with`], which lays them all in one go; by inserts a
+/// million took three times as long.
 ///
 /// ```
 /// let shape = vbr::Shape { slots: 1_024 + 2 * 64, buckets: 1_024, last_epoch: vbr::MAX_EPOCH };
@@ -666,8 +671,8 @@ impl Handle {
     }
 
     /// Closes the handle. The answer is `None` while other handles of the set are open; the last one is told what is in
-    /// the set. It alone takes memory: 8 bytes for each slot, of which what isn't needed is given back, and as much as the
-    /// words of the set and 9 bytes for each slot while it runs.
+    /// the set. It alone takes memory: 8 bytes for each slot, of which what isn't needed is given back where there is memory
+    /// for the keys alone, and as much as the words of the set and 9 bytes for each slot while it runs.
     ///
     /// ```
     /// # use vbr::{Set, Shape};
@@ -705,8 +710,7 @@ impl Handle {
             1 => {
                 let ReportNumbers { epoch, live, marked, free } = told;
                 keys.truncate(live as usize);
-                keys.shrink_to_fit();
-                Ok(Some(Report { keys, epoch, marked, free }))
+                Ok(Some(Report { keys: fitted(keys), epoch, marked, free }))
             }
             -8 => Err(CloseError::Memory(Unclosed(self))),
             _ => Err(CloseError::Lost),
@@ -766,6 +770,16 @@ impl fmt::Debug for Handle {
     fn fmt(&self, f: &mut fmt::Formatter<'_>) -> fmt::Result {
         f.debug_struct("Handle").finish_non_exhaustive()
     }
+}
+
+/// The keys in a block that is as long as they are, or in the one where they stand if there is no memory for that.
+fn fitted(keys: Vec<u64>) -> Vec<u64> {
+    let mut fitted = Vec::new();
+    if fitted.try_reserve_exact(keys.len()).is_err() {
+        return keys;
+    }
+    fitted.extend_from_slice(&keys);
+    fitted
 }
 
 #[inline]
@@ -847,13 +861,15 @@ pub enum ShapeError {
 /// ```
 #[derive(Clone, Copy, Debug, PartialEq, Eq)]
 pub enum Refusal {
-    /// The budget is spent.
+    /// The budget is spent. Make the call again, with twice the budget if that may have been too small: [`ample_budget`] is
+    /// enough in short buckets.
     OutOfSteps,
     /// An insert of an absent key found no slot: its handle had none of its own, and none was found in the shared pool.
     /// Other handles may keep free ones. Remove keys, let a handle that has free slots make the insert, or make it again;
     /// a greater budget alone doesn't help.
     NoSlot,
-    /// An insert of an absent key would have needed an epoch beyond the last one.
+    /// An insert of an absent key would have needed an epoch beyond the last one. Renew the set, as [`Set::open_with`] shows;
+    /// until then look-ups and removes are answered as ever.
     EpochSpent,
 }
 
@@ -874,7 +890,8 @@ pub enum Refusal {
 /// ```
 #[derive(Debug)]
 pub enum CloseError {
-    /// It was the last handle, and a pass of the set is not there. The set is gone. No program is known to get this.
+    /// It was the last handle, and a pass of the set is not there. The set is gone. No program is known to get this, so there
+    /// is no example of it: a handle that is dropped is closed, and one that is forgotten keeps its set open.
     Lost,
     /// There is no memory for the report. The handle is as it was, and can be closed again.
     Memory(Unclosed),

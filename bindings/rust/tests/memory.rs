@@ -1,5 +1,5 @@
 //! Memory of the crate's own: the last close alone asks for some, it is refused without loss, and what isn't needed is given
-//! back. Where the library is refused memory for a close, all handles stay as they were.
+//! back where there is memory for that. Where the library is refused memory for a close, all handles stay as they were.
 use std::alloc::{GlobalAlloc, Layout, System};
 use std::cell::Cell;
 use std::ffi::c_void;
@@ -10,8 +10,8 @@ struct Counting;
 
 thread_local! {
     static ASKED: Cell<usize> = const { Cell::new(0) };
-    /// Whether the crate is refused memory, and whether the library is.
-    static REFUSES: Cell<bool> = const { Cell::new(false) };
+    /// How many blocks the crate still gets, and whether the library is refused memory.
+    static GRANTED: Cell<usize> = const { Cell::new(usize::MAX) };
     static LIBRARY_REFUSES: Cell<bool> = const { Cell::new(false) };
 }
 
@@ -33,9 +33,11 @@ extern "C" fn malloc(size: usize) -> *mut c_void {
 unsafe impl GlobalAlloc for Counting {
     unsafe fn alloc(&self, layout: Layout) -> *mut u8 {
         ASKED.set(ASKED.get() + layout.size());
-        if REFUSES.get() {
+        let granted = GRANTED.get();
+        if granted == 0 {
             return std::ptr::null_mut();
         }
+        GRANTED.set(granted - 1);
         let refuses = LIBRARY_REFUSES.replace(false);
         let block = System.alloc(layout);
         LIBRARY_REFUSES.set(refuses);
@@ -50,11 +52,16 @@ unsafe impl GlobalAlloc for Counting {
 #[global_allocator]
 static COUNTING: Counting = Counting;
 
-fn refused<T>(call: impl FnOnce() -> T) -> T {
-    REFUSES.set(true);
+/// What a call tells that gets no more than this many blocks.
+fn granted<T>(blocks: usize, call: impl FnOnce() -> T) -> T {
+    GRANTED.set(blocks);
     let told = call();
-    REFUSES.set(false);
+    GRANTED.set(usize::MAX);
     told
+}
+
+fn refused<T>(call: impl FnOnce() -> T) -> T {
+    granted(0, call)
 }
 
 fn refused_in_the_library<T>(call: impl FnOnce() -> T) -> T {
@@ -91,6 +98,14 @@ fn one_report_and_no_loss() {
     assert_eq!(ASKED.get() - before, 8 * (1_000 + 3 * 64) + 8 * 3);
     assert_eq!(report.keys, [5, 6, 7]);
     assert_eq!(report.keys.capacity(), 3);
+}
+
+#[test]
+fn a_report_that_there_is_no_memory_to_shorten() {
+    let handle = Set::open_with(Shape::for_keys(1_000, 1), 1, &[5, 7]).expect("a set").remove(0);
+    let report = granted(1, || handle.close()).expect("memory for the report").expect("the only handle");
+    assert_eq!(report.keys, [5, 7]);
+    assert_eq!(report.keys.capacity(), 1_000 + 64);
 }
 
 #[test]
