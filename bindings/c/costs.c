@@ -41,7 +41,7 @@ static void measure(const char *what, uint32_t slots, uint32_t buckets, uint32_t
         opening = least(opening, opened - begun), closing = least(closing, closed - opened), renewal = least(renewal, renewed - opened);
     }
     free(keys);
-    CHECK(renewal < 2 * (opening + closing));
+    CHECK(renewal < 3 * (opening + closing));
     printf("%-44s opening %6.3f, closing %6.3f, renewal %6.3f s\n", what, opening, closing, renewal);
 }
 

@@ -165,7 +165,7 @@ typedef enum vbr_answer {
     VBR_YES = 1,           /* the answer is yes; of vbr_close: it was the last, the set is closed */
     VBR_OUT_OF_STEPS = -1, /* insert, remove, has: the budget is spent; no call was made; a greater budget may help */
     VBR_NO_SLOT = -2,      /* insert: the key is absent, and the handle found no slot; no call was made */
-    VBR_EPOCH_SPENT = -3,  /* insert: the key is absent and the last epoch is spent; no call was made */
+    VBR_EPOCH_SPENT = -3,  /* insert: the key is absent and the last epoch is spent; no call was made; renew the set */
     VBR_EMPTY = -4,        /* the handle is empty, or null where it may be; nothing was done */
     VBR_IN_USE = -5,       /* open: one of the handles is not empty; nothing was done */
     VBR_BAD_SHAPE = -6,    /* open: slots, buckets or last_epoch is out of range; nothing was done */

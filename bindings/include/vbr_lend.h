@@ -44,7 +44,8 @@ static inline void vbr_lender_init(vbr_lender *lender, vbr_handle *handles, size
 }
 
 /* A free handle, or a null pointer where each was lent at a moment of the call. It tries each handle at most once, so it
-   never waits.
+   never waits. At most 64 are lent at a time. A loan and its return are one atomic operation each on a word that all
+   threads share, so keep a loan for as many calls as can be.
 
        vbr_handle *mine = vbr_lend(&lender); // NULL: both are lent */
 VBR_NODISCARD static inline vbr_handle *vbr_lend(vbr_lender *lender) VBR_NOEXCEPT {
