@@ -9,9 +9,9 @@ ghost use Rattle.vbr_access.specs.Exchanges.{IsUnmarked};
 ghost use Rattle.vbr_access.specs.LookUps.{TellsKey};
 ghost use Rattle.vbr_access.specs.Values.{AnswersEntry, IsAsked, IsOtherIn};
 
+use crate::at_table;
 use crate::held::Held;
 use crate::rollback::Rollback;
-use crate::uncounted;
 use vbr_machine::Op;
 use vbr_slots::{AtTable, Pass, Slots};
 use vbr_words::{At, Nodes};
@@ -35,7 +35,7 @@ pub fn confirm_present(slots: &Slots, pass: &mut Pass, op: Op, held: &Held) -> R
             requires op { IsOther Remove op }
         {
             (
-                uncounted::confirm_present(&mut AtTable { slots, pass }, op, held),
+                at_table::confirm_present(&mut AtTable { slots, pass }, op, held),
                 1,
             )
         },
@@ -67,7 +67,7 @@ pub fn confirm_present_entry<N: Nodes>(
             requires asked { IsAsked pass.old.trace op held.now.at }
         {
             (
-                uncounted::confirm_present_entry(&mut AtTable { slots, pass }, op, held),
+                at_table::confirm_present_entry(&mut AtTable { slots, pass }, op, held),
                 1,
             )
         },
@@ -100,7 +100,7 @@ pub fn confirm_absent(
             requires op { IsOther Insert op }
         {
             (
-                uncounted::confirm_absent(&mut AtTable { slots, pass }, op, key, pred),
+                at_table::confirm_absent(&mut AtTable { slots, pass }, op, key, pred),
                 1,
             )
         },
@@ -130,7 +130,7 @@ pub fn confirm_absent_entry<N: Nodes>(
             requires op { IsOtherIn pass.old.trace.shape Insert op }
         {
             (
-                uncounted::confirm_absent_entry(&mut AtTable { slots, pass }, op, key, pred),
+                at_table::confirm_absent_entry(&mut AtTable { slots, pass }, op, key, pred),
                 1,
             )
         },
@@ -164,7 +164,7 @@ pub fn confirm_look_up<N: Nodes>(
             requires decides { TellsKey pass.old.trace key held.now present }
         {
             (
-                uncounted::confirm_look_up(&mut AtTable { slots, pass }, key, held, present),
+                at_table::confirm_look_up(&mut AtTable { slots, pass }, key, held, present),
                 1,
             )
         },

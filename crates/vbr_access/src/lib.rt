@@ -7,13 +7,13 @@
 //! that answer by one more load, are loads alone.
 #![tactic(auto)]
 
+pub mod at_table;
 pub mod confirming;
 pub mod held;
 mod links;
 pub mod marking;
 pub mod reading;
 pub mod rollback;
-pub mod uncounted;
 pub mod unlinking;
 pub mod updating;
 

@@ -5,9 +5,9 @@ ghost use Rattle.vbr_access.specs.Answering.{KeepsIn, IsPresent};
 ghost use Rattle.vbr_access.specs.Exchanges.{RemovesKey, LosesExchange};
 ghost use Rattle.vbr_access.specs.Values.{IsValued, RemovesEntry};
 
+use crate::at_table;
 use crate::held::{Held, Marked};
 use crate::rollback::Rollback;
-use crate::uncounted;
 use vbr_slots::{AtTable, Pass, Slots};
 use vbr_words::{At, Nodes, with_mark};
 
@@ -26,7 +26,7 @@ pub fn mark(slots: &Slots, pass: &mut Pass, held: &Held) -> Result<Marked, Rollb
         |pass|
             requires own { IsOf pass.old.trace slots.now }
             requires node { IsPresent (knows pass.old.trace) held.now }
-        { (uncounted::mark(&mut AtTable { slots, pass }, held), 1) },
+        { (at_table::mark(&mut AtTable { slots, pass }, held), 1) },
     )
 }
 
@@ -50,6 +50,6 @@ pub fn mark_entry<N: Nodes>(
             requires own { IsOf pass.old.trace slots.now }
             requires node { IsPresent (knows pass.old.trace) held.now }
             requires valued { IsValued pass.old.trace held.now.at }
-        { (uncounted::mark_entry(&mut AtTable { slots, pass }, held), 1) },
+        { (at_table::mark_entry(&mut AtTable { slots, pass }, held), 1) },
     )
 }

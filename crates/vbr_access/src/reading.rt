@@ -6,9 +6,9 @@ ghost use Rattle.vbr_access.specs.Reading.{IsCheckpoint, IsHeadRead, IsKeyRead, 
 ghost use Rattle.vbr_access.specs.Reading.{ReadsIn, RollsBack, steps_to_next};
 ghost use Rattle.vbr_access.specs.Values.{IsValueRead};
 
+use crate::at_table;
 use crate::held::{Checkpoint, Held};
 use crate::rollback::Rollback;
-use crate::uncounted;
 use vbr_slots::{AtTable, Pass, Slots};
 use vbr_words::{At, Nodes, decode};
 
@@ -22,7 +22,7 @@ pub fn checkpoint<N: Nodes>(slots: &Slots<N>, pass: &mut Pass) -> Checkpoint
     pass.during(
         |pass|
             requires own { IsOf pass.old.trace slots.now }
-        { (uncounted::checkpoint(&mut AtTable { slots, pass }), 1) },
+        { (at_table::checkpoint(&mut AtTable { slots, pass }), 1) },
     )
 }
 
@@ -51,7 +51,7 @@ pub fn first<N: Nodes>(
             requires bucket { bucket < slots.now.shape.buckets }
         {
             (
-                uncounted::first(&mut AtTable { slots, pass }, point, bucket),
+                at_table::first(&mut AtTable { slots, pass }, point, bucket),
                 2,
             )
         },
@@ -78,7 +78,7 @@ pub fn next<N: Nodes>(
         |pass|
             requires own { IsOf pass.old.trace slots.now }
             requires held { IsHeld (knows pass.old.trace) held.now }
-        { (uncounted::next(&mut AtTable { slots, pass }, held), used) },
+        { (at_table::next(&mut AtTable { slots, pass }, held), used) },
     )
 }
 
@@ -99,7 +99,7 @@ pub fn key_of<N: Nodes>(slots: &Slots<N>, pass: &mut Pass, node: &Held) -> Resul
             requires own { IsOf pass.old.trace slots.now }
             requires held { IsHeld (knows pass.old.trace) node.now }
             requires slot { IsSlot node.now.at }
-        { (uncounted::key_of(&mut AtTable { slots, pass }, node), 2) },
+        { (at_table::key_of(&mut AtTable { slots, pass }, node), 2) },
     )
 }
 
@@ -122,7 +122,7 @@ pub fn value_of<N: Nodes>(slots: &Slots<N>, pass: &mut Pass, node: &Held) -> Res
             requires values { slots.now.shape.values ≡ true }
             requires held { IsHeld (knows pass.old.trace) node.now }
             requires slot { IsSlot node.now.at }
-        { (uncounted::value_of(&mut AtTable { slots, pass }, node), 2) },
+        { (at_table::value_of(&mut AtTable { slots, pass }, node), 2) },
     )
 }
 

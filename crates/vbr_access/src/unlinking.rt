@@ -5,10 +5,10 @@ ghost use Rattle.vbr_access.specs.Exchanges.{StaysIn, UnlinksNode, UnlinksNone, 
 ghost use Rattle.vbr_access.specs.Held.{HoldsMarked, Names};
 ghost use Rattle.vbr_access.specs.Steps.{steps_to_unlink};
 
+use crate::at_table;
 use crate::held::{Held, Marked};
 use crate::links::link_to;
 use crate::rollback::Rollback;
-use crate::uncounted;
 use vbr_pools::Unlinked;
 use vbr_slots::{AtTable, Pass, Slots};
 use vbr_words::{Nodes, decode};
@@ -43,8 +43,8 @@ pub fn unlink<N: Nodes>(
             requires marked { HoldsMarked (knows pass.old.trace) marked }
             requires names { Names pred.now marked.slot }
         {
-            let outcome = uncounted::unlink(&mut AtTable { slots, pass }, pred, marked);
-            let used = uncounted::steps_to_unlink(marked.word, &outcome);
+            let outcome = at_table::unlink(&mut AtTable { slots, pass }, pred, marked);
+            let used = at_table::steps_to_unlink(marked.word, &outcome);
             (outcome, used)
         },
     )

@@ -5,10 +5,10 @@ ghost use Rattle.vbr_pools.specs.Hands.{IsHandOf};
 ghost use Rattle.vbr_access.specs.Exchanges.{StoresIn, IsGap, GivesBack, InsertsKey};
 ghost use Rattle.vbr_access.specs.Held.{IsSucc};
 
+use crate::at_table;
 use crate::held::Held;
 use crate::links::link_to;
 use crate::rollback::Rollback;
-use crate::uncounted;
 use vbr_pools::Hand;
 use vbr_slots::{AtTable, Pass, Slots};
 use vbr_words::decode;
@@ -43,7 +43,7 @@ pub fn update(
             requires hand { IsHandOf pass.old hand }
         {
             (
-                uncounted::update(&mut AtTable { slots, pass }, pred, succ, key, hand),
+                at_table::update(&mut AtTable { slots, pass }, pred, succ, key, hand),
                 3,
             )
         },

@@ -16,7 +16,7 @@ use crate::call::PendingCall;
 use crate::looking::Sight;
 use crate::refusal::Refusal;
 use crate::valuing::{is_yes, steps_to_value_of, value_if_any};
-use vbr_access::uncounted::{confirm_absent_entry, confirm_look_up, confirm_present_entry};
+use vbr_access::at_table::{confirm_absent_entry, confirm_look_up, confirm_present_entry};
 use vbr_access::{Held, Rollback};
 use vbr_machine::Op;
 use vbr_pools::budget::affords;

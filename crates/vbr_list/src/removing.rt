@@ -16,7 +16,7 @@ use crate::found::Found;
 use crate::helping::unlink_and_retire;
 use crate::refusal::Refusal;
 use crate::valuing::{is_yes, steps_to_value_of, value_if_any};
-use vbr_access::uncounted::{confirm_absent_entry, mark_entry};
+use vbr_access::at_table::{confirm_absent_entry, mark_entry};
 use vbr_access::{Held, Marked, Rollback};
 use vbr_machine::Op;
 use vbr_pools::budget::affords;

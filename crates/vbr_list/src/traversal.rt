@@ -10,7 +10,7 @@ ghost use Rattle.vbr_list.specs.Traversing.{Finds, IsInsideFor, IsPredFor, Meets
 use crate::call::PendingCall;
 use crate::found::Found;
 use crate::helping::help_by_copy;
-use vbr_access::uncounted::{checkpoint, first, key_of, next};
+use vbr_access::at_table::{checkpoint, first, key_of, next};
 use vbr_access::{Held, Marked, Rollback};
 use vbr_pools::budget::affords;
 use vbr_words::{Nodes, decode};

@@ -9,7 +9,7 @@ ghost use Rattle.vbr_list.specs.Told.{is_yes};
 ghost use Rattle.vbr_list.specs.Valuing.{LosesValue, ReadsValue, steps_to_value_of};
 
 use crate::refusal::Refusal;
-use vbr_access::uncounted::value_of;
+use vbr_access::at_table::value_of;
 use vbr_access::{Held, Rollback};
 use vbr_slots::{AtTable, Slots};
 use vbr_words::Nodes;

@@ -6,13 +6,13 @@
 //! which it may still be read (Sheffi, Herlihy and Petrank 2021).
 #![tactic(auto)]
 
+pub mod at_table;
 pub mod budget;
 pub mod giving_back;
 pub mod hand;
 pub mod refusal;
 pub mod retiring;
 pub mod taking;
-pub mod uncounted;
 pub mod unlinked;
 
 pub use giving_back::give_back;

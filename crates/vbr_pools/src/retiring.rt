@@ -3,7 +3,7 @@ ghost use Rattle.vbr_machine.specs.Acceptance.{IsUnlinked};
 ghost use Rattle.vbr_slots.specs.Views.{IsOf, knows};
 ghost use Rattle.vbr_pools.specs.Retiring.{Retires};
 
-use crate::uncounted;
+use crate::at_table;
 use crate::unlinked::Unlinked;
 use vbr_slots::{AtTable, Pass, Slots};
 use vbr_words::Nodes;
@@ -24,7 +24,7 @@ pub fn retire<N: Nodes>(slots: &Slots<N>, pass: &mut Pass, unlinked: Unlinked) -
             requires own { IsOf pass.old.trace slots.now }
             requires unlinked { IsUnlinked ((knows pass.old.trace).own unlinked.slot) }
         {
-            let used = uncounted::retire(&mut AtTable { slots, pass }, unlinked);
+            let used = at_table::retire(&mut AtTable { slots, pass }, unlinked);
             (used, used)
         },
     )

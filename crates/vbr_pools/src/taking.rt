@@ -4,9 +4,9 @@ ghost use Rattle.vbr_slots.specs.Views.{IsOf};
 ghost use Rattle.vbr_pools.specs.Refusals.{RefusesTake};
 ghost use Rattle.vbr_pools.specs.Taking.{IsTaken, Takes};
 
+use crate::at_table;
 use crate::hand::Hand;
 use crate::refusal::TakeRefusal;
-use crate::uncounted;
 use vbr_slots::{AtTable, Pass, Slots};
 use vbr_words::Nodes;
 
@@ -34,6 +34,6 @@ pub fn take<N: Nodes>(slots: &Slots<N>, pass: &mut Pass, budget: u32) -> Result<
         |pass|
             requires own { IsOf pass.old.trace slots.now }
             requires empty_hand { pass.old.hand ≡ None }
-        { uncounted::take(&mut AtTable { slots, pass }, budget) },
+        { at_table::take(&mut AtTable { slots, pass }, budget) },
     )
 }

@@ -11,7 +11,7 @@ use Rattle.vbr_set.specs.Closing.{Closes}
 use Rattle.vbr_set.specs.Members.{MemberView, as_member}
 use Rattle.vbr_set.specs.Sharing.{IsPart, set_shared}
 use Rattle.vbr_set.specs.declared.report.Report.{Report}
-use Rattle.vbr_set.specs.declared.share.Share.{Share}
+use Rattle.vbr_set.specs.declared.member.share.Share.{Share}
 
 pub parts_more : (shares : List Share) (passes : List PassView) (share : Share) (pass : PassView) → AreParts shares passes → IsPart share pass → AreParts (shares ++ share ∷ []) (passes ++ pass ∷ [])
 parts_more [] [] share pass parts part = (part, tt)

@@ -6,7 +6,7 @@ use Rattle.std.proofs.lemmas.List.Elements.{All-append, All-cons, All-drop, All-
 use Rattle.vbr_slots.specs.Closing.{AllOf}
 use Rattle.vbr_slots.specs.Views.{PassView, TableView, IsOf}
 use Rattle.vbr_set.specs.Sharing.{ArePassesOf, AreMailboxesOf}
-use Rattle.vbr_set.specs.declared.mailbox.Mailbox.{Mailbox}
+use Rattle.vbr_set.specs.declared.member.mailbox.Mailbox.{Mailbox}
 
 abbrev IsPassOf : TableView → PassView → Type 0
 IsPassOf set pass = IsOf pass.trace set

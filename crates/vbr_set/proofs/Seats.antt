@@ -8,7 +8,7 @@ use Rattle.vbr_slots.specs.Views.{PassView, TableView, new_passes}
 use Rattle.vbr_set.specs.Mailboxes.{IsIdle, SeatKnows}
 use Rattle.vbr_set.specs.Seats.{MailboxSeat, AreSeats}
 use Rattle.vbr_set.specs.Sharing.{IsSeatOf, AreMailboxesOf}
-use Rattle.vbr_set.specs.declared.mailbox.Mailbox.{Mailbox}
+use Rattle.vbr_set.specs.declared.member.mailbox.Mailbox.{Mailbox}
 
 -- each pass is one of the set and has its seat
 abbrev pub AreSeated : TableView → List Mailbox → List PassView → List MailboxSeat → Type 0

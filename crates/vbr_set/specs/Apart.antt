@@ -3,7 +3,7 @@ use Rattle.std.specs.Prelude.{List, [], ◌∷◌}
 use Rattle.vbr_slots.specs.Views.{PassView}
 use Rattle.vbr_set.specs.Members.{MemberView, as_member}
 use Rattle.vbr_set.specs.Sharing.{IsPart, set_shared}
-use Rattle.vbr_set.specs.declared.share.Share.{Share}
+use Rattle.vbr_set.specs.declared.member.share.Share.{Share}
 
 -- there is a pass for each share, at its place
 abbrev pub AreParts : List Share → List PassView → Type 0

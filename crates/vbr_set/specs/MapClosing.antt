@@ -11,7 +11,7 @@ use Rattle.vbr_slots.specs.Closing.{EachSeen}
 use Rattle.vbr_slots.specs.Views.{PassView, TableView}
 use Rattle.vbr_set.specs.Closing.{EachMade}
 use Rattle.vbr_set.specs.Histories.{calls_of}
-use Rattle.vbr_set.specs.declared.map_report.MapReport.{MapReport}
+use Rattle.vbr_set.specs.declared.map.report.MapReport.{MapReport}
 
 -- the list has just the entries of the map, its keys ascending
 pub record AreEntriesOf (listed : List (ℕ × ℕ)) (entries : Entries) : Type 0 where

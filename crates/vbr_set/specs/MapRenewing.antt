@@ -4,7 +4,7 @@ use Rattle.vbr_machine.specs.Maps.{keys_listed, values_listed}
 use Rattle.vbr_slots.specs.Views.{PassView, TableView}
 use Rattle.vbr_set.specs.MapClosing.{MapCloses}
 use Rattle.vbr_set.specs.Renewing.{IsUnrenewedBy}
-use Rattle.vbr_set.specs.declared.map_report.MapReport.{MapReport}
+use Rattle.vbr_set.specs.declared.map.report.MapReport.{MapReport}
 use Rattle.vbr_set.specs.declared.renew_error.RenewError.{RenewError}
 
 -- the map is closed, with the report that its close gives, and the new map opens with the entries of this report, each key with its value: those that the calls of all passes leave in the old one; its shape is else the same, and so is its number of passes

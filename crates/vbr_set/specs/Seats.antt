@@ -4,7 +4,7 @@ use Rattle.atomic_table.specs.declared.shared.Seat.{Seat}
 use Rattle.vbr_slots.specs.Views.{PassView}
 use Rattle.vbr_set.specs.Mailboxes.{SeatKnows}
 use Rattle.vbr_set.specs.Sharing.{IsSeatOf}
-use Rattle.vbr_set.specs.declared.mailbox.Mailbox.{Mailbox}
+use Rattle.vbr_set.specs.declared.member.mailbox.Mailbox.{Mailbox}
 
 -- a seat of the table of mailboxes
 abbrev pub MailboxSeat : Type 0

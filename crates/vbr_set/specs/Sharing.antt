@@ -6,9 +6,9 @@ use Rattle.atomic_table.specs.Table.{Me}
 use Rattle.std.specs.Prelude.{Option}
 use Rattle.vbr_slots.specs.Views.{PassView, TableView, IsOf}
 use Rattle.vbr_set.specs.Mailboxes.{SeatKnows}
-use Rattle.vbr_set.specs.declared.mailbox.Mailbox.{Mailbox}
-use Rattle.vbr_set.specs.declared.share.Share.{Share}
-use Rattle.vbr_set.specs.declared.share.Share.TheVariants.{Among, Alone, Gathered}
+use Rattle.vbr_set.specs.declared.member.mailbox.Mailbox.{Mailbox}
+use Rattle.vbr_set.specs.declared.member.share.Share.{Share}
+use Rattle.vbr_set.specs.declared.member.share.Share.TheVariants.{Among, Alone, Gathered}
 
 -- the set
 abbrev pub set_shared : Share → TableView

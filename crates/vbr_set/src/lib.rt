@@ -36,44 +36,22 @@
 //! the set with no slot in hand.
 #![tactic(auto)]
 
-pub mod all_members;
-pub mod calls;
 pub mod close_all_error;
-pub mod closing;
-mod common;
 mod contents;
 pub mod end_error;
 pub mod laws;
-mod mailbox;
-pub mod map_calls;
-pub mod map_closing;
-pub mod map_opening;
-pub mod map_renewing;
-pub mod map_report;
-pub mod meeting;
+pub mod map;
 pub mod member;
-pub mod member_calls;
-pub mod member_closing;
-pub mod member_meeting;
-pub mod member_opening;
-pub mod member_tokens;
-pub mod opening;
 pub mod renew_error;
-pub mod renewing;
 pub mod report;
-pub mod reporting;
 pub mod room;
 pub mod set;
 pub mod set_ref;
-pub mod set_ref_calls;
-mod share;
-mod sharing;
-pub mod tokens;
 mod walking;
 
 pub use close_all_error::CloseAllError;
 pub use end_error::EndError;
-pub use map_report::MapReport;
+pub use map::report::MapReport;
 pub use member::Member;
 pub use renew_error::RenewError;
 pub use report::Report;

@@ -1,10 +1,21 @@
 //! A member of a set.
+pub mod calls;
+pub mod closing;
+pub mod closing_all;
+mod common;
+mod mailbox;
+pub mod meeting;
+pub mod opening;
+mod share;
+mod sharing;
+pub mod tokens;
+
 ghost use Rattle.std.specs.Prelude.{◌≡◌};
 ghost use Rattle.vbr_set.specs.Members.{as_member};
 ghost use Rattle.vbr_set.specs.Sharing.{IsPart, set_shared};
 
-use crate::member_closing::leave;
-use crate::share::Share;
+use crate::member::closing::leave;
+use crate::member::share::Share;
 use std::marker::Model;
 use vbr_slots::Pass;
 

@@ -1,4 +1,12 @@
 //! The set, and the map.
+pub mod calls;
+pub mod closing;
+pub mod meeting;
+pub mod opening;
+pub mod renewing;
+pub mod reporting;
+pub mod tokens;
+
 ghost use Rattle.std.specs.Prelude.{◌≡◌, []};
 
 use std::marker::Model;

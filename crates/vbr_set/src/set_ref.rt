@@ -1,4 +1,6 @@
 //! A pass with a reference to its set.
+pub mod calls;
+
 ghost use Rattle.std.specs.Prelude.{◌≡◌};
 
 use crate::set::VbrSet;

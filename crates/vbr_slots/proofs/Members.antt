@@ -59,8 +59,8 @@ times-members opened who k (suc n) = dite (ℕ_discrete k who)
 -- ---- tokens
 
 -- a token has the number of no pass
-pub token_uncounted : (who : ℕ) (opened : Opened) (seen : List Event) → who ≢ nobody → times who (witness opened nobody seen ∷ []) ≡ 0
-token_uncounted who opened seen other = let none : one_if (nobody == who) ≡ 0 = ap one_if (ne_eqb nobody who (λ is. other (sym is))) in omega arith
+pub token_not_counted : (who : ℕ) (opened : Opened) (seen : List Event) → who ≢ nobody → times who (witness opened nobody seen ∷ []) ≡ 0
+token_not_counted who opened seen other = let none : one_if (nobody == who) ≡ 0 = ap one_if (ne_eqb nobody who (λ is. other (sym is))) in omega arith
 
 -- a number that no pass has has no event
 none_of : (shape : Dimensions) (passes who : ℕ) (w : World) (run : List Event) → passes ≤ who → AreAccepted shape passes w run → NoneOf who run

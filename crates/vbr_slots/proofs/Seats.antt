@@ -14,7 +14,7 @@ use Rattle.vbr_slots.specs.declared.rule.Opening.{Opening}
 use Rattle.vbr_slots.specs.Rule.{witness, witnesses, nobody, noted, first_witnesses, head_of, tail_of, first_opened, first_seen, EachBegins, HasSeen, IsSeen, times, times_in, Kept, opened_of}
 use Rattle.vbr_slots.specs.Views.{TableView, new_pass, new_passes}
 use Rattle.vbr_slots.specs.Words.{AreWordsOf}
-use Rattle.vbr_slots.proofs.Members.{times-set, token_begins, token_uncounted}
+use Rattle.vbr_slots.proofs.Members.{times-set, token_begins, token_not_counted}
 use Rattle.vbr_slots.proofs.Sightings.{seen_longer, seen_split, seen_join}
 
 abbrev V : Type 0
@@ -135,7 +135,7 @@ pub splits_noted : (opening : Opening) (id : ℕ) (v : V) → opening.passes ≤
 splits_noted opening id v few = splits opening id v v (noted v) count (λ run is b. (b, part run is v b)) (λ run h. inl h)
   where
     count : (who : ℕ) → who ≢ nobody → times who v + times who (noted v) ≡ times who v
-    count who other = let none = token_uncounted who (first_opened v) (first_seen v) other in omega arith
+    count who other = let none = token_not_counted who (first_opened v) (first_seen v) other in omega arith
 
     part : (run : List Event) → IsRun opening.shape opening.passes run → (u : V) → EachBegins run u → EachBegins run (noted u)
     part run is [] b = (token_begins opening.shape opening.passes nobody [] run few is (run, refl), tt)

@@ -30,7 +30,6 @@ pub mod slots;
 pub mod snapshot;
 pub mod stepper;
 mod stepping;
-pub mod uncounted;
 
 pub use at_table::AtTable;
 pub use close_error::CloseError;

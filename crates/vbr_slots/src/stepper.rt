@@ -1,4 +1,15 @@
-//! What makes the steps of a pass: all that it has but the count of its steps.
+//! What makes the steps of a pass: all that it has but the count of its steps. Its methods are the steps
+//! of the table, for calls that make several and count them once for all; each is as the call of the same
+//! name on [`crate::Slots`], which counts its own.
+pub mod bearing;
+pub mod confirming;
+pub mod epoch;
+pub mod exchanging;
+pub mod loading;
+pub mod meeting;
+pub mod owning;
+pub mod reading;
+
 ghost use Rattle.std.specs.List.{position_from};
 ghost use Rattle.std.specs.Prelude.{◌≡◌, ◌==◌, ◌<◌, ◌≤◌, ◌⊎◌, [], ◌∷◌, ◌++◌, length, Some, Contains};
 ghost use Rattle.vbr_machine.specs.Acceptance.{IsFree};

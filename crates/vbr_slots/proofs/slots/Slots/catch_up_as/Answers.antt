@@ -3,7 +3,7 @@ use Rattle.vbr_machine.specs.Runs.{Begins}
 use Rattle.vbr_slots.specs.Rule.{first_opened, first_seen, noted}
 use Rattle.vbr_slots.specs.Tokens.{SeenView}
 use Rattle.vbr_slots.specs.Views.{Trace}
-use Rattle.vbr_slots.proofs.Members.{token_uncounted}
+use Rattle.vbr_slots.proofs.Members.{token_not_counted}
 use Rattle.vbr_slots.proofs.Seats.{joins}
 use Rattle.vbr_slots.proofs.Steps.{asks_to_catch, known, low_of, caught_up, caught_sound, since, seen_in, beside, wide}
 use Rattle.vbr_slots.proofs.slots.Slots.catch_up_as.Goals as goal
@@ -24,7 +24,7 @@ load-requires g c =
     let m = c.token.inside.seat.me.0 in
     let both = beside _ _ c.runner.inside.seat.me c.token.inside.seat.me c.join_seat.new.seat.me (known c.runner.inside w c.runner.invariant c.runner.view_is) c.token.invariant.alone c.join_seat.ensures.2 in
     asks_to_catch c.self.inside c.args.self.now c.self.invariant c.self.view_is w (low_of c.runner.inside w c.runner.invariant c.runner.view_is) c.requires.own _ (c.join_seat.ensures.0 ∙ ap (λ (v : Trace). v.table) c.runner.view_is) _ c.join_seat.new.seat.me (noted m)
-    both (λ number other. token_uncounted number (first_opened m) (first_seen m) other) _ _ c.requires.named
+    both (λ number other. token_not_counted number (first_opened m) (first_seen m) other) _ _ c.requires.named
 
 pub invariant_of-runner : goal.invariant_of-runner
 invariant_of-runner g c =

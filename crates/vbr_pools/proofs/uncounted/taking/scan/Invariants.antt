@@ -1,6 +1,0 @@
-use Rattle.vbr_slots.specs.AtTables.{IsSameTable}
-use Rattle.vbr_pools.proofs.Scanning.{Scanned}
-use Rattle.vbr_pools.proofs.uncounted.taking.scan.Given as goal
-
-abbrev pub invariant-loop-i : goal.invariant-loop-i
-invariant-loop-i g l = IsSameTable l.fn.at l.at × Scanned l.fn.at.pass.now l.at.pass.now l.fn.epoch l.fn.budget l.fn.used l.i l.used

@@ -1,0 +1,27 @@
+use Rattle.std.proofs.Common.{ℕ, ◌∙◌, rules}
+use Rattle.std.proofs.lemmas.List.Sorted.{IsNonDecreasingBy-from_sort_by_key, length_permutation}
+use Rattle.vbr_set.proofs.Closings.{each_made}
+use Rattle.vbr_set.proofs.LinkedEntries.{lists_entries}
+use Rattle.vbr_set.proofs.map.report.MapReport.of.Goals as goal
+
+pub returns : goal.returns
+returns c = λ map passes all valued e.
+    let entries = c.args.told.listed.items in
+    let sorted = c.sort_unstable_by_key.new.self.items in
+    let moved = c.sort_unstable_by_key.ensures.permutation in
+    record {
+      run = e.ends.run;
+      is_run = e.ends.is_run;
+      begins = e.ends.begins;
+      made = each_made map e.ends.run passes all e.ends.begins;
+      legal = c.a_run_is_a_map.ensures map.shape map.passes e.ends.run e.after.is_shape e.ends.is_run;
+      safe = e.ends.safe;
+      reports = record {
+        entries = lists_entries e.after valued entries sorted e.holds.listed moved (IsNonDecreasingBy-from_sort_by_key (λ (entry : ℕ × ℕ). entry.0) sorted c.sort_unstable_by_key.ensures.sorted (λ a r q k. search rules));
+        epoch = e.holds.epoch;
+        live = e.holds.live;
+        one_each = length_permutation entries sorted moved ∙ e.holds.one_each;
+        marked = e.holds.marked;
+        free = e.holds.free;
+      };
+    }

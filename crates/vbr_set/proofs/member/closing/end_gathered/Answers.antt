@@ -1,0 +1,36 @@
+use Rattle.std.proofs.Common.{◌≡◌, List, rules, ap, ◌∙◌, subst, sym}
+use Rattle.vbr_slots.specs.Views.{IsOf, PassView}
+use Rattle.vbr_set.specs.Members.{as_member}
+use Rattle.vbr_set.specs.Sharing.{AreOthers, ArePassesOf}
+use Rattle.vbr_set.proofs.Ends.{all_of, out_again, with_own}
+use Rattle.vbr_set.proofs.member.closing.end_gathered.Goals as goal
+
+pub report_by-told-requires-clause-of_set : goal.report_by-told-requires-clause-of_set
+report_by-told-requires-clause-of_set c = all_of c.args.set c.insert.new.self.items (with_own c.args.set c.args.passes.items c.insert.new.self.items c.who-who.result c.args.pass (search rules) c.requires.passes c.requires.ready.own)
+
+pub of-last-requires : goal.of-last-requires
+of-last-requires c =
+    let pass : c.remove-pass.result ≡ c.args.pass = search rules in
+    let passes : c.remove-pass.new.self.items ≡ c.args.passes.items = search (rules, out_again) in
+    record {
+      own = subst (λ (p : PassView). IsOf p.trace c.args.set) (sym pass) c.requires.ready.own;
+      empty_hand = ap (λ (p : PassView). p.hand) pass ∙ c.requires.ready.empty_hand;
+      comes_back = subst (λ (ps : List PassView). ArePassesOf c.args.set ps × AreOthers c.args.set ps) (sym passes) (c.requires.passes, c.requires.others);
+    }
+
+pub returns-in-Ok-clause-same : goal.returns-in-Ok-clause-same
+returns-in-Ok-clause-same c =
+    let pass : c.remove-pass.result ≡ c.args.pass = search rules in
+    c.of-last.ensures ∙ ap (as_member c.args.set) pass
+
+pub returns-in-Ok-clause-ended : goal.returns-in-Ok-clause-ended
+returns-in-Ok-clause-ended c = record {
+  passes = c.insert.new.self.items;
+  all = record {
+    of_set = with_own c.args.set c.args.passes.items c.insert.new.self.items c.who-who.result c.args.pass (search rules) c.requires.passes c.requires.ready.own;
+    count = search rules;
+    numbered = search rules;
+  };
+  own = search rules;
+  closes = search rules;
+}

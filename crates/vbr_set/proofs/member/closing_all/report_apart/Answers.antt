@@ -1,0 +1,32 @@
+use Rattle.std.proofs.Common.{◌≤◌, length, sym, subst, rules, arith}
+use Rattle.vbr_slots.specs.Closing.{AllOf}
+use Rattle.vbr_slots.specs.Views.{TableView}
+use Rattle.std.specs.Prelude.{IfOk}
+use Rattle.vbr_set.specs.Closing.{Closes}
+use Rattle.vbr_set.proofs.Apart.{all_of_first, all_parts_of, all_told, as_many_passes}
+use Rattle.vbr_set.proofs.member.closing_all.report_apart.Goals as goal
+
+pub report_by-requires-clause-of_set : goal.report_by-requires-clause-of_set
+report_by-requires-clause-of_set c =
+    let first = c.in-Some.first.now in
+    let shares = c.args.shares.now in
+    let passes = c.args.passes.now.items in
+    let all = all_of_first first shares passes c.requires.parts c.requires.one_set c.requires.enough (search rules) in
+    subst (λ (t : TableView). AllOf t passes) (sym c.set.ensures) (all_parts_of _ shares passes c.requires.parts all.0)
+
+pub report_by-requires-clause-all : goal.report_by-requires-clause-all
+report_by-requires-clause-all c =
+    let first = c.in-Some.first.now in
+    let shares = c.args.shares.now in
+    let passes = c.args.passes.now.items in
+    let all = all_of_first first shares passes c.requires.parts c.requires.one_set c.requires.enough (search rules) in
+    let many = as_many_passes shares passes c.requires.parts in
+    subst (λ (t : TableView). t.passes ≤ length passes) (sym c.set.ensures) (let some = all.1 in omega arith)
+
+pub returns-clause-report : goal.returns-clause-report
+returns-clause-report c =
+    let first = c.in-Some.first.now in
+    let shares = c.args.shares.now in
+    let passes = c.args.passes.now.items in
+    let all = all_of_first first shares passes c.requires.parts c.requires.one_set c.requires.enough (search rules) in
+    all_told first shares passes c.requires.parts all c.report_by.result (subst (λ (t : TableView). IfOk c.report_by.result (Closes t passes)) c.set.ensures c.report_by.ensures.report)

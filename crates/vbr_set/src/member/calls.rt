@@ -1,0 +1,99 @@
+//! The calls of a member.
+ghost use Rattle.std.specs.Prelude.{◌≡◌, []};
+ghost use Rattle.vbr_machine.specs.declared.history.Op.TheVariants.{Insert, Remove, Has};
+ghost use Rattle.vbr_set.specs.MemberView.{IsMember};
+ghost use Rattle.vbr_set.specs.Sharing.{CanComeBack, set_shared};
+ghost use Rattle.vbr_set.specs.Members.{Called};
+ghost use Rattle.vbr_slots.specs.Views.{IsOf};
+
+use crate::member::Member;
+use crate::member::share::Share;
+use vbr_list::Refusal;
+use vbr_slots::Pass;
+use vbr_words::Shape;
+
+impl Member {
+    /// Adds a key, in at most `budget` steps, and says whether it was absent: [`VbrSet::insert`] by
+    /// its pass, which has the source. While the other members stand still, 18n + slots + 82 steps are
+    /// enough, with n nodes in the key's bucket.
+    ///
+    /// # Errors
+    ///
+    /// OutOfSteps, NoSlot and EpochSpent, as there. After each the member has made no call, and can go on
+    /// at once.
+    ///
+    /// # Example
+    ///
+    /// ```rattle file=crates/vbr_example/src/worker.rt
+    /// member.insert(page, BUDGET)
+    /// ```
+    ///
+    /// [`VbrSet::insert`]: crate::VbrSet::insert
+    #[inline]
+    pub fn insert(&mut self, key: u64, budget: u32) -> Result<bool, Refusal>
+        ensures { Called Insert self.old self.new key budget result }
+    {
+        self.share.set().insert(&mut self.pass, key, budget)
+    }
+
+    /// Takes a key out, in at most `budget` steps, and says whether it was there: [`VbrSet::remove`]
+    /// by its pass, which has the source. While the other members stand still, 9n + 11 steps are enough,
+    /// with n nodes in the key's bucket.
+    ///
+    /// # Errors
+    ///
+    /// OutOfSteps alone. The member has made no call then, and can go on at once.
+    ///
+    /// # Example
+    ///
+    /// ```rattle file=crates/vbr_set_tests/src/worker.rt
+    /// let removed = self.member.remove(key, BUDGET)?;
+    /// ```
+    ///
+    /// [`VbrSet::remove`]: crate::VbrSet::remove
+    #[inline]
+    pub fn remove(&mut self, key: u64, budget: u32) -> Result<bool, Refusal>
+        ensures { Called Remove self.old self.new key budget result }
+    {
+        self.share.set().remove(&mut self.pass, key, budget)
+    }
+
+    /// Whether a key is in the set, in at most `budget` steps: [`VbrSet::has`] by its pass, which has the
+    /// source. It only loads words. While the other members stand still, 5n + 11 steps are enough, with n
+    /// nodes in the key's bucket.
+    ///
+    /// # Errors
+    ///
+    /// OutOfSteps alone. The member has made no call then, and can go on at once.
+    ///
+    /// # Example
+    ///
+    /// ```rattle file=crates/vbr_set_tests/src/worker.rt
+    /// self.member.has(key, BUDGET)
+    /// ```
+    ///
+    /// [`VbrSet::has`]: crate::VbrSet::has
+    #[inline]
+    pub fn has(&mut self, key: u64, budget: u32) -> Result<bool, Refusal>
+        ensures { Called Has self.old self.new key budget result }
+    {
+        self.share.set().has(&mut self.pass, key, budget)
+    }
+
+    /// The shape of its set, without the keys that the set opened with.
+    #[inline]
+    pub fn shape(&self) -> Shape
+        ensures { result ≡ record self.now.set.shape { keys = []; payloads = [] } }
+    {
+        self.share.set().shape()
+    }
+
+    /// Its pass, which tells its number, its steps and its own pool.
+    #[inline]
+    pub fn pass(&self) -> &Pass
+        ensures pass { result.now ≡ self.now.pass }
+        ensures own { IsOf self.now.pass.trace self.now.set }
+    {
+        &self.pass
+    }
+}

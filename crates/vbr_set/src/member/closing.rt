@@ -1,0 +1,200 @@
+//! Closing a set by its members, one after another.
+ghost use Rattle.std.specs.Prelude.{◌≡◌, ◌≤◌, [], true, false, length, IfOk, IfErr, IfSome};
+ghost use Rattle.std.specs.Arc.{arc_value};
+ghost use Rattle.std.specs.Vec.{vec_capacity};
+ghost use Rattle.vbr_set.specs.Ends.{AreNumbered, EndsWith, IsBack, IsLast, EndLacksMemory};
+ghost use Rattle.vbr_set.specs.Mailboxes.{IsIdle};
+ghost use Rattle.vbr_set.specs.Members.{as_member};
+ghost use Rattle.vbr_set.specs.Sharing.{AreOthers, ArePassesOf, AreMailboxesOf, HasOthers, IsSeatOf};
+
+use crate::end_error::EndError;
+use crate::member::Member;
+use crate::member::common::Common;
+use crate::member::mailbox::{Mailbox, SeatKnows};
+use crate::member::share::Share;
+use crate::report::Report;
+use crate::set::VbrSet;
+use atomic_table::Seat;
+use std::alloc::{AllocFailed, Global};
+use std::sync::Arc;
+use vbr_slots::Pass;
+
+impl Member {
+    /// Gives its pass back. While others have a share of the set, the answer is None. The last member
+    /// ends the set, and is told what is in it, as [`VbrSet::close`] tells it with all passes. The
+    /// member of a set that was opened for one is always the last.
+    ///
+    /// Only the last member needs memory: 9 bytes for each slot, for the report, and the words once
+    /// more while it runs. A close has no budget, and makes no call of the set.
+    ///
+    /// # Errors
+    ///
+    /// Only the last member gets one.
+    ///
+    /// - Lost: a pass isn't there. The set is gone. A member that is dropped gives its pass back, so no
+    ///   program is known to get it; a proof can't tell that all passes came.
+    /// - Memory: there is no room for the report. The member comes back as it was: it can make calls,
+    ///   and be closed again.
+    ///
+    /// # Example
+    ///
+    /// ```rattle file=crates/vbr_example/src/claiming.rt
+    /// for worker in workers {
+    ///     claimed = claimed.saturating_add(worker.claimed?);
+    ///     report = worker.member.close(alloc)?;
+    /// }
+    /// ```
+    ///
+    /// [`VbrSet::close`]: crate::VbrSet::close
+    pub fn close(self, alloc: Global) -> Result<Option<Report>, EndError>
+        ensures report { IfOk result (λ report. IfSome report (EndsWith self.set self.pass)) }
+        ensures stays { IfErr result (IsBack self.set self.pass) }
+        ensures alone { self.set.passes ≡ 1 → IsLast result }
+    {
+        match self.report_last(alloc)? {
+            Some((report, last)) => {
+                drop(last);
+                Ok(Some(report))
+            }
+            None => Ok(None),
+        }
+    }
+
+    /// Gives its pass back as [`Member::close`] does, and the last member is told the same report, but
+    /// the set doesn't end: the member comes back with the report, as it was. So who can't take the
+    /// report, for want of room, say, loses nothing; the member can make calls, and be closed again. The
+    /// set ends with it, also where it is dropped.
+    ///
+    /// Memory and errors are those of a close.
+    pub fn report_last(self, alloc: Global) -> Result<Option<(Report, Member)>, EndError>
+        ensures report { IfOk result
+            (λ told. IfSome told (λ last. EndsWith self.set self.pass last.0)) }
+        ensures same { IfOk result (λ told. IfSome told (λ last. last.1 ≡ self)) }
+        ensures stays { IfErr result (IsBack self.set self.pass) }
+        ensures alone { self.set.passes ≡ 1 → IsLast result }
+    {
+        let (share, pass) = self.into_parts();
+        let last = match share {
+            Share::Among(common, seat) => match leave(common, seat, pass) {
+                None => return Ok(None),
+                Some((set, mailboxes, pass)) => end_alone(alloc, set, mailboxes, pass)?,
+            },
+            Share::Alone(set, mailboxes) => end_alone(alloc, set, mailboxes, pass)?,
+            Share::Gathered(set, passes) => end_gathered(alloc, set, passes, pass)?,
+        };
+        Ok(Some(last))
+    }
+}
+
+// Lays a pass into its mailbox and gives the share of its set up. The last one gets the set, the mailboxes
+// of the other passes, and its pass again.
+pub(crate) fn leave(
+    common: Arc<Common, Global>,
+    mut seat: Seat<Option<Pass>, SeatKnows>,
+    pass: Pass,
+) -> Option<(VbrSet, Vec<Mailbox>, Pass)>
+    requires ready { IsIdle (arc_value common).set pass }
+    requires seat { IsSeatOf (arc_value common).mailboxes.items pass.trace.who
+        seat.table_id seat.id seat.me }
+    ensures set { IfSome result (λ r. r.0 ≡ (arc_value common).set) }
+    ensures mailboxes { IfSome result (λ r. AreMailboxesOf (arc_value common).set r.1.items) }
+    ensures pass { IfSome result (λ r. r.2 ≡ pass) }
+{
+    let who = pass.who() as usize;
+    common.mailboxes[who].put(&mut seat, pass);
+    let Common {
+        before: _,
+        set,
+        mut mailboxes,
+        after: _,
+    } = Arc::into_inner(common)?;
+    let own = mailboxes.remove(who).into_own(seat);
+    Some((set, mailboxes, own))
+}
+
+// Tells what is in a set whose other passes lie in their mailboxes.
+fn end_alone(
+    alloc: Global,
+    set: VbrSet,
+    mailboxes: Vec<Mailbox>,
+    pass: Pass,
+) -> Result<(Report, Member), EndError>
+    requires ready { IsIdle set pass }
+    requires mailboxes { AreMailboxesOf set mailboxes.items }
+    requires others { HasOthers set }
+    ensures ended { IfOk result (λ last. EndsWith set pass last.0) }
+    ensures same { IfOk result (λ last. last.1 ≡ as_member set pass) }
+    ensures stays { IfErr result (IsBack set pass) }
+{
+    let Ok(room) = Vec::with_capacity(alloc, mailboxes.len().saturating_add(1)) else {
+        let share = Share::Alone(set, mailboxes);
+        return Err(EndError::Memory(Member::of(share, pass)));
+    };
+    match gather(&set, mailboxes, room) {
+        Some(passes) => end_gathered(alloc, set, passes, pass),
+        None => Err(EndError::Lost),
+    }
+}
+
+// Takes the passes out of their mailboxes, in the order of the mailboxes, or none where one is missing.
+fn gather(set: &VbrSet, mailboxes: Vec<Mailbox>, mut passes: Vec<Pass>) -> Option<Vec<Pass>>
+    requires mailboxes { AreMailboxesOf set.now mailboxes.items }
+    requires room { (passes.items ≡ []) × (length mailboxes.items ≤ vec_capacity passes) }
+    ensures { IfSome result (λ passes. ArePassesOf set.now passes.items) }
+{
+    for mailbox in mailboxes {
+        let pass = mailbox.into_pass()?;
+        let Ok(()) = passes.push(pass) else {
+            unreachable!()
+        };
+    }
+    Some(passes)
+}
+
+// Tells what is in a set, with the other passes.
+fn end_gathered(
+    alloc: Global,
+    set: VbrSet,
+    mut passes: Vec<Pass>,
+    pass: Pass,
+) -> Result<(Report, Member), EndError>
+    requires ready { IsIdle set pass }
+    requires passes { ArePassesOf set passes.items }
+    requires others { AreOthers set passes.items }
+    ensures ended { IfOk result (λ last. EndsWith set pass last.0) }
+    ensures same { IfOk result (λ last. last.1 ≡ as_member set pass) }
+    ensures stays { IfErr result (IsBack set pass) }
+    ensures alone { set.passes ≡ 1 → IfErr result EndLacksMemory }
+{
+    let who = pass.who() as usize;
+    if who > passes.len() {
+        return Err(EndError::Lost);
+    }
+    if let Err(AllocFailed { value }) = passes.insert(who, pass) {
+        let share = Share::Gathered(set, passes);
+        return Err(EndError::Memory(Member::of(share, value)));
+    }
+    if passes.len() != set.count as usize || !are_numbered(&passes) {
+        return Err(EndError::Lost);
+    }
+    let told = set.report_by(alloc, &mut passes);
+    let pass = passes.remove(who);
+    let last = Member::of(Share::Gathered(set, passes), pass);
+    match told {
+        Ok(report) => Ok((report, last)),
+        Err(_) => Err(EndError::Memory(last)),
+    }
+}
+
+// Whether each pass stands at its number.
+fn are_numbered(passes: &[Pass]) -> bool
+    ensures yes { result ≡ true → AreNumbered passes.now }
+    ensures no { result ≡ false → ¬ (AreNumbered passes.now) }
+{
+    for number in 0..passes.len() {
+        if passes[number].who() as usize != number {
+            return false;
+        }
+    }
+    true
+}

@@ -1,0 +1,164 @@
+//! All members of a set at once.
+ghost use Rattle.std.specs.Prelude.{◌≡◌, ◌≤◌, ◌↔◌, [], true, false, length, IfErr, IfOk, OnOk};
+ghost use Rattle.std.specs.Vec.{vec_capacity};
+ghost use Rattle.vbr_set.specs.AllMembers.{AreOfOneSet, AreTooFew, HasBack, LacksMembers, ReportsAll};
+ghost use Rattle.vbr_set.specs.Apart.{AreParts, members_of};
+
+use crate::close_all_error::CloseAllError;
+use crate::member::Member;
+use crate::member::share::Share;
+use crate::report::Report;
+use std::alloc::{AllocError, Global};
+use std::sync::Arc;
+use vbr_slots::Pass;
+
+impl Member {
+    /// Ends a set by all its members at once, in any order, and tells what is in it: the keys that the
+    /// calls of all of them leave in a set with the keys that it opened with, in one legal history, which
+    /// begins with what each member has seen and has of each just the calls that it has made.
+    ///
+    /// It makes no call of the set. It takes 9 bytes for each slot, and the words once more while it runs.
+    /// A member that was given back by [`Member::close`] before doesn't come, so the others are closed
+    /// so too.
+    ///
+    /// # Errors
+    ///
+    /// They are tested in this order, and the members come back as they were.
+    ///
+    /// - Missing: there are fewer members than were opened with the set, or none.
+    /// - Memory: there is no room for the report.
+    ///
+    /// # Example
+    ///
+    /// ```rattle file=crates/vbr_set_tests/src/reports.rt
+    /// let report = Member::close_all(alloc, members)?;
+    /// ```
+    pub fn close_all(alloc: Global, members: Vec<Member>) -> Result<Report, CloseAllError>
+        requires { AreOfOneSet members.items }
+        ensures report { IfOk result (ReportsAll members.items) }
+        ensures back { IfErr result (HasBack members.items) }
+        ensures missing { IfErr result (λ error. LacksMembers error ↔ AreTooFew members.items) }
+        ensures enough { OnOk result (¬ (AreTooFew members.items)) }
+    {
+        let (report, all) = Member::report_all(alloc, members)?;
+        drop(all);
+        Ok(report)
+    }
+
+    /// Tells what is in a set by all its members, as [`Member::close_all`] does, and the set stays open: the
+    /// members come back beside the report as they were, and can make calls.
+    ///
+    /// Memory and errors are those of [`Member::close_all`].
+    pub fn report_all(
+        alloc: Global,
+        members: Vec<Member>,
+    ) -> Result<(Report, Vec<Member>), CloseAllError>
+        requires { AreOfOneSet members.items }
+        ensures report { IfOk result (λ told. ReportsAll members.items told.0) }
+        ensures same { IfOk result (λ told. told.1.items ≡ members.items) }
+        ensures back { IfErr result (HasBack members.items) }
+        ensures missing { IfErr result (λ error. LacksMembers error ↔ AreTooFew members.items) }
+        ensures enough { OnOk result (¬ (AreTooFew members.items)) }
+    {
+        if are_too_few(&members) {
+            return Err(CloseAllError::Missing(members));
+        }
+        let count = members.len();
+        let Ok(mut shares) = Vec::with_capacity(alloc, count) else {
+            return Err(CloseAllError::Memory(members));
+        };
+        let Ok(mut passes) = Vec::with_capacity(alloc, count) else {
+            return Err(CloseAllError::Memory(members));
+        };
+        let Ok(back) = Vec::with_capacity(alloc, count) else {
+            return Err(CloseAllError::Memory(members));
+        };
+        take_apart(members, &mut shares, &mut passes);
+        let told = report_apart(alloc, &shares, &mut passes);
+        let members = put_together(shares, passes, back);
+        match told {
+            Ok(report) => Ok((report, members)),
+            Err(_) => Err(CloseAllError::Memory(members)),
+        }
+    }
+
+    /// Whether the other member has its share of the same set in memory. It is a probe, for who can't know
+    /// it otherwise: it looks whether one more owner of the one is one more of the other. No contract says
+    /// what it answers; where neither set has a member that comes or goes meanwhile, it is right. It says
+    /// no of a member that is the last of its set.
+    pub fn is_beside(&self, other: &Member) -> bool {
+        match (&self.share, &other.share) {
+            (Share::Among(common, _), Share::Among(theirs, _)) => {
+                let before = Arc::strong_count(theirs);
+                let one_more = Arc::try_clone(common);
+                let with_it = Arc::strong_count(theirs);
+                drop(one_more);
+                with_it > before
+            }
+            _ => false,
+        }
+    }
+}
+
+// Whether there are fewer members than were opened with their set, or none.
+fn are_too_few(members: &[Member]) -> bool
+    ensures yes { result ≡ true → AreTooFew members.now }
+    ensures no { result ≡ false → ¬ (AreTooFew members.now) }
+{
+    let Some(first) = members.first() else {
+        return true;
+    };
+    let set = first.share.set();
+    members.len() < set.count as usize
+}
+
+// Tells what is in the set of these parts.
+fn report_apart(
+    alloc: Global,
+    shares: &[Share],
+    passes: &mut Vec<Pass>,
+) -> Result<Report, AllocError>
+    requires parts { AreParts shares.now passes.old.items }
+    requires one_set { AreOfOneSet (members_of shares.now passes.old.items) }
+    requires enough { ¬ (AreTooFew (members_of shares.now passes.old.items)) }
+    ensures same { passes.new.items ≡ passes.old.items }
+    ensures report { IfOk result (ReportsAll (members_of shares.now passes.old.items)) }
+{
+    let Some(first) = shares.first() else {
+        unreachable!()
+    };
+    first.set().report_by(alloc, passes)
+}
+
+// Takes members apart, in their order.
+fn take_apart(members: Vec<Member>, shares: &mut Vec<Share>, passes: &mut Vec<Pass>)
+    requires shares { (shares.old.items ≡ []) × (length members.items ≤ vec_capacity shares.old) }
+    requires passes { (passes.old.items ≡ []) × (length members.items ≤ vec_capacity passes.old) }
+    ensures parts { AreParts shares.new.items passes.new.items }
+    ensures members { members_of shares.new.items passes.new.items ≡ members.items }
+{
+    for member in members {
+        let (share, pass) = member.into_parts();
+        let (Ok(()), Ok(())) = (shares.push(share), passes.push(pass)) else {
+            unreachable!()
+        };
+    }
+}
+
+// Makes the members again, in their order.
+fn put_together(shares: Vec<Share>, passes: Vec<Pass>, mut members: Vec<Member>) -> Vec<Member>
+    requires members { (members.items ≡ []) × (length passes.items ≤ vec_capacity members) }
+    requires parts { AreParts shares.items passes.items }
+    ensures { result.items ≡ members_of shares.items passes.items }
+{
+    let mut shares = shares.into_iter();
+    for pass in passes {
+        let Some(share) = shares.next() else {
+            unreachable!()
+        };
+        let Ok(()) = members.push(Member::of(share, pass)) else {
+            unreachable!()
+        };
+    }
+    members
+}

@@ -1,0 +1,19 @@
+//! What the members of a set share.
+ghost use Rattle.std.specs.Prelude.{◌≡◌, All};
+
+use crate::member::mailbox::Mailbox;
+use crate::set::VbrSet;
+
+/// A set, with a mailbox for each of its passes to come back to, in the order of their numbers.
+///
+/// Nothing else lies on its lines of the cache: the memory before and behind it is written all the
+/// time.
+#[derive(Drop)]
+#[repr(C)]
+pub struct Common {
+    pub(crate) before: [u64; 16],
+    pub(crate) set: VbrSet,
+    pub(crate) mailboxes: Vec<Mailbox>,
+    pub(crate) after: [u64; 16],
+    ghost of_set: { All (λ mailbox. mailbox.table.shared.key ≡ set) mailboxes.items },
+}

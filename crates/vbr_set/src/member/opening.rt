@@ -1,0 +1,166 @@
+//! Opening a set for members.
+ghost use Rattle.std.specs.Prelude.{◌≡◌, ◌<◌, ◌≤◌, ◌↔◌, ◌⊎◌, All, false, length, map, IfOk, IsErrOf};
+ghost use Rattle.std.specs.List.Sorted.{IsStrictlyIncreasing};
+ghost use Rattle.vbr_slots.specs.Views.{new_passes};
+ghost use Rattle.vbr_set.specs.MemberView.{IsMember};
+ghost use Rattle.vbr_set.specs.Members.{AreNew, as_member};
+ghost use Rattle.vbr_set.specs.Seats.{AreSeats};
+ghost use Rattle.vbr_set.specs.Sharing.{HasOthers, IsPart, set_shared};
+
+use crate::VbrSet;
+use crate::member::Member;
+use crate::member::common::Common;
+use crate::member::mailbox::{Mailbox, SeatKnows};
+use crate::member::share::Share;
+use atomic_table::Seat;
+use std::alloc::{AllocError, Global};
+use std::sync::Arc;
+use vbr_slots::{OpenError, Pass};
+use vbr_words::Shape;
+
+impl Member {
+    /// Opens an empty set and gives its members, from 1 to 64 of them, in the order of their numbers,
+    /// which begin with 0. They have seen nothing. No call takes memory later, but for the close of
+    /// the last member.
+    ///
+    /// Besides what [`VbrSet::open`] takes, each member takes about 1,200 bytes. No pass has made a step
+    /// then.
+    ///
+    /// # Errors
+    ///
+    /// They are tested in this order, and nothing is kept then.
+    ///
+    /// - Passes: the number of passes is 0 or above 64.
+    /// - Memory: there is no room for the words or the members.
+    ///
+    /// # Example
+    ///
+    /// ```rattle file=crates/vbr_example/src/claiming.rt
+    /// let members = Member::open(alloc, Shape::new(64, 16, MAX_EPOCH)?, 4)?;
+    /// ```
+    pub fn open(alloc: Global, shape: Shape, passes: u32) -> Result<Vec<Member>, OpenError>
+        ensures members { IfOk result
+            (λ members. AreNew (record shape { values = false }) passes members.items) }
+        ensures refused { IsErrOf result OpenError.Passes ↔ ((passes ≡ 0) ⊎ (64 < passes)) }
+    {
+        let _slots = shape.slots();
+        Member::open_with(alloc, shape, passes, &[])
+    }
+
+    /// Opens a set that has these keys and gives its members, as [`Member::open`] does for an empty one.
+    /// The keys come ascending, each once, and there are no more of them than slots. The report of the
+    /// last member's [`Member::close`] has such keys, so with them a set goes on with a fresh epoch.
+    ///
+    /// Time and memory are those of [`VbrSet::open_with`], and about 1,200 bytes for each member.
+    ///
+    /// # Errors
+    ///
+    /// They are tested in this order, and nothing is kept then.
+    ///
+    /// - Passes: the number of passes is 0 or above 64.
+    /// - Memory: there is no room for the words, the keys or the members.
+    ///
+    /// # Example
+    ///
+    /// ```rattle file=crates/vbr_set_tests/src/renewals.rt
+    /// let members = Member::open_with(alloc, shape, 2, &report.keys)?;
+    /// ```
+    pub fn open_with(
+        alloc: Global,
+        shape: Shape,
+        passes: u32,
+        keys: &[u64],
+    ) -> Result<Vec<Member>, OpenError>
+        requires ascending { IsStrictlyIncreasing keys.now }
+        requires few { length keys.now ≤ shape.slots }
+        ensures members { IfOk result (λ members.
+            AreNew (record shape { values = false; keys = keys.now }) passes members.items) }
+        ensures refused { IsErrOf result OpenError.Passes ↔ ((passes ≡ 0) ⊎ (64 < passes)) }
+    {
+        let (set, opened) = VbrSet::open_with(alloc, shape, passes, keys)?;
+        match hand_out(alloc, set, opened) {
+            Ok(members) => Ok(members),
+            Err(_) => Err(OpenError::Memory),
+        }
+    }
+
+    // A member with what it has of its set.
+    pub(crate) fn of(share: Share, pass: Pass) -> Member
+        requires { IsPart share pass }
+        ensures { result ≡ as_member (set_shared share) pass }
+    {
+        Member {
+            before: [0; 16],
+            share,
+            pass,
+            after: [0; 16],
+        }
+    }
+}
+
+// A mailbox for each of so many passes, and a seat of each of them.
+fn make_mailboxes(
+    alloc: Global,
+    set: &VbrSet,
+    count: usize,
+) -> Result<(Vec<Mailbox>, Vec<Seat<Option<Pass>, SeatKnows>>), AllocError>
+    ensures mailboxes { IfOk result
+        (λ r. All (λ mailbox. mailbox.table.shared.key ≡ set.now) r.0.items) }
+    ensures seats { IfOk result (λ r. AreSeats r.0.items 0 r.1.items) }
+    ensures count { IfOk result (λ r. length r.1.items ≡ count) }
+{
+    let mut mailboxes = Vec::with_capacity(alloc, count)?;
+    let mut seats = Vec::with_capacity(alloc, count)?;
+    for _ in 0..count {
+        let (mailbox, seat) = Mailbox::new(alloc, set)?;
+        mailboxes.push(mailbox)?;
+        seats.push(seat)?;
+    }
+    Ok((mailboxes, seats))
+}
+
+// Makes a member with each of the passes of a set. One that is alone has the set.
+fn hand_out(alloc: Global, set: VbrSet, mut passes: Vec<Pass>) -> Result<Vec<Member>, AllocError>
+    requires new { passes.items ≡ new_passes set 0 (length passes.items) }
+    requires all { set.passes ≡ length passes.items }
+    ensures { IfOk result (λ members.
+        members.items ≡ map (λ pass. record { set = set; pass = pass }) passes.items) }
+{
+    if passes.len() > 1 {
+        return share_out(alloc, set, passes);
+    }
+    let mut members = Vec::with_capacity(alloc, 1)?;
+    if let Some(pass) = passes.pop() {
+        members.push(Member::of(Share::Gathered(set, passes), pass))?;
+    }
+    Ok(members)
+}
+
+// Makes a member, with a share of the set, with each of its passes.
+fn share_out(alloc: Global, set: VbrSet, passes: Vec<Pass>) -> Result<Vec<Member>, AllocError>
+    requires new { passes.items ≡ new_passes set 0 (length passes.items) }
+    requires others { HasOthers set }
+    ensures { IfOk result (λ members.
+        members.items ≡ map (λ pass. record { set = set; pass = pass }) passes.items) }
+{
+    let (mailboxes, seats) = make_mailboxes(alloc, &set, passes.len())?;
+    let mut members = Vec::with_capacity(alloc, passes.len())?;
+    let common = Arc::new(
+        alloc,
+        Common {
+            before: [0; 16],
+            set,
+            mailboxes,
+            after: [0; 16],
+        },
+    )?;
+    let mut seats = seats.into_iter();
+    for pass in passes {
+        let Some(seat) = seats.next() else {
+            unreachable!()
+        };
+        let share = Share::Among(Arc::try_clone(&common)?, seat);
+        members.push(Member::of(share, pass))?;
+    }
+    Ok(members)
+}

@@ -1,0 +1,20 @@
+//! What a member has of its set.
+use crate::member::common::Common;
+use crate::member::mailbox::{Mailbox, SeatKnows};
+use crate::set::VbrSet;
+use atomic_table::Seat;
+use std::alloc::Global;
+use std::sync::Arc;
+use vbr_slots::Pass;
+
+/// What a member has of its set.
+#[derive(Drop)]
+pub enum Share {
+    /// A share of it, with the right to lay its pass into its mailbox.
+    Among(Arc<Common, Global>, Seat<Option<Pass>, SeatKnows>),
+    /// All of it, with the mailboxes of the other passes, after a close that found no memory.
+    Alone(VbrSet, Vec<Mailbox>),
+    /// All of it, with the other passes, after a close that found no memory later on; or with none,
+    /// where it was opened for one pass.
+    Gathered(VbrSet, Vec<Pass>),
+}

@@ -1,0 +1,82 @@
+//! Opening a set.
+ghost use Rattle.std.specs.Prelude.{◌≡◌, ◌<◌, ◌≤◌, ◌↔◌, ◌⊎◌, false, length, IfOk, IsErrOf};
+ghost use Rattle.std.specs.List.Sorted.{IsStrictlyIncreasing};
+ghost use Rattle.vbr_slots.specs.Views.{new_passes};
+
+use crate::VbrSet;
+use std::alloc::Global;
+use vbr_slots::{OpenError, Pass, Slots};
+use vbr_words::Shape;
+
+impl VbrSet {
+    /// Opens an empty set, with so many passes, from 1 to 64. They stand in the order of their
+    /// numbers, which begin with 0, and have seen nothing. No call takes memory later, but for
+    /// [`VbrSet::close`]. It takes 8 * (2 + buckets + 4 * slots + slots / 64) bytes, the last part
+    /// rounded up, 320 for each pass, and the words once more while it runs. No pass has made a step
+    /// then. Each slot is in the shared pool, which the passes take from and put back into (Sheffi,
+    /// Herlihy and Petrank 2021).
+    ///
+    /// # Errors
+    ///
+    /// They are tested in this order, and nothing is kept then.
+    ///
+    /// - Passes: the number of passes is 0 or above 64.
+    /// - Memory: there is no room for the words or the passes.
+    ///
+    /// # Example
+    ///
+    /// ```rattle file=crates/vbr_set_tests/src/set.rt
+    /// match VbrSet::open(alloc, shape, passes) {
+    /// ```
+    pub fn open(alloc: Global, shape: Shape, passes: u32) -> Result<(VbrSet, Vec<Pass>), OpenError>
+        ensures table { IfOk result (λ r.
+            (r.0.shape ≡ record shape { values = false }) × (r.0.passes ≡ passes)) }
+        ensures passes { IfOk result (λ r. r.1.items ≡ new_passes r.0 0 passes) }
+        ensures refused { IsErrOf result OpenError.Passes ↔ ((passes ≡ 0) ⊎ (64 < passes)) }
+    {
+        let _slots = shape.slots();
+        VbrSet::open_with(alloc, shape, passes, &[])
+    }
+
+    /// Opens a set that has these keys, with so many passes, as [`VbrSet::open`] opens an empty one: the
+    /// keys are there before any call. They come ascending, each once, and there are no more of them
+    /// than slots. Key number i, from 0, stands in slot i, and the other slots are in the shared pool.
+    ///
+    /// It takes time in proportion to the number of words and of keys: for each key it reads three words
+    /// and writes five, in no order of memory. Besides what [`VbrSet::open`] takes it takes a copy of the
+    /// keys while it runs, 8 bytes for each.
+    ///
+    /// # Errors
+    ///
+    /// They are tested in this order, and nothing is kept then.
+    ///
+    /// - Passes: the number of passes is 0 or above 64.
+    /// - Memory: there is no room for the words, the keys or the passes.
+    ///
+    /// # Example
+    ///
+    /// ```rattle file=crates/vbr_set/src/set/renewing.rt
+    /// match VbrSet::open_with(alloc, shape, count, &report.keys) {
+    /// ```
+    pub fn open_with(
+        alloc: Global,
+        shape: Shape,
+        passes: u32,
+        keys: &[u64],
+    ) -> Result<(VbrSet, Vec<Pass>), OpenError>
+        requires ascending { IsStrictlyIncreasing keys.now }
+        requires few { length keys.now ≤ shape.slots }
+        ensures table { IfOk result (λ r.
+            (r.0.shape ≡ record shape { values = false; keys = keys.now })
+            × (r.0.passes ≡ passes)) }
+        ensures passes { IfOk result (λ r. r.1.items ≡ new_passes r.0 0 passes) }
+        ensures refused { IsErrOf result OpenError.Passes ↔ ((passes ≡ 0) ⊎ (64 < passes)) }
+    {
+        let (slots, opened) = Slots::open_with(alloc, shape, passes, keys)?;
+        let set = VbrSet {
+            slots,
+            count: passes,
+        };
+        Ok((set, opened))
+    }
+}
