@@ -1,11 +1,11 @@
 //! Maps that open with entries, and maps that are renewed.
-ghost use Rattle.std.specs.Prelude.{◌≡◌, None, length, IfOk};
-ghost use Rattle.vbr_slots.specs.Views.{IsOf, new_passes};
+ghost use Rattle.std.specs.Prelude.{◌≡◌, IfOk};
+ghost use Rattle.vbr_slots.specs.Views.{new_passes};
 
 use std::alloc::Global;
 use std::process::Abort;
 use std::test::Fail;
-use vbr_set::{MapReport, Pass, Shape, VbrMap};
+use vbr_set::{MapReport, Pass, Shape, VbrMap, VbrMapRef};
 
 const ENTRIES: [(u64, u64); 3] = [(2, 70), (5, 71), (9, 70)];
 
@@ -67,31 +67,30 @@ fn a_map_waits_for_its_passes(rt: HostRuntime) -> Result<(), Fail> {
 }
 
 // One key comes, stays as it is, is given, taken out, and comes again with another value.
-fn store_and_take(rt: &impl Abort, map: &VbrMap, pass: &mut Pass)
-    requires own { IsOf pass.old.trace map.now }
-    requires empty_hand { pass.old.hand ≡ None }
-    ensures { IsOf pass.new.trace map.now }
+fn store_and_take(rt: &impl Abort, caller: &mut VbrMapRef)
+    ensures { caller.new.set ≡ caller.old.set }
 {
-    assert_eq!(rt; map.insert(pass, 5, 70, 100), Ok(true));
-    assert_eq!(rt; map.insert(pass, 5, 71, 100), Ok(false));
-    assert_eq!(rt; map.get(pass, 5, 100), Ok(Some(70)));
-    assert_eq!(rt; map.remove(pass, 5, 100), Ok(Some(70)));
-    assert_eq!(rt; map.get(pass, 5, 100), Ok(None));
-    assert_eq!(rt; map.insert(pass, 5, 71, 100), Ok(true));
-    assert_eq!(rt; map.get(pass, 5, 100), Ok(Some(71)));
-    assert_eq!(rt; map.has(pass, 5, 100), Ok(true));
-    assert_eq!(rt; map.insert(pass, 6, 0, 100), Ok(true));
+    assert_eq!(rt; caller.insert(5, 70, 100), Ok(true));
+    assert_eq!(rt; caller.insert(5, 71, 100), Ok(false));
+    assert_eq!(rt; caller.get(5, 100), Ok(Some(70)));
+    assert_eq!(rt; caller.remove(5, 100), Ok(Some(70)));
+    assert_eq!(rt; caller.get(5, 100), Ok(None));
+    assert_eq!(rt; caller.insert(5, 71, 100), Ok(true));
+    assert_eq!(rt; caller.get(5, 100), Ok(Some(71)));
+    assert_eq!(rt; caller.has(5, 100), Ok(true));
+    assert_eq!(rt; caller.insert(6, 0, 100), Ok(true));
 }
 
 /// A key has the value that was stored with it when it came, until it is removed.
 #[test]
 fn a_key_keeps_its_value(rt: HostRuntime) -> Result<(), Fail> {
     let (map, mut passes) = VbrMap::open(rt.alloc(), Shape::new(4, 2, 10)?, 1)?;
-    let Some(mut pass) = passes.pop() else {
+    let Some(pass) = passes.pop() else {
         panic!(rt; "no pass")
     };
-    store_and_take(&rt, &map, &mut pass);
-    passes.push(pass)?;
+    let mut caller = map.with_pass(pass);
+    store_and_take(&rt, &mut caller);
+    passes.push(caller.into_pass())?;
     let report = map.close(rt.alloc(), passes)?;
     assert_eq!(rt; report.entries.as_slice(), [(5, 71), (6, 0)].as_slice());
     assert_eq!(rt; (report.live, report.marked, report.free), (2, 0, 2));

@@ -72,7 +72,9 @@ impl<'s> VbrSetRef<'s> {
     {
         self.set.remove(&mut self.pass, key, budget)
     }
+}
 
+impl<'s, N: Nodes> VbrSetRef<'s, N> {
     /// Whether a key is in the set, in at most `budget` steps: [`VbrSet::has`], which has the source. It
     /// only loads words. While the other passes stand still, 5n + 11 steps are enough, with n nodes in the
     /// key's bucket.
@@ -92,9 +94,7 @@ impl<'s> VbrSetRef<'s> {
     {
         self.set.has(&mut self.pass, key, budget)
     }
-}
 
-impl<'s, N: Nodes> VbrSetRef<'s, N> {
     /// Lets its pass see all that another of its set has seen: [`VbrSet::meet`]. It is one step, and
     /// can't fail. `a.meet(&mut b)` lets `a` see what `b` has seen.
     ///
