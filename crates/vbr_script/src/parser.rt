@@ -9,7 +9,9 @@ ghost use Rattle.vbr_script.specs.declared.script.Kind.TheVariants.{Set, Map};
 
 use crate::number::number;
 use crate::operation::{operation, with_value};
-use crate::script::{Kind, Line, MAX_OPERATIONS, MAX_SYNCS, Meaning, Script, ScriptError, ScriptFault};
+use crate::script::{
+    Kind, Line, MAX_OPERATIONS, MAX_SYNCS, Meaning, Script, ScriptError, ScriptFault,
+};
 use crate::text::{first_line, first_token};
 use std::alloc::Global;
 use vbr_machine::Op;
@@ -55,12 +57,7 @@ pub fn parse_map_script(alloc: Global, text: &[u8], workers: u32) -> Result<Scri
 }
 
 // Reads a script of this kind.
-fn parse(
-    alloc: Global,
-    kind: Kind,
-    text: &[u8],
-    workers: u32,
-) -> Result<Script, ScriptError>
+fn parse(alloc: Global, kind: Kind, text: &[u8], workers: u32) -> Result<Script, ScriptError>
     ensures script { IfOk result (IsScriptOf kind workers text.now) }
     ensures fault { (line : ℕ) (fault : ScriptFault) →
         IsErrOf result (ScriptError.Fault line fault) →
