@@ -19,26 +19,27 @@ use Rattle.vbr_player.specs.declared.worker.Worker.{Worker}
 use Rattle.vbr_script.specs.declared.script.Line.{Line}
 use Rattle.vbr_player.proofs.PlayedWhole.{are_played, have_replies, have_played}
 use Rattle.vbr_transcript.proofs.Lemmas.{set_run_of_workers}
+use Rattle.vbr_script.specs.declared.script.Kind.TheVariants.{Set}
 
 -- each worker has a reply to each of its lines
-pub merges : (set : TableView) (budget : ℕ) (lines : List Line) (from phases : ℕ) (passes : List PassView) (own : List (List Reply)) → ArePhased set.passes phases lines → PlayedWhole set budget lines from phases passes own → HaveReplies own lines
+pub merges : {N : Type 0} → (set : TableView) (budget : ℕ) (lines : List Line) (from phases : ℕ) (passes : List PassView) (own : List (List Reply)) → ArePhased Set set.passes phases lines → PlayedWhole N set budget lines from phases passes own → HaveReplies own lines
 merges set budget lines from phases passes own phased played = subst (λ (some : List (List Reply)). HaveReplies some lines) (sym played.replies_are) (have_replies set budget lines set.passes from phases played.workers phased played.stand)
 
 -- the passes are those of the set
-all_of : (set : TableView) (budget most : ℕ) (script lines : List Line) (workers : List Worker) → All (HasPlayed set budget most script lines) workers → AllOf set (passes_of workers)
+all_of : {N : Type 0} → (set : TableView) (budget most : ℕ) (script lines : List Line) (workers : List (Worker N)) → All (HasPlayed set budget most script lines) workers → AllOf set (passes_of workers)
 all_of set budget most script lines [] played = tt
 all_of set budget most script lines (worker ∷ workers) played =
     ((All-head (HasPlayed set budget most script lines) worker workers played).of, all_of set budget most script lines workers (All-tail (HasPlayed set budget most script lines) worker workers played))
 
-pub closes : (set : TableView) (budget : ℕ) (script : List Line) (from phases : ℕ) (passes : List PassView) (own : List (List Reply)) → PlayedWhole set budget script from phases passes own → AllOf set passes
+pub closes : {N : Type 0} → (set : TableView) (budget : ℕ) (script : List Line) (from phases : ℕ) (passes : List PassView) (own : List (List Reply)) → PlayedWhole N set budget script from phases passes own → AllOf set passes
 closes set budget script from phases passes own played = subst (AllOf set) (sym played.passes_are) (all_of set budget ((set.passes - 1) * (phases - from)) script script played.workers played.stand.played)
 
 -- and there are as many
-pub as_many : (set : TableView) (budget : ℕ) (lines : List Line) (from phases : ℕ) (passes : List PassView) (own : List (List Reply)) → PlayedWhole set budget lines from phases passes own → length passes ≡ set.passes
-as_many set budget lines from phases passes own played = ap length played.passes_are ∙ length-map played.workers (λ (worker : Worker). worker.caller.pass) ∙ played.stand.count_is
+pub as_many : {N : Type 0} → (set : TableView) (budget : ℕ) (lines : List Line) (from phases : ℕ) (passes : List PassView) (own : List (List Reply)) → PlayedWhole N set budget lines from phases passes own → length passes ≡ set.passes
+as_many {N} set budget lines from phases passes own played = ap length played.passes_are ∙ length-map played.workers (λ (worker : Worker N). worker.caller.pass) ∙ played.stand.count_is
 
 -- a set whose passes have played lines has, when it is closed
-pub closed : (set : TableView) (budget : ℕ) (lines : List Line) (from phases : ℕ) (passes : List PassView) (replies : List Reply) (report : Report) → ArePhased set.passes phases lines → 0 < set.passes → PlayedSpan set budget lines from phases passes replies → Closes set passes report → HasPlayedSpan set budget lines (phases - from) replies report
+pub closed : {N : Type 0} → (set : TableView) (budget : ℕ) (lines : List Line) (from phases : ℕ) (passes : List PassView) (replies : List Reply) (report : Report) → ArePhased Set set.passes phases lines → 0 < set.passes → PlayedSpan N set budget lines from phases passes replies → Closes set passes report → HasPlayedSpan set budget lines (phases - from) replies report
 closed set budget lines from phases passes replies report phased some played closes =
     let whole = played.whole in
     let seen : EachSeen closes.run (passes_of whole.workers) = subst (EachSeen closes.run) whole.passes_are closes.begins in
@@ -46,13 +47,13 @@ closed set budget lines from phases passes replies report phased some played clo
     record {
       one_each = merged.one_each;
       run = closes.run;
-      of_set = set_run_of_workers (ArePlayed set.passes budget) set.shape set.passes phases (phases - from) lines (replies_of whole.workers) replies closes.run (are_played set budget lines from phases whole.workers replies closes.run phased whole.stand seen merged) phased merged closes.is_run closes.safe (have_played set budget lines set.passes from phases whole.workers closes.run some whole.stand seen closes.safe);
+      of_set = set_run_of_workers Set (ArePlayed set.passes budget) set.shape set.passes phases (phases - from) lines (replies_of whole.workers) replies closes.run (are_played set budget lines from phases whole.workers replies closes.run phased whole.stand seen merged) phased merged closes.is_run closes.safe closes.safe.legal (have_played set budget lines set.passes from phases whole.workers closes.run some whole.stand seen closes.safe);
       keys = closes.reports.keys;
       epoch = closes.reports.epoch;
     }
 
 -- and so does one that is renewed, and another follows it
-pub followed : (set : TableView) (budget : ℕ) (lines : List Line) (from phases : ℕ) (passes : List PassView) (replies : List Reply) (next : TableView) → ArePhased set.passes phases lines → 0 < set.passes → PlayedSpan set budget lines from phases passes replies → Renews set passes next → IsFollowed set budget lines (phases - from) replies next
+pub followed : {N : Type 0} → (set : TableView) (budget : ℕ) (lines : List Line) (from phases : ℕ) (passes : List PassView) (replies : List Reply) (next : TableView) → ArePhased Set set.passes phases lines → 0 < set.passes → PlayedSpan N set budget lines from phases passes replies → Renews set passes next → IsFollowed set budget lines (phases - from) replies next
 followed set budget lines from phases passes replies next phased some played renews = record {
   report = renews.report;
   played = closed set budget lines from phases passes replies renews.report phased some played renews.closes;

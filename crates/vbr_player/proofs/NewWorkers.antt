@@ -29,7 +29,7 @@ new_is_of set n passes before pass after are all =
     one_behind (λ (p : PassView). IsOf p.trace set × (p.hand ≡ None)) before pass after (subst (λ (ps : List PassView). All (λ p. IsOf p.trace set × (p.hand ≡ None)) ps) (sym (all ∙ are)) (new_are_of set 0 n))
 
 -- a new worker has played no lines
-new_played : (set : TableView) (budget most : ℕ) (script : List Line) (who : ℕ) (worker : Worker) → IsNew set script (new_pass set who) worker → HasPlayed set budget most script [] worker
+new_played : {N : Type 0} → (set : TableView) (budget most : ℕ) (script : List Line) (who : ℕ) (worker : Worker N) → IsNew set script (new_pass set who) worker → HasPlayed set budget most script [] worker
 new_played set budget most script who worker new =
     let is : worker.caller.pass ≡ new_pass set who = ap (λ (m : MemberView). m.pass) new.caller_is in
     let number : worker.caller.pass.trace.who ≡ who = ap (λ (p : PassView). p.trace.who) is in
@@ -46,7 +46,7 @@ new_played set budget most script who worker new =
       room = omega arith;
     }
 
-all_played : (set : TableView) (budget most : ℕ) (script : List Line) (who n : ℕ) (workers : List Worker) → AllZip (IsNew set script) (new_passes set who n) workers → (length workers ≡ n) × AreNumberedFrom who workers × All (HasPlayed set budget most script []) workers
+all_played : {N : Type 0} → (set : TableView) (budget most : ℕ) (script : List Line) (who n : ℕ) (workers : List (Worker N)) → AllZip (IsNew set script) (new_passes set who n) workers → (length workers ≡ n) × AreNumberedFrom who workers × All (HasPlayed set budget most script []) workers
 all_played set budget most script who zero [] are = (refl, tt, All-nil (HasPlayed set budget most script []))
 all_played set budget most script who (suc n) (w ∷ ws) are =
     let rest = all_played set budget most script (suc who) n ws are.1 in
@@ -54,13 +54,13 @@ all_played set budget most script who (suc n) (w ∷ ws) are =
 all_played set budget most script who zero (w ∷ ws) are = absurd are
 all_played set budget most script who (suc n) [] are = absurd are
 
-pub new_stand : (set : TableView) (script : List Line) (passes : List PassView) (n : ℕ) (workers : List Worker) → passes ≡ new_passes set 0 n → AllZip (IsNew set script) passes workers → (budget : ℕ) → Stand set budget script [] n 0 0 workers
+pub new_stand : {N : Type 0} → (set : TableView) (script : List Line) (passes : List PassView) (n : ℕ) (workers : List (Worker N)) → passes ≡ new_passes set 0 n → AllZip (IsNew set script) passes workers → (budget : ℕ) → Stand set budget script [] n 0 0 workers
 new_stand set script passes n workers is are budget =
     let all = all_played set budget ((n - 1) * (0 - 0)) script 0 n workers (subst (λ (ps : List PassView). AllZip (IsNew set script) ps workers) is are) in
     record { count_is = all.0; order = omega arith; numbered = all.1; played = all.2; ended = λ phase none. absurd (omega arith) }
 
 -- behind phases that have no lines they stand too
-pub stand_from : (set : TableView) (budget : ℕ) (script : List Line) (from count : ℕ) (workers : List Worker) → AscendFrom from script → Stand set budget script [] count 0 0 workers → Stand set budget script [] count from from workers
+pub stand_from : {N : Type 0} → (set : TableView) (budget : ℕ) (script : List Line) (from count : ℕ) (workers : List (Worker N)) → AscendFrom from script → Stand set budget script [] count 0 0 workers → Stand set budget script [] count from from workers
 stand_from set budget script from count workers up stand = record {
   count_is = stand.count_is;
   order = omega arith;

@@ -21,11 +21,12 @@ use Rattle.vbr_list.specs.Sparing.{Spares}
 use Rattle.vbr_set.specs.Members.{MemberView, Called}
 use Rattle.vbr_transcript.specs.Calls.{Outcome, answer_of, answered_calls, lines_by}
 use Rattle.vbr_transcript.specs.declared.reply.Reply.{Reply}
-use Rattle.vbr_player.specs.Calling.{CallsInTurn, reply_told}
+use Rattle.vbr_player.specs.Calling.{CallsInTurn, IsCalled, reply_told}
 use Rattle.vbr_player.specs.Working.{Played, TellsReply}
 use Rattle.vbr_script.specs.declared.script.Line.{Line}
 use Rattle.vbr_player.specs.declared.worker.Worker.{Worker}
 use Rattle.vbr_player.proofs.Calling.{one_turn}
+use Rattle.vbr_script.specs.declared.script.Kind.TheVariants.{Set}
 
 -- what a refusal tells
 tells : (op : Op) (p q : PassView) (key budget : ℕ) (refusal : Refusal) → IsSafe q.trace.shape q.trace.seen → Spares op p q key budget (Err refusal) → TellsReply q.trace op (reply_told (Err refusal))
@@ -47,7 +48,7 @@ pub record Replied (line : Line) (reply : Reply) (p q : MemberView) : Type 0 whe
   pub set : q.set ≡ p.set
   pub same : IsSame p.pass.trace q.pass.trace
   pub seen : Begins p.pass.trace.seen q.pass.trace.seen
-  pub calls : made_by q.pass.trace ≡ made_by p.pass.trace ++ answer_of line reply
+  pub calls : made_by q.pass.trace ≡ made_by p.pass.trace ++ answer_of Set line reply
   pub tells : TellsReply q.pass.trace line.op reply
 
 -- an answer makes the call of the line, and a refusal none
@@ -65,36 +66,36 @@ replied line p q budget (Err (EpochSpent epoch)) who called =
     record { set = called.set; same = called.same; seen = called.quiet.seen; calls = called.quiet.calls ∙ sym (append-nil _); tells = tells line.op p.pass q.pass line.key budget (EpochSpent epoch) called.safe.safe called.spares }
 
 -- a worker played a line of its own
-pub line_played : (line : Line) (budget : ℕ) (result : Result Bool Refusal) (p q : Worker) → line.worker ≡ p.caller.pass.trace.who → Called line.op p.caller q.caller line.key budget result → q.replies.items ≡ p.replies.items ++ reply_told result ∷ [] → vec_capacity p.replies ≤ vec_capacity q.replies → Played budget (line ∷ []) p q
-line_played line budget result p q who called replies room =
-    let one = replied line p.caller q.caller budget result who called in
+pub line_played : {N : Type 0} → (line : Line) (budget : ℕ) (reply : Reply) (p q : Worker N) → line.worker ≡ p.caller.pass.trace.who → IsCalled budget (line, reply) p.caller q.caller → q.replies.items ≡ p.replies.items ++ reply ∷ [] → vec_capacity p.replies ≤ vec_capacity q.replies → Played budget (line ∷ []) p q
+line_played line budget reply p q who called replies room =
+    let one = subst (λ (r : Reply). Replied line r p.caller q.caller) (sym called.2) (replied line p.caller q.caller budget called.0 who called.1) in
     let own : lines_by p.caller.pass.trace.who (line ∷ []) ≡ line ∷ [] = rw (eq-eqb line.worker p.caller.pass.trace.who who) refl in
-    let outcomes : (line, reply_told result) ∷ [] ≡ zip (lines_by p.caller.pass.trace.who (line ∷ [])) (reply_told result ∷ []) = ap (λ (lines : List Line). zip lines (reply_told result ∷ [])) (sym own) in
+    let outcomes : (line, reply) ∷ [] ≡ zip (lines_by p.caller.pass.trace.who (line ∷ [])) (reply ∷ []) = ap (λ (lines : List Line). zip lines (reply ∷ [])) (sym own) in
     let told = λ (outcome : Outcome). TellsReply q.caller.pass.trace outcome.0.op outcome.1 in
-    let P : List Outcome → Type 0 = λ some. (made_by q.caller.pass.trace ≡ made_by p.caller.pass.trace ++ answered_calls some) × All told some × CallsInTurn budget some p.caller q.caller in
-    let calls : made_by q.caller.pass.trace ≡ made_by p.caller.pass.trace ++ answered_calls ((line, reply_told result) ∷ []) = one.calls ∙ ap (λ (some : List Call). made_by p.caller.pass.trace ++ some) (sym (append-nil (answer_of line (reply_told result)))) in
-    let all : P ((line, reply_told result) ∷ []) = (calls, All-cons told (line, reply_told result) [] one.tells (All-nil told), one_turn budget (line, reply_told result) p.caller q.caller (result, called, refl)) in
-    let now : P (zip (lines_by p.caller.pass.trace.who (line ∷ [])) (reply_told result ∷ [])) = subst P outcomes all in
+    let P : List Outcome → Type 0 = λ some. (made_by q.caller.pass.trace ≡ made_by p.caller.pass.trace ++ answered_calls Set some) × All told some × CallsInTurn budget some p.caller q.caller in
+    let calls : made_by q.caller.pass.trace ≡ made_by p.caller.pass.trace ++ answered_calls Set ((line, reply) ∷ []) = one.calls ∙ ap (λ (some : List Call). made_by p.caller.pass.trace ++ some) (sym (append-nil (answer_of Set line reply))) in
+    let all : P ((line, reply) ∷ []) = (calls, All-cons told (line, reply) [] one.tells (All-nil told), one_turn budget (line, reply) p.caller q.caller called) in
+    let now : P (zip (lines_by p.caller.pass.trace.who (line ∷ [])) (reply ∷ [])) = subst P outcomes all in
     record {
       set = one.set;
       same = one.same;
       seen = one.seen;
-      more = reply_told result ∷ [];
+      more = reply ∷ [];
       replies = replies;
       one_each = sym (ap length own);
       calls = now.0;
       tells = now.1;
       in_turn = now.2;
-      steps = (let few = called.steps.within in let made = called.steps.took.made in omega arith);
+      steps = (let few = called.1.steps.within in let made = called.1.steps.took.made in omega arith);
       room = room;
     }
 
 -- or left one of another alone
-pub line_left : (line : Line) (budget : ℕ) (p : Worker) → line.worker ≢ p.caller.pass.trace.who → Played budget (line ∷ []) p p
+pub line_left : {N : Type 0} → (line : Line) (budget : ℕ) (p : Worker N) → line.worker ≢ p.caller.pass.trace.who → Played budget (line ∷ []) p p
 line_left line budget p other =
     let none : lines_by p.caller.pass.trace.who (line ∷ []) ≡ [] = rw (ne_eqb line.worker p.caller.pass.trace.who other) refl in
     let told = λ (outcome : Outcome). TellsReply p.caller.pass.trace outcome.0.op outcome.1 in
-    let P : List Line → Type 0 = λ some. (made_by p.caller.pass.trace ≡ made_by p.caller.pass.trace ++ answered_calls (zip some [])) × All told (zip some []) × CallsInTurn budget (zip some []) p.caller p.caller in
+    let P : List Line → Type 0 = λ some. (made_by p.caller.pass.trace ≡ made_by p.caller.pass.trace ++ answered_calls Set (zip some [])) × All told (zip some []) × CallsInTurn budget (zip some []) p.caller p.caller in
     let now : P (lines_by p.caller.pass.trace.who (line ∷ [])) = subst P (sym none) (sym (append-nil (made_by p.caller.pass.trace)), All-nil told, (0, refl)) in
     record {
       set = refl;

@@ -21,15 +21,15 @@ none_left done [] all none is = sym (append-nil done) ∙ is
 none_left done (x ∷ xs) all none is = absurd (omega arith)
 
 -- a worker whose turn ended has played
-one_played : (budget : ℕ) (lines : List Line) (turn : Turn) (p q : Worker) → IsFor budget lines turn p → EndsAs turn q → Played budget lines p q
-one_played budget lines (Started thread) p q is ended =
-    let P : ℕ × List Line × Worker → Type 0 = λ k. Played k.0 k.1 k.2 q in
+one_played : {N : Type 0} → (budget : ℕ) (lines : List Line) (turn : Turn N) (p q : Worker N) → IsFor budget lines turn p → EndsAs turn q → Played budget lines p q
+one_played {N} budget lines (Started thread) p q is ended =
+    let P : ℕ × List Line × Worker N → Type 0 = λ k. Played k.0 k.1 k.2 q in
     let are : (thread.promise.budget, thread.promise.lines.now, thread.promise.before.value) ≡ (budget, lines, p) = λ i. (is.2 i, is.1 i, is.0 i) in
     subst P are ended
-one_played budget lines (Done played) p q is ended = subst (Played budget lines p) (sym ended) is
+one_played {N} budget lines (Done played) p q is ended = subst (Played budget lines p) (sym ended) is
 
 -- and so have all
-each_played : (budget : ℕ) (lines : List Line) (turns : List Turn) (workers played : List Worker) → AreFor budget lines turns workers → AreEndedBy turns played → EachPlayed budget lines workers played
+each_played : {N : Type 0} → (budget : ℕ) (lines : List Line) (turns : List (Turn N)) (workers played : List (Worker N)) → AreFor budget lines turns workers → AreEndedBy turns played → EachPlayed budget lines workers played
 each_played budget lines [] [] [] are ended = tt
 each_played budget lines (t ∷ ts) (p ∷ ps) (q ∷ qs) are ended = (one_played budget lines t p q are.0 ended.0, each_played budget lines ts ps qs are.1 ended.1)
 each_played budget lines [] [] (q ∷ qs) are ended = absurd ended
@@ -37,6 +37,6 @@ each_played budget lines (t ∷ ts) (p ∷ ps) [] are ended = absurd ended
 each_played budget lines [] (p ∷ ps) played are ended = absurd are
 each_played budget lines (t ∷ ts) [] played are ended = absurd are
 
-pub each_played_if : {E : Type 0} (budget : ℕ) (lines : List Line) (turns : List Turn) (workers : List Worker) (result : Result (Vec Worker Global) E) → AreFor budget lines turns workers → IfOk result (λ played. AreEndedBy turns played.items) → IfOk result (λ played. EachPlayed budget lines workers played.items)
+pub each_played_if : {N : Type 0} → {E : Type 0} (budget : ℕ) (lines : List Line) (turns : List (Turn N)) (workers : List (Worker N)) (result : Result (Vec (Worker N) Global) E) → AreFor budget lines turns workers → IfOk result (λ played. AreEndedBy turns played.items) → IfOk result (λ played. EachPlayed budget lines workers played.items)
 each_played_if budget lines turns workers (Ok played) are ended = each_played budget lines turns workers played.items are ended
 each_played_if budget lines turns workers (Err error) are ended = tt

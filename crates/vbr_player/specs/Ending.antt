@@ -7,12 +7,12 @@ use Rattle.vbr_transcript.specs.declared.reply.Reply.{Reply}
 use Rattle.vbr_player.specs.declared.worker.Worker.{Worker}
 
 -- the passes of workers
-abbrev pub passes_of : List Worker → List PassView
+abbrev pub passes_of : {N : Type 0} → List (Worker N) → List PassView
 passes_of workers = map (λ worker. worker.caller.pass) workers
 
 -- the passes and the replies are those of workers, one for each pass of a set, that have played lines, all of them in the phases from one on and up to another, which isn't among them
-pub record PlayedWhole (set : TableView) (budget : ℕ) (script : List Line) (from phases : ℕ) (passes : List PassView) (replies : List (List Reply)) : Type 0 where
-  pub workers : List Worker
+pub record PlayedWhole (N : Type 0) (set : TableView) (budget : ℕ) (script : List Line) (from phases : ℕ) (passes : List PassView) (replies : List (List Reply)) : Type 0 where
+  pub workers : List (Worker N)
   pub stand : Stand set budget script script set.passes from phases workers
   pub passes_are : passes ≡ passes_of workers
   pub replies_are : replies ≡ replies_of workers

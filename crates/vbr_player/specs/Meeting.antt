@@ -12,7 +12,7 @@ use Rattle.vbr_script.specs.declared.script.Line.{Line}
 use Rattle.vbr_player.specs.declared.worker.Worker.{Worker}
 
 -- the workers are of one set
-pub record AreOfOne (workers : List Worker) : Type 0 where
+pub record AreOfOne {N : Type 0} (workers : List (Worker N)) : Type 0 where
   pub set : TableView
   pub all : All (λ worker. worker.caller.set ≡ set) workers
 
@@ -25,26 +25,26 @@ pub record HasLooked (most : ℕ) (m n : MemberView) : Type 0 where
   pub steps : steps_of n.pass.trace ≤ steps_of m.pass.trace + most
 
 -- the caller of a worker has; its replies are as they were
-pub record HasSeenMore (most : ℕ) (p q : Worker) : Type 0 where
+pub record HasSeenMore {N : Type 0} (most : ℕ) (p q : Worker N) : Type 0 where
   pub looked : HasLooked most p.caller q.caller
   pub replies : q.replies ≡ p.replies
 
 -- all workers have met, each in a step for each other at most: there is a moment that begins with what each had seen, and begins what each has seen since; and none has made a call
-pub record Meets (ps qs : List Worker) : Type 0 where
+pub record Meets {N : Type 0} (ps qs : List (Worker N)) : Type 0 where
   pub looks : AllZip (HasSeenMore (length ps - 1)) ps qs
   pub moment : List Event
   pub from : All (λ p. Begins p.caller.pass.trace.seen moment) ps
   pub to : All (λ q. Begins moment q.caller.pass.trace.seen) qs
 
 -- a pass has met workers, each in a step: it has seen all that each had seen, and each has seen what it has seen since, in one step; and none has made a call
-pub record MeetsOthers (p q : MemberView) (before after : List Worker) : Type 0 where
+pub record MeetsOthers {N : Type 0} (p q : MemberView) (before after : List (Worker N)) : Type 0 where
   pub looked : HasLooked (length before) p q
   pub looks : AllZip (HasSeenMore 1) before after
   pub from : All (λ other. Begins other.caller.pass.trace.seen q.pass.trace.seen) before
   pub to : All (λ other. Begins q.pass.trace.seen other.caller.pass.trace.seen) after
 
 -- workers played their own lines among these, with a budget for each, and then all met
-pub record PlayedAndMet (budget : ℕ) (lines : List Line) (ws us : List Worker) : Type 0 where
-  pub apart : List Worker
+pub record PlayedAndMet {N : Type 0} (budget : ℕ) (lines : List Line) (ws us : List (Worker N)) : Type 0 where
+  pub apart : List (Worker N)
   pub played : EachPlayed budget lines ws apart
   pub meets : Meets apart us

@@ -12,13 +12,14 @@ use Rattle.vbr_transcript.specs.declared.totals.Totals.{Totals}
 use Rattle.vbr_transcript.specs.declared.error.RunError.{RunError}
 use Rattle.vbr_transcript.specs.declared.error.RunError.TheVariants as error
 use Rattle.vbr_settings.specs.Settings.{Settings}
+use Rattle.vbr_script.specs.declared.script.Kind.TheVariants.{Set}
 
 -- the text is a script for the workers, and the output is the layout of a run of it with these totals, which they played with the budget
 abbrev pub Prints : Settings → List ℕ → Totals → List ℕ → Type 0
 Prints settings text totals output =
-    (replies : List Reply) × (first_fault settings.workers text ≡ None)
-    × IsScriptRun (ArePlayed settings.workers settings.budget) settings.shape settings.workers (phases_of settings.workers text) (renewals_of settings.workers text) (script_of settings.workers text) replies totals
-    × (output ≡ layout_of settings.epoch replies totals)
+    (replies : List Reply) × (first_fault Set settings.workers text ≡ None)
+    × IsScriptRun Set (ArePlayed settings.workers settings.budget) settings.shape settings.workers (phases_of Set settings.workers text) (renewals_of Set settings.workers text) (script_of Set settings.workers text) replies totals
+    × (output ≡ layout_of Set settings.epoch replies totals)
 
 -- want of memory, or of a thread for a worker
 abbrev pub IsWant : RunError → Type 0
@@ -32,7 +33,7 @@ IsWant _ = ⊥
 abbrev pub Plays : Settings → Option (List ℕ) → Option (List ℕ) → Option (List ℕ) → Result Totals RunError → Type 0
 Plays settings left old new (Ok totals) = (text : List ℕ) × IsInput left text × (output : List ℕ) × Prints settings text totals output × Appends old new output
 Plays settings left old new (Err error.Write) = (text : List ℕ) × IsInput left text × (totals : Totals) × (output : List ℕ) × Prints settings text totals output × AppendsSome old new output
-Plays settings left old new (Err (error.Script line kind)) = (text : List ℕ) × IsInput left text × (first_fault settings.workers text ≡ Some (line, kind)) × Keeps old new
+Plays settings left old new (Err (error.Script line kind)) = (text : List ℕ) × IsInput left text × (first_fault Set settings.workers text ≡ Some (line, kind)) × Keeps old new
 Plays settings left old new (Err error.Read) = Keeps old new
 Plays settings left old new (Err error.Memory) = Keeps old new
 Plays settings left old new (Err error.Worker) = Keeps old new

@@ -8,19 +8,19 @@ use Rattle.vbr_player.specs.declared.turn.Turn.TheVariants.{Started, Done}
 use Rattle.vbr_player.specs.declared.worker.Worker.{Worker}
 
 -- a thread promises that this worker will have played these lines with this budget, or it has played them
-abbrev pub IsFor : ℕ → List Line → Turn → Worker → Type 0
+abbrev pub IsFor : {N : Type 0} → ℕ → List Line → Turn N → Worker N → Type 0
 IsFor budget lines (Started thread) worker = (thread.promise.before.value ≡ worker) × (thread.promise.lines.now ≡ lines) × (thread.promise.budget ≡ budget)
 IsFor budget lines (Done played) worker = Played budget lines worker played
 
 -- there is a turn for each worker, in order
-abbrev pub AreFor : ℕ → List Line → List Turn → List Worker → Type 0
+abbrev pub AreFor : {N : Type 0} → ℕ → List Line → List (Turn N) → List (Worker N) → Type 0
 AreFor budget lines turns workers = AllZip (IsFor budget lines) turns workers
 
 -- a turn ended with this worker, as its thread promised
-abbrev pub EndsAs : Turn → Worker → Type 0
+abbrev pub EndsAs : {N : Type 0} → Turn N → Worker N → Type 0
 EndsAs (Started thread) worker = Played thread.promise.budget thread.promise.lines.now thread.promise.before.value worker
 EndsAs (Done played) worker = worker ≡ played
 
 -- each of the turns did, in order
-abbrev pub AreEndedBy : List Turn → List Worker → Type 0
+abbrev pub AreEndedBy : {N : Type 0} → List (Turn N) → List (Worker N) → Type 0
 AreEndedBy turns workers = AllZip EndsAs turns workers

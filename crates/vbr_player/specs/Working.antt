@@ -11,37 +11,39 @@ use Rattle.vbr_transcript.specs.Calls.{answered_calls, lines_by}
 use Rattle.vbr_player.specs.Calling.{CallsInTurn}
 use Rattle.vbr_script.specs.declared.script.Line.{Line}
 use Rattle.vbr_transcript.specs.declared.reply.Reply.{Reply}
-use Rattle.vbr_transcript.specs.declared.reply.Reply.TheVariants.{Full, Spent}
+use Rattle.vbr_transcript.specs.declared.reply.Reply.TheVariants.{Value, Full, Spent}
 use Rattle.vbr_player.specs.declared.worker.Worker.{Worker}
+use Rattle.vbr_script.specs.declared.script.Kind.TheVariants.{Set}
 
--- what a reply tells of the pass that was given it: an insert alone finds the set full or its epochs spent, and they are spent once it has seen the last epoch come
+-- what a reply tells of the pass that was given it: a set gives no value, an insert alone finds it full or its epochs spent, and they are spent once it has seen the last epoch come
 abbrev pub TellsReply : Trace → Op → Reply → Type 0
 TellsReply q op Full = op ≡ Insert
 TellsReply q op Spent = (op ≡ Insert) × (q.shape.last_epoch ≤ (world_after q.shape q.seen).epoch)
+TellsReply q op (Value value) = ⊥
 TellsReply q op _ = Unit {0}
 
 -- a worker has room for a reply to each of its own lines among these
-abbrev pub HasRoom : Worker → List Line → Type 0
+abbrev pub HasRoom : {N : Type 0} → Worker N → List Line → Type 0
 HasRoom p lines = length p.replies.items + length (lines_by p.caller.pass.trace.who lines) ≤ vec_capacity p.replies
 
 -- each of the workers has
-abbrev pub HaveRoom : List Worker → List Line → Type 0
+abbrev pub HaveRoom : {N : Type 0} → List (Worker N) → List Line → Type 0
 HaveRoom workers lines = All (λ worker. HasRoom worker lines) workers
 
 -- a worker played its own lines among these, in order, with a budget for each: each was given the reply of its call, the calls that its pass made are those that were answered, and the steps that it made are within the budgets
-pub record Played (budget : ℕ) (lines : List Line) (p q : Worker) : Type 0 where
+pub record Played {N : Type 0} (budget : ℕ) (lines : List Line) (p q : Worker N) : Type 0 where
   pub set : q.caller.set ≡ p.caller.set
   pub same : IsSame p.caller.pass.trace q.caller.pass.trace
   pub seen : Begins p.caller.pass.trace.seen q.caller.pass.trace.seen
   pub more : List Reply
   pub replies : q.replies.items ≡ p.replies.items ++ more
   pub one_each : length more ≡ length (lines_by p.caller.pass.trace.who lines)
-  pub calls : made_by q.caller.pass.trace ≡ made_by p.caller.pass.trace ++ answered_calls (zip (lines_by p.caller.pass.trace.who lines) more)
+  pub calls : made_by q.caller.pass.trace ≡ made_by p.caller.pass.trace ++ answered_calls Set (zip (lines_by p.caller.pass.trace.who lines) more)
   pub tells : All (λ outcome. TellsReply q.caller.pass.trace outcome.0.op outcome.1) (zip (lines_by p.caller.pass.trace.who lines) more)
   pub in_turn : CallsInTurn budget (zip (lines_by p.caller.pass.trace.who lines) more) p.caller q.caller
   pub steps : steps_of q.caller.pass.trace ≤ steps_of p.caller.pass.trace + budget * length more
   pub room : vec_capacity p.replies ≤ vec_capacity q.replies
 
 -- each of the workers did
-abbrev pub EachPlayed : ℕ → List Line → List Worker → List Worker → Type 0
+abbrev pub EachPlayed : {N : Type 0} → ℕ → List Line → List (Worker N) → List (Worker N) → Type 0
 EachPlayed budget lines before after = AllZip (Played budget lines) before after

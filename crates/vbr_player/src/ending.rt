@@ -13,6 +13,7 @@ use std::alloc::{AllocError, Global};
 use vbr_script::Line;
 use vbr_set::{CloseError, Pass, RenewError, Report, VbrSet};
 use vbr_transcript::{Reply, RunError, merge};
+use vbr_words::Nodes;
 
 // The replies that workers have to these lines, in script order.
 pub fn merged(alloc: Global, lines: &[Line], own: Vec<Vec<Reply>>) -> Result<Vec<Reply>, AllocError>
@@ -55,9 +56,9 @@ pub fn close(alloc: Global, set: VbrSet, passes: Vec<Pass>) -> Result<Report, Ru
 }
 
 // The passes of workers, and their replies.
-pub fn take_apart(
+pub fn take_apart<N: Nodes>(
     alloc: Global,
-    workers: Vec<Worker>,
+    workers: Vec<Worker<N>>,
 ) -> Result<(Vec<Pass>, Vec<Vec<Reply>>), AllocError>
     ensures passes { IfOk result (λ parts. parts.0.items ≡ passes_of workers.entry.items) }
     ensures replies { IfOk result

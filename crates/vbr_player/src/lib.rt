@@ -6,6 +6,7 @@
 //! is closed, and the replies and totals are those of one run. [`play`] is the whole.
 #![tactic(auto)]
 
+mod asking;
 mod ending;
 pub mod gate;
 mod meeting;

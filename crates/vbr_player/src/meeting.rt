@@ -6,9 +6,10 @@ ghost use Rattle.vbr_player.specs.Meeting.{AreOfOne, HasLooked, HasSeenMore, Mee
 
 use crate::worker::Worker;
 use vbr_set::VbrSetRef;
+use vbr_words::Nodes;
 
 // Lets each worker see all that every other has seen.
-pub fn meet_all<'w>(mut workers: Vec<Worker<'w>>) -> Vec<Worker<'w>>
+pub fn meet_all<'w, N: Nodes>(mut workers: Vec<Worker<'w, N>>) -> Vec<Worker<'w, N>>
     requires { AreOfOne workers.items }
     ensures { Meets workers.entry.items result.items }
 {
@@ -23,7 +24,7 @@ pub fn meet_all<'w>(mut workers: Vec<Worker<'w>>) -> Vec<Worker<'w>>
 }
 
 // Lets a pass see all that these workers have seen, and then each of them what it has seen.
-fn meet_others(caller: &mut VbrSetRef, others: &mut [Worker])
+fn meet_others<N: Nodes>(caller: &mut VbrSetRef<N>, others: &mut [Worker<N>])
     requires { All (λ other. other.caller.set ≡ caller.old.set) others.old }
     ensures { MeetsOthers caller.old caller.new others.old others.new }
 {
@@ -32,7 +33,7 @@ fn meet_others(caller: &mut VbrSetRef, others: &mut [Worker])
 }
 
 // Lets a pass see all that each of these workers has seen.
-fn see_all(caller: &mut VbrSetRef, others: &mut [Worker])
+fn see_all<N: Nodes>(caller: &mut VbrSetRef<N>, others: &mut [Worker<N>])
     requires { All (λ other. other.caller.set ≡ caller.old.set) others.old }
     ensures same { others.new ≡ others.old }
     ensures looked { HasLooked (length others.old) caller.old caller.new }
@@ -45,7 +46,7 @@ fn see_all(caller: &mut VbrSetRef, others: &mut [Worker])
 }
 
 // Lets each of these workers see all that a pass has seen.
-fn show_all(caller: &mut VbrSetRef, others: &mut [Worker])
+fn show_all<N: Nodes>(caller: &mut VbrSetRef<N>, others: &mut [Worker<N>])
     requires { All (λ other. other.caller.set ≡ caller.old.set) others.old }
     ensures same { caller.new ≡ caller.old }
     ensures looks { AllZip (HasSeenMore 1) others.old others.new }

@@ -6,9 +6,10 @@ ghost use Rattle.vbr_player.specs.Standing.{IsNew, Stand};
 use crate::worker::Worker;
 use std::alloc::{AllocError, Global};
 use vbr_script::Line;
-use vbr_set::{OpenError, Pass, VbrSet};
+use vbr_set::{OpenError, Pass, VbrSet, set};
 use vbr_settings::Config;
 use vbr_transcript::RunError;
+use vbr_words::Nodes;
 
 // Opens an empty set, with a pass for each worker.
 pub fn open(alloc: Global, config: &Config) -> Result<(VbrSet, Vec<Pass>), RunError>
@@ -27,12 +28,12 @@ pub fn open(alloc: Global, config: &Config) -> Result<(VbrSet, Vec<Pass>), RunEr
 }
 
 // A worker for each pass of a new set.
-pub fn workers_of<'w>(
+pub fn workers_of<'w, N: Nodes>(
     alloc: Global,
-    set: &'w VbrSet,
+    set: &'w set::VbrSet<N>,
     lines: &[Line],
     passes: Vec<Pass>,
-) -> Result<Vec<Worker<'w>>, AllocError>
+) -> Result<Vec<Worker<'w, N>>, AllocError>
     requires { passes.items ≡ new_passes set.now 0 set.now.passes }
     ensures { IfOk result (λ workers.
         (budget : ℕ) → Stand set.now budget lines.now [] set.now.passes 0 0 workers.items) }
@@ -48,12 +49,12 @@ pub fn workers_of<'w>(
 }
 
 // A worker with room for the replies to its lines.
-fn new_worker<'w>(
+fn new_worker<'w, N: Nodes>(
     alloc: Global,
-    set: &'w VbrSet,
+    set: &'w set::VbrSet<N>,
     lines: &[Line],
     pass: Pass,
-) -> Result<Worker<'w>, AllocError>
+) -> Result<Worker<'w, N>, AllocError>
     requires own { IsOf pass.trace set.now }
     requires empty_hand { pass.hand ≡ None }
     ensures { IfOk result (λ worker. IsNew set.now lines.now pass worker) }

@@ -1,11 +1,13 @@
 // What a worker is given to play.
-ghost use Rattle.std.specs.Prelude.{◌≡◌, ◌≢◌, ◌+◌, ◌-◌, ◌<◌, ◌≤◌, ◌^◌, All, length, take, drop};
-ghost use Rattle.vbr_machine.specs.declared.history.Op.TheVariants.{Get};
+ghost use Rattle.std.specs.Prelude.{◌≡◌, ◌+◌, ◌-◌, ◌<◌, ◌≤◌, ◌^◌, All, length, take, drop};
+ghost use Rattle.vbr_script.specs.Scripts.{MayAsk};
+ghost use Rattle.vbr_script.specs.declared.script.Kind.TheVariants.{Set};
 ghost use Rattle.vbr_player.specs.Working.{HasRoom};
 
 use crate::worker::Worker;
 use std::alloc::AllocError;
 use vbr_script::Line;
+use vbr_words::Nodes;
 
 /// Some lines of a script, to be played: what the workers share that play them.
 pub struct Part<'p, G> {
@@ -18,7 +20,7 @@ pub struct Part<'p, G> {
     /// What is done round each call.
     pub gate: &'p G,
     ghost index: { first + length lines.now < 2 ^ 64 },
-    ghost no_get: { All (λ line. line.op ≢ Get) lines.now },
+    ghost may_ask: { All (λ line. MayAsk Set line.op line.value) lines.now },
 }
 
 impl<'p, G> Clone for Part<'p, G> {
@@ -63,10 +65,10 @@ pub struct Span<'p, G> {
 
 /// A worker, and the lines among which are those that it is to play. It has room for the replies.
 #[derive(Drop)]
-pub struct Task<'p, G> {
+pub struct Task<'p, N: Nodes, G> {
     /// The lines.
     pub part: Part<'p, G>,
     /// The worker.
-    pub worker: Worker<'p>,
+    pub worker: Worker<'p, N>,
     ghost room: { HasRoom worker part.lines.now },
 }

@@ -5,6 +5,7 @@ ghost use Rattle.vbr_player.specs.Meeting.{AreOfOne, PlayedAndMet};
 ghost use Rattle.vbr_player.specs.Playing.{IsWant};
 ghost use Rattle.vbr_player.specs.Starting.{AreEndedBy};
 
+use crate::asking::Asked;
 use crate::gate::Gate;
 use crate::meeting::meet_all;
 use crate::part::{Part, Task};
@@ -15,15 +16,16 @@ use std::sync::Wait;
 use std::thread;
 use std::thread::{Scope, Threads};
 use vbr_transcript::RunError;
+use vbr_words::Nodes;
 
 // Plays a phase, each worker that has lines in it in a thread of its own, and joins them all; then
 // all meet. Where a thread can't be started, those that were end first.
-pub fn play_phase<'e, R: Threads + Wait, G: Gate + Sync>(
+pub fn play_phase<'e, R: Threads + Wait, N: Asked + Sync, G: Gate + Sync>(
     rt: &'e R,
     alloc: Global,
     part: Part<'e, G>,
-    workers: Vec<Worker<'e>>,
-) -> Result<Vec<Worker<'e>>, RunError>
+    workers: Vec<Worker<'e, N>>,
+) -> Result<Vec<Worker<'e, N>>, RunError>
     requires of { AreOfOne workers.items }
     requires room { HaveRoom workers.items part.lines.now }
     ensures met { IfOk result (λ met. PlayedAndMet part.entry.budget
@@ -33,7 +35,7 @@ pub fn play_phase<'e, R: Threads + Wait, G: Gate + Sync>(
     let workers = thread::scope(
         thread::scope_env::<'e>(),
         rt,
-        move |scope| -> Result<Vec<Worker>, RunError>
+        move |scope| -> Result<Vec<Worker<N>>, RunError>
             requires { HaveRoom workers.items part.lines.now }
             ensures played { IfOk result (λ played. EachPlayed part.entry.budget
                 part.entry.lines.now workers.entry.items played.items) }
@@ -44,13 +46,13 @@ pub fn play_phase<'e, R: Threads + Wait, G: Gate + Sync>(
 }
 
 // Gives each worker its turn, and waits for all.
-fn play_apart<'s, 'e, R: Threads + Wait, G: Gate + Sync>(
+fn play_apart<'s, 'e, R: Threads + Wait, N: Asked + Sync, G: Gate + Sync>(
     scope: &'s Scope<'s, &'e ()>,
     rt: &'e R,
     alloc: Global,
     part: Part<'e, G>,
-    workers: Vec<Worker<'e>>,
-) -> Result<Vec<Worker<'e>>, RunError>
+    workers: Vec<Worker<'e, N>>,
+) -> Result<Vec<Worker<'e, N>>, RunError>
     requires { HaveRoom workers.items part.lines.now }
     ensures played { IfOk result (λ played. EachPlayed part.entry.budget
         part.entry.lines.now workers.entry.items played.items) }
@@ -68,11 +70,11 @@ fn play_apart<'s, 'e, R: Threads + Wait, G: Gate + Sync>(
 }
 
 // Waits for the workers, in their order. The vector for them has room for all.
-fn join_all<'l, R: Threads>(
+fn join_all<'l, R: Threads, N: Nodes>(
     rt: &R,
-    turns: Vec<Turn<'l>>,
-    mut played: Vec<Worker<'l>>,
-) -> Result<Vec<Worker<'l>>, RunError>
+    turns: Vec<Turn<'l, N>>,
+    mut played: Vec<Worker<'l, N>>,
+) -> Result<Vec<Worker<'l, N>>, RunError>
     requires none { played.items ≡ [] }
     ensures ended { IfOk result (λ played. AreEndedBy turns.entry.items played.items) }
     ensures fault { IfErr result IsWant }

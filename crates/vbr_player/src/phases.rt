@@ -5,6 +5,7 @@ ghost use Rattle.vbr_slots.specs.Views.{new_passes};
 ghost use Rattle.vbr_player.specs.Playing.{IsWant};
 ghost use Rattle.vbr_player.specs.Spans.{IsSpan, PlayedSpan};
 
+use crate::asking::Asked;
 use crate::ending::{merged, take_apart};
 use crate::gate::Gate;
 use crate::opening::workers_of;
@@ -14,21 +15,22 @@ use std::alloc::Global;
 use std::sync::Wait;
 use std::thread::Threads;
 use vbr_script::Line;
-use vbr_set::{Pass, VbrSet};
+use vbr_set::Pass;
+use vbr_set::set::VbrSet;
 use vbr_transcript::{Reply, RunError};
 
 // Plays all lines of a span on a new set: by a worker for each of its passes, one phase after the
 // other. It gives the passes of the set, and the replies in script order.
-pub fn play_span<'e, R: Threads + Wait, G: Gate + Sync>(
+pub fn play_span<'e, R: Threads + Wait, N: Asked + Sync, G: Gate + Sync>(
     rt: &'e R,
     alloc: Global,
-    set: &'e VbrSet,
+    set: &'e VbrSet<N>,
     passes: Vec<Pass>,
     span: Span<'e, G>,
 ) -> Result<(Vec<Pass>, Vec<Reply>), RunError>
     requires span { IsSpan set.now.passes span.from span.to span.part.lines.now }
     requires new { passes.items ≡ new_passes set.now 0 set.now.passes }
-    ensures played { IfOk result (λ played. PlayedSpan set.now span.entry.part.budget
+    ensures played { IfOk result (λ played. PlayedSpan N set.now span.entry.part.budget
         span.entry.part.lines.now span.entry.from span.entry.to played.0.items played.1.items) }
     ensures fault { IfErr result IsWant }
 {

@@ -6,6 +6,7 @@ ghost use Rattle.vbr_script.specs.declared.script.TheConstants.{MAX_SYNCS};
 ghost use Rattle.vbr_transcript.specs.Runs.{AreExplained};
 ghost use Rattle.vbr_player.specs.Calling.{ArePlayed};
 ghost use Rattle.vbr_player.specs.Playing.{IsWant};
+ghost use Rattle.vbr_script.specs.declared.script.Kind.TheVariants.{Set};
 
 use crate::ending::{close, renew};
 use crate::gate::Gate;
@@ -27,13 +28,13 @@ pub fn play_sets<R: Threads + Wait, G: Gate + Sync>(
     whole: Part<G>,
     script: &Script,
 ) -> Result<(Vec<Reply>, Report), RunError>
-    requires phased { ArePhased opened.0.passes script.now.phases whole.lines.now }
+    requires phased { ArePhased Set opened.0.passes script.now.phases whole.lines.now }
     requires renewed { AreRenewalsFrom 0 script.now.phases script.now.renewals.items }
     requires few { script.now.phases ≤ MAX_SYNCS + 1 }
     requires new { opened.1.items ≡ new_passes opened.0 0 opened.0.passes }
     requires some { 0 < opened.0.passes }
     ensures one_each { IfOk result (λ ended. length ended.0.items ≡ length whole.entry.lines.now) }
-    ensures explained { IfOk result (λ ended. AreExplained
+    ensures explained { IfOk result (λ ended. AreExplained Set
         (ArePlayed opened.0.passes whole.entry.budget) opened.0.shape opened.0.passes
         0 script.now.phases script.now.renewals.items (zip whole.entry.lines.now ended.0.items)
         ended.1.keys.items ended.1.epoch) }

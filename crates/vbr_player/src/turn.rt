@@ -3,6 +3,7 @@ ghost use Rattle.std.specs.Prelude.{◌≡◌, IfOk, IfErr};
 ghost use Rattle.vbr_player.specs.Starting.{EndsAs, IsFor};
 ghost use Rattle.vbr_player.specs.Working.{Played};
 
+use crate::asking::Asked;
 use crate::gate::Gate;
 use crate::part::Task;
 use crate::worker::{Worker, play};
@@ -10,33 +11,34 @@ use std::snapshot::Snapshot;
 use std::thread::{Promise, PromisedHandle, Scope, Threads};
 use vbr_script::Line;
 use vbr_transcript::RunError;
+use vbr_words::Nodes;
 
 /// That a worker will have played these lines, with this budget for each.
 #[derive(Drop)]
-pub struct WillPlay<'l> {
-    pub before: Snapshot<Worker<'l>>,
+pub struct WillPlay<'l, N: Nodes> {
+    pub before: Snapshot<Worker<'l, N>>,
     pub lines: &'l [Line],
     pub budget: u32,
 }
 
-impl<'l> Promise<Worker<'l>> for WillPlay<'l> {
+impl<'l, N: Nodes> Promise<Worker<'l, N>> for WillPlay<'l, N> {
     ghost kept_by = { λ p r. Played p.budget p.lines.now p.before.value r };
 }
 
 /// What a worker does in a phase.
 #[derive(Drop)]
-pub enum Turn<'l> {
+pub enum Turn<'l, N: Nodes> {
     /// It plays its lines in a thread of its own.
-    Started(PromisedHandle<Worker<'l>, WillPlay<'l>>),
+    Started(PromisedHandle<Worker<'l, N>, WillPlay<'l, N>>),
     /// It has no lines, and so has played them.
-    Done(Worker<'l>),
+    Done(Worker<'l, N>),
 }
 
 // Starts a worker's thread, if it has lines.
-pub fn take_turn<'s, 'e, G: Gate + Sync>(
+pub fn take_turn<'s, 'e, N: Asked + Sync, G: Gate + Sync>(
     scope: &'s Scope<'s, &'e ()>,
-    task: Task<'e, G>,
-) -> Result<Turn<'e>, RunError>
+    task: Task<'e, N, G>,
+) -> Result<Turn<'e, N>, RunError>
     ensures turn { IfOk result (λ turn.
         IsFor task.entry.part.budget task.entry.part.lines.now turn task.entry.worker) }
     ensures fault { IfErr result (λ error. error ≡ RunError.Worker) }
@@ -54,7 +56,7 @@ pub fn take_turn<'s, 'e, G: Gate + Sync>(
 }
 
 // Waits for a worker, if it plays.
-pub fn end<'l, R: Threads>(rt: &R, turn: Turn<'l>) -> Worker<'l>
+pub fn end<'l, R: Threads, N: Nodes>(rt: &R, turn: Turn<'l, N>) -> Worker<'l, N>
     ensures { EndsAs turn.entry result }
 {
     match turn {

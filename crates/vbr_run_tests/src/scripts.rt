@@ -17,6 +17,7 @@ fn reads_a_line_in_full(rt: HostRuntime) -> Result<(), Fail> {
         worker: 0,
         op: Op::Insert,
         key: 7,
+        value: 0,
     };
     assert_eq!(rt; script.lines.as_slice(), [line].as_slice());
     assert_eq!(rt; script.phases, 1);
@@ -74,12 +75,14 @@ fn counts_phases_by_sync_lines(rt: HostRuntime) -> Result<(), Fail> {
             worker: 0,
             op: Op::Insert,
             key: 5,
+            value: 0,
         },
         Line {
             phase: 1,
             worker: 1,
             op: Op::Has,
             key: 5,
+            value: 0,
         },
     ];
     assert_eq!(rt; script.lines.as_slice(), lines.as_slice());

@@ -4,10 +4,10 @@ use Rattle.vbr_player.proofs.AllMet.{meets_more, of_at, put_back, seen_more, see
 use Rattle.vbr_player.proofs.meeting.see_all.Goals as goal
 
 pub meet-requires : goal.meet-requires
-meet-requires c = of_at c.args.caller.now.set c.args.others.now c.loop-other.others c.loop-other.other-index c.other-item.result c.loop-other.invariant.same c.loop-other-test.true c.requires ∙ sym c.loop-other.invariant.looked.set
+meet-requires g c = of_at c.args.caller.now.set c.args.others.now c.loop-other.others c.loop-other.other-index c.other-item.result c.loop-other.invariant.same c.loop-other-test.true c.requires ∙ sym c.loop-other.invariant.looked.set
 
 pub loop-other-preserved : goal.loop-other-preserved
-loop-other-preserved c =
+loop-other-preserved g c =
     let met = c.meet.ensures in
     let before = c.loop-other.invariant in
     record {
@@ -17,4 +17,4 @@ loop-other-preserved c =
     }
 
 pub returns-clause-seen : goal.returns-clause-seen
-returns-clause-seen c = seen_all c.args.others.now c.loop-other.other-index c.loop-other.caller.pass.trace.seen (omega arith) c.loop-other.invariant.seen
+returns-clause-seen g c = seen_all c.args.others.now c.loop-other.other-index c.loop-other.caller.pass.trace.seen (omega arith) c.loop-other.invariant.seen

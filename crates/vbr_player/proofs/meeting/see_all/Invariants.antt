@@ -6,7 +6,7 @@ use Rattle.vbr_player.proofs.meeting.see_all.Given as goal
 
 -- it is the pass of its set still, and has seen all that the workers so far have seen
 abbrev pub invariant-loop-other : goal.invariant-loop-other
-invariant-loop-other l = record {
+invariant-loop-other g l = record {
   same : l.others ≡ l.fn.others;
   looked : HasLooked l.other-index l.fn.caller l.caller;
   seen : All (λ other. Begins other.caller.pass.trace.seen l.caller.pass.trace.seen) (take l.other-index l.fn.others);

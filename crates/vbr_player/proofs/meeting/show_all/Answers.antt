@@ -6,16 +6,16 @@ use Rattle.vbr_player.proofs.AllMet.{all_look, left_more, shown_more, sees_more,
 use Rattle.vbr_player.proofs.meeting.show_all.Goals as goal
 
 pub meet-requires : goal.meet-requires
-meet-requires c =
+meet-requires g c =
     let own : c.loop-other.caller.set ≡ c.args.caller.now.set = ap (λ (m : MemberView). m.set) c.loop-other.invariant.same in
     let theirs : (get_or c.loop-other.others c.loop-other.other-index c.other-item.result).caller.set ≡ c.args.caller.now.set = still_of c.args.caller.now.set c.args.others.now c.loop-other.others c.loop-other.other-index c.other-item.result c.loop-other-test.true c.loop-other.invariant.looks c.requires in
     cc
 
 pub loop-other-init : goal.loop-other-init
-loop-other-init c = record { same = refl; looks = all_look 1 c.args.others.now; left = λ k d later. refl; seen = λ k d none. absurd (omega arith) }
+loop-other-init g c = record { same = refl; looks = all_look 1 c.args.others.now; left = λ k d later. refl; seen = λ k d none. absurd (omega arith) }
 
 pub loop-other-preserved : goal.loop-other-preserved
-loop-other-preserved c =
+loop-other-preserved g c =
     let met = c.meet.ensures in
     let i = c.loop-other.invariant in
     record {
@@ -26,4 +26,4 @@ loop-other-preserved c =
     }
 
 pub returns-clause-seen : goal.returns-clause-seen
-returns-clause-seen c = all_see c.args.caller.now.pass.trace.seen c.args.others.now c.loop-other.others c.loop-other.other-index (omega arith) c.loop-other.invariant.looks c.loop-other.invariant.seen
+returns-clause-seen g c = all_see c.args.caller.now.pass.trace.seen c.args.others.now c.loop-other.others c.loop-other.other-index (omega arith) c.loop-other.invariant.looks c.loop-other.invariant.seen

@@ -8,7 +8,7 @@ use Rattle.vbr_player.proofs.meeting.show_all.Given as goal
 
 -- the workers so far have seen all that the pass has seen, which is as it was
 abbrev pub invariant-loop-other : goal.invariant-loop-other
-invariant-loop-other l = record {
+invariant-loop-other g l = record {
   same : l.caller ≡ l.fn.caller;
   looks : AllZip (HasSeenMore 1) l.fn.others l.others;
   left : AreLeft l.other-index l.fn.others l.others;

@@ -6,7 +6,7 @@ use Rattle.vbr_script.specs.declared.script.Line.{Line}
 use Rattle.vbr_player.proofs.opening.new_worker.Goals as goal
 
 pub returns : goal.returns
-returns c =
+returns g c =
     let lines = c.args.lines.now in
     let own : length (lines_by c.args.pass.trace.who lines) ≡ c.count_of-own.result =
     length-filter (λ (line : Line). eqb line.worker c.args.pass.trace.who) lines ∙ sym (c.count_of-own.ensures ∙ ap (λ who. count_by (λ (line : Line). eqb line.worker who) lines) c.who.ensures.who) in

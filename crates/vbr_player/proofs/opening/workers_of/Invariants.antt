@@ -6,7 +6,7 @@ use Rattle.vbr_player.proofs.opening.workers_of.Given as goal
 
 -- the passes so far have workers
 abbrev pub invariant-loop-pass : goal.invariant-loop-pass
-invariant-loop-pass l = record {
+invariant-loop-pass g l = record {
   new : AllZip (IsNew l.set l.lines) l.yielded l.workers.items;
   all : l.yielded ++ into_iter_items l.pass-iterator ≡ l.fn.passes.items;
 }

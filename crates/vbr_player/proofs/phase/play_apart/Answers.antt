@@ -11,16 +11,16 @@ use Rattle.vbr_player.proofs.phase.play_apart.Goals as goal
 pub invariant_of-take_turn : goal.invariant_of-take_turn
 invariant_of-take_turn g c =
     let i = c.loop-worker.invariant in
-    let all : c.loop-worker.yielded ++ (c.in-Some.worker ∷ into_iter_items c.next.new.self) ≡ c.args.workers.items = ap (λ (ws : List Worker). c.loop-worker.yielded ++ ws) (sym {A = List Worker} c.in-Some.ensures.steps.0) ∙ i.all in
-    record { room = one_behind (λ (w : Worker). HasRoom w c.args.part.lines.now) c.loop-worker.yielded c.in-Some.worker (into_iter_items c.next.new.self) (subst (λ (ws : List Worker). HaveRoom ws c.args.part.lines.now) (sym all) c.requires) }
+    let all : c.loop-worker.yielded ++ (c.in-Some.worker ∷ into_iter_items c.next.new.self) ≡ c.args.workers.items = ap (λ (ws : List (Worker _)). c.loop-worker.yielded ++ ws) (sym {A = List (Worker _)} c.in-Some.ensures.steps.0) ∙ i.all in
+    record { room = one_behind (λ (w : Worker _). HasRoom w c.args.part.lines.now) c.loop-worker.yielded c.in-Some.worker (into_iter_items c.next.new.self) (subst (λ (ws : List (Worker _)). HaveRoom ws c.args.part.lines.now) (sym all) c.requires) }
 
 pub loop-worker-preserved : goal.loop-worker-preserved
 loop-worker-preserved g c =
     let i = c.loop-worker.invariant in
-    let all : c.loop-worker.yielded ++ (c.in-Some.worker ∷ into_iter_items c.next.new.self) ≡ c.args.workers.items = ap (λ (ws : List Worker). c.loop-worker.yielded ++ ws) (sym {A = List Worker} c.in-Some.ensures.steps.0) ∙ i.all in
+    let all : c.loop-worker.yielded ++ (c.in-Some.worker ∷ into_iter_items c.next.new.self) ≡ c.args.workers.items = ap (λ (ws : List (Worker _)). c.loop-worker.yielded ++ ws) (sym {A = List (Worker _)} c.in-Some.ensures.steps.0) ∙ i.all in
     let lines = c.args.part.lines.now in
     record {
-      turns = subst (λ (turns : List Turn). AreFor c.args.part.budget lines turns (c.loop-worker.yielded ++ c.in-Some.worker ∷ [])) (sym c.in-Ok.ensures.items) (zip-snoc (IsFor c.args.part.budget lines) c.loop-worker.turns.items c.loop-worker.yielded c.in_ok-turn.turn c.in-Some.worker i.turns c.in_ok-turn.ensures.turn);
+      turns = subst (λ (turns : List (Turn _)). AreFor c.args.part.budget lines turns (c.loop-worker.yielded ++ c.in-Some.worker ∷ [])) (sym c.in-Ok.ensures.items) (zip-snoc (IsFor c.args.part.budget lines) c.loop-worker.turns.items c.loop-worker.yielded c.in_ok-turn.turn c.in-Some.worker i.turns c.in_ok-turn.ensures.turn);
       all = append_assoc c.loop-worker.yielded (c.in-Some.worker ∷ []) (into_iter_items c.next.new.self) ∙ all;
     }
 

@@ -8,6 +8,7 @@ use Rattle.vbr_player.specs.Spans.{IsSpan}
 use Rattle.vbr_player.proofs.Finishing.{closed, closes, followed}
 use Rattle.vbr_player.proofs.Spans.{HavePlayedSets, next_cut, is_span, is_last_span, renewal_here, no_renewal, renewal_in, phased_here, one_more_played, all_sets, none_played, followed_as, played_as}
 use Rattle.vbr_player.proofs.sets.play_sets.Goals as goal
+use Rattle.vbr_script.specs.declared.script.Kind.TheVariants.{Set}
 
 pub loop-renewal-init : goal.loop-renewal-init
 loop-renewal-init g c =
@@ -83,6 +84,6 @@ returns g c =
     let all = all_sets _ _ _ _ _ _ _ _ _ _ more c.in_ok-report.report none l.invariant.played played in
     record {
       one_each = ap length longer ∙ all.0;
-      explained = subst (λ (some : List Reply). AreExplained (ArePlayed c.args.opened.0.passes c.args.whole.budget) c.args.opened.0.shape c.args.opened.0.passes 0 c.args.script.now.phases c.args.script.now.renewals.items (zip lines some) c.in_ok-report.report.keys.items c.in_ok-report.report.epoch) (sym longer) all.1;
+      explained = subst (λ (some : List Reply). AreExplained Set (ArePlayed c.args.opened.0.passes c.args.whole.budget) c.args.opened.0.shape c.args.opened.0.passes 0 c.args.script.now.phases c.args.script.now.renewals.items (zip lines some) c.in_ok-report.report.keys.items c.in_ok-report.report.epoch) (sym longer) all.1;
       fault = tt;
     }
