@@ -7,6 +7,8 @@ use Rattle.std.proofs.lemmas.Bool.Decides.{nat_tests}
 use Rattle.std.proofs.lemmas.List.Elements.{All-nil, All-cons, All-weaker}
 use Rattle.vbr_machine.specs.declared.history.Op.{Op}
 use Rattle.vbr_machine.specs.declared.history.Op.TheVariants.{Insert, Remove, Has, Get}
+use Rattle.vbr_script.specs.declared.script.Kind.{Kind}
+use Rattle.vbr_script.specs.declared.script.Kind.TheVariants.{Set, Map}
 use Rattle.vbr_script.specs.declared.script.Line.{Line}
 use Rattle.vbr_script.specs.declared.script.ScriptFault.TheVariants.{Words, TooMany}
 use Rattle.vbr_script.specs.declared.script.Meaning.{Meaning}
@@ -14,23 +16,23 @@ use Rattle.vbr_script.specs.declared.script.Meaning.TheVariants.{Blank, Sync, Re
 use Rattle.vbr_script.specs.declared.script.TheConstants.{MAX_OPERATIONS, MAX_SYNCS}
 use Rattle.vbr_script.specs.Text.{lines_of, tokens_of}
 use Rattle.vbr_script.specs.Number.{number_below}
-use Rattle.vbr_script.specs.Grammar.{operation_of, meaning_of_tokens, meaning_of, lone_token}
-use Rattle.vbr_script.specs.Scripts.{all_limited, operations_from, ends_phase, meanings_of, script_of, phases_of, renewals_from, renewals_of, AscendFrom, ArePhased, AreRenewalsFrom}
+use Rattle.vbr_script.specs.Grammar.{operation_of, with_value, meaning_of_tokens, meaning_of, lone_token}
+use Rattle.vbr_script.specs.Scripts.{all_limited, operations_from, ends_phase, meanings_of, script_of, phases_of, renewals_from, renewals_of, AscendFrom, MayAsk, ArePhased, AreRenewalsFrom}
 use Rattle.vbr_script.proofs.LinesRead.{one_more}
 
 -- ---- workers
 
--- a line is of one of so many workers, and is no get
-abbrev IsRequest : ℕ → Line → Type 0
-IsRequest workers line = (line.worker < workers) × (line.op ≢ Get)
+-- a line is of one of so many workers, and is one that a script of this kind may ask
+abbrev IsRequest : Kind → ℕ → Line → Type 0
+IsRequest kind workers line = (line.worker < workers) × MayAsk kind line.op line.value
 
 -- so is an operation that is asked for
-abbrev IsOfWorker : ℕ → Meaning → Type 0
-IsOfWorker workers (Asks worker op key) = (worker < workers) × (op ≢ Get)
-IsOfWorker workers _ = Unit {0}
+abbrev IsOfWorker : Kind → ℕ → Meaning → Type 0
+IsOfWorker kind workers (Asks worker op key value) = (worker < workers) × MayAsk kind op value
+IsOfWorker kind workers _ = Unit {0}
 
--- no token names a get
-never_get : (token : List ℕ) (op : Op) → operation_of token ≡ Some op → op ≢ Get
+-- no token names a get of a set
+never_get : (token : List ℕ) (op : Op) → operation_of Set token ≡ Some op → op ≢ Get
 unfolding operation_of
 never_get token op = at (bytes_eq token (codes "insert")) (bytes_eq token (codes "remove")) (bytes_eq token (codes "has"))
   where
@@ -40,57 +42,73 @@ never_get token op = at (bytes_eq token (codes "insert")) (bytes_eq token (codes
     at false false true is get = absurd (cc)
     at false false false is get = absurd (cc)
 
+-- where no value is written it is 0
+unwritten : (kind : Kind) (token : List ℕ) (op : Op) (value : ℕ) → operation_of kind token ≡ Some op → Some 0 ≡ Some value → MayAsk kind op value
+unwritten Set token op value is none = (never_get token op is, cc)
+unwritten Map token op value is none = λ other. cc
+
+-- where one is written the operation is an insert
+written : (named : Option Op) (op : Op) (value : ℕ) → with_value named ≡ Some op → MayAsk Map op value
+written None op value is other = absurd (cc)
+written (Some Insert) op value is other = absurd (other (cc))
+written (Some Remove) op value is other = absurd (cc)
+written (Some Has) op value is other = absurd (cc)
+written (Some Get) op value is other = absurd (cc)
+
 number_is_below : (limit : ℕ) (token : List ℕ) (n : ℕ) → number_below limit token ≡ Some n → n < limit
 number_is_below limit token n is = grind (arith, nat_tests)
 
--- what three tokens mean is of a worker below the limit
-request : (workers : ℕ) (worker : Option ℕ) (op : Option Op) (key : Option ℕ) → ((n : ℕ) → worker ≡ Some n → n < workers) → ((o : Op) → op ≡ Some o → o ≢ Get) → IsOfWorker workers (meaning_of_tokens worker op key)
-request workers None op key below never = tt
-request workers (Some n) None key below never = tt
-request workers (Some n) (Some op) None below never = tt
-request workers (Some n) (Some op) (Some key) below never = (below n refl, never op refl)
+-- what tokens mean is of a worker below the limit
+request : (kind : Kind) (workers : ℕ) (worker : Option ℕ) (op : Option Op) (key value : Option ℕ) → ((n : ℕ) → worker ≡ Some n → n < workers) → ((o : Op) (v : ℕ) → op ≡ Some o → value ≡ Some v → MayAsk kind o v) → IsOfWorker kind workers (meaning_of_tokens worker op key value)
+request kind workers None op key value below may = tt
+request kind workers (Some n) None key value below may = tt
+request kind workers (Some n) (Some op) None value below may = tt
+request kind workers (Some n) (Some op) (Some key) None below may = tt
+request kind workers (Some n) (Some op) (Some key) (Some value) below may = (below n refl, may op value refl refl)
 
-lone : (workers : ℕ) (token : List ℕ) → IsOfWorker workers (lone_token token)
+lone : (kind : Kind) (workers : ℕ) (token : List ℕ) → IsOfWorker kind workers (lone_token token)
 unfolding lone_token
-lone workers token = at (bytes_eq token (codes "sync")) (bytes_eq token (codes "renew"))
+lone kind workers token = at (bytes_eq token (codes "sync")) (bytes_eq token (codes "renew"))
   where
-    at : (sync renew : Bool) → IsOfWorker workers (if sync then Sync else (if renew then Renew else Faulty Words))
+    at : (sync renew : Bool) → IsOfWorker kind workers (if sync then Sync else (if renew then Renew else Faulty Words))
     at true renew = tt
     at false true = tt
     at false false = tt
 
 -- so are the tokens of each line
-tokens : (workers : ℕ) (line : List (List ℕ)) → IsOfWorker workers (meaning_of workers line)
-tokens workers [] = tt
-tokens workers (token ∷ []) = lone workers token
-tokens workers (worker ∷ op ∷ []) = tt
-tokens workers (worker ∷ op ∷ key ∷ []) = request workers (number_below workers worker) (operation_of op) (number_below (2 ^ 64) key) (number_is_below workers worker) (never_get op)
-tokens workers (worker ∷ op ∷ key ∷ more ∷ rest) = tt
+tokens : (kind : Kind) (workers : ℕ) (line : List (List ℕ)) → IsOfWorker kind workers (meaning_of kind workers line)
+tokens kind workers [] = tt
+tokens kind workers (token ∷ []) = lone kind workers token
+tokens kind workers (worker ∷ op ∷ []) = tt
+tokens kind workers (worker ∷ op ∷ key ∷ []) = request kind workers (number_below workers worker) (operation_of kind op) (number_below (2 ^ 64) key) (Some 0) (number_is_below workers worker) (unwritten kind op)
+tokens Set workers (worker ∷ op ∷ key ∷ value ∷ rest) = tt
+tokens Map workers (worker ∷ op ∷ key ∷ value ∷ []) = request Map workers (number_below workers worker) (with_value (operation_of Map op)) (number_below (2 ^ 64) key) (number_below (2 ^ 64) value) (number_is_below workers worker) (λ o v is _. written (operation_of Map op) o v is)
+tokens Map workers (worker ∷ op ∷ key ∷ value ∷ more ∷ rest) = tt
 
 -- and those of all lines
-all_tokens : (workers : ℕ) (lines : List (List ℕ)) → AllByRecursion (IsOfWorker workers) (map (λ line. meaning_of workers (tokens_of line)) lines)
-all_tokens workers [] = tt
-all_tokens workers (line ∷ lines) = (tokens workers (tokens_of line), all_tokens workers lines)
+all_tokens : (kind : Kind) (workers : ℕ) (lines : List (List ℕ)) → AllByRecursion (IsOfWorker kind workers) (map (λ line. meaning_of kind workers (tokens_of line)) lines)
+all_tokens kind workers [] = tt
+all_tokens kind workers (line ∷ lines) = (tokens kind workers (tokens_of line), all_tokens kind workers lines)
 
-of_workers : (workers : ℕ) (lines : List Meaning) (operations syncs phase : ℕ) → AllByRecursion (IsOfWorker workers) lines → All (IsRequest workers) (operations_from phase (all_limited operations syncs lines))
-of_workers workers [] operations syncs phase all = All-nil (IsRequest workers)
-of_workers workers (Blank ∷ lines) operations syncs phase all = of_workers workers lines operations syncs phase all.1
-of_workers workers (Faulty kind ∷ lines) operations syncs phase all = All-nil (IsRequest workers)
-of_workers workers (Sync ∷ lines) operations syncs phase all = at (nat_lt syncs MAX_SYNCS) (of_workers workers lines operations (syncs + 1) (phase + 1) all.1)
+of_workers : (kind : Kind) (workers : ℕ) (lines : List Meaning) (operations syncs phase : ℕ) → AllByRecursion (IsOfWorker kind workers) lines → All (IsRequest kind workers) (operations_from phase (all_limited operations syncs lines))
+of_workers kind workers [] operations syncs phase all = All-nil (IsRequest kind workers)
+of_workers kind workers (Blank ∷ lines) operations syncs phase all = of_workers kind workers lines operations syncs phase all.1
+of_workers kind workers (Faulty fault ∷ lines) operations syncs phase all = All-nil (IsRequest kind workers)
+of_workers kind workers (Sync ∷ lines) operations syncs phase all = at (nat_lt syncs MAX_SYNCS) (of_workers kind workers lines operations (syncs + 1) (phase + 1) all.1)
   where
-    at : (fits : Bool) → All (IsRequest workers) (operations_from (phase + 1) (all_limited operations (syncs + 1) lines)) → All (IsRequest workers) (operations_from phase ((if fits then Sync else Faulty TooMany) ∷ all_limited operations (syncs + 1) lines))
+    at : (fits : Bool) → All (IsRequest kind workers) (operations_from (phase + 1) (all_limited operations (syncs + 1) lines)) → All (IsRequest kind workers) (operations_from phase ((if fits then Sync else Faulty TooMany) ∷ all_limited operations (syncs + 1) lines))
     at true rest = rest
-    at false rest = All-nil (IsRequest workers)
-of_workers workers (Renew ∷ lines) operations syncs phase all = at (nat_lt syncs MAX_SYNCS) (of_workers workers lines operations (syncs + 1) (phase + 1) all.1)
+    at false rest = All-nil (IsRequest kind workers)
+of_workers kind workers (Renew ∷ lines) operations syncs phase all = at (nat_lt syncs MAX_SYNCS) (of_workers kind workers lines operations (syncs + 1) (phase + 1) all.1)
   where
-    at : (fits : Bool) → All (IsRequest workers) (operations_from (phase + 1) (all_limited operations (syncs + 1) lines)) → All (IsRequest workers) (operations_from phase ((if fits then Renew else Faulty TooMany) ∷ all_limited operations (syncs + 1) lines))
+    at : (fits : Bool) → All (IsRequest kind workers) (operations_from (phase + 1) (all_limited operations (syncs + 1) lines)) → All (IsRequest kind workers) (operations_from phase ((if fits then Renew else Faulty TooMany) ∷ all_limited operations (syncs + 1) lines))
     at true rest = rest
-    at false rest = All-nil (IsRequest workers)
-of_workers workers (Asks worker op key ∷ lines) operations syncs phase all = at (nat_lt operations MAX_OPERATIONS) (of_workers workers lines (operations + 1) syncs phase all.1)
+    at false rest = All-nil (IsRequest kind workers)
+of_workers kind workers (Asks worker op key value ∷ lines) operations syncs phase all = at (nat_lt operations MAX_OPERATIONS) (of_workers kind workers lines (operations + 1) syncs phase all.1)
   where
-    at : (fits : Bool) → All (IsRequest workers) (operations_from phase (all_limited (operations + 1) syncs lines)) → All (IsRequest workers) (operations_from phase ((if fits then Asks worker op key else Faulty TooMany) ∷ all_limited (operations + 1) syncs lines))
-    at true rest = All-cons (IsRequest workers) (record { phase = phase; worker = worker; op = op; key = key }) _ all.0 rest
-    at false rest = All-nil (IsRequest workers)
+    at : (fits : Bool) → All (IsRequest kind workers) (operations_from phase (all_limited (operations + 1) syncs lines)) → All (IsRequest kind workers) (operations_from phase ((if fits then Asks worker op key value else Faulty TooMany) ∷ all_limited (operations + 1) syncs lines))
+    at true rest = All-cons (IsRequest kind workers) (record { phase = phase; worker = worker; op = op; key = key; value = value }) _ all.0 rest
+    at false rest = All-nil (IsRequest kind workers)
 
 -- ---- phases
 
@@ -126,7 +144,7 @@ lie_from [] phase = none_lie phase 0
 lie_from (Blank ∷ lines) phase = rw (one_more Blank lines) (as_many phase _ _ _ (omega arith) (lie_from lines phase))
 lie_from (Sync ∷ lines) phase = rw (one_more Sync lines) (later_lie phase _ _ _ (omega arith) (lie_from lines (phase + 1)))
 lie_from (Renew ∷ lines) phase = rw (one_more Renew lines) (later_lie phase _ _ _ (omega arith) (lie_from lines (phase + 1)))
-lie_from (Asks worker op key ∷ lines) phase = rw (one_more (Asks worker op key) lines) (one_lies phase _ (record { phase = phase; worker = worker; op = op; key = key }) (operations_from phase lines) refl (as_many phase _ _ _ (omega arith) (lie_from lines phase)))
+lie_from (Asks worker op key value ∷ lines) phase = rw (one_more (Asks worker op key value) lines) (one_lies phase _ (record { phase = phase; worker = worker; op = op; key = key; value = value }) (operations_from phase lines) refl (as_many phase _ _ _ (omega arith) (lie_from lines phase)))
 lie_from (Faulty kind ∷ lines) phase = none_lie phase (count_by ends_phase (Faulty kind ∷ lines))
 
 -- ---- renewals
@@ -142,21 +160,21 @@ renew_from [] phase phases inside = tt
 renew_from (Blank ∷ lines) phase phases inside = renew_from lines phase phases (omega (arith, one_more Blank lines))
 renew_from (Sync ∷ lines) phase phases inside = renewals_lower phase (phase + 1) phases (renewals_from (phase + 1) lines) (omega arith) (renew_from lines (phase + 1) phases (omega (arith, one_more Sync lines)))
 renew_from (Renew ∷ lines) phase phases inside = (omega arith, omega (arith, one_more Renew lines), renew_from lines (phase + 1) phases (omega (arith, one_more Renew lines)))
-renew_from (Asks worker op key ∷ lines) phase phases inside = renew_from lines phase phases (omega (arith, one_more (Asks worker op key) lines))
+renew_from (Asks worker op key value ∷ lines) phase phases inside = renew_from lines phase phases (omega (arith, one_more (Asks worker op key value) lines))
 renew_from (Faulty kind ∷ lines) phase phases inside = tt
 
-pub renewed : (workers : ℕ) (text : List ℕ) → AreRenewalsFrom 0 (phases_of workers text) (renewals_of workers text)
-renewed workers text = renew_from (meanings_of workers text) 0 (phases_of workers text) (omega arith)
+pub renewed : (kind : Kind) (workers : ℕ) (text : List ℕ) → AreRenewalsFrom 0 (phases_of kind workers text) (renewals_of kind workers text)
+renewed kind workers text = renew_from (meanings_of kind workers text) 0 (phases_of kind workers text) (omega arith)
 
 -- ---- both
 
-pub phased : (workers : ℕ) (text : List ℕ) → ArePhased workers (phases_of workers text) (script_of workers text)
-phased workers text =
-    let lie = lie_from (meanings_of workers text) 0 in
-    let requests = of_workers workers (map (λ line. meaning_of workers (tokens_of line)) (lines_of text)) 0 0 0 (all_tokens workers (lines_of text)) in
+pub phased : (kind : Kind) (workers : ℕ) (text : List ℕ) → ArePhased kind workers (phases_of kind workers text) (script_of kind workers text)
+phased kind workers text =
+    let lie = lie_from (meanings_of kind workers text) 0 in
+    let requests = of_workers kind workers (map (λ line. meaning_of kind workers (tokens_of line)) (lines_of text)) 0 0 0 (all_tokens kind workers (lines_of text)) in
     record {
-      workers_below = All-weaker (IsRequest workers) (λ line. line.worker < workers) (λ line is. is.0) (script_of workers text) requests;
-      no_get = All-weaker (IsRequest workers) (λ line. line.op ≢ Get) (λ line is. is.1) (script_of workers text) requests;
-      phases_below = All-weaker (λ line. line.phase ≤ 0 + count_by ends_phase (meanings_of workers text)) (λ line. line.phase < phases_of workers text) (λ line high. omega arith) (script_of workers text) lie.below;
+      workers_below = All-weaker (IsRequest kind workers) (λ line. line.worker < workers) (λ line is. is.0) (script_of kind workers text) requests;
+      may_ask = All-weaker (IsRequest kind workers) (λ line. MayAsk kind line.op line.value) (λ line is. is.1) (script_of kind workers text) requests;
+      phases_below = All-weaker (λ line. line.phase ≤ 0 + count_by ends_phase (meanings_of kind workers text)) (λ line. line.phase < phases_of kind workers text) (λ line high. omega arith) (script_of kind workers text) lie.below;
       ascend = lie.ascend;
     }

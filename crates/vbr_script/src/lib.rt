@@ -1,7 +1,7 @@
-//! Scripts of calls of a set: what a text of bytes means as a script, its first fault, and the
-//! parser.
+//! Scripts of calls of a set or of a map: what a text of bytes means as a script, its first fault,
+//! and the parser.
 //!
-//! [`parse_script`] goes over the bytes once, line by line and each line token by token.
+//! [`parse_script`] and [`parse_map_script`] go over the bytes once, line by line and each line token by token.
 #![tactic(auto)]
 
 mod number;
@@ -10,5 +10,7 @@ pub mod parser;
 pub mod script;
 mod text;
 
-pub use parser::parse_script;
-pub use script::{Line, MAX_OPERATIONS, MAX_SYNCS, Meaning, Script, ScriptError, ScriptFault};
+pub use parser::{parse_map_script, parse_script};
+pub use script::{
+    Kind, Line, MAX_OPERATIONS, MAX_SYNCS, Meaning, Script, ScriptError, ScriptFault,
+};

@@ -2,17 +2,21 @@
 ghost use Rattle.std.specs.Prelude.{◌≡◌, ◌≤◌, ◌<◌, ◌+◌, ◌^◌, ℕ, List, ◌++◌, ◌∷◌, [], Some, None, length, vec_len, IfOk, OnOk, IsErrOf};
 ghost use Rattle.vbr_script.specs.Text.{tokens_of};
 ghost use Rattle.vbr_script.specs.Number.{number_below};
-ghost use Rattle.vbr_script.specs.Grammar.{meaning_of, lone_token};
+ghost use Rattle.vbr_script.specs.Grammar.{meaning_of, meaning_of_tokens, lone_token};
 ghost use Rattle.vbr_script.specs.Scripts.{first_fault, limited, HasSome, IsScriptOf};
 ghost use Rattle.vbr_script.specs.declared.script.ScriptFault.{ScriptFault};
+ghost use Rattle.vbr_script.specs.declared.script.Kind.TheVariants.{Set, Map};
 
 use crate::number::number;
-use crate::operation::operation;
-use crate::script::{Line, MAX_OPERATIONS, MAX_SYNCS, Meaning, Script, ScriptError, ScriptFault};
+use crate::operation::{operation, with_value};
+use crate::script::{
+    Kind, Line, MAX_OPERATIONS, MAX_SYNCS, Meaning, Script, ScriptError, ScriptFault,
+};
 use crate::text::{first_line, first_token};
 use std::alloc::Global;
+use vbr_machine::Op;
 
-/// Reads a script for so many workers. It goes over the bytes once, and reaches no set.
+/// Reads a script of a set for so many workers. It goes over the bytes once, and reaches no set.
 ///
 /// # Errors
 ///
@@ -27,10 +31,39 @@ use std::alloc::Global;
 /// let script = parse_script(alloc, &text, config.workers())?;
 /// ```
 pub fn parse_script(alloc: Global, text: &[u8], workers: u32) -> Result<Script, ScriptError>
-    ensures script { IfOk result (IsScriptOf workers text.now) }
+    ensures script { IfOk result (IsScriptOf Set workers text.now) }
     ensures fault { (line : ℕ) (kind : ScriptFault) → IsErrOf result (ScriptError.Fault line kind) →
-        first_fault workers text.now ≡ Some (line, kind) }
-    ensures memory_only_for_a_line { IsErrOf result ScriptError.Memory → HasSome workers text.now }
+        first_fault Set workers text.now ≡ Some (line, kind) }
+    ensures memory_only_for_a_line { IsErrOf result ScriptError.Memory →
+        HasSome Set workers text.now }
+{
+    parse(alloc, Kind::Set, text, workers)
+}
+
+/// Reads a script of a map, as [`parse_script`] reads one of a set: an insert may have a value behind
+/// its key, and there is one more operation, `get`.
+///
+/// # Errors
+///
+/// Those of [`parse_script`].
+pub fn parse_map_script(alloc: Global, text: &[u8], workers: u32) -> Result<Script, ScriptError>
+    ensures script { IfOk result (IsScriptOf Map workers text.now) }
+    ensures fault { (line : ℕ) (kind : ScriptFault) → IsErrOf result (ScriptError.Fault line kind) →
+        first_fault Map workers text.now ≡ Some (line, kind) }
+    ensures memory_only_for_a_line { IsErrOf result ScriptError.Memory →
+        HasSome Map workers text.now }
+{
+    parse(alloc, Kind::Map, text, workers)
+}
+
+// Reads a script of this kind.
+fn parse(alloc: Global, kind: Kind, text: &[u8], workers: u32) -> Result<Script, ScriptError>
+    ensures script { IfOk result (IsScriptOf kind workers text.now) }
+    ensures fault { (line : ℕ) (fault : ScriptFault) →
+        IsErrOf result (ScriptError.Fault line fault) →
+        first_fault kind workers text.now ≡ Some (line, fault) }
+    ensures memory_only_for_a_line { IsErrOf result ScriptError.Memory →
+        HasSome kind workers text.now }
 {
     let mut lines = Vec::new(alloc);
     let mut renewals = Vec::new(alloc);
@@ -39,19 +72,20 @@ pub fn parse_script(alloc: Global, text: &[u8], workers: u32) -> Result<Script, 
     let mut rest = text;
     loop {
         let (line, after) = first_line(rest);
-        match limited(meaning(line, workers), lines.len(), phase) {
+        match limited(meaning(kind, line, workers), lines.len(), phase) {
             Meaning::Blank => {}
             Meaning::Sync => phase += 1,
             Meaning::Renew => {
                 renewals.push(phase).map_err(|_| ScriptError::Memory)?;
                 phase += 1;
             }
-            Meaning::Asks(worker, op, key) => {
+            Meaning::Asks(worker, op, key, value) => {
                 let line = Line {
                     phase,
                     worker,
                     op,
                     key,
+                    value,
                 };
                 lines.push(line).map_err(|_| ScriptError::Memory)?;
             }
@@ -88,9 +122,9 @@ fn limited(meaning: Meaning, operations: usize, syncs: u32) -> Meaning
     }
 }
 
-// What the tokens of a line mean to a script for so many workers.
-fn meaning(line: &[u8], workers: u32) -> Meaning
-    ensures { result ≡ meaning_of workers (tokens_of line.now) }
+// What the tokens of a line mean to a script of this kind for so many workers.
+fn meaning(kind: Kind, line: &[u8], workers: u32) -> Meaning
+    ensures { result ≡ meaning_of kind workers (tokens_of line.now) }
 {
     let Some((worker, rest)) = first_token(line) else {
         return Meaning::Blank;
@@ -101,19 +135,34 @@ fn meaning(line: &[u8], workers: u32) -> Meaning
     let Some((key, rest)) = first_token(rest) else {
         return Meaning::Faulty(ScriptFault::Words);
     };
-    if first_token(rest).is_some() {
+    let worker = worker_number(worker, workers);
+    let op = operation(kind, name);
+    let Some((value, rest)) = first_token(rest) else {
+        return asked(worker, op, number(key), Some(0));
+    };
+    if kind == Kind::Set || first_token(rest).is_some() {
         return Meaning::Faulty(ScriptFault::Words);
     }
-    let Some(worker) = worker_number(worker, workers) else {
+    asked(worker, with_value(op), number(key), number(value))
+}
+
+// What a worker, an operation, a key and a value mean, each of which may be none.
+fn asked(worker: Option<u32>, op: Option<Op>, key: Option<u64>, value: Option<u64>) -> Meaning
+    ensures { result ≡ meaning_of_tokens worker op key value }
+{
+    let Some(worker) = worker else {
         return Meaning::Faulty(ScriptFault::Worker);
     };
-    let Some(op) = operation(name) else {
+    let Some(op) = op else {
         return Meaning::Faulty(ScriptFault::Operation);
     };
-    let Some(key) = number(key) else {
+    let Some(key) = key else {
         return Meaning::Faulty(ScriptFault::Key);
     };
-    Meaning::Asks(worker, op, key)
+    let Some(value) = value else {
+        return Meaning::Faulty(ScriptFault::Value);
+    };
+    Meaning::Asks(worker, op, key, value)
 }
 
 // What a token alone on its line means.

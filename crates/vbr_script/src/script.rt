@@ -2,6 +2,15 @@
 use thiserror::Error;
 use vbr_machine::Op;
 
+/// What a script asks: a set, or a map, whose keys have values.
+#[derive(Clone, Copy, Debug, PartialEq, Eq)]
+pub enum Kind {
+    /// It has no values, and no operation that gives one.
+    Set,
+    /// An insert may have a value, and a `get` gives it.
+    Map,
+}
+
 /// One operation of a script.
 #[derive(Clone, Copy, Debug, PartialEq, Eq)]
 pub struct Line {
@@ -9,10 +18,12 @@ pub struct Line {
     pub phase: u32,
     /// The worker that plays it, from 0.
     pub worker: u32,
-    /// What is asked of the set.
+    /// What is asked of the set, or of the map.
     pub op: Op,
     /// The key that it is asked of.
     pub key: u64,
+    /// The value that an insert in a map stores with its key; 0 where none is written.
+    pub value: u64,
 }
 
 /// The greatest number of operations in a script.
@@ -37,18 +48,22 @@ pub struct Script {
 /// What is wrong with a line. The tests are made in this order.
 #[derive(Clone, Copy, Debug, PartialEq, Eq, Error)]
 pub enum ScriptFault {
-    /// The line has neither three tokens nor the one token `sync` or `renew`.
+    /// The line has neither three tokens nor the one token `sync` or `renew`; in a script of a map it
+    /// may also have four.
     #[error("a line is a worker, an operation and a key, or `sync` or `renew` alone")]
     Words,
     /// The first token is no number, or not one below the number of workers.
     #[error("no such worker")]
     Worker,
-    /// The second token is no operation.
+    /// The second token is no operation, or, with a fourth token, another than an insert.
     #[error("no such operation: insert, remove and has are known")]
     Operation,
     /// The third token is no number, or one above the greatest key.
     #[error("a key is a number from 0 to 18446744073709551615")]
     Key,
+    /// The fourth token is no number, or one above the greatest value.
+    #[error("a value is a number from 0 to 18446744073709551615")]
+    Value,
     /// With this line there are more operations than `MAX_OPERATIONS`, or more `sync` and `renew`
     /// lines than `MAX_SYNCS`.
     #[error("a script has at most {MAX_OPERATIONS} operations and {MAX_SYNCS} `sync` and `renew` lines")]
@@ -59,7 +74,8 @@ impl ScriptFault {
     ghost use Rattle.std.specs.Prelude.{◌≡◌};
     ghost use Rattle.vbr_script.specs.Grammar.{fault_number};
 
-    /// The fault's number, as the program prints it: from 1, in the order of the tests.
+    /// The fault's number, as the program prints it: from 1, in the order of the tests, but for that
+    /// of a value, which scripts of sets don't have.
     pub fn number(self) -> u8
         ensures { result ≡ fault_number self }
     {
@@ -69,6 +85,7 @@ impl ScriptFault {
             ScriptFault::Operation => 3,
             ScriptFault::Key => 4,
             ScriptFault::TooMany => 5,
+            ScriptFault::Value => 6,
         }
     }
 }
@@ -82,8 +99,8 @@ pub enum Meaning {
     Sync,
     /// The line ends a phase, and the set is renewed.
     Renew,
-    /// The worker, the operation and the key that the line asks for.
-    Asks(u32, Op, u64),
+    /// The worker, the operation, the key and the value that the line asks for.
+    Asks(u32, Op, u64, u64),
     /// What is wrong with the line.
     Faulty(ScriptFault),
 }

@@ -13,6 +13,8 @@ use Rattle.vbr_machine.specs.declared.event.Event.{Event}
 use Rattle.vbr_transcript.specs.Calls.{Outcome, answered_calls, lines_by, lines_up_to, outcomes_by, outcomes_up_to}
 use Rattle.vbr_transcript.specs.Merging.{replies_by, IsMerged}
 use Rattle.vbr_script.specs.Scripts.{ArePhased}
+use Rattle.vbr_script.specs.declared.script.Kind.{Kind}
+use Rattle.vbr_transcript.specs.Contents.{IsLegalFrom, opening_contents}
 use Rattle.vbr_transcript.specs.Phases.{HaveCalled, HavePlayed}
 use Rattle.vbr_transcript.specs.Runs.{EndsIn, Manner, MayBeAnswered, IsSetRun}
 use Rattle.vbr_script.specs.declared.script.Line.{Line}
@@ -45,25 +47,25 @@ all_up_to phases phase outcomes last below = filter_all (λ (outcome : Outcome).
 -- ---- the parts of a run
 
 -- the outcomes of a worker up to a phase are its lines up to it with its own replies
-of_worker_up_to : (phases workers who phase : ℕ) (lines : List Line) (own : List (List Reply)) (replies : List Reply) → ArePhased workers phases lines → IsMerged lines own replies → outcomes_by who (outcomes_up_to phase (zip lines replies)) ≡ zip (lines_by who (lines_up_to phase lines)) (replies_by who own)
-of_worker_up_to phases workers who phase lines own replies phased merged =
+of_worker_up_to : (kind : Kind) (phases workers who phase : ℕ) (lines : List Line) (own : List (List Reply)) (replies : List Reply) → ArePhased kind workers phases lines → IsMerged lines own replies → outcomes_by who (outcomes_up_to phase (zip lines replies)) ≡ zip (lines_by who (lines_up_to phase lines)) (replies_by who own)
+of_worker_up_to kind phases workers who phase lines own replies phased merged =
     outcomes_by-up_to who phase (zip lines replies)
     ∙ ap (outcomes_up_to phase) (outcomes_by-own who lines replies (replies_by who own) merged.one_each (merged.own_order who))
     ∙ outcomes_up_to-zip phase 0 (lines_by who lines) (replies_by who own) (lines_by-ascend who 0 lines phased.ascend)
     ∙ ap (λ (some : List Line). zip some (replies_by who own)) (sym (lines_by-up_to who phase lines))
 
 -- where each worker has called these lines, and there are no others, the calls are those of outcomes that are theirs
-own_order : (shape : Dimensions) (workers who : ℕ) (seen : List Event) (lines : List Line) (own : List (List Reply)) (outcomes : List Outcome) → machine.IsRun shape workers seen → HaveCalled shape workers lines own seen → All (λ line. line.worker < workers) lines → outcomes_by who outcomes ≡ zip (lines_by who lines) (replies_by who own) → calls_by who (world_after shape seen).calls ≡ calls_by who (answered_calls outcomes)
-own_order shape workers who seen lines own outcomes is_run called below of_worker = elim (cases_lt who workers) [
-  | inl one ↦ called who one ∙ sym (calls_by-answered who outcomes ∙ ap answered_calls of_worker)
+own_order : (kind : Kind) (shape : Dimensions) (workers who : ℕ) (seen : List Event) (lines : List Line) (own : List (List Reply)) (outcomes : List Outcome) → machine.IsRun shape workers seen → HaveCalled kind shape workers lines own seen → All (λ line. line.worker < workers) lines → outcomes_by who outcomes ≡ zip (lines_by who lines) (replies_by who own) → calls_by who (world_after shape seen).calls ≡ calls_by who (answered_calls kind outcomes)
+own_order kind shape workers who seen lines own outcomes is_run called below of_worker = elim (cases_lt who workers) [
+  | inl one ↦ called who one ∙ sym (calls_by-answered kind who outcomes ∙ ap (answered_calls kind) of_worker)
   | inr none ↦
       let no_lines : zip (lines_by who lines) (replies_by who own) ≡ [] = ap (λ (some : List Line). zip some (replies_by who own)) (none_beyond workers who lines none below) in
-      no_calls_beyond shape workers who seen none is_run ∙ sym (calls_by-answered who outcomes ∙ ap answered_calls (of_worker ∙ no_lines))
+      no_calls_beyond shape workers who seen none is_run ∙ sym (calls_by-answered kind who outcomes ∙ ap (answered_calls kind) (of_worker ∙ no_lines))
 ]
 
 -- each phase ends in the history
-ends : (shape : Dimensions) (workers phases phase : ℕ) (lines : List Line) (own : List (List Reply)) (replies : List Reply) (run : List Event) → ArePhased workers phases lines → IsMerged lines own replies → machine.IsRun shape workers run → HavePlayed shape workers phases lines own run → ((who : ℕ) → calls_by who (world_after shape run).calls ≡ calls_by who (answered_calls (zip lines replies))) → EndsIn (world_after shape run).calls (zip lines replies) phase
-ends shape workers phases phase lines own replies run phased merged is_run played all = elim (cases_lt phase phases) [
+ends : (kind : Kind) (shape : Dimensions) (workers phases phase : ℕ) (lines : List Line) (own : List (List Reply)) (replies : List Reply) (run : List Event) → ArePhased kind workers phases lines → IsMerged lines own replies → machine.IsRun shape workers run → HavePlayed kind shape workers phases lines own run → ((who : ℕ) → calls_by who (world_after shape run).calls ≡ calls_by who (answered_calls kind (zip lines replies))) → EndsIn kind (world_after shape run).calls (zip lines replies) phase
+ends kind shape workers phases phase lines own replies run phased merged is_run played all = elim (cases_lt phase phases) [
   | inl before ↦
       let end = played.ends phase before in
       let calls = calls_begin shape end.seen run end.begins in
@@ -71,7 +73,7 @@ ends shape workers phases phase lines own replies run phased merged is_run playe
         before = (world_after shape end.seen).calls;
         after = calls.0;
         whole = calls.1;
-        own_order = λ who. own_order shape workers who end.seen (lines_up_to phase lines) own (outcomes_up_to phase (zip lines replies)) (begins_run shape workers end.seen run end.begins is_run) end.called (All-filter (λ (line : Line). nat_le line.phase phase) (λ (line : Line). line.worker < workers) lines phased.workers_below) (of_worker_up_to phases workers who phase lines own replies phased merged);
+        own_order = λ who. own_order kind shape workers who end.seen (lines_up_to phase lines) own (outcomes_up_to phase (zip lines replies)) (begins_run shape workers end.seen run end.begins is_run) end.called (All-filter (λ (line : Line). nat_le line.phase phase) (λ (line : Line). line.worker < workers) lines phased.workers_below) (of_worker_up_to kind phases workers who phase lines own replies phased merged);
       }
   | inr after ↦
       let whole = all_up_to phases phase (zip lines replies) after (all_lines (λ (line : Line). line.phase < phases) lines replies phased.phases_below) in
@@ -79,23 +81,23 @@ ends shape workers phases phase lines own replies run phased merged is_run playe
         before = (world_after shape run).calls;
         after = [];
         whole = sym (append-nil (world_after shape run).calls);
-        own_order = λ who. all who ∙ ap (λ (some : List Outcome). calls_by who (answered_calls some)) (sym whole);
+        own_order = λ who. all who ∙ ap (λ (some : List Outcome). calls_by who (answered_calls kind some)) (sym whole);
       }
 ]
 
 -- what the workers have played by a safe run are the outcomes of one set, with the replies that they have merged
-pub set_run_of_workers : (manner : Manner) (shape : Dimensions) (workers phases since : ℕ) (lines : List Line) (own : List (List Reply)) (replies : List Reply) (run : List Event) → manner shape since (zip lines replies) run → ArePhased workers phases lines → IsMerged lines own replies → machine.IsRun shape workers run → IsSafe shape run → HavePlayed shape workers phases lines own run → IsSetRun manner shape workers since (zip lines replies) run
-set_run_of_workers manner shape workers phases since lines own replies run in_manner phased merged is_run safe played =
+pub set_run_of_workers : (kind : Kind) (manner : Manner) (shape : Dimensions) (workers phases since : ℕ) (lines : List Line) (own : List (List Reply)) (replies : List Reply) (run : List Event) → manner shape since (zip lines replies) run → ArePhased kind workers phases lines → IsMerged lines own replies → machine.IsRun shape workers run → IsSafe shape run → IsLegalFrom kind (opening_contents kind shape) (world_after shape run).calls → HavePlayed kind shape workers phases lines own run → IsSetRun kind manner shape workers since (zip lines replies) run
+set_run_of_workers kind manner shape workers phases since lines own replies run in_manner phased merged is_run safe legal played =
     let of_worker = λ (who : ℕ). outcomes_by-own who lines replies (replies_by who own) merged.one_each (merged.own_order who) in
-    let all = λ (who : ℕ). own_order shape workers who run lines own (zip lines replies) is_run played.called phased.workers_below (of_worker who) in
-    let may = λ (outcome : Outcome). MayBeAnswered shape.last_epoch (world_after shape run).epoch outcome.0.op outcome.1 in
+    let all = λ (who : ℕ). own_order kind shape workers who run lines own (zip lines replies) is_run played.called phased.workers_below (of_worker who) in
+    let may = λ (outcome : Outcome). MayBeAnswered kind shape.last_epoch (world_after shape run).epoch outcome.0.op outcome.1 in
     record {
       is_run = is_run;
       safe = safe;
       explains = record {
-        legal = safe.legal;
+        legal = legal;
         own_order = all;
-        phases = λ phase. ends shape workers phases phase lines own replies run phased merged is_run played all;
+        phases = λ phase. ends kind shape workers phases phase lines own replies run phased merged is_run played all;
       };
       refusals = all_outcomes may workers (zip lines replies) (all_lines (λ (line : Line). line.worker < workers) lines replies phased.workers_below) (λ who below. subst (All may) (sym (of_worker who)) (played.answers who below));
       played = in_manner;

@@ -9,4 +9,4 @@ pub use Rattle.vbr_transcript.proofs.Explaining.{all_lines, none_beyond, set_run
 -- What the outcomes of a script say of the calls of each worker, and of the phases.
 pub use Rattle.vbr_transcript.proofs.Outcomes.{all_outcomes, ascend_lower, outcomes_by-own}
 -- Sets that follow one another: what one was asked, and behind it what the next ones were, are the outcomes of all.
-pub use Rattle.vbr_transcript.proofs.Renewing.{last_set, one_more_set}
+pub use Rattle.vbr_transcript.proofs.Renewing.{last_set, one_more_set, set_opens}

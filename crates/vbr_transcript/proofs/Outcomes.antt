@@ -10,9 +10,10 @@ use Rattle.vbr_machine.specs.declared.history.Call.{Call}
 use Rattle.vbr_machine.proofs.Lemmas.{calls_by-append}
 use Rattle.vbr_transcript.specs.Calls.{Outcome, answer_of, answered_calls, lines_by, lines_up_to, outcomes_by, outcomes_up_to}
 use Rattle.vbr_script.specs.Scripts.{AscendFrom}
+use Rattle.vbr_script.specs.declared.script.Kind.{Kind}
 use Rattle.vbr_script.specs.declared.script.Line.{Line}
 use Rattle.vbr_transcript.specs.declared.reply.Reply.{Reply}
-use Rattle.vbr_transcript.specs.declared.reply.Reply.TheVariants.{Yes, No, Full, Spent, Tired}
+use Rattle.vbr_transcript.specs.declared.reply.Reply.TheVariants.{Yes, Value, No, Full, Spent, Tired}
 use Rattle.vbr_transcript.proofs.Filters.{filter_swap, filter-map, zip_parts}
 
 -- ---- calls
@@ -23,25 +24,26 @@ none_kept true = refl
 none_kept false = refl
 
 -- an answer is a call of its worker
-calls_by-answer : (who : ℕ) (line : Line) (reply : Reply) → calls_by who (answer_of line reply) ≡ cond (eqb line.worker who) (answer_of line reply) []
-calls_by-answer who line Yes = refl
-calls_by-answer who line No = refl
-calls_by-answer who line Full = sym (none_kept (eqb line.worker who))
-calls_by-answer who line Spent = sym (none_kept (eqb line.worker who))
-calls_by-answer who line Tired = sym (none_kept (eqb line.worker who))
+calls_by-answer : (kind : Kind) (who : ℕ) (line : Line) (reply : Reply) → calls_by who (answer_of kind line reply) ≡ cond (eqb line.worker who) (answer_of kind line reply) []
+calls_by-answer kind who line Yes = refl
+calls_by-answer kind who line (Value value) = refl
+calls_by-answer kind who line No = refl
+calls_by-answer kind who line Full = sym (none_kept (eqb line.worker who))
+calls_by-answer kind who line Spent = sym (none_kept (eqb line.worker who))
+calls_by-answer kind who line Tired = sym (none_kept (eqb line.worker who))
 
 -- an outcome that is kept, or not, before the rest
-answered-kept : (b : Bool) (outcome : Outcome) (rest : List Outcome) → cond b (answer_of outcome.0 outcome.1) [] ++ answered_calls rest ≡ answered_calls (cond b (outcome ∷ rest) rest)
-answered-kept true outcome rest = refl
-answered-kept false outcome rest = refl
+answered-kept : (kind : Kind) (b : Bool) (outcome : Outcome) (rest : List Outcome) → cond b (answer_of kind outcome.0 outcome.1) [] ++ answered_calls kind rest ≡ answered_calls kind (cond b (outcome ∷ rest) rest)
+answered-kept kind true outcome rest = refl
+answered-kept kind false outcome rest = refl
 
 -- the answered calls of a worker are those of its outcomes
-pub calls_by-answered : (who : ℕ) (outcomes : List Outcome) → calls_by who (answered_calls outcomes) ≡ answered_calls (outcomes_by who outcomes)
-calls_by-answered who [] = refl
-calls_by-answered who (outcome ∷ outcomes) =
-    calls_by-append who (answer_of outcome.0 outcome.1) (answered_calls outcomes)
-    ∙ ap₂ (λ (a b : List Call). a ++ b) (calls_by-answer who outcome.0 outcome.1) (calls_by-answered who outcomes)
-    ∙ answered-kept (eqb outcome.0.worker who) outcome (outcomes_by who outcomes)
+pub calls_by-answered : (kind : Kind) (who : ℕ) (outcomes : List Outcome) → calls_by who (answered_calls kind outcomes) ≡ answered_calls kind (outcomes_by who outcomes)
+calls_by-answered kind who [] = refl
+calls_by-answered kind who (outcome ∷ outcomes) =
+    calls_by-append who (answer_of kind outcome.0 outcome.1) (answered_calls kind outcomes)
+    ∙ ap₂ (λ (a b : List Call). a ++ b) (calls_by-answer kind who outcome.0 outcome.1) (calls_by-answered kind who outcomes)
+    ∙ answered-kept kind (eqb outcome.0.worker who) outcome (outcomes_by who outcomes)
 
 -- ---- workers
 

@@ -6,13 +6,16 @@ use Rattle.std.proofs.lemmas.List.Concat.{flat_map-append}
 use Rattle.std.proofs.lemmas.List.Elements.{filter-append}
 use Rattle.std.specs.Prelude.{nat_le, nat_lt, All}
 use Rattle.vbr_words.specs.Dimensions.{Dimensions}
-use Rattle.vbr_machine.specs.Keys.{Keys, keys_of, AreKeysOf}
-use Rattle.vbr_machine.specs.Opened.{opening_keys}
+use Rattle.vbr_machine.specs.Keys.{Keys}
+use Rattle.vbr_machine.specs.Maps.{Entries, IsMapLegal, entries_after, map_after}
 use Rattle.vbr_machine.specs.History.{IsLegal, keys_after, set_after, calls_by}
 use Rattle.vbr_machine.specs.Runs.{IsRun, world_after}
 use Rattle.vbr_machine.specs.declared.event.Event.{Event}
 use Rattle.vbr_machine.specs.declared.history.Call.{Call}
 use Rattle.vbr_machine.proofs.Lemmas.{calls_by-append}
+use Rattle.vbr_script.specs.declared.script.Kind.{Kind}
+use Rattle.vbr_script.specs.declared.script.Kind.TheVariants.{Set, Map}
+use Rattle.vbr_transcript.specs.Contents.{Contents, Item, IsLegalFrom, AreContents, contents_after, opened_with, opening_contents}
 use Rattle.vbr_transcript.specs.Calls.{Outcome, answer_of, answered_calls, outcomes_up_to, outcomes_past}
 use Rattle.vbr_transcript.specs.Runs.{EndsIn, Explains, Manner, IsSetRun, AreOfSets, AreExplained}
 use Rattle.vbr_transcript.proofs.CoreCalls.{no_calls_beyond}
@@ -24,13 +27,29 @@ set_after-append : (keys : Keys) (calls more : List Call) → set_after keys (ca
 set_after-append keys [] more = refl
 set_after-append keys (call ∷ calls) more = set_after-append (keys_after keys call.op call.key call.reply) calls more
 
-legal-append : (keys : Keys) (calls more : List Call) → IsLegal keys calls → IsLegal (set_after keys calls) more → IsLegal keys (calls ++ more)
-legal-append keys [] more first then = then
-legal-append keys (call ∷ calls) more first then = (first.0, legal-append (keys_after keys call.op call.key call.reply) calls more first.1 then)
+map_after-append : (entries : Entries) (calls more : List Call) → map_after entries (calls ++ more) ≡ map_after (map_after entries calls) more
+map_after-append entries [] more = refl
+map_after-append entries (call ∷ calls) more = map_after-append (entries_after entries call.op call.key call.reply call.value) calls more
 
--- the keys of a list that has just the keys of a set are that set
-same_keys : (listed : List ℕ) (keys : Keys) → AreKeysOf listed keys → keys_of listed ≡ keys
-same_keys listed keys are = λ i key. are.same key i
+after-append : (kind : Kind) (opening : Contents kind) (calls more : List Call) → contents_after kind opening (calls ++ more) ≡ contents_after kind (contents_after kind opening calls) more
+after-append Set opening calls more = set_after-append opening calls more
+after-append Map opening calls more = map_after-append opening calls more
+
+set_legal-append : (keys : Keys) (calls more : List Call) → IsLegal keys calls → IsLegal (set_after keys calls) more → IsLegal keys (calls ++ more)
+set_legal-append keys [] more first then = then
+set_legal-append keys (call ∷ calls) more first then = (first.0, set_legal-append (keys_after keys call.op call.key call.reply) calls more first.1 then)
+
+map_legal-append : (entries : Entries) (calls more : List Call) → IsMapLegal entries calls → IsMapLegal (map_after entries calls) more → IsMapLegal entries (calls ++ more)
+map_legal-append entries [] more first then = then
+map_legal-append entries (call ∷ calls) more first then = (first.0, first.1, map_legal-append (entries_after entries call.op call.key call.reply call.value) calls more first.2 then)
+
+legal-append : (kind : Kind) (opening : Contents kind) (calls more : List Call) → IsLegalFrom kind opening calls → IsLegalFrom kind (contents_after kind opening calls) more → IsLegalFrom kind opening (calls ++ more)
+legal-append Set opening calls more first then = set_legal-append opening calls more first then
+legal-append Map opening calls more first then = map_legal-append opening calls more first then
+
+-- a set that opens with the keys that another was left with has just these
+pub set_opens : (shape : Dimensions) (listed : List ℕ) (left : Keys) → AreContents Set listed left → opening_contents Set (opened_with Set shape listed) ≡ left
+set_opens shape listed left are = λ i key. are.same key i
 
 -- ---- outcomes, cut at a phase
 
@@ -88,39 +107,39 @@ cut_back cut front back early late =
 -- ---- explanations, end to end
 
 -- the calls of a worker in two histories are those of the outcomes that each explains
-own_order-append : (who : ℕ) (calls more : List Call) (front back : List Outcome) → calls_by who calls ≡ calls_by who (answered_calls front) → calls_by who more ≡ calls_by who (answered_calls back) → calls_by who (calls ++ more) ≡ calls_by who (answered_calls (front ++ back))
-own_order-append who calls more front back first then =
+own_order-append : (kind : Kind) (who : ℕ) (calls more : List Call) (front back : List Outcome) → calls_by who calls ≡ calls_by who (answered_calls kind front) → calls_by who more ≡ calls_by who (answered_calls kind back) → calls_by who (calls ++ more) ≡ calls_by who (answered_calls kind (front ++ back))
+own_order-append kind who calls more front back first then =
     calls_by-append who calls more
     ∙ ap₂ (λ (a b : List Call). a ++ b) first then
-    ∙ sym (calls_by-append who (answered_calls front) (answered_calls back))
-    ∙ ap (calls_by who) (sym (flat_map-append (λ (outcome : Outcome). answer_of outcome.0 outcome.1) front back))
+    ∙ sym (calls_by-append who (answered_calls kind front) (answered_calls kind back))
+    ∙ ap (calls_by who) (sym (flat_map-append (λ (outcome : Outcome). answer_of kind outcome.0 outcome.1) front back))
 
 -- a phase that ends in the first history ends in both
-ends_early : (calls more : List Call) (front back : List Outcome) (phase cut : ℕ) → phase ≤ cut → Past cut back → EndsIn calls front phase → EndsIn (calls ++ more) (front ++ back) phase
-ends_early calls more front back phase cut within late end = record {
+ends_early : (kind : Kind) (calls more : List Call) (front back : List Outcome) (phase cut : ℕ) → phase ≤ cut → Past cut back → EndsIn kind calls front phase → EndsIn kind (calls ++ more) (front ++ back) phase
+ends_early kind calls more front back phase cut within late end = record {
   before = end.before;
   after = end.after ++ more;
   whole = ap (λ (some : List Call). some ++ more) end.whole ∙ append_assoc end.before end.after more;
-  own_order = λ who. end.own_order who ∙ ap (λ (some : List Outcome). calls_by who (answered_calls some)) (sym (up_to_early phase cut front back within late));
+  own_order = λ who. end.own_order who ∙ ap (λ (some : List Outcome). calls_by who (answered_calls kind some)) (sym (up_to_early phase cut front back within late));
 }
 
 -- and so does one that ends in the second
-ends_late : (calls more : List Call) (front back : List Outcome) (phase cut : ℕ) → cut ≤ phase → UpTo cut front → ((who : ℕ) → calls_by who calls ≡ calls_by who (answered_calls front)) → EndsIn more back phase → EndsIn (calls ++ more) (front ++ back) phase
-ends_late calls more front back phase cut within early first end = record {
+ends_late : (kind : Kind) (calls more : List Call) (front back : List Outcome) (phase cut : ℕ) → cut ≤ phase → UpTo cut front → ((who : ℕ) → calls_by who calls ≡ calls_by who (answered_calls kind front)) → EndsIn kind more back phase → EndsIn kind (calls ++ more) (front ++ back) phase
+ends_late kind calls more front back phase cut within early first end = record {
   before = calls ++ end.before;
   after = end.after;
   whole = ap (λ (some : List Call). calls ++ some) end.whole ∙ sym (append_assoc calls end.before end.after);
-  own_order = λ who. own_order-append who calls end.before front (outcomes_up_to phase back) (first who) (end.own_order who) ∙ ap (λ (some : List Outcome). calls_by who (answered_calls some)) (sym (up_to_late phase cut front back within early));
+  own_order = λ who. own_order-append kind who calls end.before front (outcomes_up_to phase back) (first who) (end.own_order who) ∙ ap (λ (some : List Outcome). calls_by who (answered_calls kind some)) (sym (up_to_late phase cut front back within early));
 }
 
 -- the second history begins with what the first leaves
-explains-append : (keys : Keys) (calls more : List Call) (front back : List Outcome) (cut : ℕ) → UpTo cut front → Past cut back → Explains keys calls front → Explains (set_after keys calls) more back → Explains keys (calls ++ more) (front ++ back)
-explains-append keys calls more front back cut early late first then = record {
-  legal = legal-append keys calls more first.legal then.legal;
-  own_order = λ who. own_order-append who calls more front back (first.own_order who) (then.own_order who);
+explains-append : (kind : Kind) (opening : Contents kind) (calls more : List Call) (front back : List Outcome) (cut : ℕ) → UpTo cut front → Past cut back → Explains kind opening calls front → Explains kind (contents_after kind opening calls) more back → Explains kind opening (calls ++ more) (front ++ back)
+explains-append kind opening calls more front back cut early late first then = record {
+  legal = legal-append kind opening calls more first.legal then.legal;
+  own_order = λ who. own_order-append kind who calls more front back (first.own_order who) (then.own_order who);
   phases = λ phase. elim (cases_lt cut phase) [
-    | inl past ↦ ends_late calls more front back phase cut (omega arith) early first.own_order (then.phases phase)
-    | inr within ↦ ends_early calls more front back phase cut within late (first.phases phase)
+    | inl past ↦ ends_late kind calls more front back phase cut (omega arith) early first.own_order (then.phases phase)
+    | inr within ↦ ends_early kind calls more front back phase cut within late (first.phases phase)
   ];
 }
 
@@ -143,50 +162,51 @@ all_own (call ∷ calls) none = elim (cases_eq call.who 0) [
     kept false rest own is = absurd (cc)
 
 -- the calls of a lone worker are its answered operations
-lone_calls : (shape : Dimensions) (workers : ℕ) (outcomes : List Outcome) (run : List Event) → IsRun shape workers run → Explains (opening_keys shape) (world_after shape run).calls outcomes → workers ≡ 1 → (world_after shape run).calls ≡ answered_calls outcomes
-lone_calls shape workers outcomes run is_run explains one =
+lone_calls : (kind : Kind) (shape : Dimensions) (workers : ℕ) (outcomes : List Outcome) (run : List Event) → IsRun shape workers run → Explains kind (opening_contents kind shape) (world_after shape run).calls outcomes → workers ≡ 1 → (world_after shape run).calls ≡ answered_calls kind outcomes
+lone_calls kind shape workers outcomes run is_run explains one =
     sym (all_own (world_after shape run).calls none)
     ∙ explains.own_order 0
-    ∙ all_own (answered_calls outcomes) (λ other differs. sym (explains.own_order other) ∙ none other differs)
+    ∙ all_own (answered_calls kind outcomes) (λ other differs. sym (explains.own_order other) ∙ none other differs)
   where
     none : (other : ℕ) → other ≢ 0 → calls_by other (world_after shape run).calls ≡ []
     none other differs = no_calls_beyond shape workers other run (omega arith) is_run
 
 -- ---- sets
 
--- what the last set was asked, with the keys that it leaves
-pub last_set : (manner : Manner) (shape : Dimensions) (workers from phases : ℕ) (outcomes : List Outcome) (run : List Event) (listed : List ℕ) (epoch : ℕ) → IsSetRun manner shape workers (phases - from) outcomes run → AreKeysOf listed (set_after (opening_keys shape) (world_after shape run).calls) → epoch ≡ (world_after shape run).epoch → AreExplained manner shape workers from phases [] outcomes listed epoch
-last_set manner shape workers from phases outcomes run listed epoch of_set keys last = record {
+-- what the last set was asked, with what it leaves
+pub last_set : (kind : Kind) (manner : Manner) (shape : Dimensions) (workers from phases : ℕ) (outcomes : List Outcome) (run : List Event) (listed : List (Item kind)) (epoch : ℕ) → IsSetRun kind manner shape workers (phases - from) outcomes run → AreContents kind listed (contents_after kind (opening_contents kind shape) (world_after shape run).calls) → epoch ≡ (world_after shape run).epoch → AreExplained kind manner shape workers from phases [] outcomes listed epoch
+last_set kind manner shape workers from phases outcomes run listed epoch of_set are last = record {
   history = (world_after shape run).calls;
   sets = (run, of_set, refl, last);
   explains = of_set.explains;
-  keys = keys;
-  plain = lone_calls shape workers outcomes run of_set.is_run of_set.explains;
+  contents = are;
+  plain = lone_calls kind shape workers outcomes run of_set.is_run of_set.explains;
 }
 
--- what a set was asked, and behind the phase of its renewal what the later ones were
-pub one_more_set : (manner : Manner) (shape : Dimensions) (workers from phases renewal : ℕ) (renewals : List ℕ) (front back : List Outcome) (run : List Event) (keys listed : List ℕ) (epoch : ℕ)
-    → All (λ outcome. outcome.0.phase ≤ renewal) front → All (λ outcome. renewal < outcome.0.phase) back → IsSetRun manner shape workers (renewal + 1 - from) front run → AreKeysOf keys (set_after (opening_keys shape) (world_after shape run).calls)
-    → AreExplained manner (record shape { keys = keys }) workers (renewal + 1) phases renewals back listed epoch → AreExplained manner shape workers from phases (renewal ∷ renewals) (front ++ back) listed epoch
-one_more_set manner shape workers from phases renewal renewals front back run keys listed epoch early late of_set are rest =
+-- what a set was asked, and behind the phase of its renewal what the later ones were, of which the first opens with what it left
+pub one_more_set : (kind : Kind) (manner : Manner) (shape : Dimensions) (workers from phases renewal : ℕ) (renewals : List ℕ) (front back : List Outcome) (run : List Event) (left listed : List (Item kind)) (epoch : ℕ)
+    → All (λ outcome. outcome.0.phase ≤ renewal) front → All (λ outcome. renewal < outcome.0.phase) back → IsSetRun kind manner shape workers (renewal + 1 - from) front run → AreContents kind left (contents_after kind (opening_contents kind shape) (world_after shape run).calls)
+    → opening_contents kind (opened_with kind shape left) ≡ contents_after kind (opening_contents kind shape) (world_after shape run).calls
+    → AreExplained kind manner (opened_with kind shape left) workers (renewal + 1) phases renewals back listed epoch → AreExplained kind manner shape workers from phases (renewal ∷ renewals) (front ++ back) listed epoch
+one_more_set kind manner shape workers from phases renewal renewals front back run left listed epoch early late of_set are opens rest =
+    let opening = opening_contents kind shape in
     let calls = (world_after shape run).calls in
-    let opens : keys_of keys ≡ set_after (opening_keys shape) calls = same_keys keys (set_after (opening_keys shape) calls) are in
-    let then : Explains (set_after (opening_keys shape) calls) rest.history back = subst (λ (some : Keys). Explains some rest.history back) opens rest.explains in
-    let left : AreKeysOf listed (set_after (set_after (opening_keys shape) calls) rest.history) = subst (λ (some : Keys). AreKeysOf listed (set_after some rest.history)) opens rest.keys in
+    let then : Explains kind (contents_after kind opening calls) rest.history back = subst (λ (some : Contents kind). Explains kind some rest.history back) opens rest.explains in
+    let last : AreContents kind listed (contents_after kind (contents_after kind opening calls) rest.history) = subst (λ (some : Contents kind). AreContents kind listed (contents_after kind some rest.history)) opens rest.contents in
     record {
       history = calls ++ rest.history;
       sets = (
         run,
-        subst (λ (some : List Outcome). IsSetRun manner shape workers (renewal + 1 - from) some run) (sym (cut_front renewal front back early late)) of_set,
-        keys,
+        subst (λ (some : List Outcome). IsSetRun kind manner shape workers (renewal + 1 - from) some run) (sym (cut_front renewal front back early late)) of_set,
+        left,
         are,
         rest.history,
-        subst (λ (some : List Outcome). AreOfSets manner (record shape { keys = keys }) workers (renewal + 1) phases renewals some rest.history epoch) (sym (cut_back renewal front back early late)) rest.sets,
+        subst (λ (some : List Outcome). AreOfSets kind manner (opened_with kind shape left) workers (renewal + 1) phases renewals some rest.history epoch) (sym (cut_back renewal front back early late)) rest.sets,
         refl,
       );
-      explains = explains-append (opening_keys shape) calls rest.history front back renewal early late of_set.explains then;
-      keys = subst (AreKeysOf listed) (sym (set_after-append (opening_keys shape) calls rest.history)) left;
+      explains = explains-append kind opening calls rest.history front back renewal early late of_set.explains then;
+      contents = subst (AreContents kind listed) (sym (after-append kind opening calls rest.history)) last;
       plain = λ one.
-          ap₂ (λ (a b : List Call). a ++ b) (lone_calls shape workers front run of_set.is_run of_set.explains one) (rest.plain one)
-          ∙ sym (flat_map-append (λ (outcome : Outcome). answer_of outcome.0 outcome.1) front back);
+          ap₂ (λ (a b : List Call). a ++ b) (lone_calls kind shape workers front run of_set.is_run of_set.explains one) (rest.plain one)
+          ∙ sym (flat_map-append (λ (outcome : Outcome). answer_of kind outcome.0 outcome.1) front back);
     }

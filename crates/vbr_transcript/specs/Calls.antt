@@ -1,28 +1,37 @@
 -- What the operations of a script were answered, and the calls that they are.
-use Rattle.std.specs.Prelude.{ℕ, Bool, true, false, ◌==◌, nat_le, nat_lt, List, [], ◌∷◌, filter, flat_map}
-use Rattle.vbr_machine.specs.History.{set_call}
+use Rattle.std.specs.Prelude.{ℕ, Bool, true, false, ◌==◌, nat_le, nat_lt, List, [], ◌∷◌, filter, flat_map, Option, Some, None}
+use Rattle.vbr_machine.specs.declared.history.Op.{Op}
+use Rattle.vbr_machine.specs.declared.history.Op.TheVariants.{Insert}
 use Rattle.vbr_machine.specs.declared.history.Call.{Call}
+use Rattle.vbr_script.specs.declared.script.Kind.{Kind}
+use Rattle.vbr_script.specs.declared.script.Kind.TheVariants.{Map}
 use Rattle.vbr_script.specs.declared.script.Line.{Line}
 use Rattle.vbr_transcript.specs.declared.reply.Reply.{Reply}
-use Rattle.vbr_transcript.specs.declared.reply.Reply.TheVariants.{Yes, No}
+use Rattle.vbr_transcript.specs.declared.reply.Reply.TheVariants.{Yes, Value, No}
 
 -- an operation with its reply
 abbrev pub Outcome : Type 0
 Outcome = Line × Reply
 
--- an operation as a call that was answered so
-abbrev pub call_of_line : Line → Bool → Call
-call_of_line line answer = (set_call line.worker line.op line.key answer)
+-- an operation as a call that was answered so, with this value
+abbrev pub call_of_line : Line → Bool → Option ℕ → Call
+call_of_line line answer value = record { who = line.worker; op = line.op; key = line.key; reply = answer; value = value }
+
+-- the value that an operation stores where it is answered yes: an insert in a map stores its own, and all else none
+abbrev pub value_stored : Kind → Op → ℕ → Option ℕ
+value_stored Map Insert value = Some value
+value_stored _ op value = None
 
 -- the call that an operation is where its reply answers it, and none where it was refused
-abbrev pub answer_of : Line → Reply → List Call
-answer_of line Yes = call_of_line line true ∷ []
-answer_of line No = call_of_line line false ∷ []
-answer_of line _ = []
+abbrev pub answer_of : Kind → Line → Reply → List Call
+answer_of kind line Yes = call_of_line line true (value_stored kind line.op line.value) ∷ []
+answer_of kind line (Value value) = call_of_line line true (Some value) ∷ []
+answer_of kind line No = call_of_line line false None ∷ []
+answer_of kind line _ = []
 
 -- the answered operations as calls, in their order
-abbrev pub answered_calls : List Outcome → List Call
-answered_calls outcomes = flat_map (λ outcome. answer_of outcome.0 outcome.1) outcomes
+abbrev pub answered_calls : Kind → List Outcome → List Call
+answered_calls kind outcomes = flat_map (λ outcome. answer_of kind outcome.0 outcome.1) outcomes
 
 -- the lines of one worker, in their order
 abbrev pub lines_by : ℕ → List Line → List Line

@@ -1,25 +1,30 @@
 -- The text that a run prints.
 use Rattle.std.specs.Prelude.{ℕ, Bool, List, [], ◌∷◌, ◌++◌, codes, decimal, if◌then◌else◌}
 use Rattle.std.specs.List.{flat_map}
+use Rattle.vbr_script.specs.declared.script.Kind.{Kind}
+use Rattle.vbr_script.specs.declared.script.Kind.TheVariants.{Set, Map}
 use Rattle.vbr_transcript.specs.declared.reply.Reply.{Reply}
-use Rattle.vbr_transcript.specs.declared.reply.Reply.TheVariants.{Yes, No, Full, Spent, Tired}
-use Rattle.vbr_transcript.specs.declared.totals.Totals.{Totals}
+use Rattle.vbr_transcript.specs.declared.reply.Reply.TheVariants.{Yes, Value, No, Full, Spent, Tired}
+use Rattle.vbr_transcript.specs.Contents.{Item}
+use Rattle.vbr_transcript.specs.Totals.{TotalsOf, listed_in, epoch_in, tally_in}
+use Rattle.vbr_transcript.specs.declared.totals.Tally.{Tally}
 
 -- a line of text, with its line feed
 abbrev pub line : List ℕ → List ℕ
 line text = text ++ 10 ∷ []
 
+-- a space, and a number in decimal
+abbrev pub spaced : ℕ → List ℕ
+spaced n = 32 ∷ decimal n
+
 -- how a reply is printed
 abbrev pub reply_text : Reply → List ℕ
 reply_text Yes = codes "yes"
+reply_text (Value value) = codes "yes" ++ spaced value
 reply_text No = codes "no"
 reply_text Full = codes "full"
 reply_text Spent = codes "spent"
 reply_text Tired = codes "tired"
-
--- a space, and a number in decimal
-abbrev pub spaced : ℕ → List ℕ
-spaced n = 32 ∷ decimal n
 
 -- a line for each reply
 abbrev pub replies_text : List Reply → List ℕ
@@ -29,19 +34,35 @@ replies_text replies = flat_map (λ reply. line (reply_text reply)) replies
 abbrev pub keys_text : List ℕ → List ℕ
 keys_text keys = line (codes "keys" ++ flat_map spaced keys)
 
--- a line for each total, the keys last
-abbrev pub totals_text : Totals → List ℕ
-totals_text totals =
-    line (codes "inserted" ++ spaced totals.inserted)
-    ++ line (codes "removed" ++ spaced totals.removed)
-    ++ line (codes "found" ++ spaced totals.found)
-    ++ line (codes "refused" ++ spaced totals.refused)
-    ++ keys_text totals.keys.items
+-- a space, and a key with its value
+abbrev pub spaced_entry : ℕ × ℕ → List ℕ
+spaced_entry entry = spaced entry.0 ++ 61 ∷ decimal entry.1
+
+-- the line of the entries
+abbrev pub entries_text : List (ℕ × ℕ) → List ℕ
+entries_text entries = line (codes "entries" ++ flat_map spaced_entry entries)
+
+-- the line of what is there in the end
+abbrev pub listed_text : (kind : Kind) → List (Item kind) → List ℕ
+listed_text Set keys = keys_text keys
+listed_text Map entries = entries_text entries
+
+-- a line for each count
+abbrev pub tally_text : Tally → List ℕ
+tally_text tally =
+    line (codes "inserted" ++ spaced tally.inserted)
+    ++ line (codes "removed" ++ spaced tally.removed)
+    ++ line (codes "found" ++ spaced tally.found)
+    ++ line (codes "refused" ++ spaced tally.refused)
+
+-- a line for each total, the keys or entries last
+abbrev pub totals_text : (kind : Kind) → TotalsOf kind → List ℕ
+totals_text kind totals = tally_text (tally_in kind totals) ++ listed_text kind (listed_in kind totals)
 
 -- the line of the epoch, where it is asked for
 abbrev pub epoch_text : Bool → ℕ → List ℕ
 epoch_text asked epoch = if asked then line (codes "epoch" ++ spaced epoch) else []
 
 -- the whole text: the replies, the totals, and the epoch where it is asked for
-abbrev pub layout_of : Bool → List Reply → Totals → List ℕ
-layout_of asked replies totals = replies_text replies ++ totals_text totals ++ epoch_text asked totals.epoch
+abbrev pub layout_of : (kind : Kind) → Bool → List Reply → TotalsOf kind → List ℕ
+layout_of kind asked replies totals = replies_text replies ++ totals_text kind totals ++ epoch_text asked (epoch_in kind totals)

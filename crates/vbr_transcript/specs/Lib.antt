@@ -1,6 +1,8 @@
 pub mod Reading
 pub mod Errors
 pub mod Calls
+pub mod Contents
+pub mod Totals
 pub mod Runs
 pub mod Merging
 pub mod Phases

@@ -1,9 +1,7 @@
 -- A run of a script: a reply for each of its operations, and totals, that the calls of one run of the core for each of its sets explain.
 use Rattle.std.specs.Prelude.{◌≡◌, ℕ, ◌+◌, ◌-◌, Bool, true, false, ◌&&◌, List, [], ◌∷◌, ◌++◌, length, zip, All, count_by}
 use Rattle.vbr_words.specs.Dimensions.{Dimensions}
-use Rattle.vbr_machine.specs.Keys.{Keys, AreKeysOf}
-use Rattle.vbr_machine.specs.Opened.{opening_keys}
-use Rattle.vbr_machine.specs.History.{IsLegal, set_after, calls_by}
+use Rattle.vbr_machine.specs.History.{calls_by}
 use Rattle.vbr_machine.specs.Runs as machine
 use Rattle.vbr_machine.specs.Runs.{world_after}
 use Rattle.vbr_machine.specs.Safety.{IsSafe}
@@ -11,34 +9,46 @@ use Rattle.vbr_machine.specs.declared.event.Event.{Event}
 use Rattle.vbr_machine.specs.declared.history.Call.{Call}
 use Rattle.vbr_machine.specs.declared.history.Op.{Op}
 use Rattle.vbr_machine.specs.declared.history.Op.TheVariants.{Insert, Remove, Has, Get}
+use Rattle.vbr_script.specs.declared.script.Kind.{Kind}
+use Rattle.vbr_script.specs.declared.script.Kind.TheVariants.{Map}
+use Rattle.vbr_transcript.specs.Contents.{Contents, Item, IsLegalFrom, AreContents, contents_after, opened_with, opening_contents}
+use Rattle.vbr_transcript.specs.Totals.{TotalsOf, listed_in, epoch_in, tally_in}
 use Rattle.vbr_transcript.specs.Calls.{Outcome, answered_calls, outcomes_up_to, outcomes_past}
 use Rattle.vbr_script.specs.declared.script.Line.{Line}
 use Rattle.vbr_transcript.specs.declared.reply.Reply.{Reply}
-use Rattle.vbr_transcript.specs.declared.reply.Reply.TheVariants.{Yes, No, Full, Spent}
-use Rattle.vbr_transcript.specs.declared.totals.Totals.{Totals}
+use Rattle.vbr_transcript.specs.declared.reply.Reply.TheVariants.{Yes, Value, No, Full, Spent}
+use Rattle.vbr_transcript.specs.declared.totals.Tally.{Tally}
 
 -- ---- the history
 
 -- a phase ends within a history: what stands before its end is just the answered operations of the phases up to it, those of each worker in script order
-pub record EndsIn (history : List Call) (outcomes : List Outcome) (phase : ℕ) : Type 0 where
+pub record EndsIn (kind : Kind) (history : List Call) (outcomes : List Outcome) (phase : ℕ) : Type 0 where
   pub before : List Call
   pub after : List Call
   pub whole : history ≡ before ++ after
-  pub own_order : (who : ℕ) → calls_by who before ≡ calls_by who (answered_calls (outcomes_up_to phase outcomes))
+  pub own_order : (who : ℕ) → calls_by who before ≡ calls_by who (answered_calls kind (outcomes_up_to phase outcomes))
 
--- a history explains outcomes, from an opening set: it is legal from there, it has just the answered operations as its calls, those of each worker in script order, and each phase ends before the next
-pub record Explains (keys : Keys) (history : List Call) (outcomes : List Outcome) : Type 0 where
-  pub legal : IsLegal keys history
-  pub own_order : (who : ℕ) → calls_by who history ≡ calls_by who (answered_calls outcomes)
-  pub phases : (phase : ℕ) → EndsIn history outcomes phase
+-- a history explains outcomes, from what a set or a map opens with: it is legal from there, it has just the answered operations as its calls, those of each worker in script order, and each phase ends before the next
+pub record Explains (kind : Kind) (opening : Contents kind) (history : List Call) (outcomes : List Outcome) : Type 0 where
+  pub legal : IsLegalFrom kind opening history
+  pub own_order : (who : ℕ) → calls_by who history ≡ calls_by who (answered_calls kind outcomes)
+  pub phases : (phase : ℕ) → EndsIn kind history outcomes phase
 
 -- ---- refusals
 
--- an operation may be answered so by a set of this last epoch that has come to an epoch: an insert alone finds the set full or its epochs spent, and they are spent only at the last
-abbrev pub MayBeAnswered : ℕ → ℕ → Op → Reply → Type 0
-MayBeAnswered last epoch op Full = op ≡ Insert
-MayBeAnswered last epoch op Spent = (op ≡ Insert) × (epoch ≡ last)
-MayBeAnswered last epoch op _ = Unit {0}
+-- whether an operation that is answered yes gives a value: a remove and a get in a map do
+abbrev pub gives_value : Kind → Op → Bool
+gives_value Map Remove = true
+gives_value Map Get = true
+gives_value _ op = false
+
+-- an operation may be answered so by a set or a map of this last epoch that has come to an epoch: yes comes with a value just where the operation gives one; and an insert alone finds the set full or its epochs spent, and they are spent only at the last
+abbrev pub MayBeAnswered : Kind → ℕ → ℕ → Op → Reply → Type 0
+MayBeAnswered kind last epoch op Yes = gives_value kind op ≡ false
+MayBeAnswered kind last epoch op (Value value) = gives_value kind op ≡ true
+MayBeAnswered kind last epoch op Full = op ≡ Insert
+MayBeAnswered kind last epoch op Spent = (op ≡ Insert) × (epoch ≡ last)
+MayBeAnswered kind last epoch op _ = Unit {0}
 
 -- ---- the totals
 
@@ -53,11 +63,13 @@ same_op a b = false
 -- whether a reply is yes
 abbrev pub is_yes : Reply → Bool
 is_yes Yes = true
+is_yes (Value value) = true
 is_yes _ = false
 
 -- whether a reply is a refusal
 abbrev pub is_refusal : Reply → Bool
 is_refusal Yes = false
+is_refusal (Value value) = false
 is_refusal No = false
 is_refusal _ = true
 
@@ -65,16 +77,26 @@ is_refusal _ = true
 abbrev pub is_yes_to : Op → Outcome → Bool
 is_yes_to op outcome = is_yes outcome.1 && same_op op outcome.0.op
 
+-- whether an operation is a look-up
+abbrev pub is_look_up : Op → Bool
+is_look_up Has = true
+is_look_up Get = true
+is_look_up _ = false
+
+-- whether it is a look-up that was answered, and with yes
+abbrev pub was_found : Outcome → Bool
+was_found outcome = is_yes outcome.1 && is_look_up outcome.0.op
+
 -- whether an operation was refused
 abbrev pub was_refused : Outcome → Bool
 was_refused outcome = is_refusal outcome.1
 
--- the totals count the inserts, removes and look-ups that were answered yes, and the operations that were refused
-pub record Counts (totals : Totals) (outcomes : List Outcome) : Type 0 where
-  pub inserted : totals.inserted ≡ count_by (is_yes_to Insert) outcomes
-  pub removed : totals.removed ≡ count_by (is_yes_to Remove) outcomes
-  pub found : totals.found ≡ count_by (is_yes_to Has) outcomes
-  pub refused : totals.refused ≡ count_by was_refused outcomes
+-- the inserts, removes and look-ups that were answered yes are counted, and the operations that were refused
+pub record Counts (tally : Tally) (outcomes : List Outcome) : Type 0 where
+  pub inserted : tally.inserted ≡ count_by (is_yes_to Insert) outcomes
+  pub removed : tally.removed ≡ count_by (is_yes_to Remove) outcomes
+  pub found : tally.found ≡ count_by was_found outcomes
+  pub refused : tally.refused ≡ count_by was_refused outcomes
 
 -- ---- the sets
 
@@ -82,36 +104,36 @@ pub record Counts (totals : Totals) (outcomes : List Outcome) : Type 0 where
 abbrev pub Manner : Type 1
 Manner = Dimensions → ℕ → List Outcome → List Event → Type 0
 
--- these outcomes are those of one set: a safe run of the core, whose passes are the workers, has the calls that explain them, none is a refusal that a set at the run's epoch doesn't give, and the workers played in the manner that is claimed
-pub record IsSetRun (manner : Manner) (shape : Dimensions) (workers phases : ℕ) (outcomes : List Outcome) (run : List Event) : Type 0 where
+-- these outcomes are those of one set or map: a safe run of the core, whose passes are the workers, has the calls that explain them, none is a reply that one at the run's epoch doesn't give to its operation, and the workers played in the manner that is claimed
+pub record IsSetRun (kind : Kind) (manner : Manner) (shape : Dimensions) (workers phases : ℕ) (outcomes : List Outcome) (run : List Event) : Type 0 where
   pub is_run : machine.IsRun shape workers run
   pub safe : IsSafe shape run
-  pub explains : Explains (opening_keys shape) (world_after shape run).calls outcomes
-  pub refusals : All (λ outcome. MayBeAnswered shape.last_epoch (world_after shape run).epoch outcome.0.op outcome.1) outcomes
+  pub explains : Explains kind (opening_contents kind shape) (world_after shape run).calls outcomes
+  pub refusals : All (λ outcome. MayBeAnswered kind shape.last_epoch (world_after shape run).epoch outcome.0.op outcome.1) outcomes
   pub played : manner shape phases outcomes run
 
--- outcomes are those of sets, one after the other, on which the phases from one on and up to another, which isn't among them, are played: behind the phase of each renewal the set is closed, and the next is opened with the keys that its calls left. The history is the calls of all sets in their order, and the epoch is that of the last
-abbrev pub AreOfSets : Manner → Dimensions → ℕ → ℕ → ℕ → List ℕ → List Outcome → List Call → ℕ → Type 0
-AreOfSets manner shape workers from phases [] outcomes history epoch =
-    (run : List Event) × IsSetRun manner shape workers (phases - from) outcomes run × (history ≡ (world_after shape run).calls) × (epoch ≡ (world_after shape run).epoch)
-AreOfSets manner shape workers from phases (renewal ∷ renewals) outcomes history epoch =
-    (run : List Event) × IsSetRun manner shape workers (renewal + 1 - from) (outcomes_up_to renewal outcomes) run
-    × (keys : List ℕ) × AreKeysOf keys (set_after (opening_keys shape) (world_after shape run).calls)
-    × (later : List Call) × AreOfSets manner (record shape { keys = keys }) workers (renewal + 1) phases renewals (outcomes_past renewal outcomes) later epoch
+-- outcomes are those of sets, one after the other, on which the phases from one on and up to another, which isn't among them, are played: behind the phase of each renewal the set is closed, and the next is opened with what its calls left. The history is the calls of all sets in their order, and the epoch is that of the last
+abbrev pub AreOfSets : Kind → Manner → Dimensions → ℕ → ℕ → ℕ → List ℕ → List Outcome → List Call → ℕ → Type 0
+AreOfSets kind manner shape workers from phases [] outcomes history epoch =
+    (run : List Event) × IsSetRun kind manner shape workers (phases - from) outcomes run × (history ≡ (world_after shape run).calls) × (epoch ≡ (world_after shape run).epoch)
+AreOfSets kind manner shape workers from phases (renewal ∷ renewals) outcomes history epoch =
+    (run : List Event) × IsSetRun kind manner shape workers (renewal + 1 - from) (outcomes_up_to renewal outcomes) run
+    × (listed : List (Item kind)) × AreContents kind listed (contents_after kind (opening_contents kind shape) (world_after shape run).calls)
+    × (later : List Call) × AreOfSets kind manner (opened_with kind shape listed) workers (renewal + 1) phases renewals (outcomes_past renewal outcomes) later epoch
     × (history ≡ (world_after shape run).calls ++ later)
 
--- sets give these outcomes: one history of all of them explains the outcomes, from the keys of the first; the keys that it leaves, and the epoch of the last set, are these; and a lone worker has the answers of a plain set, since the history is just its answered operations
-pub record AreExplained (manner : Manner) (shape : Dimensions) (workers from phases : ℕ) (renewals : List ℕ) (outcomes : List Outcome) (listed : List ℕ) (epoch : ℕ) : Type 0 where
+-- sets give these outcomes: one history of all of them explains the outcomes, from what the first opens with; what it leaves, and the epoch of the last set, are these; and a lone worker has the answers of a plain set or map, since the history is just its answered operations
+pub record AreExplained (kind : Kind) (manner : Manner) (shape : Dimensions) (workers from phases : ℕ) (renewals : List ℕ) (outcomes : List Outcome) (listed : List (Item kind)) (epoch : ℕ) : Type 0 where
   pub history : List Call
-  pub sets : AreOfSets manner shape workers from phases renewals outcomes history epoch
-  pub explains : Explains (opening_keys shape) history outcomes
-  pub keys : AreKeysOf listed (set_after (opening_keys shape) history)
-  pub plain : workers ≡ 1 → history ≡ answered_calls outcomes
+  pub sets : AreOfSets kind manner shape workers from phases renewals outcomes history epoch
+  pub explains : Explains kind (opening_contents kind shape) history outcomes
+  pub contents : AreContents kind listed (contents_after kind (opening_contents kind shape) history)
+  pub plain : workers ≡ 1 → history ≡ answered_calls kind outcomes
 
 -- ---- the run
 
--- replies and totals of a run of a script, with so many workers, in so many phases, on a set of this shape that is renewed behind these of them: each line has a reply; sets give these outcomes, with the keys and the epoch of the totals, which count the outcomes
-pub record IsScriptRun (manner : Manner) (shape : Dimensions) (workers phases : ℕ) (renewals : List ℕ) (lines : List Line) (replies : List Reply) (totals : Totals) : Type 0 where
+-- replies and totals of a run of a script, with so many workers, in so many phases, on a set or a map of this shape that is renewed behind these of them: each line has a reply; sets give these outcomes, with what is listed and the epoch of the totals, which count the outcomes
+pub record IsScriptRun (kind : Kind) (manner : Manner) (shape : Dimensions) (workers phases : ℕ) (renewals : List ℕ) (lines : List Line) (replies : List Reply) (totals : TotalsOf kind) : Type 0 where
   pub one_each : length replies ≡ length lines
-  pub explained : AreExplained manner shape workers 0 phases renewals (zip lines replies) totals.keys.items totals.epoch
-  pub counts : Counts totals (zip lines replies)
+  pub explained : AreExplained kind manner shape workers 0 phases renewals (zip lines replies) (listed_in kind totals) (epoch_in kind totals)
+  pub counts : Counts (tally_in kind totals) (zip lines replies)

@@ -16,8 +16,8 @@ pub mod writing;
 
 pub use error::RunError;
 pub use merging::merge;
-pub use printing::layout;
+pub use printing::{layout, map_layout};
 pub use reading::{MAX_SCRIPT_LEN, read_text};
 pub use reply::Reply;
-pub use totals::{Totals, totals_of};
+pub use totals::{MapTotals, Tally, Totals, map_totals_of, totals_of};
 pub use writing::{WriteFault, write_pieces, write_whole};

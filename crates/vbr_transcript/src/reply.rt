@@ -3,11 +3,13 @@
 /// What a line of a script was answered.
 #[derive(Clone, Copy, Debug, PartialEq, Eq)]
 pub enum Reply {
-    /// The set's answer is yes.
+    /// The answer of the set, or of the map, is yes.
     Yes,
-    /// The set's answer is no.
+    /// A remove or a get in a map is answered yes: this is the value that was stored with the key.
+    Value(u64),
+    /// The answer is no.
     No,
-    /// An insert found no slot: the set is full.
+    /// An insert found no slot: the set or map is full.
     Full,
     /// An insert found the last epoch spent.
     Spent,
