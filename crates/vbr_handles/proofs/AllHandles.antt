@@ -3,7 +3,7 @@ use Rattle.std.proofs.Common.{◌≡◌, ℕ, ◌∷◌, [], ◌++◌, List, app
 use Rattle.std.specs.Prelude.{Option, None, Some}
 use Rattle.vbr_set.specs.AllMembers.{ReportsAll}
 use Rattle.std.proofs.lemmas.List.Elements.{All-cons}
-use Rattle.vbr_set.specs.declared.member.Member.{Member}
+use Rattle.vbr_set.specs.Members.{MemberView as Member}
 use Rattle.vbr_set.specs.declared.report.Report.{Report}
 use Rattle.vbr_handles.specs.AllHandles.{EndsAll, joined, members_in}
 use Rattle.vbr_handles.specs.Lent.{with_member}

@@ -24,8 +24,10 @@ use Rattle.std.specs.declared.option.Option.TheVariants.{None, Some}
 use Rattle.std_heap.specs.contracts.GlobalAllocator.TheImpl.{ghosts}
 use Rattle.std_heap.proofs.GlobalToken.{dealloc_token-Testable}
 use Rattle.vbr_handles.specs.Handles.{handle_owns}
-use Rattle.vbr_set.specs.contracts.member.Member.{the_row as R}
+use Rattle.vbr_handles.specs.MemberRow.{the_row as R}
 use Rattle.vbr_handles.specs.contracts.handle.Handle.{the_row as H}
+use Rattle.vbr_words.specs.contracts.nodes.Keys as Keys
+use Rattle.vbr_words.specs.contracts.nodes.KeysNodes.TheImpl as kind
 use Rattle.vbr_set.proofs.member.Member.TheSendSync.{the_send as member}
 use Rattle.vbr_handles.proofs.AsBox.{E}
 
@@ -34,7 +36,7 @@ nothing_word hv = vstruct (vcons vnull (vcons hv vnil))
 
 pub owns_keyless : (a : Global) (p : Ptr) (m : Option R.Denot) → Keyless (handle_owns a p m)
 owns_keyless a p None = λ _. tt
-owns_keyless a p (Some x) = (lies R member p x, heap.frees.frees a (bare (lone R.mir)) p)
+owns_keyless a p (Some x) = (lies R (member Keys.the_row kind.ghosts) p x, heap.frees.frees a (bare (lone R.mir)) p)
 
 module _ {M : Type 1} {𝓤 : Ura M} (𝓛 : Logic 𝓤) (a : Global) where
   abbrev pub boxed : Ptr → R.Denot → base.Fml.Fml

@@ -1,7 +1,7 @@
 -- How a set ends by all its handles at once, and what that leaves in them.
 use Rattle.std.specs.Prelude.{◌≡◌, ◌<◌, ◌≤◌, ℕ, All, List, [], ◌∷◌, length, map, Option, None, Some, IsSome, Result, Ok, Err}
 use Rattle.vbr_set.specs.AllMembers.{AreTooFew, ReportsAll}
-use Rattle.vbr_set.specs.declared.member.Member.{Member}
+use Rattle.vbr_set.specs.Members.{MemberView as Member}
 use Rattle.vbr_set.specs.declared.report.Report.{Report}
 use Rattle.vbr_handles.specs.Opening.{AreEmpty}
 use Rattle.vbr_handles.specs.declared.handle.Handle.{Handle}

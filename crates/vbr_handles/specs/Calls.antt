@@ -3,7 +3,7 @@ use Rattle.std.specs.Prelude.{◌≡◌, ℕ, ℤ, Bool, Option, None, Some, Res
 use Rattle.vbr_machine.specs.declared.history.Op.{Op}
 use Rattle.vbr_list.specs.declared.refusal.Refusal.{Refusal}
 use Rattle.vbr_set.specs.Members.{Called}
-use Rattle.vbr_set.specs.declared.member.Member.{Member}
+use Rattle.vbr_set.specs.Members.{MemberView as Member}
 use Rattle.vbr_handles.specs.Codes.{call_code, empty_code}
 
 -- the member made the call, and the code is that of the answer

@@ -1,7 +1,7 @@
 -- What a close of a handle answers, and what it leaves.
 use Rattle.std.specs.Prelude.{◌≡◌, ◌≢◌, ◌<◌, ◌≤◌, ℕ, length, Option, None, Some, Result, Ok, Err}
 use Rattle.vbr_set.specs.Ends.{EndsWith}
-use Rattle.vbr_set.specs.declared.member.Member.{Member}
+use Rattle.vbr_set.specs.Members.{MemberView as Member}
 use Rattle.vbr_set.specs.declared.report.Report.{Report}
 use Rattle.vbr_handles.specs.declared.closing.CloseRefusal.{CloseRefusal}
 use Rattle.vbr_handles.specs.declared.closing.CloseRefusal.TheVariants.{Empty, Lost, Memory, Room}

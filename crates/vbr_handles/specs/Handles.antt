@@ -9,7 +9,7 @@ use Rattle.std.specs.declared.option.Option.{Option}
 use Rattle.std.specs.declared.option.Option.TheVariants.{None, Some}
 use Rattle.std.specs.contracts.option.Option as OP
 use Rattle.std_heap.specs.contracts.GlobalAllocator.TheImpl.{ghosts}
-use Rattle.vbr_set.specs.contracts.member.Member.{the_row}
+use Rattle.vbr_handles.specs.MemberRow.{the_row}
 
 -- what a handle owns, by its pointer and its member
 abbrev pub handle_owns : Global → Ptr → Option the_row.Denot → Fml

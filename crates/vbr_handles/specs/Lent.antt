@@ -3,7 +3,7 @@ use denote.Follow.{follows}
 use denote.Ref.{MutBor}
 use base.Fml.{Fml}
 use Rattle.std.specs.declared.option.Option.TheVariants.{Some}
-use Rattle.vbr_set.specs.contracts.member.Member.{the_row as M}
+use Rattle.vbr_handles.specs.MemberRow.{the_row as M}
 use Rattle.vbr_handles.specs.contracts.handle.Handle.{the_row as H}
 
 -- a handle with another value of its member

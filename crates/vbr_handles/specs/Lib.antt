@@ -1,3 +1,4 @@
+pub mod MemberRow
 pub mod Handles
 pub mod Lent
 pub mod Opening

@@ -1,6 +1,6 @@
 -- What a close of a handle tells as a number, and writes of the report.
 use Rattle.std.specs.Prelude.{◌≡◌, ℤ, ℕ, List, ◌++◌, length, drop, Option, None, Some, Result, Ok, Err}
-use Rattle.vbr_set.specs.declared.member.Member.{Member}
+use Rattle.vbr_set.specs.Members.{MemberView as Member}
 use Rattle.vbr_set.specs.declared.report.Report.{Report}
 use Rattle.vbr_handles.specs.AllHandles.{ClosesAll}
 use Rattle.vbr_handles.specs.Closing.{ClosesAs}

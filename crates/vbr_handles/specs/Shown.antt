@@ -1,7 +1,7 @@
 -- What a handle shows without a call: numbers of its set and of its pass, each 0 where it is empty.
 use Rattle.std.specs.Prelude.{ℕ, Option, None, Some}
 use Rattle.vbr_slots.specs.Views.{knows}
-use Rattle.vbr_set.specs.declared.member.Member.{Member}
+use Rattle.vbr_set.specs.Members.{MemberView as Member}
 
 -- the last epoch that the pass read, which is 1 where it read none
 abbrev pub epoch_of : Option Member → ℕ

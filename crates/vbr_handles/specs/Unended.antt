@@ -1,7 +1,7 @@
 -- What is given back where a set doesn't end by its members. Only contracts of private functions cite this.
 use Rattle.std.specs.Prelude.{◌≡◌, ◌<◌, ℕ, List, length, ◌++◌}
 use Rattle.vbr_set.specs.AllMembers.{AreTooFew, ReportsAll}
-use Rattle.vbr_set.specs.declared.member.Member.{Member}
+use Rattle.vbr_set.specs.Members.{MemberView as Member}
 use Rattle.vbr_handles.specs.AllHandles.{members_in, StaySo}
 use Rattle.vbr_handles.specs.declared.handle.Handle.{Handle}
 use Rattle.vbr_handles.specs.declared.closing_all.CloseAllRefusal.{CloseAllRefusal}

@@ -1,6 +1,6 @@
 //! A boxed member as one pointer, which crosses to C.
 ghost use Rattle.std.specs.Prelude.{◌≡◌, Option, None, Some, IfSome, IsSome};
-ghost use Rattle.vbr_set.specs.declared.member.Member.{Member};
+ghost use Rattle.vbr_set.specs.Members.{MemberView as Member};
 ghost use Rattle.vbr_handles.specs.Handles.{member_coded, handle_owns};
 
 use crate::parts::Parts;

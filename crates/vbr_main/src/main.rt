@@ -1,11 +1,18 @@
-//! The program `vbr_run`: plays the script in a file, or on standard input.
+//! The program `vbr_run`: plays the script in a file, or on standard input. Where standard error is a
+//! terminal, a line there says how far a long script is, and is erased before anything else is written.
 #![tactic(auto)]
 
+mod progress;
+
+use crate::progress::Progress;
 use std::alloc::{AllocError, Global};
-use std::fs::File;
-use std::io::ErrorKind;
+use std::fs::{File, Files};
+use std::io::{ErrorKind, IsTerminal, Stdin, Write};
 use std::process::ExitCode;
+use std::sync::Wait;
+use std::thread::Threads;
 use std::{env, io};
+use vbr_run::{Gate, NoGate};
 
 fn main(rt: HostRuntime) -> ExitCode {
     let alloc = rt.alloc();
@@ -17,16 +24,47 @@ fn main(rt: HostRuntime) -> ExitCode {
         Ok(texts) => texts,
         Err(error) => return refused(&rt, &io::Error::from(error)),
     };
-    let status = vbr_run::run(
+    let (mut output, mut errors) = (rt.stdout(), rt.stderr());
+    if !errors.is_terminal() {
+        let status = run(
+            &rt,
+            alloc,
+            &texts,
+            &mut rt.stdin(),
+            &mut output,
+            &mut errors,
+            &NoGate,
+        );
+        return ExitCode::from(status);
+    }
+    let line = Progress::new(errors);
+    let mut output = line.ahead_of(output);
+    let mut errors = line.ahead_of(errors);
+    let status = run(
         &rt,
         alloc,
         &texts,
         &mut rt.stdin(),
-        &|name: &str| File::open(&rt, name),
-        &mut rt.stdout(),
-        &mut rt.stderr(),
+        &mut output,
+        &mut errors,
+        &line,
     );
+    line.erase();
     ExitCode::from(status)
+}
+
+// Runs the program with standard input, files opened by their names, two writers and a gate.
+fn run<T: Threads + Wait + Files, W: Write, E: Write, G: Gate + Sync>(
+    rt: &T,
+    alloc: Global,
+    texts: &[&str],
+    reader: &mut Stdin,
+    writer: &mut W,
+    errors: &mut E,
+    gate: &G,
+) -> u8 {
+    let files = |name: &str| File::open(rt, name);
+    vbr_run::run(rt, alloc, texts, reader, &files, writer, errors, gate)
 }
 
 // The arguments, of which the first is the program's name.

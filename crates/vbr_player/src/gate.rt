@@ -1,9 +1,13 @@
 //! What is done round each call of a run.
 use vbr_transcript::Reply;
 
-/// What the workers of a run do round each call, each in its own thread. A line is given by its index
-/// in the lines of the script. That it is told of each call is tested; no contract says it.
+/// What a run does before each phase, and its workers round each call, each in its own thread. A line is
+/// given by its index in the lines of the script, and a phase as its lines have it. That it is told of
+/// each is tested; no contract says it.
 pub trait Gate {
+    /// Comes before a phase, also one without lines.
+    fn phase(&self, _phase: u32) {}
+
     /// Comes before the call of a line.
     fn before(&self, worker: u32, line: u64);
 

@@ -38,6 +38,7 @@ pub fn play_span<'e, R: Threads + Wait, N: Asked + Sync, G: Gate + Sync>(
     let mut workers = workers_of(alloc, set, whole.lines, passes)?;
     let mut first = 0;
     for number in span.from..span.to {
+        whole.gate.phase(number);
         let end = first + count_up_to(&whole.lines[first..], number);
         workers = play_phase(rt, alloc, whole.slice(first, end), workers)?;
         first = end;

@@ -16,7 +16,7 @@ use std::io;
 use std::io::{Read, Write};
 use std::sync::Wait;
 use std::thread::Threads;
-use vbr_player::{NoGate, play};
+use vbr_player::{Gate, play};
 pub use vbr_settings::knows_its_options;
 use vbr_settings::{Config, Options, read_options};
 use vbr_transcript::{RunError, WriteFault, write_pieces, write_whole};
@@ -49,19 +49,13 @@ const UNKNOWN: &[u8] = b"'; --help has the names\n";
 /// in the options `clap`'s text is written to `errors`, and with `--help` or `--version` its text is
 /// written to the writer.
 ///
+/// The gate is that of the script's play; what it writes itself, and where, is its own.
+///
 /// # Example
 ///
 /// ```rattle file=crates/vbr_main/src/main.rt
-/// let status = vbr_run::run(
-///     &rt,
-///     alloc,
-///     &texts,
-///     &mut rt.stdin(),
-///     &|name: &str| File::open(&rt, name),
-///     &mut rt.stdout(),
-///     &mut rt.stderr(),
-/// );
-/// ExitCode::from(status)
+/// let files = |name: &str| File::open(rt, name);
+/// vbr_run::run(rt, alloc, texts, reader, &files, writer, errors, gate)
 /// ```
 pub fn run<
     T: Threads + Wait,
@@ -70,6 +64,7 @@ pub fn run<
     O: Fn(&str) -> io::Result<F>,
     W: Write,
     E: Write,
+    G: Gate + Sync,
 >(
     rt: &T,
     alloc: Global,
@@ -78,6 +73,7 @@ pub fn run<
     files: &O,
     writer: &mut W,
     errors: &mut E,
+    gate: &G,
 ) -> u8
     requires { O.IsAlwaysCallable files.now }
     ensures answers { AnswersCommand (map (λ argument. argument.now) arguments.now)
@@ -93,7 +89,7 @@ pub fn run<
         reader.new ≡ reader.old }
 {
     match read_options(alloc, arguments) {
-        Ok(options) => do_asked(rt, alloc, &options, reader, files, writer, errors),
+        Ok(options) => do_asked(rt, alloc, &options, reader, files, writer, errors, gate),
         Err(refusal) => show(alloc, &refusal, writer, errors),
     }
 }
@@ -106,6 +102,7 @@ fn do_asked<
     O: Fn(&str) -> io::Result<F>,
     W: Write,
     E: Write,
+    G: Gate + Sync,
 >(
     rt: &T,
     alloc: Global,
@@ -114,6 +111,7 @@ fn do_asked<
     files: &O,
     writer: &mut W,
     errors: &mut E,
+    gate: &G,
 ) -> u8
     requires callable { O.IsAlwaysCallable files.now }
     requires complete { AreComplete (rows_in options.now) }
@@ -141,10 +139,19 @@ fn do_asked<
     }
     match (options.config(), options.file()) {
         (Err(error), _) => report_shape(errors, error),
-        (Ok(config), None) => play_script(rt, alloc, config, None, reader, writer, errors),
+        (Ok(config), None) => play_script(rt, alloc, config, None, reader, writer, errors, gate),
         (Ok(config), Some(name)) => match files(name) {
             Ok(mut file) => {
-                play_script(rt, alloc, config, Some(name), &mut file, writer, errors)
+                play_script(
+                    rt,
+                    alloc,
+                    config,
+                    Some(name),
+                    &mut file,
+                    writer,
+                    errors,
+                    gate,
+                )
             }
             Err(error) => report_unopened(errors, name, error.kind()),
         },
@@ -152,7 +159,7 @@ fn do_asked<
 }
 
 // Plays the script that a reader gives, which is a file if one is named.
-fn play_script<T: Threads + Wait, R: Read, W: Write, E: Write>(
+fn play_script<T: Threads + Wait, R: Read, W: Write, E: Write, G: Gate + Sync>(
     rt: &T,
     alloc: Global,
     config: Config,
@@ -160,6 +167,7 @@ fn play_script<T: Threads + Wait, R: Read, W: Write, E: Write>(
     reader: &mut R,
     writer: &mut W,
     errors: &mut E,
+    gate: &G,
 ) -> u8
     ensures played { IsPlayed config (option_map (λ name. name.now) file.entry)
         (R.remaining reader.old) (record {
@@ -171,7 +179,7 @@ fn play_script<T: Threads + Wait, R: Read, W: Write, E: Write>(
         }) }
     ensures status { result ≢ USAGE }
 {
-    match play(rt, alloc, config, reader, writer, &NoGate) {
+    match play(rt, alloc, config, reader, writer, gate) {
         Ok(_totals) => DONE,
         Err(error) => report(errors, file, error),
     }

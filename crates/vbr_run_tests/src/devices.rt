@@ -190,6 +190,7 @@ fn failing_errors_are_ignored(rt: HostRuntime) {
         &no_file,
         &mut output,
         &mut errors,
+        &NoGate,
     );
     assert_eq!(rt; status, 3);
     assert!(rt; output.is_empty());
@@ -221,6 +222,7 @@ fn a_failing_file_is_a_file_fault(rt: HostRuntime) {
         &brittle_file,
         &mut output,
         &mut errors,
+        &NoGate,
     );
     assert_eq!(rt; status, 4);
     assert!(rt; output.is_empty());

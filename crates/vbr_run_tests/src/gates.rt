@@ -103,10 +103,14 @@ const CALLS: [(u32, Reply); 4] = [
     (0, Reply::No),
 ];
 
+// The phase of each operation of the script.
+const PHASES: [u32; 4] = [0, 0, 1, 2];
+
 /// A gate that counts how often it is rightly told of each line of the script, before its call and
-/// behind it.
+/// behind it, and of each phase before it begins.
 #[derive(Drop)]
 struct Recorder {
+    phases: AtomicU32,
     begun: [AtomicU32; 4],
     answered: [AtomicU32; 4],
     was_misled: AtomicBool,
@@ -115,6 +119,7 @@ struct Recorder {
 impl Recorder {
     fn new() -> Self {
         Recorder {
+            phases: AtomicU32::new(0),
             begun: counts(),
             answered: counts(),
             was_misled: AtomicBool::new(false),
@@ -142,9 +147,17 @@ fn counts() -> [AtomicU32; 4] {
 }
 
 impl Gate for Recorder {
+    fn phase(&self, phase: u32) {
+        if phase != self.phases.fetch_add(1, Ordering::SeqCst) {
+            self.was_misled.store(true, Ordering::SeqCst);
+        }
+    }
+
     fn before(&self, worker: u32, line: u64) {
         let call = CALLS.get(line as usize);
-        let is_right = matches!(call, Some((who, _)) if *who == worker);
+        let phase = PHASES.get(line as usize);
+        let is_right = matches!((call, phase), (Some((who, _)), Some(phase))
+            if *who == worker && *phase + 1 == self.phases.load(Ordering::SeqCst));
         self.count(&self.begun, line, is_right);
     }
 
@@ -155,12 +168,14 @@ impl Gate for Recorder {
     }
 }
 
-/// Each worker tells of each of its lines once before the call and once behind it, with its reply.
+/// A gate is told of each phase before its lines; and each worker tells of each of its lines once before
+/// the call and once behind it, with its reply.
 #[test]
-fn a_gate_is_told_of_each_call(rt: HostRuntime) -> Result<(), Fail> {
+fn a_gate_is_told_of_each_phase_and_call(rt: HostRuntime) -> Result<(), Fail> {
     let gate = Recorder::new();
     play_at(&rt, rt.alloc(), SCRIPT, &gate)?;
     assert!(rt; !gate.was_misled.load(Ordering::SeqCst));
+    assert_eq!(rt; gate.phases.load(Ordering::SeqCst), 3);
     for count in gate.begun.iter().chain(gate.answered.iter()) {
         assert_eq!(rt; count.load(Ordering::SeqCst), 1);
     }

@@ -5,38 +5,37 @@ use Rattle.std.specs.declared.alloc.AllocError.{AllocError}
 use Rattle.std.proofs.lemmas.List.{length-append, length-map}
 use Rattle.vbr_slots.specs.Closing.{AllOf}
 use Rattle.vbr_slots.specs.Views.{IsOf, PassView, TableView}
-use Rattle.vbr_set.specs.AllMembers.{AreOfOneSet, AreOfSet, AreTooFew, ReportsAll}
+use Rattle.vbr_set.specs.AllMembers.{AreOfOneSet, AreOfSet, AreTooFew, ReportsAllBy}
 use Rattle.vbr_set.specs.Apart.{AreParts, members_of}
-use Rattle.vbr_set.specs.Closing.{Closes}
 use Rattle.vbr_set.specs.Members.{MemberView, as_member}
 use Rattle.vbr_set.specs.Sharing.{IsPart, set_shared}
-use Rattle.vbr_set.specs.declared.report.Report.{Report}
 use Rattle.vbr_set.specs.declared.member.share.Share.{Share}
 
-pub parts_more : (shares : List Share) (passes : List PassView) (share : Share) (pass : PassView) → AreParts shares passes → IsPart share pass → AreParts (shares ++ share ∷ []) (passes ++ pass ∷ [])
-parts_more [] [] share pass parts part = (part, tt)
-parts_more [] (q ∷ qs) share pass parts part = absurd parts
-parts_more (s ∷ ss) [] share pass parts part = absurd parts
-parts_more (s ∷ ss) (q ∷ qs) share pass parts part = (parts.0, parts_more ss qs share pass parts.1 part)
+module _ {N : Type 0} where
+  pub parts_more : (shares : List (Share N)) (passes : List PassView) (share : Share N) (pass : PassView) → AreParts shares passes → IsPart share pass → AreParts (shares ++ share ∷ []) (passes ++ pass ∷ [])
+  parts_more [] [] share pass parts part = (part, tt)
+  parts_more [] (q ∷ qs) share pass parts part = absurd parts
+  parts_more (s ∷ ss) [] share pass parts part = absurd parts
+  parts_more (s ∷ ss) (q ∷ qs) share pass parts part = (parts.0, parts_more ss qs share pass parts.1 part)
 
-pub members_more : (shares : List Share) (passes : List PassView) (share : Share) (pass : PassView) → AreParts shares passes → members_of (shares ++ share ∷ []) (passes ++ pass ∷ []) ≡ members_of shares passes ++ as_member (set_shared share) pass ∷ []
-members_more [] [] share pass parts = refl
-members_more [] (q ∷ qs) share pass parts = absurd parts
-members_more (s ∷ ss) [] share pass parts = absurd parts
-members_more (s ∷ ss) (q ∷ qs) share pass parts = ap (λ (ms : List MemberView). as_member (set_shared s) q ∷ ms) (members_more ss qs share pass parts.1)
+  pub members_more : (shares : List (Share N)) (passes : List PassView) (share : Share N) (pass : PassView) → AreParts shares passes → members_of (shares ++ share ∷ []) (passes ++ pass ∷ []) ≡ members_of shares passes ++ as_member (set_shared share) pass ∷ []
+  members_more [] [] share pass parts = refl
+  members_more [] (q ∷ qs) share pass parts = absurd parts
+  members_more (s ∷ ss) [] share pass parts = absurd parts
+  members_more (s ∷ ss) (q ∷ qs) share pass parts = ap (λ (ms : List MemberView). as_member (set_shared s) q ∷ ms) (members_more ss qs share pass parts.1)
 
--- one more member is taken apart
-pub taken : (shares shares' : List Share) (passes passes' : List PassView) (share : Share) (pass : PassView) (all rest members : List MemberView) (member : MemberView) → shares' ≡ shares ++ share ∷ [] → passes' ≡ passes ++ pass ∷ [] → all ≡ member ∷ rest → as_member (set_shared share) pass ≡ member
-    → AreParts shares passes → IsPart share pass → members_of shares passes ++ all ≡ members → AreParts shares' passes' × (members_of shares' passes' ++ rest ≡ members)
-taken shares shares' passes passes' share pass all rest members member one other first is parts part so_far = (
-  subst (λ (x : List Share × List PassView). AreParts x.0 x.1) (λ i. (sym one i, sym other i)) (parts_more shares passes share pass parts part),
-  (λ i. members_of (one i) (other i) ++ rest)
-      ∙ ap (λ (ms : List MemberView). ms ++ rest) (members_more shares passes share pass parts)
-      ∙ append_assoc (members_of shares passes) (as_member (set_shared share) pass ∷ []) rest
-      ∙ ap (λ (m : MemberView). members_of shares passes ++ m ∷ rest) is
-      ∙ ap (λ (ms : List MemberView). members_of shares passes ++ ms) (sym first)
-      ∙ so_far,
-)
+  -- one more member is taken apart
+  pub taken : (shares shares' : List (Share N)) (passes passes' : List PassView) (share : Share N) (pass : PassView) (all rest members : List MemberView) (member : MemberView) → shares' ≡ shares ++ share ∷ [] → passes' ≡ passes ++ pass ∷ [] → all ≡ member ∷ rest → as_member (set_shared share) pass ≡ member
+      → AreParts shares passes → IsPart share pass → members_of shares passes ++ all ≡ members → AreParts shares' passes' × (members_of shares' passes' ++ rest ≡ members)
+  taken shares shares' passes passes' share pass all rest members member one other first is parts part so_far = (
+    subst (λ (x : List (Share N) × List PassView). AreParts x.0 x.1) (λ i. (sym one i, sym other i)) (parts_more shares passes share pass parts part),
+    (λ i. members_of (one i) (other i) ++ rest)
+        ∙ ap (λ (ms : List MemberView). ms ++ rest) (members_more shares passes share pass parts)
+        ∙ append_assoc (members_of shares passes) (as_member (set_shared share) pass ∷ []) rest
+        ∙ ap (λ (m : MemberView). members_of shares passes ++ m ∷ rest) is
+        ∙ ap (λ (ms : List MemberView). members_of shares passes ++ ms) (sym first)
+        ∙ so_far,
+  )
 
 -- and there is room for those that are left
 pub room_after : {A B : Type 0} (xs xs' : List A) (x : A) (all rest : List B) (b : B) (cap cap' : ℕ) → xs' ≡ xs ++ x ∷ [] → all ≡ b ∷ rest → cap ≤ cap' → length xs + length all ≤ cap → length xs' + length rest ≤ cap'
@@ -45,57 +44,60 @@ room_after xs xs' x all rest b cap cap' e f more room =
     let m = ap (λ ys. length ys) f in
     omega arith
 
--- no pass is left, so no member is
-pub none_made : (shares : List Share) (passes : List PassView) → length passes ≡ 0 → members_of shares passes ≡ []
-none_made [] passes none = refl
-none_made (s ∷ ss) [] none = refl
-none_made (s ∷ ss) (q ∷ qs) none = absurd (omega arith)
+module _ {N : Type 0} where
+  -- no pass is left, so no member is
+  pub none_made : (shares : List (Share N)) (passes : List PassView) → length passes ≡ 0 → members_of shares passes ≡ []
+  none_made [] passes none = refl
+  none_made (s ∷ ss) [] none = refl
+  none_made (s ∷ ss) (q ∷ qs) none = absurd (omega arith)
 
 -- ---- the parts of all members of a set
 
-pub passes_in : (shares : List Share) (passes : List PassView) → AreParts shares passes → map (λ m. m.pass) (members_of shares passes) ≡ passes
-passes_in [] [] parts = refl
-passes_in [] (q ∷ qs) parts = absurd parts
-passes_in (s ∷ ss) [] parts = absurd parts
-passes_in (s ∷ ss) (q ∷ qs) parts = ap (λ (ps : List PassView). q ∷ ps) (passes_in ss qs parts.1)
+module _ {N : Type 0} where
+  pub passes_in : (shares : List (Share N)) (passes : List PassView) → AreParts shares passes → map (λ m. m.pass) (members_of shares passes) ≡ passes
+  passes_in [] [] parts = refl
+  passes_in [] (q ∷ qs) parts = absurd parts
+  passes_in (s ∷ ss) [] parts = absurd parts
+  passes_in (s ∷ ss) (q ∷ qs) parts = ap (λ (ps : List PassView). q ∷ ps) (passes_in ss qs parts.1)
 
-pub all_parts_of : (set : TableView) (shares : List Share) (passes : List PassView) → AreParts shares passes → AreOfSet set (members_of shares passes) → AllOf set passes
-all_parts_of set [] [] parts all = tt
-all_parts_of set [] (q ∷ qs) parts all = absurd parts
-all_parts_of set (s ∷ ss) [] parts all = absurd parts
-all_parts_of set (s ∷ ss) (q ∷ qs) parts all = (subst (IsOf q.trace) all.0 parts.0.own, all_parts_of set ss qs parts.1 all.1)
+  pub all_parts_of : (set : TableView) (shares : List (Share N)) (passes : List PassView) → AreParts shares passes → AreOfSet set (members_of shares passes) → AllOf set passes
+  all_parts_of set [] [] parts all = tt
+  all_parts_of set [] (q ∷ qs) parts all = absurd parts
+  all_parts_of set (s ∷ ss) [] parts all = absurd parts
+  all_parts_of set (s ∷ ss) (q ∷ qs) parts all = (subst (IsOf q.trace) all.0 parts.0.own, all_parts_of set ss qs parts.1 all.1)
 
--- there are as many members as passes
-pub as_many_passes : (shares : List Share) (passes : List PassView) → AreParts shares passes → length (members_of shares passes) ≡ length passes
-as_many_passes shares passes parts = sym (length-map (members_of shares passes) (λ (m : MemberView). m.pass)) ∙ ap (λ (ps : List PassView). length ps) (passes_in shares passes parts)
+  -- there are as many members as passes
+  pub as_many_passes : (shares : List (Share N)) (passes : List PassView) → AreParts shares passes → length (members_of shares passes) ≡ length passes
+  as_many_passes shares passes parts = sym (length-map (members_of shares passes) (λ (m : MemberView). m.pass)) ∙ ap (λ (ps : List PassView). length ps) (passes_in shares passes parts)
 
 -- where they are enough of one set, they are all of the set of the first share
-module _ (first : Share) where
+module _ {N : Type 0} (first : Share N) where
   abbrev set : TableView
   set = set_shared first
 
   abbrev pub AreAllOfFirst : List MemberView → Type 0
   AreAllOfFirst members = AreOfSet set members × (set.passes ≤ length members)
 
-  pub all_of_first : (shares : List Share) (passes : List PassView) → AreParts shares passes → AreOfOneSet (members_of shares passes) → ¬ (AreTooFew (members_of shares passes)) → slice_get shares 0 ≡ Some first → AreAllOfFirst (members_of shares passes)
+  pub all_of_first : (shares : List (Share N)) (passes : List PassView) → AreParts shares passes → AreOfOneSet (members_of shares passes) → ¬ (AreTooFew (members_of shares passes)) → slice_get shares 0 ≡ Some first → AreAllOfFirst (members_of shares passes)
   all_of_first [] [] parts one_set enough is = absurd (enough tt)
   all_of_first [] (q ∷ qs) parts one_set enough is = absurd parts
   all_of_first (s ∷ ss) [] parts one_set enough is = absurd parts
   all_of_first (s ∷ ss) (q ∷ qs) parts one_set enough is =
       let members : List MemberView = members_of (s ∷ ss) (q ∷ qs) in
-      let same : set_shared s ≡ set = ap (λ (o : Option Share). set_shared (unwrap_or o first)) is in
+      let same : set_shared s ≡ set = ap (λ (o : Option (Share N)). set_shared (unwrap_or o first)) is in
       let all : ¬ (length members < (set_shared s).passes) = enough in
       subst (λ (t : TableView). AreOfSet t members × (t.passes ≤ length members)) same ((refl, one_set), omega arith)
 
 -- so what the set tells by the passes is told by all members
-pub told_by_all : (first : Share) (shares : List Share) (passes : List PassView) → AreParts shares passes → AreAllOfFirst first (members_of shares passes) → (report : Report) → Closes (set_shared first) passes report → ReportsAll (members_of shares passes) report
-told_by_all first shares passes parts all report closes = record {
-  set = set_shared first;
-  of_set = all.0;
-  all = all.1;
-  closes = subst (λ (ps : List PassView). Closes (set_shared first) ps report) (sym (passes_in shares passes parts)) closes;
-}
+module _ {N R : Type 0} (tells : TableView → List PassView → R → Type 0) where
+  told_by_all : (first : Share N) (shares : List (Share N)) (passes : List PassView) → AreParts shares passes → AreAllOfFirst first (members_of shares passes) → (report : R) → tells (set_shared first) passes report → ReportsAllBy tells (members_of shares passes) report
+  told_by_all first shares passes parts all report closes = record {
+    set = set_shared first;
+    of_set = all.0;
+    all = all.1;
+    closes = subst (λ (ps : List PassView). tells (set_shared first) ps report) (sym (passes_in shares passes parts)) closes;
+  }
 
-pub all_told : (first : Share) (shares : List Share) (passes : List PassView) → AreParts shares passes → AreAllOfFirst first (members_of shares passes) → (told : Result Report AllocError) → IfOk told (Closes (set_shared first) passes) → IfOk told (ReportsAll (members_of shares passes))
-all_told first shares passes parts all (Ok report) closes = told_by_all first shares passes parts all report closes
-all_told first shares passes parts all (Err refused) closes = tt
+  pub all_told : (first : Share N) (shares : List (Share N)) (passes : List PassView) → AreParts shares passes → AreAllOfFirst first (members_of shares passes) → (told : Result R AllocError) → IfOk told (tells (set_shared first) passes) → IfOk told (ReportsAllBy tells (members_of shares passes))
+  all_told first shares passes parts all (Ok report) closes = told_by_all first shares passes parts all report closes
+  all_told first shares passes parts all (Err refused) closes = tt

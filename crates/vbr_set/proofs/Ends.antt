@@ -17,20 +17,21 @@ one_more set key passes passes' pass e all same own =
     let here : IsPassOf set pass = subst (λ (t : TableView). IsPassOf t pass) same own in
     All-same (IsPassOf set) passes' (passes ++ pass ∷ []) e (All-push (IsPassOf set) passes pass all here)
 
--- the first mailbox, and the others
-pub mailbox_first : (set : TableView) (mailboxes rest : List Mailbox) (mailbox : Mailbox) → mailboxes ≡ mailbox ∷ rest → AreMailboxesOf set mailboxes → mailbox.table.shared.key ≡ set
-mailbox_first set mailboxes rest mailbox e all = All-head (λ (p : Mailbox). p.table.shared.key ≡ set) mailbox rest (All-same (λ (p : Mailbox). p.table.shared.key ≡ set) (mailbox ∷ rest) mailboxes (sym e) all)
+module _ {N : Type 0} where
+  -- the first mailbox, and the others
+  pub mailbox_first : (set : TableView) (mailboxes rest : List (Mailbox N)) (mailbox : Mailbox N) → mailboxes ≡ mailbox ∷ rest → AreMailboxesOf set mailboxes → mailbox.table.shared.key ≡ set
+  mailbox_first set mailboxes rest mailbox e all = All-head (λ (p : Mailbox N). p.table.shared.key ≡ set) mailbox rest (All-same (λ (p : Mailbox N). p.table.shared.key ≡ set) (mailbox ∷ rest) mailboxes (sym e) all)
 
-pub mailbox_rest : (set : TableView) (mailboxes rest : List Mailbox) (mailbox : Mailbox) → mailboxes ≡ mailbox ∷ rest → AreMailboxesOf set mailboxes → AreMailboxesOf set rest
-mailbox_rest set mailboxes rest mailbox e all = All-rest (λ (p : Mailbox). p.table.shared.key ≡ set) mailbox rest mailboxes e all
+  pub mailbox_rest : (set : TableView) (mailboxes rest : List (Mailbox N)) (mailbox : Mailbox N) → mailboxes ≡ mailbox ∷ rest → AreMailboxesOf set mailboxes → AreMailboxesOf set rest
+  mailbox_rest set mailboxes rest mailbox e all = All-rest (λ (p : Mailbox N). p.table.shared.key ≡ set) mailbox rest mailboxes e all
 
--- the room is enough for the mailboxes that are left
-pub room_left : (passes passes' : List PassView) (pass : PassView) (mailboxes rest : List Mailbox) (mailbox : Mailbox) (cap cap' : ℕ) → passes' ≡ passes ++ pass ∷ [] → mailboxes ≡ mailbox ∷ rest → cap ≤ cap'
-    → length passes + length mailboxes ≤ cap → length passes' + length rest ≤ cap'
-room_left passes passes' pass mailboxes rest mailbox cap cap' e f more room =
-    let n : length passes' ≡ length passes + 1 = ap (λ (ps : List PassView). length ps) e ∙ length-append passes (pass ∷ []) in
-    let m : length mailboxes ≡ length rest + 1 = ap (λ (ps : List Mailbox). length ps) f ∙ (omega arith) in
-    omega arith
+  -- the room is enough for the mailboxes that are left
+  pub room_left : (passes passes' : List PassView) (pass : PassView) (mailboxes rest : List (Mailbox N)) (mailbox : Mailbox N) (cap cap' : ℕ) → passes' ≡ passes ++ pass ∷ [] → mailboxes ≡ mailbox ∷ rest → cap ≤ cap'
+      → length passes + length mailboxes ≤ cap → length passes' + length rest ≤ cap'
+  room_left passes passes' pass mailboxes rest mailbox cap cap' e f more room =
+      let n : length passes' ≡ length passes + 1 = ap (λ (ps : List PassView). length ps) e ∙ length-append passes (pass ∷ []) in
+      let m : length mailboxes ≡ length rest + 1 = ap (λ (ps : List (Mailbox N)). length ps) f ∙ (omega arith) in
+      omega arith
 
 -- the passes are of the set with one of it between them
 pub with_own : (set : TableView) (passes passes' : List PassView) (who : ℕ) (pass : PassView) → passes' ≡ insert passes who pass → ArePassesOf set passes → IsOf pass.trace set → ArePassesOf set passes'

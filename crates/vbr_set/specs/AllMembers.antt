@@ -1,10 +1,12 @@
 -- How a set ends by all its members at once, and what they are told.
 use Rattle.std.specs.Prelude.{◌≡◌, ◌<◌, ◌≤◌, List, [], ◌∷◌, length, map}
-use Rattle.vbr_slots.specs.Views.{TableView}
+use Rattle.vbr_slots.specs.Views.{PassView, TableView}
 use Rattle.vbr_set.specs.Closing.{Closes}
+use Rattle.vbr_set.specs.MapClosing.{MapCloses}
 use Rattle.vbr_set.specs.Members.{MemberView}
 use Rattle.vbr_set.specs.declared.close_all_error.CloseAllError.{CloseAllError}
 use Rattle.vbr_set.specs.declared.close_all_error.CloseAllError.TheVariants.{Missing, Memory}
+use Rattle.vbr_set.specs.declared.map.report.MapReport.{MapReport}
 use Rattle.vbr_set.specs.declared.report.Report.{Report}
 
 -- all are of the set
@@ -22,19 +24,28 @@ abbrev pub AreTooFew : List MemberView → Type 0
 AreTooFew [] = Unit {0}
 AreTooFew (m ∷ ms) = length (m ∷ ms) < m.set.passes
 
--- the members are all of a set, and the report tells the end of a run that begins with what each of them has seen, and in which the calls of each are just those that it has made
-pub record ReportsAll (members : List MemberView) (report : Report) : Type 0 where
-  pub set : TableView
-  pub of_set : AreOfSet set members
-  pub all : set.passes ≤ length members
-  pub closes : Closes set (map (λ m. m.pass) members) report
+module _ {R : Type 0} (tells : TableView → List PassView → R → Type 0) where
+  -- the members are all of a set, and the report tells the end of a run that begins with what each of them has seen, and in which the calls of each are just those that it has made
+  pub record ReportsAllBy (members : List MemberView) (report : R) : Type 0 where
+    pub set : TableView
+    pub of_set : AreOfSet set members
+    pub all : set.passes ≤ length members
+    pub closes : tells set (map (λ m. m.pass) members) report
+
+-- so it is of a set, whose report has keys
+abbrev pub ReportsAll : List MemberView → Report → Type 0
+ReportsAll = ReportsAllBy Closes
+
+-- and so of a map, whose report has entries
+abbrev pub ReportsAllEntries : List MemberView → MapReport → Type 0
+ReportsAllEntries = ReportsAllBy MapCloses
 
 -- the members come back as they were
-abbrev pub HasBack : List MemberView → CloseAllError → Type 0
+abbrev pub HasBack : List MemberView → CloseAllError MemberView → Type 0
 HasBack members (Missing back) = back.items ≡ members
 HasBack members (Memory back) = back.items ≡ members
 
 -- members are missing; the other error is that there is no memory
-abbrev pub LacksMembers : CloseAllError → Type 0
+abbrev pub LacksMembers : {M : Type 0} → CloseAllError M → Type 0
 LacksMembers (Missing back) = Unit {0}
 LacksMembers (Memory back) = ⊥

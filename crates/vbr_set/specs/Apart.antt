@@ -6,12 +6,12 @@ use Rattle.vbr_set.specs.Sharing.{IsPart, set_shared}
 use Rattle.vbr_set.specs.declared.member.share.Share.{Share}
 
 -- there is a pass for each share, at its place
-abbrev pub AreParts : List Share → List PassView → Type 0
+abbrev pub AreParts : {N : Type 0} → List (Share N) → List PassView → Type 0
 AreParts [] [] = Unit {0}
 AreParts (share ∷ shares) (pass ∷ passes) = IsPart share pass × AreParts shares passes
 AreParts _ _ = ⊥
 
 -- the members that shares and passes make, each of those at one place
-abbrev pub members_of : List Share → List PassView → List MemberView
+abbrev pub members_of : {N : Type 0} → List (Share N) → List PassView → List MemberView
 members_of (share ∷ shares) (pass ∷ passes) = as_member (set_shared share) pass ∷ members_of shares passes
 members_of _ _ = []

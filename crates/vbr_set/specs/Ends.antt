@@ -2,9 +2,12 @@
 use Rattle.std.specs.Prelude.{◌≡◌, ℕ, ◌<◌, List, length, slice_index_or, Option, None, Some, Result, Ok, Err}
 use Rattle.vbr_slots.specs.Views.{PassView, TableView}
 use Rattle.vbr_set.specs.Closing.{Closes}
+use Rattle.vbr_set.specs.MapClosing.{MapCloses}
+use Rattle.vbr_set.specs.Members.{MemberView}
 use Rattle.vbr_set.specs.Sharing.{ArePassesOf}
 use Rattle.vbr_set.specs.declared.end_error.EndError.{EndError}
 use Rattle.vbr_set.specs.declared.end_error.EndError.TheVariants.{Lost, Memory}
+use Rattle.vbr_set.specs.declared.map.report.MapReport.{MapReport}
 use Rattle.vbr_set.specs.declared.report.Report.{Report}
 
 -- each pass stands at its number
@@ -17,26 +20,35 @@ pub record AreAll (set : TableView) (passes : List PassView) : Type 0 where
   pub count : length passes ≡ set.passes
   pub numbered : AreNumbered passes
 
--- the report tells the end of the set with all passes that were opened with it, each with just the calls that it has made; this pass is among them
-pub record EndsWith (set : TableView) (pass : PassView) (report : Report) : Type 0 where
-  pub passes : List PassView
-  pub all : AreAll set passes
-  pub own : (d : PassView) → slice_index_or passes pass.trace.who d ≡ pass
-  pub closes : Closes set passes report
+module _ {R : Type 0} (tells : TableView → List PassView → R → Type 0) where
+  -- the report tells the end of the set with all passes that were opened with it, each with just the calls that it has made; this pass is among them
+  pub record EndsBy (set : TableView) (pass : PassView) (report : R) : Type 0 where
+    pub passes : List PassView
+    pub all : AreAll set passes
+    pub own : (d : PassView) → slice_index_or passes pass.trace.who d ≡ pass
+    pub closes : tells set passes report
+
+-- so it is of a set, whose report has keys
+abbrev pub EndsWith : TableView → PassView → Report → Type 0
+EndsWith = EndsBy Closes
+
+-- and so of a map, whose report has entries
+abbrev pub EndsMapWith : TableView → PassView → MapReport → Type 0
+EndsMapWith = EndsBy MapCloses
 
 -- where there is no memory, the member comes back as it was
-abbrev pub IsBack : TableView → PassView → EndError → Type 0
+abbrev pub IsBack : TableView → PassView → EndError MemberView → Type 0
 IsBack set pass Lost = Unit {0}
 IsBack set pass (Memory member) = member ≡ record { set = set; pass = pass }
 
 -- there is no memory, and no pass is lost
-abbrev pub EndLacksMemory : EndError → Type 0
+abbrev pub EndLacksMemory : {M : Type 0} → EndError M → Type 0
 EndLacksMemory Lost = ⊥
 EndLacksMemory (Memory member) = Unit {0}
 
-module _ {A : Type 0} where
+module _ {A M : Type 0} where
   -- the answer to the last member: a report, or that there is no memory for it
-  abbrev pub IsLast : Result (Option A) EndError → Type 0
+  abbrev pub IsLast : Result (Option A) (EndError M) → Type 0
   IsLast (Ok None) = ⊥
   IsLast (Ok (Some report)) = Unit {0}
   IsLast (Err error) = EndLacksMemory error

@@ -11,6 +11,6 @@ abbrev pub MailboxSeat : Type 0
 MailboxSeat = Seat (Option PassView) SeatKnows
 
 -- these are the seats of the mailboxes from a number on
-abbrev pub AreSeats : List Mailbox → ℕ → List MailboxSeat → Type 0
+abbrev pub AreSeats : {N : Type 0} → List (Mailbox N) → ℕ → List MailboxSeat → Type 0
 AreSeats mailboxes who [] = Unit {0}
 AreSeats mailboxes who (seat ∷ seats) = IsSeatOf mailboxes who seat.table_id seat.id seat.me × AreSeats mailboxes (suc who) seats

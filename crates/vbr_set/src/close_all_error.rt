@@ -1,19 +1,19 @@
-//! Why all members of a set got no report.
+//! Why all members of a set or of a map got no report.
 use crate::member::Member;
 use std::error::Error;
 use std::fmt;
 
-/// Why all members of a set got no report. The tests are made in this order, and the members come back as
-/// they were.
+/// Why all members of a set got no report, or those of a map, which `M` then are. The tests are made in
+/// this order, and the members come back as they were.
 #[derive(Drop)]
-pub enum CloseAllError {
+pub enum CloseAllError<M = Member> {
     /// There are fewer members than the set was opened with, or none.
-    Missing(Vec<Member>),
+    Missing(Vec<M>),
     /// There is no memory for the report.
-    Memory(Vec<Member>),
+    Memory(Vec<M>),
 }
 
-impl fmt::Debug for CloseAllError {
+impl<M> fmt::Debug for CloseAllError<M> {
     fn fmt<W: fmt::Write>(&self, f: &mut fmt::Formatter<W>) -> fmt::Result {
         match self {
             CloseAllError::Missing(_) => write!(f, "Missing"),
@@ -22,7 +22,7 @@ impl fmt::Debug for CloseAllError {
     }
 }
 
-impl fmt::Display for CloseAllError {
+impl<M> fmt::Display for CloseAllError<M> {
     fn fmt<W: fmt::Write>(&self, f: &mut fmt::Formatter<W>) -> fmt::Result {
         match self {
             CloseAllError::Missing(_) => write!(f, "there are fewer members than were opened"),
@@ -31,4 +31,4 @@ impl fmt::Display for CloseAllError {
     }
 }
 
-impl Error for CloseAllError {}
+impl<M: Drop> Error for CloseAllError<M> {}

@@ -1,20 +1,20 @@
-//! Why the last member of a set got no report.
+//! Why the last member of a set or of a map got no report.
 use crate::member::Member;
 use std::error::Error;
 use std::fmt;
 
-/// Why the last member of a set got no report.
+/// Why the last member of a set got no report, or that of a map, whose members `M` then are.
 #[derive(Drop)]
-pub enum EndError {
+pub enum EndError<M = Member> {
     /// A pass never came back. The set is gone. A member that is dropped gives its pass back, so no
     /// program is known to get this.
     Lost,
     /// There is no memory for the report. The member is as it was: it can make calls, and be closed
     /// again.
-    Memory(Member),
+    Memory(M),
 }
 
-impl fmt::Debug for EndError {
+impl<M> fmt::Debug for EndError<M> {
     fn fmt<W: fmt::Write>(&self, f: &mut fmt::Formatter<W>) -> fmt::Result {
         match self {
             EndError::Lost => write!(f, "Lost"),
@@ -23,7 +23,7 @@ impl fmt::Debug for EndError {
     }
 }
 
-impl fmt::Display for EndError {
+impl<M> fmt::Display for EndError<M> {
     fn fmt<W: fmt::Write>(&self, f: &mut fmt::Formatter<W>) -> fmt::Result {
         match self {
             EndError::Lost => write!(f, "a pass never came back"),
@@ -32,4 +32,4 @@ impl fmt::Display for EndError {
     }
 }
 
-impl Error for EndError {}
+impl<M: Drop> Error for EndError<M> {}

@@ -52,7 +52,6 @@ mod walking;
 pub use close_all_error::CloseAllError;
 pub use end_error::EndError;
 pub use map::report::MapReport;
-pub use member::Member;
 pub use renew_error::RenewError;
 pub use report::Report;
 pub use set_ref::VbrSetRef;
@@ -70,6 +69,13 @@ pub type VbrSet = set::VbrSet<Keys>;
 /// A map from `u64` keys to `u64` values, shared by the passes that were opened with it. The value of a key
 /// is fixed until the key is removed.
 pub type VbrMap = set::VbrSet<Entries>;
+
+/// A member of a set: one of its passes, with a share of the set.
+pub type Member = member::Member<Keys>;
+
+/// A member of a map, with the calls of a map in place of those of a set: one of its passes, with a share
+/// of the map.
+pub type MapMember = member::Member<Entries>;
 
 /// A pass with a reference to its map, as [`VbrSetRef`] is one with a reference to its set.
 pub type VbrMapRef<'s> = set_ref::VbrSetRef<'s, Entries>;

@@ -1,4 +1,4 @@
-//! A member of a set.
+//! A member of a set, or of a map.
 pub mod calls;
 pub mod closing;
 pub mod closing_all;
@@ -8,6 +8,7 @@ pub mod meeting;
 pub mod opening;
 mod share;
 mod sharing;
+mod telling;
 pub mod tokens;
 
 ghost use Rattle.std.specs.Prelude.{◌≡◌};
@@ -18,6 +19,7 @@ use crate::member::closing::leave;
 use crate::member::share::Share;
 use std::marker::Model;
 use vbr_slots::Pass;
+use vbr_words::{Keys, Nodes};
 
 /// One of the passes of a set, with a share of the set: all that a thread needs to make calls.
 ///
@@ -28,14 +30,14 @@ use vbr_slots::Pass;
 ///
 /// A member has lines of the cache of its own, so that no two threads write to one line.
 #[repr(C)]
-pub struct Member {
+pub struct Member<N: Nodes = Keys> {
     pub(crate) before: [u64; 16],
-    pub(crate) share: Share,
+    pub(crate) share: Share<N>,
     pub(crate) pass: Pass,
     pub(crate) after: [u64; 16],
 }
 
-impl Model for Member {
+impl<N: Nodes> Model for Member<N> {
     ghost use Rattle.vbr_set.specs.Members.{MemberView};
 
     ghost Value = { MemberView };
@@ -47,9 +49,9 @@ impl Model for Member {
     ghost invariant = { IsMember };
 }
 
-impl Member {
+impl<N: Nodes> Member<N> {
     // What it has of its set, and its pass.
-    pub(crate) fn into_parts(self) -> (Share, Pass)
+    pub(crate) fn into_parts(self) -> (Share<N>, Pass)
         ensures is { as_member (set_shared result.0) result.1 ≡ self }
         ensures part { IsPart result.0 result.1 }
     {
@@ -65,7 +67,7 @@ impl Member {
 
 /// One that is dropped gives its pass back as [`Member::close`] does, but is told nothing: so the last one
 /// that is closed is still told a report. It needs no memory, and makes no step.
-impl Drop for Member {
+impl<N: Nodes> Drop for Member<N> {
     fn drop(self) {
         let Member {
             before: _,

@@ -8,6 +8,8 @@ mod maps;
 #[cfg(test)]
 mod members;
 #[cfg(test)]
+mod members_of_maps;
+#[cfg(test)]
 mod refusals;
 #[cfg(test)]
 mod renewals;

@@ -44,6 +44,9 @@ present. A refused operation has one of these lines, and made no call:
 Then come the totals: how many inserts, removes and look-ups were answered yes,
 how many operations were refused, and the keys that are left, ascending.
 
+Where standard error is a terminal, a line there tells which phase of a long script
+plays, and how many lines have been played. It is gone before anything is printed.
+
 Exit status 0 says that the script was played, also where operations were refused.
 Else one line on standard error tells what was wrong; for status 2 it may be text
 of the option parser. Nothing was written on standard output then, but after a

@@ -10,7 +10,7 @@ use crate::member::Member;
 use crate::member::share::Share;
 use vbr_list::Refusal;
 use vbr_slots::Pass;
-use vbr_words::Shape;
+use vbr_words::{Nodes, Shape};
 
 impl Member {
     /// Adds a key, in at most `budget` steps, and says whether it was absent: [`VbrSet::insert`] by
@@ -57,7 +57,9 @@ impl Member {
     {
         self.share.set().remove(&mut self.pass, key, budget)
     }
+}
 
+impl<N: Nodes> Member<N> {
     /// Whether a key is in the set, in at most `budget` steps: [`VbrSet::has`] by its pass, which has the
     /// source. It only loads words. While the other members stand still, 5n + 11 steps are enough, with n
     /// nodes in the key's bucket.

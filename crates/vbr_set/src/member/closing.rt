@@ -2,7 +2,7 @@
 ghost use Rattle.std.specs.Prelude.{◌≡◌, ◌≤◌, [], true, false, length, IfOk, IfErr, IfSome};
 ghost use Rattle.std.specs.Arc.{arc_value};
 ghost use Rattle.std.specs.Vec.{vec_capacity};
-ghost use Rattle.vbr_set.specs.Ends.{AreNumbered, EndsWith, IsBack, IsLast, EndLacksMemory};
+ghost use Rattle.vbr_set.specs.Ends.{AreNumbered, EndsBy, EndsWith, IsBack, IsLast, EndLacksMemory};
 ghost use Rattle.vbr_set.specs.Mailboxes.{IsIdle};
 ghost use Rattle.vbr_set.specs.Members.{as_member};
 ghost use Rattle.vbr_set.specs.Sharing.{AreOthers, ArePassesOf, AreMailboxesOf, HasOthers, IsSeatOf};
@@ -12,12 +12,14 @@ use crate::member::Member;
 use crate::member::common::Common;
 use crate::member::mailbox::{Mailbox, SeatKnows};
 use crate::member::share::Share;
+use crate::member::telling::ReportOf;
 use crate::report::Report;
 use crate::set::VbrSet;
 use atomic_table::Seat;
 use std::alloc::{AllocFailed, Global};
 use std::sync::Arc;
 use vbr_slots::Pass;
+use vbr_words::Nodes;
 
 impl Member {
     /// Gives its pass back. While others have a share of the set, the answer is None. The last member
@@ -73,6 +75,22 @@ impl Member {
         ensures stays { IfErr result (IsBack self.set self.pass) }
         ensures alone { self.set.passes ≡ 1 → IsLast result }
     {
+        self.tell_last(alloc)
+    }
+}
+
+impl<N: Nodes> Member<N> {
+    // Gives its pass back; the last one is told the report of a set or a map, and comes back as it was.
+    pub(crate) fn tell_last<R: ReportOf<N>>(
+        self,
+        alloc: Global,
+    ) -> Result<Option<(R, Member<N>)>, EndError<Member<N>>>
+        ensures report { IfOk result
+            (λ told. IfSome told (λ last. EndsBy R.closes self.set self.pass last.0)) }
+        ensures same { IfOk result (λ told. IfSome told (λ last. last.1 ≡ self)) }
+        ensures stays { IfErr result (IsBack self.set self.pass) }
+        ensures alone { self.set.passes ≡ 1 → IsLast result }
+    {
         let (share, pass) = self.into_parts();
         let last = match share {
             Share::Among(common, seat) => match leave(common, seat, pass) {
@@ -88,11 +106,11 @@ impl Member {
 
 // Lays a pass into its mailbox and gives the share of its set up. The last one gets the set, the mailboxes
 // of the other passes, and its pass again.
-pub(crate) fn leave(
-    common: Arc<Common, Global>,
+pub(crate) fn leave<N: Nodes>(
+    common: Arc<Common<N>, Global>,
     mut seat: Seat<Option<Pass>, SeatKnows>,
     pass: Pass,
-) -> Option<(VbrSet, Vec<Mailbox>, Pass)>
+) -> Option<(VbrSet<N>, Vec<Mailbox<N>>, Pass)>
     requires ready { IsIdle (arc_value common).set pass }
     requires seat { IsSeatOf (arc_value common).mailboxes.items pass.trace.who
         seat.table_id seat.id seat.me }
@@ -113,16 +131,16 @@ pub(crate) fn leave(
 }
 
 // Tells what is in a set whose other passes lie in their mailboxes.
-fn end_alone(
+fn end_alone<N: Nodes, R: ReportOf<N>>(
     alloc: Global,
-    set: VbrSet,
-    mailboxes: Vec<Mailbox>,
+    set: VbrSet<N>,
+    mailboxes: Vec<Mailbox<N>>,
     pass: Pass,
-) -> Result<(Report, Member), EndError>
+) -> Result<(R, Member<N>), EndError<Member<N>>>
     requires ready { IsIdle set pass }
     requires mailboxes { AreMailboxesOf set mailboxes.items }
     requires others { HasOthers set }
-    ensures ended { IfOk result (λ last. EndsWith set pass last.0) }
+    ensures ended { IfOk result (λ last. EndsBy R.closes set pass last.0) }
     ensures same { IfOk result (λ last. last.1 ≡ as_member set pass) }
     ensures stays { IfErr result (IsBack set pass) }
 {
@@ -137,7 +155,11 @@ fn end_alone(
 }
 
 // Takes the passes out of their mailboxes, in the order of the mailboxes, or none where one is missing.
-fn gather(set: &VbrSet, mailboxes: Vec<Mailbox>, mut passes: Vec<Pass>) -> Option<Vec<Pass>>
+fn gather<N: Nodes>(
+    set: &VbrSet<N>,
+    mailboxes: Vec<Mailbox<N>>,
+    mut passes: Vec<Pass>,
+) -> Option<Vec<Pass>>
     requires mailboxes { AreMailboxesOf set.now mailboxes.items }
     requires room { (passes.items ≡ []) × (length mailboxes.items ≤ vec_capacity passes) }
     ensures { IfSome result (λ passes. ArePassesOf set.now passes.items) }
@@ -152,16 +174,16 @@ fn gather(set: &VbrSet, mailboxes: Vec<Mailbox>, mut passes: Vec<Pass>) -> Optio
 }
 
 // Tells what is in a set, with the other passes.
-fn end_gathered(
+fn end_gathered<N: Nodes, R: ReportOf<N>>(
     alloc: Global,
-    set: VbrSet,
+    set: VbrSet<N>,
     mut passes: Vec<Pass>,
     pass: Pass,
-) -> Result<(Report, Member), EndError>
+) -> Result<(R, Member<N>), EndError<Member<N>>>
     requires ready { IsIdle set pass }
     requires passes { ArePassesOf set passes.items }
     requires others { AreOthers set passes.items }
-    ensures ended { IfOk result (λ last. EndsWith set pass last.0) }
+    ensures ended { IfOk result (λ last. EndsBy R.closes set pass last.0) }
     ensures same { IfOk result (λ last. last.1 ≡ as_member set pass) }
     ensures stays { IfErr result (IsBack set pass) }
     ensures alone { set.passes ≡ 1 → IfErr result EndLacksMemory }
@@ -177,7 +199,7 @@ fn end_gathered(
     if passes.len() != set.count as usize || !are_numbered(&passes) {
         return Err(EndError::Lost);
     }
-    let told = set.report_by(alloc, &mut passes);
+    let told = R::tell(&set, alloc, &mut passes);
     let pass = passes.remove(who);
     let last = Member::of(Share::Gathered(set, passes), pass);
     match told {

@@ -1,16 +1,19 @@
 //! All members of a set at once.
 ghost use Rattle.std.specs.Prelude.{◌≡◌, ◌≤◌, ◌↔◌, [], true, false, length, IfErr, IfOk, OnOk};
 ghost use Rattle.std.specs.Vec.{vec_capacity};
-ghost use Rattle.vbr_set.specs.AllMembers.{AreOfOneSet, AreTooFew, HasBack, LacksMembers, ReportsAll};
+ghost use Rattle.vbr_set.specs.AllMembers.{AreOfOneSet, AreTooFew, HasBack, LacksMembers};
+ghost use Rattle.vbr_set.specs.AllMembers.{ReportsAll, ReportsAllBy};
 ghost use Rattle.vbr_set.specs.Apart.{AreParts, members_of};
 
 use crate::close_all_error::CloseAllError;
 use crate::member::Member;
 use crate::member::share::Share;
+use crate::member::telling::ReportOf;
 use crate::report::Report;
 use std::alloc::{AllocError, Global};
 use std::sync::Arc;
 use vbr_slots::Pass;
+use vbr_words::{Keys, Nodes};
 
 impl Member {
     /// Ends a set by all its members at once, in any order, and tells what is in it: the keys that the
@@ -40,7 +43,7 @@ impl Member {
         ensures missing { IfErr result (λ error. LacksMembers error ↔ AreTooFew members.items) }
         ensures enough { OnOk result (¬ (AreTooFew members.items)) }
     {
-        let (report, all) = Member::report_all(alloc, members)?;
+        let (report, all) = Member::<Keys>::report_all(alloc, members)?;
         drop(all);
         Ok(report)
     }
@@ -55,6 +58,23 @@ impl Member {
     ) -> Result<(Report, Vec<Member>), CloseAllError>
         requires { AreOfOneSet members.items }
         ensures report { IfOk result (λ told. ReportsAll members.items told.0) }
+        ensures same { IfOk result (λ told. told.1.items ≡ members.items) }
+        ensures back { IfErr result (HasBack members.items) }
+        ensures missing { IfErr result (λ error. LacksMembers error ↔ AreTooFew members.items) }
+        ensures enough { OnOk result (¬ (AreTooFew members.items)) }
+    {
+        Member::tell_all(alloc, members)
+    }
+}
+
+impl<N: Nodes> Member<N> {
+    // Tells the report of a set or a map by all its members, which come back as they were.
+    pub(crate) fn tell_all<R: ReportOf<N>>(
+        alloc: Global,
+        members: Vec<Member<N>>,
+    ) -> Result<(R, Vec<Member<N>>), CloseAllError<Member<N>>>
+        requires { AreOfOneSet members.items }
+        ensures report { IfOk result (λ told. ReportsAllBy R.closes members.items told.0) }
         ensures same { IfOk result (λ told. told.1.items ≡ members.items) }
         ensures back { IfErr result (HasBack members.items) }
         ensures missing { IfErr result (λ error. LacksMembers error ↔ AreTooFew members.items) }
@@ -86,7 +106,7 @@ impl Member {
     /// it otherwise: it looks whether one more owner of the one is one more of the other. No contract says
     /// what it answers; where neither set has a member that comes or goes meanwhile, it is right. It says
     /// no of a member that is the last of its set.
-    pub fn is_beside(&self, other: &Member) -> bool {
+    pub fn is_beside(&self, other: &Member<N>) -> bool {
         match (&self.share, &other.share) {
             (Share::Among(common, _), Share::Among(theirs, _)) => {
                 let before = Arc::strong_count(theirs);
@@ -101,7 +121,7 @@ impl Member {
 }
 
 // Whether there are fewer members than were opened with their set, or none.
-fn are_too_few(members: &[Member]) -> bool
+fn are_too_few<N: Nodes>(members: &[Member<N>]) -> bool
     ensures yes { result ≡ true → AreTooFew members.now }
     ensures no { result ≡ false → ¬ (AreTooFew members.now) }
 {
@@ -113,25 +133,26 @@ fn are_too_few(members: &[Member]) -> bool
 }
 
 // Tells what is in the set of these parts.
-fn report_apart(
+fn report_apart<N: Nodes, R: ReportOf<N>>(
     alloc: Global,
-    shares: &[Share],
+    shares: &[Share<N>],
     passes: &mut Vec<Pass>,
-) -> Result<Report, AllocError>
+) -> Result<R, AllocError>
     requires parts { AreParts shares.now passes.old.items }
     requires one_set { AreOfOneSet (members_of shares.now passes.old.items) }
     requires enough { ¬ (AreTooFew (members_of shares.now passes.old.items)) }
     ensures same { passes.new.items ≡ passes.old.items }
-    ensures report { IfOk result (ReportsAll (members_of shares.now passes.old.items)) }
+    ensures report { IfOk result
+        (ReportsAllBy R.closes (members_of shares.now passes.old.items)) }
 {
     let Some(first) = shares.first() else {
         unreachable!()
     };
-    first.set().report_by(alloc, passes)
+    R::tell(first.set(), alloc, passes)
 }
 
 // Takes members apart, in their order.
-fn take_apart(members: Vec<Member>, shares: &mut Vec<Share>, passes: &mut Vec<Pass>)
+fn take_apart<N: Nodes>(members: Vec<Member<N>>, shares: &mut Vec<Share<N>>, passes: &mut Vec<Pass>)
     requires shares { (shares.old.items ≡ []) × (length members.items ≤ vec_capacity shares.old) }
     requires passes { (passes.old.items ≡ []) × (length members.items ≤ vec_capacity passes.old) }
     ensures parts { AreParts shares.new.items passes.new.items }
@@ -146,7 +167,11 @@ fn take_apart(members: Vec<Member>, shares: &mut Vec<Share>, passes: &mut Vec<Pa
 }
 
 // Makes the members again, in their order.
-fn put_together(shares: Vec<Share>, passes: Vec<Pass>, mut members: Vec<Member>) -> Vec<Member>
+fn put_together<N: Nodes>(
+    shares: Vec<Share<N>>,
+    passes: Vec<Pass>,
+    mut members: Vec<Member<N>>,
+) -> Vec<Member<N>>
     requires members { (members.items ≡ []) × (length passes.items ≤ vec_capacity members) }
     requires parts { AreParts shares.items passes.items }
     ensures { result.items ≡ members_of shares.items passes.items }

@@ -3,6 +3,7 @@ ghost use Rattle.std.specs.Prelude.{◌≡◌, All};
 
 use crate::member::mailbox::Mailbox;
 use crate::set::VbrSet;
+use vbr_words::Nodes;
 
 /// A set, with a mailbox for each of its passes to come back to, in the order of their numbers.
 ///
@@ -10,10 +11,10 @@ use crate::set::VbrSet;
 /// time.
 #[derive(Drop)]
 #[repr(C)]
-pub struct Common {
+pub struct Common<N: Nodes> {
     pub(crate) before: [u64; 16],
-    pub(crate) set: VbrSet,
-    pub(crate) mailboxes: Vec<Mailbox>,
+    pub(crate) set: VbrSet<N>,
+    pub(crate) mailboxes: Vec<Mailbox<N>>,
     pub(crate) after: [u64; 16],
     ghost of_set: { All (λ mailbox. mailbox.table.shared.key ≡ set) mailboxes.items },
 }

@@ -6,6 +6,7 @@ use crate::set::VbrSet;
 use atomic_table::{Play, Seat, Table, TableRule};
 use std::alloc::{AllocError, Global};
 use vbr_slots::Pass;
+use vbr_words::Nodes;
 
 /// What the one seat of a mailbox knows: None at first, then that the slot is out with it, and then
 /// which pass lies in the slot. No value of it is made.
@@ -14,7 +15,7 @@ pub type SeatKnows = Option<Option<Pass>>;
 /// The rule of a mailbox, whose word is 1 once a pass was laid into it.
 pub struct HoldsOne;
 
-impl TableRule<Option<Pass>, SeatKnows, VbrSet> for HoldsOne {
+impl<N: Nodes> TableRule<Option<Pass>, SeatKnows, VbrSet<N>> for HoldsOne {
     ghost use Rattle.std.specs.Prelude.{None};
     ghost use Rattle.vbr_set.specs.Mailboxes.{IsMailbox};
 
@@ -45,17 +46,17 @@ impl Play<Option<Pass>, SeatKnows> for Lays {
 
 /// A mailbox for one pass of a set.
 #[derive(Drop)]
-pub struct Mailbox {
-    pub(crate) table: Table<Option<Pass>, SeatKnows, VbrSet, HoldsOne, Global>,
+pub struct Mailbox<N: Nodes> {
+    pub(crate) table: Table<Option<Pass>, SeatKnows, VbrSet<N>, HoldsOne, Global>,
     ghost sized: { (table.shared.table_id.words ≡ 1) × (table.shared.table_id.slots ≡ 1) },
 }
 
-impl Mailbox {
+impl<N: Nodes> Mailbox<N> {
     /// An empty mailbox, and the right to lay a pass into it.
     pub(crate) fn new(
         alloc: Global,
-        set: &VbrSet,
-    ) -> Result<(Mailbox, Seat<Option<Pass>, SeatKnows>), AllocError>
+        set: &VbrSet<N>,
+    ) -> Result<(Mailbox<N>, Seat<Option<Pass>, SeatKnows>), AllocError>
         ensures set { IfOk result (λ r. r.0.table.shared.key ≡ set.now) }
         ensures seat { IfOk result (λ r. (r.1.table_id ≡ r.0.table.shared.table_id)
             × (r.1.id ≡ 0) × (r.1.me ≡ (None, []))) }

@@ -3,8 +3,9 @@ ghost use Rattle.std.specs.Prelude.{◌≡◌};
 ghost use Rattle.vbr_set.specs.Meetings.{HasMet};
 
 use crate::member::Member;
+use vbr_words::Nodes;
 
-impl Member {
+impl<N: Nodes> Member<N> {
     /// Lets the member see all that another of its set has seen: [`VbrSet::meet`] by their passes. It is
     /// one step, and can't fail. `a.meet(&mut b)` lets `a` see what `b` has seen.
     ///
@@ -17,7 +18,7 @@ impl Member {
     ///
     /// [`VbrSet::meet`]: crate::VbrSet::meet
     #[inline]
-    pub fn meet(&mut self, other: &mut Member)
+    pub fn meet(&mut self, other: &mut Member<N>)
         requires { other.old.set ≡ self.old.set }
         ensures set { self.new.set ≡ self.old.set }
         ensures same { other.new ≡ other.old }

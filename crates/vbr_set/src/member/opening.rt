@@ -7,16 +7,16 @@ ghost use Rattle.vbr_set.specs.Members.{AreNew, as_member};
 ghost use Rattle.vbr_set.specs.Seats.{AreSeats};
 ghost use Rattle.vbr_set.specs.Sharing.{HasOthers, IsPart, set_shared};
 
-use crate::VbrSet;
 use crate::member::Member;
 use crate::member::common::Common;
 use crate::member::mailbox::{Mailbox, SeatKnows};
 use crate::member::share::Share;
+use crate::set::VbrSet;
 use atomic_table::Seat;
 use std::alloc::{AllocError, Global};
 use std::sync::Arc;
 use vbr_slots::{OpenError, Pass};
-use vbr_words::Shape;
+use vbr_words::{Keys, Nodes, Shape};
 
 impl Member {
     /// Opens an empty set and gives its members, from 1 to 64 of them, in the order of their numbers,
@@ -44,7 +44,7 @@ impl Member {
         ensures refused { IsErrOf result OpenError.Passes ↔ ((passes ≡ 0) ⊎ (64 < passes)) }
     {
         let _slots = shape.slots();
-        Member::open_with(alloc, shape, passes, &[])
+        Member::<Keys>::open_with(alloc, shape, passes, &[])
     }
 
     /// Opens a set that has these keys and gives its members, as [`Member::open`] does for an empty one.
@@ -77,15 +77,17 @@ impl Member {
             AreNew (record shape { values = false; keys = keys.now }) passes members.items) }
         ensures refused { IsErrOf result OpenError.Passes ↔ ((passes ≡ 0) ⊎ (64 < passes)) }
     {
-        let (set, opened) = VbrSet::open_with(alloc, shape, passes, keys)?;
+        let (set, opened) = VbrSet::<Keys>::open_with(alloc, shape, passes, keys)?;
         match hand_out(alloc, set, opened) {
             Ok(members) => Ok(members),
             Err(_) => Err(OpenError::Memory),
         }
     }
+}
 
+impl<N: Nodes> Member<N> {
     // A member with what it has of its set.
-    pub(crate) fn of(share: Share, pass: Pass) -> Member
+    pub(crate) fn of(share: Share<N>, pass: Pass) -> Member<N>
         requires { IsPart share pass }
         ensures { result ≡ as_member (set_shared share) pass }
     {
@@ -99,11 +101,11 @@ impl Member {
 }
 
 // A mailbox for each of so many passes, and a seat of each of them.
-fn make_mailboxes(
+fn make_mailboxes<N: Nodes>(
     alloc: Global,
-    set: &VbrSet,
+    set: &VbrSet<N>,
     count: usize,
-) -> Result<(Vec<Mailbox>, Vec<Seat<Option<Pass>, SeatKnows>>), AllocError>
+) -> Result<(Vec<Mailbox<N>>, Vec<Seat<Option<Pass>, SeatKnows>>), AllocError>
     ensures mailboxes { IfOk result
         (λ r. All (λ mailbox. mailbox.table.shared.key ≡ set.now) r.0.items) }
     ensures seats { IfOk result (λ r. AreSeats r.0.items 0 r.1.items) }
@@ -120,7 +122,11 @@ fn make_mailboxes(
 }
 
 // Makes a member with each of the passes of a set. One that is alone has the set.
-fn hand_out(alloc: Global, set: VbrSet, mut passes: Vec<Pass>) -> Result<Vec<Member>, AllocError>
+pub(crate) fn hand_out<N: Nodes>(
+    alloc: Global,
+    set: VbrSet<N>,
+    mut passes: Vec<Pass>,
+) -> Result<Vec<Member<N>>, AllocError>
     requires new { passes.items ≡ new_passes set 0 (length passes.items) }
     requires all { set.passes ≡ length passes.items }
     ensures { IfOk result (λ members.
@@ -137,7 +143,11 @@ fn hand_out(alloc: Global, set: VbrSet, mut passes: Vec<Pass>) -> Result<Vec<Mem
 }
 
 // Makes a member, with a share of the set, with each of its passes.
-fn share_out(alloc: Global, set: VbrSet, passes: Vec<Pass>) -> Result<Vec<Member>, AllocError>
+fn share_out<N: Nodes>(
+    alloc: Global,
+    set: VbrSet<N>,
+    passes: Vec<Pass>,
+) -> Result<Vec<Member<N>>, AllocError>
     requires new { passes.items ≡ new_passes set 0 (length passes.items) }
     requires others { HasOthers set }
     ensures { IfOk result (λ members.

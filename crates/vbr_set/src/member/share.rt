@@ -6,15 +6,16 @@ use atomic_table::Seat;
 use std::alloc::Global;
 use std::sync::Arc;
 use vbr_slots::Pass;
+use vbr_words::Nodes;
 
 /// What a member has of its set.
 #[derive(Drop)]
-pub enum Share {
+pub enum Share<N: Nodes> {
     /// A share of it, with the right to lay its pass into its mailbox.
-    Among(Arc<Common, Global>, Seat<Option<Pass>, SeatKnows>),
+    Among(Arc<Common<N>, Global>, Seat<Option<Pass>, SeatKnows>),
     /// All of it, with the mailboxes of the other passes, after a close that found no memory.
-    Alone(VbrSet, Vec<Mailbox>),
+    Alone(VbrSet<N>, Vec<Mailbox<N>>),
     /// All of it, with the other passes, after a close that found no memory later on; or with none,
     /// where it was opened for one pass.
-    Gathered(VbrSet, Vec<Pass>),
+    Gathered(VbrSet<N>, Vec<Pass>),
 }

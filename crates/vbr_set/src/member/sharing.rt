@@ -4,11 +4,12 @@ ghost use Rattle.vbr_set.specs.Sharing.{set_shared};
 
 use crate::member::share::Share;
 use crate::set::VbrSet;
+use vbr_words::Nodes;
 
-impl Share {
+impl<N: Nodes> Share<N> {
     /// The set.
     #[inline]
-    pub(crate) fn set(&self) -> &VbrSet
+    pub(crate) fn set(&self) -> &VbrSet<N>
         ensures { result.now ≡ set_shared self.now }
     {
         match self {

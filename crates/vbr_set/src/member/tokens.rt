@@ -4,8 +4,9 @@ ghost use Rattle.vbr_set.specs.Tokens.{CatchesUp, IsTokenOf};
 
 use crate::member::Member;
 use vbr_slots::Seen;
+use vbr_words::Nodes;
 
-impl Member {
+impl<N: Nodes> Member<N> {
     /// A token of what the member has seen: [`VbrSet::seen`] by its pass. It is no step, and can't fail.
     /// It has no bytes, and may be sent, kept behind a lock, or dropped; the set can be closed without it.
     ///

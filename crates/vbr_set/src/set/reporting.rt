@@ -36,20 +36,6 @@ impl VbrSet {
         let told = self.look(alloc, passes)?;
         Ok(Report::of(told))
     }
-
-    // As [`VbrSet::report`], by passes that lie in a vector.
-    pub(crate) fn report_by(
-        &self,
-        alloc: Global,
-        passes: &mut Vec<Pass>,
-    ) -> Result<Report, AllocError>
-        requires of_set { AllOf self.now passes.old.items }
-        requires all { self.now.passes ≤ length passes.old.items }
-        ensures same { passes.new.items ≡ passes.old.items }
-        ensures report { IfOk result (Closes self.now passes.old.items) }
-    {
-        self.report(alloc, passes)
-    }
 }
 
 impl<N: Nodes> VbrSet<N> {

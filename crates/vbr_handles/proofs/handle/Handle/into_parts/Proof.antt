@@ -39,7 +39,7 @@ use Rattle.std_heap.specs.contracts.Global as Heap
 use Rattle.std_heap.specs.contracts.GlobalAllocator.TheImpl.{ghosts}
 use Rattle.vbr_handles.proofs.AsBox.{E, FromSeal as From}
 use Rattle.vbr_handles.proofs.Handling.{nothing_word, handle_out}
-use Rattle.vbr_set.specs.contracts.member.Member as Member
+use Rattle.vbr_handles.specs.MemberRow as Member
 use Rattle.vbr_handles.specs.contracts.parts.Parts as Parts
 use Rattle.vbr_handles.specs.contracts.handle.Handle as Handle
 use Rattle.vbr_handles.specs.contracts.handle.Handle.into_parts as F

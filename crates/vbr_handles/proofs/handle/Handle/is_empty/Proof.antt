@@ -34,7 +34,7 @@ use Rattle.std_alloc.proofs.BoxSteps.Form.{D, B, word}
 use Rattle.std_alloc.proofs.BoxSteps.Steps.{box_in}
 use Rattle.std_heap.specs.contracts.Global as Heap
 use Rattle.atomic_table.proofs.Walks.{proved, leaves}
-use Rattle.vbr_set.specs.contracts.member.Member.{the_row as M}
+use Rattle.vbr_handles.specs.MemberRow.{the_row as M}
 use Rattle.vbr_handles.specs.contracts.handle.Handle.{the_row as Row, the_type}
 use Rattle.vbr_handles.proofs.AsBox.{E}
 use Rattle.vbr_handles.proofs.Handling.{handle_out, nothing_word}

@@ -5,7 +5,7 @@ use Rattle.vbr_set.specs.Members.{MemberView, Called}
 use Rattle.vbr_set.proofs.member.Member.has.Goals as goal
 
 pub returns : goal.returns
-returns c =
+returns g c =
     let e = c.has.ensures in
     let i = c.self.inside in
     subst (λ (m : MemberView). Called Has m (member_view record { before = i.before; share = i.share; pass = c.has.new.pass; after = i.after }) c.args.key c.args.budget c.has.result) c.self.view_is

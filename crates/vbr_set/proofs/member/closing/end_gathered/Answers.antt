@@ -5,11 +5,11 @@ use Rattle.vbr_set.specs.Sharing.{AreOthers, ArePassesOf}
 use Rattle.vbr_set.proofs.Ends.{all_of, out_again, with_own}
 use Rattle.vbr_set.proofs.member.closing.end_gathered.Goals as goal
 
-pub report_by-told-requires-clause-of_set : goal.report_by-told-requires-clause-of_set
-report_by-told-requires-clause-of_set c = all_of c.args.set c.insert.new.self.items (with_own c.args.set c.args.passes.items c.insert.new.self.items c.who-who.result c.args.pass (search rules) c.requires.passes c.requires.ready.own)
+pub tell-told-requires-clause-of_set : goal.tell-told-requires-clause-of_set
+tell-told-requires-clause-of_set g c = all_of c.args.set c.insert.new.self.items (with_own c.args.set c.args.passes.items c.insert.new.self.items c.who-who.result c.args.pass (search rules) c.requires.passes c.requires.ready.own)
 
 pub of-last-requires : goal.of-last-requires
-of-last-requires c =
+of-last-requires g c =
     let pass : c.remove-pass.result ≡ c.args.pass = search rules in
     let passes : c.remove-pass.new.self.items ≡ c.args.passes.items = search (rules, out_again) in
     record {
@@ -19,12 +19,12 @@ of-last-requires c =
     }
 
 pub returns-in-Ok-clause-same : goal.returns-in-Ok-clause-same
-returns-in-Ok-clause-same c =
+returns-in-Ok-clause-same g c =
     let pass : c.remove-pass.result ≡ c.args.pass = search rules in
     c.of-last.ensures ∙ ap (as_member c.args.set) pass
 
 pub returns-in-Ok-clause-ended : goal.returns-in-Ok-clause-ended
-returns-in-Ok-clause-ended c = record {
+returns-in-Ok-clause-ended g c = record {
   passes = c.insert.new.self.items;
   all = record {
     of_set = with_own c.args.set c.args.passes.items c.insert.new.self.items c.who-who.result c.args.pass (search rules) c.requires.passes c.requires.ready.own;

@@ -5,7 +5,7 @@ use Rattle.vbr_set.proofs.Ends.{one_more, mailbox_first, mailbox_rest, room_left
 use Rattle.vbr_set.proofs.member.closing.gather.Goals as goal
 
 pub loop-mailbox-preserved : goal.loop-mailbox-preserved
-loop-mailbox-preserved c =
+loop-mailbox-preserved g c =
     let i = c.loop-mailbox.invariant in
     let set = c.args.set.now in
     let all = into_iter_items c.loop-mailbox.mailbox-iterator in

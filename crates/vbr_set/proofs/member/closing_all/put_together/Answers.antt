@@ -3,4 +3,4 @@ use Rattle.vbr_set.proofs.Apart.{none_made}
 use Rattle.vbr_set.proofs.member.closing_all.put_together.Goals as goal
 
 pub returns : goal.returns
-returns c = search (rules, none_made)
+returns g c = search (rules, none_made)

@@ -2,20 +2,19 @@ use Rattle.std.proofs.Common.{◌≤◌, length, sym, subst, rules, arith}
 use Rattle.vbr_slots.specs.Closing.{AllOf}
 use Rattle.vbr_slots.specs.Views.{TableView}
 use Rattle.std.specs.Prelude.{IfOk}
-use Rattle.vbr_set.specs.Closing.{Closes}
 use Rattle.vbr_set.proofs.Apart.{all_of_first, all_parts_of, all_told, as_many_passes}
 use Rattle.vbr_set.proofs.member.closing_all.report_apart.Goals as goal
 
-pub report_by-requires-clause-of_set : goal.report_by-requires-clause-of_set
-report_by-requires-clause-of_set c =
+pub tell-requires-clause-of_set : goal.tell-requires-clause-of_set
+tell-requires-clause-of_set g c =
     let first = c.in-Some.first.now in
     let shares = c.args.shares.now in
     let passes = c.args.passes.now.items in
     let all = all_of_first first shares passes c.requires.parts c.requires.one_set c.requires.enough (search rules) in
     subst (λ (t : TableView). AllOf t passes) (sym c.set.ensures) (all_parts_of _ shares passes c.requires.parts all.0)
 
-pub report_by-requires-clause-all : goal.report_by-requires-clause-all
-report_by-requires-clause-all c =
+pub tell-requires-clause-all : goal.tell-requires-clause-all
+tell-requires-clause-all g c =
     let first = c.in-Some.first.now in
     let shares = c.args.shares.now in
     let passes = c.args.passes.now.items in
@@ -24,9 +23,9 @@ report_by-requires-clause-all c =
     subst (λ (t : TableView). t.passes ≤ length passes) (sym c.set.ensures) (let some = all.1 in omega arith)
 
 pub returns-clause-report : goal.returns-clause-report
-returns-clause-report c =
+returns-clause-report g c =
     let first = c.in-Some.first.now in
     let shares = c.args.shares.now in
     let passes = c.args.passes.now.items in
     let all = all_of_first first shares passes c.requires.parts c.requires.one_set c.requires.enough (search rules) in
-    all_told first shares passes c.requires.parts all c.report_by.result (subst (λ (t : TableView). IfOk c.report_by.result (Closes t passes)) c.set.ensures c.report_by.ensures.report)
+    all_told g.R.ReportOf.closes first shares passes c.requires.parts all c.tell.result (subst (λ (t : TableView). IfOk c.tell.result (g.R.ReportOf.closes t passes)) c.set.ensures c.tell.ensures.report)

@@ -5,7 +5,7 @@ use Rattle.vbr_set.proofs.Apart.{room_after, taken}
 use Rattle.vbr_set.proofs.member.closing_all.take_apart.Goals as goal
 
 pub loop-member-preserved : goal.loop-member-preserved
-loop-member-preserved c =
+loop-member-preserved g c =
     let i = c.loop-member.invariant in
     let all = into_iter_items c.loop-member.member-iterator in
     let rest = into_iter_items c.next.new.self in

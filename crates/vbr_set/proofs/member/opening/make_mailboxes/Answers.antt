@@ -3,7 +3,7 @@ use Rattle.vbr_set.proofs.Seats.{one_more, mailbox_of_set}
 use Rattle.vbr_set.proofs.member.opening.make_mailboxes.Goals as goal
 
 pub loop-preserved : goal.loop-preserved
-loop-preserved c =
+loop-preserved g c =
     let i = c.loop.invariant in
     let made = c.in_ok-mailbox.ensures.seat in
     record {

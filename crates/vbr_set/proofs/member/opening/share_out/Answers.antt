@@ -3,4 +3,4 @@ use Rattle.vbr_set.proofs.Seats.{all_seated}
 use Rattle.vbr_set.proofs.member.opening.share_out.Goals as goal
 
 pub loop-pass-init : goal.loop-pass-init
-loop-pass-init c = record { made = search rules; seated = search (rules, all_seated) }
+loop-pass-init g c = record { made = search rules; seated = search (rules, all_seated) }

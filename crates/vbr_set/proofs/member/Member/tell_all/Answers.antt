@@ -1,9 +1,9 @@
 use Rattle.std.proofs.Common.{length, ap, arith, rules}
 use Rattle.vbr_set.proofs.Apart.{as_many_passes}
-use Rattle.vbr_set.proofs.member.Member.report_all.Goals as goal
+use Rattle.vbr_set.proofs.member.Member.tell_all.Goals as goal
 
 pub put_together-members-requires-clause-members : goal.put_together-members-requires-clause-members
-put_together-members-requires-clause-members c = (
+put_together-members-requires-clause-members g c = (
   search rules,
   (
       let same = ap (λ xs. length xs) c.report_apart-told.ensures.same in

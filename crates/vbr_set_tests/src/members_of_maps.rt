@@ -1,0 +1,146 @@
+//! Members of a map: their calls, meetings and tokens, and how a map is closed by them.
+ghost use Rattle.std.specs.Prelude.{◌≡◌, [], ◌∷◌, IfOk, IfSome};
+
+use std::alloc::Global;
+use std::process::Abort;
+use std::test::Fail;
+use vbr_set::{CloseAllError, MapMember, MapReport, Shape};
+
+// The two members of a map of four slots, which opens with the entry of key 2, whose value is 70.
+fn open_two(alloc: Global) -> Option<(MapMember, MapMember)>
+    ensures { IfSome result (λ r. r.1.set ≡ r.0.set) }
+{
+    let shape = Shape::new(4, 2, 10).ok()?;
+    let mut members = MapMember::open_with(alloc, shape, 2, &[(2, 70)]).ok()?;
+    let second = members.pop()?;
+    let first = members.pop()?;
+    Some((first, second))
+}
+
+// The members of one map in a vector, the second before the first.
+fn both(alloc: Global, one: MapMember, other: MapMember) -> Option<Vec<MapMember>>
+    requires { other.set ≡ one.set }
+    ensures { IfSome result (λ members. members.items ≡ other ∷ one ∷ []) }
+{
+    let mut members = Vec::with_capacity(alloc, 2).ok()?;
+    members.push(other).ok()?;
+    members.push(one).ok()?;
+    Some(members)
+}
+
+// One member stores two entries, and another, which meets it, takes one out and stores it anew.
+fn store_and_take(rt: &impl Abort, one: &mut MapMember, other: &mut MapMember)
+    requires { other.old.set ≡ one.old.set }
+    ensures one { one.new.set ≡ one.old.set }
+    ensures other { other.new.set ≡ other.old.set }
+{
+    assert_eq!(rt; one.insert(9, 71, 100), Ok(true));
+    assert_eq!(rt; one.insert(5, 72, 100), Ok(true));
+    assert_eq!(rt; one.insert(5, 73, 100), Ok(false));
+    other.meet(one);
+    assert_eq!(rt; other.pass().steps(), 1);
+    assert_eq!(rt; other.get(5, 100), Ok(Some(72)));
+    assert_eq!(rt; other.remove(5, 100), Ok(Some(72)));
+    assert_eq!(rt; other.get(5, 100), Ok(None));
+    assert_eq!(rt; other.has(9, 100), Ok(true));
+    assert_eq!(rt; other.insert(5, 74, 100), Ok(true));
+    assert_eq!(rt; one.get(5, 100), Ok(Some(74)));
+    assert_eq!(rt; one.get(2, 100), Ok(Some(70)));
+}
+
+// Whether a report is that of these entries.
+fn expect_entries(rt: &impl Abort, report: &MapReport) {
+    let entries = [(2, 70), (5, 74), (9, 71)];
+    assert_eq!(rt; report.entries.as_slice(), entries.as_slice());
+    assert_eq!(rt; report.live, 3);
+}
+
+/// The last member that is closed is told the entries, ascending by key.
+#[test]
+fn members_of_a_map_close_in_turn(rt: HostRuntime) -> Result<(), Fail> {
+    let Some((mut one, mut other)) = open_two(rt.alloc()) else {
+        panic!(rt; "no memory")
+    };
+    store_and_take(&rt, &mut one, &mut other);
+    assert!(rt; one.close(rt.alloc())?.is_none());
+    let Some((report, last)) = other.report_last(rt.alloc())? else {
+        panic!(rt; "not the last member")
+    };
+    expect_entries(&rt, &report);
+    let Some(report) = last.close(rt.alloc())? else {
+        panic!(rt; "not the last member")
+    };
+    expect_entries(&rt, &report);
+    Ok(())
+}
+
+// Tells what is in a map by both its members, and then closes it by them.
+fn tell_and_close(
+    alloc: Global,
+    one: MapMember,
+    other: MapMember,
+) -> Result<(MapReport, MapReport), CloseAllError<MapMember>>
+    requires { other.set ≡ one.set }
+{
+    let Some(members) = both(alloc, one, other) else {
+        return Err(CloseAllError::Memory(Vec::new(alloc)));
+    };
+    let (told, members) = MapMember::report_all(alloc, members)?;
+    let report = MapMember::close_all(alloc, members)?;
+    Ok((told, report))
+}
+
+/// All members are told the entries that the calls of all of them leave.
+#[test]
+fn all_members_of_a_map_are_closed(rt: HostRuntime) -> Result<(), Fail> {
+    let Some((mut one, mut other)) = open_two(rt.alloc()) else {
+        panic!(rt; "no memory")
+    };
+    store_and_take(&rt, &mut one, &mut other);
+    let Ok((told, report)) = tell_and_close(rt.alloc(), one, other) else {
+        panic!(rt; "not closed")
+    };
+    expect_entries(&rt, &told);
+    expect_entries(&rt, &report);
+    Ok(())
+}
+
+/// One of two members closes no map, and comes back.
+#[test]
+fn a_map_lacks_a_member(rt: HostRuntime) -> Result<(), Fail> {
+    let Some((one, other)) = open_two(rt.alloc()) else {
+        panic!(rt; "no memory")
+    };
+    drop(one);
+    let mut members = Vec::with_capacity(rt.alloc(), 1)?;
+    members.push(other)?;
+    let Err(CloseAllError::Missing(mut members)) = MapMember::close_all(rt.alloc(), members) else {
+        panic!(rt; "closed without a member")
+    };
+    let Some(last) = members.pop() else {
+        panic!(rt; "no member came back")
+    };
+    let Some(report) = last.close(rt.alloc())? else {
+        panic!(rt; "not the last member")
+    };
+    assert_eq!(rt; report.entries.as_slice(), [(2, 70)].as_slice());
+    Ok(())
+}
+
+/// The only member of a map that opened empty, with the greatest value.
+#[test]
+fn a_lone_member_of_a_map(rt: HostRuntime) -> Result<(), Fail> {
+    let mut members = MapMember::open(rt.alloc(), Shape::new(4, 2, 10)?, 1)?;
+    let Some(mut member) = members.pop() else {
+        panic!(rt; "no member")
+    };
+    assert_eq!(rt; member.get(5, 100), Ok(None));
+    assert_eq!(rt; member.remove(5, 100), Ok(None));
+    assert_eq!(rt; member.insert(5, u64::MAX, 100), Ok(true));
+    assert_eq!(rt; member.get(5, 100), Ok(Some(u64::MAX)));
+    let Some(report) = member.close(rt.alloc())? else {
+        panic!(rt; "not the last member")
+    };
+    assert_eq!(rt; report.entries.as_slice(), [(5, u64::MAX)].as_slice());
+    Ok(())
+}

@@ -1,0 +1,142 @@
+//! Members of a map.
+ghost use Rattle.std.specs.Prelude.{◌≡◌, [], ◌∷◌, IfSome};
+
+use crate::refusals::round::is_right;
+use std::alloc::Global;
+use vbr_set::{CloseAllError, EndError, MapMember, MapReport, OpenError, Shape};
+
+// The two members of a map with one entry, in the order of their numbers, and whether memory was refused.
+fn open_with_one(alloc: Global) -> Option<(MapMember, MapMember, bool)>
+    ensures { IfSome result (λ r. r.1.set ≡ r.0.set) }
+{
+    let shape = Shape::new(4, 2, 10).ok()?;
+    let (mut members, refused) = match MapMember::open_with(alloc, shape, 2, &[(9, 70)]) {
+        Ok(members) => (members, false),
+        Err(OpenError::Memory) => {
+            (
+                MapMember::open_with(alloc, shape, 2, &[(9, 70)]).ok()?,
+                true,
+            )
+        }
+        Err(OpenError::Passes) => return None,
+    };
+    let second = members.pop()?;
+    let first = members.pop()?;
+    Some((first, second, refused))
+}
+
+// The only member of an empty map, and whether memory was refused.
+fn open_alone(alloc: Global) -> Option<(MapMember, bool)> {
+    let shape = Shape::new(4, 2, 10).ok()?;
+    let (mut members, refused) = match MapMember::open(alloc, shape, 1) {
+        Ok(members) => (members, false),
+        Err(OpenError::Memory) => (MapMember::open(alloc, shape, 1).ok()?, true),
+        Err(OpenError::Passes) => return None,
+    };
+    Some((members.pop()?, refused))
+}
+
+// What the last member is told that is closed, and whether memory was refused.
+fn close_last(alloc: Global, member: MapMember) -> Option<(MapReport, bool)> {
+    match member.close(alloc) {
+        Ok(report) => Some((report?, false)),
+        Err(EndError::Memory(member)) => Some((member.close(alloc).ok()??, true)),
+        Err(EndError::Lost) => None,
+    }
+}
+
+// The last member is told what is in its map, comes back, and is closed.
+fn tells_and_closes_alone(alloc: Global) -> Option<bool> {
+    let (mut member, refused) = open_alone(alloc)?;
+    let is_first = member.insert(2, 71, 100) == Ok(true);
+    let (told, mut member, refused_report) = match member.report_last(alloc) {
+        Ok(last) => {
+            let (told, member) = last?;
+            (told, member, false)
+        }
+        Err(EndError::Memory(member)) => {
+            let (told, member) = member.report_last(alloc).ok()??;
+            (told, member, true)
+        }
+        Err(EndError::Lost) => return None,
+    };
+    let is_second = member.insert(1, 72, 100) == Ok(true);
+    let (report, refused_close) = close_last(alloc, member)?;
+    let is_told = told.entries.as_slice() == [(2, 71)].as_slice()
+        && report.entries.as_slice() == [(1, 72), (2, 71)].as_slice();
+    (is_first && is_second && is_told).then_some(refused | refused_report | refused_close)
+}
+
+#[test]
+fn member_of_map_tells_and_closes(rt: HostRuntime) {
+    is_right(&rt, tells_and_closes_alone(rt.alloc()));
+}
+
+// Opens a map with an entry, makes two calls, and closes it by one member after another.
+fn closes_in_turn(alloc: Global) -> Option<bool> {
+    let (mut one, mut other, refused) = open_with_one(alloc)?;
+    let is_answered = one.insert(2, 71, 100) == Ok(true) && other.get(9, 100) == Ok(Some(70));
+    let is_first = matches!(one.close(alloc), Ok(None));
+    let (report, refused_close) = close_last(alloc, other)?;
+    let is_told = report.entries.as_slice() == [(2, 71), (9, 70)].as_slice();
+    (is_answered && is_first && is_told).then_some(refused | refused_close)
+}
+
+#[test]
+fn members_of_map_close_in_turn(rt: HostRuntime) {
+    is_right(&rt, closes_in_turn(rt.alloc()));
+}
+
+// The members of one map in a vector, and whether memory was refused.
+fn both(alloc: Global, one: MapMember, other: MapMember) -> Option<(Vec<MapMember>, bool)>
+    requires { other.set ≡ one.set }
+    ensures { IfSome result (λ r. r.0.items ≡ one ∷ other ∷ []) }
+{
+    let (mut members, refused) = match Vec::with_capacity(alloc, 2) {
+        Ok(members) => (members, false),
+        Err(_) => (Vec::with_capacity(alloc, 2).ok()?, true),
+    };
+    members.push(one).ok()?;
+    members.push(other).ok()?;
+    Some((members, refused))
+}
+
+// Tells what is in a map by both its members, closes it by them, and says whether memory was refused.
+fn tell_and_close(
+    alloc: Global,
+    one: MapMember,
+    other: MapMember,
+) -> Option<(MapReport, MapReport, bool)>
+    requires { other.set ≡ one.set }
+{
+    let (members, refused) = both(alloc, one, other)?;
+    let (told, members, refused_report) = match MapMember::report_all(alloc, members) {
+        Ok((told, members)) => (told, members, false),
+        Err(CloseAllError::Memory(members)) => {
+            let (told, members) = MapMember::report_all(alloc, members).ok()?;
+            (told, members, true)
+        }
+        Err(CloseAllError::Missing(_)) => return None,
+    };
+    let (report, refused_close) = match MapMember::close_all(alloc, members) {
+        Ok(report) => (report, false),
+        Err(CloseAllError::Memory(members)) => (MapMember::close_all(alloc, members).ok()?, true),
+        Err(CloseAllError::Missing(_)) => return None,
+    };
+    Some((told, report, refused | refused_report | refused_close))
+}
+
+// Opens a map with an entry, makes two calls, and tells and closes it by all members at once.
+fn closes_at_once(alloc: Global) -> Option<bool> {
+    let (mut one, mut other, refused) = open_with_one(alloc)?;
+    let is_answered = one.insert(2, 71, 100) == Ok(true) && other.remove(9, 100) == Ok(Some(70));
+    let (told, report, refused_close) = tell_and_close(alloc, one, other)?;
+    let is_told = told.entries.as_slice() == [(2, 71)].as_slice()
+        && report.entries.as_slice() == [(2, 71)].as_slice();
+    (is_answered && is_told).then_some(refused | refused_close)
+}
+
+#[test]
+fn members_of_map_close_at_once(rt: HostRuntime) {
+    is_right(&rt, closes_at_once(rt.alloc()));
+}
