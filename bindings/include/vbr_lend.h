@@ -38,7 +38,7 @@ typedef struct vbr_lender {
 
        vbr_lender lender = {0};
        vbr_lender_init(&lender, handle, 2); */
-static inline void vbr_lender_init(vbr_lender *lender, vbr_handle *handles, size_t count) VBR_NOEXCEPT {
+VBR_NONNULL static inline void vbr_lender_init(vbr_lender *lender, vbr_handle *handles, size_t count) VBR_NOEXCEPT {
     lender->handles = handles;
     __atomic_store_n(&lender->free, count >= VBR_MAX_HANDLES ? UINT64_MAX : (UINT64_C(1) << count) - 1, __ATOMIC_RELEASE);
 }
@@ -48,7 +48,7 @@ static inline void vbr_lender_init(vbr_lender *lender, vbr_handle *handles, size
    threads share, so keep a loan for as many calls as can be.
 
        vbr_handle *mine = vbr_lend(&lender); // NULL: both are lent */
-VBR_NODISCARD static inline vbr_handle *vbr_lend(vbr_lender *lender) VBR_NOEXCEPT {
+VBR_NODISCARD VBR_NONNULL static inline vbr_handle *vbr_lend(vbr_lender *lender) VBR_NOEXCEPT {
     uint64_t untried = UINT64_MAX, free = __atomic_load_n(&lender->free, __ATOMIC_RELAXED);
     while (free & untried) {
         int lowest = __builtin_ctzll(free & untried);
@@ -67,7 +67,7 @@ VBR_NODISCARD static inline vbr_handle *vbr_lend(vbr_lender *lender) VBR_NOEXCEP
 /* Gives back a handle that was lent by this lender, and isn't in a call.
 
        vbr_give_back(&lender, mine); // and mine isn't used any more */
-static inline void vbr_give_back(vbr_lender *lender, vbr_handle *handle) VBR_NOEXCEPT {
+VBR_NONNULL static inline void vbr_give_back(vbr_lender *lender, vbr_handle *handle) VBR_NOEXCEPT {
     __atomic_fetch_or(&lender->free, UINT64_C(1) << (handle - lender->handles), __ATOMIC_RELEASE);
 }
 
