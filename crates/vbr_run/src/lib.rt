@@ -31,6 +31,7 @@ pub use vbr_player as player;
 pub use vbr_player::{Gate, NoGate, Reply, RunError, Totals, play};
 pub use vbr_script as script;
 pub use vbr_script::{
-    Line, MAX_OPERATIONS, MAX_SYNCS, Meaning, Script, ScriptError, ScriptFault, parse_script,
+    Kind, Line, MAX_OPERATIONS, MAX_SYNCS, Meaning, Script, ScriptError, ScriptFault,
+    parse_map_script, parse_script,
 };
 pub use vbr_settings::{Config, ConfigError, MAX_WORKERS, config};

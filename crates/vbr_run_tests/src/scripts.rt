@@ -2,7 +2,7 @@
 use std::alloc::{AllocError, Global};
 use std::test::Fail;
 use vbr_machine::Op;
-use vbr_run::{Line, Script, ScriptError, ScriptFault, parse_script};
+use vbr_run::{Line, Script, ScriptError, ScriptFault, parse_map_script, parse_script};
 
 // Reads a script. The tests compare what comes of it when they run, and need no contract for that.
 fn parsed(alloc: Global, text: &[u8], workers: u32) -> Result<Script, ScriptError> {
@@ -163,5 +163,58 @@ fn tells_tokens_before_too_many(rt: HostRuntime) -> Result<(), Fail> {
     let mut text = lines_of(rt.alloc(), b"sync\n", 10_000)?;
     text.extend_from_slice(b"sync 0")?;
     assert_eq!(rt; fault_of(rt.alloc(), &text, 1), Some((10_001, 1)));
+    Ok(())
+}
+
+/// What is wrong with a text of a map, as the line's number and the fault's.
+fn map_fault_of(alloc: Global, text: &[u8]) -> Option<(u64, u8)> {
+    match parse_map_script(alloc, text, 1) {
+        Err(ScriptError::Fault { line, kind }) => Some((line, kind.number())),
+        _ => None,
+    }
+}
+
+#[test]
+fn reads_values_in_a_map(rt: HostRuntime) -> Result<(), Fail> {
+    let script = parse_map_script(rt.alloc(), b"0 insert 5 70\n0 insert 5\n1 get 5", 2)?;
+    let asked = [
+        (0, Op::Insert, 5, 70),
+        (0, Op::Insert, 5, 0),
+        (1, Op::Get, 5, 0),
+    ];
+    assert_eq!(rt; script.lines.len(), asked.len());
+    for (line, (worker, op, key, value)) in script.lines.iter().zip(&asked) {
+        assert_eq!(rt; line.worker, *worker);
+        assert_eq!(rt; line.op, *op);
+        assert_eq!(rt; line.key, *key);
+        assert_eq!(rt; line.value, *value);
+    }
+    Ok(())
+}
+
+#[test]
+fn tells_the_first_test_that_fails_in_a_map(rt: HostRuntime) {
+    let rows = [
+        (b"0 get".as_slice(), 1),
+        (b"0 insert 5 6 7".as_slice(), 1),
+        (b"9 get 5 6".as_slice(), 2),
+        (b"0 get 5 6".as_slice(), 3),
+        (b"0 remove x y".as_slice(), 3),
+        (b"0 insert x y".as_slice(), 4),
+        (b"0 insert 5 x".as_slice(), 6),
+        (b"0 insert 5 18446744073709551616".as_slice(), 6),
+    ];
+    for (text, fault) in &rows {
+        assert_eq!(rt; map_fault_of(rt.alloc(), text), Some((1, *fault)));
+    }
+    assert_eq!(rt; map_fault_of(rt.alloc(), b"0 insert 5 6"), None);
+    assert_eq!(rt; fault_of(rt.alloc(), b"0 get 5", 1), Some((1, 3)));
+}
+
+#[test]
+fn tells_a_value_before_too_many(rt: HostRuntime) -> Result<(), Fail> {
+    let mut text = lines_of(rt.alloc(), b"0 has 5\n", 1_000_000)?;
+    text.extend_from_slice(b"0 insert 5 x")?;
+    assert_eq!(rt; map_fault_of(rt.alloc(), &text), Some((1_000_001, 6)));
     Ok(())
 }
