@@ -5,19 +5,14 @@ use crate::refusals::round::is_right;
 use std::alloc::Global;
 use vbr_set::{CloseAllError, EndError, MapMember, MapReport, OpenError, Shape};
 
-// The two members of a map with one entry, in the order of their numbers, and whether memory was refused.
-fn open_with_one(alloc: Global) -> Option<(MapMember, MapMember, bool)>
+// The two members of an empty map, in the order of their numbers, and whether memory was refused.
+fn open_two(alloc: Global) -> Option<(MapMember, MapMember, bool)>
     ensures { IfSome result (λ r. r.1.set ≡ r.0.set) }
 {
     let shape = Shape::new(4, 2, 10).ok()?;
-    let (mut members, refused) = match MapMember::open_with(alloc, shape, 2, &[(9, 70)]) {
+    let (mut members, refused) = match MapMember::open(alloc, shape, 2) {
         Ok(members) => (members, false),
-        Err(OpenError::Memory) => {
-            (
-                MapMember::open_with(alloc, shape, 2, &[(9, 70)]).ok()?,
-                true,
-            )
-        }
+        Err(OpenError::Memory) => (MapMember::open(alloc, shape, 2).ok()?, true),
         Err(OpenError::Passes) => return None,
     };
     let second = members.pop()?;
@@ -72,10 +67,10 @@ fn member_of_map_tells_and_closes(rt: HostRuntime) {
     is_right(&rt, tells_and_closes_alone(rt.alloc()));
 }
 
-// Opens a map with an entry, makes two calls, and closes it by one member after another.
+// Opens a map, makes two calls, and closes it by one member after another.
 fn closes_in_turn(alloc: Global) -> Option<bool> {
-    let (mut one, mut other, refused) = open_with_one(alloc)?;
-    let is_answered = one.insert(2, 71, 100) == Ok(true) && other.get(9, 100) == Ok(Some(70));
+    let (mut one, mut other, refused) = open_two(alloc)?;
+    let is_answered = one.insert(2, 71, 100) == Ok(true) && other.insert(9, 70, 100) == Ok(true);
     let is_first = matches!(one.close(alloc), Ok(None));
     let (report, refused_close) = close_last(alloc, other)?;
     let is_told = report.entries.as_slice() == [(2, 71), (9, 70)].as_slice();
@@ -126,10 +121,12 @@ fn tell_and_close(
     Some((told, report, refused | refused_report | refused_close))
 }
 
-// Opens a map with an entry, makes two calls, and tells and closes it by all members at once.
+// Opens a map, makes three calls, and tells and closes it by all members at once.
 fn closes_at_once(alloc: Global) -> Option<bool> {
-    let (mut one, mut other, refused) = open_with_one(alloc)?;
-    let is_answered = one.insert(2, 71, 100) == Ok(true) && other.remove(9, 100) == Ok(Some(70));
+    let (mut one, mut other, refused) = open_two(alloc)?;
+    let is_answered = one.insert(2, 71, 100) == Ok(true)
+        && one.insert(9, 70, 100) == Ok(true)
+        && other.remove(9, 100) == Ok(Some(70));
     let (told, report, refused_close) = tell_and_close(alloc, one, other)?;
     let is_told = told.entries.as_slice() == [(2, 71)].as_slice()
         && report.entries.as_slice() == [(2, 71)].as_slice();
@@ -139,4 +136,26 @@ fn closes_at_once(alloc: Global) -> Option<bool> {
 #[test]
 fn members_of_map_close_at_once(rt: HostRuntime) {
     is_right(&rt, closes_at_once(rt.alloc()));
+}
+
+// Opens a map with two entries, and asks for them.
+fn opens_with_two(alloc: Global) -> Option<bool> {
+    let shape = Shape::new(4, 2, 10).ok()?;
+    let (mut members, refused) = match MapMember::open_with(alloc, shape, 2, &[(2, 71), (9, 70)]) {
+        Ok(members) => (members, false),
+        Err(OpenError::Memory) => {
+            let members = MapMember::open_with(alloc, shape, 2, &[(2, 71), (9, 70)]).ok()?;
+            (members, true)
+        }
+        Err(OpenError::Passes) => return None,
+    };
+    let mut member = members.pop()?;
+    let is_there = member.get(2, 100) == Ok(Some(71)) && member.get(9, 100) == Ok(Some(70));
+    is_there.then_some(refused)
+}
+
+// The keys and the values are collected from iterators, each of which gets around one refusal.
+#[test]
+fn members_of_map_open_with_keys(rt: HostRuntime) {
+    is_right(&rt, opens_with_two(rt.alloc()));
 }
