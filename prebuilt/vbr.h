@@ -1,0 +1,310 @@
+/* A hash set of 64-bit keys that threads share, in fixed memory and without a lock.
+
+   A set of up to 1,024 keys for two threads:
+
+       vbr_handle handle[2] = {{0}};
+       vbr_totals report = {0};
+       uint64_t keys[8] = {0};
+       if (vbr_open(handle, 2,                // two handles
+                    1024 + 2 * 64,            // slots: the most keys, and 64 for each handle
+                    1024,                     // buckets: as many as keys
+                    VBR_MAX_EPOCH) != VBR_NO) // the last epoch
+           return 1;
+       vbr_answer added = vbr_insert(&handle[0], 5, 100000);       // VBR_YES: 5 was absent
+       vbr_answer there = vbr_has(&handle[1], 5, 100000);          // VBR_YES, from another thread too
+       vbr_answer first = vbr_close(&handle[0], keys, 8, &report); // VBR_NO: the other handle is open
+       vbr_answer last = vbr_close(&handle[1], keys, 8, &report);  // VBR_YES: report.live is 1, keys[0] is 5
+
+   Compare what a call answers with VBR_YES: a refusal is no 0, and so is true where a program asks `if (vbr_has(..))`.
+
+   Link with -lvbr (`pkg-config --cflags --libs vbr`). The library needs nothing but malloc, realloc and
+   free, each block aligned to 16 bytes as these align it, what copies and fills memory, and madvise, by which it offers
+   large blocks to the kernel for large pages. It is built for processors of x86-64-v2 and later, under Linux.
+
+   Who owns what. A set is opened with 1 to 64 handles, and each handle owns one pass of the set, the
+   right to make calls, and a share of the set. A handle is all zero while it is empty: write {0}, or {} in
+   C++, before it is opened. A full one belongs to the library: it may be moved (copied, and the old place set to
+   zero, or never used again), and is never copied, compared, read or written otherwise. A full handle
+   is closed by vbr_close or vbr_close_all, or given up by vbr_drop; memory is freed with the last handle
+   of a set. A full handle that is forgotten keeps its set open: no other one is then the last.
+
+   Pointers. None that a call is given is null, even where the number beside it is 0: then any aligned
+   address does. Only the handle of vbr_close and vbr_drop may be: a null one is taken for an empty one.
+   Each is aligned for its type, and names as many values as that number says, or one. All of these are
+   initialised before the call, those too that it only writes, as {0} does it: what vbr_close does not
+   write it leaves as it was. They belong to the call while it runs, and to the caller
+   afterwards: no two pointers of a call name the same bytes, and no other call or thread has these
+   meanwhile. The keys of vbr_open_with are only read, so others may read them meanwhile.
+
+   Which calls may run at the same time. Handles of one set may be in calls at the same time, in any
+   threads; that is what they are for. One handle is in one call at a time. A handle that goes to another
+   thread is handed over by what orders the two threads' calls: a lock, the start or the join of the thread, or a
+   release and an acquire. The library relies on that order alone, and keeps nothing for each thread.
+
+   Threads that end. A handle is no thread's: one that is open when its thread ends, or is cancelled between two calls,
+   stays as it is, and whoever joined the thread goes on with it or closes it; its set isn't closed without it. No call
+   is a point of cancellation. A thread that is cancelled at once (PTHREAD_CANCEL_ASYNCHRONOUS), or that leaves a
+   signal handler by longjmp, may do so in the middle of a call: its handle is then not used again. A signal handler may
+   make calls of vbr_insert, vbr_remove and vbr_has with a handle that nothing else uses, and none of the other
+   functions, since these take memory. After a fork the child has copies of the sets: where the process had one thread
+   it may go on with them, and the parent doesn't see it; where it had several, the child uses no handle.
+
+   Order. Where a call returns before another one begins, by a mutex, a channel, a join, or a release and
+   an acquire of your program, it stands before that one in the history whose answers the later caller
+   gets: once you are told that a key was inserted, and nobody removes it, vbr_has answers VBR_YES. Calls
+   that your program does not order have some order, in one history of the set. A relaxed flag orders none.
+   What a thread wrote before it inserted a key can be read by a thread that then finds the key (vbr_has or vbr_remove
+   answers VBR_YES, vbr_insert VBR_NO), and what it did before it removed one is done for a thread that then inserts it:
+   each step is a sequentially consistent atomic. ThreadSanitizer is told so by vbr_tsan.h, which this header includes
+   where the program is compiled for it.
+
+   How many keys are in the set is told by no call while threads run. Count the inserts and removes that are answered
+   VBR_YES, in a counter for each thread, or read the report of a close.
+
+   Budgets. A call makes at most `budget` steps, each one atomic operation on a word that the
+   threads share, and never waits for another thread. A look-up makes loads alone, so it writes nothing
+   that another thread can see. While the other handles make no step, wherever they stand still, a call
+   does not run out of steps with a budget of 5n + 11 for has, 9n + 11 for remove, and 18n + slots + 82
+   for insert, where n nodes are in the bucket of the key as it begins, removed ones that are still in a
+   list among them. What other threads do at the same time can cost more: 100,000 is plenty for short
+   buckets, with up to six million slots; with more, take slots / 64 besides, as VBR_AMPLE_BUDGET(slots) does. A call
+   that runs out of steps made no call: give it up, or make it again, with twice the budget if that may have been too
+   small. The same budget is enough later only if it was the other threads that cost the steps.
+
+   Memory and sizes. The words of a set take 8 * (2 + buckets + 4 * slots + slots / 64) bytes, the last part rounded
+   up, in one block, and each handle about 1,200 bytes besides; opening and closing take as much as the words again
+   while they run, and the last close 9 bytes more for each slot. Open with a slot for each key that is in the set at
+   one time, and 64 for each handle (see Slots). Open with as many buckets as keys, a power of two: a bucket then has
+   about one node, and takes 8 bytes. Give keys that are there at the start to vbr_open_with, which lays them all in one go;
+   by inserts a million took three times as long. Keys are spread over the buckets by a multiplication, so keys with a pattern (in
+   sequence, multiples of a page, pointers) do no harm; keys that somebody chooses to fall into one bucket do, and
+   each call then passes them all. Only inserts advance the epoch, and once the last one is spent inserts of absent
+   keys may be refused: the greatest lasts fifteen hours at ten million inserts a second that advance it, as one in
+   sixteen does of a cache that takes sixteen keys out at a time. Before it is spent a set is renewed: close all its
+   handles, and open one with the keys of the report by vbr_open_with, at epoch 1. The numbers are 1 to VBR_MAX_SLOTS
+   slots, 1 to VBR_MAX_BUCKETS buckets, and 1 to VBR_MAX_EPOCH as the last epoch; the most slots and buckets take 673
+   million bytes.
+
+   Slots. Each slot is in one place: in the pool that all handles share, with one handle, under a key, or in a
+   removed node that is still in its list. A handle keeps slots to itself, at most 64 between two calls. A remove
+   that is answered VBR_YES has taken its node out of its list, unless its budget ended first; that of
+   VBR_AMPLE_BUDGET doesn't end in short buckets. What a small one leaves in a list comes back with the next insert
+   or remove that passes it, in the same bucket, or with a renewal. VBR_NO_SLOT says that the handle had no slot of
+   its own and found none in the shared pool; other handles may keep free ones. Where no other handle makes a step
+   during an insert, and each stands between two calls, it comes only if the keys, the removed nodes that are still
+   in lists, and 64 for each other handle are no fewer than the slots. Of an insert that calls of others overlap that
+   isn't proved. At VBR_NO_SLOT remove keys, let a handle that has free slots make the insert, or make it again; a
+   greater budget alone doesn't help. */
+#ifndef VBR_H
+#define VBR_H
+
+#include <stddef.h>
+#include <stdint.h>
+
+#ifdef __cplusplus
+extern "C" {
+#endif
+
+/* The version of this header, and the same as one number. vbr_version tells that of the library.
+
+       if (VBR_VERSION < 2000) return 1; // the header is older than 0.2.0 */
+#define VBR_VERSION_MAJOR 0
+#define VBR_VERSION_MINOR 2
+#define VBR_VERSION_PATCH 0
+#define VBR_VERSION (VBR_VERSION_MAJOR * 1000000u + VBR_VERSION_MINOR * 1000u + VBR_VERSION_PATCH)
+
+/* VBR_NODISCARD: an answer that is thrown away may be a refusal. VBR_NOEXCEPT: no call throws or unwinds. VBR_NONNULL: no
+   pointer is null. VBR_NONNULL_REST: none is but the first. */
+#if (defined(__cplusplus) && __cplusplus >= 201703L) || (defined(__STDC_VERSION__) && __STDC_VERSION__ > 201710L)
+#define VBR_NODISCARD [[nodiscard]]
+#elif defined(__GNUC__)
+#define VBR_NODISCARD __attribute__((warn_unused_result))
+#else
+#define VBR_NODISCARD
+#endif
+#ifdef __cplusplus
+#define VBR_NOEXCEPT noexcept
+#else
+#define VBR_NOEXCEPT
+#endif
+#ifdef __GNUC__
+#define VBR_NONNULL __attribute__((nonnull))
+#define VBR_NONNULL_REST __attribute__((nonnull(2, 4)))
+#else
+#define VBR_NONNULL
+#define VBR_NONNULL_REST
+#endif
+
+/* The most slots, buckets and handles of a set, and the greatest last epoch.
+
+       uint32_t slots = 1024 + 64 * VBR_MAX_HANDLES, buckets = 1024;
+       if (slots > VBR_MAX_SLOTS || buckets > VBR_MAX_BUCKETS) return 1; // else vbr_open answers VBR_BAD_SHAPE
+       vbr_handle most[VBR_MAX_HANDLES] = {{0}};
+       if (vbr_open(most, VBR_MAX_HANDLES, slots, buckets, VBR_MAX_EPOCH) != VBR_NO) return 1; */
+#define VBR_MAX_SLOTS 16777215u
+#define VBR_MAX_BUCKETS 16777216u
+#define VBR_MAX_EPOCH 549755813887ull
+#define VBR_MAX_HANDLES 64u
+
+/* A budget that no call runs out of in short buckets, in a set of so many slots.
+
+       uint32_t budget = VBR_AMPLE_BUDGET(vbr_slots(&handle[0])); */
+#define VBR_AMPLE_BUDGET(slots) (100000u + (slots) / 64u)
+
+/* What a call answers. Numbers below 0 are refusals.
+
+       vbr_answer told = vbr_insert(&handle[0], 5, 1); // one step is too few
+       while (told == VBR_OUT_OF_STEPS && budget < 1u << 30) told = vbr_insert(&handle[0], 5, budget *= 2);
+       if (told < 0) return 1; // it was refused, and no call was made */
+#ifdef __cplusplus
+typedef enum vbr_answer : int32_t {
+#else
+typedef enum vbr_answer {
+#endif
+    VBR_NO = 0,            /* the answer is no; of vbr_open: done; of vbr_close: others are open */
+    VBR_YES = 1,           /* the answer is yes; of vbr_close: it was the last, the set is closed */
+    VBR_OUT_OF_STEPS = -1, /* insert, remove, has: the budget is spent; no call was made; a greater budget may help */
+    VBR_NO_SLOT = -2,      /* insert: the key is absent, and the handle found no slot; no call was made */
+    VBR_EPOCH_SPENT = -3,  /* insert: the key is absent and the last epoch is spent; no call was made; renew the set */
+    VBR_EMPTY = -4,        /* the handle is empty, or null where it may be; nothing was done */
+    VBR_IN_USE = -5,       /* open: one of the handles is not empty; nothing was done */
+    VBR_BAD_SHAPE = -6,    /* open: slots, buckets or last_epoch is out of range; nothing was done */
+    VBR_BAD_COUNT = -7,    /* open: count is not from 1 to 64; nothing was done */
+    VBR_NO_MEMORY = -8,    /* open: nothing was done; close: it is the last and stays as it was */
+    VBR_LOST = -9,         /* close: it was the last, and a pass is not there; the set is gone. A handle
+                              that is dropped gives its pass back, and one that is forgotten keeps its
+                              set open (VBR_NO), so no program is known to get this */
+    VBR_BAD_KEYS = -10,    /* open_with: the keys do not ascend, or there are more than slots; nothing
+                              was done */
+    VBR_NO_ROOM = -11,     /* close: it is the last and stays as it was; the report tells how many keys */
+    VBR_MISSING = -12,     /* close_all: fewer handles than were opened, or none; they are as they were */
+    VBR_MIXED = -13        /* close_all: handles of different sets; they are as they were */
+} vbr_answer;
+
+/* A handle to a set, or {0}.
+
+       vbr_handle handle[2] = {{0}}; */
+typedef struct vbr_handle {
+    void *owned;
+} vbr_handle;
+
+/* What a closed set held.
+
+       vbr_totals report = {0}; */
+typedef struct vbr_totals {
+    uint64_t epoch;  /* the epoch */
+    uint32_t live;   /* how many keys were in the set */
+    uint32_t marked; /* how many removed nodes were still in a list */
+    uint32_t free;   /* how many slots had no node in a list */
+} vbr_totals;
+
+/* Opens an empty set and fills `count` handles, which are empty, so each is {0}: VBR_NO. Else VBR_IN_USE,
+   VBR_BAD_SHAPE, VBR_BAD_COUNT or VBR_NO_MEMORY, tested in this order, and the handles are as they
+   were.
+
+       vbr_handle handle[2] = {{0}};
+       if (vbr_open(handle, 2, 1024 + 2 * 64, 1024, VBR_MAX_EPOCH) != VBR_NO) return 1; */
+VBR_NODISCARD vbr_answer vbr_open(vbr_handle *handles, size_t count, uint32_t slots, uint32_t buckets,
+                                  uint64_t last_epoch) VBR_NOEXCEPT VBR_NONNULL;
+
+/* Opens a set of `key_count` keys, which ascend, each above the one before, and fills the handles as
+   vbr_open does: VBR_NO. Else VBR_IN_USE, VBR_BAD_SHAPE, VBR_BAD_COUNT, VBR_BAD_KEYS or VBR_NO_MEMORY,
+   tested in this order, and the handles are as they were. The epoch is 1. It takes the memory of
+   vbr_open, and 8 bytes for each key while it runs, and goes once over the keys.
+
+       static const uint64_t some[3] = {2, 5, 9};
+       if (vbr_open_with(handle, 2, 1024 + 2 * 64, 1024, VBR_MAX_EPOCH, some, 3) != VBR_NO) return 1; */
+VBR_NODISCARD vbr_answer vbr_open_with(vbr_handle *handles, size_t count, uint32_t slots, uint32_t buckets,
+                                       uint64_t last_epoch, const uint64_t *keys, size_t key_count) VBR_NOEXCEPT VBR_NONNULL;
+
+/* Adds a key, in at most `budget` steps: VBR_YES if it was absent, VBR_NO if it was there. Else VBR_OUT_OF_STEPS,
+   VBR_NO_SLOT, VBR_EPOCH_SPENT or VBR_EMPTY. At VBR_NO_SLOT remove keys, let a handle that has free slots make the
+   insert, or make it again. It takes no memory and never waits.
+
+       if (vbr_insert(&handle[0], 5, 100000) == VBR_YES) added++; // this call added 5 */
+VBR_NODISCARD vbr_answer vbr_insert(vbr_handle *handle, uint64_t key, uint32_t budget) VBR_NOEXCEPT VBR_NONNULL;
+
+/* Takes a key out, in at most `budget` steps: VBR_YES if it was there, VBR_NO if it was absent. Else VBR_OUT_OF_STEPS
+   or VBR_EMPTY. Where it answers VBR_YES the node of the key has left its list, unless the budget ended first; then the
+   next insert or remove that passes the node takes it out. It takes no memory and never waits.
+
+       if (vbr_remove(&handle[1], 5, 100000) == VBR_YES) taken++; // this call took 5 out */
+VBR_NODISCARD vbr_answer vbr_remove(vbr_handle *handle, uint64_t key, uint32_t budget) VBR_NOEXCEPT VBR_NONNULL;
+
+/* Looks a key up, in at most `budget` steps, all of them loads: VBR_YES if it is there, VBR_NO if it is absent. Else
+   VBR_OUT_OF_STEPS or VBR_EMPTY. It takes no memory and never waits.
+
+       if (vbr_has(&handle[1], 5, 100000) == VBR_YES) there++; // 5 was there during the call */
+VBR_NODISCARD vbr_answer vbr_has(vbr_handle *handle, uint64_t key, uint32_t budget) VBR_NOEXCEPT VBR_NONNULL;
+
+/* The last epoch that the handle read in a call: 1 before its first, and 0 for an empty handle. It makes no step, so others
+   may have advanced the epoch since. Renew the set before it comes to vbr_last_epoch.
+
+       int is_near = vbr_epoch(&handle[0]) + 1000 >= vbr_last_epoch(&handle[0]); // then renew the set */
+VBR_NODISCARD uint64_t vbr_epoch(vbr_handle *handle) VBR_NOEXCEPT VBR_NONNULL;
+
+/* The last epoch that the set was opened with, and 0 for an empty handle.
+
+       uint64_t left = vbr_last_epoch(&handle[0]) - vbr_epoch(&handle[0]); */
+VBR_NODISCARD uint64_t vbr_last_epoch(vbr_handle *handle) VBR_NOEXCEPT VBR_NONNULL;
+
+/* How many slots the set was opened with, and 0 for an empty handle.
+
+       uint32_t budget = VBR_AMPLE_BUDGET(vbr_slots(&handle[0])); */
+VBR_NODISCARD uint32_t vbr_slots(vbr_handle *handle) VBR_NOEXCEPT VBR_NONNULL;
+
+/* How many buckets the set was opened with, and 0 for an empty handle.
+
+       int is_crowded = 3 > 2 * vbr_buckets(&handle[0]); // three keys, and more than two for each bucket */
+VBR_NODISCARD uint32_t vbr_buckets(vbr_handle *handle) VBR_NOEXCEPT VBR_NONNULL;
+
+/* The version of the library, which is VBR_VERSION where the header is of the same one. It has no handle, and can't fail.
+
+       if (vbr_version() != VBR_VERSION) return 1; // the library is of another version than the header */
+VBR_NODISCARD uint32_t vbr_version(void) VBR_NOEXCEPT;
+
+/* Gives the pass back and leaves the handle empty: VBR_NO while others of its set are open. The last one
+   ends the set: VBR_YES, with the report and its keys, ascending. Only then is memory needed, which is
+   freed again. Behind the keys of the report the array stays as it was: all `room` keys, and the report,
+   are initialised before.
+   VBR_NO_MEMORY and VBR_NO_ROOM leave the last handle full: close it again, drop it, or go on with it. As
+   many keys as the set has slots always have room; where these have not, VBR_NO_ROOM writes the report and
+   no key, and report->live is how many keys there are. Else nothing is written. VBR_EMPTY: the handle is
+   empty, or null. VBR_LOST: a pass is not there, and the set is gone; no program is known to get it.
+
+       vbr_answer first = vbr_close(&handle[0], keys, 8, &report); // VBR_NO: the other handle is open
+       vbr_answer last = vbr_close(&handle[1], keys, 8, &report);  // VBR_YES: report.live keys are in front of keys */
+VBR_NODISCARD vbr_answer vbr_close(vbr_handle *handle, uint64_t *keys, size_t room,
+                                   vbr_totals *report) VBR_NOEXCEPT VBR_NONNULL_REST;
+
+/* Closes a set by all `count` handles that were opened with it, in any order, and leaves them empty:
+   VBR_YES, with the report and its keys, as vbr_close writes them. No other thread is in a call on one of
+   them. The keys are what all calls on these handles leave. It takes the memory of a close.
+   Else the handles stay as they were: VBR_EMPTY, one is empty; VBR_MIXED, two are of different sets;
+   VBR_MISSING, they are fewer than were opened, or count is 0; VBR_NO_MEMORY; VBR_NO_ROOM, as in a close.
+   Handles of different sets are told by a probe, which is tested and not proved: do not rely on it.
+
+       vbr_answer closed = vbr_close_all(handle, 2, keys, 8, &report); // VBR_YES: report.live is 3, keys are 2, 5, 9 */
+VBR_NODISCARD vbr_answer vbr_close_all(vbr_handle *handles, size_t count, uint64_t *keys, size_t room,
+                                       vbr_totals *report) VBR_NOEXCEPT VBR_NONNULL;
+
+/* Gives a handle up, empty or full, and leaves it empty. Its pass is given back as by a close, and no
+   report is told: the last handle of the set that is closed still gets it, and with the last one dropped
+   the set ends. It needs no memory. With a null pointer it does nothing.
+
+       vbr_drop(&handle[0]); // the close of handle[1] is told the report */
+void vbr_drop(vbr_handle *handle) VBR_NOEXCEPT;
+
+#ifdef __cplusplus
+}
+#endif
+
+#ifdef __SANITIZE_THREAD__
+#include "vbr_tsan.h"
+#elif defined(__has_feature)
+#if __has_feature(thread_sanitizer)
+#include "vbr_tsan.h"
+#endif
+#endif
+
+#endif
