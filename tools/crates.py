@@ -28,6 +28,10 @@ class Crate:
     def lines(self):
         return sum(text_of(it).count("\n") for it in self.files())
 
+    def lines_compiled(self):
+        """How much code is compiled where its tests or its program are run: its own lines, and those of the crates below."""
+        return sum(text_of(it).count("\n") for crate in [*self.below(), self] for it in crate.files() if it.endswith(".rt"))
+
     def has_tests(self):
         return any(re.search(r"#\[test\]", text_of(it)) for it in self.files() if it.endswith(".rt"))
 
