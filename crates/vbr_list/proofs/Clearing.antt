@@ -22,6 +22,7 @@ use Rattle.vbr_machine.proofs.Lemmas.{left_since, marked_left, none_marked_betwe
 use Rattle.vbr_slots.specs.Calls.{IsSame, Made, Quiet}
 use Rattle.vbr_slots.specs.Views.{Trace, knows}
 use Rattle.vbr_slots.proofs.Lemmas.{moment_after, moment_before}
+use Rattle.vbr_pools.specs.declared.budget.TheConstants.{PIECE}
 use Rattle.vbr_access.specs.Moments.{IsRead}
 use Rattle.vbr_access.specs.declared.held.Held.{Held}
 use Rattle.vbr_list.specs.Found.{CurStood, IsFound}
@@ -88,7 +89,7 @@ clear_found {p} {q} key found shape same x = go found.cur found.present x.locate
     go (Some cur) false y z = absent (Some cur) y
 
 -- of a walk that ended with room in its budget
-pub clear_walked : {N : Type 0} {kind : Ghosts N} → (c d : PendingCall N kind) (found : Option Found) → IsShape (trace_in c).shape → IsSame (trace_in c) (trace_in d) → IfSome found (Finds c d) → IfNone found (SearchTires c d) → d.used + 8 ≤ c.budget → WasClear (trace_in c) (trace_in d) c.key
+pub clear_walked : {N : Type 0} {kind : Ghosts N} → (c d : PendingCall N kind) (found : Option Found) → IsShape (trace_in c).shape → IsSame (trace_in c) (trace_in d) → IfSome found (Finds c d) → IfNone found (SearchTires c d) → d.used + PIECE ≤ c.budget → WasClear (trace_in c) (trace_in d) c.key
 clear_walked c d None shape same x tired room = let short = tired.tired in absurd (omega (arith, short, room))
 clear_walked c d (Some found) shape same x tired room = clear_found c.key found shape same x.found
 

@@ -12,6 +12,7 @@ use Rattle.vbr_pools.specs.Refusals.{LeavesRoom}
 use Rattle.vbr_pools.specs.Steps.{CountsSteps, TookWithin}
 use Rattle.vbr_pools.proofs.Lemmas.{counts_none, counts_on, took_all}
 use Rattle.vbr_machine.specs.Knowledge.{Know}
+use Rattle.vbr_pools.specs.declared.budget.TheConstants.{PIECE}
 use Rattle.vbr_access.specs.Keeping.{Keeps, KeepsOwn}
 use Rattle.vbr_access.specs.Reading.{ReadsIn}
 use Rattle.vbr_list.specs.Pieces.{Goes, IsSameCall}
@@ -56,7 +57,7 @@ pub within_of : {p q : Trace} (used budget : ℕ) → used ≤ budget → Counts
 within_of used budget le counts = record { steps = used; within = le; took = took_all counts }
 
 -- what leaves room in a budget is the steps that were counted
-pub room_left : {p q : PassView} (used budget : ℕ) → CountsSteps p.trace q.trace 0 used → LeavesRoom p q budget → used + 8 ≤ budget
+pub room_left : {p q : PassView} (used budget : ℕ) → CountsSteps p.trace q.trace 0 used → LeavesRoom p q budget → used + PIECE ≤ budget
 room_left used budget counts left = let x = (took_all counts).made in let y = left.took.made in let room = left.room in omega (arith, x, y, room)
 
 -- the bucket of a key is that of the table's shape

@@ -11,6 +11,7 @@ use Rattle.vbr_pools.specs.Hands.{HandView, IsHandOf}
 use Rattle.vbr_pools.specs.KeptSlots.{HasStill, KeepsSlots, SharesWhereFull, TakesNoSlot}
 use Rattle.vbr_pools.specs.Refusals.{HasNoSlot, IsSpent}
 use Rattle.vbr_pools.specs.Steps.{CountsSteps}
+use Rattle.vbr_pools.specs.declared.budget.TheConstants.{PIECE}
 use Rattle.vbr_access.specs.Alone.{NextStands, StandsNow}
 use Rattle.vbr_access.specs.Moments.{WasSo}
 use Rattle.vbr_list.specs.Budgets.{LacksSteps, enough_to_search, listed_for}
@@ -36,14 +37,14 @@ pub record HasHandAndRoom (q : PassView) (hand : HandView) : Type 0 where
 -- they leave no room in the budget for one more piece
 pub record RunsShort (p q : Trace) (before used budget : ℕ) : Type 0 where
   pub counts : CountsWithin p q before used budget
-  pub short : budget < used + 8
+  pub short : budget < used + PIECE
 
 -- the epoch is spent, and the steps that showed it, counted on from those before, leave room in the budget for one more piece
 pub record InsertShowsSpent (p q : PassView) (before budget epoch : ℕ) : Type 0 where
   pub spent : IsSpent q epoch
   pub since : ℕ
   pub counts : CountsWithin p.trace q.trace before since budget
-  pub room : since + 8 ≤ budget
+  pub room : since + PIECE ≤ budget
 
 -- what a refusal to take a slot says, behind so many steps
 abbrev pub TakesNone : PassView → PassView → ℕ → ℕ → Refusal → Type 0

@@ -10,6 +10,7 @@ use Rattle.vbr_slots.specs.Views.{PassView, Trace, knows}
 use Rattle.vbr_slots.specs.declared.pass.TheConstants.{POOL}
 use Rattle.vbr_pools.specs.KeptSlots.{TakesNoSlot}
 use Rattle.vbr_pools.specs.Steps.{CountsSteps}
+use Rattle.vbr_pools.specs.declared.budget.TheConstants.{PIECE}
 use Rattle.vbr_list.specs.Told.{given_in, stored_in}
 use Rattle.vbr_list.specs.declared.call.PendingCall.{PendingCall}
 
@@ -24,7 +25,7 @@ trace_in c = c.at.pass.now.trace
 
 -- its budget has room for one more piece
 abbrev pub HasRoom : {N : Type 0} {kind : Ghosts N} → PendingCall N kind → Type 0
-HasRoom c = c.used + 8 ≤ c.budget
+HasRoom c = c.used + PIECE ≤ c.budget
 
 -- the call is at the same table, by the same pass, for the same key, and has the same budget
 pub record IsSameCall {N : Type 0} {kind : Ghosts N} (c d : PendingCall N kind) : Type 0 where
@@ -89,4 +90,4 @@ pub record OnlyLooks (p q : Trace) : Type 0 where
 
 -- one step, or up to eight
 abbrev pub IsPiece : ℕ → ℕ → Type 0
-IsPiece before since = (before < since) × (since ≤ before + 8)
+IsPiece before since = (before < since) × (since ≤ before + PIECE)

@@ -4,6 +4,7 @@ use Rattle.vbr_words.specs.declared.nodes.Nodes.{Ghosts}
 use Rattle.vbr_words.specs.declared.place.At.TheVariants.{Head}
 use Rattle.vbr_slots.specs.Alone.{IsFresh}
 use Rattle.vbr_slots.specs.Views.{Trace, knows}
+use Rattle.vbr_pools.specs.declared.budget.TheConstants.{PIECE}
 use Rattle.vbr_access.specs.Alone.{StandsNow}
 use Rattle.vbr_access.specs.Held.{HoldsMarked, Names}
 use Rattle.vbr_access.specs.Keeping.{Keeps}
@@ -75,7 +76,7 @@ pub record Finds {N : Type 0} {kind : Ghosts N} (c d : PendingCall N kind) (told
 
 -- the budget has no room for one more piece; alone it was below what is enough
 pub record Tires {N : Type 0} {kind : Ghosts N} (c d : PendingCall N kind) (enough : ℕ) : Type 0 where
-  pub tired : c.budget < d.used + 8
+  pub tired : c.budget < d.used + PIECE
   pub short : WasAlone c d → c.budget < c.used + enough
 
 -- it rolled back, which it doesn't alone; or it tired

@@ -4,6 +4,7 @@ ghost use Rattle.vbr_machine.specs.declared.history.Op.TheVariants.{Remove};
 ghost use Rattle.vbr_slots.specs.AtTables.{IsSameTable, pass_of, trace_of};
 ghost use Rattle.vbr_slots.specs.Calls.{Took};
 ghost use Rattle.vbr_slots.specs.Views.{IsOf};
+ghost use Rattle.vbr_pools.specs.declared.budget.TheConstants.{PIECE};
 ghost use Rattle.vbr_list.specs.Sparing.{Calls, CallsAs, CallsRemove};
 ghost use Rattle.vbr_list.specs.Leaving.{SparesRemove, WasClear};
 ghost use Rattle.vbr_list.specs.Pieces.{Goes, GoesOn, HasRoom, Settles};
@@ -33,7 +34,7 @@ fn walk_apart<N: Nodes>(at: &mut AtTable<'_, N>, key: u64, budget: u32, used: u3
     ensures table { IsSameTable at.old at.new }
     ensures goes { Goes (pass_of at.old) (pass_of at.new) used result }
     ensures within { (used ≤ result) × (result ≤ budget) }
-    ensures clear { result + 8 ≤ budget → WasClear (trace_of at.old) (trace_of at.new) key }
+    ensures clear { result + PIECE ≤ budget → WasClear (trace_of at.old) (trace_of at.new) key }
 {
     at.law();
     let mut call = PendingCall {
@@ -58,7 +59,7 @@ fn walk_by_copy<N: Nodes>(at: &mut AtTable<'_, N>, key: u64, budget: u32, used: 
     ensures table { IsSameTable at.old at.new }
     ensures goes { Goes (pass_of at.old) (pass_of at.new) used result }
     ensures within { (used ≤ result) × (result ≤ budget) }
-    ensures clear { result + 8 ≤ budget → WasClear (trace_of at.old) (trace_of at.new) key }
+    ensures clear { result + PIECE ≤ budget → WasClear (trace_of at.old) (trace_of at.new) key }
 {
     let slots = at.slots;
     let mut copy = AtTable {

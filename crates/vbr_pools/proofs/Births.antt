@@ -15,6 +15,7 @@ use Rattle.vbr_slots.proofs.Lemmas.{did_quiet}
 use Rattle.vbr_pools.specs.Hands.{HandView}
 use Rattle.vbr_pools.specs.Pieces.{BearsNone, IsBorn, IsStampedBelow}
 use Rattle.vbr_pools.specs.KeptSlots.{HasSlot, HasFree}
+use Rattle.vbr_pools.specs.declared.budget.TheConstants.{PIECE}
 use Rattle.vbr_pools.specs.declared.refusal.TakeRefusal.TheVariants.{OutOfSteps}
 use Rattle.vbr_pools.proofs.InTurn.{did_turn}
 use Rattle.vbr_pools.proofs.Advancing.{did_stamps, nobody, same_advances, same_flags}
@@ -47,7 +48,7 @@ module _ (p q : PassView) (slot : ℕ) (d : Did (StoreBirth slot (knows p.trace)
       stays other (inl c) = inl (subst (λ (l : List ℕ). Contains l s) (sym pool) (stays_in slot p.pool s other c))
       stays other (inr e) = nobody p.hand s empty e
 
-  pub is_born : (budget used : ℕ) (hand : HandView) → p.hand ≡ None → IsStampedBelow p (knows p.trace).epoch (Some slot) → used + 8 ≤ budget → length p.pool ≤ 64 → AllPairs ◌≢◌ p.pool → q.pool ≡ without slot p.pool → q.hand ≡ Some slot → hand ≡ record { slot = slot; birth = (knows q.trace).epoch } → IsBorn p q slot budget used (hand, used + 1)
+  pub is_born : (budget used : ℕ) (hand : HandView) → p.hand ≡ None → IsStampedBelow p (knows p.trace).epoch (Some slot) → used + PIECE ≤ budget → length p.pool ≤ 64 → AllPairs ◌≢◌ p.pool → q.pool ≡ without slot p.pool → q.hand ≡ Some slot → hand ≡ record { slot = slot; birth = (knows q.trace).epoch } → IsBorn p q slot budget used (hand, used + 1)
   is_born budget used hand empty below room most apart pool in_hand is = subst (λ (h : HandView). IsBorn p q slot budget used (h, used + 1)) (sym is) (record {
     uses = record { counts = counts_one used d; within = omega arith; at_most = omega arith };
     sum = refl;
@@ -75,7 +76,7 @@ module _ (p q : PassView) (slot : ℕ) (d : Did (StoreBirth slot (knows p.trace)
   })
 
 -- or the budget has no room for one
-pub bears_none : (p : PassView) (budget used : ℕ) → used ≤ budget → budget < used + 8 → BearsNone p p budget used (OutOfSteps used, used)
+pub bears_none : (p : PassView) (budget used : ℕ) → used ≤ budget → budget < used + PIECE → BearsNone p p budget used (OutOfSteps used, used)
 bears_none p budget used within short = record {
   same = refl;
   short = record { uses = record { counts = counts_none p.trace used; within = within; at_most = omega arith }; why = refl; short = short };

@@ -17,6 +17,7 @@ use Rattle.vbr_pools.specs.Pieces.{Chooses, ChoosesNone, IsChosen, IsScanned, Is
 use Rattle.vbr_pools.specs.Refusals.{AllStamped}
 use Rattle.vbr_pools.specs.Steps.{CountsSteps}
 use Rattle.vbr_pools.specs.Taking.{IsOldest}
+use Rattle.vbr_pools.specs.declared.budget.TheConstants.{PIECE}
 use Rattle.vbr_pools.specs.declared.refusal.TakeRefusal.{TakeRefusal}
 use Rattle.vbr_pools.specs.declared.refusal.TakeRefusal.TheVariants.{OutOfSteps, EpochSpent}
 use Rattle.vbr_pools.proofs.InTurn.{did_turn}
@@ -45,14 +46,14 @@ shared_raised p q r advance again = inl (same_flags again refl ∙ same_flags ad
 pub chooses_refl : (p : PassView) → Chooses p p
 chooses_refl p = record { quiet = quiet_refl p.trace; pool = (refl, refl); kept = keeps_refl p; shared = inl refl; advances = inl refl }
 
-pub short_first : (p : PassView) (budget used : ℕ) → used ≤ budget → budget < used + 8 → ChoosesNone p p budget used (OutOfSteps used, used)
+pub short_first : (p : PassView) (budget used : ℕ) → used ≤ budget → budget < used + PIECE → ChoosesNone p p budget used (OutOfSteps used, used)
 short_first p budget used within short = record {
   uses = record { counts = counts_none p.trace used; within = within; at_most = omega arith };
   why = (refl, short);
 }
 
 -- the epoch was read, and then the pool was looked through
-module _ (p q r : PassView) (e budget used : ℕ) (read : Did ReadEpoch p.trace q.trace e) (room : used + 8 ≤ budget) (stayed : KeepsPool p q) (scans : Scans q r) where
+module _ (p q r : PassView) (e budget used : ℕ) (read : Did ReadEpoch p.trace q.trace e) (room : used + PIECE ≤ budget) (stayed : KeepsPool p q) (scans : Scans q r) where
   long : length q.pool ≡ length p.pool
   long = ap length stayed.0
 
@@ -92,7 +93,7 @@ module _ (p q r : PassView) (e budget used : ℕ) (read : Did ReadEpoch p.trace 
     }
 
     -- or none to advance the epoch
-    pub full_then : budget < since + 8 → ChoosesNone p r budget used (OutOfSteps since, since)
+    pub full_then : budget < since + PIECE → ChoosesNone p r budget used (OutOfSteps since, since)
     full_then short = record { uses = uses; why = (refl, short) }
 
     module _ (none : found ≡ None) (law : PassLaw r) where
@@ -112,7 +113,7 @@ module _ (p q r : PassView) (e budget used : ℕ) (read : Did ReadEpoch p.trace 
       some_then : p.pool ≢ [] → r.pool ≢ []
       some_then some none = some (sym keeps_then.0 ∙ none)
 
-      pub spent_then : p.pool ≢ [] → e ≡ r.trace.shape.last_epoch → since + 8 ≤ budget → ChoosesNone p r budget used (EpochSpent e, since)
+      pub spent_then : p.pool ≢ [] → e ≡ r.trace.shape.last_epoch → since + PIECE ≤ budget → ChoosesNone p r budget used (EpochSpent e, since)
       spent_then some last left = record { uses = uses; why = (record { last = last; last_read = last_read; some = some_then some; stamped = stamped }, left) }
 
       -- and the epoch was advanced, and read again
@@ -147,7 +148,7 @@ module _ (p q r : PassView) (e budget used : ℕ) (read : Did ReadEpoch p.trace 
           advances = inr raised_once;
         }
 
-        pub raised_chosen : (pool : List ℕ) → pool ≡ t.pool → p.pool ≢ [] → since + 8 ≤ budget → IsChosen p t budget used (get_or pool 0 0, since + 2)
+        pub raised_chosen : (pool : List ℕ) → pool ≡ t.pool → p.pool ≢ [] → since + PIECE ≤ budget → IsChosen p t budget used (get_or pool 0 0, since + 2)
         raised_chosen pool shown some left =
             let there : pool ≡ r.pool = shown ∙ still.0 ∙ keeps.0 in
             let slot : ℕ = get_or pool 0 0 in

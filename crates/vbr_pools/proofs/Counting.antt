@@ -7,6 +7,7 @@ use Rattle.vbr_slots.specs.Views.{Trace, PassView, Did}
 use Rattle.vbr_slots.proofs.Lemmas.{did_took, took_none, took_on}
 use Rattle.vbr_pools.specs.Pieces.{Uses}
 use Rattle.vbr_pools.specs.Steps.{CountsSteps}
+use Rattle.vbr_pools.specs.declared.budget.TheConstants.{PIECE}
 
 pub counts_none : (p : Trace) (n : ℕ) → CountsSteps p p n n
 counts_none p n = record { steps = 0; sum = omega arith; took = took_none p }
@@ -28,8 +29,8 @@ pub took_all : {p q : Trace} {used : ℕ} → CountsSteps p q 0 used → Took p 
 took_all {p} {q} {used} x = subst (Took p q) (let e = x.sum in omega arith) x.took
 
 -- a budget that doesn't afford a piece has no room for it
-pub no_room : (used budget : ℕ) (b : Bool) → b ≡ false → (used + 8 ≤ budget → b ≡ true) → budget < used + 8
-no_room used budget b e f = ⊎_elim (λ (short : budget < used + 8). short) (λ (fits : used + 8 ≤ budget). absurd (differ (sym e ∙ f fits))) (cases_lt budget (used + 8))
+pub no_room : (used budget : ℕ) (b : Bool) → b ≡ false → (used + PIECE ≤ budget → b ≡ true) → budget < used + PIECE
+no_room used budget b e f = ⊎_elim (λ (short : budget < used + PIECE). short) (λ (fits : used + PIECE ≤ budget). absurd (differ (sym e ∙ f fits))) (cases_lt budget (used + PIECE))
   where
     differ : false ≡ true → ⊥
     differ e = absurd (cc)

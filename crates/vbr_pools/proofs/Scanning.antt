@@ -14,6 +14,7 @@ use Rattle.vbr_pools.specs.KeptSlots.{TakesNoSlot}
 use Rattle.vbr_pools.specs.Pieces.{IsScanned, Scans, ScansPart}
 use Rattle.vbr_pools.specs.Steps.{CountsSteps}
 use Rattle.vbr_pools.specs.Taking.{IsOldest}
+use Rattle.vbr_pools.specs.declared.budget.TheConstants.{PIECE}
 use Rattle.vbr_pools.specs.declared.refusal.TakeRefusal.TheVariants.{OutOfSteps}
 use Rattle.vbr_pools.proofs.Advancing.{did_none, none_on}
 use Rattle.vbr_pools.proofs.Counting.{counts_one, counts_on}
@@ -33,7 +34,7 @@ module _ {p q : PassView} {epoch budget before looked used : ℕ} (at : Scanned 
   pub scans : Scans p q
   scans = record { quiet = at.quiet; takes_no_slot = at.none; pool = at.pool; known = at.known }
 
-  pub scan_short : looked ≤ length p.pool → budget < used + 8 → ScansPart p q budget before (OutOfSteps used, used)
+  pub scan_short : looked ≤ length p.pool → budget < used + PIECE → ScansPart p q budget before (OutOfSteps used, used)
   scan_short low short = record {
     uses = record { counts = at.counts; within = at.within; at_most = (let s = at.sum in omega (arith, s, low)) };
     why = refl;
@@ -41,7 +42,7 @@ module _ {p q : PassView} {epoch budget before looked used : ℕ} (at : Scanned 
   }
 
 module _ {p q r : PassView} {epoch budget before looked used n : ℕ} (at : Scanned p q epoch budget before looked used) (pool : List ℕ) (shown : pool ≡ q.pool) (own : OwnPool q.trace.shape (knows q.trace) q.pool q.hand) (low : looked < length pool)
-    (room : used + 8 ≤ budget) (d : Did (LoadStamp (get_or pool looked 0)) q.trace r.trace n) (known : MayBear ((knows q.trace).own (get_or pool looked 0)) → n ≡ stamp_in ((knows q.trace).own (get_or pool looked 0))) (stays : KeepsPool q r) where
+    (room : used + PIECE ≤ budget) (d : Did (LoadStamp (get_or pool looked 0)) q.trace r.trace n) (known : MayBear ((knows q.trace).own (get_or pool looked 0)) → n ≡ stamp_in ((knows q.trace).own (get_or pool looked 0))) (stays : KeepsPool q r) where
   abbrev slot : ℕ
   slot = get_or pool looked 0
 

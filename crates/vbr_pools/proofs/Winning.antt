@@ -17,6 +17,7 @@ use Rattle.vbr_pools.specs.KeptSlots.{TakesNoSlot}
 use Rattle.vbr_pools.specs.Pieces.{HasSlots, Probes, WinsNone}
 use Rattle.vbr_pools.specs.SharedPool.{WasOutside, ComesBefore, CameByFlag}
 use Rattle.vbr_pools.specs.Steps.{CountsSteps}
+use Rattle.vbr_pools.specs.declared.budget.TheConstants.{PIECE}
 use Rattle.vbr_pools.specs.declared.refusal.TakeRefusal.TheVariants.{OutOfSteps, NoSlot}
 use Rattle.vbr_pools.proofs.AloneWinning.{Probed, probed_lost, probed_next, probed_few}
 use Rattle.vbr_pools.proofs.InTurn.{did_turn}
@@ -44,7 +45,7 @@ next_low : (word slot next : ℕ) → IsNextFlag word slot next → next ≤ 64 
 next_low word slot next is = ⊎_elim (λ (here : (word_of_flag next ≡ word_of_flag slot) × (has_flag word next ≡ true)). (let same = here.0 in omega arith)) (λ (past : (word ≡ 0) × (next ≡ 64 * (slot / 64 + 1))). (let e = past.1 in omega arith)) is.place
 
 -- one more flag was lost, which told of all slots of its word
-module _ {p q r : PassView} {budget used start slot end next n : ℕ} (at : Winning p q budget used start slot end) (below : slot < end) (room : used + 8 ≤ budget) (d : Did (TakeFlag slot) q.trace r.trace n) (lost : has_flag n slot ≡ false) (then : IsNextFlag n slot next) (stays : KeepsPool q r) where
+module _ {p q r : PassView} {budget used start slot end next n : ℕ} (at : Winning p q budget used start slot end) (below : slot < end) (room : used + PIECE ≤ budget) (d : Did (TakeFlag slot) q.trace r.trace n) (lost : has_flag n slot ≡ false) (then : IsNextFlag n slot next) (stays : KeepsPool q r) where
   lost_flag : (a b : Know) → cond (has_flag n slot) a b ≡ b
   lost_flag a b = ap (λ (t : Bool). cond t a b) lost
 
@@ -126,7 +127,7 @@ win_few : {p q : PassView} {t : Trace} {budget used start slot end n : ℕ} → 
 win_few at below d alone = let most = few at below (alone_first at.quiet.seen (did_seen d) alone) in omega (arith, most)
 
 -- a flag was won
-pub win_done : {p q r t : PassView} {budget used start slot end n : ℕ} → Winning p q budget used start slot end → slot < end → p.pool ≡ [] → p.hand ≡ None → used + 8 ≤ budget → Did (TakeFlag slot) q.trace r.trace n → has_flag n slot ≡ true → KeepsPool q r → t.trace ≡ r.trace → t.pool ≡ r.pool ++ slot ∷ [] → t.hand ≡ hand_without slot r.hand →
+pub win_done : {p q r t : PassView} {budget used start slot end n : ℕ} → Winning p q budget used start slot end → slot < end → p.pool ≡ [] → p.hand ≡ None → used + PIECE ≤ budget → Did (TakeFlag slot) q.trace r.trace n → has_flag n slot ≡ true → KeepsPool q r → t.trace ≡ r.trace → t.pool ≡ r.pool ++ slot ∷ [] → t.hand ≡ hand_without slot r.hand →
     HasSlots p t budget (used + 1)
 win_done {p} {q} {r} {t} {budget} {used} {start} {slot} {end} at below empty no_hand room d set stays same pool hand =
     let one : t.pool ≡ slot ∷ [] = pool ∙ ap (λ (l : List ℕ). l ++ slot ∷ []) (stays.0 ∙ at.pool.0 ∙ empty) in
@@ -165,7 +166,7 @@ win_probes {p} at d set stays same pool hand = record {
 pub unwon_probes : {p q : PassView} {budget used start slot end : ℕ} → Winning p q budget used start slot end → Probes p q
 unwon_probes at = record { quiet = at.quiet; takes_no_slot = at.none }
 
-pub win_short : {p q : PassView} {budget used start slot end : ℕ} → Winning p q budget used start slot end → slot < end → p.pool ≡ [] → budget < used + 8 → WinsNone p q budget (OutOfSteps used, used)
+pub win_short : {p q : PassView} {budget used start slot end : ℕ} → Winning p q budget used start slot end → slot < end → p.pool ≡ [] → budget < used + PIECE → WinsNone p q budget (OutOfSteps used, used)
 win_short at below empty short = record {
   uses = record { counts = at.counts; within = at.within; at_most = (let w = at.within in omega (arith, w)) };
   empty = empty;

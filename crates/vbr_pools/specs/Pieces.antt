@@ -14,6 +14,7 @@ use Rattle.vbr_pools.specs.Refusals.{IsSpent, TakeIsRefused}
 use Rattle.vbr_pools.specs.SharedPool.{CameByFlag}
 use Rattle.vbr_pools.specs.Steps.{CountsSteps}
 use Rattle.vbr_pools.specs.Taking.{Births, IsOldest}
+use Rattle.vbr_pools.specs.declared.budget.TheConstants.{PIECE}
 use Rattle.vbr_pools.specs.declared.refusal.TakeRefusal.{TakeRefusal}
 use Rattle.vbr_pools.specs.declared.refusal.TakeRefusal.TheVariants.{OutOfSteps, NoSlot, EpochSpent}
 
@@ -34,7 +35,7 @@ told_steps (Err told) = told.1
 pub record FallsShort (p q : PassView) (budget before most : ℕ) (told : TakeRefusal × ℕ) : Type 0 where
   pub uses : Uses p q budget before told.1 most
   pub why : told.0 ≡ OutOfSteps told.1
-  pub short : budget < told.1 + 8
+  pub short : budget < told.1 + PIECE
 
 -- ---- a slot for the own pool
 
@@ -105,9 +106,9 @@ pub record IsChosen (p q : PassView) (budget before : ℕ) (told : ℕ × ℕ) :
 
 -- a refusal says that the budget has no room for one more piece; or that the epoch is spent, where it had room
 abbrev pub IsShortOrSpent : PassView → ℕ → ℕ → TakeRefusal → Type 0
-IsShortOrSpent q budget since (OutOfSteps used) = (used ≡ since) × (budget < since + 8)
+IsShortOrSpent q budget since (OutOfSteps used) = (used ≡ since) × (budget < since + PIECE)
 IsShortOrSpent q budget since NoSlot = ⊥
-IsShortOrSpent q budget since (EpochSpent epoch) = IsSpent q epoch × (since + 8 ≤ budget)
+IsShortOrSpent q budget since (EpochSpent epoch) = IsSpent q epoch × (since + PIECE ≤ budget)
 
 -- no slot was chosen, for what the refusal says
 pub record ChoosesNone (p q : PassView) (budget before : ℕ) (told : TakeRefusal × ℕ) : Type 0 where

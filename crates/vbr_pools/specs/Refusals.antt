@@ -6,6 +6,7 @@ use Rattle.vbr_slots.specs.Calls.{Took}
 use Rattle.vbr_slots.specs.Views.{PassView, knows}
 use Rattle.vbr_pools.specs.Budgets.{NeedsMore, steps_to_take}
 use Rattle.vbr_pools.specs.SharedPool.{WasOutside, CameByFlag}
+use Rattle.vbr_pools.specs.declared.budget.TheConstants.{PIECE}
 use Rattle.vbr_pools.specs.declared.refusal.TakeRefusal.{TakeRefusal}
 use Rattle.vbr_pools.specs.declared.refusal.TakeRefusal.TheVariants.{OutOfSteps, NoSlot, EpochSpent}
 
@@ -29,14 +30,14 @@ pub record IsSpent (q : PassView) (epoch : ℕ) : Type 0 where
 -- the steps that were made leave room in the budget for one more piece
 pub record LeavesRoom (p q : PassView) (budget : ℕ) : Type 0 where
   pub steps : ℕ
-  pub room : steps + 8 ≤ budget
+  pub room : steps + PIECE ≤ budget
   pub took : Took p.trace q.trace steps
 
 -- the steps that were made are within the budget, and leave no room in it for one more piece
 pub record IsOutOfSteps (p q : PassView) (budget used : ℕ) : Type 0 where
   pub took : Took p.trace q.trace used
   pub within : used ≤ budget
-  pub short : budget < used + 8
+  pub short : budget < used + PIECE
 
 -- what a refusal says of a call; that the epoch is spent is told only where the budget had room for the piece that would advance it
 abbrev pub TakeIsRefused : PassView → PassView → ℕ → TakeRefusal → Type 0

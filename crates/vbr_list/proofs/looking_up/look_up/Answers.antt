@@ -7,6 +7,7 @@ use Rattle.vbr_list.proofs.Observing.{observed, observes_on}
 use Rattle.vbr_list.specs.Budgets.{answer_costs, enough_to_look_up, listed_for}
 use Rattle.vbr_list.specs.Told.{given_call, kept_call, look_up_op}
 use Rattle.vbr_slots.specs.Calls.{AddsAnswer}
+use Rattle.vbr_pools.specs.declared.budget.TheConstants.{PIECE}
 use Rattle.vbr_list.proofs.Nearing.{at_first, first_lost, first_of, then_of}
 use Rattle.vbr_list.proofs.Passing.{peeks_on, peeks_refl}
 use Rattle.vbr_list.proofs.LonePasses.{alone}
@@ -101,7 +102,7 @@ returns-then-not-affords-clause-calls g c =
         takes_no_slot = (goes_on c.loop-sight.invariant.3.tries.goes c.look.ensures.goes.goes).hand.takes_no_slot;
         refused = search rules;
         within = (λ alone.
-            let short : ¬ (c.look.new.self.used + 8 ≤ c.look.new.self.budget) = λ h. (let f = c.if-not-affords.true in let z = c.affords.ensures.1 h in let w : false ≡ true = sym f ∙ z in cc) in
+            let short : ¬ (c.look.new.self.used + PIECE ≤ c.look.new.self.budget) = λ h. (let f = c.if-not-affords.true in let z = c.affords.ensures.1 h in let w : false ≡ true = sym f ∙ z in cc) in
             let x : c.args.budget < 0 + enough_to_look_up c.args.at.now.pass.now.trace c.args.key = at_first (λ q since. c.args.budget < since + enough_to_look_up q.trace c.args.key) c.args.at.now.pass.now c.loop-sight.call.at.pass.now c.look.new.self.at.pass.now c.loop-sight.invariant.4 c.loop-sight.invariant.3.tries.goes.quiet c.look.ensures.goes.goes.quiet alone
             (λ then. let f = (rw (c.loop-sight.invariant.0.key ∙ c.loop-sight.invariant.1) at c.in-Some.ensures.sight.alone then).paid in let e = (c.look.ensures.goes.call.budget ∙ c.loop-sight.invariant.0.budget ∙ c.loop-sight.invariant.2) in omega (arith, f, short, e)) in
             omega (arith, x));

@@ -1,5 +1,6 @@
 use Rattle.std.proofs.Common.{◌≡◌, ◌+◌, ◌≤◌, true, false, sym, ◌∙◌, refl, arith, inl}
 use Rattle.vbr_slots.proofs.Lemmas.{quiet_on}
+use Rattle.vbr_pools.specs.declared.budget.TheConstants.{PIECE}
 use Rattle.vbr_list.proofs.Going.{call_on, goes_on}
 use Rattle.vbr_list.proofs.Moments.{cur_found}
 use Rattle.vbr_list.proofs.Nearing.{first_of, then_of, nears_visit, nears_help, stands_on, found_beyond}
@@ -115,7 +116,7 @@ returns-then-not-affords-3-clause-stopped g c =
     let i = c.loop-pred.invariant.1 in
     let v = c.visit.ensures.goes.goes.quiet in
     let b = c.visit.ensures.goes.call.budget ∙ c.loop-pred.invariant.0.budget in
-    let short : ¬ (c.visit.new.self.used + 8 ≤ c.visit.new.self.budget) = λ h. (let f = c.if-not-affords-3.true in let z = c.affords-in-Ok-Marked.ensures.1 h in let w : false ≡ true = sym f ∙ z in cc) in
+    let short : ¬ (c.visit.new.self.used + PIECE ≤ c.visit.new.self.budget) = λ h. (let f = c.if-not-affords-3.true in let z = c.affords-in-Ok-Marked.ensures.1 h in let w : false ≡ true = sym f ∙ z in cc) in
     record {
       tired = omega (arith, short, b);
       short = λ alone.
