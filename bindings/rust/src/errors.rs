@@ -1,5 +1,5 @@
 //! Why a set or a map isn't opened, a call isn't answered, and a handle isn't closed.
-use crate::{Handle, ShapeError};
+use crate::{Handle, MapHandle, ShapeError};
 use core::error::Error;
 use core::fmt;
 
@@ -39,12 +39,13 @@ pub enum Refusal {
     /// Other handles may keep free ones. Remove keys, let a handle that has free slots make the insert, or make it again;
     /// a greater budget alone doesn't help.
     NoSlot,
-    /// An insert of an absent key would have needed an epoch beyond the last one. Renew the set, as
-    /// [`Set::open_with`](crate::Set::open_with) shows; until then look-ups and removes are answered as ever.
+    /// An insert of an absent key would have needed an epoch beyond the last one. Renew the set or the map, as
+    /// [`Set::open_with`](crate::Set::open_with) and [`Map::open_with`](crate::Map::open_with) show; until then look-ups and
+    /// removes are answered as ever.
     EpochSpent,
 }
 
-/// Why the last handle got no report.
+/// Why the last handle got no report: of a map's as `CloseError<MapHandle>`.
 ///
 /// ```
 /// # use vbr::{CloseError, Handle, Report};
@@ -78,7 +79,7 @@ impl<H> CloseError<H> {
     }
 }
 
-/// A handle that couldn't be closed, within an error that threads may share.
+/// A handle that couldn't be closed, within an error that threads may share: a map's as `Unclosed<MapHandle>`.
 ///
 /// ```
 /// # use vbr::{Handle, Unclosed};
@@ -91,6 +92,9 @@ pub struct Unclosed<H = Handle>(pub(crate) H);
 
 // SAFETY: a reference to it gives nothing but its name.
 unsafe impl Sync for Unclosed<Handle> {}
+
+// SAFETY: the same.
+unsafe impl Sync for Unclosed<MapHandle> {}
 
 impl<H> Unclosed<H> {
     /// The handle, to go on with, or to be closed again.

@@ -52,8 +52,8 @@ impl<H> Lender<H> {
     }
 }
 
-/// A handle on loan from its [`Set`](crate::Set). It goes back when this is dropped, and what was done with it comes before
-/// what the next borrower does.
+/// A handle on loan from its [`Set`](crate::Set), or from its [`Map`](crate::Map) as `Lent<MapHandle>`. It goes back when this
+/// is dropped, and what was done with it comes before what the next borrower does.
 ///
 /// It may go to another thread, and is not `Sync`.
 ///
@@ -69,6 +69,11 @@ impl<H> Lender<H> {
 /// ```compile_fail
 /// fn is_sync<T: Sync>() {}
 /// is_sync::<vbr::Lent<'static>>();
+/// ```
+///
+/// ```compile_fail
+/// fn is_sync<T: Sync>() {}
+/// is_sync::<vbr::Lent<'static, vbr::MapHandle>>();
 /// ```
 pub struct Lent<'s, H = Handle> {
     lender: &'s Lender<H>,

@@ -1,5 +1,5 @@
-//! A hash set of 64-bit keys that threads share, in fixed memory and without a lock: a safe wrapper of a
-//! library that is proved.
+//! A hash set of 64-bit keys, and a map from such keys to 64-bit values, that threads share, in fixed memory and without a
+//! lock: a safe wrapper of a library that is proved.
 //!
 //! [`Set::open`] gives the handles of a new set. Each is moved to its thread and makes calls; none waits
 //! for another, and each ends within its budget of steps. The last handle that is closed is told what is
@@ -31,6 +31,30 @@
 //! into the library, and this crate tells it nothing, as the header for C does: under it what is ordered by the set alone may
 //! be told as a race.
 //!
+//! # Maps
+//!
+//! [`Map`] has a value beside each key. It is opened, used and closed as a [`Set`], and what is said here of sets and their
+//! handles is so of maps and theirs. A key keeps the value that it was inserted with until it is removed; [`MapHandle::get`]
+//! and [`MapHandle::remove`] give it.
+//!
+//! ```
+//! use vbr::{Entry, Map, Shape};
+//!
+//! let mut handles = Map::open(Shape::for_keys(1_024, 2), 2)?;
+//! let second = handles.pop().expect("two handles");
+//! let mut first = handles.pop().expect("two handles");
+//! assert!(first.insert(5, 70, 100_000)?);
+//! assert!(!first.insert(5, 71, 100_000)?); // 5 keeps its value
+//! assert_eq!(second.get(5, 100_000)?, Some(70));
+//! assert_eq!(first.remove(5, 100_000)?, Some(70));
+//! assert!(first.insert(7, 72, 100_000)?);
+//! assert!(first.close()?.is_none());
+//! assert_eq!(second.close()?.expect("the last handle").entries, [Entry { key: 7, value: 72 }]);
+//! # Ok::<(), Box<dyn std::error::Error>>(())
+//! ```
+//!
+//! `examples/page_cache.rs` is a program to begin from: the index of a page cache.
+//!
 //! # Threads
 //!
 //! A handle is no thread's: it may be moved to another one at any time, by whatever Rust has for that, and the library
@@ -56,12 +80,14 @@ extern crate alloc;
 mod errors;
 mod lending;
 mod library;
+mod map;
 mod owned;
 mod set;
 mod shape;
 
 pub use errors::{CloseError, OpenError, Refusal, Unclosed};
 pub use lending::Lent;
+pub use map::{Entry, Map, MapHandle, MapReport};
 pub use set::{Handle, Report, Set};
 pub use shape::{Shape, ShapeError};
 
