@@ -15,7 +15,7 @@ use std::sync::atomic::Ordering::Relaxed;
 use std::sync::atomic::{AtomicBool, AtomicU64, AtomicUsize};
 use std::sync::{RwLock, RwLockWriteGuard};
 use std::thread;
-use vbr::{Map, MapHandle, Refusal, Shape};
+use vbr::{ample_budget, Entry, Map, MapHandle, Refusal, Shape};
 
 const FRAMES: usize = 512;
 const PAGES: u64 = 4_096;
@@ -24,8 +24,11 @@ const REQUESTS: u64 = 400_000;
 /// So small that it is spent some times. A program takes `vbr::MAX_EPOCH`.
 const LAST_EPOCH: u64 = 20_000;
 
-/// So small that some calls need more. A program takes `vbr::ample_budget`.
+/// So small that some calls need more. A program takes an ample one.
 const FIRST_BUDGET: u32 = 48;
+
+/// Removes have it: with a small one a page could leave the index, and its slot stay in a list.
+const AMPLE: u32 = ample_budget(2 * FRAMES as u32);
 
 /// How far the share of hits of several threads may be from that of the plain CLOCK.
 const BOUND: f64 = 0.01;
@@ -108,7 +111,7 @@ impl<'c> Worker<'c> {
 
     /// Reads a page, which is brought in first where it is in no frame, and says whether it was in one.
     fn serve(&mut self, index: &mut MapHandle, page: u64) -> Result<bool, Refusal> {
-        while let Some(number) = with_steps(&mut self.tired, |budget| index.get(page, budget))? {
+        while let Some(number) = with_steps(&mut self.tired, FIRST_BUDGET, |budget| index.get(page, budget))? {
             if self.cache.read(number as usize, page) {
                 return Ok(true);
             }
@@ -133,7 +136,7 @@ impl<'c> Worker<'c> {
     /// Puts a page and its frame into the index, and says whether the page wasn't there.
     fn insert(&mut self, index: &mut MapHandle, page: u64, number: usize) -> Result<bool, Refusal> {
         loop {
-            match with_steps(&mut self.tired, |budget| index.insert(page, number as u64, budget)) {
+            match with_steps(&mut self.tired, FIRST_BUDGET, |budget| index.insert(page, number as u64, budget)) {
                 Err(Refusal::NoSlot) => self.full += 1,
                 told => return told,
             }
@@ -167,7 +170,7 @@ impl<'c> Worker<'c> {
                 None => return Ok((number, frame)),
                 Some(_) if self.cache.used[number].swap(false, Relaxed) => continue,
                 Some(page) => {
-                    let there = with_steps(&mut self.tired, |budget| index.remove(page, budget))?;
+                    let there = with_steps(&mut self.tired, AMPLE, |budget| index.remove(page, budget))?;
                     assert_eq!(there, Some(number as u64));
                     frame.page = None;
                     return Ok((number, frame));
@@ -177,9 +180,8 @@ impl<'c> Worker<'c> {
     }
 }
 
-/// Makes a call with twice the budget, as often as that is too small.
-fn with_steps<T>(tired: &mut u64, mut call: impl FnMut(u32) -> Result<T, Refusal>) -> Result<T, Refusal> {
-    let mut budget = FIRST_BUDGET;
+/// Makes a call, and again with twice the budget, as often as that is too small.
+fn with_steps<T>(tired: &mut u64, mut budget: u32, mut call: impl FnMut(u32) -> Result<T, Refusal>) -> Result<T, Refusal> {
     loop {
         match call(budget) {
             Err(Refusal::OutOfSteps) => *tired += 1,
@@ -189,18 +191,31 @@ fn with_steps<T>(tired: &mut u64, mut call: impl FnMut(u32) -> Result<T, Refusal
     }
 }
 
-/// Opens the index anew with its entries, at epoch 1. No thread is in a call meanwhile.
-fn renew(shape: Shape, handles: Vec<MapHandle>) -> Result<Vec<MapHandle>, Box<dyn Error>> {
-    let count = handles.len();
+/// Closes the index by all its handles: the last one is told the entries.
+fn close(handles: Vec<MapHandle>) -> Result<Vec<Entry>, Box<dyn Error>> {
     let mut report = None;
     for handle in handles {
         report = handle.close()?;
     }
-    Ok(Map::open_with(shape, count, &report.ok_or("a handle is missing")?.entries)?)
+    Ok(report.ok_or("a handle is missing")?.entries)
+}
+
+/// Opens the index anew with its entries, at epoch 1. No thread is in a call meanwhile.
+fn renew(shape: Shape, handles: Vec<MapHandle>) -> Result<Vec<MapHandle>, Box<dyn Error>> {
+    let count = handles.len();
+    Ok(Map::open_with(shape, count, &close(handles)?)?)
+}
+
+/// What came of all requests: the hits, and what was refused on the way.
+struct Played {
+    hits: u64,
+    renewals: u64,
+    tired: u64,
+    full: u64,
 }
 
 /// Plays all requests by so many threads, and sees that the index has just the pages of the frames at the end.
-fn play(threads: usize, slots: u32) -> Result<u64, Box<dyn Error>> {
+fn play(threads: usize, slots: u32) -> Result<Played, Box<dyn Error>> {
     let shape = Shape { slots, last_epoch: LAST_EPOCH, ..Shape::for_keys(FRAMES as u32, threads) };
     let cache = Cache::new();
     let mut workers: Vec<_> = (0..threads).map(|_| Worker::new(&cache)).collect();
@@ -218,25 +233,15 @@ fn play(threads: usize, slots: u32) -> Result<u64, Box<dyn Error>> {
         handles = renew(shape, handles)?;
         renewals += 1;
     }
-    let total = |count: fn(&Worker) -> u64| workers.iter().map(count).sum::<u64>();
-    println!(
-        "threads: {threads}, slots: {slots}, hits: {} of {REQUESTS}, renewals: {renewals}, calls with too few steps: {}, without a slot: {}",
-        total(|it| it.hits),
-        total(|it| it.tired),
-        total(|it| it.full),
-    );
-    let hits = total(|it| it.hits);
-    check_index(cache, handles)?;
-    Ok(hits)
+    let total = |count: fn(&Worker) -> u64| workers.iter().map(count).sum();
+    let played = Played { hits: total(|it| it.hits), renewals, tired: total(|it| it.tired), full: total(|it| it.full) };
+    check_index(cache, close(handles)?)?;
+    Ok(played)
 }
 
 /// Each entry tells the frame of its page, and each page of a frame has one.
-fn check_index(cache: Cache, handles: Vec<MapHandle>) -> Result<(), Box<dyn Error>> {
-    let mut report = None;
-    for handle in handles {
-        report = handle.close()?;
-    }
-    let told: HashMap<_, _> = report.ok_or("a handle is missing")?.entries.into_iter().map(<(u64, u64)>::from).collect();
+fn check_index(cache: Cache, entries: Vec<Entry>) -> Result<(), Box<dyn Error>> {
+    let told: HashMap<_, _> = entries.into_iter().map(<(u64, u64)>::from).collect();
     let mut there = HashMap::new();
     for (number, frame) in (0..).zip(cache.frames) {
         there.extend(frame.into_inner()?.page.map(|page| (page, number)));
@@ -323,11 +328,16 @@ fn mixed(number: u64) -> u64 {
 
 fn main() -> Result<(), Box<dyn Error>> {
     let frames = FRAMES as u32;
-    assert_eq!(play(1, frames + 64)?, Plain::hits(FRAMES));
-    assert_eq!(play(1, frames - 100)?, Plain::hits(FRAMES - 100));
-    let share = |hits: u64| hits as f64 / REQUESTS as f64;
-    let (four, plain) = (share(play(4, frames + 4 * 64)?), share(Plain::hits(FRAMES)));
-    assert!((four - plain).abs() < BOUND, "{four:.4} of the requests are hits, and {plain:.4} by the plain CLOCK");
-    println!("page cache in Rust: passed, hits as by a plain CLOCK: {plain:.4} of all; of four threads {four:.4}");
+    let (one, plain) = (play(1, frames + 64)?, Plain::hits(FRAMES));
+    assert_eq!(one.hits, plain);
+    assert!(one.renewals > 0 && one.tired > 0 && one.full == 0);
+    let crowded = play(1, frames - 100)?;
+    assert_eq!(crowded.hits, Plain::hits(FRAMES - 100));
+    assert!(crowded.full > 0);
+    let four = play(4, frames + 4 * 64)?;
+    let [of_four, of_plain] = [four.hits, plain].map(|hits| hits as f64 / REQUESTS as f64);
+    assert!((of_four - of_plain).abs() < BOUND, "{of_four:.4} of the requests are hits, and {of_plain:.4} by a plain CLOCK");
+    assert!(four.renewals > 0 && four.full == 0);
+    println!("page cache in Rust: passed, {of_plain:.4} of the requests are hits, as by a plain CLOCK; of four threads {of_four:.4}");
     Ok(())
 }
