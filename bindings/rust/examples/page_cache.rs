@@ -311,9 +311,10 @@ fn page_of(number: u64) -> Option<u64> {
     if number / 256 % 16 == 15 {
         return Some(number % PAGES);
     }
+    let times = |a: u64, b: u64| (a * b) >> 20; // of fractions, which are counted in 2^-20
     let x = mixed(number) >> 44;
-    let cubed = (x * x >> 20) * x >> 20;
-    Some((cubed * cubed >> 20) * PAGES >> 20)
+    let cubed = times(x, times(x, x));
+    Some(times(times(cubed, cubed), PAGES))
 }
 
 /// What is on the disk, as it were.
