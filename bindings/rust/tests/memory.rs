@@ -3,7 +3,7 @@
 use std::alloc::{GlobalAlloc, Layout, System};
 use std::cell::Cell;
 use std::ffi::c_void;
-use vbr::{CloseError, OpenError, Set, Shape};
+use vbr::{CloseError, Entry, Map, OpenError, Set, Shape};
 
 /// Counts what this thread asks for, and refuses it while it is told to.
 struct Counting;
@@ -128,6 +128,71 @@ fn a_close_that_the_library_refuses() {
     let report = handle.close().expect("memory").expect("the last handle");
     assert_eq!((report.keys, report.free), (vec![5, 6, 7, 8, 9], shape.slots - 5));
     let mut handles = Set::open(shape, 2).expect("a set");
+    drop(handles.pop());
+    assert!(refused_in_the_library(|| handles.remove(0).close()).is_err());
+}
+
+#[test]
+fn one_report_of_a_map_and_no_loss() {
+    let shape = Shape::for_keys(1_000, 3);
+    assert_eq!(refused(|| Map::open(shape, 3).err()), Some(OpenError::Memory));
+    assert!(matches!(refused(|| Map::lending(shape, 3).err()), Some(OpenError::Memory)));
+    let mut handles = Map::open(shape, 3).expect("a map");
+    assert_eq!(handles[0].insert(5, 70, 100_000), Ok(true));
+    assert_eq!(handles[2].insert(7, 71, 100_000), Ok(true));
+    let before = ASKED.get();
+    let last = refused(|| {
+        let last = handles.pop().expect("three handles");
+        drop(handles.pop());
+        assert!(handles.pop().expect("three handles").close().expect("no memory is needed").is_none());
+        last
+    });
+    assert_eq!(ASKED.get(), before);
+    let Err(CloseError::Memory(unclosed)) = refused(|| last.close()) else {
+        panic!("a report without memory");
+    };
+    let mut handle = unclosed.into_handle();
+    assert_eq!(handle.get(5, 100_000), Ok(Some(70)));
+    assert_eq!(handle.insert(6, 72, 100_000), Ok(true));
+    let before = ASKED.get();
+    let report = handle.close().expect("memory").expect("the last handle");
+    assert_eq!(ASKED.get() - before, 16 * (1_000 + 3 * 64) + 16 * 3);
+    assert_eq!(report.entries, [(5, 70), (6, 72), (7, 71)].map(Entry::from));
+    assert_eq!(report.entries.capacity(), 3);
+}
+
+#[test]
+fn a_report_of_a_map_that_there_is_no_memory_to_shorten() {
+    let entries = [(5, 70), (7, 71)].map(Entry::from);
+    let handle = Map::open_with(Shape::for_keys(1_000, 1), 1, &entries).expect("a map").remove(0);
+    let report = granted(1, || handle.close()).expect("memory for the report").expect("the only handle");
+    assert_eq!(report.entries, entries);
+    assert_eq!(report.entries.capacity(), 1_000 + 64);
+}
+
+#[test]
+fn a_close_of_a_map_that_the_library_refuses() {
+    let shape = Shape::for_keys(1_000, 3);
+    assert_eq!(refused_in_the_library(|| Map::open(shape, 3).err()), Some(OpenError::Memory));
+    let entries = [(1, 10), (2, 20)].map(Entry::from);
+    assert_eq!(refused_in_the_library(|| Map::open_with(shape, 3, &entries).err()), Some(OpenError::Memory));
+    let mut handles = Map::open(shape, 3).expect("a map");
+    for (key, handle) in (5..).zip(&mut handles) {
+        assert_eq!(handle.insert(key, 10 * key, 100_000), Ok(true));
+    }
+    let mut handle = handles.remove(1);
+    drop(handles);
+    for key in 8..10 {
+        let Err(CloseError::Memory(unclosed)) = refused_in_the_library(|| handle.close()) else {
+            panic!("a report without memory");
+        };
+        handle = unclosed.into_handle();
+        assert_eq!((handle.get(5, 100_000), handle.insert(key, 10 * key, 100_000)), (Ok(Some(50)), Ok(true)));
+    }
+    let report = handle.close().expect("memory").expect("the last handle");
+    assert_eq!(report.entries, [5, 6, 7, 8, 9].map(|key| Entry { key, value: 10 * key }));
+    assert_eq!(report.free, shape.slots - 5);
+    let mut handles = Map::open(shape, 2).expect("a map");
     drop(handles.pop());
     assert!(refused_in_the_library(|| handles.remove(0).close()).is_err());
 }

@@ -1,0 +1,344 @@
+//! The index of a page cache: which frame of a fixed memory has which page, for several threads.
+//!
+//!     cargo run --release --example page_cache
+//!
+//! A page is looked up in a map from pages to frames. Where it is there, that is a hit, and the frame counts as used. Where it
+//! isn't, CLOCK finds a frame: a hand goes round the frames, and takes the first that wasn't used since it came by. The page
+//! there leaves the index, the new one is read into the frame, and goes into the index. Each frame has a latch, which is
+//! shared by those who read its page, and held alone by who brings another one in; the index has none.
+//!
+//! The program plays one stream of requests, by one thread, by one with an index that is too small, and by four, and beside
+//! each a plain CLOCK over a `HashMap`, on one thread. One thread has to have the very same hits, and four about as many.
+use std::collections::HashMap;
+use std::error::Error;
+use std::sync::atomic::Ordering::Relaxed;
+use std::sync::atomic::{AtomicBool, AtomicU64, AtomicUsize};
+use std::sync::{RwLock, RwLockWriteGuard};
+use std::thread;
+use vbr::{ample_budget, Entry, Map, MapHandle, Refusal, Shape};
+
+const FRAMES: usize = 512;
+const PAGES: u64 = 4_096;
+const REQUESTS: u64 = 400_000;
+
+/// So small that it is spent some times. A program takes `vbr::MAX_EPOCH`.
+const LAST_EPOCH: u64 = 20_000;
+
+/// So small that some calls need more. A program takes an ample one.
+const FIRST_BUDGET: u32 = 48;
+
+/// Removes have it: with a small one a page could leave the index, and its slot stay in a list.
+const AMPLE: u32 = ample_budget(2 * FRAMES as u32);
+
+/// How far the share of hits of several threads may be from that of the plain CLOCK.
+const BOUND: f64 = 0.01;
+
+struct Frame {
+    page: Option<u64>,
+    contents: [u64; 4],
+}
+
+struct Cache {
+    frames: Vec<RwLock<Frame>>,
+    /// Which frames were used since the hand came by.
+    used: Vec<AtomicBool>,
+    hand: AtomicUsize,
+    /// How many requests were begun.
+    begun: AtomicU64,
+    /// Whether the index is to be renewed: then all threads end.
+    is_spent: AtomicBool,
+}
+
+impl Cache {
+    fn new() -> Cache {
+        Cache {
+            frames: (0..FRAMES).map(|_| RwLock::new(Frame { page: None, contents: [0; 4] })).collect(),
+            used: (0..FRAMES).map(|_| AtomicBool::new(false)).collect(),
+            hand: AtomicUsize::new(0),
+            begun: AtomicU64::new(0),
+            is_spent: AtomicBool::new(false),
+        }
+    }
+
+    /// Reads a page in a frame, unless the frame has another one by now.
+    fn read(&self, number: usize, page: u64) -> bool {
+        match self.frames[number].try_read() {
+            Ok(frame) if frame.page == Some(page) => {
+                assert_eq!(frame.contents, contents_of(page));
+                self.used[number].store(true, Relaxed);
+                true
+            }
+            _ => false,
+        }
+    }
+}
+
+/// What a thread has beside its handle.
+struct Worker<'c> {
+    cache: &'c Cache,
+    /// Frames that have no page, to be filled first, from the last one on.
+    spare: Vec<usize>,
+    /// A page that couldn't be brought in, since the epoch was spent.
+    awaited: Option<u64>,
+    hits: u64,
+    /// How many calls had too small a budget, and how many found no slot.
+    tired: u64,
+    full: u64,
+}
+
+impl<'c> Worker<'c> {
+    fn new(cache: &'c Cache) -> Worker<'c> {
+        Worker { cache, spare: Vec::new(), awaited: None, hits: 0, tired: 0, full: 0 }
+    }
+
+    /// Serves requests until there are none, or the index is to be renewed.
+    fn run(&mut self, index: &mut MapHandle) {
+        while !self.cache.is_spent.load(Relaxed) {
+            let is_again = self.awaited.is_some();
+            let Some(page) = self.awaited.take().or_else(|| page_of(self.cache.begun.fetch_add(1, Relaxed))) else {
+                return;
+            };
+            match self.serve(index, page) {
+                Ok(is_hit) => self.hits += u64::from(is_hit && !is_again),
+                Err(Refusal::EpochSpent) => {
+                    self.awaited = Some(page);
+                    self.cache.is_spent.store(true, Relaxed);
+                }
+                Err(refusal) => panic!("{refusal}"),
+            }
+        }
+    }
+
+    /// Reads a page, which is brought in first where it is in no frame, and says whether it was in one.
+    fn serve(&mut self, index: &mut MapHandle, page: u64) -> Result<bool, Refusal> {
+        while let Some(number) = with_steps(&mut self.tired, FIRST_BUDGET, |budget| index.get(page, budget))? {
+            if self.cache.read(number as usize, page) {
+                return Ok(true);
+            }
+            thread::yield_now();
+        }
+        self.bring_in(index, page)?;
+        Ok(false)
+    }
+
+    fn bring_in(&mut self, index: &mut MapHandle, page: u64) -> Result<(), Refusal> {
+        let (number, mut frame) = self.free_frame(index)?;
+        *frame = Frame { page: Some(page), contents: contents_of(page) };
+        let inserted = self.insert(index, page, number);
+        if inserted != Ok(true) {
+            // Another thread has brought it in meanwhile, or the epoch is spent.
+            frame.page = None;
+            self.spare.push(number);
+        }
+        inserted.map(|_| ())
+    }
+
+    /// Puts a page and its frame into the index, and says whether the page wasn't there.
+    fn insert(&mut self, index: &mut MapHandle, page: u64, number: usize) -> Result<bool, Refusal> {
+        loop {
+            match with_steps(&mut self.tired, FIRST_BUDGET, |budget| index.insert(page, number as u64, budget)) {
+                Err(Refusal::NoSlot) => self.full += 1,
+                told => return told,
+            }
+            // A page that leaves the index leaves its slot to this handle.
+            let (spare, _latch) = self.evict(index, true)?;
+            self.spare.push(spare);
+        }
+    }
+
+    /// A frame without a page: a spare one, if it still has none, or one that CLOCK finds.
+    fn free_frame(&mut self, index: &mut MapHandle) -> Result<(usize, RwLockWriteGuard<'c, Frame>), Refusal> {
+        if let Some(number) = self.spare.pop() {
+            match self.cache.frames[number].try_write() {
+                Ok(frame) if frame.page.is_none() => return Ok((number, frame)),
+                _ => {}
+            }
+        }
+        self.evict(index, false)
+    }
+
+    /// The next frame that CLOCK takes, whose page has left the index. A frame that has no page is taken too, unless it is
+    /// the slot of a page that is wanted.
+    fn evict(&mut self, index: &mut MapHandle, wants_slot: bool) -> Result<(usize, RwLockWriteGuard<'c, Frame>), Refusal> {
+        loop {
+            let number = self.cache.hand.fetch_add(1, Relaxed) % FRAMES;
+            let Ok(mut frame) = self.cache.frames[number].try_write() else {
+                continue; // somebody reads it, or brings a page in
+            };
+            match frame.page {
+                None if wants_slot => continue,
+                None => return Ok((number, frame)),
+                Some(_) if self.cache.used[number].swap(false, Relaxed) => continue,
+                Some(page) => {
+                    let there = with_steps(&mut self.tired, AMPLE, |budget| index.remove(page, budget))?;
+                    assert_eq!(there, Some(number as u64));
+                    frame.page = None;
+                    return Ok((number, frame));
+                }
+            }
+        }
+    }
+}
+
+/// Makes a call, and again with twice the budget, as often as that is too small.
+fn with_steps<T>(tired: &mut u64, mut budget: u32, mut call: impl FnMut(u32) -> Result<T, Refusal>) -> Result<T, Refusal> {
+    loop {
+        match call(budget) {
+            Err(Refusal::OutOfSteps) => *tired += 1,
+            told => return told,
+        }
+        budget = budget.saturating_mul(2);
+    }
+}
+
+/// Closes the index by all its handles: the last one is told the entries.
+fn close(handles: Vec<MapHandle>) -> Result<Vec<Entry>, Box<dyn Error>> {
+    let mut report = None;
+    for handle in handles {
+        report = handle.close()?;
+    }
+    Ok(report.ok_or("a handle is missing")?.entries)
+}
+
+/// Opens the index anew with its entries, at epoch 1. No thread is in a call meanwhile.
+fn renew(shape: Shape, handles: Vec<MapHandle>) -> Result<Vec<MapHandle>, Box<dyn Error>> {
+    let count = handles.len();
+    Ok(Map::open_with(shape, count, &close(handles)?)?)
+}
+
+/// What came of all requests: the hits, and what was refused on the way.
+struct Played {
+    hits: u64,
+    renewals: u64,
+    tired: u64,
+    full: u64,
+}
+
+/// Plays all requests by so many threads, and sees that the index has just the pages of the frames at the end.
+fn play(threads: usize, slots: u32) -> Result<Played, Box<dyn Error>> {
+    let shape = Shape { slots, last_epoch: LAST_EPOCH, ..Shape::for_keys(FRAMES as u32, threads) };
+    let cache = Cache::new();
+    let mut workers: Vec<_> = (0..threads).map(|_| Worker::new(&cache)).collect();
+    let mut handles = Map::open(shape, threads)?;
+    let mut renewals = 0;
+    loop {
+        thread::scope(|scope| {
+            for (worker, handle) in workers.iter_mut().zip(&mut handles) {
+                scope.spawn(|| worker.run(handle));
+            }
+        });
+        if !cache.is_spent.swap(false, Relaxed) {
+            break;
+        }
+        handles = renew(shape, handles)?;
+        renewals += 1;
+    }
+    let total = |count: fn(&Worker) -> u64| workers.iter().map(count).sum();
+    let played = Played { hits: total(|it| it.hits), renewals, tired: total(|it| it.tired), full: total(|it| it.full) };
+    check_index(cache, close(handles)?)?;
+    Ok(played)
+}
+
+/// Each entry tells the frame of its page, and each page of a frame has one.
+fn check_index(cache: Cache, entries: Vec<Entry>) -> Result<(), Box<dyn Error>> {
+    let told: HashMap<_, _> = entries.into_iter().map(<(u64, u64)>::from).collect();
+    let mut there = HashMap::new();
+    for (number, frame) in (0..).zip(cache.frames) {
+        there.extend(frame.into_inner()?.page.map(|page| (page, number)));
+    }
+    assert_eq!(told, there);
+    Ok(())
+}
+
+/// The same cache without threads, over a map of the standard library that has room for so many entries.
+struct Plain {
+    index: HashMap<u64, usize>,
+    room: usize,
+    pages: [Option<u64>; FRAMES],
+    used: [bool; FRAMES],
+    hand: usize,
+    spare: Option<usize>,
+}
+
+impl Plain {
+    /// How many requests are hits.
+    fn hits(room: usize) -> u64 {
+        let mut plain =
+            Plain { index: HashMap::new(), room, pages: [None; FRAMES], used: [false; FRAMES], hand: 0, spare: None };
+        (0..).map_while(page_of).map(|page| u64::from(plain.serve(page))).sum()
+    }
+
+    fn serve(&mut self, page: u64) -> bool {
+        if let Some(frame) = self.index.get(&page) {
+            self.used[*frame] = true;
+            return true;
+        }
+        let frame = self.spare.take().unwrap_or_else(|| self.evict(None));
+        if self.index.len() == self.room {
+            self.spare = Some(self.evict(Some(frame)));
+        }
+        self.pages[frame] = Some(page);
+        self.index.insert(page, frame);
+        false
+    }
+
+    /// The next frame that CLOCK takes; another one than this, and one with a page, where a slot is wanted for it.
+    fn evict(&mut self, for_slot_of: Option<usize>) -> usize {
+        loop {
+            let frame = self.hand % FRAMES;
+            self.hand += 1;
+            match self.pages[frame] {
+                _ if for_slot_of == Some(frame) => continue,
+                None if for_slot_of.is_some() => continue,
+                None => return frame,
+                Some(_) if self.used[frame] => self.used[frame] = false,
+                Some(page) => {
+                    self.index.remove(&page);
+                    self.pages[frame] = None;
+                    return frame;
+                }
+            }
+        }
+    }
+}
+
+/// The page of a request, or none behind the last one: some pages are asked for far more often than others, and at times
+/// somebody reads a range of them in order.
+fn page_of(number: u64) -> Option<u64> {
+    if number >= REQUESTS {
+        return None;
+    }
+    if number / 256 % 16 == 15 {
+        return Some(number % PAGES);
+    }
+    let times = |a: u64, b: u64| (a * b) >> 20; // of fractions, which are counted in 2^-20
+    let x = mixed(number) >> 44;
+    let cubed = times(x, times(x, x));
+    Some(times(times(cubed, cubed), PAGES))
+}
+
+/// What is on the disk, as it were.
+fn contents_of(page: u64) -> [u64; 4] {
+    [0, 1, 2, 3].map(|word| mixed(4 * page + word))
+}
+
+fn mixed(number: u64) -> u64 {
+    let x = (number + 1).wrapping_mul(0x9e37_79b9_7f4a_7c15);
+    (x ^ x >> 32).wrapping_mul(0xd6e8_feb8_6659_fd93)
+}
+
+fn main() -> Result<(), Box<dyn Error>> {
+    let frames = FRAMES as u32;
+    let (one, plain) = (play(1, frames + 64)?, Plain::hits(FRAMES));
+    assert_eq!(one.hits, plain);
+    assert!(one.renewals > 0 && one.tired > 0 && one.full == 0);
+    let crowded = play(1, frames - 100)?;
+    assert_eq!(crowded.hits, Plain::hits(FRAMES - 100));
+    assert!(crowded.full > 0);
+    let four = play(4, frames + 4 * 64)?;
+    let [of_four, of_plain] = [four.hits, plain].map(|hits| hits as f64 / REQUESTS as f64);
+    assert!((of_four - of_plain).abs() < BOUND, "{of_four:.4} of the requests are hits, and {of_plain:.4} by a plain CLOCK");
+    assert!(four.renewals > 0 && four.full == 0);
+    println!("page cache in Rust: passed, {of_plain:.4} of the requests are hits, as by a plain CLOCK; of four threads {of_four:.4}");
+    Ok(())
+}

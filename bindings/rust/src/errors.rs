@@ -1,0 +1,163 @@
+//! Why a set or a map isn't opened, a call isn't answered, and a handle isn't closed.
+use crate::{Handle, MapHandle, ShapeError};
+use core::error::Error;
+use core::fmt;
+
+/// Why a set or a map was not opened.
+///
+/// ```
+/// # use vbr::{OpenError, Set, Shape};
+/// assert_eq!(Set::open_with(Shape::for_keys(8, 1), 1, &[7, 5]).unwrap_err(), OpenError::Keys);
+/// ```
+#[derive(Clone, Copy, Debug, PartialEq, Eq)]
+pub enum OpenError {
+    /// A number of the shape is out of range: the first such one.
+    Shape(ShapeError),
+    /// The number of handles is not from 1 to 64.
+    Handles,
+    /// The keys, or those of the entries, don't ascend, each above the one before, or there are more of them than slots.
+    Keys,
+    /// There is no memory.
+    Memory,
+}
+
+/// Why a call gave no answer. It made no call then.
+///
+/// ```
+/// # use vbr::{Refusal, Set, Shape};
+/// let mut handle = Set::open_with(Shape::new(1, 1, 100), 1, &[5])?.remove(0);
+/// assert_eq!(handle.insert(6, 1_000), Err(Refusal::NoSlot));
+/// assert_eq!(handle.insert(6, 1), Err(Refusal::OutOfSteps));
+/// # Ok::<(), Box<dyn std::error::Error>>(())
+/// ```
+#[derive(Clone, Copy, Debug, PartialEq, Eq)]
+pub enum Refusal {
+    /// The budget is spent. Make the call again, with twice the budget if that may have been too small:
+    /// [`ample_budget`](crate::ample_budget) is enough in short buckets.
+    OutOfSteps,
+    /// An insert of an absent key found no slot: its handle had none of its own, and none was found in the shared pool.
+    /// Other handles may keep free ones. Remove keys, let a handle that has free slots make the insert, or make it again;
+    /// a greater budget alone doesn't help.
+    NoSlot,
+    /// An insert of an absent key would have needed an epoch beyond the last one. Renew the set or the map, as
+    /// [`Set::open_with`](crate::Set::open_with) and [`Map::open_with`](crate::Map::open_with) show; until then look-ups and
+    /// removes are answered as ever.
+    EpochSpent,
+}
+
+/// Why the last handle got no report: of a map's as `CloseError<MapHandle>`.
+///
+/// ```
+/// # use vbr::{CloseError, Handle, Report};
+/// fn report_of(handle: Handle) -> Result<Option<Report>, Handle> {
+///     match handle.close() {
+///         Ok(report) => Ok(report), // None: others are open
+///         Err(CloseError::Memory(unclosed)) => Err(unclosed.into_handle()),
+///         Err(CloseError::Lost) => Ok(None),
+///     }
+/// }
+/// # let handle = vbr::Set::open_with(vbr::Shape::for_keys(8, 1), 1, &[5])?.remove(0);
+/// # assert_eq!(report_of(handle).expect("memory").expect("the only handle").keys, [5]);
+/// # Ok::<(), Box<dyn std::error::Error>>(())
+/// ```
+#[derive(Debug)]
+pub enum CloseError<H = Handle> {
+    /// It was the last handle, and a pass of the set or map is not there. The set or map is gone. No program is known to get
+    /// this, so there is no example of it: a handle that is dropped is closed, and one that is forgotten keeps its set open.
+    Lost,
+    /// There is no memory for the report. The handle is as it was, and can be closed again.
+    Memory(Unclosed<H>),
+}
+
+impl<H> CloseError<H> {
+    /// The same error, with the handle as `handle_of` makes it.
+    pub(crate) fn of<T>(self, handle_of: fn(H) -> T) -> CloseError<T> {
+        match self {
+            CloseError::Lost => CloseError::Lost,
+            CloseError::Memory(Unclosed(handle)) => CloseError::Memory(Unclosed(handle_of(handle))),
+        }
+    }
+}
+
+/// A handle that couldn't be closed, within an error that threads may share: a map's as `Unclosed<MapHandle>`.
+///
+/// ```
+/// # use vbr::{Handle, Unclosed};
+/// fn goes_on(unclosed: Unclosed) -> Result<bool, vbr::Refusal> {
+///     unclosed.into_handle().has(5, 1_000)
+/// }
+/// ```
+#[derive(Debug)]
+pub struct Unclosed<H = Handle>(pub(crate) H);
+
+// SAFETY: a reference to it gives nothing but its name.
+unsafe impl Sync for Unclosed<Handle> {}
+
+// SAFETY: the same.
+unsafe impl Sync for Unclosed<MapHandle> {}
+
+impl<H> Unclosed<H> {
+    /// The handle, to go on with, or to be closed again.
+    ///
+    /// ```
+    /// # use vbr::{CloseError, Handle, Report};
+    /// /// Closes the last handle, and waits for memory where there is none.
+    /// fn close(mut handle: Handle) -> Option<Report> {
+    ///     loop {
+    ///         match handle.close() {
+    ///             Err(CloseError::Memory(unclosed)) => handle = unclosed.into_handle(),
+    ///             other => return other.ok()?,
+    ///         }
+    ///         std::thread::yield_now();
+    ///     }
+    /// }
+    /// # let handle = vbr::Set::open(vbr::Shape::for_keys(8, 1), 1)?.remove(0);
+    /// # assert!(close(handle).is_some());
+    /// # Ok::<(), vbr::OpenError>(())
+    /// ```
+    pub fn into_handle(self) -> H {
+        self.0
+    }
+}
+
+impl fmt::Display for OpenError {
+    fn fmt(&self, f: &mut fmt::Formatter<'_>) -> fmt::Result {
+        f.write_str(match self {
+            OpenError::Shape(number) => return number.fmt(f),
+            OpenError::Handles => "the number of handles is not from 1 to 64",
+            OpenError::Keys => "the keys do not ascend, or there are more than slots",
+            OpenError::Memory => "there is no memory for the set or map",
+        })
+    }
+}
+
+impl From<ShapeError> for OpenError {
+    fn from(number: ShapeError) -> OpenError {
+        OpenError::Shape(number)
+    }
+}
+
+impl fmt::Display for Refusal {
+    fn fmt(&self, f: &mut fmt::Formatter<'_>) -> fmt::Result {
+        f.write_str(match self {
+            Refusal::OutOfSteps => "the budget of steps is spent",
+            Refusal::NoSlot => "no slot was found",
+            Refusal::EpochSpent => "the last epoch is spent",
+        })
+    }
+}
+
+impl<H> fmt::Display for CloseError<H> {
+    fn fmt(&self, f: &mut fmt::Formatter<'_>) -> fmt::Result {
+        f.write_str(match self {
+            CloseError::Lost => "a pass of the set or map is missing",
+            CloseError::Memory(_) => "there is no memory for the report",
+        })
+    }
+}
+
+impl Error for OpenError {}
+
+impl Error for Refusal {}
+
+impl<H: fmt::Debug> Error for CloseError<H> {}

@@ -1,0 +1,129 @@
+//! The calls of the library, and which of them are those of a set and which those of a map.
+use crate::map::Entry;
+use crate::Refusal;
+use core::ffi::c_void;
+
+/// As C sees a handle: one pointer, null where it is empty.
+#[repr(transparent)]
+pub(crate) struct Raw(pub(crate) *mut c_void);
+
+#[repr(C)]
+#[derive(Default)]
+pub(crate) struct ReportNumbers {
+    pub(crate) epoch: u64,
+    pub(crate) live: u32,
+    pub(crate) marked: u32,
+    pub(crate) free: u32,
+}
+
+extern "C" {
+    pub(crate) fn vbr_version() -> u32;
+
+    fn vbr_open(handles: *mut Raw, count: usize, slots: u32, buckets: u32, last_epoch: u64) -> i32;
+    fn vbr_open_with(
+        handles: *mut Raw,
+        count: usize,
+        slots: u32,
+        buckets: u32,
+        last_epoch: u64,
+        keys: *const u64,
+        key_count: usize,
+    ) -> i32;
+    pub(crate) fn vbr_insert(handle: *mut Raw, key: u64, budget: u32) -> i32;
+    pub(crate) fn vbr_remove(handle: *mut Raw, key: u64, budget: u32) -> i32;
+    pub(crate) fn vbr_has(handle: *mut Raw, key: u64, budget: u32) -> i32;
+    fn vbr_epoch(handle: *mut Raw) -> u64;
+    fn vbr_last_epoch(handle: *mut Raw) -> u64;
+    fn vbr_slots(handle: *mut Raw) -> u32;
+    fn vbr_buckets(handle: *mut Raw) -> u32;
+    fn vbr_close_all(handles: *mut Raw, count: usize, keys: *mut u64, room: usize, told: *mut ReportNumbers) -> i32;
+    fn vbr_drop(handle: *mut Raw);
+
+    fn vbr_map_open(handles: *mut Raw, count: usize, slots: u32, buckets: u32, last_epoch: u64) -> i32;
+    fn vbr_map_open_with(
+        handles: *mut Raw,
+        count: usize,
+        slots: u32,
+        buckets: u32,
+        last_epoch: u64,
+        entries: *const Entry,
+        entry_count: usize,
+    ) -> i32;
+    pub(crate) fn vbr_map_insert(handle: *mut Raw, key: u64, value: u64, budget: u32) -> i32;
+    pub(crate) fn vbr_map_remove(handle: *mut Raw, key: u64, budget: u32, value: *mut u64) -> i32;
+    pub(crate) fn vbr_map_get(handle: *mut Raw, key: u64, budget: u32, value: *mut u64) -> i32;
+    pub(crate) fn vbr_map_has(handle: *mut Raw, key: u64, budget: u32) -> i32;
+    fn vbr_map_epoch(handle: *mut Raw) -> u64;
+    fn vbr_map_last_epoch(handle: *mut Raw) -> u64;
+    fn vbr_map_slots(handle: *mut Raw) -> u32;
+    fn vbr_map_buckets(handle: *mut Raw) -> u32;
+    fn vbr_map_close_all(handles: *mut Raw, count: usize, entries: *mut Entry, room: usize, told: *mut ReportNumbers) -> i32;
+    fn vbr_map_drop(handle: *mut Raw);
+}
+
+/// What handles of sets and of maps have alike: the calls of the library that open and close them and show their numbers.
+pub(crate) trait Kind {
+    /// What an opening is given and a report tells: keys, or entries.
+    type Item: Copy + Default;
+
+    const OPEN: unsafe extern "C" fn(*mut Raw, usize, u32, u32, u64) -> i32;
+    const OPEN_WITH: unsafe extern "C" fn(*mut Raw, usize, u32, u32, u64, *const Self::Item, usize) -> i32;
+    const CLOSE_ALL: unsafe extern "C" fn(*mut Raw, usize, *mut Self::Item, usize, *mut ReportNumbers) -> i32;
+    const DROP: unsafe extern "C" fn(*mut Raw);
+    const EPOCH: unsafe extern "C" fn(*mut Raw) -> u64;
+    const LAST_EPOCH: unsafe extern "C" fn(*mut Raw) -> u64;
+    const SLOTS: unsafe extern "C" fn(*mut Raw) -> u32;
+    const BUCKETS: unsafe extern "C" fn(*mut Raw) -> u32;
+}
+
+/// The kind of sets.
+pub(crate) struct Keys;
+
+impl Kind for Keys {
+    type Item = u64;
+
+    const OPEN: unsafe extern "C" fn(*mut Raw, usize, u32, u32, u64) -> i32 = vbr_open;
+    const OPEN_WITH: unsafe extern "C" fn(*mut Raw, usize, u32, u32, u64, *const u64, usize) -> i32 = vbr_open_with;
+    const CLOSE_ALL: unsafe extern "C" fn(*mut Raw, usize, *mut u64, usize, *mut ReportNumbers) -> i32 = vbr_close_all;
+    const DROP: unsafe extern "C" fn(*mut Raw) = vbr_drop;
+    const EPOCH: unsafe extern "C" fn(*mut Raw) -> u64 = vbr_epoch;
+    const LAST_EPOCH: unsafe extern "C" fn(*mut Raw) -> u64 = vbr_last_epoch;
+    const SLOTS: unsafe extern "C" fn(*mut Raw) -> u32 = vbr_slots;
+    const BUCKETS: unsafe extern "C" fn(*mut Raw) -> u32 = vbr_buckets;
+}
+
+/// The kind of maps.
+pub(crate) struct Entries;
+
+impl Kind for Entries {
+    type Item = Entry;
+
+    const OPEN: unsafe extern "C" fn(*mut Raw, usize, u32, u32, u64) -> i32 = vbr_map_open;
+    const OPEN_WITH: unsafe extern "C" fn(*mut Raw, usize, u32, u32, u64, *const Entry, usize) -> i32 = vbr_map_open_with;
+    const CLOSE_ALL: unsafe extern "C" fn(*mut Raw, usize, *mut Entry, usize, *mut ReportNumbers) -> i32 = vbr_map_close_all;
+    const DROP: unsafe extern "C" fn(*mut Raw) = vbr_map_drop;
+    const EPOCH: unsafe extern "C" fn(*mut Raw) -> u64 = vbr_map_epoch;
+    const LAST_EPOCH: unsafe extern "C" fn(*mut Raw) -> u64 = vbr_map_last_epoch;
+    const SLOTS: unsafe extern "C" fn(*mut Raw) -> u32 = vbr_map_slots;
+    const BUCKETS: unsafe extern "C" fn(*mut Raw) -> u32 = vbr_map_buckets;
+}
+
+/// The answer of a call.
+#[inline]
+pub(crate) fn answer(code: i32) -> Result<bool, Refusal> {
+    match code {
+        0 => Ok(false),
+        1 => Ok(true),
+        -2 => Err(Refusal::NoSlot),
+        -3 => Err(Refusal::EpochSpent),
+        _ => Err(Refusal::OutOfSteps),
+    }
+}
+
+/// The answer of a call that writes a value where it answers yes.
+#[inline]
+pub(crate) fn answer_with(call: impl FnOnce(*mut u64) -> i32) -> Result<Option<u64>, Refusal> {
+    let mut value = 0;
+    let there = answer(call(&mut value))?;
+    Ok(there.then_some(value))
+}

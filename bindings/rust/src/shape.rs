@@ -1,0 +1,115 @@
+//! How large a set or a map is.
+use crate::{MAX_BUCKETS, MAX_EPOCH, MAX_HANDLES, MAX_SLOTS};
+use core::error::Error;
+use core::fmt;
+
+/// How many slots and buckets a set or a map has, and its last epoch.
+///
+/// A set takes `8 * (2 + buckets + 4 * slots + slots.div_ceil(64))` bytes for its words, and a map 8 more for each slot.
+/// The last epoch says how often slots can be used again before inserts are refused for good.
+///
+/// Open with a slot for each key that is in the set at one time, and 64 for each handle. Each slot is in one place: in
+/// the pool that all handles share, with one handle, under a key, or in a removed node that is still in its list. A
+/// handle keeps slots to itself, at most 64 between two calls. A remove that is answered yes has taken its node out of
+/// its list, unless its budget ended first; that of [`ample_budget`] doesn't end in short buckets. What a small one leaves
+/// in a list comes back with the next insert or remove that passes it, in the same bucket, or with a renewal.
+///
+/// Where no other handle makes a step during an insert, and each stands between two calls, [`Refusal::NoSlot`] comes
+/// only if the keys, the removed nodes that are still in lists, and 64 for each other handle are no fewer than the
+/// slots. Of an insert that calls of others overlap that isn't proved.
+///
+/// Keys are spread over the buckets by a multiplication, so keys with a pattern (in sequence, multiples of
+/// a page, pointers) do no harm; keys that somebody chooses to fall into one bucket do.
+///
+/// Keys that are there at the start are best given to [`Set::open_with`], which lays them all in one go; by inserts a
+/// million took three times as long.
+///
+/// [`Set::open_with`]: crate::Set::open_with
+/// [`Refusal::NoSlot`]: crate::Refusal::NoSlot
+/// [`ample_budget`]: crate::ample_budget
+///
+/// ```
+/// let shape = vbr::Shape { slots: 1_024 + 2 * 64, buckets: 1_024, last_epoch: vbr::MAX_EPOCH };
+/// assert_eq!(shape, vbr::Shape::for_keys(1_024, 2));
+/// ```
+#[derive(Clone, Copy, Debug, PartialEq, Eq, Hash)]
+pub struct Shape {
+    /// From 1 to [`MAX_SLOTS`].
+    pub slots: u32,
+    /// From 1 to [`MAX_BUCKETS`].
+    pub buckets: u32,
+    /// From 1 to [`MAX_EPOCH`].
+    pub last_epoch: u64,
+}
+
+impl Shape {
+    /// A shape of these numbers, which [`Set::open`](crate::Set::open) tests.
+    ///
+    /// ```
+    /// assert_eq!(vbr::Shape::new(128, 64, 1_000), vbr::Shape { slots: 128, buckets: 64, last_epoch: 1_000 });
+    /// ```
+    pub const fn new(slots: u32, buckets: u32, last_epoch: u64) -> Shape {
+        Shape { slots, buckets, last_epoch }
+    }
+
+    /// The shape for this many keys at one time and this many handles: a slot for each key and 64 for each handle, as
+    /// many buckets as keys, rounded up to a power of two, and the greatest last epoch.
+    ///
+    /// ```
+    /// assert_eq!(vbr::Shape::for_keys(1_000, 2), vbr::Shape::new(1_128, 1_024, vbr::MAX_EPOCH));
+    /// ```
+    pub const fn for_keys(keys: u32, handles: usize) -> Shape {
+        let own = 64 * if handles < MAX_HANDLES { handles } else { MAX_HANDLES } as u32;
+        let buckets = if keys < MAX_BUCKETS { keys.next_power_of_two() } else { MAX_BUCKETS };
+        Shape { slots: keys.saturating_add(own), buckets, last_epoch: MAX_EPOCH }
+    }
+
+    /// The first of the three numbers that is out of its range, as [`Set::open`](crate::Set::open) tests them.
+    ///
+    /// ```
+    /// use vbr::{Shape, ShapeError};
+    ///
+    /// assert_eq!(Shape::new(0, 0, 1).check(), Err(ShapeError::Slots(0)));
+    /// ```
+    ///
+    /// # Errors
+    ///
+    /// That number.
+    pub const fn check(self) -> Result<(), ShapeError> {
+        match self {
+            Shape { slots, .. } if slots < 1 || slots > MAX_SLOTS => Err(ShapeError::Slots(slots)),
+            Shape { buckets, .. } if buckets < 1 || buckets > MAX_BUCKETS => Err(ShapeError::Buckets(buckets)),
+            Shape { last_epoch, .. } if last_epoch < 1 || last_epoch > MAX_EPOCH => Err(ShapeError::LastEpoch(last_epoch)),
+            _ => Ok(()),
+        }
+    }
+}
+
+/// The number of a shape that is out of its range.
+///
+/// ```
+/// # use vbr::{Set, Shape};
+/// let error = Set::open(Shape::new(8, 0, 100), 1).unwrap_err();
+/// assert_eq!(error.to_string(), "0 buckets are not from 1 to 16777216");
+/// ```
+#[derive(Clone, Copy, Debug, PartialEq, Eq)]
+pub enum ShapeError {
+    /// The number of slots is not from 1 to [`MAX_SLOTS`].
+    Slots(u32),
+    /// The number of buckets is not from 1 to [`MAX_BUCKETS`].
+    Buckets(u32),
+    /// The last epoch is not from 1 to [`MAX_EPOCH`].
+    LastEpoch(u64),
+}
+
+impl fmt::Display for ShapeError {
+    fn fmt(&self, f: &mut fmt::Formatter<'_>) -> fmt::Result {
+        match self {
+            ShapeError::Slots(slots) => write!(f, "{slots} slots are not from 1 to {MAX_SLOTS}"),
+            ShapeError::Buckets(buckets) => write!(f, "{buckets} buckets are not from 1 to {MAX_BUCKETS}"),
+            ShapeError::LastEpoch(epoch) => write!(f, "the last epoch {epoch} is not from 1 to {MAX_EPOCH}"),
+        }
+    }
+}
+
+impl Error for ShapeError {}

@@ -1,0 +1,151 @@
+//! Four threads on one map, whose epoch is spent again and again: each value tells the insert that stored it, and is given only
+//! as the answers allow.
+use std::collections::HashSet;
+use std::sync::atomic::{AtomicBool, Ordering};
+use std::thread;
+use vbr::{Entry, Map, MapHandle, Refusal, Shape, MAX_EPOCH};
+
+const THREADS: u64 = 4;
+const KEYS: u64 = 64;
+const BUDGET: u32 = 1 << 20;
+const ROUNDS: u64 = 100_000;
+
+/// What a thread has, and what it was told.
+struct Worker {
+    number: u64,
+    random: u64,
+    round: u64,
+    /// The values of its inserts that were answered yes, those that its removes gave, and those that its gets gave.
+    stored: Vec<u64>,
+    removed: Vec<u64>,
+    got: HashSet<u64>,
+    /// Of each key the values that this thread has removed, and none may give again.
+    gone: HashSet<u64>,
+}
+
+impl Worker {
+    fn new(number: u64) -> Worker {
+        let random = 88_172_645_463_325_252 + number;
+        Worker { number, random, round: 0, stored: vec![], removed: vec![], got: HashSet::new(), gone: HashSet::new() }
+    }
+
+    /// A value that no other insert has: it tells the key, the thread and the round.
+    fn value_of(&self, key: u64) -> u64 {
+        key << 48 | self.number << 40 | self.round
+    }
+
+    /// Makes calls at random until all are made, or the epoch is spent.
+    fn work(&mut self, handle: &mut MapHandle, is_spent: &AtomicBool) {
+        while self.round < ROUNDS && !is_spent.load(Ordering::Relaxed) {
+            self.random ^= self.random << 13;
+            self.random ^= self.random >> 7;
+            self.random ^= self.random << 17;
+            self.call(handle, (self.random >> 8) % KEYS, self.random % 4, is_spent);
+            self.round += 1;
+        }
+    }
+
+    fn call(&mut self, handle: &mut MapHandle, key: u64, kind: u64, is_spent: &AtomicBool) {
+        match kind {
+            0 | 1 => match handle.insert(key, self.value_of(key), BUDGET) {
+                Ok(true) => self.stored.push(self.value_of(key)),
+                Ok(false) => {}
+                Err(Refusal::EpochSpent) => is_spent.store(true, Ordering::Relaxed),
+                Err(refusal) => panic!("{refusal}"),
+            },
+            2 => {
+                if let Some(value) = handle.remove(key, BUDGET).expect("steps") {
+                    self.check(key, value);
+                    self.removed.push(value);
+                    self.gone.insert(value);
+                }
+            }
+            _ => {
+                if let Some(value) = handle.get(key, BUDGET).expect("steps") {
+                    self.check(key, value);
+                    self.got.insert(value);
+                }
+            }
+        }
+    }
+
+    fn check(&self, key: u64, value: u64) {
+        assert_eq!(value >> 48, key, "a value of another key");
+        assert!(!self.gone.contains(&value), "a value that was removed before");
+    }
+}
+
+/// Lets all threads work, and renews the map where its epoch is spent: the entries that are left, and how many renewals.
+fn play(workers: &mut [Worker], shape: Shape) -> (Vec<Entry>, u32) {
+    let is_spent = AtomicBool::new(false);
+    let mut handles = Map::open(shape, workers.len()).expect("a map");
+    for renewals in 0.. {
+        thread::scope(|scope| {
+            for (worker, handle) in workers.iter_mut().zip(&mut handles) {
+                scope.spawn(|| worker.work(handle, &is_spent));
+            }
+        });
+        let report = handles.into_iter().map(|handle| handle.close().expect("memory")).last().flatten().expect("the last handle");
+        assert!(report.epoch <= shape.last_epoch);
+        if !is_spent.swap(false, Ordering::Relaxed) {
+            return (report.entries, renewals);
+        }
+        assert_eq!(report.epoch, shape.last_epoch);
+        handles = Map::open_with(shape, workers.len(), &report.entries).expect("a map");
+    }
+    unreachable!("the calls end")
+}
+
+/// Each value that was given was stored, each is removed once at most, and those that are left are in the report.
+fn check(workers: &[Worker], left: Vec<Entry>) {
+    let stored: HashSet<u64> = workers.iter().flat_map(|it| &it.stored).copied().collect();
+    assert_eq!(stored.len(), workers.iter().map(|it| it.stored.len()).sum::<usize>());
+    assert!(workers.iter().all(|it| it.got.is_subset(&stored)), "a value of an insert that was answered no, or refused");
+    let mut there = stored;
+    for value in workers.iter().flat_map(|it| &it.removed) {
+        assert!(there.remove(value), "a value that no insert stored, or that was removed twice");
+    }
+    assert!(left.iter().all(|entry| entry.value >> 48 == entry.key));
+    assert!(left.windows(2).all(|pair| pair[0].key < pair[1].key));
+    assert_eq!(left.into_iter().map(|entry| entry.value).collect::<HashSet<_>>(), there);
+}
+
+#[test]
+fn the_values_balance() {
+    let mut workers: Vec<_> = (0..THREADS).map(Worker::new).collect();
+    let (left, renewals) = play(&mut workers, Shape::new(512, 16, MAX_EPOCH));
+    assert_eq!(renewals, 0);
+    check(&workers, left);
+}
+
+#[test]
+fn the_values_balance_over_renewals() {
+    let mut workers: Vec<_> = (0..THREADS).map(Worker::new).collect();
+    let (left, renewals) = play(&mut workers, Shape::new(512, 16, 100));
+    assert!(renewals >= 10, "{renewals} renewals");
+    check(&workers, left);
+}
+
+#[test]
+fn the_values_of_many_borrowers_balance() {
+    let map = Map::lending(Shape::for_keys(KEYS as u32, 3), 3).expect("a map");
+    let mut workers: Vec<_> = (0..2 * THREADS).map(Worker::new).collect();
+    let never = AtomicBool::new(false);
+    thread::scope(|scope| {
+        for worker in &mut workers {
+            let (map, never) = (&map, &never);
+            scope.spawn(move || {
+                while worker.round < ROUNDS / 10 {
+                    let Some(mut handle) = map.lend() else {
+                        thread::yield_now();
+                        continue;
+                    };
+                    worker.random = worker.random.wrapping_mul(6_364_136_223_846_793_005).wrapping_add(1_442_695_040_888_963_407);
+                    worker.call(&mut handle, (worker.random >> 40) % KEYS, worker.random >> 33 & 3, never);
+                    worker.round += 1;
+                }
+            });
+        }
+    });
+    check(&workers, map.close().expect("a report").entries);
+}
