@@ -9,8 +9,9 @@
    page, both inserts have one that is answered VBR_YES, so a page has one frame.
 
    The program compares its hits with those of a plain cache with the same CLOCK in one thread, on the same requests: with
-   one thread they are equal, whether budgets are small or the epoch is spent again and again; with four, in an order that the
-   threads make, they differ by less than one in a hundred requests. */
+   one thread they are equal, whether budgets are small or the epoch is spent again and again. With four, in an order that the
+   threads make, they differ by less than one in a hundred requests; and so they do with one where the map has fewer slots than
+   there are frames, from those of a cache with as many frames as slots. */
 #include "vbr.h"
 
 #include <pthread.h>
@@ -22,7 +23,8 @@
 
 #define CHECK(x) do { if (!(x)) { fprintf(stderr, "page_cache.c:%d: %s\n", __LINE__, #x); exit(1); } } while (0)
 
-enum { FRAMES = 4096, PAGES = 16384, WORDS = 64, MOST_THREADS = 4, SLOTS = FRAMES + 64 * MOST_THREADS, AMPLE = VBR_AMPLE_BUDGET(SLOTS) };
+enum { FRAMES = 4096, PAGES = 16384, WORDS = 64, MOST_THREADS = 4 };
+enum { SLOTS = FRAMES + 64 * MOST_THREADS, FEW_SLOTS = FRAMES / 2, AMPLE = VBR_AMPLE_BUDGET(SLOTS) };
 
 #define NO_PAGE UINT64_MAX
 #define TAKEN UINT32_MAX
@@ -32,12 +34,13 @@ struct frame {
     _Atomic uint32_t pins; /* how many, or TAKEN */
     atomic_bool is_used;   /* since the hand came by */
     uint64_t page, words[WORDS];
+    struct frame *below; /* of a spare frame: the one that was spare before */
 };
 
 struct worker {
     vbr_map_handle *map;
-    struct frame *spare; /* a frame that it took and has no page for, or none */
-    long number, next;   /* its requests are those of its number, and each one `threads` behind that */
+    struct frame *spare; /* frames that it took and has no page for: the last of them, or none */
+    long next;           /* its next request; then each that is `threads` further */
     long hits, tired, full;
 };
 
@@ -47,7 +50,7 @@ static vbr_map_handle handles[MOST_THREADS];
 static struct worker workers[MOST_THREADS];
 static atomic_bool renewal_is_due;
 static uint64_t last_epoch;
-static uint32_t budget;
+static uint32_t slots, budget;
 static long requests = 400000, threads, tired, full, renewals;
 
 /* The page of a request: small numbers come more often. */
@@ -92,8 +95,8 @@ static struct frame *find(struct worker *w, uint64_t page) {
     }
 }
 
-/* A frame without a page: by CLOCK, one that nobody pins and nobody used since the hand came by. */
-static struct frame *take(struct worker *w) {
+/* A frame whose page leaves the map: by CLOCK, one that nobody pins and nobody used since the hand came by. */
+static struct frame *evict(struct worker *w) {
     struct frame *f;
     uint32_t none;
     do {
@@ -111,19 +114,38 @@ static struct frame *take(struct worker *w) {
     return f;
 }
 
-/* Reads a page into a frame, and inserts it: VBR_YES, or VBR_NO if another thread did so meanwhile. Else a refusal, and the
-   frame is kept for the next page. */
+/* A frame that has no page is kept for the worker's next one. */
+static void keep(struct worker *w, struct frame *f) {
+    f->page = NO_PAGE;
+    f->below = w->spare;
+    w->spare = f;
+}
+
+static struct frame *empty_frame(struct worker *w) {
+    struct frame *f = w->spare;
+    if (!f) return evict(w);
+    w->spare = f->below;
+    return f;
+}
+
+/* Reads a page into a frame, and inserts it: VBR_YES, or VBR_NO if another thread did so meanwhile, or VBR_EPOCH_SPENT. */
 static vbr_answer load(struct worker *w, uint64_t page) {
-    struct frame *f = w->spare ? w->spare : take(w);
-    uint32_t steps = budget;
-    vbr_answer added;
+    struct frame *f = empty_frame(w);
     read_from_disk(page, f->words);
     f->page = page;
-    while ((added = vbr_map_insert(w->map, page, (uint64_t)(f - frames), steps)) == VBR_OUT_OF_STEPS) steps = twice(w, steps);
-    w->spare = added == VBR_YES ? NULL : f;
-    if (added == VBR_YES) atomic_store(&f->pins, 0);
-    else f->page = NO_PAGE;
-    return added;
+    for (uint32_t steps = budget;;) {
+        vbr_answer added = vbr_map_insert(w->map, page, (uint64_t)(f - frames), steps);
+        if (added == VBR_OUT_OF_STEPS) {
+            steps = twice(w, steps);
+        } else if (added == VBR_NO_SLOT) {
+            keep(w, evict(w)); /* a page that leaves the map leaves its slot to this handle */
+            w->full++;
+        } else {
+            if (added == VBR_YES) atomic_store(&f->pins, 0);
+            else keep(w, f);
+            return added;
+        }
+    }
 }
 
 /* Serves a request. Where the epoch is spent it can't be served before the map is renewed. */
@@ -131,16 +153,8 @@ static int serve(struct worker *w, uint64_t page) {
     struct frame *f = find(w, page);
     w->hits += f != NULL;
     while (!f) {
-        uint64_t words[WORDS];
-        switch (load(w, page)) {
-        case VBR_YES: case VBR_NO: break; /* it was there a moment ago */
-        case VBR_EPOCH_SPENT: return 0;
-        default: /* VBR_NO_SLOT: other threads keep free ones; the page is read past the cache */
-            read_from_disk(page, words);
-            w->full++;
-            return 1;
-        }
-        f = find(w, page);
+        if (load(w, page) == VBR_EPOCH_SPENT) return 0;
+        f = find(w, page); /* it was there a moment ago */
     }
     for (uint64_t i = 0; i < WORDS; i++) CHECK(f->words[i] == page * WORDS + i);
     atomic_store(&f->is_used, 1);
@@ -162,7 +176,7 @@ static void renew(void) {
     static vbr_entry entries[FRAMES];
     vbr_totals report = {0};
     CHECK(vbr_map_close_all(handles, (size_t)threads, entries, FRAMES, &report) == VBR_YES);
-    CHECK(vbr_map_open_with(handles, (size_t)threads, SLOTS, FRAMES, last_epoch, entries, report.live) == VBR_NO);
+    CHECK(vbr_map_open_with(handles, (size_t)threads, slots, FRAMES, last_epoch, entries, report.live) == VBR_NO);
     renewals++;
 }
 
@@ -186,40 +200,42 @@ static void close_cache(void) {
 }
 
 /* How many of the requests are hits, where so many threads serve them. */
-static long hits(long of_threads, uint64_t of_last_epoch, uint32_t of_budget) {
+static long hits(long of_threads, uint32_t of_slots, uint64_t of_last_epoch, uint32_t of_budget) {
     long sum = 0;
-    threads = of_threads, last_epoch = of_last_epoch, budget = of_budget, tired = full = renewals = 0;
+    threads = of_threads, slots = of_slots, last_epoch = of_last_epoch, budget = of_budget, tired = full = renewals = 0;
     memset(frames, 0, sizeof frames);
     for (int i = 0; i < FRAMES; i++) frames[i].page = NO_PAGE;
     atomic_store(&hand, 0);
-    CHECK(vbr_map_open(handles, (size_t)threads, SLOTS, FRAMES, last_epoch) == VBR_NO);
-    for (long i = 0; i < threads; i++) workers[i] = (struct worker){.map = &handles[i], .number = i, .next = i};
+    CHECK(vbr_map_open(handles, (size_t)threads, slots, FRAMES, last_epoch) == VBR_NO);
+    for (long i = 0; i < threads; i++) workers[i] = (struct worker){.map = &handles[i], .next = i};
     for (work_all(); atomic_load(&renewal_is_due); work_all()) renew();
     for (long i = 0; i < threads; i++) {
         CHECK(workers[i].next >= requests);
         sum += workers[i].hits, tired += workers[i].tired, full += workers[i].full;
     }
     close_cache();
-    printf("page cache in C, threads %ld, last epoch %llu, budget %lu: %.2f of 100 requests are hits; %ld calls tired, %ld full, %ld renewals\n", threads,
-           (unsigned long long)last_epoch, (unsigned long)budget, 100.0 * (double)sum / (double)requests, tired, full, renewals);
+    printf("page cache in C: %ld threads, %lu slots, last epoch %llu, budget %lu: %.2f of 100 requests are hits; %ld calls tired, %ld full, %ld renewals\n", threads,
+           (unsigned long)slots, (unsigned long long)last_epoch, (unsigned long)budget, 100.0 * (double)sum / (double)requests, tired, full, renewals);
     return sum;
 }
 
-/* The hits of a plain cache with the same CLOCK, which has an array for its index. */
-static long plain_hits(void) {
+/* The hits of a plain cache of so many frames with the same CLOCK, which has an array for its index. */
+static long plain_hits(int count) {
     static uint64_t page_in[FRAMES];
     static int frame_of[PAGES], is_used[FRAMES]; /* frame_of: the number behind the frame's, or 0 */
     long sum = 0;
     int at = 0;
+    memset(frame_of, 0, sizeof frame_of);
+    memset(is_used, 0, sizeof is_used);
     for (long i = 0; i < requests; i++) {
         uint64_t page = page_of(i);
         sum += frame_of[page] != 0;
         if (!frame_of[page]) {
-            for (; is_used[at]; at = (at + 1) % FRAMES) is_used[at] = 0;
+            for (; is_used[at]; at = (at + 1) % count) is_used[at] = 0;
             if (frame_of[page_in[at]] == at + 1) frame_of[page_in[at]] = 0;
             page_in[at] = page;
             frame_of[page] = at + 1;
-            at = (at + 1) % FRAMES;
+            at = (at + 1) % count;
         }
         is_used[frame_of[page] - 1] = 1;
     }
@@ -229,11 +245,12 @@ static long plain_hits(void) {
 int main(int count, char **words) {
     if (count > 1) requests = atol(words[1]);
     CHECK(requests >= 20000);
-    long plain = plain_hits(), most_apart = requests / 100;
-    CHECK(hits(1, VBR_MAX_EPOCH, AMPLE) == plain);
-    CHECK(hits(1, 2000, 16) == plain && tired > 0 && renewals > 0);
-    CHECK(labs(hits(4, VBR_MAX_EPOCH, AMPLE) - plain) <= most_apart);
-    CHECK(labs(hits(4, 2000, 16) - plain) <= most_apart && tired > 0 && renewals > 0);
+    long plain = plain_hits(FRAMES), most_apart = requests / 100;
+    CHECK(hits(1, SLOTS, VBR_MAX_EPOCH, AMPLE) == plain);
+    CHECK(hits(1, SLOTS, 2000, 16) == plain && tired > 0 && renewals > 0);
+    CHECK(labs(hits(1, FEW_SLOTS, VBR_MAX_EPOCH, AMPLE) - plain_hits(FEW_SLOTS)) <= most_apart && full > 0);
+    CHECK(labs(hits(4, SLOTS, VBR_MAX_EPOCH, AMPLE) - plain) <= most_apart);
+    CHECK(labs(hits(4, SLOTS, 2000, 16) - plain) <= most_apart && tired > 0 && renewals > 0);
     printf("page cache in C: passed, %ld of %ld requests are hits of a plain cache\n", plain, requests);
     return 0;
 }
