@@ -32,13 +32,12 @@
    free, each block aligned to 16 bytes as these align it, what copies and fills memory, and madvise, by which it offers
    large blocks to the kernel for large pages. It is built for processors of x86-64-v2 and later, under Linux.
 
-   Maps. Each call on a set has its like on a map, with `vbr_map_` in its name, and handles of a type of their own. What is said
-   here of sets, keys and calls holds of maps, entries and their calls too, as vbr_map_get is a look-up like vbr_has, but for
-   what this paragraph says. A key keeps the value that it was inserted with until it is removed: an insert of a key that is
-   there answers VBR_NO, and its value goes nowhere. To give a key another value remove it and insert it again; in between
-   others find it absent. vbr_map_get and vbr_map_remove write the value where they answer VBR_YES, and nothing otherwise.
-   The value is the one that was stored last for the key, in the same history that has the answer: never one of an earlier
-   insert, or of one that was answered VBR_NO. A map takes 8 bytes more for each slot.
+   Maps. Each call on a set has its like on a map, with `vbr_map_` in its name, and handles to maps are of a type of their own.
+   What is said here of sets and their keys holds of maps and their entries too; vbr_map_get is a second kind of look-up.
+   A key keeps the value that it was inserted with until it is removed: an insert of a key that is there answers VBR_NO and
+   stores nothing. To give a key another value remove it and insert it again; in between others find it absent. vbr_map_get and
+   vbr_map_remove write the value where they answer VBR_YES, and nothing otherwise. It is the value that was stored last for
+   the key in the history that has the answer: never one of an earlier insert, nor of one that was answered VBR_NO.
 
    Who owns what. A set is opened with 1 to 64 handles, and each handle owns one pass of the set, the
    right to make calls, and a share of the set. A handle is all zero while it is empty: write {0}, or {} in
