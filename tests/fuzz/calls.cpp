@@ -324,9 +324,11 @@ private:
         }
     }
 
-    // Inserts and removes of one key in turn: slots are used again, and the epoch moves.
+    // Inserts and removes of one key in turn: slots are used again, and the epoch moves. In a map a second insert stores nothing,
+    // and a get tells what the first one stored.
     void burst(size_t cell, uint64_t key, int count) {
-        for (int i = 0; i < count % 64; i++) call(i % 2 ? REMOVE : INSERT, cell, key);
+        static const std::vector<Kind> turn = Of::HAS_VALUES ? std::vector{INSERT, INSERT, GET, REMOVE} : std::vector{INSERT, REMOVE};
+        for (size_t i = 0; i < static_cast<size_t>(count % 64); i++) call(turn[i % turn.size()], cell, key);
     }
 
     void close(size_t cell, size_t room) {
