@@ -40,7 +40,7 @@ help:
 	@echo 'make bench               prove and run the measurements, in their short form, and print a CSV table'
 	@echo 'make bench BENCH=        the same in their full form; BENCH has the options of crates/vbr_bench'
 	@echo 'make plot                the same, and draw the table: target/bench.csv, target/bench.svg'
-	@echo 'make compare             the library beside libcds, liburcu, crossbeam-epoch, dashmap and locks'
+	@echo 'make compare             sets and maps of the library beside libcds, liburcu, crossbeam-epoch, dashmap and locks'
 	@echo 'make prebuilt            put the library and the program, as they are proved here, into prebuilt/'
 	@echo 'make clean               remove what was built and what checks keep'
 	@tools/needs

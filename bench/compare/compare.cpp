@@ -1,5 +1,6 @@
-// The comparison: compare [OPTIONS], of which docs/BENCHMARKS.md tells. Checks each peer, and then prints a table in CSV.
-#include "workload.hpp"
+// The comparison of sets or of maps: compare [OPTIONS], of which docs/BENCHMARKS.md tells. Checks each peer, and then prints a
+// table in CSV.
+#include "single.hpp"
 
 #include <iterator>
 #include <sys/wait.h>
@@ -9,6 +10,7 @@ namespace {
 using Count = unsigned long long;
 
 struct Options {
+    bool maps = false; // in place of sets
     bool only_checks = false;
     uint64_t repeats = 5, again = 3, milliseconds = 200;
     uint64_t operations = 0; // of each thread; 0: as many as fill the milliseconds
@@ -24,14 +26,17 @@ struct Cell {
     std::vector<Run> runs;
     uint64_t again = 0; // how often a disturbed run was made once more
     double spent = 0;   // seconds that all runs took, with all that goes before and after the measured calls
+    const Single *single = nullptr; // of calls of one kind
 
     bool is_slow() const { return spent > 20; }
     std::string workload_name() const {
         const Workload &w = workload;
         if (w.is_fill()) return "fill=" + std::to_string(w.range);
+        if (single) return "range=" + std::to_string(w.range) + " calls=" + single->calls;
         return "range=" + std::to_string(w.range) + " mix=" + std::to_string(w.has) + "/" + std::to_string(w.insert) + "/" +
                std::to_string(w.remove);
     }
+    uint64_t possible(uint64_t operations) const { return single ? single->possible(operations, workload.range) : operations; }
     std::string name() const { return peer->name + ", " + workload_name() + ", threads=" + std::to_string(workload.threads); }
 
     // The fastest that wasn't disturbed, if there is one.
@@ -88,6 +93,15 @@ void check(const Peer &peer) {
     std::fprintf(stderr, "compare: %s: the answers of four threads balance\n", peer.name.c_str());
 }
 
+// The twin is to answer as the library does, and what isn't among the peers' calls is to balance as theirs.
+void check_singles() {
+    if (!in_a_process<bool>("twin", twin_answers_as_the_library)) std::exit(1);
+    std::fputs("compare: twin: answers random calls as the library does\n", stderr);
+    std::stable_sort(singles().begin(), singles().end(), [](const Single &a, const Single &b) { return std::string(a.calls) < b.calls; });
+    for (const Single &it : singles())
+        if (it.peer.wrong_keys) check({it.peer.name + " by " + it.calls, nullptr, it.peer.wrong_keys});
+}
+
 Run measured(Cell &cell, const Workload &workload) {
     auto start = std::chrono::steady_clock::now();
     Run run = in_a_process<Run>(cell.name(), [&] { return cell.peer->measure(workload); });
@@ -100,13 +114,22 @@ Run measured(Cell &cell, const Workload &workload) {
 // So many calls that a run takes about as long as it shall, by a short run that doesn't count.
 uint64_t fitting_operations(Cell &cell, uint64_t milliseconds) {
     Workload trial = cell.workload;
-    trial.operations = 20000 * trial.threads;
+    trial.operations = cell.possible(20000 * trial.threads);
     double a_second = static_cast<double>(trial.operations) / measured(cell, trial).seconds;
     double fitting = a_second * static_cast<double>(milliseconds) / 1000;
     uint64_t operations = std::max<uint64_t>(trial.threads, static_cast<uint64_t>(fitting)), unit = 1;
     while (operations / unit >= 100) unit *= 10;
-    return operations / unit * unit;
+    return cell.possible(operations / unit * unit);
 }
+
+// Those of one kind stand together, as their ratios are asked for.
+void add_singles(std::vector<Cell> &cells, const Options &options) {
+    for (uint64_t range : options.ranges)
+        for (const Single &it : singles())
+            cells.push_back({&it.peer, {range, it.has, it.insert, it.remove, 1, it.possible(options.operations, range), 0}, {}, 0, 0, &it});
+}
+
+std::vector<Peer> &peers_of(const Options &options) { return options.maps ? map_peers() : peers(); }
 
 std::vector<Cell> cells(const Options &options) {
     static const unsigned mixes[][3] = {{100, 0, 0}, {90, 5, 5}, {50, 25, 25}, {0, 50, 50}};
@@ -114,13 +137,14 @@ std::vector<Cell> cells(const Options &options) {
     for (uint64_t range : options.ranges)
         for (auto &mix : mixes)
             for (unsigned threads : {1u, 2u, 4u})
-                for (const Peer &peer : peers())
+                for (const Peer &peer : peers_of(options))
                     cells.push_back({&peer, {range, mix[0], mix[1], mix[2], threads, options.operations * threads, 0}, {}});
+    if (options.maps) add_singles(cells, options);
     if (options.operations == 0) std::fputs("compare: finding how many calls a run shall have\n", stderr);
     for (Cell &cell : cells)
         if (options.operations == 0) cell.workload.operations = fitting_operations(cell, options.milliseconds);
     for (unsigned threads : {1u, 2u, 4u})
-        for (const Peer &peer : peers())
+        for (const Peer &peer : peers_of(options))
             if (options.fill) cells.push_back({&peer, {options.fill, 0, 0, 0, threads, options.fill, 0}, {}});
     return cells;
 }
@@ -209,7 +233,7 @@ void warn(const std::vector<Cell> &cells) {
 }
 
 [[noreturn]] void usage() {
-    std::fputs("usage: compare [--short] [--ranges N,N] [--fill N] [--repeats N] [--again N] [--milliseconds N]\n"
+    std::fputs("usage: compare [--sets | --maps] [--short] [--ranges N,N] [--fill N] [--repeats N] [--again N] [--milliseconds N]\n"
                "               [--operations N] [--log FILE] [--check]\n", stderr);
     std::exit(2);
 }
@@ -232,10 +256,15 @@ std::vector<uint64_t> numbers(const std::string &words) {
 
 Options read(int count, char **words) {
     Options options;
+    std::string kind;
     for (int i = 1; i < count; i++) {
         std::string word = words[i];
         auto value = [&] { return i + 1 < count ? words[++i] : (usage(), nullptr); };
-        if (word == "--check") options.only_checks = true;
+        if (word == "--sets" || word == "--maps") {
+            if (!kind.empty() && kind != word) usage();
+            kind = word;
+            options.maps = word == "--maps";
+        } else if (word == "--check") options.only_checks = true;
         else if (word == "--short") options.ranges = {100, 10000}, options.fill = 0, options.repeats = 3;
         else if (word == "--ranges") options.ranges = numbers(value());
         else if (word == "--fill") options.fill = number(value(), 0);
@@ -253,8 +282,10 @@ Options read(int count, char **words) {
 
 int main(int count, char **words) {
     Options options = read(count, words);
-    std::sort(peers().begin(), peers().end(), [](const Peer &a, const Peer &b) { return a.name < b.name; });
-    for (const Peer &peer : peers()) check(peer);
+    std::vector<Peer> &all = peers_of(options);
+    std::sort(all.begin(), all.end(), [](const Peer &a, const Peer &b) { return a.name < b.name; });
+    for (const Peer &peer : all) check(peer);
+    if (options.maps) check_singles();
     if (options.only_checks) return 0;
     Log log(options.log);
     std::vector<Cell> table = cells(options);

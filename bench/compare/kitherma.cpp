@@ -1,15 +1,29 @@
-// Kitherma, through its C library.
+// Kitherma, through its C library: the set, and the map.
+#include "single.hpp"
 #include "vbr.h"
-#include "workload.hpp"
 
 namespace {
+
+constexpr uint32_t BUDGET = 1000000;
+
+[[noreturn]] void refused() {
+    std::fputs("compare: a call of Kitherma was refused\n", stderr);
+    std::_Exit(1);
+}
+
+bool answer(int32_t answer) {
+    if (answer < 0) refused();
+    return answer;
+}
+
+// As many as the peers have, up to the library's limit, which is a power of two too.
+uint32_t buckets(const Workload &w) { return static_cast<uint32_t>(std::min<size_t>(w.buckets(), VBR_MAX_BUCKETS)); }
 
 struct Kitherma {
     std::vector<vbr_handle> handles;
 
     explicit Kitherma(const Workload &w) : handles(w.threads) {
-        uint32_t slots = static_cast<uint32_t>(w.range + 128 * w.threads);
-        if (vbr_open(handles.data(), handles.size(), slots, buckets(w), VBR_MAX_EPOCH) != VBR_NO) refused();
+        if (vbr_open(handles.data(), handles.size(), w.slots(), buckets(w), VBR_MAX_EPOCH) != VBR_NO) refused();
     }
     ~Kitherma() {
         for (vbr_handle &handle : handles) vbr_drop(&handle);
@@ -23,23 +37,32 @@ struct Kitherma {
     bool insert(Handle &h, uint64_t key) { return answer(vbr_insert(h.of, key, BUDGET)); }
     bool remove(Handle &h, uint64_t key) { return answer(vbr_remove(h.of, key, BUDGET)); }
     bool has(Handle &h, uint64_t key) { return answer(vbr_has(h.of, key, BUDGET)); }
+};
 
-private:
-    static constexpr uint32_t BUDGET = 1000000;
+struct KithermaMap {
+    std::vector<vbr_map_handle> handles;
 
-    // As many as the peers have, up to the library's limit, which is a power of two too.
-    static uint32_t buckets(const Workload &w) { return static_cast<uint32_t>(std::min<size_t>(w.buckets(), VBR_MAX_BUCKETS)); }
-
-    static bool answer(int32_t answer) {
-        if (answer < 0) refused();
-        return answer;
+    explicit KithermaMap(const Workload &w) : handles(w.threads) {
+        if (vbr_map_open(handles.data(), handles.size(), w.slots(), buckets(w), VBR_MAX_EPOCH) != VBR_NO) refused();
     }
-    [[noreturn]] static void refused() {
-        std::fputs("compare: a call of Kitherma was refused\n", stderr);
-        std::_Exit(1);
+    ~KithermaMap() {
+        for (vbr_map_handle &handle : handles) vbr_map_drop(&handle);
     }
+
+    struct Handle {
+        vbr_map_handle *of;
+        Handle(KithermaMap &peer, unsigned thread) : of(&peer.handles[thread]) {}
+    };
+
+    bool insert(Handle &h, uint64_t key, uint64_t value) { return answer(vbr_map_insert(h.of, key, value, BUDGET)); }
+    bool remove(Handle &h, uint64_t key, uint64_t &value) { return answer(vbr_map_remove(h.of, key, BUDGET, &value)); }
+    bool get(Handle &h, uint64_t key, uint64_t &value) { return answer(vbr_map_get(h.of, key, BUDGET, &value)); }
+    bool has(Handle &h, uint64_t key) { return answer(vbr_map_has(h.of, key, BUDGET)); }
 };
 
 PEER("kitherma", Kitherma);
+MAP_PEER("kitherma", KithermaMap);
+const bool singles_of_map = add_singles_of_map<KithermaMap>("kitherma");
+const bool singles_of_set = add_singles_of_set<Kitherma>("kitherma set");
 
 }  // namespace

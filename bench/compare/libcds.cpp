@@ -1,21 +1,26 @@
-// libcds: Michael's hash set, whose nodes are reclaimed by hazard pointers.
-#include "workload.hpp"
+// libcds: Michael's hash set and hash map, whose nodes are reclaimed by hazard pointers.
+#include "map.hpp"
 
 #include <cds/gc/hp.h>
 #include <cds/init.h>
 
+#include <cds/container/michael_kvlist_hp.h>
 #include <cds/container/michael_list_hp.h>
+#include <cds/container/michael_map.h>
 #include <cds/container/michael_set.h>
 
 namespace {
 
 namespace cc = cds::container;
-using List = cc::MichaelList<cds::gc::HP, uint64_t, cc::michael_list::make_traits<cds::opt::less<std::less<uint64_t>>>::type>;
-using Set = cc::MichaelHashSet<
-    cds::gc::HP, List,
-    cc::michael_set::make_traits<cds::opt::hash<Identity>, cds::opt::item_counter<cds::atomicity::empty_item_counter>>::type>;
+using Traits = cc::michael_list::make_traits<cds::opt::less<std::less<uint64_t>>>::type;
+using NoCounter = cds::opt::item_counter<cds::atomicity::empty_item_counter>;
+using Set = cc::MichaelHashSet<cds::gc::HP, cc::MichaelList<cds::gc::HP, uint64_t, Traits>,
+                               cc::michael_set::make_traits<cds::opt::hash<Identity>, NoCounter>::type>;
+using Map = cc::MichaelHashMap<cds::gc::HP, cc::MichaelKVList<cds::gc::HP, uint64_t, uint64_t, Traits>,
+                               cc::michael_map::make_traits<cds::opt::hash<Identity>, NoCounter>::type>;
 
-struct Libcds {
+// A set or a map, with the library behind it.
+template <class T> struct Libcds {
     struct Library {
         Library() { cds::Initialize(); }
         ~Library() { cds::Terminate(); }
@@ -27,20 +32,37 @@ struct Libcds {
     Library library;
     cds::gc::HP hazards;
     Attached attached;
-    Set set;
+    T table;
 
-    explicit Libcds(const Workload &w) : hazards(Set::c_nHazardPtrCount, w.threads + 3), set(w.buckets(), 1) {}
+    explicit Libcds(const Workload &w) : hazards(T::c_nHazardPtrCount, w.threads + 3), table(w.buckets(), 1) {}
 
     struct Handle {
         Attached attached;
         Handle(Libcds &, unsigned) {}
     };
-
-    bool insert(Handle &, uint64_t key) { return set.insert(key); }
-    bool remove(Handle &, uint64_t key) { return set.erase(key); }
-    bool has(Handle &, uint64_t key) { return set.contains(key); }
 };
 
-PEER("libcds HP", Libcds);
+struct LibcdsSet : Libcds<Set> {
+    using Libcds::Libcds;
+
+    bool insert(Handle &, uint64_t key) { return table.insert(key); }
+    bool remove(Handle &, uint64_t key) { return table.erase(key); }
+    bool has(Handle &, uint64_t key) { return table.contains(key); }
+};
+
+struct LibcdsMap : Libcds<Map> {
+    using Libcds::Libcds;
+
+    bool insert(Handle &, uint64_t key, uint64_t value) { return table.insert(key, value); }
+    bool remove(Handle &, uint64_t key, uint64_t &value) {
+        return table.erase(key, [&](Map::value_type &entry) { value = entry.second; });
+    }
+    bool get(Handle &, uint64_t key, uint64_t &value) {
+        return table.find(key, [&](Map::value_type &entry) { value = entry.second; });
+    }
+};
+
+PEER("libcds HP", LibcdsSet);
+MAP_PEER("libcds HP", LibcdsMap);
 
 }  // namespace

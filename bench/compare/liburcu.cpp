@@ -1,5 +1,5 @@
-// liburcu: its lock-free hash table, with a fixed number of buckets, whose nodes are reclaimed by RCU.
-#include "workload.hpp"
+// liburcu: its lock-free hash table, with a fixed number of buckets, whose nodes are reclaimed by RCU; as a set, and as a map.
+#include "map.hpp"
 
 #define _LGPL_SOURCE // its read lock is inlined
 #include <urcu.h>
@@ -7,27 +7,32 @@
 
 namespace {
 
-struct Node {
+struct KeyNode {
     cds_lfht_node link;
     rcu_head head;
     uint64_t key;
 };
 
-int matches(cds_lfht_node *link, const void *key) {
-    return caa_container_of(link, Node, link)->key == *static_cast<const uint64_t *>(key);
-}
+struct EntryNode : KeyNode {
+    uint64_t value;
+};
 
-void free_node(rcu_head *head) { delete caa_container_of(head, Node, head); }
+KeyNode *node_of(cds_lfht_node *link) { return caa_container_of(link, KeyNode, link); }
 
-struct Liburcu {
-    struct Registered {
-        Registered() { rcu_register_thread(); }
-        ~Registered() { rcu_unregister_thread(); }
-    };
-    struct Reading {
-        Reading() { rcu_read_lock(); }
-        ~Reading() { rcu_read_unlock(); }
-    };
+int matches(cds_lfht_node *link, const void *key) { return node_of(link)->key == *static_cast<const uint64_t *>(key); }
+
+template <class Node> void free_node(rcu_head *head) { delete static_cast<Node *>(caa_container_of(head, KeyNode, head)); }
+
+struct Registered {
+    Registered() { rcu_register_thread(); }
+    ~Registered() { rcu_unregister_thread(); }
+};
+struct Reading {
+    Reading() { rcu_read_lock(); }
+    ~Reading() { rcu_read_unlock(); }
+};
+
+template <class Node> struct Liburcu {
     cds_lfht *table;
 
     explicit Liburcu(const Workload &w) : table(cds_lfht_new(w.buckets(), w.buckets(), w.buckets(), 0, nullptr)) {
@@ -39,7 +44,7 @@ struct Liburcu {
             Reading reading;
             cds_lfht_iter at;
             for (cds_lfht_first(table, &at); cds_lfht_node *link = cds_lfht_iter_get_node(&at); cds_lfht_next(table, &at))
-                if (cds_lfht_del(table, link) == 0) call_rcu(&caa_container_of(link, Node, link)->head, free_node);
+                if (cds_lfht_del(table, link) == 0) call_rcu(&node_of(link)->head, free_node<Node>);
         }
         rcu_barrier();
         cds_lfht_destroy(table, nullptr);
@@ -50,34 +55,73 @@ struct Liburcu {
         Handle(Liburcu &, unsigned) {}
     };
 
+    // Within a read section.
     cds_lfht_node *found(uint64_t key) {
         cds_lfht_iter at;
         cds_lfht_lookup(table, key, matches, &key, &at);
         return cds_lfht_iter_get_node(&at);
     }
-    bool has(Handle &, uint64_t key) {
-        Reading reading;
-        return found(key) != nullptr;
-    }
-    bool insert(Handle &, uint64_t key) {
-        Reading reading;
-        if (found(key)) return false;  // so that a key that is there costs no memory
-        Node *node = new Node;
+    bool add(Node *node, uint64_t key) {
         cds_lfht_node_init(&node->link);
         node->key = key;
         bool added = cds_lfht_add_unique(table, key, matches, &key, &node->link) == &node->link;
         if (!added) delete node;
         return added;
     }
-    bool remove(Handle &, uint64_t key) {
-        Reading reading;
-        cds_lfht_node *link = found(key);
+    bool take_out(cds_lfht_node *link) {
         if (!link || cds_lfht_del(table, link) != 0) return false;
-        call_rcu(&caa_container_of(link, Node, link)->head, free_node);
+        call_rcu(&node_of(link)->head, free_node<Node>);
         return true;
     }
 };
 
-PEER("liburcu", Liburcu);
+// An insert looks first, so that a key that is there costs no memory.
+struct LiburcuSet : Liburcu<KeyNode> {
+    using Liburcu::Liburcu;
+
+    bool has(Handle &, uint64_t key) {
+        Reading reading;
+        return found(key) != nullptr;
+    }
+    bool insert(Handle &, uint64_t key) {
+        Reading reading;
+        if (found(key)) return false;
+        return add(new KeyNode, key);
+    }
+    bool remove(Handle &, uint64_t key) {
+        Reading reading;
+        return take_out(found(key));
+    }
+};
+
+struct LiburcuMap : Liburcu<EntryNode> {
+    using Liburcu::Liburcu;
+
+    bool get(Handle &, uint64_t key, uint64_t &value) {
+        Reading reading;
+        cds_lfht_node *link = found(key);
+        if (link) value = value_of(link);
+        return link != nullptr;
+    }
+    bool insert(Handle &, uint64_t key, uint64_t value) {
+        Reading reading;
+        if (found(key)) return false;
+        EntryNode *node = new EntryNode;
+        node->value = value;
+        return add(node, key);
+    }
+    bool remove(Handle &, uint64_t key, uint64_t &value) {
+        Reading reading;
+        cds_lfht_node *link = found(key);
+        if (link) value = value_of(link);
+        return take_out(link);
+    }
+
+private:
+    static uint64_t value_of(cds_lfht_node *link) { return static_cast<EntryNode *>(node_of(link))->value; }
+};
+
+PEER("liburcu", LiburcuSet);
+MAP_PEER("liburcu", LiburcuMap);
 
 }  // namespace

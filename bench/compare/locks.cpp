@@ -1,54 +1,100 @@
-// Locks round the hash set of the standard library, which takes about as many buckets as keys.
-#include "workload.hpp"
+// Locks round the hash set and the hash map of the standard library, which take about as many buckets as keys.
+#include "map.hpp"
 
 #include <mutex>
 #include <shared_mutex>
+#include <unordered_map>
 #include <unordered_set>
 
 namespace {
 
 // Some parts, each with a lock of its own; a key belongs to one of them by its high bits.
-template <class Lock, class ReadGuard, unsigned PARTS> struct Locked {
+template <class Table, class Lock, unsigned PARTS> struct Parts {
     struct alignas(128) Part {
         Lock lock;
-        std::unordered_set<uint64_t, Identity> keys;
+        Table keys;
     };
     std::vector<Part> parts;
 
-    explicit Locked(const Workload &w) : parts(PARTS) {
+    explicit Parts(const Workload &w) : parts(PARTS) {
         for (Part &part : parts) part.keys.reserve(w.keys() / PARTS + 1);
     }
 
     struct Handle {
-        Handle(Locked &, unsigned) {}
+        Handle(Parts &, unsigned) {}
     };
 
+    Part &part_of(uint64_t key) { return parts[(key >> 32) % PARTS]; }
+};
+
+template <class Lock, class ReadGuard, unsigned PARTS> struct Locked : Parts<std::unordered_set<uint64_t, Identity>, Lock, PARTS> {
+    using Base = Parts<std::unordered_set<uint64_t, Identity>, Lock, PARTS>;
+    using Base::Base;
+    using typename Base::Handle, typename Base::Part;
+
     bool insert(Handle &, uint64_t key) {
-        Part &part = part_of(key);
+        Part &part = this->part_of(key);
         std::lock_guard<Lock> guard(part.lock);
         return part.keys.insert(key).second;
     }
     bool remove(Handle &, uint64_t key) {
-        Part &part = part_of(key);
+        Part &part = this->part_of(key);
         std::lock_guard<Lock> guard(part.lock);
         return part.keys.erase(key) != 0;
     }
     bool has(Handle &, uint64_t key) {
-        Part &part = part_of(key);
+        Part &part = this->part_of(key);
         ReadGuard guard(part.lock);
         return part.keys.count(key) != 0;
     }
-
-private:
-    Part &part_of(uint64_t key) { return parts[(key >> 32) % PARTS]; }
 };
 
-using Mutex = Locked<std::mutex, std::lock_guard<std::mutex>, 1>;
-using SharedMutex = Locked<std::shared_mutex, std::shared_lock<std::shared_mutex>, 1>;
-using Mutexes = Locked<std::mutex, std::lock_guard<std::mutex>, 64>;
+template <class Lock, class ReadGuard, unsigned PARTS>
+struct LockedMap : Parts<std::unordered_map<uint64_t, uint64_t, Identity>, Lock, PARTS> {
+    using Base = Parts<std::unordered_map<uint64_t, uint64_t, Identity>, Lock, PARTS>;
+    using Base::Base;
+    using typename Base::Handle, typename Base::Part;
+
+    bool insert(Handle &, uint64_t key, uint64_t value) {
+        Part &part = this->part_of(key);
+        std::lock_guard<Lock> guard(part.lock);
+        return part.keys.try_emplace(key, value).second;
+    }
+    bool remove(Handle &, uint64_t key, uint64_t &value) {
+        Part &part = this->part_of(key);
+        std::lock_guard<Lock> guard(part.lock);
+        auto at = part.keys.find(key);
+        if (at == part.keys.end()) return false;
+        value = at->second;
+        part.keys.erase(at);
+        return true;
+    }
+    bool get(Handle &, uint64_t key, uint64_t &value) {
+        Part &part = this->part_of(key);
+        ReadGuard guard(part.lock);
+        auto at = part.keys.find(key);
+        if (at == part.keys.end()) return false;
+        value = at->second;
+        return true;
+    }
+};
+
+template <template <class, class, unsigned> class T> using OfMutex = T<std::mutex, std::lock_guard<std::mutex>, 1>;
+template <template <class, class, unsigned> class T> using OfSharedMutex = T<std::shared_mutex, std::shared_lock<std::shared_mutex>, 1>;
+template <template <class, class, unsigned> class T> using OfMutexes = T<std::mutex, std::lock_guard<std::mutex>, 64>;
+
+using Mutex = OfMutex<Locked>;
+using SharedMutex = OfSharedMutex<Locked>;
+using Mutexes = OfMutexes<Locked>;
+using MutexMap = OfMutex<LockedMap>;
+using SharedMutexMap = OfSharedMutex<LockedMap>;
+using MutexesMap = OfMutexes<LockedMap>;
 
 PEER("mutex", Mutex);
 PEER("shared mutex", SharedMutex);
 PEER("64 mutexes", Mutexes);
+MAP_PEER("mutex", MutexMap);
+MAP_PEER("shared mutex", SharedMutexMap);
+MAP_PEER("64 mutexes", MutexesMap);
 
 }  // namespace

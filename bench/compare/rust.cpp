@@ -1,40 +1,63 @@
-// The peers in Rust: Michael's hash set over crossbeam-epoch, and dashmap, of the crate in rust/.
-#include "workload.hpp"
+// The peers in Rust: Michael's hash set and hash map over crossbeam-epoch, and dashmap, of the crate in rust/.
+#include "map.hpp"
 
-struct RustSet;
+struct RustTable;
 
 #define DECLARED(NAME)                                                                                                     \
     extern "C" {                                                                                                           \
-    RustSet *NAME##_open(size_t buckets, size_t keys);                                                                     \
-    void NAME##_close(RustSet *);                                                                                          \
-    bool NAME##_insert(RustSet *, uint64_t);                                                                               \
-    bool NAME##_remove(RustSet *, uint64_t);                                                                               \
-    bool NAME##_has(RustSet *, uint64_t);                                                                                  \
+    RustTable *NAME##_set_open(size_t buckets, size_t keys);                                                               \
+    void NAME##_set_close(RustTable *);                                                                                    \
+    bool NAME##_set_insert(RustTable *, uint64_t);                                                                         \
+    bool NAME##_set_remove(RustTable *, uint64_t);                                                                         \
+    bool NAME##_set_has(RustTable *, uint64_t);                                                                            \
+    RustTable *NAME##_map_open(size_t buckets, size_t keys);                                                               \
+    void NAME##_map_close(RustTable *);                                                                                    \
+    bool NAME##_map_insert(RustTable *, uint64_t key, uint64_t value);                                                     \
+    bool NAME##_map_remove(RustTable *, uint64_t key, uint64_t *value);                                                    \
+    bool NAME##_map_get(RustTable *, uint64_t key, uint64_t *value);                                                       \
     }
-DECLARED(epoch_set)
-DECLARED(dash_set)
+DECLARED(epoch)
+DECLARED(dash)
 
 namespace {
 
-template <auto OPEN, auto CLOSE, auto INSERT, auto REMOVE, auto HAS> struct Rust {
-    RustSet *set;
+template <auto OPEN, auto CLOSE> struct Rust {
+    RustTable *table;
 
-    explicit Rust(const Workload &w) : set(OPEN(w.buckets(), w.keys())) {}
-    ~Rust() { CLOSE(set); }
+    explicit Rust(const Workload &w) : table(OPEN(w.buckets(), w.keys())) {}
+    ~Rust() { CLOSE(table); }
 
     struct Handle {
         Handle(Rust &, unsigned) {}
     };
-
-    bool insert(Handle &, uint64_t key) { return INSERT(set, key); }
-    bool remove(Handle &, uint64_t key) { return REMOVE(set, key); }
-    bool has(Handle &, uint64_t key) { return HAS(set, key); }
 };
 
-using Crossbeam = Rust<epoch_set_open, epoch_set_close, epoch_set_insert, epoch_set_remove, epoch_set_has>;
-using Dashmap = Rust<dash_set_open, dash_set_close, dash_set_insert, dash_set_remove, dash_set_has>;
+template <auto OPEN, auto CLOSE, auto INSERT, auto REMOVE, auto HAS> struct RustSet : Rust<OPEN, CLOSE> {
+    using Rust<OPEN, CLOSE>::Rust;
+    using typename Rust<OPEN, CLOSE>::Handle;
+
+    bool insert(Handle &, uint64_t key) { return INSERT(this->table, key); }
+    bool remove(Handle &, uint64_t key) { return REMOVE(this->table, key); }
+    bool has(Handle &, uint64_t key) { return HAS(this->table, key); }
+};
+
+template <auto OPEN, auto CLOSE, auto INSERT, auto REMOVE, auto GET> struct RustMap : Rust<OPEN, CLOSE> {
+    using Rust<OPEN, CLOSE>::Rust;
+    using typename Rust<OPEN, CLOSE>::Handle;
+
+    bool insert(Handle &, uint64_t key, uint64_t value) { return INSERT(this->table, key, value); }
+    bool remove(Handle &, uint64_t key, uint64_t &value) { return REMOVE(this->table, key, &value); }
+    bool get(Handle &, uint64_t key, uint64_t &value) { return GET(this->table, key, &value); }
+};
+
+using Crossbeam = RustSet<epoch_set_open, epoch_set_close, epoch_set_insert, epoch_set_remove, epoch_set_has>;
+using CrossbeamMap = RustMap<epoch_map_open, epoch_map_close, epoch_map_insert, epoch_map_remove, epoch_map_get>;
+using Dashmap = RustSet<dash_set_open, dash_set_close, dash_set_insert, dash_set_remove, dash_set_has>;
+using DashmapMap = RustMap<dash_map_open, dash_map_close, dash_map_insert, dash_map_remove, dash_map_get>;
 
 PEER("crossbeam-epoch", Crossbeam);
 PEER("dashmap", Dashmap);
+MAP_PEER("crossbeam-epoch", CrossbeamMap);
+MAP_PEER("dashmap", DashmapMap);
 
 }  // namespace

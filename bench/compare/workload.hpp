@@ -32,6 +32,9 @@ struct Workload {
         return buckets;
     }
 
+    // Of what is in fixed memory: one for each key, and 128 for each thread.
+    constexpr uint32_t slots() const { return static_cast<uint32_t>(range + 128 * threads); }
+
     // Where the part of a thread begins, of the calls of all.
     uint64_t begin_of(unsigned thread) const { return operations * thread / threads; }
 };

@@ -1,6 +1,7 @@
-//! dashmap's set, with the key itself as its hash.
-use crate::Set;
-use dashmap::DashSet;
+//! dashmap's set and map, with the key itself as its hash.
+use crate::{Map, Set};
+use dashmap::mapref::entry::Entry;
+use dashmap::{DashMap, DashSet};
 use std::hash::{BuildHasherDefault, Hasher};
 
 #[derive(Default)]
@@ -19,6 +20,7 @@ impl Hasher for Identity {
 }
 
 pub type DashKeys = DashSet<u64, BuildHasherDefault<Identity>>;
+pub type DashEntries = DashMap<u64, u64, BuildHasherDefault<Identity>>;
 
 impl Set for DashKeys {
     fn open(_buckets: usize, keys: usize) -> DashKeys {
@@ -35,5 +37,29 @@ impl Set for DashKeys {
 
     fn remove(&self, key: u64) -> bool {
         DashSet::remove(self, &key).is_some()
+    }
+}
+
+impl Map for DashEntries {
+    fn open(_buckets: usize, keys: usize) -> DashEntries {
+        DashMap::with_capacity_and_hasher(keys, BuildHasherDefault::default())
+    }
+
+    fn get(&self, key: u64) -> Option<u64> {
+        DashMap::get(self, &key).map(|entry| *entry)
+    }
+
+    fn insert(&self, key: u64, value: u64) -> bool {
+        match self.entry(key) {
+            Entry::Occupied(_) => false,
+            Entry::Vacant(place) => {
+                place.insert(value);
+                true
+            }
+        }
+    }
+
+    fn remove(&self, key: u64) -> Option<u64> {
+        DashMap::remove(self, &key).map(|(_, value)| value)
     }
 }

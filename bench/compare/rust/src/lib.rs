@@ -1,9 +1,9 @@
-//! The peers in Rust, for the comparison, each behind five functions for C.
+//! The peers in Rust, for the comparison: sets and maps, each behind five functions for C.
 mod dash;
 mod epoch;
 
-use dash::DashKeys;
-use epoch::EpochSet;
+use dash::{DashEntries, DashKeys};
+use epoch::{EpochMap, EpochSet};
 
 pub trait Set {
     fn open(buckets: usize, keys: usize) -> Self;
@@ -12,7 +12,23 @@ pub trait Set {
     fn remove(&self, key: u64) -> bool;
 }
 
-macro_rules! export {
+/// A key that is there keeps its value at an insert.
+pub trait Map {
+    fn open(buckets: usize, keys: usize) -> Self;
+    fn get(&self, key: u64) -> Option<u64>;
+    fn insert(&self, key: u64, value: u64) -> bool;
+    fn remove(&self, key: u64) -> Option<u64>;
+}
+
+/// Writes a value where there is one, and says whether there is.
+fn give(given: Option<u64>, to: &mut u64) -> bool {
+    if let Some(value) = given {
+        *to = value;
+    }
+    given.is_some()
+}
+
+macro_rules! export_set {
     ($set:ty, $open:ident, $close:ident, $has:ident, $insert:ident, $remove:ident) => {
         #[no_mangle]
         pub extern "C" fn $open(buckets: usize, keys: usize) -> Box<$set> {
@@ -39,5 +55,34 @@ macro_rules! export {
     };
 }
 
-export!(EpochSet, epoch_set_open, epoch_set_close, epoch_set_has, epoch_set_insert, epoch_set_remove);
-export!(DashKeys, dash_set_open, dash_set_close, dash_set_has, dash_set_insert, dash_set_remove);
+macro_rules! export_map {
+    ($map:ty, $open:ident, $close:ident, $get:ident, $insert:ident, $remove:ident) => {
+        #[no_mangle]
+        pub extern "C" fn $open(buckets: usize, keys: usize) -> Box<$map> {
+            Box::new(<$map as Map>::open(buckets, keys))
+        }
+
+        #[no_mangle]
+        pub extern "C" fn $close(_map: Box<$map>) {}
+
+        #[no_mangle]
+        pub extern "C" fn $get(map: &$map, key: u64, value: &mut u64) -> bool {
+            give(Map::get(map, key), value)
+        }
+
+        #[no_mangle]
+        pub extern "C" fn $insert(map: &$map, key: u64, value: u64) -> bool {
+            Map::insert(map, key, value)
+        }
+
+        #[no_mangle]
+        pub extern "C" fn $remove(map: &$map, key: u64, value: &mut u64) -> bool {
+            give(Map::remove(map, key), value)
+        }
+    };
+}
+
+export_set!(EpochSet, epoch_set_open, epoch_set_close, epoch_set_has, epoch_set_insert, epoch_set_remove);
+export_set!(DashKeys, dash_set_open, dash_set_close, dash_set_has, dash_set_insert, dash_set_remove);
+export_map!(EpochMap, epoch_map_open, epoch_map_close, epoch_map_get, epoch_map_insert, epoch_map_remove);
+export_map!(DashEntries, dash_map_open, dash_map_close, dash_map_get, dash_map_insert, dash_map_remove);

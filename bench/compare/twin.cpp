@@ -1,0 +1,131 @@
+// The plain twin as a map, for the ratios; and whether it answers as the library does.
+#include "twin.hpp"
+#include "single.hpp"
+#include "vbr.h"
+
+namespace {
+
+constexpr uint32_t BUDGET = 1000000;
+
+struct Twin {
+    twin::Table<twin::Entries> table;
+    std::vector<twin::Pass> passes;
+
+    explicit Twin(const Workload &w) : table(w.slots(), static_cast<uint32_t>(w.buckets()), VBR_MAX_EPOCH), passes(w.threads) {}
+
+    struct Handle {
+        twin::Pass &pass;
+        Handle(Twin &peer, unsigned thread) : pass(peer.passes[thread]) {}
+    };
+
+    bool insert(Handle &h, uint64_t key, uint64_t value) { return answer(table.insert(h.pass, key, value, BUDGET)); }
+    bool remove(Handle &h, uint64_t key, uint64_t &value) { return answer(table.remove(h.pass, key, BUDGET, value)); }
+    bool get(Handle &h, uint64_t key, uint64_t &value) { return answer(table.get(h.pass, key, BUDGET, value)); }
+    bool has(Handle &h, uint64_t key) { return answer(table.has(h.pass, key, BUDGET)); }
+
+private:
+    static bool answer(twin::Answer answer) {
+        if (answer < 0) std::fputs("compare: a call of the twin was refused\n", stderr), std::_Exit(1);
+        return answer;
+    }
+};
+
+const bool singles_of_twin = add_singles_of_map<Twin>("twin");
+
+// The library's calls, of a set and of a map. What has no value leaves `value` as it is.
+struct Set {
+    using Nodes = twin::Keys;
+    vbr_handle handles[2] = {};
+
+    Set(uint32_t slots, uint32_t buckets, uint64_t last_epoch) {
+        if (vbr_open(handles, 2, slots, buckets, last_epoch) != VBR_NO) std::abort();
+    }
+    ~Set() {
+        for (vbr_handle &handle : handles) vbr_drop(&handle);
+    }
+    int insert(int by, uint64_t key, uint64_t, uint32_t budget) { return vbr_insert(&handles[by], key, budget); }
+    int remove(int by, uint64_t key, uint32_t budget, uint64_t &) { return vbr_remove(&handles[by], key, budget); }
+    int get(int by, uint64_t key, uint32_t budget, uint64_t &) { return has(by, key, budget); }
+    int has(int by, uint64_t key, uint32_t budget) { return vbr_has(&handles[by], key, budget); }
+    uint64_t epoch(int by) { return vbr_epoch(&handles[by]); }
+};
+
+struct Map {
+    using Nodes = twin::Entries;
+    vbr_map_handle handles[2] = {};
+
+    Map(uint32_t slots, uint32_t buckets, uint64_t last_epoch) {
+        if (vbr_map_open(handles, 2, slots, buckets, last_epoch) != VBR_NO) std::abort();
+    }
+    ~Map() {
+        for (vbr_map_handle &handle : handles) vbr_map_drop(&handle);
+    }
+    int insert(int by, uint64_t key, uint64_t value, uint32_t budget) { return vbr_map_insert(&handles[by], key, value, budget); }
+    int remove(int by, uint64_t key, uint32_t budget, uint64_t &value) { return vbr_map_remove(&handles[by], key, budget, &value); }
+    int get(int by, uint64_t key, uint32_t budget, uint64_t &value) { return vbr_map_get(&handles[by], key, budget, &value); }
+    int has(int by, uint64_t key, uint32_t budget) { return vbr_map_has(&handles[by], key, budget); }
+    uint64_t epoch(int by) { return vbr_map_epoch(&handles[by]); }
+};
+
+// The twin, with the same calls.
+template <class N> struct Plain {
+    twin::Table<N> table;
+    twin::Pass passes[2];
+
+    Plain(uint32_t slots, uint32_t buckets, uint64_t last_epoch) : table(slots, buckets, last_epoch) {}
+    int insert(int by, uint64_t key, uint64_t value, uint32_t budget) { return table.insert(passes[by], key, value, budget); }
+    int remove(int by, uint64_t key, uint32_t budget, uint64_t &value) { return table.remove(passes[by], key, budget, value); }
+    int get(int by, uint64_t key, uint32_t budget, uint64_t &value) { return table.get(passes[by], key, budget, value); }
+    int has(int by, uint64_t key, uint32_t budget) { return table.has(passes[by], key, budget); }
+    uint64_t epoch(int by) { return passes[by].epoch; }
+};
+
+// What a call told: its answer, the value, and the epoch that its caller has read last.
+struct Told {
+    int answer;
+    uint64_t value, epoch;
+    bool operator==(const Told &it) const { return answer == it.answer && value == it.value && epoch == it.epoch; }
+};
+
+struct Call {
+    unsigned kind;
+    int by;
+    uint64_t key, value;
+    uint32_t budget;
+};
+
+template <class T> Told told(T &of, const Call &call) {
+    uint64_t value = 0;
+    int answer = call.kind == 0   ? of.insert(call.by, call.key, call.value, call.budget)
+                 : call.kind == 1 ? of.remove(call.by, call.key, call.budget, value)
+                 : call.kind == 2 ? of.get(call.by, call.key, call.budget, value)
+                                  : of.has(call.by, call.key, call.budget);
+    return {answer, value, of.epoch(call.by)};
+}
+
+// Random calls of two callers in one thread. Of each eight three may be refused for want of steps: so an answer that took another
+// number of steps is found, and there are marked nodes that the next call meets.
+template <class L> bool answers_as(uint32_t slots, uint32_t buckets, uint64_t last_epoch, uint64_t keys) {
+    L library(slots, buckets, last_epoch);
+    Plain<typename L::Nodes> plain(slots, buckets, last_epoch);
+    Random random(keys);
+    for (uint64_t i = 0; i < 200000; i++) {
+        uint64_t x = random.next();
+        uint32_t budget = x >> 60 < 6 ? static_cast<uint32_t>(x >> 40) % 64 : 10000;
+        Call call{static_cast<unsigned>(x & 3), static_cast<int>(x >> 2 & 1), key_of((x >> 8 & 0xffffffff) % keys), i, budget};
+        if (told(library, call) == told(plain, call)) continue;
+        std::fprintf(stderr, "compare: the twin answers call %llu of %u slots otherwise than the library\n",
+                     static_cast<unsigned long long>(i), slots);
+        return false;
+    }
+    return true;
+}
+
+template <class L> bool answers_as() {
+    return answers_as<L>(1000, 1, VBR_MAX_EPOCH, 12) && answers_as<L>(70, 8, VBR_MAX_EPOCH, 100) && answers_as<L>(5, 2, 300, 8) &&
+           answers_as<L>(4096, 512, VBR_MAX_EPOCH, 2000);
+}
+
+}  // namespace
+
+bool twin_answers_as_the_library() { return answers_as<Set>() && answers_as<Map>(); }

@@ -1,0 +1,485 @@
+// A plain twin of the library, which nobody proved: a set or a map in fixed memory. On words that lie as the library's do it makes
+// the library's steps, in their order and by the same tests. So a ratio of the two tells what anything else than the steps costs.
+//
+// A step is one sequentially consistent operation on a word. A call counts its own in `used`, and before each piece of it, which
+// has up to eight, it tests whether the budget has room for them.
+#pragma once
+#include <algorithm>
+#include <atomic>
+#include <cstddef>
+#include <cstdint>
+#include <cstdlib>
+#include <new>
+#include <sys/mman.h>
+#include <utility>
+
+namespace twin {
+
+// As vbr.h has them.
+enum Answer { NO = 0, YES = 1, OUT_OF_STEPS = -1, NO_SLOT = -2, EPOCH_SPENT = -3 };
+
+// The kinds of nodes: those of a set, a key each, and those of a map, a key and its value.
+struct Keys {
+    static constexpr bool VALUES = false;
+};
+struct Entries {
+    static constexpr bool VALUES = true;
+};
+
+// A link word: the slot that it names, counted from 1, or 0; then a mark, and a version of 39 bits.
+constexpr uint64_t MARK = 1 << 24;
+constexpr uint64_t named_by(uint64_t word) { return word & (MARK - 1); }
+constexpr uint64_t link_to(uint64_t named, uint64_t holder_birth, uint64_t named_birth) {
+    return named | std::max(holder_birth, named_birth) << 25;
+}
+
+constexpr uint64_t PIECE = 8;
+constexpr bool affords(uint32_t budget, uint32_t used) { return used + PIECE <= budget; }
+
+// The slots of a pass, the oldest first. Those before `first` have left, so that the oldest leaves without a move of the others.
+class Pool {
+    static constexpr unsigned ROOM = 128;
+    unsigned first = 0, end = 0;
+    uint32_t cells[ROOM];
+
+    [[gnu::noinline]] void move_to_front() {
+        std::copy(cells + first, cells + end, cells);
+        end -= first;
+        first = 0;
+    }
+
+public:
+    unsigned size() const { return end - first; }
+    uint32_t operator[](unsigned i) const { return cells[first + i]; }
+    void push(uint32_t slot) {
+        if (end == ROOM) move_to_front();
+        cells[end++] = slot;
+    }
+    void remove(unsigned i) {
+        if (i == 0) {
+            first++;
+            return;
+        }
+        std::copy(cells + first + i + 1, cells + end, cells + first + i);
+        end--;
+    }
+};
+
+// What makes calls, in one thread at a time. Each has cache lines of its own.
+struct alignas(128) Pass {
+    uint64_t epoch = 1, steps = 0; // the epoch that it read last, and the steps of all its calls
+    uint32_t tried = 0;            // the slot that it tried last to take out of the shared pool
+    Pool pool;
+};
+
+// A place whose link word was read: a bucket's head, whose birth is 0, or a node.
+struct Held {
+    uint64_t at, birth, word;
+    uint64_t named; // as a link has it; 0: a head
+};
+
+// What comes of the unlinking of a marked node: whether it is out, the word that stands before it now, and the steps.
+struct Unlinked {
+    bool is_out;
+    uint64_t word;
+    uint32_t made;
+};
+
+// What comes of the taking of a slot, with its birth and the steps.
+struct Taken {
+    Answer answer; // YES, or why there is none
+    uint32_t slot;
+    uint64_t birth;
+    uint32_t made;
+};
+
+template <class N> class Call;
+
+// The words: the epoch, one for the shape, the heads of the buckets, the slots, and the flags of the shared pool.
+template <class N> class Table {
+    friend class Call<N>;
+    using Word = std::atomic<uint64_t>;
+
+    static constexpr uint64_t EPOCH = 0, HEADS = 2;
+    // in a slot, behind its link
+    static constexpr uint64_t BIRTH = 1, STAMP = 2, KEY = 3, VALUE = 4, WORDS = N::VALUES ? 5 : 4;
+    static constexpr unsigned POOL = 64;
+
+    const uint64_t slots, buckets, last_epoch, slots_at, flags_at;
+    Word *words;
+
+public:
+    Table(uint32_t slots, uint32_t buckets, uint64_t last_epoch)
+        : slots(slots), buckets(buckets), last_epoch(last_epoch), slots_at(HEADS + buckets), flags_at(slots_at + WORDS * slots) {
+        size_t count = flags_at + (slots + 63) / 64, size = count * sizeof(Word);
+        void *block = std::malloc(size);
+        if (!block) throw std::bad_alloc();
+        offer_for_large_pages(block, size);
+        words = static_cast<Word *>(block);
+        for (size_t i = 0; i < count; i++) new (&words[i]) Word(0);
+        words[EPOCH] = 1;
+        words[1] = slots + MARK * last_epoch;
+        for (uint32_t slot = 0; slot < slots; slot++) {
+            words[link_of(slot + 1)] = MARK;
+            words[flags_at + slot / 64] |= uint64_t{1} << slot % 64;
+        }
+    }
+    ~Table() { std::free(words); }
+    Table(const Table &) = delete;
+    Table &operator=(const Table &) = delete;
+
+    // The calls of a set; where nodes have none, no value is stored or given. As the library's they are called as functions.
+    [[gnu::noinline]] Answer insert(Pass &pass, uint64_t key, uint64_t value, uint32_t budget) {
+        return Call<N>(*this, pass, key, budget).insert(value);
+    }
+    // Where it answers YES it gives the value.
+    [[gnu::noinline]] Answer remove(Pass &pass, uint64_t key, uint32_t budget, uint64_t &value) {
+        return Call<N>(*this, pass, key, budget).remove(value);
+    }
+    // The same.
+    [[gnu::noinline]] Answer get(Pass &pass, uint64_t key, uint32_t budget, uint64_t &value) {
+        return Call<N>(*this, pass, key, budget).template look_up<N::VALUES>(value);
+    }
+    [[gnu::noinline]] Answer has(Pass &pass, uint64_t key, uint32_t budget) {
+        uint64_t none;
+        return Call<N>(*this, pass, key, budget).template look_up<false>(none);
+    }
+
+private:
+    // As bindings/large_pages.c does it for the library.
+    static void offer_for_large_pages(void *block, size_t size) {
+        constexpr uintptr_t PAGE = uintptr_t{1} << 21;
+        if (size < 2 * PAGE) return;
+        uintptr_t start = reinterpret_cast<uintptr_t>(block), first = (start + PAGE - 1) & ~(PAGE - 1);
+        madvise(reinterpret_cast<void *>(first), ((start + size) & ~(PAGE - 1)) - first, MADV_HUGEPAGE);
+    }
+
+    // By multiplicative hashing, as the library spreads keys.
+    uint64_t head_of(uint64_t key) const { return HEADS + ((key * 0x9e3779b97f4a7c15u >> 32) * buckets >> 32); }
+    uint64_t link_of(uint64_t named) const { return slots_at + WORDS * (named - 1); }
+
+    uint64_t read_epoch(Pass &pass) const {
+        uint64_t now = words[EPOCH];
+        if (now != pass.epoch) pass.epoch = now;
+        return now;
+    }
+
+    // Unlinks a marked node behind `pred`, and retires it. Both were read in the pass's epoch.
+    [[gnu::always_inline]] Unlinked unlink_and_retire(Pass &pass, const Held &pred, const Held &marked) {
+        uint64_t next = named_by(marked.word), birth = 0, epoch = pass.epoch;
+        uint32_t made = 0;
+        if (next) {
+            birth = words[link_of(next) + BIRTH];
+            made = 2;
+            if (read_epoch(pass) != epoch) return {false, 0, made};
+        }
+        uint64_t expected = pred.word, link = link_to(next, pred.birth, birth);
+        made++;
+        if (!words[pred.at].compare_exchange_strong(expected, link)) return {false, 0, made};
+        return {true, link, made + retire(pass, static_cast<uint32_t>(marked.named - 1))};
+    }
+
+    // Few traversals meet a marked node, so this is a function apart from them.
+    [[gnu::noinline]] Unlinked help(Pass &pass, Held pred, Held marked) { return unlink_and_retire(pass, pred, marked); }
+
+    // Puts an unlinked slot into the own pool, or, where that is full but for one, into the shared one. Gives the steps.
+    [[gnu::always_inline]] uint32_t retire(Pass &pass, uint32_t slot) {
+        bool is_kept = pass.pool.size() < POOL - 1;
+        words[link_of(slot + 1) + STAMP] = read_epoch(pass);
+        if (is_kept) {
+            pass.pool.push(slot);
+            return 2;
+        }
+        words[flags_at + slot / 64] |= uint64_t{1} << slot % 64;
+        return 3;
+    }
+
+    // Takes a slot whose stamp is below the epoch, the oldest, and gives birth there. Where the own pool is empty the slot comes
+    // out of the shared one; where each is stamped with the epoch, that is advanced.
+    Taken take(Pass &pass, uint32_t budget) {
+        uint32_t used = 0;
+        if (pass.pool.size() == 0) {
+            Answer won = win_slot(pass, budget, used);
+            if (won != YES) return {won, 0, 0, used};
+        }
+        if (!affords(budget, used)) return {OUT_OF_STEPS, 0, 0, used};
+        uint64_t epoch = read_epoch(pass);
+        used++;
+        unsigned at = 0;
+        for (; at < pass.pool.size(); at++) {
+            if (!affords(budget, used)) return {OUT_OF_STEPS, 0, 0, used};
+            used++;
+            if (words[link_of(pass.pool[at] + uint64_t{1}) + STAMP] < epoch) break;
+        }
+        if (at == pass.pool.size()) {
+            if (!affords(budget, used)) return {OUT_OF_STEPS, 0, 0, used};
+            if (epoch == last_epoch) return {EPOCH_SPENT, 0, 0, used};
+            words[EPOCH].compare_exchange_strong(epoch, epoch + 1);
+            read_epoch(pass);
+            used += 2;
+            at = 0;
+        }
+        if (!affords(budget, used)) return {OUT_OF_STEPS, 0, 0, used};
+        uint32_t slot = pass.pool[at];
+        pass.pool.remove(at);
+        words[link_of(slot + uint64_t{1}) + BIRTH] = pass.epoch;
+        return {YES, slot, pass.epoch, used + 1};
+    }
+
+    // Takes a slot out of the shared pool: goes once round the flag words, from that of the slot tried last.
+    Answer win_slot(Pass &pass, uint32_t budget, uint32_t &used) {
+        uint32_t start = pass.tried / 64 * 64, slot = start, end = static_cast<uint32_t>(slots);
+        while (slot < end) {
+            if (!affords(budget, used)) return OUT_OF_STEPS;
+            used++;
+            uint64_t flag = uint64_t{1} << slot % 64, found = words[flags_at + slot / 64].fetch_and(~flag);
+            pass.tried = slot;
+            if (found & flag) {
+                pass.pool.push(slot);
+                return YES;
+            }
+            slot = slot / 64 * 64 + (found ? static_cast<uint32_t>(__builtin_ctzll(found)) : 64);
+            if (slot >= slots) {
+                slot = 0;
+                end = start;
+            }
+        }
+        return NO_SLOT;
+    }
+};
+
+// A call in progress. It has copies of what it looks at often, and counts its steps in the pass when it ends.
+template <class N> class Call {
+    using Words = Table<N>;
+
+    Words &table;
+    Pass &pass;
+    std::atomic<uint64_t> *const words;
+    const uint64_t slots_at, key, head;
+    const uint32_t budget;
+    uint32_t used = 0;
+    uint64_t epoch;
+
+    // How a walk ends.
+    enum class End { there, again, tired };
+    // What a node is.
+    enum class Node { unreadable, marked, smaller, beyond };
+
+    // The last unmarked place before the key, and the node behind it, if there is one: `present`: with the key.
+    struct Found {
+        Held pred, cur;
+        bool present;
+    };
+
+public:
+    [[gnu::always_inline]] Call(Words &table, Pass &pass, uint64_t key, uint32_t budget)
+        : table(table), pass(pass), words(table.words), slots_at(table.slots_at), key(key), head(table.head_of(key)),
+          budget(budget), epoch(pass.epoch) {}
+    [[gnu::always_inline]] ~Call() { pass.steps += used; }
+
+    template <bool GIVES> [[gnu::always_inline]] Answer look_up(uint64_t &value) {
+        for (;;) {
+            Found found;
+            End end = look(found);
+            if (end == End::again) continue;
+            if (end == End::tired || !is_affordable()) return OUT_OF_STEPS;
+            if (GIVES && found.present) {
+                uint64_t here = load(found.cur.at + Words::VALUE);
+                used += 2;
+                if (!epoch_stays()) continue;
+                if (!stands(found.cur)) continue;
+                value = here;
+                return YES;
+            }
+            // which of the two it is can't be foreseen, so it is chosen without a branch
+            uint64_t mask = GIVES ? 0 : -static_cast<uint64_t>(found.present);
+            uint64_t at = found.pred.at ^ ((found.pred.at ^ found.cur.at) & mask);
+            uint64_t word = found.pred.word ^ ((found.pred.word ^ found.cur.word) & mask);
+            used++;
+            if (load(at) == word) return found.present ? YES : NO;
+        }
+    }
+
+    [[gnu::always_inline]] Answer remove(uint64_t &value) {
+        for (;;) {
+            Found found;
+            if (!search(found) || !is_affordable()) return OUT_OF_STEPS;
+            if (!found.present) {
+                if (stands(found.pred)) return NO;
+                continue;
+            }
+            uint64_t here = 0;
+            if (N::VALUES) {
+                here = load(found.cur.at + Words::VALUE);
+                used += 2;
+                if (!epoch_stays()) continue;
+            }
+            if (!exchange(found.cur.at, found.cur.word, found.cur.word | MARK)) continue;
+            if (N::VALUES) value = here;
+            found.cur.word |= MARK;
+            if (is_affordable()) unlink_marked(found);
+            return YES;
+        }
+    }
+
+    [[gnu::always_inline]] Answer insert(uint64_t value) {
+        for (;;) {
+            Found found;
+            if (!search(found)) return OUT_OF_STEPS;
+            if (!found.present) break;
+            if (!is_affordable()) return OUT_OF_STEPS;
+            if (stands(found.cur)) return NO;
+        }
+        Taken hand = table.take(pass, budget - used);
+        used += hand.made;
+        epoch = pass.epoch;
+        return hand.answer == YES ? link(value, hand) : hand.answer;
+    }
+
+private:
+    bool is_affordable() const { return affords(budget, used); }
+    uint64_t load(uint64_t at) const { return words[at]; }
+    uint64_t link_of(uint64_t named) const { return slots_at + Words::WORDS * (named - 1); }
+
+    // Reads the epoch: whether it is the one of before.
+    bool epoch_stays() {
+        uint64_t now = load(Words::EPOCH);
+        if (now == epoch) return true;
+        epoch = pass.epoch = now;
+        return false;
+    }
+
+    // A step: whether the link of a place is as it was read.
+    bool stands(const Held &held) {
+        used++;
+        return load(held.at) == held.word;
+    }
+
+    bool exchange(uint64_t at, uint64_t expected, uint64_t word) {
+        used++;
+        return words[at].compare_exchange_strong(expected, word);
+    }
+
+    // Reads the epoch and the head of the bucket: whether the epoch stayed.
+    [[gnu::always_inline]] bool start(Held &place) {
+        epoch_stays();
+        place = {head, 0, load(head), 0};
+        used += 3;
+        return epoch_stays();
+    }
+
+    // Reads the node that a link names; whether it has the key.
+    [[gnu::always_inline]] Node visit(uint64_t link, Held &node, bool &present) {
+        node.named = named_by(link);
+        node.at = link_of(node.named);
+        node.birth = load(node.at + Words::BIRTH);
+        node.word = load(node.at);
+        used += 3;
+        if (!epoch_stays()) return Node::unreadable;
+        if (node.word & MARK) return Node::marked;
+        uint64_t here = load(node.at + Words::KEY);
+        used += 2;
+        if (!epoch_stays()) return Node::unreadable;
+        if (here < key) return Node::smaller;
+        present = here == key;
+        return Node::beyond;
+    }
+
+    // One walk of a look-up: past marked nodes, by their links.
+    [[gnu::always_inline]] End look(Found &found) {
+        if (!is_affordable()) return End::tired;
+        if (!start(found.pred)) return End::again;
+        found.cur = {found.pred.at, 0, 0, 0};
+        found.present = false;
+        for (uint64_t link = found.pred.word; named_by(link); link = found.cur.word) {
+            if (!is_affordable()) return End::tired;
+            switch (visit(link, found.cur, found.present)) {
+            case Node::unreadable: return End::again;
+            case Node::beyond: return End::there;
+            case Node::smaller: found.pred = found.cur; break;
+            case Node::marked: break;
+            }
+        }
+        return End::there;
+    }
+
+    // One traversal of an update: it takes the marked nodes that it meets out of the list.
+    [[gnu::always_inline]] End traverse(Found &found) {
+        if (!is_affordable()) return End::tired;
+        if (!start(found.pred)) return End::again;
+        found.cur = {};
+        found.present = false;
+        while (named_by(found.pred.word)) {
+            if (!is_affordable()) return End::tired;
+            switch (visit(found.pred.word, found.cur, found.present)) {
+            case Node::unreadable: return End::again;
+            case Node::beyond: return End::there;
+            case Node::smaller: found.pred = found.cur; break;
+            case Node::marked:
+                if (!is_affordable()) return End::tired;
+                if (!help(found)) return End::again;
+            }
+        }
+        found.cur = {};
+        return End::there;
+    }
+
+    // Whether the traversal goes on behind the same place.
+    [[gnu::always_inline]] bool help(Found &found) {
+        Unlinked outcome = table.help(pass, found.pred, found.cur);
+        used += outcome.made;
+        found.pred.word = outcome.word;
+        uint64_t before = epoch;
+        epoch = pass.epoch;
+        return outcome.is_out && epoch == before;
+    }
+
+    // Traverses until it comes to the key; whether the budget was enough.
+    [[gnu::always_inline]] bool search(Found &found) {
+        for (;;) {
+            End end = traverse(found);
+            if (end != End::again) return end == End::there;
+        }
+    }
+
+    // Takes the node that was marked out of its list; where another comes between, walks until it is out.
+    [[gnu::always_inline]] void unlink_marked(const Found &found) {
+        Unlinked outcome = table.unlink_and_retire(pass, found.pred, found.cur);
+        used += outcome.made;
+        if (!outcome.is_out) used = walk_apart(table, pass, key, budget, used);
+    }
+
+    // Few removes lose their unlinking, so this is a function apart from them. Gives the steps used then.
+    [[gnu::noinline, gnu::cold]] static uint32_t walk_apart(Words &table, Pass &pass, uint64_t key, uint32_t budget, uint32_t used) {
+        Call call(table, pass, key, budget);
+        Found found;
+        call.used = used;
+        call.search(found);
+        return std::exchange(call.used, 0); // its caller counts them
+    }
+
+    // Links the slot in hand, or answers no where the key has come meanwhile.
+    [[gnu::always_inline]] Answer link(uint64_t value, const Taken &hand) {
+        const uint64_t named = hand.slot + uint64_t{1}, at = link_of(named);
+        for (;;) {
+            Found found;
+            if (!search(found) || !is_affordable()) return given_back(hand, OUT_OF_STEPS);
+            if (found.present) {
+                if (stands(found.cur)) return given_back(hand, NO);
+                continue;
+            }
+            words[at + Words::KEY] = key;
+            if (N::VALUES) words[at + Words::VALUE] = value;
+            words[at] = link_to(named_by(found.pred.word), hand.birth, found.cur.birth);
+            used += N::VALUES ? 3 : 2;
+            if (exchange(found.pred.at, found.pred.word, link_to(named, found.pred.birth, hand.birth))) return YES;
+        }
+    }
+
+    Answer given_back(const Taken &hand, Answer answer) {
+        pass.pool.push(hand.slot);
+        return answer;
+    }
+};
+
+}  // namespace twin

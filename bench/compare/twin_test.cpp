@@ -1,0 +1,138 @@
+// The plain twin on random calls of one pass: it answers as a plain map does, and is refused and makes steps as is said of the
+// library's calls. No output but a last line.
+#include "twin.hpp"
+
+#include <cstdio>
+#include <map>
+#include <vector>
+
+namespace {
+
+using namespace twin;
+
+#define HOLDS(what) ((what) ? void() : fail(#what, __LINE__))
+
+[[noreturn]] void fail(const char *what, int line) {
+    std::fprintf(stderr, "twin_test: line %d: %s doesn't hold\n", line, what);
+    std::exit(1);
+}
+
+constexpr uint32_t AMPLE = 1000000;
+
+// A table with one pass beside a plain map. Without values each key has the value 0.
+template <class N> struct Beside {
+    Table<N> table;
+    Pass pass;
+    std::map<uint64_t, uint64_t> plain;
+    const uint32_t slots;
+
+    Beside(uint32_t slots, uint32_t buckets) : table(slots, buckets, 1u << 30), slots(slots) {}
+
+    void insert(uint64_t key, uint64_t value) {
+        bool is_new = plain.count(key) == 0, has_room = plain.size() < slots;
+        HOLDS(table.insert(pass, key, value, AMPLE) == (!is_new ? NO : has_room ? YES : NO_SLOT));
+        if (is_new && has_room) plain[key] = N::VALUES ? value : 0;
+    }
+    void remove(uint64_t key) {
+        uint64_t given = 0;
+        auto at = plain.find(key);
+        HOLDS(table.remove(pass, key, AMPLE, given) == (at != plain.end() ? YES : NO));
+        HOLDS(given == (at != plain.end() ? at->second : 0));
+        if (at != plain.end()) plain.erase(at);
+    }
+    void look_up(uint64_t key) {
+        uint64_t given = 0;
+        auto at = plain.find(key);
+        HOLDS(table.has(pass, key, AMPLE) == (at != plain.end() ? YES : NO));
+        HOLDS(table.get(pass, key, AMPLE, given) == (at != plain.end() ? YES : NO));
+        HOLDS(given == (at != plain.end() ? at->second : 0));
+    }
+};
+
+template <class N> void answers_as_a_plain_map(uint32_t slots, uint32_t buckets, uint64_t keys) {
+    Beside<N> beside(slots, buckets);
+    uint64_t state = 88172645463325252;
+    for (uint64_t i = 1; i <= 200000; i++) {
+        state ^= state << 13, state ^= state >> 7, state ^= state << 17;
+        uint64_t key = (state >> 32) % keys * 4096;
+        switch (state % 3) {
+        case 0: beside.insert(key, i); break;
+        case 1: beside.remove(key); break;
+        case 2: beside.look_up(key); break;
+        }
+    }
+    HOLDS(beside.pass.epoch > 1);
+}
+
+// How many steps a call made.
+template <class F> uint64_t steps_of(Pass &pass, F call) {
+    uint64_t before = pass.steps;
+    call();
+    return pass.steps - before;
+}
+
+template <class N> void makes_these_steps() {
+    constexpr uint64_t VALUE = N::VALUES;
+    Table<N> table(3, 1, 10);
+    Pass pass;
+    uint64_t given = 0;
+    // the start is a piece of three steps, and there is an eighth of one to come
+    HOLDS(steps_of(pass, [&] { HOLDS(table.has(pass, 5, 7) == OUT_OF_STEPS); }) == 0);
+    HOLDS(steps_of(pass, [&] { HOLDS(table.has(pass, 5, 10) == OUT_OF_STEPS); }) == 3);
+    HOLDS(steps_of(pass, [&] { HOLDS(table.has(pass, 5, 11) == NO); }) == 4);
+    // two searches, a flag, the epoch, a stamp and a birth, and three words of the node, or four, one of them its link
+    HOLDS(steps_of(pass, [&] { HOLDS(table.insert(pass, 5, 50, AMPLE) == YES); }) == 3 + 4 + 3 + 3 + VALUE);
+    HOLDS(steps_of(pass, [&] { HOLDS(table.insert(pass, 5, 51, AMPLE) == NO); }) == 3 + 5 + 1);
+    HOLDS(steps_of(pass, [&] { HOLDS(table.has(pass, 5, AMPLE) == YES); }) == 3 + 5 + 1);
+    HOLDS(steps_of(pass, [&] { HOLDS(table.get(pass, 5, AMPLE, given) == YES); }) == 3 + 5 + 2 * VALUE + 1);
+    HOLDS(given == 50 * VALUE);
+    HOLDS(steps_of(pass, [&] { HOLDS(table.get(pass, 6, AMPLE, given) == NO); }) == 3 + 5 + 1);
+    // the mark, the unlinking, the epoch and the stamp
+    HOLDS(steps_of(pass, [&] { HOLDS(table.remove(pass, 5, AMPLE, given) == YES); }) == 3 + 5 + 2 * VALUE + 4);
+    HOLDS(steps_of(pass, [&] { HOLDS(table.remove(pass, 5, AMPLE, given) == NO); }) == 3 + 1);
+}
+
+template <class N> void refuses() {
+    Table<N> table(2, 1, 2);
+    Pass one, other;
+    uint64_t given;
+    HOLDS(table.insert(one, 1, 0, AMPLE) == YES && table.insert(one, 2, 0, AMPLE) == YES);
+    HOLDS(table.insert(other, 3, 0, AMPLE) == NO_SLOT);
+    HOLDS(table.remove(one, 1, AMPLE, given) == YES);
+    HOLDS(table.insert(other, 3, 0, AMPLE) == NO_SLOT); // the slot is in the pool of the first pass
+    HOLDS(table.insert(one, 3, 0, AMPLE) == YES && one.epoch == 2);
+    HOLDS(table.remove(one, 3, AMPLE, given) == YES);
+    HOLDS(table.insert(one, 4, 0, AMPLE) == EPOCH_SPENT && table.has(one, 4, AMPLE) == NO);
+}
+
+// A node whose remove had no budget to unlink it: look-ups pass it, and the next update takes it out.
+template <class N> void helps() {
+    Table<N> table(2, 1, 10);
+    Pass one, other;
+    uint64_t given;
+    HOLDS(table.insert(one, 1, 0, AMPLE) == YES);
+    uint32_t unlinking = N::VALUES ? 18 : 16;
+    HOLDS(steps_of(one, [&] { HOLDS(table.remove(one, 1, unlinking, given) == YES); }) == unlinking - 7u);
+    HOLDS(steps_of(other, [&] { HOLDS(table.has(other, 1, AMPLE) == NO); }) == 3 + 3 + 1);
+    HOLDS(other.pool.size() == 0);
+    HOLDS(table.remove(other, 1, AMPLE, given) == NO && other.pool.size() == 1);
+    HOLDS(steps_of(one, [&] { HOLDS(table.has(one, 1, AMPLE) == NO); }) == 3 + 1);
+}
+
+template <class N> void test() {
+    answers_as_a_plain_map<N>(1000, 1, 24);
+    answers_as_a_plain_map<N>(64, 16, 200);
+    answers_as_a_plain_map<N>(3, 5, 8);
+    answers_as_a_plain_map<N>(4096, 1024, 5000);
+    makes_these_steps<N>();
+    refuses<N>();
+    helps<N>();
+}
+
+}  // namespace
+
+int main() {
+    test<Keys>();
+    test<Entries>();
+    std::puts("twin: passed");
+}
