@@ -1,6 +1,7 @@
 -- What a pass that was alone holds: it stands as it was read.
-use Rattle.std.specs.Prelude.{◌≡◌, ℕ, suc, Option, Some, None}
+use Rattle.std.specs.Prelude.{◌≡◌, ◌≢◌, ℕ, suc, Option, Some, None}
 use Rattle.vbr_words.specs.Words.{link_of}
+use Rattle.vbr_words.specs.declared.place.At.{At}
 use Rattle.vbr_machine.specs.Images.{link_shown_at}
 use Rattle.vbr_machine.specs.Membership.{HeldIn}
 use Rattle.vbr_slots.specs.Alone.{nodes, ahead}
@@ -21,3 +22,8 @@ pub record UnlinksAlone (p q : Trace) (pred place : Held) : Type 0 where
   pub epoch : (nodes q).epoch ≡ (nodes p).epoch
   pub stands : StandsNow q place
   pub fewer : (bucket : ℕ) → HeldIn (knows p) pred.at bucket → ahead p bucket pred.at ≡ suc (ahead q bucket pred.at)
+
+-- what a won mark leaves to a pass that was alone: the epoch stands, and so does the link of each other place than the node's
+pub record MarksAlone (p q : Trace) (node : Held) : Type 0 where
+  pub epoch : (nodes q).epoch ≡ (nodes p).epoch
+  pub others : (at : At) → at ≢ node.at → link_shown_at (nodes q) at ≡ link_shown_at (nodes p) at
