@@ -1,5 +1,6 @@
 -- The budgets that suffice a pass that is alone: it is refused for want of steps only below them.
 use Rattle.std.specs.Prelude.{ℕ, ◌+◌, ◌*◌, ◌<◌, Bool, true, false, Result, Ok, Err}
+use Rattle.vbr_words.specs.Dimensions.{Dimensions}
 use Rattle.vbr_words.specs.declared.place.At.TheVariants.{Head}
 use Rattle.vbr_words.specs.Buckets.{bucket_of}
 use Rattle.vbr_slots.specs.Alone.{ahead}
@@ -44,6 +45,18 @@ answer_costs false = look_up_costs
 -- to find where a key stands: nine for each, and three
 abbrev pub find_costs : Trace → ℕ → ℕ
 find_costs p key = 9 * listed_for p key + 3
+
+-- the steps of reading a value: two where nodes have values
+abbrev pub steps_where : Bool → ℕ
+steps_where true = 2
+steps_where false = 0
+
+abbrev pub steps_to_value_of : Dimensions → ℕ
+steps_to_value_of shape = steps_where shape.values
+
+-- a remove nine for each, and ten, and those of reading the value
+abbrev pub remove_costs : Trace → ℕ → ℕ
+remove_costs p key = 9 * listed_for p key + 10 + steps_to_value_of p.shape
 
 -- a refusal for want of steps comes of a budget below so many
 abbrev pub LacksSteps : ℕ → ℕ → Refusal → Type 0

@@ -1,5 +1,6 @@
 -- The pieces of a remove. Only contracts of private functions cite this.
-use Rattle.std.specs.Prelude.{◌≡◌, ℕ, Option, true, is_some}
+use Rattle.std.specs.Prelude.{◌≡◌, ℕ, ◌+◌, ◌≤◌, Option, true, is_some}
+use Rattle.vbr_words.specs.Dimensions.{Dimensions}
 use Rattle.vbr_words.specs.declared.nodes.Nodes.{Ghosts}
 use Rattle.vbr_words.specs.declared.place.At.TheVariants.{Slot}
 use Rattle.vbr_machine.specs.Membership.{KeyAt, StandsBehind}
@@ -11,6 +12,7 @@ use Rattle.vbr_access.specs.Alone.{NextStands, StandsNow}
 use Rattle.vbr_access.specs.declared.held.Held.{Held}
 use Rattle.vbr_access.specs.declared.held.Marked.{Marked}
 use Rattle.vbr_access.specs.declared.rollback.Rollback.{Rollback}
+use Rattle.vbr_list.specs.Budgets.{steps_to_value_of}
 use Rattle.vbr_list.specs.Helping.{MayHelp}
 use Rattle.vbr_list.specs.Leaving.{Leaves, WasClear}
 use Rattle.vbr_list.specs.Pieces.{Gives, HasRoom, WasAlone, trace_in}
@@ -27,10 +29,19 @@ pub record IsMarkedFor {N : Type 0} {kind : Ghosts N} (c : PendingCall N kind) (
 abbrev pub Clears : {N : Type 0} {kind : Ghosts N} → PendingCall N kind → PendingCall N kind → Type 0
 Clears c d = HasRoom d → WasClear (trace_in c) (trace_in d) c.key
 
--- the remove is answered, and gives the value that was read of the node where nodes have values; where that is yes, the node that it marked has left its list, unless the budget has no room for one more piece
-pub record RemoveAnswers {N : Type 0} {kind : Ghosts N} (c d : PendingCall N kind) (answer : Option ℕ) : Type 0 where
+-- alone, where the place stands, that takes six steps at most
+abbrev pub ClearsSoon : {N : Type 0} {kind : Ghosts N} → PendingCall N kind → PendingCall N kind → Held → Type 0
+ClearsSoon c d pred = IsFresh (trace_in c) → StandsNow (trace_in c) pred → WasAlone c d → d.used ≤ c.used + 6
+
+-- the steps of an answer: those of reading the value, one for the mark, and six
+abbrev pub steps_to_remove : Dimensions → ℕ
+steps_to_remove shape = steps_to_value_of shape + 7
+
+-- the remove is answered, and gives the value that was read of the node where nodes have values; where that is yes, the node that it marked has left its list, unless the budget has no room for one more piece; alone, where the place before the key stands, in so many steps
+pub record RemoveAnswers {N : Type 0} {kind : Ghosts N} (c d : PendingCall N kind) (found : Found) (answer : Option ℕ) : Type 0 where
   pub made : Gives Remove c d answer
   pub unlists : is_some answer ≡ true → HasRoom d → Leaves (trace_in c) (trace_in d) c.key
+  pub few : IsFresh (trace_in c) → StandsNow (trace_in c) found.pred → WasAlone c d → d.used ≤ c.used + steps_to_remove (trace_in c).shape
 
 -- it isn't answered, and no call was made, which doesn't happen alone, where what was found stands
 pub record RemoveRollsBack {N : Type 0} {kind : Ghosts N} (c d : PendingCall N kind) (found : Found) (rollback : Rollback) : Type 0 where

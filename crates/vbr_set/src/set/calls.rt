@@ -55,7 +55,7 @@ impl VbrSet {
     /// retired when it ends, answered or not, into the pass's own pool while that has room.
     ///
     /// While the other passes stand still, a budget of 9n + 11 is enough, with n nodes in the key's
-    /// bucket. It advances no epoch.
+    /// bucket, and what is answered took at most 9n + 10 steps. It advances no epoch.
     ///
     /// # Errors
     ///
@@ -92,7 +92,7 @@ impl<N: Nodes> VbrSet<N> {
     /// Sheffi, Herlihy and Petrank 2021.
     ///
     /// While the other passes stand still, a budget of 5n + 11 is enough, with n nodes in the key's
-    /// bucket.
+    /// bucket, and what is answered took at most 5n + 4 steps.
     ///
     /// # Errors
     ///

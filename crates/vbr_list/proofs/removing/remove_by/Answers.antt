@@ -1,12 +1,13 @@
 use Rattle.std.proofs.Common.{rules, sym, ◌∙◌, arith, ap}
-use Rattle.vbr_slots.proofs.Lemmas.{quiet_on, same_on}
+use Rattle.vbr_slots.proofs.Lemmas.{alone_first, alone_then, quiet_on, same_on}
 use Rattle.vbr_pools.proofs.Lemmas.{counts_on, none_on, took_all}
 use Rattle.vbr_words.specs.Dimensions.{Dimensions}
 use Rattle.vbr_list.proofs.Going.{bucket_is, call_on, goes_on, room_left, tries_on, within_call, within_of}
 use Rattle.vbr_list.proofs.Clearing.{leaves_since}
 use Rattle.vbr_list.proofs.LonePasses.{alone}
-use Rattle.std.proofs.Common.{◌≡◌, ◌+◌, ◌<◌, ◌≤◌, true, false}
-use Rattle.vbr_list.specs.Budgets.{enough_to_search}
+use Rattle.std.proofs.Common.{◌≡◌, ◌+◌, ◌*◌, ◌<◌, ◌≤◌, true, false}
+use Rattle.vbr_list.specs.Budgets.{enough_to_search, listed_for, remove_costs}
+use Rattle.vbr_list.specs.Removing.{steps_to_remove}
 use Rattle.vbr_list.proofs.Nearing.{at_first, first_lost, first_of, then_of}
 use Rattle.vbr_machine.specs.declared.history.Op.TheVariants.{Remove}
 use Rattle.vbr_list.proofs.Told.{given_same, told_since}
@@ -70,6 +71,7 @@ returns-in_default-clause-calls g c =
         within = (λ alone.
             let x : c.args.budget < 0 + enough_to_search c.args.at.now.pass.now.trace c.args.key = at_first (λ q since. c.args.budget < since + enough_to_search q.trace c.args.key) c.args.at.now.pass.now c.loop-found.call.at.pass.now c.search.new.self.at.pass.now c.loop-found.invariant.4 c.loop-found.invariant.3.goes.quiet c.search.ensures.goes.goes.quiet alone (rw ((c.loop-found.invariant.0.key ∙ c.loop-found.invariant.1), (c.loop-found.invariant.0.budget ∙ c.loop-found.invariant.2)) at c.in_default.ensures.tired.short) in
             omega (arith, x));
+        costs = tt;
       };
     })
 
@@ -92,6 +94,7 @@ returns-then-not-affords-clause-calls g c =
             let x : c.args.budget < 0 + enough_to_search c.args.at.now.pass.now.trace c.args.key = at_first (λ q since. c.args.budget < since + enough_to_search q.trace c.args.key) c.args.at.now.pass.now c.loop-found.call.at.pass.now c.search.new.self.at.pass.now c.loop-found.invariant.4 c.loop-found.invariant.3.goes.quiet c.search.ensures.goes.goes.quiet alone
             (λ then. let f = (rw (c.loop-found.invariant.0.key ∙ c.loop-found.invariant.1) at c.in-Some.ensures.found.alone then).paid in let e = (c.search.ensures.goes.call.budget ∙ c.loop-found.invariant.0.budget ∙ c.loop-found.invariant.2) in omega (arith, f, short, e)) in
             omega (arith, x));
+        costs = tt;
       };
     })
 
@@ -115,5 +118,18 @@ returns-in-Ok-clause-calls g c =
             leaves_since c.settle_remove.new.self.at.pass.now.trace c.args.key c.law.ensures.shape a (rw (c.search.ensures.goes.call.key ∙ c.loop-found.invariant.0.key ∙ c.loop-found.invariant.1) at c.in-Ok.ensures.answers.unlists yes (omega (arith, room, budget)));
         refused = tt;
         within = tt;
+        costs = λ whole.
+            let p = c.args.at.now.pass.now in
+            let begun = c.loop-found.call.at.pass.now in
+            let q = c.search.new.self.at.pass.now in
+            let first = quiet_on c.loop-found.invariant.3.goes.quiet c.search.ensures.goes.goes.quiet in
+            let answered = c.in-Ok.ensures.answers.made in
+            let alone = alone_first first.seen answered.seen whole in
+            let searched : c.search.new.self.used ≤ 0 + 3 + 9 * listed_for p.trace c.args.key = at_first (λ q since. c.search.new.self.used ≤ since + 3 + 9 * listed_for q.trace c.args.key) p begun q c.loop-found.invariant.4 c.loop-found.invariant.3.goes.quiet c.search.ensures.goes.goes.quiet alone
+            (λ then. (rw (c.loop-found.invariant.0.key ∙ c.loop-found.invariant.1) at c.in-Some.ensures.found.alone then).paid) in
+            let stands = (c.in-Some.ensures.found.alone (then_of c.loop-found.invariant.3.goes.quiet c.search.ensures.goes.goes.quiet alone)).pred in
+            let few = c.in-Ok.ensures.answers.few stands.fresh stands.stands (alone_then first.same.who first.seen answered.seen whole) in
+            let shape = ap steps_to_remove first.same.shape in
+            within_of c.settle_remove.new.self.used (remove_costs p.trace c.args.key) (omega (arith, searched, few, shape)) (counts_on (goes_on c.loop-found.invariant.3.goes c.search.ensures.goes.goes).counts c.settle_remove.ensures.settles.counts);
       };
     })
