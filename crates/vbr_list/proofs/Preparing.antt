@@ -94,6 +94,10 @@ spent_rest p q used budget epoch le spent left = let h = left.room in record { s
 pub within_all : {p q : Trace} {since budget : ℕ} → CountsWithin p q 0 since budget → TookWithin p q budget
 within_all {p} {q} {since} x = record { steps = since; within = x.within.1; took = took_all x.counts }
 
+-- they are within what is no less
+pub within_most : {p q : Trace} {since budget most : ℕ} → CountsWithin p q 0 since budget → since ≤ most → TookWithin p q most
+within_most {p} {q} {since} x le = record { steps = since; within = le; took = took_all x.counts }
+
 -- ---- an answer
 
 pub made_since : {p q r : Trace} {op : Op} {key : ℕ} {reply : Bool} → Quiet p q → Made (set_call q.who op key reply) q r → Made (set_call p.who op key reply) p r

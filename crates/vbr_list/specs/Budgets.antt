@@ -6,6 +6,7 @@ use Rattle.vbr_words.specs.Buckets.{bucket_of}
 use Rattle.vbr_slots.specs.Alone.{ahead}
 use Rattle.vbr_slots.specs.Views.{PassView, Trace}
 use Rattle.vbr_pools.specs.Budgets.{most_to_take}
+use Rattle.vbr_access.specs.Values.{steps_to_value}
 use Rattle.vbr_list.specs.declared.refusal.Refusal.{Refusal}
 use Rattle.vbr_list.specs.declared.refusal.Refusal.TheVariants.{OutOfSteps, NoSlot, EpochSpent}
 
@@ -57,6 +58,10 @@ steps_to_value_of shape = steps_where shape.values
 -- a remove nine for each, and ten, and those of reading the value
 abbrev pub remove_costs : Trace → ℕ → ℕ
 remove_costs p key = 9 * listed_for p key + 10 + steps_to_value_of p.shape
+
+-- an insert twice nine for each, those of taking a slot, and nine, and that of storing the value
+abbrev pub insert_costs : PassView → ℕ → ℕ
+insert_costs p key = 18 * listed_for p.trace key + most_to_take p.trace.shape p.pool + 9 + steps_to_value p.trace.shape.values
 
 -- a refusal for want of steps comes of a budget below so many
 abbrev pub LacksSteps : ℕ → ℕ → Refusal → Type 0

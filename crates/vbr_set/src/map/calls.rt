@@ -15,7 +15,7 @@ impl VbrSet<Entries> {
     /// was present, its value stays: the value of a key is fixed until the key is removed.
     ///
     /// It is the insert of a set, [`VbrSet::insert`], which has the source, with a step more to store the
-    /// value; budgets and refusals are those. After each the pass has made no call and has no slot in
+    /// value, so that an answer takes at most one more; budgets and refusals are those. After each the pass has made no call and has no slot in
     /// hand, and no history has the call.
     ///
     /// [`VbrSet::insert`]: crate::VbrSet::insert

@@ -34,7 +34,7 @@ impl<N: Nodes> VbrSet<N> {
 impl<'s> VbrSetRef<'s> {
     /// Adds a key, in at most `budget` steps, and says whether it was absent: [`VbrSet::insert`],
     /// which has the source. While the other passes stand still, 18n + slots + 82 steps are enough, with
-    /// n nodes in the key's bucket.
+    /// n nodes in the key's bucket, and an answer takes at most 18n + slots + 77.
     ///
     /// # Errors
     ///
