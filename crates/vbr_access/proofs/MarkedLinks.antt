@@ -1,4 +1,4 @@
--- A mark leaves the epoch, and the link of each other place than its node's.
+-- A mark leaves the epoch, the link of each other place than its node's, and as many nodes in each list.
 use Rattle.std.proofs.Common.{◌≡◌, ◌≢◌, ℕ, refl, sym, ap, ◌∙◌}
 use Rattle.std.specs.Prelude.{◌==◌}
 use Rattle.vbr_words.specs.Dimensions.{Dimensions, IsShape}
@@ -10,13 +10,14 @@ use Rattle.vbr_machine.specs.Images.{link_shown_at}
 use Rattle.vbr_machine.specs.Incarnations.{Incarnations}
 use Rattle.vbr_machine.specs.Links.{marked}
 use Rattle.vbr_machine.specs.Machine.{World, after, found, link_at}
+use Rattle.vbr_machine.specs.Nodes.{behind}
 use Rattle.vbr_machine.specs.Notes.{Notes}
 use Rattle.vbr_machine.specs.Runs.{world_after}
 use Rattle.vbr_machine.specs.declared.event.Step.TheVariants.{Mark}
-use Rattle.vbr_machine.proofs.Lemmas.{by_both, put_other, run_agrees, world_after-snoc}
+use Rattle.vbr_machine.proofs.Lemmas.{by_both, mark_leaves, put_other, run_agrees, world_after-snoc}
 use Rattle.vbr_slots.specs.Alone.{IsAlone}
 use Rattle.vbr_slots.specs.Views.{Trace, Did, event_of}
-use Rattle.vbr_slots.proofs.Lemmas.{did_run, run_was, seen_next}
+use Rattle.vbr_slots.proofs.Lemmas.{accepted_now, did_run, nodes_next, run_was, seen_next}
 use Rattle.vbr_access.specs.Alone.{MarksAlone}
 use Rattle.vbr_access.specs.declared.held.Held.{Held}
 use Rattle.vbr_access.proofs.AloneReads.{shape_on}
@@ -47,4 +48,5 @@ marked_alone {p} {q} {s} node is at d alone =
       epoch = sym now.image.epoch ∙ ap (λ (v : World). v.epoch) next ∙ epoch_left p.shape w p.who s node.word ∙ before.image.epoch;
       others = λ place other.
           link_is now place ∙ ap (λ (v : World). link_at v place) next ∙ link_left p.shape w p.who s node.word place (λ e. other (e ∙ sym at)) ∙ sym (link_is before place);
+      listed = λ bucket h. (λ i. behind (d.same.1 i) (nodes_next d alone i) bucket (Head h)) ∙ mark_leaves p.shape p.passes p.seen is (run_was d alone) p.who bucket h s node.word (accepted_now d alone);
     }

@@ -1,5 +1,5 @@
 -- A pass that was alone comes nearer to the key, node by node.
-use Rattle.std.proofs.Common.{◌≡◌, ◌≢◌, ℕ, suc, ◌+◌, ◌≤◌, true, false, Option, Some, sym, ap, ◌∙◌, subst, arith, inl, inr}
+use Rattle.std.proofs.Common.{◌≡◌, ◌≢◌, ℕ, suc, ◌+◌, ◌<◌, ◌≤◌, true, false, Option, Some, sym, ap, ◌∙◌, subst, arith, inl, inr}
 use Rattle.std.specs.Prelude.{Result, Ok, Err, IfOk, IfErr}
 use Rattle.vbr_words.specs.Dimensions.{Dimensions}
 use Rattle.vbr_words.specs.Words.{link_of}
@@ -98,6 +98,21 @@ helped_alone p q r key pred place inside at s1 s2 x l fresh = record {
 -- an epoch that was read last still stands where neither it nor what is known has changed
 pub fresh_marked : (p q : Trace) → (nodes q).epoch ≡ (nodes p).epoch → Keeps (knows p) (knows q) → IsFresh p → IsFresh q
 fresh_marked p q same keeps fresh = same ∙ fresh ∙ sym keeps.epoch
+
+-- ---- the list of a key's bucket
+
+-- as many nodes
+pub listed_same : (p q : Trace) (key : ℕ) → q.shape ≡ p.shape → ((bucket h : ℕ) → ahead q bucket (Head h) ≡ ahead p bucket (Head h)) → listed_for q key ≡ listed_for p key
+listed_same p q key shape same =
+    let b = bucket_of p.shape key in
+    ap (λ (s : Dimensions). ahead q (bucket_of s key) (Head (bucket_of s key))) shape ∙ same b b
+
+-- fewer, where that is so in each list that a place is held in
+pub listed_fewer : (p q : Trace) (key : ℕ) {at : At} → q.shape ≡ p.shape → ((bucket h : ℕ) → HeldIn (knows p) at bucket → ahead q bucket (Head h) < ahead p bucket (Head h)) → HeldIn (knows p) at (bucket_of p.shape key) → listed_for q key < listed_for p key
+listed_fewer p q key shape fewer inside =
+    let b = bucket_of p.shape key in
+    let P : Dimensions → Type 0 = λ s. ahead q (bucket_of s key) (Head (bucket_of s key)) < listed_for p key in
+    subst P (sym shape) (fewer b b inside)
 
 -- ---- errors that are handed on
 

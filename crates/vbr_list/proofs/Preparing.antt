@@ -115,6 +115,10 @@ pub if_failed : {T E : Type 0} {P : Type 0} (x : Result T E) → is_err x ≡ tr
 if_failed (Ok value) e p = absurd (cc)
 if_failed (Err error) e p = p
 
+pub if_went : {T E : Type 0} {P : T → Type 0} (x : Result T E) → is_err x ≡ false → IfOk x P → (value : T) × P value
+if_went (Ok value) e p = (value, p)
+if_went (Err error) e p = absurd (cc)
+
 pub each_since : {A E : Type 0} (p q r : Trace) (then told : A → ListedCall) (answer : Result A E) → Quiet p q → ((reply : A) → then reply ≡ told reply) → IfOk answer (λ reply. Made (then reply) q r) → IfOk answer (λ reply. Made (told reply) p r)
 each_since p q r then told (Ok reply) quiet same made = subst (λ (call : ListedCall). Made call p r) (same reply) (made_on quiet made)
 each_since p q r then told (Err error) quiet same made = tt

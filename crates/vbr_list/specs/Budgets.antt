@@ -59,6 +59,10 @@ steps_to_value_of shape = steps_where shape.values
 abbrev pub remove_costs : Trace → ℕ → ℕ
 remove_costs p key = 9 * listed_for p key + 10 + steps_to_value_of p.shape
 
+-- what is enough for a remove to unlink the node besides: two more than it costs
+abbrev pub enough_to_unlink : Trace → ℕ → ℕ
+enough_to_unlink p key = remove_costs p key + 2
+
 -- an insert twice nine for each, those of taking a slot, and nine, and that of storing the value
 abbrev pub insert_costs : PassView → ℕ → ℕ
 insert_costs p key = 18 * listed_for p.trace key + most_to_take p.trace.shape p.pool + 9 + steps_to_value p.trace.shape.values

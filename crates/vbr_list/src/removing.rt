@@ -142,7 +142,8 @@ impl<N: Nodes> PendingCall<'_, N> {
 /// take is in its own pool then.
 ///
 /// OutOfSteps is its one refusal. While the other passes stand still, a budget of 9n + 11 is enough,
-/// with n nodes in the key's bucket, and what is answered took at most 9n + 10 steps.
+/// with n nodes in the key's bucket, and what is answered took at most 9n + 10 steps. With 9n + 12, a
+/// yes leaves fewer nodes there.
 pub fn remove(slots: &Slots, pass: &mut Pass, key: u64, budget: u32) -> Result<bool, Refusal>
     requires own { IsOf pass.old.trace slots.now }
     requires empty_hand { pass.old.hand ≡ None }
@@ -172,7 +173,7 @@ fn remove_key(at: &mut AtTable<'_>, key: u64, budget: u32) -> (Result<bool, Refu
 /// if the key was there. It is read before the node is marked, in two steps more than a remove makes,
 /// and was fixed when the node was published, so it is that of the entry which the mark removes. Its
 /// refusal and the budget that is enough are those of [`remove`]; what is answered took at most 9n + 12
-/// steps.
+/// steps, and a yes with 9n + 14 leaves fewer nodes in the key's bucket.
 pub fn remove_entry(
     slots: &Slots<Entries>,
     pass: &mut Pass,

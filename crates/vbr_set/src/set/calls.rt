@@ -56,7 +56,8 @@ impl VbrSet {
     /// retired when it ends, answered or not, into the pass's own pool while that has room.
     ///
     /// While the other passes stand still, a budget of 9n + 11 is enough, with n nodes in the key's
-    /// bucket, and what is answered took at most 9n + 10 steps. It advances no epoch.
+    /// bucket, and what is answered took at most 9n + 10 steps; with 9n + 12, a yes leaves fewer nodes
+    /// there. It advances no epoch.
     ///
     /// # Errors
     ///
