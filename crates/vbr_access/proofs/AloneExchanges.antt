@@ -18,7 +18,7 @@ use Rattle.vbr_machine.specs.Runs.{world_after}
 use Rattle.vbr_machine.specs.declared.event.Step.TheVariants.{Publish, Mark, Unlink, ConfirmPresent, ConfirmAbsent}
 use Rattle.vbr_machine.specs.declared.history.Op.{Op}
 use Rattle.vbr_machine.specs.declared.knowledge.Read.TheVariants.{LinkAt}
-use Rattle.vbr_machine.proofs.Lemmas.{found_at, run_agrees, unlink_makes, unlink_takes_one}
+use Rattle.vbr_machine.proofs.Lemmas.{found_at, run_agrees, unlink_makes, unlink_takes_listed, unlink_takes_one}
 use Rattle.vbr_slots.specs.Alone.{IsAlone, nodes, ahead}
 use Rattle.vbr_slots.specs.Views.{Trace, Did, knows, event_of}
 use Rattle.vbr_slots.proofs.Lemmas.{did_run, found_now, nodes_next, run_was, same_leaves, stands_found}
@@ -81,6 +81,7 @@ unlinked_alone {p} {q} {s} held new is d alone accepts known unmarked stands is_
       epoch = ap (λ (a : Incarnations). a.epoch) (nodes_next d alone ∙ unlink_makes p.shape p.passes p.seen is ok p.who held.at held.word s w);
       stands = written_stands is d alone new is_new;
       fewer = λ bucket inside. unlink_takes_one p.shape p.passes p.seen is ok p.who bucket held.at held.word s accepts w known unmarked stands inside ∙ ap suc (sym (ahead_is is d alone bucket held.at));
+      listed = λ bucket h inside. unlink_takes_listed p.shape p.passes p.seen is ok p.who bucket held.at held.word s accepts w known unmarked stands inside h ∙ ap suc (sym (ahead_is is d alone bucket (Head h)));
     }
 
 -- an unlinking that came after what only read
@@ -91,4 +92,5 @@ unlinks_after p q r pred place shape same keeps x =
       epoch = x.epoch ∙ l.epoch;
       stands = x.stands;
       fewer = λ bucket inside. sym (l.count bucket pred.at) ∙ x.fewer bucket (held_in_kept pred.at bucket keeps inside);
+      listed = λ bucket h inside. sym (l.count bucket (Head h)) ∙ x.listed bucket h (held_in_kept pred.at bucket keeps inside);
     }

@@ -37,6 +37,7 @@ use Rattle.vbr_access.specs.declared.rollback.Rollback.TheVariants.{LostExchange
 use Rattle.vbr_access.proofs.AloneExchanges.{publish_wins, unlink_wins, unlinked_alone, unlinks_after}
 use Rattle.vbr_access.proofs.Keeping.{held_kept, keeps_on, marked_kept}
 use Rattle.vbr_access.proofs.MadeCalls.{mark_made, publish_failed}
+use Rattle.vbr_access.proofs.MarkedLinks.{marked_alone}
 use Rattle.vbr_access.proofs.Moments.{found_after, publish_found, unlink_found}
 use Rattle.vbr_access.proofs.NoneUnlinked.{lost_none, unlinks_on, won_unlinks}
 use Rattle.vbr_access.proofs.Unlinks.{accepted, new_read, read_after, written}
@@ -58,6 +59,7 @@ mark_told {p} {q} {s} {word} node shape is_run held at d link =
       at = sym at;
       link = link;
       held = record { held = record { epoch = h.epoch; link = subst L (sym link) (mark_known d); birth = subst B at h.birth }; mark = ap (λ (l : Link). l.mark) link };
+      alone = λ alone. marked_alone node shape at d alone;
     }
 
 -- where nodes have no values, an entry is a key
@@ -69,6 +71,7 @@ key_removed {p} {q} bare removed = record {
   at = removed.at;
   link = removed.link;
   held = removed.held;
+  alone = removed.alone;
 }
 
 -- ---- a publication, after what filled the hand

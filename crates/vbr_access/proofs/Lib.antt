@@ -11,6 +11,7 @@ mod WonExchanges
 mod KeptSlots
 mod WrittenLinks
 mod UnlinkedLinks
+mod MarkedLinks
 mod Unlinks
 mod AloneExchanges
 mod NoValues

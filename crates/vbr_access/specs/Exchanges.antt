@@ -12,7 +12,7 @@ use Rattle.vbr_slots.specs.Calls.{Made, Quiet, Took}
 use Rattle.vbr_slots.specs.Views.{PassView, Trace, knows}
 use Rattle.vbr_pools.specs.Hands.{HandView, IsHandOf, UnlinkedView}
 use Rattle.vbr_pools.specs.KeptSlots.{TakesNoSlot}
-use Rattle.vbr_access.specs.Alone.{StandsNow, UnlinksAlone}
+use Rattle.vbr_access.specs.Alone.{MarksAlone, StandsNow, UnlinksAlone}
 use Rattle.vbr_access.specs.Held.{IsFilled, IsHeld, HoldsMarked, held_of}
 use Rattle.vbr_access.specs.Keeping.{Keeps, KeepsOwn, KeepsUnlinked}
 use Rattle.vbr_access.specs.Moments.{IsRead}
@@ -37,12 +37,13 @@ pub record IsGap (p : Trace) (key : ℕ) (pred : Held) : Type 0 where
 
 -- ---- what they tell
 
--- the pass removed the key of the node that was held, whose link is marked now
+-- the pass removed the key of the node that was held, whose link is marked now; a pass that was alone leaves all other links
 pub record RemovesKey (p q : Trace) (node : Held) (now : Marked) : Type 0 where
   pub made : (key : ℕ) → KeyAt (knows p) node.at key → Made (set_call p.who Remove key true) p q
   pub at : (held_of now).at ≡ node.at
   pub link : link_of now.word ≡ marked (link_of node.word)
   pub held : HoldsMarked (knows q) now
+  pub alone : IsAlone p q → MarksAlone p q node
 
 -- another link stood where one was held: no call was made; for a pass that was alone, what is held hadn't stood
 pub record LosesExchange (p q : Trace) (held : Held) (rollback : Rollback) : Type 0 where

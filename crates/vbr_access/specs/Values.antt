@@ -18,6 +18,7 @@ use Rattle.vbr_machine.specs.declared.knowledge.Holding.{Holding}
 use Rattle.vbr_slots.specs.Alone.{IsAlone, nodes}
 use Rattle.vbr_slots.specs.Calls.{Made, Quiet}
 use Rattle.vbr_slots.specs.Views.{PassView, Trace, knows}
+use Rattle.vbr_access.specs.Alone.{MarksAlone}
 use Rattle.vbr_access.specs.Answering.{IsAnswered}
 use Rattle.vbr_pools.specs.Hands.{HandView}
 use Rattle.vbr_access.specs.Exchanges.{FillsHand}
@@ -63,12 +64,13 @@ pub record IsValueRead (p q : PassView) (at : At) (found : ℕ) : Type 0 where
   pub keeps : Keeps (knows p.trace) (knows q.trace)
   pub value : ValueAt (knows q.trace) at found
 
--- the pass removed the entry of the node that was held, whose link is marked now
+-- the pass removed the entry of the node that was held, whose link is marked now; a pass that was alone leaves all other links
 pub record RemovesEntry (p q : Trace) (node : Held) (now : Marked) : Type 0 where
   pub made : (key value : ℕ) → KeyAt (knows p) node.at key → (p.shape.values ≡ true → ValueAt (knows p) node.at value) → Made (entry_call p.shape p.who Remove key true value) p q
   pub at : (held_of now).at ≡ node.at
   pub link : link_of now.word ≡ marked (link_of node.word)
   pub held : HoldsMarked (knows q) now
+  pub alone : IsAlone p q → MarksAlone p q node
 
 -- it answered by the presence of the entry of a node
 pub record AnswersEntry (p q : Trace) (op : Op) (node : Held) : Type 0 where

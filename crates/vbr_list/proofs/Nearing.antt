@@ -1,5 +1,5 @@
 -- A pass that was alone comes nearer to the key, node by node.
-use Rattle.std.proofs.Common.{◌≡◌, ℕ, suc, ◌+◌, ◌≤◌, true, false, Option, Some, sym, ap, ◌∙◌, subst, arith, inl, inr}
+use Rattle.std.proofs.Common.{◌≡◌, ◌≢◌, ℕ, suc, ◌+◌, ◌<◌, ◌≤◌, true, false, Option, Some, sym, ap, ◌∙◌, subst, arith, inl, inr}
 use Rattle.std.specs.Prelude.{Result, Ok, Err, IfOk, IfErr}
 use Rattle.vbr_words.specs.Dimensions.{Dimensions}
 use Rattle.vbr_words.specs.Words.{link_of}
@@ -65,6 +65,13 @@ one_behind : (p : PassView) → PassLaw p → (key : ℕ) (pred : Held) → IsIn
 one_behind p sound key pred x there stands s names =
     one_fewer_behind p.trace.shape p.trace.passes p.trace.seen sound.shape sound.is_run p.trace.who (bucket_of p.trace.shape key) pred.at (link_of pred.word) x.held.link there stands x.inside s names
 
+-- so what the link of a place names is at another place
+pub named_elsewhere : (p : PassView) → PassLaw p → (key : ℕ) (pred : Held) → IsInside p.trace.shape (knows p.trace) key pred → StandsInList p.trace pred → StandsNow p.trace pred → (s : ℕ) → Names pred s → (at : At) → at ≡ Slot s → pred.at ≢ at
+named_elsewhere p sound key pred x there stands s names at is e =
+    let fewer = one_behind p sound key pred x there stands s names in
+    let same = ap (ahead p.trace (bucket_of p.trace.shape key)) (e ∙ is) in
+    omega (arith, fewer, same)
+
 -- in lists as they were
 pub ahead_same : (p q : Trace) (key : ℕ) (at : At) → LeavesLists p q → q.shape ≡ p.shape → ahead q (bucket_of q.shape key) at ≡ ahead p (bucket_of p.shape key) at
 ahead_same p q key at l shape = ap (λ (s : Dimensions). ahead q (bucket_of s key) at) shape ∙ l.count (bucket_of p.shape key) at
@@ -85,6 +92,27 @@ helped_alone p q r key pred place inside at s1 s2 x l fresh = record {
   keeps = record { fresh = fresh; stands = l.links place.at ∙ x.stands };
   fewer = x.fewer (bucket_of p.shape key) inside ∙ ap suc (sym (ahead_same q r key place.at l s2 ∙ ap (λ (s : Dimensions). ahead q (bucket_of s key) place.at) s1 ∙ ap (ahead q (bucket_of p.shape key)) at));
 }
+
+-- ---- a mark
+
+-- an epoch that was read last still stands where neither it nor what is known has changed
+pub fresh_marked : (p q : Trace) → (nodes q).epoch ≡ (nodes p).epoch → Keeps (knows p) (knows q) → IsFresh p → IsFresh q
+fresh_marked p q same keeps fresh = same ∙ fresh ∙ sym keeps.epoch
+
+-- ---- the list of a key's bucket
+
+-- as many nodes
+pub listed_same : (p q : Trace) (key : ℕ) → q.shape ≡ p.shape → ((bucket h : ℕ) → ahead q bucket (Head h) ≡ ahead p bucket (Head h)) → listed_for q key ≡ listed_for p key
+listed_same p q key shape same =
+    let b = bucket_of p.shape key in
+    ap (λ (s : Dimensions). ahead q (bucket_of s key) (Head (bucket_of s key))) shape ∙ same b b
+
+-- fewer, where that is so in each list that a place is held in
+pub listed_fewer : (p q : Trace) (key : ℕ) {at : At} → q.shape ≡ p.shape → ((bucket h : ℕ) → HeldIn (knows p) at bucket → ahead q bucket (Head h) < ahead p bucket (Head h)) → HeldIn (knows p) at (bucket_of p.shape key) → listed_for q key < listed_for p key
+listed_fewer p q key shape fewer inside =
+    let b = bucket_of p.shape key in
+    let P : Dimensions → Type 0 = λ s. ahead q (bucket_of s key) (Head (bucket_of s key)) < listed_for p key in
+    subst P (sym shape) (fewer b b inside)
 
 -- ---- errors that are handed on
 

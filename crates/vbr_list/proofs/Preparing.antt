@@ -1,7 +1,7 @@
 -- The steps of an insert, and what its refusals say.
 use Rattle.std.proofs.Common.{◌≡◌, ◌≢◌, ℕ, ◌+◌, ◌-◌, ◌<◌, ◌≤◌, Bool, true, false, List, [], ◌∷◌, length, Result, Ok, Err, inl, refl, sym, subst, arith}
 use Rattle.std.specs.Prelude.{IfOk, IfErr}
-use Rattle.std.specs.Result.{is_ok}
+use Rattle.std.specs.Result.{is_err, is_ok}
 use Rattle.vbr_words.specs.declared.nodes.Nodes.{Ghosts}
 use Rattle.vbr_words.specs.Dimensions.{Dimensions}
 use Rattle.vbr_machine.specs.History.{set_call}
@@ -94,6 +94,10 @@ spent_rest p q used budget epoch le spent left = let h = left.room in record { s
 pub within_all : {p q : Trace} {since budget : ℕ} → CountsWithin p q 0 since budget → TookWithin p q budget
 within_all {p} {q} {since} x = record { steps = since; within = x.within.1; took = took_all x.counts }
 
+-- they are within what is no less
+pub within_most : {p q : Trace} {since budget most : ℕ} → CountsWithin p q 0 since budget → since ≤ most → TookWithin p q most
+within_most {p} {q} {since} x le = record { steps = since; within = le; took = took_all x.counts }
+
 -- ---- an answer
 
 pub made_since : {p q r : Trace} {op : Op} {key : ℕ} {reply : Bool} → Quiet p q → Made (set_call q.who op key reply) q r → Made (set_call p.who op key reply) p r
@@ -106,6 +110,14 @@ if_ok (Err error) e p = absurd (cc)
 pub if_err : {T E : Type 0} {P : Type 0} (x : Result T E) → is_ok x ≡ false → IfErr x (λ _. P) → P
 if_err (Ok value) e p = absurd (cc)
 if_err (Err error) e p = p
+
+pub if_failed : {T E : Type 0} {P : Type 0} (x : Result T E) → is_err x ≡ true → IfErr x (λ _. P) → P
+if_failed (Ok value) e p = absurd (cc)
+if_failed (Err error) e p = p
+
+pub if_went : {T E : Type 0} {P : T → Type 0} (x : Result T E) → is_err x ≡ false → IfOk x P → (value : T) × P value
+if_went (Ok value) e p = (value, p)
+if_went (Err error) e p = absurd (cc)
 
 pub each_since : {A E : Type 0} (p q r : Trace) (then told : A → ListedCall) (answer : Result A E) → Quiet p q → ((reply : A) → then reply ≡ told reply) → IfOk answer (λ reply. Made (then reply) q r) → IfOk answer (λ reply. Made (told reply) p r)
 each_since p q r then told (Ok reply) quiet same made = subst (λ (call : ListedCall). Made call p r) (same reply) (made_on quiet made)

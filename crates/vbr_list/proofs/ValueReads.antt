@@ -10,8 +10,8 @@ use Rattle.vbr_access.specs.Held.{IsSlot}
 use Rattle.vbr_access.specs.Reading.{ReadsIn}
 use Rattle.vbr_access.specs.Values.{steps_to_update, steps_to_value}
 use Rattle.vbr_access.specs.declared.held.Held.{Held}
+use Rattle.vbr_list.specs.Budgets.{steps_to_value_of, steps_where}
 use Rattle.vbr_list.specs.Places.{IsCur, IsEnd}
-use Rattle.vbr_list.specs.Valuing.{steps_to_value_of, steps_where}
 
 -- no step was made
 pub reads_still : (p : PassView) → ReadsIn p p 0

@@ -1,10 +1,12 @@
 -- The budgets that suffice a pass that is alone: it is refused for want of steps only below them.
 use Rattle.std.specs.Prelude.{ℕ, ◌+◌, ◌*◌, ◌<◌, Bool, true, false, Result, Ok, Err}
+use Rattle.vbr_words.specs.Dimensions.{Dimensions}
 use Rattle.vbr_words.specs.declared.place.At.TheVariants.{Head}
 use Rattle.vbr_words.specs.Buckets.{bucket_of}
 use Rattle.vbr_slots.specs.Alone.{ahead}
 use Rattle.vbr_slots.specs.Views.{PassView, Trace}
 use Rattle.vbr_pools.specs.Budgets.{most_to_take}
+use Rattle.vbr_access.specs.Values.{steps_to_value}
 use Rattle.vbr_list.specs.declared.refusal.Refusal.{Refusal}
 use Rattle.vbr_list.specs.declared.refusal.Refusal.TheVariants.{OutOfSteps, NoSlot, EpochSpent}
 
@@ -44,6 +46,26 @@ answer_costs false = look_up_costs
 -- to find where a key stands: nine for each, and three
 abbrev pub find_costs : Trace → ℕ → ℕ
 find_costs p key = 9 * listed_for p key + 3
+
+-- the steps of reading a value: two where nodes have values
+abbrev pub steps_where : Bool → ℕ
+steps_where true = 2
+steps_where false = 0
+
+abbrev pub steps_to_value_of : Dimensions → ℕ
+steps_to_value_of shape = steps_where shape.values
+
+-- a remove nine for each, and ten, and those of reading the value
+abbrev pub remove_costs : Trace → ℕ → ℕ
+remove_costs p key = 9 * listed_for p key + 10 + steps_to_value_of p.shape
+
+-- what is enough for a remove to unlink the node besides: two more than it costs
+abbrev pub enough_to_unlink : Trace → ℕ → ℕ
+enough_to_unlink p key = remove_costs p key + 2
+
+-- an insert twice nine for each, those of taking a slot, and nine, and that of storing the value
+abbrev pub insert_costs : PassView → ℕ → ℕ
+insert_costs p key = 18 * listed_for p.trace key + most_to_take p.trace.shape p.pool + 9 + steps_to_value p.trace.shape.values
 
 -- a refusal for want of steps comes of a budget below so many
 abbrev pub LacksSteps : ℕ → ℕ → Refusal → Type 0

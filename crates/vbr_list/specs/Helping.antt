@@ -1,9 +1,9 @@
 -- Helping to unlink a marked node. Only contracts of private functions cite this.
-use Rattle.std.specs.Prelude.{◌≡◌, ℕ, ◌+◌, false}
+use Rattle.std.specs.Prelude.{◌≡◌, ℕ, ◌+◌, ◌<◌, false}
 use Rattle.vbr_words.specs.Words.{link_of}
-use Rattle.vbr_words.specs.declared.place.At.TheVariants.{Slot}
-use Rattle.vbr_machine.specs.Membership.{KeyAt, StandsBehind}
-use Rattle.vbr_slots.specs.Alone.{IsAlone, IsFresh}
+use Rattle.vbr_words.specs.declared.place.At.TheVariants.{Head, Slot}
+use Rattle.vbr_machine.specs.Membership.{HeldIn, KeyAt, StandsBehind}
+use Rattle.vbr_slots.specs.Alone.{IsAlone, IsFresh, ahead}
 use Rattle.vbr_slots.specs.Views.{PassView, Trace, knows}
 use Rattle.vbr_access.specs.Alone.{StandsNow}
 use Rattle.vbr_access.specs.Held.{IsHeld, HoldsMarked, Names}
@@ -40,8 +40,9 @@ pub record Helps (p q : PassView) (pred place : Held) : Type 0 where
 abbrev pub HelpsNone : PassView → PassView → Held → Rollback → Type 0
 HelpsNone p q pred rollback = IsFresh p.trace → StandsNow p.trace pred → IsAlone p.trace q.trace → ⊥
 
--- the marked node was unlinked and retired, so no marked node of its key was in a list; where the epoch stayed, that helped, and alone it stays
+-- the marked node was unlinked and retired, so no marked node of its key was in a list; where the epoch stayed, that helped, and alone it stays; and alone fewer nodes are in each list that the place is held in
 pub record Retires (p q : PassView) (pred : Held) (gone : Marked) (place : Held) : Type 0 where
   pub helps : place.epoch ≡ (knows q.trace).epoch → Helps p q pred place
   pub stays : IsFresh p.trace → StandsNow p.trace pred → IsAlone p.trace q.trace → place.epoch ≡ (knows q.trace).epoch
+  pub fewer : StandsNow p.trace pred → IsAlone p.trace q.trace → (bucket h : ℕ) → HeldIn (knows p.trace) pred.at bucket → ahead q.trace bucket (Head h) < ahead p.trace bucket (Head h)
   pub clear : (key : ℕ) → KeyAt (knows p.trace) (Slot gone.slot) key → StandsBehind p.trace.shape (knows p.trace) pred.at key → WasClear p.trace q.trace key

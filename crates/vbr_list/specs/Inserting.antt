@@ -14,6 +14,7 @@ use Rattle.vbr_pools.specs.Steps.{CountsSteps}
 use Rattle.vbr_pools.specs.declared.budget.TheConstants.{PIECE}
 use Rattle.vbr_access.specs.Alone.{NextStands, StandsNow}
 use Rattle.vbr_access.specs.Moments.{WasSo}
+use Rattle.vbr_access.specs.Values.{steps_to_update}
 use Rattle.vbr_list.specs.Budgets.{LacksSteps, enough_to_search, listed_for}
 use Rattle.vbr_list.specs.Pieces.{IsPiece, IsSameCall, Replies, Stores, WasAlone, pass_in, trace_in}
 use Rattle.vbr_list.specs.Refusals.{FoundNoSlot}
@@ -116,11 +117,12 @@ pub record PreparesNone {N : Type 0} {kind : Ghosts N} (c d : PendingCall N kind
 
 -- ---- the slot is linked
 
--- a piece that may link it: its steps are counted, and it takes no slot
+-- a piece that may link it: its steps are counted, no more than those of linking a new node, and it takes no slot
 pub record Publishes {N : Type 0} {kind : Ghosts N} (c d : PendingCall N kind) : Type 0 where
   pub call : IsSameCall c d
   pub counts : CountsSteps (trace_in c) (trace_in d) c.used d.used
   pub used : IsPiece c.used d.used
+  pub few : d.used ≤ c.used + steps_to_update (trace_in c).shape
   pub takes_no_slot : TakesNoSlot (pass_in c) (pass_in d)
 
 -- the insert is answered, and its hand is empty
@@ -140,6 +142,11 @@ pub record Links {N : Type 0} {kind : Ghosts N} (c d : PendingCall N kind) : Typ
   pub counts : CountsWithin (trace_in c) (trace_in d) c.used d.used c.budget
   pub takes_no_slot : TakesNoSlot (pass_in c) (pass_in d)
   pub spent : (pass_in d).hand ≡ None
+
+-- the insert is answered; alone, in so many steps
+pub record LinksHand {N : Type 0} {kind : Ghosts N} (value : ℕ) (c d : PendingCall N kind) (reply : Bool) : Type 0 where
+  pub made : Stores value c d reply
+  pub few : WasAlone c d → d.used ≤ c.used + 3 + 9 * listed_for (trace_in c) c.key + steps_to_update (trace_in c).shape
 
 -- it isn't linked, for want of steps
 pub record LinksNone {N : Type 0} {kind : Ghosts N} (c d : PendingCall N kind) (refusal : Refusal) : Type 0 where

@@ -1,8 +1,10 @@
 -- The pieces of a remove. Only contracts of private functions cite this.
-use Rattle.std.specs.Prelude.{◌≡◌, ℕ, Option, true, is_some}
+use Rattle.std.specs.Prelude.{◌≡◌, ℕ, ◌+◌, ◌<◌, ◌≤◌, Option, true, is_some}
+use Rattle.vbr_words.specs.Dimensions.{Dimensions}
 use Rattle.vbr_words.specs.declared.nodes.Nodes.{Ghosts}
 use Rattle.vbr_words.specs.declared.place.At.TheVariants.{Slot}
-use Rattle.vbr_machine.specs.Membership.{KeyAt, StandsBehind}
+use Rattle.vbr_words.specs.Buckets.{bucket_of}
+use Rattle.vbr_machine.specs.Membership.{HeldIn, KeyAt, StandsBehind}
 use Rattle.vbr_machine.specs.declared.history.Op.TheVariants.{Remove}
 use Rattle.vbr_slots.specs.Alone.{IsFresh}
 use Rattle.vbr_slots.specs.Calls.{Quiet}
@@ -11,6 +13,7 @@ use Rattle.vbr_access.specs.Alone.{NextStands, StandsNow}
 use Rattle.vbr_access.specs.declared.held.Held.{Held}
 use Rattle.vbr_access.specs.declared.held.Marked.{Marked}
 use Rattle.vbr_access.specs.declared.rollback.Rollback.{Rollback}
+use Rattle.vbr_list.specs.Budgets.{listed_for, steps_to_value_of}
 use Rattle.vbr_list.specs.Helping.{MayHelp}
 use Rattle.vbr_list.specs.Leaving.{Leaves, WasClear}
 use Rattle.vbr_list.specs.Pieces.{Gives, HasRoom, WasAlone, trace_in}
@@ -21,16 +24,36 @@ use Rattle.vbr_list.specs.declared.found.Found.{Found}
 pub record IsMarkedFor {N : Type 0} {kind : Ghosts N} (c : PendingCall N kind) (pred : Held) (gone : Marked) : Type 0 where
   pub may : MayHelp (trace_in c) pred gone
   pub key : KeyAt (knows (trace_in c)) (Slot gone.slot) c.key
+  pub inside : HeldIn (knows (trace_in c)) pred.at (bucket_of (trace_in c).shape c.key)
   pub behind : StandsBehind (trace_in c).shape (knows (trace_in c)) pred.at c.key
 
 -- at a moment no marked node of the key was in a list, unless the budget has no room for one more piece
 abbrev pub Clears : {N : Type 0} {kind : Ghosts N} → PendingCall N kind → PendingCall N kind → Type 0
 Clears c d = HasRoom d → WasClear (trace_in c) (trace_in d) c.key
 
--- the remove is answered, and gives the value that was read of the node where nodes have values; where that is yes, the node that it marked has left its list, unless the budget has no room for one more piece
-pub record RemoveAnswers {N : Type 0} {kind : Ghosts N} (c d : PendingCall N kind) (answer : Option ℕ) : Type 0 where
+-- that takes six steps at most, and leaves fewer nodes in the list
+pub record UnlinksSoon {N : Type 0} {kind : Ghosts N} (c d : PendingCall N kind) : Type 0 where
+  pub few : d.used ≤ c.used + 6
+  pub fewer : listed_for (trace_in d) c.key < listed_for (trace_in c) c.key
+
+-- so it is alone, where the place stands
+abbrev pub ClearsSoon : {N : Type 0} {kind : Ghosts N} → PendingCall N kind → PendingCall N kind → Held → Type 0
+ClearsSoon c d pred = IsFresh (trace_in c) → StandsNow (trace_in c) pred → WasAlone c d → UnlinksSoon c d
+
+-- the steps of an answer: those of reading the value, one for the mark, and six
+abbrev pub steps_to_remove : Dimensions → ℕ
+steps_to_remove shape = steps_to_value_of shape + 7
+
+-- the answer takes so many steps, and one that is yes leaves fewer nodes in the list, where the budget has room to unlink the node once its value is read and it is marked
+pub record RemovesSoon {N : Type 0} {kind : Ghosts N} (c d : PendingCall N kind) (answer : Option ℕ) : Type 0 where
+  pub few : d.used ≤ c.used + steps_to_remove (trace_in c).shape
+  pub fewer : is_some answer ≡ true → c.used + steps_to_value_of (trace_in c).shape + 9 ≤ c.budget → listed_for (trace_in d) c.key < listed_for (trace_in c) c.key
+
+-- the remove is answered, and gives the value that was read of the node where nodes have values; where that is yes, the node that it marked has left its list, unless the budget has no room for one more piece; and alone, where the place before the key stands, so it is soon
+pub record RemoveAnswers {N : Type 0} {kind : Ghosts N} (c d : PendingCall N kind) (found : Found) (answer : Option ℕ) : Type 0 where
   pub made : Gives Remove c d answer
   pub unlists : is_some answer ≡ true → HasRoom d → Leaves (trace_in c) (trace_in d) c.key
+  pub soon : IsFresh (trace_in c) → StandsNow (trace_in c) found.pred → WasAlone c d → RemovesSoon c d answer
 
 -- it isn't answered, and no call was made, which doesn't happen alone, where what was found stands
 pub record RemoveRollsBack {N : Type 0} {kind : Ghosts N} (c d : PendingCall N kind) (found : Found) (rollback : Rollback) : Type 0 where

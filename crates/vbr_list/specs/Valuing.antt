@@ -1,20 +1,11 @@
 -- Reading the value of a node, where nodes have values. Only contracts of private functions cite this.
-use Rattle.std.specs.Prelude.{◌≡◌, ℕ, Bool, true, false}
-use Rattle.vbr_words.specs.Dimensions.{Dimensions}
+use Rattle.std.specs.Prelude.{◌≡◌, ℕ, true}
 use Rattle.vbr_words.specs.declared.place.At.{At}
 use Rattle.vbr_slots.specs.Views.{PassView, knows}
 use Rattle.vbr_access.specs.Keeping.{Keeps}
 use Rattle.vbr_access.specs.Reading.{RollsBack}
 use Rattle.vbr_access.specs.Values.{ValueAt}
 use Rattle.vbr_access.specs.declared.rollback.Rollback.{Rollback}
-
--- the steps of reading a value: two where nodes have values
-abbrev pub steps_where : Bool → ℕ
-steps_where true = 2
-steps_where false = 0
-
-abbrev pub steps_to_value_of : Dimensions → ℕ
-steps_to_value_of shape = steps_where shape.values
 
 -- the value of the node at a place is known, where nodes have values, and what the pass knew it knows
 pub record ReadsValue (p q : PassView) (at : At) (found : ℕ) : Type 0 where

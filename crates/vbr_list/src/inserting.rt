@@ -7,8 +7,8 @@ ghost use Rattle.vbr_slots.specs.Calls.{Quiet, Took};
 ghost use Rattle.vbr_slots.specs.Views.{IsOf};
 ghost use Rattle.vbr_access.specs.Answering.{KeepsIn};
 ghost use Rattle.vbr_list.specs.Sparing.{Calls, CallsAs, CallsInsert, SparesInsert};
-ghost use Rattle.vbr_list.specs.Inserting.{DeniesNone, GivesHandBack, HasHandAndRoom, InsertAnswers, Links, LinksNone, Prepares, PreparesHand, PreparesNone, Provides, ProvidesNone, Publishes};
-ghost use Rattle.vbr_list.specs.Pieces.{HasRoom, IsSameCall, Replies, Stores, pass_in, trace_in};
+ghost use Rattle.vbr_list.specs.Inserting.{DeniesNone, GivesHandBack, HasHandAndRoom, InsertAnswers, Links, LinksHand, LinksNone, Prepares, PreparesHand, PreparesNone, Provides, ProvidesNone, Publishes};
+ghost use Rattle.vbr_list.specs.Pieces.{HasRoom, IsSameCall, Replies, pass_in, trace_in};
 ghost use Rattle.vbr_list.specs.Told.{stored_in};
 ghost use Rattle.vbr_list.specs.Traversing.{LocatesFor};
 
@@ -133,7 +133,7 @@ impl<N: Nodes> PendingCall<'_, N> {
         requires hand { HasHandAndRoom (pass_in self.old) hand }
         ensures links { Links self.old self.new }
         ensures had { HasUnpublished (pass_in self.old) (pass_in self.new) result }
-        ensures made { IfOk result (Stores value self.old self.new) }
+        ensures linked { IfOk result (LinksHand value self.old self.new) }
         ensures refused { IfErr result (LinksNone self.old self.new) }
     {
         loop {
@@ -161,8 +161,9 @@ impl<N: Nodes> PendingCall<'_, N> {
 /// where no slot that it could take is stamped below the epoch that it read.
 ///
 /// Its refusals are OutOfSteps, and, where the key was absent, NoSlot and EpochSpent. While the other
-/// passes stand still, a budget of 18n + slots + 82 is enough, with n nodes in the key's bucket; and
-/// with a slot in the pass's own pool and 18n + 82 steps it is answered, unless the epoch is spent.
+/// passes stand still, a budget of 18n + slots + 82 is enough, with n nodes in the key's bucket, and
+/// what is answered took at most 18n + slots + 77 steps. With a slot in the pass's own pool and 18n + 82
+/// steps it is then answered, unless the epoch is spent, and took at most 18n + 77.
 pub fn insert(slots: &Slots, pass: &mut Pass, key: u64, budget: u32) -> Result<bool, Refusal>
     requires own { IsOf pass.old.trace slots.now }
     requires empty_hand { pass.old.hand ≡ None }
@@ -190,7 +191,8 @@ fn insert_key(at: &mut AtTable<'_>, key: u64, budget: u32) -> (Result<bool, Refu
 /// As [`insert`], at a table whose nodes have values: puts an entry, a key with its value, into the
 /// map, and says whether the key was absent. Where it was there, its value stays. The value is stored
 /// before the node is published, in one step more than an insert makes, and is fixed from then on. Its
-/// refusals and the budgets that are enough are those of [`insert`].
+/// refusals and the budgets that are enough are those of [`insert`]; what is answered took at most one
+/// step more.
 pub fn insert_entry(
     slots: &Slots<Entries>,
     pass: &mut Pass,

@@ -8,7 +8,7 @@ ghost use Rattle.vbr_pools.specs.declared.budget.TheConstants.{PIECE};
 ghost use Rattle.vbr_list.specs.Sparing.{Calls, CallsAs, CallsRemove};
 ghost use Rattle.vbr_list.specs.Leaving.{SparesRemove, WasClear};
 ghost use Rattle.vbr_list.specs.Pieces.{Goes, GoesOn, HasRoom, Settles};
-ghost use Rattle.vbr_list.specs.Removing.{Clears, IsMarkedFor, RemoveAnswers, RemoveRollsBack};
+ghost use Rattle.vbr_list.specs.Removing.{Clears, ClearsSoon, IsMarkedFor, RemoveAnswers, RemoveRollsBack};
 ghost use Rattle.vbr_list.specs.Told.{given_in};
 ghost use Rattle.vbr_list.specs.Traversing.{LocatesFor};
 
@@ -78,6 +78,7 @@ impl<N: Nodes> PendingCall<'_, N> {
         requires room { HasRoom self.old }
         ensures goes { GoesOn self.old self.new }
         ensures clear { Clears self.old self.new }
+        ensures soon { ClearsSoon self.old self.new pred.now }
     {
         let (outcome, made) = unlink_and_retire(&mut self.at, pred, marked);
         self.used += made;
@@ -95,7 +96,7 @@ impl<N: Nodes> PendingCall<'_, N> {
         requires present { found.now.present ≡ true }
         requires room { HasRoom self.old }
         ensures settles { Settles self.old self.new }
-        ensures answers { IfOk result (RemoveAnswers self.old self.new) }
+        ensures answers { IfOk result (RemoveAnswers self.old self.new found.now) }
         ensures rolls { IfErr result (RemoveRollsBack self.old self.new found.now) }
     {
         let Some(cur) = &found.cur else {
@@ -120,7 +121,7 @@ impl<N: Nodes> PendingCall<'_, N> {
         requires locates { LocatesFor self.old found.now }
         requires room { HasRoom self.old }
         ensures settles { Settles self.old self.new }
-        ensures answers { IfOk result (RemoveAnswers self.old self.new) }
+        ensures answers { IfOk result (RemoveAnswers self.old self.new found.now) }
         ensures rolls { IfErr result (RemoveRollsBack self.old self.new found.now) }
     {
         if found.present {
@@ -142,7 +143,8 @@ impl<N: Nodes> PendingCall<'_, N> {
 /// take is in its own pool then.
 ///
 /// OutOfSteps is its one refusal. While the other passes stand still, a budget of 9n + 11 is enough,
-/// with n nodes in the key's bucket.
+/// with n nodes in the key's bucket, and what is answered took at most 9n + 10 steps. With 9n + 12, a
+/// yes leaves fewer nodes there.
 pub fn remove(slots: &Slots, pass: &mut Pass, key: u64, budget: u32) -> Result<bool, Refusal>
     requires own { IsOf pass.old.trace slots.now }
     requires empty_hand { pass.old.hand ≡ None }
@@ -171,7 +173,8 @@ fn remove_key(at: &mut AtTable<'_>, key: u64, budget: u32) -> (Result<bool, Refu
 /// As [`remove`], at a table whose nodes have values: gives the value that was stored with the key,
 /// if the key was there. It is read before the node is marked, in two steps more than a remove makes,
 /// and was fixed when the node was published, so it is that of the entry which the mark removes. Its
-/// refusal and the budget that is enough are those of [`remove`].
+/// refusal and the budget that is enough are those of [`remove`]; what is answered took at most 9n + 12
+/// steps, and a yes with 9n + 14 leaves fewer nodes in the key's bucket.
 pub fn remove_entry(
     slots: &Slots<Entries>,
     pass: &mut Pass,

@@ -5,8 +5,9 @@ ghost use Rattle.vbr_slots.specs.Views.{knows};
 ghost use Rattle.vbr_access.specs.Held.{IsHeld, IsSlot};
 ghost use Rattle.vbr_access.specs.Reading.{ReadsIn};
 ghost use Rattle.vbr_access.specs.Values.{steps_to_update};
+ghost use Rattle.vbr_list.specs.Budgets.{steps_to_value_of};
 ghost use Rattle.vbr_list.specs.Told.{is_yes};
-ghost use Rattle.vbr_list.specs.Valuing.{LosesValue, ReadsValue, steps_to_value_of};
+ghost use Rattle.vbr_list.specs.Valuing.{LosesValue, ReadsValue};
 
 use crate::refusal::Refusal;
 use vbr_access::at_table::value_of;

@@ -37,9 +37,9 @@ pub use Rattle.vbr_machine.proofs.RunForms.{marked_call_is, none_marked_between,
 pub use Rattle.vbr_machine.proofs.Removals.{left_since, marked_left}
 -- What runs say of how many nodes stand behind a place that a pass holds, whose link is still the one that it has checked.
 pub use Rattle.vbr_machine.proofs.ListedRuns.{named_there, one_fewer_behind, raise_epoch, raise_leaves, raise_links, read_leaves, stamp_epoch}
-pub use Rattle.vbr_machine.proofs.ListedRuns.{stamp_leaves, stamp_links, unlink_makes, unlink_takes_one}
--- A node comes into a list by a publication alone: a step by which its pass makes no call adds none.
-pub use Rattle.vbr_machine.proofs.ListedGrowth.{calls_or_adds_none}
+pub use Rattle.vbr_machine.proofs.ListedRuns.{stamp_leaves, stamp_links, unlink_makes, unlink_takes_listed, unlink_takes_one}
+-- A node comes into a list by a publication alone: a step by which its pass makes no call adds none, and neither does a mark.
+pub use Rattle.vbr_machine.proofs.ListedGrowth.{calls_or_adds_none, mark_leaves}
 -- The link of a place that a pass holds unmarked, while the pass fills a slot in its hand.
 pub use Rattle.vbr_machine.proofs.ListedLinks.{key_leaves_links, link_leaves_links, value_leaves_links}
 -- What the lists stand for while the keys that a world opens with are linked, from the last on: the bare world before the first, and all of them after the last. A world that opens with none is the bare one.

@@ -121,6 +121,16 @@ module _ (shape : Dimensions) (passes : ℕ) (run : List Event) (is : IsShape sh
   one (ConfirmPresent op s expected) n l = confirmed (found shape (world_after shape run) (ConfirmPresent op s expected) == expected) (call_of shape p (know_after shape run p) (ConfirmPresent op s expected))
   one (ConfirmAbsent op key at expected) n l = confirmed (found shape (world_after shape run) (ConfirmAbsent op key at expected) == expected) (call_of shape p (know_after shape run p) (ConfirmAbsent op key at expected))
 
+  -- a law: a mark leaves as many nodes in each list
+  pub mark_leaves : (s expected : ℕ) → Accepts shape (know_after shape run p) (Mark s expected) → behind shape (incarnations_after shape (run ++ (record { pass = p; step = Mark s expected }) ∷ [])) bucket (Head h) ≡ behind shape (incarnations_after shape run) bucket (Head h)
+  mark_leaves s expected accepts =
+      ap (λ b. behind shape b bucket (Head h)) (incarnations_after-snoc shape run (record { pass = p; step = Mark s expected }))
+      ∙ either (found shape (world_after shape run) (Mark s expected) == expected) (step_agrees shape (world_after shape run) (incarnations_after shape run) (notes_after shape run) p (Mark s expected) (run_agrees shape passes run is ok) accepts).0
+    where
+      either : (t : Bool) → IsLawful shape (opening_keys shape) (incarnations_after shape run) (if t then just p (Removes (last_in (incarnations_after shape run) s)) else []) → behind shape (incarnations_from shape (incarnations_after shape run) (if t then just p (Removes (last_in (incarnations_after shape run) s)) else [])) bucket (Head h) ≡ behind shape (incarnations_after shape run) bucket (Head h)
+      either true l = removes_none shape (incarnations_after shape run) p (last_in (incarnations_after shape run) s) bucket (Head h) l.0
+      either false l = refl
+
   -- a law: a step by which its pass makes no call adds no node to a list
   pub calls_or_adds_none : (step : Step) → Accepts shape (know_after shape run p) step → calls_added shape (world_after shape run) p step ≡ [] →
       behind shape (incarnations_after shape (run ++ (record { pass = p; step = step }) ∷ [])) bucket (Head h) ≤ behind shape (incarnations_after shape run) bucket (Head h)

@@ -250,24 +250,24 @@ stamps_none shape keys a pass c stamp bucket at h =
     not_listed : (st : State) → MayStamp st pass stamp a.epoch → is_listed st ≡ false
     not_listed st h = grind arith
 
--- behind a place one node fewer stands once its next is unlinked
-pub unlinks_one : {shape : Dimensions} {a : Incarnations} → Sound shape a → Fits shape a → (pass bucket c : ℕ) (at : At) (of : Option ℕ) → IsFollowed a at of (Some c) → IsPlaceOf shape a at bucket → behind shape a bucket at ≡ suc (behind shape (becomes shape a pass (Unlinks c (before_at a at))) bucket at)
-unlinks_one {shape} {a} sound fits pass bucket c at of followed is =
+-- behind each place that a node lies behind one node fewer stands once it is unlinked
+pub unlinks_one : {shape : Dimensions} {a : Incarnations} → Sound shape a → Fits shape a → (pass bucket c : ℕ) (at from : At) (of : Option ℕ) → IsFollowed a at of (Some c) → IsPlaceOf shape a at bucket → is_above a from (a.key c) ≡ true → behind shape a bucket from ≡ suc (behind shape (becomes shape a pass (Unlinks c (before_at a at))) bucket from)
+unlinks_one {shape} {a} sound fits pass bucket c at from of followed is higher =
     let next = next_of_followed sound bucket at of c followed is in
     let there = stands_there sound fits c next.listed in
-    count_falls (is_behind shape a bucket at) (is_behind shape b bucket at) shape.slots (a.slot c) there.0
-    (and_from _ _ (in_list_is (record { stands = there.1; of_bucket = next.of_bucket })) (ap (is_above a at) (stands_key there.1) ∙ next.above))
+    count_falls (is_behind shape a bucket from) (is_behind shape b bucket from) shape.slots (a.slot c) there.0
+    (and_from _ _ (in_list_is (record { stands = there.1; of_bucket = next.of_bucket })) (ap (is_above a from) (stands_key there.1) ∙ higher))
     (fails there.1)
     (λ s l ne. sym (others s ne))
   where
     b : Incarnations
     b = becomes shape a pass (Unlinks c (before_at a at))
 
-    fails : Stands a (a.slot c) c → is_behind shape b bucket at (a.slot c) ≡ false
+    fails : Stands a (a.slot c) c → is_behind shape b bucket from (a.slot c) ≡ false
     fails st = and_left _ _ (and_left _ _ (ap (λ l. is_listed (state_shown b l)) st.last ∙ ap is_listed (put_here a.state c (Unlinked pass a.epoch))))
 
-    others : (s : ℕ) → s ≢ a.slot c → is_behind shape b bucket at s ≡ is_behind shape a bucket at s
-    others s ne = ap (λ x. (is_listed x && (bucket_of shape (key_in_slot a s) == bucket)) && is_above a at (key_in_slot a s)) (go (a.last s) refl) ∙ ap (λ f. is_in_list shape a bucket s && f) (above at (key_in_slot a s))
+    others : (s : ℕ) → s ≢ a.slot c → is_behind shape b bucket from s ≡ is_behind shape a bucket from s
+    others s ne = ap (λ x. (is_listed x && (bucket_of shape (key_in_slot a s) == bucket)) && is_above a from (key_in_slot a s)) (go (a.last s) refl) ∙ ap (λ f. is_in_list shape a bucket s && f) (above from (key_in_slot a s))
       where
         above : (at2 : At) (key : ℕ) → is_above a at2 key ≡ is_above a at2 key
         above at2 key = refl

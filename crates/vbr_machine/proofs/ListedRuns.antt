@@ -18,7 +18,7 @@ use Rattle.vbr_machine.specs.Chronicles.{GivesUp, Unlinks, becomes, incarnations
 use Rattle.vbr_machine.specs.Accounts.{incarnations_after, happens, notes_after, just, born_in}
 use Rattle.vbr_machine.specs.Agreement.{IsHeldAt, IsHeldNext, Agrees}
 use Rattle.vbr_machine.specs.Notes.{before_at}
-use Rattle.vbr_machine.specs.Nodes.{behind, is_listed, is_there, state_in}
+use Rattle.vbr_machine.specs.Nodes.{behind, is_above, is_listed, is_there, state_in}
 use Rattle.vbr_machine.specs.Sound.{Sound}
 use Rattle.vbr_machine.specs.declared.event.Event.{Event}
 use Rattle.vbr_machine.specs.declared.event.Step.{Step}
@@ -132,11 +132,12 @@ module _ (shape : Dimensions) (passes : ℕ) (run : List Event) (is : IsShape sh
   pub raise_leaves : (s bucket : ℕ) (at : At) → behind shape (incarnations_after shape (run ++ (record { pass = p; step = Raise s }) ∷ [])) bucket at ≡ behind shape (incarnations_after shape run) bucket at
   raise_leaves s bucket at = ap (λ a. behind shape a bucket at) (incarnations_after-snoc shape run (record { pass = p; step = Raise s }))
 
-  -- a law: a won unlinking leaves one node fewer behind the place
-  pub unlink_takes_one : (bucket : ℕ) (pred : At) (expected s : ℕ) → Accepts shape (know_after shape run p) (Unlink pred expected s) → found shape (world_after shape run) (Unlink pred expected s) ≡ expected →
+  -- a won unlinking leaves one node fewer behind each place that the node lies behind
+  unlink_takes : (bucket : ℕ) (pred from : At) (expected s : ℕ) → Accepts shape (know_after shape run p) (Unlink pred expected s) → found shape (world_after shape run) (Unlink pred expected s) ≡ expected →
       Knows (know_after shape run p) (LinkAt pred (link_of expected)) → (link_of expected).mark ≡ false → link_shown_at (incarnations_after shape run) pred ≡ link_of expected → HeldIn (know_after shape run p) pred bucket →
-      behind shape (incarnations_after shape run) bucket pred ≡ suc (behind shape (incarnations_after shape (run ++ (record { pass = p; step = Unlink pred expected s }) ∷ [])) bucket pred)
-  unlink_takes_one bucket pred expected s accepts won known unmarked shown inside =
+      ((of : Option ℕ) → IsFollowed (incarnations_after shape run) pred of (Some (last_in (incarnations_after shape run) s)) → IsPlaceOf shape (incarnations_after shape run) pred bucket → is_above (incarnations_after shape run) from ((incarnations_after shape run).key (last_in (incarnations_after shape run) s)) ≡ true) →
+      behind shape (incarnations_after shape run) bucket from ≡ suc (behind shape (incarnations_after shape (run ++ (record { pass = p; step = Unlink pred expected s }) ∷ [])) bucket from)
+  unlink_takes bucket pred from expected s accepts won known unmarked shown inside above =
       let step = Unlink pred expected s in
       let w = world_after shape run in
       let g = run_agrees shape passes run is ok in
@@ -144,8 +145,21 @@ module _ (shape : Dimensions) (passes : ℕ) (run : List Event) (is : IsShape sh
       let adds : happens shape w b p step ≡ just p (Unlinks (last_in b s) (before_at b pred)) = if_found (found shape w step) expected (just p (Unlinks (last_in b s) (before_at b pred))) [] won in
       let allowed = (rw adds at (lawful step accepts)).0 in
       let followed = followed_by b pred x.of x.names (last_in b s) x.followed allowed.2 in
-      unlinks_one g.sound g.fits p bucket (last_in b s) pred x.of followed x.place
-      ∙ ap (λ a. suc (behind shape a bucket pred)) (sym (incarnations_after-snoc shape run (record { pass = p; step = step }) ∙ ap (incarnations_from shape b) adds))
+      unlinks_one g.sound g.fits p bucket (last_in b s) pred from x.of followed x.place (above x.of followed x.place)
+      ∙ ap (λ a. suc (behind shape a bucket from)) (sym (incarnations_after-snoc shape run (record { pass = p; step = step }) ∙ ap (incarnations_from shape b) adds))
+
+  -- a law: so it does behind the place
+  pub unlink_takes_one : (bucket : ℕ) (pred : At) (expected s : ℕ) → Accepts shape (know_after shape run p) (Unlink pred expected s) → found shape (world_after shape run) (Unlink pred expected s) ≡ expected →
+      Knows (know_after shape run p) (LinkAt pred (link_of expected)) → (link_of expected).mark ≡ false → link_shown_at (incarnations_after shape run) pred ≡ link_of expected → HeldIn (know_after shape run p) pred bucket →
+      behind shape (incarnations_after shape run) bucket pred ≡ suc (behind shape (incarnations_after shape (run ++ (record { pass = p; step = Unlink pred expected s }) ∷ [])) bucket pred)
+  unlink_takes_one bucket pred expected s accepts won known unmarked shown inside =
+      unlink_takes bucket pred pred expected s accepts won known unmarked shown inside (λ of followed place. (next_of_followed (run_agrees shape passes run is ok).sound bucket pred of (last_in b s) followed place).above)
+
+  -- a law: and in the list
+  pub unlink_takes_listed : (bucket : ℕ) (pred : At) (expected s : ℕ) → Accepts shape (know_after shape run p) (Unlink pred expected s) → found shape (world_after shape run) (Unlink pred expected s) ≡ expected →
+      Knows (know_after shape run p) (LinkAt pred (link_of expected)) → (link_of expected).mark ≡ false → link_shown_at (incarnations_after shape run) pred ≡ link_of expected → HeldIn (know_after shape run p) pred bucket → (h : ℕ) →
+      behind shape (incarnations_after shape run) bucket (Head h) ≡ suc (behind shape (incarnations_after shape (run ++ (record { pass = p; step = Unlink pred expected s }) ∷ [])) bucket (Head h))
+  unlink_takes_listed bucket pred expected s accepts won known unmarked shown inside h = unlink_takes bucket pred (Head h) expected s accepts won known unmarked shown inside (λ of followed place. refl)
 
   -- what a won unlinking makes of the incarnations
   pub unlink_makes : (pred : At) (expected s : ℕ) → found shape (world_after shape run) (Unlink pred expected s) ≡ expected →

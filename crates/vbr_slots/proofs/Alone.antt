@@ -157,7 +157,7 @@ same_leaves p q shape same = record {
 }
 
 module _ {step : Step} {p q : Trace} {r : ℕ} (d : Did step p q r) (alone : IsAlone p q) where
-  accepted_now : Accepts p.shape (knows p) step
+  pub accepted_now : Accepts p.shape (knows p) step
   accepted_now = let P : List Event → Type 0 = IsRun p.shape p.passes in (is_run_last p.shape p.passes p.seen (event_of p.who step) (subst P (seen_next d alone) d.is_run)).1
 
   next_leaves : (nodes q).epoch ≡ (nodes p).epoch → ((at : At) → link_shown_at (incarnations_after p.shape (p.seen ++ event_of p.who step ∷ [])) at ≡ link_shown_at (nodes p) at) → ((bucket : ℕ) (at : At) → behind p.shape (incarnations_after p.shape (p.seen ++ event_of p.who step ∷ [])) bucket at ≡ ahead p bucket at) → LeavesLists p q

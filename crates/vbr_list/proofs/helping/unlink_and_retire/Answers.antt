@@ -2,6 +2,7 @@ use Rattle.std.proofs.Common.{◌+◌, ℕ, sym, ◌∙◌, subst, arith}
 use Rattle.vbr_words.specs.Dimensions.{Dimensions}
 use Rattle.vbr_words.specs.Words.{link_of}
 use Rattle.vbr_words.specs.declared.place.At.{At}
+use Rattle.vbr_words.specs.declared.place.At.TheVariants.{Head}
 use Rattle.vbr_machine.specs.Acceptance.{IsUnlinked}
 use Rattle.vbr_machine.specs.Membership.{StandsBehind}
 use Rattle.vbr_machine.specs.declared.knowledge.Read.TheVariants.{KeyOf}
@@ -52,6 +53,10 @@ returns-in-Ok-clause-unlinks g c =
           let u = won.alone (first_of a b alone) stands in
           let l = c.retire.ensures.retires.alone (then_of a b alone) in
           won.read.known.epoch ∙ won.keeps.epoch ∙ sym fresh ∙ sym u.epoch ∙ sym l.0.epoch ∙ l.1;
+      fewer = λ stands alone bucket h inside.
+          let u = (won.alone (first_of a b alone) stands).listed bucket h inside in
+          let l = (c.retire.ensures.retires.alone (then_of a b alone)).0.count bucket (Head h) in
+          omega (arith, u, l);
       clear = λ key k behind.
           let P : At → Type 0 = λ t. StandsBehind q.trace.shape (knows q.trace) t key in
           let Q : Dimensions → Type 0 = λ s. StandsBehind s (knows q.trace) c.args.pred.now.at key in

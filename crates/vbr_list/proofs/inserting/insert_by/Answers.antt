@@ -1,4 +1,4 @@
-use Rattle.std.proofs.Common.{rules, ap, false, ℕ, subst, ◌≡◌, ◌+◌, ◌*◌, ◌<◌, [], arith}
+use Rattle.std.proofs.Common.{rules, ap, false, ℕ, subst, ◌≡◌, ◌+◌, ◌*◌, ◌<◌, ◌≤◌, [], arith}
 use Rattle.std.specs.Prelude.{IfOk}
 use Rattle.vbr_words.specs.Dimensions.{Dimensions}
 use Rattle.vbr_machine.specs.declared.history.Op.TheVariants.{Insert}
@@ -7,6 +7,7 @@ use Rattle.vbr_slots.proofs.Lemmas.{alone_first, alone_then, quiet_on, same_on}
 use Rattle.vbr_pools.proofs.Lemmas.{had_then, longer, needed_before, shared_on, shares_more}
 use Rattle.vbr_pools.specs.Budgets.{most_to_take}
 use Rattle.vbr_slots.specs.Alone.{IsAlone}
+use Rattle.vbr_access.specs.Values.{steps_to_update}
 use Rattle.vbr_list.specs.Budgets.{LacksSteps, enough_to_search, listed_for}
 use Rattle.vbr_list.specs.Inserting.{InsertIsShort, LinksNone}
 use Rattle.vbr_list.specs.Refusals.{IsRefusedInsert}
@@ -14,7 +15,7 @@ use Rattle.vbr_list.specs.declared.refusal.Refusal.TheVariants.{NoSlot}
 use Rattle.vbr_list.proofs.Going.{bucket_is, ok_as}
 use Rattle.vbr_list.proofs.Sufficing.{answered_or_spent, each_error, lacks, never_refused, no_more_listed}
 use Rattle.vbr_list.proofs.LonePasses.{alone, each_alone}
-use Rattle.vbr_list.proofs.Preparing.{each_same, each_seen, each_since, refused_first, refused_second, within_all, within_on}
+use Rattle.vbr_list.proofs.Preparing.{each_same, each_seen, each_since, refused_first, refused_second, within_all, within_most, within_on}
 use Rattle.vbr_list.specs.Told.{stored_in}
 use Rattle.vbr_list.proofs.Told.{stored_same, told_as, told_bare}
 use Rattle.vbr_list.proofs.inserting.insert_by.Goals as goal
@@ -44,6 +45,7 @@ returns-in-Err-clause-calls g c =
         refused = refused_first c.args.at.now.pass.now c.prepare.new.self.at.pass.now c.args.key c.args.budget c.in-Err.refusal c.in-Err.ensures.refused.says;
         within = search rules;
         ready = search rules;
+        costs = tt;
       };
     })
 
@@ -66,6 +68,9 @@ returns-in-Ok-None-clause-calls g c =
         refused = tt;
         within = tt;
         ready = search rules;
+        costs = λ alone.
+            let few = c.in-Ok-None.ensures.prepared.few alone in
+            within_most c.prepare.ensures.prepares.counts (omega (arith, few));
       };
     })
 
@@ -79,7 +84,7 @@ returns-in-Ok-Some-clause-calls g c =
     let call = c.prepare.ensures.prepares.call in
     let d = c.prepare.new.self in
     let e = c.link.new.self in
-    let made : IfOk c.link.result (λ reply. Made (stored_in q.trace c.args.key c.args.value reply) q.trace r.trace) = ok_as c.link.result (λ reply x. rw call.key at x) c.link.ensures.made in
+    let made : IfOk c.link.result (λ reply. Made (stored_in q.trace c.args.key c.args.value reply) q.trace r.trace) = ok_as c.link.result (λ reply x. rw call.key at x.made) c.link.ensures.linked in
     let counts = rw call.budget at c.link.ensures.links.counts in
     let quiet = each_error (LinksNone d e) (λ refusal. Quiet q.trace r.trace) c.link.result (λ refusal none. none.quiet) c.link.ensures.refused in
     let refused = each_error (LinksNone d e) (λ refusal. InsertIsShort q r d.used c.args.budget refusal) c.link.result (λ refusal none. let P : ℕ → Type 0 = λ b. InsertIsShort q r d.used b refusal in subst P call.budget none.says) c.link.ensures.refused in
@@ -112,5 +117,12 @@ returns-in-Ok-Some-clause-calls g c =
         ready = λ some alone enough. answered_or_spent p r c.args.budget n c.link.result some alone enough
             (each_error (λ refusal. InsertIsShort q r c.prepare.new.self.used c.args.budget refusal) (λ refusal. refusal ≡ NoSlot → p.pool ≡ []) c.link.result (never_refused p.pool q r c.prepare.new.self.used c.args.budget) refused)
             within;
+        costs = ok_as c.link.result (λ reply linked alone.
+            let one = alone_first first.seen more.0 alone in
+            let u : e.used ≤ d.used + 3 + 9 * listed_for q.trace c.args.key + steps_to_update q.trace.shape = rw call.key at linked.few (alone_then first.same.who first.seen more.0 alone) in
+            let v = c.in-Ok-Some.ensures.prepared.few one in
+            let w = no_more_listed p c.law.ensures q.trace c.args.key first one in
+            let shape = ap steps_to_update first.same.shape in
+            within_most (within_on c.prepare.ensures.prepares.counts counts.counts counts.within.0 counts.within.1) (omega (arith, u, v, w, shape))) c.link.ensures.linked;
       };
     })

@@ -1,12 +1,15 @@
 use Rattle.std.proofs.Common.{rules, sym, ◌∙◌, arith, ap}
-use Rattle.vbr_slots.proofs.Lemmas.{quiet_on, same_on}
+use Rattle.vbr_slots.proofs.Lemmas.{alone_first, alone_then, quiet_on, same_on}
 use Rattle.vbr_pools.proofs.Lemmas.{counts_on, none_on, took_all}
 use Rattle.vbr_words.specs.Dimensions.{Dimensions}
 use Rattle.vbr_list.proofs.Going.{bucket_is, call_on, goes_on, room_left, tries_on, within_call, within_of}
 use Rattle.vbr_list.proofs.Clearing.{leaves_since}
 use Rattle.vbr_list.proofs.LonePasses.{alone}
-use Rattle.std.proofs.Common.{◌≡◌, ◌+◌, ◌<◌, ◌≤◌, true, false}
-use Rattle.vbr_list.specs.Budgets.{enough_to_search}
+use Rattle.std.proofs.Common.{◌≡◌, ℕ, ◌+◌, ◌*◌, ◌<◌, ◌≤◌, true, false, subst}
+use Rattle.vbr_slots.specs.Alone.{IsAlone}
+use Rattle.vbr_list.specs.Budgets.{enough_to_search, listed_for, remove_costs, steps_to_value_of}
+use Rattle.vbr_list.specs.Removing.{RemovesSoon}
+use Rattle.vbr_list.proofs.Sufficing.{no_more_listed}
 use Rattle.vbr_list.proofs.Nearing.{at_first, first_lost, first_of, then_of}
 use Rattle.vbr_machine.specs.declared.history.Op.TheVariants.{Remove}
 use Rattle.vbr_pools.specs.declared.budget.TheConstants.{PIECE}
@@ -71,6 +74,8 @@ returns-in_default-clause-calls g c =
         within = (λ alone.
             let x : c.args.budget < 0 + enough_to_search c.args.at.now.pass.now.trace c.args.key = at_first (λ q since. c.args.budget < since + enough_to_search q.trace c.args.key) c.args.at.now.pass.now c.loop-found.call.at.pass.now c.search.new.self.at.pass.now c.loop-found.invariant.4 c.loop-found.invariant.3.goes.quiet c.search.ensures.goes.goes.quiet alone (rw ((c.loop-found.invariant.0.key ∙ c.loop-found.invariant.1), (c.loop-found.invariant.0.budget ∙ c.loop-found.invariant.2)) at c.in_default.ensures.tired.short) in
             omega (arith, x));
+        costs = tt;
+        fewer = tt;
       };
     })
 
@@ -93,28 +98,56 @@ returns-then-not-affords-clause-calls g c =
             let x : c.args.budget < 0 + enough_to_search c.args.at.now.pass.now.trace c.args.key = at_first (λ q since. c.args.budget < since + enough_to_search q.trace c.args.key) c.args.at.now.pass.now c.loop-found.call.at.pass.now c.search.new.self.at.pass.now c.loop-found.invariant.4 c.loop-found.invariant.3.goes.quiet c.search.ensures.goes.goes.quiet alone
             (λ then. let f = (rw (c.loop-found.invariant.0.key ∙ c.loop-found.invariant.1) at c.in-Some.ensures.found.alone then).paid in let e = (c.search.ensures.goes.call.budget ∙ c.loop-found.invariant.0.budget ∙ c.loop-found.invariant.2) in omega (arith, f, short, e)) in
             omega (arith, x));
+        costs = tt;
+        fewer = tt;
       };
     })
 
 pub returns-in-Ok-clause-calls : goal.returns-in-Ok-clause-calls
 returns-in-Ok-clause-calls g c =
     let same : c.at-in-Ok-1.given.0 ≡ c.settle_remove.new.self.at.pass.now = search rules in
+    let p = c.args.at.now.pass.now in
+    let q = c.search.new.self.at.pass.now in
+    let r = c.settle_remove.new.self.at.pass.now in
+    let before = c.loop-found.invariant.3.goes.quiet in
+    let went = c.search.ensures.goes.goes.quiet in
+    let first = quiet_on before went in
+    let call = call_on (call_on c.loop-found.invariant.0 c.search.ensures.goes.call) c.settle_remove.ensures.settles.call in
+    let key = c.search.ensures.goes.call.key ∙ c.loop-found.invariant.0.key ∙ c.loop-found.invariant.1 in
+    let budget = c.search.ensures.goes.call.budget ∙ c.loop-found.invariant.0.budget ∙ c.loop-found.invariant.2 in
+    let answered = rw key at c.in-Ok.ensures.answers.made in
+    let made = told_since first (given_same first.same Remove c.args.key c.in-Ok.answer) answered in
+    let counts = counts_on (goes_on c.loop-found.invariant.3.goes c.search.ensures.goes.goes).counts c.settle_remove.ensures.settles.counts in
+    let values = ap steps_to_value_of first.same.shape in
+    let searched : IsAlone p.trace q.trace → c.search.new.self.used ≤ 0 + 3 + 9 * listed_for p.trace c.args.key = λ alone. at_first (λ q since. c.search.new.self.used ≤ since + 3 + 9 * listed_for q.trace c.args.key) p c.loop-found.call.at.pass.now q c.loop-found.invariant.4 before went alone
+    (λ then. (rw (c.loop-found.invariant.0.key ∙ c.loop-found.invariant.1) at c.in-Some.ensures.found.alone then).paid) in
+    let soon : IsAlone p.trace q.trace → IsAlone q.trace r.trace → RemovesSoon c.search.new.self c.settle_remove.new.self c.in-Ok.answer = λ alone then. let stands = (c.in-Some.ensures.found.alone (then_of before went alone)).pred in c.in-Ok.ensures.answers.soon stands.fresh stands.stands then in
     rw same (record {
-      same = same_on (quiet_on c.loop-found.invariant.3.goes.quiet c.search.ensures.goes.goes.quiet).same c.in-Ok.ensures.answers.made.same;
-      made = told_since (quiet_on c.loop-found.invariant.3.goes.quiet c.search.ensures.goes.goes.quiet) (given_same (quiet_on c.loop-found.invariant.3.goes.quiet c.search.ensures.goes.goes.quiet).same Remove c.args.key c.in-Ok.answer) (rw (c.search.ensures.goes.call.key ∙ c.loop-found.invariant.0.key ∙ c.loop-found.invariant.1) at c.in-Ok.ensures.answers.made);
-      alone = alone c.law.ensures.shape c.law.ensures.low (told_since (quiet_on c.loop-found.invariant.3.goes.quiet c.search.ensures.goes.goes.quiet) (given_same (quiet_on c.loop-found.invariant.3.goes.quiet c.search.ensures.goes.goes.quiet).same Remove c.args.key c.in-Ok.answer) (rw (c.search.ensures.goes.call.key ∙ c.loop-found.invariant.0.key ∙ c.loop-found.invariant.1) at c.in-Ok.ensures.answers.made));
+      same = same_on first.same answered.same;
+      made = made;
+      alone = alone c.law.ensures.shape c.law.ensures.low made;
       quiet = tt;
       hand = search rules;
-      steps = within_of c.settle_remove.new.self.used c.args.budget (rw c.loop-found.invariant.2 at (within_call (call_on (call_on c.loop-found.invariant.0 c.search.ensures.goes.call) c.settle_remove.ensures.settles.call))) (counts_on (goes_on c.loop-found.invariant.3.goes c.search.ensures.goes.goes).counts c.settle_remove.ensures.settles.counts);
+      steps = within_of c.settle_remove.new.self.used c.args.budget (rw c.loop-found.invariant.2 at (within_call call)) counts;
       spares = record {
         takes_no_slot = none_on (goes_on c.loop-found.invariant.3.goes c.search.ensures.goes.goes).hand.takes_no_slot c.settle_remove.ensures.settles.hand.takes_no_slot;
         unlists = λ yes left.
-            let a = quiet_on c.loop-found.invariant.3.goes.quiet c.search.ensures.goes.goes.quiet in
-            let kept = call_on (call_on c.loop-found.invariant.0 c.search.ensures.goes.call) c.settle_remove.ensures.settles.call in
-            let room = room_left c.settle_remove.new.self.used c.args.budget (counts_on (goes_on c.loop-found.invariant.3.goes c.search.ensures.goes.goes).counts c.settle_remove.ensures.settles.counts) left in
-            let budget = kept.budget ∙ c.loop-found.invariant.2 in
-            leaves_since c.settle_remove.new.self.at.pass.now.trace c.args.key c.law.ensures.shape a (rw (c.search.ensures.goes.call.key ∙ c.loop-found.invariant.0.key ∙ c.loop-found.invariant.1) at c.in-Ok.ensures.answers.unlists yes (omega (arith, room, budget)));
+            let room = room_left c.settle_remove.new.self.used c.args.budget counts left in
+            let most = call.budget ∙ c.loop-found.invariant.2 in
+            leaves_since r.trace c.args.key c.law.ensures.shape first (rw key at c.in-Ok.ensures.answers.unlists yes (omega (arith, room, most)));
         refused = tt;
         within = tt;
+        costs = λ whole.
+            let one = alone_first first.seen answered.seen whole in
+            let most = searched one in
+            let few = (soon one (alone_then first.same.who first.seen answered.seen whole)).few in
+            within_of c.settle_remove.new.self.used (remove_costs p.trace c.args.key) (omega (arith, most, few, values)) counts;
+        fewer = λ yes whole enough.
+            let one = alone_first first.seen answered.seen whole in
+            let most = searched one in
+            let left = no_more_listed p c.law.ensures q.trace c.args.key first one in
+            let P : ℕ → Type 0 = λ k. listed_for r.trace k < listed_for q.trace k in
+            let less = subst P key ((soon one (alone_then first.same.who first.seen answered.seen whole)).fewer yes (omega (arith, most, enough, budget, values))) in
+            omega (arith, left, less);
       };
     })

@@ -1,5 +1,5 @@
 use Rattle.std.proofs.Common.{◌≡◌, Bool, refl, sym, ◌∙◌, subst}
-use Rattle.vbr_list.specs.Valuing.{steps_where}
+use Rattle.vbr_list.specs.Budgets.{steps_where}
 use Rattle.vbr_list.proofs.valuing.steps_to_value_of.Goals as goal
 
 pub returns-then-VALUES : goal.returns-then-VALUES

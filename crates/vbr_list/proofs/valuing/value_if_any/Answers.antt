@@ -2,7 +2,8 @@ use Rattle.std.proofs.Common.{◌≡◌, Bool, true, false, sym, ap, ◌∙◌, 
 use Rattle.vbr_words.specs.Dimensions.{Dimensions}
 use Rattle.vbr_slots.specs.Views.{knows}
 use Rattle.vbr_access.specs.Reading.{ReadsIn, RollsBack}
-use Rattle.vbr_list.specs.Valuing.{LosesValue, steps_where}
+use Rattle.vbr_list.specs.Budgets.{steps_where}
+use Rattle.vbr_list.specs.Valuing.{LosesValue}
 use Rattle.vbr_list.proofs.Going.{keeps_still, ok_as}
 use Rattle.vbr_list.proofs.Sufficing.{each_error}
 use Rattle.vbr_list.proofs.ValueReads.{reads_still}

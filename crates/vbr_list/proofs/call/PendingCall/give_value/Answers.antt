@@ -9,7 +9,7 @@ use Rattle.vbr_pools.proofs.Lemmas.{counts_on}
 use Rattle.vbr_access.proofs.Lemmas.{held_kept}
 use Rattle.vbr_list.specs.Pieces.{Goes}
 use Rattle.vbr_list.specs.Told.{given_call, given_in}
-use Rattle.vbr_list.specs.Valuing.{steps_to_value_of, steps_where}
+use Rattle.vbr_list.specs.Budgets.{steps_to_value_of, steps_where}
 use Rattle.vbr_list.proofs.Going.{counts_step, goes_counted}
 use Rattle.vbr_list.proofs.KeptHands.{hand_on, own_kept}
 use Rattle.vbr_list.proofs.Nearing.{first_of, read_leaves, stands_on, then_of}

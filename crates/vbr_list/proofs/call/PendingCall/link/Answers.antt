@@ -1,10 +1,11 @@
-use Rattle.std.proofs.Common.{rules, ◌+◌, ◌<◌, ◌∙◌, sym, subst, arith}
+use Rattle.std.proofs.Common.{rules, ◌+◌, ◌*◌, ◌<◌, ◌≤◌, ◌∙◌, ap, sym, subst, arith}
 use Rattle.vbr_slots.specs.Alone.{IsAlone}
 use Rattle.vbr_slots.specs.Calls.{Quiet}
 use Rattle.vbr_slots.specs.Views.{Trace}
-use Rattle.vbr_slots.proofs.Lemmas.{quiet_on}
+use Rattle.vbr_slots.proofs.Lemmas.{alone_first, quiet_on}
 use Rattle.vbr_pools.proofs.Lemmas.{had_back, had_grown, had_on, had_then, no_room, none_back, none_on}
-use Rattle.vbr_list.specs.Budgets.{enough_to_search}
+use Rattle.vbr_access.specs.Values.{steps_to_update}
+use Rattle.vbr_list.specs.Budgets.{enough_to_search, listed_for}
 use Rattle.vbr_list.proofs.Going.{call_on, within_call}
 use Rattle.vbr_list.proofs.Nearing.{at_first, first_lost, first_of, then_of}
 use Rattle.vbr_list.proofs.Preparing.{within_on, within_same}
@@ -114,7 +115,18 @@ returns-in-Ok-clause-had g c =
     let then = had_then c.args.self.now.at.pass.now q c.settle_insert.new.self.at.pass.now c.settle_insert.result (had_on c.args.self.now.at.pass.now c.loop-found.self.at.pass.now q c.loop-found.invariant.5 (had_grown c.loop-found.self.at.pass.now q s.takes_no_slot.grows s.hand)) c.settle_insert.ensures.had in
     rw c.in-Ok.is at then
 
-pub returns-in-Ok-clause-made : goal.returns-in-Ok-clause-made
-returns-in-Ok-clause-made g c =
-    let quiet = quiet_on c.loop-found.invariant.1 c.search.ensures.goes.goes.quiet in
-    told_since quiet (stored_same quiet.same c.args.self.now.key c.args.value c.in-Ok.reply) (rw (call_on c.loop-found.invariant.0 c.search.ensures.goes.call).key at c.in-Ok.ensures.answers.made)
+pub returns-in-Ok-clause-linked : goal.returns-in-Ok-clause-linked
+returns-in-Ok-clause-linked g c =
+    let s = c.search.ensures.goes.goes.quiet in
+    let quiet = quiet_on c.loop-found.invariant.1 s in
+    let made = rw (call_on c.loop-found.invariant.0 c.search.ensures.goes.call).key at c.in-Ok.ensures.answers.made in
+    let p = c.args.self.now.at.pass.now in
+    record {
+      made = told_since quiet (stored_same quiet.same c.args.self.now.key c.args.value c.in-Ok.reply) made;
+      few = λ alone.
+          let searched : c.search.new.self.used ≤ c.args.self.now.used + 3 + 9 * listed_for p.trace c.args.self.now.key = at_first (λ q since. c.search.new.self.used ≤ since + 3 + 9 * listed_for q.trace c.args.self.now.key) p c.loop-found.self.at.pass.now c.search.new.self.at.pass.now c.loop-found.invariant.6 c.loop-found.invariant.1 s (alone_first quiet.seen made.seen alone)
+          (λ then. (rw c.loop-found.invariant.0.key at c.in-Some.ensures.found.alone then).paid) in
+          let few = c.settle_insert.ensures.publishes.few in
+          let shape = ap steps_to_update quiet.same.shape in
+          omega (arith, searched, few, shape);
+    }

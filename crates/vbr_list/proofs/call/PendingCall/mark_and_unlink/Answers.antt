@@ -1,23 +1,24 @@
-use Rattle.std.proofs.Common.{◌≡◌, ◌+◌, ℕ, true, false, Option, Some, rules, arith, sym, ap, ◌∙◌, subst}
+use Rattle.std.proofs.Common.{◌≡◌, ◌+◌, ℕ, true, false, Option, Some, rules, arith, sym, ap, ◌∙◌, subst, inl}
 use Rattle.vbr_words.specs.Dimensions.{Dimensions}
 use Rattle.vbr_words.specs.declared.place.At.{At}
+use Rattle.vbr_words.specs.declared.place.At.TheVariants.{Head}
 use Rattle.vbr_machine.specs.Membership.{KeyAt}
 use Rattle.vbr_machine.specs.declared.history.Op.TheVariants.{Remove}
 use Rattle.vbr_slots.specs.Views.{knows}
-use Rattle.vbr_slots.proofs.Lemmas.{made_then, quiet_on}
-use Rattle.vbr_pools.proofs.Lemmas.{counts_on}
+use Rattle.vbr_slots.proofs.Lemmas.{alone_first, alone_then, made_then, quiet_on}
+use Rattle.vbr_pools.proofs.Lemmas.{counts_on, no_room}
 use Rattle.vbr_access.specs.Alone.{NextStands}
 use Rattle.vbr_access.specs.Held.{Names}
 use Rattle.vbr_access.specs.declared.held.Held.{Held}
-use Rattle.vbr_access.proofs.Lemmas.{held_kept}
+use Rattle.vbr_access.proofs.Lemmas.{fresh_kept, held_kept}
 use Rattle.vbr_list.specs.Pieces.{Goes}
-use Rattle.vbr_list.specs.Valuing.{steps_to_value_of, steps_where}
+use Rattle.vbr_list.specs.Budgets.{steps_to_value_of, steps_where}
 use Rattle.vbr_list.proofs.Clearing.{leaves_clear}
 use Rattle.vbr_list.proofs.Going.{counts_step, goes_counted}
 use Rattle.vbr_list.proofs.KeptHands.{hand_on, own_kept}
 use Rattle.vbr_list.proofs.Moments.{key_found}
-use Rattle.vbr_list.proofs.Nearing.{first_of, read_leaves, stands_on, then_of}
-use Rattle.vbr_list.proofs.Reaching.{key_kept, pred_on, slot_same}
+use Rattle.vbr_list.proofs.Nearing.{first_of, fresh_marked, listed_same, named_elsewhere, read_leaves, stands_on, then_of}
+use Rattle.vbr_list.proofs.Reaching.{key_kept, pred_inside, pred_on, slot_same}
 use Rattle.vbr_list.proofs.Sufficing.{any_error}
 use Rattle.vbr_list.proofs.Told.{given_same, told_since}
 use Rattle.vbr_list.proofs.ValueReads.{cur_is, slot_at}
@@ -63,6 +64,7 @@ unlink_marked-requires-clause-marked g c =
     record {
       may = record { held = pred.held; unmarked = pred.unmarked; marked = removed.held; names = subst Q (slot_same c.in_ok-marked.marked.slot y.slot (removed.at ∙ y.at)) y.named };
       key = subst P (sym removed.at) (key_kept c.in-Some.cur.at c.args.self.now.key mark.keeps there);
+      inside = pred.inside;
       behind = pred.behind;
     }
 
@@ -136,9 +138,27 @@ returns-then-affords-clause-answers g c =
     let made = c.in_ok-marked.ensures.removed.made c.args.self.now.key c.in_ok-value.value there valued in
     let told = told_since c.value_if_any-read.ensures.reads.quiet (given_same same Remove c.args.self.now.key (Some c.in_ok-value.value)) made in
     let then = c.unlink_marked.ensures.goes.goes.quiet in
+    let p = c.args.self.now.at.pass.now in
+    let q = c.value_if_any-read.new.at.pass.now in
+    let r = c.mark_entry-outcome.new.at.pass.now in
+    let reads = c.value_if_any-read.ensures.reads in
+    let steps : c.steps_to_value_of.result ≡ steps_to_value_of p.trace.shape = c.steps_to_value_of.ensures ∙ ap steps_to_value_of (sym c.value_if_any-read.new.at.own.1 ∙ same.shape) in
     record {
       made = made_then told then;
       unlists = λ yes room. leaves_clear c.law.ensures.shape told then.same (c.unlink_marked.ensures.clear room);
+      soon = λ fresh stands alone.
+          let one = alone_first told.seen then.seen alone in
+          let read = alone_first reads.quiet.seen made.seen one in
+          let marks = c.in_ok-marked.ensures.removed.alone (alone_then same.who reads.quiet.seen made.seen one) in
+          let other = named_elsewhere p c.law.ensures c.args.self.now.key f.pred (pred_inside c.requires.locates.pred) (inl c.requires.locates.pred.unmarked) stands y.slot y.named c.in-Some.cur.at y.at in
+          let kept = fresh_marked q.trace r.trace marks.epoch c.mark_entry-outcome.ensures.keeps.keeps (fresh_kept p.trace q.trace (reads.looks read) keeps fresh) in
+          let there = marks.others f.pred.at other ∙ stands_on p.trace q.trace f.pred (read_leaves reads read) stands in
+          let soon = c.unlink_marked.ensures.soon kept there (alone_then told.same.who told.seen then.seen alone) in
+          let few = soon.few in
+          let listed = soon.fewer in
+          let before = listed_same p.trace q.trace c.args.self.now.key same.shape (λ bucket h. (read_leaves reads read).count bucket (Head h)) in
+          let now = listed_same q.trace r.trace c.args.self.now.key made.same.shape marks.listed in
+          record { few = omega (arith, few, steps); fewer = λ yes room. omega (arith, listed, before, now) };
     }
 
 pub returns-else-affords-clause-settles : goal.returns-else-affords-clause-settles
@@ -170,4 +190,8 @@ returns-else-affords-clause-answers g c =
     record {
       made = told;
       unlists = λ yes room. (let f = c.if-affords.false in let z = c.affords.ensures.1 room in let w : false ≡ true = sym f ∙ z in absurd (cc));
+      soon = λ fresh stands alone.
+          let steps : c.steps_to_value_of.result ≡ steps_to_value_of c.args.self.now.at.pass.now.trace.shape = c.steps_to_value_of.ensures ∙ ap steps_to_value_of (sym c.value_if_any-read.new.at.own.1 ∙ same.shape) in
+          let short = no_room (c.args.self.now.used + c.steps_to_value_of.result + 1) c.args.self.now.budget c.affords.result c.if-affords.false c.affords.ensures.1 in
+          record { few = omega (arith, steps); fewer = λ yes room. omega (arith, steps, short, room) };
     }

@@ -20,6 +20,7 @@ returns-then-found-clause-publishes g c =
       call = search rules;
       counts = subst (λ (q : Trace). CountsSteps c.args.self.now.at.pass.now.trace q used c.deny.new.self.used) (sym back.trace) (rw d.used (counts_step used 1 d.keeps.took));
       used = (omega arith, omega arith);
+      few = (let some = (few_to_update c.args.self.now.at.pass.now.trace.shape).0 in omega (arith, some));
       takes_no_slot = none_on d.keeps.takes_no_slot (none_back c.deny.new.self.at.pass.now c.give_back.new.at.pass.now c.args.hand.slot back.trace back.pool back.kept);
     }
 
@@ -43,6 +44,7 @@ returns-in-Ok-clause-publishes g c =
       call = search rules;
       counts = counts_step c.args.self.now.used c.steps_to_update.result (took_same c.steps_to_update.result (steps_to_update shape) steps c.update_entry.ensures.stores.took);
       used = (omega (arith, steps, some), omega (arith, steps, few));
+      few = omega (arith, steps);
       takes_no_slot = c.update_entry.ensures.stores.takes_no_slot;
     }
 
@@ -56,6 +58,7 @@ returns-in-Err-clause-publishes g c =
       call = search rules;
       counts = counts_step c.args.self.now.used c.steps_to_update.result (took_same c.steps_to_update.result (steps_to_update shape) steps c.update_entry.ensures.stores.took);
       used = (omega (arith, steps, some), omega (arith, steps, few));
+      few = omega (arith, steps);
       takes_no_slot = c.update_entry.ensures.stores.takes_no_slot;
     }
 

@@ -1,6 +1,8 @@
-use Rattle.std.proofs.Common.{rules, arith}
+use Rattle.std.proofs.Common.{rules, arith, sym, ◌∙◌}
 use Rattle.vbr_list.proofs.Clearing.{clear_since}
 use Rattle.vbr_list.proofs.Going.{goes_on}
+use Rattle.vbr_list.proofs.Nearing.{first_of, listed_fewer}
+use Rattle.vbr_list.proofs.Preparing.{if_failed, if_went}
 use Rattle.vbr_list.proofs.call.PendingCall.unlink_marked.Goals as goal
 
 pub returns-then-is_err-clause-goes : goal.returns-then-is_err-clause-goes
@@ -11,3 +13,18 @@ returns-then-is_err-clause-clear g c = λ room. clear_since (c.unlink_and_retire
 
 pub returns-else-is_err-clause-goes : goal.returns-else-is_err-clause-goes
 returns-else-is_err-clause-goes g c = record { call = search rules; goes = c.unlink_and_retire-outcome.ensures.goes c.args.self.now.used; more = omega arith }
+
+pub returns-then-is_err-clause-soon : goal.returns-then-is_err-clause-soon
+returns-then-is_err-clause-soon g c = λ fresh stands alone.
+    let tried = c.unlink_and_retire-outcome in
+    absurd (if_failed tried.result.0 (sym c.is_err.ensures.value ∙ c.if-is_err.true) tried.ensures.lost fresh stands (first_of (tried.ensures.goes 0).quiet c.walk_by_copy-self.ensures.goes.quiet alone))
+
+pub returns-else-is_err-clause-soon : goal.returns-else-is_err-clause-soon
+returns-else-is_err-clause-soon g c = λ fresh stands alone.
+    let tried = c.unlink_and_retire-outcome in
+    let few = tried.ensures.few in
+    record {
+      few = omega (arith, few);
+      fewer = listed_fewer c.args.self.now.at.pass.now.trace tried.new.at.pass.now.trace c.args.self.now.key (tried.ensures.goes 0).quiet.same.shape
+          (λ bucket h inside. (if_went tried.result.0 (sym c.is_err.ensures.value ∙ c.if-is_err.false) tried.ensures.unlinks).1.fewer stands alone bucket h inside) c.requires.marked.inside;
+    }
