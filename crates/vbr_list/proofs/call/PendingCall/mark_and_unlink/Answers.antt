@@ -168,11 +168,11 @@ returns-else-affords-clause-settles g c =
     let reads = c.value_if_any-read.ensures.reads in
     let steps : c.steps_to_value_of.result ≡ steps_to_value_of p.trace.shape = c.steps_to_value_of.ensures ∙ ap steps_to_value_of (sym c.value_if_any-read.new.at.own.1 ∙ reads.quiet.same.shape) in
     let first : Goes p q c.args.self.now.used (c.args.self.now.used + c.steps_to_value_of.result) = goes_counted c.args.self.now.used c.steps_to_value_of.result (steps_to_value_of p.trace.shape) steps reads in
-    let mark = c.mark_entry-outcome.ensures.keeps in
+    let won = c.mark_entry-outcome.ensures.keeps in
     record {
       call = search rules;
-      counts = counts_on first.counts (counts_step (c.args.self.now.used + c.steps_to_value_of.result) 1 mark.took);
-      hand = hand_on first.hand (own_kept mark.own mark.takes_no_slot);
+      counts = counts_on first.counts (counts_step (c.args.self.now.used + c.steps_to_value_of.result) 1 won.took);
+      hand = hand_on first.hand (own_kept won.own won.takes_no_slot);
       more = omega arith;
     }
 
