@@ -8,6 +8,7 @@ use Rattle.vbr_slots.specs.Views.{steps_in}
 use Rattle.vbr_set.specs.Members.{MemberView}
 use Rattle.vbr_transcript.specs.Calls.{Outcome}
 use Rattle.vbr_player.specs.Calling.{CallsInTurn, HasMetOften, IsCalled}
+use Rattle.vbr_script.specs.declared.script.Kind.{Kind}
 
 -- ---- meetings
 
@@ -23,23 +24,23 @@ often_on times (suc more) p q r first then =
 -- ---- calls
 
 -- after some meetings
-turn_behind : (budget times : ℕ) (p q r : MemberView) (outcomes : List Outcome) → HasMetOften times p q → CallsInTurn budget outcomes q r → CallsInTurn budget outcomes p r
-turn_behind budget times p q r [] first then = (times + then.0, often_on times then.0 p q r first then.1)
-turn_behind budget times p q r (outcome ∷ outcomes) first then = (times + then.0, then.1, often_on times then.0 p q then.1 first then.2, then.3, then.4, then.5)
+turn_behind : (kind : Kind) (budget times : ℕ) (p q r : MemberView) (outcomes : List Outcome) → HasMetOften times p q → CallsInTurn kind budget outcomes q r → CallsInTurn kind budget outcomes p r
+turn_behind kind budget times p q r [] first then = (times + then.0, often_on times then.0 p q r first then.1)
+turn_behind kind budget times p q r (outcome ∷ outcomes) first then = (times + then.0, then.1, often_on times then.0 p q then.1 first then.2, then.3, then.4, then.5)
 
 -- some lines, and then others
-pub turns_on : (budget : ℕ) (p q r : MemberView) (outcomes more : List Outcome) → CallsInTurn budget outcomes p q → CallsInTurn budget more q r → CallsInTurn budget (outcomes ++ more) p r
-turns_on budget p q r [] more first then = turn_behind budget first.0 p q r more first.1 then
-turns_on budget p q r (outcome ∷ outcomes) more first then = (first.0, first.1, first.2, first.3, first.4, turns_on budget first.3 q r outcomes more first.5 then)
+pub turns_on : (kind : Kind) (budget : ℕ) (p q r : MemberView) (outcomes more : List Outcome) → CallsInTurn kind budget outcomes p q → CallsInTurn kind budget more q r → CallsInTurn kind budget (outcomes ++ more) p r
+turns_on kind budget p q r [] more first then = turn_behind kind budget first.0 p q r more first.1 then
+turns_on kind budget p q r (outcome ∷ outcomes) more first then = (first.0, first.1, first.2, first.3, first.4, turns_on kind budget first.3 q r outcomes more first.5 then)
 
 -- and then meetings
-pub turns_met : (budget : ℕ) (p q r : MemberView) (outcomes : List Outcome) → CallsInTurn budget outcomes p q → (times : ℕ) × HasMetOften times q r → CallsInTurn budget outcomes p r
-turns_met budget p q r [] first met = (first.0 + met.0, often_on first.0 met.0 p q r first.1 met.1)
-turns_met budget p q r (outcome ∷ outcomes) first met = (first.0, first.1, first.2, first.3, first.4, turns_met budget first.3 q r outcomes first.5 met)
+pub turns_met : (kind : Kind) (budget : ℕ) (p q r : MemberView) (outcomes : List Outcome) → CallsInTurn kind budget outcomes p q → (times : ℕ) × HasMetOften times q r → CallsInTurn kind budget outcomes p r
+turns_met kind budget p q r [] first met = (first.0 + met.0, often_on first.0 met.0 p q r first.1 met.1)
+turns_met kind budget p q r (outcome ∷ outcomes) first met = (first.0, first.1, first.2, first.3, first.4, turns_met kind budget first.3 q r outcomes first.5 met)
 
 -- one call alone
-pub one_turn : (budget : ℕ) (outcome : Outcome) (p q : MemberView) → IsCalled budget outcome p q → CallsInTurn budget (outcome ∷ []) p q
-one_turn budget outcome p q called = (0, p, refl, q, called, (0, refl))
+pub one_turn : (kind : Kind) (budget : ℕ) (outcome : Outcome) (p q : MemberView) → IsCalled kind budget outcome p q → CallsInTurn kind budget (outcome ∷ []) p q
+one_turn kind budget outcome p q called = (0, p, refl, q, called, (0, refl))
 
 -- ---- steps
 

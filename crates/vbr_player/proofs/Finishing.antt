@@ -1,62 +1,64 @@
--- What the end of a set asks of its workers, and what it gives.
+-- What the end of a set or a map asks of its workers, and what it gives.
 use Rattle.std.proofs.Common.{◌≡◌, ℕ, ◌-◌, ◌*◌, ◌<◌, List, [], ◌∷◌, length, sym, ap, subst, ◌∙◌}
 use Rattle.std.specs.Prelude.{All}
 use Rattle.std.proofs.lemmas.List.{length-map}
 use Rattle.std.proofs.lemmas.List.Elements.{All-head, All-tail}
 use Rattle.vbr_slots.specs.Closing.{AllOf, EachSeen}
 use Rattle.vbr_slots.specs.Views.{PassView, TableView}
-use Rattle.vbr_set.specs.Closing.{Closes}
-use Rattle.vbr_set.specs.declared.report.Report.{Report}
 use Rattle.vbr_player.specs.Calling.{ArePlayed}
 use Rattle.vbr_player.specs.Ending.{PlayedWhole, passes_of}
-use Rattle.vbr_set.specs.Renewing.{Renews}
+use Rattle.vbr_player.specs.Closing.{ClosesAs, RenewsAs}
 use Rattle.vbr_player.specs.Spans.{HasPlayedSpan, IsFollowed, PlayedSpan}
+use Rattle.vbr_transcript.specs.Contents.{Item}
 use Rattle.vbr_transcript.specs.Merging.{HaveReplies, IsMerged}
 use Rattle.vbr_script.specs.Scripts.{ArePhased}
 use Rattle.vbr_player.specs.Standing.{replies_of, HasPlayed}
 use Rattle.vbr_transcript.specs.declared.reply.Reply.{Reply}
 use Rattle.vbr_player.specs.declared.worker.Worker.{Worker}
+use Rattle.vbr_script.specs.declared.script.Kind.{Kind}
 use Rattle.vbr_script.specs.declared.script.Line.{Line}
 use Rattle.vbr_player.proofs.PlayedWhole.{are_played, have_replies, have_played}
 use Rattle.vbr_transcript.proofs.Lemmas.{set_run_of_workers}
-use Rattle.vbr_script.specs.declared.script.Kind.TheVariants.{Set}
 
 -- each worker has a reply to each of its lines
-pub merges : {N : Type 0} → (set : TableView) (budget : ℕ) (lines : List Line) (from phases : ℕ) (passes : List PassView) (own : List (List Reply)) → ArePhased Set set.passes phases lines → PlayedWhole N set budget lines from phases passes own → HaveReplies own lines
-merges set budget lines from phases passes own phased played = subst (λ (some : List (List Reply)). HaveReplies some lines) (sym played.replies_are) (have_replies set budget lines set.passes from phases played.workers phased played.stand)
+pub merges : {N : Type 0} {kind : Kind} → (set : TableView) (budget : ℕ) (lines : List Line) (from phases : ℕ) (passes : List PassView) (own : List (List Reply)) → ArePhased kind set.passes phases lines → PlayedWhole kind N set budget lines from phases passes own → HaveReplies own lines
+merges {N} {kind} set budget lines from phases passes own phased played = subst (λ (some : List (List Reply)). HaveReplies some lines) (sym played.replies_are) (have_replies set budget lines set.passes from phases played.workers phased played.stand)
 
 -- the passes are those of the set
-all_of : {N : Type 0} → (set : TableView) (budget most : ℕ) (script lines : List Line) (workers : List (Worker N)) → All (HasPlayed set budget most script lines) workers → AllOf set (passes_of workers)
-all_of set budget most script lines [] played = tt
-all_of set budget most script lines (worker ∷ workers) played =
-    ((All-head (HasPlayed set budget most script lines) worker workers played).of, all_of set budget most script lines workers (All-tail (HasPlayed set budget most script lines) worker workers played))
+all_of : {N : Type 0} {kind : Kind} → (set : TableView) (budget most : ℕ) (script lines : List Line) (workers : List (Worker N)) → All (HasPlayed kind set budget most script lines) workers → AllOf set (passes_of workers)
+all_of {N} {kind} set budget most script lines [] played = tt
+all_of {N} {kind} set budget most script lines (worker ∷ workers) played =
+    ((All-head (HasPlayed kind set budget most script lines) worker workers played).of, all_of set budget most script lines workers (All-tail (HasPlayed kind set budget most script lines) worker workers played))
 
-pub closes : {N : Type 0} → (set : TableView) (budget : ℕ) (script : List Line) (from phases : ℕ) (passes : List PassView) (own : List (List Reply)) → PlayedWhole N set budget script from phases passes own → AllOf set passes
-closes set budget script from phases passes own played = subst (AllOf set) (sym played.passes_are) (all_of set budget ((set.passes - 1) * (phases - from)) script script played.workers played.stand.played)
+pub closes : {N : Type 0} {kind : Kind} → (set : TableView) (budget : ℕ) (script : List Line) (from phases : ℕ) (passes : List PassView) (own : List (List Reply)) → PlayedWhole kind N set budget script from phases passes own → AllOf set passes
+closes {N} {kind} set budget script from phases passes own played = subst (AllOf set) (sym played.passes_are) (all_of set budget ((set.passes - 1) * (phases - from)) script script played.workers played.stand.played)
 
 -- and there are as many
-pub as_many : {N : Type 0} → (set : TableView) (budget : ℕ) (lines : List Line) (from phases : ℕ) (passes : List PassView) (own : List (List Reply)) → PlayedWhole N set budget lines from phases passes own → length passes ≡ set.passes
-as_many {N} set budget lines from phases passes own played = ap length played.passes_are ∙ length-map played.workers (λ (worker : Worker N). worker.caller.pass) ∙ played.stand.count_is
+pub as_many : {N : Type 0} {kind : Kind} → (set : TableView) (budget : ℕ) (lines : List Line) (from phases : ℕ) (passes : List PassView) (own : List (List Reply)) → PlayedWhole kind N set budget lines from phases passes own → length passes ≡ set.passes
+as_many {N} {kind} set budget lines from phases passes own played = ap length played.passes_are ∙ length-map played.workers (λ (worker : Worker N). worker.caller.pass) ∙ played.stand.count_is
 
--- a set whose passes have played lines has, when it is closed
-pub closed : {N : Type 0} → (set : TableView) (budget : ℕ) (lines : List Line) (from phases : ℕ) (passes : List PassView) (replies : List Reply) (report : Report) → ArePhased Set set.passes phases lines → 0 < set.passes → PlayedSpan N set budget lines from phases passes replies → Closes set passes report → HasPlayedSpan set budget lines (phases - from) replies report
-closed set budget lines from phases passes replies report phased some played closes =
+-- what the passes have played has been played when it is closed
+pub closed : {N : Type 0} {kind : Kind} → (set : TableView) (budget : ℕ) (lines : List Line) (from phases : ℕ) (passes : List PassView) (replies : List Reply) (listed : List (Item kind)) (epoch : ℕ) → ArePhased kind set.passes phases lines → 0 < set.passes → PlayedSpan kind N set budget lines from phases passes replies → ClosesAs kind set passes listed epoch → HasPlayedSpan kind set budget lines (phases - from) replies listed epoch
+closed {N} {kind} set budget lines from phases passes replies listed epoch phased some played closes =
     let whole = played.whole in
     let seen : EachSeen closes.run (passes_of whole.workers) = subst (EachSeen closes.run) whole.passes_are closes.begins in
     let merged : IsMerged lines (replies_of whole.workers) replies = subst (λ (own : List (List Reply)). IsMerged lines own replies) whole.replies_are played.merged in
     record {
       one_each = merged.one_each;
       run = closes.run;
-      of_set = set_run_of_workers Set (ArePlayed set.passes budget) set.shape set.passes phases (phases - from) lines (replies_of whole.workers) replies closes.run (are_played set budget lines from phases whole.workers replies closes.run phased whole.stand seen merged) phased merged closes.is_run closes.safe closes.safe.legal (have_played set budget lines set.passes from phases whole.workers closes.run some whole.stand seen closes.safe);
-      keys = closes.reports.keys;
-      epoch = closes.reports.epoch;
+      of_set = set_run_of_workers kind (ArePlayed kind set.passes budget) set.shape set.passes phases (phases - from) lines (replies_of whole.workers) replies closes.run (are_played set budget lines from phases whole.workers replies closes.run phased whole.stand seen merged) phased merged closes.is_run closes.safe closes.legal (have_played set budget lines set.passes from phases whole.workers closes.run some whole.stand seen closes.safe);
+      contents = closes.contents;
+      last = closes.last;
     }
 
--- and so does one that is renewed, and another follows it
-pub followed : {N : Type 0} → (set : TableView) (budget : ℕ) (lines : List Line) (from phases : ℕ) (passes : List PassView) (replies : List Reply) (next : TableView) → ArePhased Set set.passes phases lines → 0 < set.passes → PlayedSpan N set budget lines from phases passes replies → Renews set passes next → IsFollowed set budget lines (phases - from) replies next
-followed set budget lines from phases passes replies next phased some played renews = record {
-  report = renews.report;
-  played = closed set budget lines from phases passes replies renews.report phased some played renews.closes;
+-- and so it has when it is renewed, and another follows it
+pub followed : {N : Type 0} {kind : Kind} → (set : TableView) (budget : ℕ) (lines : List Line) (from phases : ℕ) (passes : List PassView) (replies : List Reply) (next : TableView) → ArePhased kind set.passes phases lines → 0 < set.passes → PlayedSpan kind N set budget lines from phases passes replies → RenewsAs kind set passes next → IsFollowed kind set budget lines (phases - from) replies next
+unfolding closed
+followed {N} {kind} set budget lines from phases passes replies next phased some played renews = record {
+  listed = renews.listed;
+  epoch = renews.epoch;
+  played = closed set budget lines from phases passes replies renews.listed renews.epoch phased some played renews.closes;
   shape = renews.shape;
+  opens = renews.opens;
   passes = renews.count;
 }

@@ -9,6 +9,7 @@ mod Standing
 mod Phasing
 mod NewWorkers
 mod PlayedWhole
+mod Ends
 mod Finishing
 mod Spans
 mod Zips

@@ -1,26 +1,32 @@
 -- A lone worker is refused no call for want of steps, where its budget is ample.
-use Rattle.std.proofs.Common.{◌≡◌, ◌≢◌, ℕ, zero, suc, ◌+◌, ◌*◌, ◌<◌, ◌≤◌, Bool, true, false, List, [], ◌∷◌, ◌++◌, sym, ap, subst, ◌∙◌, arith}
-use Rattle.std.specs.Prelude.{All, Result, Ok, Err, if◌then◌else◌}
+use Rattle.std.proofs.Common.{◌≡◌, ◌≢◌, ℕ, zero, suc, ◌<◌, ◌≤◌, Bool, true, false, List, [], ◌∷◌, ◌++◌, sym, ap, subst, ◌∙◌, arith}
+use Rattle.std.specs.Prelude.{All, IfErr, Option, Some, None, Result, Ok, Err, if◌then◌else◌}
 use Rattle.std.proofs.lemmas.List.Elements.{All-nil, All-cons}
 use Rattle.vbr_words.specs.Dimensions.{Dimensions}
 use Rattle.vbr_machine.specs.Machine.{World, after, opening}
 use Rattle.vbr_machine.specs.Nodes.{count_below}
 use Rattle.vbr_machine.specs.Runs.{AreAccepted, Begins, IsRun}
 use Rattle.vbr_machine.specs.declared.event.Event.{Event}
+use Rattle.vbr_machine.specs.declared.history.Call.{Call}
 use Rattle.vbr_machine.specs.declared.history.Op.{Op}
 use Rattle.vbr_machine.specs.declared.history.Op.TheVariants.{Insert, Remove, Has, Get}
 use Rattle.vbr_slots.specs.Alone.{IsAlone, OnlyEventsOf}
-use Rattle.vbr_slots.specs.Calls.{IsSame}
+use Rattle.vbr_slots.specs.Calls.{IsSame, Quiet}
 use Rattle.vbr_slots.specs.Views.{PassView, TableView, Trace, new_trace}
 use Rattle.vbr_slots.proofs.Lemmas.{same_on, same_refl}
-use Rattle.vbr_list.specs.Sparing.{Spares}
+use Rattle.vbr_list.specs.Budgets.{LacksSteps, enough_to_insert, enough_to_look_up, enough_to_search}
+use Rattle.vbr_list.specs.Sparing.{Spares, SparesInsert}
 use Rattle.vbr_list.specs.declared.refusal.Refusal.{Refusal}
 use Rattle.vbr_list.specs.declared.refusal.Refusal.TheVariants.{OutOfSteps, NoSlot, EpochSpent}
+use Rattle.vbr_set.specs.MapCalls.{MapCalled}
 use Rattle.vbr_set.specs.Members.{Called, MemberView}
-use Rattle.vbr_set.specs.Names.{listed_for, most_to_take}
+use Rattle.vbr_set.specs.Names.{HasSafeRun, listed_for, most_to_take}
+use Rattle.vbr_script.specs.declared.script.Kind.{Kind}
+use Rattle.vbr_script.specs.declared.script.Kind.TheVariants.{Set, Map}
 use Rattle.vbr_transcript.specs.Calls.{Outcome}
+use Rattle.vbr_transcript.specs.declared.reply.Reply.{Reply}
 use Rattle.vbr_transcript.specs.declared.reply.Reply.TheVariants.{Tired}
-use Rattle.vbr_player.specs.Calling.{CallsInTurn, HasMetOften, ample, reply_told}
+use Rattle.vbr_player.specs.Calling.{CallsInTurn, HasMetOften, IsCalled, IsMapCalled, ample, reply_given, reply_refused, reply_told}
 
 -- ---- alone
 
@@ -58,43 +64,109 @@ most_with_none : (shape : Dimensions) (pool : List ℕ) → most_to_take shape p
 most_with_none shape [] = omega arith
 most_with_none shape (slot ∷ pool) = omega arith
 
--- a call that was refused for want of steps had no ample budget
-short : (op : Op) (p q : PassView) (key budget used : ℕ) → Spares op p q key budget (Err (OutOfSteps used)) → IsAlone p.trace q.trace → budget < ample p.trace.shape
-short Insert p q key budget used spares alone =
-    let few : budget < 18 * listed_for p.trace key + most_to_take p.trace.shape p.pool + 14 = spares.within alone in
-    omega (arith, few, listed_few p.trace key, most_with_none p.trace.shape p.pool)
-short Remove p q key budget used spares alone =
-    let few : budget < 9 * listed_for p.trace key + 11 = spares.within alone in
-    omega (arith, few, listed_few p.trace key)
-short Has p q key budget used spares alone =
-    let few : budget < 5 * listed_for p.trace key + 11 = spares.within alone in
-    omega (arith, few, listed_few p.trace key)
-short Get p q key budget used spares alone = absurd spares
+-- what suffices a call isn't more than what is ample
+insert_ample : (p : PassView) (key : ℕ) → enough_to_insert p key ≤ ample p.trace.shape
+insert_ample p key = omega (arith, listed_few p.trace key, most_with_none p.trace.shape p.pool)
+
+search_ample : (p : Trace) (key : ℕ) → enough_to_search p key ≤ ample p.shape
+search_ample p key = omega (arith, listed_few p key)
+
+look_up_ample : (p : Trace) (key : ℕ) → enough_to_look_up p key ≤ ample p.shape
+look_up_ample p key = omega (arith, listed_few p key)
+
+-- a refusal for want of so many steps is one for want of more
+lacks_more : (steps most budget : ℕ) (refusal : Refusal) → steps ≤ most → LacksSteps steps budget refusal → LacksSteps most budget refusal
+lacks_more steps most budget (OutOfSteps used) within lacks = omega (arith, within, lacks)
+lacks_more steps most budget NoSlot within lacks = tt
+lacks_more steps most budget (EpochSpent epoch) within lacks = tt
+
+lacks_below : (steps most budget : ℕ) (refusal : Refusal) → steps ≤ most → budget < steps → LacksSteps most budget refusal
+lacks_below steps most budget (OutOfSteps used) within below = omega (arith, within, below)
+lacks_below steps most budget NoSlot within below = tt
+lacks_below steps most budget (EpochSpent epoch) within below = tt
+
+-- a call of a pass that is alone was refused for want of no more steps than are ample
+abbrev LacksAmple : PassView → PassView → ℕ → Refusal → Type 0
+LacksAmple p q budget refusal = IsAlone p.trace q.trace → LacksSteps (ample p.trace.shape) budget refusal
+
+insert_lacks : (p q : PassView) (key budget : ℕ) (refusal : Refusal) → SparesInsert p q key budget (Err refusal) → LacksAmple p q budget refusal
+insert_lacks p q key budget refusal spares alone = lacks_more (enough_to_insert p key) (ample p.trace.shape) budget refusal (insert_ample p key) (spares.within alone)
+
+lacks : (op : Op) (p q : PassView) (key budget : ℕ) (refusal : Refusal) → Spares op p q key budget (Err refusal) → LacksAmple p q budget refusal
+lacks Insert p q key budget refusal spares = insert_lacks p q key budget refusal spares
+lacks Remove p q key budget refusal spares = λ alone. lacks_below (enough_to_search p.trace key) (ample p.trace.shape) budget refusal (search_ample p.trace key) (spares.within alone)
+lacks Has p q key budget refusal spares = λ alone. lacks_below (enough_to_look_up p.trace key) (ample p.trace.shape) budget refusal (look_up_ample p.trace key) (spares.within alone)
+lacks Get p q key budget refusal spares = absurd spares
+
+-- ---- replies
+
+-- a refusal of the first of all passes is none for want of steps
+refused_untired : (set : TableView) (budget : ℕ) (p q : MemberView) (refusal : Refusal) → set.passes ≡ 1 → ample set.shape ≤ budget → IsSame (new_trace set 0) p.pass.trace → Quiet p.pass.trace q.pass.trace → HasSafeRun q.pass.trace → LacksAmple p.pass q.pass budget refusal → reply_refused refusal ≢ Tired
+refused_untired set budget p q NoSlot one enough same quiet safe lacks is = cc
+refused_untired set budget p q (EpochSpent epoch) one enough same quiet safe lacks is = cc
+refused_untired set budget p q (OutOfSteps used) one enough same quiet safe lacks is =
+    let alone : IsAlone p.pass.trace q.pass.trace = was_alone p.pass.trace q.pass.trace same.who (quiet.same.passes ∙ same.passes ∙ one) quiet.seen safe.is_run in
+    let few : budget < ample p.pass.trace.shape = lacks alone in
+    let here : ample p.pass.trace.shape ≡ ample set.shape = ap ample same.shape in
+    omega (arith, few, here, enough)
+
+-- so no answer is one
+told_untired : (answer : Result Bool Refusal) → IfErr answer (λ refusal. reply_refused refusal ≢ Tired) → reply_told answer ≢ Tired
+told_untired (Ok true) untired is = cc
+told_untired (Ok false) untired is = cc
+told_untired (Err refusal) untired is = untired is
+
+given_untired : (answer : Result (Option ℕ) Refusal) → IfErr answer (λ refusal. reply_refused refusal ≢ Tired) → reply_given answer ≢ Tired
+given_untired (Ok (Some value)) untired is = cc
+given_untired (Ok None) untired is = cc
+given_untired (Err refusal) untired is = untired is
+
+called_untired : (set : TableView) (budget : ℕ) (op : Op) (p q : MemberView) (key : ℕ) (answer : Result Bool Refusal) → set.passes ≡ 1 → ample set.shape ≤ budget → IsSame (new_trace set 0) p.pass.trace → Called op p q key budget answer → IfErr answer (λ refusal. reply_refused refusal ≢ Tired)
+called_untired set budget op p q key (Ok reply) one enough same called = tt
+called_untired set budget op p q key (Err refusal) one enough same called = refused_untired set budget p q refusal one enough same called.quiet called.safe (lacks op p.pass q.pass key budget refusal called.spares)
+
+entry_untired : {A : Type 0} {told : A → Call} {SparesSo : Result A Refusal → Type 0} (set : TableView) (budget : ℕ) (p q : MemberView) (answer : Result A Refusal) → set.passes ≡ 1 → ample set.shape ≤ budget → IsSame (new_trace set 0) p.pass.trace → MapCalled told SparesSo p q budget answer → ((refusal : Refusal) → SparesSo (Err refusal) → LacksAmple p.pass q.pass budget refusal) → IfErr answer (λ refusal. reply_refused refusal ≢ Tired)
+entry_untired set budget p q (Ok reply) one enough same called lacks = tt
+entry_untired set budget p q (Err refusal) one enough same called lacks = refused_untired set budget p q refusal one enough same called.quiet called.safe (lacks refusal called.spares)
 
 -- ---- lines
+
+-- what a call of a map tells a lone worker
+map_untired : (set : TableView) (budget : ℕ) (op : Op) (key value : ℕ) (reply : Reply) (p q : MemberView) → set.passes ≡ 1 → ample set.shape ≤ budget → IsSame (new_trace set 0) p.pass.trace → IsMapCalled op key value budget reply p q → reply ≢ Tired
+map_untired set budget Insert key value reply p q one enough same called is =
+    told_untired called.0 (entry_untired set budget p q called.0 one enough same called.1 (λ refusal spares. insert_lacks p.pass q.pass key budget refusal spares)) (sym called.2 ∙ is)
+map_untired set budget Remove key value reply p q one enough same called is =
+    given_untired called.0 (entry_untired set budget p q called.0 one enough same called.1 (λ refusal spares alone. lacks_below (enough_to_search p.pass.trace key) (ample p.pass.trace.shape) budget refusal (search_ample p.pass.trace key) (spares.within alone))) (sym called.2 ∙ is)
+map_untired set budget Has key value reply p q one enough same called is = told_untired called.0 (called_untired set budget Has p q key called.0 one enough same called.1) (sym called.2 ∙ is)
+map_untired set budget Get key value reply p q one enough same called is =
+    given_untired called.0 (entry_untired set budget p q called.0 one enough same called.1 (λ refusal spares alone. lacks_below (enough_to_look_up p.pass.trace key) (ample p.pass.trace.shape) budget refusal (look_up_ample p.pass.trace key) (spares.within alone))) (sym called.2 ∙ is)
+
+-- what the call of a line does
+line_untired : (kind : Kind) (set : TableView) (budget : ℕ) (outcome : Outcome) (p q : MemberView) → set.passes ≡ 1 → ample set.shape ≤ budget → IsSame (new_trace set 0) p.pass.trace → IsCalled kind budget outcome p q → outcome.1 ≢ Tired
+line_untired Set set budget outcome p q one enough same called is = told_untired called.0 (called_untired set budget outcome.0.op p q outcome.0.key called.0 one enough same called.1) (sym called.2 ∙ is)
+line_untired Map set budget outcome p q one enough same called is = map_untired set budget outcome.0.op outcome.0.key outcome.0.value outcome.1 p q one enough same called is
+
+-- the pass stays the same
+map_same : (op : Op) (key value budget : ℕ) (reply : Reply) (p q : MemberView) → IsMapCalled op key value budget reply p q → IsSame p.pass.trace q.pass.trace
+map_same Insert key value budget reply p q called = called.1.same
+map_same Remove key value budget reply p q called = called.1.same
+map_same Has key value budget reply p q called = called.1.same
+map_same Get key value budget reply p q called = called.1.same
+
+line_same : (kind : Kind) (budget : ℕ) (outcome : Outcome) (p q : MemberView) → IsCalled kind budget outcome p q → IsSame p.pass.trace q.pass.trace
+line_same Set budget outcome p q called = called.1.same
+line_same Map budget outcome p q called = map_same outcome.0.op outcome.0.key outcome.0.value budget outcome.1 p q called
 
 often_same : (times : ℕ) (m n : MemberView) → HasMetOften times m n → IsSame m.pass.trace n.pass.trace
 often_same zero m n met = subst (λ (k : MemberView). IsSame m.pass.trace k.pass.trace) (sym met) (same_refl m.pass.trace)
 often_same (suc times) m n met = same_on (often_same times m met.0 met.1) met.4.shares.quiet.same
 
--- an answer to the first of all passes is no refusal for want of steps
-answer_untired : (set : TableView) (budget : ℕ) (op : Op) (p q : MemberView) (key : ℕ) (answer : Result Bool Refusal) → set.passes ≡ 1 → ample set.shape ≤ budget → IsSame (new_trace set 0) p.pass.trace → Called op p q key budget answer → reply_told answer ≢ Tired
-answer_untired set budget op p q key (Ok true) one enough same called is = cc
-answer_untired set budget op p q key (Ok false) one enough same called is = cc
-answer_untired set budget op p q key (Err NoSlot) one enough same called is = cc
-answer_untired set budget op p q key (Err (EpochSpent epoch)) one enough same called is = cc
-answer_untired set budget op p q key (Err (OutOfSteps used)) one enough same called is =
-    let alone : IsAlone p.pass.trace q.pass.trace = was_alone p.pass.trace q.pass.trace same.who (called.same.passes ∙ same.passes ∙ one) called.quiet.seen called.safe.is_run in
-    let few : budget < ample p.pass.trace.shape = short op p.pass q.pass key budget used called.spares alone in
-    let here : ample p.pass.trace.shape ≡ ample set.shape = ap ample same.shape in
-    omega (arith, few, here, enough)
-
--- none of its replies is
-pub lone_untired : (set : TableView) (budget : ℕ) (outcomes : List Outcome) (m n : MemberView) → set.passes ≡ 1 → ample set.shape ≤ budget → IsSame (new_trace set 0) m.pass.trace → CallsInTurn budget outcomes m n → All (λ outcome. outcome.1 ≢ Tired) outcomes
-lone_untired set budget [] m n one enough same turn = All-nil (λ (outcome : Outcome). outcome.1 ≢ Tired)
-lone_untired set budget (outcome ∷ outcomes) m n one enough same turn =
+-- none of its replies is one for want of steps
+pub lone_untired : (kind : Kind) (set : TableView) (budget : ℕ) (outcomes : List Outcome) (m n : MemberView) → set.passes ≡ 1 → ample set.shape ≤ budget → IsSame (new_trace set 0) m.pass.trace → CallsInTurn kind budget outcomes m n → All (λ outcome. outcome.1 ≢ Tired) outcomes
+lone_untired kind set budget [] m n one enough same turn = All-nil (λ (outcome : Outcome). outcome.1 ≢ Tired)
+lone_untired kind set budget (outcome ∷ outcomes) m n one enough same turn =
     let p = turn.1 in let q = turn.3 in let called = turn.4 in
     let here = same_on same (often_same turn.0 m p turn.2) in
     All-cons (λ (outcome : Outcome). outcome.1 ≢ Tired) outcome outcomes
-    (λ tired. answer_untired set budget outcome.0.op p q outcome.0.key called.0 one enough here called.1 (sym called.2 ∙ tired))
-    (lone_untired set budget outcomes q n one enough (same_on here called.1.same) turn.5)
+    (line_untired kind set budget outcome p q one enough here called)
+    (lone_untired kind set budget outcomes q n one enough (same_on here (line_same kind budget outcome p q called)) turn.5)

@@ -11,6 +11,7 @@ use Rattle.vbr_player.specs.Meeting.{PlayedAndMet}
 use Rattle.vbr_script.specs.Scripts.{AscendFrom}
 use Rattle.vbr_player.specs.Standing.{Stand}
 use Rattle.vbr_player.specs.Working.{HaveRoom}
+use Rattle.vbr_script.specs.declared.script.Kind.{Kind}
 use Rattle.vbr_script.specs.declared.script.Line.{Line}
 use Rattle.vbr_player.specs.declared.worker.Worker.{Worker}
 use Rattle.vbr_player.proofs.Standing.{all_room, stand_next}
@@ -45,11 +46,11 @@ cuts script first n phase is early up =
     }
 
 -- no lines are left behind the last phase
-pub all_played : {N : Type 0} → (set : TableView) (budget : ℕ) (script : List Line) (first from phase phases count : ℕ) (workers : List (Worker N)) → phase ≡ phases → All (λ line. line.phase < phases) script → AscendFrom phase (drop first script) → Stand set budget script (take first script) count from phase workers → Stand set budget script script count from phases workers
-all_played set budget script first from phase phases count workers is below up stand =
+pub all_played : {N : Type 0} {kind : Kind} → (set : TableView) (budget : ℕ) (script : List Line) (first from phase phases count : ℕ) (workers : List (Worker N)) → phase ≡ phases → All (λ line. line.phase < phases) script → AscendFrom phase (drop first script) → Stand kind set budget script (take first script) count from phase workers → Stand kind set budget script script count from phases workers
+all_played {N} {kind} set budget script first from phase phases count workers is below up stand =
     let none : drop first script ≡ [] = none_left phases (drop first script) (subst (λ (k : ℕ). AscendFrom k (drop first script)) is up) (All-drop (λ (line : Line). line.phase < phases) first script below) in
     let all : take first script ≡ script = sym (append-nil (take first script)) ∙ ap (λ (lines : List Line). take first script ++ lines) (sym none) ∙ take-append-drop first script in
-    subst (λ (k : List Line × ℕ). Stand set budget script k.0 count from k.1 workers) (λ i. (all i, is i)) stand
+    subst (λ (k : List Line × ℕ). Stand kind set budget script k.0 count from k.1 workers) (λ i. (all i, is i)) stand
 
 -- the rest of some lines
 pub rest_of : (lines : List Line) (first : ℕ) → take (length lines - first) (drop first lines) ≡ drop first lines
@@ -60,12 +61,12 @@ pub slice_of : (lines : List Line) (first n : ℕ) → take (first + n - first) 
 slice_of lines first n = ap (λ (k : ℕ). take k (drop first lines)) (let e : first + n - first ≡ n = omega arith in e)
 
 -- the workers have room for the lines of the next phase
-pub next_room : {N : Type 0} → (set : TableView) (budget : ℕ) (script : List Line) (first n from phase count : ℕ) (workers : List (Worker N)) → Cuts script first n phase → Stand set budget script (take first script) count from phase workers → HaveRoom workers (take (first + n - first) (drop first script))
-next_room set budget script first n from phase count workers cut stand =
+pub next_room : {N : Type 0} {kind : Kind} → (set : TableView) (budget : ℕ) (script : List Line) (first n from phase count : ℕ) (workers : List (Worker N)) → Cuts script first n phase → Stand kind set budget script (take first script) count from phase workers → HaveRoom workers (take (first + n - first) (drop first script))
+next_room {N} {kind} set budget script first n from phase count workers cut stand =
     subst (λ (lines : List Line). HaveRoom workers lines) (sym (slice_of script first n)) (all_room set budget ((count - 1) * (phase - from)) script (take first script) (take n (drop first script)) (drop (first + n) script) workers cut.left stand.played)
 
 -- they stand behind it when they have played it and met
-pub stand_behind : {N : Type 0} → (set : TableView) (budget : ℕ) (script : List Line) (first n from phase count : ℕ) (ws us : List (Worker N)) → Cuts script first n phase → Stand set budget script (take first script) count from phase ws → PlayedAndMet budget (take (first + n - first) (drop first script)) ws us → Stand set budget script (take (first + n) script) count from (phase + 1) us
-stand_behind set budget script first n from phase count ws us cut stand next =
-    let played : PlayedAndMet budget (take n (drop first script)) ws us = subst (λ (lines : List Line). PlayedAndMet budget lines ws us) (slice_of script first n) next in
-    subst (λ (lines : List Line). Stand set budget script lines count from (phase + 1) us) (sym cut.taken) (stand_next set budget script (take first script) (take n (drop first script)) count from phase ws us cut.up_to stand played)
+pub stand_behind : {N : Type 0} {kind : Kind} → (set : TableView) (budget : ℕ) (script : List Line) (first n from phase count : ℕ) (ws us : List (Worker N)) → Cuts script first n phase → Stand kind set budget script (take first script) count from phase ws → PlayedAndMet kind budget (take (first + n - first) (drop first script)) ws us → Stand kind set budget script (take (first + n) script) count from (phase + 1) us
+stand_behind {N} {kind} set budget script first n from phase count ws us cut stand next =
+    let played : PlayedAndMet kind budget (take n (drop first script)) ws us = subst (λ (lines : List Line). PlayedAndMet kind budget lines ws us) (slice_of script first n) next in
+    subst (λ (lines : List Line). Stand kind set budget script lines count from (phase + 1) us) (sym cut.taken) (stand_next set budget script (take first script) (take n (drop first script)) count from phase ws us cut.up_to stand played)

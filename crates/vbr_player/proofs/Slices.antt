@@ -9,10 +9,10 @@ use Rattle.std.specs.List.{prefix_len}
 use Rattle.vbr_machine.specs.declared.history.Call.{Call}
 use Rattle.vbr_transcript.specs.Calls.{Outcome, answer_of, answered_calls, lines_by, lines_up_to}
 use Rattle.vbr_script.specs.Scripts.{AscendFrom}
+use Rattle.vbr_script.specs.declared.script.Kind.{Kind}
 use Rattle.vbr_script.specs.declared.script.Line.{Line}
 use Rattle.vbr_transcript.specs.declared.reply.Reply.{Reply}
 use Rattle.vbr_transcript.proofs.Lemmas.{filter_all, filter_none, zip-append}
-use Rattle.vbr_script.specs.declared.script.Kind.TheVariants.{Set}
 
 -- ---- what one worker plays of it
 
@@ -20,16 +20,16 @@ use Rattle.vbr_script.specs.declared.script.Kind.TheVariants.{Set}
 pub lines_by-append : (who : ℕ) (front back : List Line) → lines_by who (front ++ back) ≡ lines_by who front ++ lines_by who back
 lines_by-append who front back = filter-append (λ (line : Line). eqb line.worker who) front back
 
-pub answered-append : (front back : List Outcome) → answered_calls Set (front ++ back) ≡ answered_calls Set front ++ answered_calls Set back
-answered-append front back = flat_map-append (λ (outcome : Outcome). answer_of Set outcome.0 outcome.1) front back
+pub answered-append : (kind : Kind) (front back : List Outcome) → answered_calls kind (front ++ back) ≡ answered_calls kind front ++ answered_calls kind back
+answered-append kind front back = flat_map-append (λ (outcome : Outcome). answer_of kind outcome.0 outcome.1) front back
 
 -- the calls of a worker's next lines come behind those of the lines before
-pub called_more : (who : ℕ) (front back : List Line) (old more : List Reply) (before after : List Call) → length old ≡ length (lines_by who front) → before ≡ answered_calls Set (zip (lines_by who front) old) → after ≡ before ++ answered_calls Set (zip (lines_by who back) more) → after ≡ answered_calls Set (zip (lines_by who (front ++ back)) (old ++ more))
-called_more who front back old more before after same was is =
+pub called_more : (kind : Kind) (who : ℕ) (front back : List Line) (old more : List Reply) (before after : List Call) → length old ≡ length (lines_by who front) → before ≡ answered_calls kind (zip (lines_by who front) old) → after ≡ before ++ answered_calls kind (zip (lines_by who back) more) → after ≡ answered_calls kind (zip (lines_by who (front ++ back)) (old ++ more))
+called_more kind who front back old more before after same was is =
     is
-    ∙ ap (λ (calls : List Call). calls ++ answered_calls Set (zip (lines_by who back) more)) was
-    ∙ sym (answered-append (zip (lines_by who front) old) (zip (lines_by who back) more))
-    ∙ ap (answered_calls Set) (sym (zip-append (lines_by who front) (lines_by who back) old more same) ∙ ap (λ (lines : List Line). zip lines (old ++ more)) (sym (lines_by-append who front back)))
+    ∙ ap (λ (calls : List Call). calls ++ answered_calls kind (zip (lines_by who back) more)) was
+    ∙ sym (answered-append kind (zip (lines_by who front) old) (zip (lines_by who back) more))
+    ∙ ap (answered_calls kind) (sym (zip-append (lines_by who front) (lines_by who back) old more same) ∙ ap (λ (lines : List Line). zip lines (old ++ more)) (sym (lines_by-append who front back)))
 
 -- a worker that has a reply to each of its lines has one to each of more lines, where it got as many as are its own
 pub replied_more : (who : ℕ) (front back : List Line) (old more : List Reply) → length old ≡ length (lines_by who front) → length more ≡ length (lines_by who back) → length (old ++ more) ≡ length (lines_by who (front ++ back))

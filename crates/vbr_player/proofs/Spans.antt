@@ -1,25 +1,26 @@
 -- From set to set: the lines of a span are cut off those that are left, and what one more set was asked stands in front of what the later ones are.
-use Rattle.std.proofs.Common.{◌≡◌, ◌≢◌, ℕ, zero, suc, ◌+◌, ◌-◌, ◌<◌, ◌≤◌, List, [], ◌∷◌, ◌++◌, length, take, drop, get_or, refl, sym, ap, subst, ◌∙◌, append_assoc, arith, length-append, length-drop}
+use Rattle.std.proofs.Common.{◌≡◌, ℕ, zero, suc, ◌+◌, ◌-◌, ◌<◌, ◌≤◌, List, [], ◌∷◌, ◌++◌, length, take, drop, get_or, refl, sym, ap, subst, ◌∙◌, append_assoc, arith, length-append, length-drop}
 use Rattle.std.specs.Prelude.{nat_le, zip, All}
 use Rattle.std.specs.List.{prefix_len}
 use Rattle.std.proofs.lemmas.List.{drop_all, drop-drop, length-take, take-append-drop}
 use Rattle.std.proofs.Math.Seq.{drop-cons}
 use Rattle.std.proofs.lemmas.List.Elements.{All-drop, All-take}
 use Rattle.vbr_words.specs.Dimensions.{Dimensions}
-use Rattle.vbr_machine.specs.declared.history.Op.TheVariants.{Get}
 use Rattle.vbr_slots.specs.Views.{TableView}
-use Rattle.vbr_set.specs.declared.report.Report.{Report}
 use Rattle.vbr_script.specs.Scripts.{ArePhased, AreRenewalsFrom, AscendFrom, MayAsk}
+use Rattle.vbr_script.specs.declared.script.Kind.{Kind}
 use Rattle.vbr_script.specs.declared.script.Line.{Line}
 use Rattle.vbr_transcript.specs.Calls.{Outcome}
+use Rattle.vbr_transcript.specs.Contents.{Item, opened_with}
 use Rattle.vbr_transcript.specs.Runs.{AreExplained}
 use Rattle.vbr_transcript.specs.declared.reply.Reply.{Reply}
-use Rattle.vbr_transcript.proofs.Lemmas.{all_lines, ascend_lower, last_set, one_more_set, set_opens, zip-append}
+use Rattle.vbr_transcript.proofs.Lemmas.{all_lines, ascend_lower, last_set, one_more_set, zip-append}
 use Rattle.vbr_player.specs.Calling.{ArePlayed}
+use Rattle.vbr_player.specs.Opened.{epoch_of, listed_as}
 use Rattle.vbr_player.specs.Spans.{HasPlayedSpan, IsFollowed, IsSpan}
+use Rattle.vbr_player.specs.declared.opened.Ended.{Ended}
 use Rattle.vbr_player.proofs.Phasing.{rest_of, slice_of}
 use Rattle.vbr_player.proofs.Slices.{all_from, next_phase}
-use Rattle.vbr_script.specs.declared.script.Kind.TheVariants.{Set}
 
 -- ---- the lines of a span
 
@@ -50,30 +51,30 @@ pub next_cut : (script : List Line) (first n from phase : ℕ) → n ≡ prefix_
 next_cut script first n from phase count up = cuts_span script first n from phase (count ∙ ap (prefix_len (λ (line : Line). nat_le line.phase phase)) (rest_of script first)) up
 
 -- they are a span
-pub is_span : (workers phases : ℕ) (script : List Line) (first n from phase : ℕ) → ArePhased Set workers phases script → AscendFrom from (drop first script) → CutsSpan script first n phase → from ≤ phase → IsSpan workers from (phase + 1) (take (first + n - first) (drop first script))
-is_span workers phases script first n from phase phased up cut order =
+pub is_span : {kind : Kind} (workers phases : ℕ) (script : List Line) (first n from phase : ℕ) → ArePhased kind workers phases script → AscendFrom from (drop first script) → CutsSpan script first n phase → from ≤ phase → IsSpan kind workers from (phase + 1) (take (first + n - first) (drop first script))
+is_span {kind} workers phases script first n from phase phased up cut order =
     let ascend : AscendFrom from (take n (drop first script)) = ascend_take from n (drop first script) up in
-    subst (IsSpan workers from (phase + 1)) (sym (slice_of script first n)) (record {
+    subst (IsSpan kind workers from (phase + 1)) (sym (slice_of script first n)) (record {
       order = omega arith;
       phased = record {
         workers_below = All-take (λ (line : Line). line.worker < workers) n (drop first script) (All-drop (λ (line : Line). line.worker < workers) first script phased.workers_below);
         phases_below = λ k d inside. let low = cut.early k d inside in omega arith;
         ascend = ascend_lower 0 from (take n (drop first script)) (omega arith) ascend;
-        may_ask = All-take (λ (line : Line). MayAsk Set line.op line.value) n (drop first script) (All-drop (λ (line : Line). MayAsk Set line.op line.value) first script phased.may_ask);
+        may_ask = All-take (λ (line : Line). MayAsk kind line.op line.value) n (drop first script) (All-drop (λ (line : Line). MayAsk kind line.op line.value) first script phased.may_ask);
       };
       ascend = ascend;
     })
 
 -- all that are left are one too
-pub is_last_span : (workers phases : ℕ) (script : List Line) (first from : ℕ) → ArePhased Set workers phases script → AscendFrom from (drop first script) → from ≤ phases → IsSpan workers from phases (take (length script - first) (drop first script))
-is_last_span workers phases script first from phased up order =
-    subst (IsSpan workers from phases) (sym (rest_of script first)) (record {
+pub is_last_span : {kind : Kind} (workers phases : ℕ) (script : List Line) (first from : ℕ) → ArePhased kind workers phases script → AscendFrom from (drop first script) → from ≤ phases → IsSpan kind workers from phases (take (length script - first) (drop first script))
+is_last_span {kind} workers phases script first from phased up order =
+    subst (IsSpan kind workers from phases) (sym (rest_of script first)) (record {
       order = order;
       phased = record {
         workers_below = All-drop (λ (line : Line). line.worker < workers) first script phased.workers_below;
         phases_below = All-drop (λ (line : Line). line.phase < phases) first script phased.phases_below;
         ascend = ascend_lower 0 from (drop first script) (omega arith) up;
-        may_ask = All-drop (λ (line : Line). MayAsk Set line.op line.value) first script phased.may_ask;
+        may_ask = All-drop (λ (line : Line). MayAsk kind line.op line.value) first script phased.may_ask;
       };
       ascend = up;
     })
@@ -81,17 +82,17 @@ is_last_span workers phases script first from phased up order =
 -- ---- set after set
 
 -- the first lines of a script were played on sets, of which this is the one that is played next: whatever it and those behind it are asked completes what all are asked
-pub record HavePlayedSets (opened : TableView) (budget : ℕ) (script : List Line) (renewals : List ℕ) (phases : ℕ) (set : TableView) (first phase i : ℕ) (replies : List Reply) : Type 0 where
+pub record HavePlayedSets (kind : Kind) (opened : TableView) (budget : ℕ) (script : List Line) (renewals : List ℕ) (phases : ℕ) (set : TableView) (first phase i : ℕ) (replies : List Reply) : Type 0 where
   pub inside : first ≤ length script
   pub long : length replies ≡ first
   pub workers : set.passes ≡ opened.passes
   pub later : AscendFrom phase (drop first script)
   pub order : phase ≤ phases
   pub renewed : AreRenewalsFrom phase phases (drop i renewals)
-  pub goes : (rest : List Reply) (listed : List ℕ) (epoch : ℕ) → AreExplained Set (ArePlayed set.passes budget) set.shape set.passes phase phases (drop i renewals) (zip (drop first script) rest) listed epoch → AreExplained Set (ArePlayed opened.passes budget) opened.shape opened.passes 0 phases renewals (zip script (replies ++ rest)) listed epoch
+  pub goes : (rest : List Reply) (listed : List (Item kind)) (epoch : ℕ) → AreExplained kind (ArePlayed kind set.passes budget) set.shape set.passes phase phases (drop i renewals) (zip (drop first script) rest) listed epoch → AreExplained kind (ArePlayed kind opened.passes budget) opened.shape opened.passes 0 phases renewals (zip script (replies ++ rest)) listed epoch
 
-pub none_played : (opened : TableView) (budget : ℕ) (script : List Line) (renewals : List ℕ) (phases : ℕ) → ArePhased Set opened.passes phases script → AreRenewalsFrom 0 phases renewals → HavePlayedSets opened budget script renewals phases opened 0 0 0 []
-none_played opened budget script renewals phases phased renewed = record {
+pub none_played : {kind : Kind} (opened : TableView) (budget : ℕ) (script : List Line) (renewals : List ℕ) (phases : ℕ) → ArePhased kind opened.passes phases script → AreRenewalsFrom 0 phases renewals → HavePlayedSets kind opened budget script renewals phases opened 0 0 0 []
+none_played {kind} opened budget script renewals phases phased renewed = record {
   inside = omega arith;
   long = refl;
   workers = refl;
@@ -113,32 +114,33 @@ pub no_renewal : (renewals lent : List ℕ) (i : ℕ) → lent ≡ renewals → 
 no_renewal renewals lent i same past = drop_all i renewals (subst (λ (some : List ℕ). length some ≤ i) same past)
 
 -- it is behind the phases so far, and not the last phase
-pub renewal_in : (opened : TableView) (budget : ℕ) (script : List Line) (renewals : List ℕ) (phases : ℕ) (set : TableView) (first phase i renewal : ℕ) (replies : List Reply) → drop i renewals ≡ renewal ∷ drop (i + 1) renewals → HavePlayedSets opened budget script renewals phases set first phase i replies → (phase ≤ renewal) × (renewal + 1 < phases)
-renewal_in opened budget script renewals phases set first phase i renewal replies here so_far =
+pub renewal_in : {kind : Kind} (opened : TableView) (budget : ℕ) (script : List Line) (renewals : List ℕ) (phases : ℕ) (set : TableView) (first phase i renewal : ℕ) (replies : List Reply) → drop i renewals ≡ renewal ∷ drop (i + 1) renewals → HavePlayedSets kind opened budget script renewals phases set first phase i replies → (phase ≤ renewal) × (renewal + 1 < phases)
+renewal_in {kind} opened budget script renewals phases set first phase i renewal replies here so_far =
     let renewed : AreRenewalsFrom phase phases (renewal ∷ drop (i + 1) renewals) = subst (AreRenewalsFrom phase phases) here so_far.renewed in
     (renewed.0, renewed.1)
 
 -- the phases and the workers are those of the set
-pub phased_here : (opened : TableView) (budget : ℕ) (script : List Line) (renewals : List ℕ) (phases : ℕ) (set : TableView) (first phase i : ℕ) (replies : List Reply) → ArePhased Set opened.passes phases script → HavePlayedSets opened budget script renewals phases set first phase i replies → ArePhased Set set.passes phases script
-phased_here opened budget script renewals phases set first phase i replies phased so_far = subst (λ (workers : ℕ). ArePhased Set workers phases script) (sym so_far.workers) phased
+pub phased_here : {kind : Kind} (opened : TableView) (budget : ℕ) (script : List Line) (renewals : List ℕ) (phases : ℕ) (set : TableView) (first phase i : ℕ) (replies : List Reply) → ArePhased kind opened.passes phases script → HavePlayedSets kind opened budget script renewals phases set first phase i replies → ArePhased kind set.passes phases script
+phased_here {kind} opened budget script renewals phases set first phase i replies phased so_far = subst (λ (workers : ℕ). ArePhased kind workers phases script) (sym so_far.workers) phased
 
 -- what a set was asked goes on with what the next ones are
-goes_on : (set next : TableView) (budget from phases renewal : ℕ) (renewals : List ℕ) (script : List Line) (first n : ℕ) (more rest : List Reply) (listed : List ℕ) (epoch : ℕ) → CutsSpan script first n renewal → IsFollowed set budget (take n (drop first script)) (renewal + 1 - from) more next → AreExplained Set (ArePlayed next.passes budget) next.shape next.passes (renewal + 1) phases renewals (zip (drop (first + n) script) rest) listed epoch → AreExplained Set (ArePlayed set.passes budget) set.shape set.passes from phases (renewal ∷ renewals) (zip (drop first script) (more ++ rest)) listed epoch
-goes_on set next budget from phases renewal renewals script first n more rest listed epoch cut followed explained =
+goes_on : {kind : Kind} (set next : TableView) (budget from phases renewal : ℕ) (renewals : List ℕ) (script : List Line) (first n : ℕ) (more rest : List Reply) (listed : List (Item kind)) (epoch : ℕ) → CutsSpan script first n renewal → IsFollowed kind set budget (take n (drop first script)) (renewal + 1 - from) more next → AreExplained kind (ArePlayed kind next.passes budget) next.shape next.passes (renewal + 1) phases renewals (zip (drop (first + n) script) rest) listed epoch → AreExplained kind (ArePlayed kind set.passes budget) set.shape set.passes from phases (renewal ∷ renewals) (zip (drop first script) (more ++ rest)) listed epoch
+goes_on {kind} set next budget from phases renewal renewals script first n more rest listed epoch cut followed explained =
     let slice = take n (drop first script) in
     let back = drop (first + n) script in
     let played = followed.played in
-    let follows : (next.shape, next.passes) ≡ (record set.shape { keys = followed.report.keys.items }, set.passes) = λ i. (followed.shape i, followed.passes i) in
-    let then : AreExplained Set (ArePlayed set.passes budget) (record set.shape { keys = followed.report.keys.items }) set.passes (renewal + 1) phases renewals (zip back rest) listed epoch = subst (λ (k : Dimensions × ℕ). AreExplained Set (ArePlayed k.1 budget) k.0 k.1 (renewal + 1) phases renewals (zip back rest) listed epoch) follows explained in
+    let opened = opened_with kind set.shape followed.listed in
+    let follows : (next.shape, next.passes) ≡ (opened, set.passes) = λ i. (followed.shape i, followed.passes i) in
+    let then : AreExplained kind (ArePlayed kind set.passes budget) opened set.passes (renewal + 1) phases renewals (zip back rest) listed epoch = subst (λ (k : Dimensions × ℕ). AreExplained kind (ArePlayed kind k.1 budget) k.0 k.1 (renewal + 1) phases renewals (zip back rest) listed epoch) follows explained in
     let late : All (λ line. renewal < line.phase) back = λ k d inside. let high = all_from (renewal + 1) (renewal + 1) back (omega arith) cut.late k d inside in omega arith in
     let outcomes : zip (drop first script) (more ++ rest) ≡ zip slice more ++ zip back rest = ap (λ (lines : List Line). zip lines (more ++ rest)) cut.rest ∙ zip-append slice back more rest played.one_each in
-    subst (λ (some : List Outcome). AreExplained Set (ArePlayed set.passes budget) set.shape set.passes from phases (renewal ∷ renewals) some listed epoch) (sym outcomes)
-    (one_more_set Set (ArePlayed set.passes budget) set.shape set.passes from phases renewal renewals (zip slice more) (zip back rest) played.run followed.report.keys.items listed epoch (all_lines (λ (line : Line). line.phase ≤ renewal) slice more cut.early) (all_lines (λ (line : Line). renewal < line.phase) back rest late) played.of_set played.keys (set_opens set.shape followed.report.keys.items _ played.keys) then)
+    subst (λ (some : List Outcome). AreExplained kind (ArePlayed kind set.passes budget) set.shape set.passes from phases (renewal ∷ renewals) some listed epoch) (sym outcomes)
+    (one_more_set kind (ArePlayed kind set.passes budget) set.shape set.passes from phases renewal renewals (zip slice more) (zip back rest) played.run followed.listed listed epoch (all_lines (λ (line : Line). line.phase ≤ renewal) slice more cut.early) (all_lines (λ (line : Line). renewal < line.phase) back rest late) played.of_set played.contents followed.opens then)
 
 -- one more set was played
-pub one_more_played : (opened : TableView) (budget : ℕ) (script : List Line) (renewals : List ℕ) (phases : ℕ) (set next : TableView) (first phase i n renewal : ℕ) (replies more : List Reply) → drop i renewals ≡ renewal ∷ drop (i + 1) renewals → first + n ≤ length script → CutsSpan script first n renewal → HavePlayedSets opened budget script renewals phases set first phase i replies → IsFollowed set budget (take (first + n - first) (drop first script)) (renewal + 1 - phase) more next → HavePlayedSets opened budget script renewals phases next (first + n) (renewal + 1) (i + 1) (replies ++ more)
-one_more_played opened budget script renewals phases set next first phase i n renewal replies more here inside cut so_far told =
-    let followed : IsFollowed set budget (take n (drop first script)) (renewal + 1 - phase) more next = subst (λ (lines : List Line). IsFollowed set budget lines (renewal + 1 - phase) more next) (slice_of script first n) told in
+pub one_more_played : {kind : Kind} (opened : TableView) (budget : ℕ) (script : List Line) (renewals : List ℕ) (phases : ℕ) (set next : TableView) (first phase i n renewal : ℕ) (replies more : List Reply) → drop i renewals ≡ renewal ∷ drop (i + 1) renewals → first + n ≤ length script → CutsSpan script first n renewal → HavePlayedSets kind opened budget script renewals phases set first phase i replies → IsFollowed kind set budget (take (first + n - first) (drop first script)) (renewal + 1 - phase) more next → HavePlayedSets kind opened budget script renewals phases next (first + n) (renewal + 1) (i + 1) (replies ++ more)
+one_more_played {kind} opened budget script renewals phases set next first phase i n renewal replies more here inside cut so_far told =
+    let followed : IsFollowed kind set budget (take n (drop first script)) (renewal + 1 - phase) more next = subst (λ (lines : List Line). IsFollowed kind set budget lines (renewal + 1 - phase) more next) (slice_of script first n) told in
     let slice : length (take n (drop first script)) ≡ n = length-take_inside script first n inside in
     let renewed : AreRenewalsFrom phase phases (renewal ∷ drop (i + 1) renewals) = subst (AreRenewalsFrom phase phases) here so_far.renewed in
     record {
@@ -150,26 +152,29 @@ one_more_played opened budget script renewals phases set next first phase i n re
       renewed = renewed.2;
       goes = λ rest listed epoch explained.
           let whole = goes_on set next budget phase phases renewal (drop (i + 1) renewals) script first n more rest listed epoch cut followed explained in
-          let here_too = subst (λ (some : List ℕ). AreExplained Set (ArePlayed set.passes budget) set.shape set.passes phase phases some (zip (drop first script) (more ++ rest)) listed epoch) (sym here) whole in
-          subst (λ (some : List Reply). AreExplained Set (ArePlayed opened.passes budget) opened.shape opened.passes 0 phases renewals (zip script some) listed epoch) (sym (append_assoc replies more rest)) (so_far.goes (more ++ rest) listed epoch here_too);
+          let here_too = subst (λ (some : List ℕ). AreExplained kind (ArePlayed kind set.passes budget) set.shape set.passes phase phases some (zip (drop first script) (more ++ rest)) listed epoch) (sym here) whole in
+          subst (λ (some : List Reply). AreExplained kind (ArePlayed kind opened.passes budget) opened.shape opened.passes 0 phases renewals (zip script some) listed epoch) (sym (append_assoc replies more rest)) (so_far.goes (more ++ rest) listed epoch here_too);
     }
   where
     length-take_inside : (lines : List Line) (first n : ℕ) → first + n ≤ length lines → length (take n (drop first lines)) ≡ n
     length-take_inside lines first n inside = omega (arith, length-take n (drop first lines), length-drop first lines)
 
 -- the last set was played
-pub all_sets : (opened : TableView) (budget : ℕ) (script : List Line) (renewals : List ℕ) (phases : ℕ) (set : TableView) (first phase i : ℕ) (replies more : List Reply) (report : Report) → drop i renewals ≡ [] → HavePlayedSets opened budget script renewals phases set first phase i replies → HasPlayedSpan set budget (take (length script - first) (drop first script)) (phases - phase) more report → (length (replies ++ more) ≡ length script) × AreExplained Set (ArePlayed opened.passes budget) opened.shape opened.passes 0 phases renewals (zip script (replies ++ more)) report.keys.items report.epoch
-all_sets opened budget script renewals phases set first phase i replies more report none so_far told =
-    let played : HasPlayedSpan set budget (drop first script) (phases - phase) more report = subst (λ (lines : List Line). HasPlayedSpan set budget lines (phases - phase) more report) (rest_of script first) told in
-    let last = last_set Set (ArePlayed set.passes budget) set.shape set.passes phase phases (zip (drop first script) more) played.run report.keys.items report.epoch played.of_set played.keys played.epoch in (
+pub all_sets : {kind : Kind} (opened : TableView) (budget : ℕ) (script : List Line) (renewals : List ℕ) (phases : ℕ) (set : TableView) (first phase i : ℕ) (replies more : List Reply) (listed : List (Item kind)) (epoch : ℕ) → drop i renewals ≡ [] → HavePlayedSets kind opened budget script renewals phases set first phase i replies → HasPlayedSpan kind set budget (take (length script - first) (drop first script)) (phases - phase) more listed epoch → (length (replies ++ more) ≡ length script) × AreExplained kind (ArePlayed kind opened.passes budget) opened.shape opened.passes 0 phases renewals (zip script (replies ++ more)) listed epoch
+all_sets {kind} opened budget script renewals phases set first phase i replies more listed epoch none so_far told =
+    let played : HasPlayedSpan kind set budget (drop first script) (phases - phase) more listed epoch = subst (λ (lines : List Line). HasPlayedSpan kind set budget lines (phases - phase) more listed epoch) (rest_of script first) told in
+    let last = last_set kind (ArePlayed kind set.passes budget) set.shape set.passes phase phases (zip (drop first script) more) played.run listed epoch played.of_set played.contents played.last in (
       (let inside = so_far.inside in omega (arith, length-append replies more, so_far.long, played.one_each, length-drop first script)),
-      so_far.goes more report.keys.items report.epoch (subst (λ (some : List ℕ). AreExplained Set (ArePlayed set.passes budget) set.shape set.passes phase phases some (zip (drop first script) more) report.keys.items report.epoch) (sym none) last),
+      so_far.goes more listed epoch (subst (λ (some : List ℕ). AreExplained kind (ArePlayed kind set.passes budget) set.shape set.passes phase phases some (zip (drop first script) more) listed epoch) (sym none) last),
     )
 
--- ---- a span's lines and budget by other names
+-- ---- a span's kind, budget and lines by other names
 
-pub played_as : (set : TableView) (b budget : ℕ) (some lines : List Line) (phases : ℕ) (replies : List Reply) (report : Report) → b ≡ budget → some ≡ lines → HasPlayedSpan set b some phases replies report → HasPlayedSpan set budget lines phases replies report
-played_as set b budget some lines phases replies report same are played = subst (λ (k : ℕ × List Line). HasPlayedSpan set k.0 k.1 phases replies report) (λ i. (same i, are i)) played
+pub played_as : {k kind : Kind} (set : TableView) (b budget : ℕ) (some lines : List Line) (phases : ℕ) (replies : List Reply) (ended : Ended) → k ≡ kind → b ≡ budget → some ≡ lines → HasPlayedSpan k set b some phases replies (listed_as k ended) (epoch_of ended) → HasPlayedSpan kind set budget lines phases replies (listed_as kind ended) (epoch_of ended)
+played_as set b budget some lines phases replies ended is same are played = subst (λ (k : Kind × ℕ × List Line). HasPlayedSpan k.0 set k.1 k.2 phases replies (listed_as k.0 ended) (epoch_of ended)) (λ i. (is i, same i, are i)) played
 
-pub followed_as : (set : TableView) (b budget : ℕ) (some lines : List Line) (phases : ℕ) (replies : List Reply) (next : TableView) → b ≡ budget → some ≡ lines → IsFollowed set b some phases replies next → IsFollowed set budget lines phases replies next
-followed_as set b budget some lines phases replies next same are followed = subst (λ (k : ℕ × List Line). IsFollowed set k.0 k.1 phases replies next) (λ i. (same i, are i)) followed
+pub followed_as : {k kind : Kind} (set : TableView) (b budget : ℕ) (some lines : List Line) (phases : ℕ) (replies : List Reply) (next : TableView) → k ≡ kind → b ≡ budget → some ≡ lines → IsFollowed k set b some phases replies next → IsFollowed kind set budget lines phases replies next
+followed_as set b budget some lines phases replies next is same are followed = subst (λ (k : Kind × ℕ × List Line). IsFollowed k.0 set k.1 k.2 phases replies next) (λ i. (is i, same i, are i)) followed
+
+pub span_as : {k kind : Kind} (workers from to : ℕ) (some lines : List Line) → kind ≡ k → some ≡ lines → IsSpan k workers from to lines → IsSpan kind workers from to some
+span_as workers from to some lines is are span = subst (λ (k : Kind × List Line). IsSpan k.0 workers from to k.1) (λ i. (sym is i, sym are i)) span

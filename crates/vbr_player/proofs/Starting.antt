@@ -5,6 +5,7 @@ use Rattle.std.specs.Global.{Global}
 use Rattle.std.proofs.lemmas.List.Elements.{All-head, All-tail}
 use Rattle.vbr_player.specs.Starting.{IsFor, AreFor, EndsAs, AreEndedBy}
 use Rattle.vbr_player.specs.Working.{Played, EachPlayed}
+use Rattle.vbr_script.specs.declared.script.Kind.{Kind}
 use Rattle.vbr_script.specs.declared.script.Line.{Line}
 use Rattle.vbr_player.specs.declared.turn.Turn.{Turn}
 use Rattle.vbr_player.specs.declared.turn.Turn.TheVariants.{Started, Done}
@@ -21,22 +22,22 @@ none_left done [] all none is = sym (append-nil done) ∙ is
 none_left done (x ∷ xs) all none is = absurd (omega arith)
 
 -- a worker whose turn ended has played
-one_played : {N : Type 0} → (budget : ℕ) (lines : List Line) (turn : Turn N) (p q : Worker N) → IsFor budget lines turn p → EndsAs turn q → Played budget lines p q
-one_played {N} budget lines (Started thread) p q is ended =
-    let P : ℕ × List Line × Worker N → Type 0 = λ k. Played k.0 k.1 k.2 q in
+one_played : {N : Type 0} → (kind : Kind) (budget : ℕ) (lines : List Line) (turn : Turn N) (p q : Worker N) → IsFor kind budget lines turn p → EndsAs kind turn q → Played kind budget lines p q
+one_played {N} kind budget lines (Started thread) p q is ended =
+    let P : ℕ × List Line × Worker N → Type 0 = λ k. Played kind k.0 k.1 k.2 q in
     let are : (thread.promise.budget, thread.promise.lines.now, thread.promise.before.value) ≡ (budget, lines, p) = λ i. (is.2 i, is.1 i, is.0 i) in
     subst P are ended
-one_played {N} budget lines (Done played) p q is ended = subst (Played budget lines p) (sym ended) is
+one_played {N} kind budget lines (Done played) p q is ended = subst (Played kind budget lines p) (sym ended) is
 
 -- and so have all
-each_played : {N : Type 0} → (budget : ℕ) (lines : List Line) (turns : List (Turn N)) (workers played : List (Worker N)) → AreFor budget lines turns workers → AreEndedBy turns played → EachPlayed budget lines workers played
-each_played budget lines [] [] [] are ended = tt
-each_played budget lines (t ∷ ts) (p ∷ ps) (q ∷ qs) are ended = (one_played budget lines t p q are.0 ended.0, each_played budget lines ts ps qs are.1 ended.1)
-each_played budget lines [] [] (q ∷ qs) are ended = absurd ended
-each_played budget lines (t ∷ ts) (p ∷ ps) [] are ended = absurd ended
-each_played budget lines [] (p ∷ ps) played are ended = absurd are
-each_played budget lines (t ∷ ts) [] played are ended = absurd are
+each_played : {N : Type 0} → (kind : Kind) (budget : ℕ) (lines : List Line) (turns : List (Turn N)) (workers played : List (Worker N)) → AreFor kind budget lines turns workers → AreEndedBy kind turns played → EachPlayed kind budget lines workers played
+each_played kind budget lines [] [] [] are ended = tt
+each_played kind budget lines (t ∷ ts) (p ∷ ps) (q ∷ qs) are ended = (one_played kind budget lines t p q are.0 ended.0, each_played kind budget lines ts ps qs are.1 ended.1)
+each_played kind budget lines [] [] (q ∷ qs) are ended = absurd ended
+each_played kind budget lines (t ∷ ts) (p ∷ ps) [] are ended = absurd ended
+each_played kind budget lines [] (p ∷ ps) played are ended = absurd are
+each_played kind budget lines (t ∷ ts) [] played are ended = absurd are
 
-pub each_played_if : {N : Type 0} → {E : Type 0} (budget : ℕ) (lines : List Line) (turns : List (Turn N)) (workers : List (Worker N)) (result : Result (Vec (Worker N) Global) E) → AreFor budget lines turns workers → IfOk result (λ played. AreEndedBy turns played.items) → IfOk result (λ played. EachPlayed budget lines workers played.items)
-each_played_if budget lines turns workers (Ok played) are ended = each_played budget lines turns workers played.items are ended
-each_played_if budget lines turns workers (Err error) are ended = tt
+pub each_played_if : {N : Type 0} → (kind : Kind) {E : Type 0} (budget : ℕ) (lines : List Line) (turns : List (Turn N)) (workers : List (Worker N)) (result : Result (Vec (Worker N) Global) E) → AreFor kind budget lines turns workers → IfOk result (λ played. AreEndedBy kind turns played.items) → IfOk result (λ played. EachPlayed kind budget lines workers played.items)
+each_played_if kind budget lines turns workers (Ok played) are ended = each_played kind budget lines turns workers played.items are ended
+each_played_if kind budget lines turns workers (Err error) are ended = tt

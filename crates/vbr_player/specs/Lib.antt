@@ -4,5 +4,7 @@ pub mod Starting
 pub mod Meeting
 pub mod Standing
 pub mod Ending
+pub mod Closing
+pub mod Opened
 pub mod Spans
 pub mod Playing

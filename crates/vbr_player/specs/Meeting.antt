@@ -8,6 +8,7 @@ use Rattle.vbr_slots.specs.Views.{KeepsPool, TableView, steps_of}
 use Rattle.vbr_set.specs.Members.{MemberView}
 use Rattle.vbr_player.specs.Calling.{HasMetOften}
 use Rattle.vbr_player.specs.Working.{EachPlayed}
+use Rattle.vbr_script.specs.declared.script.Kind.{Kind}
 use Rattle.vbr_script.specs.declared.script.Line.{Line}
 use Rattle.vbr_player.specs.declared.worker.Worker.{Worker}
 
@@ -44,7 +45,7 @@ pub record MeetsOthers {N : Type 0} (p q : MemberView) (before after : List (Wor
   pub to : All (λ other. Begins q.pass.trace.seen other.caller.pass.trace.seen) after
 
 -- workers played their own lines among these, with a budget for each, and then all met
-pub record PlayedAndMet {N : Type 0} (budget : ℕ) (lines : List Line) (ws us : List (Worker N)) : Type 0 where
+pub record PlayedAndMet {N : Type 0} (kind : Kind) (budget : ℕ) (lines : List Line) (ws us : List (Worker N)) : Type 0 where
   pub apart : List (Worker N)
-  pub played : EachPlayed budget lines ws apart
+  pub played : EachPlayed kind budget lines ws apart
   pub meets : Meets apart us

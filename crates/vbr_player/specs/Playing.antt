@@ -1,25 +1,32 @@
 -- What the player does with a reader and a writer.
-use Rattle.std.specs.Prelude.{◌≡◌, ℕ, List, Option, Some, None, Result, Ok, Err}
+use Rattle.std.specs.Prelude.{◌≡◌, ℕ, true, List, Option, Some, None, Result, Ok, Err}
 use Rattle.std.specs.Io.KnownBytes.{Keeps, Appends}
+use Rattle.vbr_words.specs.Dimensions.{Dimensions}
 use Rattle.vbr_script.specs.Scripts.{first_fault, phases_of, renewals_of, script_of}
+use Rattle.vbr_script.specs.declared.script.Kind.{Kind}
+use Rattle.vbr_script.specs.declared.script.Kind.TheVariants.{Set, Map}
 use Rattle.vbr_transcript.specs.Reading.{IsInput}
 use Rattle.vbr_transcript.specs.Runs.{IsScriptRun}
 use Rattle.vbr_transcript.specs.Layout.{layout_of}
+use Rattle.vbr_transcript.specs.Totals.{TotalsOf}
 use Rattle.vbr_transcript.specs.Writing.{AppendsSome}
 use Rattle.vbr_player.specs.Calling.{ArePlayed}
 use Rattle.vbr_transcript.specs.declared.reply.Reply.{Reply}
-use Rattle.vbr_transcript.specs.declared.totals.Totals.{Totals}
 use Rattle.vbr_transcript.specs.declared.error.RunError.{RunError}
 use Rattle.vbr_transcript.specs.declared.error.RunError.TheVariants as error
 use Rattle.vbr_settings.specs.Settings.{Settings}
-use Rattle.vbr_script.specs.declared.script.Kind.TheVariants.{Set}
 
--- the text is a script for the workers, and the output is the layout of a run of it with these totals, which they played with the budget
-abbrev pub Prints : Settings → List ℕ → Totals → List ℕ → Type 0
-Prints settings text totals output =
-    (replies : List Reply) × (first_fault Set settings.workers text ≡ None)
-    × IsScriptRun Set (ArePlayed settings.workers settings.budget) settings.shape settings.workers (phases_of Set settings.workers text) (renewals_of Set settings.workers text) (script_of Set settings.workers text) replies totals
-    × (output ≡ layout_of Set settings.epoch replies totals)
+-- the shape of the set that a script is played on, or of the map, whose nodes have values
+abbrev pub shape_of : Kind → Dimensions → Dimensions
+shape_of Set shape = shape
+shape_of Map shape = record shape { values = true }
+
+-- the text is a script of this kind for the workers, and the output is the layout of a run of it with these totals, which they played with the budget
+abbrev pub Prints : (kind : Kind) → Settings → List ℕ → TotalsOf kind → List ℕ → Type 0
+Prints kind settings text totals output =
+    (replies : List Reply) × (first_fault kind settings.workers text ≡ None)
+    × IsScriptRun kind (ArePlayed kind settings.workers settings.budget) (shape_of kind settings.shape) settings.workers (phases_of kind settings.workers text) (renewals_of kind settings.workers text) (script_of kind settings.workers text) replies totals
+    × (output ≡ layout_of kind settings.epoch replies totals)
 
 -- want of memory, or of a thread for a worker
 abbrev pub IsWant : RunError → Type 0
@@ -27,13 +34,13 @@ IsWant error.Memory = Unit {0}
 IsWant error.Worker = Unit {0}
 IsWant _ = ⊥
 
--- The player's answer, by the bytes that the reader had left and those that the writer held before and after.
+-- The player's answer to a script of this kind, by the bytes that the reader had left and those that the writer held before and after.
 -- Done: the layout of a run of the script that was read is appended. A script fault is the first of the text.
 -- A write fault leaves a beginning of a run's layout, and any other fault leaves the writer as it was.
-abbrev pub Plays : Settings → Option (List ℕ) → Option (List ℕ) → Option (List ℕ) → Result Totals RunError → Type 0
-Plays settings left old new (Ok totals) = (text : List ℕ) × IsInput left text × (output : List ℕ) × Prints settings text totals output × Appends old new output
-Plays settings left old new (Err error.Write) = (text : List ℕ) × IsInput left text × (totals : Totals) × (output : List ℕ) × Prints settings text totals output × AppendsSome old new output
-Plays settings left old new (Err (error.Script line kind)) = (text : List ℕ) × IsInput left text × (first_fault Set settings.workers text ≡ Some (line, kind)) × Keeps old new
-Plays settings left old new (Err error.Read) = Keeps old new
-Plays settings left old new (Err error.Memory) = Keeps old new
-Plays settings left old new (Err error.Worker) = Keeps old new
+abbrev pub Plays : (kind : Kind) → Settings → Option (List ℕ) → Option (List ℕ) → Option (List ℕ) → Result (TotalsOf kind) RunError → Type 0
+Plays kind settings left old new (Ok totals) = (text : List ℕ) × IsInput left text × (output : List ℕ) × Prints kind settings text totals output × Appends old new output
+Plays kind settings left old new (Err error.Write) = (text : List ℕ) × IsInput left text × (totals : TotalsOf kind) × (output : List ℕ) × Prints kind settings text totals output × AppendsSome old new output
+Plays kind settings left old new (Err (error.Script line fault)) = (text : List ℕ) × IsInput left text × (first_fault kind settings.workers text ≡ Some (line, fault)) × Keeps old new
+Plays kind settings left old new (Err error.Read) = Keeps old new
+Plays kind settings left old new (Err error.Memory) = Keeps old new
+Plays kind settings left old new (Err error.Worker) = Keeps old new

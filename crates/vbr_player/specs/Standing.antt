@@ -11,10 +11,10 @@ use Rattle.vbr_transcript.specs.Merging.{replies_by}
 use Rattle.vbr_transcript.specs.Phases.{HaveCalled}
 use Rattle.vbr_player.specs.Calling.{CallsInTurn}
 use Rattle.vbr_player.specs.Working.{TellsReply}
+use Rattle.vbr_script.specs.declared.script.Kind.{Kind}
 use Rattle.vbr_script.specs.declared.script.Line.{Line}
 use Rattle.vbr_transcript.specs.declared.reply.Reply.{Reply}
 use Rattle.vbr_player.specs.declared.worker.Worker.{Worker}
-use Rattle.vbr_script.specs.declared.script.Kind.TheVariants.{Set}
 
 -- the replies of each of the workers
 abbrev pub replies_of : {N : Type 0} → List (Worker N) → List (List Reply)
@@ -26,30 +26,30 @@ AreNumberedFrom who [] = Unit {0}
 AreNumberedFrom who (worker ∷ workers) = (worker.caller.pass.trace.who ≡ who) × AreNumberedFrom (suc who) workers
 
 -- a worker of a set has played its own lines among the first of a script: it has a reply to each of them, by calls in turn, with a budget for each and so many steps besides at most; its calls are those that were answered, and it has room for its replies to the whole script
-pub record HasPlayed {N : Type 0} (set : TableView) (budget most : ℕ) (script lines : List Line) (worker : Worker N) : Type 0 where
+pub record HasPlayed {N : Type 0} (kind : Kind) (set : TableView) (budget most : ℕ) (script lines : List Line) (worker : Worker N) : Type 0 where
   pub set_is : worker.caller.set ≡ set
   pub of : IsOf worker.caller.pass.trace set
   pub one_each : length worker.replies.items ≡ length (lines_by worker.caller.pass.trace.who lines)
-  pub calls : made_by worker.caller.pass.trace ≡ answered_calls Set (zip (lines_by worker.caller.pass.trace.who lines) worker.replies.items)
-  pub tells : All (λ outcome. TellsReply worker.caller.pass.trace outcome.0.op outcome.1) (zip (lines_by worker.caller.pass.trace.who lines) worker.replies.items)
-  pub in_turn : CallsInTurn budget (zip (lines_by worker.caller.pass.trace.who lines) worker.replies.items) (as_member set (new_pass set worker.caller.pass.trace.who)) worker.caller
+  pub calls : made_by worker.caller.pass.trace ≡ answered_calls kind (zip (lines_by worker.caller.pass.trace.who lines) worker.replies.items)
+  pub tells : All (λ outcome. TellsReply kind worker.caller.pass.trace outcome.0.op outcome.1) (zip (lines_by worker.caller.pass.trace.who lines) worker.replies.items)
+  pub in_turn : CallsInTurn kind budget (zip (lines_by worker.caller.pass.trace.who lines) worker.replies.items) (as_member set (new_pass set worker.caller.pass.trace.who)) worker.caller
   pub steps : steps_of worker.caller.pass.trace ≤ budget * length worker.replies.items + most
   pub room : length (lines_by worker.caller.pass.trace.who script) ≤ vec_capacity worker.replies
 
 -- a phase has ended for the workers: at some point of what each has seen, each had called its lines of the phases up to this one, and no more
-pub record HasEnded {N : Type 0} (set : TableView) (script : List Line) (phase : ℕ) (workers : List (Worker N)) : Type 0 where
+pub record HasEnded {N : Type 0} (kind : Kind) (set : TableView) (script : List Line) (phase : ℕ) (workers : List (Worker N)) : Type 0 where
   pub seen : List Event
   pub begins : All (λ worker. Begins seen worker.caller.pass.trace.seen) workers
   pub replied : (who : ℕ) → who < length workers → length (lines_by who (lines_up_to phase script)) ≤ length (replies_by who (replies_of workers))
-  pub called : HaveCalled Set set.shape (length workers) (lines_up_to phase script) (replies_of workers) seen
+  pub called : HaveCalled kind set.shape (length workers) (lines_up_to phase script) (replies_of workers) seen
 
 -- so many workers have played the first lines of a script, which are those of its first phases, one phase after the other, from one on, and in each made a step for each other worker at most, beside their calls
-pub record Stand {N : Type 0} (set : TableView) (budget : ℕ) (script lines : List Line) (count from phases : ℕ) (workers : List (Worker N)) : Type 0 where
+pub record Stand {N : Type 0} (kind : Kind) (set : TableView) (budget : ℕ) (script lines : List Line) (count from phases : ℕ) (workers : List (Worker N)) : Type 0 where
   pub count_is : length workers ≡ count
   pub order : from ≤ phases
   pub numbered : AreNumberedFrom 0 workers
-  pub played : All (HasPlayed set budget ((count - 1) * (phases - from)) script lines) workers
-  pub ended : (phase : ℕ) → phase < phases → HasEnded set script phase workers
+  pub played : All (HasPlayed kind set budget ((count - 1) * (phases - from)) script lines) workers
+  pub ended : (phase : ℕ) → phase < phases → HasEnded kind set script phase workers
 
 -- a pass of a set has become a worker: it has no replies, and room for those to its own lines
 pub record IsNew {N : Type 0} (set : TableView) (script : List Line) (pass : PassView) (worker : Worker N) : Type 0 where

@@ -1,7 +1,5 @@
 // What a worker is given to play.
-ghost use Rattle.std.specs.Prelude.{◌≡◌, ◌+◌, ◌-◌, ◌<◌, ◌≤◌, ◌^◌, All, length, take, drop};
-ghost use Rattle.vbr_script.specs.Scripts.{MayAsk};
-ghost use Rattle.vbr_script.specs.declared.script.Kind.TheVariants.{Set};
+ghost use Rattle.std.specs.Prelude.{◌≡◌, ◌+◌, ◌-◌, ◌<◌, ◌≤◌, ◌^◌, length, take, drop};
 ghost use Rattle.vbr_player.specs.Working.{HasRoom};
 
 use crate::worker::Worker;
@@ -20,7 +18,6 @@ pub struct Part<'p, G> {
     /// What is done round each call.
     pub gate: &'p G,
     ghost index: { first + length lines.now < 2 ^ 64 },
-    ghost may_ask: { All (λ line. MayAsk Set line.op line.value) lines.now },
 }
 
 impl<'p, G> Clone for Part<'p, G> {
@@ -52,7 +49,7 @@ impl<'p, G> Part<'p, G> {
     }
 }
 
-/// The lines of a script that are played on one set, with their phases.
+/// The lines of a script that are played on one set or map, with their phases.
 #[derive(Drop)]
 pub struct Span<'p, G> {
     /// The lines.

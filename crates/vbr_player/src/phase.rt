@@ -1,6 +1,6 @@
 // A phase: each worker that has lines in it plays them in a thread of its own.
 ghost use Rattle.std.specs.Prelude.{◌≡◌, [], IfOk, IfErr};
-ghost use Rattle.vbr_player.specs.Working.{EachPlayed, HaveRoom};
+ghost use Rattle.vbr_player.specs.Working.{EachPlayed, HaveRoom, MayBeAsked};
 ghost use Rattle.vbr_player.specs.Meeting.{AreOfOne, PlayedAndMet};
 ghost use Rattle.vbr_player.specs.Playing.{IsWant};
 ghost use Rattle.vbr_player.specs.Starting.{AreEndedBy};
@@ -16,7 +16,6 @@ use std::sync::Wait;
 use std::thread;
 use std::thread::{Scope, Threads};
 use vbr_transcript::RunError;
-use vbr_words::Nodes;
 
 // Plays a phase, each worker that has lines in it in a thread of its own, and joins them all; then
 // all meet. Where a thread can't be started, those that were end first.
@@ -28,7 +27,8 @@ pub fn play_phase<'e, R: Threads + Wait, N: Asked + Sync, G: Gate + Sync>(
 ) -> Result<Vec<Worker<'e, N>>, RunError>
     requires of { AreOfOne workers.items }
     requires room { HaveRoom workers.items part.lines.now }
-    ensures met { IfOk result (λ met. PlayedAndMet part.entry.budget
+    requires may_ask { MayBeAsked N.KIND part.lines.now }
+    ensures met { IfOk result (λ met. PlayedAndMet N.KIND part.entry.budget
         part.entry.lines.now workers.entry.items met.items) }
     ensures fault { IfErr result IsWant }
 {
@@ -36,8 +36,9 @@ pub fn play_phase<'e, R: Threads + Wait, N: Asked + Sync, G: Gate + Sync>(
         thread::scope_env::<'e>(),
         rt,
         move |scope| -> Result<Vec<Worker<N>>, RunError>
-            requires { HaveRoom workers.items part.lines.now }
-            ensures played { IfOk result (λ played. EachPlayed part.entry.budget
+            requires room { HaveRoom workers.items part.lines.now }
+            requires may_ask { MayBeAsked N.KIND part.lines.now }
+            ensures played { IfOk result (λ played. EachPlayed N.KIND part.entry.budget
                 part.entry.lines.now workers.entry.items played.items) }
             ensures fault { IfErr result IsWant }
         { play_apart(scope, rt, alloc, part, workers) },
@@ -53,8 +54,9 @@ fn play_apart<'s, 'e, R: Threads + Wait, N: Asked + Sync, G: Gate + Sync>(
     part: Part<'e, G>,
     workers: Vec<Worker<'e, N>>,
 ) -> Result<Vec<Worker<'e, N>>, RunError>
-    requires { HaveRoom workers.items part.lines.now }
-    ensures played { IfOk result (λ played. EachPlayed part.entry.budget
+    requires room { HaveRoom workers.items part.lines.now }
+    requires may_ask { MayBeAsked N.KIND part.lines.now }
+    ensures played { IfOk result (λ played. EachPlayed N.KIND part.entry.budget
         part.entry.lines.now workers.entry.items played.items) }
     ensures fault { IfErr result IsWant }
 {
@@ -70,13 +72,13 @@ fn play_apart<'s, 'e, R: Threads + Wait, N: Asked + Sync, G: Gate + Sync>(
 }
 
 // Waits for the workers, in their order. The vector for them has room for all.
-fn join_all<'l, R: Threads, N: Nodes>(
+fn join_all<'l, R: Threads, N: Asked>(
     rt: &R,
     turns: Vec<Turn<'l, N>>,
     mut played: Vec<Worker<'l, N>>,
 ) -> Result<Vec<Worker<'l, N>>, RunError>
     requires none { played.items ≡ [] }
-    ensures ended { IfOk result (λ played. AreEndedBy turns.entry.items played.items) }
+    ensures ended { IfOk result (λ played. AreEndedBy N.KIND turns.entry.items played.items) }
     ensures fault { IfErr result IsWant }
 {
     for turn in turns {

@@ -1,4 +1,4 @@
-// The phases that are played on one set.
+// The phases that are played on one set or map.
 ghost use Rattle.std.specs.Prelude.{◌≡◌, ◌≤◌, nat_le, length, IfOk, IfErr};
 ghost use Rattle.std.specs.List.{prefix_len};
 ghost use Rattle.vbr_slots.specs.Views.{new_passes};
@@ -19,7 +19,7 @@ use vbr_set::Pass;
 use vbr_set::set::VbrSet;
 use vbr_transcript::{Reply, RunError};
 
-// Plays all lines of a span on a new set: by a worker for each of its passes, one phase after the
+// Plays all lines of a span on a new set or map: by a worker for each of its passes, one phase after the
 // other. It gives the passes of the set, and the replies in script order.
 pub fn play_span<'e, R: Threads + Wait, N: Asked + Sync, G: Gate + Sync>(
     rt: &'e R,
@@ -28,9 +28,9 @@ pub fn play_span<'e, R: Threads + Wait, N: Asked + Sync, G: Gate + Sync>(
     passes: Vec<Pass>,
     span: Span<'e, G>,
 ) -> Result<(Vec<Pass>, Vec<Reply>), RunError>
-    requires span { IsSpan set.now.passes span.from span.to span.part.lines.now }
+    requires span { IsSpan N.KIND set.now.passes span.from span.to span.part.lines.now }
     requires new { passes.items ≡ new_passes set.now 0 set.now.passes }
-    ensures played { IfOk result (λ played. PlayedSpan N set.now span.entry.part.budget
+    ensures played { IfOk result (λ played. PlayedSpan N.KIND N set.now span.entry.part.budget
         span.entry.part.lines.now span.entry.from span.entry.to played.0.items played.1.items) }
     ensures fault { IfErr result IsWant }
 {

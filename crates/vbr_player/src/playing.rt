@@ -1,17 +1,20 @@
 //! The player.
+ghost use Rattle.vbr_script.specs.declared.script.Kind.TheVariants.{Set, Map};
 ghost use Rattle.vbr_player.specs.Playing.{Plays};
 
 use crate::gate::Gate;
-use crate::opening::open;
-use crate::part::Part;
-use crate::sets::play_sets;
+use crate::opened::Ended;
+use crate::sets::play_script;
 use std::alloc::Global;
 use std::io::{Read, Write};
 use std::sync::Wait;
 use std::thread::Threads;
-use vbr_script::parse_script;
+use vbr_script::{Kind, parse_map_script, parse_script};
 use vbr_settings::Config;
-use vbr_transcript::{RunError, Totals, WriteFault, layout, read_text, totals_of, write_whole};
+use vbr_transcript::{
+    MapTotals, RunError, Totals, WriteFault, layout, map_layout, map_totals_of, read_text,
+    totals_of, write_whole,
+};
 
 /// Reads a script to its end, plays it, and writes the replies and the totals.
 ///
@@ -51,21 +54,52 @@ pub fn play<RT: Threads + Wait, R: Read, W: Write, G: Gate + Sync>(
     writer: &mut W,
     gate: &G,
 ) -> Result<Totals, RunError>
-    ensures { Plays config (R.remaining reader.old)
+    ensures { Plays Set config (R.remaining reader.old)
         (W.contents writer.old) (W.contents writer.new) result }
 {
     let text = read_text(alloc, reader)?;
     let script = parse_script(alloc, &text, config.workers())?;
-    let opened = open(alloc, &config)?;
-    let whole = Part {
-        lines: &script.lines,
-        first: 0,
-        budget: config.budget(),
-        gate,
+    let ended = play_script(rt, alloc, Kind::Set, &config, &script, gate)?;
+    let (replies, Ended::Set(report)) = ended else {
+        unreachable!()
     };
-    let (replies, report) = play_sets(rt, alloc, opened, whole, &script)?;
     let totals = totals_of(&script.lines, &replies, report.keys, report.epoch);
     let output = layout(alloc, config.epoch(), &replies, &totals)?;
+    match write_whole(writer, &output) {
+        Ok(()) => Ok(totals),
+        Err(WriteFault) => Err(RunError::Write),
+    }
+}
+
+/// Reads a script of a map to its end, plays it, and writes the replies and the totals, as [`play`] does
+/// of a set: an insert stores the value of its line, and a remove and a get are answered with the one that
+/// was stored; a renewal keeps each key with its value. The config's shape has no values, and the map that
+/// is opened has them.
+///
+/// Memory and steps are those of [`play`], with a word more for each slot.
+///
+/// # Errors
+///
+/// Those of [`play`].
+pub fn play_map<RT: Threads + Wait, R: Read, W: Write, G: Gate + Sync>(
+    rt: &RT,
+    alloc: Global,
+    config: Config,
+    reader: &mut R,
+    writer: &mut W,
+    gate: &G,
+) -> Result<MapTotals, RunError>
+    ensures { Plays Map config (R.remaining reader.old)
+        (W.contents writer.old) (W.contents writer.new) result }
+{
+    let text = read_text(alloc, reader)?;
+    let script = parse_map_script(alloc, &text, config.workers())?;
+    let ended = play_script(rt, alloc, Kind::Map, &config, &script, gate)?;
+    let (replies, Ended::Map(report)) = ended else {
+        unreachable!()
+    };
+    let totals = map_totals_of(&script.lines, &replies, report.entries, report.epoch);
+    let output = map_layout(alloc, config.epoch(), &replies, &totals)?;
     match write_whole(writer, &output) {
         Ok(()) => Ok(totals),
         Err(WriteFault) => Err(RunError::Write),

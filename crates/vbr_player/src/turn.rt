@@ -1,7 +1,7 @@
 // The turn of a worker in a phase.
 ghost use Rattle.std.specs.Prelude.{◌≡◌, IfOk, IfErr};
 ghost use Rattle.vbr_player.specs.Starting.{EndsAs, IsFor};
-ghost use Rattle.vbr_player.specs.Working.{Played};
+ghost use Rattle.vbr_player.specs.Working.{MayBeAsked, Played};
 
 use crate::asking::Asked;
 use crate::gate::Gate;
@@ -11,23 +11,22 @@ use std::snapshot::Snapshot;
 use std::thread::{Promise, PromisedHandle, Scope, Threads};
 use vbr_script::Line;
 use vbr_transcript::RunError;
-use vbr_words::Nodes;
 
 /// That a worker will have played these lines, with this budget for each.
 #[derive(Drop)]
-pub struct WillPlay<'l, N: Nodes> {
+pub struct WillPlay<'l, N: Asked> {
     pub before: Snapshot<Worker<'l, N>>,
     pub lines: &'l [Line],
     pub budget: u32,
 }
 
-impl<'l, N: Nodes> Promise<Worker<'l, N>> for WillPlay<'l, N> {
-    ghost kept_by = { λ p r. Played p.budget p.lines.now p.before.value r };
+impl<'l, N: Asked> Promise<Worker<'l, N>> for WillPlay<'l, N> {
+    ghost kept_by = { λ p r. Played N.KIND p.budget p.lines.now p.before.value r };
 }
 
 /// What a worker does in a phase.
 #[derive(Drop)]
-pub enum Turn<'l, N: Nodes> {
+pub enum Turn<'l, N: Asked> {
     /// It plays its lines in a thread of its own.
     Started(PromisedHandle<Worker<'l, N>, WillPlay<'l, N>>),
     /// It has no lines, and so has played them.
@@ -39,8 +38,9 @@ pub fn take_turn<'s, 'e, N: Asked + Sync, G: Gate + Sync>(
     scope: &'s Scope<'s, &'e ()>,
     task: Task<'e, N, G>,
 ) -> Result<Turn<'e, N>, RunError>
+    requires { MayBeAsked N.KIND task.part.lines.now }
     ensures turn { IfOk result (λ turn.
-        IsFor task.entry.part.budget task.entry.part.lines.now turn task.entry.worker) }
+        IsFor N.KIND task.entry.part.budget task.entry.part.lines.now turn task.entry.worker) }
     ensures fault { IfErr result (λ error. error ≡ RunError.Worker) }
 {
     let who = task.worker.caller.pass().who();
@@ -56,8 +56,8 @@ pub fn take_turn<'s, 'e, N: Asked + Sync, G: Gate + Sync>(
 }
 
 // Waits for a worker, if it plays.
-pub fn end<'l, R: Threads, N: Nodes>(rt: &R, turn: Turn<'l, N>) -> Worker<'l, N>
-    ensures { EndsAs turn.entry result }
+pub fn end<'l, R: Threads, N: Asked>(rt: &R, turn: Turn<'l, N>) -> Worker<'l, N>
+    ensures { EndsAs N.KIND turn.entry result }
 {
     match turn {
         Turn::Started(thread) => thread.join(rt),
@@ -80,12 +80,16 @@ fn begin<
     given: A,
     work: W,
 ) -> Result<PromisedHandle<T, P>, RunError>
-    requires pre { (work : W) (given : A) → W.pre work given }
+    requires pre { W.pre work given }
     requires keeps { (result : T) → W.post work given result → P.kept_by promise result }
     ensures started { IfOk result (λ started. started.promise ≡ promise) }
     ensures fault { IfErr result (λ error. error ≡ RunError.Worker) }
 {
-    match scope.spawn_with(promise, move || work(given)) {
+    let call = move || -> T
+        requires { W.pre work given }
+        ensures { W.post work given result }
+    { work(given) };
+    match scope.spawn_with(promise, call) {
         Ok(started) => Ok(started),
         Err(_) => Err(RunError::Worker),
     }

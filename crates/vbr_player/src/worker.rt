@@ -1,8 +1,7 @@
 // A worker: it plays its lines of a script, one after the other.
 ghost use Rattle.std.specs.Prelude.{[], ◌∷◌};
 ghost use Rattle.vbr_script.specs.Scripts.{MayAsk};
-ghost use Rattle.vbr_script.specs.declared.script.Kind.TheVariants.{Set};
-ghost use Rattle.vbr_player.specs.Working.{HasRoom, Played};
+ghost use Rattle.vbr_player.specs.Working.{HasRoom, MayBeAsked, Played};
 
 use crate::asking::Asked;
 use crate::gate::Gate;
@@ -12,7 +11,7 @@ use vbr_set::VbrSetRef;
 use vbr_transcript::Reply;
 use vbr_words::Nodes;
 
-/// A worker: its calls of the set, and the replies that it was given so far.
+/// A worker: its calls of the set or the map, and the replies that it was given so far.
 #[derive(Drop)]
 pub struct Worker<'w, N: Nodes> {
     pub caller: VbrSetRef<'w, N>,
@@ -21,7 +20,9 @@ pub struct Worker<'w, N: Nodes> {
 
 // Plays a worker's own lines, in order: what its thread runs.
 pub fn play<'w, N: Asked, G: Gate>(task: Task<'w, N, G>) -> Worker<'w, N>
-    ensures { Played task.entry.part.budget task.entry.part.lines.now task.entry.worker result }
+    requires { MayBeAsked N.KIND task.part.lines.now }
+    ensures { Played N.KIND task.entry.part.budget task.entry.part.lines.now task.entry.worker
+        result }
 {
     let Task { part, mut worker } = task;
     let mut index = part.first;
@@ -36,8 +37,8 @@ impl<'w, N: Asked> Worker<'w, N> {
     // Plays a line, which has this index in the script, if it is its own.
     fn play_line<G: Gate>(&mut self, part: &Part<G>, line: &Line, index: u64)
         requires room { HasRoom self.old (line.now ∷ []) }
-        requires may_ask { MayAsk Set line.now.op line.now.value }
-        ensures { Played part.now.budget (line.now ∷ []) self.old self.new }
+        requires may_ask { MayAsk N.KIND line.now.op line.now.value }
+        ensures { Played N.KIND part.now.budget (line.now ∷ []) self.old self.new }
     {
         let who = self.caller.pass().who();
         if line.worker != who {

@@ -13,6 +13,7 @@ use Rattle.clap.specs.declared.error.kind.ErrorKind.TheVariants as asked
 use Rattle.vbr_words.specs.declared.shape.ShapeError.{ShapeError}
 use Rattle.vbr_words.specs.declared.shape.ShapeError.TheVariants as shape
 use Rattle.vbr_script.specs.Grammar.{fault_number}
+use Rattle.vbr_script.specs.declared.script.Kind.TheVariants.{Set}
 use Rattle.vbr_settings.specs.Options.{AreOptions, faults, settings_of, file_of, explained_of, shape_fault}
 use Rattle.vbr_settings.specs.Settings.{Settings}
 use Rattle.vbr_transcript.specs.Layout.{line}
@@ -79,7 +80,7 @@ pub record ProgramRun : Type 0 where
 
 -- a script that was left to read, in a file if one is named, was played with these settings, and that is told
 abbrev pub IsPlayed : Settings → Option Text → Option (List ℕ) → ProgramRun → Type 0
-IsPlayed settings file input run = (answer : Result Totals RunError) × Plays settings input run.output_before run.output answer × TellsRun file answer run.errors_before run.errors run.status
+IsPlayed settings file input run = (answer : Result Totals RunError) × Plays Set settings input run.output_before run.output answer × TellsRun file answer run.errors_before run.errors run.status
 
 -- a file couldn't be opened: nothing is written to standard output, and that is told
 abbrev pub IsUnopened : IoErrorKind → Text → ProgramRun → Type 0

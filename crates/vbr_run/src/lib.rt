@@ -28,7 +28,7 @@ mod report;
 
 pub use program::run;
 pub use vbr_player as player;
-pub use vbr_player::{Gate, NoGate, Reply, RunError, Totals, play};
+pub use vbr_player::{Gate, MapTotals, NoGate, Reply, RunError, Totals, play, play_map};
 pub use vbr_script as script;
 pub use vbr_script::{
     Kind, Line, MAX_OPERATIONS, MAX_SYNCS, Meaning, Script, ScriptError, ScriptFault,

@@ -12,7 +12,7 @@ loop-turn-preserved g c =
     let i = c.loop-turn.invariant in
     let all : c.loop-turn.yielded ++ (c.in-Some.turn ∷ into_iter_items c.next.new.self) ≡ c.args.turns.items = ap (λ (ts : List (Turn _)). c.loop-turn.yielded ++ ts) (sym {A = List (Turn _)} c.in-Some.ensures.steps.0) ∙ i.all in
     record {
-      ended = subst (λ (ws : List (Worker _)). AreEndedBy (c.loop-turn.yielded ++ c.in-Some.turn ∷ []) ws) (sym c.in-Ok.ensures.items) (zip-snoc EndsAs c.loop-turn.yielded c.loop-turn.played.items c.in-Some.turn c.end.result i.ended c.end.ensures);
+      ended = subst (λ (ws : List (Worker _)). AreEndedBy g.N.Asked.KIND (c.loop-turn.yielded ++ c.in-Some.turn ∷ []) ws) (sym c.in-Ok.ensures.items) (zip-snoc (EndsAs g.N.Asked.KIND) c.loop-turn.yielded c.loop-turn.played.items c.in-Some.turn c.end.result i.ended c.end.ensures);
       all = append_assoc c.loop-turn.yielded (c.in-Some.turn ∷ []) (into_iter_items c.next.new.self) ∙ all;
     }
 
@@ -20,4 +20,4 @@ pub returns-clause-ended : goal.returns-clause-ended
 returns-clause-ended g c =
     let i = c.loop-turn.invariant in
     let whole = none_left c.loop-turn.yielded (into_iter_items c.loop-turn.turn-iterator) c.args.turns.items (sym c.loop-turn.turn-iterator.rest.ok.0 ∙ c.in-None.ensures.steps.0) i.all in
-    subst (λ (ts : List (Turn _)). AreEndedBy ts c.loop-turn.played.items) whole i.ended
+    subst (λ (ts : List (Turn _)). AreEndedBy g.N.Asked.KIND ts c.loop-turn.played.items) whole i.ended

@@ -6,6 +6,6 @@ use Rattle.vbr_player.proofs.phase.play_apart.Given as goal
 -- the workers so far have their turns
 abbrev pub invariant-loop-worker : goal.invariant-loop-worker
 invariant-loop-worker g l = record {
-  turns : AreFor l.part.budget l.part.lines.now l.turns.items l.yielded;
+  turns : AreFor g.N.Asked.KIND l.part.budget l.part.lines.now l.turns.items l.yielded;
   all : l.yielded ++ into_iter_items l.worker-iterator ≡ l.fn.workers.items;
 }

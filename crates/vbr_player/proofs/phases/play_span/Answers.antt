@@ -26,7 +26,7 @@ loop-number-preserved g c =
     let inside : c.loop-number.first + c.count_up_to.result ≤ length lines = let low = i.inside in omega (arith, length-drop c.loop-number.first lines) in
     record {
       inside = inside;
-      stand = stand_behind c.args.set.now c.args.span.part.budget lines c.loop-number.first c.count_up_to.result c.args.span.from c.loop-number.number _ c.loop-number.workers.items c.in_ok-workers-2.workers.items cut i.stand (subst (λ (k : ℕ × List Line). PlayedAndMet k.0 k.1 c.loop-number.workers.items c.in_ok-workers-2.workers.items) (λ i. (c.slice.ensures.budget i, c.slice.ensures.lines i)) c.in_ok-workers-2.ensures.met);
+      stand = stand_behind c.args.set.now c.args.span.part.budget lines c.loop-number.first c.count_up_to.result c.args.span.from c.loop-number.number _ c.loop-number.workers.items c.in_ok-workers-2.workers.items cut i.stand (subst (λ (k : ℕ × List Line). PlayedAndMet g.N.Asked.KIND k.0 k.1 c.loop-number.workers.items c.in_ok-workers-2.workers.items) (λ i. (c.slice.ensures.budget i, c.slice.ensures.lines i)) c.in_ok-workers-2.ensures.met);
       early = cut.early;
       later = cut.later;
     }

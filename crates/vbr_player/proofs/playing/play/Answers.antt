@@ -1,16 +1,17 @@
 -- A write fault: what was written is a beginning of what the text that was read prints.
 use Rattle.std.proofs.Common.{rules, subst}
 use Rattle.vbr_transcript.specs.Writing.{AppendsSome}
+use Rattle.vbr_script.specs.declared.script.Kind.TheVariants.{Set}
 use Rattle.vbr_player.specs.Playing.{Prints}
 use Rattle.vbr_player.proofs.playing.play.Goals as goal
 
 pub returns : goal.returns
 returns g c =
-    let prints : Prints c.args.config c.in_ok-text.text.items c.totals_of-totals.result c.in_ok-output.output.items = (c.in_ok-replies.replies.items, search rules, search rules, search rules) in (
+    let prints : Prints Set c.args.config c.in_ok-text.text.items c.totals_of-totals.result c.in_ok-output.output.items = (c.in_ok-ended.ended.0.items, search rules, search rules, search rules) in (
       c.in_ok-text.text.items,
       c.in_ok-text.ensures.input,
       c.totals_of-totals.result,
       c.in_ok-output.output.items,
       prints,
-      subst (AppendsSome (g.W.Write.contents c.args.writer.now) (g.W.Write.contents c.write_whole.new.writer)) c.deref-6.ensures.value c.in-Err.ensures.fault,
+      subst (AppendsSome (g.W.Write.contents c.args.writer.now) (g.W.Write.contents c.write_whole.new.writer)) c.deref-5.ensures.value c.in-Err.ensures.fault,
     )

@@ -1,7 +1,7 @@
 use Rattle.std.proofs.Common.{sym, subst}
 use Rattle.vbr_machine.specs.declared.history.Op.{Op}
 use Rattle.vbr_set.specs.Members.{Called}
-use Rattle.vbr_player.proofs.asking.ask.Goals as goal
+use Rattle.vbr_player.proofs.asking.set.ask.Goals as goal
 
 pub returns-in-Insert : goal.returns-in-Insert
 returns-in-Insert c = subst (λ (op : Op). Called op c.args.caller.now c.insert.new.self c.args.line.now.key c.args.budget c.insert.result) (sym c.in-Insert.is) c.insert.ensures

@@ -1,0 +1,75 @@
+-- How a set and a map end, in the words for either kind.
+use Rattle.std.proofs.Common.{◌≡◌, ℕ, true, List, ◌∙◌}
+use Rattle.vbr_words.specs.Dimensions.{Dimensions}
+use Rattle.vbr_machine.specs.Maps.{entries_in, keys_listed, opening_entries, values_listed}
+use Rattle.vbr_machine.specs.Runs.{world_after}
+use Rattle.vbr_slots.specs.Views.{PassView, TableView}
+use Rattle.vbr_set.specs.Closing.{Closes}
+use Rattle.vbr_set.specs.MapClosing.{MapCloses}
+use Rattle.vbr_set.specs.MapRenewing.{MapRenews}
+use Rattle.vbr_set.specs.Renewing.{Renews}
+use Rattle.vbr_set.specs.declared.map.report.MapReport.{MapReport}
+use Rattle.vbr_set.specs.declared.report.Report.{Report}
+use Rattle.vbr_script.specs.declared.script.Kind.TheVariants.{Set, Map}
+use Rattle.vbr_transcript.specs.Contents.{opening_contents, opened_with, contents_after}
+use Rattle.vbr_transcript.proofs.Lemmas.{set_opens}
+use Rattle.vbr_player.specs.Closing.{ClosesAs, RenewsAs}
+
+-- ---- a set
+
+pub set_closes : (set : TableView) (passes : List PassView) (report : Report) → Closes set passes report → ClosesAs Set set passes report.keys.items report.epoch
+set_closes set passes report closes = record {
+  run = closes.run;
+  is_run = closes.is_run;
+  begins = closes.begins;
+  safe = closes.safe;
+  legal = closes.legal;
+  contents = closes.reports.keys;
+  last = closes.reports.epoch;
+}
+
+pub set_renews : (set : TableView) (passes : List PassView) (next : TableView) → Renews set passes next → RenewsAs Set set passes next
+unfolding set_closes
+set_renews set passes next renews = record {
+  listed = renews.report.keys.items;
+  epoch = renews.report.epoch;
+  closes = set_closes set passes renews.report renews.closes;
+  shape = renews.shape;
+  opens = set_opens set.shape renews.report.keys.items _ renews.closes.reports.keys;
+  count = renews.count;
+}
+
+-- ---- a map
+
+pub map_closes : (map : TableView) (passes : List PassView) (report : MapReport) → MapCloses map passes report → ClosesAs Map map passes report.entries.items report.epoch
+map_closes map passes report closes = record {
+  run = closes.run;
+  is_run = closes.is_run;
+  begins = closes.begins;
+  safe = closes.safe;
+  legal = closes.legal;
+  contents = (closes.reports.entries.ascending, closes.reports.entries.same);
+  last = closes.reports.epoch;
+}
+
+-- what opens with entries has each key with its value
+abbrev OpensAsListed : Type 0
+OpensAsListed = (shape : Dimensions) (entries : List (ℕ × ℕ)) (key : ℕ) → opening_entries (record shape { values = true; keys = keys_listed entries; payloads = values_listed entries }) key ≡ entries_in entries key
+
+pub map_renews : (map : TableView) (passes : List PassView) (next : TableView) → OpensAsListed → map.shape.values ≡ true → MapRenews map passes next → RenewsAs Map map passes next
+unfolding map_closes
+map_renews map passes next opens_as values renews =
+    let shape = map.shape in
+    let listed = renews.report.entries.items in
+    let valued : opening_contents Map (opened_with Map shape listed) ≡ opening_entries (record shape { values = true; keys = keys_listed listed; payloads = values_listed listed }) =
+    λ i. opening_entries (record shape { values = values i; keys = keys_listed listed; payloads = values_listed listed }) in
+    let left = contents_after Map (opening_contents Map shape) (world_after shape renews.closes.run).calls in
+    let each : (key : ℕ) → opening_contents Map (opened_with Map shape listed) key ≡ left key = λ key. (λ i. valued i key) ∙ opens_as shape listed key ∙ renews.closes.reports.entries.same key in
+    record {
+      listed = listed;
+      epoch = renews.report.epoch;
+      closes = map_closes map passes renews.report renews.closes;
+      shape = renews.shape;
+      opens = λ i key. each key i;
+      count = renews.count;
+    }
