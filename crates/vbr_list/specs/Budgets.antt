@@ -22,9 +22,13 @@ enough_to_look_up p key = 5 * listed_for p key + 11
 abbrev pub enough_to_search : Trace → ℕ → ℕ
 enough_to_search p key = 9 * listed_for p key + 11
 
--- for an insert: twice nine for each, those of taking a slot, and fourteen
+-- for an insert past so many nodes: twice nine for each, those of taking a slot, and fourteen
+abbrev pub enough_past : ℕ → ℕ → ℕ
+enough_past nodes taking = 18 * nodes + taking + 14
+
+-- for an insert among those of the key's bucket
 abbrev pub enough_to_insert : PassView → ℕ → ℕ
-enough_to_insert p key = 18 * listed_for p.trace key + most_to_take p.trace.shape p.pool + 14
+enough_to_insert p key = enough_past (listed_for p.trace key) (most_to_take p.trace.shape p.pool)
 
 -- for an insert of a pass that has slots in its own pool
 abbrev pub enough_with_a_slot : Trace → ℕ → ℕ

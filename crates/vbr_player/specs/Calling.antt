@@ -11,7 +11,7 @@ use Rattle.vbr_list.specs.declared.refusal.Refusal.TheVariants.{OutOfSteps, NoSl
 use Rattle.vbr_set.specs.MapCalls.{GetsEntry, InsertsEntry, RemovesEntry}
 use Rattle.vbr_set.specs.Meetings.{HasMet}
 use Rattle.vbr_set.specs.Members.{Called, MemberView, as_member}
-use Rattle.vbr_set.specs.Names.{most_to_take}
+use Rattle.vbr_set.specs.Names.{enough_past, most_to_take}
 use Rattle.vbr_script.specs.declared.script.Kind.{Kind}
 use Rattle.vbr_script.specs.declared.script.Kind.TheVariants.{Set, Map}
 use Rattle.vbr_transcript.specs.Calls.{Outcome, outcomes_by}
@@ -66,7 +66,7 @@ pub record PlaysOwn (kind : Kind) (set : TableView) (budget : ℕ) (outcomes : L
 
 -- a budget that suffices each call of a lone worker, even where each slot has a node of the key's bucket
 abbrev pub ample : Dimensions → ℕ
-ample shape = 18 * shape.slots + most_to_take shape [] + 14
+ample shape = enough_past shape.slots (most_to_take shape [])
 
 -- workers played outcomes on a set or a map, in so many phases: each played its own, and made no more steps than the budget for each of them, and one for each phase and other worker; and none was refused to a lone worker for want of steps, where the budget is ample
 pub record ArePlayed (kind : Kind) (workers budget : ℕ) (shape : Dimensions) (phases : ℕ) (outcomes : List Outcome) (run : List Event) : Type 0 where

@@ -24,7 +24,7 @@ pub use Rattle.vbr_pools.specs.Refusals.{LeavesRoom}
 pub use Rattle.vbr_pools.specs.Steps.{TookWithin}
 pub use Rattle.vbr_access.specs.Soundness.{HasSafeRun}
 pub use Rattle.vbr_list.specs.Alone.{AnswersAlone}
-pub use Rattle.vbr_list.specs.Budgets.{IsAnsweredOrSpent, LacksSteps, enough_to_insert, enough_to_look_up, enough_to_search, enough_to_unlink, enough_with_a_slot, find_costs, insert_costs, listed_for, look_up_costs, remove_costs}
+pub use Rattle.vbr_list.specs.Budgets.{IsAnsweredOrSpent, LacksSteps, enough_past, enough_to_insert, enough_to_look_up, enough_to_search, enough_to_unlink, enough_with_a_slot, find_costs, insert_costs, listed_for, look_up_costs, remove_costs}
 pub use Rattle.vbr_list.specs.Leaving.{Leaves}
 pub use Rattle.vbr_list.specs.Refusals.{IsRefusedInsert, IsTired}
 pub use Rattle.vbr_list.specs.declared.refusal.Refusal.{Refusal}
