@@ -3,9 +3,10 @@
 //     scripts PROGRAM INPUTS [SEED [FILE]]   tries so many random inputs; FILE gets at most 100 that show all that was seen
 //     scripts PROGRAM --replay FILE          tries the inputs of a file, one a line
 //
-// An input is what standard input and output are, the words of the command line, and a script. The script is read here
-// once more, so that the first faulty line, the number of replies and the totals are known; with one worker so is each
-// reply.
+// An input is what standard input and output are, the words of the command line, and a script, of a set or with --map of a
+// map. The script is read here once more, so that the first faulty line, the number of replies and the totals are known;
+// with one worker so is each reply, by a plain map. Of several workers each value that was given was stored with its key by
+// an insert that was answered yes, and the entries in the end are what inserts and removes leave.
 #include "fuzz.hpp"
 #include "vbr.h"
 
@@ -111,7 +112,7 @@ private:
 struct Settings {
     std::map<std::string, uint64_t> numbers{
         {"workers", 1}, {"slots", 1024}, {"buckets", 16}, {"last-epoch", VBR_MAX_EPOCH}, {"budget", 100000}};
-    bool epoch = false;
+    bool epoch = false, map = false;
     // 'v': these settings; 'f': a fault in the options; 'o': any of the program's answers, as for help and odd words
     char kind = 'v';
 
@@ -144,8 +145,8 @@ static Settings settings_of(const Words &words) {
     for (size_t i = 0; i < words.size(); i++) {
         std::string name = words[i].substr(0, words[i].find('='));
         bool joined = name.size() < words[i].size();
-        if (name == "--epoch" && !joined && given.insert(name).second) {
-            settings.epoch = true;
+        if ((name == "--epoch" || name == "--map") && !joined && given.insert(name).second) {
+            (name == "--map" ? settings.map : settings.epoch) = true;
             continue;
         }
         if (name.compare(0, 2, "--") || !settings.numbers.count(name.substr(2)) || !given.insert(name).second ||
@@ -166,16 +167,21 @@ static Settings settings_of(const Words &words) {
 struct Line {
     uint64_t worker;
     std::string operation;
-    uint64_t key;
+    uint64_t key, value;
 };
 
 struct Script {
     std::vector<Line> lines;
-    int fault = 0;  // 1 words, 2 worker, 3 operation, 4 key
+    int fault = 0;  // 1 words, 2 worker, 3 operation, 4 key, 6 value
     uint64_t fault_line = 0, inserts = 0;
 };
 
-static Script script_of(const std::string &text, uint64_t workers) {
+// Whether a script of a map, or of a set, has an operation of this name, in a line with a value or without.
+static bool is_operation(const std::string &name, bool map, bool has_value) {
+    return name == "insert" || (!has_value && (name == "remove" || name == "has" || (map && name == "get")));
+}
+
+static Script script_of(const std::string &text, const Settings &settings) {
     Script script;
     size_t at = 0;
     for (uint64_t number = 1;; number++) {
@@ -189,12 +195,15 @@ static Script script_of(const std::string &text, uint64_t workers) {
             else if (!word.empty()) words.push_back(word), word.clear();
         }
         auto faulty = [&](int fault) { return script.fault = fault, script.fault_line = number, script; };
-        if (words.size() == 3) {
+        bool has_value = settings.map && words.size() == 4;
+        if (words.size() == 3 || has_value) {
             std::optional<uint64_t> worker = number_of(words[0]), key = number_of(words[2]);
-            if (!worker || *worker >= workers) return faulty(2);
-            if (words[1] != "insert" && words[1] != "remove" && words[1] != "has") return faulty(3);
+            std::optional<uint64_t> value = number_of(has_value ? words[3] : "0");
+            if (!worker || *worker >= settings["workers"]) return faulty(2);
+            if (!is_operation(words[1], settings.map, has_value)) return faulty(3);
             if (!key) return faulty(4);
-            script.lines.push_back({*worker, words[1], *key});
+            if (!value) return faulty(6);
+            script.lines.push_back({*worker, words[1], *key, *value});
             script.inserts += words[1] == "insert";
         } else if (!words.empty() && !(words.size() == 1 && (words[0] == "sync" || words[0] == "renew"))) {
             return faulty(1);
@@ -232,17 +241,76 @@ struct Totals {
     uint64_t inserted = 0, removed = 0, found = 0, refused = 0;
 };
 
+// A reply to a line, and the value that stands behind its yes; 0 in a set.
+struct Reply {
+    std::string word;
+    uint64_t value = 0;
+    bool is_yes() const { return word == "yes"; }
+};
+
+static Reply reply_of(const Settings &settings, const Line &line, const std::string &text) {
+    bool gives_value = settings.map && (line.operation == "remove" || line.operation == "get");
+    if (!gives_value || !starts(text, "yes")) return {text};
+    std::optional<uint64_t> value = number_of(text.substr(std::min<size_t>(text.size(), 4)));
+    if (!value || text != "yes " + std::to_string(*value)) fail("a yes without the value");
+    return {"yes", *value};
+}
+
+using Entry = std::pair<uint64_t, uint64_t>;
+
+// What the replies so far tell: of each entry how often it was inserted more than removed, which entries inserts have stored
+// and look-ups have given, and what is there where one worker is alone.
+struct Told {
+    std::map<Entry, int64_t> balance;
+    std::set<Entry> stored, given;
+    std::map<uint64_t, uint64_t> plain;
+
+    void take(const Line &line, const Reply &reply) {
+        if (!reply.is_yes()) return;
+        if (line.operation == "insert") {
+            balance[{line.key, line.value}]++;
+            stored.insert({line.key, line.value});
+            plain[line.key] = line.value;
+        } else if (line.operation == "remove") {
+            balance[{line.key, reply.value}]--;
+            plain.erase(line.key);
+        } else if (line.operation == "get") {
+            given.insert({line.key, reply.value});
+        }
+    }
+
+    // The entries that are left, ascending by key.
+    std::vector<Entry> left() const {
+        std::vector<Entry> left;
+        for (auto [entry, sum] : balance) {
+            if (sum != 0 && sum != 1) fail("the replies do not balance");
+            if (sum && !left.empty() && left.back().first == entry.first) fail("a key is left with two values");
+            if (sum) left.push_back(entry);
+        }
+        for (const Entry &entry : given)
+            if (!stored.count(entry)) fail("a value that was not stored with its key");
+        return left;
+    }
+};
+
+// Whether a plain map, or a plain set, would give this answer.
+static bool is_plain(const Line &line, const Reply &reply, const std::map<uint64_t, uint64_t> &plain, bool gives_value) {
+    auto found = plain.find(line.key);
+    if (line.operation == "insert") return reply.is_yes() == (found == plain.end());
+    return reply.is_yes() == (found != plain.end()) && (!reply.is_yes() || !gives_value || reply.value == found->second);
+}
+
 // One reply to a line, where so many nodes at most are in a bucket.
-static void check_reply(const Settings &settings, const Script &script, const Line &line, const std::string &reply, bool there) {
+static void check_reply(const Settings &settings, const Script &script, const Line &line, const Reply &reply, const Told &told) {
     bool alone = settings["workers"] == 1;
-    if (reply == "yes" || reply == "no") {
-        if (alone && (reply == "yes") != (line.operation == "insert" ? !there : there)) fail("a wrong reply");
-    } else if (reply == "tired") {
+    if (reply.is_yes() || reply.word == "no") {
+        if (alone && !is_plain(line, reply, told.plain, settings.map && line.operation != "has")) fail("a wrong reply");
+    } else if (reply.word == "tired") {
         if (settings["budget"] >= (alone ? 18 * script.inserts + 82 + settings["slots"] / 64 : 90000)) fail("tired, with a large budget");
-    } else if (reply == "full") {
+    } else if (reply.word == "full") {
         if (line.operation != "insert") fail("full, and no insert");
         if (settings["slots"] >= script.inserts + 64 * settings["workers"]) fail("full, and there are slots");
-    } else if (reply == "spent") {
+    } else if (reply.word == "spent") {
         if (line.operation != "insert") fail("spent, and no insert");
         if (settings["last-epoch"] > script.inserts) fail("spent, and there are epochs");
     } else {
@@ -250,18 +318,14 @@ static void check_reply(const Settings &settings, const Script &script, const Li
     }
 }
 
-static void check_totals(const Settings &settings, const Totals &totals, const std::map<uint64_t, int64_t> &balance,
-                         const Words &lines, size_t at) {
+static void check_totals(const Settings &settings, const Totals &totals, const Told &told, const Words &lines, size_t at) {
     auto is = [&](const char *name, uint64_t number) {
         if (at >= lines.size() || lines[at++] != std::string(name) + ' ' + std::to_string(number)) fail("the totals");
     };
     is("inserted", totals.inserted), is("removed", totals.removed), is("found", totals.found), is("refused", totals.refused);
-    std::string keys = "keys";
-    for (auto [key, sum] : balance) {
-        if (sum != 0 && sum != 1) fail("the replies do not balance");
-        if (sum) keys += ' ' + std::to_string(key);
-    }
-    if (at >= lines.size() || lines[at++] != keys) fail("the keys");
+    std::string listed = settings.map ? "entries" : "keys";
+    for (auto [key, value] : told.left()) listed += ' ' + std::to_string(key) + (settings.map ? '=' + std::to_string(value) : "");
+    if (at >= lines.size() || lines[at++] != listed) fail("the keys, or the entries");
     if (settings.epoch) {
         if (at >= lines.size() || !starts(lines[at], "epoch ")) fail("the epoch");
         std::optional<uint64_t> epoch = number_of(lines[at++].substr(6));
@@ -276,19 +340,18 @@ static uint64_t check_played(const Settings &settings, const Script &script, con
     for (std::string line; std::getline(in, line);) lines.push_back(line);
     if (out.empty() || out.back() != '\n' || lines.size() < script.lines.size()) fail("fewer lines than operations");
     Totals totals;
-    std::map<uint64_t, int64_t> balance;
+    Told told;
     uint64_t kinds = 0;
     for (size_t i = 0; i < script.lines.size(); i++) {
         const Line &line = script.lines[i];
-        check_reply(settings, script, line, lines[i], balance[line.key] > 0);
-        bool yes = lines[i] == "yes";
-        totals.refused += !yes && lines[i] != "no";
-        if (yes && line.operation == "insert") totals.inserted++, balance[line.key]++;
-        if (yes && line.operation == "remove") totals.removed++, balance[line.key]--;
-        if (yes && line.operation == "has") totals.found++;
+        Reply reply = reply_of(settings, line, lines[i]);
+        check_reply(settings, script, line, reply, told);
+        told.take(line, reply);
+        totals.refused += !reply.is_yes() && reply.word != "no";
+        if (reply.is_yes()) (line.operation == "insert" ? totals.inserted : line.operation == "remove" ? totals.removed : totals.found)++;
         kinds |= uint64_t{1} << (line.operation[0] % 4 * 5 + lines[i][0] % 5);
     }
-    check_totals(settings, totals, balance, lines, script.lines.size());
+    check_totals(settings, totals, told, lines, script.lines.size());
     return kinds;
 }
 
@@ -301,7 +364,7 @@ static std::vector<uint64_t> play(Program &program, const Input &input) {
     bool full = input.devices == 'f' && status == 4 && answer.errors == "vbr_run: write fault\n";
     check_any(input, answer, status);
     Settings settings = settings_of(input.words);
-    Script script = script_of(input.script, settings["workers"]);
+    Script script = script_of(input.script, settings);
     uint64_t shown = 0;
     int shape = settings.shape_fault();
     auto expect = [&](int wanted, const std::string &line) {
@@ -321,10 +384,10 @@ static std::vector<uint64_t> play(Program &program, const Input &input) {
         if (status != 0 || input.devices == 'f') fail("a script that could be played wasn't");
         shown = check_played(settings, script, answer.out);
     }
-    uint64_t base = static_cast<uint64_t>(status) << 56 | static_cast<uint64_t>(settings.kind) << 48 | static_cast<uint64_t>(input.devices) << 40;
+    uint64_t map = settings.map, base = static_cast<uint64_t>(status) << 56 | static_cast<uint64_t>(settings.kind) << 48 | static_cast<uint64_t>(input.devices) << 40;
     uint64_t told = answer.errors.size() > 6 ? static_cast<unsigned char>(answer.errors[answer.errors.size() / 3]) : 0;
-    return {base, base | 1u << 20 | static_cast<uint64_t>(script.fault) << 8 | static_cast<uint64_t>(shape) << 4 | settings.epoch,
-            base | 2u << 20 | told, base ^ (3ull << 32) ^ (shown << 8), base | 4u << 20 | settings["workers"]};
+    return {base, base | 1u << 20 | static_cast<uint64_t>(script.fault) << 8 | static_cast<uint64_t>(shape) << 4 | map << 1 | settings.epoch,
+            base | 2u << 20 | told, base ^ (3ull << 32) ^ (shown << 8) ^ map, base | 4u << 20 | settings["workers"]};
 }
 
 // ---- inputs ------------------------------------------------------------------------------------------------------
@@ -338,7 +401,7 @@ static std::string number_word(fuzz::Random &random) {
 }
 
 static Words random_words(fuzz::Random &random) {
-    static const Words odd{"--help", "-h", "--version", "-V", "--", "-", "--worker", "--epoch=1", "--slots=", "x", "\xff\xfe", "--epoch"};
+    static const Words odd{"--help", "-h", "--version", "-V", "--", "-", "--worker", "--epoch=1", "--slots=", "x", "\xff\xfe", "--epoch", "--map", "--map=1"};
     static const char *const names[] = {"--workers", "--slots", "--buckets", "--last-epoch", "--budget"};
     Words words;
     for (const char *name : names) {
@@ -349,21 +412,31 @@ static Words random_words(fuzz::Random &random) {
         else words.push_back(name), words.push_back(value);
     }
     if (random.once_in(4)) words.push_back("--epoch");
+    if (random.once_in(2)) words.push_back("--map");
     if (random.once_in(12)) words.insert(words.begin() + static_cast<long>(random.below(words.size() + 1)), random.one_of(odd));
     return words;
 }
 
-static std::string random_script(fuzz::Random &random, uint64_t workers) {
-    static const Words operations{"insert", "insert", "remove", "has"};
+// A line that asks for an operation on one of so many keys. A get and a value are for maps, and now and then for sets.
+static std::string random_call(fuzz::Random &random, uint64_t workers, uint64_t keys, bool map) {
+    static const Words of_sets{"insert", "insert", "remove", "has"}, of_maps{"insert", "insert", "remove", "has", "get", "get"};
+    bool as_map = map != random.once_in(300);
+    const std::string &operation = random.one_of(as_map ? of_maps : of_sets);
+    std::string line = std::to_string(random.below(workers)) + (random.once_in(10) ? "\t " : " ") + operation + ' ' +
+                       (random.once_in(60) ? number_word(random) : std::to_string(random.below(keys)));
+    bool has_value = as_map && (operation == "insert" ? !random.once_in(4) : random.once_in(200));
+    return has_value ? line + ' ' + (random.once_in(60) ? number_word(random) : std::to_string(random.below(50))) : line;
+}
+
+static std::string random_script(fuzz::Random &random, uint64_t workers, bool map) {
     static const Words faults{"insert 5", "0 put 5", "sync now", "0 has x", "99 has 5", "1 2 3 4", "Sync", "0 insert -5", "has 0 5"};
+    static const Words faults_of_maps{"0 get", "0 get 5 6", "0 insert 5 x", "0 insert 5 6 7", "0 insert 5 18446744073709551616", "0 remove x y"};
     std::string script;
     uint64_t keys = 1 + random.below(12), lines = random.below(random.once_in(20) ? 200 : 30);
     for (uint64_t i = 0; i < lines; i++) {
         if (random.once_in(10)) script += random.once_in(4) ? "renew" : "sync";
-        else if (random.once_in(200)) script += random.one_of(faults);
-        else if (!random.once_in(25))
-            script += std::to_string(random.below(workers)) + (random.once_in(10) ? "\t " : " ") + random.one_of(operations) + ' ' +
-                      (random.once_in(60) ? number_word(random) : std::to_string(random.below(keys)));
+        else if (random.once_in(200)) script += random.one_of(map && random.once_in(2) ? faults_of_maps : faults);
+        else if (!random.once_in(25)) script += random_call(random, workers, keys, map);
         script += random.once_in(20) ? "\r\n" : "\n";
     }
     if (random.once_in(8) && !script.empty()) script.pop_back();
@@ -390,7 +463,7 @@ static Input next_input(fuzz::Random &random, const std::vector<Input> &kept) {
     if (kept.empty() || random.once_in(2)) {
         input.words = random_words(random);
         Settings settings = settings_of(input.words);
-        input.script = random_script(random, settings.kind == 'v' ? settings["workers"] : 2);
+        input.script = random_script(random, settings.kind == 'v' ? settings["workers"] : 2, settings.map);
     } else {
         input = random.one_of(kept);
         if (random.once_in(3)) input.words = random_words(random);

@@ -1,6 +1,6 @@
 //! The program `vbr_example`: three ways to use the set. Workers in threads of their own share one and
 //! claim pages by it; one worker tells another of a page that it claimed; and workers play a script
-//! that stands in a file.
+//! that stands in a file, and then one of a map.
 #![tactic(auto)]
 
 mod claiming;
@@ -8,7 +8,7 @@ mod telling;
 mod worker;
 
 use std::fs::File;
-use vbr_run::{Config, NoGate, play};
+use vbr_run::{Config, NoGate, play, play_map};
 use vbr_set::{MAX_EPOCH, Shape};
 
 fn main(rt: HostRuntime) -> anyhow::Result<()> {
@@ -25,5 +25,8 @@ fn main(rt: HostRuntime) -> anyhow::Result<()> {
     let mut script = File::open(&rt, "phases.script")?;
     let mut output = rt.stdout();
     play(&rt, rt.alloc(), config, &mut script, &mut output, &NoGate)?;
+
+    let mut script = File::open(&rt, "map.script")?;
+    play_map(&rt, rt.alloc(), config, &mut script, &mut output, &NoGate)?;
     Ok(())
 }

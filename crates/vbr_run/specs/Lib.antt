@@ -5,6 +5,8 @@ pub use Rattle.vbr_script.specs.Scripts
 pub use Rattle.vbr_transcript.specs.Reading
 pub use Rattle.vbr_transcript.specs.Errors
 pub use Rattle.vbr_transcript.specs.Calls
+pub use Rattle.vbr_transcript.specs.Contents
+pub use Rattle.vbr_transcript.specs.Totals
 pub use Rattle.vbr_transcript.specs.Runs
 pub use Rattle.vbr_transcript.specs.Merging
 pub use Rattle.vbr_transcript.specs.Phases

@@ -13,13 +13,14 @@ use Rattle.clap.specs.declared.error.kind.ErrorKind.TheVariants as asked
 use Rattle.vbr_words.specs.declared.shape.ShapeError.{ShapeError}
 use Rattle.vbr_words.specs.declared.shape.ShapeError.TheVariants as shape
 use Rattle.vbr_script.specs.Grammar.{fault_number}
-use Rattle.vbr_script.specs.declared.script.Kind.TheVariants.{Set}
-use Rattle.vbr_settings.specs.Options.{AreOptions, faults, settings_of, file_of, explained_of, shape_fault}
+use Rattle.vbr_script.specs.declared.script.Kind.{Kind}
+use Rattle.vbr_script.specs.declared.script.Kind.TheVariants.{Set, Map}
+use Rattle.vbr_settings.specs.Options.{AreOptions, faults, settings_of, asks_map, file_of, explained_of, shape_fault}
 use Rattle.vbr_settings.specs.Settings.{Settings}
 use Rattle.vbr_transcript.specs.Layout.{line}
+use Rattle.vbr_transcript.specs.Totals.{TotalsOf}
 use Rattle.vbr_transcript.specs.Writing.{AppendsSome}
 use Rattle.vbr_player.specs.Playing.{Plays}
-use Rattle.vbr_transcript.specs.declared.totals.Totals.{Totals}
 use Rattle.vbr_transcript.specs.declared.error.RunError.{RunError}
 use Rattle.vbr_transcript.specs.declared.error.RunError.TheVariants as error
 use Rattle.vbr_run.specs.declared.program.TheConstants.{DONE, USAGE, SCRIPT_FAULT, DEVICE_FAULT, NO_RESOURCES}
@@ -66,7 +67,7 @@ fault_line (Some name) error.Read = file_line (codes "can't be read") name
 fault_line file e = error_line e
 
 -- The status and the standard error tell the player's answer: nothing is told of a run that was done, and else as much of the error's line as could be written.
-abbrev pub TellsRun : Option Text → Result Totals RunError → Option (List ℕ) → Option (List ℕ) → ℕ → Type 0
+abbrev pub TellsRun : {T : Type 0} → Option Text → Result T RunError → Option (List ℕ) → Option (List ℕ) → ℕ → Type 0
 TellsRun file (Ok totals) old new status = (status ≡ DONE) × Keeps old new
 TellsRun file (Err e) old new status = (status ≡ error_status e) × AppendsSome old new (fault_line file e)
 
@@ -78,9 +79,14 @@ pub record ProgramRun : Type 0 where
   pub errors : Option (List ℕ)
   pub status : ℕ
 
--- a script that was left to read, in a file if one is named, was played with these settings, and that is told
-abbrev pub IsPlayed : Settings → Option Text → Option (List ℕ) → ProgramRun → Type 0
-IsPlayed settings file input run = (answer : Result Totals RunError) × Plays Set settings input run.output_before run.output answer × TellsRun file answer run.errors_before run.errors run.status
+-- the kind of script that is played, by whether a map is asked for
+abbrev pub kind_asked : Bool → Kind
+kind_asked true = Map
+kind_asked _ = Set
+
+-- a script of this kind that was left to read, in a file if one is named, was played with these settings, and that is told
+abbrev pub IsPlayed : Kind → Settings → Option Text → Option (List ℕ) → ProgramRun → Type 0
+IsPlayed kind settings file input run = (answer : Result (TotalsOf kind) RunError) × Plays kind settings input run.output_before run.output answer × TellsRun file answer run.errors_before run.errors run.status
 
 -- a file couldn't be opened: nothing is written to standard output, and that is told
 abbrev pub IsUnopened : IoErrorKind → Text → ProgramRun → Type 0
@@ -100,9 +106,9 @@ abbrev pub Gives : {F : Type 0} → (F → Option (List ℕ)) → (Text → Resu
 Gives {F} remaining opens name given = (opened : Result F Error) × opens name opened × (given ≡ opened_as remaining opened)
 
 -- a file that was opened is played, and else that is told
-abbrev pub IsFilePlayed : Settings → Text → Result (Option (List ℕ)) IoErrorKind → ProgramRun → Type 0
-IsFilePlayed settings name (Ok left) run = IsPlayed settings (Some name) left run
-IsFilePlayed settings name (Err kind) run = IsUnopened kind name run
+abbrev pub IsFilePlayed : Kind → Settings → Text → Result (Option (List ℕ)) IoErrorKind → ProgramRun → Type 0
+IsFilePlayed kind settings name (Ok left) run = IsPlayed kind settings (Some name) left run
+IsFilePlayed kind settings name (Err error) run = IsUnopened error name run
 
 -- there is no such shape: nothing is written to standard output, and that is told
 abbrev pub IsUnshaped : ShapeError → ProgramRun → Type 0
@@ -134,7 +140,7 @@ Tells other run = IsFault run
 abbrev pub explained_names : List Text
 explained_names =
     codes "shape-1" ∷ codes "shape-2" ∷ codes "shape-3"
-    ∷ codes "script-1" ∷ codes "script-2" ∷ codes "script-3" ∷ codes "script-4" ∷ codes "script-5"
+    ∷ codes "script-1" ∷ codes "script-2" ∷ codes "script-3" ∷ codes "script-4" ∷ codes "script-5" ∷ codes "script-6"
     ∷ codes "read" ∷ codes "file" ∷ codes "write" ∷ codes "memory" ∷ codes "worker"
     ∷ codes "tired" ∷ codes "full" ∷ codes "spent"
     ∷ []
@@ -148,16 +154,16 @@ abbrev pub Explains : Bool → ProgramRun → Type 0
 Explains true run = IsShown run ⊎ IsCutShort run
 Explains _ run = IsFault run
 
--- what a command line without a fault asks for, by the name of what it wants explained, what is wrong with its shape, and the file that it names, is done: something is explained, or it is told that there is no such shape, or the script on standard input or in the file is played
-abbrev pub IsDone : Option Text → Option ShapeError → Option Text → Settings → Option (List ℕ) → Opening → ProgramRun → Type 0
-IsDone (Some name) shape file settings input opens run = Explains (is_explained name) run
-IsDone None (Some error) file settings input opens run = IsUnshaped error run
-IsDone None None None settings input opens run = IsPlayed settings None input run
-IsDone None None (Some name) settings input opens run = (given : Result (Option (List ℕ)) IoErrorKind) × opens name given × IsFilePlayed settings name given run
+-- what a command line without a fault asks for, by the name of what it wants explained, what is wrong with its shape, the file that it names, and the kind of its script, is done: something is explained, or it is told that there is no such shape, or the script on standard input or in the file is played
+abbrev pub IsDone : Option Text → Option ShapeError → Option Text → Kind → Settings → Option (List ℕ) → Opening → ProgramRun → Type 0
+IsDone (Some name) shape file kind settings input opens run = Explains (is_explained name) run
+IsDone None (Some error) file kind settings input opens run = IsUnshaped error run
+IsDone None None None kind settings input opens run = IsPlayed kind settings None input run
+IsDone None None (Some name) kind settings input opens run = (given : Result (Option (List ℕ)) IoErrorKind) × opens name given × IsFilePlayed kind settings name given run
 
 -- what a command line asks for is done
 abbrev pub DoesAsked : List Text → Option (List ℕ) → Opening → ProgramRun → Type 0
-DoesAsked arguments input opens run = IsDone (explained_of arguments) (shape_fault (settings_of arguments)) (file_of arguments) (settings_of arguments) input opens run
+DoesAsked arguments input opens run = IsDone (explained_of arguments) (shape_fault (settings_of arguments)) (file_of arguments) (kind_asked (asks_map arguments)) (settings_of arguments) input opens run
 
 -- one of the faults of a command line is told
 abbrev pub TellsFault : List (List ℕ) → ProgramRun → Type 0

@@ -16,6 +16,7 @@ pub fn explanation(name: &str) -> Option<&'static str>
         "script-3" => Some(SCRIPT_3),
         "script-4" => Some(SCRIPT_4),
         "script-5" => Some(SCRIPT_5),
+        "script-6" => Some(SCRIPT_6),
         "read" => Some(READ),
         "file" => Some(FILE),
         "write" => Some(WRITE),
@@ -53,8 +54,8 @@ const SCRIPT_1: &str = "\
 vbr_run: script fault 1 at line M
 
 Line M has neither three words nor the one word sync or renew. A line is a worker, an
-operation and a key, as in: 0 insert 5. There are no comments; lines without words are
-skipped.
+operation and a key, as in: 0 insert 5. With --map an insert may have a value behind
+its key, as in: 0 insert 5 70. There are no comments; lines without words are skipped.
 ";
 
 const SCRIPT_2: &str = "\
@@ -67,7 +68,8 @@ from 0, so three need --workers 3 and are 0, 1 and 2; without the option there i
 const SCRIPT_3: &str = "\
 vbr_run: script fault 3 at line M
 
-The second word of line M is none of insert, remove and has, in small letters.
+The second word of line M is none of insert, remove and has, in small letters. With
+--map it may be get too, and of these insert alone may have a value behind its key.
 ";
 
 const SCRIPT_4: &str = "\
@@ -83,6 +85,13 @@ vbr_run: script fault 5 at line M
 Line M is one operation above 1000000, or one line above 10000 that ends a phase.
 Divide the script, and play its parts one after the other: the later ones begin with
 inserts of the keys that the part before has printed.
+";
+
+const SCRIPT_6: &str = "\
+vbr_run: script fault 6 at line M
+
+The fourth word of line M is no number from 0 to 18446744073709551615. A value is
+written in decimal digits alone, with no sign; where none is written, it is 0.
 ";
 
 const READ: &str = "\
@@ -118,7 +127,7 @@ vbr_run: no memory
 
 Memory was refused for the options, the script, the set, the replies or the output; or,
 at a line renew, for the report and the fresh set. Fewer --slots and --buckets help: a
-set takes 8 x (2 + buckets + 4 x slots + slots / 64) bytes.
+set takes 8 x (2 + buckets + 4 x slots + slots / 64) bytes, and a map 8 x slots more.
 ";
 
 const WORKER: &str = "\

@@ -1,11 +1,12 @@
-//! The player of scripts under one name: it reads a script of calls of a set, plays it on worker
-//! threads, and prints replies and totals. The set is `vbr_set`: Michael's list-based set (Michael
-//! 2002) over slots that are used again by Version Based Reclamation (Sheffi, Herlihy and Petrank
-//! 2021).
+//! The player of scripts under one name: it reads a script of calls of a set or of a map, plays it on
+//! worker threads, and prints replies and totals. Set and map are those of `vbr_set`: Michael's
+//! list-based set (Michael 2002) over slots that are used again by Version Based Reclamation (Sheffi,
+//! Herlihy and Petrank 2021).
 //!
 //! [`parse_script`] reads a script, [`play`] plays one over any reader and writer, and [`run`] is the
 //! body of the program, with its options, its exit statuses and its lines on standard error; tests from
-//! outside call it with arguments and streams of their own. What the others do stands in the crates
+//! outside call it with arguments and streams of their own. [`parse_map_script`] and [`play_map`] do
+//! with a map what the first two do with a set. What the others do stands in the crates
 //! that are named here; a user needs this one alone.
 //!
 //! ```rattle file=crates/vbr_example/src/main.rt

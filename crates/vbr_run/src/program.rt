@@ -2,10 +2,10 @@
 ghost use Rattle.std.specs.Prelude.{◌≡◌, ◌≢◌, ◌⊎◌, map, option_map, Some};
 ghost use Rattle.std.specs.Fn.{FnReturnsAt};
 ghost use Rattle.clap.specs.Words.{kind_of};
-ghost use Rattle.vbr_settings.specs.Options.{AreComplete, settings_among, shape_fault, file_among, explained_among};
+ghost use Rattle.vbr_settings.specs.Options.{AreComplete, settings_among, asks_map_among, shape_fault, file_among, explained_among};
 ghost use Rattle.vbr_settings.specs.Given.{rows_in};
 ghost use Rattle.vbr_run.specs.declared.program.TheConstants.{USAGE};
-ghost use Rattle.vbr_run.specs.Program.{AnswersCommand, Explains, Gives, IsCutShort, IsDone, IsPlayed, IsShown, ReadsNoInput, ShowsError, is_explained};
+ghost use Rattle.vbr_run.specs.Program.{AnswersCommand, Explains, Gives, IsCutShort, IsDone, IsPlayed, IsShown, ReadsNoInput, ShowsError, TellsRun, is_explained, kind_asked};
 
 use crate::explanations::explanation;
 use crate::report::{report, report_shape, report_unopened};
@@ -16,7 +16,8 @@ use std::io;
 use std::io::{Read, Write};
 use std::sync::Wait;
 use std::thread::Threads;
-use vbr_player::{Gate, play};
+use vbr_player::{Gate, play, play_map};
+use vbr_script::Kind;
 pub use vbr_settings::knows_its_options;
 use vbr_settings::{Config, Options, read_options};
 use vbr_transcript::{RunError, WriteFault, write_pieces, write_whole};
@@ -41,8 +42,8 @@ const UNKNOWN: &[u8] = b"'; --help has the names\n";
 
 /// The program's body: reads the options from the arguments, of which the first is the program's name,
 /// does what they ask for, and answers the exit status. They ask that the script is played that the
-/// reader gives, or the one in the file that they name, which `files` opens; or that a fault or a
-/// refusal is explained, for which nothing is read.
+/// reader gives, or the one in the file that they name, which `files` opens, on a set, or with `--map`
+/// on a map; or that a fault or a refusal is explained, for which nothing is read.
 ///
 /// A fault is told in one line on `errors`; an error of `errors` itself is ignored. A fault in the
 /// options comes before a shape that is none, and both before anything is opened or read; for a fault
@@ -117,6 +118,7 @@ fn do_asked<
     requires complete { AreComplete (rows_in options.now) }
     ensures done { IsDone (explained_among (rows_in options.now))
         (shape_fault (settings_among (rows_in options.now))) (file_among (rows_in options.now))
+        (kind_asked (asks_map_among (rows_in options.now)))
         (settings_among (rows_in options.now)) (R.remaining reader.old)
         (Gives F.remaining (FnReturnsAt O.Fn files.now)) (record {
           output_before = W.contents writer.old;
@@ -137,14 +139,18 @@ fn do_asked<
     if let Some(name) = options.explained() {
         return explain(name, writer, errors);
     }
+    let kind = kind_asked(options.asks_map());
     match (options.config(), options.file()) {
         (Err(error), _) => report_shape(errors, error),
-        (Ok(config), None) => play_script(rt, alloc, config, None, reader, writer, errors, gate),
+        (Ok(config), None) => {
+            play_script(rt, alloc, kind, config, None, reader, writer, errors, gate)
+        }
         (Ok(config), Some(name)) => match files(name) {
             Ok(mut file) => {
                 play_script(
                     rt,
                     alloc,
+                    kind,
                     config,
                     Some(name),
                     &mut file,
@@ -158,10 +164,18 @@ fn do_asked<
     }
 }
 
+// The kind of script that is played, by whether a map is asked for.
+fn kind_asked(is_map: bool) -> Kind
+    ensures { result ≡ kind_asked is_map }
+{
+    if is_map { Kind::Map } else { Kind::Set }
+}
+
 // Plays the script that a reader gives, which is a file if one is named.
 fn play_script<T: Threads + Wait, R: Read, W: Write, E: Write, G: Gate + Sync>(
     rt: &T,
     alloc: Global,
+    kind: Kind,
     config: Config,
     file: Option<&str>,
     reader: &mut R,
@@ -169,7 +183,7 @@ fn play_script<T: Threads + Wait, R: Read, W: Write, E: Write, G: Gate + Sync>(
     errors: &mut E,
     gate: &G,
 ) -> u8
-    ensures played { IsPlayed config (option_map (λ name. name.now) file.entry)
+    ensures played { IsPlayed kind config (option_map (λ name. name.now) file.entry)
         (R.remaining reader.old) (record {
           output_before = W.contents writer.old;
           output = W.contents writer.new;
@@ -179,7 +193,23 @@ fn play_script<T: Threads + Wait, R: Read, W: Write, E: Write, G: Gate + Sync>(
         }) }
     ensures status { result ≢ USAGE }
 {
-    match play(rt, alloc, config, reader, writer, gate) {
+    match kind {
+        Kind::Set => tell(play(rt, alloc, config, reader, writer, gate), file, errors),
+        Kind::Map => tell(
+            play_map(rt, alloc, config, reader, writer, gate),
+            file,
+            errors,
+        ),
+    }
+}
+
+// Tells how a run ended, and answers the exit status. The script was in a file, if one is named.
+fn tell<T: Drop, E: Write>(answer: Result<T, RunError>, file: Option<&str>, errors: &mut E) -> u8
+    ensures told { TellsRun (option_map (λ name. name.now) file.entry) answer
+        (E.contents errors.old) (E.contents errors.new) result }
+    ensures status { result ≢ USAGE }
+{
+    match answer {
         Ok(_totals) => DONE,
         Err(error) => report(errors, file, error),
     }

@@ -213,9 +213,9 @@ complete old m is p = at (args_of old) refl
 
     at : (args : List Arg) → args_of old ≡ args → AreComplete (rows_of (found_of m))
     at [] none =
-        let eight : length (args_of old) ≡ 8 = as_many old options has in
+        let nine : length (args_of old) ≡ 9 = as_many old options has in
         let zero : length (args_of old) ≡ 0 = ap length none in
-        absurd (omega (arith, eight, zero))
+        absurd (omega (arith, nine, zero))
     at (d ∷ rest) some =
         let workers = numbered_at old m p options 0 d (codes "workers") 1 MAX_WORKERS (codes "1") has (omega arith) refl (omega arith) in
         let slots = numbered_at old m p options 1 d (codes "slots") 0 4294967295 (codes "1024") has (omega arith) refl (omega arith) in
@@ -229,6 +229,7 @@ complete old m is p = at (args_of old) refl
           last_epoch = last_epoch.number;
           budget = budget.number;
           epoch = switch_at old m p options 5 d (codes "epoch") has (omega arith) refl;
+          map = switch_at old m p options 6 d (codes "map") has (omega arith) refl;
           some_worker = workers.low;
           few_workers = workers.high;
           small_slots = slots.high;

@@ -54,6 +54,7 @@ options =
     ∷ shape_options
     ++ number_option (codes "budget") 0 4294967295 (codes "100000")
     ∷ switch (codes "epoch")
+    ∷ switch (codes "map")
     ∷ asked_options
 
 -- a command that can be asked for its version
@@ -103,6 +104,14 @@ settings_among rows = record {
 unfoldable pub settings_of : List Text → Settings
 settings_of arguments = settings_among (matches_of command_line arguments)
 
+-- whether the matches of a command line ask for a map
+abbrev pub asks_map_among : List Row → Bool
+asks_map_among rows = has_switch (codes "map") rows
+
+-- whether a command line asks that its script is played on a map
+unfoldable pub asks_map : List Text → Bool
+asks_map arguments = asks_map_among (matches_of command_line arguments)
+
 -- the file that the matches of a command line name: none where it is the name of standard input
 unfoldable pub file_among : List Row → Option Text
 file_among rows = option_and_then (λ name. if bytes_eq name (codes "-") then None else Some name) (first_of (codes "file") rows)
@@ -145,6 +154,7 @@ each_option =
     ∷ codes "--last-epoch" ∷ codes "7"
     ∷ codes "--budget" ∷ codes "1000000"
     ∷ codes "--epoch"
+    ∷ codes "--map"
     ∷ codes "--explain" ∷ codes "script-1"
     ∷ codes "a.script"
     ∷ []
@@ -180,7 +190,7 @@ HasNumber name rows = (text : Text) × (one_of name rows ≡ Some text) × IsUns
 abbrev pub IsSwitch : Text → List Row → Type 0
 IsSwitch name rows = IfSome (one_of name rows) (λ text. (bytes_eq text (codes "true") || bytes_eq text (codes "false")) ≡ true)
 
--- matches have a number for each option, within its limits, and the switch
+-- matches have a number for each option, within its limits, and the switches
 pub record AreComplete (rows : List Row) : Type 0 where
   pub workers : HasNumber (codes "workers") rows
   pub slots : HasNumber (codes "slots") rows
@@ -188,6 +198,7 @@ pub record AreComplete (rows : List Row) : Type 0 where
   pub last_epoch : HasNumber (codes "last-epoch") rows
   pub budget : HasNumber (codes "budget") rows
   pub epoch : IsSwitch (codes "epoch") rows
+  pub map : IsSwitch (codes "map") rows
   pub some_worker : 1 ≤ number_among (codes "workers") rows
   pub few_workers : number_among (codes "workers") rows ≤ MAX_WORKERS
   pub small_slots : number_among (codes "slots") rows ≤ 4294967295

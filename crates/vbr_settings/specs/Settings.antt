@@ -5,14 +5,14 @@ use Rattle.vbr_settings.specs.declared.config.TheConstants.{MAX_WORKERS}
 use Rattle.vbr_settings.specs.declared.config.ConfigError.{ConfigError}
 use Rattle.vbr_settings.specs.declared.config.ConfigError.TheVariants.{Workers}
 
--- the shape of the set, the number of workers, the budget of each call, and whether the epoch is told
+-- the shape of the set or map, but for values, the number of workers, the budget of each call, and whether the epoch is told
 pub record Settings : Type 0 where
   pub shape : Dimensions
   pub workers : ℕ
   pub budget : ℕ
   pub epoch : Bool
 
--- there is a worker, and there are no more than the greatest number; and nodes have no values
+-- there is a worker, and there are no more than the greatest number; and the shape has no values
 pub record AreSettings (settings : Settings) : Type 0 where
   pub some_worker : 0 < settings.workers
   pub workers : settings.workers ≤ MAX_WORKERS

@@ -1,7 +1,7 @@
 //! The command of the program: its options, its texts, and how the arguments are read.
-ghost use Rattle.std.specs.Prelude.{◌≡◌, ℕ, List, [], ◌∷◌, Some, None, false, IfOk, IfErr, map, fold, codes};
+ghost use Rattle.std.specs.Prelude.{◌≡◌, ℕ, List, [], ◌∷◌, Some, None, true, false, IfOk, IfErr, map, fold, codes};
 ghost use Rattle.clap.specs.Words.{app_of, rule_of, with_rule, kind_of};
-ghost use Rattle.vbr_settings.specs.Options.{AreOptions, faults, own_settings, each_option, settings_of_each, number_option, switch, lone_argument, shape_options, asked_options, command_line, settings_of, file_of, explained_of};
+ghost use Rattle.vbr_settings.specs.Options.{AreOptions, faults, own_settings, each_option, settings_of_each, number_option, switch, lone_argument, shape_options, asked_options, command_line, settings_of, asks_map, file_of, explained_of};
 ghost use Rattle.vbr_settings.specs.Given.{IsReadOff, IsOptionsErrorOf};
 
 use crate::config::MAX_WORKERS;
@@ -14,7 +14,7 @@ use std::alloc::Global;
 const VERSION: &str = "0.2.0";
 
 const ABOUT: &str =
-    "Plays a script of calls of a concurrent set, and prints the replies and the totals.";
+    "Plays a script of calls of a concurrent set or map, and prints the replies and the totals.";
 
 const HELP: &str = "\
 The script is read from FILE, or on standard input where no FILE is given or it
@@ -44,6 +44,18 @@ present. A refused operation has one of these lines, and made no call:
 Then come the totals: how many inserts, removes and look-ups were answered yes,
 how many operations were refused, and the keys that are left, ascending.
 
+With --map the script is one of a map, in which each key has a value. What is said
+here of the set and its keys holds of the map, and besides:
+
+  WORKER get KEY
+  WORKER insert KEY VALUE
+
+VALUE is a number as KEY is, and 0 where none is written. An insert that is answered
+yes stores it with the key, and one that is answered no leaves the value that is
+there. A get is a look-up that gives the value: it and a remove are answered yes with
+the value behind it, as in yes 70. The last total is entries, with KEY=VALUE for each
+key that is left.
+
 Where standard error is a terminal, a line there tells which phase of a long script
 plays, and how many lines have been played. It is gone before anything is printed.
 
@@ -64,6 +76,10 @@ write fault, which leaves a beginning of the output.
        3  OPERATION is none of the three
        4  KEY is no number from 0 to 18446744073709551615
        5  it is one operation above 1000000, or one line above 10000 that ends a phase
+       and with --map
+       1  it has neither three nor four words, nor the one word sync or renew
+       3  OPERATION is none of the four, or it isn't insert and there are four words
+       6  VALUE is no number from 0 to 18446744073709551615, which is told before 5
   4  vbr_run: read fault
        standard input failed, is closed, is a directory, or has above 67108864 bytes
      vbr_run: file fault: WHY: FILE
@@ -76,10 +92,10 @@ write fault, which leaves a beginning of the output.
        a thread for a worker couldn't be started
 
 --explain NAME tells what such a line means, and what helps. NAME is one of shape-1
-to shape-3, script-1 to script-5, read, file, write, memory, worker, tired, full and
+to shape-3, script-1 to script-6, read, file, write, memory, worker, tired, full and
 spent.
 
-Example:
+Examples:
 
   printf '0 insert 5\\nsync\\n1 has 5\\n' | vbr_run --workers 2
 
@@ -92,6 +108,20 @@ prints
   found 1
   refused 0
   keys 5
+
+and
+
+  printf '0 insert 5 70\\n0 get 5\\n' | vbr_run --map
+
+prints
+
+  yes
+  yes 70
+  inserted 1
+  removed 0
+  found 1
+  refused 0
+  entries 5=70
 ";
 
 const WORKERS_HELP: &str = "How many workers play the script, from 1 to 16";
@@ -106,6 +136,8 @@ const LAST_EPOCH_HELP: &str = "The last epoch of the set, from 1 to 549755813887
 const BUDGET_HELP: &str = "How many steps a call may make, from 0 to 4294967295";
 
 const EPOCH_HELP: &str = "Prints the epoch of the set in the end";
+
+const MAP_HELP: &str = "Plays the script on a map, whose keys have values, and not on a set";
 
 const EXPLAIN_HELP: &str =
     "Plays nothing, and tells what a fault or a refusal means, and what helps";
@@ -132,14 +164,15 @@ pub fn read_options<'a>(alloc: Global, arguments: &'a [&'a str]) -> Result<Optio
 }
 
 /// A law: command lines that are accepted, and what they give. The program's name alone gives each
-/// option its own value and no file, and each option may be given. A word that is no option is the
-/// name of a file, also before options, and each word behind `--`; and `-` is standard input.
+/// option its own value, a set and no file, and each option may be given. A word that is no option is
+/// the name of a file, also before options, and each word behind `--`; and `-` is standard input.
 pub fn knows_its_options()
     ensures name_alone { (name : List ℕ) → AreOptions (name ∷ [])
-        × (settings_of (name ∷ []) ≡ own_settings)
+        × (settings_of (name ∷ []) ≡ own_settings) × (asks_map (name ∷ []) ≡ false)
         × (file_of (name ∷ []) ≡ None) × (explained_of (name ∷ []) ≡ None) }
     ensures all_given { (name : List ℕ) → AreOptions (name ∷ each_option)
         × (settings_of (name ∷ each_option) ≡ settings_of_each)
+        × (asks_map (name ∷ each_option) ≡ true)
         × (file_of (name ∷ each_option) ≡ Some (codes "a.script"))
         × (explained_of (name ∷ each_option) ≡ Some (codes "script-1")) }
     ensures file { (name : List ℕ) → AreOptions (name ∷ codes "a" ∷ codes "--epoch" ∷ [])
@@ -193,7 +226,8 @@ fn command<'a>(alloc: Global) -> Result<Command<'a>, Error>
     let command = with_shape(alloc, command.arg(workers)?)?;
     let budget = number(alloc, "budget", BUDGET_HELP, 0, MOST, "100000");
     let epoch = switch(alloc, "epoch", EPOCH_HELP);
-    with_asked(alloc, command.arg(budget)?.arg(epoch)?)
+    let map = switch(alloc, "map", MAP_HELP);
+    with_asked(alloc, command.arg(budget)?.arg(epoch)?.arg(map)?)
 }
 
 // The command with what may be asked of it: that something is explained, or that a file is played.

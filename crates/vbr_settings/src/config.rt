@@ -1,4 +1,4 @@
-//! How a script is played: on a set of which shape, by how many workers, and with which budget.
+//! How a script is played: on a set or map of which shape, by how many workers, and with which budget.
 ghost use Rattle.std.specs.Prelude.{◌≡◌, false, Some, None, MatchResult};
 ghost use Rattle.vbr_settings.specs.Settings.{AreSettings, config_error};
 
@@ -54,8 +54,9 @@ pub enum ConfigError {
 }
 
 impl Config {
-    /// Plays on a set of this shape, by so many workers, with a budget of so many steps for each
-    /// call, and tells the set's epoch in the end or not. It reaches no set and takes no memory.
+    /// Plays on a set or map of this shape, by so many workers, with a budget of so many steps for each
+    /// call, and tells its epoch in the end or not. It reaches no set and takes no memory. Whether the
+    /// shape has values isn't kept: a set has none, and a map has.
     ///
     /// # Errors
     ///
@@ -87,7 +88,7 @@ impl Config {
         })
     }
 
-    /// The shape of the set.
+    /// The shape of the set, or of the map but for its values.
     pub fn shape(&self) -> Shape
         ensures { result ≡ self.now.shape }
     {
@@ -109,7 +110,7 @@ impl Config {
         self.budget
     }
 
-    /// Whether the set's epoch in the end is told.
+    /// Whether the epoch in the end is told.
     pub fn epoch(&self) -> bool
         ensures { result ≡ self.now.epoch }
     {

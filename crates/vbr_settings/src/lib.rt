@@ -3,7 +3,8 @@
 //!
 //! A [`Config`] has the shape of the set, the number of workers, the budget of each call, and whether
 //! the epoch is told. [`read_options`] reads the [`Options`] off the arguments of a command line: such
-//! a config, the file that the script is in, and whether something is to be explained in its place.
+//! a config, whether the script is one of a map, the file that it is in, and whether something is to
+//! be explained in its place.
 #![tactic(auto)]
 
 pub mod command;

@@ -1,7 +1,7 @@
 //! The options that a command line gives.
 ghost use Rattle.std.specs.Prelude.{◌≡◌, Some, None, MatchResult, option_map};
 ghost use Rattle.clap.specs.Words.{rows_of, found_of};
-ghost use Rattle.vbr_settings.specs.Options.{settings_among, number_among, has_switch, file_among, explained_among, HasNumber, IsSwitch, AreComplete, shape_fault};
+ghost use Rattle.vbr_settings.specs.Options.{settings_among, number_among, has_switch, asks_map_among, file_among, explained_among, HasNumber, IsSwitch, AreComplete, shape_fault};
 
 use crate::config::Config;
 use clap::ArgMatches;
@@ -29,6 +29,15 @@ impl<'a> Options<'a> {
             ≡ Some error) }
     {
         config_of(&self.matches)
+    }
+
+    /// Whether the script is one of a map, and not of a set. The options are those that were read off
+    /// a command line.
+    pub fn asks_map(&self) -> bool
+        requires { AreComplete (rows_of (found_of self.now.matches)) }
+        ensures { result ≡ asks_map_among (rows_of (found_of self.now.matches)) }
+    {
+        is_given(&self.matches, "map")
     }
 
     /// The name of the file that the script is read from, if it isn't standard input.

@@ -1,25 +1,26 @@
 -- Each way through the program's body is one of the answers to its command line.
-use Rattle.std.proofs.Common.{◌≡◌, ◌⊎◌, ℕ, List, Option, Some, inl, inr, subst, ap, ◌∙◌}
+use Rattle.std.proofs.Common.{◌≡◌, ◌⊎◌, ℕ, Bool, List, Option, Some, inl, inr, subst, ap, ◌∙◌}
 use Rattle.clap.specs.Words.{IsAmong, Text, kind_of}
 use Rattle.clap.specs.declared.error.kind.ErrorKind.{ErrorKind}
 use Rattle.clap.specs.declared.error.kind.ErrorKind.TheVariants as asked
 use Rattle.vbr_words.specs.declared.shape.ShapeError.{ShapeError}
-use Rattle.vbr_settings.specs.Options.{AreOptions, faults, settings_among, file_of, file_among, explained_of, explained_among, shape_fault}
+use Rattle.vbr_settings.specs.Options.{AreOptions, faults, settings_among, asks_map, asks_map_among, file_of, file_among, explained_of, explained_among, shape_fault}
 use Rattle.vbr_settings.specs.Settings.{Settings}
 use Rattle.vbr_settings.specs.Given.{IsReadOff, rows_in}
 use Rattle.vbr_settings.specs.declared.options.Options.{Options}
-use Rattle.vbr_run.specs.Program.{AnswersCommand, DoesAsked, IsDone, TellsFault, LacksMemory, Opening, ProgramRun, ShowsError, Tells, ReadsNoInput}
+use Rattle.vbr_run.specs.Program.{AnswersCommand, DoesAsked, IsDone, TellsFault, LacksMemory, Opening, ProgramRun, ShowsError, Tells, ReadsNoInput, kind_asked}
 use Rattle.vbr_run.proofs.program.run.Goals as goal
 
 -- ---- what was asked for
 
-does : (arguments : List Text) (options : Options) (input : Option (List ℕ)) (opens : Opening) (run : ProgramRun) → IsReadOff arguments options → IsDone (explained_among (rows_in options)) (shape_fault (settings_among (rows_in options))) (file_among (rows_in options)) (settings_among (rows_in options)) input opens run → DoesAsked arguments input opens run
+does : (arguments : List Text) (options : Options) (input : Option (List ℕ)) (opens : Opening) (run : ProgramRun) → IsReadOff arguments options → IsDone (explained_among (rows_in options)) (shape_fault (settings_among (rows_in options))) (file_among (rows_in options)) (kind_asked (asks_map_among (rows_in options))) (settings_among (rows_in options)) input opens run → DoesAsked arguments input opens run
 does arguments options input opens run given done =
-    let named = subst (λ (name : Option Text). IsDone name (shape_fault (settings_among (rows_in options))) (file_among (rows_in options)) (settings_among (rows_in options)) input opens run) given.explained done in
-    let filed = subst (λ (file : Option Text). IsDone (explained_of arguments) (shape_fault (settings_among (rows_in options))) file (settings_among (rows_in options)) input opens run) given.file named in
-    subst (λ (settings : Settings). IsDone (explained_of arguments) (shape_fault settings) (file_of arguments) settings input opens run) given.settings filed
+    let named = subst (λ (name : Option Text). IsDone name (shape_fault (settings_among (rows_in options))) (file_among (rows_in options)) (kind_asked (asks_map_among (rows_in options))) (settings_among (rows_in options)) input opens run) given.explained done in
+    let filed = subst (λ (file : Option Text). IsDone (explained_of arguments) (shape_fault (settings_among (rows_in options))) file (kind_asked (asks_map_among (rows_in options))) (settings_among (rows_in options)) input opens run) given.file named in
+    let kinds = subst (λ (is_map : Bool). IsDone (explained_of arguments) (shape_fault (settings_among (rows_in options))) (file_of arguments) (kind_asked is_map) (settings_among (rows_in options)) input opens run) given.map filed in
+    subst (λ (settings : Settings). IsDone (explained_of arguments) (shape_fault settings) (file_of arguments) (kind_asked (asks_map arguments)) settings input opens run) given.settings kinds
 
-answers : (arguments : List Text) (options : Options) (input : Option (List ℕ)) (opens : Opening) (run : ProgramRun) → IsReadOff arguments options → IsDone (explained_among (rows_in options)) (shape_fault (settings_among (rows_in options))) (file_among (rows_in options)) (settings_among (rows_in options)) input opens run → AnswersCommand arguments input opens run
+answers : (arguments : List Text) (options : Options) (input : Option (List ℕ)) (opens : Opening) (run : ProgramRun) → IsReadOff arguments options → IsDone (explained_among (rows_in options)) (shape_fault (settings_among (rows_in options))) (file_among (rows_in options)) (kind_asked (asks_map_among (rows_in options))) (settings_among (rows_in options)) input opens run → AnswersCommand arguments input opens run
 answers arguments options input opens run given done =
     let does_so = does arguments options input opens run given done in
     record { taken = λ taken. inl does_so; answered = inl (given.faultless, does_so) }

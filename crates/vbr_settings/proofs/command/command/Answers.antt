@@ -19,8 +19,10 @@ returns-clause-options c =
     let workers : rule_of c.number-workers.result ≡ number_option (codes "workers") 1 MAX_WORKERS (codes "1") = search rules in
     let budget : rule_of c.number-budget.result ≡ number_option (codes "budget") 0 4294967295 (codes "100000") = search rules in
     let epoch : rule_of c.switch-epoch.result ≡ switch (codes "epoch") = search rules in
+    let map : rule_of c.switch-map.result ≡ switch (codes "map") = search rules in
     let one = c.in_ok-arg.ensures.shape c.number-workers.ensures.local ∙ ap₂ with_rule none workers in
     let shaped = c.in_ok-command.ensures.options ∙ ap (λ (app : App). fold with_rule app shape_options) one in
     let five = c.in_ok-arg-2.ensures.shape c.number-budget.ensures.local ∙ ap₂ with_rule shaped budget in
     let six = c.in_ok-arg-3.ensures.shape c.switch-epoch.ensures.local ∙ ap₂ with_rule five epoch in
-    of_ok c.with_asked.result _ _ c.with_asked.ensures.options (λ asked is. is ∙ ap (λ (app : App). fold with_rule app asked_options) six)
+    let seven = c.in_ok-arg-4.ensures.shape c.switch-map.ensures.local ∙ ap₂ with_rule six map in
+    of_ok c.with_asked.result _ _ c.with_asked.ensures.options (λ asked is. is ∙ ap (λ (app : App). fold with_rule app asked_options) seven)

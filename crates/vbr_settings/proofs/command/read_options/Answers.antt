@@ -7,7 +7,7 @@ use Rattle.clap.specs.Words.{FailsBy, fault_of, is_simple_and_free}
 use Rattle.clap.specs.declared.error.Error.{Error}
 use Rattle.clap.specs.declared.error.kind.ErrorKind.TheVariants.{OutOfMemory}
 use Rattle.clap.specs.declared.parser.matches.ArgMatches.{ArgMatches}
-use Rattle.vbr_settings.specs.Options.{command_line, faults, AreOptions, settings_among, settings_of, file_among, file_of, explained_among, explained_of}
+use Rattle.vbr_settings.specs.Options.{command_line, faults, AreOptions, settings_among, settings_of, asks_map_among, asks_map, file_among, file_of, explained_among, explained_of}
 use Rattle.vbr_settings.specs.Given.{IsOptionsErrorOf}
 use Rattle.vbr_settings.proofs.CompleteOptions.{complete}
 use Rattle.vbr_settings.proofs.command.read_options.Goals as goal
@@ -23,6 +23,10 @@ rows matches app arguments is has = ((subst (λ (a : App). HasMatchesOf a argume
 settings : (found : List Row) (arguments : List Text) → found ≡ matches_of command_line arguments → settings_among found ≡ settings_of arguments
 unfolding settings_of
 settings found arguments is = ap settings_among is
+
+map : (found : List Row) (arguments : List Text) → found ≡ matches_of command_line arguments → asks_map_among found ≡ asks_map arguments
+unfolding asks_map
+map found arguments is = ap asks_map_among is
 
 file : (found : List Row) (arguments : List Text) → found ≡ matches_of command_line arguments → file_among found ≡ file_of arguments
 unfolding file_of
@@ -62,6 +66,7 @@ returns-clause-ok c =
       faultless = kinds (app_of c.in_ok-command.field-0) _ (Ok c.in_ok-matches.matches) c.in_ok-command.ensures.options c.in_ok-matches.ensures.kinds;
       complete = complete c.in_ok-command.field-0 c.in_ok-matches.matches c.in_ok-command.ensures.options c.in_ok-matches.ensures.parsed;
       settings = settings _ _ found;
+      map = map _ _ found;
       file = file _ _ found;
       explained = explained _ _ found;
     }
