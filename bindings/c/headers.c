@@ -30,6 +30,40 @@ static const char *text_of(vbr_answer answer) {
     return "another";
 }
 
+static int check_maps(void) {
+    static const vbr_entry opening[2] = {{3, 30}, {4, 40}};
+    vbr_entry entries[KEYS] = {{0, 0}};
+#ifdef __cplusplus
+    vbr_map_handle map[HANDLES] = {}, none = {};
+    vbr_totals report = {};
+    vbr_map_lender lender = {};
+    static_assert(noexcept(vbr_map_has(&none, 1, 8)) && noexcept(vbr_map_drop(&none)), "no call throws");
+#else
+    vbr_map_handle map[HANDLES] = {{0}}, none = {0};
+    vbr_totals report = {0};
+    vbr_map_lender lender = {0};
+#endif
+    uint64_t value = 0;
+    CHECK(sizeof(vbr_map_handle) == sizeof(void *) && sizeof(vbr_entry) == 16);
+    CHECK(vbr_map_open(map, HANDLES, SLOTS, KEYS, VBR_MAX_EPOCH) == VBR_NO);
+    CHECK(vbr_map_epoch(&map[0]) == 1 && vbr_map_last_epoch(&map[0]) == VBR_MAX_EPOCH);
+    CHECK(vbr_map_slots(&map[0]) == SLOTS && vbr_map_buckets(&map[0]) == KEYS);
+    CHECK(vbr_map_open_with(map, HANDLES, SLOTS, KEYS, VBR_MAX_EPOCH, opening, 2) == VBR_IN_USE);
+    vbr_map_lender_init(&lender, map, HANDLES);
+    vbr_map_handle *mine = vbr_map_lend(&lender);
+    CHECK(mine == &map[0]);
+    vbr_answer added = vbr_map_insert(mine, 5, 50, BUDGET);
+    CHECK(added == VBR_YES && text_of(vbr_map_has(&none, 5, BUDGET))[0] == 'e');
+    vbr_map_give_back(&lender, mine);
+    CHECK(vbr_map_has(&map[1], 5, BUDGET) == VBR_YES && vbr_map_get(&map[1], 5, BUDGET, &value) == VBR_YES && value == 50);
+    CHECK(vbr_map_remove(&map[1], 6, BUDGET, &value) == VBR_NO && value == 50);
+    CHECK(vbr_map_close_all(map, HANDLES, entries, 0, &report) == VBR_NO_ROOM && report.live == 1);
+    CHECK(vbr_map_close(&map[0], entries, KEYS, &report) == VBR_NO && vbr_map_close(&map[1], entries, KEYS, &report) == VBR_YES);
+    CHECK(report.live == 1 && entries[0].key == 5 && entries[0].value == 50);
+    vbr_map_drop(&none);
+    return 0;
+}
+
 static int check(void) {
     static const uint64_t opening[2] = {3, 4};
 #ifdef __cplusplus
@@ -66,7 +100,7 @@ static int check(void) {
 }
 
 int main(void) {
-    if (check()) return 1;
+    if (check() || check_maps()) return 1;
     puts("each name of the headers: passed");
     return 0;
 }

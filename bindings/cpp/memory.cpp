@@ -1,6 +1,6 @@
 // Memory that vbr.hpp is refused: it throws std::bad_alloc, and all stays as it was; and the closes that need none ask for none.
 // Memory that the library is refused while it closes a set: all handles stay as they were. A set is closed by vbr_close_all.
-// Link with -Wl,--wrap=malloc,--wrap=vbr_close.
+// Link with -Wl,--wrap=malloc,--wrap=vbr_close,--wrap=vbr_map_close.
 #include "vbr.hpp"
 
 #include <cstdio>
@@ -13,7 +13,7 @@ static bool refuses = false;         // what this program asks for
 static long granted = -1;            // how many blocks it still gets, where that isn't below 0
 static bool library_refuses = false; // what the library asks for
 static long asked = 0;
-static int closed_alone = 0; // calls of vbr_close
+static int closed_alone = 0; // calls of vbr_close and vbr_map_close
 
 extern "C" {
 void *__real_malloc(std::size_t size);
@@ -21,6 +21,11 @@ void *__wrap_malloc(std::size_t size);
 void *__wrap_malloc(std::size_t size) { return library_refuses ? nullptr : __real_malloc(size); }
 vbr_answer __wrap_vbr_close(vbr_handle *handle, std::uint64_t *keys, std::size_t room, vbr_totals *report);
 vbr_answer __wrap_vbr_close(vbr_handle *, std::uint64_t *, std::size_t, vbr_totals *) {
+    closed_alone++;
+    return VBR_LOST;
+}
+vbr_answer __wrap_vbr_map_close(vbr_map_handle *handle, vbr_entry *entries, std::size_t room, vbr_totals *report);
+vbr_answer __wrap_vbr_map_close(vbr_map_handle *, vbr_entry *, std::size_t, vbr_totals *) {
     closed_alone++;
     return VBR_LOST;
 }
@@ -51,7 +56,30 @@ static bool throws(const Call &call) {
     return thrown;
 }
 
-int main() {
+static int maps() {
+    const vbr::shape shape = vbr::shape::for_keys(1000, 3);
+    CHECK(throws([&] { static_cast<void>(vbr::open_map(shape, 3)); }));
+    CHECK(throws([&] { static_cast<void>(vbr::open_map_with(shape, 3, {{5, 50}})); }));
+    auto [opened, handles] = vbr::open_map(shape, 3);
+    CHECK(opened == vbr::open_answer::done && handles[1].insert(5, 50, 100000) == vbr::answer::yes);
+    long before = asked;
+    CHECK(handles[0].close().answer == vbr::close_answer::others_are_open);
+    handles[1] = vbr::map_handle();
+    CHECK(asked == before);
+    CHECK(throws([&handle = handles[2]] { static_cast<void>(handle.close()); }));
+    CHECK(handles[2].is_open() && handles[2].get(5, 100000).value == 50u);
+    library_refuses = true;
+    vbr::map_closed refused = handles[2].close();
+    library_refuses = false;
+    CHECK(refused.answer == vbr::close_answer::no_memory && !refused.report && handles[2].is_open());
+    CHECK(handles[2].get(5, 100000).value == 50u && handles[2].insert(6, 60, 100000) == vbr::answer::yes);
+    vbr::map_closed last = handles[2].close();
+    CHECK(last.answer == vbr::close_answer::last && last.report->entries.size() == 2 && last.report->entries.capacity() == 2);
+    CHECK(last.report->entries[0].value == 50 && last.report->entries[1].value == 60 && last.report->free == shape.slots - 2);
+    return 0;
+}
+
+static int sets() {
     const vbr::shape shape = vbr::shape::for_keys(1000, 3);
     CHECK(throws([&] { static_cast<void>(vbr::open(shape, 3)); }));
     auto [opened, handles] = vbr::open(shape, 3);
@@ -91,6 +119,11 @@ int main() {
         CHECK(long_one.answer == vbr::close_answer::last && long_one.report->keys == (std::vector<std::uint64_t>{5, 7}));
         CHECK(long_one.report->keys.capacity() == shape.slots);
     }
+    return 0;
+}
+
+int main() {
+    if (sets() || maps()) return 1;
     CHECK(closed_alone == 0);
     std::puts("refused memory in C++: passed");
     return 0;

@@ -1,4 +1,4 @@
-/* The set of vbr.h for C++17 and later: handles that are moved and never copied, answers that aren't read as true or false by
+/* The set and the map of vbr.h for C++17 and later: handles that are moved and never copied, answers that aren't read as true or false by
    mistake, openings that take any range of keys, and closes that give the keys as a vector.
 
        auto [opened, handles] = vbr::open(vbr::shape::for_keys(1024, 2), 2);
@@ -8,10 +8,18 @@
        vbr::closed first = handles[0].close();               // others_are_open
        vbr::closed last = handles[1].close();                // last: last.report->keys is {5}
 
+   A map, which has a value beside each key:
+
+       auto [opened, handles] = vbr::open_map(vbr::shape::for_keys(1024, 2), 2);
+       if (opened != vbr::open_answer::done) return 1;
+       vbr::answer added = handles[0].insert(5, 70, 100000); // yes: 5 was absent, and now has the value 70
+       vbr::found there = handles[1].get(5, 100000);         // yes: there.value is 70
+       vbr::found taken = handles[1].remove(5, 100000);      // yes: taken.value is 70
+
    It is a header over the calls of vbr.h, which says what each asks and answers, and links with the same library. Only
    openings and closes take memory; where a vector finds none they throw std::bad_alloc and leave all as it was. How many
    keys are in the set is told by no call while threads run: count the inserts and removes that are answered yes, or read
-   the report of the last close.
+   the report of the last close. What is said of sets and keys holds of maps and entries, as in vbr.h.
 
    A handle may go to another thread by whatever orders the two. Where a thread ends, or an exception leaves a function, the
    handles that it owned end too, which closes them; nothing is lost. What vbr.h says of cancelled threads, signals and forks
@@ -83,6 +91,15 @@ enum class [[nodiscard]] answer : std::int32_t {
     empty = VBR_EMPTY                /* the handle is empty */
 };
 
+/* What a call answers that gives the value of a key. It is no bool; its value is tested.
+
+       vbr::found got = mine.get(6, budget);
+       if (got.value) sum += *got.value; // got.answer is yes */
+struct [[nodiscard]] found {
+    vbr::answer answer;
+    std::optional<std::uint64_t> value; /* there where the answer is yes */
+};
+
 /* What an opening answers.
 
        if (opened != vbr::open_answer::done) return 1; */
@@ -125,6 +142,11 @@ constexpr const char *to_string(answer told) noexcept {
     return "unknown";
 }
 
+/* A key with its value, as vbr.h has it.
+
+       for (vbr::entry each : told.report->entries) sum += each.value; */
+using entry = vbr_entry;
+
 /* What a closed set held.
 
        for (std::uint64_t key : told.report->keys) sum += key; */
@@ -143,34 +165,87 @@ struct [[nodiscard]] closed {
     std::optional<vbr::report> report;
 };
 
+/* What a closed map held.
+
+       for (vbr::entry each : told.report->entries) sum += each.value; */
+struct map_report {
+    std::vector<entry> entries; /* ascending by key */
+    std::uint64_t epoch = 0;
+    std::uint32_t marked = 0; /* how many removed nodes were still in a list */
+    std::uint32_t free = 0;   /* how many slots had no node in a list */
+};
+
+/* What a close of a map answers, with the report of the last one.
+
+       vbr::map_closed told = mine.close(); // told.report is there where told.answer is last */
+struct [[nodiscard]] map_closed {
+    close_answer answer;
+    std::optional<map_report> report;
+};
+
 namespace detail {
 
-/* What the handles of a set share: how many are open, of how many, and those that were closed, each at its number. */
+/* The calls on sets, and those on maps. */
+struct set_calls {
+    using raw = vbr_handle;
+    using item = std::uint64_t;
+    using report = vbr::report;
+    using closed = vbr::closed;
+    static vbr_answer has(raw *handle, std::uint64_t key, std::uint32_t budget) noexcept { return vbr_has(handle, key, budget); }
+    static std::uint64_t epoch(raw *handle) noexcept { return vbr_epoch(handle); }
+    static std::uint64_t last_epoch(raw *handle) noexcept { return vbr_last_epoch(handle); }
+    static std::uint32_t slots(raw *handle) noexcept { return vbr_slots(handle); }
+    static std::uint32_t buckets(raw *handle) noexcept { return vbr_buckets(handle); }
+    static vbr_answer close_all(raw *handles, std::size_t count, item *keys, std::size_t room, vbr_totals *totals) noexcept {
+        return vbr_close_all(handles, count, keys, room, totals);
+    }
+    static void drop(raw *handle) noexcept { vbr_drop(handle); }
+};
+
+struct map_calls {
+    using raw = vbr_map_handle;
+    using item = entry;
+    using report = map_report;
+    using closed = map_closed;
+    static vbr_answer has(raw *handle, std::uint64_t key, std::uint32_t budget) noexcept { return vbr_map_has(handle, key, budget); }
+    static std::uint64_t epoch(raw *handle) noexcept { return vbr_map_epoch(handle); }
+    static std::uint64_t last_epoch(raw *handle) noexcept { return vbr_map_last_epoch(handle); }
+    static std::uint32_t slots(raw *handle) noexcept { return vbr_map_slots(handle); }
+    static std::uint32_t buckets(raw *handle) noexcept { return vbr_map_buckets(handle); }
+    static vbr_answer close_all(raw *handles, std::size_t count, item *entries, std::size_t room, vbr_totals *totals) noexcept {
+        return vbr_map_close_all(handles, count, entries, room, totals);
+    }
+    static void drop(raw *handle) noexcept { vbr_map_drop(handle); }
+};
+
+/* What the handles of a set or a map share: how many are open, of how many, and those that were closed, each at its number. */
+template <class Calls>
 struct shared {
     std::atomic<std::size_t> open{0};
     std::size_t count = 0;
     std::uint32_t slots = 0;
-    vbr_handle parked[max_handles] = {};
+    typename Calls::raw parked[max_handles] = {};
 };
 
 } // namespace detail
 
-/* A handle to a set, or an empty one: one thread at a time makes calls with it. Its end closes it without a report, which
-   takes no memory and loses nothing: the handle that is closed last is told the keys.
+/* What a handle to a set and one to a map have in common; each may be empty. One thread at a time makes calls with it. Its end
+   closes it without a report, which takes no memory and loses nothing: the handle that is closed last is told the keys.
 
        vbr::handle mine = std::move(most.handles[0]); // handles are moved, and never copied */
-class handle {
+template <class Calls>
+class basic_handle {
 public:
-    handle() noexcept = default;
-    handle(handle &&other) noexcept : raw(std::exchange(other.raw, vbr_handle{})), number(other.number), shared(std::move(other.shared)) {}
-    handle(const handle &) = delete;
-    handle &operator=(const handle &) = delete;
-    ~handle() { end(); }
+    basic_handle() noexcept = default;
+    basic_handle(basic_handle &&other) noexcept : number(other.number), shared(std::move(other.shared)), raw(std::exchange(other.raw, {})) {}
+    basic_handle(const basic_handle &) = delete;
+    basic_handle &operator=(const basic_handle &) = delete;
+    ~basic_handle() { end(); }
 
-    handle &operator=(handle &&other) noexcept {
+    basic_handle &operator=(basic_handle &&other) noexcept {
         if (this != &other) {
             end();
-            raw = std::exchange(other.raw, vbr_handle{});
+            raw = std::exchange(other.raw, {});
             number = other.number;
             shared = std::move(other.shared);
         }
@@ -182,6 +257,91 @@ public:
            if (!mine.is_open()) return 1; // it is empty: moved from, or closed */
     bool is_open() const noexcept { return raw.owned != nullptr; }
 
+    /* Whether a key is there: yes or no. It isn't const, since it changes what the handle owns.
+
+           if (mine.has(7, budget) == vbr::answer::yes) there++; // 7 was there during the call */
+    answer has(std::uint64_t key, std::uint32_t budget) noexcept { return answer{static_cast<std::int32_t>(Calls::has(&raw, key, budget))}; }
+
+    /* The last epoch that the handle read in a call: 1 before its first, and 0 for an empty handle. Renew the set before it
+       comes to last_epoch: close all its handles, and open a set with the keys of the report.
+
+           bool is_near = mine.epoch() + 1000 >= mine.last_epoch(); // then renew the set */
+    std::uint64_t epoch() noexcept { return Calls::epoch(&raw); }
+
+    /* What the set was opened with; 0 for an empty handle.
+
+           if (mine.slots() != shape.slots || mine.buckets() != shape.buckets) return 1; */
+    std::uint64_t last_epoch() noexcept { return Calls::last_epoch(&raw); }
+    std::uint32_t slots() noexcept { return Calls::slots(&raw); }
+    std::uint32_t buckets() noexcept { return Calls::buckets(&raw); }
+
+    /* Closes the handle, and leaves it empty. The last one of its set gives the report, whose keys take memory then and
+       only then; where there is none it stays open.
+
+           vbr::closed told = mine.close(); // told.report is there where told.answer is last */
+    typename Calls::closed close() {
+        if (!is_open()) return {close_answer::empty, std::nullopt};
+        if (!is_last()) return {close_answer::others_are_open, std::nullopt};
+        return close_last();
+    }
+
+private:
+    template <class Opened, class Open>
+    friend Opened open_by(const shape &, std::size_t, const Open &);
+
+    /* Whether all others are closed. If not, this one is then closed too: it is parked for the last one. */
+    bool is_last() noexcept {
+        if (shared->open.load(std::memory_order_acquire) == 1) return true;
+        shared->parked[number] = raw;
+        if (shared->open.fetch_sub(1, std::memory_order_acq_rel) == 1) {
+            shared->open.store(1, std::memory_order_relaxed);
+            shared->parked[number] = {};
+            return true;
+        }
+        raw = {};
+        shared.reset();
+        return false;
+    }
+
+    /* Closes all handles of the set at once. Where it is refused memory they stay as they were. */
+    typename Calls::closed close_last() {
+        std::vector<typename Calls::item> items(shared->slots);
+        vbr_totals totals = {};
+        std::swap(shared->parked[number], raw);
+        vbr_answer code = Calls::close_all(shared->parked, shared->count, items.data(), items.size(), &totals);
+        std::swap(shared->parked[number], raw);
+        if (code == VBR_NO_MEMORY) return {close_answer::no_memory, std::nullopt};
+        end_last();
+        if (code != VBR_YES) return {close_answer::lost, std::nullopt};
+        items.resize(totals.live);
+        items.shrink_to_fit();
+        return {close_answer::last, typename Calls::report{std::move(items), totals.epoch, totals.marked, totals.free}};
+    }
+
+    void end() noexcept {
+        if (is_open() && is_last()) end_last();
+    }
+
+    /* Drops all handles, empty ones too, which takes no memory. */
+    void end_last() noexcept {
+        for (typename Calls::raw &other : shared->parked) Calls::drop(&other);
+        Calls::drop(&raw);
+        shared.reset();
+    }
+
+    using calls = Calls;
+    std::size_t number = 0;
+    std::shared_ptr<detail::shared<Calls>> shared;
+
+protected:
+    typename Calls::raw raw = {};
+};
+
+/* A handle to a set, or an empty one.
+
+       vbr::handle mine = std::move(most.handles[0]); // handles are moved, and never copied */
+class handle : public basic_handle<detail::set_calls> {
+public:
     /* Adds a key: yes if it was absent.
 
            if (mine.insert(6, budget) == vbr::answer::yes) added++; // this call added 6 */
@@ -191,83 +351,42 @@ public:
 
            if (mine.remove(6, budget) == vbr::answer::yes) taken++; // this call took 6 out */
     answer remove(std::uint64_t key, std::uint32_t budget) noexcept { return answer{static_cast<std::int32_t>(vbr_remove(&raw, key, budget))}; }
+};
 
-    /* Whether a key is there: yes or no. It isn't const, since it changes what the handle owns.
+/* A handle to a map, or an empty one.
 
-           if (mine.has(7, budget) == vbr::answer::yes) there++; // 7 was there during the call */
-    answer has(std::uint64_t key, std::uint32_t budget) noexcept { return answer{static_cast<std::int32_t>(vbr_has(&raw, key, budget))}; }
+       vbr::map_handle mine = std::move(some.handles[0]); // handles are moved, and never copied */
+class map_handle : public basic_handle<detail::map_calls> {
+public:
+    /* Adds a key with its value: yes if the key was absent. If it was there, it keeps the value that it has.
 
-    /* The last epoch that the handle read in a call: 1 before its first, and 0 for an empty handle. Renew the set before it
-       comes to last_epoch: close all its handles, and open a set with the keys of the report.
+           if (mine.insert(6, 60, budget) == vbr::answer::yes) added++; // this call stored 60 for 6 */
+    answer insert(std::uint64_t key, std::uint64_t value, std::uint32_t budget) noexcept {
+        return answer{static_cast<std::int32_t>(vbr_map_insert(&raw, key, value, budget))};
+    }
 
-           bool is_near = mine.epoch() + 1000 >= mine.last_epoch(); // then renew the set */
-    std::uint64_t epoch() noexcept { return vbr_epoch(&raw); }
+    /* Takes a key out, and gives its value: yes if it was there.
 
-    /* What the set was opened with; 0 for an empty handle.
+           vbr::found taken = mine.remove(6, budget); // taken.value is what 6 had */
+    found remove(std::uint64_t key, std::uint32_t budget) noexcept {
+        std::uint64_t value = 0;
+        vbr_answer told = vbr_map_remove(&raw, key, budget, &value);
+        return found_by(told, value);
+    }
 
-           if (mine.slots() != shape.slots || mine.buckets() != shape.buckets) return 1; */
-    std::uint64_t last_epoch() noexcept { return vbr_last_epoch(&raw); }
-    std::uint32_t slots() noexcept { return vbr_slots(&raw); }
-    std::uint32_t buckets() noexcept { return vbr_buckets(&raw); }
+    /* The value of a key: yes if it is there. As `has` it isn't const.
 
-    /* Closes the handle, and leaves it empty. The last one of its set gives the report, whose keys take memory then and
-       only then; where there is none it stays open.
-
-           vbr::closed told = mine.close(); // told.report is there where told.answer is last */
-    closed close() {
-        if (!is_open()) return {close_answer::empty, std::nullopt};
-        if (!is_last()) return {close_answer::others_are_open, std::nullopt};
-        return close_last();
+           vbr::found got = mine.get(6, budget); */
+    found get(std::uint64_t key, std::uint32_t budget) noexcept {
+        std::uint64_t value = 0;
+        vbr_answer told = vbr_map_get(&raw, key, budget, &value);
+        return found_by(told, value);
     }
 
 private:
-    friend struct opened;
-    template <class Open>
-    friend struct opened open_by(const shape &, std::size_t, const Open &);
-
-    /* Whether all others are closed. If not, this one is then closed too: it is parked for the last one. */
-    bool is_last() noexcept {
-        if (shared->open.load(std::memory_order_acquire) == 1) return true;
-        shared->parked[number] = raw;
-        if (shared->open.fetch_sub(1, std::memory_order_acq_rel) == 1) {
-            shared->open.store(1, std::memory_order_relaxed);
-            shared->parked[number] = vbr_handle{};
-            return true;
-        }
-        raw = vbr_handle{};
-        shared.reset();
-        return false;
+    static found found_by(vbr_answer told, std::uint64_t value) noexcept {
+        return {answer{static_cast<std::int32_t>(told)}, told == VBR_YES ? std::optional(value) : std::nullopt};
     }
-
-    /* Closes all handles of the set at once. Where it is refused memory they stay as they were. */
-    closed close_last() {
-        std::vector<std::uint64_t> keys(shared->slots);
-        vbr_totals totals = {};
-        std::swap(shared->parked[number], raw);
-        vbr_answer code = vbr_close_all(shared->parked, shared->count, keys.data(), keys.size(), &totals);
-        std::swap(shared->parked[number], raw);
-        if (code == VBR_NO_MEMORY) return {close_answer::no_memory, std::nullopt};
-        end_last();
-        if (code != VBR_YES) return {close_answer::lost, std::nullopt};
-        keys.resize(totals.live);
-        keys.shrink_to_fit();
-        return {close_answer::last, report{std::move(keys), totals.epoch, totals.marked, totals.free}};
-    }
-
-    void end() noexcept {
-        if (is_open() && is_last()) end_last();
-    }
-
-    /* Drops all handles, empty ones too, which takes no memory. */
-    void end_last() noexcept {
-        for (vbr_handle &other : shared->parked) vbr_drop(&other);
-        vbr_drop(&raw);
-        shared.reset();
-    }
-
-    vbr_handle raw = {};
-    std::size_t number = 0;
-    std::shared_ptr<detail::shared> shared;
 };
 
 /* What an opening answers, with as many handles as were asked for if it is done, and none otherwise.
@@ -278,12 +397,22 @@ struct [[nodiscard]] opened {
     std::vector<handle> handles;
 };
 
-/* What both openings do, by the call of vbr.h that they are given. It is no part of the interface. */
-template <class Open>
-opened open_by(const shape &wanted, std::size_t count, const Open &call) {
-    auto shared = std::make_shared<detail::shared>();
-    vbr_handle raw[max_handles] = {};
-    std::vector<handle> handles(count <= max_handles ? count : 0);
+/* The same of a map.
+
+       vbr::map_opened some = vbr::open_map_with(shape, 1, want.data(), want.size()); */
+struct [[nodiscard]] map_opened {
+    open_answer answer;
+    std::vector<map_handle> handles;
+};
+
+/* What all openings do, by the call of vbr.h that they are given. It is no part of the interface. */
+template <class Opened, class Open>
+Opened open_by(const shape &wanted, std::size_t count, const Open &call) {
+    using handle_type = typename decltype(Opened::handles)::value_type;
+    using calls = typename handle_type::calls;
+    auto shared = std::make_shared<detail::shared<calls>>();
+    typename calls::raw raw[max_handles] = {};
+    std::vector<handle_type> handles(count <= max_handles ? count : 0);
     auto answer = open_answer{static_cast<std::int32_t>(call(raw, handles.size()))};
     if (answer != open_answer::done) return {answer, {}};
     shared->open.store(count, std::memory_order_relaxed);
@@ -301,7 +430,7 @@ opened open_by(const shape &wanted, std::size_t count, const Open &call) {
 
        auto [opened, handles] = vbr::open(vbr::shape::for_keys(1024, 2), 2); */
 inline opened open(const shape &wanted, std::size_t count) {
-    return open_by(wanted, count, [&](vbr_handle *handles, std::size_t number) {
+    return open_by<opened>(wanted, count, [&](vbr_handle *handles, std::size_t number) {
         return vbr_open(handles, number, wanted.slots, wanted.buckets, wanted.last_epoch);
     });
 }
@@ -311,7 +440,7 @@ inline opened open(const shape &wanted, std::size_t count) {
        vbr::opened some = vbr::open_with(shape, 1, want.data(), want.size()); */
 inline opened open_with(const shape &wanted, std::size_t count, const std::uint64_t *keys, std::size_t key_count) {
     static constexpr std::uint64_t no_key = 0;
-    return open_by(wanted, count, [&](vbr_handle *handles, std::size_t number) {
+    return open_by<opened>(wanted, count, [&](vbr_handle *handles, std::size_t number) {
         return vbr_open_with(handles, number, wanted.slots, wanted.buckets, wanted.last_epoch, key_count ? keys : &no_key, key_count);
     });
 }
@@ -325,12 +454,15 @@ inline opened open_with(const shape &wanted, std::size_t count, std::initializer
 
 namespace detail {
 
-template <class Keys, class = void>
-struct is_array_of_keys : std::false_type {};
+template <class Item, class Range, class = void>
+struct is_array_of : std::false_type {};
 
-template <class Keys>
-struct is_array_of_keys<Keys, std::void_t<decltype(std::data(std::declval<const Keys &>())), decltype(std::size(std::declval<const Keys &>()))>>
-    : std::is_convertible<decltype(std::data(std::declval<const Keys &>())), const std::uint64_t *> {};
+template <class Item, class Range>
+struct is_array_of<Item, Range, std::void_t<decltype(std::data(std::declval<const Range &>())), decltype(std::size(std::declval<const Range &>()))>>
+    : std::is_convertible<decltype(std::data(std::declval<const Range &>())), const Item *> {};
+
+template <class Number>
+inline constexpr bool is_number = std::is_unsigned_v<Number> && !std::is_same_v<Number, bool>;
 
 } // namespace detail
 
@@ -341,8 +473,8 @@ struct is_array_of_keys<Keys, std::void_t<decltype(std::data(std::declval<const 
 template <class Keys>
 opened open_with(const shape &wanted, std::size_t count, const Keys &keys) {
     using key = std::decay_t<decltype(*std::begin(keys))>;
-    static_assert(std::is_unsigned_v<key> && !std::is_same_v<key, bool>, "keys are unsigned numbers");
-    if constexpr (detail::is_array_of_keys<Keys>::value) {
+    static_assert(detail::is_number<key>, "keys are unsigned numbers");
+    if constexpr (detail::is_array_of<std::uint64_t, Keys>::value) {
         return open_with(wanted, count, std::data(keys), std::size(keys));
     } else {
         std::vector<std::uint64_t> copy;
@@ -351,78 +483,135 @@ opened open_with(const shape &wanted, std::size_t count, const Keys &keys) {
     }
 }
 
-class lender;
+/* Opens an empty map with `count` handles, from 1 to 64.
+
+       auto [opened, handles] = vbr::open_map(vbr::shape::for_keys(1024, 2), 2); */
+inline map_opened open_map(const shape &wanted, std::size_t count) {
+    return open_by<map_opened>(wanted, count, [&](vbr_map_handle *handles, std::size_t number) {
+        return vbr_map_open(handles, number, wanted.slots, wanted.buckets, wanted.last_epoch);
+    });
+}
+
+/* Opens a map of these entries, whose keys ascend, each above the one before.
+
+       vbr::map_opened some = vbr::open_map_with(shape, 1, want.data(), want.size()); */
+inline map_opened open_map_with(const shape &wanted, std::size_t count, const entry *entries, std::size_t entry_count) {
+    static constexpr entry no_entry = {0, 0};
+    return open_by<map_opened>(wanted, count, [&](vbr_map_handle *handles, std::size_t number) {
+        return vbr_map_open_with(handles, number, wanted.slots, wanted.buckets, wanted.last_epoch, entry_count ? entries : &no_entry, entry_count);
+    });
+}
+
+/* The same with a list of entries.
+
+       auto opened = vbr::open_map_with(vbr::shape::for_keys(8, 1), 1, {{2, 20}, {5, 50}, {9, 90}}); */
+inline map_opened open_map_with(const shape &wanted, std::size_t count, std::initializer_list<entry> entries) {
+    return open_map_with(wanted, count, entries.begin(), entries.size());
+}
+
+/* The same with any range of entries, or of pairs of unsigned numbers: an array or a vector of vbr::entry is read where it is,
+   and others, as a std::map, are copied first.
+
+       auto opened = vbr::open_map_with(vbr::shape::for_keys(8, 1), 1, entries); */
+template <class Entries>
+map_opened open_map_with(const shape &wanted, std::size_t count, const Entries &entries) {
+    if constexpr (detail::is_array_of<entry, Entries>::value) {
+        return open_map_with(wanted, count, std::data(entries), std::size(entries));
+    } else {
+        std::vector<entry> copy;
+        for (const auto &[key, value] : entries) {
+            static_assert(detail::is_number<std::decay_t<decltype(key)>>, "keys are unsigned numbers");
+            static_assert(detail::is_number<std::decay_t<decltype(value)>>, "values are unsigned numbers");
+            copy.push_back({key, value});
+        }
+        return open_map_with(wanted, count, copy.data(), copy.size());
+    }
+}
+
+template <class Handle>
+class basic_lender;
 
 /* A handle on loan, or none; its end gives it back. It is tested by `if (loan)` and used as a pointer.
 
        vbr::loan mine = lender.lend();
        if (!mine) { // all are lent at the moment */
-class [[nodiscard]] loan {
+template <class Handle>
+class [[nodiscard]] basic_loan {
 public:
-    loan(loan &&other) noexcept : owner(std::exchange(other.owner, nullptr)), number(other.number) {}
-    loan &operator=(loan &&) = delete;
-    ~loan();
+    basic_loan(basic_loan &&other) noexcept : owner(std::exchange(other.owner, nullptr)), number(other.number) {}
+    basic_loan &operator=(basic_loan &&) = delete;
+    ~basic_loan() {
+        if (owner) owner->free.fetch_or(std::uint64_t{1} << number, std::memory_order_release);
+    }
     explicit operator bool() const noexcept { return owner != nullptr; }
-    handle &operator*() const noexcept;
-    handle *operator->() const noexcept { return &**this; }
+    Handle &operator*() const noexcept { return owner->owned[number]; }
+    Handle *operator->() const noexcept { return &**this; }
 
 private:
-    friend class lender;
-    loan(lender *from, std::size_t which) noexcept : owner(from), number(which) {}
-    lender *owner;
+    friend class basic_lender<Handle>;
+    basic_loan(basic_lender<Handle> *from, std::size_t which) noexcept : owner(from), number(which) {}
+    basic_lender<Handle> *owner;
     std::size_t number;
 };
 
-/* Lends handles of a set, up to 64, to threads that come and go: at once or not at all, without a lock. A loan and its return
-   are one atomic operation each on a word that all threads share, so keep a loan for as many calls as can be.
+/* Lends handles of a set or a map, up to 64, to threads that come and go: at once or not at all, without a lock. A loan and its
+   return are one atomic operation each on a word that all threads share, so keep a loan for as many calls as can be.
 
        vbr::lender lender(std::move(opened.handles)); */
-class lender {
+template <class Handle>
+class basic_lender {
 public:
-    explicit lender(std::vector<handle> handles) noexcept : owned(std::move(handles)) {
+    explicit basic_lender(std::vector<Handle> handles) noexcept : owned(std::move(handles)) {
         std::size_t count = owned.size();
         free.store(count >= max_handles ? ~std::uint64_t{0} : (std::uint64_t{1} << count) - 1, std::memory_order_relaxed);
     }
-    lender(const lender &) = delete;
-    lender &operator=(const lender &) = delete;
+    basic_lender(const basic_lender &) = delete;
+    basic_lender &operator=(const basic_lender &) = delete;
 
     /* A free handle, or none where each was lent at a moment of the call. It tries each handle at most once.
 
            vbr::loan mine = lender.lend(); */
-    loan lend() noexcept {
+    basic_loan<Handle> lend() noexcept {
         std::uint64_t untried = ~std::uint64_t{0}, seen = free.load(std::memory_order_relaxed);
         while (seen & untried) {
             std::size_t number = 0;
             while (!((seen & untried) >> number & 1)) number++;
             std::uint64_t bit = std::uint64_t{1} << number;
             seen = free.fetch_and(~bit, std::memory_order_acquire);
-            if (seen & bit) return loan(this, number);
+            if (seen & bit) return basic_loan<Handle>(this, number);
             untried &= ~bit;
         }
-        return loan(nullptr, 0);
+        return basic_loan<Handle>(nullptr, 0);
     }
 
     /* Closes all handles, and gives the report. There is no loan meanwhile.
 
            vbr::closed closed = lender.close(); */
-    closed close() {
-        closed last{close_answer::empty, std::nullopt};
-        for (handle &each : owned)
+    auto close() {
+        decltype(std::declval<Handle &>().close()) last{close_answer::empty, std::nullopt};
+        for (Handle &each : owned)
             if (each.is_open()) last = each.close();
         return last;
     }
 
 private:
-    friend class loan;
-    std::vector<handle> owned;
+    friend class basic_loan<Handle>;
+    std::vector<Handle> owned;
     std::atomic<std::uint64_t> free{0};
 };
 
-inline loan::~loan() {
-    if (owner) owner->free.fetch_or(std::uint64_t{1} << number, std::memory_order_release);
-}
+/* Those of a set.
 
-inline handle &loan::operator*() const noexcept { return owner->owned[number]; }
+       vbr::lender lender(std::move(opened.handles)); */
+using lender = basic_lender<handle>;
+using loan = basic_loan<handle>;
+
+/* Those of a map.
+
+       vbr::map_lender lender(std::move(opened.handles));
+       vbr::map_loan mine = lender.lend(); */
+using map_lender = basic_lender<map_handle>;
+using map_loan = basic_loan<map_handle>;
 
 } // namespace vbr
 

@@ -20,11 +20,18 @@
 
    What is done with a handle before it is given back comes before what the next borrower does (a release and an acquire).
    The handles and the lender stay where they are while there are loans. A signal handler may borrow. Once all are given
-   back, the handles are closed by vbr_close as ever. It is written for GCC and Clang, in C99 to C++23. */
+   back, the handles are closed by vbr_close as ever. Handles to a map are lent by the calls with `vbr_map_` in their names.
+   It is written for GCC and Clang, in C99 to C++23. */
 #ifndef VBR_LEND_H
 #define VBR_LEND_H
 
 #include "vbr.h"
+
+#ifdef __cplusplus
+#define VBR_NO_HANDLE nullptr
+#else
+#define VBR_NO_HANDLE NULL
+#endif
 
 /* Open handles of a set, and a bit for each: whether it is free. All zero: no handles.
 
@@ -33,6 +40,27 @@ typedef struct vbr_lender {
     vbr_handle *handles;
     uint64_t free;
 } vbr_lender;
+
+/* Open handles of a map, and a bit for each.
+
+       vbr_map_lender lender = {0}; */
+typedef struct vbr_map_lender {
+    vbr_map_handle *handles;
+    uint64_t free;
+} vbr_map_lender;
+
+/* What both lenders do: the number of a free handle, which isn't free any more, or -1. It is no part of the interface. */
+VBR_NODISCARD VBR_NONNULL static inline int vbr_lend_number(uint64_t *free) VBR_NOEXCEPT {
+    uint64_t untried = UINT64_MAX, seen = __atomic_load_n(free, __ATOMIC_RELAXED);
+    while (seen & untried) {
+        int lowest = __builtin_ctzll(seen & untried);
+        uint64_t bit = UINT64_C(1) << lowest;
+        seen = __atomic_fetch_and(free, ~bit, __ATOMIC_ACQUIRE);
+        if (seen & bit) return lowest;
+        untried &= ~bit;
+    }
+    return -1;
+}
 
 /* Lends these handles, `count` of them, up to 64, from now on. No thread uses the lender before.
 
@@ -49,19 +77,8 @@ VBR_NONNULL static inline void vbr_lender_init(vbr_lender *lender, vbr_handle *h
 
        vbr_handle *mine = vbr_lend(&lender); // NULL: both are lent */
 VBR_NODISCARD VBR_NONNULL static inline vbr_handle *vbr_lend(vbr_lender *lender) VBR_NOEXCEPT {
-    uint64_t untried = UINT64_MAX, free = __atomic_load_n(&lender->free, __ATOMIC_RELAXED);
-    while (free & untried) {
-        int lowest = __builtin_ctzll(free & untried);
-        uint64_t bit = UINT64_C(1) << lowest;
-        free = __atomic_fetch_and(&lender->free, ~bit, __ATOMIC_ACQUIRE);
-        if (free & bit) return &lender->handles[lowest];
-        untried &= ~bit;
-    }
-#ifdef __cplusplus
-    return nullptr;
-#else
-    return NULL;
-#endif
+    int number = vbr_lend_number(&lender->free);
+    return number < 0 ? VBR_NO_HANDLE : &lender->handles[number];
 }
 
 /* Gives back a handle that was lent by this lender, and isn't in a call.
@@ -70,5 +87,31 @@ VBR_NODISCARD VBR_NONNULL static inline vbr_handle *vbr_lend(vbr_lender *lender)
 VBR_NONNULL static inline void vbr_give_back(vbr_lender *lender, vbr_handle *handle) VBR_NOEXCEPT {
     __atomic_fetch_or(&lender->free, UINT64_C(1) << (handle - lender->handles), __ATOMIC_RELEASE);
 }
+
+/* As vbr_lender_init, of handles to a map.
+
+       vbr_map_lender lender = {0};
+       vbr_map_lender_init(&lender, map, 2); */
+VBR_NONNULL static inline void vbr_map_lender_init(vbr_map_lender *lender, vbr_map_handle *handles, size_t count) VBR_NOEXCEPT {
+    lender->handles = handles;
+    __atomic_store_n(&lender->free, count >= VBR_MAX_HANDLES ? UINT64_MAX : (UINT64_C(1) << count) - 1, __ATOMIC_RELEASE);
+}
+
+/* As vbr_lend: a free handle to a map, or a null pointer.
+
+       vbr_map_handle *mine = vbr_map_lend(&lender); // NULL: both are lent */
+VBR_NODISCARD VBR_NONNULL static inline vbr_map_handle *vbr_map_lend(vbr_map_lender *lender) VBR_NOEXCEPT {
+    int number = vbr_lend_number(&lender->free);
+    return number < 0 ? VBR_NO_HANDLE : &lender->handles[number];
+}
+
+/* Gives back a handle to a map that was lent by this lender, and isn't in a call.
+
+       vbr_map_give_back(&lender, mine); // and mine isn't used any more */
+VBR_NONNULL static inline void vbr_map_give_back(vbr_map_lender *lender, vbr_map_handle *handle) VBR_NOEXCEPT {
+    __atomic_fetch_or(&lender->free, UINT64_C(1) << (handle - lender->handles), __ATOMIC_RELEASE);
+}
+
+#undef VBR_NO_HANDLE
 
 #endif

@@ -1,4 +1,4 @@
-/* What ThreadSanitizer is told of the set, which is compiled without it. vbr.h includes this where a program is compiled
+/* What ThreadSanitizer is told of sets and maps, which are compiled without it. vbr.h includes this where a program is compiled
    with -fsanitize=thread, in C and C++; a program needs no line for it.
 
    The calls go through functions that tell it
@@ -7,9 +7,10 @@
      before it removed one before what a thread does that then finds it absent;
    - that what was done before a handle was closed comes before what the last close tells.
 
-   So a right program is silent, and one that reads what it didn't look up, or what is absent, is reported. The sanitizer
-   has a place for each of 16,384 groups of keys, whatever the set, and takes an insert or a remove that is answered no or
-   refused for one that is answered yes: where keys of a group meet, or after such an answer, it may miss a race. */
+   Of maps it is told the same, where a get is a look-up, and besides that a value was written. So a right program is silent,
+   and one that reads what it didn't look up, or what is absent, is reported. The sanitizer has a place for each of 16,384
+   groups of keys, whatever the set, and takes an insert or a remove that is answered no or refused for one that is answered
+   yes: where keys of a group meet, or after such an answer, it may miss a race. */
 #ifndef VBR_TSAN_H
 #define VBR_TSAN_H
 
@@ -44,8 +45,16 @@ static inline void *vbr_tsan_closed(void) {
 }
 
 /* A call on a handle writes what the handle owns. */
+static inline void vbr_tsan_owned(void *owned) {
+    if (owned) __tsan_write8(owned);
+}
+
 static inline void vbr_tsan_uses(const vbr_handle *handle) {
-    if (handle && handle->owned) __tsan_write8(handle->owned);
+    if (handle) vbr_tsan_owned(handle->owned);
+}
+
+static inline void vbr_tsan_map_uses(const vbr_map_handle *handle) {
+    if (handle) vbr_tsan_owned(handle->owned);
 }
 
 VBR_NODISCARD static inline vbr_answer vbr_tsan_insert(vbr_handle *handle, uint64_t key, uint32_t budget) VBR_NOEXCEPT {
@@ -117,6 +126,86 @@ VBR_NODISCARD static inline uint32_t vbr_tsan_buckets(vbr_handle *handle) VBR_NO
     return vbr_buckets(handle);
 }
 
+/* What comes before an answer that tells whether a key was there, and that a value was written beside it. */
+static inline vbr_answer vbr_tsan_found(uint64_t key, vbr_answer answer) {
+    if (answer == VBR_YES) __tsan_acquire(vbr_tsan_there(key));
+    if (answer == VBR_NO) __tsan_acquire(vbr_tsan_gone(key));
+    return answer;
+}
+
+static inline vbr_answer vbr_tsan_given(uint64_t *value, vbr_answer answer) {
+    if (answer == VBR_YES) __tsan_write8(value);
+    return answer;
+}
+
+VBR_NODISCARD static inline vbr_answer vbr_tsan_map_insert(vbr_map_handle *handle, uint64_t key, uint64_t value, uint32_t budget) VBR_NOEXCEPT {
+    vbr_tsan_map_uses(handle);
+    __tsan_release(vbr_tsan_there(key));
+    vbr_answer answer = vbr_map_insert(handle, key, value, budget);
+    if (answer == VBR_YES) __tsan_acquire(vbr_tsan_gone(key));
+    if (answer == VBR_NO) __tsan_acquire(vbr_tsan_there(key));
+    return answer;
+}
+
+VBR_NODISCARD static inline vbr_answer vbr_tsan_map_remove(vbr_map_handle *handle, uint64_t key, uint32_t budget, uint64_t *value) VBR_NOEXCEPT {
+    vbr_tsan_map_uses(handle);
+    __tsan_release(vbr_tsan_gone(key));
+    return vbr_tsan_given(value, vbr_tsan_found(key, vbr_map_remove(handle, key, budget, value)));
+}
+
+VBR_NODISCARD static inline vbr_answer vbr_tsan_map_get(vbr_map_handle *handle, uint64_t key, uint32_t budget, uint64_t *value) VBR_NOEXCEPT {
+    vbr_tsan_map_uses(handle);
+    return vbr_tsan_given(value, vbr_tsan_found(key, vbr_map_get(handle, key, budget, value)));
+}
+
+VBR_NODISCARD static inline vbr_answer vbr_tsan_map_has(vbr_map_handle *handle, uint64_t key, uint32_t budget) VBR_NOEXCEPT {
+    vbr_tsan_map_uses(handle);
+    return vbr_tsan_found(key, vbr_map_has(handle, key, budget));
+}
+
+VBR_NODISCARD static inline vbr_answer vbr_tsan_map_close(vbr_map_handle *handle, vbr_entry *entries, size_t room, vbr_totals *report) VBR_NOEXCEPT {
+    vbr_tsan_map_uses(handle);
+    __tsan_release(vbr_tsan_closed());
+    vbr_answer answer = vbr_map_close(handle, entries, room, report);
+    if (answer == VBR_YES || answer == VBR_LOST) __tsan_acquire(vbr_tsan_closed());
+    return answer;
+}
+
+VBR_NODISCARD static inline vbr_answer vbr_tsan_map_close_all(vbr_map_handle *handles, size_t count, vbr_entry *entries, size_t room,
+                                                              vbr_totals *report) VBR_NOEXCEPT {
+    for (size_t i = 0; i < count; i++) vbr_tsan_map_uses(&handles[i]);
+    __tsan_release(vbr_tsan_closed());
+    vbr_answer answer = vbr_map_close_all(handles, count, entries, room, report);
+    if (answer == VBR_YES) __tsan_acquire(vbr_tsan_closed());
+    return answer;
+}
+
+static inline void vbr_tsan_map_drop(vbr_map_handle *handle) VBR_NOEXCEPT {
+    vbr_tsan_map_uses(handle);
+    __tsan_release(vbr_tsan_closed());
+    vbr_map_drop(handle);
+}
+
+VBR_NODISCARD static inline uint64_t vbr_tsan_map_epoch(vbr_map_handle *handle) VBR_NOEXCEPT {
+    vbr_tsan_map_uses(handle);
+    return vbr_map_epoch(handle);
+}
+
+VBR_NODISCARD static inline uint64_t vbr_tsan_map_last_epoch(vbr_map_handle *handle) VBR_NOEXCEPT {
+    vbr_tsan_map_uses(handle);
+    return vbr_map_last_epoch(handle);
+}
+
+VBR_NODISCARD static inline uint32_t vbr_tsan_map_slots(vbr_map_handle *handle) VBR_NOEXCEPT {
+    vbr_tsan_map_uses(handle);
+    return vbr_map_slots(handle);
+}
+
+VBR_NODISCARD static inline uint32_t vbr_tsan_map_buckets(vbr_map_handle *handle) VBR_NOEXCEPT {
+    vbr_tsan_map_uses(handle);
+    return vbr_map_buckets(handle);
+}
+
 #define vbr_epoch(handle) vbr_tsan_epoch(handle)
 #define vbr_last_epoch(handle) vbr_tsan_last_epoch(handle)
 #define vbr_slots(handle) vbr_tsan_slots(handle)
@@ -127,5 +216,16 @@ VBR_NODISCARD static inline uint32_t vbr_tsan_buckets(vbr_handle *handle) VBR_NO
 #define vbr_close(handle, keys, room, report) vbr_tsan_close(handle, keys, room, report)
 #define vbr_close_all(handles, count, keys, room, report) vbr_tsan_close_all(handles, count, keys, room, report)
 #define vbr_drop(handle) vbr_tsan_drop(handle)
+#define vbr_map_epoch(handle) vbr_tsan_map_epoch(handle)
+#define vbr_map_last_epoch(handle) vbr_tsan_map_last_epoch(handle)
+#define vbr_map_slots(handle) vbr_tsan_map_slots(handle)
+#define vbr_map_buckets(handle) vbr_tsan_map_buckets(handle)
+#define vbr_map_insert(handle, key, value, budget) vbr_tsan_map_insert(handle, key, value, budget)
+#define vbr_map_remove(handle, key, budget, value) vbr_tsan_map_remove(handle, key, budget, value)
+#define vbr_map_get(handle, key, budget, value) vbr_tsan_map_get(handle, key, budget, value)
+#define vbr_map_has(handle, key, budget) vbr_tsan_map_has(handle, key, budget)
+#define vbr_map_close(handle, entries, room, report) vbr_tsan_map_close(handle, entries, room, report)
+#define vbr_map_close_all(handles, count, entries, room, report) vbr_tsan_map_close_all(handles, count, entries, room, report)
+#define vbr_map_drop(handle) vbr_tsan_map_drop(handle)
 
 #endif

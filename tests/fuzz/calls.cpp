@@ -1,11 +1,12 @@
-// Random sequences of calls of the C library, in one thread, against a set of the standard library.
+// Random sequences of calls of the C library, in one thread, on sets or on maps, against a map of the standard library.
 //
-//     calls INPUTS [SEED [FILE]]   tries so many random inputs; FILE gets at most 100 that show all that was seen
-//     calls --replay FILE          tries the inputs of a file, one a line
+//     calls sets|maps INPUTS [SEED [FILE]]   tries so many random inputs; FILE gets at most 100 that show all that was seen
+//     calls sets|maps --replay FILE          tries the inputs of a file, one a line
 //
 // An input is bytes, which are read as calls: openings with good and bad numbers, calls with budgets of all sizes, closings
 // in any order, on handles that are empty or in use, with memory that is refused. While the other handles stand still, as
-// they do here, a budget that vbr.h promises to be enough is enough: so each refusal is known to be due, or isn't made.
+// they do here, a budget that vbr.h promises to be enough is enough: so each refusal is known to be due, or isn't made. No two
+// inserts store the same value, so one of an earlier insert is told from that of the last.
 // Link with -Wl,--wrap=malloc,--wrap=realloc,--wrap=free.
 #include "fuzz.hpp"
 #include "vbr.h"
@@ -13,7 +14,6 @@
 #include <algorithm>
 #include <map>
 #include <memory>
-#include <set>
 
 using fuzz::fail;
 
@@ -51,13 +51,61 @@ extern "C" void __wrap_free(void *block) {
     __real_free(block);
 }
 
+// ---- what is called ------------------------------------------------------------------------------------------
+
+// Where a value is written that a call gives, and what stands there before.
+static constexpr uint64_t NO_VALUE = 0xabcdef;
+
+enum Kind { INSERT, REMOVE, HAS, GET };
+
+// A set: its items are keys, and it gives no values.
+struct Sets {
+    using Handle = vbr_handle;
+    using Item = uint64_t;
+    static constexpr const char *NAME = "sets";
+    static constexpr bool HAS_VALUES = false;
+    static Item item(uint64_t key, uint64_t) { return key; }
+    static uint64_t key(Item item) { return item; }
+    static uint64_t value(Item) { return 0; }
+    static constexpr auto open = vbr_open;
+    static constexpr auto open_with = vbr_open_with;
+    static constexpr auto close = vbr_close;
+    static constexpr auto drop = vbr_drop;
+    static int call(Kind kind, Handle *handle, uint64_t key, uint32_t budget, uint64_t *) {
+        return kind == INSERT ? vbr_insert(handle, key, budget) : kind == REMOVE ? vbr_remove(handle, key, budget) : vbr_has(handle, key, budget);
+    }
+};
+
+// A map: an insert stores the value that it is given, and removes and gets give one.
+struct Maps {
+    using Handle = vbr_map_handle;
+    using Item = vbr_entry;
+    static constexpr const char *NAME = "maps";
+    static constexpr bool HAS_VALUES = true;
+    static Item item(uint64_t key, uint64_t value) { return {key, value}; }
+    static uint64_t key(Item item) { return item.key; }
+    static uint64_t value(Item item) { return item.value; }
+    static constexpr auto open = vbr_map_open;
+    static constexpr auto open_with = vbr_map_open_with;
+    static constexpr auto close = vbr_map_close;
+    static constexpr auto drop = vbr_map_drop;
+    static int call(Kind kind, Handle *handle, uint64_t key, uint32_t budget, uint64_t *value) {
+        return kind == INSERT   ? vbr_map_insert(handle, key, *value, budget)
+               : kind == REMOVE ? vbr_map_remove(handle, key, budget, value)
+               : kind == GET    ? vbr_map_get(handle, key, budget, value)
+                                : vbr_map_has(handle, key, budget);
+    }
+};
+
+static bool operator==(const vbr_entry &a, const vbr_entry &b) { return a.key == b.key && a.value == b.value; }
+
 // ---- the model -----------------------------------------------------------------------------------------------
 
 struct Model {
     uint32_t slots, buckets;
     uint64_t last_epoch;
     size_t handles, open;
-    std::set<uint64_t> keys;
+    std::map<uint64_t, uint64_t> keys;  // each with its value
     std::map<uint64_t, uint64_t> marked;  // by bucket: how many removed nodes may still be in its list
     uint64_t all_marked = 0, inserts = 0;
 
@@ -67,17 +115,15 @@ struct Model {
     // How many nodes the bucket of a key has at most.
     uint64_t nodes(uint64_t key) const {
         uint64_t bucket = bucket_of(key), count = 0;
-        for (uint64_t other : keys) count += bucket_of(other) == bucket;
+        for (auto &[other, value] : keys) count += bucket_of(other) == bucket;
         auto it = marked.find(bucket);
         return count + (it == marked.end() ? 0 : it->second);
     }
 };
 
-enum Kind { INSERT, REMOVE, HAS };
-
 static constexpr size_t CELLS = 80, MOST_KEYS = 96;
 
-class Calls {
+template <class Of> class Calls {
 public:
     explicit Calls(const std::string &input) : input(input) {}
 
@@ -94,7 +140,8 @@ private:
     const std::string &input;
     size_t at = 0;
     int large = 0;
-    vbr_handle cells[CELLS] = {};
+    uint64_t values = 0;  // how many were stored
+    typename Of::Handle cells[CELLS] = {};
     std::shared_ptr<Model> models[CELLS];
 
     uint8_t byte() { return at < input.size() ? static_cast<uint8_t>(input[at++]) : 0; }
@@ -120,7 +167,8 @@ private:
         switch (x % 16) {
             case 0: case 1: case 2: case 3: case 4: return call(INSERT, cell(), key());
             case 5: case 6: case 7: return call(REMOVE, cell(), key());
-            case 8: case 9: return call(HAS, cell(), key());
+            case 8: return call(HAS, cell(), key());
+            case 9: return call(Of::HAS_VALUES ? GET : HAS, cell(), key());
             case 10: return burst(cell(), key(), byte());
             case 11: case 12: return open(cell(), x & 32);
             case 13: return close(cell(), byte() % MOST_KEYS);
@@ -153,8 +201,11 @@ private:
         return x < 128 ? VBR_MAX_EPOCH : x < 240 ? 1 + x % 20 : some[x % 4];
     }
 
-    // Keys to open a set with: mostly they ascend.
-    std::vector<uint64_t> opening_keys() {
+    // A value that no other insert stored.
+    uint64_t fresh_value() { return ++values * 0x9E3779B97F4A7C15; }
+
+    // What to open with: mostly the keys ascend.
+    std::vector<typename Of::Item> opening_items() {
         uint8_t x = byte();
         std::vector<uint64_t> keys(x % 24);
         for (uint64_t &key : keys) key = this->key();
@@ -162,11 +213,13 @@ private:
             std::sort(keys.begin(), keys.end());
             keys.erase(std::unique(keys.begin(), keys.end()), keys.end());
         }
-        return keys;
+        std::vector<typename Of::Item> items;
+        for (uint64_t key : keys) items.push_back(Of::item(key, fresh_value()));
+        return items;
     }
 
-    static bool ascend(const std::vector<uint64_t> &keys) {
-        return std::adjacent_find(keys.begin(), keys.end(), [](uint64_t a, uint64_t b) { return a >= b; }) == keys.end();
+    static bool ascend(const std::vector<typename Of::Item> &items) {
+        return std::adjacent_find(items.begin(), items.end(), [](auto a, auto b) { return Of::key(a) >= Of::key(b); }) == items.end();
     }
 
     void open(size_t from, bool with_keys) {
@@ -177,24 +230,25 @@ private:
         bool in_use = false;
         for (size_t i = from; i < from + count; i++) in_use |= models[i] != nullptr;
         bool bad = s < 1 || s > VBR_MAX_SLOTS || b < 1 || b > VBR_MAX_BUCKETS || e < 1 || e > VBR_MAX_EPOCH;
-        std::vector<uint64_t> keys = with_keys ? opening_keys() : std::vector<uint64_t>();
-        int want = in_use                             ? VBR_IN_USE
-                   : bad                              ? VBR_BAD_SHAPE
-                   : count < 1 || count > 64          ? VBR_BAD_COUNT
-                   : keys.size() > s || !ascend(keys) ? VBR_BAD_KEYS
-                                                      : VBR_NO;
+        std::vector<typename Of::Item> items;
+        if (with_keys) items = opening_items();
+        int want = in_use                               ? VBR_IN_USE
+                   : bad                                ? VBR_BAD_SHAPE
+                   : count < 1 || count > 64            ? VBR_BAD_COUNT
+                   : items.size() > s || !ascend(items) ? VBR_BAD_KEYS
+                                                        : VBR_NO;
         refused_one = false;
         long before = blocks;
         uint32_t slots = static_cast<uint32_t>(s), buckets = static_cast<uint32_t>(b);
-        int answer = with_keys ? vbr_open_with(&cells[from], count, slots, buckets, e, keys.data(), keys.size())
-                               : vbr_open(&cells[from], count, slots, buckets, e);
+        int answer = with_keys ? Of::open_with(&cells[from], count, slots, buckets, e, items.data(), items.size())
+                               : Of::open(&cells[from], count, slots, buckets, e);
         allowed = -1;
         if (answer != want && !(want == VBR_NO && answer == VBR_NO_MEMORY && refused_one)) fail("the answer of an opening");
         if (answer != VBR_NO && blocks != before) fail("an opening kept memory");
-        saw(with_keys ? 7 : 1, answer, keys.size() << 2 | (count > 1) * 2 | refused_one);
+        saw(with_keys ? 7 : 1, answer, items.size() << 2 | (count > 1) * 2 | refused_one);
         if (answer != VBR_NO) return;
         auto model = std::make_shared<Model>();
-        model->keys.insert(keys.begin(), keys.end());
+        for (const auto &item : items) model->keys[Of::key(item)] = Of::value(item);
         model->slots = slots, model->buckets = buckets, model->last_epoch = e;
         model->handles = model->open = count;
         for (size_t i = from; i < from + count; i++) models[i] = model;
@@ -203,7 +257,7 @@ private:
     // The steps that are promised to be enough.
     static uint64_t enough(const Model &m, Kind kind, uint64_t key) {
         uint64_t n = m.nodes(key), words = (m.slots + 63) / 64;
-        return kind == HAS ? 5 * n + 11 : kind == REMOVE ? 9 * n + 11 : std::max(18 * n + 82, 18 * n + words + 20);
+        return kind == HAS || kind == GET ? 5 * n + 11 : kind == REMOVE ? 9 * n + 11 : std::max(18 * n + 82, 18 * n + words + 20);
     }
 
     uint32_t budget(const Model &m, Kind kind, uint64_t key) {
@@ -215,28 +269,33 @@ private:
         return static_cast<uint32_t>(most * (x - 160) / 96);
     }
 
-    int made(Kind kind, size_t cell, uint64_t key, uint32_t budget) {
-        return kind == INSERT   ? vbr_insert(&cells[cell], key, budget)
-               : kind == REMOVE ? vbr_remove(&cells[cell], key, budget)
-                                : vbr_has(&cells[cell], key, budget);
+    // Whether a value was given where a key is there with it, and nothing was written otherwise.
+    static void check_value(const Model &m, Kind kind, uint64_t key, int answer, uint64_t told) {
+        bool gives = Of::HAS_VALUES && (kind == REMOVE || kind == GET) && answer == VBR_YES;
+        if (kind != INSERT && told != (gives ? m.keys.at(key) : NO_VALUE)) fail("the value that a call gives");
     }
+
+    static int what(Kind kind) { return kind == GET ? 8 : 2 + kind; }
 
     void call(Kind kind, size_t cell, uint64_t key) {
         if (!models[cell]) {
-            int answer = made(kind, cell, key, byte());
-            if (answer != VBR_EMPTY) fail("a call of an empty handle");
-            return saw(2 + kind, answer, 0);
+            uint64_t value = NO_VALUE;
+            int answer = Of::call(kind, &cells[cell], key, byte(), &value);
+            if (answer != VBR_EMPTY || value != NO_VALUE) fail("a call of an empty handle");
+            return saw(what(kind), answer, 0);
         }
         Model &m = *models[cell];
         uint32_t budget = this->budget(m, kind, key);
         uint64_t most = enough(m, kind, key);
         bool there = m.keys.count(key) != 0;
         m.inserts += kind == INSERT;
-        int answer = made(kind, cell, key, budget);
+        uint64_t value = kind == INSERT ? fresh_value() : NO_VALUE;
+        int answer = Of::call(kind, &cells[cell], key, budget, &value);
         check(m, kind, answer, there, budget, most);
-        saw(2 + kind, answer, there | (budget < most) << 1 | (m.keys.size() > 8) << 2 | (m.handles > 1) << 3 |
+        check_value(m, kind, key, answer, value);
+        saw(what(kind), answer, there | (budget < most) << 1 | (m.keys.size() > 8) << 2 | (m.handles > 1) << 3 |
                                   (m.slots < 8) << 4 | (m.all_marked > 0) << 5 | (m.open < m.handles) << 6);
-        if (kind == INSERT && answer == VBR_YES) m.keys.insert(key);
+        if (kind == INSERT && answer == VBR_YES) m.keys[key] = value;
         if (kind == REMOVE && answer == VBR_YES) {
             m.keys.erase(key);
             if (budget < most + 9) m.marked[m.bucket_of(key)]++, m.all_marked++;  // its node may still be in the list
@@ -265,37 +324,39 @@ private:
         }
     }
 
-    // Inserts and removes of one key in turn: slots are used again, and the epoch moves.
+    // Inserts and removes of one key in turn: slots are used again, and the epoch moves. In a map a second insert stores nothing,
+    // and a get tells what the first one stored.
     void burst(size_t cell, uint64_t key, int count) {
-        for (int i = 0; i < count % 64; i++) call(i % 2 ? REMOVE : INSERT, cell, key);
+        static const std::vector<Kind> turn = Of::HAS_VALUES ? std::vector{INSERT, INSERT, GET, REMOVE} : std::vector{INSERT, REMOVE};
+        for (size_t i = 0; i < static_cast<size_t>(count % 64); i++) call(turn[i % turn.size()], cell, key);
     }
 
     void close(size_t cell, size_t room) {
-        uint64_t keys[MOST_KEYS + 1];
-        std::fill(std::begin(keys), std::end(keys), 0xabcdefu);
+        typename Of::Item items[MOST_KEYS + 1];
+        std::fill(std::begin(items), std::end(items), Of::item(NO_VALUE, NO_VALUE));
         vbr_totals report = {77, 77, 77, 77};
         std::shared_ptr<Model> m = models[cell];
         int want = !m ? VBR_EMPTY : m->open > 1 ? VBR_NO : m->keys.size() > room ? VBR_NO_ROOM : VBR_YES;
         refused_one = false;
-        int answer = vbr_close(&cells[cell], keys, room, &report);
+        int answer = Of::close(&cells[cell], items, room, &report);
         allowed = -1;
         bool short_of = m && m->open == 1 && answer == VBR_NO_MEMORY && refused_one;
-        if (answer != want && !short_of) fail("the answer of vbr_close");
+        if (answer != want && !short_of) fail("the answer of a close");
         saw(5, answer, m ? (m->keys.size() > room) | (m->all_marked > 0) << 1 | (m->keys.empty()) << 2 : 0);
         bool untouched = report.epoch == 77 && report.live == 77 && report.marked == 77 && report.free == 77;
         bool told = answer == VBR_YES || answer == VBR_NO_ROOM;
-        if (!told && !untouched) fail("vbr_close wrote without a report");
-        if (answer != VBR_YES && keys[0] != 0xabcdefu) fail("vbr_close wrote keys that have no room");
+        if (!told && !untouched) fail("a close wrote without a report");
+        if (answer != VBR_YES && !(items[0] == Of::item(NO_VALUE, NO_VALUE))) fail("a close wrote keys that have no room");
         if (told) check_report(*m, report);
-        if (answer == VBR_YES) check_keys(*m, keys);
+        if (answer == VBR_YES) check_items(*m, items);
         if (m && !short_of && answer != VBR_NO_ROOM) m->open--, models[cell] = nullptr;
     }
 
-    static void check_keys(const Model &m, const uint64_t *keys) {
+    static void check_items(const Model &m, const typename Of::Item *items) {
         size_t count = 0;
-        for (uint64_t key : m.keys)
-            if (keys[count++] != key) fail("a key of the report");
-        if (keys[count] != 0xabcdefu) fail("more keys than there are");
+        for (auto &[key, value] : m.keys)
+            if (!(items[count++] == Of::item(key, value))) fail("a key of the report, or its value");
+        if (!(items[count] == Of::item(NO_VALUE, NO_VALUE))) fail("more keys than there are");
     }
 
     static void check_report(const Model &m, const vbr_totals &report) {
@@ -306,7 +367,7 @@ private:
     }
 
     void drop(size_t cell) {
-        vbr_drop(&cells[cell]);
+        Of::drop(&cells[cell]);
         saw(6, 0, models[cell] ? models[cell]->open : 0);
         if (!models[cell]) return;
         models[cell]->open--;
@@ -314,9 +375,9 @@ private:
     }
 };
 
-static std::vector<uint64_t> play(const std::string &input) {
+template <class Of> static std::vector<uint64_t> play(const std::string &input) {
     fuzz::current = fuzz::escaped(input, true);
-    Calls calls(input);
+    Calls<Of> calls(input);
     calls.play();
     return calls.features;
 }
@@ -349,34 +410,39 @@ static std::string changed(fuzz::Random &random, const std::vector<std::string> 
     return input.substr(0, 240);
 }
 
-static int try_all(uint64_t wanted, uint64_t seed, const char *file) {
+template <class Of> static int try_all(uint64_t wanted, uint64_t seed, const char *file) {
     fuzz::Random random(seed);
     fuzz::Kept<std::string> kept;
     fuzz::Progress progress{"calls", wanted};
     for (uint64_t done = 0; done < wanted; done++) {
         if (done % 64 == 0) alarm(60);
         std::string input = kept.inputs.empty() || random.once_in(3) ? fresh(random) : changed(random, kept.inputs);
-        kept.offer(input, play(input));
+        kept.offer(input, play<Of>(input));
         progress.tell(done, kept.inputs.size());
     }
     if (file) {
         std::ofstream out(file);
         for (const std::string &input : kept.best(100)) out << fuzz::escaped(input, true) << '\n';
     }
-    std::printf("random calls: passed, %llu inputs of seed %llu, %zu of them showed something new\n",
+    std::printf("random calls on %s: passed, %llu inputs of seed %llu, %zu of them showed something new\n", Of::NAME,
                 static_cast<unsigned long long>(wanted), static_cast<unsigned long long>(seed), kept.inputs.size());
     return 0;
 }
 
-int main(int count, char **words) {
-    fuzz::catch_crashes();
-    if (count == 3 && !std::strcmp(words[1], "--replay")) {
-        std::vector<std::string> lines = fuzz::lines_of(words[2]);
-        for (const std::string &line : lines) play(fuzz::unescaped(line));
-        std::printf("kept calls: passed, %zu inputs\n", lines.size());
+template <class Of> static int run(int count, char **words) {
+    if (count == 2 && !std::strcmp(words[0], "--replay")) {
+        std::vector<std::string> lines = fuzz::lines_of(words[1]);
+        for (const std::string &line : lines) play<Of>(fuzz::unescaped(line));
+        std::printf("kept calls on %s: passed, %zu inputs\n", Of::NAME, lines.size());
         return 0;
     }
-    if (count < 2 || count > 4) return std::fputs("usage: calls INPUTS [SEED [FILE]] | --replay FILE\n", stderr), 2;
-    return try_all(std::strtoull(words[1], nullptr, 10), count > 2 ? std::strtoull(words[2], nullptr, 10) : 1,
-                   count > 3 ? words[3] : nullptr);
+    return try_all<Of>(std::strtoull(words[0], nullptr, 10), count > 1 ? std::strtoull(words[1], nullptr, 10) : 1,
+                       count > 2 ? words[2] : nullptr);
+}
+
+int main(int count, char **words) {
+    fuzz::catch_crashes();
+    if (count >= 3 && count <= 5 && !std::strcmp(words[1], Sets::NAME)) return run<Sets>(count - 2, words + 2);
+    if (count >= 3 && count <= 5 && !std::strcmp(words[1], Maps::NAME)) return run<Maps>(count - 2, words + 2);
+    return std::fputs("usage: calls sets|maps INPUTS [SEED [FILE]] | calls sets|maps --replay FILE\n", stderr), 2;
 }

@@ -1,0 +1,77 @@
+/* Each call on maps of the headers, and each of their types, as the example in its comment has it: tests/pages and
+   bindings/headers see that these lines are those. */
+#include "vbr.h"
+#include "vbr_lend.h"
+
+#include <stdio.h>
+
+#define CHECK(x) do { if (!(x)) { fprintf(stderr, "map_calls.c:%d: %s\n", __LINE__, #x); return 1; } } while (0)
+
+static vbr_entry entries[8];
+
+static int one_by_one(void) {
+    int added = 0, there = 0, taken = 0;
+    vbr_map_handle map[2] = {{0}};
+    vbr_totals report = {0};
+    uint64_t value = 0;
+    if (vbr_map_open(map, 2, 1024 + 2 * 64, 1024, VBR_MAX_EPOCH) != VBR_NO) return 1;
+    if (vbr_map_insert(&map[0], 5, 70, 100000) == VBR_YES) added++; // this call stored 70 for 5
+    if (vbr_map_insert(&map[0], 6, 71, 100000) == VBR_YES) added++;
+    if (vbr_map_get(&map[1], 5, 100000, &value) == VBR_YES) there++; // 5 had this value during the call
+    CHECK(value == 70);
+    if (vbr_map_has(&map[0], 5, 100000) == VBR_YES) there++; // 5 was there during the call
+    value = 0;
+    if (vbr_map_remove(&map[1], 5, 100000, &value) == VBR_YES) taken++; // this call took 5 out, with its value
+    CHECK(value == 70 && added == 2 && there == 2 && taken == 1);
+    vbr_answer first = vbr_map_close(&map[0], entries, 8, &report); // VBR_NO: the other handle is open
+    vbr_answer last = vbr_map_close(&map[1], entries, 8, &report);  // VBR_YES: report.live entries are in front of entries
+    CHECK(first == VBR_NO && last == VBR_YES && report.live == 1 && entries[0].key == 6 && entries[0].value == 71);
+    return 0;
+}
+
+static int all_at_once(void) {
+    vbr_map_handle map[2] = {{0}};
+    vbr_totals report = {0};
+    static const vbr_entry some[3] = {{2, 20}, {5, 50}, {9, 90}};
+    if (vbr_map_open_with(map, 2, 1024 + 2 * 64, 1024, VBR_MAX_EPOCH, some, 3) != VBR_NO) return 1;
+    int is_near = vbr_map_epoch(&map[0]) + 1000 >= vbr_map_last_epoch(&map[0]); // then renew the map
+    uint64_t left = vbr_map_last_epoch(&map[0]) - vbr_map_epoch(&map[0]);
+    uint32_t budget = VBR_AMPLE_BUDGET(vbr_map_slots(&map[0]));
+    int is_crowded = 3 > 2 * vbr_map_buckets(&map[0]); // three keys, and more than two for each bucket
+    CHECK(!is_near && left == VBR_MAX_EPOCH - 1 && budget == 100018 && !is_crowded);
+    vbr_answer closed = vbr_map_close_all(map, 2, entries, 8, &report); // VBR_YES: three entries, {2, 20} the first of them
+    CHECK(closed == VBR_YES && report.live == 3);
+    for (int i = 0; i < 3; i++) CHECK(entries[i].key == some[i].key && entries[i].value == some[i].value);
+    return 0;
+}
+
+static int given_up(void) {
+    vbr_map_handle map[2] = {{0}};
+    vbr_totals report = {0};
+    if (vbr_map_open(map, 2, 1024 + 2 * 64, 1024, VBR_MAX_EPOCH) != VBR_NO) return 1;
+    vbr_map_drop(&map[0]); // the close of map[1] is told the report
+    CHECK(vbr_map_close(&map[1], entries, 8, &report) == VBR_YES && report.live == 0);
+    return 0;
+}
+
+static int lent(void) {
+    vbr_map_handle map[2] = {{0}};
+    vbr_totals report = {0};
+    if (vbr_map_open(map, 2, 1024 + 2 * 64, 1024, VBR_MAX_EPOCH) != VBR_NO) return 1;
+    vbr_map_lender lender = {0};
+    vbr_map_lender_init(&lender, map, 2);
+    vbr_map_handle *mine = vbr_map_lend(&lender); // NULL: both are lent
+    if (mine) {
+        vbr_answer added = vbr_map_insert(mine, 5, 70, 100000);
+        vbr_map_give_back(&lender, mine); // and mine isn't used any more
+        CHECK(added == VBR_YES);
+    }
+    CHECK(vbr_map_close_all(map, 2, entries, 8, &report) == VBR_YES && report.live == 1 && entries[0].value == 70);
+    return 0;
+}
+
+int main(void) {
+    if (one_by_one() || all_at_once() || given_up() || lent()) return 1;
+    puts("examples of each call on maps in C: passed");
+    return 0;
+}

@@ -1,0 +1,117 @@
+/* The library with one fault of its maps, whose number FAULT names in the environment: a soak over maps (values.h) has to find
+   it. Link with -Wl,--wrap=vbr_map_open_with,--wrap=vbr_map_insert,--wrap=vbr_map_remove,--wrap=vbr_map_get,--wrap=vbr_map_close
+
+    1 a get now and then gives the value that its key had before
+    2 a get now and then gives a value whose insert was answered no
+    3 a get now and then gives a value of another key
+    4 a remove now and then gives the value that its key had before
+    5 an insert of a key that is there now and then gives it the new value, and answers no all the same
+    6 a value now and then loses its upper half
+    7 a remove now and then takes nothing out, and gives the value all the same
+    8 a get that isn't answered yes writes
+    9 a report has the value of one entry with the key of another
+   10 an opening gives the value of one entry to the key of another
+   11 an insert now and then answers yes for a key that is there
+   12 an insert now and then is lost
+   13 a get now and then answers no for a key that is there
+   14 a report is short of an entry */
+#include "vbr.h"
+
+#include <pthread.h>
+#include <stdatomic.h>
+#include <stdlib.h>
+#include <string.h>
+
+vbr_answer __real_vbr_map_open_with(vbr_map_handle *handles, size_t count, uint32_t slots, uint32_t buckets, uint64_t last_epoch,
+                                    const vbr_entry *entries, size_t entry_count);
+vbr_answer __real_vbr_map_insert(vbr_map_handle *handle, uint64_t key, uint64_t value, uint32_t budget);
+vbr_answer __real_vbr_map_remove(vbr_map_handle *handle, uint64_t key, uint32_t budget, uint64_t *value);
+vbr_answer __real_vbr_map_get(vbr_map_handle *handle, uint64_t key, uint32_t budget, uint64_t *value);
+vbr_answer __real_vbr_map_close(vbr_map_handle *handle, vbr_entry *entries, size_t room, vbr_totals *report);
+
+enum { KEPT = 1 << 16 };
+
+static atomic_int number = -1;
+static atomic_uint calls;
+
+static int fault(void) {
+    if (atomic_load(&number) < 0) {
+        const char *text = getenv("FAULT");
+        atomic_store(&number, text ? atoi(text) : 0);
+    }
+    return atomic_load(&number);
+}
+
+/* Whether this is the fault, and its turn has come: once in twenty calls. */
+static int now(int n) { return fault() == n && atomic_fetch_add(&calls, 1) % 20 == 19; }
+
+/* For each place a key, with a value that it doesn't have: it was taken out, or its insert is answered no. */
+static vbr_entry kept[KEPT];
+static pthread_mutex_t lock = PTHREAD_MUTEX_INITIALIZER;
+
+static size_t place_of(uint64_t key) { return (size_t)(key * 0x9E3779B97F4A7C15u >> 48); }
+
+static void keep(uint64_t key, uint64_t value) {
+    pthread_mutex_lock(&lock);
+    kept[place_of(key)] = (vbr_entry){key, value};
+    pthread_mutex_unlock(&lock);
+}
+
+/* Gives the value that is kept of a key, if one is. */
+static void give_kept(uint64_t key, uint64_t *value) {
+    pthread_mutex_lock(&lock);
+    if (kept[place_of(key)].key == key && kept[place_of(key)].value) *value = kept[place_of(key)].value;
+    pthread_mutex_unlock(&lock);
+}
+
+vbr_answer __wrap_vbr_map_open_with(vbr_map_handle *handles, size_t count, uint32_t slots, uint32_t buckets, uint64_t last_epoch,
+                                    const vbr_entry *entries, size_t entry_count) {
+    if (fault() != 10 || entry_count < 2) return __real_vbr_map_open_with(handles, count, slots, buckets, last_epoch, entries, entry_count);
+    vbr_entry *turned = malloc(entry_count * sizeof *turned);
+    if (!turned) return VBR_NO_MEMORY;
+    memcpy(turned, entries, entry_count * sizeof *turned);
+    turned[0].value = entries[1].value, turned[1].value = entries[0].value;
+    vbr_answer answer = __real_vbr_map_open_with(handles, count, slots, buckets, last_epoch, turned, entry_count);
+    free(turned);
+    return answer;
+}
+
+vbr_answer __wrap_vbr_map_insert(vbr_map_handle *handle, uint64_t key, uint64_t value, uint32_t budget) {
+    uint64_t old = 0;
+    if (now(6)) value &= UINT32_MAX;
+    if (fault() == 2) keep(key, value);
+    vbr_answer answer = __real_vbr_map_insert(handle, key, value, budget);
+    if (answer == VBR_YES && now(12)) return __real_vbr_map_remove(handle, key, budget, &old);
+    if (answer == VBR_NO && now(11)) return VBR_YES;
+    if (answer == VBR_NO && now(5) && __real_vbr_map_remove(handle, key, budget, &old) == VBR_YES)
+        return __real_vbr_map_insert(handle, key, value, budget) == VBR_YES ? VBR_NO : VBR_EMPTY;
+    return answer;
+}
+
+vbr_answer __wrap_vbr_map_remove(vbr_map_handle *handle, uint64_t key, uint32_t budget, uint64_t *value) {
+    if (now(7)) return __real_vbr_map_get(handle, key, budget, value);
+    vbr_answer answer = __real_vbr_map_remove(handle, key, budget, value);
+    uint64_t removed = *value;
+    if (answer == VBR_YES && now(4)) give_kept(key, value);
+    if (answer == VBR_YES && (fault() == 1 || fault() == 4)) keep(key, removed);
+    return answer;
+}
+
+vbr_answer __wrap_vbr_map_get(vbr_map_handle *handle, uint64_t key, uint32_t budget, uint64_t *value) {
+    uint64_t before = *value;
+    vbr_answer answer = __real_vbr_map_get(handle, key, budget, value);
+    if (answer == VBR_YES && now(13)) return *value = before, VBR_NO;
+    if (answer == VBR_YES && (now(1) || now(2))) give_kept(key, value);
+    if (answer == VBR_YES && now(3)) (void)!__real_vbr_map_get(handle, key ^ 1, budget, value);
+    if (answer != VBR_YES && fault() == 8) *value = 1;
+    return answer;
+}
+
+vbr_answer __wrap_vbr_map_close(vbr_map_handle *handle, vbr_entry *entries, size_t room, vbr_totals *report) {
+    vbr_answer answer = __real_vbr_map_close(handle, entries, room, report);
+    if (answer != VBR_YES || report->live < 2) return answer;
+    uint64_t first = entries[0].value;
+    if (fault() == 9) entries[0].value = entries[1].value, entries[1].value = first;
+    if (fault() == 14) report->live--, report->free++;
+    return answer;
+}

@@ -1,0 +1,256 @@
+/* The index of a page cache in fixed memory, which several threads share: a map from the number of a page to the frame that has
+   it. Something to begin from.
+
+       page_cache [REQUESTS]
+
+   Who asks for a page looks it up, and pins its frame while it reads. Where the page is absent, a thread takes a frame by
+   CLOCK: the hand goes round, past frames that are pinned, and those that were used since it came by last; the page of the first
+   other one leaves the map. Then the thread reads the page that is wanted into it, and inserts that. Where two threads miss the same
+   page, both inserts have one that is answered VBR_YES, so a page has one frame.
+
+   The program compares its hits with those of a plain cache with the same CLOCK in one thread, on the same requests: with
+   one thread they are equal, whether budgets are small or the epoch is spent again and again. With four, in an order that the
+   threads make, they differ by less than one in a hundred requests; and so they do with one where the map has fewer slots than
+   there are frames, from those of a cache with as many frames as slots. */
+#include "vbr.h"
+
+#include <pthread.h>
+#include <sched.h>
+#include <stdatomic.h>
+#include <stdio.h>
+#include <stdlib.h>
+#include <string.h>
+
+#define CHECK(x) do { if (!(x)) { fprintf(stderr, "page_cache.c:%d: %s\n", __LINE__, #x); exit(1); } } while (0)
+
+enum { FRAMES = 4096, PAGES = 16384, WORDS = 64, MOST_THREADS = 4 };
+enum { SLOTS = FRAMES + 64 * MOST_THREADS, FEW_SLOTS = FRAMES / 2, AMPLE = VBR_AMPLE_BUDGET(SLOTS) };
+
+#define NO_PAGE UINT64_MAX
+#define TAKEN UINT32_MAX
+
+/* A frame is pinned by those who read it, or taken by the thread that puts another page into it. */
+struct frame {
+    _Atomic uint32_t pins; /* how many, or TAKEN */
+    atomic_bool is_used;   /* since the hand came by */
+    uint64_t page, words[WORDS];
+    struct frame *below; /* of a spare frame: the one that was spare before */
+};
+
+struct worker {
+    vbr_map_handle *map;
+    struct frame *spare; /* frames that it took and has no page for: the last of them, or none */
+    long next;           /* its next request; then each that is `threads` further */
+    long hits, tired, full;
+};
+
+static struct frame frames[FRAMES];
+static atomic_ulong hand;
+static vbr_map_handle handles[MOST_THREADS];
+static struct worker workers[MOST_THREADS];
+static atomic_bool renewal_is_due;
+static uint64_t last_epoch;
+static uint32_t slots, budget;
+static long requests = 400000, threads, tired, full, renewals;
+
+/* The page of a request: small numbers come more often. */
+static uint64_t page_of(long request) {
+    uint64_t x = ((uint64_t)request + 1) * 0x9E3779B97F4A7C15u, y = (x ^ x >> 29) * 0xBF58476D1CE4E5B9u, z = (y ^ y >> 32) * 0x94D049BB133111EBu;
+    return ((((x >> 32) * (y >> 32) >> 32) * (z >> 32) >> 32) * PAGES) >> 32;
+}
+
+static void read_from_disk(uint64_t page, uint64_t *words) {
+    for (uint64_t i = 0; i < WORDS; i++) words[i] = page * WORDS + i;
+}
+
+/* A call that is refused for want of steps wasn't made. It is made again, with twice the budget. */
+static uint32_t twice(struct worker *w, uint32_t steps) {
+    w->tired++;
+    return steps < UINT32_MAX / 2 ? 2 * steps : UINT32_MAX;
+}
+
+/* Pins a frame if it has this page. It hasn't where another thread took it since the page was looked up. */
+static int pin(struct frame *f, uint64_t page) {
+    uint32_t pins = atomic_load(&f->pins);
+    do {
+        if (pins == TAKEN) return 0;
+    } while (!atomic_compare_exchange_weak(&f->pins, &pins, pins + 1));
+    if (f->page == page) return 1;
+    atomic_fetch_sub(&f->pins, 1);
+    return 0;
+}
+
+/* The frame that has a page, pinned; none where the page is absent. */
+static struct frame *find(struct worker *w, uint64_t page) {
+    uint64_t number = 0;
+    for (uint32_t steps = budget;;) {
+        switch (vbr_map_get(w->map, page, steps, &number)) {
+        case VBR_YES:
+            if (pin(&frames[number], page)) return &frames[number];
+            sched_yield(); /* the frame is taken: another page comes into it, or this one is just there */
+            break;
+        case VBR_NO: return NULL;
+        default: steps = twice(w, steps);
+        }
+    }
+}
+
+/* A frame whose page leaves the map: by CLOCK, one that nobody pins and nobody used since the hand came by. */
+static struct frame *evict(struct worker *w) {
+    struct frame *f;
+    uint32_t none;
+    do {
+        f = &frames[atomic_fetch_add(&hand, 1) % FRAMES];
+        none = 0;
+    } while (atomic_exchange(&f->is_used, 0) || !atomic_compare_exchange_strong(&f->pins, &none, TAKEN));
+    if (f->page != NO_PAGE) {
+        uint64_t number = 0;
+        vbr_answer removed;
+        uint32_t steps = AMPLE; /* with a small budget the node could stay in its list, and its slot with it */
+        while ((removed = vbr_map_remove(w->map, f->page, steps, &number)) == VBR_OUT_OF_STEPS) steps = twice(w, steps);
+        CHECK(removed == VBR_YES && f == &frames[number]); /* who took the frame is alone in removing its page */
+    }
+    f->page = NO_PAGE;
+    return f;
+}
+
+/* A frame that has no page is kept for the worker's next one. */
+static void keep(struct worker *w, struct frame *f) {
+    f->page = NO_PAGE;
+    f->below = w->spare;
+    w->spare = f;
+}
+
+static struct frame *empty_frame(struct worker *w) {
+    struct frame *f = w->spare;
+    if (!f) return evict(w);
+    w->spare = f->below;
+    return f;
+}
+
+/* Reads a page into a frame, and inserts it: VBR_YES, or VBR_NO if another thread did so meanwhile, or VBR_EPOCH_SPENT. */
+static vbr_answer load(struct worker *w, uint64_t page) {
+    struct frame *f = empty_frame(w);
+    read_from_disk(page, f->words);
+    f->page = page;
+    for (uint32_t steps = budget;;) {
+        vbr_answer added = vbr_map_insert(w->map, page, (uint64_t)(f - frames), steps);
+        if (added == VBR_OUT_OF_STEPS) {
+            steps = twice(w, steps);
+        } else if (added == VBR_NO_SLOT) {
+            keep(w, evict(w)); /* a page that leaves the map leaves its slot to this handle */
+            w->full++;
+        } else {
+            if (added == VBR_YES) atomic_store(&f->pins, 0);
+            else keep(w, f);
+            return added;
+        }
+    }
+}
+
+/* Serves a request. Where the epoch is spent it can't be served before the map is renewed. */
+static int serve(struct worker *w, uint64_t page) {
+    struct frame *f = find(w, page);
+    w->hits += f != NULL;
+    while (!f) {
+        if (load(w, page) == VBR_EPOCH_SPENT) return 0;
+        f = find(w, page); /* it was there a moment ago */
+    }
+    for (uint64_t i = 0; i < WORDS; i++) CHECK(f->words[i] == page * WORDS + i);
+    atomic_store(&f->is_used, 1);
+    atomic_fetch_sub(&f->pins, 1);
+    return 1;
+}
+
+static void *work(void *of) {
+    struct worker *w = of;
+    while (w->next < requests && !atomic_load(&renewal_is_due)) {
+        if (serve(w, page_of(w->next))) w->next += threads;
+        else atomic_store(&renewal_is_due, 1);
+    }
+    return NULL;
+}
+
+/* Here all threads stand still. The pages of the old map, each with its frame, are those that the new one opens with. */
+static void renew(void) {
+    static vbr_entry entries[FRAMES];
+    vbr_totals report = {0};
+    CHECK(vbr_map_close_all(handles, (size_t)threads, entries, FRAMES, &report) == VBR_YES);
+    CHECK(vbr_map_open_with(handles, (size_t)threads, slots, FRAMES, last_epoch, entries, report.live) == VBR_NO);
+    renewals++;
+}
+
+/* Lets all threads work until each has served its requests, or the map is to be renewed. */
+static void work_all(void) {
+    pthread_t ids[MOST_THREADS];
+    atomic_store(&renewal_is_due, 0);
+    for (long i = 0; i < threads; i++) CHECK(!pthread_create(&ids[i], NULL, work, &workers[i]));
+    for (long i = 0; i < threads; i++) CHECK(!pthread_join(ids[i], NULL));
+}
+
+/* Ends the cache: each page of the map has its frame, and each frame that isn't spare has its page there. */
+static void close_cache(void) {
+    static vbr_entry entries[FRAMES];
+    vbr_totals report = {0};
+    uint32_t has_page = 0;
+    CHECK(vbr_map_close_all(handles, (size_t)threads, entries, FRAMES, &report) == VBR_YES);
+    for (uint32_t i = 0; i < report.live; i++) CHECK(frames[entries[i].value].page == entries[i].key);
+    for (int i = 0; i < FRAMES; i++) has_page += frames[i].page != NO_PAGE;
+    CHECK(report.live == has_page);
+}
+
+/* How many of the requests are hits, where so many threads serve them. */
+static long hits(long of_threads, uint32_t of_slots, uint64_t of_last_epoch, uint32_t of_budget) {
+    long sum = 0;
+    threads = of_threads, slots = of_slots, last_epoch = of_last_epoch, budget = of_budget, tired = full = renewals = 0;
+    memset(frames, 0, sizeof frames);
+    for (int i = 0; i < FRAMES; i++) frames[i].page = NO_PAGE;
+    atomic_store(&hand, 0);
+    CHECK(vbr_map_open(handles, (size_t)threads, slots, FRAMES, last_epoch) == VBR_NO);
+    for (long i = 0; i < threads; i++) workers[i] = (struct worker){.map = &handles[i], .next = i};
+    for (work_all(); atomic_load(&renewal_is_due); work_all()) renew();
+    for (long i = 0; i < threads; i++) {
+        CHECK(workers[i].next >= requests);
+        sum += workers[i].hits, tired += workers[i].tired, full += workers[i].full;
+    }
+    close_cache();
+    printf("page cache in C: %ld threads, %lu slots, last epoch %llu, budget %lu: %.2f of 100 requests are hits; %ld calls tired, %ld full, %ld renewals\n", threads,
+           (unsigned long)slots, (unsigned long long)last_epoch, (unsigned long)budget, 100.0 * (double)sum / (double)requests, tired, full, renewals);
+    return sum;
+}
+
+/* The hits of a plain cache of so many frames with the same CLOCK, which has an array for its index. */
+static long plain_hits(int count) {
+    static uint64_t page_in[FRAMES];
+    static int frame_of[PAGES], is_used[FRAMES]; /* frame_of: the number behind the frame's, or 0 */
+    long sum = 0;
+    int at = 0;
+    memset(frame_of, 0, sizeof frame_of);
+    memset(is_used, 0, sizeof is_used);
+    for (long i = 0; i < requests; i++) {
+        uint64_t page = page_of(i);
+        sum += frame_of[page] != 0;
+        if (!frame_of[page]) {
+            for (; is_used[at]; at = (at + 1) % count) is_used[at] = 0;
+            if (frame_of[page_in[at]] == at + 1) frame_of[page_in[at]] = 0;
+            page_in[at] = page;
+            frame_of[page] = at + 1;
+            at = (at + 1) % count;
+        }
+        is_used[frame_of[page] - 1] = 1;
+    }
+    return sum;
+}
+
+int main(int count, char **words) {
+    if (count > 1) requests = atol(words[1]);
+    CHECK(requests >= 20000);
+    long plain = plain_hits(FRAMES), most_apart = requests / 100;
+    CHECK(hits(1, SLOTS, VBR_MAX_EPOCH, AMPLE) == plain);
+    CHECK(hits(1, SLOTS, 2000, 16) == plain && tired > 0 && renewals > 0);
+    CHECK(labs(hits(1, FEW_SLOTS, VBR_MAX_EPOCH, AMPLE) - plain_hits(FEW_SLOTS)) <= most_apart && full > 0);
+    CHECK(labs(hits(4, SLOTS, VBR_MAX_EPOCH, AMPLE) - plain) <= most_apart);
+    CHECK(labs(hits(4, SLOTS, 2000, 16) - plain) <= most_apart && tired > 0 && renewals > 0);
+    printf("page cache in C: passed, %ld of %ld requests are hits of a plain cache\n", plain, requests);
+    return 0;
+}

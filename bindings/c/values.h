@@ -1,0 +1,226 @@
+/* A set made of a map: with `-include bindings/c/values.h` a client of sets runs over maps, and values are seen to besides.
+
+   Each insert stores a value that no other one has, and it is known of each value which key it was stored with and how far it
+   has come. So whatever a get, a remove or a report tells has to be
+   - a value that was stored, and with this key: not one of another key, a part of one, or none;
+   - of an insert that is not refused, nor answered no;
+   - not taken out by another remove, and of a get, not taken out before the get began.
+   A program that meets another one ends with what is wrong. A set that opens with keys of the last report gives each the value
+   that it had there.
+
+   It orders no threads but as the map does: its own accesses are relaxed, or acquire nothing that is released, which is
+   enough on x86-64, where each exchange is a whole fence. */
+#define _XOPEN_SOURCE 700 /* as some clients ask for */
+#include "vbr.h"
+#include "vbr_lend.h"
+
+#include <stdatomic.h>
+#include <stdio.h>
+#include <stdlib.h>
+
+enum { VALUES = 1 << 20, VALUE_BLOCK = 1 << 10, MOST_ENTRIES = 1 << 20 };
+
+/* How far a value has come. One that was taken out has TAKEN and the time of that. */
+enum { PENDING = 1, SEEN, STORED, REFUSED, TAKEN = 16 };
+
+/* A value, from the beginning of its insert until the place is given to another one. */
+struct value_place {
+    _Atomic uint64_t value, key, since, stage;
+};
+
+static struct value_place value_places[VALUES];
+static _Atomic uint64_t value_time = 1, value_blocks = 1; /* the time passes with each remove */
+static vbr_entry told_entries[MOST_ENTRIES], opening_entries[MOST_ENTRIES];
+static size_t told_count;
+
+/* Values are the numbers 1, 2 and so on, spread over all 64 bits by a product with an odd number; the other is its inverse. */
+static const uint64_t VALUE_MIXER = 0x9E3779B97F4A7C15u, VALUE_INVERSE = 0xF1DE83E19937733Du;
+
+static inline uint64_t value_read(const _Atomic uint64_t *word) { return atomic_load_explicit(word, memory_order_acquire); }
+
+static inline void value_write(_Atomic uint64_t *word, uint64_t to) { atomic_store_explicit(word, to, memory_order_relaxed); }
+
+static inline int value_moves(struct value_place *it, uint64_t from, uint64_t to) {
+    return atomic_compare_exchange_strong_explicit(&it->stage, &from, to, memory_order_relaxed, memory_order_relaxed);
+}
+
+static inline void value_is_wrong(const char *what, uint64_t key, uint64_t value) {
+    fprintf(stderr, "values: FAILED: %s (key %llu, value %llu)\n", what, (unsigned long long)key, (unsigned long long)value);
+    exit(1);
+}
+
+/* A number that no other insert has. A thread takes a block of them at a time; one that ends where it is tried makes a signal
+   handler's number another. */
+static inline uint64_t value_number(void) {
+    static _Thread_local _Atomic uint64_t next;
+    for (;;) {
+        uint64_t seen = value_read(&next), number = seen;
+        if (seen % VALUE_BLOCK == 0) number = 1 + VALUE_BLOCK * atomic_fetch_add_explicit(&value_blocks, 1, memory_order_relaxed);
+        if (atomic_compare_exchange_strong_explicit(&next, &seen, number + 1, memory_order_relaxed, memory_order_relaxed)) return number;
+    }
+}
+
+static inline int value_is_in_use(const struct value_place *it) {
+    uint64_t stage = value_read(&it->stage);
+    return stage == PENDING || stage == SEEN || stage == STORED;
+}
+
+/* A value for an insert of this key, at a place whose last value isn't in the map. */
+static inline struct value_place *value_begins(uint64_t key) {
+    for (int turns = 0; turns < VALUES; turns++) {
+        uint64_t number = value_number();
+        struct value_place *it = &value_places[number % VALUES];
+        if (value_is_in_use(it)) continue;
+        value_write(&it->value, 0);
+        value_write(&it->key, key);
+        value_write(&it->since, value_read(&value_time));
+        value_write(&it->stage, PENDING);
+        value_write(&it->value, number * VALUE_MIXER);
+        return it;
+    }
+    value_is_wrong("more keys than values.h has places for", key, 0);
+    return NULL;
+}
+
+/* The insert of a value is answered. */
+static inline void value_ends(struct value_place *it, vbr_answer answer) {
+    if (answer == VBR_YES) {
+        if (!value_moves(it, PENDING, STORED)) value_moves(it, SEEN, STORED); /* or it is taken out by now */
+    } else if (!value_moves(it, PENDING, REFUSED)) {
+        value_is_wrong("a value was told whose insert isn't answered yes", value_read(&it->key), value_read(&it->value));
+    }
+}
+
+/* Where the value is that a call which began at this time tells of a key; none where the place is another value's by now. */
+static inline struct value_place *value_told(uint64_t key, uint64_t value, uint64_t began) {
+    uint64_t number = value * VALUE_INVERSE;
+    struct value_place *it = &value_places[number % VALUES];
+    uint64_t first = value_read(&it->value), its_key = value_read(&it->key), stage = value_read(&it->stage), since = value_read(&it->since);
+    if (number / VALUE_BLOCK == 0 || number / VALUE_BLOCK >= value_read(&value_blocks)) value_is_wrong("a value that nobody stored", key, value);
+    if (first != value && first != 0 && since < began) value_is_wrong("a value that was gone long ago", key, value);
+    if (first != value || value_read(&it->value) != value) return NULL;
+    if (its_key != key) value_is_wrong("a value of another key", key, value);
+    if (stage == REFUSED) value_is_wrong("a value whose insert isn't answered yes", key, value);
+    if (stage >= TAKEN && stage - TAKEN <= began) value_is_wrong("a value that was taken out before", key, value);
+    return it;
+}
+
+/* A value is taken out, by a remove or the end of its map. */
+static inline void value_is_taken(uint64_t key, uint64_t value, uint64_t began) {
+    struct value_place *it = value_told(key, value, began);
+    if (!it) value_is_wrong("a value that was taken out is taken out", key, value);
+    uint64_t time = atomic_fetch_add_explicit(&value_time, 1, memory_order_relaxed) + 1;
+    uint64_t stage = atomic_exchange_explicit(&it->stage, TAKEN + time, memory_order_relaxed);
+    if (stage != PENDING && stage != SEEN && stage != STORED) value_is_wrong("a value is taken out twice", key, value);
+}
+
+VBR_NODISCARD static inline vbr_answer value_insert(vbr_map_handle *handle, uint64_t key, uint32_t budget) {
+    struct value_place *it = value_begins(key);
+    vbr_answer answer = vbr_map_insert(handle, key, value_read(&it->value), budget);
+    value_ends(it, answer);
+    return answer;
+}
+
+VBR_NODISCARD static inline vbr_answer value_remove(vbr_map_handle *handle, uint64_t key, uint32_t budget) {
+    uint64_t value = 0, began = value_read(&value_time);
+    vbr_answer answer = vbr_map_remove(handle, key, budget, &value);
+    if (answer == VBR_YES) value_is_taken(key, value, began);
+    else if (value) value_is_wrong("a remove that isn't answered yes has written", key, value);
+    return answer;
+}
+
+/* Every other look-up is a get, where the budget is no matter of single steps. */
+VBR_NODISCARD static inline vbr_answer value_look_up(vbr_map_handle *handle, uint64_t key, uint32_t budget) {
+    static _Thread_local unsigned turns;
+    if (budget < 100000 || turns++ % 2) return vbr_map_has(handle, key, budget);
+    uint64_t value = 0, began = value_read(&value_time);
+    vbr_answer answer = vbr_map_get(handle, key, budget, &value);
+    struct value_place *it = answer == VBR_YES ? value_told(key, value, began) : NULL;
+    if (it) value_moves(it, PENDING, SEEN);
+    if (answer != VBR_YES && value) value_is_wrong("a get that isn't answered yes has written", key, value);
+    return answer;
+}
+
+VBR_NODISCARD static inline vbr_answer value_open(vbr_map_handle *handles, size_t count, uint32_t slots, uint32_t buckets, uint64_t last_epoch) {
+    return vbr_map_open(handles, count, slots, buckets, last_epoch);
+}
+
+/* The entry of the last report with this key. */
+static inline const vbr_entry *value_of_report(uint64_t key) {
+    size_t low = 0, high = told_count;
+    while (low < high) {
+        size_t middle = low + (high - low) / 2;
+        if (told_entries[middle].key == key) return &told_entries[middle];
+        if (told_entries[middle].key < key) low = middle + 1;
+        else high = middle;
+    }
+    return NULL;
+}
+
+/* The entry that an opening gives a key: that of the last report, or one with a value of its own. */
+static inline vbr_entry value_opens(uint64_t key) {
+    const vbr_entry *told = value_of_report(key);
+    struct value_place *it = told ? &value_places[told->value * VALUE_INVERSE % VALUES] : NULL;
+    if (!it || value_read(&it->value) != told->value) it = value_begins(key);
+    value_write(&it->stage, STORED);
+    return (vbr_entry){key, value_read(&it->value)};
+}
+
+VBR_NODISCARD static inline vbr_answer value_open_with(vbr_map_handle *handles, size_t count, uint32_t slots, uint32_t buckets,
+                                                       uint64_t last_epoch, const uint64_t *keys, size_t key_count) {
+    if (key_count > MOST_ENTRIES) value_is_wrong("more keys than values.h has room for", key_count, 0);
+    for (size_t i = 0; i < key_count; i++) opening_entries[i] = value_opens(keys[i]);
+    return vbr_map_open_with(handles, count, slots, buckets, last_epoch, opening_entries, key_count);
+}
+
+/* The entries of a report: each value is taken out, and its key is told. */
+static inline void value_report(uint64_t *keys, size_t count) {
+    uint64_t now = value_read(&value_time);
+    for (size_t i = 0; i < count; i++) {
+        value_is_taken(told_entries[i].key, told_entries[i].value, now);
+        keys[i] = told_entries[i].key;
+    }
+    told_count = count;
+}
+
+VBR_NODISCARD static inline vbr_answer value_close(vbr_map_handle *handle, uint64_t *keys, size_t room, vbr_totals *report) {
+    vbr_answer answer = vbr_map_close(handle, told_entries, room < MOST_ENTRIES ? room : MOST_ENTRIES, report);
+    if (answer == VBR_YES) value_report(keys, report->live);
+    return answer;
+}
+
+VBR_NODISCARD static inline vbr_answer value_close_all(vbr_map_handle *handles, size_t count, uint64_t *keys, size_t room, vbr_totals *report) {
+    vbr_answer answer = vbr_map_close_all(handles, count, told_entries, room < MOST_ENTRIES ? room : MOST_ENTRIES, report);
+    if (answer == VBR_YES) value_report(keys, report->live);
+    return answer;
+}
+
+/* vbr_tsan.h has some of these too */
+#undef vbr_insert
+#undef vbr_remove
+#undef vbr_has
+#undef vbr_close
+#undef vbr_close_all
+#undef vbr_drop
+#undef vbr_epoch
+#undef vbr_last_epoch
+#undef vbr_slots
+#undef vbr_buckets
+
+#define vbr_handle vbr_map_handle
+#define vbr_open value_open
+#define vbr_open_with value_open_with
+#define vbr_insert value_insert
+#define vbr_remove value_remove
+#define vbr_has value_look_up
+#define vbr_close value_close
+#define vbr_close_all value_close_all
+#define vbr_drop(handle) vbr_map_drop(handle)
+#define vbr_epoch(handle) vbr_map_epoch(handle)
+#define vbr_last_epoch(handle) vbr_map_last_epoch(handle)
+#define vbr_slots(handle) vbr_map_slots(handle)
+#define vbr_buckets(handle) vbr_map_buckets(handle)
+#define vbr_lender vbr_map_lender
+#define vbr_lender_init vbr_map_lender_init
+#define vbr_lend vbr_map_lend
+#define vbr_give_back vbr_map_give_back

@@ -1,0 +1,208 @@
+// The map in C++: the examples of vbr.hpp (bindings/headers sees that their lines are here), ranges of entries, closes, ends of handles, exceptions, and loans.
+#include "vbr.hpp"
+
+#include <array>
+#include <atomic>
+#include <cstdio>
+#include <map>
+#include <stdexcept>
+#include <thread>
+#include <type_traits>
+
+#define CHECK(x) do { if (!(x)) { std::fprintf(stderr, "map_example.cpp:%d: %s\n", __LINE__, #x); return 1; } } while (0)
+
+// What doesn't compile: a copy of a handle, an answer with a value as a bool, and a set's handle as a map's.
+static_assert(!std::is_copy_constructible_v<vbr::map_handle> && !std::is_copy_assignable_v<vbr::map_handle>);
+static_assert(std::is_nothrow_move_constructible_v<vbr::map_handle> && std::is_nothrow_move_assignable_v<vbr::map_handle>);
+static_assert(!std::is_constructible_v<bool, vbr::found> && !std::is_constructible_v<bool, vbr::map_closed>);
+static_assert(!std::is_constructible_v<vbr::map_handle, vbr::handle> && !std::is_constructible_v<vbr::handle, vbr::map_handle>);
+static_assert(!std::is_convertible_v<vbr::map_loan, bool>);
+
+static bool operator==(const vbr::entry &a, const vbr::entry &b) { return a.key == b.key && a.value == b.value; }
+
+// Whether the last close told just these entries.
+static bool told(const vbr::map_closed &closed, const std::vector<vbr::entry> &wanted) {
+    return closed.answer == vbr::close_answer::last && closed.report && closed.report->entries == wanted;
+}
+
+static int example() {
+    auto [opened, handles] = vbr::open_map(vbr::shape::for_keys(1024, 2), 2);
+    if (opened != vbr::open_answer::done) return 1;
+    vbr::answer added = handles[0].insert(5, 70, 100000); // yes: 5 was absent, and now has the value 70
+    vbr::found there = handles[1].get(5, 100000);         // yes: there.value is 70
+    vbr::found taken = handles[1].remove(5, 100000);      // yes: taken.value is 70
+    CHECK(added == vbr::answer::yes && there.answer == vbr::answer::yes && there.value == 70u);
+    CHECK(taken.answer == vbr::answer::yes && taken.value == 70u);
+    CHECK(handles[0].close().answer == vbr::close_answer::others_are_open && told(handles[1].close(), {}));
+    CHECK(handles[0].get(5, 100000).answer == vbr::answer::empty && !handles[0].get(5, 100000).value);
+    return 0;
+}
+
+// A call of each kind, as the comments of vbr.hpp have them.
+static int calls() {
+    constexpr vbr::shape shape{1024 + 2 * 64, 1024, vbr::max_epoch};
+    constexpr std::uint32_t budget = vbr::ample_budget(shape.slots);
+    const std::vector<vbr::entry> want{{2, 20}, {5, 50}};
+    vbr::map_opened some = vbr::open_map_with(shape, 1, want.data(), want.size());
+    CHECK(some.answer == vbr::open_answer::done);
+    vbr::map_handle mine = std::move(some.handles[0]); // handles are moved, and never copied
+    CHECK(mine.is_open() && !some.handles[0].is_open() && mine.slots() == shape.slots && mine.buckets() == shape.buckets);
+    CHECK(mine.epoch() == 1 && mine.last_epoch() == vbr::max_epoch);
+    int added = 0;
+    std::uint64_t sum = 0;
+    if (mine.insert(6, 60, budget) == vbr::answer::yes) added++; // this call stored 60 for 6
+    CHECK(mine.insert(6, 61, budget) == vbr::answer::no);
+    vbr::found got = mine.get(6, budget);
+    if (got.value) sum += *got.value; // got.answer is yes
+    vbr::found taken = mine.remove(6, budget); // taken.value is what 6 had
+    CHECK(added == 1 && sum == 60 && taken.value == 60u && mine.has(6, budget) == vbr::answer::no);
+    CHECK(mine.remove(6, budget).answer == vbr::answer::no && !mine.get(6, budget).value);
+    CHECK(mine.get(2, 1).answer == vbr::answer::out_of_steps && !mine.get(2, 1).value);
+    vbr::map_closed told = mine.close(); // told.report is there where told.answer is last
+    CHECK(told.answer == vbr::close_answer::last && told.report->free == shape.slots - 2);
+    for (vbr::entry each : told.report->entries) sum += each.value;
+    CHECK(sum == 60 + 20 + 50);
+    return 0;
+}
+
+static int refusals() {
+    vbr::shape small{2, 1, 1};
+    auto [opened, handles] = vbr::open_map(small, 1);
+    CHECK(opened == vbr::open_answer::done && handles.size() == 1);
+    vbr::map_handle one = std::move(handles[0]);
+    CHECK(one.insert(1, 10, 1000) == vbr::answer::yes && one.insert(2, 20, 1000) == vbr::answer::yes);
+    vbr::answer full = one.insert(3, 30, 1000);
+    CHECK(full == vbr::answer::no_slot && vbr::is_refusal(full) && one.get(3, 1000).answer == vbr::answer::no);
+    CHECK(one.remove(1, 1000).value == 10u && one.insert(3, 30, 1000) == vbr::answer::epoch_spent);
+    CHECK(vbr::open_map(vbr::shape{}, 1).answer == vbr::open_answer::bad_shape);
+    CHECK(vbr::open_map(small, 0).answer == vbr::open_answer::bad_count && vbr::open_map(small, 65).handles.empty());
+    CHECK(vbr::open_map_with(small, 1, {{5, 1}, {5, 2}}).answer == vbr::open_answer::bad_keys);
+    return 0;
+}
+
+// Whether a map that opens with a range of entries has just those of this page.
+template <class Entries>
+static bool keeps(const Entries &entries, const std::vector<vbr::entry> &wanted) {
+    auto opened = vbr::open_map_with(vbr::shape::for_keys(8, 1), 1, entries);
+    return opened.answer == vbr::open_answer::done && told(opened.handles[0].close(), wanted);
+}
+
+static int ranges() {
+    const std::vector<vbr::entry> want{{2, 20}, {5, 50}, {9, 90}};
+    const vbr::entry array[] = {{2, 20}, {5, 50}, {9, 90}};
+    CHECK(keeps(want, want) && keeps(array, want) && keeps(std::array<vbr::entry, 3>{{{2, 20}, {5, 50}, {9, 90}}}, want));
+    CHECK(keeps(std::map<std::uint64_t, std::uint32_t>{{9, 90}, {2, 20}, {5, 50}}, want));
+    CHECK(keeps(std::vector<std::pair<std::uint32_t, std::uint64_t>>{{2, 20}, {5, 50}, {9, 90}}, want));
+    CHECK(keeps(std::vector<vbr::entry>{}, {}) && keeps(std::map<std::uint64_t, std::uint64_t>{}, {}));
+    auto opened = vbr::open_map_with(vbr::shape::for_keys(8, 1), 1, {{2, 20}, {5, 50}, {9, 90}});
+    CHECK(opened.answer == vbr::open_answer::done && told(opened.handles[0].close(), want));
+    return 0;
+}
+
+// A map whose report is the opening of the next one: each key keeps its value.
+static int renewals() {
+    const vbr::shape shape{8 + 2 * 64, 8, 20};
+    auto opened = vbr::open_map(shape, 2);
+    CHECK(opened.answer == vbr::open_answer::done && opened.handles[1].insert(5, 70, 1000) == vbr::answer::yes);
+    int renewed = 0;
+    for (std::uint64_t key = 100; key < 600; key++) {
+        vbr::answer added = opened.handles[0].insert(key, 3 * key, 1000);
+        if (added == vbr::answer::epoch_spent) {
+            CHECK(opened.handles[0].close().answer == vbr::close_answer::others_are_open);
+            vbr::map_closed last = opened.handles[1].close();
+            CHECK(told(last, {{5, 70}}));
+            opened = vbr::open_map_with(shape, 2, last.report->entries);
+            CHECK(opened.answer == vbr::open_answer::done);
+            renewed++;
+            added = opened.handles[0].insert(key, 3 * key, 1000);
+        }
+        CHECK(added == vbr::answer::yes && opened.handles[0].remove(key, 1000).value == 3 * key);
+    }
+    CHECK(renewed > 3 && opened.handles[1].get(5, 1000).value == 70u);
+    return 0;
+}
+
+// Handles whose life ends lose nothing: the last one is told all, whichever it is, and in whatever thread.
+static int ends() {
+    for (std::size_t last = 0; last < 3; last++) {
+        auto opened = vbr::open_map(vbr::shape::for_keys(64, 3), 3);
+        CHECK(opened.answer == vbr::open_answer::done);
+        vbr::map_handle kept = std::move(opened.handles[last]);
+        std::vector<std::thread> threads;
+        for (std::size_t i = 0; i < 3; i++)
+            if (i != last)
+                threads.emplace_back([mine = std::move(opened.handles[i]), i]() mutable {
+                    for (std::uint64_t key = i; key < 60; key += 3)
+                        if (mine.insert(key, ~key, 100000) != vbr::answer::yes) return;
+                    if (i == 1) mine = vbr::map_handle();
+                });
+        for (std::thread &thread : threads) thread.join();
+        threads.clear();
+        vbr::map_closed closed = kept.close();
+        CHECK(closed.answer == vbr::close_answer::last && closed.report->entries.size() == 40);
+        for (vbr::entry each : closed.report->entries) CHECK(each.key % 3 != last && each.value == ~each.key);
+    }
+    return 0;
+}
+
+// Inserts a key by each of the handles that are open, and throws: it owns the handles, so they end.
+static void inserts_and_throws(std::vector<vbr::map_handle> owned) {
+    for (std::size_t i = 0; i < owned.size(); i++)
+        if (owned[i].is_open() && vbr::is_refusal(owned[i].insert(i, i + 7, 100000))) return;
+    throw std::runtime_error("given up");
+}
+
+// An exception that ends handles loses nothing: the last close is told all, whichever handle is kept.
+static int exceptions() {
+    for (std::size_t last = 0; last < 3; last++) {
+        auto opened = vbr::open_map(vbr::shape::for_keys(64, 3), 3);
+        CHECK(opened.answer == vbr::open_answer::done);
+        vbr::map_handle kept = std::move(opened.handles[last]);
+        bool caught = false;
+        try {
+            inserts_and_throws(std::move(opened.handles));
+        } catch (const std::runtime_error &) {
+            caught = true;
+        }
+        CHECK(caught && kept.insert(last, last + 7, 100000) == vbr::answer::yes);
+        CHECK(told(kept.close(), {{0, 7}, {1, 8}, {2, 9}}));
+    }
+    return 0;
+}
+
+// Threads that borrow two handles: each stores keys of its own, and takes back what it stored.
+static int loans() {
+    auto opened = vbr::open_map(vbr::shape::for_keys(1000, 2), 2);
+    CHECK(opened.answer == vbr::open_answer::done);
+    vbr::map_lender lender(std::move(opened.handles));
+    {
+        vbr::map_loan mine = lender.lend();
+        CHECK(mine && mine->insert(1000, 1, 100000) == vbr::answer::yes);
+    }
+    std::atomic<int> wrong{0};
+    std::vector<std::thread> threads;
+    for (std::uint64_t i = 0; i < 6; i++)
+        threads.emplace_back([&lender, &wrong, i] {
+            for (std::uint64_t key = i; key < 600;) {
+                vbr::map_loan mine = lender.lend();
+                if (!mine) {
+                    std::this_thread::yield();
+                    continue;
+                }
+                if (mine->insert(key, i, 100000) != vbr::answer::yes || mine->get(key, 100000).value != i) wrong++;
+                if (key % 2 && mine->remove(key, 100000).value != i) wrong++;
+                key += 6;
+            }
+        });
+    for (std::thread &thread : threads) thread.join();
+    vbr::map_closed closed = lender.close();
+    CHECK(wrong == 0 && closed.answer == vbr::close_answer::last && closed.report->entries.size() == 301);
+    for (vbr::entry each : closed.report->entries) CHECK(each.value == (each.key == 1000 ? 1 : each.key % 6));
+    return 0;
+}
+
+int main() {
+    if (example() || calls() || refusals() || ranges() || renewals() || ends() || exceptions() || loans()) return 1;
+    std::puts("example of maps in C++: passed");
+    return 0;
+}
