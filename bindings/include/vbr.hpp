@@ -1,5 +1,5 @@
-/* The set and the map of vbr.h for C++17 and later: handles that are moved and never copied, answers that aren't read as true or false by
-   mistake, openings that take any range of keys, and closes that give the keys as a vector.
+/* The set and the map of vbr.h for C++17 and later: handles that are moved and never copied, answers that aren't read as true
+   or false by mistake, openings that take any range of keys, and closes that give the keys as a vector.
 
        auto [opened, handles] = vbr::open(vbr::shape::for_keys(1024, 2), 2);
        if (opened != vbr::open_answer::done) return 1;

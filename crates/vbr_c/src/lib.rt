@@ -1,10 +1,10 @@
-//! The set for C: Michael's list-based set (Michael 2002) over slots that are used again by Version
-//! Based Reclamation (Sheffi, Herlihy and Petrank 2021), as `vbr_set` has it. Each thread has a handle,
-//! which owns a pass of the set and a share of the set.
+//! The set and the map for C: Michael's list-based set (Michael 2002) over slots that are used again by
+//! Version Based Reclamation (Sheffi, Herlihy and Petrank 2021), as `vbr_set` has it. Each thread has a
+//! handle, which owns a pass of the set or the map and a share of it.
 //!
 //! No call asks anything of its caller but what the types say: a handle is moved and never copied,
-//! and one call at a time has it. Only `vbr_close_all` asks besides that the handles are of one set.
-//! `bindings/include/vbr.h` is what a C programmer reads.
+//! and one call at a time has it. Only `vbr_close_all` and `vbr_map_close_all` ask besides that the
+//! handles are of one set or map. `bindings/include/vbr.h` is what a C programmer reads.
 //!
 //! ```c file=bindings/c/example.c
 //! /* handles, count, slots (keys, and 64 for each handle), buckets (as many as keys), last_epoch */
@@ -19,167 +19,15 @@
 //! word that threads share. What is proved of each call is said at the calls of `Member` in `vbr_set`.
 #![tactic(auto)]
 
-ghost use Rattle.std.specs.Prelude.{◌≡◌, ◌+◌, ◌*◌, None};
-ghost use Rattle.vbr_machine.specs.declared.history.Op.TheVariants.{Insert, Remove, Has};
-ghost use Rattle.vbr_handles.specs.Calls.{TellsCall};
-ghost use Rattle.vbr_handles.specs.Opening.{spread_shape};
-ghost use Rattle.vbr_handles.specs.OpeningCodes.{TellsOpening, TellsOpeningWith};
-ghost use Rattle.vbr_handles.specs.AllHandles.{members_in};
-ghost use Rattle.vbr_handles.specs.Reports.{TellsClose, TellsCloseAll};
-ghost use Rattle.vbr_set.specs.AllMembers.{AreOfOneSet};
-ghost use Rattle.vbr_handles.specs.Shown.{buckets_of, epoch_of, last_epoch_of, slots_of};
+ghost use Rattle.std.specs.Prelude.{◌≡◌, ◌+◌, ◌*◌};
 
-use std::alloc::Global;
-pub use vbr_handles::numbers::ReportNumbers;
-use vbr_handles::{Handle, ShapeNumbers, numbers, shown};
+pub mod map;
+pub mod set;
+
+pub use vbr_handles::{Entry, ReportNumbers};
 
 // 0.2.0
 const VERSION: u32 = 2_000;
-
-/// Opens an empty set, with a pass for each of the handles, which are empty: 0. No pass has made a step
-/// then.
-///
-/// Refusals, tested in this order, which leave the handles as they were: -5, one of the handles isn't
-/// empty; -6, the numbers are no shape; -7, the number of handles is 0 or above 64; -8, no memory.
-///
-/// ```c file=bindings/c/example.c
-/// /* handles, count, slots (keys, and 64 for each handle), buckets (as many as keys), last_epoch */
-/// if (vbr_open(handle, 2, 1024 + 2 * 64, 1024, VBR_MAX_EPOCH) != VBR_NO) return 1;
-/// ```
-#[unsafe(no_mangle)]
-pub extern "C" fn vbr_open(
-    alloc: Global,
-    handles: &mut [Handle],
-    slots: u32,
-    buckets: u32,
-    last_epoch: u64,
-) -> i32
-    ensures { TellsOpening handles.old handles.new slots buckets last_epoch result }
-{
-    numbers::open(alloc, handles, slots, buckets, last_epoch)
-}
-
-/// Opens a set of these keys, with a pass for each of the handles, which are empty: 0. The keys ascend,
-/// each above the one before. The epoch is 1, and no pass has made a step then. A set whose epoch is
-/// nearly spent is renewed by closing it and opening one with the keys of its report.
-///
-/// Refusals, tested in this order, which leave the handles as they were: -5, one of the handles isn't
-/// empty; -6, the numbers are no shape; -7, the number of handles is 0 or above 64; -10, the keys don't
-/// ascend, or there are more than slots; -8, no memory.
-///
-/// ```c file=bindings/c/renewal.c
-/// if (vbr_open_with(handle, HANDLES, SLOTS, BUCKETS, LAST_EPOCH, keys, report.live) != VBR_NO) return 1;
-/// ```
-#[unsafe(no_mangle)]
-pub extern "C" fn vbr_open_with(
-    alloc: Global,
-    handles: &mut [Handle],
-    slots: u32,
-    buckets: u32,
-    last_epoch: u64,
-    keys: &[u64],
-) -> i32
-    ensures { TellsOpeningWith handles.old handles.new
-        (spread_shape slots buckets last_epoch keys.now) result }
-{
-    let numbers = ShapeNumbers {
-        slots,
-        buckets,
-        last_epoch,
-    };
-    numbers::open_with(alloc, handles, numbers, keys)
-}
-
-/// Adds a key: 1 if it was absent, 0 if it was there. It makes at most `budget` steps. While the other
-/// handles stand still, 18n + slots + 82 are enough, with n nodes in the key's bucket.
-///
-/// Refusals, after which no call was made and the handle can go on: -1, the steps leave no room in the
-/// budget; -2, the key was absent and the handle found no slot; -3, the key was absent and the last
-/// epoch is spent; -4, the handle is empty.
-///
-/// ```c file=bindings/c/example.c
-/// vbr_answer added = vbr_insert(&handle[0], 5, 100000);       /* VBR_YES: 5 was absent */
-/// ```
-#[unsafe(no_mangle)]
-pub extern "C" fn vbr_insert(handle: &mut Handle, key: u64, budget: u32) -> i32
-    ensures { TellsCall Insert handle.old.member handle.new.member key budget result }
-{
-    numbers::insert(handle, key, budget)
-}
-
-/// Takes a key out: 1 if it was there, 0 if it was absent. It makes at most `budget` steps. While the
-/// other handles stand still, 9n + 11 are enough, with n nodes in the key's bucket.
-///
-/// Refusals, after which no call was made and the handle can go on: -1, the steps leave no room in the
-/// budget; -4, the handle is empty.
-///
-/// ```c file=bindings/c/answers.c
-/// CHECK(vbr_remove(&one, 1, BUDGET) == VBR_YES);
-/// ```
-#[unsafe(no_mangle)]
-pub extern "C" fn vbr_remove(handle: &mut Handle, key: u64, budget: u32) -> i32
-    ensures { TellsCall Remove handle.old.member handle.new.member key budget result }
-{
-    numbers::remove(handle, key, budget)
-}
-
-/// Looks a key up: 1 if it is there, 0 if it is absent. It makes at most `budget` steps, all of them
-/// loads. While the other handles stand still, 5n + 11 are enough, with n nodes in the key's bucket.
-///
-/// Refusals, after which no call was made and the handle can go on: -1, the steps leave no room in the
-/// budget; -4, the handle is empty.
-///
-/// ```c file=bindings/c/example.c
-/// vbr_answer there = vbr_has(&handle[1], 5, 100000);          /* VBR_YES, from another thread too */
-/// ```
-#[unsafe(no_mangle)]
-pub extern "C" fn vbr_has(handle: &mut Handle, key: u64, budget: u32) -> i32
-    ensures { TellsCall Has handle.old.member handle.new.member key budget result }
-{
-    numbers::has(handle, key, budget)
-}
-
-/// The last epoch that the pass of the handle read in a call: 1 before its first, and 0 where the handle
-/// is empty. It makes no step, so others may have advanced the epoch since. A set is renewed once it comes
-/// near [`vbr_last_epoch`].
-///
-/// ```c file=bindings/c/renewal.c
-/// if (in_time && vbr_epoch(&handle[0]) + 1 >= vbr_last_epoch(&handle[0]) && renew(handle, keys, &renewals)) return 3;
-/// ```
-#[unsafe(no_mangle)]
-pub extern "C" fn vbr_epoch(handle: &mut Handle) -> u64
-    ensures same { handle.new.member ≡ handle.old.member }
-    ensures epoch { result ≡ epoch_of handle.old.member }
-{
-    shown::epoch(handle)
-}
-
-/// The last epoch of the set of the handle, as it was opened; 0 where the handle is empty.
-#[unsafe(no_mangle)]
-pub extern "C" fn vbr_last_epoch(handle: &mut Handle) -> u64
-    ensures same { handle.new.member ≡ handle.old.member }
-    ensures last { result ≡ last_epoch_of handle.old.member }
-{
-    shown::last_epoch(handle)
-}
-
-/// How many slots the set of the handle has, as it was opened; 0 where the handle is empty.
-#[unsafe(no_mangle)]
-pub extern "C" fn vbr_slots(handle: &mut Handle) -> u32
-    ensures same { handle.new.member ≡ handle.old.member }
-    ensures slots { result ≡ slots_of handle.old.member }
-{
-    shown::slots(handle)
-}
-
-/// How many buckets the set of the handle has, as it was opened; 0 where the handle is empty.
-#[unsafe(no_mangle)]
-pub extern "C" fn vbr_buckets(handle: &mut Handle) -> u32
-    ensures same { handle.new.member ≡ handle.old.member }
-    ensures buckets { result ≡ buckets_of handle.old.member }
-{
-    shown::buckets(handle)
-}
 
 /// The version of the library: major * 1000000 + minor * 1000 + patch.
 ///
@@ -191,70 +39,4 @@ pub extern "C" fn vbr_version() -> u32
     ensures { result ≡ 0 * 1000000 + 2 * 1000 + 0 }
 {
     VERSION
-}
-
-/// Gives a pass back, and leaves the handle empty. 0 while other handles of the set are full. The
-/// last one ends the set: 1, and it writes what the set held and its keys, ascending, in front of `keys`.
-/// It has no budget, and makes no call of the set.
-///
-/// Refusals: -4, the handle is empty; -8, it was the last one and there is no memory for the report, and
-/// the handle stays as it was; -9, it was the last one and a pass isn't there, so the set is gone; -11, it
-/// was the last one and the set has more keys than there is room for, and the handle stays as it was. With
-/// -11 the report is written without the keys, so `live` tells how many they are; as many as slots always
-/// have room. With the others nothing is written.
-///
-/// ```c file=bindings/c/example.c
-/// vbr_answer last = vbr_close(&handle[1], keys, 8, &report);  /* VBR_YES: report.live is 1, keys[0] is 5 */
-/// ```
-#[unsafe(no_mangle)]
-pub extern "C" fn vbr_close(
-    alloc: Global,
-    handle: &mut Handle,
-    keys: &mut [u64],
-    report: &mut ReportNumbers,
-) -> i32
-    ensures { TellsClose handle.old.member handle.new.member keys.old keys.new
-        report.old report.new result }
-{
-    numbers::close(alloc, handle, keys, report)
-}
-
-/// Closes a set by all its handles at once, in any order, and leaves them empty: 1, and it writes what the
-/// set held and its keys, ascending, in front of `keys`. These are what the calls of all handles leave. It
-/// has no budget, and makes no call of the set. It asks that the handles which are full are of one set.
-///
-/// Refusals, which leave the handles as they were: -4, one of them is empty; -12, they are fewer than were
-/// opened with the set, or none; -8, there is no memory for the report; -11, the set has more keys than
-/// there is room for; -13, they are of different sets, which is a probe that no contract speaks of. With
-/// -11 the report is written without the keys, so `live` tells how many they are; with the others nothing
-/// is written.
-///
-/// ```c file=bindings/c/answers.c
-/// CHECK(vbr_close_all(three, 3, keys, 4, &report) == VBR_YES);
-/// ```
-#[unsafe(no_mangle)]
-pub extern "C" fn vbr_close_all(
-    alloc: Global,
-    handles: &mut [Handle],
-    keys: &mut [u64],
-    report: &mut ReportNumbers,
-) -> i32
-    requires { AreOfOneSet (members_in handles.old) }
-    ensures { TellsCloseAll handles.old handles.new keys.old keys.new report.old report.new result }
-{
-    numbers::close_all(alloc, handles, keys, report)
-}
-
-/// Drops what the handle has, and leaves it empty. Its pass is given back, as by a close, so the last
-/// handle of its set that is closed is still told the report; with the last one dropped the set ends
-/// without. It makes no step, needs no memory, and can't fail.
-///
-/// ```c file=bindings/c/answers.c
-/// for (int i = 0; i < 3; i++) vbr_drop(&three[i]);
-/// ```
-#[unsafe(no_mangle)]
-pub extern "C" fn vbr_drop(alloc: Global, handle: &mut Handle)
-    ensures { handle.new.member ≡ None }
-{
-    vbr_handles::abandon(alloc, handle);
 }

@@ -1,24 +1,30 @@
--- The seal and its parts own what a box at the same types owns.
-use mir.Syntax.{impl, tnil, dnil}
+-- An owner and its parts own what a box of the same member owns.
+use Prim.Native.Nat.{ℕ}
 use mathlib.Core.List.{[]}
+use mir.Syntax.{impl, tnil, dnil}
+use denote.RattleType.{RattleType}
 use denote.Signature.{Slot, plain}
+use Rattle.core.proofs.mem.Param.{El, R}
 use Rattle.std_alloc.proofs.BoxSteps.Form.{Bx}
 use Rattle.std_heap.specs.contracts.Global as Heap
 use Rattle.std_heap.specs.contracts.GlobalAllocator.TheImpl.{ghosts, dict}
 use Rattle.std_heap.proofs.Global.TheLaws as heap
-use Rattle.vbr_handles.specs.MemberRow as Member
-use Rattle.vbr_words.specs.contracts.nodes.Keys as Keys
-use Rattle.vbr_words.specs.contracts.nodes.KeysNodes.TheImpl as kind
-use Rattle.vbr_words.proofs.nodes.Keys.TheLaws as keys
-use Rattle.vbr_set.proofs.member.Member.TheLaws as member
 use Rattle.vbr_handles.specs.contracts.parts.Parts as Parts
-use Rattle.vbr_handles.specs.contracts.handle.Handle as Sealed
+use Rattle.vbr_handles.specs.contracts.owner.Owner as Owner
 
-abbrev pub E : Bx
-E = record { row = Member.the_row; laws = member.the_row_laws Keys.the_row kind.ghosts keys.the_row_laws; al = record { row = Heap.the_row; laws = heap.the_row_laws; g = ghosts; d = dict; drops = impl [] tnil dnil } }
+-- a box of a member on the heap
+abbrev pub E : El → Bx
+E F = record { row = F.row; laws = F.laws; al = record { row = Heap.the_row; laws = heap.the_row_laws; g = ghosts; d = dict; drops = impl [] tnil dnil } }
 
-abbrev pub FromParts : Slot 0
-FromParts = plain (λ _. Parts.the_row Member.the_row Heap.the_row ghosts)
+-- its parts, and its owner
+abbrev pub PartsRow : El → RattleType
+PartsRow F = Parts.the_row (R F) Heap.the_row ghosts
 
-abbrev pub FromSeal : Slot 0
-FromSeal = plain (λ _. Sealed.the_row)
+abbrev pub OwnerRow : El → RattleType
+OwnerRow F = Owner.the_row (R F)
+
+abbrev pub FromParts : El → Slot 0
+FromParts F = plain (λ _. PartsRow F)
+
+abbrev pub FromOwner : {n : ℕ} → El → Slot n
+FromOwner F = plain (λ _. OwnerRow F)

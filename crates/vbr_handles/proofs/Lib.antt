@@ -1,4 +1,6 @@
 mod AsBox
-mod Handling
+mod Owning
+mod Recast
 mod Opened
 mod AllHandles
+mod EntryKeys

@@ -4,14 +4,14 @@ use Rattle.std.proofs.lemmas.List.{length-map}
 use Rattle.vbr_words.specs.Dimensions.{Dimensions}
 use Rattle.vbr_slots.specs.Views.{PassView, TableView, new_passes}
 use Rattle.vbr_set.specs.Members.{AreNew, MemberView}
-use Rattle.vbr_handles.specs.declared.handle.Handle.{Handle}
+use Rattle.vbr_handles.specs.declared.owner.Owner.{Owner}
 
 new_count : (set : TableView) (who n : ℕ) → length (new_passes set who n) ≡ n
 new_count set who zero = refl
 new_count set who (suc n) = ap suc (new_count set (suc who) n)
 
-pub as_many : (shape : Dimensions) (count : ℕ) (members : List MemberView) (opened : List Handle) → AreNew shape count members → map (λ h. h.member) opened ≡ map Some members → length opened ≡ count
+pub as_many : (shape : Dimensions) (count : ℕ) (members : List MemberView) (opened : List (Owner MemberView)) → AreNew shape count members → map (λ h. h.member) opened ≡ map Some members → length opened ≡ count
 as_many shape count members opened new same =
     let mk : PassView → MemberView = λ p. record { set = new.set; pass = p } in
-    sym (length-map opened (λ (h : Handle). h.member)) ∙ ap (λ (ms : List (Option MemberView)). length ms) same ∙ length-map members Some ∙ ap (λ (ms : List MemberView). length ms) new.are
+    sym (length-map opened (λ (h : Owner MemberView). h.member)) ∙ ap (λ (ms : List (Option MemberView)). length ms) same ∙ length-map members Some ∙ ap (λ (ms : List MemberView). length ms) new.are
     ∙ length-map (new_passes new.set 0 count) mk ∙ new_count new.set 0 count

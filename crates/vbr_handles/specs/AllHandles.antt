@@ -1,10 +1,12 @@
 -- How a set ends by all its handles at once, and what that leaves in them.
 use Rattle.std.specs.Prelude.{◌≡◌, ◌<◌, ◌≤◌, ℕ, All, List, [], ◌∷◌, length, map, Option, None, Some, IsSome, Result, Ok, Err}
-use Rattle.vbr_set.specs.AllMembers.{AreTooFew, ReportsAll}
+use Rattle.vbr_slots.specs.Views.{PassView, TableView}
+use Rattle.vbr_set.specs.AllMembers.{AreTooFew, ReportsAllBy}
 use Rattle.vbr_set.specs.Members.{MemberView as Member}
-use Rattle.vbr_set.specs.declared.report.Report.{Report}
+use Rattle.vbr_handles.specs.Listings.{Listing}
 use Rattle.vbr_handles.specs.Opening.{AreEmpty}
 use Rattle.vbr_handles.specs.declared.handle.Handle.{Handle}
+use Rattle.vbr_handles.specs.declared.handle.MapHandle.{MapHandle}
 use Rattle.vbr_handles.specs.declared.closing_all.CloseAllRefusal.{CloseAllRefusal}
 use Rattle.vbr_handles.specs.declared.closing_all.CloseAllRefusal.TheVariants.{Empty, Mixed, Missing, Memory, Room}
 
@@ -13,33 +15,43 @@ abbrev pub joined : Option Member → List Member → List Member
 joined None ms = ms
 joined (Some m) ms = m ∷ ms
 
+abbrev pub members_by : {H : Type 0} → (H → Option Member) → List H → List Member
+members_by member [] = []
+members_by member (h ∷ hs) = joined (member h) (members_by member hs)
+
+-- so it is of the handles of a set
 abbrev pub members_in : List Handle → List Member
-members_in [] = []
-members_in (h ∷ hs) = joined h.member (members_in hs)
+members_in = members_by (λ (handle : Handle). handle.member)
 
--- each handle has a member
-abbrev pub AreFull : List Handle → Type 0
-AreFull handles = All (λ h. IsSome h.member) handles
+-- and so of the handles of a map
+abbrev pub map_members_in : List MapHandle → List Member
+map_members_in = members_by (λ (handle : MapHandle). handle.member)
 
--- each handle has the member that it had
-abbrev pub StaySo : List Handle → List Handle → Type 0
-StaySo before after = map (λ h. h.member) after ≡ map (λ h. h.member) before
+module _ {H : Type 0} (member : H → Option Member) where
+  -- each handle has a member
+  abbrev pub AreFull : List H → Type 0
+  AreFull handles = All (λ h. IsSome (member h)) handles
 
--- the set of these members ends with this report, whose keys have room, and the handles are empty
-pub record EndsAll (members : List Member) (after : List Handle) (room : ℕ) (report : Report) : Type 0 where
-  pub reports : ReportsAll members report
-  pub fits : length report.keys.items ≤ room
-  pub empty : AreEmpty after
+  -- each handle has the member that it had
+  abbrev pub StaySo : List H → List H → Type 0
+  StaySo before after = map member after ≡ map member before
 
--- why a set doesn't end by these handles
-abbrev pub IsWhyNot : List Handle → ℕ → CloseAllRefusal → Type 0
-IsWhyNot handles room Empty = ¬ (AreFull handles)
-IsWhyNot handles room Mixed = AreFull handles
-IsWhyNot handles room Missing = AreFull handles × AreTooFew (members_in handles)
-IsWhyNot handles room Memory = AreFull handles
-IsWhyNot handles room (Room report) = AreFull handles × ReportsAll (members_in handles) report × (room < length report.keys.items)
+  module _ {R I : Type 0} (tells : TableView → List PassView → R → Type 0) (L : Listing R I) where
+    -- the set of these members ends with this report, whose keys have room, and the handles are empty
+    pub record EndsAll (members : List Member) (after : List H) (room : ℕ) (report : R) : Type 0 where
+      pub reports : ReportsAllBy tells members report
+      pub fits : length (L.items report) ≤ room
+      pub empty : AreEmpty member after
 
--- the handles are all of a set, and it ends with this report; and else they are as they were
-abbrev pub ClosesAll : List Handle → List Handle → ℕ → Result Report CloseAllRefusal → Type 0
-ClosesAll before after room (Ok report) = AreFull before × EndsAll (members_in before) after room report
-ClosesAll before after room (Err refusal) = StaySo before after × IsWhyNot before room refusal
+    -- why a set doesn't end by these handles
+    abbrev pub IsWhyNot : List H → ℕ → CloseAllRefusal R → Type 0
+    IsWhyNot handles room Empty = ¬ (AreFull handles)
+    IsWhyNot handles room Mixed = AreFull handles
+    IsWhyNot handles room Missing = AreFull handles × AreTooFew (members_by member handles)
+    IsWhyNot handles room Memory = AreFull handles
+    IsWhyNot handles room (Room report) = AreFull handles × ReportsAllBy tells (members_by member handles) report × (room < length (L.items report))
+
+    -- the handles are all of a set, and it ends with this report; and else they are as they were
+    abbrev pub ClosesAll : List H → List H → ℕ → Result R (CloseAllRefusal R) → Type 0
+    ClosesAll before after room (Ok report) = AreFull before × EndsAll (members_by member before) after room report
+    ClosesAll before after room (Err refusal) = StaySo before after × IsWhyNot before room refusal

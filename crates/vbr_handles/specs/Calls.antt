@@ -2,19 +2,29 @@
 use Rattle.std.specs.Prelude.{◌≡◌, ℕ, ℤ, Bool, Option, None, Some, Result}
 use Rattle.vbr_machine.specs.declared.history.Op.{Op}
 use Rattle.vbr_list.specs.declared.refusal.Refusal.{Refusal}
+use Rattle.vbr_set.specs.MapCalls.{InsertsEntry}
 use Rattle.vbr_set.specs.Members.{Called}
 use Rattle.vbr_set.specs.Members.{MemberView as Member}
 use Rattle.vbr_handles.specs.Codes.{call_code, empty_code}
 
--- the member made the call, and the code is that of the answer
-pub record TellsAnswer (op : Op) (m n : Member) (key budget : ℕ) (code : ℤ) : Type 0 where
-  pub answer : Result Bool Refusal
-  pub is : code ≡ call_code answer
-  pub called : Called op m n key budget answer
+module _ (Calls : Member → Member → Result Bool Refusal → Type 0) where
+  -- the member made the call, and the code is that of the answer
+  pub record TellsAnswer (m n : Member) (code : ℤ) : Type 0 where
+    pub answer : Result Bool Refusal
+    pub is : code ≡ call_code answer
+    pub called : Calls m n answer
 
--- an empty handle stays so, and has a code of its own; a full one stays full, and its member made the call
+  -- an empty handle stays so, and has a code of its own; a full one stays full, and its member made the call
+  abbrev pub TellsBy : Option Member → Option Member → ℤ → Type 0
+  TellsBy None None code = code ≡ empty_code
+  TellsBy None (Some n) code = ⊥
+  TellsBy (Some m) None code = ⊥
+  TellsBy (Some m) (Some n) code = TellsAnswer m n code
+
+-- so it is of a call of a set, and of a look-up of a map
 abbrev pub TellsCall : Op → Option Member → Option Member → ℕ → ℕ → ℤ → Type 0
-TellsCall op None None key budget code = code ≡ empty_code
-TellsCall op None (Some n) key budget code = ⊥
-TellsCall op (Some m) None key budget code = ⊥
-TellsCall op (Some m) (Some n) key budget code = TellsAnswer op m n key budget code
+TellsCall op m n key budget code = TellsBy (λ m n answer. Called op m n key budget answer) m n code
+
+-- and so of an insert of an entry
+abbrev pub TellsInsertEntry : Option Member → Option Member → ℕ → ℕ → ℕ → ℤ → Type 0
+TellsInsertEntry m n key value budget code = TellsBy (λ m n answer. InsertsEntry m n key value budget answer) m n code

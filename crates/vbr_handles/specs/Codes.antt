@@ -2,7 +2,6 @@
 use Rattle.std.specs.Prelude.{ℤ, pos, negsuc, Bool, true, false, Option, None, Some, Result, Ok, Err}
 use Rattle.vbr_list.specs.declared.refusal.Refusal.{Refusal}
 use Rattle.vbr_list.specs.declared.refusal.Refusal.TheVariants.{OutOfSteps, NoSlot, EpochSpent}
-use Rattle.vbr_set.specs.declared.report.Report.{Report}
 use Rattle.vbr_handles.specs.declared.closing.CloseRefusal.{CloseRefusal}
 use Rattle.vbr_handles.specs.declared.closing.CloseRefusal.TheVariants as closing
 use Rattle.vbr_handles.specs.declared.closing_all.CloseAllRefusal.{CloseAllRefusal}
@@ -32,7 +31,7 @@ open_code (Err opening.Memory) = negsuc 7
 open_code (Err opening.Keys) = negsuc 9
 
 -- of a close: 0 given back, 1 ended, -4 empty, -8 no memory, -9 a pass was lost, -11 no room
-abbrev pub close_code : Result (Option Report) CloseRefusal → ℤ
+abbrev pub close_code : {R : Type 0} → Result (Option R) (CloseRefusal R) → ℤ
 close_code (Ok None) = pos 0
 close_code (Ok (Some report)) = pos 1
 close_code (Err closing.Empty) = negsuc 3
@@ -41,7 +40,7 @@ close_code (Err closing.Lost) = negsuc 8
 close_code (Err (closing.Room report)) = negsuc 10
 
 -- of a close of all: 1 ended, -4 one is empty, -8 no memory, -11 no room, -12 some are missing, -13 they are of several sets
-abbrev pub close_all_code : Result Report CloseAllRefusal → ℤ
+abbrev pub close_all_code : {R : Type 0} → Result R (CloseAllRefusal R) → ℤ
 close_all_code (Ok report) = pos 1
 close_all_code (Err closing_all.Empty) = negsuc 3
 close_all_code (Err closing_all.Memory) = negsuc 7

@@ -1,21 +1,33 @@
--- What a `Handle` owns: nothing at null, and else the same as a `Box<Member>`.
-use mathlib.Core.Path.{◌≡◌}
-use base.Fml.{Fml, ftrue, fex}
-use base.Stored.{Coded}
-use denote.RawPtr.{Ptr, null_ptr}
-use Rattle.std.specs.Box.Ownership.{box_owns}
-use Rattle.std.specs.Global.{Global}
-use Rattle.std.specs.declared.option.Option.{Option}
-use Rattle.std.specs.declared.option.Option.TheVariants.{None, Some}
-use Rattle.std.specs.contracts.option.Option as OP
-use Rattle.std_heap.specs.contracts.GlobalAllocator.TheImpl.{ghosts}
-use Rattle.vbr_handles.specs.MemberRow.{the_row}
+-- A handle as C has it, and its owner: the same pointer with the same member.
+use denote.Follow.{follows}
+use denote.Ref.{MutBor}
+use base.Fml.{Fml}
+use Rattle.vbr_set.specs.Members.{MemberView as Member}
+use Rattle.vbr_handles.specs.MemberRows.{map_row, set_row}
+use Rattle.vbr_handles.specs.declared.handle.Handle.{Handle}
+use Rattle.vbr_handles.specs.declared.handle.MapHandle.{MapHandle}
+use Rattle.vbr_handles.specs.declared.owner.Owner.{Owner}
+use Rattle.vbr_handles.specs.contracts.handle.Handle as of_set
+use Rattle.vbr_handles.specs.contracts.handle.MapHandle as of_map
+use Rattle.vbr_handles.specs.contracts.owner.Owner as owning
 
--- what a handle owns, by its pointer and its member
-abbrev pub handle_owns : Global → Ptr → Option the_row.Denot → Fml
-handle_owns alloc p None = fex (p ≡ null_ptr) (λ _. ftrue)
-handle_owns alloc p (Some x) = box_owns (ghosts.dealloc_token alloc) the_row p x
+-- the owner of a handle, and the handle of an owner
+abbrev pub owner_of : Handle → Owner Member
+owner_of h = record { at = h.at; alloc = h.alloc; member = h.member }
 
--- a member or none, as it stands in memory
-abbrev pub member_coded : Coded (Option the_row.Denot)
-member_coded = (OP.the_row the_row).coded
+abbrev pub handle_of : Owner Member → Handle
+handle_of o = record { at = o.at; alloc = o.alloc; member = o.member }
+
+-- once the borrow r ends, the handle h is that of the last owner written through r
+abbrev pub handle_follows : MutBor Handle → MutBor (Owner Member) → Fml
+handle_follows h r = follows of_set.the_row (owning.the_row set_row) h.ghost_name r.ghost_name handle_of
+
+-- so it is of the handle of a map
+abbrev pub map_owner_of : MapHandle → Owner Member
+map_owner_of h = record { at = h.at; alloc = h.alloc; member = h.member }
+
+abbrev pub map_handle_of : Owner Member → MapHandle
+map_handle_of o = record { at = o.at; alloc = o.alloc; member = o.member }
+
+abbrev pub map_handle_follows : MutBor MapHandle → MutBor (Owner Member) → Fml
+map_handle_follows h r = follows of_map.the_row (owning.the_row map_row) h.ghost_name r.ghost_name map_handle_of

@@ -1,15 +1,16 @@
--- A handle, after a write through `member_mut`.
+-- An owner, after a write through `member_mut`.
 use denote.Follow.{follows}
+use denote.RattleType.{RattleType}
 use denote.Ref.{MutBor}
 use base.Fml.{Fml}
 use Rattle.std.specs.declared.option.Option.TheVariants.{Some}
-use Rattle.vbr_handles.specs.MemberRow.{the_row as M}
-use Rattle.vbr_handles.specs.contracts.handle.Handle.{the_row as H}
+use Rattle.vbr_handles.specs.declared.owner.Owner.{Owner}
+use Rattle.vbr_handles.specs.contracts.owner.Owner.{the_row}
 
--- a handle with another value of its member
-abbrev pub with_member : H.Denot → M.Denot → H.Denot
-with_member h w = record { at = h.at; alloc = h.alloc; member = Some w }
+-- an owner with another value of its member
+abbrev pub with_member : {M : Type 0} → Owner M → M → Owner M
+with_member o w = record { at = o.at; alloc = o.alloc; member = Some w }
 
--- once the borrow r ends, the handle h holds the last value written through r
-abbrev pub handle_follows : MutBor H.Denot → MutBor M.Denot → Fml
-handle_follows h r = follows H M h.ghost_name r.ghost_name (with_member h.now)
+-- once the borrow r ends, the owner o holds the last value written through r
+abbrev pub owner_follows : (R : RattleType) → MutBor (Owner R.Denot) → MutBor R.Denot → Fml
+owner_follows R o r = follows (the_row R) R o.ghost_name r.ghost_name (with_member o.now)

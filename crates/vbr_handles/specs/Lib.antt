@@ -1,6 +1,8 @@
-pub mod MemberRow
-pub mod Handles
+pub mod MemberRows
+pub mod Owners
 pub mod Lent
+pub mod Handles
+pub mod Listings
 pub mod Opening
 pub mod Closing
 pub mod Codes
@@ -8,5 +10,6 @@ pub mod AllHandles
 pub mod Unended
 pub mod OpeningCodes
 pub mod Calls
+pub mod ValueCalls
 pub mod Shown
 pub mod Reports

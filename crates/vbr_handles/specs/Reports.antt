@@ -1,59 +1,71 @@
 -- What a close of a handle tells as a number, and writes of the report.
 use Rattle.std.specs.Prelude.{◌≡◌, ℤ, ℕ, List, ◌++◌, length, drop, Option, None, Some, Result, Ok, Err}
+use Rattle.vbr_slots.specs.Views.{PassView, TableView}
+use Rattle.vbr_set.specs.Closing.{Closes}
+use Rattle.vbr_set.specs.MapClosing.{MapCloses}
 use Rattle.vbr_set.specs.Members.{MemberView as Member}
-use Rattle.vbr_set.specs.declared.report.Report.{Report}
 use Rattle.vbr_handles.specs.AllHandles.{ClosesAll}
 use Rattle.vbr_handles.specs.Closing.{ClosesAs}
+use Rattle.vbr_handles.specs.Listings.{Listing, as_entries, as_keys}
+use Rattle.vbr_handles.specs.declared.handle.Handle.{Handle}
+use Rattle.vbr_handles.specs.declared.handle.MapHandle.{MapHandle}
 use Rattle.vbr_handles.specs.declared.closing.CloseRefusal.{CloseRefusal}
 use Rattle.vbr_handles.specs.declared.closing.CloseRefusal.TheVariants.{Empty, Lost, Memory, Room}
 use Rattle.vbr_handles.specs.declared.closing_all.CloseAllRefusal.{CloseAllRefusal}
 use Rattle.vbr_handles.specs.declared.closing_all.CloseAllRefusal.TheVariants as closing_all
-use Rattle.vbr_handles.specs.declared.handle.Handle.{Handle}
 use Rattle.vbr_handles.specs.Codes.{close_all_code, close_code}
-use Rattle.vbr_handles.specs.declared.numbers.ReportNumbers.{ReportNumbers}
+use Rattle.vbr_handles.specs.declared.entry.Entry.{Entry}
+use Rattle.vbr_handles.specs.declared.report_numbers.ReportNumbers.{ReportNumbers}
 
--- the numbers are those of the report
-pub record AreNumbersOf (report : Report) (told : ReportNumbers) : Type 0 where
-  pub epoch : told.epoch ≡ report.epoch
-  pub live : told.live ≡ report.live
-  pub marked : told.marked ≡ report.marked
-  pub free : told.free ≡ report.free
+module _ {R I : Type 0} (L : Listing R I) where
+  -- the numbers are those of the report, and all that it lists stands in front
+  pub record IsTold (report : R) (before after : List I) (told : ReportNumbers) : Type 0 where
+    pub numbers : told ≡ L.numbers report
+    pub items : after ≡ L.items report ++ drop (length (L.items report)) before
 
--- the numbers are those of the report, and all its keys stand in front
-pub record IsTold (report : Report) (before after : List ℕ) (told : ReportNumbers) : Type 0 where
-  pub numbers : AreNumbersOf report told
-  pub keys : after ≡ report.keys.items ++ drop (length report.keys.items) before
+  -- a report is told; of one that has no room the numbers are, and else nothing is written
+  abbrev pub WritesReport : Result (Option R) (CloseRefusal R) → List I → List I → ReportNumbers → ReportNumbers → Type 0
+  WritesReport (Ok (Some report)) before after old new = IsTold report before after new
+  WritesReport (Ok None) before after old new = (after ≡ before) × (new ≡ old)
+  WritesReport (Err Empty) before after old new = (after ≡ before) × (new ≡ old)
+  WritesReport (Err Lost) before after old new = (after ≡ before) × (new ≡ old)
+  WritesReport (Err Memory) before after old new = (after ≡ before) × (new ≡ old)
+  WritesReport (Err (Room report)) before after old new = (after ≡ before) × (new ≡ L.numbers report)
 
--- a report is told; of one that has no room the numbers are, and else nothing is written
-abbrev pub WritesReport : Result (Option Report) CloseRefusal → List ℕ → List ℕ → ReportNumbers → ReportNumbers → Type 0
-WritesReport (Ok (Some report)) before after old new = IsTold report before after new
-WritesReport (Ok None) before after old new = (after ≡ before) × (new ≡ old)
-WritesReport (Err Empty) before after old new = (after ≡ before) × (new ≡ old)
-WritesReport (Err Lost) before after old new = (after ≡ before) × (new ≡ old)
-WritesReport (Err Memory) before after old new = (after ≡ before) × (new ≡ old)
-WritesReport (Err (Room report)) before after old new = (after ≡ before) × AreNumbersOf report new
+  -- so it is where all handles are closed at once; a report is told; of one that has no room the numbers are, and else nothing is written
+  abbrev pub WritesAll : Result R (CloseAllRefusal R) → List I → List I → ReportNumbers → ReportNumbers → Type 0
+  WritesAll (Ok report) before after old new = IsTold report before after new
+  WritesAll (Err closing_all.Empty) before after old new = (after ≡ before) × (new ≡ old)
+  WritesAll (Err closing_all.Mixed) before after old new = (after ≡ before) × (new ≡ old)
+  WritesAll (Err closing_all.Missing) before after old new = (after ≡ before) × (new ≡ old)
+  WritesAll (Err closing_all.Memory) before after old new = (after ≡ before) × (new ≡ old)
+  WritesAll (Err (closing_all.Room report)) before after old new = (after ≡ before) × (new ≡ L.numbers report)
 
--- the code is that of an answer to the close, and a report is told
-pub record TellsClose (m n : Option Member) (before after : List ℕ) (old new : ReportNumbers) (code : ℤ) : Type 0 where
-  pub answer : Result (Option Report) CloseRefusal
-  pub is : code ≡ close_code answer
-  pub closes : ClosesAs m n (length before) answer
-  pub writes : WritesReport answer before after old new
+  module _ (tells : TableView → List PassView → R → Type 0) where
+    -- the code is that of an answer to the close, and a report is told
+    pub record TellsCloseBy (m n : Option Member) (before after : List I) (old new : ReportNumbers) (code : ℤ) : Type 0 where
+      pub answer : Result (Option R) (CloseRefusal R)
+      pub is : code ≡ close_code answer
+      pub closes : ClosesAs tells L m n (length before) answer
+      pub writes : WritesReport answer before after old new
 
--- ---- all handles at once
+    -- the code is that of an answer to the close, and a report is told
+    pub record TellsCloseAllBy {H : Type 0} (member : H → Option Member) (handles left : List H) (before after : List I) (old new : ReportNumbers) (code : ℤ) : Type 0 where
+      pub answer : Result R (CloseAllRefusal R)
+      pub is : code ≡ close_all_code answer
+      pub closes : ClosesAll member tells L handles left (length before) answer
+      pub writes : WritesAll answer before after old new
 
--- a report is told; of one that has no room the numbers are, and else nothing is written
-abbrev pub WritesAll : Result Report CloseAllRefusal → List ℕ → List ℕ → ReportNumbers → ReportNumbers → Type 0
-WritesAll (Ok report) before after old new = IsTold report before after new
-WritesAll (Err closing_all.Empty) before after old new = (after ≡ before) × (new ≡ old)
-WritesAll (Err closing_all.Mixed) before after old new = (after ≡ before) × (new ≡ old)
-WritesAll (Err closing_all.Missing) before after old new = (after ≡ before) × (new ≡ old)
-WritesAll (Err closing_all.Memory) before after old new = (after ≡ before) × (new ≡ old)
-WritesAll (Err (closing_all.Room report)) before after old new = (after ≡ before) × AreNumbersOf report new
+-- so it is of a set, whose report lists keys
+abbrev pub TellsClose : Option Member → Option Member → List ℕ → List ℕ → ReportNumbers → ReportNumbers → ℤ → Type 0
+TellsClose = TellsCloseBy as_keys Closes
 
--- the code is that of an answer to the close, and a report is told
-pub record TellsCloseAll (handles left : List Handle) (before after : List ℕ) (old new : ReportNumbers) (code : ℤ) : Type 0 where
-  pub answer : Result Report CloseAllRefusal
-  pub is : code ≡ close_all_code answer
-  pub closes : ClosesAll handles left (length before) answer
-  pub writes : WritesAll answer before after old new
+abbrev pub TellsCloseAll : List Handle → List Handle → List ℕ → List ℕ → ReportNumbers → ReportNumbers → ℤ → Type 0
+TellsCloseAll = TellsCloseAllBy as_keys Closes (λ (handle : Handle). handle.member)
+
+-- and so of a map, whose report lists entries
+abbrev pub TellsMapClose : Option Member → Option Member → List Entry → List Entry → ReportNumbers → ReportNumbers → ℤ → Type 0
+TellsMapClose = TellsCloseBy as_entries MapCloses
+
+abbrev pub TellsMapCloseAll : List MapHandle → List MapHandle → List Entry → List Entry → ReportNumbers → ReportNumbers → ℤ → Type 0
+TellsMapCloseAll = TellsCloseAllBy as_entries MapCloses (λ (handle : MapHandle). handle.member)

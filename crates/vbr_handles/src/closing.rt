@@ -2,13 +2,16 @@
 ghost use Rattle.std.specs.Prelude.{◌≡◌, None};
 ghost use Rattle.vbr_handles.specs.Closing.{ClosesAs};
 
-use crate::handle::Handle;
+use crate::listed::Listed;
+use crate::owner::Owner;
 use std::alloc::Global;
+use vbr_set::member::Member;
 use vbr_set::{EndError, Report};
+use vbr_words::Nodes;
 
-/// Why a handle got no answer to its close.
+/// Why a handle got no answer to its close; `R` is the report, that of a set by itself.
 #[derive(Debug, Drop)]
-pub enum CloseRefusal {
+pub enum CloseRefusal<R = Report> {
     /// The handle is empty.
     Empty,
     /// It was the last of its set, and a pass isn't there. The handle is empty, and the set is gone. A
@@ -18,30 +21,30 @@ pub enum CloseRefusal {
     Memory,
     /// It was the last of its set, and this report has more keys than there is room for. The handle is as
     /// it was.
-    Room(Report),
+    Room(R),
 }
 
 /// Gives the pass of a handle back and leaves the handle empty. While other handles of its set are
 /// full the answer is None; the last one is told what is in the set, where there is room for so many
-/// keys, and the set ends.
-pub fn close(
+/// keys, and the set ends. So it is of a map, whose report has entries.
+pub fn close<N: Nodes, I: Listed<N>>(
     alloc: Global,
-    handle: &mut Handle,
+    owner: &mut Owner<Member<N>>,
     room: usize,
-) -> Result<Option<Report>, CloseRefusal>
-    ensures { ClosesAs handle.old.member handle.new.member room result }
+) -> Result<Option<I::Report>, CloseRefusal<I::Report>>
+    ensures { ClosesAs I.Report.closes I.listing owner.old.member owner.new.member room result }
 {
-    let Some((member, block)) = handle.take_out(alloc) else {
+    let Some((member, block)) = owner.take_out(alloc) else {
         return Err(CloseRefusal::Empty);
     };
-    match member.report_last(alloc) {
+    match member.tell_last::<I::Report>(alloc) {
         Ok(None) => {
             block.free();
             Ok(None)
         }
         Ok(Some((report, last))) => {
-            if report.keys.len() > room {
-                handle.put_back(last, block);
+            if I::count(&report) > room {
+                owner.put_back(last, block);
                 return Err(CloseRefusal::Room(report));
             }
             drop(last);
@@ -53,7 +56,7 @@ pub fn close(
             Err(CloseRefusal::Lost)
         }
         Err(EndError::Memory(member)) => {
-            handle.put_back(member, block);
+            owner.put_back(member, block);
             Err(CloseRefusal::Memory)
         }
     }
@@ -62,8 +65,8 @@ pub fn close(
 /// Drops what a handle has, and leaves it empty. Its pass is given back, as by a close, so the last handle
 /// of its set that is closed is still told a report; with the last one dropped the set ends without. It
 /// needs no memory.
-pub fn abandon(alloc: Global, handle: &mut Handle)
-    ensures { handle.new.member ≡ None }
+pub fn abandon<N: Nodes>(alloc: Global, owner: &mut Owner<Member<N>>)
+    ensures { owner.new.member ≡ None }
 {
-    *handle = Handle::empty(alloc);
+    *owner = Owner::empty(alloc);
 }

@@ -1,17 +1,23 @@
 //! Closing all handles of a set at once.
-ghost use Rattle.std.specs.Prelude.{◌≡◌, ◌+◌, ◌≤◌, ◌++◌, [], true, false, length, IfErr, IfOk, IsSome};
+ghost use Rattle.std.specs.Prelude.{◌≡◌, ◌+◌, ◌≤◌, ◌++◌, [], true, false, length, None, Some, IfErr, IfOk, IfSome, IsSome};
 ghost use Rattle.std.specs.Vec.{vec_capacity};
 ghost use Rattle.vbr_set.specs.AllMembers.{AreOfOneSet};
-ghost use Rattle.vbr_handles.specs.AllHandles.{AreFull, ClosesAll, EndsAll, members_in};
+ghost use Rattle.vbr_handles.specs.AllHandles.{AreFull, ClosesAll, EndsAll, members_by};
 ghost use Rattle.vbr_handles.specs.Unended.{IsUnended};
 
-use crate::handle::Handle;
+use crate::handle_of::HandleOf;
+use crate::listed::Listed;
+use crate::owner::Owner;
 use std::alloc::Global;
-use vbr_set::{CloseAllError, Member, Report};
+use std_alloc::room::Vacant;
+use vbr_set::member::Member;
+use vbr_set::{CloseAllError, Report};
+use vbr_words::Nodes;
 
-/// Why all handles of a set got no report. The handles are as they were.
+/// Why all handles of a set got no report; `R` is the report, that of a set by itself. The handles are as
+/// they were.
 #[derive(Debug, Drop)]
-pub enum CloseAllRefusal {
+pub enum CloseAllRefusal<R = Report> {
     /// One of the handles is empty.
     Empty,
     /// Two of the handles are of different sets in memory ([`Member::is_beside`]). It is a probe, and no
@@ -22,29 +28,30 @@ pub enum CloseAllRefusal {
     /// There is no memory for the report.
     Memory,
     /// This report has more keys than there is room for.
-    Room(Report),
+    Room(R),
 }
 
 /// Closes a set by all its handles at once, in any order, and leaves them empty: what is in the set, where
-/// there is room for so many keys. It asks that all are of one set.
-pub fn close_all(
+/// there is room for so many keys. It asks that all are of one set. So it is of a map, whose report has
+/// entries.
+pub fn close_all<N: Nodes, I: Listed<N>, H: HandleOf<N>>(
     alloc: Global,
-    handles: &mut [Handle],
+    handles: &mut [H],
     room: usize,
-) -> Result<Report, CloseAllRefusal>
-    requires { AreOfOneSet (members_in handles.old) }
-    ensures { ClosesAll handles.old handles.new room result }
+) -> Result<I::Report, CloseAllRefusal<I::Report>>
+    requires { AreOfOneSet (members_by H.member handles.old) }
+    ensures { ClosesAll H.member I.Report.closes I.listing handles.old handles.new room result }
 {
-    if !are_full(handles) {
+    if !are_full::<N, H>(handles) {
         return Err(CloseAllRefusal::Empty);
     }
-    if !are_beside(handles) {
+    if !are_beside::<N, H>(handles) {
         return Err(CloseAllRefusal::Mixed);
     }
     let Ok(members) = Vec::with_capacity(alloc, handles.len()) else {
         return Err(CloseAllRefusal::Memory);
     };
-    match end_with(alloc, handles, members, room) {
+    match end_with::<N, I, H>(alloc, handles, members, room) {
         Ok(report) => Ok(report),
         Err((refusal, none)) => {
             drop(none);
@@ -55,30 +62,30 @@ pub fn close_all(
 
 // Takes the members out of the handles and ends their set together with these; where that is refused, puts
 // them back, and gives these back.
-fn end_with(
+fn end_with<N: Nodes, I: Listed<N>, H: HandleOf<N>>(
     alloc: Global,
-    handles: &mut [Handle],
-    mut members: Vec<Member>,
+    handles: &mut [H],
+    mut members: Vec<Member<N>>,
     room: usize,
-) -> Result<Report, (CloseAllRefusal, Vec<Member>)>
-    requires full { AreFull handles.old }
-    requires one_set { AreOfOneSet (members.items ++ members_in handles.old) }
+) -> Result<I::Report, (CloseAllRefusal<I::Report>, Vec<Member<N>>)>
+    requires full { AreFull H.member handles.old }
+    requires one_set { AreOfOneSet (members.items ++ members_by H.member handles.old) }
     requires room { length members.items + length handles.old ≤ vec_capacity members }
     ensures ends { IfOk result
-        (EndsAll (members.items ++ members_in handles.old) handles.new room) }
+        (EndsAll H.member I.Report.closes I.listing (members.items ++ members_by H.member handles.old) handles.new room) }
     ensures not { IfErr result
-        (λ e. IsUnended members.items handles.old handles.new room e.0 e.1.items) }
+        (λ e. IsUnended I.Report.closes I.listing H.member members.items handles.old handles.new room e.0 e.1.items) }
 {
     let Some((first, others)) = handles.split_first_mut() else {
-        return end_all(alloc, members, room);
+        return end_all::<N, I, H>(alloc, members, room);
     };
-    let Some((member, block)) = first.take_out(alloc) else {
+    let Some((member, block)) = take_out::<N, H>(alloc, first) else {
         unreachable!()
     };
     let Ok(()) = members.push(member) else {
         unreachable!()
     };
-    match end_with(alloc, others, members, room) {
+    match end_with::<N, I, H>(alloc, others, members, room) {
         Ok(report) => {
             block.free();
             Ok(report)
@@ -87,25 +94,26 @@ fn end_with(
             let Some(member) = members.pop() else {
                 unreachable!()
             };
-            first.put_back(member, block);
+            put_back::<N, H>(alloc, first, member, block);
             Err((refusal, members))
         }
     }
 }
 
 // Ends a set by all its members, where there is room for its keys.
-fn end_all(
+fn end_all<N: Nodes, I: Listed<N>, H: HandleOf<N>>(
     alloc: Global,
-    members: Vec<Member>,
+    members: Vec<Member<N>>,
     room: usize,
-) -> Result<Report, (CloseAllRefusal, Vec<Member>)>
+) -> Result<I::Report, (CloseAllRefusal<I::Report>, Vec<Member<N>>)>
     requires { AreOfOneSet members.items }
-    ensures ends { IfOk result (EndsAll members.items [] room) }
-    ensures not { IfErr result (λ e. IsUnended members.items [] [] room e.0 e.1.items) }
+    ensures ends { IfOk result (EndsAll H.member I.Report.closes I.listing members.items [] room) }
+    ensures not { IfErr result
+        (λ e. IsUnended I.Report.closes I.listing H.member members.items [] [] room e.0 e.1.items) }
 {
-    match Member::report_all(alloc, members) {
+    match Member::tell_all::<I::Report>(alloc, members) {
         Ok((report, members)) => {
-            if report.keys.len() > room {
+            if I::count(&report) > room {
                 return Err((CloseAllRefusal::Room(report), members));
             }
             drop(members);
@@ -117,10 +125,10 @@ fn end_all(
 }
 
 // Whether all handles are full.
-fn are_full(handles: &mut [Handle]) -> bool
+fn are_full<N: Nodes, H: HandleOf<N>>(handles: &mut [H]) -> bool
     ensures same { handles.new ≡ handles.old }
-    ensures full { result ≡ true → AreFull handles.old }
-    ensures some_empty { result ≡ false → ¬ (AreFull handles.old) }
+    ensures full { result ≡ true → AreFull H.member handles.old }
+    ensures some_empty { result ≡ false → ¬ (AreFull H.member handles.old) }
 {
     for i in 0..handles.len() {
         if handles[i].is_empty() {
@@ -131,26 +139,46 @@ fn are_full(handles: &mut [Handle]) -> bool
 }
 
 // Whether the members of handles, which are full, have their shares of one set in memory.
-fn are_beside(handles: &mut [Handle]) -> bool
-    requires { AreFull handles.old }
+fn are_beside<N: Nodes, H: HandleOf<N>>(handles: &mut [H]) -> bool
+    requires { AreFull H.member handles.old }
     ensures { handles.new ≡ handles.old }
 {
     let Some((first, others)) = handles.split_first_mut() else {
         return true;
     };
     for i in 0..others.len() {
-        if !is_beside(first, &mut others[i]) {
+        if !first.is_beside(&mut others[i]) {
             return false;
         }
     }
     true
 }
 
-// Whether the members of two handles have their shares of one set in memory.
-fn is_beside(one: &mut Handle, other: &mut Handle) -> bool
-    requires one { IsSome one.old.member }
-    requires other { IsSome other.old.member }
-    ensures { (one.new ≡ one.old) × (other.new ≡ other.old) }
+// Moves the member of a handle out, with the block that it lay in, and leaves nothing.
+fn take_out<N: Nodes, H: HandleOf<N>>(
+    alloc: Global,
+    handle: &mut H,
+) -> Option<(Member<N>, Vacant<Member<N>, Global>)>
+    ensures is { IfSome result (λ r. H.member handle.old ≡ Some r.0) }
+    ensures there { IsSome (H.member handle.old) → IsSome result }
+    ensures left { H.member handle.new ≡ None }
 {
-    one.member_mut().is_beside(other.member_mut())
+    let mut owner = Owner::empty(alloc);
+    handle.swap(&mut owner);
+    owner.take_out(alloc)
+}
+
+// Moves a member into a block, which needs no memory, and gives it to a handle. What the handle had before is
+// dropped.
+fn put_back<N: Nodes, H: HandleOf<N>>(
+    alloc: Global,
+    handle: &mut H,
+    member: Member<N>,
+    block: Vacant<Member<N>, Global>,
+)
+    ensures { H.member handle.new ≡ Some member }
+{
+    let mut owner = Owner::empty(alloc);
+    owner.put_back(member, block);
+    handle.swap(&mut owner);
 }

@@ -1,12 +1,13 @@
-//! A member that is lent out of its handle.
+//! A member that is lent out of its owner.
 ghost use Rattle.std.specs.Prelude.{◌≡◌, true, false, None, Some, IsSome};
 ghost use types.Logic.{sem};
-ghost use Rattle.vbr_handles.specs.Lent.{handle_follows};
+ghost use Rattle.vbr_handles.specs.Lent.{owner_follows};
 
-use crate::handle::Handle;
-use vbr_set::Member;
+use crate::owner::Owner;
+use vbr_set::member::Member;
+use vbr_words::Nodes;
 
-impl Handle {
+impl<M> Owner<M> {
     pub fn is_empty(&mut self) -> bool
         ensures { (result ≡ false → IsSome self.old.member)
             × (result ≡ true → self.old.member ≡ None) × (self.new ≡ self.old) }
@@ -15,11 +16,22 @@ impl Handle {
     }
 
     /// The member, which stays where it is.
-    pub fn member_mut(&mut self) -> &mut Member
+    pub fn member_mut(&mut self) -> &mut M
         requires { IsSome self.old.member }
-        ensures* writes_back { sem 𝓛 (handle_follows self.entry result) }
+        ensures* writes_back { sem 𝓛 (owner_follows M.row self.entry result) }
         ensures value { self.old.member ≡ Some result.now }
     {
-        unsafe { &mut *self.at.cast::<Member>() }
+        unsafe { &mut *self.at }
+    }
+}
+
+impl<N: Nodes> Owner<Member<N>> {
+    /// Whether the members of two owners have their shares of one set in memory ([`Member::is_beside`]).
+    pub fn is_beside(&mut self, other: &mut Owner<Member<N>>) -> bool
+        requires one { IsSome self.old.member }
+        requires other { IsSome other.old.member }
+        ensures { (self.new ≡ self.old) × (other.new ≡ other.old) }
+    {
+        self.member_mut().is_beside(other.member_mut())
     }
 }

@@ -1,19 +1,34 @@
-//! Handles to a set, which cross to C: each thread has one.
+//! Handles to a set or to a map, which cross to C: each thread has one.
 //!
 //! A [`Handle`] is one pointer to a member on the heap, and null while it is empty. A handle is moved
-//! and never copied, and one call at a time has it.
+//! and never copied, and one call at a time has it. A [`MapHandle`] is the same, with a member of a map.
+//! What both are, an [`Owner`] of a member of any type, makes the calls; what C gives and is told of keys
+//! ([`Listed`]) has entries in place of keys where it is a map.
 #![tactic(auto)]
 
 pub mod closing;
 pub mod closing_all;
+mod entries;
+pub mod entry;
 pub mod handle;
+pub mod handle_of;
+pub mod handle_owners;
+mod keys;
 pub mod lends;
+pub mod listed;
 pub mod numbers;
 pub mod opening;
+pub mod owner;
 mod parts;
+pub mod report_numbers;
 pub mod shown;
 
 pub use closing::{CloseRefusal, abandon, close};
 pub use closing_all::{CloseAllRefusal, close_all};
-pub use handle::Handle;
+pub use entry::Entry;
+pub use handle::{Handle, MapHandle};
+pub use handle_of::HandleOf;
+pub use listed::Listed;
 pub use opening::{OpenRefusal, ShapeNumbers, open, open_with};
+pub use owner::Owner;
+pub use report_numbers::ReportNumbers;

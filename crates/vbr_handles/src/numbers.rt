@@ -1,21 +1,28 @@
 //! The calls of handles with their answers as numbers, as they go to C: 1 is yes, 0 is no or done, and
 //! each refusal has a number below 0.
-ghost use Rattle.std.specs.Prelude.{◌≡◌, ◌≤◌, length};
+ghost use Rattle.std.specs.Prelude.{◌≡◌, []};
 ghost use Rattle.vbr_machine.specs.declared.history.Op.TheVariants.{Insert, Remove, Has};
 ghost use Rattle.vbr_set.specs.AllMembers.{AreOfOneSet};
-ghost use Rattle.vbr_handles.specs.AllHandles.{members_in};
+ghost use Rattle.vbr_handles.specs.AllHandles.{members_by};
 ghost use Rattle.vbr_handles.specs.Codes.{call_code, close_all_code, close_code, open_code};
 ghost use Rattle.vbr_handles.specs.Calls.{TellsCall};
-ghost use Rattle.vbr_handles.specs.Opening.{spread_shape};
-ghost use Rattle.vbr_handles.specs.OpeningCodes.{TellsOpening, TellsOpeningWith};
-ghost use Rattle.vbr_handles.specs.Reports.{AreNumbersOf, IsTold, TellsClose, TellsCloseAll};
+ghost use Rattle.vbr_handles.specs.Opening.{listed_shape};
+ghost use Rattle.vbr_handles.specs.OpeningCodes.{TellsOpeningBy};
+ghost use Rattle.vbr_handles.specs.Reports.{TellsCloseAllBy, TellsCloseBy};
+
+pub mod entries;
 
 use crate::closing::CloseRefusal;
 use crate::closing_all::CloseAllRefusal;
-use crate::handle::Handle;
+use crate::handle_of::HandleOf;
+use crate::listed::Listed;
 use crate::opening::{OpenRefusal, ShapeNumbers};
+use crate::owner::Owner;
+use crate::report_numbers::ReportNumbers;
 use std::alloc::Global;
-use vbr_set::{Refusal, Report};
+use vbr_set::Refusal;
+use vbr_set::member::Member;
+use vbr_words::{Keys, Nodes};
 
 const NO: i32 = 0;
 
@@ -47,117 +54,108 @@ const MISSING: i32 = -12;
 
 const MIXED: i32 = -13;
 
-/// What a closed set held.
-#[repr(C)]
-#[derive(Clone, Copy)]
-pub struct ReportNumbers {
-    /// The epoch.
-    pub epoch: u64,
-    /// How many keys were in the set.
-    pub live: u32,
-    /// How many removed nodes were still in a list.
-    pub marked: u32,
-    /// How many slots had no node in a list.
-    pub free: u32,
+/// Opens an empty set for handles, or an empty map, as [`crate::open`] does.
+pub fn open<N: Nodes, I: Listed<N>, H: HandleOf<N>>(
+    alloc: Global,
+    handles: &mut [H],
+    slots: u32,
+    buckets: u32,
+    last_epoch: u64,
+) -> i32
+    ensures { TellsOpeningBy H.member handles.old handles.new
+        (listed_shape I.listing slots buckets last_epoch []) result }
+{
+    open_code(crate::opening::open::<N, I, H>(alloc, handles, slots, buckets, last_epoch))
 }
 
-/// Opens a set for handles, as [`crate::open`] does.
-pub fn open(alloc: Global, handles: &mut [Handle], slots: u32, buckets: u32, last_epoch: u64) -> i32
-    ensures { TellsOpening handles.old handles.new slots buckets last_epoch result }
+/// Opens a set of these keys for handles, or a map of these entries, as [`crate::open_with`] does.
+pub fn open_with<N: Nodes, I: Listed<N>, H: HandleOf<N>>(
+    alloc: Global,
+    handles: &mut [H],
+    numbers: ShapeNumbers,
+    items: &[I],
+) -> i32
+    ensures { TellsOpeningBy H.member handles.old handles.new
+        (listed_shape I.listing numbers.slots numbers.buckets numbers.last_epoch items.now) result }
 {
-    open_code(crate::opening::open(alloc, handles, slots, buckets, last_epoch))
-}
-
-/// Opens a set of these keys for handles, as [`crate::open_with`] does.
-pub fn open_with(alloc: Global, handles: &mut [Handle], numbers: ShapeNumbers, keys: &[u64]) -> i32
-    ensures { TellsOpeningWith handles.old handles.new
-        (spread_shape numbers.slots numbers.buckets numbers.last_epoch keys.now) result }
-{
-    open_code(crate::opening::open_with(alloc, handles, numbers, keys))
+    open_code(crate::opening::open_with::<N, I, H>(alloc, handles, numbers, items))
 }
 
 /// Adds a key by the member of a handle.
-pub fn insert(handle: &mut Handle, key: u64, budget: u32) -> i32
-    ensures { TellsCall Insert handle.old.member handle.new.member key budget result }
+pub fn insert(owner: &mut Owner<Member<Keys>>, key: u64, budget: u32) -> i32
+    ensures { TellsCall Insert owner.old.member owner.new.member key budget result }
 {
-    if handle.is_empty() {
+    if owner.is_empty() {
         return EMPTY;
     }
-    call_code(handle.member_mut().insert(key, budget))
+    call_code(owner.member_mut().insert(key, budget))
 }
 
 /// Takes a key out by the member of a handle.
-pub fn remove(handle: &mut Handle, key: u64, budget: u32) -> i32
-    ensures { TellsCall Remove handle.old.member handle.new.member key budget result }
+pub fn remove(owner: &mut Owner<Member<Keys>>, key: u64, budget: u32) -> i32
+    ensures { TellsCall Remove owner.old.member owner.new.member key budget result }
 {
-    if handle.is_empty() {
+    if owner.is_empty() {
         return EMPTY;
     }
-    call_code(handle.member_mut().remove(key, budget))
+    call_code(owner.member_mut().remove(key, budget))
 }
 
-/// Looks a key up by the member of a handle.
-pub fn has(handle: &mut Handle, key: u64, budget: u32) -> i32
-    ensures { TellsCall Has handle.old.member handle.new.member key budget result }
+/// Looks a key up by the member of a handle, of a set or of a map.
+pub fn has<N: Nodes>(owner: &mut Owner<Member<N>>, key: u64, budget: u32) -> i32
+    ensures { TellsCall Has owner.old.member owner.new.member key budget result }
 {
-    if handle.is_empty() {
+    if owner.is_empty() {
         return EMPTY;
     }
-    call_code(handle.member_mut().has(key, budget))
+    call_code(owner.member_mut().has(key, budget))
 }
 
-/// Closes a handle, as [`crate::close`] does, and writes the report where there is one: its keys in front
-/// of those that were there, where all have room, and else its numbers alone.
-pub fn close(alloc: Global, handle: &mut Handle, keys: &mut [u64], told: &mut ReportNumbers) -> i32
-    ensures { TellsClose handle.old.member handle.new.member keys.old keys.new
+/// Closes a handle, as [`crate::close`] does, and writes the report where there is one: what it lists in
+/// front of what was there, where all has room, and else its numbers alone.
+pub fn close<N: Nodes, I: Listed<N>>(
+    alloc: Global,
+    owner: &mut Owner<Member<N>>,
+    items: &mut [I],
+    told: &mut ReportNumbers,
+) -> i32
+    ensures { TellsCloseBy I.listing I.Report.closes owner.old.member owner.new.member items.old items.new
         told.old told.new result }
 {
-    let answer = crate::closing::close(alloc, handle, keys.len());
+    let answer = crate::closing::close::<N, I>(alloc, owner, items.len());
     match &answer {
-        Ok(Some(report)) => tell(report, keys, told),
-        Err(CloseRefusal::Room(report)) => *told = numbers_of(report),
+        Ok(Some(report)) => {
+            I::write(report, items);
+            *told = I::numbers(report);
+        }
+        Err(CloseRefusal::Room(report)) => *told = I::numbers(report),
         _ => {}
     }
     close_code(&answer)
 }
 
-/// Closes all handles of a set, as [`crate::close_all`] does, and writes the report as [`close`] does.
-pub fn close_all(
+/// Closes all handles of a set or of a map, as [`crate::close_all`] does, and writes the report as
+/// [`close`] does.
+pub fn close_all<N: Nodes, I: Listed<N>, H: HandleOf<N>>(
     alloc: Global,
-    handles: &mut [Handle],
-    keys: &mut [u64],
+    handles: &mut [H],
+    items: &mut [I],
     told: &mut ReportNumbers,
 ) -> i32
-    requires { AreOfOneSet (members_in handles.old) }
-    ensures { TellsCloseAll handles.old handles.new keys.old keys.new told.old told.new result }
+    requires { AreOfOneSet (members_by H.member handles.old) }
+    ensures { TellsCloseAllBy I.listing I.Report.closes H.member handles.old handles.new items.old items.new
+        told.old told.new result }
 {
-    let answer = crate::closing_all::close_all(alloc, handles, keys.len());
+    let answer = crate::closing_all::close_all::<N, I, H>(alloc, handles, items.len());
     match &answer {
-        Ok(report) => tell(report, keys, told),
-        Err(CloseAllRefusal::Room(report)) => *told = numbers_of(report),
+        Ok(report) => {
+            I::write(report, items);
+            *told = I::numbers(report);
+        }
+        Err(CloseAllRefusal::Room(report)) => *told = I::numbers(report),
         _ => {}
     }
     close_all_code(&answer)
-}
-
-// Writes a report: its numbers, and its keys.
-fn tell(report: &Report, keys: &mut [u64], told: &mut ReportNumbers)
-    requires { length report.now.keys.items ≤ length keys.old }
-    ensures { IsTold report.now keys.old keys.new told.new }
-{
-    keys[..report.keys.len()].copy_from_slice(&report.keys);
-    *told = numbers_of(report);
-}
-
-fn numbers_of(report: &Report) -> ReportNumbers
-    ensures { AreNumbersOf report.now result }
-{
-    ReportNumbers {
-        epoch: report.epoch,
-        live: report.live,
-        marked: report.marked,
-        free: report.free,
-    }
 }
 
 fn open_code(answer: Result<(), OpenRefusal>) -> i32
@@ -185,7 +183,7 @@ fn call_code(answer: Result<bool, Refusal>) -> i32
     }
 }
 
-fn close_code(answer: &Result<Option<Report>, CloseRefusal>) -> i32
+fn close_code<R>(answer: &Result<Option<R>, CloseRefusal<R>>) -> i32
     ensures { result ≡ close_code answer.now }
 {
     match answer {
@@ -198,7 +196,7 @@ fn close_code(answer: &Result<Option<Report>, CloseRefusal>) -> i32
     }
 }
 
-fn close_all_code(answer: &Result<Report, CloseAllRefusal>) -> i32
+fn close_all_code<R>(answer: &Result<R, CloseAllRefusal<R>>) -> i32
     ensures { result ≡ close_all_code answer.now }
 {
     match answer {

@@ -1,12 +1,15 @@
-//! Opening a set for handles.
-ghost use Rattle.std.specs.Prelude.{◌≡◌, ◌≤◌, true, false, [], length, map, None, Some, IfOk, IfSome};
-ghost use Rattle.std.specs.List.Sorted.{IsStrictlyIncreasing};
+//! Opening a set, or a map, for handles.
+ghost use Rattle.std.specs.Prelude.{◌≡◌, true, false, [], length, map, None, Some, IfOk, IfSome};
 ghost use Rattle.vbr_words.specs.Dimensions.{IsShape};
-ghost use Rattle.vbr_handles.specs.Opening.{AreEmpty, Opens, spread_shape};
+ghost use Rattle.vbr_handles.specs.Opening.{AreEmpty, Opens, listed_shape, spread_shape};
 
-use crate::handle::Handle;
+use crate::handle_of::HandleOf;
+use crate::listed::Listed;
+use crate::owner::Owner;
 use std::alloc::{AllocError, Global};
-use vbr_set::{Member, OpenError, Shape};
+use vbr_set::member::Member;
+use vbr_set::{OpenError, Shape};
+use vbr_words::Nodes;
 
 /// Why handles were not opened. The tests are made in this order, and the handles are as they were.
 #[derive(Clone, Copy, Debug, PartialEq, Eq)]
@@ -47,37 +50,39 @@ impl ShapeNumbers {
     }
 }
 
-/// Opens an empty set with a pass for each of the handles, in the order of the passes' numbers.
-pub fn open(
+/// Opens an empty set with a pass for each of the handles, in the order of the passes' numbers; for the
+/// handles of a map, an empty map.
+pub fn open<N: Nodes, I: Listed<N>, H: HandleOf<N>>(
     alloc: Global,
-    handles: &mut [Handle],
+    handles: &mut [H],
     slots: u32,
     buckets: u32,
     last_epoch: u64,
 ) -> Result<(), OpenRefusal>
-    ensures { Opens handles.old handles.new (spread_shape slots buckets last_epoch []) result }
+    ensures { Opens H.member handles.old handles.new
+        (listed_shape I.listing slots buckets last_epoch []) result }
 {
     let numbers = ShapeNumbers {
         slots,
         buckets,
         last_epoch,
     };
-    open_with(alloc, handles, numbers, &[])
+    open_with::<N, I, H>(alloc, handles, numbers, &[])
 }
 
 /// Opens a set of these keys, which ascend, each above the one before, with a pass for each of the
 /// handles, in the order of the passes' numbers. It goes once over the keys, and takes 8 bytes for each
-/// while it runs.
-pub fn open_with(
+/// while it runs. For the handles of a map it opens one of these entries, and takes 48 bytes for each.
+pub fn open_with<N: Nodes, I: Listed<N>, H: HandleOf<N>>(
     alloc: Global,
-    handles: &mut [Handle],
+    handles: &mut [H],
     numbers: ShapeNumbers,
-    keys: &[u64],
+    items: &[I],
 ) -> Result<(), OpenRefusal>
-    ensures { Opens handles.old handles.new
-        (spread_shape numbers.slots numbers.buckets numbers.last_epoch keys.now) result }
+    ensures { Opens H.member handles.old handles.new
+        (listed_shape I.listing numbers.slots numbers.buckets numbers.last_epoch items.now) result }
 {
-    if !are_empty(handles) {
+    if !are_empty::<N, H>(handles) {
         return Err(OpenRefusal::InUse);
     }
     let Some(shape) = numbers.shape() else {
@@ -86,26 +91,26 @@ pub fn open_with(
     if handles.is_empty() || handles.len() > 64 {
         return Err(OpenRefusal::Passes);
     }
-    if keys.len() > numbers.slots as usize || !ascend(keys) {
+    if !I::can_open(items, numbers.slots) {
         return Err(OpenRefusal::Keys);
     }
-    let members = match Member::open_with(alloc, shape, handles.len() as u32, keys) {
+    let members = match I::open(alloc, shape, handles.len() as u32, items) {
         Ok(members) => members,
         Err(OpenError::Passes) => return Err(OpenRefusal::Passes),
         Err(OpenError::Memory) => return Err(OpenRefusal::Memory),
     };
-    let Ok(mut opened) = box_all(alloc, members) else {
+    let Ok(opened) = box_all(alloc, members) else {
         return Err(OpenRefusal::Memory);
     };
-    handles.swap_with_slice(&mut opened);
+    fill(handles, opened);
     Ok(())
 }
 
 // Whether all handles are empty.
-fn are_empty(handles: &mut [Handle]) -> bool
+fn are_empty<N: Nodes, H: HandleOf<N>>(handles: &mut [H]) -> bool
     ensures same { handles.new ≡ handles.old }
-    ensures empty { result ≡ true → AreEmpty handles.old }
-    ensures in_use { result ≡ false → ¬ (AreEmpty handles.old) }
+    ensures empty { result ≡ true → AreEmpty H.member handles.old }
+    ensures in_use { result ≡ false → ¬ (AreEmpty H.member handles.old) }
 {
     for i in 0..handles.len() {
         if !handles[i].is_empty() {
@@ -115,27 +120,32 @@ fn are_empty(handles: &mut [Handle]) -> bool
     true
 }
 
-// Whether keys ascend, each above the one before.
-fn ascend(keys: &[u64]) -> bool
-    ensures ascending { result ≡ true → IsStrictlyIncreasing keys.now }
-    ensures not { result ≡ false → ¬ (IsStrictlyIncreasing keys.now) }
+// An owner for each member.
+fn box_all<N: Nodes>(
+    alloc: Global,
+    members: Vec<Member<N>>,
+) -> Result<Vec<Owner<Member<N>>>, AllocError>
+    ensures members { IfOk result
+        (λ owners. map (λ o. o.member) owners.items ≡ map Some members.items) }
 {
-    for i in 1..keys.len() {
-        if keys[i - 1] >= keys[i] {
-            return false;
-        }
+    let mut owners = Vec::with_capacity(alloc, members.len())?;
+    for member in members {
+        owners.push(Owner::of(Box::new(alloc, member)?))?;
     }
-    true
+    Ok(owners)
 }
 
-// A handle for each member.
-fn box_all(alloc: Global, members: Vec<Member>) -> Result<Vec<Handle>, AllocError>
-    ensures members { IfOk result
-        (λ handles. map (λ h. h.member) handles.items ≡ map Some members.items) }
+// Gives each handle what the owner at its place has.
+fn fill<N: Nodes, H: HandleOf<N>>(handles: &mut [H], owners: Vec<Owner<Member<N>>>)
+    requires { length owners.items ≡ length handles.old }
+    ensures { map H.member handles.new ≡ map (λ o. o.member) owners.items }
 {
-    let mut handles = Vec::with_capacity(alloc, members.len())?;
-    for member in members {
-        handles.push(Handle::of(Box::new(alloc, member)?))?;
+    let mut owners = owners.into_iter();
+    for i in 0..handles.len() {
+        let Some(owner) = owners.next() else {
+            unreachable!()
+        };
+        let mut owner = owner;
+        handles[i].swap(&mut owner);
     }
-    Ok(handles)
 }

@@ -52,6 +52,7 @@ mod walking;
 pub use close_all_error::CloseAllError;
 pub use end_error::EndError;
 pub use map::report::MapReport;
+pub use member::telling::ReportOf;
 pub use renew_error::RenewError;
 pub use report::Report;
 pub use set_ref::VbrSetRef;

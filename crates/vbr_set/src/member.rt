@@ -8,7 +8,7 @@ pub mod meeting;
 pub mod opening;
 mod share;
 mod sharing;
-mod telling;
+pub mod telling;
 pub mod tokens;
 
 ghost use Rattle.std.specs.Prelude.{◌≡◌};

@@ -80,8 +80,9 @@ impl Member {
 }
 
 impl<N: Nodes> Member<N> {
-    // Gives its pass back; the last one is told the report of a set or a map, and comes back as it was.
-    pub(crate) fn tell_last<R: ReportOf<N>>(
+    /// Gives its pass back; the last one is told the report of a set or of a map, and comes back as it was:
+    /// [`Member::report_last`], whichever the report is.
+    pub fn tell_last<R: ReportOf<N>>(
         self,
         alloc: Global,
     ) -> Result<Option<(R, Member<N>)>, EndError<Member<N>>>

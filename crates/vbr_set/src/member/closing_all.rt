@@ -68,8 +68,9 @@ impl Member {
 }
 
 impl<N: Nodes> Member<N> {
-    // Tells the report of a set or a map by all its members, which come back as they were.
-    pub(crate) fn tell_all<R: ReportOf<N>>(
+    /// Tells the report of a set or of a map by all its members, which come back as they were:
+    /// [`Member::report_all`], whichever the report is.
+    pub fn tell_all<R: ReportOf<N>>(
         alloc: Global,
         members: Vec<Member<N>>,
     ) -> Result<(R, Vec<Member<N>>), CloseAllError<Member<N>>>

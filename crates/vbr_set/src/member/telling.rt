@@ -13,7 +13,7 @@ use vbr_slots::Pass;
 use vbr_words::{Entries, Keys, Nodes};
 
 /// The report of a table whose nodes are of a kind.
-pub(crate) trait ReportOf<N: Nodes>: Drop {
+pub trait ReportOf<N: Nodes>: Drop {
     ghost closes: { TableView → List PassView → Self → Type 0 };
 
     /// Tells what is in a set or a map that stays open, as [`VbrSet::report`] does.

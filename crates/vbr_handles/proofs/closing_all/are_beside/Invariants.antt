@@ -3,7 +3,7 @@ use Rattle.vbr_handles.proofs.closing_all.are_beside.Given as goal
 
 -- the handles are as they were
 abbrev pub invariant-loop-i : goal.invariant-loop-i
-invariant-loop-i l = record {
+invariant-loop-i g l = record {
   first : l.first ≡ l.initial.first;
   others : l.others ≡ l.initial.others;
 }

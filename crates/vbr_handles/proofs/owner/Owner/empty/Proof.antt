@@ -1,0 +1,98 @@
+-- `empty` makes an owner of nothing.
+use mathlib.Core.Path.{◌≡◌, refl, sym, subst}
+use mathlib.Core.List.{List, [], ◌∷◌, ◌++◌}
+use lib.Dec.{T, lit<}
+use seplogic.Ra.Ura.{Ura}
+use mir.Syntax.{Fn}
+use mir.MapTy.{inst_fn}
+use mir.Val.{Val, vnull, has_ty, WT}
+use base.Logic.{ent, emp, id⊢}
+use base.Fml.{ftrue, fsep}
+use prog.Wp.{WpFn, Tables}
+use types.Logic.{Logic}
+use contract.Monad.{fact}
+use contract.Running.{tables, tables_of}
+use sound.WpLaws.{WpFn-mono}
+use types.Kit.{Item, ‵, raw, ◌⊛◌, ◌$◌, ◌∵◌, !, qed, by, move, keep, drop, use1, join, split, fsplit, fjoin, fpack, feq_i, suffices, done}
+use types.Part.{agg}
+use types.Run.{lit, no_more, and_then, returns, enter}
+use types.ByLocal.{alloc_all, pass_all, free_all, look_at, get, sets}
+use denote.Exit.{yes}
+use denote.Builtin.{RawPtr}
+use denote.Param.{layout}
+use denote.RattleType.{Valss}
+use denote.RawPtr.{null_ptr, ptr_val}
+use denote.Signature.{Slot, plain}
+use denote.Steps.{nothing}
+use denote.Struct.Struct.{within}
+use denote.Struct.Owning.{shape, to}
+use denote.Triple.Carry.{spared}
+use denote.Triple.Clauses.{Clauses, Ended, closing}
+use denote.Triple.Spec.{Meets, triple_of}
+use denote.Triple.Table.{entered, run_framed}
+use denote.Triple.Walked.{says, Stays, stay_dropped, walk_of, ends_at, Goes-dropped, walk_Meets}
+use Rattle.core.proofs.alloc.Calls.{handle_tells}
+use Rattle.core.proofs.mem.Param.{El, R, args}
+use Rattle.std.specs.declared.option.Option.TheVariants.{None}
+use Rattle.std_alloc.proofs.ResultValues.{and_tt}
+use Rattle.std_heap.specs.contracts.Global as Heap
+use Rattle.vbr_handles.proofs.AsBox.{E, OwnerRow, FromOwner as To}
+use Rattle.vbr_handles.proofs.Owning.{nothing_word}
+use Rattle.vbr_handles.specs.contracts.owner.Owner.{the_type}
+use Rattle.vbr_handles.specs.contracts.owner.Owner.empty.Key.{name as #self}
+use Rattle.vbr_handles.proofs.owner.Owner.empty.Statement as stated
+use Rattle.vbr_handles.proofs.owner.Owner.empty.Code as code
+
+abbrev From : Slot 0
+From = plain (λ _. Heap.the_row)
+
+module _ (F : El) where
+  abbrev fn' : Fn
+  fn' = inst_fn (args F) code.function
+
+  abbrev ended : Ended
+  ended = record { signature = record { lifetimes = 0; outlives = []; params = From ∷ []; result = To F }; kept = (yes, tt) }
+
+  abbrev stayed : Stays ended.signature.params ended.kept
+  stayed = (stay_dropped From yes, tt)
+
+  abbrev spec : {M : Type 1} (𝓤 : Ura M) → Clauses 𝓤 ended
+  spec 𝓤 κs a = record { ghost = Unit {0}; requires = λ _. emp 𝓤; ensures = λ _ r _. fact 𝓤 (r.member ≡ None) }
+
+module _ (F : El) {M : Type 1} {𝓤 : Ura M} (𝓛 : Logic 𝓤) (𝓣 : Tables 𝓤 𝓛.H) where
+  open 𝓛 use {H}
+
+  walk : (z : (walk_of 𝓛 (ended F) (stayed F) (spec F 𝓤)).Ghost)
+      → ent 𝓤 ((walk_of 𝓛 (ended F) (stayed F) (spec F 𝓤)).pre z) (WpFn 𝓤 H 𝓣.C 𝓣.Λ (fn' F) (z.0.4.0 ++ []) ((walk_of 𝓛 (ended F) (stayed F) (spec F 𝓤)).post z))
+  walk z =
+      let Post = (walk_of 𝓛 (ended F) (stayed F) (spec F 𝓤)).post z in
+      let a : Heap.the_row.Denot = z.0.3.0 in
+      let made : (OwnerRow F).Denot = record { at = null_ptr; alloc = a; member = None } in
+      qed 𝓛 ((‵ ftrue ⊛ ‵ (fsep (Heap.the_row.own_val a z.0.4.0) ftrue)) ∷ raw (emp 𝓤) ∷ []) ∵ split ! $ drop ! $ fsplit ! $
+      handle_tells (E F).al ! a z.0.4.0 (λ hv ea fa. keep ! (0 ∷ []) $
+      let w = nothing_word hv in
+      let good : T (has_ty (layout (OwnerRow F)) w) × WT w = (and_tt (has_ty (layout Heap.the_row) hv) fa.0, (record { fits = lit< tt }, (fa.1, tt))) in
+      nothing ! $ fpack ! (null_ptr ≡ null_ptr) (λ _. ftrue) refl $
+      nothing ! $ move ! (2 ∷ 0 ∷ []) $ fjoin ! $ feq_i ! (List Val) (vnull ∷ []) (ptr_val null_ptr ∷ []) refl $ fjoin ! $ feq_i ! (List Val) (w ∷ []) (w ∷ []) refl $ fjoin ! $
+      fpack ! (Valss (RawPtr ∷ Heap.the_field.row ∷ [])) (within (shape (the_type (R F))) (to (the_type (R F)) made) (w ∷ [])) (vnull ∷ [], (hv ∷ [], tt)) $ fjoin ! $
+      use1 𝓛 (‵ ((OwnerRow F).own_val made (w ∷ []))) (id⊢ 𝓤 _) $
+      let Γ : List (Item 𝓤) = ‵ ((OwnerRow F).own_val made (w ∷ [])) ∷ [] in
+      by ! (subst (λ (us : List Val). ent 𝓤 (types.Kit.⋆ 𝓛 Γ) (WpFn 𝓤 H 𝓣.C 𝓣.Λ (fn' F) (us ++ []) Post)) (sym ea)
+      (qed 𝓛 Γ ∵ enter ! 𝓣.C 𝓣.Λ (fn' F) (hv ∷ []) _ $ alloc_all ! (λ ls. pass_all ! refl (fa, tt) $
+      sets ! (agg ! (and_then ! (lit ! tt) (and_then ! (get ! refl) (no_more !)))) refl good $
+      returns ! (look_at ! 0 refl) $ free_all ! refl $
+      suffices ! _ (ends_at 𝓛 (ended F) (stayed F) (spec F 𝓤) z w made (tt, tt) (tt, tt)) $ says ! refl $
+      nothing ! $ nothing ! $ fjoin ! $ join ! $ nothing ! $ join ! $ done !))))
+
+  meets : Meets 𝓛 (ended F).signature (WpFn 𝓤 H 𝓣.C 𝓣.Λ (fn' F)) (closing 𝓛 (ended F) (spec F 𝓤))
+  meets = walk_Meets 𝓛 (ended F) (stayed F) (Goes-dropped 𝓛 0 From yes (λ κs x f. refl), tt) (spec F 𝓤) (WpFn 𝓤 H 𝓣.C 𝓣.Λ (fn' F)) (WpFn-mono 𝓤 H 𝓛.laws 𝓣 (fn' F)) walk
+
+pub empty_spec : {M : Type 1} → stated.statement M
+unfolding tables_of
+empty_spec 𝓤 𝓛 𝓜 𝓡 wired X L y =
+    let F : El = record { row = X; laws = L } in
+    let 𝓣 : Tables 𝓤 𝓛.H = tables_of 𝓤 𝓛.H 𝓜 (tables 𝓤 𝓛.H 𝓜 𝓡 𝓡.env) in
+    let k = #self (args F) in
+    spared 𝓛 (ended F).signature (𝓡.run (𝓡.env k)) (run_framed 𝓤 𝓛.H 𝓜 𝓡 (𝓡.env k)) 1 (X.lives, tt) (closing 𝓛 (ended F) (spec F 𝓤))
+    (entered 𝓤 𝓛.H (triple_of 𝓛 (ended F).signature (closing 𝓛 (ended F) (spec F 𝓤))) 𝓣.C 𝓣.Λ k (fn' F) (code.unfolded 𝓤 𝓛.H 𝓜 𝓡 wired (X, tt)) (meets F 𝓛 𝓣))
+    ((y.0.0, y.0.1, tt, y.0.3, y.0.4), y.1)

@@ -1,0 +1,77 @@
+//! A map lists entries.
+ghost use Rattle.std.specs.Prelude.{◌≡◌, true, false, map, IfOk};
+ghost use Rattle.std.specs.List.Sorted.{IsStrictlyIncreasing};
+ghost use Rattle.vbr_machine.specs.Maps.{keys_listed};
+ghost use Rattle.vbr_handles.specs.Listings.{as_entries, as_pair};
+
+use crate::entry::Entry;
+use crate::listed::Listed;
+use crate::report_numbers::ReportNumbers;
+use std::alloc::{AllocError, Global};
+use vbr_set::{MapMember, MapReport, OpenError};
+use vbr_words::{Entries, Shape};
+
+impl Listed<Entries> for Entry {
+    type Report = MapReport;
+
+    ghost listing = { as_entries };
+
+    fn can_open(entries: &[Entry], slots: u32) -> bool {
+        entries.len() <= slots as usize && ascend(entries)
+    }
+
+    fn open(
+        alloc: Global,
+        shape: Shape,
+        passes: u32,
+        entries: &[Entry],
+    ) -> Result<Vec<MapMember>, OpenError> {
+        let Ok(pairs) = pairs_of(alloc, entries) else {
+            return Err(OpenError::Memory);
+        };
+        MapMember::open_with(alloc, shape, passes, &pairs)
+    }
+
+    fn numbers(report: &MapReport) -> ReportNumbers {
+        ReportNumbers {
+            epoch: report.epoch,
+            live: report.live,
+            marked: report.marked,
+            free: report.free,
+        }
+    }
+
+    fn count(report: &MapReport) -> usize {
+        report.entries.len()
+    }
+
+    fn write(report: &MapReport, entries: &mut [Entry]) {
+        for i in 0..report.entries.len() {
+            let (key, value) = report.entries[i];
+            entries[i] = Entry { key, value };
+        }
+    }
+}
+
+// Whether the keys of entries ascend, each above the one before.
+fn ascend(entries: &[Entry]) -> bool
+    ensures ascending { result ≡ true → IsStrictlyIncreasing (keys_listed (map as_pair entries.now)) }
+    ensures not { result ≡ false → ¬ (IsStrictlyIncreasing (keys_listed (map as_pair entries.now))) }
+{
+    for i in 1..entries.len() {
+        if entries[i - 1].key >= entries[i].key {
+            return false;
+        }
+    }
+    true
+}
+
+// Entries as pairs.
+fn pairs_of(alloc: Global, entries: &[Entry]) -> Result<Vec<(u64, u64)>, AllocError>
+    ensures { IfOk result (λ pairs. pairs.items ≡ map as_pair entries.now) }
+{
+    Ok(entries
+        .iter()
+        .map(|entry| (entry.key, entry.value))
+        .collect(alloc)?)
+}

@@ -1,0 +1,64 @@
+//! What a handle does, whether it is one of a set or of a map.
+ghost use Rattle.std.specs.Prelude.{◌≡◌, true, false, Option, None, IsSome};
+ghost use Rattle.vbr_set.specs.Members.{MemberView};
+
+use crate::handle::{Handle, MapHandle};
+use crate::owner::Owner;
+use std::mem::swap;
+use vbr_set::member::Member;
+use vbr_words::{Entries, Keys, Nodes};
+
+/// A handle to a table whose nodes are of a kind: to a set, or to a map.
+pub trait HandleOf<N: Nodes>: Sized {
+    ghost member: { Self → Option MemberView };
+
+    /// Whether it is empty. It stays as it is.
+    fn is_empty(&mut self) -> bool
+        ensures { (result ≡ false → IsSome (member self.old))
+            × (result ≡ true → member self.old ≡ None) × (self.new ≡ self.old) };
+
+    /// Whether its member is beside the other's, as [`Member::is_beside`] tells. Both stay as they are.
+    fn is_beside(&mut self, other: &mut Self) -> bool
+        requires one { IsSome (member self.old) }
+        requires other { IsSome (member other.old) }
+        ensures { (self.new ≡ self.old) × (other.new ≡ other.old) };
+
+    /// Gives its member to an owner, and takes over what this has.
+    fn swap(&mut self, owner: &mut Owner<Member<N>>)
+        ensures given { owner.new.member ≡ member self.old }
+        ensures taken { member self.new ≡ owner.old.member };
+}
+
+impl HandleOf<Keys> for Handle {
+    ghost member = { λ h. h.member };
+
+    fn is_empty(&mut self) -> bool {
+        self.owner_mut().is_empty()
+    }
+
+    fn is_beside(&mut self, other: &mut Handle) -> bool {
+        let one = self.owner_mut();
+        one.is_beside(other.owner_mut())
+    }
+
+    fn swap(&mut self, owner: &mut Owner<Member<Keys>>) {
+        swap(self.owner_mut(), owner);
+    }
+}
+
+impl HandleOf<Entries> for MapHandle {
+    ghost member = { λ h. h.member };
+
+    fn is_empty(&mut self) -> bool {
+        self.owner_mut().is_empty()
+    }
+
+    fn is_beside(&mut self, other: &mut MapHandle) -> bool {
+        let one = self.owner_mut();
+        one.is_beside(other.owner_mut())
+    }
+
+    fn swap(&mut self, owner: &mut Owner<Member<Entries>>) {
+        swap(self.owner_mut(), owner);
+    }
+}

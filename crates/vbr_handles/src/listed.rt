@@ -1,0 +1,54 @@
+//! What is listed of a node to C and from it: its key, or its entry.
+ghost use Rattle.std.specs.Prelude.{◌≡◌, ◌<◌, ◌≤◌, ◌++◌, ◌⊎◌, true, false, drop, length, IfOk, IsErrOf};
+ghost use Rattle.vbr_set.specs.Members.{AreNew};
+ghost use Rattle.vbr_handles.specs.Listings.{Listing};
+ghost use Rattle.vbr_handles.specs.Opening.{CanOpen};
+
+use crate::report_numbers::ReportNumbers;
+use std::alloc::Global;
+use vbr_set::member::Member;
+use vbr_set::{OpenError, ReportOf};
+use vbr_words::{Nodes, Shape};
+
+/// What is listed of a node of a kind: its key, or its key with its value. A set or a map opens with such
+/// items, and its report lists them.
+pub trait Listed<N: Nodes>: Copy {
+    /// The report of a set or a map.
+    type Report: ReportOf<N>;
+
+    ghost listing: { Listing Self.Report Self };
+
+    /// Whether the keys ascend, each above the one before, and there are no more of them than slots.
+    fn can_open(items: &[Self], slots: u32) -> bool
+        ensures yes { result ≡ true → CanOpen (listing.keys items.now) slots }
+        ensures no { result ≡ false → ¬ (CanOpen (listing.keys items.now) slots) };
+
+    /// Opens a set of these keys, or a map of these entries, and gives its members.
+    fn open(
+        alloc: Global,
+        shape: Shape,
+        passes: u32,
+        items: &[Self],
+    ) -> Result<Vec<Member<N>>, OpenError>
+        requires { CanOpen (listing.keys items.now) shape.slots }
+        ensures members { IfOk result (λ members. AreNew (record shape {
+          values = listing.values;
+          keys = listing.keys items.now;
+          payloads = listing.payloads items.now;
+        }) passes members.items) }
+        ensures refused { IsErrOf result OpenError.Passes → ((passes ≡ 0) ⊎ (64 < passes)) };
+
+    /// The numbers of a report.
+    fn numbers(report: &Self::Report) -> ReportNumbers
+        ensures { result ≡ listing.numbers report.now };
+
+    /// How many keys a report lists.
+    fn count(report: &Self::Report) -> usize
+        ensures { result ≡ length (listing.items report.now) };
+
+    /// Writes what a report lists in front of what was there.
+    fn write(report: &Self::Report, items: &mut [Self])
+        requires { length (listing.items report.now) ≤ length items.old }
+        ensures { items.new
+            ≡ listing.items report.now ++ drop (length (listing.items report.now)) items.old };
+}
