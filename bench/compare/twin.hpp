@@ -128,19 +128,20 @@ public:
     Table(const Table &) = delete;
     Table &operator=(const Table &) = delete;
 
-    // The calls of a set; where nodes have none, no value is stored or given. As the library's they are called as functions.
-    [[gnu::noinline]] Answer insert(Pass &pass, uint64_t key, uint64_t value, uint32_t budget) {
+    // The calls; where nodes have no values none is stored or given. As the library's they are called as functions, which begin at
+    // a line of the cache.
+    [[gnu::noinline, gnu::aligned(64)]] Answer insert(Pass &pass, uint64_t key, uint64_t value, uint32_t budget) {
         return Call<N>(*this, pass, key, budget).insert(value);
     }
     // Where it answers YES it gives the value.
-    [[gnu::noinline]] Answer remove(Pass &pass, uint64_t key, uint32_t budget, uint64_t &value) {
+    [[gnu::noinline, gnu::aligned(64)]] Answer remove(Pass &pass, uint64_t key, uint32_t budget, uint64_t &value) {
         return Call<N>(*this, pass, key, budget).remove(value);
     }
     // The same.
-    [[gnu::noinline]] Answer get(Pass &pass, uint64_t key, uint32_t budget, uint64_t &value) {
+    [[gnu::noinline, gnu::aligned(64)]] Answer get(Pass &pass, uint64_t key, uint32_t budget, uint64_t &value) {
         return Call<N>(*this, pass, key, budget).template look_up<N::VALUES>(value);
     }
-    [[gnu::noinline]] Answer has(Pass &pass, uint64_t key, uint32_t budget) {
+    [[gnu::noinline, gnu::aligned(64)]] Answer has(Pass &pass, uint64_t key, uint32_t budget) {
         uint64_t none;
         return Call<N>(*this, pass, key, budget).template look_up<false>(none);
     }
