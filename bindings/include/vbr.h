@@ -92,7 +92,8 @@
 
    Memory and sizes. The words of a set take 8 * (2 + buckets + 4 * slots + slots / 64) bytes, the last part rounded
    up, in one block, and each handle about 1,200 bytes besides; opening and closing take as much as the words again
-   while they run, and the last close 9 bytes more for each slot. Open with a slot for each key that is in the set at
+   while they run, and the last close 9 bytes more for each slot. Of a map the words take 8 bytes more for each slot, and the
+   last close 17. Open with a slot for each key that is in the set at
    one time, and 64 for each handle (see Slots). Open with as many buckets as keys, a power of two: a bucket then has
    about one node, and takes 8 bytes. Give keys that are there at the start to vbr_open_with, which lays them all in one go;
    by inserts a million took three times as long. Keys are spread over the buckets by a multiplication, so keys with a pattern (in
@@ -102,7 +103,7 @@
    sixteen does of a cache that takes sixteen keys out at a time. Before it is spent a set is renewed: close all its
    handles, and open one with the keys of the report by vbr_open_with, at epoch 1. The numbers are 1 to VBR_MAX_SLOTS
    slots, 1 to VBR_MAX_BUCKETS buckets, and 1 to VBR_MAX_EPOCH as the last epoch; the most slots and buckets take 673
-   million bytes.
+   million bytes, and of a map 807.
 
    Slots. Each slot is in one place: in the pool that all handles share, with one handle, under a key, or in a
    removed node that is still in its list. A handle keeps slots to itself, at most 64 between two calls. A remove
@@ -339,7 +340,7 @@ VBR_NODISCARD vbr_answer vbr_map_open(vbr_map_handle *handles, size_t count, uin
 
 /* Opens a map of `entry_count` entries, whose keys ascend, each above the one before, and fills the handles as vbr_map_open
    does: VBR_NO. Else VBR_IN_USE, VBR_BAD_SHAPE, VBR_BAD_COUNT, VBR_BAD_KEYS or VBR_NO_MEMORY, tested in this order, and the
-   handles are as they were. The epoch is 1. It takes the memory of vbr_map_open, and 16 bytes for each entry while it runs, and
+   handles are as they were. The epoch is 1. It takes the memory of vbr_map_open, and 48 bytes for each entry while it runs, and
    goes once over the entries.
 
        static const vbr_entry some[3] = {{2, 20}, {5, 50}, {9, 90}};
