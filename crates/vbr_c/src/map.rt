@@ -101,12 +101,7 @@ pub extern "C" fn vbr_map_remove(
 /// Refusals, after which no call was made and the handle can go on: -1, the steps leave no room in the
 /// budget; -4, the handle is empty. With any answer but 1 nothing is written.
 #[unsafe(no_mangle)]
-pub extern "C" fn vbr_map_get(
-    handle: &mut MapHandle,
-    key: u64,
-    budget: u32,
-    value: &mut u64,
-) -> i32
+pub extern "C" fn vbr_map_get(handle: &mut MapHandle, key: u64, budget: u32, value: &mut u64) -> i32
     ensures { TellsGetEntry handle.old.member handle.new.member key budget value.old value.new
         result }
 {

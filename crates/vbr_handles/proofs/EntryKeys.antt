@@ -5,34 +5,30 @@ use lib.Seq.{paste, paste-suc}
 use Rattle.std.specs.Prelude.{slice_set}
 use Rattle.std.specs.List.Sorted.{IsStrictlyIncreasing}
 use Rattle.std.proofs.lemmas.List.{length-map}
-use Rattle.vbr_machine.specs.Maps.{keys_listed}
-use Rattle.vbr_handles.specs.Listings.{as_entry, as_pair}
+use Rattle.vbr_handles.specs.Listings.{as_entry, as_pair, entry_keys}
 use Rattle.vbr_handles.specs.declared.entry.Entry.{Entry}
 
-abbrev pub keys_of : List Entry → List ℕ
-keys_of entries = keys_listed (map as_pair entries)
-
-pub as_many_keys : (entries : List Entry) → length (keys_of entries) ≡ length entries
+pub as_many_keys : (entries : List Entry) → length (entry_keys entries) ≡ length entries
 as_many_keys entries = length-map (map as_pair entries) (λ (pair : ℕ × ℕ). pair.0) ∙ length-map entries as_pair
 
-key_at : (entries : List Entry) (i : ℕ) (d : Entry) → i < length entries → slice_index (keys_of entries) i ≡ (slice_index_or entries i d).key
+key_at : (entries : List Entry) (i : ℕ) (d : Entry) → i < length entries → slice_index (entry_keys entries) i ≡ (slice_index_or entries i d).key
 key_at [] i d within = absurd (omega arith)
 key_at (entry ∷ entries) zero d within = refl
 key_at (entry ∷ entries) (suc i) d within = key_at entries i d (omega arith)
 
 -- the keys of entries ascend where each is below the next, and only there
-pub ascending : (entries : List Entry) → ((k : ℕ) (d : Entry) → k + 1 < length entries → (slice_index_or entries k d).key < (slice_index_or entries (k + 1) d).key) → IsStrictlyIncreasing (keys_of entries)
+pub ascending : (entries : List Entry) → ((k : ℕ) (d : Entry) → k + 1 < length entries → (slice_index_or entries k d).key < (slice_index_or entries (k + 1) d).key) → IsStrictlyIncreasing (entry_keys entries)
 ascending entries below k within =
     let d : Entry = record { key = 0; value = 0 } in
     let many = as_many_keys entries in
-    subst (λ (n : ℕ). n < slice_index (keys_of entries) (k + 1)) (sym (key_at entries k d (omega arith)))
+    subst (λ (n : ℕ). n < slice_index (entry_keys entries) (k + 1)) (sym (key_at entries k d (omega arith)))
     (subst (λ (n : ℕ). (slice_index_or entries k d).key < n) (sym (key_at entries (k + 1) d (omega arith))) (below k d (omega arith)))
 
-pub below_next : (entries : List Entry) → IsStrictlyIncreasing (keys_of entries) → (k : ℕ) (d : Entry) → k + 1 < length entries → (slice_index_or entries k d).key < (slice_index_or entries (k + 1) d).key
+pub below_next : (entries : List Entry) → IsStrictlyIncreasing (entry_keys entries) → (k : ℕ) (d : Entry) → k + 1 < length entries → (slice_index_or entries k d).key < (slice_index_or entries (k + 1) d).key
 below_next entries ascend k d within =
     let many = as_many_keys entries in
     subst (λ (n : ℕ). n < (slice_index_or entries (k + 1) d).key) (key_at entries k d (omega arith))
-    (subst (λ (n : ℕ). slice_index (keys_of entries) k < n) (key_at entries (k + 1) d within) (ascend k (omega arith)))
+    (subst (λ (n : ℕ). slice_index (entry_keys entries) k < n) (key_at entries (k + 1) d within) (ascend k (omega arith)))
 
 pub one_more_written : (before entries : List Entry) (pairs : List (ℕ × ℕ)) (i : ℕ) (pair : ℕ × ℕ) → i < length before → i < length pairs → pair ≡ slice_index_or pairs i pair → entries ≡ paste before 0 (map as_entry pairs) i
     → slice_set entries i (as_entry pair) ≡ paste before 0 (map as_entry pairs) (i + 1)

@@ -3,9 +3,9 @@ use Prim.Native.Nat.{ℕ}
 use mathlib.Core.List.{List, [], ◌∷◌}
 use seplogic.Ra.Ura.{Ura}
 use mir.Syntax.{Lifetime}
-use mir.Val.{Val, vptr}
+use mir.Val.{Val}
 use base.Logic.{SProp, ent, sep, ex}
-use base.Fml.{Lft, GName, Share, Fml, ftrue, flft}
+use base.Fml.{Lft, GName, Share, ftrue, flft}
 use types.Logic.{Logic, sem}
 use types.Kit.{‵, raw, some, later, ◌$◌, ◌∵◌, !, qed, by, move, keep, use1, fsplit3, drop, group, updating, await, pick, now, show, done}
 use types.Mut.{open_ref}

@@ -38,11 +38,15 @@ as_keys = record {
   items = λ report. report.keys.items;
 }
 
+-- the keys of entries
+abbrev pub entry_keys : List Entry → List ℕ
+entry_keys entries = keys_listed (map as_pair entries)
+
 -- a map lists entries
 abbrev pub as_entries : Listing MapReport Entry
 as_entries = record {
   values = true;
-  keys = λ entries. keys_listed (map as_pair entries);
+  keys = entry_keys;
   payloads = λ entries. values_listed (map as_pair entries);
   numbers = map_report_numbers;
   items = λ report. map as_entry report.entries.items;

@@ -71,10 +71,10 @@ fn end_with<N: Nodes, I: Listed<N>, H: HandleOf<N>>(
     requires full { AreFull H.member handles.old }
     requires one_set { AreOfOneSet (members.items ++ members_by H.member handles.old) }
     requires room { length members.items + length handles.old ≤ vec_capacity members }
-    ensures ends { IfOk result
-        (EndsAll H.member I.Report.closes I.listing (members.items ++ members_by H.member handles.old) handles.new room) }
-    ensures not { IfErr result
-        (λ e. IsUnended I.Report.closes I.listing H.member members.items handles.old handles.new room e.0 e.1.items) }
+    ensures ends { IfOk result (EndsAll H.member I.Report.closes I.listing
+        (members.items ++ members_by H.member handles.old) handles.new room) }
+    ensures not { IfErr result (λ e. IsUnended I.Report.closes I.listing
+        H.member members.items handles.old handles.new room e.0 e.1.items) }
 {
     let Some((first, others)) = handles.split_first_mut() else {
         return end_all::<N, I, H>(alloc, members, room);

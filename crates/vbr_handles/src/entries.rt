@@ -1,8 +1,7 @@
 //! A map lists entries.
 ghost use Rattle.std.specs.Prelude.{◌≡◌, true, false, map, IfOk};
 ghost use Rattle.std.specs.List.Sorted.{IsStrictlyIncreasing};
-ghost use Rattle.vbr_machine.specs.Maps.{keys_listed};
-ghost use Rattle.vbr_handles.specs.Listings.{as_entries, as_pair};
+ghost use Rattle.vbr_handles.specs.Listings.{as_entries, as_pair, entry_keys};
 
 use crate::entry::Entry;
 use crate::listed::Listed;
@@ -55,8 +54,8 @@ impl Listed<Entries> for Entry {
 
 // Whether the keys of entries ascend, each above the one before.
 fn ascend(entries: &[Entry]) -> bool
-    ensures ascending { result ≡ true → IsStrictlyIncreasing (keys_listed (map as_pair entries.now)) }
-    ensures not { result ≡ false → ¬ (IsStrictlyIncreasing (keys_listed (map as_pair entries.now))) }
+    ensures ascending { result ≡ true → IsStrictlyIncreasing (entry_keys entries.now) }
+    ensures not { result ≡ false → ¬ (IsStrictlyIncreasing (entry_keys entries.now)) }
 {
     for i in 1..entries.len() {
         if entries[i - 1].key >= entries[i].key {
@@ -70,8 +69,10 @@ fn ascend(entries: &[Entry]) -> bool
 fn pairs_of(alloc: Global, entries: &[Entry]) -> Result<Vec<(u64, u64)>, AllocError>
     ensures { IfOk result (λ pairs. pairs.items ≡ map as_pair entries.now) }
 {
-    Ok(entries
-        .iter()
-        .map(|entry| (entry.key, entry.value))
-        .collect(alloc)?)
+    Ok(
+        entries
+            .iter()
+            .map(|entry| (entry.key, entry.value))
+            .collect(alloc)?,
+    )
 }

@@ -7,7 +7,7 @@ ghost use Rattle.vbr_handles.specs.Owners.{owner_owns};
 use std::alloc::Global;
 use std::marker::Model;
 
-/// A handle to a set: an [`Owner`](crate::Owner) of a member of a set. What crosses to C has no type parameters, so it
+/// A handle to a set: an owner (`Owner`) of a member of a set. What crosses to C has no type parameters, so it
 /// is a type of its own.
 #[repr(C)]
 pub struct Handle {
@@ -22,7 +22,7 @@ impl Model for Handle {
 
 unsafe impl Send for Handle {}
 
-/// A handle to a map: an [`Owner`](crate::Owner) of a member of a map.
+/// A handle to a map: an owner (`Owner`) of a member of a map.
 #[repr(C)]
 pub struct MapHandle {
     pub(crate) at: *mut u8,

@@ -119,8 +119,8 @@ pub fn close<N: Nodes, I: Listed<N>>(
     items: &mut [I],
     told: &mut ReportNumbers,
 ) -> i32
-    ensures { TellsCloseBy I.listing I.Report.closes owner.old.member owner.new.member items.old items.new
-        told.old told.new result }
+    ensures { TellsCloseBy I.listing I.Report.closes owner.old.member owner.new.member
+        items.old items.new told.old told.new result }
 {
     let answer = crate::closing::close::<N, I>(alloc, owner, items.len());
     match &answer {
@@ -143,8 +143,8 @@ pub fn close_all<N: Nodes, I: Listed<N>, H: HandleOf<N>>(
     told: &mut ReportNumbers,
 ) -> i32
     requires { AreOfOneSet (members_by H.member handles.old) }
-    ensures { TellsCloseAllBy I.listing I.Report.closes H.member handles.old handles.new items.old items.new
-        told.old told.new result }
+    ensures { TellsCloseAllBy I.listing I.Report.closes H.member handles.old handles.new
+        items.old items.new told.old told.new result }
 {
     let answer = crate::closing_all::close_all::<N, I, H>(alloc, handles, items.len());
     match &answer {

@@ -1,4 +1,4 @@
-use Rattle.std.proofs.Common.{List, ◌∷◌, slice_index_or, sym, subst}
+use Rattle.std.proofs.Common.{◌∷◌, slice_index_or, sym, subst}
 use Rattle.std.specs.Prelude.{IsSome}
 use Rattle.std.proofs.lemmas.List.Elements.{All-head, All-rest, All-same}
 use Rattle.vbr_handles.proofs.closing_all.are_beside.Goals as goal

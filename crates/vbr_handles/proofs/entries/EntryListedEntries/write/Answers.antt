@@ -1,4 +1,4 @@
-use Rattle.std.proofs.Common.{rules, map, ◌<◌, length, arith}
+use Rattle.std.proofs.Common.{rules, ◌<◌, length, arith}
 use Rattle.std.proofs.lemmas.List.{length-map}
 use Rattle.vbr_handles.proofs.EntryKeys.{one_more_written}
 use Rattle.vbr_handles.specs.Listings.{as_entry}
