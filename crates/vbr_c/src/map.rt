@@ -21,6 +21,11 @@ use vbr_words::Entries;
 ///
 /// Refusals, tested in this order, which leave the handles as they were: -5, one of the handles isn't
 /// empty; -6, the numbers are no shape; -7, the number of handles is 0 or above 64; -8, no memory.
+///
+/// ```c file=bindings/c/map_example.c
+/// /* handles, count, slots (keys, and 64 for each handle), buckets (as many as keys), last_epoch */
+/// if (vbr_map_open(map, 2, 1024 + 2 * 64, 1024, VBR_MAX_EPOCH) != VBR_NO) return 1;
+/// ```
 #[unsafe(no_mangle)]
 pub extern "C" fn vbr_map_open(
     alloc: Global,
@@ -41,6 +46,10 @@ pub extern "C" fn vbr_map_open(
 /// Refusals, tested in this order, which leave the handles as they were: -5, one of the handles isn't
 /// empty; -6, the numbers are no shape; -7, the number of handles is 0 or above 64; -10, the keys don't
 /// ascend, or there are more than slots; -8, no memory.
+///
+/// ```c file=bindings/c/map_renewal.c
+/// if (vbr_map_open_with(map, HANDLES, SLOTS, BUCKETS, LAST_EPOCH, entries, report.live) != VBR_NO) return 1;
+/// ```
 #[unsafe(no_mangle)]
 pub extern "C" fn vbr_map_open_with(
     alloc: Global,
@@ -68,6 +77,11 @@ pub extern "C" fn vbr_map_open_with(
 /// Refusals, after which no call was made and the handle can go on: -1, the steps leave no room in the
 /// budget; -2, the key was absent and the handle found no slot; -3, the key was absent and the last
 /// epoch is spent; -4, the handle is empty.
+///
+/// ```c file=bindings/c/map_example.c
+/// vbr_answer added = vbr_map_insert(&map[0], 5, 70, 100000);  /* VBR_YES: 5 was absent, and now has the value 70 */
+/// vbr_answer again = vbr_map_insert(&map[1], 5, 71, 100000);  /* VBR_NO: 5 keeps its value */
+/// ```
 #[unsafe(no_mangle)]
 pub extern "C" fn vbr_map_insert(handle: &mut MapHandle, key: u64, value: u64, budget: u32) -> i32
     ensures { TellsInsertEntry handle.old.member handle.new.member key value budget result }
@@ -81,6 +95,10 @@ pub extern "C" fn vbr_map_insert(handle: &mut MapHandle, key: u64, value: u64, b
 ///
 /// Refusals, after which no call was made and the handle can go on: -1, the steps leave no room in the
 /// budget; -4, the handle is empty. With any answer but 1 nothing is written.
+///
+/// ```c file=bindings/c/map_calls.c
+/// if (vbr_map_remove(&map[1], 5, 100000, &value) == VBR_YES) taken++; // this call took 5 out, with its value
+/// ```
 #[unsafe(no_mangle)]
 pub extern "C" fn vbr_map_remove(
     handle: &mut MapHandle,
@@ -100,6 +118,10 @@ pub extern "C" fn vbr_map_remove(
 ///
 /// Refusals, after which no call was made and the handle can go on: -1, the steps leave no room in the
 /// budget; -4, the handle is empty. With any answer but 1 nothing is written.
+///
+/// ```c file=bindings/c/map_example.c
+/// vbr_answer there = vbr_map_get(&map[1], 5, 100000, &value); /* VBR_YES: value is 70 */
+/// ```
 #[unsafe(no_mangle)]
 pub extern "C" fn vbr_map_get(handle: &mut MapHandle, key: u64, budget: u32, value: &mut u64) -> i32
     ensures { TellsGetEntry handle.old.member handle.new.member key budget value.old value.new
@@ -114,6 +136,10 @@ pub extern "C" fn vbr_map_get(handle: &mut MapHandle, key: u64, budget: u32, val
 ///
 /// Refusals, after which no call was made and the handle can go on: -1, the steps leave no room in the
 /// budget; -4, the handle is empty.
+///
+/// ```c file=bindings/c/map_calls.c
+/// if (vbr_map_has(&map[0], 5, 100000) == VBR_YES) there++; // 5 was there during the call
+/// ```
 #[unsafe(no_mangle)]
 pub extern "C" fn vbr_map_has(handle: &mut MapHandle, key: u64, budget: u32) -> i32
     ensures { TellsCall Has handle.old.member handle.new.member key budget result }
@@ -124,6 +150,10 @@ pub extern "C" fn vbr_map_has(handle: &mut MapHandle, key: u64, budget: u32) -> 
 /// The last epoch that the pass of the handle read in a call: 1 before its first, and 0 where the handle
 /// is empty. It makes no step, so others may have advanced the epoch since. A map is renewed once it comes
 /// near [`vbr_map_last_epoch`].
+///
+/// ```c file=bindings/c/map_renewal.c
+/// if (in_time && vbr_map_epoch(&map[0]) + 1 >= vbr_map_last_epoch(&map[0]) && renew(map, entries, &renewals)) return 3;
+/// ```
 #[unsafe(no_mangle)]
 pub extern "C" fn vbr_map_epoch(handle: &mut MapHandle) -> u64
     ensures same { handle.new.member ≡ handle.old.member }
@@ -168,6 +198,10 @@ pub extern "C" fn vbr_map_buckets(handle: &mut MapHandle) -> u32
 /// was the last one and the map has more keys than there is room for, and the handle stays as it was. With
 /// -11 the report is written without the entries, so `live` tells how many they are; as many as slots
 /// always have room. With the others nothing is written.
+///
+/// ```c file=bindings/c/map_calls.c
+/// vbr_answer last = vbr_map_close(&map[1], entries, 8, &report);  // VBR_YES: report.live entries are in front of entries
+/// ```
 #[unsafe(no_mangle)]
 pub extern "C" fn vbr_map_close(
     alloc: Global,
@@ -191,6 +225,10 @@ pub extern "C" fn vbr_map_close(
 /// there is room for; -13, they are of different maps, which is a probe that no contract speaks of. With
 /// -11 the report is written without the entries, so `live` tells how many they are; with the others
 /// nothing is written.
+///
+/// ```c file=bindings/c/map_example.c
+/// vbr_answer closed = vbr_map_close_all(map, 2, entries, 8, &report); /* VBR_YES: entries[0] is {5, 70} */
+/// ```
 #[unsafe(no_mangle)]
 pub extern "C" fn vbr_map_close_all(
     alloc: Global,
@@ -208,6 +246,10 @@ pub extern "C" fn vbr_map_close_all(
 /// Drops what the handle has, and leaves it empty. Its pass is given back, as by a close, so the last
 /// handle of its map that is closed is still told the report; with the last one dropped the map ends
 /// without. It makes no step, needs no memory, and can't fail.
+///
+/// ```c file=bindings/c/map_calls.c
+/// vbr_map_drop(&map[0]); // the close of map[1] is told the report
+/// ```
 #[unsafe(no_mangle)]
 pub extern "C" fn vbr_map_drop(alloc: Global, handle: &mut MapHandle)
     ensures { handle.new.member ≡ None }
