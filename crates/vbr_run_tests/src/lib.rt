@@ -6,6 +6,8 @@ mod devices;
 #[cfg(test)]
 mod gates;
 #[cfg(test)]
+mod maps;
+#[cfg(test)]
 mod player;
 #[cfg(test)]
 mod scripts;
