@@ -1,4 +1,4 @@
-/* A hash set of 64-bit keys that threads share, in fixed memory and without a lock.
+/* A hash set of 64-bit keys and a map from such keys to 64-bit values, which threads share, in fixed memory and without a lock.
 
    A set of up to 1,024 keys for two threads:
 
@@ -15,11 +15,29 @@
        vbr_answer first = vbr_close(&handle[0], keys, 8, &report); // VBR_NO: the other handle is open
        vbr_answer last = vbr_close(&handle[1], keys, 8, &report);  // VBR_YES: report.live is 1, keys[0] is 5
 
+   A map of as many keys, each with a value beside it:
+
+       vbr_map_handle map[2] = {{0}};
+       vbr_entry entries[8] = {{0}};
+       uint64_t value = 0;
+       if (vbr_map_open(map, 2, 1024 + 2 * 64, 1024, VBR_MAX_EPOCH) != VBR_NO) return 1;
+       vbr_answer added = vbr_map_insert(&map[0], 5, 70, 100000);  // VBR_YES: 5 was absent, and now has the value 70
+       vbr_answer again = vbr_map_insert(&map[1], 5, 71, 100000);  // VBR_NO: 5 keeps its value
+       vbr_answer there = vbr_map_get(&map[1], 5, 100000, &value); // VBR_YES: value is 70
+       vbr_answer closed = vbr_map_close_all(map, 2, entries, 8, &report); // VBR_YES: entries[0] is {5, 70}
+
    Compare what a call answers with VBR_YES: a refusal is no 0, and so is true where a program asks `if (vbr_has(..))`.
 
    Link with -lvbr (`pkg-config --cflags --libs vbr`). The library needs nothing but malloc, realloc and
    free, each block aligned to 16 bytes as these align it, what copies and fills memory, and madvise, by which it offers
    large blocks to the kernel for large pages. It is built for processors of x86-64-v2 and later, under Linux.
+
+   Maps. Each call on a set has its like on a map, with `vbr_map_` in its name, and handles to maps are of a type of their own.
+   What is said here of sets and their keys holds of maps and their entries too; vbr_map_get is a second kind of look-up.
+   A key keeps the value that it was inserted with until it is removed: an insert of a key that is there answers VBR_NO and
+   stores nothing. To give a key another value remove it and insert it again; in between others find it absent. vbr_map_get and
+   vbr_map_remove write the value where they answer VBR_YES, and nothing otherwise. It is the value that was stored last for
+   the key in the history that has the answer: never one of an earlier insert, nor of one that was answered VBR_NO.
 
    Who owns what. A set is opened with 1 to 64 handles, and each handle owns one pass of the set, the
    right to make calls, and a share of the set. A handle is all zero while it is empty: write {0}, or {} in
@@ -34,7 +52,8 @@
    initialised before the call, those too that it only writes, as {0} does it: what vbr_close does not
    write it leaves as it was. They belong to the call while it runs, and to the caller
    afterwards: no two pointers of a call name the same bytes, and no other call or thread has these
-   meanwhile. The keys of vbr_open_with are only read, so others may read them meanwhile.
+   meanwhile. The keys of vbr_open_with are only read, so others may read them meanwhile, and so are the entries of
+   vbr_map_open_with.
 
    Which calls may run at the same time. Handles of one set may be in calls at the same time, in any
    threads; that is what they are for. One handle is in one call at a time. A handle that goes to another
@@ -45,7 +64,7 @@
    stays as it is, and whoever joined the thread goes on with it or closes it; its set isn't closed without it. No call
    is a point of cancellation. A thread that is cancelled at once (PTHREAD_CANCEL_ASYNCHRONOUS), or that leaves a
    signal handler by longjmp, may do so in the middle of a call: its handle is then not used again. A signal handler may
-   make calls of vbr_insert, vbr_remove and vbr_has with a handle that nothing else uses, and none of the other
+   make calls that insert, remove and look up with a handle that nothing else uses, and none of the other
    functions, since these take memory. After a fork the child has copies of the sets: where the process had one thread
    it may go on with them, and the parent doesn't see it; where it had several, the child uses no handle.
 
@@ -64,7 +83,7 @@
    Budgets. A call makes at most `budget` steps, each one atomic operation on a word that the
    threads share, and never waits for another thread. A look-up makes loads alone, so it writes nothing
    that another thread can see. While the other handles make no step, wherever they stand still, a call
-   does not run out of steps with a budget of 5n + 11 for has, 9n + 11 for remove, and 18n + slots + 82
+   does not run out of steps with a budget of 5n + 11 for has and get, 9n + 11 for remove, and 18n + slots + 82
    for insert, where n nodes are in the bucket of the key as it begins, removed ones that are still in a
    list among them. What other threads do at the same time can cost more: 100,000 is plenty for short
    buckets, with up to six million slots; with more, take slots / 64 besides, as VBR_AMPLE_BUDGET(slots) does. A call
@@ -73,7 +92,8 @@
 
    Memory and sizes. The words of a set take 8 * (2 + buckets + 4 * slots + slots / 64) bytes, the last part rounded
    up, in one block, and each handle about 1,200 bytes besides; opening and closing take as much as the words again
-   while they run, and the last close 9 bytes more for each slot. Open with a slot for each key that is in the set at
+   while they run, and the last close 9 bytes more for each slot. Of a map the words take 8 bytes more for each slot, and the
+   last close 17. Open with a slot for each key that is in the set at
    one time, and 64 for each handle (see Slots). Open with as many buckets as keys, a power of two: a bucket then has
    about one node, and takes 8 bytes. Give keys that are there at the start to vbr_open_with, which lays them all in one go;
    by inserts a million took three times as long. Keys are spread over the buckets by a multiplication, so keys with a pattern (in
@@ -83,7 +103,7 @@
    sixteen does of a cache that takes sixteen keys out at a time. Before it is spent a set is renewed: close all its
    handles, and open one with the keys of the report by vbr_open_with, at epoch 1. The numbers are 1 to VBR_MAX_SLOTS
    slots, 1 to VBR_MAX_BUCKETS buckets, and 1 to VBR_MAX_EPOCH as the last epoch; the most slots and buckets take 673
-   million bytes.
+   million bytes, and of a map 807.
 
    Slots. Each slot is in one place: in the pool that all handles share, with one handle, under a key, or in a
    removed node that is still in its list. A handle keeps slots to itself, at most 64 between two calls. A remove
@@ -163,7 +183,7 @@ typedef enum vbr_answer {
 #endif
     VBR_NO = 0,            /* the answer is no; of vbr_open: done; of vbr_close: others are open */
     VBR_YES = 1,           /* the answer is yes; of vbr_close: it was the last, the set is closed */
-    VBR_OUT_OF_STEPS = -1, /* insert, remove, has: the budget is spent; no call was made; a greater budget may help */
+    VBR_OUT_OF_STEPS = -1, /* insert, remove, has, get: the budget is spent; no call was made; a greater budget may help */
     VBR_NO_SLOT = -2,      /* insert: the key is absent, and the handle found no slot; no call was made */
     VBR_EPOCH_SPENT = -3,  /* insert: the key is absent and the last epoch is spent; no call was made; renew the set */
     VBR_EMPTY = -4,        /* the handle is empty, or null where it may be; nothing was done */
@@ -294,6 +314,122 @@ VBR_NODISCARD vbr_answer vbr_close_all(vbr_handle *handles, size_t count, uint64
 
        vbr_drop(&handle[0]); // the close of handle[1] is told the report */
 void vbr_drop(vbr_handle *handle) VBR_NOEXCEPT;
+
+/* A handle to a map, or {0}. It is a type of its own, so that a compiler tells where a set's is given for it.
+
+       vbr_map_handle map[2] = {{0}}; */
+typedef struct vbr_map_handle {
+    void *owned;
+} vbr_map_handle;
+
+/* A key with its value.
+
+       static const vbr_entry some[3] = {{2, 20}, {5, 50}, {9, 90}}; */
+typedef struct vbr_entry {
+    uint64_t key;
+    uint64_t value;
+} vbr_entry;
+
+/* Opens an empty map and fills `count` handles, which are empty, so each is {0}: VBR_NO. Else VBR_IN_USE, VBR_BAD_SHAPE,
+   VBR_BAD_COUNT or VBR_NO_MEMORY, tested in this order, and the handles are as they were.
+
+       vbr_map_handle map[2] = {{0}};
+       if (vbr_map_open(map, 2, 1024 + 2 * 64, 1024, VBR_MAX_EPOCH) != VBR_NO) return 1; */
+VBR_NODISCARD vbr_answer vbr_map_open(vbr_map_handle *handles, size_t count, uint32_t slots, uint32_t buckets,
+                                      uint64_t last_epoch) VBR_NOEXCEPT VBR_NONNULL;
+
+/* Opens a map of `entry_count` entries, whose keys ascend, each above the one before, and fills the handles as vbr_map_open
+   does: VBR_NO. Else VBR_IN_USE, VBR_BAD_SHAPE, VBR_BAD_COUNT, VBR_BAD_KEYS or VBR_NO_MEMORY, tested in this order, and the
+   handles are as they were. The epoch is 1. It takes the memory of vbr_map_open, and 48 bytes for each entry while it runs, and
+   goes once over the entries.
+
+       static const vbr_entry some[3] = {{2, 20}, {5, 50}, {9, 90}};
+       if (vbr_map_open_with(map, 2, 1024 + 2 * 64, 1024, VBR_MAX_EPOCH, some, 3) != VBR_NO) return 1; */
+VBR_NODISCARD vbr_answer vbr_map_open_with(vbr_map_handle *handles, size_t count, uint32_t slots, uint32_t buckets,
+                                           uint64_t last_epoch, const vbr_entry *entries,
+                                           size_t entry_count) VBR_NOEXCEPT VBR_NONNULL;
+
+/* Adds a key with its value, in at most `budget` steps: VBR_YES if the key was absent, VBR_NO if it was there; then it keeps
+   the value that it has. Else VBR_OUT_OF_STEPS, VBR_NO_SLOT, VBR_EPOCH_SPENT or VBR_EMPTY. At VBR_NO_SLOT remove keys, let a
+   handle that has free slots make the insert, or make it again. It takes no memory and never waits.
+
+       if (vbr_map_insert(&map[0], 5, 70, 100000) == VBR_YES) added++; // this call stored 70 for 5 */
+VBR_NODISCARD vbr_answer vbr_map_insert(vbr_map_handle *handle, uint64_t key, uint64_t value,
+                                        uint32_t budget) VBR_NOEXCEPT VBR_NONNULL;
+
+/* Takes a key out with its value, in at most `budget` steps: VBR_YES if it was there, and the value is then in `*value`; VBR_NO
+   if it was absent. Else VBR_OUT_OF_STEPS or VBR_EMPTY. Unless it answers VBR_YES nothing is written. What vbr_remove says of
+   the node of the key holds here too. It takes no memory and never waits.
+
+       if (vbr_map_remove(&map[1], 5, 100000, &value) == VBR_YES) taken++; // this call took 5 out, with its value */
+VBR_NODISCARD vbr_answer vbr_map_remove(vbr_map_handle *handle, uint64_t key, uint32_t budget,
+                                        uint64_t *value) VBR_NOEXCEPT VBR_NONNULL;
+
+/* Looks a key up and gives its value, in at most `budget` steps, all of them loads: VBR_YES if it is there, and the value is
+   then in `*value`; VBR_NO if it is absent. Else VBR_OUT_OF_STEPS or VBR_EMPTY. Unless it answers VBR_YES nothing is written. It
+   takes no memory and never waits.
+
+       if (vbr_map_get(&map[1], 5, 100000, &value) == VBR_YES) there++; // 5 had this value during the call */
+VBR_NODISCARD vbr_answer vbr_map_get(vbr_map_handle *handle, uint64_t key, uint32_t budget,
+                                     uint64_t *value) VBR_NOEXCEPT VBR_NONNULL;
+
+/* Looks a key up without its value, in at most `budget` steps, all of them loads: VBR_YES if it is there, VBR_NO if it is
+   absent. Else VBR_OUT_OF_STEPS or VBR_EMPTY. It takes two steps less than vbr_map_get, no memory, and never waits.
+
+       if (vbr_map_has(&map[0], 5, 100000) == VBR_YES) there++; // 5 was there during the call */
+VBR_NODISCARD vbr_answer vbr_map_has(vbr_map_handle *handle, uint64_t key, uint32_t budget) VBR_NOEXCEPT VBR_NONNULL;
+
+/* The last epoch that the handle read in a call: 1 before its first, and 0 for an empty handle. It makes no step, so others
+   may have advanced the epoch since. Renew the map before it comes to vbr_map_last_epoch.
+
+       int is_near = vbr_map_epoch(&map[0]) + 1000 >= vbr_map_last_epoch(&map[0]); // then renew the map */
+VBR_NODISCARD uint64_t vbr_map_epoch(vbr_map_handle *handle) VBR_NOEXCEPT VBR_NONNULL;
+
+/* The last epoch that the map was opened with, and 0 for an empty handle.
+
+       uint64_t left = vbr_map_last_epoch(&map[0]) - vbr_map_epoch(&map[0]); */
+VBR_NODISCARD uint64_t vbr_map_last_epoch(vbr_map_handle *handle) VBR_NOEXCEPT VBR_NONNULL;
+
+/* How many slots the map was opened with, and 0 for an empty handle.
+
+       uint32_t budget = VBR_AMPLE_BUDGET(vbr_map_slots(&map[0])); */
+VBR_NODISCARD uint32_t vbr_map_slots(vbr_map_handle *handle) VBR_NOEXCEPT VBR_NONNULL;
+
+/* How many buckets the map was opened with, and 0 for an empty handle.
+
+       int is_crowded = 3 > 2 * vbr_map_buckets(&map[0]); // three keys, and more than two for each bucket */
+VBR_NODISCARD uint32_t vbr_map_buckets(vbr_map_handle *handle) VBR_NOEXCEPT VBR_NONNULL;
+
+/* Gives the pass back and leaves the handle empty: VBR_NO while others of its map are open. The last one ends the map: VBR_YES,
+   with the report and its entries, ascending by key. Only then is memory needed, which is freed again. Behind the entries of
+   the report the array stays as it was: all `room` entries, and the report, are initialised before.
+   VBR_NO_MEMORY and VBR_NO_ROOM leave the last handle full, as of vbr_close: as many entries as the map has slots always have
+   room; where these have not, VBR_NO_ROOM writes the report and no entry, and report->live is how many entries there are. Else
+   nothing is written. VBR_EMPTY: the handle is empty, or null. VBR_LOST: a pass is not there, and the map is gone; no program
+   is known to get it.
+
+       vbr_answer first = vbr_map_close(&map[0], entries, 8, &report); // VBR_NO: the other handle is open
+       vbr_answer last = vbr_map_close(&map[1], entries, 8, &report);  // VBR_YES: report.live entries are in front of entries */
+VBR_NODISCARD vbr_answer vbr_map_close(vbr_map_handle *handle, vbr_entry *entries, size_t room,
+                                       vbr_totals *report) VBR_NOEXCEPT VBR_NONNULL_REST;
+
+/* Closes a map by all `count` handles that were opened with it, in any order, and leaves them empty: VBR_YES, with the report
+   and its entries, as vbr_map_close writes them. No other thread is in a call on one of them. The entries are what all calls on
+   these handles leave. It takes the memory of a close.
+   Else the handles stay as they were: VBR_EMPTY, one is empty; VBR_MIXED, two are of different maps; VBR_MISSING, they are fewer
+   than were opened, or count is 0; VBR_NO_MEMORY; VBR_NO_ROOM, as in a close. Handles of different maps are told by a
+   probe, which is tested and not proved: do not rely on it.
+
+       vbr_answer closed = vbr_map_close_all(map, 2, entries, 8, &report); // VBR_YES: three entries, {2, 20} the first of them */
+VBR_NODISCARD vbr_answer vbr_map_close_all(vbr_map_handle *handles, size_t count, vbr_entry *entries, size_t room,
+                                           vbr_totals *report) VBR_NOEXCEPT VBR_NONNULL;
+
+/* Gives a handle up, empty or full, and leaves it empty. Its pass is given back as by a close, and no report is told: the last
+   handle of the map that is closed still gets it, and with the last one dropped the map ends. It needs no memory. With a null
+   pointer it does nothing.
+
+       vbr_map_drop(&map[0]); // the close of map[1] is told the report */
+void vbr_map_drop(vbr_map_handle *handle) VBR_NOEXCEPT;
 
 #ifdef __cplusplus
 }
