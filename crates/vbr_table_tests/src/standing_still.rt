@@ -1,20 +1,20 @@
 //! A pass that stands still, wherever it is in a call, holds up no other.
-ghost use Rattle.std.specs.Prelude.{◌≡◌, ◌≤◌, false, None, IfSome};
+ghost use Rattle.std.specs.Prelude.{◌≡◌, ◌<◌, ◌≤◌, true, false, None, IfSome};
 ghost use Rattle.vbr_machine.specs.Machine.{opening};
 ghost use Rattle.vbr_slots.specs.Views.{IsOf};
 ghost use Rattle.vbr_event_lists.specs.Worked.{AreWorked};
 
 use crate::listed_calls::follow;
 use crate::pools::expect_taken;
-use crate::running_table::{open, open_two};
+use crate::running_table::{open, open_two, open_two_with_values};
 use std::alloc::Global;
 use std::process::Abort;
 use std::test::Fail;
 use vbr_access::{Checkpoint, Rollback, first};
-use vbr_event_lists::{Row, STANDING, STANDING_WORDS};
-use vbr_list::{insert, remove};
+use vbr_event_lists::{Row, STANDING, STANDING_WITH_VALUES, STANDING_WORDS};
+use vbr_list::{insert, insert_entry, remove, remove_entry};
 use vbr_slots::{Pass, Slots};
-use vbr_words::Shape;
+use vbr_words::{Entries, Nodes, Shape};
 
 // A table of this shape on which two passes made the steps of a list.
 fn table_after(
@@ -34,6 +34,24 @@ fn table_after(
     Some((slots, a, b))
 }
 
+// The same, where nodes have values.
+fn map_after(
+    rt: &impl Abort,
+    alloc: Global,
+    shape: Shape,
+    rows: &[Row],
+    words: &[u64],
+) -> Option<(Slots<Entries>, Pass, Pass)>
+    requires values { shape.values ≡ true }
+    requires worked { AreWorked shape (opening shape) rows.now words.now }
+    ensures shape { IfSome result (λ r. r.0.shape ≡ shape) }
+    ensures own { IfSome result (λ r. IsOf r.1.trace r.0 × IsOf r.2.trace r.0) }
+{
+    let (slots, mut a, mut b) = open_two_with_values(alloc, shape)?;
+    follow(rt, &slots, &mut a, &mut b, rows, words);
+    Some((slots, a, b))
+}
+
 // A thousand rounds of an insert and a remove.
 fn make_rounds(rt: &impl Abort, slots: &Slots, pass: &mut Pass)
     requires own { IsOf pass.old.trace slots.now }
@@ -46,8 +64,32 @@ fn make_rounds(rt: &impl Abort, slots: &Slots, pass: &mut Pass)
     }
 }
 
+// A thousand rounds of an insert and a remove, each with a value of its own.
+fn make_rounds_with_values(rt: &impl Abort, slots: &Slots<Entries>, pass: &mut Pass)
+    requires own { IsOf pass.old.trace slots.now }
+    requires empty_hand { pass.old.hand ≡ None }
+    ensures own { IsOf pass.new.trace slots.now }
+{
+    for value in 0..1000 {
+        assert!(rt; insert_entry(slots, pass, 9, value, 1000) == Ok(true));
+        assert!(rt; remove_entry(slots, pass, 9, 1000) == Ok(Some(value)));
+    }
+}
+
+// Pass 0 has made its rounds, and pass 1 goes on: it is told that the epoch has moved since its
+// checkpoint.
+fn expect_moved<N: Nodes>(rt: &impl Abort, slots: &Slots<N>, a: &Pass, b: &mut Pass)
+    requires own { IsOf b.old.trace slots.now }
+    requires bucket { 0 < slots.now.shape.buckets }
+{
+    assert!(rt; a.epoch() >= 1000);
+    let point = Checkpoint { epoch: b.epoch() };
+    assert_eq!(rt; point.epoch, 1);
+    assert!(rt; matches!(first(slots, b, &point, 0), Err(Rollback::EpochMoved { .. })));
+}
+
 // Pass 1 stands still behind the first steps of the list, pass 0 makes its rounds, and then pass 1 goes
-// on: it is told that the epoch has moved since its checkpoint.
+// on.
 fn stand_behind(rt: &impl Abort, alloc: Global, steps: usize) -> Result<(), Fail>
     requires { steps ≤ 29 }
 {
@@ -63,15 +105,27 @@ fn stand_behind(rt: &impl Abort, alloc: Global, steps: usize) -> Result<(), Fail
     };
     assert!(rt; a.in_hand() == None);
     make_rounds(rt, &slots, &mut a);
-    assert!(rt; a.epoch() >= 1000);
-    let point = Checkpoint { epoch: b.epoch() };
-    assert_eq!(rt; point.epoch, 1);
-    assert!(rt;
-        matches!(
-            first(&slots, &mut b, &point, 0),
-            Err(Rollback::EpochMoved { .. })
-        )
-    );
+    expect_moved(rt, &slots, &a, &mut b);
+    Ok(())
+}
+
+// The same in a map.
+fn stand_behind_in_a_map(rt: &impl Abort, alloc: Global, steps: usize) -> Result<(), Fail>
+    requires { steps ≤ 32 }
+{
+    let shape = Shape::new(3, 1, 10_000)?.with_values();
+    let Some((slots, mut a, mut b)) = map_after(
+        rt,
+        alloc,
+        shape,
+        &STANDING_WITH_VALUES[..steps],
+        &STANDING_WORDS,
+    ) else {
+        panic!(rt; "no memory")
+    };
+    assert!(rt; a.in_hand() == None);
+    make_rounds_with_values(rt, &slots, &mut a);
+    expect_moved(rt, &slots, &a, &mut b);
     Ok(())
 }
 
@@ -153,6 +207,34 @@ fn behind_a_raised_slot(rt: HostRuntime) -> Result<(), Fail> {
 #[test]
 fn behind_an_advance(rt: HostRuntime) -> Result<(), Fail> {
     stand_behind(&rt, rt.alloc(), 29)
+}
+
+/// In a map, behind each kind of step by which a pass prepares a node or reads one.
+#[test]
+fn in_a_map_before_an_exchange(rt: HostRuntime) -> Result<(), Fail> {
+    stand_behind_in_a_map(&rt, rt.alloc(), 10)?; // a read of the epoch
+    stand_behind_in_a_map(&rt, rt.alloc(), 11)?; // a flag
+    stand_behind_in_a_map(&rt, rt.alloc(), 12)?; // a load of a stamp
+    stand_behind_in_a_map(&rt, rt.alloc(), 13)?; // a birth
+    stand_behind_in_a_map(&rt, rt.alloc(), 14)?; // a stored key
+    stand_behind_in_a_map(&rt, rt.alloc(), 15)?; // a stored value
+    stand_behind_in_a_map(&rt, rt.alloc(), 16)?; // a load of a link
+    stand_behind_in_a_map(&rt, rt.alloc(), 18)?; // a load of a birth
+    stand_behind_in_a_map(&rt, rt.alloc(), 21)?; // a load of a key
+    stand_behind_in_a_map(&rt, rt.alloc(), 22)?; // a load of a value
+    stand_behind_in_a_map(&rt, rt.alloc(), 24)?; // a confirming load
+    stand_behind_in_a_map(&rt, rt.alloc(), 25) // a stored link
+}
+
+/// In a map, behind each kind of exchange, and of step behind one.
+#[test]
+fn in_a_map_behind_an_exchange(rt: HostRuntime) -> Result<(), Fail> {
+    stand_behind_in_a_map(&rt, rt.alloc(), 26)?; // a publication
+    stand_behind_in_a_map(&rt, rt.alloc(), 27)?; // a mark
+    stand_behind_in_a_map(&rt, rt.alloc(), 28)?; // an unlinking
+    stand_behind_in_a_map(&rt, rt.alloc(), 30)?; // a stamp
+    stand_behind_in_a_map(&rt, rt.alloc(), 31)?; // a raised slot
+    stand_behind_in_a_map(&rt, rt.alloc(), 32) // an advance
 }
 
 // Inserts the keys 1 to 64, and then removes them.

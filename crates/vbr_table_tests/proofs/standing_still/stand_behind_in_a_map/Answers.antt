@@ -1,0 +1,14 @@
+-- The first rows of the list are worked at this shape.
+use Rattle.std.proofs.Common.{◌≡◌, sym, subst, take, rules}
+use Rattle.vbr_words.specs.Dimensions.{Dimensions}
+use Rattle.vbr_machine.specs.Machine.{opening}
+use Rattle.vbr_event_lists.specs.Worked.{AreWorked, many_epochs}
+use Rattle.vbr_event_lists.specs.Valued.{valued}
+use Rattle.vbr_event_lists.specs.declared.standing.TheConstants.{STANDING_WITH_VALUES, STANDING_WORDS}
+use Rattle.vbr_event_lists.proofs.Lemmas.{first_worked, standing_with_values}
+use Rattle.vbr_table_tests.proofs.standing_still.stand_behind_in_a_map.Goals as goal
+
+pub map_after-requires-clause-worked : goal.map_after-requires-clause-worked
+map_after-requires-clause-worked g c =
+    let shape : c.with_values-shape.result ≡ valued many_epochs = search rules in
+    subst (λ (d : Dimensions). AreWorked d (opening d) (take c.args.steps STANDING_WITH_VALUES) STANDING_WORDS) (sym shape) (first_worked (valued many_epochs) c.args.steps STANDING_WITH_VALUES (opening (valued many_epochs)) STANDING_WORDS standing_with_values)
