@@ -6,7 +6,7 @@ use Rattle.std.proofs.lemmas.List.Sums.{length-filter, count_by-le-length}
 use Rattle.vbr_slots.specs.Pools.{without}
 
 -- a pool that hasn't the slot stays
-pub without_other : (slot : ℕ) (pool : List ℕ) → ¬ (Contains pool slot) → without slot pool ≡ pool
+without_other : (slot : ℕ) (pool : List ℕ) → ¬ (Contains pool slot) → without slot pool ≡ pool
 without_other slot [] out = refl
 without_other slot (x ∷ xs) out =
     ap (λ (b : Bool). cond (not b) (x ∷ without slot xs) (without slot xs)) (ne_eqb x slot (λ e. out (0, omega arith, e)))

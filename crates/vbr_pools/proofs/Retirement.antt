@@ -1,9 +1,7 @@
 -- An unlinked slot that returns: it is stamped with an epoch that was read before.
 use Rattle.std.proofs.Common.{◌≡◌, ℕ, ◌-◌, ◌<◌, ◌≤◌, ◌==◌, Bool, true, false, cond, Option, Some, None, List, [], ◌∷◌, ◌++◌, length, arith, refl, sym, ap, ◌∙◌, append_assoc, append-nil, subst, inr, ⊎_elim, ◌≢◌}
-use Rattle.std.specs.Prelude.{Contains}
 use Rattle.std.proofs.lemmas.Bool.{cases_eq, ne_eqb}
 use Rattle.std.proofs.lemmas.Bool.Decides.{nat_tests}
-use Rattle.std.proofs.lemmas.List.Elements.{All-contains}
 use Rattle.vbr_words.specs.Dimensions.{Dimensions, IsShape}
 use Rattle.vbr_machine.specs.Accounts.{incarnations_after}
 use Rattle.vbr_machine.specs.Agreement.{OwnFits}
@@ -18,7 +16,7 @@ use Rattle.vbr_machine.specs.Put.{put}
 use Rattle.vbr_machine.specs.declared.knowledge.Holding.{Holding}
 use Rattle.vbr_machine.specs.declared.knowledge.Holding.TheVariants.{Free, Unlinked, InHand}
 use Rattle.vbr_slots.specs.declared.pass.TheConstants.{POOL}
-use Rattle.vbr_slots.specs.Pools.{HandFits, IsPooled, OwnPool, hand_without, without}
+use Rattle.vbr_slots.specs.Pools.{HandFits, OwnPool, hand_without}
 use Rattle.vbr_machine.specs.declared.event.Event.{Event}
 use Rattle.vbr_machine.specs.declared.event.Step.TheVariants.{ReadEpoch, StoreStamp, Raise}
 use Rattle.vbr_slots.specs.Calls.{Quiet, Took}
@@ -31,7 +29,6 @@ use Rattle.vbr_pools.proofs.InTurn.{did_stay_turn}
 use Rattle.vbr_pools.proofs.Advancing.{same_advances, did_stamps, free_pool, grows_same, none_on, did_none, none_given}
 use Rattle.vbr_pools.proofs.AloneRetirement.{retired_leaves, retired_fresh, raised_leaves, raised_fresh}
 use Rattle.vbr_pools.proofs.Moments.{epoch_told, epoch_stood}
-use Rattle.vbr_pools.proofs.PoolLists.{without_other}
 
 module _ {p q r : Trace} {slot e n : ℕ} (read : Did ReadEpoch p q e) (stamp : Did (StoreStamp slot (knows q).epoch) q r n) where
   retired_quiet : Quiet p r
@@ -118,17 +115,7 @@ module _ {p q r : Trace} {slot e n : ℕ} (read : Did ReadEpoch p q e) (stamp : 
 
 -- ---- pools
 
-not_both : (holding : Option Holding) → IsUnlinked holding → MayBear holding → ⊥
-not_both None a b = a
-not_both (Some (Free stamp)) a b = a
-not_both (Some (Unlinked reread)) a b = b
-not_both (Some (InHand known)) a b = a
-
--- an unlinked slot isn't in the own pool
-pub unlinked_outside : (shape : Dimensions) (know : Know) (slot : ℕ) (pool : List ℕ) (hand : Option ℕ) → OwnPool shape know pool hand → IsUnlinked (know.own slot) → ¬ (Contains pool slot)
-unlinked_outside shape know slot pool hand o unlinked c = not_both (know.own slot) unlinked (All-contains (IsPooled shape know) pool slot o.pooled c).1
-
--- nor in hand
+-- an unlinked slot isn't in hand
 unlinked_not_in_hand : {shape : Dimensions} {know : Know} {slot : ℕ} {pool : List ℕ} {hand : Option ℕ} → OwnPool shape know pool hand → IsUnlinked (know.own slot) → hand ≢ Some slot
 unlinked_not_in_hand {shape} {know} {slot} {pool} {hand} o unlinked is = neither (know.own slot) unlinked (subst (HandFits shape know pool) is o.in_hand).1
   where
@@ -194,17 +181,17 @@ module _ {p q r : PassView} {slot gone e n : ℕ} (is : IsShape p.trace.shape) (
       without_it (Some s) other = ap (λ (b : Bool). cond b None (Some s)) (ne_eqb s slot (λ e. other (ap Some e)))
 
   -- or it isn't
-  pub retires_raised : {t : PassView} {m : ℕ} → POOL - 1 ≤ length p.pool → Did (Raise slot) r.trace t.trace m → t.pool ≡ without slot r.pool → t.hand ≡ r.hand → Retires p t gone 3
-  retires_raised {t} full raise pool hand = subst (λ (s : ℕ). Retires p t s 3) same (record {
+  pub retires_raised : {t : PassView} {m : ℕ} → POOL - 1 ≤ length p.pool → Did (Raise slot) r.trace t.trace m → KeepsPool r t → Retires p t gone 3
+  retires_raised {t} full raise last = subst (λ (s : ℕ). Retires p t s 3) same (record {
     took = took_on 2 1 took (did_took raise);
     count = sym (ap (λ (b : Bool). cond b 2 3) left);
     quiet = quiet_all;
-    takes_no_slot = raised_none read stamp stays still raise pool_stays hand full;
+    takes_no_slot = raised_none read stamp stays still raise pool_stays last.1 full;
     turn = λ turn. did_stay_turn raise refl (did_stay_turn stamp refl (did_stay_turn read refl turn));
     stamped = subst (λ (epoch : ℕ). StampsFreshly p.trace t.trace slot epoch) (sym (epoch_told raise)) (stamped_before (stamped read stamp) (did_quiet raise (λ know. refl)));
     known = known_raised read stamp raise ∙ ap (know_retired (knows p.trace) (knows t.trace).epoch slot) (sym left);
     pool = pool_stays ∙ sym (ap (λ (b : Bool). cond b (p.pool ++ slot ∷ []) p.pool) left);
-    hand = hand ∙ still.1 ∙ stays.1;
+    hand = last.1 ∙ still.1 ∙ stays.1;
     alone = λ alone. (raised_leaves is read stamp raise alone, raised_fresh is read stamp raise alone);
   })
     where
@@ -214,8 +201,5 @@ module _ {p q r : PassView} {slot gone e n : ℕ} (is : IsShape p.trace.shape) (
       quiet_all : Quiet p.trace t.trace
       quiet_all = quiet_on (retired_quiet read stamp) (did_quiet raise (λ know. refl))
 
-      out : ¬ (Contains p.pool slot)
-      out = subst (λ (s : ℕ). ¬ (Contains p.pool s)) (sym same) (unlinked_outside p.trace.shape (knows p.trace) gone p.pool p.hand own unlinked)
-
       pool_stays : t.pool ≡ p.pool
-      pool_stays = pool ∙ ap (without slot) (still.0 ∙ stays.0) ∙ without_other slot p.pool out
+      pool_stays = last.0 ∙ still.0 ∙ stays.0

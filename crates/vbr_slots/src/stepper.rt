@@ -1,6 +1,7 @@
 //! What makes the steps of a pass: all that it has but the count of its steps. Its methods are the steps
 //! of the table, for calls that make several and count them once for all; each is as the call of the same
-//! name on [`crate::Slots`], which counts its own.
+//! name on [`crate::Slots`], which counts its own. One more, `raise_outside`, is `raise` of a slot that is
+//! known not to be in the own pool.
 pub mod bearing;
 pub mod confirming;
 pub mod epoch;

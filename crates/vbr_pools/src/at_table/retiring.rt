@@ -26,7 +26,7 @@ pub fn retire<N: Nodes>(at: &mut AtTable<'_, N>, unlinked: Unlinked) -> u32
         at.pass.keep(slot);
         2
     } else {
-        at.pass.raise(at.slots, slot);
+        at.pass.raise_outside(at.slots, slot);
         3
     }
 }

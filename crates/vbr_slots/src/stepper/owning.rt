@@ -1,5 +1,5 @@
 //! The steps that take a slot out of the shared pool, put it back, and read and store its stamp.
-ghost use Rattle.std.specs.Prelude.{◌≡◌, ℕ, ◌<◌, OnOk, IfErr, IsSome};
+ghost use Rattle.std.specs.Prelude.{◌≡◌, ℕ, ◌<◌, Contains, OnOk, IfErr, IsSome};
 ghost use Rattle.vbr_machine.specs.Acceptance.{IsFree, IsReread};
 ghost use Rattle.vbr_machine.specs.declared.event.Step.TheVariants.{LoadStamp, StoreStamp, Raise};
 ghost use Rattle.vbr_slots.specs.OwnSlots.{IsKnownStamp, MissesFlag, TakesFlag, epoch_of, holding_of};
@@ -56,6 +56,20 @@ impl Stepper {
         ensures hand { self.new.hand ≡ self.old.hand }
     {
         self.leave_pool(slot);
+        self.raise_outside(slots, slot);
+    }
+
+    /// As [`Slots::raise`], for a slot outside the own pool, which isn't searched for it: so it takes as
+    /// long however many slots are there.
+    #[inline]
+    pub fn raise_outside<N: Nodes>(&mut self, slots: &Slots<N>, slot: u32)
+        requires own { IsOf self.old.trace slots.now }
+        requires slot { slot < slots.now.shape.slots }
+        requires free { IsFree (holding_of self.old slot) }
+        requires outside { ¬ (Contains self.old.pool slot) }
+        ensures step { (found : ℕ) × Did (Raise slot) self.old.trace self.new.trace found }
+        ensures pool { KeepsPool self.old self.new }
+    {
         let place = Place::Flags(word_of_flag(slot));
         slots.fetch_or(&mut self.runner, Step::Raise { slot }, place, flag_of(slot));
     }

@@ -12,7 +12,7 @@ returns-then-kept-clause-retires g c =
 pub returns-else-kept-clause-retires : goal.returns-else-kept-clause-retires
 returns-else-kept-clause-retires g c =
     let full : 63 ≤ length c.args.at.now.pass.now.pool = subst (λ (l : List ℕ). 63 ≤ length l) c.pool.ensures.pool c.if-kept.false in
-    retires_raised c.law.ensures.shape c.read_epoch.ensures.step c.store_stamp.ensures.step c.read_epoch.ensures.pool c.store_stamp.ensures.pool c.into_slot-slot.ensures c.law.ensures.own c.requires.unlinked full c.raise.ensures.step.1 c.raise.ensures.pool c.raise.ensures.hand
+    retires_raised c.law.ensures.shape c.read_epoch.ensures.step c.store_stamp.ensures.step c.read_epoch.ensures.pool c.store_stamp.ensures.pool c.into_slot-slot.ensures c.law.ensures.own c.requires.unlinked full c.raise_outside.ensures.step.1 c.raise_outside.ensures.pool
 
 pub store_stamp-requires-clause-slot : goal.store_stamp-requires-clause-slot
 store_stamp-requires-clause-slot g c = unlinked_in_table c.law.ensures c.args.at.now.own c.requires.unlinked c.into_slot-slot.ensures
@@ -22,5 +22,5 @@ keep-requires-clause-slot g c =
     let P : Dimensions → Type 0 = λ shape. c.into_slot-slot.result < shape.slots in
     subst P (sym (c.store_stamp.ensures.step.same.1 ∙ c.read_epoch.ensures.step.same.1 ∙ c.args.at.now.own.1)) (unlinked_in_table c.law.ensures c.args.at.now.own c.requires.unlinked c.into_slot-slot.ensures)
 
-pub raise-requires-clause-slot : goal.raise-requires-clause-slot
-raise-requires-clause-slot g c = unlinked_in_table c.law.ensures c.args.at.now.own c.requires.unlinked c.into_slot-slot.ensures
+pub raise_outside-requires-clause-slot : goal.raise_outside-requires-clause-slot
+raise_outside-requires-clause-slot g c = unlinked_in_table c.law.ensures c.args.at.now.own c.requires.unlinked c.into_slot-slot.ensures
