@@ -1,5 +1,5 @@
-// Calls of one kind, by one thread: of the library's map, of its set and of a plain twin of the map. Their ratios tell what a
-// value takes.
+// Calls of one kind, by one thread: of the library's map and set, and of a plain twin of each. Their ratios tell what a value
+// takes.
 #pragma once
 #include "map.hpp"
 

@@ -1,4 +1,4 @@
-// The plain twin as a map, for the ratios; and whether it answers as the library does.
+// The plain twin as a map and as a set, for the ratios; and whether it answers as the library does.
 #include "twin.hpp"
 #include "single.hpp"
 #include "vbr.h"
@@ -7,8 +7,9 @@ namespace {
 
 constexpr uint32_t BUDGET = 1000000;
 
-struct Twin {
-    twin::Table<twin::Entries> table;
+// Of either kind of nodes, with the calls of a map and those of a set.
+template <class N> struct Twin {
+    twin::Table<N> table;
     std::vector<twin::Pass> passes;
 
     explicit Twin(const Workload &w) : table(w.slots(), static_cast<uint32_t>(w.buckets()), VBR_MAX_EPOCH), passes(w.threads) {}
@@ -22,6 +23,11 @@ struct Twin {
     bool remove(Handle &h, uint64_t key, uint64_t &value) { return answer(table.remove(h.pass, key, BUDGET, value)); }
     bool get(Handle &h, uint64_t key, uint64_t &value) { return answer(table.get(h.pass, key, BUDGET, value)); }
     bool has(Handle &h, uint64_t key) { return answer(table.has(h.pass, key, BUDGET)); }
+    bool insert(Handle &h, uint64_t key) { return insert(h, key, 0); }
+    bool remove(Handle &h, uint64_t key) {
+        uint64_t none;
+        return remove(h, key, none);
+    }
 
 private:
     static bool answer(twin::Answer answer) {
@@ -30,7 +36,8 @@ private:
     }
 };
 
-const bool singles_of_twin = add_singles_of_map<Twin>("twin");
+const bool singles_of_map = add_singles_of_map<Twin<twin::Entries>>("twin");
+const bool singles_of_set = add_singles_of_set<Twin<twin::Keys>>("twin set");
 
 // The library's calls, of a set and of a map. What has no value leaves `value` as it is.
 struct Set {
