@@ -16,10 +16,9 @@ loop-renewal-init g c =
     let kind = c.args.kind in let config = c.args.config.now in let script = c.args.script.now in
     let opened = c.in_ok-now.ensures in let set = table_of c.in_ok-now.now in
     let phased = subst (ArePhased kind config.workers script.phases) (sym c.deref.ensures.value) c.requires.phased in
-    let none = none_played config.workers (shape_of kind config.shape) c.budget.result c.deref.result.now script.renewals.items script.phases set opened.shape opened.count phased c.requires.renewed in
     record {
       inside = omega arith;
-      played = subst (HavePlayedSets kind config.workers (shape_of kind config.shape) c.budget.result c.deref.result.now script.renewals.items script.phases set 0 0 0) (sym c.in_ok-replies.ensures.items) none;
+      played = subst (HavePlayedSets kind config.workers (shape_of kind config.shape) _ c.deref.result.now script.renewals.items script.phases set 0 0 0) (sym c.in_ok-replies.ensures.items) (none_played config.workers (shape_of kind config.shape) _ c.deref.result.now script.renewals.items script.phases set opened.shape opened.count phased c.requires.renewed);
       kind = opened.kind;
       fresh = opened.fresh;
     }
@@ -57,11 +56,11 @@ loop-renewal-preserved g c =
     let cut = next_cut lines l.first c.count_up_to.result l.phase _ c.count_up_to.ensures.count l.invariant.played.later in
     let within : l.first + c.count_up_to.result ≤ length lines = omega arith in
     let goes_on = followed_as (table_of l.now) _ _ _ _ _ more (table_of c.in_ok-next.next) l.invariant.kind c.slice.ensures.budget c.slice.ensures.lines c.in_ok-next.ensures.followed in
-    let played = one_more_played config.workers (shape_of kind config.shape) c.budget.result lines script.renewals.items script.phases (table_of l.now) (table_of c.in_ok-next.next) l.first l.phase l.renewal-index c.count_up_to.result _ l.replies.items more here within cut l.invariant.played goes_on in
+    let played = one_more_played config.workers (shape_of kind config.shape) _ lines script.renewals.items script.phases (table_of l.now) (table_of c.in_ok-next.next) l.first l.phase l.renewal-index c.count_up_to.result _ l.replies.items more here within cut l.invariant.played goes_on in
     let longer : c.extend_from_slice.new.self.items ≡ l.replies.items ++ more = c.in_ok-extend_from_slice.ensures.items ∙ ap (λ (some : List Reply). l.replies.items ++ some) c.deref-in-loop-renewal.ensures.value in
     record {
       inside = within;
-      played = subst (HavePlayedSets kind config.workers (shape_of kind config.shape) c.budget.result lines script.renewals.items script.phases (table_of c.in_ok-next.next) (l.first + c.count_up_to.result) _ (l.renewal-index + 1)) (sym longer) played;
+      played = subst (HavePlayedSets kind config.workers (shape_of kind config.shape) _ lines script.renewals.items script.phases (table_of c.in_ok-next.next) (l.first + c.count_up_to.result) _ (l.renewal-index + 1)) (sym longer) played;
       kind = c.in_ok-next.ensures.kind ∙ l.invariant.kind;
       fresh = c.in_ok-next.ensures.fresh;
     }
