@@ -6,13 +6,11 @@ mod progress;
 
 use crate::progress::Progress;
 use std::alloc::{AllocError, Global};
-use std::fs::{File, Files};
-use std::io::{ErrorKind, IsTerminal, Stdin, Write};
+use std::fs::File;
+use std::io::{ErrorKind, IsTerminal};
 use std::process::ExitCode;
-use std::sync::Wait;
-use std::thread::Threads;
 use std::{env, io};
-use vbr_run::{Gate, NoGate};
+use vbr_run::NoGate;
 
 fn main(rt: HostRuntime) -> ExitCode {
     let alloc = rt.alloc();
@@ -24,13 +22,16 @@ fn main(rt: HostRuntime) -> ExitCode {
         Ok(texts) => texts,
         Err(error) => return refused(&rt, &io::Error::from(error)),
     };
+    let files = |name: &str| File::open(&rt, name);
+    let mut reader = rt.stdin();
     let (mut output, mut errors) = (rt.stdout(), rt.stderr());
     if !errors.is_terminal() {
-        let status = run(
+        let status = vbr_run::run(
             &rt,
             alloc,
             &texts,
-            &mut rt.stdin(),
+            &mut reader,
+            &files,
             &mut output,
             &mut errors,
             &NoGate,
@@ -40,31 +41,18 @@ fn main(rt: HostRuntime) -> ExitCode {
     let line = Progress::new(errors);
     let mut output = line.ahead_of(output);
     let mut errors = line.ahead_of(errors);
-    let status = run(
+    let status = vbr_run::run(
         &rt,
         alloc,
         &texts,
-        &mut rt.stdin(),
+        &mut reader,
+        &files,
         &mut output,
         &mut errors,
         &line,
     );
     line.erase();
     ExitCode::from(status)
-}
-
-// Runs the program with standard input, files opened by their names, two writers and a gate.
-fn run<T: Threads + Wait + Files, W: Write, E: Write, G: Gate + Sync>(
-    rt: &T,
-    alloc: Global,
-    texts: &[&str],
-    reader: &mut Stdin,
-    writer: &mut W,
-    errors: &mut E,
-    gate: &G,
-) -> u8 {
-    let files = |name: &str| File::open(rt, name);
-    vbr_run::run(rt, alloc, texts, reader, &files, writer, errors, gate)
 }
 
 // The arguments, of which the first is the program's name.

@@ -1,5 +1,5 @@
 -- What the answer to a line says of its reply, and of the worker that was given it.
-use Rattle.std.proofs.Common.{◌≡◌, ◌≢◌, ℕ, ◌≤◌, Bool, true, false, List, [], ◌∷◌, ◌++◌, length, append-nil, refl, sym, ap, subst, ◌∙◌, arith}
+use Rattle.std.proofs.Common.{◌≡◌, ◌≢◌, ℕ, ◌<◌, ◌≤◌, Bool, true, false, List, [], ◌∷◌, ◌++◌, length, append-nil, refl, sym, ap, subst, ◌∙◌, arith}
 use Rattle.std.proofs.lemmas.Bool.{eq-eqb, ne_eqb}
 use Rattle.std.proofs.lemmas.List.Elements.{All-nil, All-cons}
 use Rattle.std.specs.Prelude.{Option, Some, None, Result, Ok, Err, zip, All}
@@ -31,7 +31,7 @@ use Rattle.vbr_transcript.specs.Runs.{gives_value}
 use Rattle.vbr_transcript.specs.declared.reply.Reply.{Reply}
 use Rattle.vbr_transcript.specs.declared.reply.Reply.TheVariants.{Yes, Value, No}
 use Rattle.vbr_player.specs.Calling.{CallsInTurn, IsCalled, IsMapCalled, reply_given, reply_refused, reply_told}
-use Rattle.vbr_player.specs.Working.{Played, TellsReply}
+use Rattle.vbr_player.specs.Working.{HasRoom, Played, TellsReply}
 use Rattle.vbr_player.specs.declared.worker.Worker.{Worker}
 use Rattle.vbr_player.proofs.Calling.{one_turn}
 
@@ -176,6 +176,12 @@ line_played kind line budget reply p q who called replies room =
       steps = (let few = one.steps.within in let made = one.steps.took.made in omega arith);
       room = room;
     }
+
+-- room for a reply to it is room for one more
+pub room_for_one : {N : Type 0} → (line : Line) (p : Worker N) → line.worker ≡ p.caller.pass.trace.who → HasRoom p (line ∷ []) → length p.replies.items < vec_capacity p.replies
+room_for_one line p who room =
+    let own : lines_by p.caller.pass.trace.who (line ∷ []) ≡ line ∷ [] = rw (eq-eqb line.worker p.caller.pass.trace.who who) refl in
+    let one : length (lines_by p.caller.pass.trace.who (line ∷ [])) ≡ 1 = ap length own in omega arith
 
 -- or left one of another alone
 pub line_left : {N : Type 0} → (kind : Kind) (line : Line) (budget : ℕ) (p : Worker N) → line.worker ≢ p.caller.pass.trace.who → Played kind budget (line ∷ []) p p

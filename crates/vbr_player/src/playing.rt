@@ -4,7 +4,7 @@ ghost use Rattle.vbr_player.specs.Playing.{Plays};
 
 use crate::gate::Gate;
 use crate::opened::Ended;
-use crate::sets::play_script;
+use crate::sets::play_sets;
 use std::alloc::Global;
 use std::io::{Read, Write};
 use std::sync::Wait;
@@ -59,7 +59,7 @@ pub fn play<RT: Threads + Wait, R: Read, W: Write, G: Gate + Sync>(
 {
     let text = read_text(alloc, reader)?;
     let script = parse_script(alloc, &text, config.workers())?;
-    let ended = play_script(rt, alloc, Kind::Set, &config, &script, gate)?;
+    let ended = play_sets(rt, alloc, Kind::Set, &config, &script, gate)?;
     let (replies, Ended::Set(report)) = ended else {
         unreachable!()
     };
@@ -94,7 +94,7 @@ pub fn play_map<RT: Threads + Wait, R: Read, W: Write, G: Gate + Sync>(
 {
     let text = read_text(alloc, reader)?;
     let script = parse_map_script(alloc, &text, config.workers())?;
-    let ended = play_script(rt, alloc, Kind::Map, &config, &script, gate)?;
+    let ended = play_sets(rt, alloc, Kind::Map, &config, &script, gate)?;
     let (replies, Ended::Map(report)) = ended else {
         unreachable!()
     };

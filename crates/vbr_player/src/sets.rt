@@ -21,9 +21,9 @@ use vbr_script::{Kind, Script};
 use vbr_settings::Config;
 use vbr_transcript::{Reply, RunError};
 
-// Opens a set or a map, and plays a script of this kind on it. It gives the replies in script order, and
-// what the last one held.
-pub fn play_script<R: Threads + Wait, G: Gate + Sync>(
+// Opens a set or a map, and plays a script of this kind on it, which is renewed behind each of the
+// script's renewals. It gives the replies in script order, and what the last one held.
+pub fn play_sets<R: Threads + Wait, G: Gate + Sync>(
     rt: &R,
     alloc: Global,
     kind: Kind,
@@ -43,41 +43,14 @@ pub fn play_script<R: Threads + Wait, G: Gate + Sync>(
         (zip script.now.lines.items ended.0.items) (listed_as kind ended.1) (epoch_of ended.1)) }
     ensures fault { IfErr result IsWant }
 {
-    let opened = open(alloc, kind, config)?;
     let whole = Part {
         lines: &script.lines,
         first: 0,
         budget: config.budget(),
         gate,
     };
-    play_sets(rt, alloc, opened, whole, script)
-}
-
-// Plays a script on a new set or map, which is renewed behind each of its renewals. It gives the replies
-// in script order, and what the last one held.
-fn play_sets<R: Threads + Wait, G: Gate + Sync>(
-    rt: &R,
-    alloc: Global,
-    opened: Opened,
-    whole: Part<G>,
-    script: &Script,
-) -> Result<(Vec<Reply>, Ended), RunError>
-    requires phased { ArePhased (kind_of opened) (table_of opened).passes script.now.phases
-        whole.lines.now }
-    requires renewed { AreRenewalsFrom 0 script.now.phases script.now.renewals.items }
-    requires few { script.now.phases ≤ MAX_SYNCS + 1 }
-    requires fresh { IsFresh opened }
-    ensures one_each { IfOk result (λ ended. length ended.0.items ≡ length whole.entry.lines.now) }
-    ensures kind { IfOk result (λ ended. ended_kind ended.1 ≡ kind_of opened) }
-    ensures explained { IfOk result (λ ended. AreExplained (kind_of opened)
-        (ArePlayed (kind_of opened) (table_of opened).passes whole.entry.budget)
-        (table_of opened).shape (table_of opened).passes 0 script.now.phases
-        script.now.renewals.items (zip whole.entry.lines.now ended.0.items)
-        (listed_as (kind_of opened) ended.1) (epoch_of ended.1)) }
-    ensures fault { IfErr result IsWant }
-{
+    let mut now = open(alloc, kind, config)?;
     let mut replies = Vec::with_capacity(alloc, whole.lines.len())?;
-    let mut now = opened;
     let mut first = 0;
     let mut phase = 0;
     for renewal in &script.renewals {

@@ -1,12 +1,9 @@
 // A worker: it plays its lines of a script, one after the other.
-ghost use Rattle.std.specs.Prelude.{[], ◌∷◌};
-ghost use Rattle.vbr_script.specs.Scripts.{MayAsk};
-ghost use Rattle.vbr_player.specs.Working.{HasRoom, MayBeAsked, Played};
+ghost use Rattle.vbr_player.specs.Working.{MayBeAsked, Played};
 
 use crate::asking::Asked;
 use crate::gate::Gate;
-use crate::part::{Part, Task};
-use vbr_script::Line;
+use crate::part::Task;
 use vbr_set::VbrSetRef;
 use vbr_transcript::Reply;
 use vbr_words::Nodes;
@@ -25,30 +22,20 @@ pub fn play<'w, N: Asked, G: Gate>(task: Task<'w, N, G>) -> Worker<'w, N>
         result }
 {
     let Task { part, mut worker } = task;
-    let mut index = part.first;
+    let who = worker.caller.pass().who();
+    let mut next = part.first;
     for line in part.lines {
-        worker.play_line(&part, line, index);
-        index += 1;
-    }
-    worker
-}
-
-impl<'w, N: Asked> Worker<'w, N> {
-    // Plays a line, which has this index in the script, if it is its own.
-    fn play_line<G: Gate>(&mut self, part: &Part<G>, line: &Line, index: u64)
-        requires room { HasRoom self.old (line.now ∷ []) }
-        requires may_ask { MayAsk N.KIND line.now.op line.now.value }
-        ensures { Played N.KIND part.now.budget (line.now ∷ []) self.old self.new }
-    {
-        let who = self.caller.pass().who();
+        let index = next;
+        next += 1;
         if line.worker != who {
-            return;
+            continue;
         }
         part.gate.before(who, index);
-        let reply = N::ask(&mut self.caller, line, part.budget);
+        let reply = N::ask(&mut worker.caller, line, part.budget);
         part.gate.after(who, index, reply);
-        let Ok(()) = self.replies.push(reply) else {
+        let Ok(()) = worker.replies.push(reply) else {
             unreachable!()
         };
     }
+    worker
 }

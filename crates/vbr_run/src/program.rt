@@ -55,8 +55,20 @@ const UNKNOWN: &[u8] = b"'; --help has the names\n";
 /// # Example
 ///
 /// ```rattle file=crates/vbr_main/src/main.rt
-/// let files = |name: &str| File::open(rt, name);
-/// vbr_run::run(rt, alloc, texts, reader, &files, writer, errors, gate)
+/// let files = |name: &str| File::open(&rt, name);
+/// let mut reader = rt.stdin();
+/// let (mut output, mut errors) = (rt.stdout(), rt.stderr());
+/// // ...
+/// let status = vbr_run::run(
+///     &rt,
+///     alloc,
+///     &texts,
+///     &mut reader,
+///     &files,
+///     &mut output,
+///     &mut errors,
+///     &line,
+/// );
 /// ```
 pub fn run<
     T: Threads + Wait,

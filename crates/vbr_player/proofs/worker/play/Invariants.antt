@@ -5,6 +5,6 @@ use Rattle.vbr_player.proofs.worker.play.Given as goal
 -- the lines before this one were played
 abbrev pub invariant-loop-line : goal.invariant-loop-line
 invariant-loop-line g l = record {
-  index : l.index ≡ l.part.first + l.line-index;
+  next : l.next ≡ l.part.first + l.line-index;
   played : Played g.N.Asked.KIND l.part.budget (take l.line-index l.part.lines.now) l.fn.task.worker l.worker;
 }
