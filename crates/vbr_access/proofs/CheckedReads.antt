@@ -1,6 +1,6 @@
 -- Loads and then a read of the epoch: where the epoch hasn't moved, what was loaded is held, and stood there at its load.
 use Rattle.std.proofs.Common.{◌≡◌, ℕ, false, refl, sym, ◌∙◌, subst}
-use Rattle.vbr_words.specs.Dimensions.{Dimensions, IsShape}
+use Rattle.vbr_machine.specs.Start.{Start, IsStart}
 use Rattle.vbr_words.specs.Words.{link_of}
 use Rattle.vbr_words.specs.declared.place.At.TheVariants.{Head, Slot}
 use Rattle.vbr_words.specs.Buckets.{bucket_of}
@@ -37,16 +37,16 @@ module _ {p q r : Trace} {bucket word epoch : ℕ} (load : Did (LoadLink (Head b
   head_known : Knows (knows r) (LinkAt (Head bucket) (link_of word))
   head_known = unmoved_checks read unmoved (LinkAt (Head bucket) (link_of word)) (link_loaded load)
 
-  pub head_read : IsShape p.shape → IsRead p r (record { at = Head bucket; birth = 0; word = word; epoch = epoch })
-  head_read shape = record {
+  pub head_read : IsStart p.start → IsRead p r (record { at = Head bucket; birth = 0; word = word; epoch = epoch })
+  head_read start = record {
     known = record { epoch = same ∙ sym head_keeps.epoch; link = head_known; birth = refl };
-    stood = stood_at_load (Head bucket) 0 word epoch shape (quiet_refl p) tt (sym same) load (epoch_quiet read);
+    stood = stood_at_load (Head bucket) 0 word epoch start (quiet_refl p) tt (sym same) load (epoch_quiet read);
   }
 
-  pub head_is_unmarked : IsShape p.shape → (link_of word).mark ≡ false
-  head_is_unmarked shape =
-      let P : Dimensions → Type 0 = IsShape in
-      head_unmarked r.shape r.passes r.seen (subst P (sym (same_on (did_same load) (did_same read)).shape) shape) (did_run read) r.who bucket (link_of word) head_known
+  pub head_is_unmarked : IsStart p.start → (link_of word).mark ≡ false
+  head_is_unmarked start =
+      let P : Start → Type 0 = IsStart in
+      head_unmarked r.start r.passes r.seen (subst P (sym (same_on (did_same load) (did_same read)).start) start) (did_run read) r.who bucket (link_of word) head_known
 
 -- ---- a node
 
@@ -57,14 +57,14 @@ module _ {p q r t : Trace} {s birth word epoch : ℕ} (first : Did (LoadBirth s)
   pub node_keeps : Keeps (knows p) (knows t)
   node_keeps = keeps_on (keeps_on (birth_loaded_keeps first) (link_loaded_keeps second)) (unmoved_keeps read node_unmoved)
 
-  pub node_read : IsShape p.shape → IsHeldSlot (knows p) s → IsRead p t (record { at = Slot s; birth = birth; word = word; epoch = epoch })
-  node_read shape held = record {
+  pub node_read : IsStart p.start → IsHeldSlot (knows p) s → IsRead p t (record { at = Slot s; birth = birth; word = word; epoch = epoch })
+  node_read start held = record {
     known = record {
       epoch = same ∙ sym node_keeps.epoch;
       link = unmoved_checks read node_unmoved (LinkAt (Slot s) (link_of word)) (link_loaded second);
       birth = unmoved_checks read node_unmoved (BirthOf s birth) (link_loaded_stays second (BirthOf s birth) (birth_loaded first));
     };
-    stood = stood_at_load (Slot s) birth word epoch shape (birth_quiet first) (slot_kept s (birth_loaded_keeps first) held) ((birth_loaded_keeps first).epoch ∙ sym same) second (epoch_quiet read);
+    stood = stood_at_load (Slot s) birth word epoch start (birth_quiet first) (slot_kept s (birth_loaded_keeps first) held) ((birth_loaded_keeps first).epoch ∙ sym same) second (epoch_quiet read);
   }
 
 -- ---- a key
@@ -80,12 +80,12 @@ module _ {p q r : Trace} {s key epoch : ℕ} (load : Did (LoadKey s) p q key) (r
   key_read = unmoved_checks read key_unmoved (KeyOf s key) (key_loaded load)
 
   -- it is a key of each bucket in which the slot is held
-  pub key_of_bucket : IsShape p.shape → (b : ℕ) → HeldIn (knows p) (Slot s) b → bucket_of p.shape key ≡ b
-  key_of_bucket shape b h =
+  pub key_of_bucket : IsStart p.start → (b : ℕ) → HeldIn (knows p) (Slot s) b → bucket_of p.start.shape key ≡ b
+  key_of_bucket start b h =
       let k = same_on (did_same load) (did_same read) in
-      let P : Dimensions → Type 0 = IsShape in
-      let Q : Dimensions → Type 0 = λ shape. bucket_of shape key ≡ b in
-      subst Q k.shape (held_in_bucket r.shape r.passes r.seen (subst P (sym k.shape) shape) (did_run read) r.who s b key (held_in_kept (Slot s) b key_keeps h) key_read)
+      let P : Start → Type 0 = IsStart in
+      let Q : Start → Type 0 = λ start. bucket_of start.shape key ≡ b in
+      subst Q k.start (held_in_bucket r.start r.passes r.seen (subst P (sym k.start) start) (did_run read) r.who s b key (held_in_kept (Slot s) b key_keeps h) key_read)
 
 -- ---- a value
 

@@ -1,7 +1,7 @@
 -- A step that exchanges a link word, as what its call tells.
 use Rattle.std.proofs.Common.{◌≡◌, ◌≢◌, ℕ, true, false, refl, sym, ap, ◌∙◌, subst}
 use Rattle.std.specs.Prelude.{Option, Result, Ok, Err, IfErr, None, Some}
-use Rattle.vbr_words.specs.Dimensions.{Dimensions, IsShape}
+use Rattle.vbr_machine.specs.Start.{Start, IsStart}
 use Rattle.vbr_words.specs.Words.{link_of}
 use Rattle.vbr_words.specs.declared.link.Link.{Link}
 use Rattle.vbr_words.specs.declared.place.At.{At}
@@ -45,9 +45,9 @@ use Rattle.vbr_access.proofs.WonExchanges.{mark_keeps, mark_known, publish_lost_
 
 -- ---- a mark
 
-pub mark_told : {p q : Trace} {s word : ℕ} (node : Held) → IsShape p.shape → IsRun p.shape p.passes p.seen → IsHeld (knows p) node → node.at ≡ Slot s → Did (Mark s node.word) p q node.word → link_of word ≡ marked (link_of node.word)
+pub mark_told : {p q : Trace} {s word : ℕ} (node : Held) → IsStart p.start → IsRun p.start p.passes p.seen → IsHeld (knows p) node → node.at ≡ Slot s → Did (Mark s node.word) p q node.word → link_of word ≡ marked (link_of node.word)
     → RemovesEntry p q node (record { slot = s; birth = node.birth; word = word; epoch = node.epoch })
-mark_told {p} {q} {s} {word} node shape is_run held at d link =
+mark_told {p} {q} {s} {word} node start is_run held at d link =
     let B : At → Type 0 = λ at. BirthAt (knows q) at node.birth in
     let L : Link → Type 0 = λ link. Knows (knows q) (LinkAt (Slot s) link) in
     let h = held_kept node (mark_keeps d) held in
@@ -55,19 +55,19 @@ mark_told {p} {q} {s} {word} node shape is_run held at d link =
       made = (λ key value k v.
           let K : At → Type 0 = λ at. KeyAt (knows p) at key in
           let V : At → Type 0 = λ at. ValueAt (knows p) at value in
-          mark_made shape is_run d key value (subst K at k) (λ has. subst V at (v has)));
+          mark_made start is_run d key value (subst K at k) (λ has. subst V at (v has)));
       at = sym at;
       link = link;
       held = record { held = record { epoch = h.epoch; link = subst L (sym link) (mark_known d); birth = subst B at h.birth }; mark = ap (λ (l : Link). l.mark) link };
-      alone = λ alone. marked_alone node shape at d alone;
+      alone = λ alone. marked_alone node start at d alone;
     }
 
 -- where nodes have no values, an entry is a key
-pub key_removed : {p q : Trace} {node : Held} {now : Marked} → p.shape.values ≡ false → RemovesEntry p q node now → RemovesKey p q node now
+pub key_removed : {p q : Trace} {node : Held} {now : Marked} → p.start.shape.values ≡ false → RemovesEntry p q node now → RemovesKey p q node now
 key_removed {p} {q} bare removed = record {
   made = (λ key k.
       let P : Option ℕ → Type 0 = λ value. Made (record { who = p.who; op = Remove; key = key; reply = true; value = value }) p q in
-      subst P (none_kept p.shape bare (Some 0)) (removed.made key 0 k (λ has. not_valued bare has)));
+      subst P (none_kept p.start bare (Some 0)) (removed.made key 0 k (λ has. not_valued bare has)));
   at = removed.at;
   link = removed.link;
   held = removed.held;
@@ -76,29 +76,29 @@ key_removed {p} {q} bare removed = record {
 
 -- ---- a publication, after what filled the hand
 
-pub entry_told : {key value : ℕ} (p q r : PassView) → Quiet p.trace q.trace → Made (entry_call q.trace.shape q.trace.who Insert key true value) q.trace r.trace → r.hand ≡ None → InsertsEntry p r key value
+pub entry_told : {key value : ℕ} (p q r : PassView) → Quiet p.trace q.trace → Made (entry_call q.trace.start q.trace.who Insert key true value) q.trace r.trace → r.hand ≡ None → InsertsEntry p r key value
 entry_told {key} {value} p q r fill made spent = record {
-  made = (let P : ℕ → Dimensions → Type 0 = λ who shape. Made (entry_call shape who Insert key true value) p.trace r.trace in
-      let one : P q.trace.who q.trace.shape = made_on fill made in
-      let Q : Dimensions → Type 0 = P q.trace.who in
-      let R : ℕ → Type 0 = λ who. P who p.trace.shape in
-      subst R fill.same.who (subst Q fill.same.shape one));
+  made = (let P : ℕ → Start → Type 0 = λ who start. Made (entry_call start who Insert key true value) p.trace r.trace in
+      let one : P q.trace.who q.trace.start = made_on fill made in
+      let Q : Start → Type 0 = P q.trace.who in
+      let R : ℕ → Type 0 = λ who. P who p.trace.start in
+      subst R fill.same.who (subst Q fill.same.start one));
   spent = spent;
 }
 
 -- where nodes have no values, an entry is a key
-pub key_inserted : {key value : ℕ} {p q : PassView} → p.trace.shape.values ≡ false → InsertsEntry p q key value → InsertsKey p q key
+pub key_inserted : {key value : ℕ} {p q : PassView} → p.trace.start.shape.values ≡ false → InsertsEntry p q key value → InsertsKey p q key
 key_inserted {key} {value} {p} {q} bare inserted = record {
   made = (let P : Option ℕ → Type 0 = λ v. Made (record { who = p.trace.who; op = Insert; key = key; reply = true; value = v }) p.trace q.trace in
-      subst P (none_kept p.trace.shape bare (Some value)) inserted.made);
+      subst P (none_kept p.trace.start bare (Some value)) inserted.made);
   spent = inserted.spent;
 }
 
-pub publish_lost : {p q r : Trace} {s found : ℕ} (pred : Held) → IsShape q.shape → Quiet p q → Keeps (knows p) (knows q) → (IsAlone p q → StandsNow p pred → StandsNow q pred) → Did (Publish pred.at pred.word s) q r found → found ≢ pred.word → LosesExchange p r pred (LostExchange found)
-publish_lost {s = s} pred shape fill keeps stands d other = record {
+pub publish_lost : {p q r : Trace} {s found : ℕ} (pred : Held) → IsStart q.start → Quiet p q → Keeps (knows p) (knows q) → (IsAlone p q → StandsNow p pred → StandsNow q pred) → Did (Publish pred.at pred.word s) q r found → found ≢ pred.word → LosesExchange p r pred (LostExchange found)
+publish_lost {s = s} pred start fill keeps stands d other = record {
   quiet = quiet_on fill (publish_failed d other);
   lost = (other, found_after fill (publish_found d other), keeps_on keeps (publish_lost_keeps d other));
-  wins = λ alone stood. publish_wins shape (alone_then fill.same.who fill.seen (did_seen d) alone) pred.at pred.word s d other (stands (alone_first fill.seen (did_seen d) alone) stood);
+  wins = λ alone stood. publish_wins start (alone_then fill.same.who fill.seen (did_seen d) alone) pred.at pred.word s d other (stands (alone_first fill.seen (did_seen d) alone) stood);
 }
 
 -- ---- an unlinking, after the birth of what the marked link names
@@ -117,8 +117,8 @@ module _ {p q r : PassView} {n : ℕ} (pred : Held) (gone : Marked) (named : Lin
         read = read_after reads.quiet (new_read q law pred gone named birth held still_marked is_named read.birth new link d);
         still = ap (λ (l : Link). l.mark) link;
         next = ap (λ (l : Link). l.slot) link ∙ ap (λ (l : Link). l.slot) is_named;
-        alone = λ alone stands. unlinks_after p.trace q.trace r.trace pred _ reads.quiet.same.shape (reads.looks (alone_first reads.quiet.seen (did_seen d) alone)) read.keeps
-            (unlinked_alone pred new law.shape d (alone_then reads.quiet.same.who reads.quiet.seen (did_seen d) alone)
+        alone = λ alone stands. unlinks_after p.trace q.trace r.trace pred _ reads.quiet.same.start (reads.looks (alone_first reads.quiet.seen (did_seen d) alone)) read.keeps
+            (unlinked_alone pred new law.start d (alone_then reads.quiet.same.who reads.quiet.seen (did_seen d) alone)
             (accepted q law pred gone named birth held still_marked is_named read.birth unmarked.unmarked names)
             held.link unmarked.unmarked (ap (λ a. link_shown_at a pred.at) (reads.looks (alone_first reads.quiet.seen (did_seen d) alone)) ∙ stands)
             (written q law pred gone named birth held still_marked is_named read.birth ∙ sym link));
@@ -128,7 +128,7 @@ module _ {p q r : PassView} {n : ℕ} (pred : Held) (gone : Marked) (named : Lin
   unlink_lost d other pool = record {
     takes_no_slot = none_on reads.takes_no_slot (lost_none d other pool);
     rolled = (other, found_after reads.quiet (unlink_found d other), keeps_on read.keeps (unlink_lost_keeps d other));
-    wins = λ fresh alone stands. unlink_wins law.shape (alone_then reads.quiet.same.who reads.quiet.seen (did_seen d) alone) pred.at pred.word gone.slot d other
+    wins = λ fresh alone stands. unlink_wins law.start (alone_then reads.quiet.same.who reads.quiet.seen (did_seen d) alone) pred.at pred.word gone.slot d other
         (ap (λ a. link_shown_at a pred.at) (reads.looks (alone_first reads.quiet.seen (did_seen d) alone)) ∙ stands);
   }
 

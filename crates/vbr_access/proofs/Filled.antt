@@ -38,15 +38,15 @@ in_hand_is (Some (Unlinked reread)) is = absurd is
 in_hand_is (Some (InHand known)) is = (known, refl)
 
 -- the slot of a hand is one of the shape, and in hand
-hand_in_hand : (p : PassView) → PassLaw p → (hand : HandView) → IsHandOf p hand → (hand.slot < p.trace.shape.slots) × IsInHand ((knows p.trace).own hand.slot)
+hand_in_hand : (p : PassView) → PassLaw p → (hand : HandView) → IsHandOf p hand → (hand.slot < p.trace.start.shape.slots) × IsInHand ((knows p.trace).own hand.slot)
 hand_in_hand p sound hand h =
-    let P : Option ℕ → Type 0 = pools.HandFits p.trace.shape (knows p.trace) p.pool in
+    let P : Option ℕ → Type 0 = pools.HandFits p.trace.start (knows p.trace) p.pool in
     let o = subst P h.slot sound.own.in_hand in
     (o.0, o.1)
 
-pub hand_at : (p : PassView) → PassLaw p → (hand : HandView) → IsHandOf p hand → (s : ℕ) → s ≡ hand.slot → (s < p.trace.shape.slots) × IsInHand ((knows p.trace).own s) × (birth_in_hand ((knows p.trace).own s) ≡ hand.birth)
+pub hand_at : (p : PassView) → PassLaw p → (hand : HandView) → IsHandOf p hand → (s : ℕ) → s ≡ hand.slot → (s < p.trace.start.shape.slots) × IsInHand ((knows p.trace).own s) × (birth_in_hand ((knows p.trace).own s) ≡ hand.birth)
 hand_at p sound hand h s is =
-    let P : ℕ → Type 0 = λ s. (s < p.trace.shape.slots) × IsInHand ((knows p.trace).own s) × (birth_in_hand ((knows p.trace).own s) ≡ hand.birth) in
+    let P : ℕ → Type 0 = λ s. (s < p.trace.start.shape.slots) × IsInHand ((knows p.trace).own s) × (birth_in_hand ((knows p.trace).own s) ≡ hand.birth) in
     let o = hand_in_hand p sound hand h in
     subst P (sym is) (o.0, o.1, h.birth)
 
@@ -120,8 +120,8 @@ keyed_hand {p} {q} {s} {key} {r} {birth} d is same =
     rw now k
 
 -- the link that is stored, by any birth that is known of what it names
-module _ (p : PassView) (sound : PassLaw p) (pred : Held) (s birth next : ℕ) (h : IsHeld (knows p.trace) pred) (low : s < p.trace.shape.slots) (is : IsInHand ((knows p.trace).own s)) (known : BirthNamed (knows p.trace) (link_of pred.word).slot next) where
-  named_in : (slot : Option ℕ) → ((n : ℕ) → slot ≡ Some n → IsHeldSlot (knows p.trace) n) → IsNextIn p.trace.shape slot
+module _ (p : PassView) (sound : PassLaw p) (pred : Held) (s birth next : ℕ) (h : IsHeld (knows p.trace) pred) (low : s < p.trace.start.shape.slots) (is : IsInHand ((knows p.trace).own s)) (known : BirthNamed (knows p.trace) (link_of pred.word).slot next) where
+  named_in : (slot : Option ℕ) → ((n : ℕ) → slot ≡ Some n → IsHeldSlot (knows p.trace) n) → IsNextIn p.trace.start slot
   named_in None held = tt
   named_in (Some n) held = slot_in p sound n (held n refl)
 
@@ -132,8 +132,8 @@ module _ (p : PassView) (sound : PassLaw p) (pred : Held) (s birth next : ℕ) (
   held : (n : ℕ) → (link_of pred.word).slot ≡ Some n → IsHeldSlot (knows p.trace) n
   held n names = named_slot pred n h names
 
-  pub link_accepted : Accepts p.trace.shape (knows p.trace) (StoreLink s (link_of pred.word).slot)
-  link_accepted = known_accepts p.trace.shape p.trace.passes p.trace.seen sound.shape sound.is_run p.trace.who (StoreLink s (link_of pred.word).slot) (record {
+  pub link_accepted : Accepts p.trace.start (knows p.trace) (StoreLink s (link_of pred.word).slot)
+  link_accepted = known_accepts p.trace.start p.trace.passes p.trace.seen sound.start sound.is_run p.trace.who (StoreLink s (link_of pred.word).slot) (record {
     in_shape = (low, named_in (link_of pred.word).slot held);
     owned = is;
     known = named_known (link_of pred.word).slot held known;
@@ -143,7 +143,7 @@ module _ (p : PassView) (sound : PassLaw p) (pred : Held) (s birth next : ℕ) (
 
   link_stored_is : birth_in_hand ((knows p.trace).own s) ≡ birth → link_written (knows p.trace) (StoreLink s (link_of pred.word).slot) ≡ link_to (link_of pred.word).slot birth next
   link_stored_is same =
-      written_is p.trace.shape p.trace.passes p.trace.seen sound.shape sound.is_run p.trace.who (StoreLink s (link_of pred.word).slot) (link_to (link_of pred.word).slot (birth_in_hand ((knows p.trace).own s)) next) (next, known, refl)
+      written_is p.trace.start p.trace.passes p.trace.seen sound.start sound.is_run p.trace.who (StoreLink s (link_of pred.word).slot) (link_to (link_of pred.word).slot (birth_in_hand ((knows p.trace).own s)) next) (next, known, refl)
       ∙ ap (λ (b : ℕ). link_to (link_of pred.word).slot b next) same
 
   pub link_now : birth_in_hand ((knows p.trace).own s) ≡ birth → (slot : Option ℕ) → slot ≡ (link_of pred.word).slot → link_written (knows p.trace) (StoreLink s slot) ≡ link_to (link_of pred.word).slot birth next
@@ -170,10 +170,10 @@ module _ (p : PassView) (sound : PassLaw p) (pred : Held) (s key birth next : �
   filled_hand : IsInHand ((knows p.trace).own s)
   filled_hand = let P : Option Holding → Type 0 = IsInHand in subst P (sym f.holding_is) tt
 
-  pub publish_accepted : (value : ℕ) → (p.trace.shape.values ≡ true → value_in_hand ((knows p.trace).own s) ≡ Some value) → (link_of pred.word).mark ≡ false → s < p.trace.shape.slots → BirthNamed (knows p.trace) (link_of pred.word).slot next → StandsBehind p.trace.shape (knows p.trace) pred.at key → StandsBefore (knows p.trace) key (link_of pred.word).slot → Accepts p.trace.shape (knows p.trace) (Publish pred.at pred.word s)
+  pub publish_accepted : (value : ℕ) → (p.trace.start.shape.values ≡ true → value_in_hand ((knows p.trace).own s) ≡ Some value) → (link_of pred.word).mark ≡ false → s < p.trace.start.shape.slots → BirthNamed (knows p.trace) (link_of pred.word).slot next → StandsBehind p.trace.start (knows p.trace) pred.at key → StandsBefore (knows p.trace) key (link_of pred.word).slot → Accepts p.trace.start (knows p.trace) (Publish pred.at pred.word s)
   publish_accepted value valued unmarked low k i j =
-      let P : Option Holding → Type 0 = MayPublishKnown p.trace.shape (knows p.trace) pred.at (link_of pred.word) in
-      known_accepts p.trace.shape p.trace.passes p.trace.seen sound.shape sound.is_run p.trace.who (Publish pred.at pred.word s) (record {
+      let P : Option Holding → Type 0 = MayPublishKnown p.trace.start (knows p.trace) pred.at (link_of pred.word) in
+      known_accepts p.trace.start p.trace.passes p.trace.seen sound.start sound.is_run p.trace.who (Publish pred.at pred.word s) (record {
         in_shape = (place_in p sound pred h, low);
         owned = filled_hand;
         known = (h.link, (pred.birth, h.birth));
@@ -187,7 +187,7 @@ module _ (p : PassView) (sound : PassLaw p) (pred : Held) (s key birth next : �
             link_is = f.link_is ∙ ap (λ (b : ℕ). Some (link_to (link_of pred.word).slot b next)) (sym f.birth_is);
             behind = i;
             before = j;
-            valued = value_asked p.trace.shape.values f.known.value value (λ has. sym (ap value_in_hand f.holding_is) ∙ valued has);
+            valued = value_asked p.trace.start.shape.values f.known.value value (λ has. sym (ap value_in_hand f.holding_is) ∙ valued has);
           }),
         );
         below_last = tt;
@@ -195,12 +195,12 @@ module _ (p : PassView) (sound : PassLaw p) (pred : Held) (s key birth next : �
 
   pub publish_writes : link_written (knows p.trace) (Publish pred.at pred.word s) ≡ link_to (Some s) pred.birth birth
   publish_writes =
-      written_is p.trace.shape p.trace.passes p.trace.seen sound.shape sound.is_run p.trace.who (Publish pred.at pred.word s) (link_to (Some s) pred.birth (birth_in_hand ((knows p.trace).own s))) (pred.birth, h.birth, refl)
+      written_is p.trace.start p.trace.passes p.trace.seen sound.start sound.is_run p.trace.who (Publish pred.at pred.word s) (link_to (Some s) pred.birth (birth_in_hand ((knows p.trace).own s))) (pred.birth, h.birth, refl)
       ∙ ap (λ (o : Option Holding). link_to (Some s) pred.birth (birth_in_hand o)) f.holding_is
       ∙ ap (λ (b : ℕ). link_to (Some s) pred.birth b) f.birth_is
 
-  pub publish_made : {q : Trace} (value : ℕ) → (p.trace.shape.values ≡ true → value_in_hand ((knows p.trace).own s) ≡ Some value) → Did (Publish pred.at pred.word s) p.trace q pred.word → Made (entry_call p.trace.shape p.trace.who Insert key true value) p.trace q
+  pub publish_made : {q : Trace} (value : ℕ) → (p.trace.start.shape.values ≡ true → value_in_hand ((knows p.trace).own s) ≡ Some value) → Did (Publish pred.at pred.word s) p.trace q pred.word → Made (entry_call p.trace.start p.trace.who Insert key true value) p.trace q
   publish_made value valued d = published d _
-      (ap (λ (o : Option Holding). Some (record { who = p.trace.who; op = Insert; key = key_in_hand o; reply = true; value = payload_kept p.trace.shape (value_in_hand o) })) f.holding_is
-      ∙ ap (λ (o : Option ℕ). Some (record { who = p.trace.who; op = Insert; key = unwrap_or o 0; reply = true; value = payload_kept p.trace.shape f.known.value })) f.key_is
-      ∙ ap (λ (v : Option ℕ). Some (record { who = p.trace.who; op = Insert; key = key; reply = true; value = v })) (kept_same p.trace.shape.values f.known.value value (λ has. sym (ap value_in_hand f.holding_is) ∙ valued has)))
+      (ap (λ (o : Option Holding). Some (record { who = p.trace.who; op = Insert; key = key_in_hand o; reply = true; value = payload_kept p.trace.start (value_in_hand o) })) f.holding_is
+      ∙ ap (λ (o : Option ℕ). Some (record { who = p.trace.who; op = Insert; key = unwrap_or o 0; reply = true; value = payload_kept p.trace.start f.known.value })) f.key_is
+      ∙ ap (λ (v : Option ℕ). Some (record { who = p.trace.who; op = Insert; key = key; reply = true; value = v })) (kept_same p.trace.start.shape.values f.known.value value (λ has. sym (ap value_in_hand f.holding_is) ∙ valued has)))

@@ -5,7 +5,7 @@ use Rattle.vbr_words.specs.declared.place.At.TheVariants.{Head, Slot}
 use Rattle.vbr_machine.specs.Knowledge.{Know}
 use Rattle.vbr_machine.specs.Membership.{IsHeldSlot, IsHeldPlace, HeldIn, at_head, at_slot, BirthAt, BirthNamed, KeyAt, StandsBehind, StandsBefore}
 use Rattle.vbr_machine.specs.declared.knowledge.Read.TheVariants.{LinkAt}
-use Rattle.vbr_words.specs.Dimensions.{Dimensions}
+use Rattle.vbr_machine.specs.Start.{Start}
 use Rattle.vbr_words.specs.Words.{link_of}
 use Rattle.std.proofs.Common.{Option, None}
 use Rattle.vbr_access.specs.Held.{IsHeld, HoldsMarked, held_of}
@@ -57,9 +57,9 @@ marked_kept marked k h = record { held = held_kept (held_of marked) k h.held; ma
 
 -- ---- where keys stand
 
-pub behind_kept : {a b : Know} (shape : Dimensions) (at : At) (key : ℕ) → Keeps a b → StandsBehind shape a at key → StandsBehind shape b at key
-behind_kept shape (Head b) key k h = h
-behind_kept shape (Slot s) key k h = (h.0, k.reads _ h.1, h.2, h.3)
+pub behind_kept : {a b : Know} (start : Start) (at : At) (key : ℕ) → Keeps a b → StandsBehind start a at key → StandsBehind start b at key
+behind_kept start (Head b) key k h = h
+behind_kept start (Slot s) key k h = (h.0, k.reads _ h.1, h.2, h.3)
 
 pub before_kept : {a b : Know} (key : ℕ) (named : Option ℕ) → Keeps a b → StandsBefore a key named → StandsBefore b key named
 before_kept key None k h = tt

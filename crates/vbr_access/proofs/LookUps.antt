@@ -58,21 +58,21 @@ pub look_up_keeps : {p q : Trace} (present : Bool) (key : ℕ) (at : At) (word :
 look_up_keeps present key at word d = keeps_at at present key word d
 
 module _ (p : PassView) (sound : PassLaw p) (key : ℕ) (held : Held) (h : IsHeld (knows p.trace) held) (unmarked : (link_of held.word).mark ≡ false) where
-  accepted_at : (at : At) → held.at ≡ at → (present : Bool) → DecidesKey p.trace.shape (knows p.trace) key held present → Accepts p.trace.shape (knows p.trace) (look_up present key at held.word)
+  accepted_at : (at : At) → held.at ≡ at → (present : Bool) → DecidesKey p.trace.start (knows p.trace) key held present → Accepts p.trace.start (knows p.trace) (look_up present key at held.word)
   accepted_at (Slot s) e true a = present_accepted p sound Has held s h e (key, a.1) unmarked no_remove (λ get. absurd (no_get get))
   accepted_at (Head b) e true a = absurd (subst IsSlot e a.0)
-  accepted_at at e false a = subst (λ (x : At). Accepts p.trace.shape (knows p.trace) (ConfirmAbsent Has key x held.word)) e (absent_accepted p sound Has key held h a.0 a.1 unmarked no_insert (λ get. absurd (no_get get)))
+  accepted_at at e false a = subst (λ (x : At). Accepts p.trace.start (knows p.trace) (ConfirmAbsent Has key x held.word)) e (absent_accepted p sound Has key held h a.0 a.1 unmarked no_insert (λ get. absurd (no_get get)))
 
-  pub look_up_accepted : (present : Bool) → DecidesKey p.trace.shape (knows p.trace) key held present → Accepts p.trace.shape (knows p.trace) (look_up present key held.at held.word)
+  pub look_up_accepted : (present : Bool) → DecidesKey p.trace.start (knows p.trace) key held present → Accepts p.trace.start (knows p.trace) (look_up present key held.at held.word)
   look_up_accepted present a = accepted_at held.at refl present a
 
 module _ (p : PassView) (q : Trace) (sound : PassLaw p) (key : ℕ) (held : Held) where
-  made_at : (at : At) → held.at ≡ at → (present : Bool) → DecidesKey p.trace.shape (knows p.trace) key held present → Did (look_up present key at held.word) p.trace q held.word → Made (set_call p.trace.who Has key present) p.trace q
-  made_at (Slot s) e true a d = present_made sound.shape sound.is_run d key 0 (subst (λ (x : At). KeyAt (knows p.trace) x key) e a.1) (λ get. absurd (no_get get))
+  made_at : (at : At) → held.at ≡ at → (present : Bool) → DecidesKey p.trace.start (knows p.trace) key held present → Did (look_up present key at held.word) p.trace q held.word → Made (set_call p.trace.who Has key present) p.trace q
+  made_at (Slot s) e true a d = present_made sound.start sound.is_run d key 0 (subst (λ (x : At). KeyAt (knows p.trace) x key) e a.1) (λ get. absurd (no_get get))
   made_at (Head b) e true a d = absurd (subst IsSlot e a.0)
   made_at at e false a d = absent_made d
 
-  pub look_up_made : (present : Bool) → DecidesKey p.trace.shape (knows p.trace) key held present → Did (look_up present key held.at held.word) p.trace q held.word → Made (set_call p.trace.who Has key present) p.trace q
+  pub look_up_made : (present : Bool) → DecidesKey p.trace.start (knows p.trace) key held present → Did (look_up present key held.at held.word) p.trace q held.word → Made (set_call p.trace.who Has key present) p.trace q
   look_up_made present a d = made_at held.at refl present a d
 
   failed_at : (at : At) (present : Bool) (found : ℕ) → Did (look_up present key at held.word) p.trace q found → found ≢ held.word → Quiet p.trace q
@@ -91,12 +91,12 @@ module _ (p : PassView) (q : Trace) (sound : PassLaw p) (key : ℕ) (held : Held
   pub look_up_lost : (present : Bool) (found : ℕ) → Did (look_up present key held.at held.word) p.trace q found → found ≢ held.word → IsLost p.trace q held (LostExchange found)
   look_up_lost present found d ne = (ne, lost_at held.at present found d ne, look_up_keeps present key held.at held.word d)
 
-  adds_at : (at : At) → held.at ≡ at → (present : Bool) → DecidesKey p.trace.shape (knows p.trace) key held present → Did (look_up present key at held.word) p.trace q held.word → AddsAnswer (set_call p.trace.who Has key present) p.trace q
-  adds_at (Slot s) e true a d = present_adds sound.shape sound.is_run d key 0 (subst (λ (x : At). KeyAt (knows p.trace) x key) e a.1) (λ get. absurd (no_get get))
+  adds_at : (at : At) → held.at ≡ at → (present : Bool) → DecidesKey p.trace.start (knows p.trace) key held present → Did (look_up present key at held.word) p.trace q held.word → AddsAnswer (set_call p.trace.who Has key present) p.trace q
+  adds_at (Slot s) e true a d = present_adds sound.start sound.is_run d key 0 (subst (λ (x : At). KeyAt (knows p.trace) x key) e a.1) (λ get. absurd (no_get get))
   adds_at (Head b) e true a d = absurd (subst IsSlot e a.0)
   adds_at at e false a d = absent_adds d
 
-  pub look_up_adds : (present : Bool) → DecidesKey p.trace.shape (knows p.trace) key held present → Did (look_up present key held.at held.word) p.trace q held.word → AddsAnswer (set_call p.trace.who Has key present) p.trace q
+  pub look_up_adds : (present : Bool) → DecidesKey p.trace.start (knows p.trace) key held present → Did (look_up present key held.at held.word) p.trace q held.word → AddsAnswer (set_call p.trace.who Has key present) p.trace q
   look_up_adds present a d = adds_at held.at refl present a d
 
   adds_none_at : (at : At) (present : Bool) (found : ℕ) → Did (look_up present key at held.word) p.trace q found → found ≢ held.word → AddsNone p.trace q
@@ -108,9 +108,9 @@ module _ (p : PassView) (q : Trace) (sound : PassLaw p) (key : ℕ) (held : Held
   look_up_adds_none present found d ne = adds_none_at held.at present found d ne
 
   confirmed_at : (at : At) (present : Bool) (found : ℕ) → IsAlone p.trace q → Did (look_up present key at held.word) p.trace q found → found ≢ held.word → link_shown_at (nodes p.trace) at ≡ link_of held.word → ⊥
-  confirmed_at (Slot s) true found alone d ne stands = present_confirmed sound.shape alone Has s held.word d ne stands
-  confirmed_at (Head b) true found alone d ne stands = absent_confirmed sound.shape alone Has key (Head b) held.word d ne stands
-  confirmed_at at false found alone d ne stands = absent_confirmed sound.shape alone Has key at held.word d ne stands
+  confirmed_at (Slot s) true found alone d ne stands = present_confirmed sound.start alone Has s held.word d ne stands
+  confirmed_at (Head b) true found alone d ne stands = absent_confirmed sound.start alone Has key (Head b) held.word d ne stands
+  confirmed_at at false found alone d ne stands = absent_confirmed sound.start alone Has key at held.word d ne stands
 
   pub look_up_confirmed : (present : Bool) (found : ℕ) → IsAlone p.trace q → Did (look_up present key held.at held.word) p.trace q found → found ≢ held.word → link_shown_at (nodes p.trace) held.at ≡ link_of held.word → ⊥
   look_up_confirmed present found alone d ne stands = confirmed_at held.at present found alone d ne stands

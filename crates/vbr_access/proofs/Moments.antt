@@ -2,7 +2,7 @@
 use Rattle.std.proofs.Common.{◌≡◌, ◌≢◌, ℕ, Bool, true, false, List, [], ◌∷◌, ◌++◌, refl, sym, ap, ◌∙◌, subst, append-nil, inl, inr, cond, eqb-true}
 use Rattle.std.specs.Prelude.{◌⊎◌, ◌==◌}
 use Rattle.std.proofs.lemmas.Bool.{cases_Bool, ne_eqb, eq-eqb}
-use Rattle.vbr_words.specs.Dimensions.{Dimensions, IsShape}
+use Rattle.vbr_machine.specs.Start.{Start, IsStart}
 use Rattle.vbr_words.specs.Words.{link_of}
 use Rattle.vbr_words.specs.declared.place.At.{At}
 use Rattle.vbr_machine.specs.Opened.{opening_keys}
@@ -85,19 +85,19 @@ epoch_read {p} {q} d = record {
 -- ---- where a link stood
 
 -- the run just before a step
-pub run_before : {step : Step} {p q : Trace} {r : ℕ} (d : Did step p q r) → IsRun p.shape p.passes (p.seen ++ d.rest)
-run_before {step} {p} {q} d = is_run_before p.shape p.passes (p.seen ++ d.rest) (event_of p.who step ∷ []) (let P : List Event → Type 0 = IsRun p.shape p.passes in subst P d.seen d.is_run)
+pub run_before : {step : Step} {p q : Trace} {r : ℕ} (d : Did step p q r) → IsRun p.start p.passes (p.seen ++ d.rest)
+run_before {step} {p} {q} d = is_run_before p.start p.passes (p.seen ++ d.rest) (event_of p.who step ∷ []) (let P : List Event → Type 0 = IsRun p.start p.passes in subst P d.seen d.is_run)
 
 -- the link that a load read stood there at the load
-stood_here : {p q : Trace} (at : At) (birth word epoch : ℕ) → IsShape p.shape → IsHeldPlace (knows p) at → (knows p).epoch ≡ epoch → Did (LoadLink at) p q word → Stood p q (record { at = at; birth = birth; word = word; epoch = epoch })
-stood_here {p} {q} at birth word epoch shape held same d =
-    let know = others_leave_know p.shape p.seen d.rest p.who d.none in
+stood_here : {p q : Trace} (at : At) (birth word epoch : ℕ) → IsStart p.start → IsHeldPlace (knows p) at → (knows p).epoch ≡ epoch → Did (LoadLink at) p q word → Stood p q (record { at = at; birth = birth; word = word; epoch = epoch })
+stood_here {p} {q} at birth word epoch start held same d =
+    let know = others_leave_know p.start p.seen d.rest p.who d.none in
     record {
       moment = p.seen ++ d.rest;
       within = did_moment d;
       epoch = ap (λ (k : Know). k.epoch) know ∙ same;
       place = let P : Know → Type 0 = λ k. IsHeldPlace k at in subst P (sym know) held;
-      shown = link_loaded p.shape p.passes (p.seen ++ d.rest) shape (run_before d) p.who at ∙ ap link_of (value_is word _ d.shows.answers);
+      shown = link_loaded p.start p.passes (p.seen ++ d.rest) start (run_before d) p.who at ∙ ap link_of (value_is word _ d.shows.answers);
     }
 
 -- what stood in a part of what the pass did stood in the whole
@@ -105,8 +105,8 @@ pub stood_before : {p q r : Trace} {held : Held} → Stood p q held → Quiet q 
 stood_before x b = record { moment = x.moment; within = moment_before x.within b; epoch = x.epoch; place = x.place; shown = x.shown }
 
 module _ {p q : Trace} (same : IsSame p q) where
-  know_same : (moment : List Event) → know_after q.shape moment q.who ≡ know_after p.shape moment p.who
-  know_same moment = λ i. know_after (same.shape i) moment (same.who i)
+  know_same : (moment : List Event) → know_after q.start moment q.who ≡ know_after p.start moment p.who
+  know_same moment = λ i. know_after (same.start i) moment (same.who i)
 
   pub stood_after : {r : Trace} {held : Held} → Begins p.seen q.seen → Stood q r held → Stood p r held
   stood_after {r} {held} begins x = record {
@@ -114,12 +114,12 @@ module _ {p q : Trace} (same : IsSame p q) where
     within = moment_after begins x.within;
     epoch = ap (λ (k : Know). k.epoch) (sym (know_same x.moment)) ∙ x.epoch;
     place = let P : Know → Type 0 = λ k. IsHeldPlace k held.at in subst P (know_same x.moment) x.place;
-    shown = ap (λ (s : Dimensions). link_at (world_after s x.moment) held.at) (sym same.shape) ∙ x.shown;
+    shown = ap (λ (s : Start). link_at (world_after s x.moment) held.at) (sym same.start) ∙ x.shown;
   }
 
-pub stood_at_load : {p q r s : Trace} (at : At) (birth word epoch : ℕ) → IsShape p.shape → Quiet p q → IsHeldPlace (knows q) at → (knows q).epoch ≡ epoch → Did (LoadLink at) q r word → Quiet r s → Stood p s (record { at = at; birth = birth; word = word; epoch = epoch })
-stood_at_load {p} {q} {r} {s} at birth word epoch shape a held same d b =
-    stood_before (stood_after a.same a.seen (stood_here at birth word epoch (let P : Dimensions → Type 0 = IsShape in subst P (sym a.same.shape) shape) held same d)) b
+pub stood_at_load : {p q r s : Trace} (at : At) (birth word epoch : ℕ) → IsStart p.start → Quiet p q → IsHeldPlace (knows q) at → (knows q).epoch ≡ epoch → Did (LoadLink at) q r word → Quiet r s → Stood p s (record { at = at; birth = birth; word = word; epoch = epoch })
+stood_at_load {p} {q} {r} {s} at birth word epoch start a held same d b =
+    stood_before (stood_after a.same a.seen (stood_here at birth word epoch (let P : Start → Type 0 = IsStart in subst P (sym a.same.start) start) held same d)) b
 
 -- ---- where a word was found
 
@@ -136,37 +136,37 @@ pub found_after : {p q r : Trace} {at : At} {word : ℕ} → Quiet p q → WasFo
 found_after {p} {q} {r} {at} {word} a x = record {
   moment = x.moment;
   within = moment_after a.seen x.within;
-  found = ap (λ (s : Dimensions). found s (world_after s x.moment) (LoadLink at)) (sym a.same.shape) ∙ x.found;
+  found = ap (λ (s : Start). found s (world_after s x.moment) (LoadLink at)) (sym a.same.start) ∙ x.found;
 }
 
 -- ---- what was in the set
 
-module _ {p q : Trace} (held : Held) (shape : IsShape p.shape) (same : IsSame p q) (read : IsRead p q held) (unmarked : (link_of held.word).mark ≡ false) where
-  was_shown : WasShown q.shape read.stood.moment q.seen q.who held.at (link_of held.word)
+module _ {p q : Trace} (held : Held) (start : IsStart p.start) (same : IsSame p q) (read : IsRead p q held) (unmarked : (link_of held.word).mark ≡ false) where
+  was_shown : WasShown q.start read.stood.moment q.seen q.who held.at (link_of held.word)
   was_shown = record {
     begins = read.stood.within.to;
     epoch = ap (λ (k : Know). k.epoch) (know_same same read.stood.moment) ∙ read.stood.epoch ∙ read.known.epoch;
     held = let P : Know → Type 0 = λ k. IsHeldPlace k held.at in subst P (sym (know_same same read.stood.moment)) read.stood.place;
-    shown = ap (λ (s : Dimensions). link_at (world_after s read.stood.moment) held.at) same.shape ∙ read.stood.shown;
+    shown = ap (λ (s : Start). link_at (world_after s read.stood.moment) held.at) same.start ∙ read.stood.shown;
     known = read.known.link;
     unmarked = unmarked;
   }
 
-  shape_now : IsShape q.shape
-  shape_now = let P : Dimensions → Type 0 = IsShape in subst P (sym same.shape) shape
+  shape_now : IsStart q.start
+  shape_now = let P : Start → Type 0 = IsStart in subst P (sym same.start) start
 
   -- the key of a node whose unmarked link was read was in the set
   pub was_present : (key : ℕ) → KeyAt (knows q) held.at key → WasSo p q key true
   was_present key k = record {
     moment = read.stood.moment;
     within = read.stood.within;
-    was = ap (λ (s : Dimensions). set_after (opening_keys s) (world_after s read.stood.moment).calls key) (sym same.shape) ∙ present_at_load q.shape q.passes read.stood.moment q.seen shape_now read.stood.within.is_run q.who held.at (link_of held.word) was_shown key k;
+    was = ap (λ (s : Start). set_after (opening_keys s) (world_after s read.stood.moment).calls key) (sym same.start) ∙ present_at_load q.start q.passes read.stood.moment q.seen shape_now read.stood.within.is_run q.who held.at (link_of held.word) was_shown key k;
   }
 
   -- a key that stands behind a place whose unmarked link was read, and before what the link names, wasn't
-  pub was_absent : (key : ℕ) → StandsBehind q.shape (knows q) held.at key → StandsBefore (knows q) key (link_of held.word).slot → WasSo p q key false
+  pub was_absent : (key : ℕ) → StandsBehind q.start (knows q) held.at key → StandsBefore (knows q) key (link_of held.word).slot → WasSo p q key false
   was_absent key i j = record {
     moment = read.stood.moment;
     within = read.stood.within;
-    was = ap (λ (s : Dimensions). set_after (opening_keys s) (world_after s read.stood.moment).calls key) (sym same.shape) ∙ absent_at_load q.shape q.passes read.stood.moment q.seen shape_now read.stood.within.is_run q.who held.at (link_of held.word) was_shown key i j;
+    was = ap (λ (s : Start). set_after (opening_keys s) (world_after s read.stood.moment).calls key) (sym same.start) ∙ absent_at_load q.start q.passes read.stood.moment q.seen shape_now read.stood.within.is_run q.who held.at (link_of held.word) was_shown key i j;
   }

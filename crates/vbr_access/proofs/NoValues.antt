@@ -1,6 +1,6 @@
 -- Steps of a table whose nodes have no values, and operations that ask for none.
 use Rattle.std.proofs.Common.{◌≡◌, ◌≢◌, ℕ, Bool, true, false, Option, None, cond, refl, sym, ap, subst, Some}
-use Rattle.vbr_words.specs.Dimensions.{Dimensions}
+use Rattle.vbr_machine.specs.Start.{Start}
 use Rattle.vbr_machine.specs.Acceptance.{HasValue, IsOpIn}
 use Rattle.vbr_machine.specs.Knowledge.{Know}
 use Rattle.vbr_machine.specs.Learning.{present_value}
@@ -12,8 +12,8 @@ use Rattle.vbr_machine.specs.declared.history.Op.TheVariants.{Insert, Remove, Ha
 
 -- ---- where nodes have no values
 
-pub none_kept : (shape : Dimensions) → shape.values ≡ false → (value : Option ℕ) → payload_kept shape value ≡ None
-none_kept shape bare value = ap (λ (t : Bool). cond t value None) bare
+pub none_kept : (start : Start) → start.shape.values ≡ false → (value : Option ℕ) → payload_kept start value ≡ None
+none_kept start bare value = ap (λ (t : Bool). cond t value None) bare
 
 -- ---- an operation that asks for no value
 
@@ -39,11 +39,11 @@ value_known_for Remove know s asked = tt
 value_known_for Has know s asked = tt
 value_known_for Get know s asked = asked refl
 
-pub op_asked : (shape : Dimensions) (op : Op) → (op ≡ Get → shape.values ≡ true) → IsOpIn shape op
-op_asked shape Insert asked = tt
-op_asked shape Remove asked = tt
-op_asked shape Has asked = tt
-op_asked shape Get asked = asked refl
+pub op_asked : (start : Start) (op : Op) → (op ≡ Get → start.shape.values ≡ true) → IsOpIn start op
+op_asked start Insert asked = tt
+op_asked start Remove asked = tt
+op_asked start Has asked = tt
+op_asked start Get asked = asked refl
 
 -- a value that is known in hand, where nodes have values
 pub value_asked : (values : Bool) (known : Option ℕ) (value : ℕ) → (values ≡ true → known ≡ Some value) → HasValue values known

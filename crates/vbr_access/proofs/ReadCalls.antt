@@ -1,7 +1,7 @@
 -- Steps that read, one after another, as what a call tells that reads.
 use Rattle.std.proofs.Common.{◌≡◌, ◌≢◌, ℕ, ◌+◌, ◌++◌, Bool, true, false, [], Option, Some, None, refl, sym, ap, ◌∙◌, subst, cond}
 use Rattle.std.specs.Prelude.{◌==◌}
-use Rattle.vbr_words.specs.Dimensions.{Dimensions, IsShape}
+use Rattle.vbr_machine.specs.Start.{Start, IsStart}
 use Rattle.vbr_words.specs.declared.place.At.{At}
 use Rattle.vbr_words.specs.declared.place.At.TheVariants.{Head, Slot}
 use Rattle.vbr_machine.specs.Acceptance.{IsInHand}
@@ -39,21 +39,21 @@ use Rattle.vbr_access.proofs.ReadSteps.{birth_loaded_keeps, key_loaded_keeps, li
 -- ---- what a read needs of its pass, which a read keeps
 
 pub record IsFit (p : PassView) : Type 0 where
-  pub shape : IsShape p.trace.shape
+  pub start : IsStart p.trace.start
   pub hand : (s : ℕ) → p.hand ≡ Some s → IsInHand ((knows p.trace).own s)
 
-in_hand : (p : PassView) (hand : Option ℕ) → HandFits p.trace.shape (knows p.trace) p.pool hand → (s : ℕ) → hand ≡ Some s → IsInHand ((knows p.trace).own s)
-in_hand p hand fits s is = let P : Option ℕ → Type 0 = HandFits p.trace.shape (knows p.trace) p.pool in let f : HandFits p.trace.shape (knows p.trace) p.pool (Some s) = subst P is fits in f.1
+in_hand : (p : PassView) (hand : Option ℕ) → HandFits p.trace.start (knows p.trace) p.pool hand → (s : ℕ) → hand ≡ Some s → IsInHand ((knows p.trace).own s)
+in_hand p hand fits s is = let P : Option ℕ → Type 0 = HandFits p.trace.start (knows p.trace) p.pool in let f : HandFits p.trace.start (knows p.trace) p.pool (Some s) = subst P is fits in f.1
 
 pub fit : (p : PassView) → PassLaw p → IsFit p
-fit p law = record { shape = law.shape; hand = in_hand p p.hand law.own.in_hand }
+fit p law = record { start = law.start; hand = in_hand p p.hand law.own.in_hand }
 
 pub fit_on : {p q : PassView} {n : ℕ} → IsFit p → ReadsIn p q n → IsFit q
 fit_on {p} {q} f x =
-    let P : Dimensions → Type 0 = IsShape in
+    let P : Start → Type 0 = IsStart in
     let Q : Option Holding → Type 0 = IsInHand in
     record {
-      shape = subst P (sym x.quiet.same.shape) f.shape;
+      start = subst P (sym x.quiet.same.start) f.start;
       hand = λ s is. let had : p.hand ≡ Some s = sym x.own.hand ∙ is in subst Q (sym (x.own.in_hand s had)) (f.hand s had);
     }
 
@@ -84,9 +84,9 @@ reads_on {p} {q} {r} {m} {n} x y = record {
 -- ---- one step
 
 module _ {step : Step} {p q : PassView} {r : ℕ} (f : IsFit p) (d : Did step p.trace q.trace r) (pool : KeepsPool p q) where
-  one : IsLoad step → ((know : Know) → call_of p.trace.shape p.trace.who know step ≡ None) → ((w : World) (a : Incarnations) → happens p.trace.shape w a p.trace.who step ≡ []) → advances_or_gives step ≡ false → ((s : ℕ) → p.hand ≡ Some s → (knows q.trace).own s ≡ (knows p.trace).own s) → ReadsIn p q 1
+  one : IsLoad step → ((know : Know) → call_of p.trace.start p.trace.who know step ≡ None) → ((w : World) (a : Incarnations) → happens p.trace.start w a p.trace.who step ≡ []) → advances_or_gives step ≡ false → ((s : ℕ) → p.hand ≡ Some s → (knows q.trace).own s ≡ (knows p.trace).own s) → ReadsIn p q 1
   one load no_call nothing no_gift kept =
-      let P : Dimensions → Type 0 = IsShape in
+      let P : Start → Type 0 = IsStart in
       record {
         took = did_took d;
         quiet = did_quiet d no_call;
@@ -157,22 +157,22 @@ pub head_told : {p q : PassView} {bucket word epoch : ℕ} → PassLaw p → Rea
 head_told law x same = record {
   keeps = head_keeps x.loaded x.read same;
   at = refl;
-  read = head_read x.loaded x.read same law.shape;
-  unmarked = head_is_unmarked x.loaded x.read same law.shape;
-  stands = λ alone. head_stands x.loaded x.read alone law.shape;
+  read = head_read x.loaded x.read same law.start;
+  unmarked = head_is_unmarked x.loaded x.read same law.start;
+  stands = λ alone. head_stands x.loaded x.read alone law.start;
 }
 
 pub node_told : {p q : PassView} {s birth word epoch : ℕ} (held : Held) → PassLaw p → IsHeld (knows p.trace) held → Names held s → ReadsNode s p q birth word epoch → epoch ≡ (knows p.trace).epoch → IsNextRead p q held (Some (record { at = Slot s; birth = birth; word = word; epoch = epoch }))
 node_told {s = s} held law is names x same = record {
   keeps = node_keeps x.born x.reads.loaded x.reads.read same;
-  read = (s, names, refl, node_read x.born x.reads.loaded x.reads.read same law.shape (named_slot held s is names));
-  stands = λ alone. node_stands x.born x.reads.loaded x.reads.read alone law.shape;
+  read = (s, names, refl, node_read x.born x.reads.loaded x.reads.read same law.start (named_slot held s is names));
+  stands = λ alone. node_stands x.born x.reads.loaded x.reads.read alone law.start;
 }
 
 pub key_told : {p q : PassView} {s key epoch : ℕ} (at : At) → PassLaw p → at ≡ Slot s → Reads (LoadKey s) p q key epoch → epoch ≡ (knows p.trace).epoch → IsKeyRead p q at key
 key_told {p} {q} {s} {key} at law is x same =
     let P : At → Type 0 = λ at. IsKeyRead p q at key in
-    subst P (sym is) (record { keeps = key_keeps x.loaded x.read same; key = key_read x.loaded x.read same; bucket = λ b h. key_of_bucket x.loaded x.read same law.shape b h })
+    subst P (sym is) (record { keeps = key_keeps x.loaded x.read same; key = key_read x.loaded x.read same; bucket = λ b h. key_of_bucket x.loaded x.read same law.start b h })
 
 pub value_told : {p q : PassView} {s value epoch : ℕ} (at : At) → at ≡ Slot s → Reads (LoadValue s) p q value epoch → epoch ≡ (knows p.trace).epoch → IsValueRead p q at value
 value_told {p} {q} {s} {value} at is x same =
@@ -193,23 +193,23 @@ module _ {p q : PassView} {word epoch : ℕ} (law : PassLaw p) where
   pub link_rolls : {at : At} → Reads (LoadLink at) p q word epoch → epoch ≢ (knows p.trace).epoch → RollsBack p q (EpochMoved epoch)
   link_rolls x other = record {
     moved = has_moved p.trace (link_loaded_keeps x.loaded) x.read other;
-    still = λ fresh alone. other (head_still x.loaded x.read alone law.shape fresh);
+    still = λ fresh alone. other (head_still x.loaded x.read alone law.start fresh);
   }
 
   pub key_rolls : {s : ℕ} → Reads (LoadKey s) p q word epoch → epoch ≢ (knows p.trace).epoch → RollsBack p q (EpochMoved epoch)
   key_rolls x other = record {
     moved = has_moved p.trace (key_loaded_keeps x.loaded) x.read other;
-    still = λ fresh alone. other (key_still x.loaded x.read alone law.shape fresh);
+    still = λ fresh alone. other (key_still x.loaded x.read alone law.start fresh);
   }
 
   pub value_rolls : {s : ℕ} → Reads (LoadValue s) p q word epoch → epoch ≢ (knows p.trace).epoch → RollsBack p q (EpochMoved epoch)
   value_rolls x other = record {
     moved = has_moved p.trace (value_loaded_keeps x.loaded) x.read other;
-    still = λ fresh alone. other (value_still x.loaded x.read alone law.shape fresh);
+    still = λ fresh alone. other (value_still x.loaded x.read alone law.start fresh);
   }
 
   pub node_rolls : {s birth : ℕ} → ReadsNode s p q birth word epoch → epoch ≢ (knows p.trace).epoch → RollsBack p q (EpochMoved epoch)
   node_rolls x other = record {
     moved = has_moved p.trace (keeps_on (birth_loaded_keeps x.born) (link_loaded_keeps x.reads.loaded)) x.reads.read other;
-    still = λ fresh alone. other (node_still x.born x.reads.loaded x.reads.read alone law.shape fresh);
+    still = λ fresh alone. other (node_still x.born x.reads.loaded x.reads.read alone law.start fresh);
   }

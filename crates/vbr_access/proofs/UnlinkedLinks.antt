@@ -1,7 +1,7 @@
 -- After a won unlinking the new link stands at the place.
 use Rattle.std.proofs.Common.{◌≡◌, ℕ, Bool, true, [], ◌++◌, sym, ap, ◌∙◌, subst, cond, eq-eqb, append-nil}
 use Rattle.std.specs.Prelude.{◌==◌}
-use Rattle.vbr_words.specs.Dimensions.{Dimensions}
+use Rattle.vbr_machine.specs.Start.{Start}
 use Rattle.vbr_words.specs.Words.{link_of}
 use Rattle.vbr_words.specs.declared.link.Link.{Link}
 use Rattle.vbr_words.specs.declared.place.At.{At}
@@ -28,25 +28,25 @@ link_put w (Slot t) link s p = put_here w.link t link
 test_won : (b : Bool) (at : At) (x y : World) (link : Link) → b ≡ true → link_at x at ≡ link → link_at (cond b x y) at ≡ link
 test_won b at x y link t e = ap (λ (b : Bool). link_at (cond b x y) at) t ∙ e
 
-unlinked : (shape : Dimensions) (w : World) (p : ℕ) (pred : At) (expected s : ℕ) → found shape w (Unlink pred expected s) ≡ expected → link_at (after shape w p (Unlink pred expected s)) pred ≡ link_written (w.know p) (Unlink pred expected s)
-unlinked shape w p pred expected s is =
-    test_won (found shape w (Unlink pred expected s) == expected) pred _ w _ (eq-eqb _ expected is) (link_put (with_learning shape w p (Unlink pred expected s)) pred (link_written (w.know p) (Unlink pred expected s)) s p)
+unlinked : (start : Start) (w : World) (p : ℕ) (pred : At) (expected s : ℕ) → found start w (Unlink pred expected s) ≡ expected → link_at (after start w p (Unlink pred expected s)) pred ≡ link_written (w.know p) (Unlink pred expected s)
+unlinked start w p pred expected s is =
+    test_won (found start w (Unlink pred expected s) == expected) pred _ w _ (eq-eqb _ expected is) (link_put (with_learning start w p (Unlink pred expected s)) pred (link_written (w.know p) (Unlink pred expected s)) s p)
 
 module _ {p q : Trace} {pred : At} {expected s : ℕ} (d : Did (Unlink pred expected s) p q expected) where
   -- it is the one that the core writes by what the pass knew
-  pub link_after : link_at (world_after p.shape q.seen) pred ≡ link_written (knows p) (Unlink pred expected s)
+  pub link_after : link_at (world_after p.start q.seen) pred ≡ link_written (knows p) (Unlink pred expected s)
   link_after =
-      let w = world_after p.shape (p.seen ++ d.rest) in
+      let w = world_after p.start (p.seen ++ d.rest) in
       let stood = won expected _ d.shows.answers in
-      ap (λ l. link_at (world_after p.shape l) pred) d.seen
-      ∙ ap (λ (v : World). link_at v pred) (world_after-snoc p.shape (p.seen ++ d.rest) (event_of p.who (Unlink pred expected s)))
-      ∙ unlinked p.shape w p.who pred expected s stood
-      ∙ ap (λ (k : Know). link_written k (Unlink pred expected s)) (others_leave_know p.shape p.seen d.rest p.who d.none)
+      ap (λ l. link_at (world_after p.start l) pred) d.seen
+      ∙ ap (λ (v : World). link_at v pred) (world_after-snoc p.start (p.seen ++ d.rest) (event_of p.who (Unlink pred expected s)))
+      ∙ unlinked p.start w p.who pred expected s stood
+      ∙ ap (λ (k : Know). link_written k (Unlink pred expected s)) (others_leave_know p.start p.seen d.rest p.who d.none)
 
   -- so it stood there at the end
   pub stood_at_end : (birth word epoch : ℕ) → link_written (knows p) (Unlink pred expected s) ≡ link_of word → IsHeldPlace (knows q) pred → (knows q).epoch ≡ epoch → Stood p q (record { at = pred; birth = birth; word = word; epoch = epoch })
   stood_at_end birth word epoch is held same =
-      let know : know_after p.shape q.seen p.who ≡ knows q = λ i. know_after (sym d.same.1 i) q.seen (sym d.same.3 i) in
+      let know : know_after p.start q.seen p.who ≡ knows q = λ i. know_after (sym d.same.1 i) q.seen (sym d.same.3 i) in
       record {
         moment = q.seen;
         within = record { from = did_seen d; to = ([], sym (append-nil q.seen)); is_run = did_run d };

@@ -30,7 +30,7 @@ module _ (p : PassView) (sound : PassLaw p) (pred : Held) (marked : Marked) (lin
   writes : IsUnlinkLink (knows p.trace) pred.at marked.slot (link_to link.slot pred.birth birth)
   writes = unlink_link pred marked link birth h m is k
 
-  pub accepted : (link_of pred.word).mark ≡ false → Names pred marked.slot → Accepts p.trace.shape (knows p.trace) (Unlink pred.at pred.word marked.slot)
+  pub accepted : (link_of pred.word).mark ≡ false → Names pred marked.slot → Accepts p.trace.start (knows p.trace) (Unlink pred.at pred.word marked.slot)
   accepted unmarked names = unlink_accepted p sound pred marked.slot (link_to link.slot pred.birth birth) h unmarked names writes
 
   pub written : link_written (knows p.trace) (Unlink pred.at pred.word marked.slot) ≡ link_to link.slot pred.birth birth

@@ -1,6 +1,6 @@
 -- What the calls that answer an operation tell.
 use Rattle.std.specs.Prelude.{◌≡◌, ◌≢◌, ℕ, Bool, false}
-use Rattle.vbr_words.specs.Dimensions.{Dimensions}
+use Rattle.vbr_machine.specs.Start.{Start}
 use Rattle.vbr_words.specs.Words.{link_of}
 use Rattle.vbr_machine.specs.History.{set_call}
 use Rattle.vbr_machine.specs.Knowledge.{Know}
@@ -29,9 +29,9 @@ pub record IsPresent (know : Know) (node : Held) : Type 0 where
   pub unmarked : (link_of node.word).mark ≡ false
 
 -- a place is held by its unmarked link, which the key is behind and what the link names, past marked nodes, is not: the key is absent
-pub record IsAbsent (shape : Dimensions) (know : Know) (key : ℕ) (pred : Held) : Type 0 where
+pub record IsAbsent (start : Start) (know : Know) (key : ℕ) (pred : Held) : Type 0 where
   pub held : IsHeld know pred
-  pub behind : StandsBehind shape know pred.at key
+  pub behind : StandsBehind start know pred.at key
   pub before : StandsBeforeOn know key (link_of pred.word)
   pub unmarked : (link_of pred.word).mark ≡ false
 

@@ -32,7 +32,7 @@ pub record IsUnmarked (know : Know) (place : Held) : Type 0 where
 pub record IsGap (p : Trace) (key : ℕ) (pred : Held) : Type 0 where
   pub held : IsHeld (knows p) pred
   pub unmarked : (link_of pred.word).mark ≡ false
-  pub behind : StandsBehind p.shape (knows p) pred.at key
+  pub behind : StandsBehind p.start (knows p) pred.at key
   pub before : StandsBefore (knows p) key (link_of pred.word).slot
 
 -- ---- what they tell

@@ -19,9 +19,9 @@ use Rattle.vbr_access.specs.declared.held.Held.{Held}
 pub record Stood (p q : Trace) (held : Held) : Type 0 where
   pub moment : List Event
   pub within : Moment p q moment
-  pub epoch : (know_after p.shape moment p.who).epoch ≡ held.epoch
-  pub place : IsHeldPlace (know_after p.shape moment p.who) held.at
-  pub shown : link_at (world_after p.shape moment) held.at ≡ link_of held.word
+  pub epoch : (know_after p.start moment p.who).epoch ≡ held.epoch
+  pub place : IsHeldPlace (know_after p.start moment p.who) held.at
+  pub shown : link_at (world_after p.start moment) held.at ≡ link_of held.word
 
 -- it was read by what the pass did: it is held, and its link stood there at a moment
 pub record IsRead (p q : Trace) (held : Held) : Type 0 where
@@ -37,17 +37,17 @@ IsNext p q held (Some next) = (s : ℕ) × Names held s × (next.at ≡ Slot s) 
 pub record IsEpochRead (p q : Trace) (epoch : ℕ) : Type 0 where
   pub moment : List Event
   pub within : Moment p q moment
-  pub was : (world_after p.shape moment).epoch ≡ epoch
+  pub was : (world_after p.start moment).epoch ≡ epoch
   pub read : Begins (moment ++ event_of p.who ReadEpoch ∷ []) q.seen
 
 -- at a moment of what the pass did, this link word stood at the place
 pub record WasFound (p q : Trace) (at : At) (word : ℕ) : Type 0 where
   pub moment : List Event
   pub within : Moment p q moment
-  pub found : found p.shape (world_after p.shape moment) (LoadLink at) ≡ word
+  pub found : found p.start (world_after p.start moment) (LoadLink at) ≡ word
 
 -- at a moment of what the pass did, the key was in the set, or wasn't
 pub record WasSo (p q : Trace) (key : ℕ) (present : Bool) : Type 0 where
   pub moment : List Event
   pub within : Moment p q moment
-  pub was : set_after (opening_keys p.shape) (world_after p.shape moment).calls key ≡ present
+  pub was : set_after (opening_keys p.start) (world_after p.start moment).calls key ≡ present

@@ -55,7 +55,7 @@ pub record IsNextRead (p q : PassView) (held : Held) (next : Option Held) : Type
 pub record IsKeyRead (p q : PassView) (at : At) (found : ℕ) : Type 0 where
   pub keeps : Keeps (knows p.trace) (knows q.trace)
   pub key : KeyAt (knows q.trace) at found
-  pub bucket : (b : ℕ) → HeldIn (knows p.trace) at b → bucket_of p.trace.shape found ≡ b
+  pub bucket : (b : ℕ) → HeldIn (knows p.trace) at b → bucket_of p.trace.start.shape found ≡ b
 
 -- this is the birth of what the link of this word names, 0 of none
 pub record IsBirthRead (p q : PassView) (word found : ℕ) : Type 0 where

@@ -1,6 +1,6 @@
 -- What is known of the values of nodes, and what an entry's call tells: its value, where nodes have values.
 use Rattle.std.specs.Prelude.{◌≡◌, ◌≢◌, ℕ, ◌+◌, Bool, true, false, Option, Some, None}
-use Rattle.vbr_words.specs.Dimensions.{Dimensions}
+use Rattle.vbr_machine.specs.Start.{Start}
 use Rattle.vbr_words.specs.Words.{link_of}
 use Rattle.vbr_words.specs.declared.place.At.{At}
 use Rattle.vbr_words.specs.declared.place.At.TheVariants.{Head, Slot}
@@ -36,22 +36,22 @@ ValueAt know (Slot s) value = Knows know (ValueOf s value)
 
 -- a value is known at a place, where nodes have values
 abbrev pub IsValued : Trace → At → Type 0
-IsValued p at = p.shape.values ≡ true → (value : ℕ) × ValueAt (knows p) at value
+IsValued p at = p.start.shape.values ≡ true → (value : ℕ) × ValueAt (knows p) at value
 
 -- what a get asks: nodes have values, and one is known at the place
 abbrev pub IsAsked : Trace → Op → At → Type 0
-IsAsked p op at = op ≡ Get → (p.shape.values ≡ true) × ((value : ℕ) × ValueAt (knows p) at value)
+IsAsked p op at = op ≡ Get → (p.start.shape.values ≡ true) × ((value : ℕ) × ValueAt (knows p) at value)
 
 -- the operation is another one than this, and a get only where nodes have values
-pub record IsOtherIn (shape : Dimensions) (refused op : Op) : Type 0 where
+pub record IsOtherIn (start : Start) (refused op : Op) : Type 0 where
   pub other : op ≢ refused
-  pub asked : op ≡ Get → shape.values ≡ true
+  pub asked : op ≡ Get → start.shape.values ≡ true
 
 -- ---- calls
 
 -- the call of an entry: it has the value, where nodes have values
-abbrev pub entry_call : Dimensions → ℕ → Op → ℕ → Bool → ℕ → Call
-entry_call shape who op key reply value = record { who = who; op = op; key = key; reply = reply; value = payload_kept shape (Some value) }
+abbrev pub entry_call : Start → ℕ → Op → ℕ → Bool → ℕ → Call
+entry_call start who op key reply value = record { who = who; op = op; key = key; reply = reply; value = payload_kept start (Some value) }
 
 -- the call that finds an entry present: a get gives its value
 abbrev pub found_call : ℕ → Op → ℕ → ℕ → Call
@@ -66,7 +66,7 @@ pub record IsValueRead (p q : PassView) (at : At) (found : ℕ) : Type 0 where
 
 -- the pass removed the entry of the node that was held, whose link is marked now; a pass that was alone leaves all other links
 pub record RemovesEntry (p q : Trace) (node : Held) (now : Marked) : Type 0 where
-  pub made : (key value : ℕ) → KeyAt (knows p) node.at key → (p.shape.values ≡ true → ValueAt (knows p) node.at value) → Made (entry_call p.shape p.who Remove key true value) p q
+  pub made : (key value : ℕ) → KeyAt (knows p) node.at key → (p.start.shape.values ≡ true → ValueAt (knows p) node.at value) → Made (entry_call p.start p.who Remove key true value) p q
   pub at : (held_of now).at ≡ node.at
   pub link : link_of now.word ≡ marked (link_of node.word)
   pub held : HoldsMarked (knows q) now
@@ -84,8 +84,8 @@ steps_to_value true = 1
 steps_to_value false = 0
 
 -- the steps of linking a new node: its key, its value where nodes have values, its link, and the exchange
-abbrev pub steps_to_update : Dimensions → ℕ
-steps_to_update shape = 1 + steps_to_value shape.values + 1 + 1
+abbrev pub steps_to_update : Start → ℕ
+steps_to_update start = 1 + steps_to_value start.shape.values + 1 + 1
 
 -- a slot in hand once its value is stored, where nodes have values
 abbrev pub with_kept_value : Bool → Option Holding → ℕ → Option Holding
@@ -96,15 +96,15 @@ with_kept_value false holding value = holding
 pub record PutsValue (p q : PassView) (slot value : ℕ) : Type 0 where
   pub quiet : Quiet p.trace q.trace
   pub hand : q.hand ≡ p.hand
-  pub holding : (knows q.trace).own slot ≡ with_kept_value p.trace.shape.values ((knows p.trace).own slot) value
+  pub holding : (knows q.trace).own slot ≡ with_kept_value p.trace.start.shape.values ((knows p.trace).own slot) value
   pub links : IsAlone p.trace q.trace → (at : At) → link_shown_at (nodes q.trace) at ≡ link_shown_at (nodes p.trace) at
 
 -- the incarnation in hand has this key and this birth in its link, and this value where nodes have values; no call was made, and for a pass that was alone what is held stands if it stood
 pub record FillsEntry (p q : PassView) (pred : Held) (given : HandView) (key value birth : ℕ) : Type 0 where
   pub fills : FillsHand p q pred given key birth
-  pub valued : p.trace.shape.values ≡ true → value_in_hand ((knows q.trace).own given.slot) ≡ Some value
+  pub valued : p.trace.start.shape.values ≡ true → value_in_hand ((knows q.trace).own given.slot) ≡ Some value
 
 -- the pass inserted the entry, and its hand is empty
 pub record InsertsEntry (p q : PassView) (key value : ℕ) : Type 0 where
-  pub made : Made (entry_call p.trace.shape p.trace.who Insert key true value) p.trace q.trace
+  pub made : Made (entry_call p.trace.start p.trace.who Insert key true value) p.trace q.trace
   pub spent : q.hand ≡ None

@@ -87,7 +87,7 @@ pub fn confirm_absent(
     pred: &Held,
 ) -> Result<(), Rollback>
     requires own { IsOf pass.old.trace slots.now }
-    requires gap { IsAbsent pass.old.trace.shape (knows pass.old.trace) key pred.now }
+    requires gap { IsAbsent pass.old.trace.start (knows pass.old.trace) key pred.now }
     requires op { IsOther Insert op }
     ensures keeps { KeepsByLoad pass.old pass.new }
     ensures answers { OnOk result (AnswersAbsent pass.old.trace pass.new.trace op key) }
@@ -96,7 +96,7 @@ pub fn confirm_absent(
     pass.during(
         |pass|
             requires own { IsOf pass.old.trace slots.now }
-            requires gap { IsAbsent pass.old.trace.shape (knows pass.old.trace) key pred.now }
+            requires gap { IsAbsent pass.old.trace.start (knows pass.old.trace) key pred.now }
             requires op { IsOther Insert op }
         {
             (
@@ -117,8 +117,8 @@ pub fn confirm_absent_entry<N: Nodes>(
     pred: &Held,
 ) -> Result<(), Rollback>
     requires own { IsOf pass.old.trace slots.now }
-    requires gap { IsAbsent pass.old.trace.shape (knows pass.old.trace) key pred.now }
-    requires op { IsOtherIn pass.old.trace.shape Insert op }
+    requires gap { IsAbsent pass.old.trace.start (knows pass.old.trace) key pred.now }
+    requires op { IsOtherIn pass.old.trace.start Insert op }
     ensures keeps { KeepsByLoad pass.old pass.new }
     ensures answers { OnOk result (AnswersAbsent pass.old.trace pass.new.trace op key) }
     ensures lost { IfErr result (FindsAnother pass.old.trace pass.new.trace pred.now) }
@@ -126,8 +126,8 @@ pub fn confirm_absent_entry<N: Nodes>(
     pass.during(
         |pass|
             requires own { IsOf pass.old.trace slots.now }
-            requires gap { IsAbsent pass.old.trace.shape (knows pass.old.trace) key pred.now }
-            requires op { IsOtherIn pass.old.trace.shape Insert op }
+            requires gap { IsAbsent pass.old.trace.start (knows pass.old.trace) key pred.now }
+            requires op { IsOtherIn pass.old.trace.start Insert op }
         {
             (
                 at_table::confirm_absent_entry(&mut AtTable { slots, pass }, op, key, pred),

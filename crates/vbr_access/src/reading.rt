@@ -39,7 +39,7 @@ pub fn first<N: Nodes>(
 ) -> Result<Held, Rollback>
     requires own { IsOf pass.old.trace slots.now }
     requires point { point.now.epoch ≡ (knows pass.old.trace).epoch }
-    requires bucket { bucket < slots.now.shape.buckets }
+    requires bucket { bucket < slots.now.start.shape.buckets }
     ensures reads { ReadsIn pass.old pass.new 2 }
     ensures head { IfOk result (IsHeadRead pass.old pass.new bucket) }
     ensures moved { IfErr result (RollsBack pass.old pass.new) }
@@ -48,7 +48,7 @@ pub fn first<N: Nodes>(
         |pass|
             requires own { IsOf pass.old.trace slots.now }
             requires point { point.now.epoch ≡ (knows pass.old.trace).epoch }
-            requires bucket { bucket < slots.now.shape.buckets }
+            requires bucket { bucket < slots.now.start.shape.buckets }
         {
             (
                 at_table::first(&mut AtTable { slots, pass }, point, bucket),
@@ -109,7 +109,7 @@ pub fn key_of<N: Nodes>(slots: &Slots<N>, pass: &mut Pass, node: &Held) -> Resul
 #[inline]
 pub fn value_of<N: Nodes>(slots: &Slots<N>, pass: &mut Pass, node: &Held) -> Result<u64, Rollback>
     requires own { IsOf pass.old.trace slots.now }
-    requires values { slots.now.shape.values ≡ true }
+    requires values { slots.now.start.shape.values ≡ true }
     requires held { IsHeld (knows pass.old.trace) node.now }
     requires slot { IsSlot node.now.at }
     ensures reads { ReadsIn pass.old pass.new 2 }
@@ -119,7 +119,7 @@ pub fn value_of<N: Nodes>(slots: &Slots<N>, pass: &mut Pass, node: &Held) -> Res
     pass.during(
         |pass|
             requires own { IsOf pass.old.trace slots.now }
-            requires values { slots.now.shape.values ≡ true }
+            requires values { slots.now.start.shape.values ≡ true }
             requires held { IsHeld (knows pass.old.trace) node.now }
             requires slot { IsSlot node.now.at }
         { (at_table::value_of(&mut AtTable { slots, pass }, node), 2) },

@@ -4,7 +4,7 @@ ghost use Rattle.std.specs.Prelude.{◌≡◌, None};
 ghost use Rattle.vbr_machine.specs.declared.history.Op.TheVariants.{Has};
 ghost use Rattle.vbr_handles.specs.Calls.{TellsCall, TellsInsertEntry};
 ghost use Rattle.vbr_handles.specs.ValueCalls.{TellsGetEntry, TellsRemoveEntry};
-ghost use Rattle.vbr_handles.specs.Opening.{entries_shape};
+ghost use Rattle.vbr_handles.specs.Opening.{entries_start};
 ghost use Rattle.vbr_handles.specs.OpeningCodes.{TellsMapOpening, TellsMapOpeningWith};
 ghost use Rattle.vbr_handles.specs.AllHandles.{map_members_in};
 ghost use Rattle.vbr_handles.specs.Reports.{TellsMapClose, TellsMapCloseAll};
@@ -60,7 +60,7 @@ pub extern "C" fn vbr_map_open_with(
     entries: &[Entry],
 ) -> i32
     ensures { TellsMapOpeningWith handles.old handles.new
-        (entries_shape slots buckets last_epoch entries.now) result }
+        (entries_start slots buckets last_epoch entries.now) result }
 {
     let numbers = ShapeNumbers {
         slots,

@@ -2,7 +2,7 @@
 ghost use Rattle.std.specs.Prelude.{◌≡◌, None};
 ghost use Rattle.vbr_machine.specs.declared.history.Op.TheVariants.{Insert, Remove, Has};
 ghost use Rattle.vbr_handles.specs.Calls.{TellsCall};
-ghost use Rattle.vbr_handles.specs.Opening.{spread_shape};
+ghost use Rattle.vbr_handles.specs.Opening.{spread_start};
 ghost use Rattle.vbr_handles.specs.OpeningCodes.{TellsOpening, TellsOpeningWith};
 ghost use Rattle.vbr_handles.specs.AllHandles.{members_in};
 ghost use Rattle.vbr_handles.specs.Reports.{TellsClose, TellsCloseAll};
@@ -57,7 +57,7 @@ pub extern "C" fn vbr_open_with(
     keys: &[u64],
 ) -> i32
     ensures { TellsOpeningWith handles.old handles.new
-        (spread_shape slots buckets last_epoch keys.now) result }
+        (spread_start slots buckets last_epoch keys.now) result }
 {
     let numbers = ShapeNumbers {
         slots,

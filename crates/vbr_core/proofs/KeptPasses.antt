@@ -4,7 +4,7 @@ use Rattle.std.specs.Prelude.{◌⊎◌, ◌&&◌, IfSome, unwrap_or}
 use Rattle.std.specs.List.{AllByRecursion}
 use Rattle.std.proofs.lemmas.List.{get_or-set_same, get_or-set_other}
 use Rattle.std.proofs.lemmas.Bool.{cases_eq, eq-eqb, ne_eqb}
-use Rattle.vbr_words.specs.Dimensions.{Dimensions}
+use Rattle.vbr_machine.specs.Start.{Start}
 use Rattle.vbr_words.specs.Words.{IsLink}
 use Rattle.vbr_words.specs.declared.link.Link.{Link}
 use Rattle.vbr_words.specs.declared.link.TheConstants.{MAX_SLOTS}
@@ -92,9 +92,9 @@ next-fits (ValueOf slot key ∷ reads) s fits = next-fits reads s fits.1
 next-fits (LinkAt at link ∷ reads) s fits = next_of-if (same_at at (Slot s) && link.mark) link (marked_in reads s) fits.0 (next-fits reads s fits.1)
 
 -- a link in hand that is ready has room
-pub ready-fits : (shape : Dimensions) (reads : List Read) (pred : At) (expected : Link) (holding : Option Holding) → AllByRecursion FitsRead reads → FitsHolding holding → IsLink expected → MayPublish shape reads pred expected holding → IsLink (link_in_hand holding)
-ready-fits shape reads pred expected (Some (InHand known)) all fits is ready = let named = birth_of-fits reads expected.slot all in rw ready.link_is (record { slot = is.slot; version = omega (arith, named, fits) })
-ready-fits shape reads pred expected holding all fits is ready = absurd ready
+pub ready-fits : (start : Start) (reads : List Read) (pred : At) (expected : Link) (holding : Option Holding) → AllByRecursion FitsRead reads → FitsHolding holding → IsLink expected → MayPublish start reads pred expected holding → IsLink (link_in_hand holding)
+ready-fits start reads pred expected (Some (InHand known)) all fits is ready = let named = birth_of-fits reads expected.slot all in rw ready.link_is (record { slot = is.slot; version = omega (arith, named, fits) })
+ready-fits start reads pred expected holding all fits is ready = absurd ready
 
 -- ---- the epoch is read
 

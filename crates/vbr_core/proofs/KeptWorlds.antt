@@ -24,11 +24,11 @@ use Rattle.vbr_machine.proofs.Lemmas.{opening_none}
 use Rattle.vbr_core.proofs.KeptLists.{read_replicate, read_set, all_at}
 
 -- the word that is kept at a head is that of its link
-pub head_word : (kept : KeptWorld) (b word : ℕ) → IsWhole kept → b < kept.shape.buckets → word ≡ get_or kept.heads b word → word ≡ word_of ((world_of kept).head b)
+pub head_word : (kept : KeptWorld) (b word : ℕ) → IsWhole kept → b < kept.start.shape.buckets → word ≡ get_or kept.heads b word → word ≡ word_of ((world_of kept).head b)
 head_word kept b word whole lt is = get_or_read kept.heads b word (omega (arith, whole.heads)) is 0 ∙ sym (word_of-link_of (get_or kept.heads b 0))
 
 -- the word that is kept at a slot's link is that of its link
-pub link_word : (kept : KeptWorld) (s word : ℕ) → IsWhole kept → s < kept.shape.slots → word ≡ get_or kept.links s word → word ≡ word_of ((world_of kept).link s)
+pub link_word : (kept : KeptWorld) (s word : ℕ) → IsWhole kept → s < kept.start.shape.slots → word ≡ get_or kept.links s word → word ≡ word_of ((world_of kept).link s)
 link_word kept s word whole lt is = get_or_read kept.links s word (omega (arith, whole.links)) is MARK ∙ sym (word_of-link_of (get_or kept.links s MARK))
 
 -- passes that know nothing
@@ -50,7 +50,7 @@ slots_known n slots [] e new = tt
 slots_known n slots (pass ∷ passes) e new = (new.0.1 ∙ e, slots_known n slots passes e new.1)
 
 -- the lists of an empty set stand for the world at opening where no key is linked yet
-pub opened : (kept : KeptWorld) (buckets slots own : ℕ) → kept.epoch ≡ 1 → kept.heads ≡ replicate buckets 0 → kept.links ≡ replicate slots MARK → kept.birth ≡ replicate slots 0 → kept.stamps ≡ replicate slots 0 → kept.keys ≡ replicate slots 0 → kept.values ≡ replicate slots 0 → kept.places ≡ replicate slots Shared → AllByRecursion (IsNew own) kept.passes → kept.births ≡ 0 → kept.calls ≡ [] → world_of kept ≡ opening_from kept.shape (key_count kept.shape)
+pub opened : (kept : KeptWorld) (buckets slots own : ℕ) → kept.epoch ≡ 1 → kept.heads ≡ replicate buckets 0 → kept.links ≡ replicate slots MARK → kept.birth ≡ replicate slots 0 → kept.stamps ≡ replicate slots 0 → kept.keys ≡ replicate slots 0 → kept.values ≡ replicate slots 0 → kept.places ≡ replicate slots Shared → AllByRecursion (IsNew own) kept.passes → kept.births ≡ 0 → kept.calls ≡ [] → world_of kept ≡ opening_from kept.start (key_count kept.start)
 unfolding link_of
 opened kept buckets slots own epoch heads links birth stamps keys values places new births calls =
     ap world_of (λ i. record kept { epoch = epoch i; heads = heads i; links = links i; birth = birth i; stamps = stamps i; keys = keys i; values = values i; places = places i; births = births i; calls = calls i })
@@ -67,10 +67,10 @@ opened kept buckets slots own epoch heads links birth stamps keys values places 
       births = 0;
       calls = [];
     })
-    ∙ sym (opening_none kept.shape)
+    ∙ sym (opening_none kept.start)
 
 -- a slot is put where it now is
-pub slot_put : (kept : KeptWorld) (s : ℕ) (place : SlotPlace) → IsWhole kept → s < kept.shape.slots → world_of (record kept { places = set kept.places s place }) ≡ record (world_of kept) { place = put (world_of kept).place s place }
+pub slot_put : (kept : KeptWorld) (s : ℕ) (place : SlotPlace) → IsWhole kept → s < kept.start.shape.slots → world_of (record kept { places = set kept.places s place }) ≡ record (world_of kept) { place = put (world_of kept).place s place }
 slot_put kept s place whole lt = λ i. record (world_of kept) { place = read_set (λ (place : SlotPlace). place) kept.places s place Shared place (omega (arith, whole.places)) refl i }
 
 -- a slot is put where it now is, after a link was written

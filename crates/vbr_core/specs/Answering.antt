@@ -1,6 +1,6 @@
 -- How the program makes a step: first its pass learns and its call is kept, and then the words are written. Only contracts of private functions cite this.
 use Rattle.std.specs.Prelude.{ℕ, ◌<◌, ◌≤◌}
-use Rattle.vbr_words.specs.Dimensions.{Dimensions}
+use Rattle.vbr_machine.specs.Start.{Start}
 use Rattle.vbr_words.specs.declared.shape.TheConstants.{MAX_EPOCH}
 use Rattle.vbr_machine.specs.Machine.{World, with_learning, with_call}
 use Rattle.vbr_machine.specs.declared.event.Step.{Step}
@@ -8,11 +8,11 @@ use Rattle.vbr_machine.specs.declared.event.Step.TheVariants.{Advance, StoreBirt
 use Rattle.vbr_machine.specs.Making.{call_made}
 
 -- the pass learns from a step, and its call is kept
-abbrev pub with_answer : Dimensions → World → ℕ → Step → World
-with_answer shape w p step = with_call (with_learning shape w p step) (call_made shape w p step)
+abbrev pub with_answer : Start → World → ℕ → Step → World
+with_answer start w p step = with_call (with_learning start w p step) (call_made start w p step)
 
 -- the words have room for what a step writes
-abbrev pub WordsHaveRoom : Dimensions → ℕ → Step → Type 0
-WordsHaveRoom shape epoch (Advance from) = epoch < shape.last_epoch
-WordsHaveRoom shape epoch (StoreBirth s birth) = birth ≤ MAX_EPOCH
-WordsHaveRoom shape epoch _ = Unit {0}
+abbrev pub WordsHaveRoom : Start → ℕ → Step → Type 0
+WordsHaveRoom start epoch (Advance from) = epoch < start.shape.last_epoch
+WordsHaveRoom start epoch (StoreBirth s birth) = birth ≤ MAX_EPOCH
+WordsHaveRoom start epoch _ = Unit {0}

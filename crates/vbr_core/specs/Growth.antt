@@ -1,6 +1,6 @@
 -- Which steps a world needs memory for: those that make one of its lists longer.
 use Rattle.std.specs.Prelude.{ℕ, ◌<◌, ◌⊎◌, length}
-use Rattle.vbr_words.specs.Dimensions.{Dimensions}
+use Rattle.vbr_machine.specs.Start.{Start}
 use Rattle.vbr_machine.specs.Knowledge.{Know}
 use Rattle.vbr_machine.specs.Machine.{World, after}
 use Rattle.vbr_machine.specs.declared.event.Event.{Event}
@@ -10,7 +10,7 @@ abbrev pub ReadsMore : Know → Know → Type 0
 ReadsMore old new = (length old.pending < length new.pending) ⊎ (length old.checked < length new.checked)
 
 -- an event needs memory: its pass has then more reads, or there are more calls
-abbrev pub NeedsMemory : Dimensions → World → Event → Type 0
-NeedsMemory shape w event =
-    ReadsMore (w.know event.pass) ((after shape w event.pass event.step).know event.pass)
-    ⊎ (length w.calls < length (after shape w event.pass event.step).calls)
+abbrev pub NeedsMemory : Start → World → Event → Type 0
+NeedsMemory start w event =
+    ReadsMore (w.know event.pass) ((after start w event.pass event.step).know event.pass)
+    ⊎ (length w.calls < length (after start w event.pass event.step).calls)

@@ -7,10 +7,10 @@ use Rattle.vbr_machine.specs.Put.{put}
 use Rattle.vbr_machine.specs.declared.knowledge.SlotPlace.{SlotPlace}
 use Rattle.vbr_core.specs.WorldInLists.{KeptWorld, world_of}
 
--- the world is changed so, and the shape and the number of passes stay
+-- the world is changed so, and the start and the number of passes stay
 pub record Writes (old new : KeptWorld) (change : World → World) : Type 0 where
   pub written : world_of new ≡ change (world_of old)
-  pub shape : new.shape ≡ old.shape
+  pub start : new.start ≡ old.start
   pub passes : length new.passes ≡ length old.passes
 
 -- the epoch is advanced by one

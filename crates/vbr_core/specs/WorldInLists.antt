@@ -1,7 +1,7 @@
 -- The world as a program keeps it, in lists and words, and the world that it stands for.
 use Rattle.std.specs.Prelude.{◌≡◌, ℕ, ◌≤◌, List, [], length, Option, Some, None, slice_index_or}
 use Rattle.std.specs.List.{AllByRecursion}
-use Rattle.vbr_words.specs.Dimensions.{Dimensions, IsShape}
+use Rattle.vbr_machine.specs.Start.{Start, IsStart}
 use Rattle.vbr_words.specs.Words.{IsLink, link_of}
 use Rattle.vbr_words.specs.declared.link.TheConstants.{MARK}
 use Rattle.vbr_words.specs.declared.shape.TheConstants.{MAX_EPOCH}
@@ -51,7 +51,7 @@ pub record FitsPass (kept : KeptPass) : Type 0 where
 
 -- the words, places, passes and calls in lists
 pub record KeptWorld : Type 0 where
-  pub shape : Dimensions
+  pub start : Start
   pub epoch : ℕ
   pub heads : List ℕ
   pub links : List ℕ
@@ -83,14 +83,14 @@ world_of kept =
 
 -- the lists are as long as the shape says, and all numbers have room in words
 pub record IsWhole (kept : KeptWorld) : Type 0 where
-  pub shape : IsShape kept.shape
-  pub epoch : kept.epoch ≤ kept.shape.last_epoch
-  pub heads : length kept.heads ≡ kept.shape.buckets
-  pub links : length kept.links ≡ kept.shape.slots
-  pub birth : length kept.birth ≡ kept.shape.slots
-  pub stamps : length kept.stamps ≡ kept.shape.slots
-  pub keys : length kept.keys ≡ kept.shape.slots
-  pub values : length kept.values ≡ kept.shape.slots
-  pub places : length kept.places ≡ kept.shape.slots
-  pub owns : AllByRecursion (λ pass. length pass.own ≡ kept.shape.slots) kept.passes
+  pub start : IsStart kept.start
+  pub epoch : kept.epoch ≤ kept.start.shape.last_epoch
+  pub heads : length kept.heads ≡ kept.start.shape.buckets
+  pub links : length kept.links ≡ kept.start.shape.slots
+  pub birth : length kept.birth ≡ kept.start.shape.slots
+  pub stamps : length kept.stamps ≡ kept.start.shape.slots
+  pub keys : length kept.keys ≡ kept.start.shape.slots
+  pub values : length kept.values ≡ kept.start.shape.slots
+  pub places : length kept.places ≡ kept.start.shape.slots
+  pub owns : AllByRecursion (λ pass. length pass.own ≡ kept.start.shape.slots) kept.passes
   pub fits : AllByRecursion (λ birth. birth ≤ MAX_EPOCH) kept.birth

@@ -1,15 +1,16 @@
 //! The core as a program: a world that makes steps one at a time, plain and exact.
-ghost use Rattle.std.specs.Prelude.{List, ◌≡◌, ◌<◌, ◌≤◌, ◌↔◌, length, ◌⊎◌, IfOk, IfErr, IsErrOf, Err, true, false, if◌then◌else◌};
+ghost use Rattle.std.specs.Prelude.{List, [], ◌≡◌, ◌<◌, ◌≤◌, ◌↔◌, length, ◌⊎◌, IfOk, IfErr, IsErrOf, Err, true, false};
 ghost use Rattle.std.specs.List.Sorted.{IsStrictlyIncreasing};
 ghost use Rattle.vbr_words.specs.Places.{IsIn};
 ghost use Rattle.vbr_machine.specs.Opened.{opening_keys, opening_payloads};
+ghost use Rattle.vbr_machine.specs.Start.{ArePaired, empty_start, start_with};
 ghost use Rattle.vbr_machine.specs.Maps.{keys_listed, values_listed};
 ghost use Rattle.vbr_machine.specs.History.{IsLegal, GiveStored};
 ghost use Rattle.vbr_machine.specs.Machine as machine;
 ghost use Rattle.vbr_core.specs.Replays.{IsReplayed, StopsAt};
 ghost use Rattle.vbr_core.specs.WorldInLists.{world_of};
 ghost use Rattle.vbr_core.specs.KeptSteps.{IsMade, RefusesEvent, KeepsShape};
-ghost use Rattle.vbr_core.specs.KeptOpenings.{IsOpening, with_entries, with_keys};
+ghost use Rattle.vbr_core.specs.KeptOpenings.{IsOpening};
 ghost use Rattle.vbr_machine.specs.declared.event.Event.{Event};
 
 mod checking;
@@ -19,7 +20,7 @@ mod lists;
 mod opening;
 mod passes;
 mod reads;
-mod shape;
+mod start;
 mod steps;
 mod writing;
 
@@ -88,7 +89,7 @@ impl World {
     /// pool, and so many passes, from 1 to 64, know nothing. The refusals are tested in the order
     /// of [`WorldRefusal`].
     pub fn open(alloc: Global, shape: Shape, passes: u32) -> Result<World, WorldRefusal>
-        ensures opening { IfOk result (IsOpening shape passes) }
+        ensures opening { IfOk result (IsOpening (empty_start shape) passes) }
         ensures passes { IsErrOf result WorldRefusal.Passes ↔ ((passes ≡ 0) ⊎ (64 < passes)) }
     {
         prove!(shape.slots() > 0);
@@ -107,7 +108,7 @@ impl World {
         requires valueless { shape.values ≡ false }
         requires ascending { IsStrictlyIncreasing keys.now }
         requires few { length keys.now ≤ shape.slots }
-        ensures opening { IfOk result (IsOpening (with_keys shape keys.now) passes) }
+        ensures opening { IfOk result (IsOpening (start_with shape keys.now []) passes) }
         ensures passes { IsErrOf result WorldRefusal.Passes ↔ ((passes ≡ 0) ⊎ (64 < passes)) }
     {
         prove!(shape.slots() > 0);
@@ -127,7 +128,7 @@ impl World {
         requires ascending { IsStrictlyIncreasing (keys_listed entries.now) }
         requires few { length entries.now ≤ shape.slots }
         ensures opening { IfOk result (IsOpening
-            (with_entries shape (keys_listed entries.now) (values_listed entries.now)) passes) }
+            (start_with shape (keys_listed entries.now) (values_listed entries.now)) passes) }
         ensures passes { IsErrOf result WorldRefusal.Passes ↔ ((passes ≡ 0) ⊎ (64 < passes)) }
     {
         if passes == 0 || passes > 64 {
@@ -149,8 +150,8 @@ impl World {
     ) -> Result<World, WorldRefusal>
         requires ascending { IsStrictlyIncreasing keys.now }
         requires few { length keys.now ≤ shape.slots }
-        requires paired { length values.now ≡ (if shape.values then length keys.now else 0) }
-        ensures opening { IfOk result (IsOpening (with_entries shape keys.now values.now) passes) }
+        requires paired { ArePaired shape keys.now values.now }
+        ensures opening { IfOk result (IsOpening (start_with shape keys.now values.now) passes) }
         ensures passes { IsErrOf result WorldRefusal.Passes ↔ ((passes ≡ 0) ⊎ (64 < passes)) }
     {
         if passes == 0 || passes > 64 {
@@ -179,8 +180,8 @@ impl World {
     /// keys that the world opened with, and each gives the value that was stored last.
     pub fn calls(&self) -> &[Call]
         ensures calls { result.now ≡ (world_of self.now).calls }
-        ensures legal { IsLegal (opening_keys self.now.shape) result.now }
-        ensures values { GiveStored (opening_payloads self.now.shape) result.now }
+        ensures legal { IsLegal (opening_keys self.now.start) result.now }
+        ensures values { GiveStored (opening_payloads self.now.start) result.now }
     {
         self.lists.calls()
     }
@@ -194,15 +195,15 @@ impl World {
 
     /// The word at a place of the shape.
     pub fn word(&self, place: Place) -> u64
-        requires { IsIn self.now.shape place }
-        ensures { result ≡ machine.word_at self.now.shape (world_of self.now) place }
+        requires { IsIn self.now.start.shape place }
+        ensures { result ≡ machine.word_at self.now.start (world_of self.now) place }
     {
         self.lists.word(place)
     }
 
     /// Where a slot of the shape is.
     pub fn place_of_slot(&self, slot: u32) -> SlotPlace
-        requires { slot < self.now.shape.slots }
+        requires { slot < self.now.start.shape.slots }
         ensures { result ≡ (world_of self.now).place slot }
     {
         self.lists.place_of_slot(slot)
@@ -218,9 +219,9 @@ pub fn replay(
     passes: u32,
     events: &[Event],
 ) -> Result<World, (usize, CoreRefusal)>
-    ensures run { IfOk result (IsReplayed shape passes events.now) }
+    ensures run { IfOk result (IsReplayed (empty_start shape) passes events.now) }
     ensures passes { ((passes ≡ 0) ⊎ (64 < passes)) → result ≡ Err (0, CoreRefusal.NoSuchPass) }
-    ensures stops { IfErr result (λ e. StopsAt shape passes events.now e.0 e.1) }
+    ensures stops { IfErr result (λ e. StopsAt (empty_start shape) passes events.now e.0 e.1) }
 {
     match World::open(alloc, shape, passes) {
         Ok(world) => go_on(world, events),
@@ -242,11 +243,11 @@ pub fn replay_with_entries(
     requires ascending { IsStrictlyIncreasing (keys_listed entries.now) }
     requires few { length entries.now ≤ shape.slots }
     ensures run { IfOk result (IsReplayed
-        (with_entries shape (keys_listed entries.now) (values_listed entries.now))
+        (start_with shape (keys_listed entries.now) (values_listed entries.now))
         passes events.now) }
     ensures passes { ((passes ≡ 0) ⊎ (64 < passes)) → result ≡ Err (0, CoreRefusal.NoSuchPass) }
     ensures stops { IfErr result (λ e. StopsAt
-        (with_entries shape (keys_listed entries.now) (values_listed entries.now))
+        (start_with shape (keys_listed entries.now) (values_listed entries.now))
         passes events.now e.0 e.1) }
 {
     match World::open_with_entries(alloc, shape, passes, entries) {
@@ -258,12 +259,12 @@ pub fn replay_with_entries(
 
 // The world that events lead to from one that was just opened; or where they stop, and why.
 fn go_on(mut world: World, events: &[Event]) -> Result<World, (usize, CoreRefusal)>
-    requires opening { IsOpening world.shape (length world.passes) world }
-    ensures run { IfOk result (IsReplayed world.shape (length world.passes) events.now) }
+    requires opening { IsOpening world.start (length world.passes) world }
+    ensures run { IfOk result (IsReplayed world.start (length world.passes) events.now) }
     ensures stops { IfErr result
-        (λ e. StopsAt world.shape (length world.passes) events.now e.0 e.1) }
+        (λ e. StopsAt world.start (length world.passes) events.now e.0 e.1) }
 {
-    prove!(world.lists.shape.slots() > 0);
+    prove!(world.lists.start.slots() > 0);
     for (index, event) in events.iter().enumerate() {
         if let Err(refusal) = world.step(*event) {
             return Err((index, refusal));

@@ -1,7 +1,7 @@
 -- The list with a step of each kind, computed, and its beginnings.
 use Rattle.std.proofs.Common.{ℕ, zero, suc, List, [], ◌∷◌, take, rules, tests}
 use Rattle.std.specs.Prelude.{if◌then◌else◌}
-use Rattle.vbr_words.specs.Dimensions.{Dimensions}
+use Rattle.vbr_machine.specs.Start.{Start}
 use Rattle.vbr_words.specs.Flags.{has_flag, first_bits, flag_word}
 use Rattle.vbr_words.specs.Words.{word_of, link_of}
 use Rattle.vbr_words.specs.Buckets.{bucket_of}
@@ -16,7 +16,7 @@ unfolding bucket_of link_of word_of has_flag first_bits flag_word
 standing = search (rules, tests)
 
 -- the first rows of those that are worked are worked
-pub first_worked : (shape : Dimensions) (n : ℕ) (rows : List (ℕ × Step × Effect)) (w : World) (words : List ℕ) → AreWorked shape w rows words → AreWorked shape w (take n rows) words
-first_worked shape zero rows w words all = tt
-first_worked shape (suc n) [] w words all = tt
-first_worked shape (suc n) (row ∷ rows) w words all = (all.0, all.1, all.2, all.3, first_worked shape n rows (after shape w row.0 row.1) (if names_link row.1 then others_of words else words) all.4)
+pub first_worked : (start : Start) (n : ℕ) (rows : List (ℕ × Step × Effect)) (w : World) (words : List ℕ) → AreWorked start w rows words → AreWorked start w (take n rows) words
+first_worked start zero rows w words all = tt
+first_worked start (suc n) [] w words all = tt
+first_worked start (suc n) (row ∷ rows) w words all = (all.0, all.1, all.2, all.3, first_worked start n rows (after start w row.0 row.1) (if names_link row.1 then others_of words else words) all.4)

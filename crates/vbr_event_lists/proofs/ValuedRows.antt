@@ -1,6 +1,6 @@
 -- The worked lists of events on nodes that have values, computed: each is accepted, with its effects and with the link words that it names.
 use Rattle.std.proofs.Common.{ℕ, zero, suc, List, take, drop, rules, tests}
-use Rattle.vbr_words.specs.Dimensions.{Dimensions}
+use Rattle.vbr_machine.specs.Start.{Start}
 use Rattle.vbr_words.specs.Flags.{has_flag, first_bits, flag_word}
 use Rattle.vbr_words.specs.Words.{word_of, link_of}
 use Rattle.vbr_words.specs.Buckets.{bucket_of}
@@ -15,16 +15,16 @@ use Rattle.vbr_event_lists.specs.declared.valued.TheConstants.{STORED_VALUE, STO
 use Rattle.vbr_event_lists.proofs.WorkedRows.{left_after, worked_in_two}
 
 -- rows are worked in parts: so many parts of n rows, and then what is left
-abbrev pub InParts : Dimensions → ℕ → ℕ → List (ℕ × Step × Effect) → World → List ℕ → Type 0
-InParts shape zero n rows w words = AreWorked shape w rows words
-InParts shape (suc parts) n rows w words =
-    AreWorked shape w (take n rows) words × InParts shape parts n (drop n rows) (left_after shape n rows w words).0 (left_after shape n rows w words).1
+abbrev pub InParts : Start → ℕ → ℕ → List (ℕ × Step × Effect) → World → List ℕ → Type 0
+InParts start zero n rows w words = AreWorked start w rows words
+InParts start (suc parts) n rows w words =
+    AreWorked start w (take n rows) words × InParts start parts n (drop n rows) (left_after start n rows w words).0 (left_after start n rows w words).1
 
 -- rows that are worked in parts are worked
-worked_in_parts : (shape : Dimensions) (parts n : ℕ) (rows : List (ℕ × Step × Effect)) (w : World) (words : List ℕ) → InParts shape parts n rows w words → AreWorked shape w rows words
-worked_in_parts shape zero n rows w words all = all
-worked_in_parts shape (suc parts) n rows w words all =
-    worked_in_two shape n rows w words all.0 (worked_in_parts shape parts n (drop n rows) (left_after shape n rows w words).0 (left_after shape n rows w words).1 all.1)
+worked_in_parts : (start : Start) (parts n : ℕ) (rows : List (ℕ × Step × Effect)) (w : World) (words : List ℕ) → InParts start parts n rows w words → AreWorked start w rows words
+worked_in_parts start zero n rows w words all = all
+worked_in_parts start (suc parts) n rows w words all =
+    worked_in_two start n rows w words all.0 (worked_in_parts start parts n (drop n rows) (left_after start n rows w words).0 (left_after start n rows w words).1 all.1)
 
 pub stored_value : AreWorked (valued one_slot) (opening (valued one_slot)) STORED_VALUE STORED_VALUE_WORDS
 unfolding bucket_of link_of word_of has_flag first_bits flag_word

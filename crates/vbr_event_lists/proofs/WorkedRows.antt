@@ -1,7 +1,7 @@
 -- The three worked lists of events, computed: each is accepted, with its effects and with the link words that it names.
 use Rattle.std.proofs.Common.{ℕ, zero, suc, List, [], ◌∷◌, take, drop, rules, tests}
 use Rattle.std.specs.Prelude.{if◌then◌else◌}
-use Rattle.vbr_words.specs.Dimensions.{Dimensions}
+use Rattle.vbr_machine.specs.Start.{Start}
 use Rattle.vbr_words.specs.Flags.{has_flag, first_bits, flag_word}
 use Rattle.vbr_words.specs.Words.{word_of, link_of}
 use Rattle.vbr_words.specs.Buckets.{bucket_of}
@@ -20,17 +20,17 @@ unfolding bucket_of link_of word_of has_flag first_bits flag_word
 reborn_slot = search (rules, tests)
 
 -- the world and the words that are left after so many rows
-abbrev pub left_after : Dimensions → ℕ → List (ℕ × Step × Effect) → World → List ℕ → World × List ℕ
-left_after shape (suc n) (row ∷ rows) w words = left_after shape n rows (after shape w row.0 row.1) (if names_link row.1 then others_of words else words)
-left_after shape zero rows w words = (w, words)
-left_after shape (suc n) [] w words = (w, words)
+abbrev pub left_after : Start → ℕ → List (ℕ × Step × Effect) → World → List ℕ → World × List ℕ
+left_after start (suc n) (row ∷ rows) w words = left_after start n rows (after start w row.0 row.1) (if names_link row.1 then others_of words else words)
+left_after start zero rows w words = (w, words)
+left_after start (suc n) [] w words = (w, words)
 
 -- rows are worked where the first of them are, and then the others
-pub worked_in_two : (shape : Dimensions) (n : ℕ) (rows : List (ℕ × Step × Effect)) (w : World) (words : List ℕ) → AreWorked shape w (take n rows) words → AreWorked shape (left_after shape n rows w words).0 (drop n rows) (left_after shape n rows w words).1 → AreWorked shape w rows words
-worked_in_two shape zero rows w words first later = later
-worked_in_two shape (suc n) [] w words first later = later
-worked_in_two shape (suc n) (row ∷ rows) w words first later =
-    (first.0, first.1, first.2, first.3, worked_in_two shape n rows (after shape w row.0 row.1) (if names_link row.1 then others_of words else words) first.4 later)
+pub worked_in_two : (start : Start) (n : ℕ) (rows : List (ℕ × Step × Effect)) (w : World) (words : List ℕ) → AreWorked start w (take n rows) words → AreWorked start (left_after start n rows w words).0 (drop n rows) (left_after start n rows w words).1 → AreWorked start w rows words
+worked_in_two start zero rows w words first later = later
+worked_in_two start (suc n) [] w words first later = later
+worked_in_two start (suc n) (row ∷ rows) w words first later =
+    (first.0, first.1, first.2, first.3, worked_in_two start n rows (after start w row.0 row.1) (if names_link row.1 then others_of words else words) first.4 later)
 
 -- in three parts, since the whole is too long for one search
 pub same_word : AreWorked three_slots (opening three_slots) SAME_WORD SAME_WORD_WORDS

@@ -1,6 +1,6 @@
 -- A worked list of events on nodes that have values, made from one on nodes that have none.
 use Rattle.std.specs.Prelude.{ℕ, ◌+◌, ◌-◌, ◌^◌, min, List, [], ◌∷◌, Option, Some, None, true}
-use Rattle.vbr_words.specs.Dimensions.{Dimensions}
+use Rattle.vbr_machine.specs.Start.{Start}
 use Rattle.vbr_machine.specs.declared.event.Effect.{Effect}
 use Rattle.vbr_machine.specs.declared.event.Effect.TheVariants.{Done}
 use Rattle.vbr_machine.specs.declared.event.Step.{Step}
@@ -21,6 +21,6 @@ abbrev pub with_values : List (ℕ × Step × Effect) → List (ℕ × Step × E
 with_values [] = []
 with_values (row ∷ rows) = row ∷ after_row (value_stored row.0 row.1) (with_values rows)
 
--- a shape whose nodes have values
-abbrev pub valued : Dimensions → Dimensions
-valued shape = record shape { values = true }
+-- the start of the same shape and keys whose nodes have values
+abbrev pub valued : Start → Start
+valued start = record start { shape = record start.shape { values = true } }

@@ -1,6 +1,6 @@
 -- A list of events of two passes that is accepted, with its effects and with the link words that callers name.
 use Rattle.std.specs.Prelude.{◌≡◌, ℕ, List, [], ◌∷◌, Bool, true, false, if◌then◌else◌}
-use Rattle.vbr_words.specs.Dimensions.{Dimensions}
+use Rattle.vbr_machine.specs.Start.{Start, empty_start}
 use Rattle.vbr_words.specs.Words.{word_of}
 use Rattle.vbr_machine.specs.Knowledge.{Know}
 use Rattle.vbr_machine.specs.Learning.{effect_of, link_written}
@@ -35,20 +35,20 @@ IsNamedWord know (Unlink pred expected s) word = word ≡ word_of (link_written 
 IsNamedWord know _ word = Unit {0}
 
 -- a set of three slots and one bucket, up to epoch 10
-abbrev pub three_slots : Dimensions
-three_slots = record { slots = 3; buckets = 1; spread = false; last_epoch = 10; values = false; keys = []; payloads = [] }
+abbrev pub three_slots : Start
+three_slots = empty_start (record { slots = 3; buckets = 1; spread = false; last_epoch = 10; values = false })
 
 -- a set of one slot and one bucket, up to epoch 10
-abbrev pub one_slot : Dimensions
-one_slot = record { slots = 1; buckets = 1; spread = false; last_epoch = 10; values = false; keys = []; payloads = [] }
+abbrev pub one_slot : Start
+one_slot = empty_start (record { slots = 1; buckets = 1; spread = false; last_epoch = 10; values = false })
 
 -- a set of three slots and one bucket, up to epoch 10000
-abbrev pub many_epochs : Dimensions
-many_epochs = record { slots = 3; buckets = 1; spread = false; last_epoch = 10000; values = false; keys = []; payloads = [] }
+abbrev pub many_epochs : Start
+many_epochs = empty_start (record { slots = 3; buckets = 1; spread = false; last_epoch = 10000; values = false })
 
 -- the rows are events that are accepted one after another from a world on, each with its effect; the words are the link words that callers name; and each slot that is taken has the stamp 0
-abbrev pub AreWorked : Dimensions → World → List (ℕ × Step × Effect) → List ℕ → Type 0
-AreWorked shape w [] words = Unit {0}
-AreWorked shape w (row ∷ rows) words =
-    IsAccepted shape 2 w (record { pass = row.0; step = row.1 }) × (effect_of row.1 (found shape w row.1) ≡ row.2) × (stamp_shown w row.1 ≡ 0) × IsNamedWord (w.know row.0) row.1 (first_of words)
-    × AreWorked shape (after shape w row.0 row.1) rows (if names_link row.1 then others_of words else words)
+abbrev pub AreWorked : Start → World → List (ℕ × Step × Effect) → List ℕ → Type 0
+AreWorked start w [] words = Unit {0}
+AreWorked start w (row ∷ rows) words =
+    IsAccepted start 2 w (record { pass = row.0; step = row.1 }) × (effect_of row.1 (found start w row.1) ≡ row.2) × (stamp_shown w row.1 ≡ 0) × IsNamedWord (w.know row.0) row.1 (first_of words)
+    × AreWorked start (after start w row.0 row.1) rows (if names_link row.1 then others_of words else words)

@@ -53,7 +53,7 @@ at_most_once keys page (call ∷ calls) legal none =
 claimed_once : (m n : MemberView) (page : ℕ) (result : Bool) → Answers (set_call m.pass.trace.who Insert page result) m.pass.trace n.pass.trace → IsClaimedOnce m n page result
 claimed_once m n page result answers = record {
   own = answers.once;
-  once = λ none. let keys = opening_keys n.pass.trace.shape in let left = room_for_one (keys page) in let most = at_most_once keys page _ answers.legal none in omega (arith, left, most);
+  once = λ none. let keys = opening_keys n.pass.trace.start in let left = room_for_one (keys page) in let most = at_most_once keys page _ answers.legal none in omega (arith, left, most);
 }
 
 pub claimed : (m n : MemberView) (page : ℕ) (result : Result Bool Refusal) → IfOk result (λ reply. Answers (set_call m.pass.trace.who Insert page reply) m.pass.trace n.pass.trace) → IfOk result (IsClaimedOnce m n page)

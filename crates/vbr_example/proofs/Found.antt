@@ -102,11 +102,11 @@ stands who call own (c ∷ cs) e = go (eqb c.who who) own e (λ own rest. stands
 -- ---- what is told, and what is found
 
 -- a page whose insert was answered is claimed
-claimed : (page : ℕ) (reply : Bool) (p q : Trace) → Answers (set_call p.who Insert page reply) p q → IsClaimed q.shape q.seen page
+claimed : (page : ℕ) (reply : Bool) (p q : Trace) → Answers (set_call p.who Insert page reply) p q → IsClaimed q.start q.seen page
 claimed page reply p q answers none =
-    let keys : Keys = opening_keys q.shape in
+    let keys : Keys = opening_keys q.start in
     let call : Call = (set_call p.who Insert page reply) in
-    let at = stands q.who call _ (calls_of q.shape q.seen) answers.once in
+    let at = stands q.who call _ (calls_of q.start q.seen) answers.once in
     let first : List Call = at.0 in
     let more : List Call = at.1 in
     let legal : IsLegal keys (first ++ call ∷ more) = subst (IsLegal keys) at.2 answers.legal in
@@ -117,20 +117,20 @@ claimed page reply p q answers none =
 pub tells : (set : TableView) (message : Message) (reply : Bool) (p q : Trace) → Answers (set_call p.who Insert message.page reply) p q → IsTokenOf set q message.token → IsTold set message
 tells set message reply p q answers token = record {
   table = token.table;
-  claimed = subst (λ (x : Dimensions × List Event). IsClaimed x.0 x.1 message.page) (λ i. (token.pass.1 i, sym token.seen i)) (claimed message.page reply p q answers);
+  claimed = subst (λ (x : Start × List Event). IsClaimed x.0 x.1 message.page) (λ i. (token.pass.1 i, sym token.seen i)) (claimed message.page reply p q answers);
 }
 
 found : (set : TableView) (message : Message) (p q r : PassView) (reply : Bool) → IsTold set message → CatchesUp set p message.token q → Answers (set_call q.trace.who Has message.page reply) q.trace r.trace → IsFound r.trace reply
 found set message p q r reply told caught answers none =
     let call : Call = (set_call q.trace.who Has message.page reply) in
-    let shape : Dimensions = r.trace.shape in
-    let keys : Keys = opening_keys shape in
-    let f = caught.later call q.trace r.trace (record { table = refl; shape = refl; passes = refl; who = refl }) ([], sym (append-nil q.trace.seen)) answers in
-    let front : List Call = calls_of shape message.token.seen in
-    let history : calls_of shape r.trace.seen ≡ (front ++ f.between) ++ call ∷ f.more = f.stands ∙ ap (λ (d : Dimensions). (calls_of d message.token.seen ++ f.between) ++ call ∷ f.more) (sym answers.same.shape) in
+    let start : Start = r.trace.start in
+    let keys : Keys = opening_keys start in
+    let f = caught.later call q.trace r.trace (record { table = refl; start = refl; passes = refl; who = refl }) ([], sym (append-nil q.trace.seen)) answers in
+    let front : List Call = calls_of start message.token.seen in
+    let history : calls_of start r.trace.seen ≡ (front ++ f.between) ++ call ∷ f.more = f.stands ∙ ap (λ (d : Start). (calls_of d message.token.seen ++ f.between) ++ call ∷ f.more) (sym answers.same.start) in
     let legal : IsLegal keys ((front ++ f.between) ++ call ∷ f.more) = subst (IsLegal keys) history answers.legal in
     let none_before : RemoveNone (front ++ f.between) = none_first (front ++ f.between) (call ∷ f.more) (subst RemoveNone history none) in
-    let there : IsClaimed shape message.token.seen message.page = subst (λ (d : Dimensions). IsClaimed d message.token.seen message.page) (sym (answers.same.shape ∙ caught.pass.1)) told.claimed in
+    let there : IsClaimed start message.token.seen message.page = subst (λ (d : Start). IsClaimed d message.token.seen message.page) (sym (answers.same.start ∙ caught.pass.1)) told.claimed in
     reply_at keys (front ++ f.between) call f.more legal
     ∙ ap (λ (k : Keys). k message.page) (after_both keys front f.between)
     ∙ stays (set_after keys front) message.page f.between (none_rest front f.between none_before) (there (none_first front f.between none_before))

@@ -26,4 +26,4 @@ RemoveNone (call ∷ calls) = (call.op ≢ Remove) × RemoveNone calls
 -- the member's insert of the page is its last call, and was answered this; in the history of all that it has then seen, of all members, the page is claimed at most once, if nobody removes
 pub record IsClaimedOnce (m n : MemberView) (page : ℕ) (claimed : Bool) : Type 0 where
   pub own : made_by n.pass.trace ≡ made_by m.pass.trace ++ (set_call m.pass.trace.who Insert page claimed) ∷ []
-  pub once : RemoveNone (calls_of n.pass.trace.shape n.pass.trace.seen) → claims_in page (calls_of n.pass.trace.shape n.pass.trace.seen) ≤ 1
+  pub once : RemoveNone (calls_of n.pass.trace.start n.pass.trace.seen) → claims_in page (calls_of n.pass.trace.start n.pass.trace.seen) ≤ 1

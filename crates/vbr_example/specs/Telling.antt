@@ -10,14 +10,14 @@ use Rattle.vbr_example.specs.Claims.{RemoveNone}
 use Rattle.vbr_example.specs.declared.telling.Message.{Message}
 
 -- after these events the page is in the set, if nobody removes
-abbrev pub IsClaimed : Dimensions → List Event → ℕ → Type 0
-IsClaimed shape seen page = RemoveNone (calls_of shape seen) → set_after (opening_keys shape) (calls_of shape seen) page ≡ true
+abbrev pub IsClaimed : Start → List Event → ℕ → Type 0
+IsClaimed start seen page = RemoveNone (calls_of start seen) → set_after (opening_keys start) (calls_of start seen) page ≡ true
 
 -- the message's token is of the set, and after all that it tells the message's page is claimed
 pub record IsTold (set : TableView) (message : Message) : Type 0 where
   pub table : message.token.table ≡ set.table
-  pub claimed : IsClaimed set.shape message.token.seen message.page
+  pub claimed : IsClaimed set.start message.token.seen message.page
 
 -- the page was found, if nobody removes in all that the pass has then seen
 abbrev pub IsFound : Trace → Bool → Type 0
-IsFound p found = RemoveNone (calls_of p.shape p.seen) → found ≡ true
+IsFound p found = RemoveNone (calls_of p.start p.seen) → found ≡ true

@@ -1,7 +1,7 @@
 -- There are as many handles as members.
 use Rattle.std.proofs.Common.{◌≡◌, ℕ, zero, suc, List, map, length, sym, refl, ap, ◌∙◌, Option, Some}
 use Rattle.std.proofs.lemmas.List.{length-map}
-use Rattle.vbr_words.specs.Dimensions.{Dimensions}
+use Rattle.vbr_machine.specs.Start.{Start}
 use Rattle.vbr_slots.specs.Views.{PassView, TableView, new_passes}
 use Rattle.vbr_set.specs.Members.{AreNew, MemberView}
 use Rattle.vbr_handles.specs.declared.owner.Owner.{Owner}
@@ -10,8 +10,8 @@ new_count : (set : TableView) (who n : ℕ) → length (new_passes set who n) �
 new_count set who zero = refl
 new_count set who (suc n) = ap suc (new_count set (suc who) n)
 
-pub as_many : (shape : Dimensions) (count : ℕ) (members : List MemberView) (opened : List (Owner MemberView)) → AreNew shape count members → map (λ h. h.member) opened ≡ map Some members → length opened ≡ count
-as_many shape count members opened new same =
+pub as_many : (start : Start) (count : ℕ) (members : List MemberView) (opened : List (Owner MemberView)) → AreNew start count members → map (λ h. h.member) opened ≡ map Some members → length opened ≡ count
+as_many start count members opened new same =
     let mk : PassView → MemberView = λ p. record { set = new.set; pass = p } in
     sym (length-map opened (λ (h : Owner MemberView). h.member)) ∙ ap (λ (ms : List (Option MemberView)). length ms) same ∙ length-map members Some ∙ ap (λ (ms : List MemberView). length ms) new.are
     ∙ length-map (new_passes new.set 0 count) mk ∙ new_count new.set 0 count

@@ -1,30 +1,30 @@
 -- What an opening of handles tells as a number.
 use Rattle.std.specs.Prelude.{◌≡◌, ℕ, ℤ, List, [], Option, Result}
-use Rattle.vbr_words.specs.Dimensions.{Dimensions}
+use Rattle.vbr_machine.specs.Start.{Start}
 use Rattle.vbr_set.specs.Members.{MemberView as Member}
-use Rattle.vbr_handles.specs.Opening.{Opens, entries_shape, spread_shape}
+use Rattle.vbr_handles.specs.Opening.{Opens, entries_start, spread_start}
 use Rattle.vbr_handles.specs.declared.handle.Handle.{Handle}
 use Rattle.vbr_handles.specs.declared.handle.MapHandle.{MapHandle}
 use Rattle.vbr_handles.specs.declared.opening.OpenRefusal.{OpenRefusal}
 use Rattle.vbr_handles.specs.Codes.{open_code}
 
--- the code is that of an answer to an opening with the numbers and the keys of this shape
-pub record TellsOpeningBy {H : Type 0} (member : H → Option Member) (before after : List H) (shape : Dimensions) (code : ℤ) : Type 0 where
+-- the code is that of an answer to an opening with the numbers and the keys of this start
+pub record TellsOpeningBy {H : Type 0} (member : H → Option Member) (before after : List H) (start : Start) (code : ℤ) : Type 0 where
   pub answer : Result (Unit {0}) OpenRefusal
   pub is : code ≡ open_code answer
-  pub opens : Opens member before after shape answer
+  pub opens : Opens member before after start answer
 
 -- so it is of the handles of a set
-abbrev pub TellsOpeningWith : List Handle → List Handle → Dimensions → ℤ → Type 0
+abbrev pub TellsOpeningWith : List Handle → List Handle → Start → ℤ → Type 0
 TellsOpeningWith = TellsOpeningBy (λ (handle : Handle). handle.member)
 
 -- the code is that of an answer to an opening with these numbers and no keys
 abbrev pub TellsOpening : List Handle → List Handle → ℕ → ℕ → ℕ → ℤ → Type 0
-TellsOpening before after slots buckets last_epoch code = TellsOpeningWith before after (spread_shape slots buckets last_epoch []) code
+TellsOpening before after slots buckets last_epoch code = TellsOpeningWith before after (spread_start slots buckets last_epoch []) code
 
 -- so it is of the handles of a map, and of an opening with no entries
-abbrev pub TellsMapOpeningWith : List MapHandle → List MapHandle → Dimensions → ℤ → Type 0
+abbrev pub TellsMapOpeningWith : List MapHandle → List MapHandle → Start → ℤ → Type 0
 TellsMapOpeningWith = TellsOpeningBy (λ (handle : MapHandle). handle.member)
 
 abbrev pub TellsMapOpening : List MapHandle → List MapHandle → ℕ → ℕ → ℕ → ℤ → Type 0
-TellsMapOpening before after slots buckets last_epoch code = TellsMapOpeningWith before after (entries_shape slots buckets last_epoch []) code
+TellsMapOpening before after slots buckets last_epoch code = TellsMapOpeningWith before after (entries_start slots buckets last_epoch []) code

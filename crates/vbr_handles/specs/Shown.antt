@@ -11,14 +11,14 @@ epoch_of (Some m) = (knows m.pass.trace).epoch
 -- the last epoch of the set
 abbrev pub last_epoch_of : Option Member → ℕ
 last_epoch_of None = 0
-last_epoch_of (Some m) = m.set.shape.last_epoch
+last_epoch_of (Some m) = m.set.start.shape.last_epoch
 
 -- how many slots the set has
 abbrev pub slots_of : Option Member → ℕ
 slots_of None = 0
-slots_of (Some m) = m.set.shape.slots
+slots_of (Some m) = m.set.start.shape.slots
 
 -- how many buckets the set has
 abbrev pub buckets_of : Option Member → ℕ
 buckets_of None = 0
-buckets_of (Some m) = m.set.shape.buckets
+buckets_of (Some m) = m.set.start.shape.buckets

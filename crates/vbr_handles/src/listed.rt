@@ -1,5 +1,6 @@
 //! What is listed of a node to C and from it: its key, or its entry.
 ghost use Rattle.std.specs.Prelude.{◌≡◌, ◌<◌, ◌≤◌, ◌++◌, ◌⊎◌, true, false, drop, length, IfOk, IsErrOf};
+ghost use Rattle.vbr_machine.specs.Start.{start_with};
 ghost use Rattle.vbr_set.specs.Members.{AreNew};
 ghost use Rattle.vbr_handles.specs.Listings.{Listing};
 ghost use Rattle.vbr_handles.specs.Opening.{CanOpen};
@@ -31,11 +32,9 @@ pub trait Listed<N: Nodes>: Copy {
         items: &[Self],
     ) -> Result<Vec<Member<N>>, OpenError>
         requires { CanOpen (listing.keys items.now) shape.slots }
-        ensures members { IfOk result (λ members. AreNew (record shape {
-          values = listing.values;
-          keys = listing.keys items.now;
-          payloads = listing.payloads items.now;
-        }) passes members.items) }
+        ensures members { IfOk result (λ members. AreNew (start_with
+            (record shape { values = listing.values })
+            (listing.keys items.now) (listing.payloads items.now)) passes members.items) }
         ensures refused { IsErrOf result OpenError.Passes → ((passes ≡ 0) ⊎ (64 < passes)) };
 
     /// The numbers of a report.

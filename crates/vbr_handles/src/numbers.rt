@@ -6,7 +6,7 @@ ghost use Rattle.vbr_set.specs.AllMembers.{AreOfOneSet};
 ghost use Rattle.vbr_handles.specs.AllHandles.{members_by};
 ghost use Rattle.vbr_handles.specs.Codes.{call_code, close_all_code, close_code, open_code};
 ghost use Rattle.vbr_handles.specs.Calls.{TellsCall};
-ghost use Rattle.vbr_handles.specs.Opening.{listed_shape};
+ghost use Rattle.vbr_handles.specs.Opening.{listed_start};
 ghost use Rattle.vbr_handles.specs.OpeningCodes.{TellsOpeningBy};
 ghost use Rattle.vbr_handles.specs.Reports.{TellsCloseAllBy, TellsCloseBy};
 
@@ -63,7 +63,7 @@ pub fn open<N: Nodes, I: Listed<N>, H: HandleOf<N>>(
     last_epoch: u64,
 ) -> i32
     ensures { TellsOpeningBy H.member handles.old handles.new
-        (listed_shape I.listing slots buckets last_epoch []) result }
+        (listed_start I.listing slots buckets last_epoch []) result }
 {
     open_code(crate::opening::open::<N, I, H>(alloc, handles, slots, buckets, last_epoch))
 }
@@ -76,7 +76,7 @@ pub fn open_with<N: Nodes, I: Listed<N>, H: HandleOf<N>>(
     items: &[I],
 ) -> i32
     ensures { TellsOpeningBy H.member handles.old handles.new
-        (listed_shape I.listing numbers.slots numbers.buckets numbers.last_epoch items.now) result }
+        (listed_start I.listing numbers.slots numbers.buckets numbers.last_epoch items.now) result }
 {
     open_code(crate::opening::open_with::<N, I, H>(alloc, handles, numbers, items))
 }

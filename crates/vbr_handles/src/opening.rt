@@ -1,7 +1,7 @@
 //! Opening a set, or a map, for handles.
 ghost use Rattle.std.specs.Prelude.{◌≡◌, true, false, [], length, map, None, Some, IfOk, IfSome};
 ghost use Rattle.vbr_words.specs.Dimensions.{IsShape};
-ghost use Rattle.vbr_handles.specs.Opening.{AreEmpty, Opens, listed_shape, spread_shape};
+ghost use Rattle.vbr_handles.specs.Opening.{AreEmpty, Opens, listed_start, spread_shape};
 
 use crate::handle_of::HandleOf;
 use crate::listed::Listed;
@@ -41,9 +41,9 @@ impl ShapeNumbers {
     // The shape of these numbers, with keys spread over the buckets; none, if one of them is out of range.
     fn shape(self) -> Option<Shape>
         ensures some { IfSome result
-            (λ shape. shape ≡ spread_shape self.slots self.buckets self.last_epoch []) }
+            (λ shape. shape ≡ spread_shape self.slots self.buckets self.last_epoch false) }
         ensures in_range { result ≡ None →
-            ¬ (IsShape (spread_shape self.slots self.buckets self.last_epoch [])) }
+            ¬ (IsShape (spread_shape self.slots self.buckets self.last_epoch false)) }
     {
         let narrow = Shape::new(self.slots, 1, self.last_epoch).ok()?;
         narrow.spread_over(self.buckets).ok()
@@ -60,7 +60,7 @@ pub fn open<N: Nodes, I: Listed<N>, H: HandleOf<N>>(
     last_epoch: u64,
 ) -> Result<(), OpenRefusal>
     ensures { Opens H.member handles.old handles.new
-        (listed_shape I.listing slots buckets last_epoch []) result }
+        (listed_start I.listing slots buckets last_epoch []) result }
 {
     let numbers = ShapeNumbers {
         slots,
@@ -80,7 +80,7 @@ pub fn open_with<N: Nodes, I: Listed<N>, H: HandleOf<N>>(
     items: &[I],
 ) -> Result<(), OpenRefusal>
     ensures { Opens H.member handles.old handles.new
-        (listed_shape I.listing numbers.slots numbers.buckets numbers.last_epoch items.now) result }
+        (listed_start I.listing numbers.slots numbers.buckets numbers.last_epoch items.now) result }
 {
     if !are_empty::<N, H>(handles) {
         return Err(OpenRefusal::InUse);

@@ -2,7 +2,7 @@
 use Rattle.std.proofs.Common.{◌≡◌, ℕ, ◌+◌, ◌≤◌, arith, Bool, true, false, List, [], ◌∷◌, ◌++◌, Option, Some, None, refl, sym, ap, ◌∙◌, subst}
 use Rattle.std.specs.Prelude.{IfSome, IfNone}
 use Rattle.vbr_words.specs.declared.nodes.Nodes.{Ghosts}
-use Rattle.vbr_words.specs.Dimensions.{Dimensions, IsShape}
+use Rattle.vbr_machine.specs.Start.{Start, IsStart}
 use Rattle.vbr_words.specs.Words.{link_of}
 use Rattle.vbr_words.specs.declared.link.Link.{Link}
 use Rattle.vbr_words.specs.declared.place.At.TheVariants.{Slot}
@@ -36,62 +36,62 @@ use Rattle.vbr_list.proofs.Moments.{key_known, stands_before}
 
 -- ---- what a read link shows
 
-module _ {p q : Trace} (held : Held) (shape : IsShape p.shape) (same : IsSame p q) (read : IsRead p q held) (unmarked : (link_of held.word).mark ≡ false) where
-  was_known : (moment : List Event) → know_after q.shape moment q.who ≡ know_after p.shape moment p.who
-  was_known moment = λ i. know_after (same.shape i) moment (same.who i)
+module _ {p q : Trace} (held : Held) (start : IsStart p.start) (same : IsSame p q) (read : IsRead p q held) (unmarked : (link_of held.word).mark ≡ false) where
+  was_known : (moment : List Event) → know_after q.start moment q.who ≡ know_after p.start moment p.who
+  was_known moment = λ i. know_after (same.start i) moment (same.who i)
 
-  was_shown : WasShown q.shape read.stood.moment q.seen q.who held.at (link_of held.word)
+  was_shown : WasShown q.start read.stood.moment q.seen q.who held.at (link_of held.word)
   was_shown = record {
     begins = read.stood.within.to;
     epoch = ap (λ (k : Know). k.epoch) (was_known read.stood.moment) ∙ read.stood.epoch ∙ read.known.epoch;
     held = let P : Know → Type 0 = λ k. IsHeldPlace k held.at in subst P (sym (was_known read.stood.moment)) read.stood.place;
-    shown = ap (λ (s : Dimensions). link_at (world_after s read.stood.moment) held.at) same.shape ∙ read.stood.shown;
+    shown = ap (λ (s : Start). link_at (world_after s read.stood.moment) held.at) same.start ∙ read.stood.shown;
     known = read.known.link;
     unmarked = unmarked;
   }
 
-  shape_now : IsShape q.shape
-  shape_now = let P : Dimensions → Type 0 = IsShape in subst P (sym same.shape) shape
+  shape_now : IsStart q.start
+  shape_now = let P : Start → Type 0 = IsStart in subst P (sym same.start) start
 
-  clear_then : (key : ℕ) → NoneMarked (incarnations_after q.shape read.stood.moment) key → WasClear p q key
+  clear_then : (key : ℕ) → NoneMarked (incarnations_after q.start read.stood.moment) key → WasClear p q key
   clear_then key none = record {
     moment = read.stood.moment;
     within = read.stood.within;
-    none = let P : Dimensions → Type 0 = λ s. NoneMarked (incarnations_after s read.stood.moment) key in subst P same.shape none;
+    none = let P : Start → Type 0 = λ s. NoneMarked (incarnations_after s read.stood.moment) key in subst P same.start none;
   }
 
   -- of the key of the place
   clear_here : (key : ℕ) → KeyAt (knows q) held.at key → WasClear p q key
-  clear_here key k = clear_then key (none_marked_here q.shape q.passes read.stood.moment q.seen shape_now read.stood.within.is_run q.who held.at (link_of held.word) was_shown key k)
+  clear_here key k = clear_then key (none_marked_here q.start q.passes read.stood.moment q.seen shape_now read.stood.within.is_run q.who held.at (link_of held.word) was_shown key k)
 
   -- of a key between the place and what its link names
-  clear_between : (key : ℕ) → StandsBehind q.shape (knows q) held.at key → StandsBefore (knows q) key (link_of held.word).slot → WasClear p q key
-  clear_between key i j = clear_then key (none_marked_between q.shape q.passes read.stood.moment q.seen shape_now read.stood.within.is_run q.who held.at (link_of held.word) was_shown key i j)
+  clear_between : (key : ℕ) → StandsBehind q.start (knows q) held.at key → StandsBefore (knows q) key (link_of held.word).slot → WasClear p q key
+  clear_between key i j = clear_then key (none_marked_between q.start q.passes read.stood.moment q.seen shape_now read.stood.within.is_run q.who held.at (link_of held.word) was_shown key i j)
 
   -- of the key of a slot whose marked link names the same
-  pub clear_skipped : (s key : ℕ) (frozen : Link) → StandsBehind q.shape (knows q) held.at key → Knows (knows q) (LinkAt (Slot s) frozen) → frozen.mark ≡ true → frozen.slot ≡ (link_of held.word).slot → Knows (knows q) (KeyOf s key) → WasClear p q key
-  clear_skipped s key frozen i k m e j = clear_then key (none_marked_skipped q.shape q.passes read.stood.moment q.seen shape_now read.stood.within.is_run q.who held.at (link_of held.word) was_shown s key frozen i k m e j)
+  pub clear_skipped : (s key : ℕ) (frozen : Link) → StandsBehind q.start (knows q) held.at key → Knows (knows q) (LinkAt (Slot s) frozen) → frozen.mark ≡ true → frozen.slot ≡ (link_of held.word).slot → Knows (knows q) (KeyOf s key) → WasClear p q key
+  clear_skipped s key frozen i k m e j = clear_then key (none_marked_skipped q.start q.passes read.stood.moment q.seen shape_now read.stood.within.is_run q.who held.at (link_of held.word) was_shown s key frozen i k m e j)
 
 -- ---- where a traversal has come to the key
 
-pub clear_found : {p q : Trace} (key : ℕ) (found : Found) → IsShape p.shape → IsSame p q → IsFound p q key found → WasClear p q key
-clear_found {p} {q} key found shape same x = go found.cur found.present x.locates.end x.cur_stood
+pub clear_found : {p q : Trace} (key : ℕ) (found : Found) → IsStart p.start → IsSame p q → IsFound p q key found → WasClear p q key
+clear_found {p} {q} key found start same x = go found.cur found.present x.locates.end x.cur_stood
   where
     pred : Held
     pred = found.pred
 
     absent : (cur : Option Held) → IsEnd (knows q) key pred cur false → WasClear p q key
-    absent cur y = clear_between pred shape same (record { known = x.locates.pred.held; stood = x.stood }) x.locates.pred.unmarked key x.locates.pred.behind (stands_before (knows q) key pred cur y)
+    absent cur y = clear_between pred start same (record { known = x.locates.pred.held; stood = x.stood }) x.locates.pred.unmarked key x.locates.pred.behind (stands_before (knows q) key pred cur y)
 
     go : (cur : Option Held) (present : Bool) → IsEnd (knows q) key pred cur present → CurStood p q cur → WasClear p q key
     go None present y z = absent None (y.0, refl)
-    go (Some cur) true y z = clear_here cur shape same (record { known = y.held; stood = z }) y.unmarked key (key_known (knows q) key pred cur y)
+    go (Some cur) true y z = clear_here cur start same (record { known = y.held; stood = z }) y.unmarked key (key_known (knows q) key pred cur y)
     go (Some cur) false y z = absent (Some cur) y
 
 -- of a walk that ended with room in its budget
-pub clear_walked : {N : Type 0} {kind : Ghosts N} → (c d : PendingCall N kind) (found : Option Found) → IsShape (trace_in c).shape → IsSame (trace_in c) (trace_in d) → IfSome found (Finds c d) → IfNone found (SearchTires c d) → d.used + PIECE ≤ c.budget → WasClear (trace_in c) (trace_in d) c.key
-clear_walked c d None shape same x tired room = let short = tired.tired in absurd (omega (arith, short, room))
-clear_walked c d (Some found) shape same x tired room = clear_found c.key found shape same x.found
+pub clear_walked : {N : Type 0} {kind : Ghosts N} → (c d : PendingCall N kind) (found : Option Found) → IsStart (trace_in c).start → IsSame (trace_in c) (trace_in d) → IfSome found (Finds c d) → IfNone found (SearchTires c d) → d.used + PIECE ≤ c.budget → WasClear (trace_in c) (trace_in d) c.key
+clear_walked c d None start same x tired room = let short = tired.tired in absurd (omega (arith, short, room))
+clear_walked c d (Some found) start same x tired room = clear_found c.key found start same x.found
 
 -- ---- a part of what the pass did
 
@@ -102,32 +102,32 @@ pub clear_since : {p q r : Trace} {key : ℕ} → Quiet p q → WasClear q r key
 clear_since {p} {q} {r} {key} a x = record {
   moment = x.moment;
   within = moment_after a.seen x.within;
-  none = let P : Dimensions → Type 0 = λ s. NoneMarked (incarnations_after s x.moment) key in subst P a.same.shape x.none;
+  none = let P : Start → Type 0 = λ s. NoneMarked (incarnations_after s x.moment) key in subst P a.same.start x.none;
 }
 
 -- ---- the node that a remove has marked
 
 -- once the key is clear, it has left
-pub leaves_clear : {p q r : Trace} {key : ℕ} {value : Option ℕ} → IsShape p.shape → Made (record { who = p.who; op = Remove; key = key; reply = true; value = value }) p q → IsSame q r → WasClear q r key → Leaves p r key
-leaves_clear {p} {q} {r} {key} {value} shape made same x =
-    let P : Dimensions → Type 0 = λ s. NoneMarked (incarnations_after s x.moment) key in
-    marked_left p.shape p.passes shape p.seen q.seen x.moment r.seen p.who call run made.seen x.within.from x.within.to refl refl calls (subst P made.same.shape x.none)
+pub leaves_clear : {p q r : Trace} {key : ℕ} {value : Option ℕ} → IsStart p.start → Made (record { who = p.who; op = Remove; key = key; reply = true; value = value }) p q → IsSame q r → WasClear q r key → Leaves p r key
+leaves_clear {p} {q} {r} {key} {value} start made same x =
+    let P : Start → Type 0 = λ s. NoneMarked (incarnations_after s x.moment) key in
+    marked_left p.start p.passes start p.seen q.seen x.moment r.seen p.who call run made.seen x.within.from x.within.to refl refl calls (subst P made.same.start x.none)
   where
-    run : IsRun p.shape p.passes r.seen
+    run : IsRun p.start p.passes r.seen
     run =
-        let P : Dimensions → Type 0 = λ s. IsRun s p.passes r.seen in
-        let Q : ℕ → Type 0 = λ n. IsRun r.shape n r.seen in
-        subst P (same.shape ∙ made.same.shape) (subst Q (same.passes ∙ made.same.passes) x.within.is_run)
+        let P : Start → Type 0 = λ s. IsRun s p.passes r.seen in
+        let Q : ℕ → Type 0 = λ n. IsRun r.start n r.seen in
+        subst P (same.start ∙ made.same.start) (subst Q (same.passes ∙ made.same.passes) x.within.is_run)
 
     call : ListedCall
     call = record { who = p.who; op = Remove; key = key; reply = true; value = value }
 
-    calls : own_calls p.shape q.seen p.who ≡ own_calls p.shape p.seen p.who ++ call ∷ []
-    calls = sym (λ i. own_calls (made.same.shape i) q.seen (made.same.who i)) ∙ made.calls
+    calls : own_calls p.start q.seen p.who ≡ own_calls p.start p.seen p.who ++ call ∷ []
+    calls = sym (λ i. own_calls (made.same.start i) q.seen (made.same.who i)) ∙ made.calls
 
 -- what has left since a moment has left since an earlier one
-pub leaves_since : {p q : Trace} (r : Trace) (key : ℕ) → IsShape p.shape → Quiet p q → Leaves q r key → Leaves p r key
-leaves_since {p} {q} r key shape a x =
-    let P : Dimensions → Type 0 = λ s. MarkedLeft s q.seen r.seen q.who key in
-    let Q : ℕ → Type 0 = λ w. MarkedLeft p.shape q.seen r.seen w key in
-    left_since p.shape p.passes shape p.seen q.seen r.seen p.who key a.seen (subst Q a.same.who (subst P a.same.shape x))
+pub leaves_since : {p q : Trace} (r : Trace) (key : ℕ) → IsStart p.start → Quiet p q → Leaves q r key → Leaves p r key
+leaves_since {p} {q} r key start a x =
+    let P : Start → Type 0 = λ s. MarkedLeft s q.seen r.seen q.who key in
+    let Q : ℕ → Type 0 = λ w. MarkedLeft p.start q.seen r.seen w key in
+    left_since p.start p.passes start p.seen q.seen r.seen p.who key a.seen (subst Q a.same.who (subst P a.same.start x))

@@ -3,6 +3,7 @@ use Rattle.std.proofs.Common.{◌≡◌, ℕ, ◌+◌, ◌≤◌, [], Result, Ok
 use Rattle.std.specs.Prelude.{IfOk}
 use Rattle.vbr_words.specs.declared.nodes.Nodes.{Ghosts}
 use Rattle.vbr_words.specs.Dimensions.{Dimensions}
+use Rattle.vbr_machine.specs.Start.{Start}
 use Rattle.vbr_words.specs.Buckets.{bucket_of}
 use Rattle.vbr_slots.specs.Calls.{IsSame, Quiet, Took}
 use Rattle.vbr_slots.specs.Views.{Trace, TableView, PassView, IsOf}
@@ -22,7 +23,7 @@ use Rattle.vbr_list.proofs.Traversals.{Tries}
 
 -- the pass stays one of the table
 pub of_on : {p q : Trace} {t : TableView} → IsSame p q → IsOf p t → IsOf q t
-of_on s x = (s.table ∙ x.0, s.shape ∙ x.1, s.passes ∙ x.2)
+of_on s x = (s.table ∙ x.0, s.start ∙ x.1, s.passes ∙ x.2)
 
 pub counts_step : {p q : Trace} (a n : ℕ) → Took p q n → CountsSteps p q a (a + n)
 counts_step a n took = record { steps = n; sum = refl; took = took }
@@ -61,9 +62,9 @@ pub room_left : {p q : PassView} (used budget : ℕ) → CountsSteps p.trace q.t
 room_left used budget counts left = let x = (took_all counts).made in let y = left.took.made in let room = left.room in omega (arith, x, y, room)
 
 -- the bucket of a key is that of the table's shape
-pub bucket_is : (a b bare : Dimensions) (bucket key : ℕ) → a ≡ b → bare ≡ record b { keys = []; payloads = [] } → bucket ≡ bucket_of bare key → bucket ≡ bucket_of a key
+pub bucket_is : (a b : Start) (shape : Dimensions) (bucket key : ℕ) → a ≡ b → shape ≡ b.shape → bucket ≡ bucket_of shape key → bucket ≡ bucket_of a.shape key
 unfolding bucket_of
-bucket_is a b bare bucket key e g f = f ∙ ap (λ (shape : Dimensions). bucket_of shape key) g ∙ ap (λ (shape : Dimensions). bucket_of shape key) (sym e)
+bucket_is a b shape bucket key e g f = f ∙ ap (λ (s : Dimensions). bucket_of s key) g ∙ ap (λ (start : Start). bucket_of start.shape key) (sym e)
 
 -- a call stays the same one from piece to piece
 pub call_on : {N : Type 0} {kind : Ghosts N} → {b c d : PendingCall N kind} → IsSameCall b c → IsSameCall c d → IsSameCall b d

@@ -73,12 +73,12 @@ place_kept pool slot h = go (cases_Bool (is_kept pool))
     go (inl t) = let e = one pool in let u : length pool < POOL - 1 = grind (arith, nat_tests) in rw (t, e) (omega arith)
     go (inr f) = rw f h
 
-pub retired_hand : {p q : PassView} (slot : ℕ) → OwnPool p.trace.shape (knows p.trace) p.pool p.hand → IsUnlinked ((knows p.trace).own slot) → knows q.trace ≡ know_retired (knows p.trace) (knows q.trace).epoch slot (is_kept p.pool) → q.pool ≡ pool_retired p.pool slot → q.hand ≡ p.hand → TakesNoSlot p q → KeepsHand p q
+pub retired_hand : {p q : PassView} (slot : ℕ) → OwnPool p.trace.start (knows p.trace) p.pool p.hand → IsUnlinked ((knows p.trace).own slot) → knows q.trace ≡ know_retired (knows p.trace) (knows q.trace).epoch slot (is_kept p.pool) → q.pool ≡ pool_retired p.pool slot → q.hand ≡ p.hand → TakesNoSlot p q → KeepsHand p q
 retired_hand {p} {q} slot own unlinked known pool hand none = record { hand = hand; in_hand = same; room = λ h. let P : List ℕ → Type 0 = λ l. length l < POOL in subst P (sym pool) (place_kept p.pool slot h); takes_no_slot = none }
   where
     same : (s : ℕ) → p.hand ≡ Some s → (knows q.trace).own s ≡ (knows p.trace).own s
     same s e =
-        let P : Option ℕ → Type 0 = pools.HandFits p.trace.shape (knows p.trace) p.pool in
+        let P : Option ℕ → Type 0 = pools.HandFits p.trace.start (knows p.trace) p.pool in
         let in_hand = (subst P e own.in_hand).1 in
         let other : s ≢ slot = λ x. not_both ((knows p.trace).own s) in_hand (let Q : ℕ → Type 0 = λ t. IsUnlinked ((knows p.trace).own t) in subst Q (sym x) unlinked) in
         ap (λ (k : Know). k.own s) known ∙ put_other (read_epoch (knows p.trace) (knows q.trace).epoch).own slot (cond (is_kept p.pool) (Some (Free (knows q.trace).epoch)) None) s other ∙ own_read (knows p.trace) (knows q.trace).epoch s ∙ hand_reread ((knows p.trace).own s) in_hand

@@ -1,7 +1,7 @@
 -- A pass that is its table's only one made all the calls of its run, and those are legal.
 use Rattle.std.proofs.Common.{◌≡◌, ℕ, ◌<◌, List, [], ◌∷◌, ◌++◌, Result, Ok, Err, refl, sym, ap, ◌∙◌, subst, arith}
 use Rattle.std.specs.Prelude.{IfOk}
-use Rattle.vbr_words.specs.Dimensions.{Dimensions, IsShape}
+use Rattle.vbr_machine.specs.Start.{Start, IsStart}
 use Rattle.vbr_machine.specs.Calls.{calls_added}
 use Rattle.vbr_machine.specs.History.{GiveStored, GivesValue, IsLegal, Payloads, calls_by, keys_after, payloads_after, reply_of, set_after, values_after}
 use Rattle.vbr_machine.specs.Keys.{Keys}
@@ -27,44 +27,44 @@ stored_last payloads [] x stored = stored.0
 stored_last payloads (c ∷ cs) x stored = stored_last (payloads_after payloads c.op c.key c.reply c.value) cs x stored.1
 
 -- where all events are of one pass, so are all calls
-lone_from : (shape : Dimensions) (passes who : ℕ) (w : World) (events : List Event) → passes ≡ 1 → who < passes → AreAccepted shape passes w events → calls_by who w.calls ≡ w.calls → calls_by who (world_from shape w events).calls ≡ (world_from shape w events).calls
-lone_from shape passes who w [] one low ok same = same
-lone_from shape passes who w (x ∷ xs) one low ok same =
+lone_from : (start : Start) (passes who : ℕ) (w : World) (events : List Event) → passes ≡ 1 → who < passes → AreAccepted start passes w events → calls_by who w.calls ≡ w.calls → calls_by who (world_from start w events).calls ≡ (world_from start w events).calls
+lone_from start passes who w [] one low ok same = same
+lone_from start passes who w (x ∷ xs) one low ok same =
     let mine : x.pass ≡ who = let u = ok.0.0 in omega arith in
-    let P : ℕ → Type 0 = λ p. calls_by p (calls_added shape w x.pass x.step) ≡ calls_added shape w x.pass x.step in
-    lone_from shape passes who (after shape w x.pass x.step) xs one low ok.1
-    (ap (calls_by who) (calls_after shape w x.pass x.step)
-    ∙ calls_by-append who w.calls (calls_added shape w x.pass x.step)
-    ∙ (λ i. same i ++ subst P mine (added_own shape w x.pass x.step) i)
-    ∙ sym (calls_after shape w x.pass x.step))
+    let P : ℕ → Type 0 = λ p. calls_by p (calls_added start w x.pass x.step) ≡ calls_added start w x.pass x.step in
+    lone_from start passes who (after start w x.pass x.step) xs one low ok.1
+    (ap (calls_by who) (calls_after start w x.pass x.step)
+    ∙ calls_by-append who w.calls (calls_added start w x.pass x.step)
+    ∙ (λ i. same i ++ subst P mine (added_own start w x.pass x.step) i)
+    ∙ sym (calls_after start w x.pass x.step))
 
 -- so the calls of a lone pass are legal
-lone_legal : (p : Trace) → IsShape p.shape → p.who < p.passes → IsRun p.shape p.passes p.seen → p.passes ≡ 1 → IsLegal (opening_keys p.shape) (made_by p)
-lone_legal p shape low run one =
-    let all = lone_from p.shape p.passes p.who (opening p.shape) p.seen one low run refl in
-    subst (IsLegal (opening_keys p.shape)) (sym all) (every_run p.shape p.passes p.seen shape run).legal
+lone_legal : (p : Trace) → IsStart p.start → p.who < p.passes → IsRun p.start p.passes p.seen → p.passes ≡ 1 → IsLegal (opening_keys p.start) (made_by p)
+lone_legal p start low run one =
+    let all = lone_from p.start p.passes p.who (opening p.start) p.seen one low run refl in
+    subst (IsLegal (opening_keys p.start)) (sym all) (every_run p.start p.passes p.seen start run).legal
 
 -- and give what was stored
-lone_stored : (p : Trace) → IsShape p.shape → p.who < p.passes → IsRun p.shape p.passes p.seen → p.passes ≡ 1 → GiveStored (opening_payloads p.shape) (made_by p)
-lone_stored p shape low run one =
-    let all = lone_from p.shape p.passes p.who (opening p.shape) p.seen one low run refl in
-    subst (GiveStored (opening_payloads p.shape)) (sym all) (every_run p.shape p.passes p.seen shape run).values
+lone_stored : (p : Trace) → IsStart p.start → p.who < p.passes → IsRun p.start p.passes p.seen → p.passes ≡ 1 → GiveStored (opening_payloads p.start) (made_by p)
+lone_stored p start low run one =
+    let all = lone_from p.start p.passes p.who (opening p.start) p.seen one low run refl in
+    subst (GiveStored (opening_payloads p.start)) (sym all) (every_run p.start p.passes p.seen start run).values
 
-pub alone : {p q : Trace} {call : Call} → IsShape p.shape → p.who < p.passes → Made call p q → AnswersAlone p call.op call.key call.reply
-alone {p} {q} {call} shape low made one =
+pub alone : {p q : Trace} {call : Call} → IsStart p.start → p.who < p.passes → Made call p q → AnswersAlone p call.op call.key call.reply
+alone {p} {q} {call} start low made one =
     let low_now : q.who < q.passes = rw (made.same.who, made.same.passes) low in
-    let legal = lone_legal q (let P : Dimensions → Type 0 = IsShape in subst P (sym made.same.shape) shape) low_now made.is_run (made.same.passes ∙ one) in
-    let there = subst (λ (d : Dimensions). IsLegal (opening_keys d) (made_by q)) made.same.shape legal in
-    legal_last (opening_keys p.shape) (made_by p) call (subst (IsLegal (opening_keys p.shape)) made.calls there)
+    let legal = lone_legal q (let P : Start → Type 0 = IsStart in subst P (sym made.same.start) start) low_now made.is_run (made.same.passes ∙ one) in
+    let there = subst (λ (d : Start). IsLegal (opening_keys d) (made_by q)) made.same.start legal in
+    legal_last (opening_keys p.start) (made_by p) call (subst (IsLegal (opening_keys p.start)) made.calls there)
 
-pub gives_alone : {p q : Trace} {call : Call} → IsShape p.shape → p.who < p.passes → Made call p q → GivesAlone p call
-gives_alone {p} {q} {call} shape low made one =
+pub gives_alone : {p q : Trace} {call : Call} → IsStart p.start → p.who < p.passes → Made call p q → GivesAlone p call
+gives_alone {p} {q} {call} start low made one =
     let low_now : q.who < q.passes = rw (made.same.who, made.same.passes) low in
-    let stored = lone_stored q (let P : Dimensions → Type 0 = IsShape in subst P (sym made.same.shape) shape) low_now made.is_run (made.same.passes ∙ one) in
-    let there = subst (λ (d : Dimensions). GiveStored (opening_payloads d) (made_by q)) made.same.shape stored in
-    stored_last (opening_payloads p.shape) (made_by p) call (subst (GiveStored (opening_payloads p.shape)) made.calls there)
+    let stored = lone_stored q (let P : Start → Type 0 = IsStart in subst P (sym made.same.start) start) low_now made.is_run (made.same.passes ∙ one) in
+    let there = subst (λ (d : Start). GiveStored (opening_payloads d) (made_by q)) made.same.start stored in
+    stored_last (opening_payloads p.start) (made_by p) call (subst (GiveStored (opening_payloads p.start)) made.calls there)
 
 -- an answer, if there is one
-pub each_alone : {A E : Type 0} (p q : Trace) (told : A → Call) (answer : Result A E) → IsShape p.shape → p.who < p.passes → IfOk answer (λ reply. Made (told reply) p q) → IfOk answer (λ reply. AnswersAlone p (told reply).op (told reply).key (told reply).reply)
-each_alone p q told (Ok reply) shape low made = alone shape low made
-each_alone p q told (Err refusal) shape low made = tt
+pub each_alone : {A E : Type 0} (p q : Trace) (told : A → Call) (answer : Result A E) → IsStart p.start → p.who < p.passes → IfOk answer (λ reply. Made (told reply) p q) → IfOk answer (λ reply. AnswersAlone p (told reply).op (told reply).key (told reply).reply)
+each_alone p q told (Ok reply) start low made = alone start low made
+each_alone p q told (Err refusal) start low made = tt

@@ -1,7 +1,7 @@
 -- What was found was so at a moment.
 use Rattle.std.proofs.Common.{◌≡◌, ℕ, ◌<◌, Bool, true, false, Option, Some, None, refl, subst, arith}
 use Rattle.std.proofs.lemmas.Bool.Decides.{nat_tests}
-use Rattle.vbr_words.specs.Dimensions.{IsShape}
+use Rattle.vbr_machine.specs.Start.{IsStart}
 use Rattle.vbr_words.specs.Words.{link_of}
 use Rattle.vbr_words.specs.declared.place.At.{At}
 use Rattle.vbr_machine.specs.Knowledge.{Know}
@@ -54,18 +54,18 @@ stands_before know key pred (Some cur) y = before_cur know key pred cur y
 pub key_known : (know : Know) (key : ℕ) (pred cur : Held) → IsCur know key pred cur true → KeyAt know cur.at key
 key_known know key pred cur y = let e : y.here ≡ key = let u = y.says in grind (arith, nat_tests) in rw e at y.read
 
-pub was_so : {p q : Trace} (key : ℕ) (found : Found) → IsShape p.shape → IsSame p q → IsFound p q key found → WasSo p q key found.present
-was_so {p} {q} key found shape same x = go found.cur found.present x.locates.end x.cur_stood
+pub was_so : {p q : Trace} (key : ℕ) (found : Found) → IsStart p.start → IsSame p q → IsFound p q key found → WasSo p q key found.present
+was_so {p} {q} key found start same x = go found.cur found.present x.locates.end x.cur_stood
   where
     pred : Held
     pred = found.pred
 
     absent : (cur : Option Held) → IsEnd (knows q) key pred cur false → WasSo p q key false
-    absent cur y = was_absent pred shape same (record { known = x.locates.pred.held; stood = x.stood }) x.locates.pred.unmarked key x.locates.pred.behind (stands_before (knows q) key pred cur y)
+    absent cur y = was_absent pred start same (record { known = x.locates.pred.held; stood = x.stood }) x.locates.pred.unmarked key x.locates.pred.behind (stands_before (knows q) key pred cur y)
 
     go : (cur : Option Held) (present : Bool) → IsEnd (knows q) key pred cur present → CurStood p q cur → WasSo p q key present
     go None present y z = rw y.1 (absent None (y.0, refl))
-    go (Some cur) true y z = was_present cur shape same (record { known = y.held; stood = z }) y.unmarked key (key_known (knows q) key pred cur y)
+    go (Some cur) true y z = was_present cur start same (record { known = y.held; stood = z }) y.unmarked key (key_known (knows q) key pred cur y)
     go (Some cur) false y z = absent (Some cur) y
 
 pub so_before : {p q r : Trace} {key : ℕ} {present : Bool} → WasSo p q key present → Quiet q r → WasSo p r key present

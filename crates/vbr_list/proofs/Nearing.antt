@@ -1,7 +1,7 @@
 -- A pass that was alone comes nearer to the key, node by node.
 use Rattle.std.proofs.Common.{◌≡◌, ◌≢◌, ℕ, suc, ◌+◌, ◌<◌, ◌≤◌, true, false, Option, Some, sym, ap, ◌∙◌, subst, arith, inl, inr}
 use Rattle.std.specs.Prelude.{Result, Ok, Err, IfOk, IfErr}
-use Rattle.vbr_words.specs.Dimensions.{Dimensions}
+use Rattle.vbr_machine.specs.Start.{Start}
 use Rattle.vbr_words.specs.Words.{link_of}
 use Rattle.vbr_words.specs.declared.place.At.{At}
 use Rattle.vbr_words.specs.declared.place.At.TheVariants.{Head, Slot}
@@ -43,7 +43,7 @@ then_of a b alone = alone_then a.same.who a.seen b.seen alone
 
 -- pieces that only read
 pub looks_leave : {p q : Trace} → Quiet p q → nodes q ≡ nodes p → LeavesLists p q
-looks_leave {p} {q} a same = same_leaves p q a.same.shape same
+looks_leave {p} {q} a same = same_leaves p q a.same.start same
 
 pub read_leaves : {p q : PassView} {n : ℕ} → ReadsIn p q n → IsAlone p.trace q.trace → LeavesLists p.trace q.trace
 read_leaves x alone = looks_leave x.quiet (x.looks alone)
@@ -61,25 +61,25 @@ start_still (Ok h) x y fresh rolls = tt
 -- ---- a visit
 
 -- behind what the link of a place names there is one node fewer
-one_behind : (p : PassView) → PassLaw p → (key : ℕ) (pred : Held) → IsInside p.trace.shape (knows p.trace) key pred → StandsInList p.trace pred → StandsNow p.trace pred → (s : ℕ) → Names pred s → ahead_for p.trace key pred ≡ suc (ahead p.trace (bucket_of p.trace.shape key) (Slot s))
+one_behind : (p : PassView) → PassLaw p → (key : ℕ) (pred : Held) → IsInside p.trace.start (knows p.trace) key pred → StandsInList p.trace pred → StandsNow p.trace pred → (s : ℕ) → Names pred s → ahead_for p.trace key pred ≡ suc (ahead p.trace (bucket_of p.trace.start.shape key) (Slot s))
 one_behind p sound key pred x there stands s names =
-    one_fewer_behind p.trace.shape p.trace.passes p.trace.seen sound.shape sound.is_run p.trace.who (bucket_of p.trace.shape key) pred.at (link_of pred.word) x.held.link there stands x.inside s names
+    one_fewer_behind p.trace.start p.trace.passes p.trace.seen sound.start sound.is_run p.trace.who (bucket_of p.trace.start.shape key) pred.at (link_of pred.word) x.held.link there stands x.inside s names
 
 -- so what the link of a place names is at another place
-pub named_elsewhere : (p : PassView) → PassLaw p → (key : ℕ) (pred : Held) → IsInside p.trace.shape (knows p.trace) key pred → StandsInList p.trace pred → StandsNow p.trace pred → (s : ℕ) → Names pred s → (at : At) → at ≡ Slot s → pred.at ≢ at
+pub named_elsewhere : (p : PassView) → PassLaw p → (key : ℕ) (pred : Held) → IsInside p.trace.start (knows p.trace) key pred → StandsInList p.trace pred → StandsNow p.trace pred → (s : ℕ) → Names pred s → (at : At) → at ≡ Slot s → pred.at ≢ at
 named_elsewhere p sound key pred x there stands s names at is e =
     let fewer = one_behind p sound key pred x there stands s names in
-    let same = ap (ahead p.trace (bucket_of p.trace.shape key)) (e ∙ is) in
+    let same = ap (ahead p.trace (bucket_of p.trace.start.shape key)) (e ∙ is) in
     omega (arith, fewer, same)
 
 -- in lists as they were
-pub ahead_same : (p q : Trace) (key : ℕ) (at : At) → LeavesLists p q → q.shape ≡ p.shape → ahead q (bucket_of q.shape key) at ≡ ahead p (bucket_of p.shape key) at
-ahead_same p q key at l shape = ap (λ (s : Dimensions). ahead q (bucket_of s key) at) shape ∙ l.count (bucket_of p.shape key) at
+pub ahead_same : (p q : Trace) (key : ℕ) (at : At) → LeavesLists p q → q.start ≡ p.start → ahead q (bucket_of q.start.shape key) at ≡ ahead p (bucket_of p.start.shape key) at
+ahead_same p q key at l start = ap (λ (s : Start). ahead q (bucket_of s.shape key) at) start ∙ l.count (bucket_of p.start.shape key) at
 
-pub visited : (p : PassView) → PassLaw p → (q r : Trace) (key : ℕ) (pred node : Held) → IsInside p.trace.shape (knows p.trace) key pred → StandsInList p.trace pred → StandsNow p.trace pred → IsNext p.trace q pred (Some node) → LeavesLists p.trace r → r.shape ≡ p.trace.shape → ahead_for p.trace key pred ≡ suc (ahead_for r key node)
-visited p sound q r key pred node x there stands n l shape =
+pub visited : (p : PassView) → PassLaw p → (q r : Trace) (key : ℕ) (pred node : Held) → IsInside p.trace.start (knows p.trace) key pred → StandsInList p.trace pred → StandsNow p.trace pred → IsNext p.trace q pred (Some node) → LeavesLists p.trace r → r.start ≡ p.trace.start → ahead_for p.trace key pred ≡ suc (ahead_for r key node)
+visited p sound q r key pred node x there stands n l start =
     one_behind p sound key pred x there stands n.0 n.1
-    ∙ ap suc (sym (ahead_same p.trace r key (Slot n.0) l shape) ∙ ap (ahead r (bucket_of r.shape key)) (sym n.2))
+    ∙ ap suc (sym (ahead_same p.trace r key (Slot n.0) l start) ∙ ap (ahead r (bucket_of r.start.shape key)) (sym n.2))
 
 -- the node that was read stands in its fresh epoch, also once its key was read
 pub node_still_there : (p q r : Trace) (node : Held) → nodes q ≡ nodes p → nodes r ≡ nodes q → Keeps (knows p) (knows q) → Keeps (knows q) (knows r) → IsFresh p → StandsNow q node → StillAt r node
@@ -87,10 +87,10 @@ node_still_there p q r node x y k l fresh stands = record { fresh = fresh_kept q
 
 -- ---- a help
 
-pub helped_alone : (p q r : Trace) (key : ℕ) (pred place : Held) → HeldIn (knows p) pred.at (bucket_of p.shape key) → place.at ≡ pred.at → q.shape ≡ p.shape → r.shape ≡ q.shape → UnlinksAlone p q pred place → LeavesLists q r → IsFresh r → HelpsAlone p r key pred place
+pub helped_alone : (p q r : Trace) (key : ℕ) (pred place : Held) → HeldIn (knows p) pred.at (bucket_of p.start.shape key) → place.at ≡ pred.at → q.start ≡ p.start → r.start ≡ q.start → UnlinksAlone p q pred place → LeavesLists q r → IsFresh r → HelpsAlone p r key pred place
 helped_alone p q r key pred place inside at s1 s2 x l fresh = record {
   keeps = record { fresh = fresh; stands = l.links place.at ∙ x.stands };
-  fewer = x.fewer (bucket_of p.shape key) inside ∙ ap suc (sym (ahead_same q r key place.at l s2 ∙ ap (λ (s : Dimensions). ahead q (bucket_of s key) place.at) s1 ∙ ap (ahead q (bucket_of p.shape key)) at));
+  fewer = x.fewer (bucket_of p.start.shape key) inside ∙ ap suc (sym (ahead_same q r key place.at l s2 ∙ ap (λ (s : Start). ahead q (bucket_of s.shape key) place.at) s1 ∙ ap (ahead q (bucket_of p.start.shape key)) at));
 }
 
 -- ---- a mark
@@ -102,17 +102,17 @@ fresh_marked p q same keeps fresh = same ∙ fresh ∙ sym keeps.epoch
 -- ---- the list of a key's bucket
 
 -- as many nodes
-pub listed_same : (p q : Trace) (key : ℕ) → q.shape ≡ p.shape → ((bucket h : ℕ) → ahead q bucket (Head h) ≡ ahead p bucket (Head h)) → listed_for q key ≡ listed_for p key
-listed_same p q key shape same =
-    let b = bucket_of p.shape key in
-    ap (λ (s : Dimensions). ahead q (bucket_of s key) (Head (bucket_of s key))) shape ∙ same b b
+pub listed_same : (p q : Trace) (key : ℕ) → q.start ≡ p.start → ((bucket h : ℕ) → ahead q bucket (Head h) ≡ ahead p bucket (Head h)) → listed_for q key ≡ listed_for p key
+listed_same p q key start same =
+    let b = bucket_of p.start.shape key in
+    ap (λ (s : Start). ahead q (bucket_of s.shape key) (Head (bucket_of s.shape key))) start ∙ same b b
 
 -- fewer, where that is so in each list that a place is held in
-pub listed_fewer : (p q : Trace) (key : ℕ) {at : At} → q.shape ≡ p.shape → ((bucket h : ℕ) → HeldIn (knows p) at bucket → ahead q bucket (Head h) < ahead p bucket (Head h)) → HeldIn (knows p) at (bucket_of p.shape key) → listed_for q key < listed_for p key
-listed_fewer p q key shape fewer inside =
-    let b = bucket_of p.shape key in
-    let P : Dimensions → Type 0 = λ s. ahead q (bucket_of s key) (Head (bucket_of s key)) < listed_for p key in
-    subst P (sym shape) (fewer b b inside)
+pub listed_fewer : (p q : Trace) (key : ℕ) {at : At} → q.start ≡ p.start → ((bucket h : ℕ) → HeldIn (knows p) at bucket → ahead q bucket (Head h) < ahead p bucket (Head h)) → HeldIn (knows p) at (bucket_of p.start.shape key) → listed_for q key < listed_for p key
+listed_fewer p q key start fewer inside =
+    let b = bucket_of p.start.shape key in
+    let P : Start → Type 0 = λ s. ahead q (bucket_of s.shape key) (Head (bucket_of s.shape key)) < listed_for p key in
+    subst P (sym start) (fewer b b inside)
 
 -- ---- errors that are handed on
 
@@ -122,13 +122,13 @@ either (Err e) p = p
 
 -- ---- from place to place
 
-pub nears_visit : (p q r : Trace) (key before a b : ℕ) (pred node : Held) → Nears p q key before a pred → LeavesLists q r → r.shape ≡ q.shape → b ≡ a + 5 → StillAt r node × (ahead_for q key pred ≡ suc (ahead_for r key node)) → Nears p r key before b node
-nears_visit p q r key before a b pred node x l shape sum y =
+pub nears_visit : (p q r : Trace) (key before a b : ℕ) (pred node : Held) → Nears p q key before a pred → LeavesLists q r → r.start ≡ q.start → b ≡ a + 5 → StillAt r node × (ahead_for q key pred ≡ suc (ahead_for r key node)) → Nears p r key before b node
+nears_visit p q r key before a b pred node x l start sum y =
     record { keeps = y.0; paid = (let u = x.paid in let v = y.1 in omega (arith, u, v, sum)) }
 
-pub nears_help : (p q r s : Trace) (key before a b c : ℕ) (pred place : Held) → Nears p q key before a pred → LeavesLists q r → r.shape ≡ q.shape → b ≡ a + 3 → c ≤ b + 6 → HelpsAlone r s key pred place → Nears p s key before c place
-nears_help p q r s key before a b c pred place x l shape sum few y =
-    let d : ahead_for r key pred ≡ ahead_for q key pred = ahead_same q r key pred.at l shape in
+pub nears_help : (p q r s : Trace) (key before a b c : ℕ) (pred place : Held) → Nears p q key before a pred → LeavesLists q r → r.start ≡ q.start → b ≡ a + 3 → c ≤ b + 6 → HelpsAlone r s key pred place → Nears p s key before c place
+nears_help p q r s key before a b c pred place x l start sum few y =
+    let d : ahead_for r key pred ≡ ahead_for q key pred = ahead_same q r key pred.at l start in
     record { keeps = y.keeps; paid = (let u = x.paid in let v = y.fewer in omega (arith, u, v, d, sum, few)) }
 
 -- what stands in lists as they were
@@ -137,8 +137,8 @@ stands_on q r pred l stands = l.links pred.at ∙ stands
 
 -- ---- at the key
 
-pub found_beyond : (p q r : Trace) (key before a b : ℕ) (pred node : Held) (found : Found) → Nears p q key before a pred → LeavesLists q r → r.shape ≡ q.shape → b ≡ a + 5 → StillAt r node × (ahead_for q key pred ≡ suc (ahead_for r key node)) → found.pred ≡ pred → found.cur ≡ Some node → FoundAlone p r key before b found
-found_beyond p q r key before a b pred node found x l shape sum y is cur =
+pub found_beyond : (p q r : Trace) (key before a b : ℕ) (pred node : Held) (found : Found) → Nears p q key before a pred → LeavesLists q r → r.start ≡ q.start → b ≡ a + 5 → StillAt r node × (ahead_for q key pred ≡ suc (ahead_for r key node)) → found.pred ≡ pred → found.cur ≡ Some node → FoundAlone p r key before b found
+found_beyond p q r key before a b pred node found x l start sum y is cur =
     let P : Held → Type 0 = StillAt r in
     let Q : Option Held → Type 0 = NextStands r in
     record {
@@ -150,24 +150,24 @@ found_beyond p q r key before a b pred node found x l shape sum y is cur =
 -- ---- past marked nodes
 
 -- a marked node behind a place of the list is in the list too
-pub named_in_list : (p : PassView) → PassLaw p → (r : Trace) (key : ℕ) (pred : Held) → IsInside p.trace.shape (knows p.trace) key pred → StandsInList p.trace pred → StandsNow p.trace pred → (s : ℕ) → Names pred s → nodes r ≡ nodes p.trace → is_there (nodes r) (Slot s) ≡ true
+pub named_in_list : (p : PassView) → PassLaw p → (r : Trace) (key : ℕ) (pred : Held) → IsInside p.trace.start (knows p.trace) key pred → StandsInList p.trace pred → StandsNow p.trace pred → (s : ℕ) → Names pred s → nodes r ≡ nodes p.trace → is_there (nodes r) (Slot s) ≡ true
 named_in_list p sound r key pred x there stands s names same =
     ap (λ a. is_there a (Slot s)) same
-    ∙ named_there p.trace.shape p.trace.passes p.trace.seen sound.shape sound.is_run p.trace.who (bucket_of p.trace.shape key) pred.at (link_of pred.word) x.held.link there stands x.inside s names
+    ∙ named_there p.trace.start p.trace.passes p.trace.seen sound.start sound.is_run p.trace.who (bucket_of p.trace.start.shape key) pred.at (link_of pred.word) x.held.link there stands x.inside s names
 
 -- what a visit of a marked node leaves
-pub marked_alone : (p : PassView) → PassLaw p → (q : Trace) (key : ℕ) (pred node : Held) (marked : Marked) → Quiet p.trace q → IsInside p.trace.shape (knows p.trace) key pred → StandsInList p.trace pred → StandsNow p.trace pred → IsNext p.trace q pred (Some node) → held_of marked ≡ node → nodes q ≡ nodes p.trace → Keeps (knows p.trace) (knows q) → IsFresh p.trace → StandsNow q node →
+pub marked_alone : (p : PassView) → PassLaw p → (q : Trace) (key : ℕ) (pred node : Held) (marked : Marked) → Quiet p.trace q → IsInside p.trace.start (knows p.trace) key pred → StandsInList p.trace pred → StandsNow p.trace pred → IsNext p.trace q pred (Some node) → held_of marked ≡ node → nodes q ≡ nodes p.trace → Keeps (knows p.trace) (knows q) → IsFresh p.trace → StandsNow q node →
     StillAt q (held_of marked) × (ahead_for p.trace key pred ≡ suc (ahead_for q key (held_of marked))) × (is_there (nodes q) (Slot marked.slot) ≡ true)
 marked_alone p sound q key pred node marked quiet x there stands n e same keeps fresh now =
     let P : Held → Type 0 = λ h. StillAt q h × (ahead_for p.trace key pred ≡ suc (ahead_for q key h)) in
-    let both = subst P (sym e) (record { fresh = fresh_kept p.trace q same keeps fresh; stands = now }, visited p sound q q key pred node x there stands n (looks_leave quiet same) quiet.same.shape) in
+    let both = subst P (sym e) (record { fresh = fresh_kept p.trace q same keeps fresh; stands = now }, visited p sound q q key pred node x there stands n (looks_leave quiet same) quiet.same.start) in
     let s : n.0 ≡ marked.slot = slot_same marked.slot n.0 (ap (λ (h : Held). h.at) e ∙ n.2) in
     let Q : ℕ → Type 0 = λ t. is_there (nodes q) (Slot t) ≡ true in
     (both.0, both.1, subst Q s (named_in_list p sound q key pred x there stands n.0 n.1 same))
 
-pub passes_start : (p q : Trace) (bucket key before since : ℕ) (head : Held) → LeavesLists p q → q.shape ≡ p.shape → bucket ≡ bucket_of p.shape key → since ≡ before + 3 → (link_of head.word).mark ≡ false → StillAt q head × (head.at ≡ Head bucket) → Passes p q key before since head head
-passes_start p q bucket key before since head l shape is sum unmarked x =
-    let a : ahead_for q key head ≡ listed_for p key = ahead_same p q key head.at l shape ∙ ap (ahead p (bucket_of p.shape key)) (x.1 ∙ ap Head is) in
+pub passes_start : (p q : Trace) (bucket key before since : ℕ) (head : Held) → LeavesLists p q → q.start ≡ p.start → bucket ≡ bucket_of p.start.shape key → since ≡ before + 3 → (link_of head.word).mark ≡ false → StillAt q head × (head.at ≡ Head bucket) → Passes p q key before since head head
+passes_start p q bucket key before since head l start is sum unmarked x =
+    let a : ahead_for q key head ≡ listed_for p key = ahead_same p q key head.at l start ∙ ap (ahead p (bucket_of p.start.shape key)) (x.1 ∙ ap Head is) in
     record { last = x.0; place = x.0; there = inl unmarked; paid = omega (arith, a, sum) }
 
 -- past a node with a smaller key

@@ -1,6 +1,6 @@
 -- A look-up goes on from place to place: behind a place before the key known marked links lead on.
 use Rattle.std.proofs.Common.{◌≡◌, ℕ, ◌≤◌, Bool, true, false, Option, None, sym, subst, arith}
-use Rattle.vbr_words.specs.Dimensions.{Dimensions}
+use Rattle.vbr_machine.specs.Start.{Start}
 use Rattle.vbr_words.specs.Words.{link_of}
 use Rattle.vbr_words.specs.declared.link.Link.{Link}
 use Rattle.vbr_words.specs.declared.place.At.TheVariants.{Slot}
@@ -32,34 +32,34 @@ leads_kept link _ keeps itself = itself
 leads_kept link _ keeps (onward last s next leads names known mark) = onward last s next (leads_kept link last keeps leads) names (keeps.reads (LinkAt (Slot s) next) known) mark
 
 -- from a place before the key
-pub look_at : {shape : Dimensions} {know : Know} {key : ℕ} {pred : Held} → IsPred shape know key pred → IsLook shape know key pred pred
+pub look_at : {start : Start} {know : Know} {key : ℕ} {pred : Held} → IsPred start know key pred → IsLook start know key pred pred
 look_at x = record { before = x; inside = pred_inside x; leads = itself }
 
 -- past a marked node
-pub look_past : {p q : Trace} (key : ℕ) (pred here : Held) (marked : Marked) → IsSame p q → Keeps (knows p) (knows q) → IsLook p.shape (knows p) key pred here → HoldsMarked (knows q) marked → Names here marked.slot → IsLook q.shape (knows q) key pred (held_of marked)
+pub look_past : {p q : Trace} (key : ℕ) (pred here : Held) (marked : Marked) → IsSame p q → Keeps (knows p) (knows q) → IsLook p.start (knows p) key pred here → HoldsMarked (knows q) marked → Names here marked.slot → IsLook q.start (knows q) key pred (held_of marked)
 look_past {p} {q} key pred here marked s keeps x m names =
-    let P : Dimensions → Type 0 = λ shape. HeldIn (knows q) (Slot marked.slot) (bucket_of shape key) in
-    let there = held_in_kept here.at (bucket_of p.shape key) keeps x.inside.inside in
+    let P : Start → Type 0 = λ start. HeldIn (knows q) (Slot marked.slot) (bucket_of start.shape key) in
+    let there = held_in_kept here.at (bucket_of p.start.shape key) keeps x.inside.inside in
     record {
       before = pred_on key pred s keeps x.before;
-      inside = record { held = m.held; inside = subst P (sym s.shape) (held_in_next here marked.slot (bucket_of p.shape key) (held_kept here keeps x.inside.held) names there) };
+      inside = record { held = m.held; inside = subst P (sym s.start) (held_in_next here marked.slot (bucket_of p.start.shape key) (held_kept here keeps x.inside.held) names there) };
       leads = onward (link_of here.word) marked.slot (link_of marked.word) (leads_kept (link_of pred.word) (link_of here.word) keeps x.leads) names m.held.link m.mark;
     }
 
 -- ---- what it comes to
 
 -- the end of the list
-pub absent_at_end : {shape : Dimensions} {know : Know} {key : ℕ} (pred here : Held) → IsLook shape know key pred here → (link_of here.word).slot ≡ None → IsSight shape know key (Absent pred)
+pub absent_at_end : {start : Start} {know : Know} {key : ℕ} (pred here : Held) → IsLook start know key pred here → (link_of here.word).slot ≡ None → IsSight start know key (Absent pred)
 absent_at_end pred here x none = (x.before, record { last = link_of here.word; leads = x.leads; before = rw none tt })
 
 -- a node with a greater key
-pub absent_before : {p q : Trace} (key : ℕ) (pred here node : Held) → IsSame p q → Keeps (knows p) (knows q) → IsLook p.shape (knows p) key pred here → IsCur (knows q) key here node false → IsSight q.shape (knows q) key (Absent pred)
+pub absent_before : {p q : Trace} (key : ℕ) (pred here node : Held) → IsSame p q → Keeps (knows p) (knows q) → IsLook p.start (knows p) key pred here → IsCur (knows q) key here node false → IsSight q.start (knows q) key (Absent pred)
 absent_before {p} {q} key pred here node s keeps x y =
     (pred_on key pred s keeps x.before, record { last = link_of here.word; leads = leads_kept (link_of pred.word) (link_of here.word) keeps x.leads; before = before_cur (knows q) key here node y })
 
 -- the node with the key
-pub present_at : (shape : Dimensions) {know : Know} (key : ℕ) (here node : Held) → IsCur know key here node true → IsSight shape know key (Present node)
-present_at shape {know} key here node y = (y.held, y.unmarked, key_known know key here node y)
+pub present_at : (start : Start) {know : Know} (key : ℕ) (here node : Held) → IsCur know key here node true → IsSight start know key (Present node)
+present_at start {know} key here node y = (y.held, y.unmarked, key_known know key here node y)
 
 -- a key that stands before what a place names stands before what known marked links lead to from there
 pub before_named : (know : Know) (key : ℕ) (pred : Held) (cur : Option Held) (present : Bool) → IsEnd know key pred cur present → present ≡ false → StandsBeforeOn know key (link_of pred.word)
@@ -75,5 +75,5 @@ peeks_refl p a budget h = record { tries = tries_refl p a budget h; observes = o
 pub peeks_on : {p q r : PassView} {a b c budget : ℕ} → Peeks p q a b budget → Goes q r b c → Observes q.trace r.trace → b ≤ c → c ≤ budget → Peeks p r a c budget
 peeks_on x y more le high = record { tries = tries_on x.tries y le high; observes = observes_on x.observes more }
 
-pub looks_on : {p q r : PassView} {key a b c budget : ℕ} {pred here pred2 here2 : Held} → Looks p q key a b budget pred here → Goes q r b c → Observes q.trace r.trace → b ≤ c → c ≤ budget → IsLook r.trace.shape (knows r.trace) key pred2 here2 → (IsAlone p.trace r.trace → Passes p.trace r.trace key a c pred2 here2) → Looks p r key a c budget pred2 here2
+pub looks_on : {p q r : PassView} {key a b c budget : ℕ} {pred here pred2 here2 : Held} → Looks p q key a b budget pred here → Goes q r b c → Observes q.trace r.trace → b ≤ c → c ≤ budget → IsLook r.trace.start (knows r.trace) key pred2 here2 → (IsAlone p.trace r.trace → Passes p.trace r.trace key a c pred2 here2) → Looks p r key a c budget pred2 here2
 looks_on x y more le high look passes = record { peeks = peeks_on x.peeks y more le high; some = let u = x.some in omega arith; look = look; passes = passes }

@@ -3,7 +3,7 @@ use Rattle.std.proofs.Common.{◌≡◌, ◌≢◌, ℕ, ◌+◌, ◌-◌, ◌<�
 use Rattle.std.specs.Prelude.{IfOk, IfErr}
 use Rattle.std.specs.Result.{is_err, is_ok}
 use Rattle.vbr_words.specs.declared.nodes.Nodes.{Ghosts}
-use Rattle.vbr_words.specs.Dimensions.{Dimensions}
+use Rattle.vbr_machine.specs.Start.{Start}
 use Rattle.vbr_machine.specs.History.{set_call}
 use Rattle.vbr_machine.specs.Runs.{Begins, IsRun}
 use Rattle.vbr_machine.specs.declared.history.Call.{Call as ListedCall}
@@ -77,7 +77,7 @@ refuses_after p q r quiet some x absent more NoSlot y = record {
   absent = so_before absent more;
   empty = was_empty p.pool q.pool some y.empty;
   still = y.still;
-  outside = λ slot low. missed_after quiet (y.outside slot (let P : Dimensions → Type 0 = λ shape. slot < shape.slots in subst P (sym quiet.same.shape) low));
+  outside = λ slot low. missed_after quiet (y.outside slot (let P : Start → Type 0 = λ start. slot < start.shape.slots in subst P (sym quiet.same.start) low));
 }
 refuses_after p q r quiet some x absent more (EpochSpent epoch) y = (so_before absent more, record { spent = y.spent; since = y.since; counts = within_on x y.counts.counts y.counts.within.0 y.counts.within.1; room = y.room })
 
@@ -128,7 +128,7 @@ each_same p q told (Ok reply) made quiet = made.same
 each_same p q told (Err error) made quiet = quiet.same
 
 -- the pass has seen more, answer or not
-pub each_seen : {A E : Type 0} (p q : Trace) (told : A → ListedCall) (answer : Result A E) → IfOk answer (λ reply. Made (told reply) p q) → IfErr answer (λ _. Quiet p q) → Begins p.seen q.seen × (IsRun p.shape p.passes p.seen → IsRun q.shape q.passes q.seen)
+pub each_seen : {A E : Type 0} (p q : Trace) (told : A → ListedCall) (answer : Result A E) → IfOk answer (λ reply. Made (told reply) p q) → IfErr answer (λ _. Quiet p q) → Begins p.seen q.seen × (IsRun p.start p.passes p.seen → IsRun q.start q.passes q.seen)
 each_seen p q told (Ok reply) made quiet = (made.seen, λ _. made.is_run)
 each_seen p q told (Err error) made quiet = (quiet.seen, quiet.is_run)
 

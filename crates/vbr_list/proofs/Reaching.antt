@@ -2,7 +2,7 @@
 use Rattle.std.proofs.Common.{◌≡◌, ℕ, ◌<◌, ◌≤◌, Bool, true, false, ◌++◌, refl, sym, ap, ◌∙◌, subst, arith, eq-eqb, Some}
 use Rattle.std.specs.Prelude.{◌==◌}
 use Rattle.std.proofs.lemmas.List.Elements.{Contains-append_left}
-use Rattle.vbr_words.specs.Dimensions.{Dimensions}
+use Rattle.vbr_machine.specs.Start.{Start}
 use Rattle.vbr_words.specs.Words.{link_of}
 use Rattle.vbr_words.specs.declared.place.At.{At}
 use Rattle.vbr_words.specs.declared.place.At.TheVariants.{Head, Slot}
@@ -34,29 +34,29 @@ stood_since a x = stood_after a.same a.seen x
 
 -- ---- the head
 
-place_at_head : (shape : Dimensions) (know : Know) (at : At) (bucket key : ℕ) → at ≡ Head bucket → bucket ≡ bucket_of shape key → HeldIn know at (bucket_of shape key) × StandsBehind shape know at key
-place_at_head shape know at bucket key e f =
-    let P : At → Type 0 = λ x. HeldIn know x (bucket_of shape key) × StandsBehind shape know x key in
-    subst P (sym (e ∙ ap Head f)) (at_head (bucket_of shape key), refl)
+place_at_head : (start : Start) (know : Know) (at : At) (bucket key : ℕ) → at ≡ Head bucket → bucket ≡ bucket_of start.shape key → HeldIn know at (bucket_of start.shape key) × StandsBehind start know at key
+place_at_head start know at bucket key e f =
+    let P : At → Type 0 = λ x. HeldIn know x (bucket_of start.shape key) × StandsBehind start know x key in
+    subst P (sym (e ∙ ap Head f)) (at_head (bucket_of start.shape key), refl)
 
-pub head_reached : {p q r : Trace} (bucket key : ℕ) (head : Held) → Quiet p q → Quiet q r → bucket ≡ bucket_of p.shape key → head.at ≡ Head bucket → IsRead q r head → (link_of head.word).mark ≡ false → HasComeTo p r key head
+pub head_reached : {p q r : Trace} (bucket key : ℕ) (head : Held) → Quiet p q → Quiet q r → bucket ≡ bucket_of p.start.shape key → head.at ≡ Head bucket → IsRead q r head → (link_of head.word).mark ≡ false → HasComeTo p r key head
 head_reached {p} {q} {r} bucket key head x y e at read unmarked =
     let z = quiet_on x y in
-    let place = place_at_head r.shape (knows r) head.at bucket key at (e ∙ ap (λ (shape : Dimensions). bucket_of shape key) (sym z.same.shape)) in
+    let place = place_at_head r.start (knows r) head.at bucket key at (e ∙ ap (λ (start : Start). bucket_of start.shape key) (sym z.same.start)) in
     record { is = record { held = read.known; unmarked = unmarked; inside = place.0; behind = place.1 }; stood = stood_since x read.stood }
 
 -- ---- what is known stays
 
 -- a place before the key stays one
-pub pred_on : {p q : Trace} (key : ℕ) (held : Held) → IsSame p q → Keeps (knows p) (knows q) → IsPred p.shape (knows p) key held → IsPred q.shape (knows q) key held
+pub pred_on : {p q : Trace} (key : ℕ) (held : Held) → IsSame p q → Keeps (knows p) (knows q) → IsPred p.start (knows p) key held → IsPred q.start (knows q) key held
 pred_on {p} {q} key held s keeps x =
-    let P : Dimensions → Type 0 = λ shape. HeldIn (knows q) held.at (bucket_of shape key) in
-    let Q : Dimensions → Type 0 = λ shape. StandsBehind shape (knows q) held.at key in
+    let P : Start → Type 0 = λ start. HeldIn (knows q) held.at (bucket_of start.shape key) in
+    let Q : Start → Type 0 = λ start. StandsBehind start (knows q) held.at key in
     record {
       held = held_kept held keeps x.held;
       unmarked = x.unmarked;
-      inside = subst P (sym s.shape) (held_in_kept held.at (bucket_of p.shape key) keeps x.inside);
-      behind = subst Q (sym s.shape) (behind_kept p.shape held.at key keeps x.behind);
+      inside = subst P (sym s.start) (held_in_kept held.at (bucket_of p.start.shape key) keeps x.inside);
+      behind = subst Q (sym s.start) (behind_kept p.start held.at key keeps x.behind);
     }
 
 -- a key that is known at a place stays known
@@ -65,31 +65,31 @@ key_kept (Head b) key keeps k = k
 key_kept (Slot s) key keeps k = keeps.reads (KeyOf s key) k
 
 -- a place before the key is one of the list
-pub pred_inside : {shape : Dimensions} {know : Know} {key : ℕ} {pred : Held} → IsPred shape know key pred → IsInside shape know key pred
+pub pred_inside : {start : Start} {know : Know} {key : ℕ} {pred : Held} → IsPred start know key pred → IsInside start know key pred
 pred_inside x = record { held = x.held; inside = x.inside }
 
 -- ---- a node
 
-node_behind : (shape : Dimensions) (know : Know) (at : At) (s here key : ℕ) → at ≡ Slot s → KeyAt know at here → bucket_of shape key ≡ bucket_of shape here → here < key → StandsBehind shape know at key
-node_behind shape know at s here key e x b l =
-    let P : At → Type 0 = λ y. KeyAt know y here → StandsBehind shape know y key in
+node_behind : (start : Start) (know : Know) (at : At) (s here key : ℕ) → at ≡ Slot s → KeyAt know at here → bucket_of start.shape key ≡ bucket_of start.shape here → here < key → StandsBehind start know at key
+node_behind start know at s here key e x b l =
+    let P : At → Type 0 = λ y. KeyAt know y here → StandsBehind start know y key in
     subst P (sym e) (λ h. (here, h, b, l)) x
 
 -- a node with a smaller key
-pub node_reached : {p q r : Trace} (key here : ℕ) (pred node : Held) → IsInside p.shape (knows p) key pred → Keeps (knows p) (knows q) → IsNext p q pred (Some node) → Keeps (knows q) (knows r) → KeyAt (knows r) node.at here →
-    ((b : ℕ) → HeldIn (knows q) node.at b → bucket_of q.shape here ≡ b) → (link_of node.word).mark ≡ false → here < key → Quiet p q → Quiet q r → HasComeTo p r key node
+pub node_reached : {p q r : Trace} (key here : ℕ) (pred node : Held) → IsInside p.start (knows p) key pred → Keeps (knows p) (knows q) → IsNext p q pred (Some node) → Keeps (knows q) (knows r) → KeyAt (knows r) node.at here →
+    ((b : ℕ) → HeldIn (knows q) node.at b → bucket_of q.start.shape here ≡ b) → (link_of node.word).mark ≡ false → here < key → Quiet p q → Quiet q r → HasComeTo p r key node
 node_reached {p} {q} {r} key here pred node x keep n keep2 k bucket unmarked l a b =
-    let P : At → Type 0 = λ at. HeldIn (knows q) at (bucket_of p.shape key) in
-    let i : HeldIn (knows q) node.at (bucket_of p.shape key) = subst P (sym n.2) (held_in_next pred n.0 (bucket_of p.shape key) (held_kept pred keep x.held) n.1 (held_in_kept pred.at (bucket_of p.shape key) keep x.inside)) in
+    let P : At → Type 0 = λ at. HeldIn (knows q) at (bucket_of p.start.shape key) in
+    let i : HeldIn (knows q) node.at (bucket_of p.start.shape key) = subst P (sym n.2) (held_in_next pred n.0 (bucket_of p.start.shape key) (held_kept pred keep x.held) n.1 (held_in_kept pred.at (bucket_of p.start.shape key) keep x.inside)) in
     let s = quiet_on a b in
-    let e : bucket_of p.shape key ≡ bucket_of r.shape key = ap (λ (shape : Dimensions). bucket_of shape key) (sym s.same.shape) in
-    let f : bucket_of r.shape here ≡ bucket_of r.shape key = ap (λ (shape : Dimensions). bucket_of shape here) b.same.shape ∙ bucket (bucket_of p.shape key) i ∙ e in
+    let e : bucket_of p.start.shape key ≡ bucket_of r.start.shape key = ap (λ (start : Start). bucket_of start.shape key) (sym s.same.start) in
+    let f : bucket_of r.start.shape here ≡ bucket_of r.start.shape key = ap (λ (start : Start). bucket_of start.shape here) b.same.start ∙ bucket (bucket_of p.start.shape key) i ∙ e in
     record {
       is = record {
         held = held_kept node keep2 n.3.known;
         unmarked = unmarked;
-        inside = held_in_kept node.at (bucket_of r.shape key) keep2 (let Q : ℕ → Type 0 = λ v. HeldIn (knows q) node.at v in subst Q e i);
-        behind = node_behind r.shape (knows r) node.at n.0 here key n.2 k (sym f) l;
+        inside = held_in_kept node.at (bucket_of r.start.shape key) keep2 (let Q : ℕ → Type 0 = λ v. HeldIn (knows q) node.at v in subst Q e i);
+        behind = node_behind r.start (knows r) node.at n.0 here key n.2 k (sym f) l;
       };
       stood = stood_before n.3.stood b;
     }
@@ -115,12 +115,12 @@ retired_keeps know later slot kept is same = record { epoch = same; reads = λ r
     all : later.checked ≡ know.checked ++ know.pending
     all = let t : (later.epoch == know.epoch) ≡ true = eq-eqb later.epoch know.epoch same in ap (λ (k : Know). k.checked) is ∙ rw t refl
 
-pub helped : {p q r : Trace} (key : ℕ) (pred place : Held) → IsPred p.shape (knows p) key pred → Keeps (knows p) (knows q) → place.at ≡ pred.at → (link_of place.word).mark ≡ false → IsRead p q place → Quiet p q → Quiet q r → Keeps (knows q) (knows r) → HasComeTo p r key place
+pub helped : {p q r : Trace} (key : ℕ) (pred place : Held) → IsPred p.start (knows p) key pred → Keeps (knows p) (knows q) → place.at ≡ pred.at → (link_of place.word).mark ≡ false → IsRead p q place → Quiet p q → Quiet q r → Keeps (knows q) (knows r) → HasComeTo p r key place
 helped {p} {q} {r} key pred place x keeps at unmarked read a b keeps2 =
     let z = pred_on key pred a.same keeps x in
-    let P : At → Type 0 = λ t. HeldIn (knows q) t (bucket_of q.shape key) in
-    let Q : At → Type 0 = λ t. StandsBehind q.shape (knows q) t key in
-    let w : IsPred q.shape (knows q) key place = record { held = read.known; unmarked = unmarked; inside = subst P (sym at) z.inside; behind = subst Q (sym at) z.behind } in
+    let P : At → Type 0 = λ t. HeldIn (knows q) t (bucket_of q.start.shape key) in
+    let Q : At → Type 0 = λ t. StandsBehind q.start (knows q) t key in
+    let w : IsPred q.start (knows q) key place = record { held = read.known; unmarked = unmarked; inside = subst P (sym at) z.inside; behind = subst Q (sym at) z.behind } in
     record { is = pred_on key place b.same keeps2 w; stood = stood_before read.stood b }
 
 -- ---- from place to place
@@ -134,8 +134,8 @@ traverses_on x y le high reached nears = record {
 }
 
 -- the slot of a marked node is one of the shape
-pub marked_in : (p : PassView) → PassLaw p → (t : TableView) → IsOf p.trace t → (marked : Marked) → HoldsMarked (knows p.trace) marked → (s : ℕ) → s ≡ marked.slot → s < t.shape.slots
+pub marked_in : (p : PassView) → PassLaw p → (t : TableView) → IsOf p.trace t → (marked : Marked) → HoldsMarked (knows p.trace) marked → (s : ℕ) → s ≡ marked.slot → s < t.start.shape.slots
 marked_in p sound t own marked x s e =
-    let P : Dimensions → Type 0 = λ shape. marked.slot < shape.slots in
-    let Q : ℕ → Type 0 = λ i. i < t.shape.slots in
-    subst Q (sym e) (subst P own.1 (link_in p.trace.shape p.trace.passes p.trace.seen sound.shape sound.is_run p.trace.who (Slot marked.slot) (link_of marked.word) x.held.link))
+    let P : Start → Type 0 = λ start. marked.slot < start.shape.slots in
+    let Q : ℕ → Type 0 = λ i. i < t.start.shape.slots in
+    subst Q (sym e) (subst P own.1 (link_in p.trace.start p.trace.passes p.trace.seen sound.start sound.is_run p.trace.who (Slot marked.slot) (link_of marked.word) x.held.link))

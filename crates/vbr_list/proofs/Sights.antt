@@ -1,6 +1,6 @@
 -- What a look-up came to, as what its answer asks.
 use Rattle.std.proofs.Common.{◌≡◌, ℕ, ◌+◌, ◌*◌, ◌≤◌, Bool, true, false, arith}
-use Rattle.vbr_words.specs.Dimensions.{Dimensions}
+use Rattle.vbr_machine.specs.Start.{Start}
 use Rattle.vbr_words.specs.Words.{link_of}
 use Rattle.vbr_words.specs.declared.place.At.{At}
 use Rattle.vbr_words.specs.declared.place.At.TheVariants.{Head, Slot}
@@ -21,16 +21,16 @@ pub keyed_slot : (know : Know) (at : At) (key : ℕ) → KeyAt know at key → I
 keyed_slot know (Head b) key k = absurd k
 keyed_slot know (Slot s) key k = tt
 
-module _ (shape : Dimensions) (know : Know) (key : ℕ) where
-  pub sight_held : (sight : Sight) → IsSight shape know key sight → IsHeld know (sighted sight)
+module _ (start : Start) (know : Know) (key : ℕ) where
+  pub sight_held : (sight : Sight) → IsSight start know key sight → IsHeld know (sighted sight)
   sight_held (Present node) s = s.0
   sight_held (Absent pred) s = s.0.held
 
-  pub sight_unmarked : (sight : Sight) → IsSight shape know key sight → (link_of (sighted sight).word).mark ≡ false
+  pub sight_unmarked : (sight : Sight) → IsSight start know key sight → (link_of (sighted sight).word).mark ≡ false
   sight_unmarked (Present node) s = s.1
   sight_unmarked (Absent pred) s = s.0.unmarked
 
-  pub sight_answers : (sight : Sight) → IsSight shape know key sight → DecidesKey shape know key (sighted sight) (is_present sight)
+  pub sight_answers : (sight : Sight) → IsSight start know key sight → DecidesKey start know key (sighted sight) (is_present sight)
   sight_answers (Present node) s = (keyed_slot know node.at key s.2, s.2)
   sight_answers (Absent pred) s = (s.0.behind, s.1)
 

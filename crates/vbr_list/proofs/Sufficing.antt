@@ -1,7 +1,7 @@
 -- The steps of an insert by a pass that was alone.
 use Rattle.std.proofs.Common.{◌≡◌, ◌≢◌, ℕ, ◌+◌, ◌*◌, ◌<◌, ◌≤◌, List, [], ◌∷◌, Result, Ok, Err, refl, sym, subst, arith}
 use Rattle.std.specs.Prelude.{IfErr}
-use Rattle.vbr_words.specs.Dimensions.{Dimensions}
+use Rattle.vbr_machine.specs.Start.{Start}
 use Rattle.vbr_words.specs.declared.place.At.TheVariants.{Head}
 use Rattle.vbr_words.specs.Buckets.{bucket_of}
 use Rattle.vbr_slots.specs.Alone.{IsAlone, ahead}
@@ -18,24 +18,24 @@ use Rattle.vbr_list.specs.declared.refusal.Refusal.TheVariants.{OutOfSteps, NoSl
 -- a pass that was alone and made no call has no more nodes in the list of a key's bucket
 pub no_more_listed : (p : PassView) → PassLaw p → (q : Trace) (key : ℕ) → Quiet p.trace q → IsAlone p.trace q → listed_for q key ≤ listed_for p.trace key
 no_more_listed p sound q key quiet alone =
-    let P : Dimensions → Type 0 = λ shape. ahead q (bucket_of shape key) (Head (bucket_of shape key)) ≤ listed_for p.trace key in
-    subst P (sym quiet.same.shape) (quiet_adds_none sound.shape sound.is_run quiet alone (bucket_of p.trace.shape key) (bucket_of p.trace.shape key))
+    let P : Start → Type 0 = λ start. ahead q (bucket_of start.shape key) (Head (bucket_of start.shape key)) ≤ listed_for p.trace key in
+    subst P (sym quiet.same.start) (quiet_adds_none sound.start sound.is_run quiet alone (bucket_of p.trace.start.shape key) (bucket_of p.trace.start.shape key))
 
 -- where an own pool with slots keeps some, a slot is taken in no more steps than were allowed for before
-pub take_later : (shape : Dimensions) (before now : List ℕ) → (before ≢ [] → now ≢ []) → steps_to_take shape now ≤ most_to_take shape before
-take_later shape [] [] some = omega arith
-take_later shape [] (s ∷ now) some = omega arith
-take_later shape (s ∷ before) [] some = absurd (some (λ e. absurd (cc)) refl)
-take_later shape (s ∷ before) (t ∷ now) some = omega arith
+pub take_later : (start : Start) (before now : List ℕ) → (before ≢ [] → now ≢ []) → steps_to_take start now ≤ most_to_take start before
+take_later start [] [] some = omega arith
+take_later start [] (s ∷ now) some = omega arith
+take_later start (s ∷ before) [] some = absurd (some (λ e. absurd (cc)) refl)
+take_later start (s ∷ before) (t ∷ now) some = omega arith
 
-pub take_after : (p q : PassView) → Quiet p.trace q.trace → (p.pool ≢ [] → q.pool ≢ []) → steps_to_take q.trace.shape q.pool ≤ most_to_take p.trace.shape p.pool
+pub take_after : (p q : PassView) → Quiet p.trace q.trace → (p.pool ≢ [] → q.pool ≢ []) → steps_to_take q.trace.start q.pool ≤ most_to_take p.trace.start p.pool
 take_after p q quiet some =
-    let P : Dimensions → Type 0 = λ shape. steps_to_take shape q.pool ≤ most_to_take p.trace.shape p.pool in
-    subst P (sym quiet.same.shape) (take_later p.trace.shape p.pool q.pool some)
+    let P : Start → Type 0 = λ start. steps_to_take start q.pool ≤ most_to_take p.trace.start p.pool in
+    subst P (sym quiet.same.start) (take_later p.trace.start p.pool q.pool some)
 
-pub take_least : (shape : Dimensions) (pool : List ℕ) → 68 ≤ most_to_take shape pool
-take_least shape [] = omega arith
-take_least shape (s ∷ pool) = omega arith
+pub take_least : (start : Start) (pool : List ℕ) → 68 ≤ most_to_take start pool
+take_least start [] = omega arith
+take_least start (s ∷ pool) = omega arith
 
 -- a budget that is short of so many steps is short of more
 pub lacks_more : (m n budget : ℕ) (refusal : Refusal) → m ≤ n → LacksSteps m budget refusal → LacksSteps n budget refusal
@@ -54,11 +54,11 @@ never_refused pool p q before budget NoSlot x e = absurd x
 never_refused pool p q before budget (EpochSpent epoch) x e = absurd x
 
 -- with slots in the own pool an insert that has steps enough is answered, or the epoch is spent
-pub answered_or_spent : {A : Type 0} (p q : PassView) (budget n : ℕ) (answer : Result A Refusal) → p.pool ≢ [] → IsAlone p.trace q.trace → 18 * n + 82 ≤ budget → IfErr answer (λ refusal. refusal ≡ NoSlot → p.pool ≡ []) → IfErr answer (λ refusal. IsAlone p.trace q.trace → LacksSteps (18 * n + most_to_take p.trace.shape p.pool + 14) budget refusal) → IsAnsweredOrSpent answer
+pub answered_or_spent : {A : Type 0} (p q : PassView) (budget n : ℕ) (answer : Result A Refusal) → p.pool ≢ [] → IsAlone p.trace q.trace → 18 * n + 82 ≤ budget → IfErr answer (λ refusal. refusal ≡ NoSlot → p.pool ≡ []) → IfErr answer (λ refusal. IsAlone p.trace q.trace → LacksSteps (18 * n + most_to_take p.trace.start p.pool + 14) budget refusal) → IsAnsweredOrSpent answer
 answered_or_spent p q budget n (Ok reply) some alone enough none lacks = tt
 answered_or_spent p q budget n (Err (OutOfSteps used)) some alone enough none lacks = short p.pool some (lacks alone)
   where
-    short : (pool : List ℕ) → pool ≢ [] → budget < 18 * n + most_to_take p.trace.shape pool + 14 → ⊥
+    short : (pool : List ℕ) → pool ≢ [] → budget < 18 * n + most_to_take p.trace.start pool + 14 → ⊥
     short [] some lacks = some refl
     short (s ∷ pool) some lacks = omega (arith, enough, lacks)
 answered_or_spent p q budget n (Err NoSlot) some alone enough none lacks = some (none refl)

@@ -1,7 +1,7 @@
 -- The calls that answers tell, at tables of both kinds, and the same record of a call with another answer.
 use Rattle.std.proofs.Common.{◌≡◌, ℕ, Bool, true, false, Option, Some, None, Result, Ok, Err, refl, sym, ap, subst}
 use Rattle.std.specs.Prelude.{is_some, if◌then◌else◌}
-use Rattle.vbr_words.specs.Dimensions.{Dimensions}
+use Rattle.vbr_machine.specs.Start.{Start}
 use Rattle.vbr_machine.specs.History.{set_call}
 use Rattle.vbr_machine.specs.Opened.{payload_kept}
 use Rattle.vbr_machine.specs.declared.history.Call.{Call}
@@ -24,40 +24,40 @@ none_kept : (values : Bool) (value : Option ℕ) → value ≡ None → (if valu
 none_kept true value none = none
 none_kept false value none = refl
 
-pub kept_none : (shape : Dimensions) → payload_kept shape None ≡ None
-kept_none shape = none_kept shape.values None refl
+pub kept_none : (start : Start) → payload_kept start None ≡ None
+kept_none start = none_kept start.shape.values None refl
 
-kept_all : (shape : Dimensions) (value : Option ℕ) → shape.values ≡ true → payload_kept shape value ≡ value
-kept_all shape value has = ap (λ (values : Bool). if values then value else None) has
+kept_all : (start : Start) (value : Option ℕ) → start.shape.values ≡ true → payload_kept start value ≡ value
+kept_all start value has = ap (λ (values : Bool). if values then value else None) has
 
-kept_bare : (shape : Dimensions) (value : Option ℕ) → shape.values ≡ false → payload_kept shape value ≡ None
-kept_bare shape value bare = ap (λ (values : Bool). if values then value else None) bare
+kept_bare : (start : Start) (value : Option ℕ) → start.shape.values ≡ false → payload_kept start value ≡ None
+kept_bare start value bare = ap (λ (values : Bool). if values then value else None) bare
 
 -- a call without a value is the same at each table
-pub told_bare : (shape : Dimensions) (who : ℕ) (op : Op) (key : ℕ) (reply : Bool) → set_call who op key reply ≡ kept_call shape (set_call who op key reply)
-told_bare shape who op key reply = ap (λ (value : Option ℕ). record { who = who; op = op; key = key; reply = reply; value = value }) (sym (kept_none shape))
+pub told_bare : (start : Start) (who : ℕ) (op : Op) (key : ℕ) (reply : Bool) → set_call who op key reply ≡ kept_call start (set_call who op key reply)
+told_bare start who op key reply = ap (λ (value : Option ℕ). record { who = who; op = op; key = key; reply = reply; value = value }) (sym (kept_none start))
 
 -- where nodes have values, a call keeps its own
-pub stored_kept : (p : Trace) (key value : ℕ) → p.shape.values ≡ true → (reply : Bool) → stored_in p key value reply ≡ stored_call p.who key value reply
-stored_kept p key value has reply = ap (λ (payload_kept : Option ℕ). record { who = p.who; op = Insert; key = key; reply = reply; value = payload_kept }) (kept_all p.shape (if reply then Some value else None) has)
+pub stored_kept : (p : Trace) (key value : ℕ) → p.start.shape.values ≡ true → (reply : Bool) → stored_in p key value reply ≡ stored_call p.who key value reply
+stored_kept p key value has reply = ap (λ (payload_kept : Option ℕ). record { who = p.who; op = Insert; key = key; reply = reply; value = payload_kept }) (kept_all p.start (if reply then Some value else None) has)
 
-pub given_kept : (p : Trace) (op : Op) (key : ℕ) → p.shape.values ≡ true → (answer : Option ℕ) → given_in p op key answer ≡ given_call p.who op key answer
-given_kept p op key has answer = ap (λ (payload_kept : Option ℕ). record { who = p.who; op = op; key = key; reply = is_some answer; value = payload_kept }) (kept_all p.shape (given_call p.who op key answer).value has)
+pub given_kept : (p : Trace) (op : Op) (key : ℕ) → p.start.shape.values ≡ true → (answer : Option ℕ) → given_in p op key answer ≡ given_call p.who op key answer
+given_kept p op key has answer = ap (λ (payload_kept : Option ℕ). record { who = p.who; op = op; key = key; reply = is_some answer; value = payload_kept }) (kept_all p.start (given_call p.who op key answer).value has)
 
 -- where they have none, it is the call of a set
-pub stored_bare : (p : Trace) (key value : ℕ) → p.shape.values ≡ false → (reply : Bool) → stored_in p key value reply ≡ set_call p.who Insert key reply
-stored_bare p key value bare reply = ap (λ (payload_kept : Option ℕ). record { who = p.who; op = Insert; key = key; reply = reply; value = payload_kept }) (kept_bare p.shape (if reply then Some value else None) bare)
+pub stored_bare : (p : Trace) (key value : ℕ) → p.start.shape.values ≡ false → (reply : Bool) → stored_in p key value reply ≡ set_call p.who Insert key reply
+stored_bare p key value bare reply = ap (λ (payload_kept : Option ℕ). record { who = p.who; op = Insert; key = key; reply = reply; value = payload_kept }) (kept_bare p.start (if reply then Some value else None) bare)
 
-pub given_bare : (p : Trace) (op : Op) (key : ℕ) → p.shape.values ≡ false → (answer : Option ℕ) → given_in p op key answer ≡ set_call p.who op key (is_some answer)
-given_bare p op key bare answer = ap (λ (payload_kept : Option ℕ). record { who = p.who; op = op; key = key; reply = is_some answer; value = payload_kept }) (kept_bare p.shape (given_call p.who op key answer).value bare)
+pub given_bare : (p : Trace) (op : Op) (key : ℕ) → p.start.shape.values ≡ false → (answer : Option ℕ) → given_in p op key answer ≡ set_call p.who op key (is_some answer)
+given_bare p op key bare answer = ap (λ (payload_kept : Option ℕ). record { who = p.who; op = op; key = key; reply = is_some answer; value = payload_kept }) (kept_bare p.start (given_call p.who op key answer).value bare)
 
 -- ---- a part of what the pass did
 
 pub given_same : {p q : Trace} → IsSame p q → (op : Op) (key : ℕ) (answer : Option ℕ) → given_in q op key answer ≡ given_in p op key answer
-given_same same op key answer = λ i. kept_call (same.shape i) (given_call (same.who i) op key answer)
+given_same same op key answer = λ i. kept_call (same.start i) (given_call (same.who i) op key answer)
 
 pub stored_same : {p q : Trace} → IsSame p q → (key value : ℕ) (reply : Bool) → stored_in q key value reply ≡ stored_in p key value reply
-stored_same same key value reply = λ i. kept_call (same.shape i) (stored_call (same.who i) key value reply)
+stored_same same key value reply = λ i. kept_call (same.start i) (stored_call (same.who i) key value reply)
 
 pub told_as : {p q : Trace} {x y : Call} → x ≡ y → Made x p q → Made y p q
 told_as {p} {q} same made = subst (λ (call : Call). Made call p q) same made
@@ -93,7 +93,7 @@ calls_yes (Err refusal) x same spares = record { same = x.same; made = tt; alone
 
 -- and with its value
 pub calls_entry : {A : Type 0} {told : A → Call} {S : Result A Refusal → Type 0} {p q : PassView} {budget : ℕ} (answer : Result A Refusal) → PassLaw p → CallsAs told S p q budget answer → CallsEntry told S p q budget answer
-calls_entry {p = p} {q = q} (Ok reply) law x = record { calls = x; gives = gives_alone law.shape law.low x.made }
+calls_entry {p = p} {q = q} (Ok reply) law x = record { calls = x; gives = gives_alone law.start law.low x.made }
 calls_entry (Err refusal) law x = record { calls = x; gives = tt }
 
 -- ---- what a call promises besides

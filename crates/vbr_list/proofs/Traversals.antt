@@ -1,6 +1,6 @@
 -- How far the loop of a traversal or of a look-up has come: what its pass did since it began, and where it stands.
 use Rattle.std.specs.Prelude.{ℕ, ◌≡◌, ◌⊎◌, ◌≤◌, ◌<◌}
-use Rattle.vbr_words.specs.Dimensions.{Dimensions}
+use Rattle.vbr_machine.specs.Start.{Start}
 use Rattle.vbr_words.specs.Words.{link_of}
 use Rattle.vbr_machine.specs.Knowledge.{Know}
 use Rattle.vbr_machine.specs.Membership.{LeadsTo}
@@ -13,9 +13,9 @@ use Rattle.vbr_slots.specs.Views.{PassView, knows}
 use Rattle.vbr_list.proofs.PaidPlaces.{Nears, Passes}
 
 -- known marked links lead from a place before the key to another place of the list, or to itself
-pub record IsLook (shape : Dimensions) (know : Know) (key : ℕ) (pred here : Held) : Type 0 where
-  pub before : IsPred shape know key pred
-  pub inside : IsInside shape know key here
+pub record IsLook (start : Start) (know : Know) (key : ℕ) (pred here : Held) : Type 0 where
+  pub before : IsPred start know key pred
+  pub inside : IsInside start know key here
   pub leads : LeadsTo know (link_of pred.word) (link_of here.word)
 
 -- nothing was done yet, or the pass was not alone
@@ -43,5 +43,5 @@ pub record Peeks (p q : PassView) (before since budget : ℕ) : Type 0 where
 pub record Looks (p q : PassView) (key before since budget : ℕ) (pred here : Held) : Type 0 where
   pub peeks : Peeks p q before since budget
   pub some : before < since
-  pub look : IsLook q.trace.shape (knows q.trace) key pred here
+  pub look : IsLook q.trace.start (knows q.trace) key pred here
   pub passes : IsAlone p.trace q.trace → Passes p.trace q.trace key before since pred here

@@ -1,6 +1,6 @@
 -- Reading a value, and the steps that it takes.
 use Rattle.std.proofs.Common.{◌≡◌, ℕ, ◌+◌, ◌<◌, ◌≤◌, Bool, true, false, Option, Some, arith, refl, sym, subst}
-use Rattle.vbr_words.specs.Dimensions.{Dimensions}
+use Rattle.vbr_machine.specs.Start.{Start}
 use Rattle.vbr_words.specs.declared.place.At.{At}
 use Rattle.vbr_machine.specs.Knowledge.{Know}
 use Rattle.vbr_slots.specs.Views.{PassView}
@@ -25,15 +25,15 @@ reads_still p = record {
   looks = λ alone. refl;
 }
 
-pub few_to_value : (shape : Dimensions) → steps_to_value_of shape ≤ 2
-few_to_value shape = go shape.values
+pub few_to_value : (start : Start) → steps_to_value_of start ≤ 2
+few_to_value start = go start.shape.values
   where
     go : (values : Bool) → steps_where values ≤ 2
     go true = omega arith
     go false = omega arith
 
-pub few_to_update : (shape : Dimensions) → (0 < steps_to_update shape) × (steps_to_update shape ≤ 4)
-few_to_update shape = go shape.values
+pub few_to_update : (start : Start) → (0 < steps_to_update start) × (steps_to_update start ≤ 4)
+few_to_update start = go start.shape.values
   where
     go : (values : Bool) → (0 < 1 + steps_to_value values + 1 + 1) × (1 + steps_to_value values + 1 + 1 ≤ 4)
     go true = (omega arith, omega arith)

@@ -6,6 +6,6 @@ use Rattle.vbr_machine.specs.declared.history.Op.{Op}
 use Rattle.vbr_slots.specs.Calls.{made_by}
 use Rattle.vbr_slots.specs.Views.{Trace}
 
--- on a table with one pass the reply is that of a plain set which opened with the keys of the shape, perhaps none, and was given the calls of the pass before, and no others
+-- on a table with one pass the reply is that of a plain set which opened with the keys of its start, perhaps none, and was given the calls of the pass before, and no others
 abbrev pub AnswersAlone : Trace → Op → ℕ → Bool → Type 0
-AnswersAlone p op key reply = p.passes ≡ 1 → reply ≡ reply_of (set_after (opening_keys p.shape) (made_by p)) op key
+AnswersAlone p op key reply = p.passes ≡ 1 → reply ≡ reply_of (set_after (opening_keys p.start) (made_by p)) op key

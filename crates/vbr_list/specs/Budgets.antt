@@ -1,6 +1,6 @@
 -- The budgets that suffice a pass that is alone: it is refused for want of steps only below them.
 use Rattle.std.specs.Prelude.{ℕ, ◌+◌, ◌*◌, ◌<◌, Bool, true, false, Result, Ok, Err}
-use Rattle.vbr_words.specs.Dimensions.{Dimensions}
+use Rattle.vbr_machine.specs.Start.{Start}
 use Rattle.vbr_words.specs.declared.place.At.TheVariants.{Head}
 use Rattle.vbr_words.specs.Buckets.{bucket_of}
 use Rattle.vbr_slots.specs.Alone.{ahead}
@@ -12,7 +12,7 @@ use Rattle.vbr_list.specs.declared.refusal.Refusal.TheVariants.{OutOfSteps, NoSl
 
 -- how many nodes, linked or marked, are in the list of a key's bucket, in what the pass has seen
 abbrev pub listed_for : Trace → ℕ → ℕ
-listed_for p key = ahead p (bucket_of p.shape key) (Head (bucket_of p.shape key))
+listed_for p key = ahead p (bucket_of p.start.shape key) (Head (bucket_of p.start.shape key))
 
 -- for a look-up: five steps for each of them, and eleven
 abbrev pub enough_to_look_up : Trace → ℕ → ℕ
@@ -28,7 +28,7 @@ enough_past nodes taking = 18 * nodes + taking + 14
 
 -- for an insert among those of the key's bucket
 abbrev pub enough_to_insert : PassView → ℕ → ℕ
-enough_to_insert p key = enough_past (listed_for p.trace key) (most_to_take p.trace.shape p.pool)
+enough_to_insert p key = enough_past (listed_for p.trace key) (most_to_take p.trace.start p.pool)
 
 -- for an insert of a pass that has slots in its own pool
 abbrev pub enough_with_a_slot : Trace → ℕ → ℕ
@@ -56,12 +56,12 @@ abbrev pub steps_where : Bool → ℕ
 steps_where true = 2
 steps_where false = 0
 
-abbrev pub steps_to_value_of : Dimensions → ℕ
-steps_to_value_of shape = steps_where shape.values
+abbrev pub steps_to_value_of : Start → ℕ
+steps_to_value_of start = steps_where start.shape.values
 
 -- a remove nine for each, and ten, and those of reading the value
 abbrev pub remove_costs : Trace → ℕ → ℕ
-remove_costs p key = 9 * listed_for p key + 10 + steps_to_value_of p.shape
+remove_costs p key = 9 * listed_for p key + 10 + steps_to_value_of p.start
 
 -- what is enough for a remove to unlink the node besides: two more than it costs
 abbrev pub enough_to_unlink : Trace → ℕ → ℕ
@@ -69,7 +69,7 @@ enough_to_unlink p key = remove_costs p key + 2
 
 -- an insert twice nine for each, those of taking a slot, and nine, and that of storing the value
 abbrev pub insert_costs : PassView → ℕ → ℕ
-insert_costs p key = 18 * listed_for p.trace key + most_to_take p.trace.shape p.pool + 9 + steps_to_value p.trace.shape.values
+insert_costs p key = 18 * listed_for p.trace key + most_to_take p.trace.start p.pool + 9 + steps_to_value p.trace.start.shape.values
 
 -- a refusal for want of steps comes of a budget below so many
 abbrev pub LacksSteps : ℕ → ℕ → Refusal → Type 0

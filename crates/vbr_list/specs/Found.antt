@@ -19,7 +19,7 @@ CurStood p q (Some cur) = Stood p q cur
 
 -- where the key stands was read by what the pass did
 pub record IsFound (p q : Trace) (key : ℕ) (found : Found) : Type 0 where
-  pub locates : Locates q.shape (knows q) key found
+  pub locates : Locates q.start (knows q) key found
   pub stood : Stood p q found.pred
   pub cur_stood : CurStood p q found.cur
 

@@ -33,8 +33,8 @@ GoesIn p q steps = (used : ℕ) → Goes p q used (used + steps)
 
 -- the pass came on to the place with its new link, if it stood before a key; alone, one node fewer is behind it
 pub record Helps (p q : PassView) (pred place : Held) : Type 0 where
-  pub come : (key : ℕ) → IsPred p.trace.shape (knows p.trace) key pred → HasComeTo p.trace q.trace key place
-  pub alone : (key : ℕ) → IsPred p.trace.shape (knows p.trace) key pred → IsFresh p.trace → StandsNow p.trace pred → IsAlone p.trace q.trace → HelpsAlone p.trace q.trace key pred place
+  pub come : (key : ℕ) → IsPred p.trace.start (knows p.trace) key pred → HasComeTo p.trace q.trace key place
+  pub alone : (key : ℕ) → IsPred p.trace.start (knows p.trace) key pred → IsFresh p.trace → StandsNow p.trace pred → IsAlone p.trace q.trace → HelpsAlone p.trace q.trace key pred place
 
 -- the pass rolled back, which it doesn't alone, where the place stood as it is held
 abbrev pub HelpsNone : PassView → PassView → Held → Rollback → Type 0
@@ -45,4 +45,4 @@ pub record Retires (p q : PassView) (pred : Held) (gone : Marked) (place : Held)
   pub helps : place.epoch ≡ (knows q.trace).epoch → Helps p q pred place
   pub stays : IsFresh p.trace → StandsNow p.trace pred → IsAlone p.trace q.trace → place.epoch ≡ (knows q.trace).epoch
   pub fewer : StandsNow p.trace pred → IsAlone p.trace q.trace → (bucket h : ℕ) → HeldIn (knows p.trace) pred.at bucket → ahead q.trace bucket (Head h) < ahead p.trace bucket (Head h)
-  pub clear : (key : ℕ) → KeyAt (knows p.trace) (Slot gone.slot) key → StandsBehind p.trace.shape (knows p.trace) pred.at key → WasClear p.trace q.trace key
+  pub clear : (key : ℕ) → KeyAt (knows p.trace) (Slot gone.slot) key → StandsBehind p.trace.start (knows p.trace) pred.at key → WasClear p.trace q.trace key

@@ -86,17 +86,17 @@ pub record Prepares {N : Type 0} {kind : Ghosts N} (c d : PendingCall N kind) : 
 -- a slot is in hand; alone, in so many steps
 pub record Provides {N : Type 0} {kind : Ghosts N} (c d : PendingCall N kind) (hand : HandView) : Type 0 where
   pub has : HasHandAndRoom (pass_in d) hand
-  pub few : WasAlone c d → d.used ≤ c.used + steps_to_take (trace_in c).shape (pass_in c).pool
+  pub few : WasAlone c d → d.used ≤ c.used + steps_to_take (trace_in c).start (pass_in c).pool
 
 -- none is; alone, a budget with seven steps more has enough
 pub record ProvidesNone {N : Type 0} {kind : Ghosts N} (c d : PendingCall N kind) (refusal : Refusal) : Type 0 where
   pub hand : (pass_in d).hand ≡ None
   pub says : TakesNone (pass_in c) (pass_in d) c.used c.budget refusal
-  pub enough : WasAlone c d → LacksSteps (c.used + steps_to_take (trace_in c).shape (pass_in c).pool + 7) c.budget refusal
+  pub enough : WasAlone c d → LacksSteps (c.used + steps_to_take (trace_in c).start (pass_in c).pool + 7) c.budget refusal
 
 -- how many steps it takes a pass that is alone to come to the key and then to take a slot, beside three to start and seven that the budget needs more
 abbrev pub steps_to_prepare : {N : Type 0} {kind : Ghosts N} → PendingCall N kind → ℕ
-steps_to_prepare c = 9 * listed_for (trace_in c) c.key + most_to_take (trace_in c).shape (pass_in c).pool
+steps_to_prepare c = 9 * listed_for (trace_in c) c.key + most_to_take (trace_in c).start (pass_in c).pool
 
 -- the pass has answered no; or it has made no call, and has a slot in hand
 abbrev pub IsPrepared : {N : Type 0} {kind : Ghosts N} → PendingCall N kind → PendingCall N kind → Option HandView → Type 0
@@ -122,7 +122,7 @@ pub record Publishes {N : Type 0} {kind : Ghosts N} (c d : PendingCall N kind) :
   pub call : IsSameCall c d
   pub counts : CountsSteps (trace_in c) (trace_in d) c.used d.used
   pub used : IsPiece c.used d.used
-  pub few : d.used ≤ c.used + steps_to_update (trace_in c).shape
+  pub few : d.used ≤ c.used + steps_to_update (trace_in c).start
   pub takes_no_slot : TakesNoSlot (pass_in c) (pass_in d)
 
 -- the insert is answered, and its hand is empty
@@ -146,7 +146,7 @@ pub record Links {N : Type 0} {kind : Ghosts N} (c d : PendingCall N kind) : Typ
 -- the insert is answered; alone, in so many steps
 pub record LinksHand {N : Type 0} {kind : Ghosts N} (value : ℕ) (c d : PendingCall N kind) (reply : Bool) : Type 0 where
   pub made : Stores value c d reply
-  pub few : WasAlone c d → d.used ≤ c.used + 3 + 9 * listed_for (trace_in c) c.key + steps_to_update (trace_in c).shape
+  pub few : WasAlone c d → d.used ≤ c.used + 3 + 9 * listed_for (trace_in c) c.key + steps_to_update (trace_in c).start
 
 -- it isn't linked, for want of steps
 pub record LinksNone {N : Type 0} {kind : Ghosts N} (c d : PendingCall N kind) (refusal : Refusal) : Type 0 where

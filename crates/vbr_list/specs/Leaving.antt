@@ -17,11 +17,11 @@ use Rattle.vbr_list.specs.declared.refusal.Refusal.{Refusal}
 pub record WasClear (p q : Trace) (key : ℕ) : Type 0 where
   pub moment : List Event
   pub within : Moment p q moment
-  pub none : NoneMarked (incarnations_after p.shape moment) key
+  pub none : NoneMarked (incarnations_after p.start moment) key
 
 -- since then the pass has marked an incarnation of the key, which has left all lists
 abbrev pub Leaves : Trace → Trace → ℕ → Type 0
-Leaves p q key = MarkedLeft p.shape p.seen q.seen p.who key
+Leaves p q key = MarkedLeft p.start p.seen q.seen p.who key
 
 -- what a remove promises besides: it advances no epoch and loses no slot; where it answers yes, the node that it marked has left its list, unless its steps leave no room in the budget for one more piece; it is refused for want of steps alone, and alone it has steps enough with a budget that is known before, and its answer costs no more than is known before, and with two steps more one that is yes leaves fewer nodes in the list
 pub record SparesRemove {A : Type 0} (yes : A → Bool) (p q : PassView) (key budget : ℕ) (answer : Result A Refusal) : Type 0 where

@@ -17,11 +17,11 @@ use Rattle.vbr_list.specs.declared.traversal.Stop.{Stop}
 
 -- what a look-up came to is so of the call's key, by what the pass knows
 abbrev pub IsSightFor : {N : Type 0} {kind : Ghosts N} → PendingCall N kind → Sight → Type 0
-IsSightFor c sight = IsSight (trace_in c).shape (knows (trace_in c)) c.key sight
+IsSightFor c sight = IsSight (trace_in c).start (knows (trace_in c)) c.key sight
 
 -- it has come to the key, or to where it is absent
 pub record Sees {N : Type 0} {kind : Ghosts N} (c d : PendingCall N kind) (sight : Sight) : Type 0 where
-  pub sees : IsSight (trace_in d).shape (knows (trace_in d)) c.key sight
+  pub sees : IsSight (trace_in d).start (knows (trace_in d)) c.key sight
   pub alone : WasAlone c d → SeenAlone (trace_in c) (trace_in d) c.key c.used d.used sight
 
 -- it stopped before that
@@ -38,7 +38,7 @@ steps_to_answer false = 1
 
 -- what is asked for is a look-up, or a get where nodes have values
 abbrev pub IsAskedOf : {N : Type 0} {kind : Ghosts N} → PendingCall N kind → Bool → Type 0
-IsAskedOf c gives = gives ≡ true → (trace_in c).shape.values ≡ true
+IsAskedOf c gives = gives ≡ true → (trace_in c).start.shape.values ≡ true
 
 -- the look-up is answered, and adds just its answer to the chronicle
 pub record LookUpAnswers {N : Type 0} {kind : Ghosts N} (gives : Bool) (c d : PendingCall N kind) (answer : Option ℕ) : Type 0 where

@@ -18,7 +18,7 @@ use Rattle.vbr_list.specs.declared.traversal.Visited.TheVariants.{Smaller, Beyon
 
 -- how many nodes of the list of a key's bucket, linked or marked, are behind a place, in what the pass has seen
 abbrev pub ahead_for : Trace → ℕ → Held → ℕ
-ahead_for p key pred = ahead p (bucket_of p.shape key) pred.at
+ahead_for p key pred = ahead p (bucket_of p.start.shape key) pred.at
 
 -- the epoch and the link of the place stand
 pub record StillAt (q : Trace) (pred : Held) : Type 0 where

@@ -1,6 +1,6 @@
 -- Where a key stands in the list of its bucket: behind which place, and before which node.
 use Rattle.std.specs.Prelude.{◌≡◌, ℕ, ◌≤◌, ◌==◌, Bool, true, false, Option, Some, None}
-use Rattle.vbr_words.specs.Dimensions.{Dimensions}
+use Rattle.vbr_machine.specs.Start.{Start}
 use Rattle.vbr_words.specs.Words.{link_of}
 use Rattle.vbr_words.specs.declared.place.At.TheVariants.{Slot}
 use Rattle.vbr_words.specs.Buckets.{bucket_of}
@@ -13,16 +13,16 @@ use Rattle.vbr_list.specs.declared.looking.Sight.{Sight}
 use Rattle.vbr_list.specs.declared.looking.Sight.TheVariants.{Present, Absent}
 
 -- a place in the list of the key's bucket is held
-pub record IsInside (shape : Dimensions) (know : Know) (key : ℕ) (place : Held) : Type 0 where
+pub record IsInside (start : Start) (know : Know) (key : ℕ) (place : Held) : Type 0 where
   pub held : IsHeld know place
-  pub inside : HeldIn know place.at (bucket_of shape key)
+  pub inside : HeldIn know place.at (bucket_of start.shape key)
 
 -- a place before the key: it is held in the key's bucket, its link is unmarked, and the key stands behind it
-pub record IsPred (shape : Dimensions) (know : Know) (key : ℕ) (pred : Held) : Type 0 where
+pub record IsPred (start : Start) (know : Know) (key : ℕ) (pred : Held) : Type 0 where
   pub held : IsHeld know pred
   pub unmarked : (link_of pred.word).mark ≡ false
-  pub inside : HeldIn know pred.at (bucket_of shape key)
-  pub behind : StandsBehind shape know pred.at key
+  pub inside : HeldIn know pred.at (bucket_of start.shape key)
+  pub behind : StandsBehind start know pred.at key
 
 -- the node that the link of the place names: its link is unmarked, its key was read and isn't below the key, and whether it is the key
 pub record IsCur (know : Know) (key : ℕ) (pred cur : Held) (present : Bool) : Type 0 where
@@ -42,9 +42,9 @@ IsEnd know key pred None present = ((link_of pred.word).slot ≡ None) × (prese
 IsEnd know key pred (Some cur) present = IsCur know key pred cur present
 
 -- what a look-up came to: an unmarked node with the key, or a place before it behind which it is absent
-abbrev pub IsSight : Dimensions → Know → ℕ → Sight → Type 0
-IsSight shape know key (Present node) = IsHeld know node × ((link_of node.word).mark ≡ false) × KeyAt know node.at key
-IsSight shape know key (Absent pred) = IsPred shape know key pred × StandsBeforeOn know key (link_of pred.word)
+abbrev pub IsSight : Start → Know → ℕ → Sight → Type 0
+IsSight start know key (Present node) = IsHeld know node × ((link_of node.word).mark ≡ false) × KeyAt know node.at key
+IsSight start know key (Absent pred) = IsPred start know key pred × StandsBeforeOn know key (link_of pred.word)
 
 -- what is held there, and whether it has the key
 abbrev pub sighted : Sight → Held
@@ -57,6 +57,6 @@ is_present (Present node) = true
 is_present (Absent pred) = false
 
 -- what was found tells where the key stands, by what the pass knows
-pub record Locates (shape : Dimensions) (know : Know) (key : ℕ) (found : Found) : Type 0 where
-  pub pred : IsPred shape know key found.pred
+pub record Locates (start : Start) (know : Know) (key : ℕ) (found : Found) : Type 0 where
+  pub pred : IsPred start know key found.pred
   pub end : IsEnd know key found.pred found.cur found.present

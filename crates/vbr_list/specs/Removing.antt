@@ -1,6 +1,6 @@
 -- The pieces of a remove. Only contracts of private functions cite this.
 use Rattle.std.specs.Prelude.{◌≡◌, ℕ, ◌+◌, ◌<◌, ◌≤◌, Option, true, is_some}
-use Rattle.vbr_words.specs.Dimensions.{Dimensions}
+use Rattle.vbr_machine.specs.Start.{Start}
 use Rattle.vbr_words.specs.declared.nodes.Nodes.{Ghosts}
 use Rattle.vbr_words.specs.declared.place.At.TheVariants.{Slot}
 use Rattle.vbr_words.specs.Buckets.{bucket_of}
@@ -24,8 +24,8 @@ use Rattle.vbr_list.specs.declared.found.Found.{Found}
 pub record IsMarkedFor {N : Type 0} {kind : Ghosts N} (c : PendingCall N kind) (pred : Held) (gone : Marked) : Type 0 where
   pub may : MayHelp (trace_in c) pred gone
   pub key : KeyAt (knows (trace_in c)) (Slot gone.slot) c.key
-  pub inside : HeldIn (knows (trace_in c)) pred.at (bucket_of (trace_in c).shape c.key)
-  pub behind : StandsBehind (trace_in c).shape (knows (trace_in c)) pred.at c.key
+  pub inside : HeldIn (knows (trace_in c)) pred.at (bucket_of (trace_in c).start.shape c.key)
+  pub behind : StandsBehind (trace_in c).start (knows (trace_in c)) pred.at c.key
 
 -- at a moment no marked node of the key was in a list, unless the budget has no room for one more piece
 abbrev pub Clears : {N : Type 0} {kind : Ghosts N} → PendingCall N kind → PendingCall N kind → Type 0
@@ -41,13 +41,13 @@ abbrev pub ClearsSoon : {N : Type 0} {kind : Ghosts N} → PendingCall N kind �
 ClearsSoon c d pred = IsFresh (trace_in c) → StandsNow (trace_in c) pred → WasAlone c d → UnlinksSoon c d
 
 -- the steps of an answer: those of reading the value, one for the mark, and six
-abbrev pub steps_to_remove : Dimensions → ℕ
-steps_to_remove shape = steps_to_value_of shape + 7
+abbrev pub steps_to_remove : Start → ℕ
+steps_to_remove start = steps_to_value_of start + 7
 
 -- the answer takes so many steps, and one that is yes leaves fewer nodes in the list, where the budget has room to unlink the node once its value is read and it is marked
 pub record RemovesSoon {N : Type 0} {kind : Ghosts N} (c d : PendingCall N kind) (answer : Option ℕ) : Type 0 where
-  pub few : d.used ≤ c.used + steps_to_remove (trace_in c).shape
-  pub fewer : is_some answer ≡ true → c.used + steps_to_value_of (trace_in c).shape + 9 ≤ c.budget → listed_for (trace_in d) c.key < listed_for (trace_in c) c.key
+  pub few : d.used ≤ c.used + steps_to_remove (trace_in c).start
+  pub fewer : is_some answer ≡ true → c.used + steps_to_value_of (trace_in c).start + 9 ≤ c.budget → listed_for (trace_in d) c.key < listed_for (trace_in c) c.key
 
 -- the remove is answered, and gives the value that was read of the node where nodes have values; where that is yes, the node that it marked has left its list, unless the budget has no room for one more piece; and alone, where the place before the key stands, so it is soon
 pub record RemoveAnswers {N : Type 0} {kind : Ghosts N} (c d : PendingCall N kind) (found : Found) (answer : Option ℕ) : Type 0 where

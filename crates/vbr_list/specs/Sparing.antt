@@ -66,9 +66,9 @@ Calls op p q key budget answer = CallsAs (set_call p.trace.who op key) (Spares o
 
 -- ---- calls of a map
 
--- on a table with one pass the value is that of a plain map which opened with the entries of the shape, perhaps none, and was given the calls of the pass before, and no others
+-- on a table with one pass the value is that of a plain map which opened with the entries of its start, perhaps none, and was given the calls of the pass before, and no others
 abbrev pub GivesAlone : Trace → Call → Type 0
-GivesAlone p call = p.passes ≡ 1 → GivesValue (values_after (opening_payloads p.shape) (made_by p)) call.op call.key call.reply call.value
+GivesAlone p call = p.passes ≡ 1 → GivesValue (values_after (opening_payloads p.start) (made_by p)) call.op call.key call.reply call.value
 
 -- so it is of a call of a map, which has a value where it stores or gives one
 pub record CallsEntry {A : Type 0} (told : A → Call) (SparesSo : Result A Refusal → Type 0) (p q : PassView) (budget : ℕ) (answer : Result A Refusal) : Type 0 where

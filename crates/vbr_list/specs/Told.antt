@@ -1,6 +1,6 @@
 -- The call that an answer tells: an insert that is answered yes stores a value, a remove and a get that are answered yes give one, and a table whose nodes have none keeps none.
 use Rattle.std.specs.Prelude.{ℕ, Bool, true, false, Option, Some, None, Result, Ok, Err, is_some, if◌then◌else◌}
-use Rattle.vbr_words.specs.Dimensions.{Dimensions}
+use Rattle.vbr_machine.specs.Start.{Start}
 use Rattle.vbr_machine.specs.Opened.{payload_kept}
 use Rattle.vbr_machine.specs.declared.history.Call.{Call}
 use Rattle.vbr_machine.specs.declared.history.Op.{Op}
@@ -21,15 +21,15 @@ abbrev pub given_call : ℕ → Op → ℕ → Option ℕ → Call
 given_call who op key answer = record { who = who; op = op; key = key; reply = is_some answer; value = given_by op answer }
 
 -- a call as a table keeps it: with its value where nodes have values
-abbrev pub kept_call : Dimensions → Call → Call
-kept_call shape call = record { who = call.who; op = call.op; key = call.key; reply = call.reply; value = payload_kept shape call.value }
+abbrev pub kept_call : Start → Call → Call
+kept_call start call = record { who = call.who; op = call.op; key = call.key; reply = call.reply; value = payload_kept start call.value }
 
 -- an insert with this reply, and a call with this answer, as the table of a pass keeps them
 abbrev pub stored_in : Trace → ℕ → ℕ → Bool → Call
-stored_in p key value reply = kept_call p.shape (stored_call p.who key value reply)
+stored_in p key value reply = kept_call p.start (stored_call p.who key value reply)
 
 abbrev pub given_in : Trace → Op → ℕ → Option ℕ → Call
-given_in p op key answer = kept_call p.shape (given_call p.who op key answer)
+given_in p op key answer = kept_call p.start (given_call p.who op key answer)
 
 -- the look-up that gives the value, or doesn't
 abbrev pub look_up_op : Bool → Op

@@ -27,21 +27,21 @@ use Rattle.vbr_list.specs.declared.traversal.Visited.TheVariants.{Smaller, Beyon
 
 -- a place in the list of the call's key is held
 abbrev pub IsInsideFor : {N : Type 0} {kind : Ghosts N} → PendingCall N kind → Held → Type 0
-IsInsideFor c place = IsInside (trace_in c).shape (knows (trace_in c)) c.key place
+IsInsideFor c place = IsInside (trace_in c).start (knows (trace_in c)) c.key place
 
 -- a place before the call's key is held
 abbrev pub IsPredFor : {N : Type 0} {kind : Ghosts N} → PendingCall N kind → Held → Type 0
-IsPredFor c pred = IsPred (trace_in c).shape (knows (trace_in c)) c.key pred
+IsPredFor c pred = IsPred (trace_in c).start (knows (trace_in c)) c.key pred
 
 -- what was found tells where the call's key stands
 abbrev pub LocatesFor : {N : Type 0} {kind : Ghosts N} → PendingCall N kind → Found → Type 0
-LocatesFor c found = Locates (trace_in c).shape (knows (trace_in c)) c.key found
+LocatesFor c found = Locates (trace_in c).start (knows (trace_in c)) c.key found
 
 -- ---- what it comes to
 
 -- the pass has come to a place before the key, which stood so at a moment
 pub record HasComeTo (p q : Trace) (key : ℕ) (pred : Held) : Type 0 where
-  pub is : IsPred q.shape (knows q) key pred
+  pub is : IsPred q.start (knows q) key pred
   pub stood : Stood p q pred
 
 -- it has come to the head of the bucket, which stands if the pass was alone

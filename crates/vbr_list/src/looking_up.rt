@@ -49,7 +49,7 @@ impl<N: Nodes> PendingCall<'_, N> {
     #[inline(always)]
     fn give_value(&mut self, node: &Held) -> Result<Option<u64>, Rollback>
         requires sight { IsSightFor self.old (Present node.now) }
-        requires values { (trace_in self.old).shape.values ≡ true }
+        requires values { (trace_in self.old).start.shape.values ≡ true }
         requires room { HasRoom self.old }
         ensures settles { Settles self.old self.new }
         ensures few { self.new.used ≤ self.old.used + 3 }
@@ -72,7 +72,7 @@ impl<N: Nodes> PendingCall<'_, N> {
     #[inline(always)]
     fn give_none(&mut self, pred: &Held) -> Result<Option<u64>, Rollback>
         requires sight { IsSightFor self.old (Absent pred.now) }
-        requires values { (trace_in self.old).shape.values ≡ true }
+        requires values { (trace_in self.old).start.shape.values ≡ true }
         requires room { HasRoom self.old }
         ensures settles { Settles self.old self.new }
         ensures few { self.new.used ≤ self.old.used + 3 }
@@ -222,7 +222,7 @@ fn look_up<N: Nodes>(
     budget: u32,
 ) -> (Result<Option<u64>, Refusal>, u32)
     requires empty_hand { (pass_of at.old).hand ≡ None }
-    requires asked { gives ≡ true → (trace_of at.old).shape.values ≡ true }
+    requires asked { gives ≡ true → (trace_of at.old).start.shape.values ≡ true }
     ensures table { IsSameTable at.old at.new }
     ensures took { Took (trace_of at.old) (trace_of at.new) result.1 }
     ensures calls { CallsAs (given_in (trace_of at.old) (look_up_op gives) key)

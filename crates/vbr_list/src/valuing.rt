@@ -22,7 +22,7 @@ pub(crate) fn value_if_any<N: Nodes>(at: &mut AtTable<'_, N>, node: &Held) -> Re
     requires slot { IsSlot node.now.at }
     ensures table { IsSameTable at.old at.new }
     ensures reads { ReadsIn (pass_of at.old) (pass_of at.new)
-        (steps_to_value_of (trace_of at.old).shape) }
+        (steps_to_value_of (trace_of at.old).start) }
     ensures value { IfOk result (ReadsValue (pass_of at.old) (pass_of at.new) node.now.at) }
     ensures moved { IfErr result (LosesValue (pass_of at.old) (pass_of at.new)) }
 {
@@ -33,7 +33,7 @@ pub(crate) fn value_if_any<N: Nodes>(at: &mut AtTable<'_, N>, node: &Held) -> Re
 /// How many steps it takes to read the value of a node, if it has one.
 #[inline(always)]
 pub(crate) fn steps_to_value_of<N: Nodes>(slots: &Slots<N>) -> u32
-    ensures { result ≡ steps_to_value_of slots.now.shape }
+    ensures { result ≡ steps_to_value_of slots.now.start }
 {
     slots.kind();
     if N::VALUES { 2 } else { 0 }
@@ -42,7 +42,7 @@ pub(crate) fn steps_to_value_of<N: Nodes>(slots: &Slots<N>) -> u32
 /// How many steps it takes to link a new node.
 #[inline(always)]
 pub(crate) fn steps_to_update<N: Nodes>(slots: &Slots<N>) -> u32
-    ensures { result ≡ steps_to_update slots.now.shape }
+    ensures { result ≡ steps_to_update slots.now.start }
 {
     slots.kind();
     if N::VALUES { 4 } else { 3 }

@@ -2,7 +2,7 @@
 use Rattle.std.proofs.Common.{◌≡◌, ℕ, ◌≤◌, true, false, max, [], Option, Some, None, refl, arith, sym, ap, ◌∙◌, inl, inr}
 use Rattle.std.specs.Prelude.{◌⊎◌}
 use Rattle.std.proofs.lemmas.Bool.{cases_Bool}
-use Rattle.vbr_words.specs.Dimensions.{Dimensions}
+use Rattle.vbr_machine.specs.Start.{Start}
 use Rattle.vbr_words.specs.Places as places
 use Rattle.vbr_words.specs.Words.{word_of, link_of}
 use Rattle.vbr_words.specs.declared.link.Link.{Link}
@@ -47,11 +47,11 @@ next_held a e holder o link l q v = let u : max holder (birth_shown a o) ≤ e =
     go (Some m) l u = record { slot = refl; birth = omega arith; late = listed_late (a.state m) e (l m refl) }
 
 -- it is linked, and what follows it is held
-pub held_open : {shape : Dimensions} {a : Incarnations} → Sound shape a → (e : ℕ) (at : At) (of : Option ℕ) (link : Link) → IsHeldAt a e at of → link_shown_at a at ≡ link → link.mark ≡ false → link.version ≤ e → (n : Option ℕ) × IsPair a at of n × IsHeldNext a e link.slot n
-held_open {shape} {a} s e (Head b) None link h q m v = (a.first b, (refl, refl), next_held a e 0 (a.first b) link (λ i r. (s.lists.first_in b i r).0) q v)
-held_open {shape} {a} s e (Head b) (Some c) link h q m v = absurd h
-held_open {shape} {a} s e (Slot t) None link h q m v = absurd h
-held_open {shape} {a} s e (Slot t) (Some c) link h q m v = go (a.state c) refl
+pub held_open : {start : Start} {a : Incarnations} → Sound start a → (e : ℕ) (at : At) (of : Option ℕ) (link : Link) → IsHeldAt a e at of → link_shown_at a at ≡ link → link.mark ≡ false → link.version ≤ e → (n : Option ℕ) × IsPair a at of n × IsHeldNext a e link.slot n
+held_open {start} {a} s e (Head b) None link h q m v = (a.first b, (refl, refl), next_held a e 0 (a.first b) link (λ i r. (s.lists.first_in b i r).0) q v)
+held_open {start} {a} s e (Head b) (Some c) link h q m v = absurd h
+held_open {start} {a} s e (Slot t) None link h q m v = absurd h
+held_open {start} {a} s e (Slot t) (Some c) link h q m v = go (a.state c) refl
   where
     l : a.last t ≡ Some c
     l = still_last s e t c h (rw q m) (rw q v)
@@ -84,7 +84,7 @@ pair_open a (Slot s) None n p = absurd (let q = p.1 in cc)
 pair_open a (Slot s) (Some c) n p = let q : c ≡ p.0 = (let r = p.1 in cc) in (ap a.state q ∙ p.3, ap a.next q ∙ p.4)
 
 -- what is held where a link names it is one, and was inserted
-one_next : {shape : Dimensions} {a : Incarnations} → Sound shape a → (e : ℕ) (v n o : Option ℕ) → IsHeldNext a e v n → IsHeldNext a e v o → n ≡ o
+one_next : {start : Start} {a : Incarnations} → Sound start a → (e : ℕ) (v n o : Option ℕ) → IsHeldNext a e v n → IsHeldNext a e v o → n ≡ o
 one_next s e None None None g h = refl
 one_next s e None None (Some d) g h = absurd h
 one_next s e None (Some c) o g h = absurd g
@@ -99,16 +99,16 @@ next_inserted a e (Some t) n h = late_inserted (a.state n) e h.late
 -- ---- then and now
 
 -- incarnations a then and b now: the known keys are those that the same incarnations had then
-module _ {shape : Dimensions} {a b : Incarnations} {know : Know} {notes : Notes} (then : Sound shape a) (grown : Grows a b) (now : Sound shape b) (noted : FitsNotes b know notes) (low : know.epoch ≤ a.epoch) where
+module _ {start : Start} {a b : Incarnations} {know : Know} {notes : Notes} (then : Sound start a) (grown : Grows a b) (now : Sound start b) (noted : FitsNotes b know notes) (low : know.epoch ≤ a.epoch) where
   -- a key that is known at a slot
   key_then : (s c key : ℕ) → IsHeldIncarnation a know.epoch s c → Knows know (KeyOf s key) → a.key c ≡ key
   key_then s c key h m = sym (grown.key c (late_inserted (a.state c) know.epoch h.late)) ∙ known_key now noted s c key (stays_held then grown know.epoch s c low h) m
 
   -- a key that stands behind a place
-  pub behind_then : (at : At) (of : Option ℕ) (key : ℕ) → IsHeldAt a know.epoch at of → StandsBehind shape know at key → BelongsBehind shape a (before_of at of) key
+  pub behind_then : (at : At) (of : Option ℕ) (key : ℕ) → IsHeldAt a know.epoch at of → StandsBehind start know at key → BelongsBehind start a (before_of at of) key
   behind_then (Head b) of key h s = s
   behind_then (Slot t) None key h s = absurd h
-  behind_then (Slot t) (Some c) key h s = let k = key_then t c s.0 h s.1 in (s.2 ∙ ap (bucket_of shape) (sym k), (let u = s.3 in omega arith))
+  behind_then (Slot t) (Some c) key h s = let k = key_then t c s.0 h s.1 in (s.2 ∙ ap (bucket_of start.shape) (sym k), (let u = s.3 in omega arith))
 
   -- a key that stands before what a link names
   pub before_then : (v n : Option ℕ) (key : ℕ) → IsHeldNext a know.epoch v n → StandsBefore know key v → BelongsBefore a key n
@@ -117,28 +117,28 @@ module _ {shape : Dimensions} {a b : Incarnations} {know : Know} {notes : Notes}
   before_then (Some t) None key h s = tt
   before_then (Some t) (Some n) key h s = let k = key_then t n s.0 h s.1 in (let u = s.2 in omega arith)
 
-  module _ (tells : Tells shape a) (at : At) (of : Option ℕ) (link : Link) (held : IsHeldAt a know.epoch at of) (shown : link_shown_at a at ≡ link) (unmarked : link.mark ≡ false) (known : Knows know (LinkAt at link)) where
+  module _ (tells : Tells start a) (at : At) (of : Option ℕ) (link : Link) (held : IsHeldAt a know.epoch at of) (shown : link_shown_at a at ≡ link) (unmarked : link.mark ≡ false) (known : Knows know (LinkAt at link)) where
     opened : (n : Option ℕ) × IsPair a at of n × IsHeldNext a know.epoch link.slot n
     opened = held_open then know.epoch at of link held shown unmarked ((good_link noted at link known).2.version)
 
     -- the key of the place was there
-    pub key_was_there : (key : ℕ) → KeyAt know at key → set_after (opening_keys shape) a.calls key ≡ true
+    pub key_was_there : (key : ℕ) → KeyAt know at key → set_after (opening_keys start) a.calls key ≡ true
     key_was_there key k = go at of held (opened.1) k
       where
-        go : (at : At) (of : Option ℕ) → IsHeldAt a know.epoch at of → IsPair a at of opened.0 → KeyAt know at key → set_after (opening_keys shape) a.calls key ≡ true
+        go : (at : At) (of : Option ℕ) → IsHeldAt a know.epoch at of → IsPair a at of opened.0 → KeyAt know at key → set_after (opening_keys start) a.calls key ≡ true
         go (Head b) of h p k = absurd k
         go (Slot s) None h p k = absurd h
         go (Slot s) (Some c) h p k = let q = key_then s c key h k in rw (← q) (tells.there c (pair_open a (Slot s) (Some c) opened.0 p).0)
 
     -- no node of a key between the place and what the link names was in a list
-    none_was_listed : (key : ℕ) → StandsBehind shape know at key → BelongsBefore a key opened.0 → (d : ℕ) → IsListed (a.state d) → a.key d ≡ key → ⊥
+    none_was_listed : (key : ℕ) → StandsBehind start know at key → BelongsBefore a key opened.0 → (d : ℕ) → IsListed (a.state d) → a.key d ≡ key → ⊥
     none_was_listed key behind before = let p = pair_open a at of opened.0 opened.1 in no_key_between then (before_of at of) key p.0 (behind_then at of key held behind) (rw p.1 before)
 
     -- a key between the place and what the link names wasn't
-    pub no_key_was_there : (key : ℕ) → StandsBehind shape know at key → StandsBefore know key link.slot → set_after (opening_keys shape) a.calls key ≡ false
-    no_key_was_there key behind before = go (cases_Bool (set_after (opening_keys shape) a.calls key))
+    pub no_key_was_there : (key : ℕ) → StandsBehind start know at key → StandsBefore know key link.slot → set_after (opening_keys start) a.calls key ≡ false
+    no_key_was_there key behind before = go (cases_Bool (set_after (opening_keys start) a.calls key))
       where
-        go : (set_after (opening_keys shape) a.calls key ≡ true) ⊎ (set_after (opening_keys shape) a.calls key ≡ false) → set_after (opening_keys shape) a.calls key ≡ false
+        go : (set_after (opening_keys start) a.calls key ≡ true) ⊎ (set_after (opening_keys start) a.calls key ≡ false) → set_after (opening_keys start) a.calls key ≡ false
         go (inr f) = f
         go (inl t) = let u = tells.only key t in absurd (none_was_listed key behind (before_then link.slot opened.0 key opened.2 before) u.0 (rw u.1 tt) u.2)
 
@@ -155,11 +155,11 @@ module _ {shape : Dimensions} {a b : Incarnations} {know : Know} {notes : Notes}
             absurd (let x : Linked ≡ Marked = sym linked ∙ ap a.state same ∙ m in cc)
 
     -- where the key lies between the place and what the link names, none was
-    pub none_marked_between : (key : ℕ) → StandsBehind shape know at key → StandsBefore know key link.slot → NoneMarked a key
+    pub none_marked_between : (key : ℕ) → StandsBehind start know at key → StandsBefore know key link.slot → NoneMarked a key
     none_marked_between key behind before d m e = none_was_listed key behind (before_then link.slot opened.0 key opened.2 before) d (rw m tt) e
 
     -- what a known marked link of a slot names has a greater key than the slot: so where the link names the same, a node of the slot's key was in no list
-    pub none_marked_skipped : (s key : ℕ) (frozen : Link) → StandsBehind shape know at key → Knows know (LinkAt (Slot s) frozen) → frozen.mark ≡ true → frozen.slot ≡ link.slot → Knows know (KeyOf s key) → NoneMarked a key
+    pub none_marked_skipped : (s key : ℕ) (frozen : Link) → StandsBehind start know at key → Knows know (LinkAt (Slot s) frozen) → frozen.mark ≡ true → frozen.slot ≡ link.slot → Knows know (KeyOf s key) → NoneMarked a key
     none_marked_skipped s key frozen behind k mark same j d m e = let g = good_link noted (Slot s) frozen k in none_was_listed key behind (go g.0 g.1 g.2 opened.0 opened.2) d (rw m tt) e
       where
         go : (c n : Option ℕ) → IsGoodLink b know.epoch (Slot s) frozen c n → (o : Option ℕ) → IsHeldNext a know.epoch link.slot o → BelongsBefore a key o
@@ -180,7 +180,7 @@ place_held k (Slot s) h = let x = slot_held k s h in (Some x.0, x.1)
 -- ---- in a world then and a world now
 
 -- the premises: the worlds agree with their incarnations; then the pass held the place, which showed the unmarked link; now the link is known there, and the pass has read no other epoch since
-module _ {shape : Dimensions} {v w : World} {a b : Incarnations} {early late : ℕ → Notes} (then : Agrees shape v a early) (now : Agrees shape w b late) (grown : Grows a b) (p : ℕ) (at : At) (link : Link)
+module _ {start : Start} {v w : World} {a b : Incarnations} {early late : ℕ → Notes} (then : Agrees start v a early) (now : Agrees start w b late) (grown : Grows a b) (p : ℕ) (at : At) (link : Link)
     (epoch : (v.know p).epoch ≡ (w.know p).epoch) (held : IsHeldPlace (v.know p) at) (shown : machine.link_at v at ≡ link) (known : Knows (w.know p) (LinkAt at link)) (unmarked : link.mark ≡ false) where
   there : (of : Option ℕ) × IsHeldAt a (w.know p).epoch at of
   there = rw (← epoch) (place_held (then.knows p) at held)
@@ -192,50 +192,50 @@ module _ {shape : Dimensions} {v w : World} {a b : Incarnations} {early late : �
   shows = sym (stands v a at then.image) ∙ shown
 
   -- a key that is known at the place now was in the set then
-  pub present_at_load : (key : ℕ) → KeyAt (w.know p) at key → set_after (opening_keys shape) v.calls key ≡ true
+  pub present_at_load : (key : ℕ) → KeyAt (w.know p) at key → set_after (opening_keys start) v.calls key ≡ true
   present_at_load key k = rw then.calls (key_was_there then.sound grown now.sound (now.knows p) low then.tells at there.0 link there.1 shows unmarked known key k)
 
   -- a key that stands behind the place and before what the link names, by what is known now, wasn't in the set then
-  pub absent_at_load : (key : ℕ) → StandsBehind shape (w.know p) at key → StandsBefore (w.know p) key link.slot → set_after (opening_keys shape) v.calls key ≡ false
+  pub absent_at_load : (key : ℕ) → StandsBehind start (w.know p) at key → StandsBefore (w.know p) key link.slot → set_after (opening_keys start) v.calls key ≡ false
   absent_at_load key i j = rw then.calls (no_key_was_there then.sound grown now.sound (now.knows p) low then.tells at there.0 link there.1 shows unmarked known key i j)
 
   -- no marked node of such a key was in a list then
   pub none_marked_here_then : (key : ℕ) → KeyAt (w.know p) at key → NoneMarked a key
   none_marked_here_then key k = none_marked_here then.sound grown now.sound (now.knows p) low then.tells at there.0 link there.1 shows unmarked known key k
 
-  pub none_marked_between_then : (key : ℕ) → StandsBehind shape (w.know p) at key → StandsBefore (w.know p) key link.slot → NoneMarked a key
+  pub none_marked_between_then : (key : ℕ) → StandsBehind start (w.know p) at key → StandsBefore (w.know p) key link.slot → NoneMarked a key
   none_marked_between_then key i j = none_marked_between then.sound grown now.sound (now.knows p) low then.tells at there.0 link there.1 shows unmarked known key i j
 
   -- nor one of the key of a slot that stands behind the place, and whose known marked link names what the link names
-  pub none_marked_skipped_then : (s key : ℕ) (frozen : Link) → StandsBehind shape (w.know p) at key → Knows (w.know p) (LinkAt (Slot s) frozen) → frozen.mark ≡ true → frozen.slot ≡ link.slot → Knows (w.know p) (KeyOf s key) → NoneMarked a key
+  pub none_marked_skipped_then : (s key : ℕ) (frozen : Link) → StandsBehind start (w.know p) at key → Knows (w.know p) (LinkAt (Slot s) frozen) → frozen.mark ≡ true → frozen.slot ≡ link.slot → Knows (w.know p) (KeyOf s key) → NoneMarked a key
   none_marked_skipped_then s key frozen i k m same j = none_marked_skipped then.sound grown now.sound (now.knows p) low then.tells at there.0 link there.1 shows unmarked known s key frozen i k m same j
 
 -- ---- in one world
 
 -- the premises: the world agrees with its incarnations, and a known unmarked link stands at its place
-module _ {shape : Dimensions} {w : World} {a : Incarnations} {notes : ℕ → Notes} (now : Agrees shape w a notes) (p : ℕ) (at : At) (link : Link) (known : Knows (w.know p) (LinkAt at link)) (unmarked : link.mark ≡ false) (shown : machine.link_at w at ≡ link) where
+module _ {start : Start} {w : World} {a : Incarnations} {notes : ℕ → Notes} (now : Agrees start w a notes) (p : ℕ) (at : At) (link : Link) (known : Knows (w.know p) (LinkAt at link)) (unmarked : link.mark ≡ false) (shown : machine.link_at w at ≡ link) where
   here : (of names : Option ℕ) × IsGoodLink a (w.know p).epoch at link of names
   here = good_link (now.knows p) at link known
 
   still : Grows a a
-  still = grows_after shape (opening_keys shape) a [] now.sound tt
+  still = grows_after start (opening_keys start) a [] now.sound tt
 
   -- a key that is known at the place is in the set
-  pub present_now : (key : ℕ) → KeyAt (w.know p) at key → set_after (opening_keys shape) w.calls key ≡ true
+  pub present_now : (key : ℕ) → KeyAt (w.know p) at key → set_after (opening_keys start) w.calls key ≡ true
   present_now key k = rw now.calls (key_was_there now.sound still now.sound (now.knows p) (now.knows p).epoch now.tells at here.0 link here.2.place (sym (stands w a at now.image) ∙ shown) unmarked known key k)
 
 -- ---- confirming loads
 
 -- the word at the place of a link
-pub found_at : (shape : Dimensions) (w : World) (at : At) → word_at shape w (places.place_of at) ≡ word_of (machine.link_at w at)
-found_at shape w (Head b) = refl
-found_at shape w (Slot s) = refl
+pub found_at : (start : Start) (w : World) (at : At) → word_at start w (places.place_of at) ≡ word_of (machine.link_at w at)
+found_at start w (Head b) = refl
+found_at start w (Slot s) = refl
 
 -- the link that stands at a place is that of the word that is found there
-pub link_found_at : {shape : Dimensions} {w : World} {a : Incarnations} {notes : ℕ → Notes} → Agrees shape w a notes → (at : At) (word : ℕ) → word_at shape w (places.place_of at) ≡ word → machine.link_at w at ≡ link_of word
-link_found_at {shape} {w} {a} g at word q = stands w a at g.image ∙ sym (link_read g at) ∙ ap link_of (sym (found_at shape w at) ∙ q)
+pub link_found_at : {start : Start} {w : World} {a : Incarnations} {notes : ℕ → Notes} → Agrees start w a notes → (at : At) (word : ℕ) → word_at start w (places.place_of at) ≡ word → machine.link_at w at ≡ link_of word
+link_found_at {start} {w} {a} g at word q = stands w a at g.image ∙ sym (link_read g at) ∙ ap link_of (sym (found_at start w at) ∙ q)
 
 -- where a confirming load of a slot finds the word that it expects, each key that is known at the slot is in the set
-pub confirmed_present : {shape : Dimensions} {w : World} {a : Incarnations} {notes : ℕ → Notes} → Agrees shape w a notes → (p : ℕ) (op : Op) (s expected key : ℕ) → Accepts shape (w.know p) (ConfirmPresent op s expected) → found shape w (ConfirmPresent op s expected) ≡ expected → Knows (w.know p) (KeyOf s key) → set_after (opening_keys shape) w.calls key ≡ true
-confirmed_present {shape} {w} g p op s expected key ok q k =
+pub confirmed_present : {start : Start} {w : World} {a : Incarnations} {notes : ℕ → Notes} → Agrees start w a notes → (p : ℕ) (op : Op) (s expected key : ℕ) → Accepts start (w.know p) (ConfirmPresent op s expected) → found start w (ConfirmPresent op s expected) ≡ expected → Knows (w.know p) (KeyOf s key) → set_after (opening_keys start) w.calls key ≡ true
+confirmed_present {start} {w} g p op s expected key ok q k =
     present_now g p (Slot s) (link_of expected) (record { among = link_among (w.know p).checked (Slot s) (link_of expected) ok.held.0 }) ok.in_range.0 (link_found_at g (Slot s) expected q) key k

@@ -2,7 +2,7 @@
 use Rattle.std.proofs.Common.{◌≡◌, ◌≢◌, ℕ, ◌+◌, ◌-◌, ◌^◌, ◌<◌, ◌≤◌, min, false, Option, Some, None, refl, arith, sym, ap, ◌∙◌, inl, inr}
 use Rattle.std.specs.Prelude.{◌⊎◌}
 use Rattle.std.proofs.lemmas.Bool.{cases_eq}
-use Rattle.vbr_words.specs.Dimensions.{Dimensions}
+use Rattle.vbr_machine.specs.Start.{Start}
 use Rattle.vbr_words.specs.Words.{IsLink}
 use Rattle.vbr_machine.specs.Put.{put}
 use Rattle.vbr_machine.specs.Opened.{opening_keys}
@@ -46,18 +46,18 @@ moved_link a b c s es eb ew en el st l df q v = go (cases_eq v s)
     go (inl e) = ap (λ i. link_shown a (a.last i)) e ∙ ap (link_shown a) l ∙ here ∙ ap (link_shown b) (sym l) ∙ ap (λ i. link_shown b (a.last i)) (sym e) ∙ ap (λ f. link_shown b (f v)) (sym el)
     go (inr ne) = there (a.last v) (λ d e. df v d ne e) ∙ ap (λ f. link_shown b (f v)) (sym el)
 
-pub step_store_stamp : (shape : Dimensions) (w : World) (a : Incarnations) (notes : ℕ → Notes) (p s stamp : ℕ) → Agrees shape w a notes → Accepts shape (w.know p) (StoreStamp s stamp) → StepAgrees shape w a notes p (StoreStamp s stamp)
-step_store_stamp shape w a notes p s stamp g ok =
+pub step_store_stamp : (start : Start) (w : World) (a : Incarnations) (notes : ℕ → Notes) (p s stamp : ℕ) → Agrees start w a notes → Accepts start (w.know p) (StoreStamp s stamp) → StepAgrees start w a notes p (StoreStamp s stamp)
+step_store_stamp start w a notes p s stamp g ok =
     let x = unlinked_facts a p s (w.know p).epoch ((w.know p).own s) (g.owns p s) ok.owned in
     let c = last_in a s in
-    let b = becomes shape a p (Stamps c stamp) in
-    let v = after shape w p (StoreStamp s stamp) in
+    let b = becomes start a p (Stamps c stamp) in
+    let v = after start w p (StoreStamp s stamp) in
     let own = Some (Free stamp) in
     let i = g.image in
     let slot : a.slot c ≡ s = (g.sound.slots.last_born s c x.last).1 in
-    let al : Allowed shape (opening_keys shape) a p (Stamps c stamp) = rw x.state (refl, (let y = x.seen ok.in_range.0 in let z = ok.in_range.1 in omega arith), (let y = (g.knows p).epoch in let z = ok.in_range.1 in omega arith)) in (
+    let al : Allowed start (opening_keys start) a p (Stamps c stamp) = rw x.state (refl, (let y = x.seen ok.in_range.0 in let z = ok.in_range.1 in omega arith), (let y = (g.knows p).epoch in let z = ok.in_range.1 in omega arith)) in (
       (al, tt),
-      agrees_next shape w v a notes (put notes p (notes p)) p (Stamps c stamp) g al
+      agrees_next start w v a notes (put notes p (notes p)) p (Stamps c stamp) g al
           (fits_kept a b refl refl refl refl g.fits)
           (record {
             epoch = i.epoch;
@@ -69,7 +69,7 @@ step_store_stamp shape w a notes p s stamp g ok =
             stamp = λ k. rw slot (puts_same w.stamp a.stamp s stamp i.stamp k);
             place = i.place;
           })
-          (knows_own b w.know notes p s own (knows_on g.sound (grows shape (opening_keys shape) a p (Stamps c stamp) g.sound al) w.know notes g.knows))
+          (knows_own b w.know notes p s own (knows_on g.sound (grows start (opening_keys start) a p (Stamps c stamp) g.sound al) w.know notes g.knows))
           (owns_changed a b w.know p s (with_own (w.know p) s own) refl (λ k ne. put_other (w.know p).own s own k ne)
           (own_not_of p (a.place s) x.place)
           (own_not_of p (a.place s) x.place)
@@ -82,10 +82,10 @@ step_store_stamp shape w a notes p s stamp g ok =
 -- ---- births
 
 -- all that agrees but what is known of one slot
-record AgreesAway (shape : Dimensions) (w : World) (a : Incarnations) (notes : ℕ → Notes) (p s : ℕ) : Type 0 where
-  sound : Sound shape a
-  tells : Tells shape a
-  fits : Fits shape a
+record AgreesAway (start : Start) (w : World) (a : Incarnations) (notes : ℕ → Notes) (p s : ℕ) : Type 0 where
+  sound : Sound start a
+  tells : Tells start a
+  fits : Fits start a
   image : IsImage w a
   knows : AllKnowRight a w.know notes
   away : (q v : ℕ) → v ≢ s → OwnFits a q (w.know q).epoch ((w.know q).own v) (a.place v) (a.last v) (a.stamp v)
@@ -103,20 +103,20 @@ born_world w p s birth stamp =
       births = counted w.births;
     }
 
-born : (shape : Dimensions) (w : World) (a : Incarnations) (notes : ℕ → Notes) (p s birth stamp : ℕ) → AgreesAway shape w a notes p s → birth ≤ (w.know p).epoch → s < shape.slots → a.stamp s ≡ stamp → Allowed shape (opening_keys shape) a p (Bears s birth) →
-    Agrees shape (born_world w p s birth stamp) (becomes shape a p (Bears s birth)) (put notes p (notes p))
-born shape w a notes p s birth stamp g le in_shape es al =
-    let z = becomes shape a p (Bears s birth) in
+born : (start : Start) (w : World) (a : Incarnations) (notes : ℕ → Notes) (p s birth stamp : ℕ) → AgreesAway start w a notes p s → birth ≤ (w.know p).epoch → s < start.shape.slots → a.stamp s ≡ stamp → Allowed start (opening_keys start) a p (Bears s birth) →
+    Agrees start (born_world w p s birth stamp) (becomes start a p (Bears s birth)) (put notes p (notes p))
+born start w a notes p s birth stamp g le in_shape es al =
+    let z = becomes start a p (Bears s birth) in
     let c = a.count in
     let i = g.image in
     let own = Some (InHand (newborn stamp birth)) in
     record {
-      sound = sound_kept shape (opening_keys shape) a p (Bears s birth) g.sound al;
-      tells = tells_kept shape a p (Bears s birth) g.sound g.tells al;
+      sound = sound_kept start (opening_keys start) a p (Bears s birth) g.sound al;
+      tells = tells_kept start a p (Bears s birth) g.sound g.tells al;
       fits = record {
-        is_shape = g.fits.is_shape;
+        is_start = g.fits.is_start;
         epoch = g.fits.epoch;
-        slot = at_put (λ d y. d < a.count + 1 → y < shape.slots) a.slot c s (λ _. in_shape) (λ d ne lt. g.fits.slot d (grind arith));
+        slot = at_put (λ d y. d < a.count + 1 → y < start.shape.slots) a.slot c s (λ _. in_shape) (λ d ne lt. g.fits.slot d (grind arith));
         link = at_put (λ d y. IsLink y) a.link c (link_shown a (a.last s)) (image_fits g.sound g.fits (Slot s)) (λ d ne. g.fits.link d);
       };
       image = record {
@@ -129,7 +129,7 @@ born shape w a notes p s birth stamp g le in_shape es al =
         stamp = i.stamp;
         place = puts_same w.place a.place s (Hand p) i.place;
       };
-      knows = knows_own z w.know notes p s own (knows_on g.sound (grows shape (opening_keys shape) a p (Bears s birth) g.sound al) w.know notes g.knows);
+      knows = knows_own z w.know notes p s own (knows_on g.sound (grows start (opening_keys start) a p (Bears s birth) g.sound al) w.know notes g.knows);
       owns = owns_moved a z w.know p s (with_own (w.know p) s own) refl (λ k ne. put_other (w.know p).own s own k ne) g.others
           (hand_not_of p (put a.place s (Hand p) s) (put_here a.place s (Hand p)))
           (λ k ne. record {
@@ -162,14 +162,14 @@ born shape w a notes p s birth stamp g le in_shape es al =
     next_old : (d : ℕ) → IsLate (a.state d) 0 → (m : ℕ) → a.next d ≡ Some m → m ≢ a.count
     next_old d l m e q = let x = late_born g.sound.slots m 0 (g.sound.lists.handed d m 0 e l) in omega arith
 
-    to_same : (h : ℕ) (o : Option ℕ) → ((m : ℕ) → o ≡ Some m → m ≢ a.count) → link_to_next (becomes shape a p (Bears s birth)) h o ≡ link_to_next a h o
+    to_same : (h : ℕ) (o : Option ℕ) → ((m : ℕ) → o ≡ Some m → m ≢ a.count) → link_to_next (becomes start a p (Bears s birth)) h o ≡ link_to_next a h o
     to_same h None k = refl
     to_same h (Some m) k = rw (put_other a.slot a.count s m (k m refl), put_other a.birth a.count birth m (k m refl)) refl
 
-    shown : (d : ℕ) → d ≢ a.count → IsLate (a.state d) 0 → link_to_next (becomes shape a p (Bears s birth)) ((becomes shape a p (Bears s birth)).birth d) ((becomes shape a p (Bears s birth)).next d) ≡ link_to_next a (a.birth d) (a.next d)
-    shown d ne l = ap (λ o. link_to_next (becomes shape a p (Bears s birth)) ((becomes shape a p (Bears s birth)).birth d) o) (put_other a.next a.count None d ne) ∙ to_same ((becomes shape a p (Bears s birth)).birth d) (a.next d) (next_old d l) ∙ ap (λ h. link_to_next a h (a.next d)) (put_other a.birth a.count birth d ne)
+    shown : (d : ℕ) → d ≢ a.count → IsLate (a.state d) 0 → link_to_next (becomes start a p (Bears s birth)) ((becomes start a p (Bears s birth)).birth d) ((becomes start a p (Bears s birth)).next d) ≡ link_to_next a (a.birth d) (a.next d)
+    shown d ne l = ap (λ o. link_to_next (becomes start a p (Bears s birth)) ((becomes start a p (Bears s birth)).birth d) o) (put_other a.next a.count None d ne) ∙ to_same ((becomes start a p (Bears s birth)).birth d) (a.next d) (next_old d l) ∙ ap (λ h. link_to_next a h (a.next d)) (put_other a.birth a.count birth d ne)
 
-    link_old : (d : ℕ) → d ≢ a.count → (st : State) → a.state d ≡ st → link_in_state (becomes shape a p (Bears s birth)) d st ≡ link_in_state a d st
+    link_old : (d : ℕ) → d ≢ a.count → (st : State) → a.state d ≡ st → link_in_state (becomes start a p (Bears s birth)) d st ≡ link_in_state a d st
     link_old d ne Linked e = shown d ne (rw e tt)
     link_old d ne Marked e = ap marked (shown d ne (rw e tt))
     link_old d ne (state.Unlinked q u) e = ap marked (shown d ne (rw e (omega arith)))
@@ -178,36 +178,36 @@ born shape w a notes p s birth stamp g le in_shape es al =
     link_old d ne (state.InHand q) e = put_other a.link a.count (link_shown a (a.last s)) d ne
     link_old d ne GivenUp e = put_other a.link a.count (link_shown a (a.last s)) d ne
 
-    of_old : (l : Option ℕ) → ((d : ℕ) → l ≡ Some d → d ≢ a.count) → link_shown (becomes shape a p (Bears s birth)) l ≡ link_shown a l
+    of_old : (l : Option ℕ) → ((d : ℕ) → l ≡ Some d → d ≢ a.count) → link_shown (becomes start a p (Bears s birth)) l ≡ link_shown a l
     of_old None k = refl
-    of_old (Some d) k = ap (link_in_state (becomes shape a p (Bears s birth)) d) (put_other a.state a.count (state.InHand p) d (k d refl)) ∙ link_old d (k d refl) (a.state d) refl
+    of_old (Some d) k = ap (link_in_state (becomes start a p (Bears s birth)) d) (put_other a.state a.count (state.InHand p) d (k d refl)) ∙ link_old d (k d refl) (a.state d) refl
 
-    links : (v : ℕ) → (v ≡ s) ⊎ (v ≢ s) → w.link v ≡ link_shown (becomes shape a p (Bears s birth)) (put a.last s (Some a.count) v)
+    links : (v : ℕ) → (v ≡ s) ⊎ (v ≢ s) → w.link v ≡ link_shown (becomes start a p (Bears s birth)) (put a.last s (Some a.count) v)
     links v (inl e) = g.image.link v ∙ ap (λ i. link_shown a (a.last i)) e ∙ sym (put_here a.link a.count (link_shown a (a.last s)))
-        ∙ ap (link_in_state (becomes shape a p (Bears s birth)) a.count) (sym (put_here a.state a.count (state.InHand p))) ∙ ap (link_shown (becomes shape a p (Bears s birth))) (sym (put_here a.last s (Some a.count)) ∙ ap (put a.last s (Some a.count)) (sym e))
-    links v (inr ne) = g.image.link v ∙ sym (of_old (a.last v) (old v)) ∙ ap (link_shown (becomes shape a p (Bears s birth))) (sym (put_other a.last s (Some a.count) v ne))
+        ∙ ap (link_in_state (becomes start a p (Bears s birth)) a.count) (sym (put_here a.state a.count (state.InHand p))) ∙ ap (link_shown (becomes start a p (Bears s birth))) (sym (put_here a.last s (Some a.count)) ∙ ap (put a.last s (Some a.count)) (sym e))
+    links v (inr ne) = g.image.link v ∙ sym (of_old (a.last v) (old v)) ∙ ap (link_shown (becomes start a p (Bears s birth))) (sym (put_other a.last s (Some a.count) v ne))
 
-    births : (v : ℕ) → (v ≡ s) ⊎ (v ≢ s) → put w.birth s birth v ≡ birth_shown (becomes shape a p (Bears s birth)) (put a.last s (Some a.count) v)
-    births v (inl e) = ap (put w.birth s birth) e ∙ put_here w.birth s birth ∙ sym (put_here a.birth a.count birth) ∙ ap (birth_shown (becomes shape a p (Bears s birth))) (sym (put_here a.last s (Some a.count)) ∙ ap (put a.last s (Some a.count)) (sym e))
-    births v (inr ne) = put_other w.birth s birth v ne ∙ g.image.birth v ∙ sym (birth_kept a (becomes shape a p (Bears s birth)) (a.last v) (λ d e. put_other a.birth a.count birth d (old v d e))) ∙ ap (birth_shown (becomes shape a p (Bears s birth))) (sym (put_other a.last s (Some a.count) v ne))
+    births : (v : ℕ) → (v ≡ s) ⊎ (v ≢ s) → put w.birth s birth v ≡ birth_shown (becomes start a p (Bears s birth)) (put a.last s (Some a.count) v)
+    births v (inl e) = ap (put w.birth s birth) e ∙ put_here w.birth s birth ∙ sym (put_here a.birth a.count birth) ∙ ap (birth_shown (becomes start a p (Bears s birth))) (sym (put_here a.last s (Some a.count)) ∙ ap (put a.last s (Some a.count)) (sym e))
+    births v (inr ne) = put_other w.birth s birth v ne ∙ g.image.birth v ∙ sym (birth_kept a (becomes start a p (Bears s birth)) (a.last v) (λ d e. put_other a.birth a.count birth d (old v d e))) ∙ ap (birth_shown (becomes start a p (Bears s birth))) (sym (put_other a.last s (Some a.count) v ne))
 
-    keys : (v : ℕ) → (v ≡ s) ⊎ (v ≢ s) → w.key v ≡ key_shown (becomes shape a p (Bears s birth)) (put a.last s (Some a.count) v)
-    keys v (inl e) = g.image.key v ∙ ap (λ i. key_shown a (a.last i)) e ∙ sym (put_here a.key a.count (key_shown a (a.last s))) ∙ ap (key_shown (becomes shape a p (Bears s birth))) (sym (put_here a.last s (Some a.count)) ∙ ap (put a.last s (Some a.count)) (sym e))
-    keys v (inr ne) = g.image.key v ∙ sym (key_kept a (becomes shape a p (Bears s birth)) (a.last v) (λ d e. put_other a.key a.count (key_shown a (a.last s)) d (old v d e))) ∙ ap (key_shown (becomes shape a p (Bears s birth))) (sym (put_other a.last s (Some a.count) v ne))
+    keys : (v : ℕ) → (v ≡ s) ⊎ (v ≢ s) → w.key v ≡ key_shown (becomes start a p (Bears s birth)) (put a.last s (Some a.count) v)
+    keys v (inl e) = g.image.key v ∙ ap (λ i. key_shown a (a.last i)) e ∙ sym (put_here a.key a.count (key_shown a (a.last s))) ∙ ap (key_shown (becomes start a p (Bears s birth))) (sym (put_here a.last s (Some a.count)) ∙ ap (put a.last s (Some a.count)) (sym e))
+    keys v (inr ne) = g.image.key v ∙ sym (key_kept a (becomes start a p (Bears s birth)) (a.last v) (λ d e. put_other a.key a.count (key_shown a (a.last s)) d (old v d e))) ∙ ap (key_shown (becomes start a p (Bears s birth))) (sym (put_other a.last s (Some a.count) v ne))
 
-    values : (v : ℕ) → (v ≡ s) ⊎ (v ≢ s) → w.value v ≡ value_shown (becomes shape a p (Bears s birth)) (put a.last s (Some a.count) v)
-    values v (inl e) = g.image.value v ∙ ap (λ i. value_shown a (a.last i)) e ∙ sym (put_here a.value a.count (value_shown a (a.last s))) ∙ ap (value_shown (becomes shape a p (Bears s birth))) (sym (put_here a.last s (Some a.count)) ∙ ap (put a.last s (Some a.count)) (sym e))
-    values v (inr ne) = g.image.value v ∙ sym (value_kept a (becomes shape a p (Bears s birth)) (a.last v) (λ d e. put_other a.value a.count (value_shown a (a.last s)) d (old v d e))) ∙ ap (value_shown (becomes shape a p (Bears s birth))) (sym (put_other a.last s (Some a.count) v ne))
+    values : (v : ℕ) → (v ≡ s) ⊎ (v ≢ s) → w.value v ≡ value_shown (becomes start a p (Bears s birth)) (put a.last s (Some a.count) v)
+    values v (inl e) = g.image.value v ∙ ap (λ i. value_shown a (a.last i)) e ∙ sym (put_here a.value a.count (value_shown a (a.last s))) ∙ ap (value_shown (becomes start a p (Bears s birth))) (sym (put_here a.last s (Some a.count)) ∙ ap (put a.last s (Some a.count)) (sym e))
+    values v (inr ne) = g.image.value v ∙ sym (value_kept a (becomes start a p (Bears s birth)) (a.last v) (λ d e. put_other a.value a.count (value_shown a (a.last s)) d (old v d e))) ∙ ap (value_shown (becomes start a p (Bears s birth))) (sym (put_other a.last s (Some a.count) v ne))
 
 -- what agrees once the incarnation in hand is given up
-given_up : (shape : Dimensions) (w : World) (a : Incarnations) (notes : ℕ → Notes) (p s : ℕ) → Agrees shape w a notes → a.last s ≡ Some (last_in a s) → a.state (last_in a s) ≡ state.InHand p → a.place s ≡ Hand p → AgreesAway shape w (becomes shape a p (GivesUp (last_in a s))) notes p s
-given_up shape w a notes p s g last st place =
+given_up : (start : Start) (w : World) (a : Incarnations) (notes : ℕ → Notes) (p s : ℕ) → Agrees start w a notes → a.last s ≡ Some (last_in a s) → a.state (last_in a s) ≡ state.InHand p → a.place s ≡ Hand p → AgreesAway start w (becomes start a p (GivesUp (last_in a s))) notes p s
+given_up start w a notes p s g last st place =
     let c = last_in a s in
-    let b = becomes shape a p (GivesUp c) in
+    let b = becomes start a p (GivesUp c) in
     let i = g.image in
     record {
-      sound = sound_kept shape (opening_keys shape) a p (GivesUp c) g.sound st;
-      tells = tells_kept shape a p (GivesUp c) g.sound g.tells st;
+      sound = sound_kept start (opening_keys start) a p (GivesUp c) g.sound st;
+      tells = tells_kept start a p (GivesUp c) g.sound g.tells st;
       fits = fits_kept a b refl refl refl refl g.fits;
       image = record {
         epoch = i.epoch;
@@ -219,7 +219,7 @@ given_up shape w a notes p s g last st place =
         stamp = i.stamp;
         place = i.place;
       };
-      knows = knows_on g.sound (grows shape (opening_keys shape) a p (GivesUp c) g.sound st) w.know notes g.knows;
+      knows = knows_on g.sound (grows start (opening_keys start) a p (GivesUp c) g.sound st) w.know notes g.knows;
       away = λ q v ne. slot_kept a b q (w.know q).epoch (w.know q).epoch v ((w.know q).own v) (omega arith)
           (record { place = refl; last = refl; stamp = refl; untouched = λ d e. record { state = put_other a.state c GivenUp d (lasts_differ g.sound.slots v s c d ne last e); birth = refl; key = refl; is_keyed = refl; value = refl; is_valued = refl; link = refl; is_aimed = refl } })
           (g.owns q v);
@@ -228,8 +228,8 @@ given_up shape w a notes p s g last st place =
       births = g.births;
     }
 
-pub step_store_birth : (shape : Dimensions) (w : World) (a : Incarnations) (notes : ℕ → Notes) (p s birth : ℕ) → Agrees shape w a notes → Accepts shape (w.know p) (StoreBirth s birth) → StepAgrees shape w a notes p (StoreBirth s birth)
-step_store_birth shape w a notes p s birth g ok = go ((w.know p).own s) refl ok.owned (g.owns p s) ok.in_range.1
+pub step_store_birth : (start : Start) (w : World) (a : Incarnations) (notes : ℕ → Notes) (p s birth : ℕ) → Agrees start w a notes → Accepts start (w.know p) (StoreBirth s birth) → StepAgrees start w a notes p (StoreBirth s birth)
+step_store_birth start w a notes p s birth g ok = go ((w.know p).own s) refl ok.owned (g.owns p s) ok.in_range.1
   where
     low : birth ≤ (w.know p).epoch
     low = let y = ok.in_range.0 in omega arith
@@ -237,14 +237,14 @@ step_store_birth shape w a notes p s birth g ok = go ((w.know p).own s) refl ok.
     below : birth ≤ a.epoch
     below = let x = (g.knows p).epoch in let y = ok.in_range.0 in omega arith
 
-    go : (holding : Option Holding) → (w.know p).own s ≡ holding → MayBear holding → OwnFits a p (w.know p).epoch holding (a.place s) (a.last s) (a.stamp s) → stamp_in holding < birth → StepAgrees shape w a notes p (StoreBirth s birth)
+    go : (holding : Option Holding) → (w.know p).own s ≡ holding → MayBear holding → OwnFits a p (w.know p).epoch holding (a.place s) (a.last s) (a.stamp s) → stamp_in holding < birth → StepAgrees start w a notes p (StoreBirth s birth)
     go None e o h lt = absurd o
     go (Some (Unlinked seen)) e o h lt = absurd o
     go (Some (Free stamp)) e o h lt =
-        let al : Allowed shape (opening_keys shape) a p (Bears s birth) = (rw h.0 (refl, h.1), (let u = h.2 in omega arith), below) in
+        let al : Allowed start (opening_keys start) a p (Bears s birth) = (rw h.0 (refl, h.1), (let u = h.2 in omega arith), below) in
         rw e (
           (al, tt),
-          born shape w a notes p s birth stamp (record {
+          born start w a notes p s birth stamp (record {
             sound = g.sound;
             tells = g.tells;
             fits = g.fits;
@@ -258,6 +258,6 @@ step_store_birth shape w a notes p s birth g ok = go ((w.know p).own s) refl ok.
         )
     go (Some (InHand known)) e o h lt =
         let x = hand_facts a p s (w.know p).epoch (Some (InHand known)) h tt in
-        let y = given_up shape w a notes p s g x.last x.state x.place in
-        let al : Allowed shape (opening_keys shape) (becomes shape a p (GivesUp (last_in a s))) p (Bears s birth) = (rw (x.place, x.last) (refl, put_here a.state (last_in a s) GivenUp), (let u = h.2 in omega arith), below) in
-        rw e ((x.state, (al, tt)), born shape w (becomes shape a p (GivesUp (last_in a s))) notes p s birth known.stamp y low ok.in_shape h.2 al)
+        let y = given_up start w a notes p s g x.last x.state x.place in
+        let al : Allowed start (opening_keys start) (becomes start a p (GivesUp (last_in a s))) p (Bears s birth) = (rw (x.place, x.last) (refl, put_here a.state (last_in a s) GivenUp), (let u = h.2 in omega arith), below) in
+        rw e ((x.state, (al, tt)), born start w (becomes start a p (GivesUp (last_in a s))) notes p s birth known.stamp y low ok.in_shape h.2 al)

@@ -2,7 +2,7 @@
 use Rattle.std.proofs.Common.{◌≡◌, ◌≢◌, ℕ, ◌≤◌, true, Option, Some, None, refl, sym, ap, ◌∙◌, inl, inr, subst}
 use Rattle.std.specs.Prelude.{◌⊎◌, List, unwrap_or}
 use Rattle.std.proofs.lemmas.Bool.{cases_eq}
-use Rattle.vbr_words.specs.Dimensions.{Dimensions}
+use Rattle.vbr_machine.specs.Start.{Start}
 use Rattle.vbr_words.specs.declared.link.Link.{Link}
 use Rattle.vbr_words.specs.declared.place.At.{At}
 use Rattle.vbr_words.specs.declared.place.At.TheVariants.{Head, Slot}
@@ -47,51 +47,51 @@ exchanged w a b (Slot q) new i here there (Slot v) = go (cases_eq v q)
     go (inr ne) = put_other w.link q new v ne ∙ i.link v ∙ sym (there (Slot v) (λ e. ne (cc)))
 
 -- the links elsewhere once c was inserted behind the place
-pub inserted_there : {shape : Dimensions} {a : Incarnations} → Sound shape a → (p c : ℕ) (pred : At) → last_at a pred ≡ node_at a pred → MayInsert shape a p c (before_at a pred) → (at : At) → at ≢ pred → link_shown_at (becomes shape a p (Inserts c (before_at a pred))) at ≡ link_shown_at a at
-inserted_there {shape} {a} snd p c (Head h) lq m (Head v) ne = to_next_same a (becomes shape a p (Inserts c (AtHead h))) refl refl 0 (put a.first h (Some c) v) ∙ ap (link_to_next a 0) (put_other a.first h (Some c) v (λ e. ne (ap Head e)))
-inserted_there {shape} {a} snd p c (Slot q) lq m (Head v) ne = to_next_same a (becomes shape a p (Inserts c (AtNode (last_in a q)))) refl refl 0 (a.first v)
-inserted_there {shape} {a} snd p c (Head h) lq m (Slot v) ne = go (a.last v)
+pub inserted_there : {start : Start} {a : Incarnations} → Sound start a → (p c : ℕ) (pred : At) → last_at a pred ≡ node_at a pred → MayInsert start a p c (before_at a pred) → (at : At) → at ≢ pred → link_shown_at (becomes start a p (Inserts c (before_at a pred))) at ≡ link_shown_at a at
+inserted_there {start} {a} snd p c (Head h) lq m (Head v) ne = to_next_same a (becomes start a p (Inserts c (AtHead h))) refl refl 0 (put a.first h (Some c) v) ∙ ap (link_to_next a 0) (put_other a.first h (Some c) v (λ e. ne (ap Head e)))
+inserted_there {start} {a} snd p c (Slot q) lq m (Head v) ne = to_next_same a (becomes start a p (Inserts c (AtNode (last_in a q)))) refl refl 0 (a.first v)
+inserted_there {start} {a} snd p c (Head h) lq m (Slot v) ne = go (a.last v)
   where
-    here : (d : ℕ) → d ≡ c → link_in_state (becomes shape a p (Inserts c (AtHead h))) d (put a.state c Linked d) ≡ link_in_state a d (a.state d)
-    here d e = rw (e, put_here a.state c Linked, m.in_hand) (rw m.link (to_next_same a (becomes shape a p (Inserts c (AtHead h))) refl refl (a.birth c) (put a.next c (a.first h) c) ∙ ap (link_to_next a (a.birth c)) (put_here a.next c (a.first h))))
+    here : (d : ℕ) → d ≡ c → link_in_state (becomes start a p (Inserts c (AtHead h))) d (put a.state c Linked d) ≡ link_in_state a d (a.state d)
+    here d e = rw (e, put_here a.state c Linked, m.in_hand) (rw m.link (to_next_same a (becomes start a p (Inserts c (AtHead h))) refl refl (a.birth c) (put a.next c (a.first h) c) ∙ ap (link_to_next a (a.birth c)) (put_here a.next c (a.first h))))
 
-    go : (l : Option ℕ) → link_shown (becomes shape a p (Inserts c (AtHead h))) l ≡ link_shown a l
+    go : (l : Option ℕ) → link_shown (becomes start a p (Inserts c (AtHead h))) l ≡ link_shown a l
     go None = refl
     go (Some d) = go2 (cases_eq d c)
       where
-        go2 : (d ≡ c) ⊎ (d ≢ c) → link_shown (becomes shape a p (Inserts c (AtHead h))) (Some d) ≡ link_shown a (Some d)
+        go2 : (d ≡ c) ⊎ (d ≢ c) → link_shown (becomes start a p (Inserts c (AtHead h))) (Some d) ≡ link_shown a (Some d)
         go2 (inl r) = here d r
-        go2 (inr r) = link_kept a (becomes shape a p (Inserts c (AtHead h))) refl refl (Some d) (λ i s. let z : i ≡ d = cc in (put_other a.state c Linked i (λ y. r (sym z ∙ y)), refl, put_other a.next c (a.first h) i (λ y. r (sym z ∙ y))))
-inserted_there {shape} {a} snd p c (Slot q) lq m (Slot v) ne = go (a.last v) refl
+        go2 (inr r) = link_kept a (becomes start a p (Inserts c (AtHead h))) refl refl (Some d) (λ i s. let z : i ≡ d = cc in (put_other a.state c Linked i (λ y. r (sym z ∙ y)), refl, put_other a.next c (a.first h) i (λ y. r (sym z ∙ y))))
+inserted_there {start} {a} snd p c (Slot q) lq m (Slot v) ne = go (a.last v) refl
   where
     kc : c ≢ last_in a q
     kc e = let x = m.in_hand in let y : a.state c ≡ Linked = rw e m.is_open in cc
 
-    here : (d : ℕ) → d ≡ c → link_in_state (becomes shape a p (Inserts c (AtNode (last_in a q)))) d (put a.state c Linked d) ≡ link_in_state a d (a.state d)
-    here d e = rw (e, put_here a.state c Linked, m.in_hand) (rw m.link (to_next_same a (becomes shape a p (Inserts c (AtNode (last_in a q)))) refl refl (a.birth c) (put (put a.next c (a.next (last_in a q))) (last_in a q) (Some c) c) ∙ ap (link_to_next a (a.birth c)) (put_other (put a.next c (a.next (last_in a q))) (last_in a q) (Some c) c kc ∙ put_here a.next c (a.next (last_in a q)))))
+    here : (d : ℕ) → d ≡ c → link_in_state (becomes start a p (Inserts c (AtNode (last_in a q)))) d (put a.state c Linked d) ≡ link_in_state a d (a.state d)
+    here d e = rw (e, put_here a.state c Linked, m.in_hand) (rw m.link (to_next_same a (becomes start a p (Inserts c (AtNode (last_in a q)))) refl refl (a.birth c) (put (put a.next c (a.next (last_in a q))) (last_in a q) (Some c) c) ∙ ap (link_to_next a (a.birth c)) (put_other (put a.next c (a.next (last_in a q))) (last_in a q) (Some c) c kc ∙ put_here a.next c (a.next (last_in a q)))))
 
-    go : (l : Option ℕ) → a.last v ≡ l → link_shown (becomes shape a p (Inserts c (AtNode (last_in a q)))) l ≡ link_shown a l
+    go : (l : Option ℕ) → a.last v ≡ l → link_shown (becomes start a p (Inserts c (AtNode (last_in a q)))) l ≡ link_shown a l
     go None e = refl
     go (Some d) e = go2 (cases_eq d c)
       where
         dk : d ≢ last_in a q
         dk = lasts_differ snd.slots v q (last_in a q) d (λ z. ne (ap Slot z)) lq e
 
-        go2 : (d ≡ c) ⊎ (d ≢ c) → link_shown (becomes shape a p (Inserts c (AtNode (last_in a q)))) (Some d) ≡ link_shown a (Some d)
+        go2 : (d ≡ c) ⊎ (d ≢ c) → link_shown (becomes start a p (Inserts c (AtNode (last_in a q)))) (Some d) ≡ link_shown a (Some d)
         go2 (inl r) = here d r
-        go2 (inr r) = link_kept a (becomes shape a p (Inserts c (AtNode (last_in a q)))) refl refl (Some d) (λ i s. let z : i ≡ d = cc in (put_other a.state c Linked i (λ y. r (sym z ∙ y)), refl, put_other (put a.next c (a.next (last_in a q))) (last_in a q) (Some c) i (λ y. dk (sym z ∙ y)) ∙ put_other a.next c (a.next (last_in a q)) i (λ y. r (sym z ∙ y))))
+        go2 (inr r) = link_kept a (becomes start a p (Inserts c (AtNode (last_in a q)))) refl refl (Some d) (λ i s. let z : i ≡ d = cc in (put_other a.state c Linked i (λ y. r (sym z ∙ y)), refl, put_other (put a.next c (a.next (last_in a q))) (last_in a q) (Some c) i (λ y. dk (sym z ∙ y)) ∙ put_other a.next c (a.next (last_in a q)) i (λ y. r (sym z ∙ y))))
 
 -- the link at the place itself
-pub inserted_here : {shape : Dimensions} {a : Incarnations} → (p c : ℕ) (pred : At) → last_at a pred ≡ node_at a pred → MayInsert shape a p c (before_at a pred) → link_shown_at (becomes shape a p (Inserts c (before_at a pred))) pred ≡ link_to (Some (a.slot c)) (birth_there a pred) (a.birth c)
-inserted_here {shape} {a} p c (Head h) lq m = ap (link_to_next (becomes shape a p (Inserts c (AtHead h))) 0) (put_here a.first h (Some c))
-inserted_here {shape} {a} p c (Slot q) lq m =
+pub inserted_here : {start : Start} {a : Incarnations} → (p c : ℕ) (pred : At) → last_at a pred ≡ node_at a pred → MayInsert start a p c (before_at a pred) → link_shown_at (becomes start a p (Inserts c (before_at a pred))) pred ≡ link_to (Some (a.slot c)) (birth_there a pred) (a.birth c)
+inserted_here {start} {a} p c (Head h) lq m = ap (link_to_next (becomes start a p (Inserts c (AtHead h))) 0) (put_here a.first h (Some c))
+inserted_here {start} {a} p c (Slot q) lq m =
     let k = last_in a q in
-    let b = becomes shape a p (Inserts c (AtNode k)) in
+    let b = becomes start a p (Inserts c (AtNode k)) in
     let kc : k ≢ c = λ e. let x = m.in_hand in let y : a.state c ≡ Linked = rw e at m.is_open in cc in
     ap (link_shown b) lq ∙ ap (link_in_state b k) (put_other a.state c Linked k kc ∙ m.is_open) ∙ ap (link_to_next b (a.birth k)) (put_here (put a.next c (a.next k)) k (Some c))
 
 -- a slot in hand that is ready to be inserted
-pub record ReadyFacts (shape : Dimensions) (a : Incarnations) (p s e : ℕ) (reads : List Read) (pred : At) (expected : Link) (holding : Option Holding) : Type 0 where
+pub record ReadyFacts (start : Start) (a : Incarnations) (p s e : ℕ) (reads : List Read) (pred : At) (expected : Link) (holding : Option Holding) : Type 0 where
   pub last : a.last s ≡ Some (last_in a s)
   pub state : a.state (last_in a s) ≡ state.InHand p
   pub place : a.place s ≡ Hand p
@@ -102,17 +102,17 @@ pub record ReadyFacts (shape : Dimensions) (a : Incarnations) (p s e : ℕ) (rea
   pub key_is : key_in_hand holding ≡ a.key (last_in a s)
   pub link_is : link_in_hand holding ≡ a.link (last_in a s)
   pub link_ready : a.link (last_in a s) ≡ link_to expected.slot (a.birth (last_in a s)) (unwrap_or (birth_of reads expected.slot) 0)
-  pub behind : IsBehind shape reads pred (a.key (last_in a s))
+  pub behind : IsBehind start reads pred (a.key (last_in a s))
   pub before : IsBefore reads (a.key (last_in a s)) expected.slot
   pub value_is : (x : ℕ) → value_in_hand holding ≡ Some x → a.value (last_in a s) ≡ x
-  pub valued : shape.values ≡ true → a.is_valued (last_in a s) ≡ true
-  pub payload : payload_kept shape (value_in_hand holding) ≡ payload_of shape a (last_in a s)
+  pub valued : start.shape.values ≡ true → a.is_valued (last_in a s) ≡ true
+  pub payload : payload_kept start (value_in_hand holding) ≡ payload_of start a (last_in a s)
 
-pub ready_facts : (shape : Dimensions) (a : Incarnations) (p s e : ℕ) (reads : List Read) (pred : At) (expected : Link) (holding : Option Holding) → OwnFits a p e holding (a.place s) (a.last s) (a.stamp s) → MayPublish shape reads pred expected holding → ReadyFacts shape a p s e reads pred expected holding
-ready_facts shape a p s e reads pred expected None h r = absurd r
-ready_facts shape a p s e reads pred expected (Some (Free known)) h r = absurd r
-ready_facts shape a p s e reads pred expected (Some (Unlinked seen)) h r = absurd r
-ready_facts shape a p s e reads pred expected (Some (InHand known)) h r =
+pub ready_facts : (start : Start) (a : Incarnations) (p s e : ℕ) (reads : List Read) (pred : At) (expected : Link) (holding : Option Holding) → OwnFits a p e holding (a.place s) (a.last s) (a.stamp s) → MayPublish start reads pred expected holding → ReadyFacts start a p s e reads pred expected holding
+ready_facts start a p s e reads pred expected None h r = absurd r
+ready_facts start a p s e reads pred expected (Some (Free known)) h r = absurd r
+ready_facts start a p s e reads pred expected (Some (Unlinked seen)) h r = absurd r
+ready_facts start a p s e reads pred expected (Some (InHand known)) h r =
     let x = h.1 in
     let keyed = subst (λ (o : Option ℕ). IsStored (a.is_keyed x.node) (a.key x.node) o) r.key_is x.keyed in
     let aimed = subst (λ (o : Option Link). IsStored (a.is_aimed x.node) (a.link x.node) o) r.link_is x.aimed in
@@ -133,6 +133,6 @@ ready_facts shape a p s e reads pred expected (Some (InHand known)) h r =
       behind = rw k r.behind;
       before = rw k r.before;
       value_is = λ y e. ap a.value l ∙ stored_is (a.is_valued x.node) (a.value x.node) known.value x.valued y e;
-      valued = λ e. ap a.is_valued l ∙ stored_there shape.values (a.is_valued x.node) (a.value x.node) known.value r.valued x.valued e;
-      payload = stored_kept shape.values (a.is_valued x.node) (a.value x.node) known.value r.valued x.valued ∙ ap (λ n. payload_kept shape (Some (a.value n))) (sym l);
+      valued = λ e. ap a.is_valued l ∙ stored_there start.shape.values (a.is_valued x.node) (a.value x.node) known.value r.valued x.valued e;
+      payload = stored_kept start.shape.values (a.is_valued x.node) (a.value x.node) known.value r.valued x.valued ∙ ap (λ n. payload_kept start (Some (a.value n))) (sym l);
     }

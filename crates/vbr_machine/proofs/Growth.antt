@@ -1,7 +1,7 @@
 -- What was there stays: after each allowed event, and after each lawful chronicle.
 use Rattle.std.proofs.Common.{◌≡◌, ℕ, ◌≤◌, List, [], ◌∷◌, refl, arith, ap, ◌∙◌}
 use Rattle.std.proofs.lemmas.Bool.Decides.{nat_tests}
-use Rattle.vbr_words.specs.Dimensions.{Dimensions}
+use Rattle.vbr_machine.specs.Start.{Start}
 use Rattle.vbr_machine.specs.Keys.{Keys}
 use Rattle.vbr_machine.specs.Incarnations.{Incarnations}
 use Rattle.vbr_machine.specs.Chronicles.{Happening, Advances, Gains, Probes, Raises, GivesUp, Bears, Keyed, Valued, Aims, Inserts, Removes, Unlinks, Stamps, Confirms, AtHead, AtNode, Entry, Allowed, becomes, incarnations_from, IsLawful}
@@ -22,14 +22,14 @@ grows_beside a b e n es eb ek ev et en = record {
   removed = λ c g. (rw et g, ap (λ f. f c) en);
 }
 
-pub grows : (shape : Dimensions) (keys : Keys) (a : Incarnations) (pass : ℕ) (what : Happening) → Sound shape a → Allowed shape keys a pass what → Grows a (becomes shape a pass what)
-grows shape keys a pass Advances s h = grows_beside a (becomes shape a pass Advances) (omega arith) (omega arith) refl refl refl refl refl refl
-grows shape keys a pass (Gains v) s h = grows_beside a (becomes shape a pass (Gains v)) (omega arith) (omega arith) refl refl refl refl refl refl
-grows shape keys a pass (Probes v) s h = grows_beside a a (omega arith) (omega arith) refl refl refl refl refl refl
-grows shape keys a pass (Raises v) s h = grows_beside a (becomes shape a pass (Raises v)) (omega arith) (omega arith) refl refl refl refl refl refl
-grows shape keys a pass (Confirms call) s h = grows_beside a (becomes shape a pass (Confirms call)) (omega arith) (omega arith) refl refl refl refl refl refl
-grows shape keys a pass (Aims c link) s h = grows_beside a (becomes shape a pass (Aims c link)) (omega arith) (omega arith) refl refl refl refl refl refl
-grows shape keys a pass (Keyed c key) s h = record {
+pub grows : (start : Start) (keys : Keys) (a : Incarnations) (pass : ℕ) (what : Happening) → Sound start a → Allowed start keys a pass what → Grows a (becomes start a pass what)
+grows start keys a pass Advances s h = grows_beside a (becomes start a pass Advances) (omega arith) (omega arith) refl refl refl refl refl refl
+grows start keys a pass (Gains v) s h = grows_beside a (becomes start a pass (Gains v)) (omega arith) (omega arith) refl refl refl refl refl refl
+grows start keys a pass (Probes v) s h = grows_beside a a (omega arith) (omega arith) refl refl refl refl refl refl
+grows start keys a pass (Raises v) s h = grows_beside a (becomes start a pass (Raises v)) (omega arith) (omega arith) refl refl refl refl refl refl
+grows start keys a pass (Confirms call) s h = grows_beside a (becomes start a pass (Confirms call)) (omega arith) (omega arith) refl refl refl refl refl refl
+grows start keys a pass (Aims c link) s h = grows_beside a (becomes start a pass (Aims c link)) (omega arith) (omega arith) refl refl refl refl refl refl
+grows start keys a pass (Keyed c key) s h = record {
   epoch = omega arith;
   count = omega arith;
   slot = λ i l. refl;
@@ -39,7 +39,7 @@ grows shape keys a pass (Keyed c key) s h = record {
   late = λ i e le l. l;
   removed = λ i g. (g, refl);
 }
-grows shape keys a pass (Valued c value) s h = let z = h.0 in record {
+grows start keys a pass (Valued c value) s h = let z = h.0 in record {
   epoch = omega arith;
   count = omega arith;
   slot = λ i l. refl;
@@ -49,7 +49,7 @@ grows shape keys a pass (Valued c value) s h = let z = h.0 in record {
   late = λ i e le l. l;
   removed = λ i g. (g, refl);
 }
-grows shape keys a pass (GivesUp c) s h = record {
+grows start keys a pass (GivesUp c) s h = record {
   epoch = omega arith;
   count = omega arith;
   slot = λ i l. refl;
@@ -59,7 +59,7 @@ grows shape keys a pass (GivesUp c) s h = record {
   late = λ i e le l. grind (arith, nat_tests);
   removed = λ i g. grind (arith, nat_tests);
 }
-grows shape keys a pass (Bears v birth) s h = let z = s.slots.unborn a.count (omega arith) in record {
+grows start keys a pass (Bears v birth) s h = let z = s.slots.unborn a.count (omega arith) in record {
   epoch = omega arith;
   count = omega arith;
   slot = λ i l. grind (arith, nat_tests);
@@ -69,7 +69,7 @@ grows shape keys a pass (Bears v birth) s h = let z = s.slots.unborn a.count (om
   late = λ i e le l. grind (arith, nat_tests);
   removed = λ i g. grind (arith, nat_tests);
 }
-grows shape keys a pass (Inserts c (AtHead b)) s h = let z = h.in_hand in record {
+grows start keys a pass (Inserts c (AtHead b)) s h = let z = h.in_hand in record {
   epoch = omega arith;
   count = omega arith;
   slot = λ i l. refl;
@@ -79,7 +79,7 @@ grows shape keys a pass (Inserts c (AtHead b)) s h = let z = h.in_hand in record
   late = λ i e le l. grind (arith, nat_tests);
   removed = λ i g. grind (arith, nat_tests);
 }
-grows shape keys a pass (Inserts c (AtNode p)) s h = let z = h.in_hand in let y = h.is_open in record {
+grows start keys a pass (Inserts c (AtNode p)) s h = let z = h.in_hand in let y = h.is_open in record {
   epoch = omega arith;
   count = omega arith;
   slot = λ i l. refl;
@@ -89,7 +89,7 @@ grows shape keys a pass (Inserts c (AtNode p)) s h = let z = h.in_hand in let y 
   late = λ i e le l. grind (arith, nat_tests);
   removed = λ i g. grind (arith, nat_tests);
 }
-grows shape keys a pass (Removes c) s h = record {
+grows start keys a pass (Removes c) s h = record {
   epoch = omega arith;
   count = omega arith;
   slot = λ i l. refl;
@@ -99,7 +99,7 @@ grows shape keys a pass (Removes c) s h = record {
   late = λ i e le l. grind (arith, nat_tests);
   removed = λ i g. grind (arith, nat_tests);
 }
-grows shape keys a pass (Unlinks c (AtHead b)) s h = let z = h.0 in record {
+grows start keys a pass (Unlinks c (AtHead b)) s h = let z = h.0 in record {
   epoch = omega arith;
   count = omega arith;
   slot = λ i l. refl;
@@ -109,7 +109,7 @@ grows shape keys a pass (Unlinks c (AtHead b)) s h = let z = h.0 in record {
   late = λ i e le l. grind (arith, nat_tests);
   removed = λ i g. grind (arith, nat_tests);
 }
-grows shape keys a pass (Unlinks c (AtNode p)) s h = let z = h.0 in let y = h.1 in record {
+grows start keys a pass (Unlinks c (AtNode p)) s h = let z = h.0 in let y = h.1 in record {
   epoch = omega arith;
   count = omega arith;
   slot = λ i l. refl;
@@ -119,7 +119,7 @@ grows shape keys a pass (Unlinks c (AtNode p)) s h = let z = h.0 in let y = h.1 
   late = λ i e le l. grind (arith, nat_tests);
   removed = λ i g. grind (arith, nat_tests);
 }
-grows shape keys a pass (Stamps c stamp) s h = record {
+grows start keys a pass (Stamps c stamp) s h = record {
   epoch = omega arith;
   count = omega arith;
   slot = λ i l. refl;
@@ -146,7 +146,7 @@ grows_on {a} {b} {c} g h = record {
   removed = λ i l. let u = g.removed i l in let v = h.removed i u.0 in (v.0, v.1 ∙ u.1);
 }
 
-pub grows_after : (shape : Dimensions) (keys : Keys) (a : Incarnations) (entries : List Entry) → Sound shape a → IsLawful shape keys a entries → Grows a (incarnations_from shape a entries)
-grows_after shape keys a [] s l = grows_beside a a (omega arith) (omega arith) refl refl refl refl refl refl
-grows_after shape keys a (entry ∷ entries) s l =
-    grows_on (grows shape keys a entry.pass entry.what s l.0) (grows_after shape keys (becomes shape a entry.pass entry.what) entries (sound_kept shape keys a entry.pass entry.what s l.0) l.1)
+pub grows_after : (start : Start) (keys : Keys) (a : Incarnations) (entries : List Entry) → Sound start a → IsLawful start keys a entries → Grows a (incarnations_from start a entries)
+grows_after start keys a [] s l = grows_beside a a (omega arith) (omega arith) refl refl refl refl refl refl
+grows_after start keys a (entry ∷ entries) s l =
+    grows_on (grows start keys a entry.pass entry.what s l.0) (grows_after start keys (becomes start a entry.pass entry.what) entries (sound_kept start keys a entry.pass entry.what s l.0) l.1)

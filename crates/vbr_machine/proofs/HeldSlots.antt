@@ -4,7 +4,7 @@ use Rattle.std.specs.Prelude.{◌==◌, ◌&&◌, IsTrue}
 use Rattle.std.specs.List.{AllByRecursion}
 use Rattle.std.proofs.lemmas.Bool.{cases_Bool, eq-eqb, and_parts}
 use Rattle.vbr_words.specs.Flags.{has_flag}
-use Rattle.vbr_words.specs.Dimensions.{Dimensions}
+use Rattle.vbr_machine.specs.Start.{Start}
 use Rattle.vbr_words.specs.Words.{link_of}
 use Rattle.vbr_words.specs.declared.link.Link.{Link}
 use Rattle.vbr_words.specs.declared.place.At.{At}
@@ -107,25 +107,25 @@ link_held held (LinkAt here seen ∷ reads) at link r h = elim (cases_Bool (same
 -- ---- steps
 
 -- what a pass learns by an accepted step leaves all of its reads of held places
-pub held_learned : (shape : Dimensions) (know : Know) (step : Step) (found stamp : ℕ) → ReadsHeldPlaces know → Accepts shape know step → ReadsHeldPlaces (learn step found stamp know)
-held_learned shape know ReadEpoch found stamp r ok = epoch_read know found r
-held_learned shape know (Advance from) found stamp r ok = r
-held_learned shape know (LoadStamp s) found stamp r ok = r
-held_learned shape know (StoreStamp s new) found stamp r ok = record { checked = r.checked; pending = r.pending }
-held_learned shape know (Raise s) found stamp r ok = record { checked = r.checked; pending = r.pending }
-held_learned shape know (TakeFlag s) found stamp r ok = elim (cases_Bool (has_flag found s)) [
+pub held_learned : (start : Start) (know : Know) (step : Step) (found stamp : ℕ) → ReadsHeldPlaces know → Accepts start know step → ReadsHeldPlaces (learn step found stamp know)
+held_learned start know ReadEpoch found stamp r ok = epoch_read know found r
+held_learned start know (Advance from) found stamp r ok = r
+held_learned start know (LoadStamp s) found stamp r ok = r
+held_learned start know (StoreStamp s new) found stamp r ok = record { checked = r.checked; pending = r.pending }
+held_learned start know (Raise s) found stamp r ok = record { checked = r.checked; pending = r.pending }
+held_learned start know (TakeFlag s) found stamp r ok = elim (cases_Bool (has_flag found s)) [
   | inl k ↦ rw k (record { checked = r.checked; pending = r.pending })
   | inr k ↦ rw k r
 ]
-held_learned shape know (StoreBirth s birth) found stamp r ok = record { checked = r.checked; pending = r.pending }
-held_learned shape know (StoreKey s key) found stamp r ok = record { checked = r.checked; pending = r.pending }
-held_learned shape know (StoreValue s value) found stamp r ok = record { checked = r.checked; pending = r.pending }
-held_learned shape know (StoreLink s next) found stamp r ok = record { checked = r.checked; pending = r.pending }
-held_learned shape know (LoadLink at) found stamp r ok = pending_more know (LinkAt at (link_of found)) r ok.held
-held_learned shape know (LoadBirth s) found stamp r ok = pending_more know (BirthOf s found) r ok.held
-held_learned shape know (LoadKey s) found stamp r ok = pending_more know (KeyOf s found) r ok.held
-held_learned shape know (LoadValue s) found stamp r ok = pending_more know (ValueOf s found) r ok.held
-held_learned shape know (Publish pred expected s) found stamp r ok = elim (cases_Bool (found == expected)) [
+held_learned start know (StoreBirth s birth) found stamp r ok = record { checked = r.checked; pending = r.pending }
+held_learned start know (StoreKey s key) found stamp r ok = record { checked = r.checked; pending = r.pending }
+held_learned start know (StoreValue s value) found stamp r ok = record { checked = r.checked; pending = r.pending }
+held_learned start know (StoreLink s next) found stamp r ok = record { checked = r.checked; pending = r.pending }
+held_learned start know (LoadLink at) found stamp r ok = pending_more know (LinkAt at (link_of found)) r ok.held
+held_learned start know (LoadBirth s) found stamp r ok = pending_more know (BirthOf s found) r ok.held
+held_learned start know (LoadKey s) found stamp r ok = pending_more know (KeyOf s found) r ok.held
+held_learned start know (LoadValue s) found stamp r ok = pending_more know (ValueOf s found) r ok.held
+held_learned start know (Publish pred expected s) found stamp r ok = elim (cases_Bool (found == expected)) [
   | inl k ↦
       let reads = reads_won know (Publish pred expected s) in
       let new : holds (know.checked ++ reads) s ≡ true = held_later know.checked reads s (rw (eq-eqb s s refl) refl) in
@@ -133,18 +133,18 @@ held_learned shape know (Publish pred expected s) found stamp r ok = elim (cases
       rw k (record { checked = more.checked; pending = more.pending })
   | inr k ↦ rw k r
 ]
-held_learned shape know (Mark s expected) found stamp r ok = elim (cases_Bool (found == expected)) [
+held_learned start know (Mark s expected) found stamp r ok = elim (cases_Bool (found == expected)) [
   | inl k ↦
       let reads = reads_won know (Mark s expected) in
       rw k (checked_more know reads r (held_at_more know.checked reads (Slot s) (link_held know.checked know.checked (Slot s) (link_of expected) r.checked ok.held.0), tt))
   | inr k ↦ rw k r
 ]
-held_learned shape know (Unlink pred expected s) found stamp r ok = elim (cases_Bool (found == expected)) [
+held_learned start know (Unlink pred expected s) found stamp r ok = elim (cases_Bool (found == expected)) [
   | inl k ↦
       let reads = reads_won know (Unlink pred expected s) in
       let more = checked_more know reads r (held_at_more know.checked reads pred (link_held know.checked know.checked pred (link_of expected) r.checked ok.held.0), tt) in
       rw k (record { checked = more.checked; pending = more.pending })
   | inr k ↦ rw k r
 ]
-held_learned shape know (ConfirmPresent op s expected) found stamp r ok = r
-held_learned shape know (ConfirmAbsent op key at expected) found stamp r ok = r
+held_learned start know (ConfirmPresent op s expected) found stamp r ok = r
+held_learned start know (ConfirmAbsent op key at expected) found stamp r ok = r

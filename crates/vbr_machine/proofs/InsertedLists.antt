@@ -3,7 +3,7 @@ use Rattle.std.proofs.Common.{◌≡◌, ◌≢◌, ℕ, ◌<◌, Option, Some, 
 use Rattle.std.specs.Prelude.{◌⊎◌}
 use Rattle.std.proofs.lemmas.Bool.Decides.{nat_tests}
 use Rattle.std.proofs.lemmas.Bool.{cases_eq}
-use Rattle.vbr_words.specs.Dimensions.{Dimensions}
+use Rattle.vbr_machine.specs.Start.{Start}
 use Rattle.vbr_machine.specs.Put.{put}
 use Rattle.vbr_words.specs.Buckets.{bucket_of}
 use Rattle.vbr_machine.specs.Incarnations.{Linked, Incarnations}
@@ -13,8 +13,8 @@ use Rattle.vbr_machine.proofs.Puts.{put_here, put_other}
 use Rattle.vbr_machine.proofs.Slots.{listed_late}
 use Rattle.vbr_machine.proofs.Lists.{listed_other}
 
-pub lists_inserts_at_head : (shape : Dimensions) (a : Incarnations) (pass c b : ℕ) → Sound shape a → MayInsert shape a pass c (AtHead b) → ListsSound shape (becomes shape a pass (Inserts c (AtHead b)))
-lists_inserts_at_head shape a pass c b s h =
+pub lists_inserts_at_head : (start : Start) (a : Incarnations) (pass c b : ℕ) → Sound start a → MayInsert start a pass c (AtHead b) → ListsSound start (becomes start a pass (Inserts c (AtHead b)))
+lists_inserts_at_head start a pass c b s h =
     let held = h.in_hand in
     let above = h.above in
     let below = h.below in
@@ -40,8 +40,8 @@ splits_other key c p i n m ne lt b x y = grind arith
 below_at : (a : Incarnations) (key : ℕ) (n : Option ℕ) → BelongsBefore a key n → (m : ℕ) → n ≡ Some m → key < a.key m
 below_at a key n h m e = grind arith
 
-apart_inserted : (shape : Dimensions) (a : Incarnations) (pass c p : ℕ) → Sound shape a → MayInsert shape a pass c (AtNode p) → (i d : ℕ) → IsListed (put a.state c Linked i) → IsListed (put a.state c Linked d) → bucket_of shape (a.key i) ≡ bucket_of shape (a.key d) → IsApart a.key i (put (put a.next c (a.next p)) p (Some c) i) d
-apart_inserted shape a pass c p s h i d li ld q = go (cases_eq i p) (cases_eq i c) (cases_eq d c)
+apart_inserted : (start : Start) (a : Incarnations) (pass c p : ℕ) → Sound start a → MayInsert start a pass c (AtNode p) → (i d : ℕ) → IsListed (put a.state c Linked i) → IsListed (put a.state c Linked d) → bucket_of start.shape (a.key i) ≡ bucket_of start.shape (a.key d) → IsApart a.key i (put (put a.next c (a.next p)) p (Some c) i) d
+apart_inserted start a pass c p s h i d li ld q = go (cases_eq i p) (cases_eq i c) (cases_eq d c)
   where
     below : (m : ℕ) → a.next p ≡ Some m → a.key c < a.key m
     below = below_at a (a.key c) (a.next p) h.below
@@ -49,12 +49,12 @@ apart_inserted shape a pass c p s h i d li ld q = go (cases_eq i p) (cases_eq i 
     lp : IsListed (a.state p)
     lp = rw h.is_open tt
 
-    same : (j : ℕ) → j ≡ c → bucket_of shape (a.key p) ≡ bucket_of shape (a.key j)
+    same : (j : ℕ) → j ≡ c → bucket_of start.shape (a.key p) ≡ bucket_of start.shape (a.key j)
     same j e = rw e (sym h.above.0)
 
     go : (i ≡ p) ⊎ (i ≢ p) → (i ≡ c) ⊎ (i ≢ c) → (d ≡ c) ⊎ (d ≢ c) → IsApart a.key i (put (put a.next c (a.next p)) p (Some c) i) d
     go (inl ip) ic (inl dc) = let e = put_here (put a.next c (a.next p)) p (Some c) in let e2 = ap (put (put a.next c (a.next p)) p (Some c)) ip in inr (inr (c, e2 ∙ e, rw dc (omega arith)))
-    go (inl ip) ic (inr dn) = rw (ip, put_here (put a.next c (a.next p)) p (Some c)) (splits_before a.key c p d (a.next p) below (s.lists.apart p d lp (listed_other a.state c Linked d dn ld) (ap (λ k. bucket_of shape (a.key k)) (sym ip) ∙ q)))
+    go (inl ip) ic (inr dn) = rw (ip, put_here (put a.next c (a.next p)) p (Some c)) (splits_before a.key c p d (a.next p) below (s.lists.apart p d lp (listed_other a.state c Linked d dn ld) (ap (λ k. bucket_of start.shape (a.key k)) (sym ip) ∙ q)))
     go (inr ip) (inl ic) (inl dc) = inl (dc ∙ sym ic)
     go (inr ip) (inl ic) (inr dn) = rw (put_other (put a.next c (a.next p)) p (Some c) i ip, ic, put_here a.next c (a.next p)) (splits_new a.key c p d (a.next p) h.above.1 (s.lists.apart p d lp (listed_other a.state c Linked d dn ld) (same i ic ∙ q)))
     go (inr ip) (inr ic) (inl dc) = rw (put_other (put a.next c (a.next p)) p (Some c) i ip, put_other a.next c (a.next p) i ic, dc)
@@ -63,8 +63,8 @@ apart_inserted shape a pass c p s h i d li ld q = go (cases_eq i p) (cases_eq i 
     go (inr ip) (inr ic) (inr dn) = rw (put_other (put a.next c (a.next p)) p (Some c) i ip, put_other a.next c (a.next p) i ic)
         (s.lists.apart i d (listed_other a.state c Linked i ic li) (listed_other a.state c Linked d dn ld) q)
 
-pub lists_inserts_at_node : (shape : Dimensions) (a : Incarnations) (pass c p : ℕ) → Sound shape a → MayInsert shape a pass c (AtNode p) → ListsSound shape (becomes shape a pass (Inserts c (AtNode p)))
-lists_inserts_at_node shape a pass c p s h =
+pub lists_inserts_at_node : (start : Start) (a : Incarnations) (pass c p : ℕ) → Sound start a → MayInsert start a pass c (AtNode p) → ListsSound start (becomes start a pass (Inserts c (AtNode p)))
+lists_inserts_at_node start a pass c p s h =
     let held = h.in_hand in
     let before = h.is_open in
     let above = h.above in
@@ -74,6 +74,6 @@ lists_inserts_at_node shape a pass c p s h =
       inserted = λ i n q. let u = s.lists.inserted i n in let x = s.lists.inserted p n in grind (arith, nat_tests);
       ordered = λ i n q. let u = s.lists.ordered i n in let x = s.lists.ordered p n in let y = below_at a (a.key c) (a.next p) h.below n in grind (arith, nat_tests);
       first_in = λ k n q. let u = s.lists.first_in k n in grind (arith, nat_tests);
-      apart = λ i d li ld q. apart_inserted shape a pass c p s h i d li ld q;
+      apart = λ i d li ld q. apart_inserted start a pass c p s h i d li ld q;
       behind_head = λ d ld. let u = s.lists.behind_head d in let x = s.lists.behind_head p in grind (arith, nat_tests);
     }

@@ -1,7 +1,7 @@
 -- Acceptance by membership and acceptance by searches say the same of what a pass knows along a run, and both write the same link.
 use Rattle.std.proofs.Common.{◌≡◌, ℕ, ◌<◌, Bool, true, false, List, Option, Some, None, refl, arith, sym, subst, ap, ◌∙◌}
 use Rattle.std.specs.Prelude.{IsSome, unwrap_or, if◌then◌else◌}
-use Rattle.vbr_words.specs.Dimensions.{Dimensions}
+use Rattle.vbr_machine.specs.Start.{Start}
 use Rattle.vbr_words.specs.Words.{link_of}
 use Rattle.vbr_words.specs.declared.link.Link.{Link}
 use Rattle.vbr_words.specs.declared.place.At.{At}
@@ -89,31 +89,31 @@ value_known_for Remove know s h = tt
 value_known_for Has know s h = tt
 value_known_for Get know s h = (unwrap_or (value_in know.checked s) 0, value_known know s h)
 
-held_known : (shape : Dimensions) (know : Know) (step : Step) → HasChecked shape know step → IsKnown shape know step
-held_known shape know (StoreLink s None) h = tt
-held_known shape know (StoreLink s (Some n)) h = (slot_known know n h.0, (unwrap_or (birth_in know.checked n) 0, birth_known know n h.1))
-held_known shape know (LoadLink at) h = place_known know at h
-held_known shape know (LoadBirth s) h = slot_known know s h
-held_known shape know (LoadKey s) h = slot_known know s h
-held_known shape know (LoadValue s) h = slot_known know s h
-held_known shape know (Publish pred expected s) h = (link_known know pred (link_of expected) h.0, (unwrap_or (birth_at know.checked pred) 0, birth_at_known know pred h.1.0))
-held_known shape know (Mark s expected) h = (link_known know (Slot s) (link_of expected) h.0, (unwrap_or (key_in know.checked s) 0, key_known know s h.1), values_known shape.values know s h.2)
-held_known shape know (Unlink pred expected s) h = (link_known know pred (link_of expected) h.0, (link_written know (Unlink pred expected s), unlink_known know pred expected s h.1 h.2 h.3))
-held_known shape know (ConfirmPresent op s expected) h = (link_known know (Slot s) (link_of expected) h.0, (unwrap_or (key_in know.checked s) 0, key_known know s h.1), value_known_for op know s h.2)
-held_known shape know (ConfirmAbsent op key at expected) h = link_known know at (link_of expected) h.0
-held_known shape know step h = tt
+held_known : (start : Start) (know : Know) (step : Step) → HasChecked start know step → IsKnown start know step
+held_known start know (StoreLink s None) h = tt
+held_known start know (StoreLink s (Some n)) h = (slot_known know n h.0, (unwrap_or (birth_in know.checked n) 0, birth_known know n h.1))
+held_known start know (LoadLink at) h = place_known know at h
+held_known start know (LoadBirth s) h = slot_known know s h
+held_known start know (LoadKey s) h = slot_known know s h
+held_known start know (LoadValue s) h = slot_known know s h
+held_known start know (Publish pred expected s) h = (link_known know pred (link_of expected) h.0, (unwrap_or (birth_at know.checked pred) 0, birth_at_known know pred h.1.0))
+held_known start know (Mark s expected) h = (link_known know (Slot s) (link_of expected) h.0, (unwrap_or (key_in know.checked s) 0, key_known know s h.1), values_known start.shape.values know s h.2)
+held_known start know (Unlink pred expected s) h = (link_known know pred (link_of expected) h.0, (link_written know (Unlink pred expected s), unlink_known know pred expected s h.1 h.2 h.3))
+held_known start know (ConfirmPresent op s expected) h = (link_known know (Slot s) (link_of expected) h.0, (unwrap_or (key_in know.checked s) 0, key_known know s h.1), value_known_for op know s h.2)
+held_known start know (ConfirmAbsent op key at expected) h = link_known know at (link_of expected) h.0
+held_known start know step h = tt
 
-ready_known : (shape : Dimensions) (know : Know) (pred : At) (expected : Link) (own : Option Holding) → KnowsKeyAt know.checked pred → KnowsKeyOf know.checked expected.slot → IsSome (birth_of know.checked expected.slot) → MayPublish shape know.checked pred expected own → MayPublishKnown shape know pred expected own
-ready_known shape know pred expected None k n b r = absurd r
-ready_known shape know pred expected (Some (Free stamp)) k n b r = absurd r
-ready_known shape know pred expected (Some (Unlinked reread)) k n b r = absurd r
-ready_known shape know pred expected (Some (InHand known)) k n b r = record {
+ready_known : (start : Start) (know : Know) (pred : At) (expected : Link) (own : Option Holding) → KnowsKeyAt know.checked pred → KnowsKeyOf know.checked expected.slot → IsSome (birth_of know.checked expected.slot) → MayPublish start know.checked pred expected own → MayPublishKnown start know pred expected own
+ready_known start know pred expected None k n b r = absurd r
+ready_known start know pred expected (Some (Free stamp)) k n b r = absurd r
+ready_known start know pred expected (Some (Unlinked reread)) k n b r = absurd r
+ready_known start know pred expected (Some (InHand known)) k n b r = record {
   key = r.key;
   key_is = r.key_is;
   named = unwrap_or (birth_of know.checked expected.slot) 0;
   named_known = birth_named_known know expected.slot b;
   link_is = r.link_is;
-  behind = behind_known know shape pred r.key k r.behind;
+  behind = behind_known know start pred r.key k r.behind;
   before = before_known know r.key expected.slot n r.before;
   valued = r.valued;
 }
@@ -134,18 +134,18 @@ before_on know key link most m =
     let P : Option ℕ → Type 0 = StandsBefore know key in
     record { last = led.last; leads = led.leads; before = subst P (sym led.names) (before_known know key (after_turns know.checked m.turns link.slot) (key_found know.checked key (after_turns know.checked m.turns link.slot) m.before) m.before) }
 
-range_known : (shape : Dimensions) (know : Know) (step : Step) → HasChecked shape know step → IsInRange shape know step → IsInRangeKnown shape know step
-range_known shape know (Publish pred expected s) h r = (r.0, ready_known shape know pred (link_of expected) (know.own s) h.1.1 h.2.1 h.2.0 r.1)
-range_known shape know (ConfirmAbsent op key at expected) h r = (r.0, r.1, behind_known know shape at key h.1 r.2, before_on know key (link_of expected) shape.slots r.3)
-range_known shape know step h r = r
+range_known : (start : Start) (know : Know) (step : Step) → HasChecked start know step → IsInRange start know step → IsInRangeKnown start know step
+range_known start know (Publish pred expected s) h r = (r.0, ready_known start know pred (link_of expected) (know.own s) h.1.1 h.2.1 h.2.0 r.1)
+range_known start know (ConfirmAbsent op key at expected) h r = (r.0, r.1, behind_known know start at key h.1 r.2, before_on know key (link_of expected) start.shape.slots r.3)
+range_known start know step h r = r
 
 -- what is accepted by searches is accepted by membership
-pub accepts_known : {shape : Dimensions} {know : Know} {step : Step} → Accepts shape know step → AcceptsKnown shape know step
-accepts_known {shape} {know} {step} ok = record { in_shape = ok.in_shape; owned = ok.owned; known = held_known shape know step ok.held; in_range = range_known shape know step ok.held ok.in_range; below_last = ok.below_last }
+pub accepts_known : {start : Start} {know : Know} {step : Step} → Accepts start know step → AcceptsKnown start know step
+accepts_known {start} {know} {step} ok = record { in_shape = ok.in_shape; owned = ok.owned; known = held_known start know step ok.held; in_range = range_known start know step ok.held ok.in_range; below_last = ok.below_last }
 
 -- ---- what is known is looked up
 
-module _ {shape : Dimensions} {a : Incarnations} {know : Know} {notes : Notes} (sound : Sound shape a) (noted : FitsNotes a know notes) where
+module _ {start : Start} {a : Incarnations} {know : Know} {notes : Notes} (sound : Sound start a) (noted : FitsNotes a know notes) where
   -- a search of a key finds any known key
   pub key_looked_up : (s key : ℕ) → Knows know (KeyOf s key) → unwrap_or (key_in know.checked s) 0 ≡ key
   key_looked_up s key k =
@@ -209,15 +209,15 @@ module _ {shape : Dimensions} {a : Incarnations} {know : Know} {notes : Notes} (
   value_told Has s value k = refl
   value_told Get s value k = value_looked_up s value (k refl)
 
-  pub marked_call_is : (p s expected key value : ℕ) → Knows know (KeyOf s key) → (shape.values ≡ true → Knows know (ValueOf s value)) → call_of shape p know (Mark s expected) ≡ Some (record { who = p; op = Remove; key = key; reply = true; value = payload_kept shape (Some value) })
-  marked_call_is p s expected key value k v = λ i. Some (record { who = p; op = Remove; key = key_looked_up s key k i; reply = true; value = values_kept shape.values s value v i })
+  pub marked_call_is : (p s expected key value : ℕ) → Knows know (KeyOf s key) → (start.shape.values ≡ true → Knows know (ValueOf s value)) → call_of start p know (Mark s expected) ≡ Some (record { who = p; op = Remove; key = key; reply = true; value = payload_kept start (Some value) })
+  marked_call_is p s expected key value k v = λ i. Some (record { who = p; op = Remove; key = key_looked_up s key k i; reply = true; value = values_kept start.shape.values s value v i })
 
-  pub confirmed_call_is : (p : ℕ) (op : Op) (s expected key value : ℕ) → Knows know (KeyOf s key) → (op ≡ Get → Knows know (ValueOf s value)) → call_of shape p know (ConfirmPresent op s expected) ≡ Some (record { who = p; op = op; key = key; reply = present_reply op; value = present_value op (Some value) })
+  pub confirmed_call_is : (p : ℕ) (op : Op) (s expected key value : ℕ) → Knows know (KeyOf s key) → (op ≡ Get → Knows know (ValueOf s value)) → call_of start p know (ConfirmPresent op s expected) ≡ Some (record { who = p; op = op; key = key; reply = present_reply op; value = present_value op (Some value) })
   confirmed_call_is p op s expected key value k v = λ i. Some (record { who = p; op = op; key = key_looked_up s key k i; reply = present_reply op; value = value_told op s value v i })
 
   -- ---- acceptance
 
-  behind_there : (at : At) (key : ℕ) → StandsBehind shape know at key → KnowsKeyAt know.checked at
+  behind_there : (at : At) (key : ℕ) → StandsBehind start know at key → KnowsKeyAt know.checked at
   behind_there (Head b) key h = tt
   behind_there (Slot s) key h = key_there know.checked s h.0 h.1.among
 
@@ -225,9 +225,9 @@ module _ {shape : Dimensions} {a : Incarnations} {know : Know} {notes : Notes} (
   before_there key None h = tt
   before_there key (Some s) h = key_there know.checked s h.0 h.1.among
 
-  behind_is : (at : At) (key : ℕ) → StandsBehind shape know at key → IsBehind shape know.checked at key
+  behind_is : (at : At) (key : ℕ) → StandsBehind start know at key → IsBehind start know.checked at key
   behind_is (Head b) key h = h
-  behind_is (Slot s) key h = let e = key_looked_up s h.0 h.1 in (h.2 ∙ ap (bucket_of shape) (sym e), (let u = h.3 in omega arith))
+  behind_is (Slot s) key h = let e = key_looked_up s h.0 h.1 in (h.2 ∙ ap (bucket_of start.shape) (sym e), (let u = h.3 in omega arith))
 
   before_is : (key : ℕ) (v : Option ℕ) → StandsBefore know key v → IsBefore know.checked key v
   before_is key None h = tt
@@ -244,8 +244,8 @@ module _ {shape : Dimensions} {a : Incarnations} {know : Know} {notes : Notes} (
   link_held at link k = link_there know.checked at link k.among
 
   -- a slot in hand that is ready by what is known is so by searches, and the reads that it asks for are checked
-  ready_is : (pred : At) (expected : Link) (own : Option Holding) → MayPublishKnown shape know pred expected own →
-      MayPublish shape know.checked pred expected own × KnowsKeyAt know.checked pred × KnowsKeyOf know.checked expected.slot × IsSome (birth_of know.checked expected.slot)
+  ready_is : (pred : At) (expected : Link) (own : Option Holding) → MayPublishKnown start know pred expected own →
+      MayPublish start know.checked pred expected own × KnowsKeyAt know.checked pred × KnowsKeyOf know.checked expected.slot × IsSome (birth_of know.checked expected.slot)
   ready_is pred expected None r = absurd r
   ready_is pred expected (Some (Free stamp)) r = absurd r
   ready_is pred expected (Some (Unlinked reread)) r = absurd r
@@ -264,13 +264,13 @@ module _ {shape : Dimensions} {a : Incarnations} {know : Know} {notes : Notes} (
   )
 
   -- where a key stands before what known marked links lead to, a walk comes to a checked key, and to one before which the key stands
-  leads_to_key : Fits shape a → (key : ℕ) (link : Link) → StandsBeforeOn know key link → LeadsToKey shape.slots know.checked link.slot
+  leads_to_key : Fits start a → (key : ℕ) (link : Link) → StandsBeforeOn know key link → LeadsToKey start.shape.slots know.checked link.slot
   leads_to_key fits key link on =
       let w = led_walk sound fits noted link on.last on.leads in
       let P : Option ℕ → Type 0 = KnowsKeyOf know.checked in
       record { turns = w.0; within = w.1; known = subst P (sym w.2) (before_there key on.last.slot on.before) }
 
-  leads_above : Fits shape a → (key : ℕ) (link : Link) → StandsBeforeOn know key link → LeadsAbove shape.slots know.checked key link.slot
+  leads_above : Fits start a → (key : ℕ) (link : Link) → StandsBeforeOn know key link → LeadsAbove start.shape.slots know.checked key link.slot
   leads_above fits key link on =
       let w = led_walk sound fits noted link on.last on.leads in
       let P : Option ℕ → Type 0 = IsBefore know.checked key in
@@ -286,7 +286,7 @@ module _ {shape : Dimensions} {a : Incarnations} {know : Know} {notes : Notes} (
   value_there_for Has s k = tt
   value_there_for Get s k = value_there know.checked s k.0 k.1.among
 
-  held_is : Fits shape a → (step : Step) → IsKnown shape know step → IsInRangeKnown shape know step → HasChecked shape know step
+  held_is : Fits start a → (step : Step) → IsKnown start know step → IsInRangeKnown start know step → HasChecked start know step
   held_is fits (StoreLink s None) k r = tt
   held_is fits (StoreLink s (Some n)) k r = (held_of_slot n k.0, birth_there know.checked n k.1.0 k.1.1.among)
   held_is fits (LoadLink at) k r = held_of_place at k
@@ -294,7 +294,7 @@ module _ {shape : Dimensions} {a : Incarnations} {know : Know} {notes : Notes} (
   held_is fits (LoadKey s) k r = held_of_slot s k
   held_is fits (LoadValue s) k r = held_of_slot s k
   held_is fits (Publish pred expected s) k r = let x = ready_is pred (link_of expected) (know.own s) r.1 in (link_held pred (link_of expected) k.0, (birth_at_there pred k.1.0 k.1.1, x.1), (x.3, x.2))
-  held_is fits (Mark s expected) k r = (link_held (Slot s) (link_of expected) k.0, key_there know.checked s k.1.0 k.1.1.among, values_there shape.values s k.2)
+  held_is fits (Mark s expected) k r = (link_held (Slot s) (link_of expected) k.0, key_there know.checked s k.1.0 k.1.1.among, values_there start.shape.values s k.2)
   held_is fits (Unlink pred expected s) k r =
       let u = k.1.1 in (
         link_held pred (link_of expected) k.0,
@@ -306,11 +306,11 @@ module _ {shape : Dimensions} {a : Incarnations} {know : Know} {notes : Notes} (
   held_is fits (ConfirmAbsent op key at expected) k r = (link_held at (link_of expected) k, behind_there at key r.2, leads_to_key fits key (link_of expected) r.3)
   held_is fits step k r = tt
 
-  range_is : Fits shape a → (step : Step) → IsInRangeKnown shape know step → IsInRange shape know step
+  range_is : Fits start a → (step : Step) → IsInRangeKnown start know step → IsInRange start know step
   range_is fits (Publish pred expected s) r = (r.0, (ready_is pred (link_of expected) (know.own s) r.1).0)
   range_is fits (ConfirmAbsent op key at expected) r = (r.0, r.1, behind_is at key r.2, leads_above fits key (link_of expected) r.3)
   range_is fits step r = r
 
   -- what is accepted by membership is accepted by searches
-  pub known_accepts : Fits shape a → {step : Step} → AcceptsKnown shape know step → Accepts shape know step
+  pub known_accepts : Fits start a → {step : Step} → AcceptsKnown start know step → Accepts start know step
   known_accepts fits {step} ok = record { in_shape = ok.in_shape; owned = ok.owned; held = held_is fits step ok.known ok.in_range; in_range = range_is fits step ok.in_range; below_last = ok.below_last }

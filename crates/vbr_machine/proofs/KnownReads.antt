@@ -3,7 +3,7 @@ use Rattle.std.proofs.Common.{◌≡◌, ℕ, true, false, List, [], ◌∷◌, 
 use Rattle.std.specs.Prelude.{◌⊎◌, IsSome, unwrap_or}
 use Rattle.std.specs.List.{AllByRecursion, Contains}
 use Rattle.std.proofs.lemmas.Bool.{cases_Bool}
-use Rattle.vbr_words.specs.Dimensions.{Dimensions}
+use Rattle.vbr_machine.specs.Start.{Start}
 use Rattle.vbr_words.specs.declared.link.Link.{Link}
 use Rattle.vbr_words.specs.declared.place.At.{At}
 use Rattle.vbr_words.specs.declared.place.At.TheVariants.{Head, Slot}
@@ -69,22 +69,22 @@ slot_held {a} {know} {notes} k s h = let g = good_link k h.at h.link h.known in 
 -- ---- one of each
 
 -- the incarnation that is held at a slot is one
-pub one_held : {shape : Dimensions} {a : Incarnations} → Sound shape a → (e s c d : ℕ) → IsHeldIncarnation a e s c → IsHeldIncarnation a e s d → c ≡ d
+pub one_held : {start : Start} {a : Incarnations} → Sound start a → (e s c d : ℕ) → IsHeldIncarnation a e s c → IsHeldIncarnation a e s d → c ≡ d
 one_held snd e s c d g h = one_late snd.slots c d e (g.slot ∙ sym h.slot) g.late h.late g.birth h.birth
 
 -- a known key of a slot is that of the incarnation held there
-pub known_key : {shape : Dimensions} {a : Incarnations} {know : Know} {notes : Notes} → Sound shape a → FitsNotes a know notes → (s c key : ℕ) → IsHeldIncarnation a know.epoch s c → Knows know (KeyOf s key) → a.key c ≡ key
-known_key {shape} {a} {know} {notes} snd k s c key h m = let x = key_held k s key m in ap a.key (one_held snd know.epoch s c x.0 h x.1) ∙ x.2
+pub known_key : {start : Start} {a : Incarnations} {know : Know} {notes : Notes} → Sound start a → FitsNotes a know notes → (s c key : ℕ) → IsHeldIncarnation a know.epoch s c → Knows know (KeyOf s key) → a.key c ≡ key
+known_key {start} {a} {know} {notes} snd k s c key h m = let x = key_held k s key m in ap a.key (one_held snd know.epoch s c x.0 h x.1) ∙ x.2
 
-pub known_birth : {shape : Dimensions} {a : Incarnations} {know : Know} {notes : Notes} → Sound shape a → FitsNotes a know notes → (s c birth : ℕ) → IsHeldIncarnation a know.epoch s c → Knows know (BirthOf s birth) → a.birth c ≡ birth
-known_birth {shape} {a} {know} {notes} snd k s c birth h m = let x = birth_held k s birth m in ap a.birth (one_held snd know.epoch s c x.0 h x.1) ∙ x.2
+pub known_birth : {start : Start} {a : Incarnations} {know : Know} {notes : Notes} → Sound start a → FitsNotes a know notes → (s c birth : ℕ) → IsHeldIncarnation a know.epoch s c → Knows know (BirthOf s birth) → a.birth c ≡ birth
+known_birth {start} {a} {know} {notes} snd k s c birth h m = let x = birth_held k s birth m in ap a.birth (one_held snd know.epoch s c x.0 h x.1) ∙ x.2
 
 -- a slot has one known key
-pub one_key : {shape : Dimensions} {a : Incarnations} {know : Know} {notes : Notes} → Sound shape a → FitsNotes a know notes → (s i j : ℕ) → Knows know (KeyOf s i) → Knows know (KeyOf s j) → i ≡ j
+pub one_key : {start : Start} {a : Incarnations} {know : Know} {notes : Notes} → Sound start a → FitsNotes a know notes → (s i j : ℕ) → Knows know (KeyOf s i) → Knows know (KeyOf s j) → i ≡ j
 one_key snd k s i j m n = let x = key_held k s i m in sym x.2 ∙ known_key snd k s x.0 j x.1 n
 
 -- a slot has one known birth
-pub one_birth : {shape : Dimensions} {a : Incarnations} {know : Know} {notes : Notes} → Sound shape a → FitsNotes a know notes → (s i j : ℕ) → Knows know (BirthOf s i) → Knows know (BirthOf s j) → i ≡ j
+pub one_birth : {start : Start} {a : Incarnations} {know : Know} {notes : Notes} → Sound start a → FitsNotes a know notes → (s i j : ℕ) → Knows know (BirthOf s i) → Knows know (BirthOf s j) → i ≡ j
 one_birth snd k s i j m n = let x = birth_held k s i m in sym x.2 ∙ known_birth snd k s x.0 j x.1 n
 
 -- what a good link names has the slot that the link names
@@ -95,8 +95,8 @@ slot_named a e (Some s) None h = absurd h
 slot_named a e (Some s) (Some n) h = ap Some (sym h.slot)
 
 -- all known marked links of a slot name the same
-pub one_mark : {shape : Dimensions} {a : Incarnations} {know : Know} {notes : Notes} → Sound shape a → FitsNotes a know notes → (s : ℕ) (x y : Link) → Knows know (LinkAt (Slot s) x) → Knows know (LinkAt (Slot s) y) → x.mark ≡ true → y.mark ≡ true → x.slot ≡ y.slot
-one_mark {shape} {a} {know} {notes} snd k s x y m n p q = let g = good_link k (Slot s) x m in let h = good_link k (Slot s) y n in go g.0 h.0 g.1 h.1 g.2 h.2
+pub one_mark : {start : Start} {a : Incarnations} {know : Know} {notes : Notes} → Sound start a → FitsNotes a know notes → (s : ℕ) (x y : Link) → Knows know (LinkAt (Slot s) x) → Knows know (LinkAt (Slot s) y) → x.mark ≡ true → y.mark ≡ true → x.slot ≡ y.slot
+one_mark {start} {a} {know} {notes} snd k s x y m n p q = let g = good_link k (Slot s) x m in let h = good_link k (Slot s) y n in go g.0 h.0 g.1 h.1 g.2 h.2
   where
     go : (c d i j : Option ℕ) → IsGoodLink a know.epoch (Slot s) x c i → IsGoodLink a know.epoch (Slot s) y d j → x.slot ≡ y.slot
     go None d i j g h = absurd g.place
@@ -133,9 +133,9 @@ value_known know s h = go (value_in know.checked s) refl h
     go (Some value) q h = record { among = value_among know.checked s value q }
 
 -- a key that stands behind a place by searches does so by what is known
-pub behind_known : (know : Know) (shape : Dimensions) (at : At) (key : ℕ) → KnowsKeyAt know.checked at → IsBehind shape know.checked at key → StandsBehind shape know at key
-behind_known know shape (Head b) key h i = i
-behind_known know shape (Slot s) key h i = (unwrap_or (key_in know.checked s) 0, key_known know s h, i.0, i.1)
+pub behind_known : (know : Know) (start : Start) (at : At) (key : ℕ) → KnowsKeyAt know.checked at → IsBehind start know.checked at key → StandsBehind start know at key
+behind_known know start (Head b) key h i = i
+behind_known know start (Slot s) key h i = (unwrap_or (key_in know.checked s) 0, key_known know s h, i.0, i.1)
 
 pub before_known : (know : Know) (key : ℕ) (v : Option ℕ) → KnowsKeyOf know.checked v → IsBefore know.checked key v → StandsBefore know key v
 before_known know key None h i = tt

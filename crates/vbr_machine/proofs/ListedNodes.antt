@@ -3,7 +3,7 @@ use Rattle.std.proofs.Common.{◌≡◌, ◌≢◌, ℕ, zero, suc, ◌<◌, ◌
 use Rattle.std.specs.Prelude.{nat_lt, ◌==◌, ◌&&◌, ◌⊎◌, if◌then◌else◌}
 use Rattle.std.proofs.lemmas.Bool.{and_parts, and_from, and_left, cases_Bool, cases_eq, eq-eqb, eqb-true, lt-ltb}
 use Rattle.std.proofs.lemmas.Bool.Decides.{nat_tests}
-use Rattle.vbr_words.specs.Dimensions.{Dimensions}
+use Rattle.vbr_machine.specs.Start.{Start}
 use Rattle.vbr_words.specs.declared.place.At.{At}
 use Rattle.vbr_words.specs.declared.place.At.TheVariants.{Head, Slot}
 use Rattle.vbr_words.specs.Buckets.{bucket_of}
@@ -75,35 +75,35 @@ pub stands_key : {a : Incarnations} {s c : ℕ} → Stands a s c → key_in_slot
 stands_key {a} n = ap (key_shown a) n.last
 
 -- a node in a list stands in its slot
-pub stands_there : {shape : Dimensions} {a : Incarnations} → Sound shape a → Fits shape a → (n : ℕ) → IsListed (a.state n) → (a.slot n < shape.slots) × Stands a (a.slot n) n
-stands_there {shape} {a} sound fits n l = (fits.slot n (late_born sound.slots n 0 (listed_late (a.state n) 0 l)), record { last = listed_last sound.slots n l; listed = l })
+pub stands_there : {start : Start} {a : Incarnations} → Sound start a → Fits start a → (n : ℕ) → IsListed (a.state n) → (a.slot n < start.shape.slots) × Stands a (a.slot n) n
+stands_there {start} {a} sound fits n l = (fits.slot n (late_born sound.slots n 0 (listed_late (a.state n) 0 l)), record { last = listed_last sound.slots n l; listed = l })
 
-pub in_list_from : (shape : Dimensions) (a : Incarnations) (bucket s : ℕ) → is_in_list shape a bucket s ≡ true → (c : ℕ) × InList shape a bucket s c
-in_list_from shape a bucket s e =
+pub in_list_from : (start : Start) (a : Incarnations) (bucket s : ℕ) → is_in_list start a bucket s ≡ true → (c : ℕ) × InList start a bucket s c
+in_list_from start a bucket s e =
     let parts = and_parts _ _ e in
     let node = stands_in a s parts.0 in
-    (node.0, record { stands = node.1; of_bucket = ap (bucket_of shape) (sym (stands_key node.1)) ∙ eqb-true _ _ parts.1 })
+    (node.0, record { stands = node.1; of_bucket = ap (bucket_of start.shape) (sym (stands_key node.1)) ∙ eqb-true _ _ parts.1 })
 
-pub in_list_is : {shape : Dimensions} {a : Incarnations} {bucket s c : ℕ} → InList shape a bucket s c → is_in_list shape a bucket s ≡ true
-in_list_is {shape} n = and_from _ _ (stands_listed n.stands) (eq-eqb _ _ (ap (bucket_of shape) (stands_key n.stands) ∙ n.of_bucket))
+pub in_list_is : {start : Start} {a : Incarnations} {bucket s c : ℕ} → InList start a bucket s c → is_in_list start a bucket s ≡ true
+in_list_is {start} n = and_from _ _ (stands_listed n.stands) (eq-eqb _ _ (ap (bucket_of start.shape) (stands_key n.stands) ∙ n.of_bucket))
 
 -- a node stands in one slot
-pub slot_is_one : {shape : Dimensions} {a : Incarnations} → Sound shape a → (s t c : ℕ) → Stands a s c → Stands a t c → s ≡ t
+pub slot_is_one : {start : Start} {a : Incarnations} → Sound start a → (s t c : ℕ) → Stands a s c → Stands a t c → s ≡ t
 slot_is_one sound s t c here there = sym ((sound.slots.last_born s c here.last).1) ∙ (sound.slots.last_born t c there.last).1
 
 -- ---- from a place to its successor
 
 -- the place is the head of the bucket, or its slot's last incarnation has a key of the bucket
-abbrev pub IsPlaceOf : Dimensions → Incarnations → At → ℕ → Type 0
-IsPlaceOf shape a (Head b) bucket = b ≡ bucket
-IsPlaceOf shape a (Slot t) bucket = bucket_of shape (key_in_slot a t) ≡ bucket
+abbrev pub IsPlaceOf : Start → Incarnations → At → ℕ → Type 0
+IsPlaceOf start a (Head b) bucket = b ≡ bucket
+IsPlaceOf start a (Slot t) bucket = bucket_of start.shape (key_in_slot a t) ≡ bucket
 
 -- a node is the next behind a place: each other node of the list that stands behind the place has a greater key than it
-pub record IsNextOf (shape : Dimensions) (a : Incarnations) (bucket : ℕ) (at : At) (n : ℕ) : Type 0 where
+pub record IsNextOf (start : Start) (a : Incarnations) (bucket : ℕ) (at : At) (n : ℕ) : Type 0 where
   pub listed : IsListed (a.state n)
-  pub of_bucket : bucket_of shape (a.key n) ≡ bucket
+  pub of_bucket : bucket_of start.shape (a.key n) ≡ bucket
   pub above : is_above a at (a.key n) ≡ true
-  pub others : (d : ℕ) → IsListed (a.state d) → bucket_of shape (a.key d) ≡ bucket → d ≢ n → is_above a at (a.key d) ≡ nat_lt (a.key n) (a.key d)
+  pub others : (d : ℕ) → IsListed (a.state d) → bucket_of start.shape (a.key d) ≡ bucket → d ≢ n → is_above a at (a.key d) ≡ nat_lt (a.key n) (a.key d)
 
 -- against a linked node and its successor, another is above the one where it is above the other
 others_above : (key : ℕ → ℕ) (c n d : ℕ) (next : Option ℕ) → next ≡ Some n → key c < key n → key n ≢ key d → IsApart key c next d → nat_lt (key c) (key d) ≡ nat_lt (key n) (key d)
@@ -131,9 +131,9 @@ version_of_listed a c (Unlinked p u) l = absurd l
 version_of_listed a c (Stamped u r) l = absurd l
 
 -- a checked link that stands there again, of a node that is in a list, stands for what it was checked with
-pub same_followed : {shape : Dimensions} {a : Incarnations} → Sound shape a → (e : ℕ) (at : At) (link : Link) (of names : Option ℕ) → IsGoodLink a e at link of names → (link.mark ≡ false) ⊎ (is_there a at ≡ true) → link_shown_at a at ≡ link → IsFollowed a at of names
-same_followed {shape} {a} sound e at link of names g (inl unmarked) shown = pair_followed a at of names (same_pair sound e at link of names g unmarked shown)
-same_followed {shape} {a} sound e at link of names g (inr there) shown = either (cases_Bool link.mark)
+pub same_followed : {start : Start} {a : Incarnations} → Sound start a → (e : ℕ) (at : At) (link : Link) (of names : Option ℕ) → IsGoodLink a e at link of names → (link.mark ≡ false) ⊎ (is_there a at ≡ true) → link_shown_at a at ≡ link → IsFollowed a at of names
+same_followed {start} {a} sound e at link of names g (inl unmarked) shown = pair_followed a at of names (same_pair sound e at link of names g unmarked shown)
+same_followed {start} {a} sound e at link of names g (inr there) shown = either (cases_Bool link.mark)
   where
     marked_one : (at : At) (of : Option ℕ) → IsGoodLink a e at link of names → is_there a at ≡ true → link_shown_at a at ≡ link → link.mark ≡ true → IsFollowed a at of names
     marked_one (Head b) None g there shown m = absurd (g.frozen m)
@@ -156,8 +156,8 @@ same_followed {shape} {a} sound e at link of names g (inr there) shown = either 
     either (inl m) = marked_one at of g there shown m
     either (inr unmarked) = pair_followed a at of names (same_pair sound e at link of names g unmarked shown)
 
-pub next_of_followed : {shape : Dimensions} {a : Incarnations} → Sound shape a → (bucket : ℕ) (at : At) (of : Option ℕ) (n : ℕ) → IsFollowed a at of (Some n) → IsPlaceOf shape a at bucket → IsNextOf shape a bucket at n
-next_of_followed {shape} {a} sound bucket (Head b) of n p is =
+pub next_of_followed : {start : Start} {a : Incarnations} → Sound start a → (bucket : ℕ) (at : At) (of : Option ℕ) (n : ℕ) → IsFollowed a at of (Some n) → IsPlaceOf start a at bucket → IsNextOf start a bucket at n
+next_of_followed {start} {a} sound bucket (Head b) of n p is =
     let f = sound.lists.first_in b n p.1 in
     record {
       listed = f.0;
@@ -166,13 +166,13 @@ next_of_followed {shape} {a} sound bucket (Head b) of n p is =
       others = λ d l e ne. none_before a.key n d (a.first b) p.1 (λ w. ne (sym (keys_differ sound n d f.0 l w)))
           (let P : ℕ → Type 0 = λ v. IsFrom a.key (a.first v) (a.key d) in subst P (e ∙ sym is) (sound.lists.behind_head d l));
     }
-next_of_followed {shape} {a} sound bucket (Slot t) of n p is =
+next_of_followed {start} {a} sound bucket (Slot t) of n p is =
     let c = p.0 in
     let k : key_in_slot a t ≡ a.key c = ap (key_shown a) p.2 in
     let lc : IsListed (a.state c) = p.3 in
     let ln : IsListed (a.state n) = next_listed sound c n p.4 lc in
     let o = sound.lists.ordered c n p.4 in
-    let bc : bucket_of shape (a.key c) ≡ bucket = ap (bucket_of shape) (sym k) ∙ is in
+    let bc : bucket_of start.shape (a.key c) ≡ bucket = ap (bucket_of start.shape) (sym k) ∙ is in
     record {
       listed = ln;
       of_bucket = sym o.0 ∙ bc;
@@ -185,30 +185,30 @@ not_below_itself : (k : ℕ) → nat_lt k k ≡ false
 not_below_itself k = grind (arith, nat_tests)
 
 -- behind the next there is one node fewer
-pub one_fewer : {shape : Dimensions} {a : Incarnations} → Sound shape a → Fits shape a → (bucket : ℕ) (at : At) (n : ℕ) → IsNextOf shape a bucket at n → behind shape a bucket at ≡ suc (behind shape a bucket (Slot (a.slot n)))
-one_fewer {shape} {a} sound fits bucket at n next =
+pub one_fewer : {start : Start} {a : Incarnations} → Sound start a → Fits start a → (bucket : ℕ) (at : At) (n : ℕ) → IsNextOf start a bucket at n → behind start a bucket at ≡ suc (behind start a bucket (Slot (a.slot n)))
+one_fewer {start} {a} sound fits bucket at n next =
     let there = stands_there sound fits n next.listed in
-    count_falls (is_behind shape a bucket at) (is_behind shape a bucket (Slot (a.slot n))) shape.slots (a.slot n) there.0 (passes there.1) (fails there.1) (λ s l ne. others s ne there.1)
+    count_falls (is_behind start a bucket at) (is_behind start a bucket (Slot (a.slot n))) start.shape.slots (a.slot n) there.0 (passes there.1) (fails there.1) (λ s l ne. others s ne there.1)
   where
-    passes : Stands a (a.slot n) n → is_behind shape a bucket at (a.slot n) ≡ true
-    passes st = and_from _ _ (in_list_is (record { stands = st; of_bucket = next.of_bucket })) (ap (is_above a at) (stands_key st) ∙ next.above)
+    passes : Stands a (a.slot n) n → is_behind start a bucket at (a.slot n) ≡ true
+    passes st = and_from _ _ (in_list_is {start = start} (record { stands = st; of_bucket = next.of_bucket })) (ap (is_above a at) (stands_key st) ∙ next.above)
 
-    fails : Stands a (a.slot n) n → is_behind shape a bucket (Slot (a.slot n)) (a.slot n) ≡ false
-    fails st = ap (λ b. is_in_list shape a bucket (a.slot n) && b) (not_below_itself (key_in_slot a (a.slot n))) ∙ right (is_in_list shape a bucket (a.slot n))
+    fails : Stands a (a.slot n) n → is_behind start a bucket (Slot (a.slot n)) (a.slot n) ≡ false
+    fails st = ap (λ b. is_in_list start a bucket (a.slot n) && b) (not_below_itself (key_in_slot a (a.slot n))) ∙ right (is_in_list start a bucket (a.slot n))
       where
         right : (b : Bool) → (b && false) ≡ false
         right true = refl
         right false = refl
 
-    others : (s : ℕ) → s ≢ a.slot n → Stands a (a.slot n) n → is_behind shape a bucket at s ≡ is_behind shape a bucket (Slot (a.slot n)) s
-    others s ne st = go (cases_Bool (is_in_list shape a bucket s))
+    others : (s : ℕ) → s ≢ a.slot n → Stands a (a.slot n) n → is_behind start a bucket at s ≡ is_behind start a bucket (Slot (a.slot n)) s
+    others s ne st = go (cases_Bool (is_in_list start a bucket s))
       where
-        go : (is_in_list shape a bucket s ≡ true) ⊎ (is_in_list shape a bucket s ≡ false) → is_behind shape a bucket at s ≡ is_behind shape a bucket (Slot (a.slot n)) s
+        go : (is_in_list start a bucket s ≡ true) ⊎ (is_in_list start a bucket s ≡ false) → is_behind start a bucket at s ≡ is_behind start a bucket (Slot (a.slot n)) s
         go (inr outside) = and_left _ _ outside ∙ sym (and_left _ _ outside)
         go (inl inside) =
-            let node = in_list_from shape a bucket s inside in
+            let node = in_list_from start a bucket s inside in
             let other : node.0 ≢ n = λ e. ne (slot_is_one sound s (a.slot n) n (subst (λ (d : ℕ). Stands a s d) e node.1.stands) st) in
-            ap (λ b. is_in_list shape a bucket s && b)
+            ap (λ b. is_in_list start a bucket s && b)
             (ap (is_above a at) (stands_key node.1.stands)
             ∙ next.others node.0 node.1.stands.listed node.1.of_bucket other
             ∙ (λ i. nat_lt (sym (stands_key st) i) (sym (stands_key node.1.stands) i)))
@@ -216,8 +216,8 @@ one_fewer {shape} {a} sound fits bucket at n next =
 -- ---- where a node is unlinked, and where none is
 
 -- nodes that are in lists as before stand behind a place as before
-pub behind_same : (shape : Dimensions) (a b : Incarnations) (bucket : ℕ) (at : At) → ((s : ℕ) → is_listed (state_in b s) ≡ is_listed (state_in a s)) → b.key ≡ a.key → b.last ≡ a.last → behind shape b bucket at ≡ behind shape a bucket at
-behind_same shape a b bucket at listed key last = count_same (is_behind shape b bucket at) (is_behind shape a bucket at) shape.slots (λ s l. same s)
+pub behind_same : (start : Start) (a b : Incarnations) (bucket : ℕ) (at : At) → ((s : ℕ) → is_listed (state_in b s) ≡ is_listed (state_in a s)) → b.key ≡ a.key → b.last ≡ a.last → behind start b bucket at ≡ behind start a bucket at
+behind_same start a b bucket at listed key last = count_same (is_behind start b bucket at) (is_behind start a bucket at) start.shape.slots (λ s l. same s)
   where
     keys : (s : ℕ) → key_in_slot b s ≡ key_in_slot a s
     keys s = (λ i. key_shown (record a { key = key i }) (last i s))
@@ -226,8 +226,8 @@ behind_same shape a b bucket at listed key last = count_same (is_behind shape b 
     above (Head h) key = refl
     above (Slot t) key = ap (λ k. nat_lt k key) (keys t)
 
-    same : (s : ℕ) → is_behind shape b bucket at s ≡ is_behind shape a bucket at s
-    same s = (λ i. (listed s i && (bucket_of shape (keys s i) == bucket)) && is_above b at (keys s i)) ∙ ap (λ c. is_in_list shape a bucket s && c) (above at (key_in_slot a s))
+    same : (s : ℕ) → is_behind start b bucket at s ≡ is_behind start a bucket at s
+    same s = (λ i. (listed s i && (bucket_of start.shape (keys s i) == bucket)) && is_above b at (keys s i)) ∙ ap (λ c. is_in_list start a bucket s && c) (above at (key_in_slot a s))
 
 -- one that is in no list comes into another state in which it is in none
 put_unlisted : (state : ℕ → State) (c : ℕ) (st : State) (j : ℕ) → is_listed (state c) ≡ false → is_listed st ≡ false → is_listed (put state c st j) ≡ is_listed (state j)
@@ -242,32 +242,32 @@ unlisted_shown a b c st None e x y = refl
 unlisted_shown a b c st (Some d) e x y = ap (λ f. is_listed (f d)) e ∙ put_unlisted a.state c st d x y
 
 -- a stamping leaves the lists as they were
-pub stamps_none : (shape : Dimensions) (keys : Keys) (a : Incarnations) (pass c stamp bucket : ℕ) (at : At) → Allowed shape keys a pass (Stamps c stamp) → behind shape (becomes shape a pass (Stamps c stamp)) bucket at ≡ behind shape a bucket at
-stamps_none shape keys a pass c stamp bucket at h =
-    let b = becomes shape a pass (Stamps c stamp) in
-    behind_same shape a b bucket at (λ s. unlisted_shown a b c (Stamped (unlinked_at (a.state c)) stamp) (a.last s) refl (not_listed (a.state c) h) refl) refl refl
+pub stamps_none : (start : Start) (keys : Keys) (a : Incarnations) (pass c stamp bucket : ℕ) (at : At) → Allowed start keys a pass (Stamps c stamp) → behind start (becomes start a pass (Stamps c stamp)) bucket at ≡ behind start a bucket at
+stamps_none start keys a pass c stamp bucket at h =
+    let b = becomes start a pass (Stamps c stamp) in
+    behind_same start a b bucket at (λ s. unlisted_shown a b c (Stamped (unlinked_at (a.state c)) stamp) (a.last s) refl (not_listed (a.state c) h) refl) refl refl
   where
     not_listed : (st : State) → MayStamp st pass stamp a.epoch → is_listed st ≡ false
     not_listed st h = grind arith
 
 -- behind each place that a node lies behind one node fewer stands once it is unlinked
-pub unlinks_one : {shape : Dimensions} {a : Incarnations} → Sound shape a → Fits shape a → (pass bucket c : ℕ) (at from : At) (of : Option ℕ) → IsFollowed a at of (Some c) → IsPlaceOf shape a at bucket → is_above a from (a.key c) ≡ true → behind shape a bucket from ≡ suc (behind shape (becomes shape a pass (Unlinks c (before_at a at))) bucket from)
-unlinks_one {shape} {a} sound fits pass bucket c at from of followed is higher =
+pub unlinks_one : {start : Start} {a : Incarnations} → Sound start a → Fits start a → (pass bucket c : ℕ) (at from : At) (of : Option ℕ) → IsFollowed a at of (Some c) → IsPlaceOf start a at bucket → is_above a from (a.key c) ≡ true → behind start a bucket from ≡ suc (behind start (becomes start a pass (Unlinks c (before_at a at))) bucket from)
+unlinks_one {start} {a} sound fits pass bucket c at from of followed is higher =
     let next = next_of_followed sound bucket at of c followed is in
     let there = stands_there sound fits c next.listed in
-    count_falls (is_behind shape a bucket from) (is_behind shape b bucket from) shape.slots (a.slot c) there.0
-    (and_from _ _ (in_list_is (record { stands = there.1; of_bucket = next.of_bucket })) (ap (is_above a from) (stands_key there.1) ∙ higher))
+    count_falls (is_behind start a bucket from) (is_behind start b bucket from) start.shape.slots (a.slot c) there.0
+    (and_from _ _ (in_list_is {start = start} (record { stands = there.1; of_bucket = next.of_bucket })) (ap (is_above a from) (stands_key there.1) ∙ higher))
     (fails there.1)
     (λ s l ne. sym (others s ne))
   where
     b : Incarnations
-    b = becomes shape a pass (Unlinks c (before_at a at))
+    b = becomes start a pass (Unlinks c (before_at a at))
 
-    fails : Stands a (a.slot c) c → is_behind shape b bucket from (a.slot c) ≡ false
+    fails : Stands a (a.slot c) c → is_behind start b bucket from (a.slot c) ≡ false
     fails st = and_left _ _ (and_left _ _ (ap (λ l. is_listed (state_shown b l)) st.last ∙ ap is_listed (put_here a.state c (Unlinked pass a.epoch))))
 
-    others : (s : ℕ) → s ≢ a.slot c → is_behind shape b bucket from s ≡ is_behind shape a bucket from s
-    others s ne = ap (λ x. (is_listed x && (bucket_of shape (key_in_slot a s) == bucket)) && is_above a from (key_in_slot a s)) (go (a.last s) refl) ∙ ap (λ f. is_in_list shape a bucket s && f) (above from (key_in_slot a s))
+    others : (s : ℕ) → s ≢ a.slot c → is_behind start b bucket from s ≡ is_behind start a bucket from s
+    others s ne = ap (λ x. (is_listed x && (bucket_of start.shape (key_in_slot a s) == bucket)) && is_above a from (key_in_slot a s)) (go (a.last s) refl) ∙ ap (λ f. is_in_list start a bucket s && f) (above from (key_in_slot a s))
       where
         above : (at2 : At) (key : ℕ) → is_above a at2 key ≡ is_above a at2 key
         above at2 key = refl
@@ -289,11 +289,11 @@ count_le f g (suc n) h = le_if (f n) (g n) (count_below f n) (count_below g n) (
     le_if false false m n h l = l
 
 -- an unlinking adds none to what stands behind a place
-pub unlinks_add_none : (shape : Dimensions) (a : Incarnations) (pass bucket c : ℕ) (before : Before) (at : At) → behind shape (becomes shape a pass (Unlinks c before)) bucket at ≤ behind shape a bucket at
-unlinks_add_none shape a pass bucket c before at = count_le (is_behind shape b bucket at) (is_behind shape a bucket at) shape.slots was
+pub unlinks_add_none : (start : Start) (a : Incarnations) (pass bucket c : ℕ) (before : Before) (at : At) → behind start (becomes start a pass (Unlinks c before)) bucket at ≤ behind start a bucket at
+unlinks_add_none start a pass bucket c before at = count_le (is_behind start b bucket at) (is_behind start a bucket at) start.shape.slots was
   where
     b : Incarnations
-    b = becomes shape a pass (Unlinks c before)
+    b = becomes start a pass (Unlinks c before)
 
     still : (l : Option ℕ) → is_listed (state_shown b l) ≡ true → is_listed (state_shown a l) ≡ true
     still None e = e
@@ -303,7 +303,7 @@ unlinks_add_none shape a pass bucket c before at = count_le (is_behind shape b b
         go (inl is) = absurd (let z : is_listed (Unlinked pass a.epoch) ≡ true = rw (is, put_here a.state c (Unlinked pass a.epoch)) at e in cc)
         go (inr ne) = ap is_listed (sym (put_other a.state c (Unlinked pass a.epoch) d ne)) ∙ e
 
-    was : (s : ℕ) → is_behind shape b bucket at s ≡ true → is_behind shape a bucket at s ≡ true
+    was : (s : ℕ) → is_behind start b bucket at s ≡ true → is_behind start a bucket at s ≡ true
     was s e =
         let x = and_parts _ _ e in
         let y = and_parts _ _ x.0 in
@@ -316,9 +316,9 @@ unlinks_add_none shape a pass bucket c before at = count_le (is_behind shape b b
 -- ---- links
 
 -- a stamping leaves the links that are shown
-pub stamps_links : (shape : Dimensions) (keys : Keys) (a : Incarnations) (pass c stamp : ℕ) (at : At) → Allowed shape keys a pass (Stamps c stamp) → link_shown_at (becomes shape a pass (Stamps c stamp)) at ≡ link_shown_at a at
-stamps_links shape keys a pass c stamp (Head h) al = refl
-stamps_links shape keys a pass c stamp (Slot s) al = shown (a.last s)
+pub stamps_links : (start : Start) (keys : Keys) (a : Incarnations) (pass c stamp : ℕ) (at : At) → Allowed start keys a pass (Stamps c stamp) → link_shown_at (becomes start a pass (Stamps c stamp)) at ≡ link_shown_at a at
+stamps_links start keys a pass c stamp (Head h) al = refl
+stamps_links start keys a pass c stamp (Slot s) al = shown (a.last s)
   where
     stamped_link : (st : State) (x y : ℕ) → MayStamp st pass stamp a.epoch → link_in_state a c (Stamped x y) ≡ link_in_state a c st
     stamped_link (Unlinked by at) x y m = refl
@@ -329,7 +329,7 @@ stamps_links shape keys a pass c stamp (Slot s) al = shown (a.last s)
     stamped_link Marked x y m = absurd m
     stamped_link (Stamped at by) x y m = absurd m
 
-    shown : (l : Option ℕ) → link_shown (becomes shape a pass (Stamps c stamp)) l ≡ link_shown a l
+    shown : (l : Option ℕ) → link_shown (becomes start a pass (Stamps c stamp)) l ≡ link_shown a l
     shown None = refl
     shown (Some d) = go (cases_eq d c)
       where
@@ -340,10 +340,10 @@ stamps_links shape keys a pass c stamp (Slot s) al = shown (a.last s)
 -- ---- what a birth leaves
 
 -- an incarnation that is given up was in no list
-pub gives_up_none : (shape : Dimensions) (keys : Keys) (a : Incarnations) (pass c bucket : ℕ) (at : At) → Allowed shape keys a pass (GivesUp c) → behind shape (becomes shape a pass (GivesUp c)) bucket at ≡ behind shape a bucket at
-gives_up_none shape keys a pass c bucket at h =
-    let b = becomes shape a pass (GivesUp c) in
-    behind_same shape a b bucket at (λ s. unlisted_shown a b c GivenUp (a.last s) refl (ap is_listed h) refl) refl refl
+pub gives_up_none : (start : Start) (keys : Keys) (a : Incarnations) (pass c bucket : ℕ) (at : At) → Allowed start keys a pass (GivesUp c) → behind start (becomes start a pass (GivesUp c)) bucket at ≡ behind start a bucket at
+gives_up_none start keys a pass c bucket at h =
+    let b = becomes start a pass (GivesUp c) in
+    behind_same start a b bucket at (λ s. unlisted_shown a b c GivenUp (a.last s) refl (ap is_listed h) refl) refl refl
 
 -- a slot that may be born in shows no node of a list
 free_unlisted : (a : Incarnations) (pass s : ℕ) (place : SlotPlace) (l : Option ℕ) → a.last s ≡ l → MayBeBornIn a pass s place → is_listed (state_shown a l) ≡ false
@@ -358,11 +358,11 @@ free_unlisted a pass s Shared l e m = absurd m
 free_unlisted a pass s (Listed h) l e m = absurd m
 
 -- a birth adds no node to a list, and takes none away
-pub bears_none : (shape : Dimensions) (keys : Keys) (a : Incarnations) (pass s birth bucket h : ℕ) → Sound shape a → Allowed shape keys a pass (Bears s birth) → behind shape (becomes shape a pass (Bears s birth)) bucket (Head h) ≡ behind shape a bucket (Head h)
-bears_none shape keys a pass s birth bucket h sound al = count_same (is_behind shape b bucket (Head h)) (is_behind shape a bucket (Head h)) shape.slots (λ t l. same t)
+pub bears_none : (start : Start) (keys : Keys) (a : Incarnations) (pass s birth bucket h : ℕ) → Sound start a → Allowed start keys a pass (Bears s birth) → behind start (becomes start a pass (Bears s birth)) bucket (Head h) ≡ behind start a bucket (Head h)
+bears_none start keys a pass s birth bucket h sound al = count_same (is_behind start b bucket (Head h)) (is_behind start a bucket (Head h)) start.shape.slots (λ t l. same t)
   where
     b : Incarnations
-    b = becomes shape a pass (Bears s birth)
+    b = becomes start a pass (Bears s birth)
 
     other : (t : ℕ) (l : Option ℕ) → a.last t ≡ l → (is_listed (state_shown b l) ≡ is_listed (state_shown a l)) × (key_shown b l ≡ key_shown a l)
     other t None e = (refl, refl)
@@ -371,16 +371,16 @@ bears_none shape keys a pass s birth bucket h sound al = count_same (is_behind s
         let ne : d ≢ a.count = (λ q. omega arith) in
         (ap is_listed (put_other a.state a.count (InHand pass) d ne), put_other a.key a.count (key_shown a (a.last s)) d ne)
 
-    listed_key : (x y : Bool) (k j : ℕ) → x ≡ y → k ≡ j → ((x && (bucket_of shape k == bucket)) && true) ≡ ((y && (bucket_of shape j == bucket)) && true)
-    listed_key x y k j e f = (λ i. (e i && (bucket_of shape (f i) == bucket)) && true)
+    listed_key : (x y : Bool) (k j : ℕ) → x ≡ y → k ≡ j → ((x && (bucket_of start.shape k == bucket)) && true) ≡ ((y && (bucket_of start.shape j == bucket)) && true)
+    listed_key x y k j e f = (λ i. (e i && (bucket_of start.shape (f i) == bucket)) && true)
 
-    none : (x y : Bool) (k j : ℕ) → x ≡ false → y ≡ false → ((x && (bucket_of shape k == bucket)) && true) ≡ ((y && (bucket_of shape j == bucket)) && true)
+    none : (x y : Bool) (k j : ℕ) → x ≡ false → y ≡ false → ((x && (bucket_of start.shape k == bucket)) && true) ≡ ((y && (bucket_of start.shape j == bucket)) && true)
     none x y k j e f = and_left _ _ (and_left _ _ e) ∙ sym (and_left _ _ (and_left _ _ f))
 
-    same : (t : ℕ) → is_behind shape b bucket (Head h) t ≡ is_behind shape a bucket (Head h) t
+    same : (t : ℕ) → is_behind start b bucket (Head h) t ≡ is_behind start a bucket (Head h) t
     same t = go (cases_eq t s)
       where
-        go : (t ≡ s) ⊎ (t ≢ s) → is_behind shape b bucket (Head h) t ≡ is_behind shape a bucket (Head h) t
+        go : (t ≡ s) ⊎ (t ≢ s) → is_behind start b bucket (Head h) t ≡ is_behind start a bucket (Head h) t
         go (inl e) = none (is_listed (state_in b t)) (is_listed (state_in a t)) (key_in_slot b t) (key_in_slot a t)
             (ap (λ l. is_listed (state_shown b l)) (ap (put a.last s (Some a.count)) e ∙ put_here a.last s (Some a.count)) ∙ ap is_listed (put_here a.state a.count (InHand pass)))
             (ap (λ v. is_listed (state_in a v)) e ∙ free_unlisted a pass s (a.place s) (a.last s) refl al.0)

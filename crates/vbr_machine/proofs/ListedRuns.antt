@@ -1,7 +1,7 @@
 -- What runs say of how many nodes stand behind a place that a pass holds, whose link is still the one that it has checked.
 use Rattle.std.proofs.Common.{◌≡◌, ℕ, suc, true, false, List, [], ◌∷◌, ◌++◌, Option, Some, None, refl, sym, ap, ◌∙◌, subst, inl, eq-eqb}
 use Rattle.std.specs.Prelude.{◌==◌, ◌⊎◌, if◌then◌else◌}
-use Rattle.vbr_words.specs.Dimensions.{Dimensions, IsShape}
+use Rattle.vbr_machine.specs.Start.{Start, IsStart}
 use Rattle.vbr_words.specs.Words.{link_of}
 use Rattle.vbr_words.specs.declared.link.Link.{Link}
 use Rattle.vbr_words.specs.declared.place.At.{At}
@@ -36,19 +36,19 @@ use Rattle.vbr_machine.specs.declared.knowledge.Holding.TheVariants.{Free, Unlin
 -- ---- a place in a list that is held in a bucket, and shows its known link
 
 -- the incarnation there, and what follows it, both in the bucket
-pub record StandsIn (shape : Dimensions) (a : Incarnations) (epoch bucket : ℕ) (at : At) (link : Link) : Type 0 where
+pub record StandsIn (start : Start) (a : Incarnations) (epoch bucket : ℕ) (at : At) (link : Link) : Type 0 where
   pub of : Option ℕ
   pub names : Option ℕ
   pub followed : IsFollowed a at of names
   pub next : IsHeldNext a epoch link.slot names
-  pub place : IsPlaceOf shape a at bucket
+  pub place : IsPlaceOf start a at bucket
 
-place_of_bucket : (shape : Dimensions) (a : Incarnations) (epoch bucket : ℕ) (at : At) (of names : Option ℕ) → IsFollowed a at of names → IsHeldAt a epoch at of → IsOfBucket shape a epoch at bucket → IsPlaceOf shape a at bucket
-place_of_bucket shape a epoch bucket (Head b) of names pair held is = is
-place_of_bucket shape a epoch bucket (Slot t) None names pair held is = absurd held
-place_of_bucket shape a epoch bucket (Slot t) (Some c) names pair held is =
+place_of_bucket : (start : Start) (a : Incarnations) (epoch bucket : ℕ) (at : At) (of names : Option ℕ) → IsFollowed a at of names → IsHeldAt a epoch at of → IsOfBucket start a epoch at bucket → IsPlaceOf start a at bucket
+place_of_bucket start a epoch bucket (Head b) of names pair held is = is
+place_of_bucket start a epoch bucket (Slot t) None names pair held is = absurd held
+place_of_bucket start a epoch bucket (Slot t) (Some c) names pair held is =
     let e : c ≡ pair.0 = (let q = pair.1 in cc) in
-    ap (bucket_of shape) (ap (key_shown a) pair.2 ∙ ap a.key (sym e)) ∙ is c held
+    ap (bucket_of start.shape) (ap (key_shown a) pair.2 ∙ ap a.key (sym e)) ∙ is c held
 
 -- the link names the slot of the successor
 named_next : (a : Incarnations) (epoch s : ℕ) (slot names : Option ℕ) → slot ≡ Some s → IsHeldNext a epoch slot names → (n : ℕ) × (names ≡ Some n) × (a.slot n ≡ s)
@@ -56,53 +56,53 @@ named_next a epoch s None names q h = absurd (cc)
 named_next a epoch s (Some t) None q h = absurd h
 named_next a epoch s (Some t) (Some n) q h = (n, refl, h.slot ∙ (let e : t ≡ s = cc in e))
 
-module _ (shape : Dimensions) (passes : ℕ) (run : List Event) (is : IsShape shape) (ok : IsRun shape passes run) (p : ℕ) (bucket : ℕ) (at : At) (link : Link)
-    (known : Knows (know_after shape run p) (LinkAt at link)) (there : (link.mark ≡ false) ⊎ (is_there (incarnations_after shape run) at ≡ true)) (shown : link_shown_at (incarnations_after shape run) at ≡ link) (inside : HeldIn (know_after shape run p) at bucket) where
+module _ (start : Start) (passes : ℕ) (run : List Event) (is : IsStart start) (ok : IsRun start passes run) (p : ℕ) (bucket : ℕ) (at : At) (link : Link)
+    (known : Knows (know_after start run p) (LinkAt at link)) (there : (link.mark ≡ false) ⊎ (is_there (incarnations_after start run) at ≡ true)) (shown : link_shown_at (incarnations_after start run) at ≡ link) (inside : HeldIn (know_after start run p) at bucket) where
   abbrev a : Incarnations
-  a = incarnations_after shape run
+  a = incarnations_after start run
 
-  pub agrees : Agrees shape (world_after shape run) (incarnations_after shape run) (notes_after shape run)
-  agrees = run_agrees shape passes run is ok
+  pub agrees : Agrees start (world_after start run) (incarnations_after start run) (notes_after start run)
+  agrees = run_agrees start passes run is ok
 
-  pub stands_in_bucket : StandsIn shape (incarnations_after shape run) (know_after shape run p).epoch bucket at link
+  pub stands_in_bucket : StandsIn start (incarnations_after start run) (know_after start run p).epoch bucket at link
   stands_in_bucket =
       let g = good_link (agrees.knows p) at link known in
-      let e = (know_after shape run p).epoch in
+      let e = (know_after start run p).epoch in
       let followed = same_followed agrees.sound e at link g.0 g.1 g.2 there shown in
       record {
         of = g.0;
         names = g.1;
         followed = followed;
         next = g.2.next;
-        place = place_of_bucket shape a e bucket at g.0 g.1 followed g.2.place (place_in_bucket agrees.sound (agrees.knows p) (forms.ordered shape passes run is ok p) at bucket inside);
+        place = place_of_bucket start a e bucket at g.0 g.1 followed g.2.place (place_in_bucket agrees.sound (agrees.knows p) (forms.ordered start passes run is ok p) at bucket inside);
       }
 
   -- the incarnation in the slot that the link names is the next behind the place
-  next_named : (s : ℕ) (q : link.slot ≡ Some s) → IsNextOf shape (incarnations_after shape run) bucket at (named_next (incarnations_after shape run) (know_after shape run p).epoch s link.slot stands_in_bucket.names q stands_in_bucket.next).0
+  next_named : (s : ℕ) (q : link.slot ≡ Some s) → IsNextOf start (incarnations_after start run) bucket at (named_next (incarnations_after start run) (know_after start run p).epoch s link.slot stands_in_bucket.names q stands_in_bucket.next).0
   next_named s q =
       let x = stands_in_bucket in
-      let n = named_next a (know_after shape run p).epoch s link.slot x.names q x.next in
+      let n = named_next a (know_after start run p).epoch s link.slot x.names q x.next in
       let P : Option ℕ → Type 0 = λ m. IsFollowed a at x.of m in
       next_of_followed agrees.sound bucket at x.of n.0 (subst P n.1 x.followed) x.place
 
   -- a law: behind the slot that the link names stands one node fewer than behind the place
-  pub one_fewer_behind : (s : ℕ) → link.slot ≡ Some s → behind shape (incarnations_after shape run) bucket at ≡ suc (behind shape (incarnations_after shape run) bucket (Slot s))
+  pub one_fewer_behind : (s : ℕ) → link.slot ≡ Some s → behind start (incarnations_after start run) bucket at ≡ suc (behind start (incarnations_after start run) bucket (Slot s))
   one_fewer_behind s q =
       let x = stands_in_bucket in
-      let n = named_next a (know_after shape run p).epoch s link.slot x.names q x.next in
-      one_fewer agrees.sound agrees.fits bucket at n.0 (next_named s q) ∙ ap (λ t. suc (behind shape a bucket (Slot t))) n.2
+      let n = named_next a (know_after start run p).epoch s link.slot x.names q x.next in
+      one_fewer agrees.sound agrees.fits bucket at n.0 (next_named s q) ∙ ap (λ t. suc (behind start a bucket (Slot t))) n.2
 
   -- a law: the slot that the link names is in a list
-  pub named_there : (s : ℕ) → link.slot ≡ Some s → is_there (incarnations_after shape run) (Slot s) ≡ true
+  pub named_there : (s : ℕ) → link.slot ≡ Some s → is_there (incarnations_after start run) (Slot s) ≡ true
   named_there s q =
-      let n = named_next a (know_after shape run p).epoch s link.slot stands_in_bucket.names q stands_in_bucket.next in
+      let n = named_next a (know_after start run p).epoch s link.slot stands_in_bucket.names q stands_in_bucket.next in
       ap (λ t. is_listed (state_in a t)) (sym n.2) ∙ stands_listed (stands_there agrees.sound agrees.fits n.0 (next_named s q).listed).1
 
 -- ---- one more step
 
 -- a step that only reads leaves the incarnations as they were
-pub read_leaves : (shape : Dimensions) (run : List Event) (p : ℕ) (step : Step) → happens shape (world_after shape run) (incarnations_after shape run) p step ≡ [] → incarnations_after shape (run ++ (record { pass = p; step = step }) ∷ []) ≡ incarnations_after shape run
-read_leaves shape run p step none = incarnations_after-snoc shape run (record { pass = p; step = step }) ∙ ap (incarnations_from shape (incarnations_after shape run)) none
+pub read_leaves : (start : Start) (run : List Event) (p : ℕ) (step : Step) → happens start (world_after start run) (incarnations_after start run) p step ≡ [] → incarnations_after start (run ++ (record { pass = p; step = step }) ∷ []) ≡ incarnations_after start run
+read_leaves start run p step none = incarnations_after-snoc start run (record { pass = p; step = step }) ∙ ap (incarnations_from start (incarnations_after start run)) none
 
 -- what happens by an exchange that finds its word
 if_found : {A : Type 0} (n expected : ℕ) (x y : A) → n ≡ expected → (if n == expected then x else y) ≡ x
@@ -115,84 +115,84 @@ followed_by a (Slot t) of names c p q =
     let e : last_in a t ≡ p.0 = rw p.2 refl in
     (p.0, p.1, p.2, p.3, ap a.next (sym e) ∙ q)
 
-module _ (shape : Dimensions) (passes : ℕ) (run : List Event) (is : IsShape shape) (ok : IsRun shape passes run) (p : ℕ) where
+module _ (start : Start) (passes : ℕ) (run : List Event) (is : IsStart start) (ok : IsRun start passes run) (p : ℕ) where
   abbrev b : Incarnations
-  b = incarnations_after shape run
+  b = incarnations_after start run
 
-  lawful : (step : Step) → Accepts shape (know_after shape run p) step → IsLawful shape (opening_keys shape) (incarnations_after shape run) (happens shape (world_after shape run) (incarnations_after shape run) p step)
-  lawful step accepts = (step_agrees shape (world_after shape run) b (notes_after shape run) p step (run_agrees shape passes run is ok) accepts).0
+  lawful : (step : Step) → Accepts start (know_after start run p) step → IsLawful start (opening_keys start) (incarnations_after start run) (happens start (world_after start run) (incarnations_after start run) p step)
+  lawful step accepts = (step_agrees start (world_after start run) b (notes_after start run) p step (run_agrees start passes run is ok) accepts).0
 
   -- a stamp leaves as many nodes behind each place
-  pub stamp_leaves : (s stamp bucket : ℕ) (at : At) → Accepts shape (know_after shape run p) (StoreStamp s stamp) → behind shape (incarnations_after shape (run ++ (record { pass = p; step = StoreStamp s stamp }) ∷ [])) bucket at ≡ behind shape (incarnations_after shape run) bucket at
+  pub stamp_leaves : (s stamp bucket : ℕ) (at : At) → Accepts start (know_after start run p) (StoreStamp s stamp) → behind start (incarnations_after start (run ++ (record { pass = p; step = StoreStamp s stamp }) ∷ [])) bucket at ≡ behind start (incarnations_after start run) bucket at
   stamp_leaves s stamp bucket at accepts =
-      ap (λ a. behind shape a bucket at) (incarnations_after-snoc shape run (record { pass = p; step = StoreStamp s stamp }))
-      ∙ stamps_none shape (opening_keys shape) b p (last_in b s) stamp bucket at (lawful (StoreStamp s stamp) accepts).0
+      ap (λ a. behind start a bucket at) (incarnations_after-snoc start run (record { pass = p; step = StoreStamp s stamp }))
+      ∙ stamps_none start (opening_keys start) b p (last_in b s) stamp bucket at (lawful (StoreStamp s stamp) accepts).0
 
   -- and so does the return of a slot to the shared pool
-  pub raise_leaves : (s bucket : ℕ) (at : At) → behind shape (incarnations_after shape (run ++ (record { pass = p; step = Raise s }) ∷ [])) bucket at ≡ behind shape (incarnations_after shape run) bucket at
-  raise_leaves s bucket at = ap (λ a. behind shape a bucket at) (incarnations_after-snoc shape run (record { pass = p; step = Raise s }))
+  pub raise_leaves : (s bucket : ℕ) (at : At) → behind start (incarnations_after start (run ++ (record { pass = p; step = Raise s }) ∷ [])) bucket at ≡ behind start (incarnations_after start run) bucket at
+  raise_leaves s bucket at = ap (λ a. behind start a bucket at) (incarnations_after-snoc start run (record { pass = p; step = Raise s }))
 
   -- a won unlinking leaves one node fewer behind each place that the node lies behind
-  unlink_takes : (bucket : ℕ) (pred from : At) (expected s : ℕ) → Accepts shape (know_after shape run p) (Unlink pred expected s) → found shape (world_after shape run) (Unlink pred expected s) ≡ expected →
-      Knows (know_after shape run p) (LinkAt pred (link_of expected)) → (link_of expected).mark ≡ false → link_shown_at (incarnations_after shape run) pred ≡ link_of expected → HeldIn (know_after shape run p) pred bucket →
-      ((of : Option ℕ) → IsFollowed (incarnations_after shape run) pred of (Some (last_in (incarnations_after shape run) s)) → IsPlaceOf shape (incarnations_after shape run) pred bucket → is_above (incarnations_after shape run) from ((incarnations_after shape run).key (last_in (incarnations_after shape run) s)) ≡ true) →
-      behind shape (incarnations_after shape run) bucket from ≡ suc (behind shape (incarnations_after shape (run ++ (record { pass = p; step = Unlink pred expected s }) ∷ [])) bucket from)
+  unlink_takes : (bucket : ℕ) (pred from : At) (expected s : ℕ) → Accepts start (know_after start run p) (Unlink pred expected s) → found start (world_after start run) (Unlink pred expected s) ≡ expected →
+      Knows (know_after start run p) (LinkAt pred (link_of expected)) → (link_of expected).mark ≡ false → link_shown_at (incarnations_after start run) pred ≡ link_of expected → HeldIn (know_after start run p) pred bucket →
+      ((of : Option ℕ) → IsFollowed (incarnations_after start run) pred of (Some (last_in (incarnations_after start run) s)) → IsPlaceOf start (incarnations_after start run) pred bucket → is_above (incarnations_after start run) from ((incarnations_after start run).key (last_in (incarnations_after start run) s)) ≡ true) →
+      behind start (incarnations_after start run) bucket from ≡ suc (behind start (incarnations_after start (run ++ (record { pass = p; step = Unlink pred expected s }) ∷ [])) bucket from)
   unlink_takes bucket pred from expected s accepts won known unmarked shown inside above =
       let step = Unlink pred expected s in
-      let w = world_after shape run in
-      let g = run_agrees shape passes run is ok in
-      let x = stands_in_bucket shape passes run is ok p bucket pred (link_of expected) known (inl unmarked) shown inside in
-      let adds : happens shape w b p step ≡ just p (Unlinks (last_in b s) (before_at b pred)) = if_found (found shape w step) expected (just p (Unlinks (last_in b s) (before_at b pred))) [] won in
+      let w = world_after start run in
+      let g = run_agrees start passes run is ok in
+      let x = stands_in_bucket start passes run is ok p bucket pred (link_of expected) known (inl unmarked) shown inside in
+      let adds : happens start w b p step ≡ just p (Unlinks (last_in b s) (before_at b pred)) = if_found (found start w step) expected (just p (Unlinks (last_in b s) (before_at b pred))) [] won in
       let allowed = (rw adds at (lawful step accepts)).0 in
       let followed = followed_by b pred x.of x.names (last_in b s) x.followed allowed.2 in
       unlinks_one g.sound g.fits p bucket (last_in b s) pred from x.of followed x.place (above x.of followed x.place)
-      ∙ ap (λ a. suc (behind shape a bucket from)) (sym (incarnations_after-snoc shape run (record { pass = p; step = step }) ∙ ap (incarnations_from shape b) adds))
+      ∙ ap (λ a. suc (behind start a bucket from)) (sym (incarnations_after-snoc start run (record { pass = p; step = step }) ∙ ap (incarnations_from start b) adds))
 
   -- a law: so it does behind the place
-  pub unlink_takes_one : (bucket : ℕ) (pred : At) (expected s : ℕ) → Accepts shape (know_after shape run p) (Unlink pred expected s) → found shape (world_after shape run) (Unlink pred expected s) ≡ expected →
-      Knows (know_after shape run p) (LinkAt pred (link_of expected)) → (link_of expected).mark ≡ false → link_shown_at (incarnations_after shape run) pred ≡ link_of expected → HeldIn (know_after shape run p) pred bucket →
-      behind shape (incarnations_after shape run) bucket pred ≡ suc (behind shape (incarnations_after shape (run ++ (record { pass = p; step = Unlink pred expected s }) ∷ [])) bucket pred)
+  pub unlink_takes_one : (bucket : ℕ) (pred : At) (expected s : ℕ) → Accepts start (know_after start run p) (Unlink pred expected s) → found start (world_after start run) (Unlink pred expected s) ≡ expected →
+      Knows (know_after start run p) (LinkAt pred (link_of expected)) → (link_of expected).mark ≡ false → link_shown_at (incarnations_after start run) pred ≡ link_of expected → HeldIn (know_after start run p) pred bucket →
+      behind start (incarnations_after start run) bucket pred ≡ suc (behind start (incarnations_after start (run ++ (record { pass = p; step = Unlink pred expected s }) ∷ [])) bucket pred)
   unlink_takes_one bucket pred expected s accepts won known unmarked shown inside =
-      unlink_takes bucket pred pred expected s accepts won known unmarked shown inside (λ of followed place. (next_of_followed (run_agrees shape passes run is ok).sound bucket pred of (last_in b s) followed place).above)
+      unlink_takes bucket pred pred expected s accepts won known unmarked shown inside (λ of followed place. (next_of_followed (run_agrees start passes run is ok).sound bucket pred of (last_in b s) followed place).above)
 
   -- a law: and in the list
-  pub unlink_takes_listed : (bucket : ℕ) (pred : At) (expected s : ℕ) → Accepts shape (know_after shape run p) (Unlink pred expected s) → found shape (world_after shape run) (Unlink pred expected s) ≡ expected →
-      Knows (know_after shape run p) (LinkAt pred (link_of expected)) → (link_of expected).mark ≡ false → link_shown_at (incarnations_after shape run) pred ≡ link_of expected → HeldIn (know_after shape run p) pred bucket → (h : ℕ) →
-      behind shape (incarnations_after shape run) bucket (Head h) ≡ suc (behind shape (incarnations_after shape (run ++ (record { pass = p; step = Unlink pred expected s }) ∷ [])) bucket (Head h))
+  pub unlink_takes_listed : (bucket : ℕ) (pred : At) (expected s : ℕ) → Accepts start (know_after start run p) (Unlink pred expected s) → found start (world_after start run) (Unlink pred expected s) ≡ expected →
+      Knows (know_after start run p) (LinkAt pred (link_of expected)) → (link_of expected).mark ≡ false → link_shown_at (incarnations_after start run) pred ≡ link_of expected → HeldIn (know_after start run p) pred bucket → (h : ℕ) →
+      behind start (incarnations_after start run) bucket (Head h) ≡ suc (behind start (incarnations_after start (run ++ (record { pass = p; step = Unlink pred expected s }) ∷ [])) bucket (Head h))
   unlink_takes_listed bucket pred expected s accepts won known unmarked shown inside h = unlink_takes bucket pred (Head h) expected s accepts won known unmarked shown inside (λ of followed place. refl)
 
   -- what a won unlinking makes of the incarnations
-  pub unlink_makes : (pred : At) (expected s : ℕ) → found shape (world_after shape run) (Unlink pred expected s) ≡ expected →
-      incarnations_after shape (run ++ (record { pass = p; step = Unlink pred expected s }) ∷ []) ≡ becomes shape (incarnations_after shape run) p (Unlinks (last_in (incarnations_after shape run) s) (before_at (incarnations_after shape run) pred))
+  pub unlink_makes : (pred : At) (expected s : ℕ) → found start (world_after start run) (Unlink pred expected s) ≡ expected →
+      incarnations_after start (run ++ (record { pass = p; step = Unlink pred expected s }) ∷ []) ≡ becomes start (incarnations_after start run) p (Unlinks (last_in (incarnations_after start run) s) (before_at (incarnations_after start run) pred))
   unlink_makes pred expected s won =
       let step = Unlink pred expected s in
-      incarnations_after-snoc shape run (record { pass = p; step = step })
-      ∙ ap (incarnations_from shape b) (if_found (found shape (world_after shape run) step) expected (just p (Unlinks (last_in b s) (before_at b pred))) [] won)
+      incarnations_after-snoc start run (record { pass = p; step = step })
+      ∙ ap (incarnations_from start b) (if_found (found start (world_after start run) step) expected (just p (Unlinks (last_in b s) (before_at b pred))) [] won)
 
   -- a stamp and the return of a slot leave the epoch
-  pub stamp_epoch : (s stamp : ℕ) → (incarnations_after shape (run ++ (record { pass = p; step = StoreStamp s stamp }) ∷ [])).epoch ≡ (incarnations_after shape run).epoch
-  stamp_epoch s stamp = ap (λ (a : Incarnations). a.epoch) (incarnations_after-snoc shape run (record { pass = p; step = StoreStamp s stamp }))
+  pub stamp_epoch : (s stamp : ℕ) → (incarnations_after start (run ++ (record { pass = p; step = StoreStamp s stamp }) ∷ [])).epoch ≡ (incarnations_after start run).epoch
+  stamp_epoch s stamp = ap (λ (a : Incarnations). a.epoch) (incarnations_after-snoc start run (record { pass = p; step = StoreStamp s stamp }))
 
-  pub raise_epoch : (s : ℕ) → (incarnations_after shape (run ++ (record { pass = p; step = Raise s }) ∷ [])).epoch ≡ (incarnations_after shape run).epoch
-  raise_epoch s = ap (λ (a : Incarnations). a.epoch) (incarnations_after-snoc shape run (record { pass = p; step = Raise s }))
+  pub raise_epoch : (s : ℕ) → (incarnations_after start (run ++ (record { pass = p; step = Raise s }) ∷ [])).epoch ≡ (incarnations_after start run).epoch
+  raise_epoch s = ap (λ (a : Incarnations). a.epoch) (incarnations_after-snoc start run (record { pass = p; step = Raise s }))
 
   -- and the links that are shown
-  pub stamp_links : (s stamp : ℕ) (at : At) → Accepts shape (know_after shape run p) (StoreStamp s stamp) → link_shown_at (incarnations_after shape (run ++ (record { pass = p; step = StoreStamp s stamp }) ∷ [])) at ≡ link_shown_at (incarnations_after shape run) at
+  pub stamp_links : (s stamp : ℕ) (at : At) → Accepts start (know_after start run p) (StoreStamp s stamp) → link_shown_at (incarnations_after start (run ++ (record { pass = p; step = StoreStamp s stamp }) ∷ [])) at ≡ link_shown_at (incarnations_after start run) at
   stamp_links s stamp at accepts =
-      ap (λ a. link_shown_at a at) (incarnations_after-snoc shape run (record { pass = p; step = StoreStamp s stamp }))
-      ∙ stamps_links shape (opening_keys shape) b p (last_in b s) stamp at (lawful (StoreStamp s stamp) accepts).0
+      ap (λ a. link_shown_at a at) (incarnations_after-snoc start run (record { pass = p; step = StoreStamp s stamp }))
+      ∙ stamps_links start (opening_keys start) b p (last_in b s) stamp at (lawful (StoreStamp s stamp) accepts).0
 
-  pub raise_links : (s : ℕ) (at : At) → link_shown_at (incarnations_after shape (run ++ (record { pass = p; step = Raise s }) ∷ [])) at ≡ link_shown_at (incarnations_after shape run) at
-  raise_links s at = ap (λ a. link_shown_at a at) (incarnations_after-snoc shape run (record { pass = p; step = Raise s }))
+  pub raise_links : (s : ℕ) (at : At) → link_shown_at (incarnations_after start (run ++ (record { pass = p; step = Raise s }) ∷ [])) at ≡ link_shown_at (incarnations_after start run) at
+  raise_links s at = ap (λ a. link_shown_at a at) (incarnations_after-snoc start run (record { pass = p; step = Raise s }))
 
 -- ---- a birth
 
 -- a birth leaves as many nodes in each list
-pub birth_leaves : (shape : Dimensions) (a : Incarnations) (p s birth bucket h : ℕ) (holding : Option Holding) → Sound shape a → IsLawful shape (opening_keys shape) a (born_in a p s birth holding) → behind shape (incarnations_from shape a (born_in a p s birth holding)) bucket (Head h) ≡ behind shape a bucket (Head h)
-birth_leaves shape a p s birth bucket h None sound l = bears_none shape (opening_keys shape) a p s birth bucket h sound l.0
-birth_leaves shape a p s birth bucket h (Some (Free stamp)) sound l = bears_none shape (opening_keys shape) a p s birth bucket h sound l.0
-birth_leaves shape a p s birth bucket h (Some (Unlinked reread)) sound l = bears_none shape (opening_keys shape) a p s birth bucket h sound l.0
-birth_leaves shape a p s birth bucket h (Some (InHand known)) sound l =
-    let c = becomes shape a p (GivesUp (last_in a s)) in
-    bears_none shape (opening_keys shape) c p s birth bucket h (sound_kept shape (opening_keys shape) a p (GivesUp (last_in a s)) sound l.0) l.1.0
-    ∙ gives_up_none shape (opening_keys shape) a p (last_in a s) bucket (Head h) l.0
+pub birth_leaves : (start : Start) (a : Incarnations) (p s birth bucket h : ℕ) (holding : Option Holding) → Sound start a → IsLawful start (opening_keys start) a (born_in a p s birth holding) → behind start (incarnations_from start a (born_in a p s birth holding)) bucket (Head h) ≡ behind start a bucket (Head h)
+birth_leaves start a p s birth bucket h None sound l = bears_none start (opening_keys start) a p s birth bucket h sound l.0
+birth_leaves start a p s birth bucket h (Some (Free stamp)) sound l = bears_none start (opening_keys start) a p s birth bucket h sound l.0
+birth_leaves start a p s birth bucket h (Some (Unlinked reread)) sound l = bears_none start (opening_keys start) a p s birth bucket h sound l.0
+birth_leaves start a p s birth bucket h (Some (InHand known)) sound l =
+    let c = becomes start a p (GivesUp (last_in a s)) in
+    bears_none start (opening_keys start) c p s birth bucket h (sound_kept start (opening_keys start) a p (GivesUp (last_in a s)) sound l.0) l.1.0
+    ∙ gives_up_none start (opening_keys start) a p (last_in a s) bucket (Head h) l.0

@@ -1,7 +1,7 @@
 -- Each allowed event that neither inserts nor unlinks keeps what holds of the lists.
 use Rattle.std.proofs.Common.{◌≡◌, ◌≢◌, ℕ, Option, Some, None, refl, arith, ◌∙◌, inl, inr}
 use Rattle.std.proofs.lemmas.Bool.Decides.{nat_tests}
-use Rattle.vbr_words.specs.Dimensions.{Dimensions}
+use Rattle.vbr_machine.specs.Start.{Start}
 use Rattle.vbr_words.specs.declared.link.Link.{Link}
 use Rattle.vbr_machine.specs.Put.{put}
 use Rattle.vbr_machine.specs.Keys.{Keys}
@@ -15,8 +15,8 @@ use Rattle.vbr_machine.proofs.Puts.{put_other}
 use Rattle.vbr_machine.proofs.Lists.{listed_other, next_listed}
 
 -- where no key, successor, state or first of a bucket changes
-lists_same : (shape : Dimensions) (a b : Incarnations) → ListsSound shape a → b.key ≡ a.key → b.next ≡ a.next → b.state ≡ a.state → b.first ≡ a.first → ListsSound shape b
-lists_same shape a b s ek en es ef = record {
+lists_same : (start : Start) (a b : Incarnations) → ListsSound start a → b.key ≡ a.key → b.next ≡ a.next → b.state ≡ a.state → b.first ≡ a.first → ListsSound start b
+lists_same start a b s ek en es ef = record {
   handed = rw (en, es) s.handed;
   inserted = rw (en, es) s.inserted;
   ordered = rw (en, ek) s.ordered;
@@ -25,26 +25,26 @@ lists_same shape a b s ek en es ef = record {
   behind_head = rw (es, ek, ef) s.behind_head;
 }
 
-pub lists_advances : (shape : Dimensions) (a : Incarnations) (pass : ℕ) → Sound shape a → ListsSound shape (becomes shape a pass Advances)
-lists_advances shape a pass s = lists_same shape a (becomes shape a pass Advances) s.lists refl refl refl refl
+pub lists_advances : (start : Start) (a : Incarnations) (pass : ℕ) → Sound start a → ListsSound start (becomes start a pass Advances)
+lists_advances start a pass s = lists_same start a (becomes start a pass Advances) s.lists refl refl refl refl
 
-pub lists_gains : (shape : Dimensions) (a : Incarnations) (pass v : ℕ) → Sound shape a → ListsSound shape (becomes shape a pass (Gains v))
-lists_gains shape a pass v s = lists_same shape a (becomes shape a pass (Gains v)) s.lists refl refl refl refl
+pub lists_gains : (start : Start) (a : Incarnations) (pass v : ℕ) → Sound start a → ListsSound start (becomes start a pass (Gains v))
+lists_gains start a pass v s = lists_same start a (becomes start a pass (Gains v)) s.lists refl refl refl refl
 
-pub lists_raises : (shape : Dimensions) (a : Incarnations) (pass v : ℕ) → Sound shape a → ListsSound shape (becomes shape a pass (Raises v))
-lists_raises shape a pass v s = lists_same shape a (becomes shape a pass (Raises v)) s.lists refl refl refl refl
+pub lists_raises : (start : Start) (a : Incarnations) (pass v : ℕ) → Sound start a → ListsSound start (becomes start a pass (Raises v))
+lists_raises start a pass v s = lists_same start a (becomes start a pass (Raises v)) s.lists refl refl refl refl
 
-pub lists_aims : (shape : Dimensions) (a : Incarnations) (pass c : ℕ) (link : Link) → Sound shape a → ListsSound shape (becomes shape a pass (Aims c link))
-lists_aims shape a pass c link s = lists_same shape a (becomes shape a pass (Aims c link)) s.lists refl refl refl refl
+pub lists_aims : (start : Start) (a : Incarnations) (pass c : ℕ) (link : Link) → Sound start a → ListsSound start (becomes start a pass (Aims c link))
+lists_aims start a pass c link s = lists_same start a (becomes start a pass (Aims c link)) s.lists refl refl refl refl
 
-pub lists_valued : (shape : Dimensions) (a : Incarnations) (pass c value : ℕ) → Sound shape a → ListsSound shape (becomes shape a pass (Valued c value))
-lists_valued shape a pass c value s = lists_same shape a (becomes shape a pass (Valued c value)) s.lists refl refl refl refl
+pub lists_valued : (start : Start) (a : Incarnations) (pass c value : ℕ) → Sound start a → ListsSound start (becomes start a pass (Valued c value))
+lists_valued start a pass c value s = lists_same start a (becomes start a pass (Valued c value)) s.lists refl refl refl refl
 
-pub lists_answers : (shape : Dimensions) (a : Incarnations) (pass : ℕ) (call : Call) → Sound shape a → ListsSound shape (becomes shape a pass (Confirms call))
-lists_answers shape a pass call s = lists_same shape a (becomes shape a pass (Confirms call)) s.lists refl refl refl refl
+pub lists_answers : (start : Start) (a : Incarnations) (pass : ℕ) (call : Call) → Sound start a → ListsSound start (becomes start a pass (Confirms call))
+lists_answers start a pass call s = lists_same start a (becomes start a pass (Confirms call)) s.lists refl refl refl refl
 
-pub lists_gives_up : (shape : Dimensions) (keys : Keys) (a : Incarnations) (pass c : ℕ) → Sound shape a → Allowed shape keys a pass (GivesUp c) → ListsSound shape (becomes shape a pass (GivesUp c))
-lists_gives_up shape keys a pass c s h = record {
+pub lists_gives_up : (start : Start) (keys : Keys) (a : Incarnations) (pass c : ℕ) → Sound start a → Allowed start keys a pass (GivesUp c) → ListsSound start (becomes start a pass (GivesUp c))
+lists_gives_up start keys a pass c s h = record {
   handed = λ i n e q. let u = s.lists.handed i n e q in grind (arith, nat_tests);
   inserted = λ i n q. let u = s.lists.inserted i n q in grind (arith, nat_tests);
   ordered = s.lists.ordered;
@@ -57,22 +57,22 @@ lists_gives_up shape keys a pass c s h = record {
 keyed_apart : (key : ℕ → ℕ) (state : ℕ → State) (buckets : ℕ → ℕ) (c pass k i d : ℕ) (n : Option ℕ) → state c ≡ InHand pass → IsListed (state i) → IsListed (state d) → (buckets (key i) ≡ buckets (key d) → IsApart key i n d) → ((m : ℕ) → n ≡ Some m → IsListed (state m)) → buckets (put key c k i) ≡ buckets (put key c k d) → IsApart (put key c k) i n d
 keyed_apart key state buckets c pass k i d n h li ld u v q = grind (arith, nat_tests)
 
-pub lists_keyed : (shape : Dimensions) (keys : Keys) (a : Incarnations) (pass c k : ℕ) → Sound shape a → Allowed shape keys a pass (Keyed c k) → ListsSound shape (becomes shape a pass (Keyed c k))
-lists_keyed shape keys a pass c k s h = record {
+pub lists_keyed : (start : Start) (keys : Keys) (a : Incarnations) (pass c k : ℕ) → Sound start a → Allowed start keys a pass (Keyed c k) → ListsSound start (becomes start a pass (Keyed c k))
+lists_keyed start keys a pass c k s h = record {
   handed = s.lists.handed;
   inserted = s.lists.inserted;
   ordered = λ i n q. let u = s.lists.ordered i n q in let v = s.lists.inserted i n q in grind (arith, nat_tests);
   first_in = λ b n q. let u = s.lists.first_in b n q in grind (arith, nat_tests);
-  apart = λ i d li ld q. keyed_apart a.key a.state (bucket_of shape) c pass k i d (a.next i) h li ld (s.lists.apart i d li ld) (λ m e. next_listed s i m e li) q;
-  behind_head = λ d ld. let u = s.lists.behind_head d in let v = s.lists.first_in (bucket_of shape (a.key d)) in grind (arith, nat_tests);
+  apart = λ i d li ld q. keyed_apart a.key a.state (bucket_of start.shape) c pass k i d (a.next i) h li ld (s.lists.apart i d li ld) (λ m e. next_listed s i m e li) q;
+  behind_head = λ d ld. let u = s.lists.behind_head d in let v = s.lists.first_in (bucket_of start.shape (a.key d)) in grind (arith, nat_tests);
 }
 
 -- what is listed once a linked one is marked was listed before
 listed_before : (state : ℕ → State) (c j : ℕ) → state c ≡ Linked → IsListed (put state c Marked j) → IsListed (state j)
 listed_before state c j h l = grind (arith, nat_tests)
 
-pub lists_removes : (shape : Dimensions) (keys : Keys) (a : Incarnations) (pass c : ℕ) → Sound shape a → Allowed shape keys a pass (Removes c) → ListsSound shape (becomes shape a pass (Removes c))
-lists_removes shape keys a pass c s h = record {
+pub lists_removes : (start : Start) (keys : Keys) (a : Incarnations) (pass c : ℕ) → Sound start a → Allowed start keys a pass (Removes c) → ListsSound start (becomes start a pass (Removes c))
+lists_removes start keys a pass c s h = record {
   handed = λ i n e q l. let u = s.lists.handed i n e q in grind (arith, nat_tests);
   inserted = λ i n q. let u = s.lists.inserted i n q in grind (arith, nat_tests);
   ordered = s.lists.ordered;
@@ -81,8 +81,8 @@ lists_removes shape keys a pass c s h = record {
   behind_head = λ d ld. let u = s.lists.behind_head d in grind (arith, nat_tests);
 }
 
-pub lists_stamps : (shape : Dimensions) (keys : Keys) (a : Incarnations) (pass c r : ℕ) → Sound shape a → Allowed shape keys a pass (Stamps c r) → ListsSound shape (becomes shape a pass (Stamps c r))
-lists_stamps shape keys a pass c r s h = record {
+pub lists_stamps : (start : Start) (keys : Keys) (a : Incarnations) (pass c r : ℕ) → Sound start a → Allowed start keys a pass (Stamps c r) → ListsSound start (becomes start a pass (Stamps c r))
+lists_stamps start keys a pass c r s h = record {
   handed = λ i n e q. let u = s.lists.handed i n e q in grind (arith, nat_tests);
   inserted = λ i n q. let u = s.lists.inserted i n q in grind (arith, nat_tests);
   ordered = s.lists.ordered;
@@ -104,8 +104,8 @@ borne_apart key next state n k i d ni nd z w li (inr (inr (m, e, le))) = let nm 
     other : (m : ℕ) → IsListed (state m) → m ≢ n
     other m l = grind arith
 
-pub lists_bears : (shape : Dimensions) (keys : Keys) (a : Incarnations) (pass v b : ℕ) → Sound shape a → Allowed shape keys a pass (Bears v b) → ListsSound shape (becomes shape a pass (Bears v b))
-lists_bears shape keys a pass v b s h =
+pub lists_bears : (start : Start) (keys : Keys) (a : Incarnations) (pass v b : ℕ) → Sound start a → Allowed start keys a pass (Bears v b) → ListsSound start (becomes start a pass (Bears v b))
+lists_bears start keys a pass v b s h =
     let z = s.slots.unborn a.count (omega arith) in
     record {
       handed = λ i n e q. let u = s.lists.handed i n e in grind (arith, nat_tests);
@@ -118,5 +118,5 @@ lists_bears shape keys a pass v b s h =
           let li2 = listed_other a.state a.count (InHand pass) i ni li in
           let ld2 = listed_other a.state a.count (InHand pass) d nd ld in
           borne_apart a.key a.next a.state a.count (key_shown a (a.last v)) i d ni nd z (next_listed s i) li2 (s.lists.apart i d li2 ld2 (rw (put_other a.key a.count (key_shown a (a.last v)) i ni, put_other a.key a.count (key_shown a (a.last v)) d nd) at q));
-      behind_head = λ d ld. let u = s.lists.behind_head d in let w = s.lists.first_in (bucket_of shape (a.key d)) in grind (arith, nat_tests);
+      behind_head = λ d ld. let u = s.lists.behind_head d in let w = s.lists.first_in (bucket_of start.shape (a.key d)) in grind (arith, nat_tests);
     }

@@ -2,7 +2,7 @@
 use Rattle.std.proofs.Common.{◌≡◌, ℕ, true, false, [], ◌∷◌, ◌++◌, Option, Some, refl, arith, sym, ap, ◌∙◌, inl, inr}
 use Rattle.std.specs.Prelude.{◌⊎◌, ◌==◌, unwrap_or}
 use Rattle.std.proofs.lemmas.Bool.{cases_Bool, eqb-true}
-use Rattle.vbr_words.specs.Dimensions.{Dimensions}
+use Rattle.vbr_machine.specs.Start.{Start}
 use Rattle.vbr_words.specs.Words.{word_of, link_of}
 use Rattle.vbr_words.specs.declared.link.Link.{Link}
 use Rattle.vbr_words.specs.declared.place.At.{At}
@@ -38,25 +38,25 @@ use Rattle.vbr_machine.proofs.StandingLinks.{LinkStands, link_stands}
 use Rattle.vbr_machine.proofs.Steps.{StepAgrees, agrees_next, agrees_still, at_put}
 
 -- the slot of a listed incarnation is no pass's
-pub listed_not_of : (shape : Dimensions) (place : SlotPlace) (st : State) (key : ℕ) → PlaceFits shape place st key → IsListed st → (q : ℕ) → IsNotOf q place
-listed_not_of shape Shared st key f l q = tt
-listed_not_of shape (Listed b) st key f l q = tt
-listed_not_of shape (Own p) st key f l q = absurd (grind arith)
-listed_not_of shape (Hand p) st key f l q = absurd (grind arith)
+pub listed_not_of : (start : Start) (place : SlotPlace) (st : State) (key : ℕ) → PlaceFits start place st key → IsListed st → (q : ℕ) → IsNotOf q place
+listed_not_of start Shared st key f l q = tt
+listed_not_of start (Listed b) st key f l q = tt
+listed_not_of start (Own p) st key f l q = absurd (grind arith)
+listed_not_of start (Hand p) st key f l q = absurd (grind arith)
 
 -- the same link, of the same incarnation by another name
 pub of_as : (a : Incarnations) (at : At) (e : ℕ) (l : Link) (of off names : Option ℕ) → of ≡ off → IsGoodLink a e at l off names → IsGoodLink a e at l of names
 of_as a at e l of off names o h = rw o h
 
-pub step_mark : (shape : Dimensions) (w : World) (a : Incarnations) (notes : ℕ → Notes) (p s expected : ℕ) → Agrees shape w a notes → Accepts shape (w.know p) (Mark s expected) → StepAgrees shape w a notes p (Mark s expected)
-step_mark shape w a notes p s expected g ok = go (cases_Bool (word_of (w.link s) == expected))
+pub step_mark : (start : Start) (w : World) (a : Incarnations) (notes : ℕ → Notes) (p s expected : ℕ) → Agrees start w a notes → Accepts start (w.know p) (Mark s expected) → StepAgrees start w a notes p (Mark s expected)
+step_mark start w a notes p s expected g ok = go (cases_Bool (word_of (w.link s) == expected))
   where
-    won : (link : Link) → LinkStands shape a (w.know p).epoch (w.know p).checked (Slot s) link → link_shown_at a (Slot s) ≡ link → (key : ℕ) → key ≡ a.key (last_in a s) → (value : Option ℕ) → value ≡ payload_of shape a (last_in a s) →
-        Agrees shape (record w { know = put w.know p (with_checked (w.know p) (LinkAt (Slot s) (marked link) ∷ [])); link = put w.link s (marked link); calls = w.calls ++ record { who = p; op = Remove; key = key; reply = true; value = value } ∷ [] })
-        (becomes shape a p (Removes (last_in a s))) (put notes p (with_won (becomes shape a p (Removes (last_in a s))) (notes p) (LinkAt (Slot s) (marked link) ∷ [])))
+    won : (link : Link) → LinkStands start a (w.know p).epoch (w.know p).checked (Slot s) link → link_shown_at a (Slot s) ≡ link → (key : ℕ) → key ≡ a.key (last_in a s) → (value : Option ℕ) → value ≡ payload_of start a (last_in a s) →
+        Agrees start (record w { know = put w.know p (with_checked (w.know p) (LinkAt (Slot s) (marked link) ∷ [])); link = put w.link s (marked link); calls = w.calls ++ record { who = p; op = Remove; key = key; reply = true; value = value } ∷ [] })
+        (becomes start a p (Removes (last_in a s))) (put notes p (with_won (becomes start a p (Removes (last_in a s))) (notes p) (LinkAt (Slot s) (marked link) ∷ [])))
     won link m e key k value l =
         let c = last_in a s in
-        let b = becomes shape a p (Removes c) in
+        let b = becomes start a p (Removes c) in
         let i = g.image in
         let reads = LinkAt (Slot s) (marked link) ∷ [] in
         let x = with_checked (w.know p) reads in
@@ -65,11 +65,11 @@ step_mark shape w a notes p s expected g ok = go (cases_Bool (word_of (w.link s)
         let last : a.last s ≡ Some c = m.last in
         let shown : link ≡ link_to_next a (a.birth c) (a.next c) = sym e ∙ ap (link_shown a) last ∙ ap (link_in_state a c) al in
         let new : marked link ≡ link_shown b (a.last s) = ap marked (shown ∙ sym (linked_same a b refl refl c refl)) ∙ ap (link_in_state b c) (sym (put_here a.state c Marked)) ∙ ap (link_shown b) (sym last) in
-        let gr = grows shape (opening_keys shape) a p (Removes c) g.sound al in
+        let gr = grows start (opening_keys start) a p (Removes c) g.sound al in
         let le = (g.knows p).epoch in
-        let away = listed_not_of shape (a.place s) (a.state c) (a.key c) (g.sound.slots.placed c s last) (rw al tt) in
+        let away = listed_not_of start (a.place s) (a.state c) (a.key c) (g.sound.slots.placed c s last) (rw al tt) in
         let kn = knows_on g.sound gr w.know notes g.knows in
-        agrees_next shape w v a notes (put notes p (with_won b (notes p) reads)) p (Removes c) g al
+        agrees_next start w v a notes (put notes p (with_won b (notes p) reads)) p (Removes c) g al
         (fits_kept a b refl refl refl refl g.fits)
         (record {
           epoch = i.epoch;
@@ -97,11 +97,11 @@ step_mark shape w a notes p s expected g ok = go (cases_Bool (word_of (w.link s)
         (ap (λ calls. calls ++ record { who = p; op = Remove; key = key; reply = true; value = value } ∷ []) g.calls ∙ (λ i. a.calls ++ record { who = p; op = Remove; key = k i; reply = true; value = l i } ∷ []))
         g.births
 
-    go : ((word_of (w.link s) == expected) ≡ true) ⊎ ((word_of (w.link s) == expected) ≡ false) → StepAgrees shape w a notes p (Mark s expected)
-    go (inr f) = rw f (tt, agrees_still shape w a notes p g)
+    go : ((word_of (w.link s) == expected) ≡ true) ⊎ ((word_of (w.link s) == expected) ≡ false) → StepAgrees start w a notes p (Mark s expected)
+    go (inr f) = rw f (tt, agrees_still start w a notes p g)
     go (inl t) =
         let e = eqb-true (word_of (w.link s)) expected t in
-        let m = link_stands shape w a notes p g (Slot s) expected ok.held.0 ok.in_range e in
+        let m = link_stands start w a notes p g (Slot s) expected ok.held.0 ok.in_range e in
         let k : unwrap_or (key_in (w.know p).checked s) 0 ≡ a.key (last_in a s) = key_is g.sound.slots (w.know p).epoch (notes p).checked (w.know p).checked s (last_in a s) (g.knows p).checked_reads (g.knows p).checked m.held ok.held.1 in
-        let l : payload_kept shape (value_in (w.know p).checked s) ≡ payload_of shape a (last_in a s) = known_kept shape.values (value_in (w.know p).checked s) (a.value (last_in a s)) ok.held.2 (value_is g.sound.slots (w.know p).epoch (notes p).checked (w.know p).checked s (last_in a s) (g.knows p).checked_reads (g.knows p).checked m.held) in
-        rw t ((m.is_open, tt), won (link_of expected) m (sym (link_read g (Slot s)) ∙ ap link_of e) (unwrap_or (key_in (w.know p).checked s) 0) k (payload_kept shape (value_in (w.know p).checked s)) l)
+        let l : payload_kept start (value_in (w.know p).checked s) ≡ payload_of start a (last_in a s) = known_kept start.shape.values (value_in (w.know p).checked s) (a.value (last_in a s)) ok.held.2 (value_is g.sound.slots (w.know p).epoch (notes p).checked (w.know p).checked s (last_in a s) (g.knows p).checked_reads (g.knows p).checked m.held) in
+        rw t ((m.is_open, tt), won (link_of expected) m (sym (link_read g (Slot s)) ∙ ap link_of e) (unwrap_or (key_in (w.know p).checked s) 0) k (payload_kept start (value_in (w.know p).checked s)) l)

@@ -2,7 +2,7 @@
 use Rattle.std.proofs.Common.{◌≡◌, ℕ, ◌≤◌, true, false, [], Option, Some, None, refl, arith, sym, subst, ap, ◌∙◌, inl, inr}
 use Rattle.std.specs.Prelude.{◌⊎◌}
 use Rattle.std.proofs.lemmas.Bool.{cases_Bool}
-use Rattle.vbr_words.specs.Dimensions.{Dimensions}
+use Rattle.vbr_machine.specs.Start.{Start}
 use Rattle.vbr_words.specs.Words.{link_of}
 use Rattle.vbr_words.specs.declared.link.Link.{Link}
 use Rattle.vbr_words.specs.declared.place.At.{At}
@@ -33,7 +33,7 @@ use Rattle.vbr_machine.proofs.KnownAcceptance.{accepts_known}
 
 -- from what stands first to another through marked nodes only: no step, or one more on from a marked node to its successor
 pub data ThroughMarked (a : Incarnations) (first : Option ℕ) : Option ℕ → Type 0 where
-  start : ThroughMarked a first first
+  here : ThroughMarked a first first
   past : (c : ℕ) → (n : Option ℕ) → ThroughMarked a first (Some c) → a.state c ≡ Marked → a.next c ≡ n → ThroughMarked a first n
 
 -- what is listed and removed is marked
@@ -43,53 +43,53 @@ listed_removed st l r = grind arith
 -- ---- keys
 
 -- it is there, of the bucket of d, and its key is no greater than that of d
-pub record IsUpTo (shape : Dimensions) (a : Incarnations) (d : ℕ) (n : Option ℕ) : Type 0 where
+pub record IsUpTo (start : Start) (a : Incarnations) (d : ℕ) (n : Option ℕ) : Type 0 where
   pub node : ℕ
   pub is : n ≡ Some node
-  pub bucket : bucket_of shape (a.key node) ≡ bucket_of shape (a.key d)
+  pub bucket : bucket_of start.shape (a.key node) ≡ bucket_of start.shape (a.key d)
   pub key : a.key node ≤ a.key d
 
-module _ {shape : Dimensions} {a : Incarnations} (s : Sound shape a) (d : ℕ) (linked : a.state d ≡ Linked) where
+module _ {start : Start} {a : Incarnations} (s : Sound start a) (d : ℕ) (linked : a.state d ≡ Linked) where
   d_listed : IsListed (a.state d)
   d_listed = rw linked tt
 
   -- behind an open place with a smaller key there is a node up to d
-  first_up_to : (before : Before) → IsOpen a before → BelongsBehind shape a before (a.key d) → IsUpTo shape a d (next_of a before)
+  first_up_to : (before : Before) → IsOpen a before → BelongsBehind start a before (a.key d) → IsUpTo start a d (next_of a before)
   first_up_to (AtHead b) o f =
       let u = s.lists.behind_head d d_listed in
       let q : a.first b ≡ Some u.0 = ap a.first (sym f) ∙ u.1 in
       record { node = u.0; is = q; bucket = (s.lists.first_in b u.0 q).1 ∙ sym f; key = u.2 }
   first_up_to (AtNode c) o f = go (s.lists.apart c d (rw o tt) d_listed (sym f.0))
     where
-      go : IsApart a.key c (a.next c) d → IsUpTo shape a d (a.next c)
+      go : IsApart a.key c (a.next c) d → IsUpTo start a d (a.next c)
       go (inl e) = absurd (let u = f.1 in let v : a.key d ≡ a.key c = ap a.key e in omega arith)
       go (inr (inl lt)) = absurd (let u = f.1 in omega arith)
       go (inr (inr u)) = record { node = u.0; is = u.1; bucket = sym (s.lists.ordered c u.0 u.1).0 ∙ sym f.0; key = u.2 }
 
   -- past a marked node there is one too
-  past_up_to : (c : ℕ) → a.state c ≡ Marked → IsUpTo shape a d (Some c) → IsUpTo shape a d (a.next c)
+  past_up_to : (c : ℕ) → a.state c ≡ Marked → IsUpTo start a d (Some c) → IsUpTo start a d (a.next c)
   past_up_to c m h = go (s.lists.apart c d (rw m tt) d_listed b)
     where
       e : h.node ≡ c
       e = let q = h.is in cc
 
-      b : bucket_of shape (a.key c) ≡ bucket_of shape (a.key d)
-      b = ap (λ i. bucket_of shape (a.key i)) (sym e) ∙ h.bucket
+      b : bucket_of start.shape (a.key c) ≡ bucket_of start.shape (a.key d)
+      b = ap (λ i. bucket_of start.shape (a.key i)) (sym e) ∙ h.bucket
 
-      go : IsApart a.key c (a.next c) d → IsUpTo shape a d (a.next c)
+      go : IsApart a.key c (a.next c) d → IsUpTo start a d (a.next c)
       go (inl q) = absurd (let x : Linked ≡ Marked = sym linked ∙ ap a.state q ∙ m in cc)
       go (inr (inl lt)) = absurd (let u = h.key in let v : a.key h.node ≡ a.key c = ap a.key e in omega arith)
       go (inr (inr u)) = record { node = u.0; is = u.1; bucket = sym (s.lists.ordered c u.0 u.1).0 ∙ b; key = u.2 }
 
-  through_up_to : (first n : Option ℕ) → ThroughMarked a first n → IsUpTo shape a d first → IsUpTo shape a d n
-  through_up_to first _ start h = h
+  through_up_to : (first n : Option ℕ) → ThroughMarked a first n → IsUpTo start a d first → IsUpTo start a d n
+  through_up_to first _ here h = h
   through_up_to first _ (past c n t m q) h = rw (← q) (past_up_to c m (through_up_to first (Some c) t h))
 
 -- no linked node has a key that lies between an open place and what it leads to through marked nodes
-pub none_through_marked : {shape : Dimensions} {a : Incarnations} → Sound shape a → (before : Before) (key : ℕ) (n : Option ℕ) → IsOpen a before → BelongsBehind shape a before key → ThroughMarked a (next_of a before) n → BelongsBefore a key n → (d : ℕ) → a.state d ≡ Linked → a.key d ≡ key → ⊥
-none_through_marked {shape} {a} s before key n o f t b d l e = go n (through_up_to s d l (next_of a before) n t (first_up_to s d l before o (rw e f))) b
+pub none_through_marked : {start : Start} {a : Incarnations} → Sound start a → (before : Before) (key : ℕ) (n : Option ℕ) → IsOpen a before → BelongsBehind start a before key → ThroughMarked a (next_of a before) n → BelongsBefore a key n → (d : ℕ) → a.state d ≡ Linked → a.key d ≡ key → ⊥
+none_through_marked {start} {a} s before key n o f t b d l e = go n (through_up_to s d l (next_of a before) n t (first_up_to s d l before o (rw e f))) b
   where
-    go : (n : Option ℕ) → IsUpTo shape a d n → BelongsBefore a key n → ⊥
+    go : (n : Option ℕ) → IsUpTo start a d n → BelongsBefore a key n → ⊥
     go None h b = let q = h.is in cc
     go (Some m) h b = let q : m ≡ h.node = (let r = h.is in cc) in let u = h.key in let v : a.key m ≡ a.key h.node = ap a.key q in omega arith
 
@@ -103,9 +103,9 @@ pub record Reaches (a : Incarnations) (epoch : ℕ) (first : Option ℕ) (last :
   pub listed : (m : ℕ) → node ≡ Some m → IsListed (a.state m)
 
 -- a listed node that is held at a slot with a known marked link is marked now, and is followed by the one that this link names
-pub marked_node : {shape : Dimensions} {a : Incarnations} {know : Know} {notes : Notes} → Sound shape a → FitsNotes a know notes → (s c : ℕ) (next : Link) → IsHeldIncarnation a know.epoch s c → IsListed (a.state c) → Knows know (LinkAt (Slot s) next) → next.mark ≡ true →
+pub marked_node : {start : Start} {a : Incarnations} {know : Know} {notes : Notes} → Sound start a → FitsNotes a know notes → (s c : ℕ) (next : Link) → IsHeldIncarnation a know.epoch s c → IsListed (a.state c) → Knows know (LinkAt (Slot s) next) → next.mark ≡ true →
     (a.state c ≡ Marked) × IsHeldNext a know.epoch next.slot (a.next c)
-marked_node {shape} {a} {know} {notes} snd noted s c next h l k m = let g = good_link noted (Slot s) next k in go g.0 g.1 g.2
+marked_node {start} {a} {know} {notes} snd noted s c next h l k m = let g = good_link noted (Slot s) next k in go g.0 g.1 g.2
   where
     go : (of n : Option ℕ) → IsGoodLink a know.epoch (Slot s) next of n → (a.state c ≡ Marked) × IsHeldNext a know.epoch next.slot (a.next c)
     go None n g = absurd g.place
@@ -115,8 +115,8 @@ marked_node {shape} {a} {know} {notes} snd noted s c next h l k m = let g = good
         (listed_removed (a.state c) l (rw same at f.0), rw (ap a.next (sym same) ∙ f.1) g.next)
 
 -- a known marked link of the slot that the last link names leads one marked node on
-one_on : {shape : Dimensions} {a : Incarnations} {know : Know} {notes : Notes} → Sound shape a → FitsNotes a know notes → (first : Option ℕ) (last : Link) (s : ℕ) (next : Link) → Reaches a know.epoch first last → last.slot ≡ Some s → Knows know (LinkAt (Slot s) next) → next.mark ≡ true → Reaches a know.epoch first next
-one_on {shape} {a} {know} {notes} snd noted first last s next r q k m = go last.slot r.node q r.through r.held r.listed
+one_on : {start : Start} {a : Incarnations} {know : Know} {notes : Notes} → Sound start a → FitsNotes a know notes → (first : Option ℕ) (last : Link) (s : ℕ) (next : Link) → Reaches a know.epoch first last → last.slot ≡ Some s → Knows know (LinkAt (Slot s) next) → next.mark ≡ true → Reaches a know.epoch first next
+one_on {start} {a} {know} {notes} snd noted first last s next r q k m = go last.slot r.node q r.through r.held r.listed
   where
     go : (v n : Option ℕ) → v ≡ Some s → ThroughMarked a first n → IsHeldNext a know.epoch v n → ((i : ℕ) → n ≡ Some i → IsListed (a.state i)) → Reaches a know.epoch first next
     go None n q t h l = absurd (cc)
@@ -128,12 +128,12 @@ one_on {shape} {a} {know} {notes} snd noted first last s next r q k m = go last.
         record { node = a.next c; through = past c (a.next c) t x.0 refl; held = x.1; listed = λ i r. next_listed snd c i r (l c refl) }
 
 -- known marked links lead through marked nodes
-leads_through : {shape : Dimensions} {a : Incarnations} {know : Know} {notes : Notes} → Sound shape a → FitsNotes a know notes → (first : Option ℕ) (link last : Link) → Reaches a know.epoch first link → LeadsTo know link last → Reaches a know.epoch first last
+leads_through : {start : Start} {a : Incarnations} {know : Know} {notes : Notes} → Sound start a → FitsNotes a know notes → (first : Option ℕ) (link last : Link) → Reaches a know.epoch first link → LeadsTo know link last → Reaches a know.epoch first last
 leads_through snd noted first link _ r itself = r
 leads_through snd noted first link _ r (onward last s next h q k m) = one_on snd noted first last s next (leads_through snd noted first link last r h) q k m
 
 -- the premises: the world agrees with its incarnations, a known unmarked link stands at its place, and known marked links lead on from it
-module _ {shape : Dimensions} {w : World} {a : Incarnations} {notes : ℕ → Notes} (now : Agrees shape w a notes) (p : ℕ) (at : At) (link last : Link) (known : Knows (w.know p) (LinkAt at link)) (unmarked : link.mark ≡ false) (shown : machine.link_at w at ≡ link) (leads : LeadsTo (w.know p) link last) where
+module _ {start : Start} {w : World} {a : Incarnations} {notes : ℕ → Notes} (now : Agrees start w a notes) (p : ℕ) (at : At) (link last : Link) (known : Knows (w.know p) (LinkAt at link)) (unmarked : link.mark ≡ false) (shown : machine.link_at w at ≡ link) (leads : LeadsTo (w.know p) link last) where
   good : (of names : Option ℕ) × IsGoodLink a (w.know p).epoch at link of names
   good = good_link (now.knows p) at link known
 
@@ -145,7 +145,7 @@ module _ {shape : Dimensions} {w : World} {a : Incarnations} {notes : ℕ → No
 
   reaches : Reaches a (w.know p).epoch (next_of a (before_of at good.0)) last
   reaches = leads_through now.sound (now.knows p) (next_of a (before_of at good.0)) link last
-      (record { node = next_of a (before_of at good.0); through = start; held = rw opened.1 good.2.next; listed = next_listed_of (before_of at good.0) opened.0 })
+      (record { node = next_of a (before_of at good.0); through = here; held = rw opened.1 good.2.next; listed = next_listed_of (before_of at good.0) opened.0 })
       leads
     where
       next_listed_of : (before : Before) → IsOpen a before → (m : ℕ) → next_of a before ≡ Some m → IsListed (a.state m)
@@ -153,24 +153,24 @@ module _ {shape : Dimensions} {w : World} {a : Incarnations} {notes : ℕ → No
       next_listed_of (AtNode c) o m q = next_listed now.sound c m q (rw o tt)
 
   -- a key that stands behind the place and before what the last of these links names isn't in the set
-  pub absent_behind_marked : (key : ℕ) → StandsBehind shape (w.know p) at key → StandsBefore (w.know p) key last.slot → set_after (opening_keys shape) w.calls key ≡ false
-  absent_behind_marked key i j = rw now.calls (go (cases_Bool (set_after (opening_keys shape) a.calls key)))
+  pub absent_behind_marked : (key : ℕ) → StandsBehind start (w.know p) at key → StandsBefore (w.know p) key last.slot → set_after (opening_keys start) w.calls key ≡ false
+  absent_behind_marked key i j = rw now.calls (go (cases_Bool (set_after (opening_keys start) a.calls key)))
     where
       still : Grows a a
-      still = grows_after shape (opening_keys shape) a [] now.sound tt
+      still = grows_after start (opening_keys start) a [] now.sound tt
 
-      behind : BelongsBehind shape a (before_of at good.0) key
+      behind : BelongsBehind start a (before_of at good.0) key
       behind = behind_then now.sound still now.sound (now.knows p) (now.knows p).epoch at good.0 key good.2.place i
 
       before : BelongsBefore a key reaches.node
       before = before_then now.sound still now.sound (now.knows p) (now.knows p).epoch last.slot reaches.node key reaches.held j
 
-      go : (set_after (opening_keys shape) a.calls key ≡ true) ⊎ (set_after (opening_keys shape) a.calls key ≡ false) → set_after (opening_keys shape) a.calls key ≡ false
+      go : (set_after (opening_keys start) a.calls key ≡ true) ⊎ (set_after (opening_keys start) a.calls key ≡ false) → set_after (opening_keys start) a.calls key ≡ false
       go (inr f) = f
       go (inl t) = let u = now.tells.only key t in absurd (none_through_marked now.sound (before_of at good.0) key reaches.node opened.0 behind reaches.through before u.0 u.1 u.2)
 
 -- where a confirming load for a key finds the word that it expects, the key isn't in the set
-pub confirmed_absent : {shape : Dimensions} {w : World} {a : Incarnations} {notes : ℕ → Notes} → Agrees shape w a notes → (p : ℕ) (op : Op) (key : ℕ) (at : At) (expected : ℕ) → Accepts shape (w.know p) (ConfirmAbsent op key at expected) → machine.found shape w (ConfirmAbsent op key at expected) ≡ expected → set_after (opening_keys shape) w.calls key ≡ false
+pub confirmed_absent : {start : Start} {w : World} {a : Incarnations} {notes : ℕ → Notes} → Agrees start w a notes → (p : ℕ) (op : Op) (key : ℕ) (at : At) (expected : ℕ) → Accepts start (w.know p) (ConfirmAbsent op key at expected) → machine.found start w (ConfirmAbsent op key at expected) ≡ expected → set_after (opening_keys start) w.calls key ≡ false
 confirmed_absent g p op key at expected ok q =
     let k = accepts_known ok in
     let on = k.in_range.3 in

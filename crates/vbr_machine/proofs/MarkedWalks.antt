@@ -4,7 +4,7 @@ use Rattle.std.specs.Prelude.{◌⊎◌, nat_eq, IsSome}
 use Rattle.std.specs.List.{AllByRecursion, IsDistinct, list_any}
 use Rattle.std.proofs.lemmas.Bool.{cases_Bool, ne_eqb, eqb-true}
 use Rattle.std.proofs.lemmas.Map.Steps.{length-le_from_distinct_below}
-use Rattle.vbr_words.specs.Dimensions.{Dimensions}
+use Rattle.vbr_machine.specs.Start.{Start}
 use Rattle.vbr_words.specs.declared.link.Link.{Link}
 use Rattle.vbr_words.specs.declared.place.At.TheVariants.{Slot}
 use Rattle.vbr_machine.specs.Knowledge.{Know, marked_in}
@@ -51,11 +51,11 @@ pub record IsBelow (a : Incarnations) (epoch : ℕ) (next : Option ℕ) (s : ℕ
   pub key : (t d : ℕ) → next ≡ Some t → IsHeldIncarnation a epoch t d → a.key node < a.key d
 
 -- the slots that were passed on the way to a link: as many as turns were made, of the shape, and no two the same, since their keys ascend
-pub record Passed (shape : Dimensions) (a : Incarnations) (know : Know) (link last : Link) : Type 0 where
+pub record Passed (start : Start) (a : Incarnations) (know : Know) (link last : Link) : Type 0 where
   pub slots : List ℕ
   pub comes : after_turns know.checked (length slots) link.slot ≡ last.slot
   pub distinct : IsDistinct nat_eq slots
-  pub low : AllByRecursion (λ s. s < shape.slots) slots
+  pub low : AllByRecursion (λ s. s < start.shape.slots) slots
   pub below : AllByRecursion (IsBelow a know.epoch last.slot) slots
 
 all_low : (n : ℕ) (slots : List ℕ) → AllByRecursion (λ s. s < n) slots → (q : ℕ) → list_any (nat_eq q) slots ≡ true → q < n
@@ -66,7 +66,7 @@ all_low n (s ∷ slots) h q e = go (cases_Bool (nat_eq q s)) (all_low n slots h.
     go (inl t) later = let x = eqb-true q s t in let y = h.0 in omega arith
     go (inr f) later = later (rw f at e)
 
-module _ {shape : Dimensions} {a : Incarnations} {know : Know} {notes : Notes} (sound : Sound shape a) (fits : Fits shape a) (noted : FitsNotes a know notes) where
+module _ {start : Start} {a : Incarnations} {know : Know} {notes : Notes} (sound : Sound start a) (fits : Fits start a) (noted : FitsNotes a know notes) where
   -- a walk passes a slot to what any of its known marked links names
   past_known : (s : ℕ) (next : Link) → Knows know (LinkAt (Slot s) next) → next.mark ≡ true → past_marked know.checked (Some s) ≡ next.slot
   past_known s next k m = go (marked_in know.checked s) refl (marked_there know.checked s next k.among m)
@@ -94,11 +94,11 @@ module _ {shape : Dimensions} {a : Incarnations} {know : Know} {notes : Notes} (
           let x = b.0.key s b.0.node q (subst P (sym e) b.0.held) in
           omega arith
 
-  one_more : (link last : Link) (s : ℕ) (next : Link) → Passed shape a know link last → last.slot ≡ Some s → Knows know (LinkAt (Slot s) next) → next.mark ≡ true → Passed shape a know link next
+  one_more : (link last : Link) (s : ℕ) (next : Link) → Passed start a know link last → last.slot ≡ Some s → Knows know (LinkAt (Slot s) next) → next.mark ≡ true → Passed start a know link next
   unfolding IsDistinct
   one_more link last s next p q k m = let g = good_link noted (Slot s) next k in go g.0 g.1 g.2
     where
-      go : (of names : Option ℕ) → IsGoodLink a know.epoch (Slot s) next of names → Passed shape a know link next
+      go : (of names : Option ℕ) → IsGoodLink a know.epoch (Slot s) next of names → Passed start a know link next
       go None names g = absurd g.place
       go (Some c) names g = record {
         slots = s ∷ p.slots;
@@ -119,11 +119,11 @@ module _ {shape : Dimensions} {a : Incarnations} {know : Know} {notes : Notes} (
           above : (t d : ℕ) → next.slot ≡ Some t → IsHeldIncarnation a know.epoch t d → a.key c < a.key d
           above t d r i = (sound.lists.ordered c d ((g.frozen m).1 ∙ follows t d next.slot names g.next r i)).1
 
-  passed : (link last : Link) → LeadsTo know link last → Passed shape a know link last
+  passed : (link last : Link) → LeadsTo know link last → Passed start a know link last
   unfolding IsDistinct
   passed link _ itself = record { slots = []; comes = refl; distinct = tt; low = tt; below = tt }
   passed link _ (onward last s next leads q k m) = one_more link last s next (passed link last leads) q k m
 
   -- where known marked links lead, the checked ones lead in no more turns than there are slots
-  pub led_walk : (link last : Link) → LeadsTo know link last → (turns : ℕ) × (turns ≤ shape.slots) × (after_turns know.checked turns link.slot ≡ last.slot)
-  led_walk link last leads = let p = passed link last leads in (length p.slots, length-le_from_distinct_below p.slots shape.slots p.distinct (all_low shape.slots p.slots p.low), p.comes)
+  pub led_walk : (link last : Link) → LeadsTo know link last → (turns : ℕ) × (turns ≤ start.shape.slots) × (after_turns know.checked turns link.slot ≡ last.slot)
+  led_walk link last leads = let p = passed link last leads in (length p.slots, length-le_from_distinct_below p.slots start.shape.slots p.distinct (all_low start.shape.slots p.slots p.low), p.comes)

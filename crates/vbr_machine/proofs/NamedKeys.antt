@@ -1,6 +1,6 @@
 -- Where the key of the slot that the expected word names is checked, and the wanted key stands before it, a confirming load for an absent key asks no more: the walk need make no turn.
 use Rattle.std.proofs.Common.{◌≢◌, ℕ, arith}
-use Rattle.vbr_words.specs.Dimensions.{Dimensions}
+use Rattle.vbr_machine.specs.Start.{Start}
 use Rattle.vbr_words.specs.Words.{link_of}
 use Rattle.vbr_words.specs.declared.place.At.{At}
 use Rattle.vbr_machine.specs.Knowledge.{Know}
@@ -9,9 +9,9 @@ use Rattle.vbr_machine.specs.declared.history.Op.{Op}
 use Rattle.vbr_machine.specs.declared.history.Op.TheVariants.{Insert}
 use Rattle.vbr_machine.specs.declared.event.Step.TheVariants.{ConfirmAbsent}
 
-pub between_accepted : (shape : Dimensions) (know : Know) (op : Op) (key : ℕ) (at : At) (expected : ℕ) → IsAtIn shape at → IsOpIn shape op → op ≢ Insert → IsBetween shape know.checked key at (link_of expected) →
-    Accepts shape know (ConfirmAbsent op key at expected)
-between_accepted shape know op key at expected inside asked not between = record {
+pub between_accepted : (start : Start) (know : Know) (op : Op) (key : ℕ) (at : At) (expected : ℕ) → IsAtIn start at → IsOpIn start op → op ≢ Insert → IsBetween start know.checked key at (link_of expected) →
+    Accepts start know (ConfirmAbsent op key at expected)
+between_accepted start know op key at expected inside asked not between = record {
   in_shape = (inside, asked);
   owned = tt;
   held = (between.known, between.here, record { turns = 0; within = omega arith; known = between.there });

@@ -3,7 +3,7 @@ use Rattle.std.proofs.Common.{◌≡◌, ◌≢◌, ℕ, true, false, List, [], 
 use Rattle.std.specs.Prelude.{◌⊎◌, ◌==◌}
 use Rattle.std.specs.List.{AllByRecursion}
 use Rattle.std.proofs.lemmas.Bool.{cases_eq, cases_Bool, eqb-true}
-use Rattle.vbr_words.specs.Dimensions.{Dimensions}
+use Rattle.vbr_machine.specs.Start.{Start}
 use Rattle.vbr_machine.specs.Put.{put}
 use Rattle.vbr_machine.specs.Knowledge.{Know}
 use Rattle.vbr_machine.specs.Learning.{read_epoch, with_own, with_pending, with_checked}
@@ -38,8 +38,8 @@ notes_all a P (read ∷ reads) h = (h.0, notes_all a P reads h.1)
 -- ---- one pass
 
 -- what a pass has noted stays so as the chronicle goes on
-pub noted_on : {shape : Dimensions} {a b : Incarnations} → Sound shape a → Grows a b → (know : Know) (notes : Notes) → FitsNotes a know notes → FitsNotes b know notes
-noted_on {shape} {a} {b} s g know notes k = record {
+pub noted_on : {start : Start} {a b : Incarnations} → Sound start a → Grows a b → (know : Know) (notes : Notes) → FitsNotes a know notes → FitsNotes b know notes
+noted_on {start} {a} {b} s g know notes k = record {
   epoch = let u = k.epoch in let v = g.epoch in omega arith;
   checked_reads = k.checked_reads;
   pending_reads = k.pending_reads;
@@ -103,7 +103,7 @@ noted_read a know notes epoch q k = go (cases_Bool (epoch == know.epoch))
 
 -- ---- all passes
 
-pub knows_on : {shape : Dimensions} {a b : Incarnations} → Sound shape a → Grows a b → (know : ℕ → Know) (notes : ℕ → Notes) → AllKnowRight a know notes → AllKnowRight b know notes
+pub knows_on : {start : Start} {a b : Incarnations} → Sound start a → Grows a b → (know : ℕ → Know) (notes : ℕ → Notes) → AllKnowRight a know notes → AllKnowRight b know notes
 knows_on s g know notes k = λ q. noted_on s g (know q) (notes q) (k q)
 
 -- one pass's knowledge and notes have changed

@@ -4,7 +4,7 @@ use Rattle.std.proofs.lemmas.Bool.Decides.{nat_tests}
 use Rattle.std.specs.List.{list_any}
 use Rattle.std.specs.Prelude.{◌==◌, ◌||◌, slice_index_or, if◌then◌else◌}
 use Rattle.vbr_words.specs.Dimensions.{Dimensions}
-use Rattle.vbr_machine.specs.Maps.{entries_in, keys_listed, values_listed, opening_entries}
+use Rattle.vbr_machine.specs.Maps.{entries_in, keys_listed, values_listed, map_start, opening_entries}
 use Rattle.vbr_machine.specs.Opened.{number_in}
 
 -- the value with the number of a key
@@ -43,6 +43,5 @@ found_is (e ∷ es) key = go (nat_eq key e.0) (e.0 == key) (turned key e.0) (fou
     go false true same rest = absurd (cc)
 
 -- where keys and values are those of entries, the map is theirs
-pub opens_with_entries : (shape : Dimensions) (es : List (ℕ × ℕ)) (key : ℕ)
-    → opening_entries (record shape { values = true; keys = keys_listed es; payloads = values_listed es }) key ≡ entries_in es key
+pub opens_with_entries : (shape : Dimensions) (es : List (ℕ × ℕ)) (key : ℕ) → opening_entries (map_start shape es) key ≡ entries_in es key
 opens_with_entries shape es key = found_is es key

@@ -5,7 +5,7 @@ use Rattle.std.specs.List.{list_any}
 use Rattle.std.specs.List.Sorted.{IsStrictlyIncreasing}
 use Rattle.std.proofs.lemmas.Bool.{cases_Bool, cases_eq, cases_lt, eqb-true, eq-eqb, lt-ltb, le-ltb, ne_eqb, cond-true, cond-false}
 use Rattle.std.proofs.lemmas.List.Folds.{list_any_at}
-use Rattle.vbr_words.specs.Dimensions.{Dimensions}
+use Rattle.vbr_machine.specs.Start.{Start}
 use Rattle.vbr_words.specs.Buckets.{bucket_of}
 use Rattle.vbr_machine.specs.Opened.{key_count, has_opening_key, key_number, first_number, is_key_of, first_key, key_behind, number_in}
 
@@ -64,12 +64,12 @@ first_is test from limit m (Some n) is e = let same : n ≡ m = cc in rw same at
 -- ---- opening keys
 
 -- a number is that of a key, or of none
-pub opens_with_one_or_none : (shape : Dimensions) (c : ℕ) → ((c < key_count shape) × (has_opening_key shape c ≡ true)) ⊎ ((key_count shape ≤ c) × (has_opening_key shape c ≡ false))
-opens_with_one_or_none shape c = go (cases_lt c (key_count shape))
+pub opens_with_one_or_none : (start : Start) (c : ℕ) → ((c < key_count start) × (has_opening_key start c ≡ true)) ⊎ ((key_count start ≤ c) × (has_opening_key start c ≡ false))
+opens_with_one_or_none start c = go (cases_lt c (key_count start))
   where
-    go : (c < key_count shape) ⊎ (key_count shape ≤ c) → ((c < key_count shape) × (has_opening_key shape c ≡ true)) ⊎ ((key_count shape ≤ c) × (has_opening_key shape c ≡ false))
-    go (inl low) = inl (low, lt-ltb c (key_count shape) low)
-    go (inr high) = inr (high, le-ltb c (key_count shape) high)
+    go : (c < key_count start) ⊎ (key_count start ≤ c) → ((c < key_count start) × (has_opening_key start c ≡ true)) ⊎ ((key_count start ≤ c) × (has_opening_key start c ≡ false))
+    go (inl low) = inl (low, lt-ltb c (key_count start) low)
+    go (inr high) = inr (high, le-ltb c (key_count start) high)
 
 -- a later number of a strictly ascending list is greater
 pub rises : (xs : List ℕ) → IsStrictlyIncreasing xs → (i j : ℕ) → i < j → j < length xs → get_or xs i 0 < get_or xs j 0
@@ -84,37 +84,37 @@ rises xs up i (suc j) less low = go (cases_eq i j) (rises xs up i j)
     go (inr ne) before = let u = before (omega arith) (omega arith) in omega (arith, u, one)
 
 -- the first key of a bucket is one, and of the bucket
-pub first_key_is : (shape : Dimensions) (b m : ℕ) → first_key shape b ≡ Some m → (m < key_count shape) × (bucket_of shape (key_number shape m) ≡ b)
-first_key_is shape b m e =
-    let is = first_is (is_key_of shape b) 0 (0 + (key_count shape - 0)) m (first_key shape b) (first_or_none (is_key_of shape b) 0 (key_count shape - 0)) e in
+pub first_key_is : (start : Start) (b m : ℕ) → first_key start b ≡ Some m → (m < key_count start) × (bucket_of start.shape (key_number start m) ≡ b)
+first_key_is start b m e =
+    let is = first_is (is_key_of start b) 0 (0 + (key_count start - 0)) m (first_key start b) (first_or_none (is_key_of start b) 0 (key_count start - 0)) e in
     let high = is.high in
     (omega (arith, high), eqb-true _ _ is.passes)
 
 -- and it is no later than any of the bucket
-pub first_key_up_to : (shape : Dimensions) (d : ℕ) → d < key_count shape → (m : ℕ) × (first_key shape (bucket_of shape (key_number shape d)) ≡ Some m) × (m ≤ d)
-first_key_up_to shape d low =
-    let b = bucket_of shape (key_number shape d) in
-    first_up_to (is_key_of shape b) 0 (0 + (key_count shape - 0)) d (first_key shape b) (first_or_none (is_key_of shape b) 0 (key_count shape - 0)) (omega arith) (omega arith) (eq-eqb b b refl)
+pub first_key_up_to : (start : Start) (d : ℕ) → d < key_count start → (m : ℕ) × (first_key start (bucket_of start.shape (key_number start d)) ≡ Some m) × (m ≤ d)
+first_key_up_to start d low =
+    let b = bucket_of start.shape (key_number start d) in
+    first_up_to (is_key_of start b) 0 (0 + (key_count start - 0)) d (first_key start b) (first_or_none (is_key_of start b) 0 (key_count start - 0)) (omega arith) (omega arith) (eq-eqb b b refl)
 
-behind_first : (shape : Dimensions) (c : ℕ) → FirstOrNone (is_key_of shape (bucket_of shape (key_number shape c))) (suc c) (suc c + (key_count shape - suc c)) (key_behind shape c)
-behind_first shape c = first_or_none (is_key_of shape (bucket_of shape (key_number shape c))) (suc c) (key_count shape - suc c)
+behind_first : (start : Start) (c : ℕ) → FirstOrNone (is_key_of start (bucket_of start.shape (key_number start c))) (suc c) (suc c + (key_count start - suc c)) (key_behind start c)
+behind_first start c = first_or_none (is_key_of start (bucket_of start.shape (key_number start c))) (suc c) (key_count start - suc c)
 
 -- the key behind a key is a later one, of the same bucket
-pub key_behind_is : (shape : Dimensions) (c m : ℕ) → key_behind shape c ≡ Some m → (c < m) × (m < key_count shape) × (bucket_of shape (key_number shape m) ≡ bucket_of shape (key_number shape c))
-key_behind_is shape c m e =
-    let is = first_is (is_key_of shape (bucket_of shape (key_number shape c))) (suc c) (suc c + (key_count shape - suc c)) m (key_behind shape c) (behind_first shape c) e in
+pub key_behind_is : (start : Start) (c m : ℕ) → key_behind start c ≡ Some m → (c < m) × (m < key_count start) × (bucket_of start.shape (key_number start m) ≡ bucket_of start.shape (key_number start c))
+key_behind_is start c m e =
+    let is = first_is (is_key_of start (bucket_of start.shape (key_number start c))) (suc c) (suc c + (key_count start - suc c)) m (key_behind start c) (behind_first start c) e in
     let low = is.low in
     let high = is.high in
     (omega (arith, low), omega (arith, low, high), eqb-true _ _ is.passes)
 
 -- and it is no later than any other later one of the bucket
-pub key_behind_up_to : (shape : Dimensions) (c d : ℕ) → c < d → d < key_count shape → bucket_of shape (key_number shape d) ≡ bucket_of shape (key_number shape c) → (m : ℕ) × (key_behind shape c ≡ Some m) × (m ≤ d)
-key_behind_up_to shape c d less low e =
-    first_up_to (is_key_of shape (bucket_of shape (key_number shape c))) (suc c) (suc c + (key_count shape - suc c)) d (key_behind shape c) (behind_first shape c) (omega arith) (omega arith) (eq-eqb _ _ e)
+pub key_behind_up_to : (start : Start) (c d : ℕ) → c < d → d < key_count start → bucket_of start.shape (key_number start d) ≡ bucket_of start.shape (key_number start c) → (m : ℕ) × (key_behind start c ≡ Some m) × (m ≤ d)
+key_behind_up_to start c d less low e =
+    first_up_to (is_key_of start (bucket_of start.shape (key_number start c))) (suc c) (suc c + (key_count start - suc c)) d (key_behind start c) (behind_first start c) (omega arith) (omega arith) (eq-eqb _ _ e)
 
 -- each key is in the set
-pub key_in_set : (shape : Dimensions) (c : ℕ) → c < key_count shape → list_any (nat_eq (key_number shape c)) shape.keys ≡ true
-key_in_set shape c low = list_any_at (nat_eq (key_number shape c)) shape.keys c 0 low (eq-eqb (key_number shape c) (key_number shape c) refl)
+pub key_in_set : (start : Start) (c : ℕ) → c < key_count start → list_any (nat_eq (key_number start c)) start.keys ≡ true
+key_in_set start c low = list_any_at (nat_eq (key_number start c)) start.keys c 0 low (eq-eqb (key_number start c) (key_number start c) refl)
 
 -- and the set has no others
 pub number_of : (key : ℕ) (xs : List ℕ) → list_any (nat_eq key) xs ≡ true → (c : ℕ) × (c < length xs) × (get_or xs c 0 ≡ key)

@@ -2,7 +2,7 @@
 use Rattle.std.proofs.Common.{◌≡◌, ◌≢◌, ℕ, zero, suc, ◌<◌, ◌==◌, Bool, true, false, List, [], ◌∷◌, ◌++◌, refl, arith, sym, subst, ap, ◌∙◌, inl, inr, ⊎_elim, append_assoc, append-nil}
 use Rattle.std.specs.Prelude.{◌⊎◌, if◌then◌else◌}
 use Rattle.std.proofs.lemmas.Bool.{cases_eq}
-use Rattle.vbr_words.specs.Dimensions.{Dimensions}
+use Rattle.vbr_machine.specs.Start.{Start}
 use Rattle.vbr_words.specs.Flags.{has_flag}
 use Rattle.vbr_machine.specs.Put.{put}
 use Rattle.vbr_machine.specs.Machine.{World, after, found, is_shared}
@@ -35,34 +35,34 @@ put_in : (place : ℕ → SlotPlace) (t : ℕ) (new : SlotPlace) (s : ℕ) → n
 put_in place t new s ne e = ⊎_elim (λ (is : s ≡ t). absurd (ne (sym (ap (put place t new) is ∙ put_here place t new) ∙ e))) (λ (other : s ≢ t). sym (put_other place t new s other) ∙ e) (cases_eq s t)
 
 -- a slot that is in the shared pool after a step was there before, or a flag was raised
-was_or_raised : (shape : Dimensions) (w : World) (p : ℕ) (step : Step) (s : ℕ) → (after shape w p step).place s ≡ Shared → (w.place s ≡ Shared) ⊎ IsRaise step
-was_or_raised shape w p ReadEpoch s e = inl e
-was_or_raised shape w p (Advance from) s e = inl (by_test (found shape w (Advance from) == from) _ w s (λ x. x) (λ x. x) e)
-was_or_raised shape w p (LoadStamp t) s e = inl e
-was_or_raised shape w p (StoreStamp t stamp) s e = inl e
-was_or_raised shape w p (Raise t) s e = inr tt
-was_or_raised shape w p (TakeFlag t) s e = inl (by_test (has_flag (found shape w (TakeFlag t)) t) _ w s (put_in w.place t (Own p) s (λ x. cc)) (λ x. x) e)
-was_or_raised shape w p (StoreBirth t birth) s e = inl (put_in w.place t (Hand p) s (λ x. cc) e)
-was_or_raised shape w p (StoreKey t key) s e = inl e
-was_or_raised shape w p (StoreValue t value) s e = inl e
-was_or_raised shape w p (StoreLink t next) s e = inl e
-was_or_raised shape w p (LoadLink at) s e = inl e
-was_or_raised shape w p (LoadBirth t) s e = inl e
-was_or_raised shape w p (LoadKey t) s e = inl e
-was_or_raised shape w p (LoadValue t) s e = inl e
-was_or_raised shape w p (Publish pred expected t) s e = inl (by_test (found shape w (Publish pred expected t) == expected) _ w s (put_in w.place t _ s (λ x. cc)) (λ x. x) e)
-was_or_raised shape w p (Mark t expected) s e = inl (by_test (found shape w (Mark t expected) == expected) _ w s (λ x. x) (λ x. x) e)
-was_or_raised shape w p (Unlink pred expected t) s e = inl (by_test (found shape w (Unlink pred expected t) == expected) _ w s (put_in w.place t (Own p) s (λ x. cc)) (λ x. x) e)
-was_or_raised shape w p (ConfirmPresent op t expected) s e = inl (by_test (found shape w (ConfirmPresent op t expected) == expected) _ w s (λ x. x) (λ x. x) e)
-was_or_raised shape w p (ConfirmAbsent op key at expected) s e = inl (by_test (found shape w (ConfirmAbsent op key at expected) == expected) _ w s (λ x. x) (λ x. x) e)
+was_or_raised : (start : Start) (w : World) (p : ℕ) (step : Step) (s : ℕ) → (after start w p step).place s ≡ Shared → (w.place s ≡ Shared) ⊎ IsRaise step
+was_or_raised start w p ReadEpoch s e = inl e
+was_or_raised start w p (Advance from) s e = inl (by_test (found start w (Advance from) == from) _ w s (λ x. x) (λ x. x) e)
+was_or_raised start w p (LoadStamp t) s e = inl e
+was_or_raised start w p (StoreStamp t stamp) s e = inl e
+was_or_raised start w p (Raise t) s e = inr tt
+was_or_raised start w p (TakeFlag t) s e = inl (by_test (has_flag (found start w (TakeFlag t)) t) _ w s (put_in w.place t (Own p) s (λ x. cc)) (λ x. x) e)
+was_or_raised start w p (StoreBirth t birth) s e = inl (put_in w.place t (Hand p) s (λ x. cc) e)
+was_or_raised start w p (StoreKey t key) s e = inl e
+was_or_raised start w p (StoreValue t value) s e = inl e
+was_or_raised start w p (StoreLink t next) s e = inl e
+was_or_raised start w p (LoadLink at) s e = inl e
+was_or_raised start w p (LoadBirth t) s e = inl e
+was_or_raised start w p (LoadKey t) s e = inl e
+was_or_raised start w p (LoadValue t) s e = inl e
+was_or_raised start w p (Publish pred expected t) s e = inl (by_test (found start w (Publish pred expected t) == expected) _ w s (put_in w.place t _ s (λ x. cc)) (λ x. x) e)
+was_or_raised start w p (Mark t expected) s e = inl (by_test (found start w (Mark t expected) == expected) _ w s (λ x. x) (λ x. x) e)
+was_or_raised start w p (Unlink pred expected t) s e = inl (by_test (found start w (Unlink pred expected t) == expected) _ w s (put_in w.place t (Own p) s (λ x. cc)) (λ x. x) e)
+was_or_raised start w p (ConfirmPresent op t expected) s e = inl (by_test (found start w (ConfirmPresent op t expected) == expected) _ w s (λ x. x) (λ x. x) e)
+was_or_raised start w p (ConfirmAbsent op key at expected) s e = inl (by_test (found start w (ConfirmAbsent op key at expected) == expected) _ w s (λ x. x) (λ x. x) e)
 
 -- what was outside stays outside while no flag is raised
-pub stays_outside : (shape : Dimensions) (moment rest : List Event) (s : ℕ) → NoneRaises rest → (world_after shape moment).place s ≢ Shared → (world_after shape (moment ++ rest)).place s ≢ Shared
-stays_outside shape moment [] s none out = let P : List Event → Type 0 = λ r. (world_after shape r).place s ≢ Shared in subst P (sym (append-nil moment)) out
-stays_outside shape moment (event ∷ rest) s none out =
-    let P : List Event → Type 0 = λ r. (world_after shape r).place s ≢ Shared in
-    let next : P (moment ++ event ∷ []) = (λ e. ⊎_elim out none.0 (was_or_raised shape (world_after shape moment) event.pass event.step s (sym (ap (λ (v : World). v.place s) (world_after-snoc shape moment event)) ∙ e))) in
-    subst P (append_assoc moment (event ∷ []) rest) (stays_outside shape (moment ++ event ∷ []) rest s none.1 next)
+pub stays_outside : (start : Start) (moment rest : List Event) (s : ℕ) → NoneRaises rest → (world_after start moment).place s ≢ Shared → (world_after start (moment ++ rest)).place s ≢ Shared
+stays_outside start moment [] s none out = let P : List Event → Type 0 = λ r. (world_after start r).place s ≢ Shared in subst P (sym (append-nil moment)) out
+stays_outside start moment (event ∷ rest) s none out =
+    let P : List Event → Type 0 = λ r. (world_after start r).place s ≢ Shared in
+    let next : P (moment ++ event ∷ []) = (λ e. ⊎_elim out none.0 (was_or_raised start (world_after start moment) event.pass event.step s (sym (ap (λ (v : World). v.place s) (world_after-snoc start moment event)) ∙ e))) in
+    subst P (append_assoc moment (event ∷ []) rest) (stays_outside start (moment ++ event ∷ []) rest s none.1 next)
 
 -- ---- counts
 
@@ -78,5 +78,5 @@ not_shared (Hand p) ne = refl
 not_shared (Listed b) ne = refl
 
 -- where each slot is outside the shared pool, none is in it
-pub none_shared : (shape : Dimensions) (run : List Event) → ((s : ℕ) → s < shape.slots → (world_after shape run).place s ≢ Shared) → number_at shape run InSharedPool ≡ 0
-none_shared shape run out = count_none _ shape.slots (λ s low. not_shared ((world_after shape run).place s) (out s low))
+pub none_shared : (start : Start) (run : List Event) → ((s : ℕ) → s < start.shape.slots → (world_after start run).place s ≢ Shared) → number_at start run InSharedPool ≡ 0
+none_shared start run out = count_none _ start.shape.slots (λ s low. not_shared ((world_after start run).place s) (out s low))

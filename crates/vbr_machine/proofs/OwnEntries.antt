@@ -5,7 +5,7 @@ use Rattle.std.specs.List.{AllByRecursion}
 use Rattle.std.proofs.lemmas.Bool.{ne_eqb}
 use Rattle.std.proofs.lemmas.List.Elements.{filter-append}
 use Rattle.vbr_words.specs.Flags.{has_flag}
-use Rattle.vbr_words.specs.Dimensions.{Dimensions}
+use Rattle.vbr_machine.specs.Start.{Start}
 use Rattle.vbr_machine.specs.Learning.{call_of}
 use Rattle.vbr_machine.specs.Machine.{World, opening, found, after}
 use Rattle.vbr_machine.specs.Runs.{world_from, world_after, NoneOf}
@@ -39,26 +39,26 @@ answered_by p None = tt
 answered_by p (Some call) = (refl, tt)
 
 -- what happens by a step is of its pass
-happens_by : (shape : Dimensions) (w : World) (a : Incarnations) (p : ℕ) (step : Step) → AreBy p (happens shape w a p step)
-happens_by shape w a p ReadEpoch = tt
-happens_by shape w a p (Advance from) = either_by p (found shape w (Advance from) == from) _ _ (refl, tt) tt
-happens_by shape w a p (LoadStamp s) = tt
-happens_by shape w a p (StoreStamp s stamp) = (refl, tt)
-happens_by shape w a p (Raise s) = (refl, tt)
-happens_by shape w a p (TakeFlag s) = either_by p (has_flag (found shape w (TakeFlag s)) s) _ _ (refl, tt) (refl, tt)
-happens_by shape w a p (StoreBirth s birth) = born_by a p s birth ((w.know p).own s)
-happens_by shape w a p (StoreKey s key) = (refl, tt)
-happens_by shape w a p (StoreValue s value) = (refl, tt)
-happens_by shape w a p (StoreLink s next) = (refl, tt)
-happens_by shape w a p (LoadLink at) = tt
-happens_by shape w a p (LoadBirth s) = tt
-happens_by shape w a p (LoadKey s) = tt
-happens_by shape w a p (LoadValue s) = tt
-happens_by shape w a p (Publish pred expected s) = either_by p (found shape w (Publish pred expected s) == expected) _ _ (refl, tt) tt
-happens_by shape w a p (Mark s expected) = either_by p (found shape w (Mark s expected) == expected) _ _ (refl, tt) tt
-happens_by shape w a p (Unlink pred expected s) = either_by p (found shape w (Unlink pred expected s) == expected) _ _ (refl, tt) tt
-happens_by shape w a p (ConfirmPresent op s expected) = either_by p (found shape w (ConfirmPresent op s expected) == expected) _ _ (answered_by p (call_of shape p (w.know p) (ConfirmPresent op s expected))) tt
-happens_by shape w a p (ConfirmAbsent op key at expected) = either_by p (found shape w (ConfirmAbsent op key at expected) == expected) _ _ (answered_by p (call_of shape p (w.know p) (ConfirmAbsent op key at expected))) tt
+happens_by : (start : Start) (w : World) (a : Incarnations) (p : ℕ) (step : Step) → AreBy p (happens start w a p step)
+happens_by start w a p ReadEpoch = tt
+happens_by start w a p (Advance from) = either_by p (found start w (Advance from) == from) _ _ (refl, tt) tt
+happens_by start w a p (LoadStamp s) = tt
+happens_by start w a p (StoreStamp s stamp) = (refl, tt)
+happens_by start w a p (Raise s) = (refl, tt)
+happens_by start w a p (TakeFlag s) = either_by p (has_flag (found start w (TakeFlag s)) s) _ _ (refl, tt) (refl, tt)
+happens_by start w a p (StoreBirth s birth) = born_by a p s birth ((w.know p).own s)
+happens_by start w a p (StoreKey s key) = (refl, tt)
+happens_by start w a p (StoreValue s value) = (refl, tt)
+happens_by start w a p (StoreLink s next) = (refl, tt)
+happens_by start w a p (LoadLink at) = tt
+happens_by start w a p (LoadBirth s) = tt
+happens_by start w a p (LoadKey s) = tt
+happens_by start w a p (LoadValue s) = tt
+happens_by start w a p (Publish pred expected s) = either_by p (found start w (Publish pred expected s) == expected) _ _ (refl, tt) tt
+happens_by start w a p (Mark s expected) = either_by p (found start w (Mark s expected) == expected) _ _ (refl, tt) tt
+happens_by start w a p (Unlink pred expected s) = either_by p (found start w (Unlink pred expected s) == expected) _ _ (refl, tt) tt
+happens_by start w a p (ConfirmPresent op s expected) = either_by p (found start w (ConfirmPresent op s expected) == expected) _ _ (answered_by p (call_of start p (w.know p) (ConfirmPresent op s expected))) tt
+happens_by start w a p (ConfirmAbsent op key at expected) = either_by p (found start w (ConfirmAbsent op key at expected) == expected) _ _ (answered_by p (call_of start p (w.know p) (ConfirmAbsent op key at expected))) tt
 
 all_own : (p : ℕ) (entries : List Entry) → AreBy p entries → entries_by p entries ≡ entries
 all_own p [] h = refl
@@ -73,36 +73,36 @@ none_own p who (entry ∷ entries) ne h = rw (ne_eqb entry.pass who (λ e. ne (s
 both : (who : ℕ) (xs ys : List Entry) → entries_by who (xs ++ ys) ≡ entries_by who xs ++ entries_by who ys
 both who xs ys = filter-append (λ (entry : Entry). entry.pass == who) xs ys
 
-pub chronicle_from-append : (shape : Dimensions) (w : World) (a : Incarnations) (xs ys : List Event) → chronicle_from shape w a (xs ++ ys) ≡ chronicle_from shape w a xs ++ chronicle_from shape (world_from shape w xs) (incarnations_from shape a (chronicle_from shape w a xs)) ys
-chronicle_from-append shape w a [] ys = refl
-chronicle_from-append shape w a (x ∷ xs) ys =
-    let v = after shape w x.pass x.step in
-    let b = incarnations_with shape w a x in
-    let here = happens shape w a x.pass x.step in
-    ap (λ l. here ++ l) (chronicle_from-append shape v b xs ys)
-    ∙ sym (append_assoc here (chronicle_from shape v b xs) _)
-    ∙ ap (λ i. (here ++ chronicle_from shape v b xs) ++ chronicle_from shape (world_from shape v xs) i ys) (sym (incarnations_from-append shape a here (chronicle_from shape v b xs)))
+pub chronicle_from-append : (start : Start) (w : World) (a : Incarnations) (xs ys : List Event) → chronicle_from start w a (xs ++ ys) ≡ chronicle_from start w a xs ++ chronicle_from start (world_from start w xs) (incarnations_from start a (chronicle_from start w a xs)) ys
+chronicle_from-append start w a [] ys = refl
+chronicle_from-append start w a (x ∷ xs) ys =
+    let v = after start w x.pass x.step in
+    let b = incarnations_with start w a x in
+    let here = happens start w a x.pass x.step in
+    ap (λ l. here ++ l) (chronicle_from-append start v b xs ys)
+    ∙ sym (append_assoc here (chronicle_from start v b xs) _)
+    ∙ ap (λ i. (here ++ chronicle_from start v b xs) ++ chronicle_from start (world_from start v xs) i ys) (sym (incarnations_from-append start a here (chronicle_from start v b xs)))
 
-others_add : (shape : Dimensions) (w : World) (a : Incarnations) (who : ℕ) (events : List Event) → NoneOf who events → entries_by who (chronicle_from shape w a events) ≡ []
-others_add shape w a who [] none = refl
-others_add shape w a who (x ∷ xs) none =
-    both who (happens shape w a x.pass x.step) (chronicle_from shape (after shape w x.pass x.step) (incarnations_with shape w a x) xs)
-    ∙ ap (λ l. l ++ entries_by who (chronicle_from shape (after shape w x.pass x.step) (incarnations_with shape w a x) xs)) (none_own x.pass who (happens shape w a x.pass x.step) none.0 (happens_by shape w a x.pass x.step))
-    ∙ others_add shape (after shape w x.pass x.step) (incarnations_with shape w a x) who xs none.1
+others_add : (start : Start) (w : World) (a : Incarnations) (who : ℕ) (events : List Event) → NoneOf who events → entries_by who (chronicle_from start w a events) ≡ []
+others_add start w a who [] none = refl
+others_add start w a who (x ∷ xs) none =
+    both who (happens start w a x.pass x.step) (chronicle_from start (after start w x.pass x.step) (incarnations_with start w a x) xs)
+    ∙ ap (λ l. l ++ entries_by who (chronicle_from start (after start w x.pass x.step) (incarnations_with start w a x) xs)) (none_own x.pass who (happens start w a x.pass x.step) none.0 (happens_by start w a x.pass x.step))
+    ∙ others_add start (after start w x.pass x.step) (incarnations_with start w a x) who xs none.1
 
 -- what others do adds no event of a pass
-pub others_leave_entries : (shape : Dimensions) (seen rest : List Event) (who : ℕ) → NoneOf who rest → own_entries shape (seen ++ rest) who ≡ own_entries shape seen who
-others_leave_entries shape seen rest who none =
-    ap (entries_by who) (chronicle_from-append shape (opening shape) (at_opening shape) seen rest)
-    ∙ both who (chronicle shape seen) _
-    ∙ ap (λ l. own_entries shape seen who ++ l) (others_add shape (world_after shape seen) (incarnations_after shape seen) who rest none)
-    ∙ append-nil (own_entries shape seen who)
+pub others_leave_entries : (start : Start) (seen rest : List Event) (who : ℕ) → NoneOf who rest → own_entries start (seen ++ rest) who ≡ own_entries start seen who
+others_leave_entries start seen rest who none =
+    ap (entries_by who) (chronicle_from-append start (opening start) (at_opening start) seen rest)
+    ∙ both who (chronicle start seen) _
+    ∙ ap (λ l. own_entries start seen who ++ l) (others_add start (world_after start seen) (incarnations_after start seen) who rest none)
+    ∙ append-nil (own_entries start seen who)
 
 -- and its own step adds what happens by it
-pub own_entries-snoc : (shape : Dimensions) (run : List Event) (event : Event) → own_entries shape (run ++ event ∷ []) event.pass ≡ own_entries shape run event.pass ++ happens shape (world_after shape run) (incarnations_after shape run) event.pass event.step
-own_entries-snoc shape run event =
-    let now = happens shape (world_after shape run) (incarnations_after shape run) event.pass event.step in
-    ap (entries_by event.pass) (chronicle_from-append shape (opening shape) (at_opening shape) run (event ∷ []))
-    ∙ both event.pass (chronicle shape run) _
-    ∙ ap (λ l. own_entries shape run event.pass ++ entries_by event.pass l) (append-nil now)
-    ∙ ap (λ l. own_entries shape run event.pass ++ l) (all_own event.pass now (happens_by shape (world_after shape run) (incarnations_after shape run) event.pass event.step))
+pub own_entries-snoc : (start : Start) (run : List Event) (event : Event) → own_entries start (run ++ event ∷ []) event.pass ≡ own_entries start run event.pass ++ happens start (world_after start run) (incarnations_after start run) event.pass event.step
+own_entries-snoc start run event =
+    let now = happens start (world_after start run) (incarnations_after start run) event.pass event.step in
+    ap (entries_by event.pass) (chronicle_from-append start (opening start) (at_opening start) run (event ∷ []))
+    ∙ both event.pass (chronicle start run) _
+    ∙ ap (λ l. own_entries start run event.pass ++ entries_by event.pass l) (append-nil now)
+    ∙ ap (λ l. own_entries start run event.pass ++ l) (all_own event.pass now (happens_by start (world_after start run) (incarnations_after start run) event.pass event.step))

@@ -2,7 +2,7 @@
 use Rattle.std.proofs.Common.{◌≡◌, ◌≢◌, ℕ, ◌≤◌, Option, Some, None, refl, arith, sym, ap, ◌∙◌, inl, inr}
 use Rattle.std.specs.Prelude.{◌⊎◌}
 use Rattle.std.proofs.lemmas.Bool.{cases_eq}
-use Rattle.vbr_words.specs.Dimensions.{Dimensions}
+use Rattle.vbr_machine.specs.Start.{Start}
 use Rattle.vbr_machine.specs.Put.{put}
 use Rattle.vbr_machine.specs.Knowledge.{Know}
 use Rattle.vbr_machine.specs.Incarnations.{Incarnations}
@@ -99,5 +99,5 @@ owns_changed a b know p s x e k was now kept here o =
     owns_moved a b know p s x e k (λ q ne. not_owned a q (know q).epoch ((know q).own s) (a.place s) (a.last s) (a.stamp s) (o q s) (was q ne)) now kept here (λ q v _. o q v)
 
 -- the last incarnations of two slots differ
-pub lasts_differ : {shape : Dimensions} {a : Incarnations} → SlotsSound shape a → (v s c d : ℕ) → v ≢ s → a.last s ≡ Some c → a.last v ≡ Some d → d ≢ c
-lasts_differ {shape} {a} snd v s c d ne e f q = ne (sym (snd.last_born v d f).1 ∙ ap a.slot q ∙ (snd.last_born s c e).1)
+pub lasts_differ : {start : Start} {a : Incarnations} → SlotsSound start a → (v s c d : ℕ) → v ≢ s → a.last s ≡ Some c → a.last v ≡ Some d → d ≢ c
+lasts_differ {start} {a} snd v s c d ne e f q = ne (sym (snd.last_born v d f).1 ∙ ap a.slot q ∙ (snd.last_born s c e).1)

@@ -1,7 +1,7 @@
 -- The steps on a slot that its pass owns, and the taking of a flag, but for stamps and births.
 use Rattle.std.proofs.Common.{◌≡◌, ◌≢◌, ℕ, ◌<◌, ◌≤◌, true, Option, Some, None, refl, arith, sym, ap, ◌∙◌}
 use Rattle.std.specs.Prelude.{unwrap_or}
-use Rattle.vbr_words.specs.Dimensions.{Dimensions}
+use Rattle.vbr_machine.specs.Start.{Start}
 use Rattle.vbr_words.specs.Words.{IsLink}
 use Rattle.vbr_machine.specs.Put.{put}
 use Rattle.vbr_machine.specs.Opened.{opening_keys}
@@ -41,16 +41,16 @@ free_facts a p s e (Some (Free known)) h o = (h.0, h.1)
 free_facts a p s e (Some (Unlinked seen)) h o = absurd o
 free_facts a p s e (Some (InHand known)) h o = absurd o
 
-pub step_raise : (shape : Dimensions) (w : World) (a : Incarnations) (notes : ℕ → Notes) (p s : ℕ) → Agrees shape w a notes → Accepts shape (w.know p) (Raise s) → StepAgrees shape w a notes p (Raise s)
-step_raise shape w a notes p s g ok =
-    let b = becomes shape a p (Raises s) in
-    let v = after shape w p (Raise s) in
+pub step_raise : (start : Start) (w : World) (a : Incarnations) (notes : ℕ → Notes) (p s : ℕ) → Agrees start w a notes → Accepts start (w.know p) (Raise s) → StepAgrees start w a notes p (Raise s)
+step_raise start w a notes p s g ok =
+    let b = becomes start a p (Raises s) in
+    let v = after start w p (Raise s) in
     let al : (a.place s ≡ Own p) × IsRetired a (a.last s) = free_facts a p s (w.know p).epoch ((w.know p).own s) (g.owns p s) ok.owned in (
       (al, tt),
-      agrees_next shape w v a notes (put notes p (notes p)) p (Raises s) g al
+      agrees_next start w v a notes (put notes p (notes p)) p (Raises s) g al
           (fits_kept a b refl refl refl refl g.fits)
           (image_kept v w a b g.image.epoch refl refl refl refl refl refl (puts_same w.place a.place s Shared g.image.place) refl refl refl refl refl refl refl refl refl refl g.image)
-          (knows_own b w.know notes p s None (knows_on g.sound (grows shape (opening_keys shape) a p (Raises s) g.sound al) w.know notes g.knows))
+          (knows_own b w.know notes p s None (knows_on g.sound (grows start (opening_keys start) a p (Raises s) g.sound al) w.know notes g.knows))
           (owns_changed a b w.know p s (with_own (w.know p) s None) refl (λ i ne. put_other (w.know p).own s None i ne)
           (own_not_of p (a.place s) al.0)
           (λ q ne. rw (put_here a.place s Shared) tt)
@@ -61,10 +61,10 @@ step_raise shape w a notes p s g ok =
     )
 
 -- a slot in the shared pool is retired
-shared_retired : {shape : Dimensions} {a : Incarnations} → SlotsSound shape a → (s : ℕ) → a.place s ≡ Shared → IsRetired a (a.last s)
-shared_retired {shape} {a} g s e = go (a.last s) refl
+shared_retired : {start : Start} {a : Incarnations} → SlotsSound start a → (s : ℕ) → a.place s ≡ Shared → IsRetired a (a.last s)
+shared_retired {start} {a} g s e = go (a.last s) refl
   where
-    stamped : (st : State) (k : ℕ) → PlaceFits shape Shared st k → IsStamped st
+    stamped : (st : State) (k : ℕ) → PlaceFits start Shared st k → IsStamped st
     stamped st k h = grind arith
 
     go : (l : Option ℕ) → a.last s ≡ l → IsRetired a l
@@ -76,18 +76,18 @@ retired_beside : (a : Incarnations) (s : ℕ) (place : SlotPlace) (l : Option �
 retired_beside a s place None h = h
 retired_beside a s place (Some c) h = h
 
-pub step_take_flag : (shape : Dimensions) (w : World) (a : Incarnations) (notes : ℕ → Notes) (p s : ℕ) → Agrees shape w a notes → s < shape.slots → StepAgrees shape w a notes p (TakeFlag s)
-step_take_flag shape w a notes p s g low = go (w.place s) refl
+pub step_take_flag : (start : Start) (w : World) (a : Incarnations) (notes : ℕ → Notes) (p s : ℕ) → Agrees start w a notes → s < start.shape.slots → StepAgrees start w a notes p (TakeFlag s)
+step_take_flag start w a notes p s g low = go (w.place s) refl
   where
-    won : (al : a.place s ≡ Shared) → Agrees shape (record w { know = put w.know p (with_own (w.know p) s (Some (Free (w.stamp s)))); place = put w.place s (Own p) }) (becomes shape a p (Gains s)) (put notes p (notes p))
+    won : (al : a.place s ≡ Shared) → Agrees start (record w { know = put w.know p (with_own (w.know p) s (Some (Free (w.stamp s)))); place = put w.place s (Own p) }) (becomes start a p (Gains s)) (put notes p (notes p))
     won al =
-        let b = becomes shape a p (Gains s) in
+        let b = becomes start a p (Gains s) in
         let x = with_own (w.know p) s (Some (Free (w.stamp s))) in
         let v = record w { know = put w.know p x; place = put w.place s (Own p) } in
-        agrees_next shape w v a notes (put notes p (notes p)) p (Gains s) g al
+        agrees_next start w v a notes (put notes p (notes p)) p (Gains s) g al
         (fits_kept a b refl refl refl refl g.fits)
         (image_kept v w a b g.image.epoch refl refl refl refl refl refl (puts_same w.place a.place s (Own p) g.image.place) refl refl refl refl refl refl refl refl refl refl g.image)
-        (knows_own b w.know notes p s (Some (Free (w.stamp s))) (knows_on g.sound (grows shape (opening_keys shape) a p (Gains s) g.sound al) w.know notes g.knows))
+        (knows_own b w.know notes p s (Some (Free (w.stamp s))) (knows_on g.sound (grows start (opening_keys start) a p (Gains s) g.sound al) w.know notes g.knows))
         (owns_changed a b w.know p s x refl (λ i ne. put_other (w.know p).own s (Some (Free (w.stamp s))) i ne)
         (λ q ne. rw al tt)
         (own_not_of p (put a.place s (Own p) s) (put_here a.place s (Own p)))
@@ -99,22 +99,22 @@ step_take_flag shape w a notes p s g low = go (w.place s) refl
     at : (place : SlotPlace) → w.place s ≡ place → a.place s ≡ place
     at place e = sym (g.image.place s) ∙ e
 
-    go : (place : SlotPlace) → w.place s ≡ place → StepAgrees shape w a notes p (TakeFlag s)
-    go Shared e = rw (flag_told shape w s Shared low e) ((at Shared e, tt), won (at Shared e))
-    go (Own q) e = rw (flag_told shape w s (Own q) low e) ((λ z. let y = at (Own q) e in cc, tt), agrees_still shape w a notes p g)
-    go (Hand q) e = rw (flag_told shape w s (Hand q) low e) ((λ z. let y = at (Hand q) e in cc, tt), agrees_still shape w a notes p g)
-    go (Listed q) e = rw (flag_told shape w s (Listed q) low e) ((λ z. let y = at (Listed q) e in cc, tt), agrees_still shape w a notes p g)
+    go : (place : SlotPlace) → w.place s ≡ place → StepAgrees start w a notes p (TakeFlag s)
+    go Shared e = rw (flag_told start w s Shared low e) ((at Shared e, tt), won (at Shared e))
+    go (Own q) e = rw (flag_told start w s (Own q) low e) ((λ z. let y = at (Own q) e in cc, tt), agrees_still start w a notes p g)
+    go (Hand q) e = rw (flag_told start w s (Hand q) low e) ((λ z. let y = at (Hand q) e in cc, tt), agrees_still start w a notes p g)
+    go (Listed q) e = rw (flag_told start w s (Listed q) low e) ((λ z. let y = at (Listed q) e in cc, tt), agrees_still start w a notes p g)
 
-pub step_store_key : (shape : Dimensions) (w : World) (a : Incarnations) (notes : ℕ → Notes) (p s key : ℕ) → Agrees shape w a notes → Accepts shape (w.know p) (StoreKey s key) → StepAgrees shape w a notes p (StoreKey s key)
-step_store_key shape w a notes p s key g ok =
+pub step_store_key : (start : Start) (w : World) (a : Incarnations) (notes : ℕ → Notes) (p s key : ℕ) → Agrees start w a notes → Accepts start (w.know p) (StoreKey s key) → StepAgrees start w a notes p (StoreKey s key)
+step_store_key start w a notes p s key g ok =
     let x = hand_facts a p s (w.know p).epoch ((w.know p).own s) (g.owns p s) ok.owned in
     let c = last_in a s in
-    let b = becomes shape a p (Keyed c key) in
-    let v = after shape w p (StoreKey s key) in
+    let b = becomes start a p (Keyed c key) in
+    let v = after start w p (StoreKey s key) in
     let own = with_key ((w.know p).own s) key in
     let i = g.image in (
       (x.state, tt),
-      agrees_next shape w v a notes (put notes p (notes p)) p (Keyed c key) g x.state
+      agrees_next start w v a notes (put notes p (notes p)) p (Keyed c key) g x.state
           (fits_kept a b refl refl refl refl g.fits)
           (record {
             epoch = i.epoch;
@@ -126,7 +126,7 @@ step_store_key shape w a notes p s key g ok =
             stamp = i.stamp;
             place = i.place;
           })
-          (knows_own b w.know notes p s own (knows_on g.sound (grows shape (opening_keys shape) a p (Keyed c key) g.sound x.state) w.know notes g.knows))
+          (knows_own b w.know notes p s own (knows_on g.sound (grows start (opening_keys start) a p (Keyed c key) g.sound x.state) w.know notes g.knows))
           (owns_changed a b w.know p s (with_own (w.know p) s own) refl (λ k ne. put_other (w.know p).own s own k ne)
           (hand_not_of p (a.place s) x.place)
           (hand_not_of p (a.place s) x.place)
@@ -136,16 +136,16 @@ step_store_key shape w a notes p s key g ok =
           g.calls g.births,
     )
 
-pub step_store_value : (shape : Dimensions) (w : World) (a : Incarnations) (notes : ℕ → Notes) (p s value : ℕ) → Agrees shape w a notes → Accepts shape (w.know p) (StoreValue s value) → StepAgrees shape w a notes p (StoreValue s value)
-step_store_value shape w a notes p s value g ok =
+pub step_store_value : (start : Start) (w : World) (a : Incarnations) (notes : ℕ → Notes) (p s value : ℕ) → Agrees start w a notes → Accepts start (w.know p) (StoreValue s value) → StepAgrees start w a notes p (StoreValue s value)
+step_store_value start w a notes p s value g ok =
     let x = hand_facts a p s (w.know p).epoch ((w.know p).own s) (g.owns p s) ok.owned in
     let c = last_in a s in
-    let b = becomes shape a p (Valued c value) in
-    let v = after shape w p (StoreValue s value) in
+    let b = becomes start a p (Valued c value) in
+    let v = after start w p (StoreValue s value) in
     let own = with_value ((w.know p).own s) value in
     let i = g.image in (
       ((x.state, ok.in_shape.1), tt),
-      agrees_next shape w v a notes (put notes p (notes p)) p (Valued c value) g (x.state, ok.in_shape.1)
+      agrees_next start w v a notes (put notes p (notes p)) p (Valued c value) g (x.state, ok.in_shape.1)
           (fits_kept a b refl refl refl refl g.fits)
           (record {
             epoch = i.epoch;
@@ -157,7 +157,7 @@ step_store_value shape w a notes p s value g ok =
             stamp = i.stamp;
             place = i.place;
           })
-          (knows_own b w.know notes p s own (knows_on g.sound (grows shape (opening_keys shape) a p (Valued c value) g.sound (x.state, ok.in_shape.1)) w.know notes g.knows))
+          (knows_own b w.know notes p s own (knows_on g.sound (grows start (opening_keys start) a p (Valued c value) g.sound (x.state, ok.in_shape.1)) w.know notes g.knows))
           (owns_changed a b w.know p s (with_own (w.know p) s own) refl (λ k ne. put_other (w.know p).own s own k ne)
           (hand_not_of p (a.place s) x.place)
           (hand_not_of p (a.place s) x.place)
@@ -168,28 +168,28 @@ step_store_value shape w a notes p s value g ok =
     )
 
 -- the link that a pass stores has room in a word
-aimed_fits : {shape : Dimensions} {a : Incarnations} → Fits shape a → (know : Know) (notes : Notes) (next : Option ℕ) (birth : ℕ) → FitsNotes a know notes → birth ≤ know.epoch → IsNextIn shape next → IsLink (link_to next birth (unwrap_or (birth_of know.checked next) 0))
-aimed_fits f know notes None birth k le h = record { slot = tt; version = let u = f.epoch in let v = f.is_shape.last_epoch in let w = k.epoch in omega arith }
-aimed_fits {shape} {a} f know notes (Some s) birth k le h = record {
-  slot = let v = f.is_shape.slots in omega arith;
-  version = let u = f.epoch in let v = f.is_shape.last_epoch in let w = k.epoch in let x = birth_low a know.epoch notes.checked know.checked s k.checked_reads k.checked in omega arith;
+aimed_fits : {start : Start} {a : Incarnations} → Fits start a → (know : Know) (notes : Notes) (next : Option ℕ) (birth : ℕ) → FitsNotes a know notes → birth ≤ know.epoch → IsNextIn start next → IsLink (link_to next birth (unwrap_or (birth_of know.checked next) 0))
+aimed_fits f know notes None birth k le h = record { slot = tt; version = let u = f.epoch in let v = f.is_start.shape.last_epoch in let w = k.epoch in omega arith }
+aimed_fits {start} {a} f know notes (Some s) birth k le h = record {
+  slot = let v = f.is_start.shape.slots in omega arith;
+  version = let u = f.epoch in let v = f.is_start.shape.last_epoch in let w = k.epoch in let x = birth_low a know.epoch notes.checked know.checked s k.checked_reads k.checked in omega arith;
 }
 
-pub step_store_link : (shape : Dimensions) (w : World) (a : Incarnations) (notes : ℕ → Notes) (p s : ℕ) (next : Option ℕ) → Agrees shape w a notes → Accepts shape (w.know p) (StoreLink s next) → StepAgrees shape w a notes p (StoreLink s next)
-step_store_link shape w a notes p s next g ok =
+pub step_store_link : (start : Start) (w : World) (a : Incarnations) (notes : ℕ → Notes) (p s : ℕ) (next : Option ℕ) → Agrees start w a notes → Accepts start (w.know p) (StoreLink s next) → StepAgrees start w a notes p (StoreLink s next)
+step_store_link start w a notes p s next g ok =
     let x = hand_facts a p s (w.know p).epoch ((w.know p).own s) (g.owns p s) ok.owned in
     let c = last_in a s in
     let link = link_written (w.know p) (StoreLink s next) in
-    let b = becomes shape a p (Aims c link) in
-    let v = after shape w p (StoreLink s next) in
+    let b = becomes start a p (Aims c link) in
+    let v = after start w p (StoreLink s next) in
     let own = with_link ((w.know p).own s) link in
     let i = g.image in
     let birth : birth_in_hand ((w.know p).own s) ≡ a.birth c = ap birth_in_hand x.holding_is ∙ sym x.birth_is in
-    let al : Allowed shape (opening_keys shape) a p (Aims c link) = (x.state, refl, (let z = birth in omega arith)) in (
+    let al : Allowed start (opening_keys start) a p (Aims c link) = (x.state, refl, (let z = birth in omega arith)) in (
       (al, tt),
-      agrees_next shape w v a notes (put notes p (notes p)) p (Aims c link) g al
+      agrees_next start w v a notes (put notes p (notes p)) p (Aims c link) g al
           (record {
-            is_shape = g.fits.is_shape;
+            is_start = g.fits.is_start;
             epoch = g.fits.epoch;
             slot = g.fits.slot;
             link = at_put (λ d y. IsLink y) a.link c link (aimed_fits g.fits (w.know p) (notes p) next (birth_in_hand ((w.know p).own s)) (g.knows p) (let z = birth in let y = x.born in omega arith) ok.in_shape.1) (λ d ne. g.fits.link d);
@@ -204,7 +204,7 @@ step_store_link shape w a notes p s next g ok =
             stamp = i.stamp;
             place = i.place;
           })
-          (knows_own b w.know notes p s own (knows_on g.sound (grows shape (opening_keys shape) a p (Aims c link) g.sound al) w.know notes g.knows))
+          (knows_own b w.know notes p s own (knows_on g.sound (grows start (opening_keys start) a p (Aims c link) g.sound al) w.know notes g.knows))
           (owns_changed a b w.know p s (with_own (w.know p) s own) refl (λ k ne. put_other (w.know p).own s own k ne)
           (hand_not_of p (a.place s) x.place)
           (hand_not_of p (a.place s) x.place)

@@ -1,6 +1,6 @@
 -- The step that inserts a node.
 use Rattle.std.proofs.Common.{◌≡◌, ◌≢◌, ℕ, ◌≤◌, max, false, Option, Some, None, refl, arith, sym, ap, ◌∙◌}
-use Rattle.vbr_words.specs.Dimensions.{Dimensions}
+use Rattle.vbr_machine.specs.Start.{Start}
 use Rattle.vbr_words.specs.Words.{link_of}
 use Rattle.vbr_words.specs.declared.place.At.{At}
 use Rattle.vbr_words.specs.declared.place.At.TheVariants.{Head, Slot}
@@ -38,9 +38,9 @@ next_low a e None (Some n) h = absurd h
 next_low a e (Some v) None h = absurd h
 next_low a e (Some v) (Some n) h = h.birth
 
-module _ (shape : Dimensions) (w : World) (a : Incarnations) (notes : ℕ → Notes) (p : ℕ) (pred : At) (expected s : ℕ) (g : Agrees shape w a notes) (ok : Accepts shape (w.know p) (Publish pred expected s)) (m : LinkStands shape a (w.know p).epoch (w.know p).checked pred (link_of expected)) where
-  pub ready : ReadyFacts shape a p s (w.know p).epoch (w.know p).checked pred (link_of expected) ((w.know p).own s)
-  ready = ready_facts shape a p s (w.know p).epoch (w.know p).checked pred (link_of expected) ((w.know p).own s) (g.owns p s) ok.in_range.1
+module _ (start : Start) (w : World) (a : Incarnations) (notes : ℕ → Notes) (p : ℕ) (pred : At) (expected s : ℕ) (g : Agrees start w a notes) (ok : Accepts start (w.know p) (Publish pred expected s)) (m : LinkStands start a (w.know p).epoch (w.know p).checked pred (link_of expected)) where
+  pub ready : ReadyFacts start a p s (w.know p).epoch (w.know p).checked pred (link_of expected) ((w.know p).own s)
+  ready = ready_facts start a p s (w.know p).epoch (w.know p).checked pred (link_of expected) ((w.know p).own s) (g.owns p s) ok.in_range.1
 
   -- the link in hand is the one that the incarnation must have
   pub own_link : a.link (last_in a s) ≡ link_to_next a (a.birth (last_in a s)) (next_of a (before_at a pred))
@@ -50,7 +50,7 @@ module _ (shape : Dimensions) (w : World) (a : Incarnations) (notes : ℕ → No
       ready.link_ready ∙ (λ i. record { slot = sl i; mark = false; version = max (a.birth (last_in a s)) (nb i) })
 
   -- what the step adds to the chronicle is allowed
-  pub may_insert : MayInsert shape a p (last_in a s) (before_at a pred)
+  pub may_insert : MayInsert start a p (last_in a s) (before_at a pred)
   may_insert = record {
     in_hand = ready.state;
     keyed = ready.keyed;
@@ -66,18 +66,18 @@ module _ (shape : Dimensions) (w : World) (a : Incarnations) (notes : ℕ → No
   slot_is = (g.sound.slots.last_born s (last_in a s) ready.last).1
 
   -- the link that the step writes is that of the image after it
-  pub new_link : link_shown_at (becomes shape a p (Inserts (last_in a s) (before_at a pred))) pred ≡ link_written (w.know p) (Publish pred expected s)
+  pub new_link : link_shown_at (becomes start a p (Inserts (last_in a s) (before_at a pred))) pred ≡ link_written (w.know p) (Publish pred expected s)
   new_link =
       let pb = m.birth ok.held.1.0 in
       let ob = ready.birth_is in
       inserted_here p (last_in a s) pred m.last may_insert ∙ (λ i. record { slot = Some (slot_is i); mark = false; version = max (sym pb i) (sym ob i) })
 
   -- and elsewhere no link changes
-  pub old_links : (at : At) → at ≢ pred → link_shown_at (becomes shape a p (Inserts (last_in a s) (before_at a pred))) at ≡ link_shown_at a at
+  pub old_links : (at : At) → at ≢ pred → link_shown_at (becomes start a p (Inserts (last_in a s) (before_at a pred))) at ≡ link_shown_at a at
   old_links = inserted_there g.sound p (last_in a s) pred m.last may_insert
 
-  pub gr : Grows a (becomes shape a p (Inserts (last_in a s) (before_at a pred)))
-  gr = grows shape (opening_keys shape) a p (Inserts (last_in a s) (before_at a pred)) g.sound may_insert
+  pub gr : Grows a (becomes start a p (Inserts (last_in a s) (before_at a pred)))
+  gr = grows start (opening_keys start) a p (Inserts (last_in a s) (before_at a pred)) g.sound may_insert
 
-  pub held_new : IsHeldIncarnation (becomes shape a p (Inserts (last_in a s) (before_at a pred))) (w.know p).epoch s (last_in a s)
+  pub held_new : IsHeldIncarnation (becomes start a p (Inserts (last_in a s) (before_at a pred))) (w.know p).epoch s (last_in a s)
   held_new = record { slot = slot_is; birth = ready.born; late = rw (put_here a.state (last_in a s) Linked) tt }

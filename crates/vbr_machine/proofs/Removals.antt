@@ -6,7 +6,7 @@ use Rattle.std.proofs.lemmas.Bool.{cases_eq, ne_eqb}
 use Rattle.std.proofs.lemmas.Bool.Decides.{nat_tests}
 use Rattle.std.proofs.lemmas.List.{append_cancel_left}
 use Rattle.std.proofs.lemmas.List.Elements.{Contains-append_left, Contains-append_right, Contains-push, filter-append}
-use Rattle.vbr_words.specs.Dimensions.{Dimensions, IsShape}
+use Rattle.vbr_machine.specs.Start.{Start, IsStart}
 use Rattle.vbr_machine.specs.Keys.{Keys}
 use Rattle.vbr_machine.specs.Opened.{opening_keys}
 use Rattle.vbr_machine.specs.History.{calls_by}
@@ -32,26 +32,26 @@ use Rattle.vbr_machine.proofs.RunsGoOn.{begins_run, begins_trans, calls_by-appen
 -- ---- out for good
 
 -- what has left its list stays out
-left_stays : (shape : Dimensions) (keys : Keys) (a : Incarnations) (pass : ℕ) (what : Happening) → Sound shape a → Allowed shape keys a pass what → (c : ℕ) → HasLeft (a.state c) → HasLeft ((becomes shape a pass what).state c)
-left_stays shape keys a pass Advances s h c l = l
-left_stays shape keys a pass (Gains v) s h c l = l
-left_stays shape keys a pass (Probes v) s h c l = l
-left_stays shape keys a pass (Raises v) s h c l = l
-left_stays shape keys a pass (Confirms call) s h c l = l
-left_stays shape keys a pass (Aims d link) s h c l = l
-left_stays shape keys a pass (Keyed d key) s h c l = l
-left_stays shape keys a pass (Valued d value) s h c l = l
-left_stays shape keys a pass (GivesUp d) s h c l = grind (arith, nat_tests)
-left_stays shape keys a pass (Bears v birth) s h c l = let z = s.slots.unborn a.count (omega arith) in grind (arith, nat_tests)
-left_stays shape keys a pass (Inserts d behind) s h c l = let z = h.in_hand in grind (arith, nat_tests)
-left_stays shape keys a pass (Removes d) s h c l = grind (arith, nat_tests)
-left_stays shape keys a pass (Unlinks d behind) s h c l = grind (arith, nat_tests)
-left_stays shape keys a pass (Stamps d stamp) s h c l = grind (arith, nat_tests)
+left_stays : (start : Start) (keys : Keys) (a : Incarnations) (pass : ℕ) (what : Happening) → Sound start a → Allowed start keys a pass what → (c : ℕ) → HasLeft (a.state c) → HasLeft ((becomes start a pass what).state c)
+left_stays start keys a pass Advances s h c l = l
+left_stays start keys a pass (Gains v) s h c l = l
+left_stays start keys a pass (Probes v) s h c l = l
+left_stays start keys a pass (Raises v) s h c l = l
+left_stays start keys a pass (Confirms call) s h c l = l
+left_stays start keys a pass (Aims d link) s h c l = l
+left_stays start keys a pass (Keyed d key) s h c l = l
+left_stays start keys a pass (Valued d value) s h c l = l
+left_stays start keys a pass (GivesUp d) s h c l = grind (arith, nat_tests)
+left_stays start keys a pass (Bears v birth) s h c l = let z = s.slots.unborn a.count (omega arith) in grind (arith, nat_tests)
+left_stays start keys a pass (Inserts d behind) s h c l = let z = h.in_hand in grind (arith, nat_tests)
+left_stays start keys a pass (Removes d) s h c l = grind (arith, nat_tests)
+left_stays start keys a pass (Unlinks d behind) s h c l = grind (arith, nat_tests)
+left_stays start keys a pass (Stamps d stamp) s h c l = grind (arith, nat_tests)
 
-left_after : (shape : Dimensions) (keys : Keys) (a : Incarnations) (entries : List Entry) → Sound shape a → IsLawful shape keys a entries → (c : ℕ) → HasLeft (a.state c) → HasLeft ((incarnations_from shape a entries).state c)
-left_after shape keys a [] s l c h = h
-left_after shape keys a (entry ∷ entries) s l c h =
-    left_after shape keys (becomes shape a entry.pass entry.what) entries (sound_kept shape keys a entry.pass entry.what s l.0) l.1 c (left_stays shape keys a entry.pass entry.what s l.0 c h)
+left_after : (start : Start) (keys : Keys) (a : Incarnations) (entries : List Entry) → Sound start a → IsLawful start keys a entries → (c : ℕ) → HasLeft (a.state c) → HasLeft ((incarnations_from start a entries).state c)
+left_after start keys a [] s l c h = h
+left_after start keys a (entry ∷ entries) s l c h =
+    left_after start keys (becomes start a entry.pass entry.what) entries (sound_kept start keys a entry.pass entry.what s l.0) l.1 c (left_stays start keys a entry.pass entry.what s l.0 c h)
 
 -- what was removed and isn't marked has left its list
 removed_left : (st : State) → IsRemoved st → st ≢ Marked → HasLeft st
@@ -80,21 +80,21 @@ no_shorter : (xs : List Call) (call : Call) → xs ≡ xs ++ call ∷ [] → ⊥
 no_shorter xs call e = let n : length xs ≡ length xs + 1 = ap length e ∙ length-append xs (call ∷ []) in omega (arith, n)
 
 -- the calls of a chronicle go on from those before
-calls_go_on : (shape : Dimensions) (a : Incarnations) (entries : List Entry) → (more : List Call) × ((incarnations_from shape a entries).calls ≡ a.calls ++ more)
-calls_go_on shape a [] = ([], sym (append-nil a.calls))
-calls_go_on shape a (entry ∷ entries) =
-    let b = becomes shape a entry.pass entry.what in
-    let rest = calls_go_on shape b entries in
+calls_go_on : (start : Start) (a : Incarnations) (entries : List Entry) → (more : List Call) × ((incarnations_from start a entries).calls ≡ a.calls ++ more)
+calls_go_on start a [] = ([], sym (append-nil a.calls))
+calls_go_on start a (entry ∷ entries) =
+    let b = becomes start a entry.pass entry.what in
+    let rest = calls_go_on start b entries in
     let one = calls_by_one entry.what in
     (one.0 ++ rest.0, rest.1 ∙ ap (λ l. l ++ rest.0) one.1 ∙ append_assoc a.calls one.0 rest.0)
   where
-    none : (what : Happening) → (becomes shape a entry.pass what).calls ≡ a.calls → (more : List Call) × ((becomes shape a entry.pass what).calls ≡ a.calls ++ more)
+    none : (what : Happening) → (becomes start a entry.pass what).calls ≡ a.calls → (more : List Call) × ((becomes start a entry.pass what).calls ≡ a.calls ++ more)
     none what e = ([], e ∙ sym (append-nil a.calls))
 
-    calls_by_one : (what : Happening) → (more : List Call) × ((becomes shape a entry.pass what).calls ≡ a.calls ++ more)
-    calls_by_one (Inserts c behind) = (calls_made shape a entry.pass (Inserts c behind), refl)
-    calls_by_one (Removes c) = (calls_made shape a entry.pass (Removes c), refl)
-    calls_by_one (Confirms call) = (calls_made shape a entry.pass (Confirms call), refl)
+    calls_by_one : (what : Happening) → (more : List Call) × ((becomes start a entry.pass what).calls ≡ a.calls ++ more)
+    calls_by_one (Inserts c behind) = (calls_made start a entry.pass (Inserts c behind), refl)
+    calls_by_one (Removes c) = (calls_made start a entry.pass (Removes c), refl)
+    calls_by_one (Confirms call) = (calls_made start a entry.pass (Confirms call), refl)
     calls_by_one Advances = none Advances refl
     calls_by_one (Gains v) = none (Gains v) refl
     calls_by_one (Probes v) = none (Probes v) refl
@@ -127,7 +127,7 @@ first_added who before after all more x call one rest mine e =
 other_added : (who : ℕ) (before : List Call) (x : Call) → x.who ≢ who → calls_by who (before ++ x ∷ []) ≡ calls_by who before
 other_added who before x ne = calls_by-append who before (x ∷ []) ∙ ap (λ l. calls_by who before ++ l) (none_of who x ne) ∙ append-nil (calls_by who before)
 
-module _ (shape : Dimensions) (keys : Keys) (who : ℕ) (call : Call) (remove : call.op ≡ Remove) (yes : call.reply ≡ true) where
+module _ (start : Start) (keys : Keys) (who : ℕ) (call : Call) (remove : call.op ≡ Remove) (yes : call.reply ≡ true) where
   -- of a first event and of others
   later : (b : Incarnations) (entry : Entry) (entries : List Entry) (key : ℕ) → IsMarkedBy b entries who key → IsMarkedBy b (entry ∷ entries) who key
   later b entry entries key x = record {
@@ -138,8 +138,8 @@ module _ (shape : Dimensions) (keys : Keys) (who : ℕ) (call : Call) (remove : 
   }
 
   -- the first of these events marks it, or no call of the pass came of it
-  marks_or_later : (a : Incarnations) (pass : ℕ) (what : Happening) (entries : List Entry) → Sound shape a → Allowed shape keys a pass what → Grows (becomes shape a pass what) (incarnations_from shape (becomes shape a pass what) entries) → calls_by who (incarnations_from shape (becomes shape a pass what) entries).calls ≡ calls_by who a.calls ++ call ∷ [] →
-      (calls_by who (becomes shape a pass what).calls ≡ calls_by who a.calls → IsMarkedBy (incarnations_from shape (becomes shape a pass what) entries) (record { pass = pass; what = what } ∷ entries) who call.key) → IsMarkedBy (incarnations_from shape (becomes shape a pass what) entries) (record { pass = pass; what = what } ∷ entries) who call.key
+  marks_or_later : (a : Incarnations) (pass : ℕ) (what : Happening) (entries : List Entry) → Sound start a → Allowed start keys a pass what → Grows (becomes start a pass what) (incarnations_from start (becomes start a pass what) entries) → calls_by who (incarnations_from start (becomes start a pass what) entries).calls ≡ calls_by who a.calls ++ call ∷ [] →
+      (calls_by who (becomes start a pass what).calls ≡ calls_by who a.calls → IsMarkedBy (incarnations_from start (becomes start a pass what) entries) (record { pass = pass; what = what } ∷ entries) who call.key) → IsMarkedBy (incarnations_from start (becomes start a pass what) entries) (record { pass = pass; what = what } ∷ entries) who call.key
   marks_or_later a pass Advances entries s h g e rec = rec refl
   marks_or_later a pass (Gains v) entries s h g e rec = rec refl
   marks_or_later a pass (Probes v) entries s h g e rec = rec refl
@@ -154,7 +154,7 @@ module _ (shape : Dimensions) (keys : Keys) (who : ℕ) (call : Call) (remove : 
   marks_or_later a pass (Confirms x) entries s h g e rec = go (cases_eq x.who who)
     where
       b : Incarnations
-      b = becomes shape a pass (Confirms x)
+      b = becomes start a pass (Confirms x)
 
       changes : (op : Op) (reply : Bool) → op ≡ Remove → reply ≡ true → ChangesNothing op reply → ⊥
       changes Insert reply o r n = cc
@@ -162,35 +162,35 @@ module _ (shape : Dimensions) (keys : Keys) (who : ℕ) (call : Call) (remove : 
       changes Has reply o r n = cc
       changes Get reply o r n = cc
 
-      go : (x.who ≡ who) ⊎ (x.who ≢ who) → IsMarkedBy (incarnations_from shape b entries) (record { pass = pass; what = Confirms x } ∷ entries) who call.key
+      go : (x.who ≡ who) ⊎ (x.who ≢ who) → IsMarkedBy (incarnations_from start b entries) (record { pass = pass; what = Confirms x } ∷ entries) who call.key
       go (inl mine) =
-          let more = calls_go_on shape b entries in
-          let same : x ≡ call = first_added who a.calls b.calls (incarnations_from shape b entries).calls more.0 x call refl more.1 mine e in
+          let more = calls_go_on start b entries in
+          let same : x ≡ call = first_added who a.calls b.calls (incarnations_from start b entries).calls more.0 x call refl more.1 mine e in
           absurd (changes x.op x.reply (ap (λ (c : Call). c.op) same ∙ remove) (ap (λ (c : Call). c.reply) same ∙ yes) h.1)
       go (inr ne) = rec (other_added who a.calls x ne)
-  marks_or_later a pass (Inserts c behind) entries s h g e rec = go (cases_eq pass who) (calls_made shape a pass (Inserts c behind)) refl
+  marks_or_later a pass (Inserts c behind) entries s h g e rec = go (cases_eq pass who) (calls_made start a pass (Inserts c behind)) refl
     where
       b : Incarnations
-      b = becomes shape a pass (Inserts c behind)
+      b = becomes start a pass (Inserts c behind)
 
-      go : (pass ≡ who) ⊎ (pass ≢ who) → (made : List Call) → made ≡ calls_made shape a pass (Inserts c behind) → IsMarkedBy (incarnations_from shape b entries) (record { pass = pass; what = Inserts c behind } ∷ entries) who call.key
+      go : (pass ≡ who) ⊎ (pass ≢ who) → (made : List Call) → made ≡ calls_made start a pass (Inserts c behind) → IsMarkedBy (incarnations_from start b entries) (record { pass = pass; what = Inserts c behind } ∷ entries) who call.key
       go (inl mine) [] is = absurd (cc)
       go (inl mine) (x ∷ xs) is =
-          let more = calls_go_on shape b entries in
+          let more = calls_go_on start b entries in
           let none : xs ≡ [] = cc in
           let kind : x.op ≡ Insert = cc in
           let by : x.who ≡ pass = cc in
-          let same : x ≡ call = first_added who a.calls b.calls (incarnations_from shape b entries).calls more.0 x call (ap (λ l. a.calls ++ l) (sym is ∙ ap (λ l. x ∷ l) none)) more.1 (by ∙ mine) e in
+          let same : x ≡ call = first_added who a.calls b.calls (incarnations_from start b entries).calls more.0 x call (ap (λ l. a.calls ++ l) (sym is ∙ ap (λ l. x ∷ l) none)) more.1 (by ∙ mine) e in
           absurd (let w : Insert ≡ Remove = sym kind ∙ ap (λ (c : Call). c.op) same ∙ remove in cc)
       go (inr ne) [] is = absurd (cc)
       go (inr ne) (x ∷ xs) is =
           let none : xs ≡ [] = cc in
           let by : x.who ≡ pass = cc in
           rec (ap (λ l. calls_by who (a.calls ++ l)) (sym is ∙ ap (λ l. x ∷ l) none) ∙ other_added who a.calls x (λ w. ne (sym by ∙ w)))
-  marks_or_later a pass (Removes c) entries s h g e rec = go (cases_eq pass who) (calls_made shape a pass (Removes c)) refl
+  marks_or_later a pass (Removes c) entries s h g e rec = go (cases_eq pass who) (calls_made start a pass (Removes c)) refl
     where
       b : Incarnations
-      b = becomes shape a pass (Removes c)
+      b = becomes start a pass (Removes c)
 
       marked : IsRemoved (b.state c)
       marked = grind (arith, nat_tests)
@@ -198,14 +198,14 @@ module _ (shape : Dimensions) (keys : Keys) (who : ℕ) (call : Call) (remove : 
       inserted : IsInserted (b.state c)
       inserted = grind (arith, nat_tests)
 
-      go : (pass ≡ who) ⊎ (pass ≢ who) → (made : List Call) → made ≡ calls_made shape a pass (Removes c) → IsMarkedBy (incarnations_from shape b entries) (record { pass = pass; what = Removes c } ∷ entries) who call.key
+      go : (pass ≡ who) ⊎ (pass ≢ who) → (made : List Call) → made ≡ calls_made start a pass (Removes c) → IsMarkedBy (incarnations_from start b entries) (record { pass = pass; what = Removes c } ∷ entries) who call.key
       go (inl mine) [] is = absurd (cc)
       go (inl mine) (x ∷ xs) is =
-          let more = calls_go_on shape b entries in
+          let more = calls_go_on start b entries in
           let none : xs ≡ [] = cc in
           let key : x.key ≡ a.key c = cc in
           let by : x.who ≡ pass = cc in
-          let same : x ≡ call = first_added who a.calls b.calls (incarnations_from shape b entries).calls more.0 x call (ap (λ l. a.calls ++ l) (sym is ∙ ap (λ l. x ∷ l) none)) more.1 (by ∙ mine) e in
+          let same : x ≡ call = first_added who a.calls b.calls (incarnations_from start b entries).calls more.0 x call (ap (λ l. a.calls ++ l) (sym is ∙ ap (λ l. x ∷ l) none)) more.1 (by ∙ mine) e in
           let first : Entry = record { pass = pass; what = Removes c } in
           let told : Entry = record { pass = who; what = Removes c } in
           let one : entries_by who (first ∷ []) ≡ told ∷ [] = rw (eq-eqb pass who mine) (ap (λ p. record { pass = p; what = Removes c } ∷ []) mine) in
@@ -221,62 +221,62 @@ module _ (shape : Dimensions) (keys : Keys) (who : ℕ) (call : Call) (remove : 
           let by : x.who ≡ pass = cc in
           rec (ap (λ l. calls_by who (a.calls ++ l)) (sym is ∙ ap (λ l. x ∷ l) none) ∙ other_added who a.calls x (λ w. ne (sym by ∙ w)))
 
-  mark_among : (a : Incarnations) (entries : List Entry) → Sound shape a → IsLawful shape keys a entries → calls_by who (incarnations_from shape a entries).calls ≡ calls_by who a.calls ++ call ∷ [] → IsMarkedBy (incarnations_from shape a entries) entries who call.key
+  mark_among : (a : Incarnations) (entries : List Entry) → Sound start a → IsLawful start keys a entries → calls_by who (incarnations_from start a entries).calls ≡ calls_by who a.calls ++ call ∷ [] → IsMarkedBy (incarnations_from start a entries) entries who call.key
   mark_among a [] s l e = absurd (no_shorter (calls_by who a.calls) call e)
   mark_among a (entry ∷ entries) s l e =
-      let b = becomes shape a entry.pass entry.what in
-      let sound = sound_kept shape keys a entry.pass entry.what s l.0 in
-      marks_or_later a entry.pass entry.what entries s l.0 (grows_after shape keys b entries sound l.1) e
-      (λ same. later (incarnations_from shape b entries) entry entries call.key (mark_among b entries sound l.1 (e ∙ ap (λ m. m ++ call ∷ []) (sym same))))
+      let b = becomes start a entry.pass entry.what in
+      let sound = sound_kept start keys a entry.pass entry.what s l.0 in
+      marks_or_later a entry.pass entry.what entries s l.0 (grows_after start keys b entries sound l.1) e
+      (λ same. later (incarnations_from start b entries) entry entries call.key (mark_among b entries sound l.1 (e ∙ ap (λ m. m ++ call ∷ []) (sym same))))
 
 -- ---- along a run
 
-module _ (shape : Dimensions) (passes : ℕ) (is : IsShape shape) where
+module _ (start : Start) (passes : ℕ) (is : IsStart start) where
   -- the events that come after a beginning, and what they make
   since : List Event → List Event → List Entry
-  since before rest = chronicle_from shape (world_after shape before) (incarnations_after shape before) rest
+  since before rest = chronicle_from start (world_after start before) (incarnations_after start before) rest
 
-  made_since : (before rest : List Event) → incarnations_after shape (before ++ rest) ≡ incarnations_from shape (incarnations_after shape before) (since before rest)
+  made_since : (before rest : List Event) → incarnations_after start (before ++ rest) ≡ incarnations_from start (incarnations_after start before) (since before rest)
   unfolding since
-  made_since before rest = incarnations-append shape (opening shape) (at_opening shape) before rest
+  made_since before rest = incarnations-append start (opening start) (at_opening start) before rest
 
-  lawful_since : (before rest : List Event) → IsRun shape passes (before ++ rest) → Agrees shape (world_after shape before) (incarnations_after shape before) (notes_after shape before) → IsLawful shape (opening_keys shape) (incarnations_after shape before) (since before rest)
+  lawful_since : (before rest : List Event) → IsRun start passes (before ++ rest) → Agrees start (world_after start before) (incarnations_after start before) (notes_after start before) → IsLawful start (opening_keys start) (incarnations_after start before) (since before rest)
   unfolding since
-  lawful_since before rest ok g = (runs_agree shape passes (world_after shape before) (incarnations_after shape before) (notes_after shape before) rest g (is_run_after shape passes before rest ok)).0
+  lawful_since before rest ok g = (runs_agree start passes (world_after start before) (incarnations_after start before) (notes_after start before) rest g (is_run_after start passes before rest ok)).0
 
-  own_since : (before rest : List Event) (pass : ℕ) → own_entries shape (before ++ rest) pass ≡ own_entries shape before pass ++ entries_by pass (since before rest)
+  own_since : (before rest : List Event) (pass : ℕ) → own_entries start (before ++ rest) pass ≡ own_entries start before pass ++ entries_by pass (since before rest)
   unfolding since
   own_since before rest pass =
-      ap (entries_by pass) (chronicle_from-append shape (opening shape) (at_opening shape) before rest)
-      ∙ filter-append (λ (e : Entry). e.pass == pass) (chronicle shape before) (chronicle_from shape (world_after shape before) (incarnations_after shape before) rest)
+      ap (entries_by pass) (chronicle_from-append start (opening start) (at_opening start) before rest)
+      ∙ filter-append (λ (e : Entry). e.pass == pass) (chronicle start before) (chronicle_from start (world_after start before) (incarnations_after start before) rest)
 
-  agrees : (run : List Event) → IsRun shape passes run → Agrees shape (world_after shape run) (incarnations_after shape run) (notes_after shape run)
-  agrees run ok = run_agrees shape passes run is ok
+  agrees : (run : List Event) → IsRun start passes run → Agrees start (world_after start run) (incarnations_after start run) (notes_after start run)
+  agrees run ok = run_agrees start passes run is ok
 
   -- what has left its list by a moment has left it at the end
-  left_in_runs : (moment rest : List Event) (node : ℕ) → IsRun shape passes (moment ++ rest) → HasLeft ((incarnations_after shape moment).state node) → HasLeft ((incarnations_after shape (moment ++ rest)).state node)
+  left_in_runs : (moment rest : List Event) (node : ℕ) → IsRun start passes (moment ++ rest) → HasLeft ((incarnations_after start moment).state node) → HasLeft ((incarnations_after start (moment ++ rest)).state node)
   left_in_runs moment rest node ok left =
-      let g = agrees moment (is_run_before shape passes moment rest ok) in
-      rw (made_since moment rest) (left_after shape (opening_keys shape) (incarnations_after shape moment) (since moment rest) g.sound (lawful_since moment rest ok g) node left)
+      let g = agrees moment (is_run_before start passes moment rest ok) in
+      rw (made_since moment rest) (left_after start (opening_keys start) (incarnations_after start moment) (since moment rest) g.sound (lawful_since moment rest ok g) node left)
 
   -- a remove that was answered yes has marked an incarnation of its key, which is removed
   record RemoveMarked (before run : List Event) (pass key : ℕ) : Type 0 where
     pub node : ℕ
-    pub marked : HasMarked shape before run pass node
-    pub removed : IsRemoved ((incarnations_after shape run).state node)
-    pub of_key : (incarnations_after shape run).key node ≡ key
+    pub marked : HasMarked start before run pass node
+    pub removed : IsRemoved ((incarnations_after start run).state node)
+    pub of_key : (incarnations_after start run).key node ≡ key
 
-  marked_in_runs : (before rest : List Event) (pass : ℕ) (call : Call) → IsRun shape passes (before ++ rest) → call.op ≡ Remove → call.reply ≡ true → own_calls shape (before ++ rest) pass ≡ own_calls shape before pass ++ call ∷ [] → RemoveMarked before (before ++ rest) pass call.key
+  marked_in_runs : (before rest : List Event) (pass : ℕ) (call : Call) → IsRun start passes (before ++ rest) → call.op ≡ Remove → call.reply ≡ true → own_calls start (before ++ rest) pass ≡ own_calls start before pass ++ call ∷ [] → RemoveMarked before (before ++ rest) pass call.key
   marked_in_runs before rest pass call ok op reply calls =
-      let g = agrees before (is_run_before shape passes before rest ok) in
-      let a = incarnations_after shape before in
-      let b = incarnations_from shape a (since before rest) in
+      let g = agrees before (is_run_before start passes before rest ok) in
+      let a = incarnations_after start before in
+      let b = incarnations_from start a (since before rest) in
       let told : calls_by pass b.calls ≡ calls_by pass a.calls ++ call ∷ [] = (
       ap (λ (i : Incarnations). calls_by pass i.calls) (sym (made_since before rest))
       ∙ ap (calls_by pass) (sym (agrees (before ++ rest) ok).calls)
       ∙ calls
       ∙ ap (λ l. calls_by pass l ++ call ∷ []) g.calls) in
-      let x = mark_among shape (opening_keys shape) pass call op reply a (since before rest) g.sound (lawful_since before rest ok g) told in
+      let x = mark_among start (opening_keys start) pass call op reply a (since before rest) g.sound (lawful_since before rest ok g) told in
       let P : Incarnations → Type 0 = λ i. IsRemoved (i.state x.node) in
       record {
         node = x.node;
@@ -286,53 +286,53 @@ module _ (shape : Dimensions) (passes : ℕ) (is : IsShape shape) where
       }
 
   -- what a pass has marked by a moment it has marked at the end
-  marked_on : (before moment run : List Event) (pass node : ℕ) → Begins moment run → HasMarked shape before moment pass node → HasMarked shape before run pass node
+  marked_on : (before moment run : List Event) (pass node : ℕ) → Begins moment run → HasMarked start before moment pass node → HasMarked start before run pass node
   marked_on before moment run pass node begins x =
       let more = entries_by pass (since moment begins.0) in
       record {
         since = x.since ++ more;
-        adds = ap (λ r. own_entries shape r pass) begins.1 ∙ own_since moment begins.0 pass ∙ ap (λ l. l ++ more) x.adds ∙ append_assoc (own_entries shape before pass) x.since more;
+        adds = ap (λ r. own_entries start r pass) begins.1 ∙ own_since moment begins.0 pass ∙ ap (λ l. l ++ more) x.adds ∙ append_assoc (own_entries start before pass) x.since more;
         among = Contains-append_left x.since more (record { pass = pass; what = Removes node }) x.among;
       }
 
   -- a remove was answered yes by a moment, and at a later one no marked incarnation of its key is in a list: the one that it marked has left
-  pub marked_left : (before answered moment run : List Event) (pass : ℕ) (call : Call) → IsRun shape passes run → Begins before answered → Begins answered moment → Begins moment run → call.op ≡ Remove → call.reply ≡ true → own_calls shape answered pass ≡ own_calls shape before pass ++ call ∷ [] → NoneMarked (incarnations_after shape moment) call.key → MarkedLeft shape before run pass call.key
+  pub marked_left : (before answered moment run : List Event) (pass : ℕ) (call : Call) → IsRun start passes run → Begins before answered → Begins answered moment → Begins moment run → call.op ≡ Remove → call.reply ≡ true → own_calls start answered pass ≡ own_calls start before pass ++ call ∷ [] → NoneMarked (incarnations_after start moment) call.key → MarkedLeft start before run pass call.key
   marked_left before answered moment run pass call ok first second third op reply calls none =
-      let P : List Event → Type 0 = IsRun shape passes in
+      let P : List Event → Type 0 = IsRun start passes in
       let to_end : Begins answered run = begins_trans answered moment run second third in
-      let ok_moment = begins_run shape passes moment run third ok in
-      let ok_answered = begins_run shape passes answered run to_end ok in
-      let x = marked_in_runs before first.0 pass call (subst P first.1 ok_answered) op reply (ap (λ r. own_calls shape r pass) (sym first.1) ∙ calls) in
+      let ok_moment = begins_run start passes moment run third ok in
+      let ok_answered = begins_run start passes answered run to_end ok in
+      let x = marked_in_runs before first.0 pass call (subst P first.1 ok_answered) op reply (ap (λ r. own_calls start r pass) (sym first.1) ∙ calls) in
       let Q : List Event → Type 0 = λ r. RemoveMarked before r pass call.key in
       let y : RemoveMarked before answered pass call.key = subst Q (sym first.1) x in
       let g = grown answered moment second ok_moment in
       let h = grown moment run third ok in
       let kept = g.removed y.node y.removed in
-      let key : (incarnations_after shape moment).key y.node ≡ call.key = g.key y.node (removed_inserted ((incarnations_after shape answered).state y.node) y.removed) ∙ y.of_key in
-      let out = removed_left ((incarnations_after shape moment).state y.node) kept.0 (λ m. none y.node m key) in
-      let R : List Event → Type 0 = λ r. HasLeft ((incarnations_after shape r).state y.node) in
+      let key : (incarnations_after start moment).key y.node ≡ call.key = g.key y.node (removed_inserted ((incarnations_after start answered).state y.node) y.removed) ∙ y.of_key in
+      let out = removed_left ((incarnations_after start moment).state y.node) kept.0 (λ m. none y.node m key) in
+      let R : List Event → Type 0 = λ r. HasLeft ((incarnations_after start r).state y.node) in
       record {
         node = y.node;
         marked = marked_on before answered run pass y.node to_end y.marked;
-        of_key = h.key y.node (removed_inserted ((incarnations_after shape moment).state y.node) kept.0) ∙ key;
+        of_key = h.key y.node (removed_inserted ((incarnations_after start moment).state y.node) kept.0) ∙ key;
         left = subst R (sym third.1) (left_in_runs moment third.0 y.node (subst P third.1 ok) out);
       }
     where
-      grown : (moment run : List Event) → Begins moment run → IsRun shape passes run → Grows (incarnations_after shape moment) (incarnations_after shape run)
+      grown : (moment run : List Event) → Begins moment run → IsRun start passes run → Grows (incarnations_after start moment) (incarnations_after start run)
       grown moment run begins ok =
-          let P : List Event → Type 0 = IsRun shape passes in
-          let Q : List Event → Type 0 = λ r. Grows (incarnations_after shape moment) (incarnations_after shape r) in
-          subst Q (sym begins.1) (run_grows shape passes moment begins.0 is (subst P begins.1 ok))
+          let P : List Event → Type 0 = IsRun start passes in
+          let Q : List Event → Type 0 = λ r. Grows (incarnations_after start moment) (incarnations_after start r) in
+          subst Q (sym begins.1) (run_grows start passes moment begins.0 is (subst P begins.1 ok))
 
   -- what was marked and has left since a moment was so since an earlier one
-  pub left_since : (earlier before run : List Event) (pass key : ℕ) → Begins earlier before → MarkedLeft shape before run pass key → MarkedLeft shape earlier run pass key
+  pub left_since : (earlier before run : List Event) (pass key : ℕ) → Begins earlier before → MarkedLeft start before run pass key → MarkedLeft start earlier run pass key
   left_since earlier before run pass key begins x =
       let more = entries_by pass (since earlier begins.0) in
       record {
         node = x.node;
         marked = record {
           since = more ++ x.marked.since;
-          adds = x.marked.adds ∙ ap (λ l. l ++ x.marked.since) (ap (λ r. own_entries shape r pass) begins.1 ∙ own_since earlier begins.0 pass) ∙ append_assoc (own_entries shape earlier pass) more x.marked.since;
+          adds = x.marked.adds ∙ ap (λ l. l ++ x.marked.since) (ap (λ r. own_entries start r pass) begins.1 ∙ own_since earlier begins.0 pass) ∙ append_assoc (own_entries start earlier pass) more x.marked.since;
           among = Contains-append_right more x.marked.since (record { pass = pass; what = Removes x.node }) x.marked.among;
         };
         of_key = x.of_key;

@@ -3,7 +3,7 @@ use Rattle.std.proofs.Common.{◌≡◌, ℕ, true, List, [], ◌∷◌, Option,
 use Rattle.std.specs.List.{AllByRecursion}
 use Rattle.std.proofs.lemmas.Bool.Decides.{nat_tests}
 use Rattle.std.proofs.lemmas.Bool.{cases_Bool}
-use Rattle.vbr_words.specs.Dimensions.{Dimensions}
+use Rattle.vbr_machine.specs.Start.{Start}
 use Rattle.vbr_words.specs.declared.place.At.TheVariants.{Head, Slot}
 use Rattle.vbr_machine.specs.Knowledge.{Know, names, holds}
 use Rattle.vbr_machine.specs.Incarnations.{Incarnations}
@@ -41,8 +41,8 @@ pub holds_held : (a : Incarnations) (e : ℕ) (notes : List Note) → AllByRecur
 holds_held a e notes al s c (note, m, g) = gives_held a e s c note.read note.of note.names (among_all (IsGood a e) note notes al m) g.0 g.1
 
 -- at a slot it holds one
-pub holds_one : {shape : Dimensions} {a : Incarnations} → Sound shape a → (e : ℕ) (notes : List Note) → AllByRecursion (IsGood a e) notes → (s c d : ℕ) → IsHeldBy notes s c → IsHeldBy notes s d → c ≡ d
-holds_one {shape} {a} snd e notes al s c d hc hd =
+pub holds_one : {start : Start} {a : Incarnations} → Sound start a → (e : ℕ) (notes : List Note) → AllByRecursion (IsGood a e) notes → (s c d : ℕ) → IsHeldBy notes s c → IsHeldBy notes s d → c ≡ d
+holds_one {start} {a} snd e notes al s c d hc hd =
     let x = holds_held a e notes al s c hc in
     let y = holds_held a e notes al s d hd in
     one_late snd.slots c d e (x.slot ∙ sym y.slot) x.late y.late x.birth y.birth
@@ -73,23 +73,23 @@ holds_some a e (note ∷ notes) s q al = go note.read refl (λ r. let x = holds_
     ]
 
 -- the incarnation that a pass holds at a slot that is held
-pub holds_just : {shape : Dimensions} {a : Incarnations} → Sound shape a → (e : ℕ) (notes : List Note) → AllByRecursion (IsGood a e) notes → (s c : ℕ) → holds (reads_of notes) s ≡ true → IsHeldIncarnation a e s c → HoldsJust notes s c
-holds_just {shape} {a} snd e notes al s c q h =
+pub holds_just : {start : Start} {a : Incarnations} → Sound start a → (e : ℕ) (notes : List Note) → AllByRecursion (IsGood a e) notes → (s c : ℕ) → holds (reads_of notes) s ≡ true → IsHeldIncarnation a e s c → HoldsJust notes s c
+holds_just {start} {a} snd e notes al s c q h =
     let x = holds_some a e notes s q al in
     let y = holds_held a e notes al s x.0 x.1 in
     let same : x.0 ≡ c = one_late snd.slots x.0 c e (y.slot ∙ sym h.slot) y.late h.late y.birth h.birth in
     record { held = (let P : ℕ → Type 0 = λ i. IsHeldBy notes s i in subst P same x.1); only = λ d hd. holds_one snd e notes al s d x.0 hd x.1 ∙ same }
 
 -- a slot that is held has one incarnation that the pass holds there
-pub holds_only : {shape : Dimensions} {a : Incarnations} → Sound shape a → (e : ℕ) (notes : List Note) → AllByRecursion (IsGood a e) notes → (s : ℕ) → holds (reads_of notes) s ≡ true → (c : ℕ) × HoldsJust notes s c
-holds_only {shape} {a} snd e notes al s q =
+pub holds_only : {start : Start} {a : Incarnations} → Sound start a → (e : ℕ) (notes : List Note) → AllByRecursion (IsGood a e) notes → (s : ℕ) → holds (reads_of notes) s ≡ true → (c : ℕ) × HoldsJust notes s c
+holds_only {start} {a} snd e notes al s q =
     let x = holds_some a e notes s q al in
     (x.0, record { held = x.1; only = λ d hd. holds_one snd e notes al s d x.0 hd x.1 })
 
-of_held : {shape : Dimensions} {a : Incarnations} → Sound shape a → (e : ℕ) (notes : List Note) → AllByRecursion (IsGood a e) notes → (s c : ℕ) → holds (reads_of notes) s ≡ true → IsHeldIncarnation a e s c → IsOfHeld notes s (Some c)
+of_held : {start : Start} {a : Incarnations} → Sound start a → (e : ℕ) (notes : List Note) → AllByRecursion (IsGood a e) notes → (s c : ℕ) → holds (reads_of notes) s ≡ true → IsHeldIncarnation a e s c → IsOfHeld notes s (Some c)
 of_held snd e notes al s c q h = (c, holds_just snd e notes al s c q h, refl)
 
-reads_held : {shape : Dimensions} {a : Incarnations} → Sound shape a → (e : ℕ) (notes : List Note) → AllByRecursion (IsGood a e) notes → (read : Read) (of named : Option ℕ) → IsOfHeldPlace (reads_of notes) read → IsGoodRead a e read of named → ReadsHeld notes read of
+reads_held : {start : Start} {a : Incarnations} → Sound start a → (e : ℕ) (notes : List Note) → AllByRecursion (IsGood a e) notes → (read : Read) (of named : Option ℕ) → IsOfHeldPlace (reads_of notes) read → IsGoodRead a e read of named → ReadsHeld notes read of
 reads_held snd e notes al (LinkAt (Head b) link) of named q g = tt
 reads_held snd e notes al (LinkAt (Slot s) link) None named q g = absurd g.place
 reads_held snd e notes al (LinkAt (Slot s) link) (Some c) named q g = of_held snd e notes al s c q g.place
@@ -106,8 +106,8 @@ of_held_among checked note (first ∷ notes) h (inl e) = let P : Note → Type 0
 of_held_among checked note (first ∷ notes) h (inr m) = of_held_among checked note notes h.1 m
 
 -- the checked reads of a pass whose reads are of held places are right
-pub right_reads : {shape : Dimensions} {a : Incarnations} → Sound shape a → (know : Know) (notes : Notes) → FitsNotes a know notes → ReadsHeldPlaces know → AreRightReads notes.checked
-right_reads {shape} {a} snd know notes k r note m =
+pub right_reads : {start : Start} {a : Incarnations} → Sound start a → (know : Know) (notes : Notes) → FitsNotes a know notes → ReadsHeldPlaces know → AreRightReads notes.checked
+right_reads {start} {a} snd know notes k r note m =
     let all : AllByRecursion (IsOfHeldPlace (reads_of notes.checked)) (reads_of notes.checked) = rw k.checked_reads at r.checked in
     record {
       held = reads_held snd know.epoch notes.checked k.checked note.read note.of note.names (of_held_among (reads_of notes.checked) note notes.checked all m) (among_all (IsGood a know.epoch) note notes.checked k.checked m);

@@ -2,7 +2,7 @@
 use Rattle.std.proofs.Common.{◌≡◌, ◌≢◌, ℕ, Bool, List, [], ◌∷◌, ◌++◌, Option, Some, None, refl, arith, sym, subst, ap, ◌∙◌, inl, inr}
 use Rattle.std.specs.Prelude.{◌⊎◌}
 use Rattle.std.proofs.lemmas.Bool.{cases_eq}
-use Rattle.vbr_words.specs.Dimensions.{Dimensions, IsShape}
+use Rattle.vbr_machine.specs.Start.{Start, IsStart}
 use Rattle.vbr_words.specs.Words.{IsLink}
 use Rattle.vbr_words.specs.declared.link.Link.{Link}
 use Rattle.vbr_machine.specs.Knowledge.{Know}
@@ -31,23 +31,23 @@ use Rattle.vbr_machine.proofs.RightExchanges.{right_exchange}
 
 -- ---- reads are of held places
 
-reads_on : (shape : Dimensions) (passes : ℕ) (w : World) (events : List Event) → ((p : ℕ) → ReadsHeldPlaces (w.know p)) → AreAccepted shape passes w events → (p : ℕ) → ReadsHeldPlaces ((world_from shape w events).know p)
-reads_on shape passes w [] r ok p = r p
-reads_on shape passes w (event ∷ events) r ok p = reads_on shape passes (after shape w event.pass event.step) events next ok.1 p
+reads_on : (start : Start) (passes : ℕ) (w : World) (events : List Event) → ((p : ℕ) → ReadsHeldPlaces (w.know p)) → AreAccepted start passes w events → (p : ℕ) → ReadsHeldPlaces ((world_from start w events).know p)
+reads_on start passes w [] r ok p = r p
+reads_on start passes w (event ∷ events) r ok p = reads_on start passes (after start w event.pass event.step) events next ok.1 p
   where
-    own : ReadsHeldPlaces ((after shape w event.pass event.step).know event.pass)
-    own = let P : Know → Type 0 = ReadsHeldPlaces in subst P (sym (know_own shape w event.pass event.step)) (held_learned shape (w.know event.pass) event.step (found shape w event.step) (stamp_shown w event.step) (r event.pass) ok.0.1)
+    own : ReadsHeldPlaces ((after start w event.pass event.step).know event.pass)
+    own = let P : Know → Type 0 = ReadsHeldPlaces in subst P (sym (know_own start w event.pass event.step)) (held_learned start (w.know event.pass) event.step (found start w event.step) (stamp_shown w event.step) (r event.pass) ok.0.1)
 
-    next : (q : ℕ) → ReadsHeldPlaces ((after shape w event.pass event.step).know q)
+    next : (q : ℕ) → ReadsHeldPlaces ((after start w event.pass event.step).know q)
     next q = go (cases_eq q event.pass)
       where
-        go : (q ≡ event.pass) ⊎ (q ≢ event.pass) → ReadsHeldPlaces ((after shape w event.pass event.step).know q)
-        go (inl e) = let P : ℕ → Type 0 = λ i. ReadsHeldPlaces ((after shape w event.pass event.step).know i) in subst P (sym e) own
-        go (inr ne) = let P : Know → Type 0 = ReadsHeldPlaces in subst P (sym (know_other shape w q event.pass event.step ne)) (r q)
+        go : (q ≡ event.pass) ⊎ (q ≢ event.pass) → ReadsHeldPlaces ((after start w event.pass event.step).know q)
+        go (inl e) = let P : ℕ → Type 0 = λ i. ReadsHeldPlaces ((after start w event.pass event.step).know i) in subst P (sym e) own
+        go (inr ne) = let P : Know → Type 0 = ReadsHeldPlaces in subst P (sym (know_other start w q event.pass event.step ne)) (r q)
 
 -- after a run all reads of a pass are of places that it holds
-pub run_reads : (shape : Dimensions) (passes : ℕ) (run : List Event) → IsRun shape passes run → (p : ℕ) → ReadsHeldPlaces ((world_after shape run).know p)
-run_reads shape passes run ok = reads_on shape passes (opening shape) run (λ p. record { checked = tt; pending = tt }) ok
+pub run_reads : (start : Start) (passes : ℕ) (run : List Event) → IsRun start passes run → (p : ℕ) → ReadsHeldPlaces ((world_after start run).know p)
+run_reads start passes run ok = reads_on start passes (opening start) run (λ p. record { checked = tt; pending = tt }) ok
 
 -- ---- what an owner knows
 
@@ -92,44 +92,44 @@ last_over a p e s (Some (Free stamp)) m o = go (a.last s) o.1
     go (Some c) r = retired_over (a.state c) p r
 last_over a p e s (Some (InHand known)) m o = let x = o.1 in rw (x.last_is, x.state) refl
 
-bears_after : (shape : Dimensions) (run : List Event) (p : ℕ) (step : Step) → Agrees shape (world_after shape run) (incarnations_after shape run) (notes_after shape run) → Accepts shape ((world_after shape run).know p) step → BearsAfter shape run p step
-bears_after shape run p (StoreBirth s birth) g ok = last_over (incarnations_after shape run) p ((world_after shape run).know p).epoch s (((world_after shape run).know p).own s) ok.owned (g.owns p s)
-bears_after shape run p ReadEpoch g ok = tt
-bears_after shape run p (Advance from) g ok = tt
-bears_after shape run p (LoadStamp s) g ok = tt
-bears_after shape run p (StoreStamp s stamp) g ok = tt
-bears_after shape run p (Raise s) g ok = tt
-bears_after shape run p (TakeFlag s) g ok = tt
-bears_after shape run p (StoreKey s key) g ok = tt
-bears_after shape run p (StoreValue s value) g ok = tt
-bears_after shape run p (StoreLink s next) g ok = tt
-bears_after shape run p (LoadLink at) g ok = tt
-bears_after shape run p (LoadBirth s) g ok = tt
-bears_after shape run p (LoadKey s) g ok = tt
-bears_after shape run p (LoadValue s) g ok = tt
-bears_after shape run p (Publish pred expected s) g ok = tt
-bears_after shape run p (Mark s expected) g ok = tt
-bears_after shape run p (Unlink pred expected s) g ok = tt
-bears_after shape run p (ConfirmPresent op s expected) g ok = tt
-bears_after shape run p (ConfirmAbsent op key at expected) g ok = tt
+bears_after : (start : Start) (run : List Event) (p : ℕ) (step : Step) → Agrees start (world_after start run) (incarnations_after start run) (notes_after start run) → Accepts start ((world_after start run).know p) step → BearsAfter start run p step
+bears_after start run p (StoreBirth s birth) g ok = last_over (incarnations_after start run) p ((world_after start run).know p).epoch s (((world_after start run).know p).own s) ok.owned (g.owns p s)
+bears_after start run p ReadEpoch g ok = tt
+bears_after start run p (Advance from) g ok = tt
+bears_after start run p (LoadStamp s) g ok = tt
+bears_after start run p (StoreStamp s stamp) g ok = tt
+bears_after start run p (Raise s) g ok = tt
+bears_after start run p (TakeFlag s) g ok = tt
+bears_after start run p (StoreKey s key) g ok = tt
+bears_after start run p (StoreValue s value) g ok = tt
+bears_after start run p (StoreLink s next) g ok = tt
+bears_after start run p (LoadLink at) g ok = tt
+bears_after start run p (LoadBirth s) g ok = tt
+bears_after start run p (LoadKey s) g ok = tt
+bears_after start run p (LoadValue s) g ok = tt
+bears_after start run p (Publish pred expected s) g ok = tt
+bears_after start run p (Mark s expected) g ok = tt
+bears_after start run p (Unlink pred expected s) g ok = tt
+bears_after start run p (ConfirmPresent op s expected) g ok = tt
+bears_after start run p (ConfirmAbsent op key at expected) g ok = tt
 
 -- ---- one event of a run
 
 -- an event of a run is accepted after the run before it
-accepted_there : (shape : Dimensions) (passes : ℕ) (run before later : List Event) (event : Event) → IsRun shape passes run → run ≡ before ++ event ∷ later → IsRun shape passes before × IsAccepted shape passes (world_after shape before) event
-accepted_there shape passes run before later event ok e =
-    let all : IsRun shape passes (before ++ event ∷ later) = (let P : List Event → Type 0 = IsRun shape passes in subst P e ok) in
-    (is_run_before shape passes before (event ∷ later) all, (is_run_after shape passes before (event ∷ later) all).0)
+accepted_there : (start : Start) (passes : ℕ) (run before later : List Event) (event : Event) → IsRun start passes run → run ≡ before ++ event ∷ later → IsRun start passes before × IsAccepted start passes (world_after start before) event
+accepted_there start passes run before later event ok e =
+    let all : IsRun start passes (before ++ event ∷ later) = (let P : List Event → Type 0 = IsRun start passes in subst P e ok) in
+    (is_run_before start passes before (event ∷ later) all, (is_run_after start passes before (event ∷ later) all).0)
 
 -- ---- the theorem
 
-pub every_run : (shape : Dimensions) (passes : ℕ) (run : List Event) → IsShape shape → IsRun shape passes run → IsSafe shape run
-every_run shape passes run is ok =
-    let w = world_after shape run in
-    let a = incarnations_after shape run in
-    let g = run_agrees shape passes run is ok in
+pub every_run : (start : Start) (passes : ℕ) (run : List Event) → IsStart start → IsRun start passes run → IsSafe start run
+every_run start passes run is ok =
+    let w = world_after start run in
+    let a = incarnations_after start run in
+    let g = run_agrees start passes run is ok in
     record {
-      lawful = run_lawful shape passes run is ok;
+      lawful = run_lawful start passes run is ok;
       image = g.image;
       calls = g.calls;
       legal = rw g.calls g.tells.legal;
@@ -141,18 +141,18 @@ every_run shape passes run is ok =
         epoch = rw g.image.epoch (g.knows p).epoch;
         pending = (g.knows p).pending_reads;
         checked = (g.knows p).checked_reads;
-        late = holds_held a (w.know p).epoch (notes_after shape run p).checked (g.knows p).checked;
-        one = holds_one g.sound (w.know p).epoch (notes_after shape run p).checked (g.knows p).checked;
-        some = λ s h. holds_only g.sound (w.know p).epoch (notes_after shape run p).checked (g.knows p).checked s (rw (g.knows p).checked_reads at h);
-        reads = right_reads g.sound (w.know p) (notes_after shape run p) (g.knows p) (run_reads shape passes run ok p);
+        late = holds_held a (w.know p).epoch (notes_after start run p).checked (g.knows p).checked;
+        one = holds_one g.sound (w.know p).epoch (notes_after start run p).checked (g.knows p).checked;
+        some = λ s h. holds_only g.sound (w.know p).epoch (notes_after start run p).checked (g.knows p).checked s (rw (g.knows p).checked_reads at h);
+        reads = right_reads g.sound (w.know p) (notes_after start run p) (g.knows p) (run_reads start passes run ok p);
         own = λ s. owner_right w a p (w.know p).epoch s ((w.know p).own s) g.image (g.owns p s);
         last = g.owns p;
       };
-      slots = λ some ok_too. are_placed shape some run is ok_too;
+      slots = λ some ok_too. are_placed start some run is ok_too;
       exchanges = λ before later event e.
-          let at = accepted_there shape passes run before later event ok e in
-          right_exchange shape (world_after shape before) (incarnations_after shape before) (notes_after shape before) event.pass (run_agrees shape passes before is at.0) (run_reads shape passes before at.0 event.pass) event.step at.1.1;
+          let at = accepted_there start passes run before later event ok e in
+          right_exchange start (world_after start before) (incarnations_after start before) (notes_after start before) event.pass (run_agrees start passes before is at.0) (run_reads start passes before at.0 event.pass) event.step at.1.1;
       births_over = λ before later event e.
-          let at = accepted_there shape passes run before later event ok e in
-          bears_after shape before event.pass event.step (run_agrees shape passes before is at.0) at.1.1;
+          let at = accepted_there start passes run before later event ok e in
+          bears_after start before event.pass event.step (run_agrees start passes before is at.0) at.1.1;
     }

@@ -4,7 +4,7 @@ use Rattle.std.specs.Prelude.{◌==◌, ◌&&◌, IsSome, unwrap_or}
 use Rattle.std.specs.List.{AllByRecursion}
 use Rattle.std.proofs.lemmas.Bool.Decides.{nat_tests}
 use Rattle.std.proofs.lemmas.Bool.{cases_eq, cases_Bool, eq-eqb, ne_eqb, and_parts}
-use Rattle.vbr_words.specs.Dimensions.{Dimensions}
+use Rattle.vbr_machine.specs.Start.{Start}
 use Rattle.vbr_words.specs.declared.link.Link.{Link}
 use Rattle.vbr_words.specs.declared.place.At.{At}
 use Rattle.vbr_words.specs.declared.place.At.TheVariants.{Head, Slot}
@@ -141,8 +141,8 @@ marked_found a e (note ∷ notes) s link q g = go note.read note.of note.names g
 
 -- ---- what was checked is that of the incarnation that the pass holds
 
-pub birth_is : {shape : Dimensions} {a : Incarnations} → SlotsSound shape a → (e : ℕ) (notes : List Note) (reads : List Read) (s c : ℕ) → reads ≡ reads_of notes → AllByRecursion (IsGood a e) notes → IsHeldIncarnation a e s c → IsSome (birth_in reads s) → unwrap_or (birth_in reads s) 0 ≡ a.birth c
-birth_is {shape} {a} snd e notes reads s c q al h k = go (birth_in reads s) refl k
+pub birth_is : {start : Start} {a : Incarnations} → SlotsSound start a → (e : ℕ) (notes : List Note) (reads : List Read) (s c : ℕ) → reads ≡ reads_of notes → AllByRecursion (IsGood a e) notes → IsHeldIncarnation a e s c → IsSome (birth_in reads s) → unwrap_or (birth_in reads s) 0 ≡ a.birth c
+birth_is {start} {a} snd e notes reads s c q al h k = go (birth_in reads s) refl k
   where
     go : (o : Option ℕ) → birth_in reads s ≡ o → IsSome o → unwrap_or o 0 ≡ a.birth c
     go None r k = absurd (cc)
@@ -150,8 +150,8 @@ birth_is {shape} {a} snd e notes reads s c q al h k = go (birth_in reads s) refl
         let x = birth_found a e notes s b (rw q at r) al in
         sym x.2 ∙ ap a.birth (one_late snd x.0 c e (x.1.slot ∙ sym h.slot) x.1.late h.late x.1.birth h.birth)
 
-pub key_is : {shape : Dimensions} {a : Incarnations} → SlotsSound shape a → (e : ℕ) (notes : List Note) (reads : List Read) (s c : ℕ) → reads ≡ reads_of notes → AllByRecursion (IsGood a e) notes → IsHeldIncarnation a e s c → IsSome (key_in reads s) → unwrap_or (key_in reads s) 0 ≡ a.key c
-key_is {shape} {a} snd e notes reads s c q al h k = go (key_in reads s) refl k
+pub key_is : {start : Start} {a : Incarnations} → SlotsSound start a → (e : ℕ) (notes : List Note) (reads : List Read) (s c : ℕ) → reads ≡ reads_of notes → AllByRecursion (IsGood a e) notes → IsHeldIncarnation a e s c → IsSome (key_in reads s) → unwrap_or (key_in reads s) 0 ≡ a.key c
+key_is {start} {a} snd e notes reads s c q al h k = go (key_in reads s) refl k
   where
     go : (o : Option ℕ) → key_in reads s ≡ o → IsSome o → unwrap_or o 0 ≡ a.key c
     go None r k = absurd (cc)
@@ -159,8 +159,8 @@ key_is {shape} {a} snd e notes reads s c q al h k = go (key_in reads s) refl k
         let x = key_found a e notes s b (rw q at r) al in
         sym x.2 ∙ ap a.key (one_late snd x.0 c e (x.1.slot ∙ sym h.slot) x.1.late h.late x.1.birth h.birth)
 
-pub value_is : {shape : Dimensions} {a : Incarnations} → SlotsSound shape a → (e : ℕ) (notes : List Note) (reads : List Read) (s c : ℕ) → reads ≡ reads_of notes → AllByRecursion (IsGood a e) notes → IsHeldIncarnation a e s c → IsSome (value_in reads s) → unwrap_or (value_in reads s) 0 ≡ a.value c
-value_is {shape} {a} snd e notes reads s c q al h k = go (value_in reads s) refl k
+pub value_is : {start : Start} {a : Incarnations} → SlotsSound start a → (e : ℕ) (notes : List Note) (reads : List Read) (s c : ℕ) → reads ≡ reads_of notes → AllByRecursion (IsGood a e) notes → IsHeldIncarnation a e s c → IsSome (value_in reads s) → unwrap_or (value_in reads s) 0 ≡ a.value c
+value_is {start} {a} snd e notes reads s c q al h k = go (value_in reads s) refl k
   where
     go : (o : Option ℕ) → value_in reads s ≡ o → IsSome o → unwrap_or o 0 ≡ a.value c
     go None r k = absurd (cc)
@@ -168,7 +168,7 @@ value_is {shape} {a} snd e notes reads s c q al h k = go (value_in reads s) refl
         let x = value_found a e notes s b (rw q at r) al in
         sym x.2 ∙ ap a.value (one_late snd x.0 c e (x.1.slot ∙ sym h.slot) x.1.late h.late x.1.birth h.birth)
 
-pub birth_of_is : {shape : Dimensions} {a : Incarnations} → SlotsSound shape a → (e : ℕ) (notes : List Note) (reads : List Read) (v n : Option ℕ) → reads ≡ reads_of notes → AllByRecursion (IsGood a e) notes → IsHeldNext a e v n → IsSome (birth_of reads v) → unwrap_or (birth_of reads v) 0 ≡ birth_shown a n
+pub birth_of_is : {start : Start} {a : Incarnations} → SlotsSound start a → (e : ℕ) (notes : List Note) (reads : List Read) (v n : Option ℕ) → reads ≡ reads_of notes → AllByRecursion (IsGood a e) notes → IsHeldNext a e v n → IsSome (birth_of reads v) → unwrap_or (birth_of reads v) 0 ≡ birth_shown a n
 birth_of_is snd e notes reads None None q al h k = refl
 birth_of_is snd e notes reads None (Some c) q al h k = absurd h
 birth_of_is snd e notes reads (Some s) None q al h k = absurd h

@@ -1,6 +1,6 @@
 -- What the incarnations show stays where they are untouched, and words have room for it.
 use Rattle.std.proofs.Common.{◌≡◌, ℕ, ◌<◌, ◌≤◌, Option, Some, None, refl, arith, sym, ap, ◌∙◌}
-use Rattle.vbr_words.specs.Dimensions.{Dimensions}
+use Rattle.vbr_machine.specs.Start.{Start}
 use Rattle.vbr_words.specs.Words.{IsLink}
 use Rattle.vbr_words.specs.declared.link.Link.{Link}
 use Rattle.vbr_words.specs.declared.link.TheConstants.{MAX_VERSION}
@@ -70,19 +70,19 @@ stands w a (Slot s) i = i.link s
 
 -- ---- words have room
 
-birth_fits : {shape : Dimensions} {a : Incarnations} → Sound shape a → Fits shape a → (c : ℕ) → c < a.count → a.birth c ≤ MAX_VERSION
-birth_fits s f c lt = let u = s.slots.born c lt in let v = f.epoch in let w = f.is_shape.last_epoch in omega arith
+birth_fits : {start : Start} {a : Incarnations} → Sound start a → Fits start a → (c : ℕ) → c < a.count → a.birth c ≤ MAX_VERSION
+birth_fits s f c lt = let u = s.slots.born c lt in let v = f.epoch in let w = f.is_start.shape.last_epoch in omega arith
 
-next_fits : {shape : Dimensions} {a : Incarnations} → Sound shape a → Fits shape a → (holder : ℕ) (next : Option ℕ) → holder ≤ MAX_VERSION → ((m : ℕ) → next ≡ Some m → m < a.count) → IsLink (link_to_next a holder next)
+next_fits : {start : Start} {a : Incarnations} → Sound start a → Fits start a → (holder : ℕ) (next : Option ℕ) → holder ≤ MAX_VERSION → ((m : ℕ) → next ≡ Some m → m < a.count) → IsLink (link_to_next a holder next)
 next_fits s f holder None le k = record { slot = tt; version = omega arith }
-next_fits s f holder (Some m) le k = let lt = k m refl in record { slot = (let u = f.slot m lt in let v = f.is_shape.slots in omega arith); version = (let u = birth_fits s f m lt in omega arith) }
+next_fits s f holder (Some m) le k = let lt = k m refl in record { slot = (let u = f.slot m lt in let v = f.is_start.shape.slots in omega arith); version = (let u = birth_fits s f m lt in omega arith) }
 
-linked_fits : {shape : Dimensions} {a : Incarnations} → Sound shape a → Fits shape a → (c : ℕ) → IsLate (a.state c) 0 → IsLink (link_to_next a (a.birth c) (a.next c))
-linked_fits {shape} {a} s f c l = next_fits s f (a.birth c) (a.next c) (birth_fits s f c (late_born s.slots c 0 l)) (λ m q. late_born s.slots m 0 (s.lists.handed c m 0 q l))
+linked_fits : {start : Start} {a : Incarnations} → Sound start a → Fits start a → (c : ℕ) → IsLate (a.state c) 0 → IsLink (link_to_next a (a.birth c) (a.next c))
+linked_fits {start} {a} s f c l = next_fits s f (a.birth c) (a.next c) (birth_fits s f c (late_born s.slots c 0 l)) (λ m q. late_born s.slots m 0 (s.lists.handed c m 0 q l))
 
-pub shown_fits : {shape : Dimensions} {a : Incarnations} → Sound shape a → Fits shape a → (l : Option ℕ) → IsLink (link_shown a l)
+pub shown_fits : {start : Start} {a : Incarnations} → Sound start a → Fits start a → (l : Option ℕ) → IsLink (link_shown a l)
 shown_fits s f None = record { slot = tt; version = omega arith }
-shown_fits {shape} {a} s f (Some c) = go (a.state c) refl
+shown_fits {start} {a} s f (Some c) = go (a.state c) refl
   where
     marked_fits : (link : Link) → IsLink link → IsLink (marked link)
     marked_fits link i = record { slot = i.slot; version = i.version }
@@ -97,14 +97,14 @@ shown_fits {shape} {a} s f (Some c) = go (a.state c) refl
     go GivenUp e = rw e (f.link c)
 
 -- each link of the image has room in a word
-pub image_fits : {shape : Dimensions} {a : Incarnations} → Sound shape a → Fits shape a → (at : At) → IsLink (link_shown_at a at)
-image_fits {shape} {a} s f (Head b) = next_fits s f 0 (a.first b) (omega arith) (λ m q. late_born s.slots m 0 (listed_late (a.state m) 0 (s.lists.first_in b m q).0))
-image_fits {shape} {a} s f (Slot v) = shown_fits s f (a.last v)
+pub image_fits : {start : Start} {a : Incarnations} → Sound start a → Fits start a → (at : At) → IsLink (link_shown_at a at)
+image_fits {start} {a} s f (Head b) = next_fits s f 0 (a.first b) (omega arith) (λ m q. late_born s.slots m 0 (listed_late (a.state m) 0 (s.lists.first_in b m q).0))
+image_fits {start} {a} s f (Slot v) = shown_fits s f (a.last v)
 
 -- what fits stays so where only states, keys, successors and places change
-pub fits_kept : {shape : Dimensions} (a b : Incarnations) → b.epoch ≡ a.epoch → b.count ≡ a.count → b.slot ≡ a.slot → b.link ≡ a.link → Fits shape a → Fits shape b
+pub fits_kept : {start : Start} (a b : Incarnations) → b.epoch ≡ a.epoch → b.count ≡ a.count → b.slot ≡ a.slot → b.link ≡ a.link → Fits start a → Fits start b
 fits_kept a b e n s l f = record {
-  is_shape = f.is_shape;
+  is_start = f.is_start;
   epoch = rw e f.epoch;
   slot = λ c lt. rw s (f.slot c (omega (arith, n)));
   link = λ c. rw l (f.link c);

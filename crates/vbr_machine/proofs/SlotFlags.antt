@@ -5,7 +5,7 @@ use Rattle.std.proofs.Math.Nat.{pow-suc}
 use Rattle.std.proofs.Math.Pow.{pow_mono}
 use Rattle.std.proofs.lemmas.Bool.Decides.{nat_tests}
 use Rattle.std.proofs.lemmas.Nat.{one_shl}
-use Rattle.vbr_words.specs.Dimensions.{Dimensions}
+use Rattle.vbr_machine.specs.Start.{Start}
 use Rattle.vbr_words.specs.Flags.{word_of_flag, flag_words, flag_of, all_but, has_flag, digit, first_bits, flag_word}
 use Rattle.vbr_words.specs.declared.place.Place.TheVariants.{Flags}
 use Rattle.vbr_words.proofs.Lemmas.{first_bits-lt, flag_raised, flag_taken, flag_word_same, has_flag-flag_word}
@@ -19,12 +19,12 @@ use Rattle.vbr_machine.specs.declared.knowledge.SlotPlace.TheVariants.{Shared}
 use Rattle.vbr_machine.proofs.Puts.{put_here, put_other}
 
 -- the flag of a slot of the shape stands in a flag word
-pub flag_in : (shape : Dimensions) (s : ℕ) → s < shape.slots → word_of_flag s < flag_words shape.slots
-flag_in shape s low = omega arith
+pub flag_in : (start : Start) (s : ℕ) → s < start.shape.slots → word_of_flag s < flag_words start.shape.slots
+flag_in start s low = omega arith
 
 -- what is found at a slot's flag is whether it is set
-pub flag_found : (shape : Dimensions) (w : World) (s : ℕ) → has_flag (found shape w (TakeFlag s)) s ≡ is_flagged shape w s
-flag_found shape w s = has_flag-flag_word (is_flagged shape w) s
+pub flag_found : (start : Start) (w : World) (s : ℕ) → has_flag (found start w (TakeFlag s)) s ≡ is_flagged start w s
+flag_found start w s = has_flag-flag_word (is_flagged start w) s
 
 and_true : (b : Bool) → b ≡ true → (c : Bool) → (b && c) ≡ c
 and_true b e c = rw e refl
@@ -38,11 +38,11 @@ and_false true = refl
 and_false false = refl
 
 -- a slot of the shape has its flag exactly where it is shared
-pub flag_told : (shape : Dimensions) (w : World) (s : ℕ) (place : SlotPlace) → s < shape.slots → w.place s ≡ place → has_flag (found shape w (TakeFlag s)) s ≡ is_shared place
-flag_told shape w s place low e = flag_found shape w s ∙ and_true (nat_lt s shape.slots) (grind (arith, nat_tests)) (is_shared (w.place s)) ∙ ap is_shared e
+pub flag_told : (start : Start) (w : World) (s : ℕ) (place : SlotPlace) → s < start.shape.slots → w.place s ≡ place → has_flag (found start w (TakeFlag s)) s ≡ is_shared place
+flag_told start w s place low e = flag_found start w s ∙ and_true (nat_lt s start.shape.slots) (grind (arith, nat_tests)) (is_shared (w.place s)) ∙ ap is_shared e
 
-pub flag_shared : (shape : Dimensions) (w : World) (s : ℕ) → has_flag (found shape w (TakeFlag s)) s ≡ true → is_shared (w.place s) ≡ true
-flag_shared shape w s e = and_second (nat_lt s shape.slots) (is_shared (w.place s)) (sym (flag_found shape w s) ∙ e)
+pub flag_shared : (start : Start) (w : World) (s : ℕ) → has_flag (found start w (TakeFlag s)) s ≡ true → is_shared (w.place s) ≡ true
+flag_shared start w s e = and_second (nat_lt s start.shape.slots) (is_shared (w.place s)) (sym (flag_found start w s) ∙ e)
 
 -- ---- what a taking tells
 
@@ -68,37 +68,37 @@ word_told s r n same clear = go (has_flag n s) refl
     go false e = let told : Lost r ≡ Lost n = lost ∙ ap (λ (b : Bool). cond b Won (Lost n)) e in cc
 
 -- where the word that is found at one slot's flag has no flag of another, that one isn't shared
-pub unflagged : (shape : Dimensions) (w : World) (s t : ℕ) → t < shape.slots → word_of_flag t ≡ word_of_flag s → has_flag (found shape w (TakeFlag s)) t ≡ false → is_shared (w.place t) ≡ false
-unflagged shape w s t low same clear =
-    sym (and_true (nat_lt t shape.slots) (grind (arith, nat_tests)) (is_shared (w.place t)))
-    ∙ sym (flag_found shape w t)
-    ∙ ap (λ (number : ℕ). has_flag (flag_word (is_flagged shape w) number) t) same
+pub unflagged : (start : Start) (w : World) (s t : ℕ) → t < start.shape.slots → word_of_flag t ≡ word_of_flag s → has_flag (found start w (TakeFlag s)) t ≡ false → is_shared (w.place t) ≡ false
+unflagged start w s t low same clear =
+    sym (and_true (nat_lt t start.shape.slots) (grind (arith, nat_tests)) (is_shared (w.place t)))
+    ∙ sym (flag_found start w t)
+    ∙ ap (λ (number : ℕ). has_flag (flag_word (is_flagged start w) number) t) same
     ∙ clear
 
 -- ---- what steps leave
 
-module _ (shape : Dimensions) (w v : World) (s : ℕ) (place : SlotPlace) (moved : v.place ≡ put w.place s place) where
-  others : (t : ℕ) → t ≢ s → is_flagged shape v t ≡ is_flagged shape w t
-  others t ne = ap (λ (p : SlotPlace). nat_lt t shape.slots && is_shared p) (ap (λ (f : ℕ → SlotPlace). f t) moved ∙ put_other w.place s place t ne)
+module _ (start : Start) (w v : World) (s : ℕ) (place : SlotPlace) (moved : v.place ≡ put w.place s place) where
+  others : (t : ℕ) → t ≢ s → is_flagged start v t ≡ is_flagged start w t
+  others t ne = ap (λ (p : SlotPlace). nat_lt t start.shape.slots && is_shared p) (ap (λ (f : ℕ → SlotPlace). f t) moved ∙ put_other w.place s place t ne)
 
   here : v.place s ≡ place
   here = ap (λ (f : ℕ → SlotPlace). f s) moved ∙ put_here w.place s place
 
   -- a slot that was put into the shared pool has its flag set
-  pub raised_word : s < shape.slots → place ≡ Shared → word_at shape v (Flags (word_of_flag s)) ≡ bit_or (word_at shape w (Flags (word_of_flag s))) (flag_of s)
-  raised_word low is = flag_raised (is_flagged shape w) (is_flagged shape v) s others (and_true (nat_lt s shape.slots) (grind (arith, nat_tests)) (is_shared (v.place s)) ∙ ap is_shared (here ∙ is))
+  pub raised_word : s < start.shape.slots → place ≡ Shared → word_at start v (Flags (word_of_flag s)) ≡ bit_or (word_at start w (Flags (word_of_flag s))) (flag_of s)
+  raised_word low is = flag_raised (is_flagged start w) (is_flagged start v) s others (and_true (nat_lt s start.shape.slots) (grind (arith, nat_tests)) (is_shared (v.place s)) ∙ ap is_shared (here ∙ is))
 
   -- and one that was taken out has it cleared
-  pub taken_word : is_shared place ≡ false → word_at shape v (Flags (word_of_flag s)) ≡ bit_and (word_at shape w (Flags (word_of_flag s))) (all_but s)
-  taken_word is = flag_taken (is_flagged shape w) (is_flagged shape v) s others (ap (λ (b : Bool). nat_lt s shape.slots && b) (ap is_shared here ∙ is) ∙ and_false (nat_lt s shape.slots))
+  pub taken_word : is_shared place ≡ false → word_at start v (Flags (word_of_flag s)) ≡ bit_and (word_at start w (Flags (word_of_flag s))) (all_but s)
+  taken_word is = flag_taken (is_flagged start w) (is_flagged start v) s others (ap (λ (b : Bool). nat_lt s start.shape.slots && b) (ap is_shared here ∙ is) ∙ and_false (nat_lt s start.shape.slots))
 
 -- where no flag is set, clearing it leaves the word
-pub missed_word : (shape : Dimensions) (w : World) (s : ℕ) → has_flag (found shape w (TakeFlag s)) s ≡ false → word_at shape w (Flags (word_of_flag s)) ≡ bit_and (word_at shape w (Flags (word_of_flag s))) (all_but s)
-missed_word shape w s e = flag_taken (is_flagged shape w) (is_flagged shape w) s (λ _ _. refl) (sym (flag_found shape w s) ∙ e)
+pub missed_word : (start : Start) (w : World) (s : ℕ) → has_flag (found start w (TakeFlag s)) s ≡ false → word_at start w (Flags (word_of_flag s)) ≡ bit_and (word_at start w (Flags (word_of_flag s))) (all_but s)
+missed_word start w s e = flag_taken (is_flagged start w) (is_flagged start w) s (λ _ _. refl) (sym (flag_found start w s) ∙ e)
 
 -- where the slots of a word are shared as before, so is the word
-pub same_word : (shape : Dimensions) (v w : World) (number : ℕ) → ((s : ℕ) → word_of_flag s ≡ number → is_shared (v.place s) ≡ is_shared (w.place s)) → word_at shape v (Flags number) ≡ word_at shape w (Flags number)
-same_word shape v w number same = flag_word_same (is_flagged shape v) (is_flagged shape w) number (λ s is. ap (λ (b : Bool). nat_lt s shape.slots && b) (same s is))
+pub same_word : (start : Start) (v w : World) (number : ℕ) → ((s : ℕ) → word_of_flag s ≡ number → is_shared (v.place s) ≡ is_shared (w.place s)) → word_at start v (Flags number) ≡ word_at start w (Flags number)
+same_word start v w number same = flag_word_same (is_flagged start v) (is_flagged start w) number (λ s is. ap (λ (b : Bool). nat_lt s start.shape.slots && b) (same s is))
 
 -- ---- a flag word, made bit by bit
 

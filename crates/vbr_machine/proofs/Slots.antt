@@ -2,7 +2,7 @@
 use Rattle.std.proofs.Common.{◌≡◌, ◌≢◌, ℕ, ◌+◌, ◌<◌, ◌≤◌, true, Option, Some, None, refl, arith, sym, subst, ap, ◌∙◌, inl, inr, ⊎_elim}
 use Rattle.std.specs.Prelude.{◌⊎◌}
 use Rattle.std.proofs.lemmas.Bool.{cases_order, cases_lt}
-use Rattle.vbr_words.specs.Dimensions.{Dimensions}
+use Rattle.vbr_machine.specs.Start.{Start}
 use Rattle.vbr_machine.specs.Incarnations.{State, Unborn, InHand, GivenUp, Linked, Marked, Unlinked, Stamped, Incarnations, IsLate}
 use Rattle.vbr_machine.specs.Images.{link_shown, link_in_state}
 use Rattle.vbr_machine.specs.Sound.{IsListed, IsInserted, IsPassed, TimesFit, StampFits, LinkFits, SlotsSound}
@@ -24,16 +24,16 @@ late_inserted st e l = grind arith
 pub inserted_late : (st : State) → IsInserted st → IsLate st 0
 inserted_late st l = grind arith
 
-pub late_born : {shape : Dimensions} {a : Incarnations} → SlotsSound shape a → (c e : ℕ) → IsLate (a.state c) e → c < a.count
-late_born {shape} {a} s c e l = go (cases_lt c a.count)
+pub late_born : {start : Start} {a : Incarnations} → SlotsSound start a → (c e : ℕ) → IsLate (a.state c) e → c < a.count
+late_born {start} {a} s c e l = go (cases_lt c a.count)
   where
     go : (c < a.count) ⊎ (a.count ≤ c) → c < a.count
     go (inl h) = h
     go (inr h) = absurd (let P : State → Type 0 = λ st. IsLate st e in subst P (s.unborn c h) l)
 
 -- two incarnations of a slot that were born by an epoch and are late for it are one
-pub one_late : {shape : Dimensions} {a : Incarnations} → SlotsSound shape a → (c d e : ℕ) → a.slot c ≡ a.slot d → IsLate (a.state c) e → IsLate (a.state d) e → a.birth c ≤ e → a.birth d ≤ e → c ≡ d
-one_late {shape} {a} s c d e q lc ld bc bd = go (cases_order c d)
+pub one_late : {start : Start} {a : Incarnations} → SlotsSound start a → (c d e : ℕ) → a.slot c ≡ a.slot d → IsLate (a.state c) e → IsLate (a.state d) e → a.birth c ≤ e → a.birth d ≤ e → c ≡ d
+one_late {start} {a} s c d e q lc ld bc bd = go (cases_order c d)
   where
     go : (c ≡ d) ⊎ ((c < d) ⊎ (d < c)) → c ≡ d
     go (inl h) = h
@@ -41,8 +41,8 @@ one_late {shape} {a} s c d e q lc ld bc bd = go (cases_order c d)
     go (inr (inr h)) = absurd (late_not_passed (a.state d) (a.birth d) a.epoch (a.birth c) e ld (s.times d) (s.passed d c h (late_born s c e lc) (sym q)) bc)
 
 -- an incarnation that is late for the epoch as it stands is the last of its slot
-pub late_last : {shape : Dimensions} {a : Incarnations} → SlotsSound shape a → (c : ℕ) → IsLate (a.state c) a.epoch → a.last (a.slot c) ≡ Some c
-late_last {shape} {a} s c lc = go (s.has_last c (late_born s c a.epoch lc))
+pub late_last : {start : Start} {a : Incarnations} → SlotsSound start a → (c : ℕ) → IsLate (a.state c) a.epoch → a.last (a.slot c) ≡ Some c
+late_last {start} {a} s c lc = go (s.has_last c (late_born s c a.epoch lc))
   where
     go : ((l : ℕ) × (a.last (a.slot c) ≡ Some l) × (c ≤ l)) → a.last (a.slot c) ≡ Some c
     go (l, e, le) = go2 (cases_order c l)
@@ -74,12 +74,12 @@ listed_late GivenUp e l = l
 listed_late (Unlinked q u) e l = absurd l
 listed_late (Stamped u r) e l = absurd l
 
-pub listed_last : {shape : Dimensions} {a : Incarnations} → SlotsSound shape a → (c : ℕ) → IsListed (a.state c) → a.last (a.slot c) ≡ Some c
-listed_last {shape} {a} s c l = late_last s c (listed_late (a.state c) a.epoch l)
+pub listed_last : {start : Start} {a : Incarnations} → SlotsSound start a → (c : ℕ) → IsListed (a.state c) → a.last (a.slot c) ≡ Some c
+listed_last {start} {a} s c l = late_last s c (listed_late (a.state c) a.epoch l)
 
 -- what was born is either the last of its slot or passed
-pub last_or_passed : {shape : Dimensions} {a : Incarnations} → SlotsSound shape a → (c : ℕ) → c < a.count → (a.last (a.slot c) ≡ Some c) ⊎ ((d : ℕ) × IsPassed (a.state c) (a.birth d))
-last_or_passed {shape} {a} s c lt = go (s.has_last c lt)
+pub last_or_passed : {start : Start} {a : Incarnations} → SlotsSound start a → (c : ℕ) → c < a.count → (a.last (a.slot c) ≡ Some c) ⊎ ((d : ℕ) × IsPassed (a.state c) (a.birth d))
+last_or_passed {start} {a} s c lt = go (s.has_last c lt)
   where
     go : ((l : ℕ) × (a.last (a.slot c) ≡ Some l) × (c ≤ l)) → (a.last (a.slot c) ≡ Some c) ⊎ ((d : ℕ) × IsPassed (a.state c) (a.birth d))
     go (l, e, le) = go2 (cases_order c l)
@@ -93,9 +93,9 @@ last_or_passed {shape} {a} s c lt = go (s.has_last c lt)
         go2 (inr (inr h)) = absurd (omega arith)
 
 -- each slot shows a marked link or one with a version above its stamp
-pub shows : {shape : Dimensions} {a : Incarnations} → SlotsSound shape a → (s : ℕ) (l : Option ℕ) → a.last s ≡ l → ((link_shown a l).mark ≡ true) ⊎ (a.stamp s < (link_shown a l).version)
+pub shows : {start : Start} {a : Incarnations} → SlotsSound start a → (s : ℕ) (l : Option ℕ) → a.last s ≡ l → ((link_shown a l).mark ≡ true) ⊎ (a.stamp s < (link_shown a l).version)
 shows s v None e = inl refl
-shows {shape} {a} s v (Some c) e = go (a.state c) (s.links c v e) (let P : ℕ → Type 0 = λ w. StampFits (a.state c) (a.birth c) (a.stamp w) in subst P (s.last_born v c e).1 (s.stamps c))
+shows {start} {a} s v (Some c) e = go (a.state c) (s.links c v e) (let P : ℕ → Type 0 = λ w. StampFits (a.state c) (a.birth c) (a.stamp w) in subst P (s.last_born v c e).1 (s.stamps c))
   where
     go : (st : State) → LinkFits st (a.link c) (a.stamp v) → StampFits st (a.birth c) (a.stamp v) → ((link_in_state a c st).mark ≡ true) ⊎ (a.stamp v < (link_in_state a c st).version)
     go Unborn w t = absurd w
@@ -117,16 +117,16 @@ live_not_passed : (st : State) (b : ℕ) → IsLive st → IsPassed st b → ⊥
 live_not_passed st b l p = grind arith
 
 -- a live incarnation is the last of its slot
-pub live_last : {shape : Dimensions} {a : Incarnations} → SlotsSound shape a → (c : ℕ) → IsLive (a.state c) → (c < a.count) × (a.last (a.slot c) ≡ Some c)
-live_last {shape} {a} s c l = go (cases_lt c a.count)
+pub live_last : {start : Start} {a : Incarnations} → SlotsSound start a → (c : ℕ) → IsLive (a.state c) → (c < a.count) × (a.last (a.slot c) ≡ Some c)
+live_last {start} {a} s c l = go (cases_lt c a.count)
   where
     go : (c < a.count) ⊎ (a.count ≤ c) → (c < a.count) × (a.last (a.slot c) ≡ Some c)
     go (inr le) = absurd (let u = s.unborn c le in rw u at l)
     go (inl lt) = (lt, ⊎_elim (λ e. e) (λ w. absurd (live_not_passed (a.state c) (a.birth w.0) l w.1)) (last_or_passed s c lt))
 
 -- the others of the slot of a last one are passed by it
-pub others_passed : {shape : Dimensions} {a : Incarnations} → SlotsSound shape a → (c i : ℕ) → a.last (a.slot c) ≡ Some c → i < a.count → a.slot i ≡ a.slot c → i ≢ c → IsPassed (a.state i) (a.birth c)
-others_passed {shape} {a} s c i e lt q ne = go (s.has_last i lt)
+pub others_passed : {start : Start} {a : Incarnations} → SlotsSound start a → (c i : ℕ) → a.last (a.slot c) ≡ Some c → i < a.count → a.slot i ≡ a.slot c → i ≢ c → IsPassed (a.state i) (a.birth c)
+others_passed {start} {a} s c i e lt q ne = go (s.has_last i lt)
   where
     go : ((l : ℕ) × (a.last (a.slot i) ≡ Some l) × (i ≤ l)) → IsPassed (a.state i) (a.birth c)
     go (l, el, le) =

@@ -2,7 +2,7 @@
 use Rattle.std.proofs.Common.{◌≡◌, ◌≢◌, ℕ, zero, suc, ◌+◌, ◌<◌, ◌≤◌, Bool, true, false, List, refl, arith, ap, ◌∙◌, inl, inr}
 use Rattle.std.specs.Prelude.{◌⊎◌, if◌then◌else◌}
 use Rattle.std.proofs.lemmas.Bool.{cases_Bool, cases_eq, cases_order}
-use Rattle.vbr_words.specs.Dimensions.{Dimensions}
+use Rattle.vbr_machine.specs.Start.{Start}
 use Rattle.vbr_machine.specs.Nodes.{count_below}
 use Rattle.vbr_machine.specs.Whereabouts.{Whereabouts, InSharedPool, WithPass, InSet, MarkedInList, Unstamped, is_at, IsOfPasses, IsSomewhere, number_at, number_had, sum_of}
 use Rattle.vbr_machine.specs.declared.event.Event.{Event}
@@ -49,19 +49,19 @@ sum_both (suc p) f g h e = let before = sum_both p f g h e in let now = e p in o
 
 -- ---- all slots
 
-module _ (shape : Dimensions) (passes : ℕ) (run : List Event) (each : (s : ℕ) → IsSomewhere shape passes run s) where
+module _ (start : Start) (passes : ℕ) (run : List Event) (each : (s : ℕ) → IsSomewhere start passes run s) where
   -- a slot counted where it is tested
   abbrev here : Whereabouts → ℕ → ℕ
-  here whereabouts s = one (is_at shape run whereabouts s)
+  here whereabouts s = one (is_at start run whereabouts s)
 
   -- how many of the slots below a number are there
   abbrev below : Whereabouts → ℕ → ℕ
-  below whereabouts n = count_below (is_at shape run whereabouts) n
+  below whereabouts n = count_below (is_at start run whereabouts) n
 
   not_here : (s : ℕ) (v other : Whereabouts) → (each s).whereabouts ≡ v → other ≢ v → here other s ≡ 0
-  not_here s v other e ne = go (cases_Bool (is_at shape run other s))
+  not_here s v other e ne = go (cases_Bool (is_at start run other s))
     where
-      go : (is_at shape run other s ≡ true) ⊎ (is_at shape run other s ≡ false) → here other s ≡ 0
+      go : (is_at start run other s ≡ true) ⊎ (is_at start run other s ≡ false) → here other s ≡ 0
       go (inl t) = absurd (ne ((each s).only other t ∙ e))
       go (inr f) = ap one f
 
@@ -113,13 +113,13 @@ module _ (shape : Dimensions) (passes : ℕ) (run : List Event) (each : (s : ℕ
   up_to (suc n) =
       let before = up_to n in
       let one_more = adds_one n in
-      let a = count_more (is_at shape run InSharedPool) n in
-      let b = count_more (is_at shape run InSet) n in
-      let c = count_more (is_at shape run MarkedInList) n in
+      let a = count_more (is_at start run InSharedPool) n in
+      let b = count_more (is_at start run InSet) n in
+      let c = count_more (is_at start run MarkedInList) n in
       let d = sum_both passes (λ p. below (WithPass p) n + below (Unstamped p) n) (had n) (λ p. below (WithPass p) (suc n) + below (Unstamped p) (suc n))
-      (λ p. let e = count_more (is_at shape run (WithPass p)) n in let f = count_more (is_at shape run (Unstamped p)) n in omega arith) in
+      (λ p. let e = count_more (is_at start run (WithPass p)) n in let f = count_more (is_at start run (Unstamped p)) n in omega arith) in
       omega arith
 
   -- all slots
-  pub add_up : shape.slots ≡ number_at shape run InSharedPool + sum_of passes (number_had shape run) + number_at shape run InSet + number_at shape run MarkedInList
-  add_up = up_to shape.slots
+  pub add_up : start.shape.slots ≡ number_at start run InSharedPool + sum_of passes (number_had start run) + number_at start run InSet + number_at start run MarkedInList
+  add_up = up_to start.shape.slots

@@ -3,7 +3,7 @@ use Rattle.std.proofs.Common.{◌≡◌, ◌≢◌, ℕ, ◌+◌, ◌<◌, ◌�
 use Rattle.std.specs.Prelude.{◌⊎◌}
 use Rattle.std.proofs.lemmas.Bool.Decides.{nat_tests}
 use Rattle.std.proofs.lemmas.Bool.{cases_eq, cases_order, cases_lt}
-use Rattle.vbr_words.specs.Dimensions.{Dimensions}
+use Rattle.vbr_machine.specs.Start.{Start}
 use Rattle.vbr_words.specs.declared.link.Link.{Link}
 use Rattle.vbr_machine.specs.Put.{put}
 use Rattle.vbr_machine.specs.Keys.{Keys}
@@ -14,8 +14,8 @@ use Rattle.vbr_machine.specs.declared.history.Call.{Call}
 use Rattle.vbr_machine.specs.declared.knowledge.SlotPlace.{SlotPlace}
 use Rattle.vbr_machine.proofs.Slots.{shows, live_last, others_passed, IsLive}
 
-slots_advances : (shape : Dimensions) (a : Incarnations) (pass : ℕ) → SlotsSound shape a → SlotsSound shape (becomes shape a pass Advances)
-slots_advances shape a pass s = record {
+slots_advances : (start : Start) (a : Incarnations) (pass : ℕ) → SlotsSound start a → SlotsSound start (becomes start a pass Advances)
+slots_advances start a pass s = record {
   last_born = s.last_born;
   has_last = s.has_last;
   unborn = s.unborn;
@@ -28,8 +28,8 @@ slots_advances shape a pass s = record {
   placed = s.placed;
 }
 
-slots_gains : (shape : Dimensions) (keys : Keys) (a : Incarnations) (pass v : ℕ) → SlotsSound shape a → Allowed shape keys a pass (Gains v) → SlotsSound shape (becomes shape a pass (Gains v))
-slots_gains shape keys a pass v s h = record {
+slots_gains : (start : Start) (keys : Keys) (a : Incarnations) (pass v : ℕ) → SlotsSound start a → Allowed start keys a pass (Gains v) → SlotsSound start (becomes start a pass (Gains v))
+slots_gains start keys a pass v s h = record {
   last_born = s.last_born;
   has_last = s.has_last;
   unborn = s.unborn;
@@ -42,8 +42,8 @@ slots_gains shape keys a pass v s h = record {
   placed = λ i p q. let u = s.placed i p q in grind (arith, nat_tests);
 }
 
-slots_raises : (shape : Dimensions) (keys : Keys) (a : Incarnations) (pass v : ℕ) → SlotsSound shape a → Allowed shape keys a pass (Raises v) → SlotsSound shape (becomes shape a pass (Raises v))
-slots_raises shape keys a pass v s h = record {
+slots_raises : (start : Start) (keys : Keys) (a : Incarnations) (pass v : ℕ) → SlotsSound start a → Allowed start keys a pass (Raises v) → SlotsSound start (becomes start a pass (Raises v))
+slots_raises start keys a pass v s h = record {
   last_born = s.last_born;
   has_last = s.has_last;
   unborn = s.unborn;
@@ -56,8 +56,8 @@ slots_raises shape keys a pass v s h = record {
   placed = λ i p q. let u = s.placed i p q in grind (arith, nat_tests);
 }
 
-slots_gives_up : (shape : Dimensions) (keys : Keys) (a : Incarnations) (pass c : ℕ) → SlotsSound shape a → Allowed shape keys a pass (GivesUp c) → SlotsSound shape (becomes shape a pass (GivesUp c))
-slots_gives_up shape keys a pass c s h = record {
+slots_gives_up : (start : Start) (keys : Keys) (a : Incarnations) (pass c : ℕ) → SlotsSound start a → Allowed start keys a pass (GivesUp c) → SlotsSound start (becomes start a pass (GivesUp c))
+slots_gives_up start keys a pass c s h = record {
   last_born = s.last_born;
   has_last = s.has_last;
   unborn = λ i le. let u = s.unborn i le in grind (arith, nat_tests);
@@ -70,8 +70,8 @@ slots_gives_up shape keys a pass c s h = record {
   placed = λ i p q. let u = s.placed i p q in grind (arith, nat_tests);
 }
 
-slots_keyed : (shape : Dimensions) (keys : Keys) (a : Incarnations) (pass c key : ℕ) → SlotsSound shape a → Allowed shape keys a pass (Keyed c key) → SlotsSound shape (becomes shape a pass (Keyed c key))
-slots_keyed shape keys a pass c key s h = record {
+slots_keyed : (start : Start) (keys : Keys) (a : Incarnations) (pass c key : ℕ) → SlotsSound start a → Allowed start keys a pass (Keyed c key) → SlotsSound start (becomes start a pass (Keyed c key))
+slots_keyed start keys a pass c key s h = record {
   last_born = s.last_born;
   has_last = s.has_last;
   unborn = s.unborn;
@@ -84,8 +84,8 @@ slots_keyed shape keys a pass c key s h = record {
   placed = λ i p q. let u = s.placed i p q in grind (arith, nat_tests);
 }
 
-slots_valued : (shape : Dimensions) (a : Incarnations) (pass c value : ℕ) → SlotsSound shape a → SlotsSound shape (becomes shape a pass (Valued c value))
-slots_valued shape a pass c value s = record {
+slots_valued : (start : Start) (a : Incarnations) (pass c value : ℕ) → SlotsSound start a → SlotsSound start (becomes start a pass (Valued c value))
+slots_valued start a pass c value s = record {
   last_born = s.last_born;
   has_last = s.has_last;
   unborn = s.unborn;
@@ -98,8 +98,8 @@ slots_valued shape a pass c value s = record {
   placed = s.placed;
 }
 
-slots_aims : (shape : Dimensions) (keys : Keys) (a : Incarnations) (pass c : ℕ) (link : Link) → SlotsSound shape a → Allowed shape keys a pass (Aims c link) → SlotsSound shape (becomes shape a pass (Aims c link))
-slots_aims shape keys a pass c link s h = record {
+slots_aims : (start : Start) (keys : Keys) (a : Incarnations) (pass c : ℕ) (link : Link) → SlotsSound start a → Allowed start keys a pass (Aims c link) → SlotsSound start (becomes start a pass (Aims c link))
+slots_aims start keys a pass c link s h = record {
   last_born = s.last_born;
   has_last = s.has_last;
   unborn = s.unborn;
@@ -112,8 +112,8 @@ slots_aims shape keys a pass c link s h = record {
   placed = s.placed;
 }
 
-slots_removes : (shape : Dimensions) (keys : Keys) (a : Incarnations) (pass c : ℕ) → SlotsSound shape a → Allowed shape keys a pass (Removes c) → SlotsSound shape (becomes shape a pass (Removes c))
-slots_removes shape keys a pass c s h = record {
+slots_removes : (start : Start) (keys : Keys) (a : Incarnations) (pass c : ℕ) → SlotsSound start a → Allowed start keys a pass (Removes c) → SlotsSound start (becomes start a pass (Removes c))
+slots_removes start keys a pass c s h = record {
   last_born = s.last_born;
   has_last = s.has_last;
   unborn = λ i le. let u = s.unborn i le in grind (arith, nat_tests);
@@ -129,8 +129,8 @@ slots_removes shape keys a pass c s h = record {
 unlinked_live : (st : State) (pass stamp epoch : ℕ) → MayStamp st pass stamp epoch → IsLive st
 unlinked_live st pass stamp epoch h = grind arith
 
-stamps_more : (shape : Dimensions) (a : Incarnations) (pass c r : ℕ) → SlotsSound shape a → MayStamp (a.state c) pass r a.epoch → (i : ℕ) → StampFits (a.state i) (a.birth i) (a.stamp (a.slot i)) → StampFits ((becomes shape a pass (Stamps c r)).state i) (a.birth i) ((becomes shape a pass (Stamps c r)).stamp (a.slot i))
-stamps_more shape a pass c r s h i u =
+stamps_more : (start : Start) (a : Incarnations) (pass c r : ℕ) → SlotsSound start a → MayStamp (a.state c) pass r a.epoch → (i : ℕ) → StampFits (a.state i) (a.birth i) (a.stamp (a.slot i)) → StampFits ((becomes start a pass (Stamps c r)).state i) (a.birth i) ((becomes start a pass (Stamps c r)).stamp (a.slot i))
+stamps_more start a pass c r s h i u =
     let w = live_last s c (unlinked_live (a.state c) pass r a.epoch h) in
     plain a.state i c pass r a.epoch (a.birth i) (a.birth c) a.slot a.stamp u (s.stamps c) (s.times c) h (cases_lt i a.count)
     (λ lt q ne. others_passed s c i w.1 lt q ne) (s.unborn i)
@@ -139,35 +139,35 @@ stamps_more shape a pass c r s h i u =
         (i < a.count → slot i ≡ slot c → i ≢ c → IsPassed (state i) bc) → (a.count ≤ i → state i ≡ Unborn) → StampFits (put state c (Stamped (unlinked_at (state c)) r) i) bi (put stamp (slot c) r (slot i))
     plain state i c pass r e bi bc slot stamp u v t h lt o z = grind (arith, nat_tests)
 
-slots_stamps : (shape : Dimensions) (keys : Keys) (a : Incarnations) (pass c r : ℕ) → SlotsSound shape a → Allowed shape keys a pass (Stamps c r) → SlotsSound shape (becomes shape a pass (Stamps c r))
-slots_stamps shape keys a pass c r s h = record {
+slots_stamps : (start : Start) (keys : Keys) (a : Incarnations) (pass c r : ℕ) → SlotsSound start a → Allowed start keys a pass (Stamps c r) → SlotsSound start (becomes start a pass (Stamps c r))
+slots_stamps start keys a pass c r s h = record {
   last_born = s.last_born;
   has_last = s.has_last;
   unborn = λ i le. let u = s.unborn i le in grind (arith, nat_tests);
   passed = λ i d lt b q. let u = s.passed i d lt b q in grind (arith, nat_tests);
   born = s.born;
   times = λ i. let u = s.times i in grind (arith, nat_tests);
-  stamps = λ i. let u = s.stamps i in stamps_more shape a pass c r s h i u;
+  stamps = λ i. let u = s.stamps i in stamps_more start a pass c r s h i u;
   links = λ i p q. let u = s.links i p q in let w = (live_last s c (unlinked_live (a.state c) pass r a.epoch h)).1 in let x = s.last_born p i q in grind (arith, nat_tests);
   unused = s.unused;
   placed = λ i p q. let u = s.placed i p q in grind (arith, nat_tests);
 }
 
-last_more : (shape : Dimensions) (a : Incarnations) (pass v b : ℕ) → SlotsSound shape a → (i : ℕ) → i < a.count + 1 → (l : ℕ) × ((becomes shape a pass (Bears v b)).last ((becomes shape a pass (Bears v b)).slot i) ≡ Some l) × (i ≤ l)
-last_more shape a pass v b s i lt = go (cases_order i a.count)
+last_more : (start : Start) (a : Incarnations) (pass v b : ℕ) → SlotsSound start a → (i : ℕ) → i < a.count + 1 → (l : ℕ) × ((becomes start a pass (Bears v b)).last ((becomes start a pass (Bears v b)).slot i) ≡ Some l) × (i ≤ l)
+last_more start a pass v b s i lt = go (cases_order i a.count)
   where
-    old : i < a.count → (a.slot i ≡ v) ⊎ (a.slot i ≢ v) → (l : ℕ) × ((becomes shape a pass (Bears v b)).last ((becomes shape a pass (Bears v b)).slot i) ≡ Some l) × (i ≤ l)
+    old : i < a.count → (a.slot i ≡ v) ⊎ (a.slot i ≢ v) → (l : ℕ) × ((becomes start a pass (Bears v b)).last ((becomes start a pass (Bears v b)).slot i) ≡ Some l) × (i ≤ l)
     old h (inl e) = (a.count, grind (arith, nat_tests), omega arith)
     old h (inr ne) = let u = s.has_last i h in (u.0, grind (arith, nat_tests), u.2)
 
-    go : (i ≡ a.count) ⊎ ((i < a.count) ⊎ (a.count < i)) → (l : ℕ) × ((becomes shape a pass (Bears v b)).last ((becomes shape a pass (Bears v b)).slot i) ≡ Some l) × (i ≤ l)
+    go : (i ≡ a.count) ⊎ ((i < a.count) ⊎ (a.count < i)) → (l : ℕ) × ((becomes start a pass (Bears v b)).last ((becomes start a pass (Bears v b)).slot i) ≡ Some l) × (i ≤ l)
     go (inl e) = (a.count, grind (arith, nat_tests), omega arith)
     go (inr (inl h)) = old h (cases_eq (a.slot i) v)
     go (inr (inr h)) = absurd (omega arith)
 
 -- what is in the slot now is passed by what is born
-all_passed : (shape : Dimensions) (a : Incarnations) (pass v b : ℕ) → SlotsSound shape a → MayBeBornIn a pass v (a.place v) → a.stamp v < b → (i : ℕ) → i < a.count → a.slot i ≡ v → IsPassed (a.state i) b
-all_passed shape a pass v b s m lt i li q = go (s.has_last i li)
+all_passed : (start : Start) (a : Incarnations) (pass v b : ℕ) → SlotsSound start a → MayBeBornIn a pass v (a.place v) → a.stamp v < b → (i : ℕ) → i < a.count → a.slot i ≡ v → IsPassed (a.state i) b
+all_passed start a pass v b s m lt i li q = go (s.has_last i li)
   where
     bear : (pl : SlotPlace) (l : ℕ) → MayBeBornIn a pass v pl → a.last v ≡ Some l → StampFits (a.state l) (a.birth l) (a.stamp v) → IsPassed (a.state l) b
     bear pl l m e f = grind arith
@@ -192,20 +192,20 @@ all_passed shape a pass v b s m lt i li q = go (s.has_last i li)
         go2 (inr (inl h)) = past (a.state i) (a.birth i) (a.stamp v) (a.birth l) (s.passed i l h bl.0 (q ∙ sym bl.1)) (fits i q) lt
         go2 (inr (inr h)) = absurd (omega arith)
 
-passed_more : (shape : Dimensions) (keys : Keys) (a : Incarnations) (pass v b : ℕ) → SlotsSound shape a → Allowed shape keys a pass (Bears v b) → (i d : ℕ) → i < d → d < a.count + 1 → (becomes shape a pass (Bears v b)).slot i ≡ (becomes shape a pass (Bears v b)).slot d → (d < a.count → a.slot i ≡ a.slot d → IsPassed (a.state i) (a.birth d)) → IsPassed ((becomes shape a pass (Bears v b)).state i) ((becomes shape a pass (Bears v b)).birth d)
-passed_more shape keys a pass v b s h i d lt bd q u = let w = all_passed shape a pass v b s h.0 h.1 i in plain a.slot a.birth a.state a.count i d lt bd q u w
+passed_more : (start : Start) (keys : Keys) (a : Incarnations) (pass v b : ℕ) → SlotsSound start a → Allowed start keys a pass (Bears v b) → (i d : ℕ) → i < d → d < a.count + 1 → (becomes start a pass (Bears v b)).slot i ≡ (becomes start a pass (Bears v b)).slot d → (d < a.count → a.slot i ≡ a.slot d → IsPassed (a.state i) (a.birth d)) → IsPassed ((becomes start a pass (Bears v b)).state i) ((becomes start a pass (Bears v b)).birth d)
+passed_more start keys a pass v b s h i d lt bd q u = let w = all_passed start a pass v b s h.0 h.1 i in plain a.slot a.birth a.state a.count i d lt bd q u w
   where
     plain : (slot birth : ℕ → ℕ) (state : ℕ → State) (n i d : ℕ) → i < d → d < n + 1 → put slot n v i ≡ put slot n v d → (d < n → slot i ≡ slot d → IsPassed (state i) (birth d)) → (i < n → slot i ≡ v → IsPassed (state i) b) → IsPassed (put state n (InHand pass) i) (put birth n b d)
     plain slot birth state n i d lt bd q u w = grind (arith, nat_tests)
 
-slots_bears : (shape : Dimensions) (keys : Keys) (a : Incarnations) (pass v b : ℕ) → SlotsSound shape a → Allowed shape keys a pass (Bears v b) → SlotsSound shape (becomes shape a pass (Bears v b))
-slots_bears shape keys a pass v b s h =
+slots_bears : (start : Start) (keys : Keys) (a : Incarnations) (pass v b : ℕ) → SlotsSound start a → Allowed start keys a pass (Bears v b) → SlotsSound start (becomes start a pass (Bears v b))
+slots_bears start keys a pass v b s h =
     let z = s.unborn a.count (omega arith) in
     record {
       last_born = λ p i q. let u = s.last_born p i in grind (arith, nat_tests);
-      has_last = last_more shape a pass v b s;
+      has_last = last_more start a pass v b s;
       unborn = λ i le. let u = s.unborn i in grind (arith, nat_tests);
-      passed = λ i d lt bd q. let u = s.passed i d lt in passed_more shape keys a pass v b s h i d lt bd q u;
+      passed = λ i d lt bd q. let u = s.passed i d lt in passed_more start keys a pass v b s h i d lt bd q u;
       born = λ i lt. let u = s.born i in grind (arith, nat_tests);
       times = λ i. let u = s.times i in grind (arith, nat_tests);
       stamps = λ i. let u = s.stamps i in grind (arith, nat_tests);
@@ -214,8 +214,8 @@ slots_bears shape keys a pass v b s h =
       placed = λ i p q. let u = s.placed i p in let w = s.last_born p i in grind (arith, nat_tests);
     }
 
-slots_inserts : (shape : Dimensions) (keys : Keys) (a : Incarnations) (pass c : ℕ) (behind : Before) → SlotsSound shape a → Allowed shape keys a pass (Inserts c behind) → SlotsSound shape (becomes shape a pass (Inserts c behind))
-slots_inserts shape keys a pass c behind s h =
+slots_inserts : (start : Start) (keys : Keys) (a : Incarnations) (pass c : ℕ) (behind : Before) → SlotsSound start a → Allowed start keys a pass (Inserts c behind) → SlotsSound start (becomes start a pass (Inserts c behind))
+slots_inserts start keys a pass c behind s h =
     let held = h.in_hand in
     let w = live_last s c (rw h.in_hand tt) in
     record {
@@ -231,8 +231,8 @@ slots_inserts shape keys a pass c behind s h =
       placed = λ i p q. let u = s.placed i p q in let x = s.last_born p i q in grind (arith, nat_tests);
     }
 
-slots_unlinks : (shape : Dimensions) (keys : Keys) (a : Incarnations) (pass c : ℕ) (behind : Before) → SlotsSound shape a → Allowed shape keys a pass (Unlinks c behind) → SlotsSound shape (becomes shape a pass (Unlinks c behind))
-slots_unlinks shape keys a pass c behind s h =
+slots_unlinks : (start : Start) (keys : Keys) (a : Incarnations) (pass c : ℕ) (behind : Before) → SlotsSound start a → Allowed start keys a pass (Unlinks c behind) → SlotsSound start (becomes start a pass (Unlinks c behind))
+slots_unlinks start keys a pass c behind s h =
     let marked = h.0 in
     let w = live_last s c (rw h.0 tt) in
     record {
@@ -248,8 +248,8 @@ slots_unlinks shape keys a pass c behind s h =
       placed = λ i p q. let u = s.placed i p q in let x = s.last_born p i q in grind (arith, nat_tests);
     }
 
-slots_answers : (shape : Dimensions) (a : Incarnations) (pass : ℕ) (call : Call) → SlotsSound shape a → SlotsSound shape (becomes shape a pass (Confirms call))
-slots_answers shape a pass call s = record {
+slots_answers : (start : Start) (a : Incarnations) (pass : ℕ) (call : Call) → SlotsSound start a → SlotsSound start (becomes start a pass (Confirms call))
+slots_answers start a pass call s = record {
   last_born = s.last_born;
   has_last = s.has_last;
   unborn = s.unborn;
@@ -262,18 +262,18 @@ slots_answers shape a pass call s = record {
   placed = s.placed;
 }
 
-pub slots_kept : (shape : Dimensions) (keys : Keys) (a : Incarnations) (pass : ℕ) (what : Happening) → SlotsSound shape a → Allowed shape keys a pass what → SlotsSound shape (becomes shape a pass what)
-slots_kept shape keys a pass Advances s h = slots_advances shape a pass s
-slots_kept shape keys a pass (Gains v) s h = slots_gains shape keys a pass v s h
-slots_kept shape keys a pass (Probes v) s h = s
-slots_kept shape keys a pass (Raises v) s h = slots_raises shape keys a pass v s h
-slots_kept shape keys a pass (GivesUp c) s h = slots_gives_up shape keys a pass c s h
-slots_kept shape keys a pass (Bears v birth) s h = slots_bears shape keys a pass v birth s h
-slots_kept shape keys a pass (Keyed c key) s h = slots_keyed shape keys a pass c key s h
-slots_kept shape keys a pass (Valued c value) s h = slots_valued shape a pass c value s
-slots_kept shape keys a pass (Aims c link) s h = slots_aims shape keys a pass c link s h
-slots_kept shape keys a pass (Inserts c behind) s h = slots_inserts shape keys a pass c behind s h
-slots_kept shape keys a pass (Removes c) s h = slots_removes shape keys a pass c s h
-slots_kept shape keys a pass (Unlinks c behind) s h = slots_unlinks shape keys a pass c behind s h
-slots_kept shape keys a pass (Stamps c stamp) s h = slots_stamps shape keys a pass c stamp s h
-slots_kept shape keys a pass (Confirms call) s h = slots_answers shape a pass call s
+pub slots_kept : (start : Start) (keys : Keys) (a : Incarnations) (pass : ℕ) (what : Happening) → SlotsSound start a → Allowed start keys a pass what → SlotsSound start (becomes start a pass what)
+slots_kept start keys a pass Advances s h = slots_advances start a pass s
+slots_kept start keys a pass (Gains v) s h = slots_gains start keys a pass v s h
+slots_kept start keys a pass (Probes v) s h = s
+slots_kept start keys a pass (Raises v) s h = slots_raises start keys a pass v s h
+slots_kept start keys a pass (GivesUp c) s h = slots_gives_up start keys a pass c s h
+slots_kept start keys a pass (Bears v birth) s h = slots_bears start keys a pass v birth s h
+slots_kept start keys a pass (Keyed c key) s h = slots_keyed start keys a pass c key s h
+slots_kept start keys a pass (Valued c value) s h = slots_valued start a pass c value s
+slots_kept start keys a pass (Aims c link) s h = slots_aims start keys a pass c link s h
+slots_kept start keys a pass (Inserts c behind) s h = slots_inserts start keys a pass c behind s h
+slots_kept start keys a pass (Removes c) s h = slots_removes start keys a pass c s h
+slots_kept start keys a pass (Unlinks c behind) s h = slots_unlinks start keys a pass c behind s h
+slots_kept start keys a pass (Stamps c stamp) s h = slots_stamps start keys a pass c stamp s h
+slots_kept start keys a pass (Confirms call) s h = slots_answers start a pass call s

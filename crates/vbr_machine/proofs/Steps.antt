@@ -3,7 +3,7 @@ use Rattle.std.proofs.Common.{◌≡◌, ◌≢◌, ℕ, ◌-◌, ◌^◌, ◌<�
 use Rattle.std.specs.Prelude.{◌⊎◌, if◌then◌else◌}
 use Rattle.std.proofs.lemmas.List.{get_or_past}
 use Rattle.std.proofs.lemmas.Bool.{cases_eq, cond-true, cond-false}
-use Rattle.vbr_words.specs.Dimensions.{Dimensions, IsShape}
+use Rattle.vbr_machine.specs.Start.{Start, IsStart}
 use Rattle.vbr_machine.specs.Put.{put}
 use Rattle.vbr_machine.specs.Opened.{opening_keys, key_count, has_opening_key, key_number, value_number, opening_birth, first_key, key_behind, link_to_key, link_at_opening}
 use Rattle.vbr_machine.specs.Machine.{World, opening, after}
@@ -29,58 +29,58 @@ use Rattle.vbr_machine.proofs.ToldCalls.{tells_at_first, tells_kept}
 use Rattle.vbr_machine.proofs.Noted.{knows_same}
 
 -- what an accepted step adds to the chronicle is lawful, and the world, the incarnations and the notes agree after it
-abbrev pub StepAgrees : Dimensions → World → Incarnations → (ℕ → Notes) → ℕ → Step → Type 0
-StepAgrees shape w a notes p step =
-    IsLawful shape (opening_keys shape) a (happens shape w a p step)
-    × Agrees shape (after shape w p step) (incarnations_from shape a (happens shape w a p step))
-    (put notes p (notes_with shape w (incarnations_from shape a (happens shape w a p step)) p step (notes p)))
+abbrev pub StepAgrees : Start → World → Incarnations → (ℕ → Notes) → ℕ → Step → Type 0
+StepAgrees start w a notes p step =
+    IsLawful start (opening_keys start) a (happens start w a p step)
+    × Agrees start (after start w p step) (incarnations_from start a (happens start w a p step))
+    (put notes p (notes_with start w (incarnations_from start a (happens start w a p step)) p step (notes p)))
 
 -- the link of a key at opening
-link_at_first : (shape : Dimensions) (holder_birth : ℕ) (number : Option ℕ) → link_to_key shape holder_birth number ≡ link_to_next (at_opening shape) holder_birth number
-link_at_first shape holder_birth None = refl
-link_at_first shape holder_birth (Some number) = refl
+link_at_first : (start : Start) (holder_birth : ℕ) (number : Option ℕ) → link_to_key start holder_birth number ≡ link_to_next (at_opening start) holder_birth number
+link_at_first start holder_birth None = refl
+link_at_first start holder_birth (Some number) = refl
 
-link_shown_at_first : (shape : Dimensions) (s : ℕ) → link_at_opening shape s ≡ link_shown (at_opening shape) (opening_last shape s)
-link_shown_at_first shape s = go (opens_with_one_or_none shape s)
+link_shown_at_first : (start : Start) (s : ℕ) → link_at_opening start s ≡ link_shown (at_opening start) (opening_last start s)
+link_shown_at_first start s = go (opens_with_one_or_none start s)
   where
-    go : ((s < key_count shape) × (has_opening_key shape s ≡ true)) ⊎ ((key_count shape ≤ s) × (has_opening_key shape s ≡ false)) → link_at_opening shape s ≡ link_shown (at_opening shape) (opening_last shape s)
+    go : ((s < key_count start) × (has_opening_key start s ≡ true)) ⊎ ((key_count start ≤ s) × (has_opening_key start s ≡ false)) → link_at_opening start s ≡ link_shown (at_opening start) (opening_last start s)
     go (inl low) =
-        cond-true (has_opening_key shape s) _ _ low.1
-        ∙ link_at_first shape (opening_birth shape s) (key_behind shape s)
-        ∙ sym (ap (link_in_state (at_opening shape) s) (state_at_first shape s low.0))
-        ∙ sym (ap (link_shown (at_opening shape)) (cond-true (has_opening_key shape s) (Some s) None low.1))
-    go (inr high) = cond-false (has_opening_key shape s) _ _ high.1 ∙ sym (ap (link_shown (at_opening shape)) (cond-false (has_opening_key shape s) (Some s) None high.1))
+        cond-true (has_opening_key start s) _ _ low.1
+        ∙ link_at_first start (opening_birth start s) (key_behind start s)
+        ∙ sym (ap (link_in_state (at_opening start) s) (state_at_first start s low.0))
+        ∙ sym (ap (link_shown (at_opening start)) (cond-true (has_opening_key start s) (Some s) None low.1))
+    go (inr high) = cond-false (has_opening_key start s) _ _ high.1 ∙ sym (ap (link_shown (at_opening start)) (cond-false (has_opening_key start s) (Some s) None high.1))
 
-birth_shown_at_first : (shape : Dimensions) (s : ℕ) → opening_birth shape s ≡ birth_shown (at_opening shape) (opening_last shape s)
-birth_shown_at_first shape s = go (opens_with_one_or_none shape s)
+birth_shown_at_first : (start : Start) (s : ℕ) → opening_birth start s ≡ birth_shown (at_opening start) (opening_last start s)
+birth_shown_at_first start s = go (opens_with_one_or_none start s)
   where
-    go : ((s < key_count shape) × (has_opening_key shape s ≡ true)) ⊎ ((key_count shape ≤ s) × (has_opening_key shape s ≡ false)) → opening_birth shape s ≡ birth_shown (at_opening shape) (opening_last shape s)
-    go (inl low) = sym (ap (birth_shown (at_opening shape)) (cond-true (has_opening_key shape s) (Some s) None low.1))
-    go (inr high) = cond-false (has_opening_key shape s) 1 0 high.1 ∙ sym (ap (birth_shown (at_opening shape)) (cond-false (has_opening_key shape s) (Some s) None high.1))
+    go : ((s < key_count start) × (has_opening_key start s ≡ true)) ⊎ ((key_count start ≤ s) × (has_opening_key start s ≡ false)) → opening_birth start s ≡ birth_shown (at_opening start) (opening_last start s)
+    go (inl low) = sym (ap (birth_shown (at_opening start)) (cond-true (has_opening_key start s) (Some s) None low.1))
+    go (inr high) = cond-false (has_opening_key start s) 1 0 high.1 ∙ sym (ap (birth_shown (at_opening start)) (cond-false (has_opening_key start s) (Some s) None high.1))
 
-key_shown_at_first : (shape : Dimensions) (s : ℕ) → key_number shape s ≡ key_shown (at_opening shape) (opening_last shape s)
-key_shown_at_first shape s = go (opens_with_one_or_none shape s)
+key_shown_at_first : (start : Start) (s : ℕ) → key_number start s ≡ key_shown (at_opening start) (opening_last start s)
+key_shown_at_first start s = go (opens_with_one_or_none start s)
   where
-    go : ((s < key_count shape) × (has_opening_key shape s ≡ true)) ⊎ ((key_count shape ≤ s) × (has_opening_key shape s ≡ false)) → key_number shape s ≡ key_shown (at_opening shape) (opening_last shape s)
-    go (inl low) = sym (ap (key_shown (at_opening shape)) (cond-true (has_opening_key shape s) (Some s) None low.1))
-    go (inr high) = get_or_past shape.keys s 0 high.0 ∙ sym (ap (key_shown (at_opening shape)) (cond-false (has_opening_key shape s) (Some s) None high.1))
+    go : ((s < key_count start) × (has_opening_key start s ≡ true)) ⊎ ((key_count start ≤ s) × (has_opening_key start s ≡ false)) → key_number start s ≡ key_shown (at_opening start) (opening_last start s)
+    go (inl low) = sym (ap (key_shown (at_opening start)) (cond-true (has_opening_key start s) (Some s) None low.1))
+    go (inr high) = get_or_past start.keys s 0 high.0 ∙ sym (ap (key_shown (at_opening start)) (cond-false (has_opening_key start s) (Some s) None high.1))
 
-value_shown_at_first : (shape : Dimensions) (s : ℕ) → value_number shape s ≡ value_shown (at_opening shape) (opening_last shape s)
-value_shown_at_first shape s = go (opens_with_one_or_none shape s)
+value_shown_at_first : (start : Start) (s : ℕ) → value_number start s ≡ value_shown (at_opening start) (opening_last start s)
+value_shown_at_first start s = go (opens_with_one_or_none start s)
   where
-    go : ((s < key_count shape) × (has_opening_key shape s ≡ true)) ⊎ ((key_count shape ≤ s) × (has_opening_key shape s ≡ false)) → value_number shape s ≡ value_shown (at_opening shape) (opening_last shape s)
-    go (inl low) = sym (ap (value_shown (at_opening shape)) (cond-true (has_opening_key shape s) (Some s) None low.1))
-    go (inr high) = cond-false (has_opening_key shape s) _ 0 high.1 ∙ sym (ap (value_shown (at_opening shape)) (cond-false (has_opening_key shape s) (Some s) None high.1))
+    go : ((s < key_count start) × (has_opening_key start s ≡ true)) ⊎ ((key_count start ≤ s) × (has_opening_key start s ≡ false)) → value_number start s ≡ value_shown (at_opening start) (opening_last start s)
+    go (inl low) = sym (ap (value_shown (at_opening start)) (cond-true (has_opening_key start s) (Some s) None low.1))
+    go (inr high) = cond-false (has_opening_key start s) _ 0 high.1 ∙ sym (ap (value_shown (at_opening start)) (cond-false (has_opening_key start s) (Some s) None high.1))
 
 -- the words at opening are the image of the incarnations then
-image_at_first : (shape : Dimensions) → IsImage (opening shape) (at_opening shape)
-image_at_first shape = record {
+image_at_first : (start : Start) → IsImage (opening start) (at_opening start)
+image_at_first start = record {
   epoch = refl;
-  head = λ b. link_at_first shape 0 (first_key shape b);
-  link = link_shown_at_first shape;
-  birth = birth_shown_at_first shape;
-  key = key_shown_at_first shape;
-  value = value_shown_at_first shape;
+  head = λ b. link_at_first start 0 (first_key start b);
+  link = link_shown_at_first start;
+  birth = birth_shown_at_first start;
+  key = key_shown_at_first start;
+  value = value_shown_at_first start;
   stamp = λ s. refl;
   place = λ s. refl;
 }
@@ -90,24 +90,24 @@ no_owner_at_first : (b : Bool) (bucket pass : ℕ) → IsNotOf pass (if b then L
 no_owner_at_first true bucket pass = tt
 no_owner_at_first false bucket pass = tt
 
-pub agrees_at_first : (shape : Dimensions) → IsShape shape → Agrees shape (opening shape) (at_opening shape) (λ p. no_notes)
-agrees_at_first shape is = record {
-  sound = sound_at_first shape is.ascending;
-  tells = tells_at_first shape is.ascending;
-  fits = record { is_shape = is; epoch = let u = is.some_epoch in omega arith; slot = λ c low. let few = is.few in omega (arith, few); link = λ c. record { slot = tt; version = omega arith } };
-  image = image_at_first shape;
+pub agrees_at_first : (start : Start) → IsStart start → Agrees start (opening start) (at_opening start) (λ p. no_notes)
+agrees_at_first start is = record {
+  sound = sound_at_first start is.ascending;
+  tells = tells_at_first start is.ascending;
+  fits = record { is_start = is; epoch = let u = is.shape.some_epoch in omega arith; slot = λ c low. let few = is.few in omega (arith, few); link = λ c. record { slot = tt; version = omega arith } };
+  image = image_at_first start;
   knows = λ p. record { epoch = omega arith; checked_reads = refl; pending_reads = refl; checked_shown = tt; pending_shown = tt; checked = tt; pending = λ e. tt };
-  owns = λ p s. no_owner_at_first (has_opening_key shape s) (bucket_of shape (key_number shape s)) p;
+  owns = λ p s. no_owner_at_first (has_opening_key start s) (bucket_of start.shape (key_number start s)) p;
   calls = refl;
-  births = let few = is.few in let slots = is.slots in omega (arith, few, slots);
+  births = let few = is.few in let slots = is.shape.slots in omega (arith, few, slots);
 }
 
 -- after one allowed event
-pub agrees_next : (shape : Dimensions) (w v : World) (a : Incarnations) (notes new : ℕ → Notes) (p : ℕ) (what : Happening) → Agrees shape w a notes → Allowed shape (opening_keys shape) a p what →
-    Fits shape (becomes shape a p what) → IsImage v (becomes shape a p what) → AllKnowRight (becomes shape a p what) v.know new → Owns (becomes shape a p what) v.know → v.calls ≡ (becomes shape a p what).calls → v.births ≡ min (becomes shape a p what).count (2 ^ 64 - 1) → Agrees shape v (becomes shape a p what) new
-agrees_next shape w v a notes new p what g al f i k o c n = record {
-  sound = sound_kept shape (opening_keys shape) a p what g.sound al;
-  tells = tells_kept shape a p what g.sound g.tells al;
+pub agrees_next : (start : Start) (w v : World) (a : Incarnations) (notes new : ℕ → Notes) (p : ℕ) (what : Happening) → Agrees start w a notes → Allowed start (opening_keys start) a p what →
+    Fits start (becomes start a p what) → IsImage v (becomes start a p what) → AllKnowRight (becomes start a p what) v.know new → Owns (becomes start a p what) v.know → v.calls ≡ (becomes start a p what).calls → v.births ≡ min (becomes start a p what).count (2 ^ 64 - 1) → Agrees start v (becomes start a p what) new
+agrees_next start w v a notes new p what g al f i k o c n = record {
+  sound = sound_kept start (opening_keys start) a p what g.sound al;
+  tells = tells_kept start a p what g.sound g.tells al;
   fits = f;
   image = i;
   knows = k;
@@ -117,8 +117,8 @@ agrees_next shape w v a notes new p what g al f i k o c n = record {
 }
 
 -- where nothing happened
-pub agrees_still : (shape : Dimensions) (w : World) (a : Incarnations) (notes : ℕ → Notes) (p : ℕ) → Agrees shape w a notes → Agrees shape w a (put notes p (notes p))
-agrees_still shape w a notes p g = record {
+pub agrees_still : (start : Start) (w : World) (a : Incarnations) (notes : ℕ → Notes) (p : ℕ) → Agrees start w a notes → Agrees start w a (put notes p (notes p))
+agrees_still start w a notes p g = record {
   sound = g.sound;
   tells = g.tells;
   fits = g.fits;

@@ -2,7 +2,7 @@
 use Rattle.std.proofs.Common.{◌≡◌, ℕ, Bool, true, false, List, [], ◌∷◌, ◌++◌, Option, Some, None, refl, sym, subst}
 use Rattle.std.specs.Prelude.{IsSome, IfSome, if◌then◌else◌}
 use Rattle.std.specs.Option.{option_to_list}
-use Rattle.vbr_words.specs.Dimensions.{Dimensions}
+use Rattle.vbr_machine.specs.Start.{Start}
 use Rattle.vbr_words.specs.Words.{link_of}
 use Rattle.vbr_words.specs.declared.link.Link.{Link}
 use Rattle.vbr_words.specs.declared.place.At.{At}
@@ -51,24 +51,24 @@ none_for_has : (t : Bool) → HasValueOf t Has true None
 none_for_has true = refl
 none_for_has false = refl
 
-ready_value : (shape : Dimensions) (reads : List Read) (pred : At) (expected : Link) (own : Option Holding) → MayPublish shape reads pred expected own → HasValue shape.values (value_in_hand own)
-ready_value shape reads pred expected None r = absurd r
-ready_value shape reads pred expected (Some (Free stamp)) r = absurd r
-ready_value shape reads pred expected (Some (Unlinked seen)) r = absurd r
-ready_value shape reads pred expected (Some (InHand known)) r = r.valued
+ready_value : (start : Start) (reads : List Read) (pred : At) (expected : Link) (own : Option Holding) → MayPublish start reads pred expected own → HasValue start.shape.values (value_in_hand own)
+ready_value start reads pred expected None r = absurd r
+ready_value start reads pred expected (Some (Free stamp)) r = absurd r
+ready_value start reads pred expected (Some (Unlinked seen)) r = absurd r
+ready_value start reads pred expected (Some (InHand known)) r = r.valued
 
-present : (shape : Dimensions) (op : Op) (v : Option ℕ) → IsOpIn shape op → HasValueFor op v → HasValueOf shape.values op (present_reply op) (present_value op v)
-present shape Insert v i h = none_for shape.values Insert
-present shape Remove v i h = none_for shape.values Remove
-present shape Has v i h = none_for_has shape.values
-present shape Get v i h = given shape.values v i h
+present : (start : Start) (op : Op) (v : Option ℕ) → IsOpIn start op → HasValueFor op v → HasValueOf start.shape.values op (present_reply op) (present_value op v)
+present start Insert v i h = none_for start.shape.values Insert
+present start Remove v i h = none_for start.shape.values Remove
+present start Has v i h = none_for_has start.shape.values
+present start Get v i h = given start.shape.values v i h
 
-call_has : (shape : Dimensions) (p : ℕ) (know : Know) (step : Step) → Accepts shape know step → IfSome (call_of shape p know step) (λ call. HasValueOf shape.values call.op call.reply call.value)
-call_has shape p know (Publish pred expected s) ok = inserted shape.values (value_in_hand (know.own s)) (ready_value shape know.checked pred (link_of expected) (know.own s) ok.in_range.1)
-call_has shape p know (Mark s expected) ok = removed shape.values (value_in know.checked s) ok.held.2
-call_has shape p know (ConfirmPresent op s expected) ok = present shape op (value_in know.checked s) ok.in_shape.1 ok.held.2
-call_has shape p know (ConfirmAbsent op key at expected) ok = none_for shape.values op
-call_has shape p know _ ok = tt
+call_has : (start : Start) (p : ℕ) (know : Know) (step : Step) → Accepts start know step → IfSome (call_of start p know step) (λ call. HasValueOf start.shape.values call.op call.reply call.value)
+call_has start p know (Publish pred expected s) ok = inserted start.shape.values (value_in_hand (know.own s)) (ready_value start know.checked pred (link_of expected) (know.own s) ok.in_range.1)
+call_has start p know (Mark s expected) ok = removed start.shape.values (value_in know.checked s) ok.held.2
+call_has start p know (ConfirmPresent op s expected) ok = present start op (value_in know.checked s) ok.in_shape.1 ok.held.2
+call_has start p know (ConfirmAbsent op key at expected) ok = none_for start.shape.values op
+call_has start p know _ ok = tt
 
 -- ---- all calls
 
@@ -81,15 +81,15 @@ if_made : (b t : Bool) (made : Option Call) → IfSome made (λ call. HasValueOf
 if_made true t made h = h
 if_made false t made h = tt
 
-have_on : (shape : Dimensions) (passes : ℕ) (w : World) (events : List Event) → AreAccepted shape passes w events → HaveValues shape.values w.calls → HaveValues shape.values (world_from shape w events).calls
-have_on shape passes w [] ok h = h
-have_on shape passes w (event ∷ events) ok h =
-    let made = call_of shape event.pass (w.know event.pass) event.step in
-    let b = succeeds event.step (found shape w event.step) in
-    let P : List Call → Type 0 = HaveValues shape.values in
-    have_on shape passes (after shape w event.pass event.step) events ok.1
-    (subst P (sym (calls_after shape w event.pass event.step)) (have_more shape.values w.calls (if b then made else None) h (if_made b shape.values made (call_has shape event.pass (w.know event.pass) event.step ok.0.1))))
+have_on : (start : Start) (passes : ℕ) (w : World) (events : List Event) → AreAccepted start passes w events → HaveValues start.shape.values w.calls → HaveValues start.shape.values (world_from start w events).calls
+have_on start passes w [] ok h = h
+have_on start passes w (event ∷ events) ok h =
+    let made = call_of start event.pass (w.know event.pass) event.step in
+    let b = succeeds event.step (found start w event.step) in
+    let P : List Call → Type 0 = HaveValues start.shape.values in
+    have_on start passes (after start w event.pass event.step) events ok.1
+    (subst P (sym (calls_after start w event.pass event.step)) (have_more start.shape.values w.calls (if b then made else None) h (if_made b start.shape.values made (call_has start event.pass (w.know event.pass) event.step ok.0.1))))
 
 -- after a run
-pub run_values : (shape : Dimensions) (passes : ℕ) (run : List Event) → IsRun shape passes run → HaveValues shape.values (world_after shape run).calls
-run_values shape passes run ok = have_on shape passes (opening shape) run ok tt
+pub run_values : (start : Start) (passes : ℕ) (run : List Event) → IsRun start passes run → HaveValues start.shape.values (world_after start run).calls
+run_values start passes run ok = have_on start passes (opening start) run ok tt

@@ -3,7 +3,7 @@ use Rattle.std.proofs.Common.{◌≡◌, ◌≢◌, ℕ, max, false, List, Optio
 use Rattle.std.specs.Prelude.{◌⊎◌, IsSome}
 use Rattle.std.specs.List.{AllByRecursion}
 use Rattle.std.proofs.lemmas.Bool.{cases_eq}
-use Rattle.vbr_words.specs.Dimensions.{Dimensions}
+use Rattle.vbr_machine.specs.Start.{Start}
 use Rattle.vbr_words.specs.Words.{link_of}
 use Rattle.vbr_words.specs.declared.link.Link.{Link}
 use Rattle.vbr_words.specs.declared.place.At.{At}
@@ -35,51 +35,51 @@ use Rattle.vbr_machine.proofs.PublishSteps.{slot_of_is}
 -- ---- the links after an unlinking
 
 -- the links elsewhere once c was unlinked behind the place
-unlinked_there : {shape : Dimensions} {a : Incarnations} → Sound shape a → (p c : ℕ) (pred : At) → last_at a pred ≡ node_at a pred → a.state c ≡ Marked → (at : At) → at ≢ pred → link_shown_at (becomes shape a p (Unlinks c (before_at a pred))) at ≡ link_shown_at a at
-unlinked_there {shape} {a} snd p c (Head h) lq m (Head v) ne = to_next_same a (becomes shape a p (Unlinks c (AtHead h))) refl refl 0 (put a.first h (a.next c) v) ∙ ap (link_to_next a 0) (put_other a.first h (a.next c) v (λ e. ne (ap Head e)))
-unlinked_there {shape} {a} snd p c (Slot q) lq m (Head v) ne = to_next_same a (becomes shape a p (Unlinks c (AtNode (last_in a q)))) refl refl 0 (a.first v)
-unlinked_there {shape} {a} snd p c (Head h) lq m (Slot v) ne = go (a.last v)
+unlinked_there : {start : Start} {a : Incarnations} → Sound start a → (p c : ℕ) (pred : At) → last_at a pred ≡ node_at a pred → a.state c ≡ Marked → (at : At) → at ≢ pred → link_shown_at (becomes start a p (Unlinks c (before_at a pred))) at ≡ link_shown_at a at
+unlinked_there {start} {a} snd p c (Head h) lq m (Head v) ne = to_next_same a (becomes start a p (Unlinks c (AtHead h))) refl refl 0 (put a.first h (a.next c) v) ∙ ap (link_to_next a 0) (put_other a.first h (a.next c) v (λ e. ne (ap Head e)))
+unlinked_there {start} {a} snd p c (Slot q) lq m (Head v) ne = to_next_same a (becomes start a p (Unlinks c (AtNode (last_in a q)))) refl refl 0 (a.first v)
+unlinked_there {start} {a} snd p c (Head h) lq m (Slot v) ne = go (a.last v)
   where
-    go : (l : Option ℕ) → link_shown (becomes shape a p (Unlinks c (AtHead h))) l ≡ link_shown a l
+    go : (l : Option ℕ) → link_shown (becomes start a p (Unlinks c (AtHead h))) l ≡ link_shown a l
     go None = refl
     go (Some d) = go2 (cases_eq d c)
       where
-        go2 : (d ≡ c) ⊎ (d ≢ c) → link_shown (becomes shape a p (Unlinks c (AtHead h))) (Some d) ≡ link_shown a (Some d)
-        go2 (inl r) = rw (r, put_here a.state c (Unlinked p a.epoch), m) (ap marked (linked_same a (becomes shape a p (Unlinks c (AtHead h))) refl refl c refl))
-        go2 (inr r) = link_kept a (becomes shape a p (Unlinks c (AtHead h))) refl refl (Some d) (λ i s. let z : i ≡ d = cc in (put_other a.state c (Unlinked p a.epoch) i (λ y. r (sym z ∙ y)), refl, refl))
-unlinked_there {shape} {a} snd p c (Slot q) lq m (Slot v) ne = go (a.last v) refl
+        go2 : (d ≡ c) ⊎ (d ≢ c) → link_shown (becomes start a p (Unlinks c (AtHead h))) (Some d) ≡ link_shown a (Some d)
+        go2 (inl r) = rw (r, put_here a.state c (Unlinked p a.epoch), m) (ap marked (linked_same a (becomes start a p (Unlinks c (AtHead h))) refl refl c refl))
+        go2 (inr r) = link_kept a (becomes start a p (Unlinks c (AtHead h))) refl refl (Some d) (λ i s. let z : i ≡ d = cc in (put_other a.state c (Unlinked p a.epoch) i (λ y. r (sym z ∙ y)), refl, refl))
+unlinked_there {start} {a} snd p c (Slot q) lq m (Slot v) ne = go (a.last v) refl
   where
-    go : (l : Option ℕ) → a.last v ≡ l → link_shown (becomes shape a p (Unlinks c (AtNode (last_in a q)))) l ≡ link_shown a l
+    go : (l : Option ℕ) → a.last v ≡ l → link_shown (becomes start a p (Unlinks c (AtNode (last_in a q)))) l ≡ link_shown a l
     go None e = refl
     go (Some d) e = go2 (cases_eq d c)
       where
         dk : d ≢ last_in a q
         dk = lasts_differ snd.slots v q (last_in a q) d (λ z. ne (ap Slot z)) lq e
 
-        go2 : (d ≡ c) ⊎ (d ≢ c) → link_shown (becomes shape a p (Unlinks c (AtNode (last_in a q)))) (Some d) ≡ link_shown a (Some d)
-        go2 (inl r) = rw (r, put_here a.state c (Unlinked p a.epoch), m) (ap marked (linked_same a (becomes shape a p (Unlinks c (AtNode (last_in a q)))) refl refl c (put_other a.next (last_in a q) (a.next c) c (λ y. dk (r ∙ y)))))
-        go2 (inr r) = link_kept a (becomes shape a p (Unlinks c (AtNode (last_in a q)))) refl refl (Some d) (λ i s. let z : i ≡ d = cc in (put_other a.state c (Unlinked p a.epoch) i (λ y. r (sym z ∙ y)), refl, put_other a.next (last_in a q) (a.next c) i (λ y. dk (sym z ∙ y))))
+        go2 : (d ≡ c) ⊎ (d ≢ c) → link_shown (becomes start a p (Unlinks c (AtNode (last_in a q)))) (Some d) ≡ link_shown a (Some d)
+        go2 (inl r) = rw (r, put_here a.state c (Unlinked p a.epoch), m) (ap marked (linked_same a (becomes start a p (Unlinks c (AtNode (last_in a q)))) refl refl c (put_other a.next (last_in a q) (a.next c) c (λ y. dk (r ∙ y)))))
+        go2 (inr r) = link_kept a (becomes start a p (Unlinks c (AtNode (last_in a q)))) refl refl (Some d) (λ i s. let z : i ≡ d = cc in (put_other a.state c (Unlinked p a.epoch) i (λ y. r (sym z ∙ y)), refl, put_other a.next (last_in a q) (a.next c) i (λ y. dk (sym z ∙ y))))
 
 -- the link at the place itself
-unlinked_here : (shape : Dimensions) (a : Incarnations) (p c : ℕ) (pred : At) → last_at a pred ≡ node_at a pred → IsOpen a (before_at a pred) → a.state c ≡ Marked → link_shown_at (becomes shape a p (Unlinks c (before_at a pred))) pred ≡ link_to_next a (birth_there a pred) (a.next c)
-unlinked_here shape a p c (Head h) lq o m =
-    let b = becomes shape a p (Unlinks c (AtHead h)) in
+unlinked_here : (start : Start) (a : Incarnations) (p c : ℕ) (pred : At) → last_at a pred ≡ node_at a pred → IsOpen a (before_at a pred) → a.state c ≡ Marked → link_shown_at (becomes start a p (Unlinks c (before_at a pred))) pred ≡ link_to_next a (birth_there a pred) (a.next c)
+unlinked_here start a p c (Head h) lq o m =
+    let b = becomes start a p (Unlinks c (AtHead h)) in
     ap (link_to_next b 0) (put_here a.first h (a.next c)) ∙ to_next_same a b refl refl 0 (a.next c)
-unlinked_here shape a p c (Slot q) lq o m =
+unlinked_here start a p c (Slot q) lq o m =
     let k = last_in a q in
-    let b = becomes shape a p (Unlinks c (AtNode k)) in
+    let b = becomes start a p (Unlinks c (AtNode k)) in
     let kc : k ≢ c = λ e. let y : a.state c ≡ Linked = rw e at o in cc in
     ap (link_shown b) lq ∙ ap (link_in_state b k) (put_other a.state c (Unlinked p a.epoch) k kc ∙ o) ∙ ap (link_to_next b (a.birth k)) (put_here a.next k (a.next c)) ∙ to_next_same a b refl refl (a.birth k) (a.next c)
 
 -- the incarnation at the place is as before
-pub last_behind : (shape : Dimensions) (a : Incarnations) (p c : ℕ) (at : At) → last_at a at ≡ node_at a at → last_at (becomes shape a p (Unlinks c (before_at a at))) at ≡ node_at a at
-last_behind shape a p c (Head h) l = refl
-last_behind shape a p c (Slot q) l = l
+pub last_behind : (start : Start) (a : Incarnations) (p c : ℕ) (at : At) → last_at a at ≡ node_at a at → last_at (becomes start a p (Unlinks c (before_at a at))) at ≡ node_at a at
+last_behind start a p c (Head h) l = refl
+last_behind start a p c (Slot q) l = l
 
 -- and what followed c now follows the place
-pub next_behind : (shape : Dimensions) (a : Incarnations) (p c : ℕ) (at : At) → next_of (becomes shape a p (Unlinks c (before_at a at))) (before_at (becomes shape a p (Unlinks c (before_at a at))) at) ≡ a.next c
-next_behind shape a p c (Head h) = put_here a.first h (a.next c)
-next_behind shape a p c (Slot q) = put_here a.next (last_in a q) (a.next c)
+pub next_behind : (start : Start) (a : Incarnations) (p c : ℕ) (at : At) → next_of (becomes start a p (Unlinks c (before_at a at))) (before_at (becomes start a p (Unlinks c (before_at a at))) at) ≡ a.next c
+next_behind start a p c (Head h) = put_here a.first h (a.next c)
+next_behind start a p c (Slot q) = put_here a.next (last_in a q) (a.next c)
 
 -- ---- the node that is taken out
 
@@ -91,9 +91,9 @@ pub record MarkedFacts (a : Incarnations) (s e : ℕ) (known : Option Link) : Ty
   pub next : IsHeldNext a e (next_of_marked known) (a.next (last_in a s))
 
 -- so it is where the link that stands at a place names the slot, and then this incarnation follows the place
-marked_facts : {shape : Dimensions} {a : Incarnations} → Sound shape a → (e : ℕ) (notes : List Note) (reads : List Read) (s : ℕ) (at : At) (link : Link) → reads ≡ reads_of notes → AllByRecursion (IsGood a e) notes → LinkStands shape a e reads at link → link.slot ≡ Some s → IsSome (marked_in reads s) →
+marked_facts : {start : Start} {a : Incarnations} → Sound start a → (e : ℕ) (notes : List Note) (reads : List Read) (s : ℕ) (at : At) (link : Link) → reads ≡ reads_of notes → AllByRecursion (IsGood a e) notes → LinkStands start a e reads at link → link.slot ≡ Some s → IsSome (marked_in reads s) →
     MarkedFacts a s e (marked_in reads s) × (next_of a (before_at a at) ≡ Some (last_in a s))
-marked_facts {shape} {a} snd e notes reads s at link q al m sl k = go (marked_in reads s) refl k
+marked_facts {start} {a} snd e notes reads s at link q al m sl k = go (marked_in reads s) refl k
   where
     named : (n : Option ℕ) → next_of a (before_at a at) ≡ n → IsHeldNext a e (Some s) n → (c : ℕ) × (next_of a (before_at a at) ≡ Some c) × IsHeldIncarnation a e s c
     named None r h = absurd h
@@ -118,7 +118,7 @@ marked_facts {shape} {a} snd e notes reads s at link q al m sl k = go (marked_in
         let c : last_in a s ≡ n.0 = rw la refl in
         (record { held = rw c n.2; last = la ∙ ap Some (sym c); state = rw c (both (a.state n.0) li (rw same at d.2)); next = rw (c, ← same, d.3) f.2.next }, n.1 ∙ ap Some (sym c))
 
-module _ (shape : Dimensions) (w : World) (a : Incarnations) (notes : ℕ → Notes) (p : ℕ) (pred : At) (expected s : ℕ) (g : Agrees shape w a notes) (ok : Accepts shape (w.know p) (Unlink pred expected s)) (m : LinkStands shape a (w.know p).epoch (w.know p).checked pred (link_of expected)) where
+module _ (start : Start) (w : World) (a : Incarnations) (notes : ℕ → Notes) (p : ℕ) (pred : At) (expected s : ℕ) (g : Agrees start w a notes) (ok : Accepts start (w.know p) (Unlink pred expected s)) (m : LinkStands start a (w.know p).epoch (w.know p).checked pred (link_of expected)) where
   taken : MarkedFacts a s (w.know p).epoch (marked_in (w.know p).checked s) × (next_of a (before_at a pred) ≡ Some (last_in a s))
   taken = marked_facts g.sound (w.know p).epoch (notes p).checked (w.know p).checked s pred (link_of expected) (g.knows p).checked_reads (g.knows p).checked m ok.in_range.1 ok.held.1
 
@@ -126,7 +126,7 @@ module _ (shape : Dimensions) (w : World) (a : Incarnations) (notes : ℕ → No
   facts = taken.0
 
   -- what the step adds to the chronicle is allowed
-  pub may_unlink : Allowed shape (opening_keys shape) a p (Unlinks (last_in a s) (before_at a pred))
+  pub may_unlink : Allowed start (opening_keys start) a p (Unlinks (last_in a s) (before_at a pred))
   may_unlink = (facts.state, m.is_open, taken.1)
 
   -- the link that the step writes, in the incarnations' terms
@@ -139,12 +139,12 @@ module _ (shape : Dimensions) (w : World) (a : Incarnations) (notes : ℕ → No
       λ i. record { slot = sl i; mark = false; version = max (pb i) (nb i) }
 
   -- it is that of the image after it
-  pub new_link : link_shown_at (becomes shape a p (Unlinks (last_in a s) (before_at a pred))) pred ≡ link_written (w.know p) (Unlink pred expected s)
-  new_link = unlinked_here shape a p (last_in a s) pred m.last m.is_open facts.state ∙ sym link_is
+  pub new_link : link_shown_at (becomes start a p (Unlinks (last_in a s) (before_at a pred))) pred ≡ link_written (w.know p) (Unlink pred expected s)
+  new_link = unlinked_here start a p (last_in a s) pred m.last m.is_open facts.state ∙ sym link_is
 
   -- and elsewhere no link changes
-  pub old_links : (at : At) → at ≢ pred → link_shown_at (becomes shape a p (Unlinks (last_in a s) (before_at a pred))) at ≡ link_shown_at a at
+  pub old_links : (at : At) → at ≢ pred → link_shown_at (becomes start a p (Unlinks (last_in a s) (before_at a pred))) at ≡ link_shown_at a at
   old_links = unlinked_there g.sound p (last_in a s) pred m.last facts.state
 
-  pub gr : Grows a (becomes shape a p (Unlinks (last_in a s) (before_at a pred)))
-  gr = grows shape (opening_keys shape) a p (Unlinks (last_in a s) (before_at a pred)) g.sound may_unlink
+  pub gr : Grows a (becomes start a p (Unlinks (last_in a s) (before_at a pred)))
+  gr = grows start (opening_keys start) a p (Unlinks (last_in a s) (before_at a pred)) g.sound may_unlink

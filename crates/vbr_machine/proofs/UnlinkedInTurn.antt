@@ -2,7 +2,7 @@
 use Rattle.std.proofs.Common.{◌≡◌, ◌≢◌, ℕ, zero, suc, ◌<◌, ◌≤◌, ◌==◌, Bool, true, false, List, [], ◌∷◌, ◌++◌, Option, Some, None, refl, arith, sym, subst, ap, ◌∙◌, inl, inr, ⊎_elim, append_assoc, append-nil}
 use Rattle.std.specs.Prelude.{◌⊎◌, if◌then◌else◌}
 use Rattle.std.proofs.lemmas.Bool.{cases_Bool, cases_eq, false≢true, true≢false}
-use Rattle.vbr_words.specs.Dimensions.{Dimensions}
+use Rattle.vbr_machine.specs.Start.{Start}
 use Rattle.vbr_words.specs.Flags.{has_flag}
 use Rattle.vbr_words.specs.declared.link.Link.{Link}
 use Rattle.vbr_machine.specs.Put.{put}
@@ -129,59 +129,59 @@ one_passes test (suc n) t h = go (cases_Bool (test n)) (one_passes test n t (λ 
 
 -- ---- along a run
 
-module _ (shape : Dimensions) (pass : ℕ) where
+module _ (start : Start) (pass : ℕ) where
   abbrev number : List Event → ℕ
-  number run = number_at shape run (Unstamped pass)
+  number run = number_at start run (Unstamped pass)
 
-  by_others : (run : List Event) (event : Event) → event.pass ≢ pass → know_after shape (run ++ event ∷ []) pass ≡ know_after shape run pass
-  by_others run event ne = ap (λ (v : World). v.know pass) (world_after-snoc shape run event) ∙ know_other shape (world_after shape run) pass event.pass event.step (λ e. ne (sym e))
+  by_others : (run : List Event) (event : Event) → event.pass ≢ pass → know_after start (run ++ event ∷ []) pass ≡ know_after start run pass
+  by_others run event ne = ap (λ (v : World). v.know pass) (world_after-snoc start run event) ∙ know_other start (world_after start run) pass event.pass event.step (λ e. ne (sym e))
 
-  by_pass : (run : List Event) (event : Event) → event.pass ≡ pass → know_after shape (run ++ event ∷ []) pass ≡ learn event.step (found shape (world_after shape run) event.step) (stamp_shown (world_after shape run) event.step) (know_after shape run pass)
-  by_pass run event e = ap (λ (v : World). v.know pass) (world_after-snoc shape run event) ∙ subst P (sym e) (know_own shape (world_after shape run) pass event.step)
+  by_pass : (run : List Event) (event : Event) → event.pass ≡ pass → know_after start (run ++ event ∷ []) pass ≡ learn event.step (found start (world_after start run) event.step) (stamp_shown (world_after start run) event.step) (know_after start run pass)
+  by_pass run event e = ap (λ (v : World). v.know pass) (world_after-snoc start run event) ∙ subst P (sym e) (know_own start (world_after start run) pass event.step)
     where
       P : ℕ → Type 0
-      P q = (after shape (world_after shape run) q event.step).know pass ≡ learn event.step (found shape (world_after shape run) event.step) (stamp_shown (world_after shape run) event.step) (know_after shape run pass)
+      P q = (after start (world_after start run) q event.step).know pass ≡ learn event.step (found start (world_after start run) event.step) (stamp_shown (world_after start run) event.step) (know_after start run pass)
 
   -- what is unstamped after one event more was so before, or the pass unlinked it
-  was_or_unlinked : (run : List Event) (event : Event) (s : ℕ) → event.pass ≡ pass → is_at shape (run ++ event ∷ []) (Unstamped pass) s ≡ true → (is_at shape run (Unstamped pass) s ≡ true) ⊎ IsUnlinkOf event.step s
+  was_or_unlinked : (run : List Event) (event : Event) (s : ℕ) → event.pass ≡ pass → is_at start (run ++ event ∷ []) (Unstamped pass) s ≡ true → (is_at start run (Unstamped pass) s ≡ true) ⊎ IsUnlinkOf event.step s
   was_or_unlinked run event s e u =
-      learned_is event.step _ _ (know_after shape run pass) s (subst (λ (k : Know). Is k.own s) (by_pass run event e) u)
+      learned_is event.step _ _ (know_after start run pass) s (subst (λ (k : Know). Is k.own s) (by_pass run event e) u)
 
   -- one event more, where what it unlinks is alone
   one_more : (run : List Event) (event : Event) → ((t : ℕ) → event.pass ≡ pass → IsUnlinkOf event.step t → number run ≡ 0) → number run ≤ 1 → number (run ++ event ∷ []) ≤ 1
   one_more run event turn low = go (cases_eq event.pass pass)
     where
-      unlinks : (step : Step) → ((t : ℕ) → IsUnlinkOf step t → number run ≡ 0) → ((s : ℕ) → is_at shape (run ++ event ∷ []) (Unstamped pass) s ≡ true → (is_at shape run (Unstamped pass) s ≡ true) ⊎ IsUnlinkOf step s) → number (run ++ event ∷ []) ≤ 1
-      unlinks (Unlink pred expected t) none was = one_passes (is_at shape (run ++ event ∷ []) (Unstamped pass)) shape.slots t (λ s l u. ⊎_elim (λ before. absurd (none_passes (is_at shape run (Unstamped pass)) shape.slots s (none t refl) l before)) (λ is. is) (was s u))
-      unlinks step none was = let l = count_le (is_at shape (run ++ event ∷ []) (Unstamped pass)) (is_at shape run (Unstamped pass)) shape.slots (λ s u. ⊎_elim (λ before. before) (λ x. absurd x) (was s u)) in omega arith
+      unlinks : (step : Step) → ((t : ℕ) → IsUnlinkOf step t → number run ≡ 0) → ((s : ℕ) → is_at start (run ++ event ∷ []) (Unstamped pass) s ≡ true → (is_at start run (Unstamped pass) s ≡ true) ⊎ IsUnlinkOf step s) → number (run ++ event ∷ []) ≤ 1
+      unlinks (Unlink pred expected t) none was = one_passes (is_at start (run ++ event ∷ []) (Unstamped pass)) start.shape.slots t (λ s l u. ⊎_elim (λ before. absurd (none_passes (is_at start run (Unstamped pass)) start.shape.slots s (none t refl) l before)) (λ is. is) (was s u))
+      unlinks step none was = let l = count_le (is_at start (run ++ event ∷ []) (Unstamped pass)) (is_at start run (Unstamped pass)) start.shape.slots (λ s u. ⊎_elim (λ before. before) (λ x. absurd x) (was s u)) in omega arith
 
       go : (event.pass ≡ pass) ⊎ (event.pass ≢ pass) → number (run ++ event ∷ []) ≤ 1
-      go (inr ne) = let e = ap (λ (k : Know). count_below (λ s. is_unstamped (k.own s)) shape.slots) (by_others run event ne) in omega arith
+      go (inr ne) = let e = ap (λ (k : Know). count_below (λ s. is_unstamped (k.own s)) start.shape.slots) (by_others run event ne) in omega arith
       go (inl e) = unlinks event.step (λ t. turn t e) (λ s. was_or_unlinked run event s e)
 
   -- the event that unlinks a slot, as it stands in a run
-  turn_of : (run more : List Event) (event : Event) → UnlinksInTurn shape (run ++ event ∷ more) pass → (t : ℕ) → event.pass ≡ pass → IsUnlinkOf event.step t → number run ≡ 0
+  turn_of : (run more : List Event) (event : Event) → UnlinksInTurn start (run ++ event ∷ more) pass → (t : ℕ) → event.pass ≡ pass → IsUnlinkOf event.step t → number run ≡ 0
   turn_of run more event turn t e is = go event.step refl is
     where
       go : (step : Step) → event.step ≡ step → IsUnlinkOf step t → number run ≡ 0
       go (Unlink pred expected v) same x = turn run more pred expected v (ap (λ (one : Event). run ++ one ∷ more) (λ i. record { pass = e i; step = same i }))
       go step same x = absurd x
 
-  along : (run more : List Event) → number run ≤ 1 → UnlinksInTurn shape (run ++ more) pass → number (run ++ more) ≤ 1
+  along : (run more : List Event) → number run ≤ 1 → UnlinksInTurn start (run ++ more) pass → number (run ++ more) ≤ 1
   along run [] low turn = let P : List Event → Type 0 = λ r. number r ≤ 1 in subst P (sym (append-nil run)) low
   along run (event ∷ more) low turn =
       let same : (run ++ event ∷ []) ++ more ≡ run ++ event ∷ more = append_assoc run (event ∷ []) more in
       let P : List Event → Type 0 = λ r. number r ≤ 1 in
-      let Q : List Event → Type 0 = λ r. UnlinksInTurn shape r pass in
+      let Q : List Event → Type 0 = λ r. UnlinksInTurn start r pass in
       subst P same (along (run ++ event ∷ []) more (one_more run event (turn_of run more event turn) low) (subst Q (sym same) turn))
 
-  none_at_first : (n : ℕ) → count_below (is_at shape [] (Unstamped pass)) n ≡ 0
+  none_at_first : (n : ℕ) → count_below (is_at start [] (Unstamped pass)) n ≡ 0
   none_at_first zero = refl
   none_at_first (suc n) = none_at_first n
 
-  in_turn : (run : List Event) → UnlinksInTurn shape run pass → number_at shape run (Unstamped pass) ≤ 1
-  in_turn run turn = along [] run (let e = none_at_first shape.slots in omega arith) turn
+  in_turn : (run : List Event) → UnlinksInTurn start run pass → number_at start run (Unstamped pass) ≤ 1
+  in_turn run turn = along [] run (let e = none_at_first start.shape.slots in omega arith) turn
 
   -- at each moment of the run
-  pub in_turn_before : (moment run : List Event) → Begins moment run → UnlinksInTurn shape run pass → number_at shape moment (Unstamped pass) ≤ 1
+  pub in_turn_before : (moment run : List Event) → Begins moment run → UnlinksInTurn start run pass → number_at start moment (Unstamped pass) ≤ 1
   in_turn_before moment run b turn = in_turn moment (λ before later pred expected s e. turn before (later ++ b.0) pred expected s (b.1 ∙ ap (λ (r : List Event). r ++ b.0) e ∙ append_assoc before (record { pass = pass; step = Unlink pred expected s } ∷ later) b.0))

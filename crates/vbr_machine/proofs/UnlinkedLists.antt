@@ -3,7 +3,7 @@ use Rattle.std.proofs.Common.{◌≡◌, ◌≢◌, ℕ, ◌<◌, Option, Some, 
 use Rattle.std.specs.Prelude.{◌⊎◌}
 use Rattle.std.proofs.lemmas.Bool.Decides.{nat_tests}
 use Rattle.std.proofs.lemmas.Bool.{cases_eq}
-use Rattle.vbr_words.specs.Dimensions.{Dimensions}
+use Rattle.vbr_machine.specs.Start.{Start}
 use Rattle.vbr_machine.specs.Put.{put}
 use Rattle.vbr_machine.specs.Keys.{Keys}
 use Rattle.vbr_words.specs.Buckets.{bucket_of}
@@ -13,8 +13,8 @@ use Rattle.vbr_machine.specs.Sound.{IsListed, IsApart, ListsSound, Sound}
 use Rattle.vbr_machine.proofs.Puts.{put_here, put_other}
 use Rattle.vbr_machine.proofs.Lists.{listed_other, next_listed, only_before, not_first}
 
-pub lists_unlinks_at_head : (shape : Dimensions) (keys : Keys) (a : Incarnations) (pass c b : ℕ) → Sound shape a → Allowed shape keys a pass (Unlinks c (AtHead b)) → ListsSound shape (becomes shape a pass (Unlinks c (AtHead b)))
-lists_unlinks_at_head shape keys a pass c b s h =
+pub lists_unlinks_at_head : (start : Start) (keys : Keys) (a : Incarnations) (pass c b : ℕ) → Sound start a → Allowed start keys a pass (Unlinks c (AtHead b)) → ListsSound start (becomes start a pass (Unlinks c (AtHead b)))
+lists_unlinks_at_head start keys a pass c b s h =
     let marked = h.0 in
     let alone = λ (q : ℕ) (lq : IsListed (a.state q)). not_first s b q c lq h.2 in
     record {
@@ -30,8 +30,8 @@ lists_unlinks_at_head shape keys a pass c b s h =
 splits_gone : (key : ℕ → ℕ) (c p d : ℕ) (n : Option ℕ) → d ≢ c → key p < key c → IsApart key p (Some c) d → IsApart key c n d → IsApart key p n d
 splits_gone key c p d n ne lt x y = grind arith
 
-apart_unlinked : (shape : Dimensions) (keys : Keys) (a : Incarnations) (pass c p : ℕ) → Sound shape a → Allowed shape keys a pass (Unlinks c (AtNode p)) → (i d : ℕ) → IsListed (put a.state c (Unlinked pass a.epoch) i) → IsListed (put a.state c (Unlinked pass a.epoch) d) → bucket_of shape (a.key i) ≡ bucket_of shape (a.key d) → IsApart a.key i (put a.next p (a.next c) i) d
-apart_unlinked shape keys a pass c p s h i d li ld q = go (cases_eq i p) (cases_eq i c) (cases_eq d c)
+apart_unlinked : (start : Start) (keys : Keys) (a : Incarnations) (pass c p : ℕ) → Sound start a → Allowed start keys a pass (Unlinks c (AtNode p)) → (i d : ℕ) → IsListed (put a.state c (Unlinked pass a.epoch) i) → IsListed (put a.state c (Unlinked pass a.epoch) d) → bucket_of start.shape (a.key i) ≡ bucket_of start.shape (a.key d) → IsApart a.key i (put a.next p (a.next c) i) d
+apart_unlinked start keys a pass c p s h i d li ld q = go (cases_eq i p) (cases_eq i c) (cases_eq d c)
   where
     lp : IsListed (a.state p)
     lp = rw h.1 tt
@@ -39,7 +39,7 @@ apart_unlinked shape keys a pass c p s h i d li ld q = go (cases_eq i p) (cases_
     lc : IsListed (a.state c)
     lc = rw h.0 tt
 
-    o : (bucket_of shape (a.key p) ≡ bucket_of shape (a.key c)) × (a.key p < a.key c)
+    o : (bucket_of start.shape (a.key p) ≡ bucket_of start.shape (a.key c)) × (a.key p < a.key c)
     o = s.lists.ordered p c h.2
 
     gone : (j : ℕ) → j ≡ c → IsListed (put a.state c (Unlinked pass a.epoch) j) → ⊥
@@ -50,13 +50,13 @@ apart_unlinked shape keys a pass c p s h i d li ld q = go (cases_eq i p) (cases_
     go ip (inr ic) (inl dc) = absurd (gone d dc ld)
     go (inl ip) (inr ic) (inr dn) =
         let ld2 = listed_other a.state c (Unlinked pass a.epoch) d dn ld in
-        let qp : bucket_of shape (a.key p) ≡ bucket_of shape (a.key d) = ap (λ k. bucket_of shape (a.key k)) (sym ip) ∙ q in
+        let qp : bucket_of start.shape (a.key p) ≡ bucket_of start.shape (a.key d) = ap (λ k. bucket_of start.shape (a.key k)) (sym ip) ∙ q in
         rw (ip, put_here a.next p (a.next c)) (splits_gone a.key c p d (a.next c) dn o.1 (rw h.2 at (s.lists.apart p d lp ld2 qp)) (s.lists.apart c d lc ld2 (sym o.0 ∙ qp)))
     go (inr ip) (inr ic) (inr dn) = rw (put_other a.next p (a.next c) i ip)
         (s.lists.apart i d (listed_other a.state c (Unlinked pass a.epoch) i ic li) (listed_other a.state c (Unlinked pass a.epoch) d dn ld) q)
 
-pub lists_unlinks_at_node : (shape : Dimensions) (keys : Keys) (a : Incarnations) (pass c p : ℕ) → Sound shape a → Allowed shape keys a pass (Unlinks c (AtNode p)) → ListsSound shape (becomes shape a pass (Unlinks c (AtNode p)))
-lists_unlinks_at_node shape keys a pass c p s h =
+pub lists_unlinks_at_node : (start : Start) (keys : Keys) (a : Incarnations) (pass c p : ℕ) → Sound start a → Allowed start keys a pass (Unlinks c (AtNode p)) → ListsSound start (becomes start a pass (Unlinks c (AtNode p)))
+lists_unlinks_at_node start keys a pass c p s h =
     let marked = h.0 in
     let before = h.1 in
     let alone = λ (q : ℕ) (lq : IsListed (a.state q)). only_before s p q c (rw h.1 tt) lq h.2 in
@@ -65,6 +65,6 @@ lists_unlinks_at_node shape keys a pass c p s h =
       inserted = λ i n q. let u = s.lists.inserted i n in let x = s.lists.inserted c n in grind (arith, nat_tests);
       ordered = λ i n q. let u = s.lists.ordered i n in let x = s.lists.ordered c n in let y = s.lists.ordered p c h.2 in grind (arith, nat_tests);
       first_in = λ k n q. let u = s.lists.first_in k n in let x = not_first s k p c (rw h.1 tt) in grind (arith, nat_tests);
-      apart = λ i d li ld q. apart_unlinked shape keys a pass c p s h i d li ld q;
-      behind_head = λ d ld. let u = s.lists.behind_head d in let x = not_first s (bucket_of shape (a.key d)) p c (rw h.1 tt) in grind (arith, nat_tests);
+      apart = λ i d li ld q. apart_unlinked start keys a pass c p s h i d li ld q;
+      behind_head = λ d ld. let u = s.lists.behind_head d in let x = not_first s (bucket_of start.shape (a.key d)) p c (rw h.1 tt) in grind (arith, nat_tests);
     }

@@ -2,7 +2,7 @@
 use Rattle.std.proofs.Common.{◌≡◌, ℕ, true, List, Option, Some, None, refl, arith, sym, subst, ap, ◌∙◌, inl, inr}
 use Rattle.std.specs.Prelude.{◌⊎◌}
 use Rattle.std.proofs.lemmas.Bool.{false≢true}
-use Rattle.vbr_words.specs.Dimensions.{Dimensions}
+use Rattle.vbr_machine.specs.Start.{Start}
 use Rattle.vbr_machine.specs.Accounts.{incarnations_after}
 use Rattle.vbr_machine.specs.Agreement.{IsNotOf, OwnFits}
 use Rattle.vbr_machine.specs.Chronicles.{IsStamped, IsRetired}
@@ -74,9 +74,9 @@ shared_in (Hand p) st e = absurd (false≢true e)
 shared_in (Listed b) st e = absurd (false≢true e)
 
 -- a slot whose last incarnation is linked or marked is in a list
-listed_only : (shape : Dimensions) (passes : ℕ) (w : World) (a : Incarnations) (s : ℕ) (place : SlotPlace) → FitsPlace shape passes w a s place → IsListed (state_in a s) → (b : ℕ) × (place ≡ Listed b)
-listed_only shape passes w a s (Listed b) f l = (b, refl)
-listed_only shape passes w a s Shared f l = absurd (go (a.last s) f l)
+listed_only : (start : Start) (passes : ℕ) (w : World) (a : Incarnations) (s : ℕ) (place : SlotPlace) → FitsPlace start passes w a s place → IsListed (state_in a s) → (b : ℕ) × (place ≡ Listed b)
+listed_only start passes w a s (Listed b) f l = (b, refl)
+listed_only start passes w a s Shared f l = absurd (go (a.last s) f l)
   where
     go : (last : Option ℕ) → IsRetired a last → IsListed (state_shown a last) → ⊥
     go None r l = l
@@ -84,7 +84,7 @@ listed_only shape passes w a s Shared f l = absurd (go (a.last s) f l)
       where
         not_both : (st : State) → IsStamped st → IsListed st → ⊥
         not_both st r l = grind arith
-listed_only shape passes w a s (Own p) f l = absurd (go (a.last s) f.1 l)
+listed_only start passes w a s (Own p) f l = absurd (go (a.last s) f.1 l)
   where
     go : (last : Option ℕ) → (IsRetired a last ⊎ WasUnlinkedBy a p last) → IsListed (state_shown a last) → ⊥
     go None r l = l
@@ -93,7 +93,7 @@ listed_only shape passes w a s (Own p) f l = absurd (go (a.last s) f.1 l)
         not_both : (st : State) → IsStamped st → IsListed st → ⊥
         not_both st r l = grind arith
     go (Some c) (inr u) l = rw u.1 at l
-listed_only shape passes w a s (Hand p) f l = absurd (go (a.last s) f.1 l)
+listed_only start passes w a s (Hand p) f l = absurd (go (a.last s) f.1 l)
   where
     go : (last : Option ℕ) → LiesInHand a p last → IsListed (state_shown a last) → ⊥
     go None r l = r
@@ -118,71 +118,71 @@ marked_in b (Unlinked q u) e = absurd (false≢true e)
 marked_in b (Stamped u r) e = absurd (false≢true e)
 
 -- the pass of a slot is one of so many
-low_in : (shape : Dimensions) (passes : ℕ) (w : World) (a : Incarnations) (s : ℕ) (place : SlotPlace) (st : State) → FitsPlace shape passes w a s place → IsOfPasses passes (where_is place st)
-low_in shape passes w a s Shared st f = tt
-low_in shape passes w a s (Own p) (Unlinked q u) f = f.0
-low_in shape passes w a s (Own p) Unborn f = f.0
-low_in shape passes w a s (Own p) (InHand q) f = f.0
-low_in shape passes w a s (Own p) GivenUp f = f.0
-low_in shape passes w a s (Own p) Linked f = f.0
-low_in shape passes w a s (Own p) Marked f = f.0
-low_in shape passes w a s (Own p) (Stamped u r) f = f.0
-low_in shape passes w a s (Hand p) st f = f.0
-low_in shape passes w a s (Listed b) Unborn f = tt
-low_in shape passes w a s (Listed b) (InHand q) f = tt
-low_in shape passes w a s (Listed b) GivenUp f = tt
-low_in shape passes w a s (Listed b) Linked f = tt
-low_in shape passes w a s (Listed b) Marked f = tt
-low_in shape passes w a s (Listed b) (Unlinked q u) f = tt
-low_in shape passes w a s (Listed b) (Stamped u r) f = tt
+low_in : (start : Start) (passes : ℕ) (w : World) (a : Incarnations) (s : ℕ) (place : SlotPlace) (st : State) → FitsPlace start passes w a s place → IsOfPasses passes (where_is place st)
+low_in start passes w a s Shared st f = tt
+low_in start passes w a s (Own p) (Unlinked q u) f = f.0
+low_in start passes w a s (Own p) Unborn f = f.0
+low_in start passes w a s (Own p) (InHand q) f = f.0
+low_in start passes w a s (Own p) GivenUp f = f.0
+low_in start passes w a s (Own p) Linked f = f.0
+low_in start passes w a s (Own p) Marked f = f.0
+low_in start passes w a s (Own p) (Stamped u r) f = f.0
+low_in start passes w a s (Hand p) st f = f.0
+low_in start passes w a s (Listed b) Unborn f = tt
+low_in start passes w a s (Listed b) (InHand q) f = tt
+low_in start passes w a s (Listed b) GivenUp f = tt
+low_in start passes w a s (Listed b) Linked f = tt
+low_in start passes w a s (Listed b) Marked f = tt
+low_in start passes w a s (Listed b) (Unlinked q u) f = tt
+low_in start passes w a s (Listed b) (Stamped u r) f = tt
 
 -- ---- along a safe run
 
-module _ (shape : Dimensions) (passes : ℕ) (run : List Event) (safe : IsSafe shape run) (ok : IsRun shape passes run) where
+module _ (start : Start) (passes : ℕ) (run : List Event) (safe : IsSafe start run) (ok : IsRun start passes run) where
   abbrev w : World
-  w = world_after shape run
+  w = world_after start run
 
   abbrev a : Incarnations
-  a = incarnations_after shape run
+  a = incarnations_after start run
 
   -- where a slot is
   abbrev here : ℕ → Whereabouts
   here s = where_is (w.place s) (state_in a s)
 
-  fits : (s : ℕ) → FitsPlace shape passes w a s (w.place s)
+  fits : (s : ℕ) → FitsPlace start passes w a s (w.place s)
   fits s = (safe.slots passes ok).each s
 
-  knows : (p s : ℕ) → OwnFits a p (know_after shape run p).epoch ((know_after shape run p).own s) (w.place s) (a.last s) (a.stamp s)
-  knows p s = let P : SlotPlace → Type 0 = λ l. OwnFits a p (know_after shape run p).epoch ((know_after shape run p).own s) l (a.last s) (a.stamp s) in subst P (sym (safe.image.place s)) ((safe.knows p).last s)
+  knows : (p s : ℕ) → OwnFits a p (know_after start run p).epoch ((know_after start run p).own s) (w.place s) (a.last s) (a.stamp s)
+  knows p s = let P : SlotPlace → Type 0 = λ l. OwnFits a p (know_after start run p).epoch ((know_after start run p).own s) l (a.last s) (a.stamp s) in subst P (sym (safe.image.place s)) ((safe.knows p).last s)
 
   listed_here : (s : ℕ) → (whereabouts : Whereabouts) → IsListed (state_in a s) → ((b : ℕ) → where_is (Listed b) (state_in a s) ≡ whereabouts) → here s ≡ whereabouts
   listed_here s whereabouts l e =
-      let x = listed_only shape passes w a s (w.place s) (fits s) l in
+      let x = listed_only start passes w a s (w.place s) (fits s) l in
       ap (λ (p : SlotPlace). where_is p (state_in a s)) x.1 ∙ e x.0
 
   -- a slot is nowhere else
-  nowhere_else : (s : ℕ) (other : Whereabouts) → is_at shape run other s ≡ true → here s ≡ other
+  nowhere_else : (s : ℕ) (other : Whereabouts) → is_at start run other s ≡ true → here s ≡ other
   nowhere_else s InSharedPool e = shared_in (w.place s) (state_in a s) e
-  nowhere_else s (WithPass p) e = bears_with a p _ ((know_after shape run p).own s) (w.place s) (a.last s) (a.stamp s) (knows p s) e
-  nowhere_else s (Unstamped p) e = unstamped_by a p _ ((know_after shape run p).own s) (w.place s) (a.last s) (a.stamp s) (knows p s) e
+  nowhere_else s (WithPass p) e = bears_with a p _ ((know_after start run p).own s) (w.place s) (a.last s) (a.stamp s) (knows p s) e
+  nowhere_else s (Unstamped p) e = unstamped_by a p _ ((know_after start run p).own s) (w.place s) (a.last s) (a.stamp s) (knows p s) e
   nowhere_else s InSet e = listed_here s InSet (linked_in 0 (state_in a s) e).0 (λ b. (linked_in b (state_in a s) e).1)
   nowhere_else s MarkedInList e = listed_here s MarkedInList (marked_in 0 (state_in a s) e).0 (λ b. (marked_in b (state_in a s) e).1)
 
   -- it is there if it is there by any name
-  by_name : (s : ℕ) (other : Whereabouts) → is_at shape run other s ≡ true → is_at shape run (here s) s ≡ true
-  by_name s other e = let P : Whereabouts → Type 0 = λ v. is_at shape run v s ≡ true in subst P (sym (nowhere_else s other e)) e
+  by_name : (s : ℕ) (other : Whereabouts) → is_at start run other s ≡ true → is_at start run (here s) s ≡ true
+  by_name s other e = let P : Whereabouts → Type 0 = λ v. is_at start run v s ≡ true in subst P (sym (nowhere_else s other e)) e
 
-  of_pass : (p s : ℕ) (known : Option Holding) → (know_after shape run p).own s ≡ known → (IsNotOf p (w.place s) → ⊥) → is_at shape run (here s) s ≡ true
+  of_pass : (p s : ℕ) (known : Option Holding) → (know_after start run p).own s ≡ known → (IsNotOf p (w.place s) → ⊥) → is_at start run (here s) s ≡ true
   of_pass p s None k of = absurd (of (rw k at (knows p s)))
   of_pass p s (Some (holding.Free n)) k of = by_name s (WithPass p) (ap may_bear k)
   of_pass p s (Some (holding.InHand known)) k of = by_name s (WithPass p) (ap may_bear k)
   of_pass p s (Some (holding.Unlinked reread)) k of = by_name s (Unstamped p) (ap is_unstamped k)
 
-  of_list : (b s : ℕ) (last : Option ℕ) → a.last s ≡ last → IsOfList shape a b last → is_at shape run (here s) s ≡ true
+  of_list : (b s : ℕ) (last : Option ℕ) → a.last s ≡ last → IsOfList start a b last → is_at start run (here s) s ≡ true
   of_list b s None e l = absurd l
   of_list b s (Some c) e l = go (a.state c) refl l.0
     where
-      go : (st : State) → a.state c ≡ st → IsListed st → is_at shape run (here s) s ≡ true
+      go : (st : State) → a.state c ≡ st → IsListed st → is_at start run (here s) s ≡ true
       go Linked is i = by_name s InSet (ap (λ (v : Option ℕ). is_linked (state_shown a v)) e ∙ ap is_linked is)
       go Marked is i = by_name s MarkedInList (ap (λ (v : Option ℕ). is_marked (state_shown a v)) e ∙ ap is_marked is)
       go Unborn is i = absurd i
@@ -191,30 +191,30 @@ module _ (shape : Dimensions) (passes : ℕ) (run : List Event) (safe : IsSafe s
       go (Unlinked q u) is i = absurd i
       go (Stamped u r) is i = absurd i
 
-  is_here : (s : ℕ) (place : SlotPlace) → w.place s ≡ place → is_at shape run (here s) s ≡ true
+  is_here : (s : ℕ) (place : SlotPlace) → w.place s ≡ place → is_at start run (here s) s ≡ true
   is_here s Shared e = by_name s InSharedPool (ap is_shared e)
-  is_here s (Own p) e = of_pass p s ((know_after shape run p).own s) refl (λ n. (let m : IsNotOf p (Own p) = rw e at n in m refl))
-  is_here s (Hand p) e = of_pass p s ((know_after shape run p).own s) refl (λ n. (let m : IsNotOf p (Hand p) = rw e at n in m refl))
-  is_here s (Listed b) e = of_list b s (a.last s) refl (let f : FitsPlace shape passes w a s (Listed b) = rw e at (fits s) in f.1)
+  is_here s (Own p) e = of_pass p s ((know_after start run p).own s) refl (λ n. (let m : IsNotOf p (Own p) = rw e at n in m refl))
+  is_here s (Hand p) e = of_pass p s ((know_after start run p).own s) refl (λ n. (let m : IsNotOf p (Hand p) = rw e at n in m refl))
+  is_here s (Listed b) e = of_list b s (a.last s) refl (let f : FitsPlace start passes w a s (Listed b) = rw e at (fits s) in f.1)
 
   -- each slot is somewhere
-  pub somewhere : (s : ℕ) → IsSomewhere shape passes run s
+  pub somewhere : (s : ℕ) → IsSomewhere start passes run s
   somewhere s = record {
     whereabouts = here s;
-    low = low_in shape passes w a s (w.place s) (state_in a s) (fits s);
+    low = low_in start passes w a s (w.place s) (state_in a s) (fits s);
     there = is_here s (w.place s) refl;
     only = λ other e. sym (nowhere_else s other e);
   }
 
   -- an unstamped slot is with the pass that unlinked what was born there last
-  pub unlinked_by : (p s : ℕ) → is_at shape run (Unstamped p) s ≡ true → (at : ℕ) × (state_in a s ≡ Unlinked p at)
-  unlinked_by p s e = unlinked_from a p _ ((know_after shape run p).own s) (w.place s) (a.last s) (a.stamp s) (knows p s) e
+  pub unlinked_by : (p s : ℕ) → is_at start run (Unstamped p) s ≡ true → (at : ℕ) × (state_in a s ≡ Unlinked p at)
+  unlinked_by p s e = unlinked_from a p _ ((know_after start run p).own s) (w.place s) (a.last s) (a.stamp s) (knows p s) e
 
   not_retired : (p at : ℕ) (last : Option ℕ) → state_shown a last ≡ Unlinked p at → IsRetired a last → ⊥
   not_retired p at None u r = absurd (cc)
   not_retired p at (Some c) u r = rw u at r
 
-  unlinked_in : (p at s : ℕ) (place : SlotPlace) (last : Option ℕ) → a.last s ≡ last → state_shown a last ≡ Unlinked p at → FitsPlace shape passes w a s place → place ≡ Own p
+  unlinked_in : (p at s : ℕ) (place : SlotPlace) (last : Option ℕ) → a.last s ≡ last → state_shown a last ≡ Unlinked p at → FitsPlace start passes w a s place → place ≡ Own p
   unlinked_in p at s Shared last e u f = absurd (not_retired p at last u (rw e at f))
   unlinked_in p at s (Own q) last e u f = go last u (rw e at f.1)
     where
@@ -229,12 +229,12 @@ module _ (shape : Dimensions) (passes : ℕ) (run : List Event) (safe : IsSafe s
       go (Some c) u x = let same : InHand q ≡ Unlinked p at = sym x ∙ u in absurd (cc)
   unlinked_in p at s (Listed b) last e u f = absurd (go last u (rw e at f.1))
     where
-      go : (l : Option ℕ) → state_shown a l ≡ Unlinked p at → IsOfList shape a b l → ⊥
+      go : (l : Option ℕ) → state_shown a l ≡ Unlinked p at → IsOfList start a b l → ⊥
       go None u x = x
       go (Some c) u x = let y : IsListed (Unlinked p at) = rw u at x.0 in y
 
-  pub unlinked_there : (p at s : ℕ) → state_in a s ≡ Unlinked p at → is_at shape run (Unstamped p) s ≡ true
+  pub unlinked_there : (p at s : ℕ) → state_in a s ≡ Unlinked p at → is_at start run (Unstamped p) s ≡ true
   unlinked_there p at s u = subst P (λ i. where_is (unlinked_in p at s (w.place s) (a.last s) refl u (fits s) i) (u i)) (is_here s (w.place s) refl)
     where
       P : Whereabouts → Type 0
-      P v = is_at shape run v s ≡ true
+      P v = is_at start run v s ≡ true

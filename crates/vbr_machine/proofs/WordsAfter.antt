@@ -2,7 +2,7 @@
 use Rattle.std.proofs.Common.{◌≡◌, ◌≢◌, ℕ, ◌+◌, Bool, true, false, Option, Some, None, cond, refl, sym, ap, ◌∙◌, inl, inr, arith}
 use Rattle.std.specs.Prelude.{◌⊎◌, ◌==◌, bit_and}
 use Rattle.std.proofs.lemmas.Bool.{cases_eq, eqb-true}
-use Rattle.vbr_words.specs.Dimensions.{Dimensions}
+use Rattle.vbr_machine.specs.Start.{Start}
 use Rattle.vbr_words.specs.Words.{word_of, link_of}
 use Rattle.vbr_words.specs.Flags.{word_of_flag, all_but, has_flag}
 use Rattle.vbr_words.specs.Places.{IsIn}
@@ -33,31 +33,31 @@ use Rattle.vbr_machine.proofs.SlotFlags.{flag_in, raised_word, taken_word, misse
 
 -- ---- the place of a step
 
-place_at_in : (shape : Dimensions) (at : At) → IsAtIn shape at → IsIn shape (places.place_of at)
-place_at_in shape (Head b) here = here
-place_at_in shape (Slot s) here = here
+place_at_in : (start : Start) (at : At) → IsAtIn start at → IsIn start.shape (places.place_of at)
+place_at_in start (Head b) here = here
+place_at_in start (Slot s) here = here
 
 -- the place of a step of the shape is one of the shape
-pub place_in : (shape : Dimensions) (step : Step) → IsInShape shape step → IsIn shape (place_of_step step)
-place_in shape ReadEpoch here = tt
-place_in shape (Advance from) here = tt
-place_in shape (LoadStamp s) here = here
-place_in shape (StoreStamp s stamp) here = here
-place_in shape (Raise s) here = flag_in shape s here
-place_in shape (TakeFlag s) here = flag_in shape s here
-place_in shape (StoreBirth s birth) here = here
-place_in shape (StoreKey s key) here = here
-place_in shape (StoreValue s value) here = here
-place_in shape (StoreLink s next) here = here.0
-place_in shape (LoadLink at) here = place_at_in shape at here
-place_in shape (LoadBirth s) here = here
-place_in shape (LoadKey s) here = here
-place_in shape (LoadValue s) here = here
-place_in shape (Publish pred expected s) here = place_at_in shape pred here.0
-place_in shape (Mark s expected) here = here
-place_in shape (Unlink pred expected s) here = place_at_in shape pred here.0
-place_in shape (ConfirmPresent op s expected) here = here.0
-place_in shape (ConfirmAbsent op key at expected) here = place_at_in shape at here.0
+pub place_in : (start : Start) (step : Step) → IsInShape start step → IsIn start.shape (place_of_step step)
+place_in start ReadEpoch here = tt
+place_in start (Advance from) here = tt
+place_in start (LoadStamp s) here = here
+place_in start (StoreStamp s stamp) here = here
+place_in start (Raise s) here = flag_in start s here
+place_in start (TakeFlag s) here = flag_in start s here
+place_in start (StoreBirth s birth) here = here
+place_in start (StoreKey s key) here = here
+place_in start (StoreValue s value) here = here
+place_in start (StoreLink s next) here = here.0
+place_in start (LoadLink at) here = place_at_in start at here
+place_in start (LoadBirth s) here = here
+place_in start (LoadKey s) here = here
+place_in start (LoadValue s) here = here
+place_in start (Publish pred expected s) here = place_at_in start pred here.0
+place_in start (Mark s expected) here = here
+place_in start (Unlink pred expected s) here = place_at_in start pred here.0
+place_in start (ConfirmPresent op s expected) here = here.0
+place_in start (ConfirmAbsent op key at expected) here = place_at_in start at here.0
 
 -- ---- the word at that place
 
@@ -77,31 +77,31 @@ either true f x y new won lost = won refl
 either false f x y new won lost = lost refl
 
 -- the word at the place of a step is what its operation leaves there
-pub word_here : (shape : Dimensions) (w : World) (p : ℕ) (step : Step) → IsInShape shape step → word_at shape (after shape w p step) (place_of_step step) ≡ word_made (access_of (w.know p) step) (found shape w step)
-word_here shape w p ReadEpoch here = refl
-word_here shape w p (Advance from) here = left (w.epoch == from) (λ v. v.epoch) _ w (from + 1) w.epoch (λ t. ap (λ n. n + 1) (eqb-true w.epoch from t)) refl
-word_here shape w p (LoadStamp s) here = refl
-word_here shape w p (StoreStamp s stamp) here = put_here w.stamp s stamp
-word_here shape w p (Raise s) here = raised_word shape w (after shape w p (Raise s)) s Shared refl here refl
-word_here shape w p (TakeFlag s) here =
-    either (has_flag (found shape w (TakeFlag s)) s) (λ v. word_at shape v (place.Flags (word_of_flag s))) _ w (bit_and (found shape w (TakeFlag s)) (all_but s)) (λ t. taken_word shape w (record (with_learning shape w p (TakeFlag s)) { place = put w.place s (Own p) }) s (Own p) refl refl) (λ f. missed_word shape w s f)
-word_here shape w p (StoreBirth s birth) here = put_here w.birth s birth
-word_here shape w p (StoreKey s key) here = put_here w.key s key
-word_here shape w p (StoreValue s value) here = put_here w.value s value
-word_here shape w p (StoreLink s next) here = ap word_of (put_here w.link s (link_written (w.know p) (StoreLink s next)))
-word_here shape w p (LoadLink (Head b)) here = refl
-word_here shape w p (LoadLink (Slot t)) here = refl
-word_here shape w p (LoadBirth s) here = refl
-word_here shape w p (LoadKey s) here = refl
-word_here shape w p (LoadValue s) here = refl
-word_here shape w p (Publish (Head b) expected s) here = left (word_of (w.head b) == expected) (λ v. word_of (v.head b)) _ w _ (word_of (w.head b)) (λ t. ap word_of (put_here w.head b (link_written (w.know p) (Publish (Head b) expected s)))) refl
-word_here shape w p (Publish (Slot t) expected s) here = left (word_of (w.link t) == expected) (λ v. word_of (v.link t)) _ w _ (word_of (w.link t)) (λ _. ap word_of (put_here w.link t (link_written (w.know p) (Publish (Slot t) expected s)))) refl
-word_here shape w p (Mark s expected) here = left (word_of (w.link s) == expected) (λ v. word_of (v.link s)) _ w _ (word_of (w.link s)) (λ t. ap word_of (put_here w.link s (link_written (w.know p) (Mark s expected)))) refl
-word_here shape w p (Unlink (Head b) expected s) here = left (word_of (w.head b) == expected) (λ v. word_of (v.head b)) _ w _ (word_of (w.head b)) (λ t. ap word_of (put_here w.head b (link_written (w.know p) (Unlink (Head b) expected s)))) refl
-word_here shape w p (Unlink (Slot t) expected s) here = left (word_of (w.link t) == expected) (λ v. word_of (v.link t)) _ w _ (word_of (w.link t)) (λ _. ap word_of (put_here w.link t (link_written (w.know p) (Unlink (Slot t) expected s)))) refl
-word_here shape w p (ConfirmPresent op s expected) here = kept (word_of (w.link s) == expected) (λ v. word_of (v.link s)) _ w (word_of (w.link s)) (λ t. refl) refl
-word_here shape w p (ConfirmAbsent op key (Head b) expected) here = kept (word_of (w.head b) == expected) (λ v. word_of (v.head b)) _ w (word_of (w.head b)) (λ t. refl) refl
-word_here shape w p (ConfirmAbsent op key (Slot s) expected) here = kept (word_of (w.link s) == expected) (λ v. word_of (v.link s)) _ w (word_of (w.link s)) (λ t. refl) refl
+pub word_here : (start : Start) (w : World) (p : ℕ) (step : Step) → IsInShape start step → word_at start (after start w p step) (place_of_step step) ≡ word_made (access_of (w.know p) step) (found start w step)
+word_here start w p ReadEpoch here = refl
+word_here start w p (Advance from) here = left (w.epoch == from) (λ v. v.epoch) _ w (from + 1) w.epoch (λ t. ap (λ n. n + 1) (eqb-true w.epoch from t)) refl
+word_here start w p (LoadStamp s) here = refl
+word_here start w p (StoreStamp s stamp) here = put_here w.stamp s stamp
+word_here start w p (Raise s) here = raised_word start w (after start w p (Raise s)) s Shared refl here refl
+word_here start w p (TakeFlag s) here =
+    either (has_flag (found start w (TakeFlag s)) s) (λ v. word_at start v (place.Flags (word_of_flag s))) _ w (bit_and (found start w (TakeFlag s)) (all_but s)) (λ t. taken_word start w (record (with_learning start w p (TakeFlag s)) { place = put w.place s (Own p) }) s (Own p) refl refl) (λ f. missed_word start w s f)
+word_here start w p (StoreBirth s birth) here = put_here w.birth s birth
+word_here start w p (StoreKey s key) here = put_here w.key s key
+word_here start w p (StoreValue s value) here = put_here w.value s value
+word_here start w p (StoreLink s next) here = ap word_of (put_here w.link s (link_written (w.know p) (StoreLink s next)))
+word_here start w p (LoadLink (Head b)) here = refl
+word_here start w p (LoadLink (Slot t)) here = refl
+word_here start w p (LoadBirth s) here = refl
+word_here start w p (LoadKey s) here = refl
+word_here start w p (LoadValue s) here = refl
+word_here start w p (Publish (Head b) expected s) here = left (word_of (w.head b) == expected) (λ v. word_of (v.head b)) _ w _ (word_of (w.head b)) (λ t. ap word_of (put_here w.head b (link_written (w.know p) (Publish (Head b) expected s)))) refl
+word_here start w p (Publish (Slot t) expected s) here = left (word_of (w.link t) == expected) (λ v. word_of (v.link t)) _ w _ (word_of (w.link t)) (λ _. ap word_of (put_here w.link t (link_written (w.know p) (Publish (Slot t) expected s)))) refl
+word_here start w p (Mark s expected) here = left (word_of (w.link s) == expected) (λ v. word_of (v.link s)) _ w _ (word_of (w.link s)) (λ t. ap word_of (put_here w.link s (link_written (w.know p) (Mark s expected)))) refl
+word_here start w p (Unlink (Head b) expected s) here = left (word_of (w.head b) == expected) (λ v. word_of (v.head b)) _ w _ (word_of (w.head b)) (λ t. ap word_of (put_here w.head b (link_written (w.know p) (Unlink (Head b) expected s)))) refl
+word_here start w p (Unlink (Slot t) expected s) here = left (word_of (w.link t) == expected) (λ v. word_of (v.link t)) _ w _ (word_of (w.link t)) (λ _. ap word_of (put_here w.link t (link_written (w.know p) (Unlink (Slot t) expected s)))) refl
+word_here start w p (ConfirmPresent op s expected) here = kept (word_of (w.link s) == expected) (λ v. word_of (v.link s)) _ w (word_of (w.link s)) (λ t. refl) refl
+word_here start w p (ConfirmAbsent op key (Head b) expected) here = kept (word_of (w.head b) == expected) (λ v. word_of (v.head b)) _ w (word_of (w.head b)) (λ t. refl) refl
+word_here start w p (ConfirmAbsent op key (Slot s) expected) here = kept (word_of (w.link s) == expected) (λ v. word_of (v.link s)) _ w (word_of (w.link s)) (λ t. refl) refl
 
 -- ---- the words elsewhere
 
@@ -123,16 +123,16 @@ record SameBut (here : Place) (v w : World) : Type 0 where
   value : (s : ℕ) → place.Value s ≢ here → v.value s ≡ w.value s
   flag : (s : ℕ) → place.Flags (word_of_flag s) ≢ here → is_shared (v.place s) ≡ is_shared (w.place s)
 
-word_but : (shape : Dimensions) (v w : World) (here q : Place) → SameBut here v w → q ≢ here → word_at shape v q ≡ word_at shape w q
-word_but shape v w here place.Epoch same ne = same.epoch ne
-word_but shape v w here place.ShapeWord same ne = refl
-word_but shape v w here (place.Head b) same ne = ap word_of (same.head b ne)
-word_but shape v w here (place.LinkOf s) same ne = ap word_of (same.link s ne)
-word_but shape v w here (place.Birth s) same ne = same.birth s ne
-word_but shape v w here (place.Stamp s) same ne = same.stamp s ne
-word_but shape v w here (place.Key s) same ne = same.key s ne
-word_but shape v w here (place.Value s) same ne = same.value s ne
-word_but shape v w here (place.Flags number) same ne = same_word shape v w number (λ s is. same.flag s (λ e. ne (sym (ap place.Flags is) ∙ e)))
+word_but : (start : Start) (v w : World) (here q : Place) → SameBut here v w → q ≢ here → word_at start v q ≡ word_at start w q
+word_but start v w here place.Epoch same ne = same.epoch ne
+word_but start v w here place.ShapeWord same ne = refl
+word_but start v w here (place.Head b) same ne = ap word_of (same.head b ne)
+word_but start v w here (place.LinkOf s) same ne = ap word_of (same.link s ne)
+word_but start v w here (place.Birth s) same ne = same.birth s ne
+word_but start v w here (place.Stamp s) same ne = same.stamp s ne
+word_but start v w here (place.Key s) same ne = same.key s ne
+word_but start v w here (place.Value s) same ne = same.value s ne
+word_but start v w here (place.Flags number) same ne = same_word start v w number (λ s is. same.flag s (λ e. ne (sym (ap place.Flags is) ∙ e)))
 
 unchanged : (here : Place) (v w : World) → v.epoch ≡ w.epoch → v.head ≡ w.head → v.link ≡ w.link → v.birth ≡ w.birth → v.stamp ≡ w.stamp → v.key ≡ w.key → v.value ≡ w.value → v.place ≡ w.place → SameBut here v w
 unchanged here v w epoch head link birth stamp key value at = record {
@@ -160,32 +160,32 @@ flag_kept f s new e i = go (cases_eq i s)
     go (inr ne) = ap is_shared (put_other f s new i ne)
 
 -- a step changes no word but that at its place
-same_but : (shape : Dimensions) (w : World) (p : ℕ) (step : Step) → MovesUnshared w step → SameBut (place_of_step step) (after shape w p step) w
-same_but shape w p ReadEpoch moves = unchanged _ _ w refl refl refl refl refl refl refl refl
-same_but shape w p (Advance from) moves = if_won (w.epoch == from) place.Epoch _ w (λ _. record { epoch = λ ne. absurd (ne refl); head = λ _ _. refl; link = λ _ _. refl; birth = λ _ _. refl; stamp = λ _ _. refl; key = λ _ _. refl; value = λ _ _. refl; flag = λ _ _. refl })
-same_but shape w p (LoadStamp s) moves = unchanged _ _ w refl refl refl refl refl refl refl refl
-same_but shape w p (StoreStamp s stamp) moves = record { epoch = λ _. refl; head = λ _ _. refl; link = λ _ _. refl; birth = λ _ _. refl; stamp = λ i ne. put_other w.stamp s stamp i (λ e. ne (ap place.Stamp e)); key = λ _ _. refl; value = λ _ _. refl; flag = λ _ _. refl }
-same_but shape w p (Raise s) moves = record { epoch = λ _. refl; head = λ _ _. refl; link = λ _ _. refl; birth = λ _ _. refl; stamp = λ _ _. refl; key = λ _ _. refl; value = λ _ _. refl; flag = λ i ne. ap is_shared (put_other w.place s Shared i (λ e. ne (ap (λ t. place.Flags (word_of_flag t)) e))) }
-same_but shape w p (TakeFlag s) moves = if_won (has_flag (found shape w (TakeFlag s)) s) (place.Flags (word_of_flag s)) _ w (λ _. record { epoch = λ _. refl; head = λ _ _. refl; link = λ _ _. refl; birth = λ _ _. refl; stamp = λ _ _. refl; key = λ _ _. refl; value = λ _ _. refl; flag = λ i ne. ap is_shared (put_other w.place s (Own p) i (λ e. ne (ap (λ t. place.Flags (word_of_flag t)) e))) })
-same_but shape w p (StoreBirth s birth) moves = record { epoch = λ _. refl; head = λ _ _. refl; link = λ _ _. refl; birth = λ i ne. put_other w.birth s birth i (λ e. ne (ap place.Birth e)); stamp = λ _ _. refl; key = λ _ _. refl; value = λ _ _. refl; flag = λ i _. flag_kept w.place s (Hand p) moves i }
-same_but shape w p (StoreKey s key) moves = record { epoch = λ _. refl; head = λ _ _. refl; link = λ _ _. refl; birth = λ _ _. refl; stamp = λ _ _. refl; key = λ i ne. put_other w.key s key i (λ e. ne (ap place.Key e)); value = λ _ _. refl; flag = λ _ _. refl }
-same_but shape w p (StoreValue s value) moves = record { epoch = λ _. refl; head = λ _ _. refl; link = λ _ _. refl; birth = λ _ _. refl; stamp = λ _ _. refl; key = λ _ _. refl; value = λ i ne. put_other w.value s value i (λ e. ne (ap place.Value e)); flag = λ _ _. refl }
-same_but shape w p (StoreLink s next) moves = record { epoch = λ _. refl; head = λ _ _. refl; link = λ i ne. put_other w.link s _ i (λ e. ne (ap place.LinkOf e)); birth = λ _ _. refl; stamp = λ _ _. refl; key = λ _ _. refl; value = λ _ _. refl; flag = λ _ _. refl }
-same_but shape w p (LoadLink at) moves = unchanged _ _ w refl refl refl refl refl refl refl refl
-same_but shape w p (LoadBirth s) moves = unchanged _ _ w refl refl refl refl refl refl refl refl
-same_but shape w p (LoadKey s) moves = unchanged _ _ w refl refl refl refl refl refl refl refl
-same_but shape w p (LoadValue s) moves = unchanged _ _ w refl refl refl refl refl refl refl refl
-same_but shape w p (Publish (Head b) expected s) moves = if_won (word_of (w.head b) == expected) (place.Head b) _ w (λ _. record { epoch = λ _. refl; head = λ i ne. put_other w.head b _ i (λ e. ne (ap place.Head e)); link = λ _ _. refl; birth = λ _ _. refl; stamp = λ _ _. refl; key = λ _ _. refl; value = λ _ _. refl; flag = λ i _. flag_kept w.place s (Listed _) moves i })
-same_but shape w p (Publish (Slot t) expected s) moves = if_won (word_of (w.link t) == expected) (place.LinkOf t) _ w (λ _. record { epoch = λ _. refl; head = λ _ _. refl; link = λ i ne. put_other w.link t _ i (λ e. ne (ap place.LinkOf e)); birth = λ _ _. refl; stamp = λ _ _. refl; key = λ _ _. refl; value = λ _ _. refl; flag = λ i _. flag_kept w.place s (Listed _) moves i })
-same_but shape w p (Mark s expected) moves = if_won (word_of (w.link s) == expected) (place.LinkOf s) _ w (λ _. record { epoch = λ _. refl; head = λ _ _. refl; link = λ i ne. put_other w.link s _ i (λ e. ne (ap place.LinkOf e)); birth = λ _ _. refl; stamp = λ _ _. refl; key = λ _ _. refl; value = λ _ _. refl; flag = λ _ _. refl })
-same_but shape w p (Unlink (Head b) expected s) moves = if_won (word_of (w.head b) == expected) (place.Head b) _ w (λ won. record { epoch = λ _. refl; head = λ i ne. put_other w.head b _ i (λ e. ne (ap place.Head e)); link = λ _ _. refl; birth = λ _ _. refl; stamp = λ _ _. refl; key = λ _ _. refl; value = λ _ _. refl; flag = λ i _. flag_kept w.place s (Own p) (moves (eqb-true (word_of (w.head b)) expected won)) i })
-same_but shape w p (Unlink (Slot t) expected s) moves = if_won (word_of (w.link t) == expected) (place.LinkOf t) _ w (λ won. record { epoch = λ _. refl; head = λ _ _. refl; link = λ i ne. put_other w.link t _ i (λ e. ne (ap place.LinkOf e)); birth = λ _ _. refl; stamp = λ _ _. refl; key = λ _ _. refl; value = λ _ _. refl; flag = λ i _. flag_kept w.place s (Own p) (moves (eqb-true (word_of (w.link t)) expected won)) i })
-same_but shape w p (ConfirmPresent op s expected) moves = if_won (word_of (w.link s) == expected) (place.LinkOf s) _ w (λ _. unchanged _ _ w refl refl refl refl refl refl refl refl)
-same_but shape w p (ConfirmAbsent op key at expected) moves = if_won (found shape w (ConfirmAbsent op key at expected) == expected) (places.place_of at) _ w (λ _. unchanged _ _ w refl refl refl refl refl refl refl refl)
+same_but : (start : Start) (w : World) (p : ℕ) (step : Step) → MovesUnshared w step → SameBut (place_of_step step) (after start w p step) w
+same_but start w p ReadEpoch moves = unchanged _ _ w refl refl refl refl refl refl refl refl
+same_but start w p (Advance from) moves = if_won (w.epoch == from) place.Epoch _ w (λ _. record { epoch = λ ne. absurd (ne refl); head = λ _ _. refl; link = λ _ _. refl; birth = λ _ _. refl; stamp = λ _ _. refl; key = λ _ _. refl; value = λ _ _. refl; flag = λ _ _. refl })
+same_but start w p (LoadStamp s) moves = unchanged _ _ w refl refl refl refl refl refl refl refl
+same_but start w p (StoreStamp s stamp) moves = record { epoch = λ _. refl; head = λ _ _. refl; link = λ _ _. refl; birth = λ _ _. refl; stamp = λ i ne. put_other w.stamp s stamp i (λ e. ne (ap place.Stamp e)); key = λ _ _. refl; value = λ _ _. refl; flag = λ _ _. refl }
+same_but start w p (Raise s) moves = record { epoch = λ _. refl; head = λ _ _. refl; link = λ _ _. refl; birth = λ _ _. refl; stamp = λ _ _. refl; key = λ _ _. refl; value = λ _ _. refl; flag = λ i ne. ap is_shared (put_other w.place s Shared i (λ e. ne (ap (λ t. place.Flags (word_of_flag t)) e))) }
+same_but start w p (TakeFlag s) moves = if_won (has_flag (found start w (TakeFlag s)) s) (place.Flags (word_of_flag s)) _ w (λ _. record { epoch = λ _. refl; head = λ _ _. refl; link = λ _ _. refl; birth = λ _ _. refl; stamp = λ _ _. refl; key = λ _ _. refl; value = λ _ _. refl; flag = λ i ne. ap is_shared (put_other w.place s (Own p) i (λ e. ne (ap (λ t. place.Flags (word_of_flag t)) e))) })
+same_but start w p (StoreBirth s birth) moves = record { epoch = λ _. refl; head = λ _ _. refl; link = λ _ _. refl; birth = λ i ne. put_other w.birth s birth i (λ e. ne (ap place.Birth e)); stamp = λ _ _. refl; key = λ _ _. refl; value = λ _ _. refl; flag = λ i _. flag_kept w.place s (Hand p) moves i }
+same_but start w p (StoreKey s key) moves = record { epoch = λ _. refl; head = λ _ _. refl; link = λ _ _. refl; birth = λ _ _. refl; stamp = λ _ _. refl; key = λ i ne. put_other w.key s key i (λ e. ne (ap place.Key e)); value = λ _ _. refl; flag = λ _ _. refl }
+same_but start w p (StoreValue s value) moves = record { epoch = λ _. refl; head = λ _ _. refl; link = λ _ _. refl; birth = λ _ _. refl; stamp = λ _ _. refl; key = λ _ _. refl; value = λ i ne. put_other w.value s value i (λ e. ne (ap place.Value e)); flag = λ _ _. refl }
+same_but start w p (StoreLink s next) moves = record { epoch = λ _. refl; head = λ _ _. refl; link = λ i ne. put_other w.link s _ i (λ e. ne (ap place.LinkOf e)); birth = λ _ _. refl; stamp = λ _ _. refl; key = λ _ _. refl; value = λ _ _. refl; flag = λ _ _. refl }
+same_but start w p (LoadLink at) moves = unchanged _ _ w refl refl refl refl refl refl refl refl
+same_but start w p (LoadBirth s) moves = unchanged _ _ w refl refl refl refl refl refl refl refl
+same_but start w p (LoadKey s) moves = unchanged _ _ w refl refl refl refl refl refl refl refl
+same_but start w p (LoadValue s) moves = unchanged _ _ w refl refl refl refl refl refl refl refl
+same_but start w p (Publish (Head b) expected s) moves = if_won (word_of (w.head b) == expected) (place.Head b) _ w (λ _. record { epoch = λ _. refl; head = λ i ne. put_other w.head b _ i (λ e. ne (ap place.Head e)); link = λ _ _. refl; birth = λ _ _. refl; stamp = λ _ _. refl; key = λ _ _. refl; value = λ _ _. refl; flag = λ i _. flag_kept w.place s (Listed _) moves i })
+same_but start w p (Publish (Slot t) expected s) moves = if_won (word_of (w.link t) == expected) (place.LinkOf t) _ w (λ _. record { epoch = λ _. refl; head = λ _ _. refl; link = λ i ne. put_other w.link t _ i (λ e. ne (ap place.LinkOf e)); birth = λ _ _. refl; stamp = λ _ _. refl; key = λ _ _. refl; value = λ _ _. refl; flag = λ i _. flag_kept w.place s (Listed _) moves i })
+same_but start w p (Mark s expected) moves = if_won (word_of (w.link s) == expected) (place.LinkOf s) _ w (λ _. record { epoch = λ _. refl; head = λ _ _. refl; link = λ i ne. put_other w.link s _ i (λ e. ne (ap place.LinkOf e)); birth = λ _ _. refl; stamp = λ _ _. refl; key = λ _ _. refl; value = λ _ _. refl; flag = λ _ _. refl })
+same_but start w p (Unlink (Head b) expected s) moves = if_won (word_of (w.head b) == expected) (place.Head b) _ w (λ won. record { epoch = λ _. refl; head = λ i ne. put_other w.head b _ i (λ e. ne (ap place.Head e)); link = λ _ _. refl; birth = λ _ _. refl; stamp = λ _ _. refl; key = λ _ _. refl; value = λ _ _. refl; flag = λ i _. flag_kept w.place s (Own p) (moves (eqb-true (word_of (w.head b)) expected won)) i })
+same_but start w p (Unlink (Slot t) expected s) moves = if_won (word_of (w.link t) == expected) (place.LinkOf t) _ w (λ won. record { epoch = λ _. refl; head = λ _ _. refl; link = λ i ne. put_other w.link t _ i (λ e. ne (ap place.LinkOf e)); birth = λ _ _. refl; stamp = λ _ _. refl; key = λ _ _. refl; value = λ _ _. refl; flag = λ i _. flag_kept w.place s (Own p) (moves (eqb-true (word_of (w.link t)) expected won)) i })
+same_but start w p (ConfirmPresent op s expected) moves = if_won (word_of (w.link s) == expected) (place.LinkOf s) _ w (λ _. unchanged _ _ w refl refl refl refl refl refl refl refl)
+same_but start w p (ConfirmAbsent op key at expected) moves = if_won (found start w (ConfirmAbsent op key at expected) == expected) (places.place_of at) _ w (λ _. unchanged _ _ w refl refl refl refl refl refl refl refl)
 
 -- a step leaves the words elsewhere, if it moves no slot out of the shared pool but by its flag
-pub word_elsewhere_if : (shape : Dimensions) (w : World) (p : ℕ) (step : Step) (q : Place) → MovesUnshared w step → q ≢ place_of_step step → word_at shape (after shape w p step) q ≡ word_at shape w q
-word_elsewhere_if shape w p step q moves ne = word_but shape (after shape w p step) w (place_of_step step) q (same_but shape w p step moves) ne
+pub word_elsewhere_if : (start : Start) (w : World) (p : ℕ) (step : Step) (q : Place) → MovesUnshared w step → q ≢ place_of_step step → word_at start (after start w p step) q ≡ word_at start w q
+word_elsewhere_if start w p step q moves ne = word_but start (after start w p step) w (place_of_step step) q (same_but start w p step moves) ne
 
 -- ---- what a step moves
 
@@ -203,33 +203,33 @@ may_bear (Some (Unlinked reread)) o = absurd o
 may_bear (Some (InHand known)) o = tt
 
 -- the slot of a listed incarnation is in no pool
-listed_unshared : (shape : Dimensions) (at : SlotPlace) (st : State) (key : ℕ) → PlaceFits shape at st key → IsListed st → is_shared at ≡ false
-listed_unshared shape Shared st key f l = absurd (grind arith)
-listed_unshared shape (Own p) st key f l = refl
-listed_unshared shape (Hand p) st key f l = refl
-listed_unshared shape (Listed b) st key f l = refl
+listed_unshared : (start : Start) (at : SlotPlace) (st : State) (key : ℕ) → PlaceFits start at st key → IsListed st → is_shared at ≡ false
+listed_unshared start Shared st key f l = absurd (grind arith)
+listed_unshared start (Own p) st key f l = refl
+listed_unshared start (Hand p) st key f l = refl
+listed_unshared start (Listed b) st key f l = refl
 
 -- a slot that is named by a checked link that stands there now is in no pool
-next_unshared : (shape : Dimensions) (w : World) (a : Incarnations) (notes : ℕ → Notes) (p : ℕ) (pred : At) (expected s : ℕ) → Agrees shape w a notes → Accepts shape (w.know p) (Unlink pred expected s) → word_of (link_at w pred) ≡ expected → is_shared (w.place s) ≡ false
-next_unshared shape w a notes p pred expected s g ok e = ap is_shared (g.image.place s) ∙ go (next_of a (before_at a pred)) refl (rw ok.in_range.1 at m.next)
+next_unshared : (start : Start) (w : World) (a : Incarnations) (notes : ℕ → Notes) (p : ℕ) (pred : At) (expected s : ℕ) → Agrees start w a notes → Accepts start (w.know p) (Unlink pred expected s) → word_of (link_at w pred) ≡ expected → is_shared (w.place s) ≡ false
+next_unshared start w a notes p pred expected s g ok e = ap is_shared (g.image.place s) ∙ go (next_of a (before_at a pred)) refl (rw ok.in_range.1 at m.next)
   where
-    m : LinkStands shape a (w.know p).epoch (w.know p).checked pred (link_of expected)
-    m = link_stands shape w a notes p g pred expected ok.held.0 ok.in_range.0 e
+    m : LinkStands start a (w.know p).epoch (w.know p).checked pred (link_of expected)
+    m = link_stands start w a notes p g pred expected ok.held.0 ok.in_range.0 e
 
     go : (n : Option ℕ) → next_of a (before_at a pred) ≡ n → IsHeldNext a (w.know p).epoch (Some s) n → is_shared (a.place s) ≡ false
     go None r h = absurd h
     go (Some c) r h =
         let li = m.listed c r in
         let last : a.last s ≡ Some c = rw h.slot at (listed_last g.sound.slots c li) in
-        listed_unshared shape (a.place s) (a.state c) (a.key c) (g.sound.slots.placed c s last) li
+        listed_unshared start (a.place s) (a.state c) (a.key c) (g.sound.slots.placed c s last) li
 
 -- an accepted step moves no slot out of the shared pool but by its flag
-pub moves_unshared : (shape : Dimensions) (w : World) (a : Incarnations) (notes : ℕ → Notes) (p : ℕ) (step : Step) → Agrees shape w a notes → Accepts shape (w.know p) step → MovesUnshared w step
-moves_unshared shape w a notes p (StoreBirth s birth) g ok = ap is_shared (g.image.place s) ∙ bear_unshared a p (w.know p).epoch ((w.know p).own s) (a.place s) (a.last s) (a.stamp s) (g.owns p s) ok.owned
-moves_unshared shape w a notes p (Publish pred expected s) g ok = ap is_shared (g.image.place s) ∙ bear_unshared a p (w.know p).epoch ((w.know p).own s) (a.place s) (a.last s) (a.stamp s) (g.owns p s) (may_bear ((w.know p).own s) ok.owned)
-moves_unshared shape w a notes p (Unlink pred expected s) g ok = next_unshared shape w a notes p pred expected s g ok
-moves_unshared shape w a notes p _ g ok = tt
+pub moves_unshared : (start : Start) (w : World) (a : Incarnations) (notes : ℕ → Notes) (p : ℕ) (step : Step) → Agrees start w a notes → Accepts start (w.know p) step → MovesUnshared w step
+moves_unshared start w a notes p (StoreBirth s birth) g ok = ap is_shared (g.image.place s) ∙ bear_unshared a p (w.know p).epoch ((w.know p).own s) (a.place s) (a.last s) (a.stamp s) (g.owns p s) ok.owned
+moves_unshared start w a notes p (Publish pred expected s) g ok = ap is_shared (g.image.place s) ∙ bear_unshared a p (w.know p).epoch ((w.know p).own s) (a.place s) (a.last s) (a.stamp s) (g.owns p s) (may_bear ((w.know p).own s) ok.owned)
+moves_unshared start w a notes p (Unlink pred expected s) g ok = next_unshared start w a notes p pred expected s g ok
+moves_unshared start w a notes p _ g ok = tt
 
 -- an accepted step leaves the words elsewhere
-pub word_elsewhere : (shape : Dimensions) (w : World) (a : Incarnations) (notes : ℕ → Notes) (p : ℕ) (step : Step) (q : Place) → Agrees shape w a notes → Accepts shape (w.know p) step → q ≢ place_of_step step → word_at shape (after shape w p step) q ≡ word_at shape w q
-word_elsewhere shape w a notes p step q g ok ne = word_elsewhere_if shape w p step q (moves_unshared shape w a notes p step g ok) ne
+pub word_elsewhere : (start : Start) (w : World) (a : Incarnations) (notes : ℕ → Notes) (p : ℕ) (step : Step) (q : Place) → Agrees start w a notes → Accepts start (w.know p) step → q ≢ place_of_step step → word_at start (after start w p step) q ≡ word_at start w q
+word_elsewhere start w a notes p step q g ok ne = word_elsewhere_if start w p step q (moves_unshared start w a notes p step g ok) ne

@@ -3,7 +3,7 @@
 -- In the second, a head shows one word, another, and the first again, and speaks of the same nodes.
 -- In the third, two passes help to unlink one node, and one of them wins.
 use Rattle.std.proofs.Common.{◌≡◌, ℕ, true, List, [], ◌∷◌, take, Some, None, refl, rules, tests, false}
-use Rattle.vbr_words.specs.Dimensions.{Dimensions}
+use Rattle.vbr_machine.specs.Start.{Start, empty_start}
 use Rattle.vbr_words.specs.Flags.{has_flag, first_bits, flag_word}
 use Rattle.vbr_words.specs.Words.{word_of, link_of}
 use Rattle.vbr_words.specs.declared.place.At.TheVariants.{Head, Slot}
@@ -21,18 +21,18 @@ use Rattle.vbr_machine.specs.Learning.{effect_of}
 use Rattle.vbr_machine.specs.declared.event.Effect.{Effect}
 
 -- the effects of events from a world, in order
-abbrev pub effects_from : Dimensions → World → List Event → List Effect
-effects_from shape w [] = []
-effects_from shape w (event ∷ events) = effect_of event.step (found shape w event.step) ∷ effects_from shape (after shape w event.pass event.step) events
+abbrev pub effects_from : Start → World → List Event → List Effect
+effects_from start w [] = []
+effects_from start w (event ∷ events) = effect_of event.step (found start w event.step) ∷ effects_from start (after start w event.pass event.step) events
 
 abbrev pub by : ℕ → Step → Event
 by pass step = record { pass = pass; step = step }
 
-abbrev pub shape_of_three : Dimensions
-shape_of_three = record { slots = 3; buckets = 1; spread = false; last_epoch = 10; values = false; keys = []; payloads = [] }
+abbrev pub shape_of_three : Start
+shape_of_three = empty_start (record { slots = 3; buckets = 1; spread = false; last_epoch = 10; values = false })
 
-abbrev pub shape_of_one : Dimensions
-shape_of_one = record { slots = 1; buckets = 1; spread = false; last_epoch = 10; values = false; keys = []; payloads = [] }
+abbrev pub shape_of_one : Start
+shape_of_one = empty_start (record { slots = 1; buckets = 1; spread = false; last_epoch = 10; values = false })
 
 abbrev pub reborn_slot : List Event
 reborn_slot = by 0 ReadEpoch ∷ by 0 (TakeFlag 0) ∷ by 0 (LoadStamp 0) ∷ by 0 (StoreBirth 0 1) ∷ by 0 (StoreKey 0 30) ∷ by 0 (LoadLink (Head 0)) ∷ by 0 ReadEpoch ∷ by 0 (StoreLink 0 None) ∷ by 0 (Publish (Head 0) 0 0) ∷ by 0 (TakeFlag 1) ∷ by 0 (StoreBirth 1 1) ∷ by 0 (StoreKey 1 20) ∷ by 0 (StoreLink 1 (Some 0)) ∷ by 0 (Publish (Head 0) 33554433 1) ∷ by 1 ReadEpoch ∷ by 1 (LoadLink (Head 0)) ∷ by 1 ReadEpoch ∷ by 1 (LoadKey 1) ∷ by 1 (LoadBirth 1) ∷ by 1 (LoadLink (Slot 1)) ∷ by 1 ReadEpoch ∷ by 1 (LoadKey 0) ∷ by 1 (LoadBirth 0) ∷ by 1 ReadEpoch ∷ by 1 (TakeFlag 2) ∷ by 1 (StoreBirth 2 1) ∷ by 1 (StoreKey 2 25) ∷ by 1 (StoreLink 2 (Some 0)) ∷ by 0 (Mark 1 33554433) ∷ by 0 (Unlink (Head 0) 33554434 1) ∷ by 0 ReadEpoch ∷ by 0 (StoreStamp 1 1) ∷ by 0 (Advance 1) ∷ by 0 ReadEpoch ∷ by 0 (StoreBirth 1 2) ∷ by 0 (StoreKey 1 10) ∷ by 0 (LoadLink (Head 0)) ∷ by 0 ReadEpoch ∷ by 0 (LoadKey 0) ∷ by 0 (LoadBirth 0) ∷ by 0 ReadEpoch ∷ by 0 (StoreLink 1 (Some 0)) ∷ by 0 (Publish (Head 0) 33554433 1) ∷ by 1 (Publish (Slot 1) 33554433 2) ∷ []

@@ -1,6 +1,6 @@
 -- A worked run of a table that keeps values, computed: an insert with a value, a get that gives it, and a remove that gives it; and what is refused where a value is missing, or where the table keeps none.
 use Rattle.std.proofs.Common.{◌≡◌, true, false, List, [], ◌∷◌, ◌++◌, Some, None, refl, rules, tests}
-use Rattle.vbr_words.specs.Dimensions.{Dimensions}
+use Rattle.vbr_machine.specs.Start.{Start, empty_start}
 use Rattle.vbr_words.specs.Flags.{has_flag, first_bits, flag_word}
 use Rattle.vbr_words.specs.Words.{word_of, link_of}
 use Rattle.vbr_words.specs.declared.place.At.TheVariants.{Head, Slot}
@@ -15,8 +15,8 @@ use Rattle.vbr_machine.specs.declared.event.Effect.TheVariants.{Value, Done, Won
 use Rattle.vbr_machine.specs.declared.event.CoreRefusal.TheVariants.{NotHeld, OutOfRange}
 use Rattle.vbr_machine.proofs.WorkedLists.{by, shape_of_one, effects_from}
 
-abbrev map_of_one : Dimensions
-map_of_one = record { slots = 1; buckets = 1; spread = false; last_epoch = 10; values = true; keys = []; payloads = [] }
+abbrev map_of_one : Start
+map_of_one = empty_start (record { slots = 1; buckets = 1; spread = false; last_epoch = 10; values = true })
 
 -- a slot is born in and gets a key
 abbrev in_hand : List Event

@@ -1,6 +1,6 @@
 -- Each refusal of the core, computed once, on a shape of one slot, one bucket and one epoch, with one pass.
 use Rattle.std.proofs.Common.{◌≡◌, [], ◌∷◌, take, refl, rules, tests, false}
-use Rattle.vbr_words.specs.Dimensions.{Dimensions}
+use Rattle.vbr_machine.specs.Start.{Start, empty_start}
 use Rattle.vbr_words.specs.Flags.{has_flag, first_bits, flag_word}
 use Rattle.vbr_words.specs.Words.{word_of, link_of}
 use Rattle.vbr_words.specs.Buckets.{bucket_of}
@@ -11,8 +11,8 @@ use Rattle.vbr_machine.specs.declared.event.Effect.TheVariants.{Won, Lost}
 use Rattle.vbr_machine.specs.declared.event.CoreRefusal.TheVariants.{NoSuchPass, NotOwned, NotHeld, OutOfRange, EpochLast}
 use Rattle.vbr_machine.proofs.WorkedLists.{by, shape_of_three, reborn_slot, effects_from}
 
-abbrev one_of_each : Dimensions
-one_of_each = record { slots = 1; buckets = 1; spread = false; last_epoch = 1; values = false; keys = []; payloads = [] }
+abbrev one_of_each : Start
+one_of_each = empty_start (record { slots = 1; buckets = 1; spread = false; last_epoch = 1; values = false })
 
 pub no_such_pass : Refuses one_of_each 1 (opening one_of_each) (by 1 ReadEpoch) NoSuchPass
 unfolding bucket_of link_of word_of has_flag first_bits flag_word

@@ -1,7 +1,7 @@
 -- What each kind of step asks: of the shape, of what its pass knows, and of the step alone.
 use Rattle.std.specs.Prelude.{◌≡◌, ◌≢◌, ℕ, zero, suc, ◌<◌, ◌≤◌, Bool, true, false, List, Option, Some, None, IsSome, IsTrue, unwrap_or}
 use Rattle.vbr_words.specs.Buckets.{bucket_of}
-use Rattle.vbr_words.specs.Dimensions.{Dimensions}
+use Rattle.vbr_machine.specs.Start.{Start}
 use Rattle.vbr_words.specs.Words.{link_of}
 use Rattle.vbr_words.specs.declared.link.Link.{Link}
 use Rattle.vbr_words.specs.declared.place.At.{At}
@@ -20,41 +20,41 @@ use Rattle.vbr_machine.specs.declared.knowledge.Holding.TheVariants.{Free, Unlin
 -- ---- the shape
 
 -- a place of a link word is one of the shape
-abbrev pub IsAtIn : Dimensions → At → Type 0
-IsAtIn shape (Head b) = b < shape.buckets
-IsAtIn shape (Slot s) = s < shape.slots
+abbrev pub IsAtIn : Start → At → Type 0
+IsAtIn start (Head b) = b < start.shape.buckets
+IsAtIn start (Slot s) = s < start.shape.slots
 
 -- what a link names, if anything, is a slot of the shape
-abbrev pub IsNextIn : Dimensions → Option ℕ → Type 0
-IsNextIn shape None = Unit {0}
-IsNextIn shape (Some s) = s < shape.slots
+abbrev pub IsNextIn : Start → Option ℕ → Type 0
+IsNextIn start None = Unit {0}
+IsNextIn start (Some s) = s < start.shape.slots
 
 -- an operation is one of the shape: a get is only where nodes have values
-abbrev pub IsOpIn : Dimensions → Op → Type 0
-IsOpIn shape Get = shape.values ≡ true
-IsOpIn shape _ = Unit {0}
+abbrev pub IsOpIn : Start → Op → Type 0
+IsOpIn start Get = start.shape.values ≡ true
+IsOpIn start _ = Unit {0}
 
 -- the slots and places that the step's fields name are those of the shape, and a value is stored, loaded or asked for only where nodes have values
-abbrev pub IsInShape : Dimensions → Step → Type 0
-IsInShape shape ReadEpoch = Unit {0}
-IsInShape shape (Advance from) = Unit {0}
-IsInShape shape (LoadStamp s) = s < shape.slots
-IsInShape shape (StoreStamp s stamp) = s < shape.slots
-IsInShape shape (Raise s) = s < shape.slots
-IsInShape shape (TakeFlag s) = s < shape.slots
-IsInShape shape (StoreBirth s birth) = s < shape.slots
-IsInShape shape (StoreKey s key) = s < shape.slots
-IsInShape shape (StoreValue s value) = (s < shape.slots) × (shape.values ≡ true)
-IsInShape shape (StoreLink s next) = (s < shape.slots) × IsNextIn shape next
-IsInShape shape (LoadLink at) = IsAtIn shape at
-IsInShape shape (LoadBirth s) = s < shape.slots
-IsInShape shape (LoadKey s) = s < shape.slots
-IsInShape shape (LoadValue s) = (s < shape.slots) × (shape.values ≡ true)
-IsInShape shape (Publish pred expected s) = IsAtIn shape pred × (s < shape.slots)
-IsInShape shape (Mark s expected) = s < shape.slots
-IsInShape shape (Unlink pred expected s) = IsAtIn shape pred × (s < shape.slots)
-IsInShape shape (ConfirmPresent op s expected) = (s < shape.slots) × IsOpIn shape op
-IsInShape shape (ConfirmAbsent op key at expected) = IsAtIn shape at × IsOpIn shape op
+abbrev pub IsInShape : Start → Step → Type 0
+IsInShape start ReadEpoch = Unit {0}
+IsInShape start (Advance from) = Unit {0}
+IsInShape start (LoadStamp s) = s < start.shape.slots
+IsInShape start (StoreStamp s stamp) = s < start.shape.slots
+IsInShape start (Raise s) = s < start.shape.slots
+IsInShape start (TakeFlag s) = s < start.shape.slots
+IsInShape start (StoreBirth s birth) = s < start.shape.slots
+IsInShape start (StoreKey s key) = s < start.shape.slots
+IsInShape start (StoreValue s value) = (s < start.shape.slots) × (start.shape.values ≡ true)
+IsInShape start (StoreLink s next) = (s < start.shape.slots) × IsNextIn start next
+IsInShape start (LoadLink at) = IsAtIn start at
+IsInShape start (LoadBirth s) = s < start.shape.slots
+IsInShape start (LoadKey s) = s < start.shape.slots
+IsInShape start (LoadValue s) = (s < start.shape.slots) × (start.shape.values ≡ true)
+IsInShape start (Publish pred expected s) = IsAtIn start pred × (s < start.shape.slots)
+IsInShape start (Mark s expected) = s < start.shape.slots
+IsInShape start (Unlink pred expected s) = IsAtIn start pred × (s < start.shape.slots)
+IsInShape start (ConfirmPresent op s expected) = (s < start.shape.slots) × IsOpIn start op
+IsInShape start (ConfirmAbsent op key at expected) = IsAtIn start at × IsOpIn start op
 
 -- ---- what the pass owns
 
@@ -145,33 +145,33 @@ next_of_marked None = None
 next_of_marked (Some link) = link.slot
 
 -- the reads that the step asks for are checked
-abbrev pub HasChecked : Dimensions → Know → Step → Type 0
-HasChecked shape know (StoreLink s next) = IsNextHeld know.checked next
-HasChecked shape know (LoadLink at) = IsTrue (holds_at know.checked at)
-HasChecked shape know (LoadBirth s) = IsTrue (holds know.checked s)
-HasChecked shape know (LoadKey s) = IsTrue (holds know.checked s)
-HasChecked shape know (LoadValue s) = IsTrue (holds know.checked s)
-HasChecked shape know (Publish pred expected s) =
+abbrev pub HasChecked : Start → Know → Step → Type 0
+HasChecked start know (StoreLink s next) = IsNextHeld know.checked next
+HasChecked start know (LoadLink at) = IsTrue (holds_at know.checked at)
+HasChecked start know (LoadBirth s) = IsTrue (holds know.checked s)
+HasChecked start know (LoadKey s) = IsTrue (holds know.checked s)
+HasChecked start know (LoadValue s) = IsTrue (holds know.checked s)
+HasChecked start know (Publish pred expected s) =
     IsTrue (knows_link know.checked pred (link_of expected))
     × (IsSome (birth_at know.checked pred) × KnowsKeyAt know.checked pred)
     × (IsSome (birth_of know.checked (link_of expected).slot) × KnowsKeyOf know.checked (link_of expected).slot)
-HasChecked shape know (Mark s expected) = IsTrue (knows_link know.checked (Slot s) (link_of expected)) × IsSome (key_in know.checked s) × HasValue shape.values (value_in know.checked s)
-HasChecked shape know (Unlink pred expected s) =
+HasChecked start know (Mark s expected) = IsTrue (knows_link know.checked (Slot s) (link_of expected)) × IsSome (key_in know.checked s) × HasValue start.shape.values (value_in know.checked s)
+HasChecked start know (Unlink pred expected s) =
     IsTrue (knows_link know.checked pred (link_of expected))
     × IsSome (marked_in know.checked s)
     × IsSome (birth_at know.checked pred)
     × IsSome (birth_of know.checked (next_of_marked (marked_in know.checked s)))
-HasChecked shape know (ConfirmPresent op s expected) = IsTrue (knows_link know.checked (Slot s) (link_of expected)) × IsSome (key_in know.checked s) × HasValueFor op (value_in know.checked s)
-HasChecked shape know (ConfirmAbsent op key at expected) =
-    IsTrue (knows_link know.checked at (link_of expected)) × KnowsKeyAt know.checked at × LeadsToKey shape.slots know.checked (link_of expected).slot
-HasChecked shape know _ = Unit {0}
+HasChecked start know (ConfirmPresent op s expected) = IsTrue (knows_link know.checked (Slot s) (link_of expected)) × IsSome (key_in know.checked s) × HasValueFor op (value_in know.checked s)
+HasChecked start know (ConfirmAbsent op key at expected) =
+    IsTrue (knows_link know.checked at (link_of expected)) × KnowsKeyAt know.checked at × LeadsToKey start.shape.slots know.checked (link_of expected).slot
+HasChecked start know _ = Unit {0}
 
 -- ---- the numbers
 
 -- the key stands behind a place: in its bucket, and above its key if it is a slot
-abbrev pub IsBehind : Dimensions → List Read → At → ℕ → Type 0
-IsBehind shape reads (Head b) key = bucket_of shape key ≡ b
-IsBehind shape reads (Slot s) key = (bucket_of shape key ≡ bucket_of shape (unwrap_or (key_in reads s) 0)) × (unwrap_or (key_in reads s) 0 < key)
+abbrev pub IsBehind : Start → List Read → At → ℕ → Type 0
+IsBehind start reads (Head b) key = bucket_of start.shape key ≡ b
+IsBehind start reads (Slot s) key = (bucket_of start.shape key ≡ bucket_of start.shape (unwrap_or (key_in reads s) 0)) × (unwrap_or (key_in reads s) 0 < key)
 
 -- the key stands before what a link names, if it names a slot
 abbrev pub IsBefore : List Read → ℕ → Option ℕ → Type 0
@@ -196,52 +196,52 @@ stamp_in (Some (InHand known)) = known.stamp
 stamp_in _ = 0
 
 -- what is in hand is ready: its key and link, and its value where nodes have values, were stored since its birth, the link names what the expected link names, and the key stands between
-pub record IsReady (shape : Dimensions) (reads : List Read) (pred : At) (expected : Link) (known : Unpublished) : Type 0 where
+pub record IsReady (start : Start) (reads : List Read) (pred : At) (expected : Link) (known : Unpublished) : Type 0 where
   pub key : ℕ
   pub key_is : known.key ≡ Some key
   pub link_is : known.link ≡ Some (link_to expected.slot known.birth (unwrap_or (birth_of reads expected.slot) 0))
-  pub behind : IsBehind shape reads pred key
+  pub behind : IsBehind start reads pred key
   pub before : IsBefore reads key expected.slot
-  pub valued : HasValue shape.values known.value
+  pub valued : HasValue start.shape.values known.value
 
 -- a slot in hand that is ready
-abbrev pub MayPublish : Dimensions → List Read → At → Link → Option Holding → Type 0
-MayPublish shape reads pred expected (Some (InHand known)) = IsReady shape reads pred expected known
-MayPublish shape reads pred expected _ = ⊥
+abbrev pub MayPublish : Start → List Read → At → Link → Option Holding → Type 0
+MayPublish start reads pred expected (Some (InHand known)) = IsReady start reads pred expected known
+MayPublish start reads pred expected _ = ⊥
 
 -- the step's numbers are in range
-abbrev pub IsInRange : Dimensions → Know → Step → Type 0
-IsInRange shape know (Advance from) = 1 ≤ from
-IsInRange shape know (StoreStamp s stamp) = IsReread (know.own s) × (stamp ≡ know.epoch)
-IsInRange shape know (StoreBirth s birth) = (birth ≡ know.epoch) × (stamp_in (know.own s) < birth)
-IsInRange shape know (Publish pred expected s) = ((link_of expected).mark ≡ false) × MayPublish shape know.checked pred (link_of expected) (know.own s)
-IsInRange shape know (Mark s expected) = (link_of expected).mark ≡ false
-IsInRange shape know (Unlink pred expected s) = ((link_of expected).mark ≡ false) × ((link_of expected).slot ≡ Some s)
-IsInRange shape know (ConfirmPresent op s expected) = ((link_of expected).mark ≡ false) × (op ≢ Remove)
-IsInRange shape know (ConfirmAbsent op key at expected) =
-    ((link_of expected).mark ≡ false) × (op ≢ Insert) × IsBehind shape know.checked at key × LeadsAbove shape.slots know.checked key (link_of expected).slot
-IsInRange shape know _ = Unit {0}
+abbrev pub IsInRange : Start → Know → Step → Type 0
+IsInRange start know (Advance from) = 1 ≤ from
+IsInRange start know (StoreStamp s stamp) = IsReread (know.own s) × (stamp ≡ know.epoch)
+IsInRange start know (StoreBirth s birth) = (birth ≡ know.epoch) × (stamp_in (know.own s) < birth)
+IsInRange start know (Publish pred expected s) = ((link_of expected).mark ≡ false) × MayPublish start know.checked pred (link_of expected) (know.own s)
+IsInRange start know (Mark s expected) = (link_of expected).mark ≡ false
+IsInRange start know (Unlink pred expected s) = ((link_of expected).mark ≡ false) × ((link_of expected).slot ≡ Some s)
+IsInRange start know (ConfirmPresent op s expected) = ((link_of expected).mark ≡ false) × (op ≢ Remove)
+IsInRange start know (ConfirmAbsent op key at expected) =
+    ((link_of expected).mark ≡ false) × (op ≢ Insert) × IsBehind start know.checked at key × LeadsAbove start.shape.slots know.checked key (link_of expected).slot
+IsInRange start know _ = Unit {0}
 
 -- the epoch that the step would advance is below the last
-abbrev pub IsBelowLast : Dimensions → Step → Type 0
-IsBelowLast shape (Advance from) = from < shape.last_epoch
-IsBelowLast shape _ = Unit {0}
+abbrev pub IsBelowLast : Start → Step → Type 0
+IsBelowLast start (Advance from) = from < start.shape.last_epoch
+IsBelowLast start _ = Unit {0}
 
 -- ---- acceptance
 
 -- the core accepts the step of a pass that knows this
-pub record Accepts (shape : Dimensions) (know : Know) (step : Step) : Type 0 where
-  pub in_shape : IsInShape shape step
+pub record Accepts (start : Start) (know : Know) (step : Step) : Type 0 where
+  pub in_shape : IsInShape start step
   pub owned : IsOwned know step
-  pub held : HasChecked shape know step
-  pub in_range : IsInRange shape know step
-  pub below_last : IsBelowLast shape step
+  pub held : HasChecked start know step
+  pub in_range : IsInRange start know step
+  pub below_last : IsBelowLast start step
 
 -- the key stands between a place and the very slot that its link names, if it names one, by a checked link and checked keys
-pub record IsBetween (shape : Dimensions) (reads : List Read) (key : ℕ) (at : At) (link : Link) : Type 0 where
+pub record IsBetween (start : Start) (reads : List Read) (key : ℕ) (at : At) (link : Link) : Type 0 where
   pub known : IsTrue (knows_link reads at link)
   pub here : KnowsKeyAt reads at
   pub there : KnowsKeyOf reads link.slot
   pub unmarked : link.mark ≡ false
-  pub behind : IsBehind shape reads at key
+  pub behind : IsBehind start reads at key
   pub before : IsBefore reads key link.slot

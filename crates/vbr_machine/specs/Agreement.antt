@@ -1,7 +1,7 @@
 -- The invariant of runs: a world, the incarnations of its chronicle and the notes of its passes agree.
 use Rattle.std.specs.Prelude.{◌≡◌, ◌≢◌, ℕ, ◌-◌, ◌^◌, ◌<◌, ◌≤◌, min, Bool, true, false, List, map, Option, Some, None}
 use Rattle.std.specs.List.{AllByRecursion}
-use Rattle.vbr_words.specs.Dimensions.{Dimensions, IsShape}
+use Rattle.vbr_machine.specs.Start.{Start, IsStart}
 use Rattle.vbr_words.specs.Words.{IsLink}
 use Rattle.vbr_words.specs.declared.link.Link.{Link}
 use Rattle.vbr_words.specs.declared.place.At.{At}
@@ -150,17 +150,17 @@ Owns a know = (pass s : ℕ) → OwnFits a pass (know pass).epoch ((know pass).o
 -- ---- the invariant
 
 -- words have room for the incarnations of a shape: for their births, which are no greater than the epoch, their slots and their links
-pub record Fits (shape : Dimensions) (a : Incarnations) : Type 0 where
-  pub is_shape : IsShape shape
-  pub epoch : a.epoch ≤ shape.last_epoch
-  pub slot : (c : ℕ) → c < a.count → a.slot c < shape.slots
+pub record Fits (start : Start) (a : Incarnations) : Type 0 where
+  pub is_start : IsStart start
+  pub epoch : a.epoch ≤ start.shape.last_epoch
+  pub slot : (c : ℕ) → c < a.count → a.slot c < start.shape.slots
   pub link : (c : ℕ) → IsLink (a.link c)
 
 -- a world, the incarnations of its chronicle and the notes of its passes agree; the births are counted up to the greatest number
-pub record Agrees (shape : Dimensions) (w : World) (a : Incarnations) (notes : ℕ → Notes) : Type 0 where
-  pub sound : Sound shape a
-  pub tells : Tells shape a
-  pub fits : Fits shape a
+pub record Agrees (start : Start) (w : World) (a : Incarnations) (notes : ℕ → Notes) : Type 0 where
+  pub sound : Sound start a
+  pub tells : Tells start a
+  pub fits : Fits start a
   pub image : IsImage w a
   pub knows : AllKnowRight a w.know notes
   pub owns : Owns a w.know

@@ -1,7 +1,7 @@
 -- The calls that a step adds to those of the world, and the calls of a pass after a run.
 use Rattle.std.specs.Prelude.{ℕ, List}
 use Rattle.std.specs.Option.{option_to_list}
-use Rattle.vbr_words.specs.Dimensions.{Dimensions}
+use Rattle.vbr_machine.specs.Start.{Start}
 use Rattle.vbr_machine.specs.History.{calls_by}
 use Rattle.vbr_machine.specs.Machine.{World}
 use Rattle.vbr_machine.specs.Making.{call_made}
@@ -11,9 +11,9 @@ use Rattle.vbr_machine.specs.declared.event.Event.{Event}
 use Rattle.vbr_machine.specs.declared.event.Step.{Step}
 
 -- the calls that a step adds: its one call, if it makes a call and finds its word
-abbrev pub calls_added : Dimensions → World → ℕ → Step → List Call
-calls_added shape w p step = option_to_list (call_made shape w p step)
+abbrev pub calls_added : Start → World → ℕ → Step → List Call
+calls_added start w p step = option_to_list (call_made start w p step)
 
 -- the calls of a pass after a run, in their order
-abbrev pub own_calls : Dimensions → List Event → ℕ → List Call
-own_calls shape run pass = calls_by pass (world_after shape run).calls
+abbrev pub own_calls : Start → List Event → ℕ → List Call
+own_calls start run pass = calls_by pass (world_after start run).calls

@@ -1,6 +1,6 @@
 -- The events of a chronicle: where each is allowed, and what it makes.
 use Rattle.std.specs.Prelude.{◌≡◌, ◌≢◌, ℕ, ◌+◌, ◌<◌, ◌≤◌, Bool, true, false, List, [], ◌∷◌, ◌++◌, Option, Some, None, ◌==◌, filter}
-use Rattle.vbr_words.specs.Dimensions.{Dimensions}
+use Rattle.vbr_machine.specs.Start.{Start}
 use Rattle.vbr_words.specs.declared.link.Link.{Link}
 use Rattle.vbr_machine.specs.Put.{put}
 use Rattle.vbr_machine.specs.Keys.{Keys}
@@ -76,9 +76,9 @@ IsOpen a (AtHead b) = Unit {0}
 IsOpen a (AtNode c) = a.state c ≡ Linked
 
 -- a key belongs behind what stands before: in the same bucket, and above its key
-abbrev pub BelongsBehind : Dimensions → Incarnations → Before → ℕ → Type 0
-BelongsBehind shape a (AtHead b) key = bucket_of shape key ≡ b
-BelongsBehind shape a (AtNode c) key = (bucket_of shape key ≡ bucket_of shape (a.key c)) × (a.key c < key)
+abbrev pub BelongsBehind : Start → Incarnations → Before → ℕ → Type 0
+BelongsBehind start a (AtHead b) key = bucket_of start.shape key ≡ b
+BelongsBehind start a (AtNode c) key = (bucket_of start.shape key ≡ bucket_of start.shape (a.key c)) × (a.key c < key)
 
 -- a key belongs before a successor, if there is one
 abbrev pub BelongsBefore : Incarnations → ℕ → Option ℕ → Type 0
@@ -86,15 +86,15 @@ BelongsBefore a key None = Unit {0}
 BelongsBefore a key (Some c) = key < a.key c
 
 -- an incarnation may be linked behind what stands before
-pub record MayInsert (shape : Dimensions) (a : Incarnations) (pass node : ℕ) (behind : Before) : Type 0 where
+pub record MayInsert (start : Start) (a : Incarnations) (pass node : ℕ) (behind : Before) : Type 0 where
   pub in_hand : a.state node ≡ InHand pass
   pub keyed : a.is_keyed node ≡ true
   pub aimed : a.is_aimed node ≡ true
   pub is_open : IsOpen a behind
   pub link : a.link node ≡ link_to_next a (a.birth node) (next_of a behind)
-  pub above : BelongsBehind shape a behind (a.key node)
+  pub above : BelongsBehind start a behind (a.key node)
   pub below : BelongsBefore a (a.key node) (next_of a behind)
-  pub valued : shape.values ≡ true → a.is_valued node ≡ true
+  pub valued : start.shape.values ≡ true → a.is_valued node ≡ true
 
 -- an incarnation that the pass unlinked may be stamped with an epoch since then
 abbrev pub MayStamp : State → ℕ → ℕ → ℕ → Type 0
@@ -108,32 +108,32 @@ ChangesNothing Get reply = Unit {0}
 ChangesNothing op reply = reply ≡ false
 
 -- an event is allowed after a chronicle that has made these incarnations; the set of keys is the one that the history opened with
-abbrev pub Allowed : Dimensions → Keys → Incarnations → ℕ → Happening → Type 0
-Allowed shape keys a pass Advances = a.epoch < shape.last_epoch
-Allowed shape keys a pass (Gains s) = a.place s ≡ Shared
-Allowed shape keys a pass (Probes s) = a.place s ≢ Shared
-Allowed shape keys a pass (Raises s) = (a.place s ≡ Own pass) × IsRetired a (a.last s)
-Allowed shape keys a pass (GivesUp c) = a.state c ≡ InHand pass
-Allowed shape keys a pass (Bears s birth) = MayBeBornIn a pass s (a.place s) × (a.stamp s < birth) × (birth ≤ a.epoch)
-Allowed shape keys a pass (Keyed c key) = a.state c ≡ InHand pass
-Allowed shape keys a pass (Valued c value) = (a.state c ≡ InHand pass) × (shape.values ≡ true)
-Allowed shape keys a pass (Aims c link) = (a.state c ≡ InHand pass) × (link.mark ≡ false) × (a.birth c ≤ link.version)
-Allowed shape keys a pass (Inserts c behind) = MayInsert shape a pass c behind
-Allowed shape keys a pass (Removes c) = a.state c ≡ Linked
-Allowed shape keys a pass (Unlinks c behind) = (a.state c ≡ Marked) × IsOpen a behind × (next_of a behind ≡ Some c)
-Allowed shape keys a pass (Stamps c stamp) = MayStamp (a.state c) pass stamp a.epoch
-Allowed shape keys a pass (Confirms call) =
+abbrev pub Allowed : Start → Keys → Incarnations → ℕ → Happening → Type 0
+Allowed start keys a pass Advances = a.epoch < start.shape.last_epoch
+Allowed start keys a pass (Gains s) = a.place s ≡ Shared
+Allowed start keys a pass (Probes s) = a.place s ≢ Shared
+Allowed start keys a pass (Raises s) = (a.place s ≡ Own pass) × IsRetired a (a.last s)
+Allowed start keys a pass (GivesUp c) = a.state c ≡ InHand pass
+Allowed start keys a pass (Bears s birth) = MayBeBornIn a pass s (a.place s) × (a.stamp s < birth) × (birth ≤ a.epoch)
+Allowed start keys a pass (Keyed c key) = a.state c ≡ InHand pass
+Allowed start keys a pass (Valued c value) = (a.state c ≡ InHand pass) × (start.shape.values ≡ true)
+Allowed start keys a pass (Aims c link) = (a.state c ≡ InHand pass) × (link.mark ≡ false) × (a.birth c ≤ link.version)
+Allowed start keys a pass (Inserts c behind) = MayInsert start a pass c behind
+Allowed start keys a pass (Removes c) = a.state c ≡ Linked
+Allowed start keys a pass (Unlinks c behind) = (a.state c ≡ Marked) × IsOpen a behind × (next_of a behind ≡ Some c)
+Allowed start keys a pass (Stamps c stamp) = MayStamp (a.state c) pass stamp a.epoch
+Allowed start keys a pass (Confirms call) =
     (call.who ≡ pass) × ChangesNothing call.op call.reply × (call.reply ≡ reply_of (set_after keys a.calls) call.op call.key)
-    × GivesValue (values_after (opening_payloads shape) a.calls) call.op call.key call.reply call.value
+    × GivesValue (values_after (opening_payloads start) a.calls) call.op call.key call.reply call.value
 
 -- ---- what an event makes
 
 -- the calls that an event makes
-abbrev pub calls_made : Dimensions → Incarnations → ℕ → Happening → List Call
-calls_made shape a pass (Inserts c behind) = record { who = pass; op = Insert; key = a.key c; reply = true; value = payload_of shape a c } ∷ []
-calls_made shape a pass (Removes c) = record { who = pass; op = Remove; key = a.key c; reply = true; value = payload_of shape a c } ∷ []
-calls_made shape a pass (Confirms call) = call ∷ []
-calls_made shape a pass _ = []
+abbrev pub calls_made : Start → Incarnations → ℕ → Happening → List Call
+calls_made start a pass (Inserts c behind) = record { who = pass; op = Insert; key = a.key c; reply = true; value = payload_of start a c } ∷ []
+calls_made start a pass (Removes c) = record { who = pass; op = Remove; key = a.key c; reply = true; value = payload_of start a c } ∷ []
+calls_made start a pass (Confirms call) = call ∷ []
+calls_made start a pass _ = []
 
 -- the first of each bucket once the successor of what stands before has changed
 abbrev pub first_with : (ℕ → Option ℕ) → Before → Option ℕ → ℕ → Option ℕ
@@ -152,13 +152,13 @@ unlinked_at (Stamped at stamp) = at
 unlinked_at _ = 0
 
 -- the incarnations once one more event has happened
-abbrev pub becomes : Dimensions → Incarnations → ℕ → Happening → Incarnations
-becomes shape a pass Advances = record a { epoch = a.epoch + 1 }
-becomes shape a pass (Gains s) = record a { place = put a.place s (Own pass) }
-becomes shape a pass (Probes s) = a
-becomes shape a pass (Raises s) = record a { place = put a.place s Shared }
-becomes shape a pass (GivesUp c) = record a { state = put a.state c GivenUp }
-becomes shape a pass (Bears s birth) =
+abbrev pub becomes : Start → Incarnations → ℕ → Happening → Incarnations
+becomes start a pass Advances = record a { epoch = a.epoch + 1 }
+becomes start a pass (Gains s) = record a { place = put a.place s (Own pass) }
+becomes start a pass (Probes s) = a
+becomes start a pass (Raises s) = record a { place = put a.place s Shared }
+becomes start a pass (GivesUp c) = record a { state = put a.state c GivenUp }
+becomes start a pass (Bears s birth) =
     record a {
       count = a.count + 1;
       slot = put a.slot a.count s;
@@ -174,40 +174,40 @@ becomes shape a pass (Bears s birth) =
       last = put a.last s (Some a.count);
       place = put a.place s (Hand pass);
     }
-becomes shape a pass (Keyed c key) = record a { key = put a.key c key; is_keyed = put a.is_keyed c true }
-becomes shape a pass (Valued c value) = record a { value = put a.value c value; is_valued = put a.is_valued c true }
-becomes shape a pass (Aims c link) = record a { link = put a.link c link; is_aimed = put a.is_aimed c true }
-becomes shape a pass (Inserts c behind) =
+becomes start a pass (Keyed c key) = record a { key = put a.key c key; is_keyed = put a.is_keyed c true }
+becomes start a pass (Valued c value) = record a { value = put a.value c value; is_valued = put a.is_valued c true }
+becomes start a pass (Aims c link) = record a { link = put a.link c link; is_aimed = put a.is_aimed c true }
+becomes start a pass (Inserts c behind) =
     record a {
       first = first_with a.first behind (Some c);
       next = next_with (put a.next c (next_of a behind)) behind (Some c);
       state = put a.state c Linked;
-      place = put a.place (a.slot c) (Listed (bucket_of shape (a.key c)));
-      calls = a.calls ++ calls_made shape a pass (Inserts c behind);
+      place = put a.place (a.slot c) (Listed (bucket_of start.shape (a.key c)));
+      calls = a.calls ++ calls_made start a pass (Inserts c behind);
     }
-becomes shape a pass (Removes c) = record a { state = put a.state c Marked; calls = a.calls ++ calls_made shape a pass (Removes c) }
-becomes shape a pass (Unlinks c behind) =
+becomes start a pass (Removes c) = record a { state = put a.state c Marked; calls = a.calls ++ calls_made start a pass (Removes c) }
+becomes start a pass (Unlinks c behind) =
     record a {
       first = first_with a.first behind (a.next c);
       next = next_with a.next behind (a.next c);
       state = put a.state c (Unlinked pass a.epoch);
       place = put a.place (a.slot c) (Own pass);
     }
-becomes shape a pass (Stamps c stamp) =
+becomes start a pass (Stamps c stamp) =
     record a { state = put a.state c (Stamped (unlinked_at (a.state c)) stamp); stamp = put a.stamp (a.slot c) stamp }
-becomes shape a pass (Confirms call) = record a { calls = a.calls ++ calls_made shape a pass (Confirms call) }
+becomes start a pass (Confirms call) = record a { calls = a.calls ++ calls_made start a pass (Confirms call) }
 
 -- ---- chronicles
 
 -- the incarnations that a chronicle leads to
-abbrev pub incarnations_from : Dimensions → Incarnations → List Entry → Incarnations
-incarnations_from shape a [] = a
-incarnations_from shape a (entry ∷ entries) = incarnations_from shape (becomes shape a entry.pass entry.what) entries
+abbrev pub incarnations_from : Start → Incarnations → List Entry → Incarnations
+incarnations_from start a [] = a
+incarnations_from start a (entry ∷ entries) = incarnations_from start (becomes start a entry.pass entry.what) entries
 
 -- a chronicle is lawful where each event is allowed after those before it
-abbrev pub IsLawful : Dimensions → Keys → Incarnations → List Entry → Type 0
-IsLawful shape keys a [] = Unit {0}
-IsLawful shape keys a (entry ∷ entries) = Allowed shape keys a entry.pass entry.what × IsLawful shape keys (becomes shape a entry.pass entry.what) entries
+abbrev pub IsLawful : Start → Keys → Incarnations → List Entry → Type 0
+IsLawful start keys a [] = Unit {0}
+IsLawful start keys a (entry ∷ entries) = Allowed start keys a entry.pass entry.what × IsLawful start keys (becomes start a entry.pass entry.what) entries
 
 -- the events of one pass, in their order
 abbrev pub entries_by : ℕ → List Entry → List Entry

@@ -1,6 +1,6 @@
 -- The incarnations of the slots: what a chronicle has made so far.
 use Rattle.std.specs.Prelude.{ℕ, ◌≤◌, Bool, List, [], Option, Some, None, unwrap_or, if◌then◌else◌}
-use Rattle.vbr_words.specs.Dimensions.{Dimensions}
+use Rattle.vbr_machine.specs.Start.{Start}
 use Rattle.vbr_words.specs.declared.link.Link.{Link}
 use Rattle.vbr_machine.specs.Links.{opening_link}
 use Rattle.vbr_machine.specs.Opened.{key_count, has_opening_key, key_number, value_number, payload_kept, opening_birth, first_key, key_behind, opening_place}
@@ -38,39 +38,39 @@ pub record Incarnations : Type 0 where
   pub calls : List Call
 
 -- what has become of an incarnation at opening: those of the opening keys are linked
-abbrev pub opening_state : Dimensions → ℕ → State
-opening_state shape c = if has_opening_key shape c then Linked else Unborn
+abbrev pub opening_state : Start → ℕ → State
+opening_state start c = if has_opening_key start c then Linked else Unborn
 
 -- the incarnation of a slot at opening, if it has one
-abbrev pub opening_last : Dimensions → ℕ → Option ℕ
-opening_last shape s = if has_opening_key shape s then Some s else None
+abbrev pub opening_last : Start → ℕ → Option ℕ
+opening_last start s = if has_opening_key start s then Some s else None
 
 -- the incarnations at opening: one of each opening key, with its number, in the slot of that number
-abbrev pub at_opening : Dimensions → Incarnations
-at_opening shape =
+abbrev pub at_opening : Start → Incarnations
+at_opening start =
     record {
       epoch = 1;
-      count = key_count shape;
+      count = key_count start;
       slot = λ c. c;
-      birth = opening_birth shape;
-      key = key_number shape;
-      is_keyed = has_opening_key shape;
-      value = value_number shape;
-      is_valued = has_opening_key shape;
+      birth = opening_birth start;
+      key = key_number start;
+      is_keyed = has_opening_key start;
+      value = value_number start;
+      is_valued = has_opening_key start;
       link = λ c. opening_link;
-      is_aimed = has_opening_key shape;
-      next = key_behind shape;
-      state = opening_state shape;
-      first = first_key shape;
-      last = opening_last shape;
-      place = opening_place shape;
+      is_aimed = has_opening_key start;
+      next = key_behind start;
+      state = opening_state start;
+      first = first_key start;
+      last = opening_last start;
+      place = opening_place start;
       stamp = λ s. 0;
       calls = [];
     }
 
 -- the value of an incarnation where nodes have values, and otherwise none
-abbrev pub payload_of : Dimensions → Incarnations → ℕ → Option ℕ
-payload_of shape a c = payload_kept shape (Some (a.value c))
+abbrev pub payload_of : Start → Incarnations → ℕ → Option ℕ
+payload_of start a c = payload_kept start (Some (a.value c))
 
 -- an incarnation is late for an epoch while it is linked or marked, and also after, if it was unlinked at this epoch or later
 abbrev pub IsLate : State → ℕ → Type 0

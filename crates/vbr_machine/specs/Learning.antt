@@ -1,6 +1,6 @@
 -- What a step's load or exchange answers, what its pass learns from it, and which call it makes.
 use Rattle.std.specs.Prelude.{ℕ, Bool, true, false, ◌==◌, List, [], ◌∷◌, ◌++◌, Option, Some, None, if◌then◌else◌, unwrap_or}
-use Rattle.vbr_words.specs.Dimensions.{Dimensions}
+use Rattle.vbr_machine.specs.Start.{Start}
 use Rattle.vbr_words.specs.Words.{link_of}
 use Rattle.vbr_words.specs.Flags.{has_flag}
 use Rattle.vbr_words.specs.declared.link.Link.{Link}
@@ -197,10 +197,10 @@ present_value Get value = value
 present_value _ value = None
 
 -- the call of a step that succeeds, if it is one that makes a call
-abbrev pub call_of : Dimensions → ℕ → Know → Step → Option Call
-call_of shape pass know (Publish pred expected s) = Some (record { who = pass; op = Insert; key = key_in_hand (know.own s); reply = true; value = payload_kept shape (value_in_hand (know.own s)) })
-call_of shape pass know (Mark s expected) = Some (record { who = pass; op = Remove; key = unwrap_or (key_in know.checked s) 0; reply = true; value = payload_kept shape (value_in know.checked s) })
-call_of shape pass know (ConfirmPresent op s expected) =
+abbrev pub call_of : Start → ℕ → Know → Step → Option Call
+call_of start pass know (Publish pred expected s) = Some (record { who = pass; op = Insert; key = key_in_hand (know.own s); reply = true; value = payload_kept start (value_in_hand (know.own s)) })
+call_of start pass know (Mark s expected) = Some (record { who = pass; op = Remove; key = unwrap_or (key_in know.checked s) 0; reply = true; value = payload_kept start (value_in know.checked s) })
+call_of start pass know (ConfirmPresent op s expected) =
     Some (record { who = pass; op = op; key = unwrap_or (key_in know.checked s) 0; reply = present_reply op; value = present_value op (value_in know.checked s) })
-call_of shape pass know (ConfirmAbsent op key at expected) = Some (record { who = pass; op = op; key = key; reply = false; value = None })
-call_of shape pass know _ = None
+call_of start pass know (ConfirmAbsent op key at expected) = Some (record { who = pass; op = op; key = key; reply = false; value = None })
+call_of start pass know _ = None

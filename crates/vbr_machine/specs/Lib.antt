@@ -1,3 +1,4 @@
+pub mod Start
 pub mod Put
 pub mod Keys
 pub mod History

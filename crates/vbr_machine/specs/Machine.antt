@@ -1,6 +1,6 @@
 -- The core: its world, and what an accepted step does to it.
 use Rattle.std.specs.Prelude.{ℕ, ◌+◌, ◌-◌, ◌*◌, ◌^◌, min, ◌==◌, nat_lt, Bool, true, false, ◌&&◌, bit_and, bit_or, List, [], ◌∷◌, ◌++◌, Option, Some, None, if◌then◌else◌}
-use Rattle.vbr_words.specs.Dimensions.{Dimensions}
+use Rattle.vbr_machine.specs.Start.{Start}
 use Rattle.vbr_words.specs.Words.{word_of}
 use Rattle.vbr_words.specs.Flags.{word_of_flag, flag_of, all_but, flag_word}
 use Rattle.vbr_words.specs.Places as places
@@ -40,19 +40,19 @@ abbrev pub knows_nothing : Know
 knows_nothing = record { epoch = 1; pending = []; checked = []; own = λ s. None }
 
 -- the world at opening
-abbrev pub opening : Dimensions → World
-opening shape =
+abbrev pub opening : Start → World
+opening start =
     record {
       epoch = 1;
-      head = λ b. link_to_key shape 0 (first_key shape b);
-      link = link_at_opening shape;
-      birth = opening_birth shape;
+      head = λ b. link_to_key start 0 (first_key start b);
+      link = link_at_opening start;
+      birth = opening_birth start;
       stamp = λ s. 0;
-      key = key_number shape;
-      value = value_number shape;
-      place = opening_place shape;
+      key = key_number start;
+      value = value_number start;
+      place = opening_place start;
       know = λ p. knows_nothing;
-      births = key_count shape;
+      births = key_count start;
       calls = [];
     }
 
@@ -69,24 +69,24 @@ is_shared Shared = true
 is_shared _ = false
 
 -- whether the flag of a slot is set: it is one of the shape, and in the shared pool
-abbrev pub is_flagged : Dimensions → World → ℕ → Bool
-is_flagged shape w s = nat_lt s shape.slots && is_shared (w.place s)
+abbrev pub is_flagged : Start → World → ℕ → Bool
+is_flagged start w s = nat_lt s start.shape.slots && is_shared (w.place s)
 
 -- the word that says what the shape is
-abbrev pub shape_word : Dimensions → ℕ
-shape_word shape = shape.slots + MARK * shape.last_epoch
+abbrev pub shape_word : Start → ℕ
+shape_word start = start.shape.slots + MARK * start.shape.last_epoch
 
 -- the word at a place
-abbrev pub word_at : Dimensions → World → Place → ℕ
-word_at shape w place.Epoch = w.epoch
-word_at shape w place.ShapeWord = shape_word shape
-word_at shape w (place.Head b) = word_of (w.head b)
-word_at shape w (place.LinkOf s) = word_of (w.link s)
-word_at shape w (place.Birth s) = w.birth s
-word_at shape w (place.Stamp s) = w.stamp s
-word_at shape w (place.Key s) = w.key s
-word_at shape w (place.Value s) = w.value s
-word_at shape w (place.Flags number) = flag_word (is_flagged shape w) number
+abbrev pub word_at : Start → World → Place → ℕ
+word_at start w place.Epoch = w.epoch
+word_at start w place.ShapeWord = shape_word start
+word_at start w (place.Head b) = word_of (w.head b)
+word_at start w (place.LinkOf s) = word_of (w.link s)
+word_at start w (place.Birth s) = w.birth s
+word_at start w (place.Stamp s) = w.stamp s
+word_at start w (place.Key s) = w.key s
+word_at start w (place.Value s) = w.value s
+word_at start w (place.Flags number) = flag_word (is_flagged start w) number
 
 -- ---- how a step reaches its word
 
@@ -150,8 +150,8 @@ abbrev pub counted : ℕ → ℕ
 counted births = min (births + 1) (2 ^ 64 - 1)
 
 -- the word that a step finds, or that its store replaces
-abbrev pub found : Dimensions → World → Step → ℕ
-found shape w step = word_at shape w (place_of_step step)
+abbrev pub found : Start → World → Step → ℕ
+found start w step = word_at start w (place_of_step step)
 
 -- the stamp of the slot that a step takes
 abbrev pub stamp_shown : World → Step → ℕ
@@ -159,8 +159,8 @@ stamp_shown w (TakeFlag s) = w.stamp s
 stamp_shown w _ = 0
 
 -- its pass learns from a step
-abbrev pub with_learning : Dimensions → World → ℕ → Step → World
-with_learning shape w p step = record w { know = put w.know p (learn step (found shape w step) (stamp_shown w step) (w.know p)) }
+abbrev pub with_learning : Start → World → ℕ → Step → World
+with_learning start w p step = record w { know = put w.know p (learn step (found start w step) (stamp_shown w step) (w.know p)) }
 
 -- a link is written at a place
 abbrev pub with_link_at : World → At → Link → World
@@ -173,31 +173,31 @@ with_call w None = w
 with_call w (Some call) = record w { calls = w.calls ++ call ∷ [] }
 
 -- the words and places that a step of a pass writes where it succeeds, from the link and the key that the pass had for it
-abbrev pub written : Dimensions → ℕ → Step → Link → ℕ → World → World
-written shape p (Advance from) link key w = record w { epoch = w.epoch + 1 }
-written shape p (StoreStamp s stamp) link key w = record w { stamp = put w.stamp s stamp }
-written shape p (Raise s) link key w = record w { place = put w.place s Shared }
-written shape p (TakeFlag s) link key w = record w { place = put w.place s (Own p) }
-written shape p (StoreBirth s birth) link key w = record w { birth = put w.birth s birth; place = put w.place s (Hand p); births = counted w.births }
-written shape p (StoreKey s new) link key w = record w { key = put w.key s new }
-written shape p (StoreValue s new) link key w = record w { value = put w.value s new }
-written shape p (StoreLink s next) link key w = with_link_at w (Slot s) link
-written shape p (Publish pred expected s) link key w = record (with_link_at w pred link) { place = put w.place s (Listed (bucket_of shape key)) }
-written shape p (Mark s expected) link key w = with_link_at w (Slot s) link
-written shape p (Unlink pred expected s) link key w = record (with_link_at w pred link) { place = put w.place s (Own p) }
-written shape p _ link key w = w
+abbrev pub written : Start → ℕ → Step → Link → ℕ → World → World
+written start p (Advance from) link key w = record w { epoch = w.epoch + 1 }
+written start p (StoreStamp s stamp) link key w = record w { stamp = put w.stamp s stamp }
+written start p (Raise s) link key w = record w { place = put w.place s Shared }
+written start p (TakeFlag s) link key w = record w { place = put w.place s (Own p) }
+written start p (StoreBirth s birth) link key w = record w { birth = put w.birth s birth; place = put w.place s (Hand p); births = counted w.births }
+written start p (StoreKey s new) link key w = record w { key = put w.key s new }
+written start p (StoreValue s new) link key w = record w { value = put w.value s new }
+written start p (StoreLink s next) link key w = with_link_at w (Slot s) link
+written start p (Publish pred expected s) link key w = record (with_link_at w pred link) { place = put w.place s (Listed (bucket_of start.shape key)) }
+written start p (Mark s expected) link key w = with_link_at w (Slot s) link
+written start p (Unlink pred expected s) link key w = record (with_link_at w pred link) { place = put w.place s (Own p) }
+written start p _ link key w = w
 
 -- its pass learns from a step that teaches something
-abbrev pub learned : Dimensions → World → ℕ → Step → World
-learned shape w p (Advance from) = w
-learned shape w p (LoadStamp s) = w
-learned shape w p (ConfirmPresent op s expected) = w
-learned shape w p (ConfirmAbsent op key at expected) = w
-learned shape w p step = with_learning shape w p step
+abbrev pub learned : Start → World → ℕ → Step → World
+learned start w p (Advance from) = w
+learned start w p (LoadStamp s) = w
+learned start w p (ConfirmPresent op s expected) = w
+learned start w p (ConfirmAbsent op key at expected) = w
+learned start w p step = with_learning start w p step
 
 -- the world after an accepted step of a pass: where the step succeeds, its pass has learned, the words and places are written, and its call is made; else nothing has changed
-abbrev pub after : Dimensions → World → ℕ → Step → World
-after shape w p step =
-    if succeeds step (found shape w step)
-    then with_call (written shape p step (link_written (w.know p) step) (key_written (w.know p) step) (learned shape w p step)) (call_of shape p (w.know p) step)
+abbrev pub after : Start → World → ℕ → Step → World
+after start w p step =
+    if succeeds step (found start w step)
+    then with_call (written start p step (link_written (w.know p) step) (key_written (w.know p) step) (learned start w p step)) (call_of start p (w.know p) step)
     else w

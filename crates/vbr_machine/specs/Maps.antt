@@ -2,6 +2,7 @@
 use Rattle.std.specs.Prelude.{◌≡◌, ℕ, Bool, true, false, List, [], ◌∷◌, Option, Some, None, is_some, nat_eq, map, if◌then◌else◌}
 use Rattle.std.specs.Option.{unwrap_or}
 use Rattle.vbr_words.specs.Dimensions.{Dimensions}
+use Rattle.vbr_machine.specs.Start.{Start, start_with}
 use Rattle.vbr_machine.specs.Put.{put}
 use Rattle.vbr_machine.specs.Keys.{Keys}
 use Rattle.vbr_machine.specs.History.{reply_of}
@@ -26,6 +27,10 @@ values_listed entries = map (λ entry. entry.1) entries
 abbrev pub entries_in : List (ℕ × ℕ) → Entries
 entries_in [] key = None
 entries_in (entry ∷ entries) key = if nat_eq key entry.0 then Some (Some entry.1) else entries_in entries key
+
+-- what a map of this shape starts with that opens with these entries
+abbrev pub map_start : Dimensions → List (ℕ × ℕ) → Start
+map_start shape entries = start_with (record shape { values = true }) (keys_listed entries) (values_listed entries)
 
 -- the keys that a map has
 abbrev pub keys_in : Entries → Keys
@@ -75,9 +80,9 @@ StoreAsked [] [] = Unit {0}
 StoreAsked (asked ∷ calls) (answered ∷ answers) = StoresAsked asked answered × StoreAsked calls answers
 StoreAsked _ _ = ⊥
 
--- the map that a shape opens with
-abbrev pub opening_entries : Dimensions → Entries
-opening_entries shape key = if opening_keys shape key then Some (opening_payloads shape key) else None
+-- the map that a start opens with
+abbrev pub opening_entries : Start → Entries
+opening_entries start key = if opening_keys start key then Some (opening_payloads start key) else None
 
 -- no call of a list has a value
 abbrev pub TellsNoValue : List Call → Type 0

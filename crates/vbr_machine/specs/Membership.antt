@@ -1,7 +1,7 @@
 -- What a pass knows by membership: whatever is among its checked reads, and not only the first that a search finds.
 use Rattle.std.specs.Prelude.{◌≡◌, ◌≢◌, ℕ, ◌<◌, Bool, true, false, Option, Some, None}
 use Rattle.std.specs.List.{Contains}
-use Rattle.vbr_words.specs.Dimensions.{Dimensions}
+use Rattle.vbr_machine.specs.Start.{Start}
 use Rattle.vbr_words.specs.Words.{link_of}
 use Rattle.vbr_words.specs.declared.link.Link.{Link}
 use Rattle.vbr_words.specs.declared.place.At.{At}
@@ -67,9 +67,9 @@ KeyAt know (Head b) key = ⊥
 KeyAt know (Slot s) key = Knows know (KeyOf s key)
 
 -- a key stands behind a place: in its bucket, and above a key that is known there if it is a slot
-abbrev pub StandsBehind : Dimensions → Know → At → ℕ → Type 0
-StandsBehind shape know (Head b) key = bucket_of shape key ≡ b
-StandsBehind shape know (Slot s) key = (here : ℕ) × Knows know (KeyOf s here) × (bucket_of shape key ≡ bucket_of shape here) × (here < key)
+abbrev pub StandsBehind : Start → Know → At → ℕ → Type 0
+StandsBehind start know (Head b) key = bucket_of start.shape key ≡ b
+StandsBehind start know (Slot s) key = (here : ℕ) × Knows know (KeyOf s here) × (bucket_of start.shape key ≡ bucket_of start.shape here) × (here < key)
 
 -- a key stands before what a link names: below a key that is known of it, if it names a slot
 abbrev pub StandsBefore : Know → ℕ → Option ℕ → Type 0
@@ -121,46 +121,46 @@ KnowsValueFor Get know s = (value : ℕ) × Knows know (ValueOf s value)
 KnowsValueFor _ know s = Unit {0}
 
 -- the reads that the step asks for are known
-abbrev pub IsKnown : Dimensions → Know → Step → Type 0
-IsKnown shape know (StoreLink s next) = IsNextKnown know next
-IsKnown shape know (LoadLink at) = IsHeldPlace know at
-IsKnown shape know (LoadBirth s) = IsHeldSlot know s
-IsKnown shape know (LoadKey s) = IsHeldSlot know s
-IsKnown shape know (LoadValue s) = IsHeldSlot know s
-IsKnown shape know (Publish pred expected s) = Knows know (LinkAt pred (link_of expected)) × ((birth : ℕ) × BirthAt know pred birth)
-IsKnown shape know (Mark s expected) = Knows know (LinkAt (Slot s) (link_of expected)) × ((key : ℕ) × Knows know (KeyOf s key)) × KnowsValue shape.values know s
-IsKnown shape know (Unlink pred expected s) = Knows know (LinkAt pred (link_of expected)) × ((new : Link) × IsUnlinkLink know pred s new)
-IsKnown shape know (ConfirmPresent op s expected) = Knows know (LinkAt (Slot s) (link_of expected)) × ((key : ℕ) × Knows know (KeyOf s key)) × KnowsValueFor op know s
-IsKnown shape know (ConfirmAbsent op key at expected) = Knows know (LinkAt at (link_of expected))
-IsKnown shape know _ = Unit {0}
+abbrev pub IsKnown : Start → Know → Step → Type 0
+IsKnown start know (StoreLink s next) = IsNextKnown know next
+IsKnown start know (LoadLink at) = IsHeldPlace know at
+IsKnown start know (LoadBirth s) = IsHeldSlot know s
+IsKnown start know (LoadKey s) = IsHeldSlot know s
+IsKnown start know (LoadValue s) = IsHeldSlot know s
+IsKnown start know (Publish pred expected s) = Knows know (LinkAt pred (link_of expected)) × ((birth : ℕ) × BirthAt know pred birth)
+IsKnown start know (Mark s expected) = Knows know (LinkAt (Slot s) (link_of expected)) × ((key : ℕ) × Knows know (KeyOf s key)) × KnowsValue start.shape.values know s
+IsKnown start know (Unlink pred expected s) = Knows know (LinkAt pred (link_of expected)) × ((new : Link) × IsUnlinkLink know pred s new)
+IsKnown start know (ConfirmPresent op s expected) = Knows know (LinkAt (Slot s) (link_of expected)) × ((key : ℕ) × Knows know (KeyOf s key)) × KnowsValueFor op know s
+IsKnown start know (ConfirmAbsent op key at expected) = Knows know (LinkAt at (link_of expected))
+IsKnown start know _ = Unit {0}
 
 -- what is in hand is ready: its key and link, and its value where nodes have values, were stored since its birth, the link names what the expected link names, by a birth that is known of that, and the key stands between
-pub record IsReadyKnown (shape : Dimensions) (know : Know) (pred : At) (expected : Link) (known : Unpublished) : Type 0 where
+pub record IsReadyKnown (start : Start) (know : Know) (pred : At) (expected : Link) (known : Unpublished) : Type 0 where
   pub key : ℕ
   pub key_is : known.key ≡ Some key
   pub named : ℕ
   pub named_known : BirthNamed know expected.slot named
   pub link_is : known.link ≡ Some (link_to expected.slot known.birth named)
-  pub behind : StandsBehind shape know pred key
+  pub behind : StandsBehind start know pred key
   pub before : StandsBefore know key expected.slot
-  pub valued : HasValue shape.values known.value
+  pub valued : HasValue start.shape.values known.value
 
 -- a slot in hand that is ready
-abbrev pub MayPublishKnown : Dimensions → Know → At → Link → Option Holding → Type 0
-MayPublishKnown shape know pred expected (Some (InHand known)) = IsReadyKnown shape know pred expected known
-MayPublishKnown shape know pred expected _ = ⊥
+abbrev pub MayPublishKnown : Start → Know → At → Link → Option Holding → Type 0
+MayPublishKnown start know pred expected (Some (InHand known)) = IsReadyKnown start know pred expected known
+MayPublishKnown start know pred expected _ = ⊥
 
 -- the step's numbers are in range
-abbrev pub IsInRangeKnown : Dimensions → Know → Step → Type 0
-IsInRangeKnown shape know (Publish pred expected s) = ((link_of expected).mark ≡ false) × MayPublishKnown shape know pred (link_of expected) (know.own s)
-IsInRangeKnown shape know (ConfirmAbsent op key at expected) =
-    ((link_of expected).mark ≡ false) × (op ≢ Insert) × StandsBehind shape know at key × StandsBeforeOn know key (link_of expected)
-IsInRangeKnown shape know step = IsInRange shape know step
+abbrev pub IsInRangeKnown : Start → Know → Step → Type 0
+IsInRangeKnown start know (Publish pred expected s) = ((link_of expected).mark ≡ false) × MayPublishKnown start know pred (link_of expected) (know.own s)
+IsInRangeKnown start know (ConfirmAbsent op key at expected) =
+    ((link_of expected).mark ≡ false) × (op ≢ Insert) × StandsBehind start know at key × StandsBeforeOn know key (link_of expected)
+IsInRangeKnown start know step = IsInRange start know step
 
 -- the core accepts the step of a pass that knows this: as acceptance by searches, but any known key, birth or marked link serves
-pub record AcceptsKnown (shape : Dimensions) (know : Know) (step : Step) : Type 0 where
-  pub in_shape : IsInShape shape step
+pub record AcceptsKnown (start : Start) (know : Know) (step : Step) : Type 0 where
+  pub in_shape : IsInShape start step
   pub owned : IsOwned know step
-  pub known : IsKnown shape know step
-  pub in_range : IsInRangeKnown shape know step
-  pub below_last : IsBelowLast shape step
+  pub known : IsKnown start know step
+  pub in_range : IsInRangeKnown start know step
+  pub below_last : IsBelowLast start step

@@ -1,6 +1,6 @@
 -- Links that were shown at an earlier moment of a run.
 use Rattle.std.specs.Prelude.{◌≡◌, ℕ, false, List}
-use Rattle.vbr_words.specs.Dimensions.{Dimensions}
+use Rattle.vbr_machine.specs.Start.{Start}
 use Rattle.vbr_words.specs.declared.link.Link.{Link}
 use Rattle.vbr_words.specs.declared.place.At.{At}
 use Rattle.vbr_machine.specs.Membership.{Knows, IsHeldPlace}
@@ -10,10 +10,10 @@ use Rattle.vbr_machine.specs.declared.event.Event.{Event}
 use Rattle.vbr_machine.specs.declared.knowledge.Read.TheVariants.{LinkAt}
 
 -- an unmarked link that a pass knows after a run was shown at its place at a moment of the run: the pass held the place then, in the epoch that it still has
-pub record WasShown (shape : Dimensions) (moment run : List Event) (pass : ℕ) (at : At) (link : Link) : Type 0 where
+pub record WasShown (start : Start) (moment run : List Event) (pass : ℕ) (at : At) (link : Link) : Type 0 where
   pub begins : Begins moment run
-  pub epoch : (know_after shape moment pass).epoch ≡ (know_after shape run pass).epoch
-  pub held : IsHeldPlace (know_after shape moment pass) at
-  pub shown : link_at (world_after shape moment) at ≡ link
-  pub known : Knows (know_after shape run pass) (LinkAt at link)
+  pub epoch : (know_after start moment pass).epoch ≡ (know_after start run pass).epoch
+  pub held : IsHeldPlace (know_after start moment pass) at
+  pub shown : link_at (world_after start moment) at ≡ link
+  pub known : Knows (know_after start run pass) (LinkAt at link)
   pub unmarked : link.mark ≡ false

@@ -1,6 +1,6 @@
 -- The nodes of lists, counted by slots: each slot has at most one, its last incarnation.
 use Rattle.std.specs.Prelude.{ℕ, zero, suc, Bool, true, false, ◌==◌, ◌&&◌, Option, Some, None, nat_lt, List, if◌then◌else◌, ◌≡◌}
-use Rattle.vbr_words.specs.Dimensions.{Dimensions}
+use Rattle.vbr_machine.specs.Start.{Start}
 use Rattle.vbr_words.specs.declared.place.At.{At}
 use Rattle.vbr_words.specs.declared.place.At.TheVariants.{Head, Slot}
 use Rattle.vbr_words.specs.Buckets.{bucket_of}
@@ -40,8 +40,8 @@ abbrev pub key_in_slot : Incarnations → ℕ → ℕ
 key_in_slot a s = key_shown a (a.last s)
 
 -- whether the node of a slot is in the list of a bucket
-abbrev pub is_in_list : Dimensions → Incarnations → ℕ → ℕ → Bool
-is_in_list shape a bucket s = is_listed (state_in a s) && (bucket_of shape (key_in_slot a s) == bucket)
+abbrev pub is_in_list : Start → Incarnations → ℕ → ℕ → Bool
+is_in_list start a bucket s = is_listed (state_in a s) && (bucket_of start.shape (key_in_slot a s) == bucket)
 
 -- whether a place is in a list: a head is, and a slot whose last incarnation is
 abbrev pub is_there : Incarnations → At → Bool
@@ -59,20 +59,20 @@ is_above a (Head b) key = true
 is_above a (Slot t) key = nat_lt (key_in_slot a t) key
 
 -- whether the node of a slot stands in the list of a bucket, behind a place
-abbrev pub is_behind : Dimensions → Incarnations → ℕ → At → ℕ → Bool
-is_behind shape a bucket at s = is_in_list shape a bucket s && is_above a at (key_in_slot a s)
+abbrev pub is_behind : Start → Incarnations → ℕ → At → ℕ → Bool
+is_behind start a bucket at s = is_in_list start a bucket s && is_above a at (key_in_slot a s)
 
 -- how many nodes, linked or marked, stand in the list of a bucket behind a place
-abbrev pub behind : Dimensions → Incarnations → ℕ → At → ℕ
-behind shape a bucket at = count_below (is_behind shape a bucket at) shape.slots
+abbrev pub behind : Start → Incarnations → ℕ → At → ℕ
+behind start a bucket at = count_below (is_behind start a bucket at) start.shape.slots
 
 -- how many nodes are linked after a run
-abbrev pub linked_after : Dimensions → List Event → ℕ
-linked_after shape run = count_below (λ s. is_linked (state_in (incarnations_after shape run) s)) shape.slots
+abbrev pub linked_after : Start → List Event → ℕ
+linked_after start run = count_below (λ s. is_linked (state_in (incarnations_after start run) s)) start.shape.slots
 
 -- how many nodes are marked, and still in a list
-abbrev pub marked_after : Dimensions → List Event → ℕ
-marked_after shape run = count_below (λ s. is_marked (state_in (incarnations_after shape run) s)) shape.slots
+abbrev pub marked_after : Start → List Event → ℕ
+marked_after start run = count_below (λ s. is_marked (state_in (incarnations_after start run) s)) start.shape.slots
 
 -- the last incarnation of a slot is this one, and it is in a list
 pub record Stands (a : Incarnations) (s c : ℕ) : Type 0 where
@@ -80,6 +80,6 @@ pub record Stands (a : Incarnations) (s c : ℕ) : Type 0 where
   pub listed : IsListed (a.state c)
 
 -- the node of a slot is in the list of a bucket
-pub record InList (shape : Dimensions) (a : Incarnations) (bucket s c : ℕ) : Type 0 where
+pub record InList (start : Start) (a : Incarnations) (bucket s c : ℕ) : Type 0 where
   pub stands : Stands a s c
-  pub of_bucket : bucket_of shape (a.key c) ≡ bucket
+  pub of_bucket : bucket_of start.shape (a.key c) ≡ bucket

@@ -1,6 +1,6 @@
 -- The notes of a pass: what it has read, with the incarnations that its reads speak of, which the pass itself can't name.
 use Rattle.std.specs.Prelude.{◌≡◌, ℕ, Bool, true, ◌==◌, List, [], ◌∷◌, ◌++◌, map, Option, Some, None, if◌then◌else◌, ◌⊎◌}
-use Rattle.vbr_words.specs.Dimensions.{Dimensions}
+use Rattle.vbr_machine.specs.Start.{Start}
 use Rattle.vbr_words.specs.Words.{link_of}
 use Rattle.vbr_words.specs.declared.place.At.{At}
 use Rattle.vbr_words.specs.declared.place.At.TheVariants.{Head, Slot}
@@ -80,18 +80,18 @@ confirmed_notes notes true = record { pending = []; checked = notes.checked ++ n
 confirmed_notes notes _ = no_notes
 
 -- the notes of a pass after its step in a world, from the incarnations after the step
-abbrev pub notes_with : Dimensions → World → Incarnations → ℕ → Step → Notes → Notes
-notes_with shape w a pass ReadEpoch notes = confirmed_notes notes (w.epoch == (w.know pass).epoch)
-notes_with shape w a pass (Publish pred expected s) notes =
+abbrev pub notes_with : Start → World → Incarnations → ℕ → Step → Notes → Notes
+notes_with start w a pass ReadEpoch notes = confirmed_notes notes (w.epoch == (w.know pass).epoch)
+notes_with start w a pass (Publish pred expected s) notes =
     let step = Publish pred expected s in
-    if succeeds step (found shape w step) then with_won a notes (reads_won (w.know pass) step) else notes
-notes_with shape w a pass (Mark s expected) notes =
+    if succeeds step (found start w step) then with_won a notes (reads_won (w.know pass) step) else notes
+notes_with start w a pass (Mark s expected) notes =
     let step = Mark s expected in
-    if succeeds step (found shape w step) then with_won a notes (reads_won (w.know pass) step) else notes
-notes_with shape w a pass (Unlink pred expected s) notes =
+    if succeeds step (found start w step) then with_won a notes (reads_won (w.know pass) step) else notes
+notes_with start w a pass (Unlink pred expected s) notes =
     let step = Unlink pred expected s in
-    if succeeds step (found shape w step) then with_won a notes (reads_won (w.know pass) step) else notes
-notes_with shape w a pass step notes = with_read a notes (read_loaded step (found shape w step))
+    if succeeds step (found start w step) then with_won a notes (reads_won (w.know pass) step) else notes
+notes_with start w a pass step notes = with_read a notes (read_loaded step (found start w step))
 
 -- ---- held
 

@@ -1,7 +1,7 @@
 -- Removed incarnations: which pass marked them, and that they are in no list any more.
 use Rattle.std.specs.Prelude.{◌≡◌, ℕ, List, ◌++◌}
 use Rattle.std.specs.List.{Contains}
-use Rattle.vbr_words.specs.Dimensions.{Dimensions}
+use Rattle.vbr_machine.specs.Start.{Start}
 use Rattle.vbr_machine.specs.Accounts.{incarnations_after, own_entries}
 use Rattle.vbr_machine.specs.Chronicles.{Entry, Removes}
 use Rattle.vbr_machine.specs.Incarnations.{State, Marked, Unlinked, Stamped, Incarnations}
@@ -14,17 +14,17 @@ HasLeft (Stamped at stamp) = Unit {0}
 HasLeft _ = ⊥
 
 -- since a beginning of a run a pass has marked this incarnation: that is among the events that it added to the chronicle
-pub record HasMarked (shape : Dimensions) (before run : List Event) (pass node : ℕ) : Type 0 where
+pub record HasMarked (start : Start) (before run : List Event) (pass node : ℕ) : Type 0 where
   pub since : List Entry
-  pub adds : own_entries shape run pass ≡ own_entries shape before pass ++ since
+  pub adds : own_entries start run pass ≡ own_entries start before pass ++ since
   pub among : Contains since (record { pass = pass; what = Removes node })
 
 -- since a beginning of a run a pass has marked an incarnation of this key, which has left all lists by the end of the run
-pub record MarkedLeft (shape : Dimensions) (before run : List Event) (pass key : ℕ) : Type 0 where
+pub record MarkedLeft (start : Start) (before run : List Event) (pass key : ℕ) : Type 0 where
   pub node : ℕ
-  pub marked : HasMarked shape before run pass node
-  pub of_key : (incarnations_after shape run).key node ≡ key
-  pub left : HasLeft ((incarnations_after shape run).state node)
+  pub marked : HasMarked start before run pass node
+  pub of_key : (incarnations_after start run).key node ≡ key
+  pub left : HasLeft ((incarnations_after start run).state node)
 
 -- no marked incarnation of this key is in a list
 abbrev pub NoneMarked : Incarnations → ℕ → Type 0

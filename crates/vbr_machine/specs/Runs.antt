@@ -1,6 +1,6 @@
 -- Runs of the core: lists of events, each accepted after those before it.
 use Rattle.std.specs.Prelude.{◌≡◌, ◌≢◌, ℕ, ◌<◌, ◌≤◌, List, [], ◌∷◌, ◌++◌, ◌⊎◌}
-use Rattle.vbr_words.specs.Dimensions.{Dimensions}
+use Rattle.vbr_machine.specs.Start.{Start}
 use Rattle.vbr_machine.specs.Knowledge.{Know}
 use Rattle.vbr_machine.specs.Acceptance.{IsInShape, IsOwned, HasChecked, IsInRange, IsBelowLast, Accepts}
 use Rattle.vbr_machine.specs.Machine.{World, opening, after}
@@ -9,46 +9,46 @@ use Rattle.vbr_machine.specs.declared.event.CoreRefusal.{CoreRefusal}
 use Rattle.vbr_machine.specs.declared.event.CoreRefusal.TheVariants.{NoSuchPass, NotOwned, NotHeld, OutOfRange, EpochLast, NoMemory}
 
 -- an event is accepted: its pass is one of so many, and may make the step with what it knows
-abbrev pub IsAccepted : Dimensions → ℕ → World → Event → Type 0
-IsAccepted shape passes w event = (event.pass < passes) × Accepts shape (w.know event.pass) event.step
+abbrev pub IsAccepted : Start → ℕ → World → Event → Type 0
+IsAccepted start passes w event = (event.pass < passes) × Accepts start (w.know event.pass) event.step
 
 -- why an event is refused: the first that fails of the pass, the shape, what the pass owns, what it has checked, the numbers, and the last epoch; want of memory refuses only what would be accepted
-abbrev pub Refuses : Dimensions → ℕ → World → Event → CoreRefusal → Type 0
-Refuses shape passes w event NoSuchPass = passes ≤ event.pass
-Refuses shape passes w event NotOwned =
-    (event.pass < passes) × IsInShape shape event.step × ¬ (IsOwned (w.know event.pass) event.step)
-Refuses shape passes w event NotHeld =
-    (event.pass < passes) × IsInShape shape event.step × IsOwned (w.know event.pass) event.step × ¬ (HasChecked shape (w.know event.pass) event.step)
-Refuses shape passes w event OutOfRange =
+abbrev pub Refuses : Start → ℕ → World → Event → CoreRefusal → Type 0
+Refuses start passes w event NoSuchPass = passes ≤ event.pass
+Refuses start passes w event NotOwned =
+    (event.pass < passes) × IsInShape start event.step × ¬ (IsOwned (w.know event.pass) event.step)
+Refuses start passes w event NotHeld =
+    (event.pass < passes) × IsInShape start event.step × IsOwned (w.know event.pass) event.step × ¬ (HasChecked start (w.know event.pass) event.step)
+Refuses start passes w event OutOfRange =
     (event.pass < passes)
-    × (¬ (IsInShape shape event.step)
-    ⊎ (IsInShape shape event.step × IsOwned (w.know event.pass) event.step × HasChecked shape (w.know event.pass) event.step × ¬ (IsInRange shape (w.know event.pass) event.step)))
-Refuses shape passes w event EpochLast =
-    (event.pass < passes) × IsInShape shape event.step × IsOwned (w.know event.pass) event.step × HasChecked shape (w.know event.pass) event.step
-    × IsInRange shape (w.know event.pass) event.step × ¬ (IsBelowLast shape event.step)
-Refuses shape passes w event NoMemory = IsAccepted shape passes w event
+    × (¬ (IsInShape start event.step)
+    ⊎ (IsInShape start event.step × IsOwned (w.know event.pass) event.step × HasChecked start (w.know event.pass) event.step × ¬ (IsInRange start (w.know event.pass) event.step)))
+Refuses start passes w event EpochLast =
+    (event.pass < passes) × IsInShape start event.step × IsOwned (w.know event.pass) event.step × HasChecked start (w.know event.pass) event.step
+    × IsInRange start (w.know event.pass) event.step × ¬ (IsBelowLast start event.step)
+Refuses start passes w event NoMemory = IsAccepted start passes w event
 
 -- the world that events lead to from a world
-abbrev pub world_from : Dimensions → World → List Event → World
-world_from shape w [] = w
-world_from shape w (event ∷ events) = world_from shape (after shape w event.pass event.step) events
+abbrev pub world_from : Start → World → List Event → World
+world_from start w [] = w
+world_from start w (event ∷ events) = world_from start (after start w event.pass event.step) events
 
 -- events from a world are each accepted after those before
-abbrev pub AreAccepted : Dimensions → ℕ → World → List Event → Type 0
-AreAccepted shape passes w [] = Unit {0}
-AreAccepted shape passes w (event ∷ events) = IsAccepted shape passes w event × AreAccepted shape passes (after shape w event.pass event.step) events
+abbrev pub AreAccepted : Start → ℕ → World → List Event → Type 0
+AreAccepted start passes w [] = Unit {0}
+AreAccepted start passes w (event ∷ events) = IsAccepted start passes w event × AreAccepted start passes (after start w event.pass event.step) events
 
 -- a run is a list of events that are accepted from the opening on
-abbrev pub IsRun : Dimensions → ℕ → List Event → Type 0
-IsRun shape passes run = AreAccepted shape passes (opening shape) run
+abbrev pub IsRun : Start → ℕ → List Event → Type 0
+IsRun start passes run = AreAccepted start passes (opening start) run
 
 -- the world after a run
-abbrev pub world_after : Dimensions → List Event → World
-world_after shape run = world_from shape (opening shape) run
+abbrev pub world_after : Start → List Event → World
+world_after start run = world_from start (opening start) run
 
 -- what a pass knows after a run
-abbrev pub know_after : Dimensions → List Event → ℕ → Know
-know_after shape run pass = (world_after shape run).know pass
+abbrev pub know_after : Start → List Event → ℕ → Know
+know_after start run pass = (world_after start run).know pass
 
 -- no event of a pass
 abbrev pub NoneOf : ℕ → List Event → Type 0

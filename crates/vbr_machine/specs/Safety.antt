@@ -1,6 +1,6 @@
 -- What is true of every run.
 use Rattle.std.specs.Prelude.{◌≡◌, ℕ, ◌-◌, ◌^◌, ◌≤◌, min, List, ◌∷◌, ◌++◌, Option, Some, None, IsTrue}
-use Rattle.vbr_words.specs.Dimensions.{Dimensions}
+use Rattle.vbr_machine.specs.Start.{Start}
 use Rattle.vbr_words.specs.Words.{IsLink}
 use Rattle.vbr_words.specs.declared.place.At.{At}
 use Rattle.vbr_machine.specs.Opened.{opening_keys, opening_payloads}
@@ -58,10 +58,10 @@ ExchangesLink (Unlink pred expected s) = Unit {0}
 ExchangesLink _ = ⊥
 
 -- an event that wins the exchange of a link after a run is right
-abbrev pub IsRightAfter : Dimensions → List Event → Event → Type 0
-IsRightAfter shape run event =
-    ExchangesLink event.step → effect_of event.step (found shape (world_after shape run) event.step) ≡ Won →
-    IsRightExchange shape (world_after shape run) (incarnations_after shape run) (notes_after shape run event.pass) event.pass event.step
+abbrev pub IsRightAfter : Start → List Event → Event → Type 0
+IsRightAfter start run event =
+    ExchangesLink event.step → effect_of event.step (found start (world_after start run) event.step) ≡ Won →
+    IsRightExchange start (world_after start run) (incarnations_after start run) (notes_after start run event.pass) event.pass event.step
 
 -- an incarnation is over for a pass that would bear another in its slot: it is stamped, or in hand of that pass, which gives it up
 abbrev pub IsOver : State → ℕ → Type 0
@@ -75,9 +75,9 @@ IsLastOver a pass None = Unit {0}
 IsLastOver a pass (Some c) = IsOver (a.state c) pass
 
 -- an event that bears in a slot after a run finds the slot's last incarnation over
-abbrev pub BearsAfter : Dimensions → List Event → ℕ → Step → Type 0
-BearsAfter shape run pass (StoreBirth s birth) = IsLastOver (incarnations_after shape run) pass ((incarnations_after shape run).last s)
-BearsAfter shape run pass _ = Unit {0}
+abbrev pub BearsAfter : Start → List Event → ℕ → Step → Type 0
+BearsAfter start run pass (StoreBirth s birth) = IsLastOver (incarnations_after start run) pass ((incarnations_after start run).last s)
+BearsAfter start run pass _ = Unit {0}
 
 -- ---- the theorem
 
@@ -86,28 +86,28 @@ abbrev pub KnowsLast : Incarnations → ℕ → Know → ℕ → Type 0
 KnowsLast a pass know s = OwnFits a pass know.epoch (know.own s) (a.place s) (a.last s) (a.stamp s)
 
 -- what a pass knows after a run is right: it is what its notes say; each incarnation that it holds is late for its epoch, and it holds one at a slot; each slot that it holds has such an incarnation, and only one; its checked reads are right; and so is what it knows of its slots, and of what was born in them last
-pub record KnowsRight (shape : Dimensions) (run : List Event) (pass : ℕ) : Type 0 where
-  pub epoch : ((world_after shape run).know pass).epoch ≤ (world_after shape run).epoch
-  pub pending : ((world_after shape run).know pass).pending ≡ reads_of (notes_after shape run pass).pending
-  pub checked : ((world_after shape run).know pass).checked ≡ reads_of (notes_after shape run pass).checked
-  pub late : (s c : ℕ) → IsHeldBy (notes_after shape run pass).checked s c → IsHeldIncarnation (incarnations_after shape run) ((world_after shape run).know pass).epoch s c
-  pub one : (s c d : ℕ) → IsHeldBy (notes_after shape run pass).checked s c → IsHeldBy (notes_after shape run pass).checked s d → c ≡ d
-  pub some : (s : ℕ) → IsTrue (holds ((world_after shape run).know pass).checked s) → (c : ℕ) × HoldsJust (notes_after shape run pass).checked s c
-  pub reads : AreRightReads (notes_after shape run pass).checked
-  pub own : (s : ℕ) → IsOwnerRight (world_after shape run) pass s (((world_after shape run).know pass).own s)
-  pub last : (s : ℕ) → KnowsLast (incarnations_after shape run) pass ((world_after shape run).know pass) s
+pub record KnowsRight (start : Start) (run : List Event) (pass : ℕ) : Type 0 where
+  pub epoch : ((world_after start run).know pass).epoch ≤ (world_after start run).epoch
+  pub pending : ((world_after start run).know pass).pending ≡ reads_of (notes_after start run pass).pending
+  pub checked : ((world_after start run).know pass).checked ≡ reads_of (notes_after start run pass).checked
+  pub late : (s c : ℕ) → IsHeldBy (notes_after start run pass).checked s c → IsHeldIncarnation (incarnations_after start run) ((world_after start run).know pass).epoch s c
+  pub one : (s c d : ℕ) → IsHeldBy (notes_after start run pass).checked s c → IsHeldBy (notes_after start run pass).checked s d → c ≡ d
+  pub some : (s : ℕ) → IsTrue (holds ((world_after start run).know pass).checked s) → (c : ℕ) × HoldsJust (notes_after start run pass).checked s c
+  pub reads : AreRightReads (notes_after start run pass).checked
+  pub own : (s : ℕ) → IsOwnerRight (world_after start run) pass s (((world_after start run).know pass).own s)
+  pub last : (s : ℕ) → KnowsLast (incarnations_after start run) pass ((world_after start run).know pass) s
 
 -- a run is safe: its chronicle is lawful, and the words are its image; its calls are those of the chronicle, and legal, and give the values that were stored; births are counted; the epoch is at most the last one, and each link fits into a word; what each pass knows is right; each slot is in exactly one place; each exchange of a link that an event wins is right; and no event bears in a slot whose last incarnation isn't over
-pub record IsSafe (shape : Dimensions) (run : List Event) : Type 0 where
-  pub lawful : IsLawful shape (opening_keys shape) (at_opening shape) (chronicle shape run)
-  pub image : IsImage (world_after shape run) (incarnations_after shape run)
-  pub calls : (world_after shape run).calls ≡ (incarnations_after shape run).calls
-  pub legal : IsLegal (opening_keys shape) (world_after shape run).calls
-  pub values : GiveStored (opening_payloads shape) (world_after shape run).calls
-  pub births : (world_after shape run).births ≡ min (incarnations_after shape run).count (2 ^ 64 - 1)
-  pub epoch : (world_after shape run).epoch ≤ shape.last_epoch
-  pub links : (at : At) → IsLink (link_at (world_after shape run) at)
-  pub knows : (pass : ℕ) → KnowsRight shape run pass
-  pub slots : (passes : ℕ) → IsRun shape passes run → ArePlaced shape passes (world_after shape run) (incarnations_after shape run)
-  pub exchanges : (before after : List Event) (event : Event) → run ≡ before ++ event ∷ after → IsRightAfter shape before event
-  pub births_over : (before after : List Event) (event : Event) → run ≡ before ++ event ∷ after → BearsAfter shape before event.pass event.step
+pub record IsSafe (start : Start) (run : List Event) : Type 0 where
+  pub lawful : IsLawful start (opening_keys start) (at_opening start) (chronicle start run)
+  pub image : IsImage (world_after start run) (incarnations_after start run)
+  pub calls : (world_after start run).calls ≡ (incarnations_after start run).calls
+  pub legal : IsLegal (opening_keys start) (world_after start run).calls
+  pub values : GiveStored (opening_payloads start) (world_after start run).calls
+  pub births : (world_after start run).births ≡ min (incarnations_after start run).count (2 ^ 64 - 1)
+  pub epoch : (world_after start run).epoch ≤ start.shape.last_epoch
+  pub links : (at : At) → IsLink (link_at (world_after start run) at)
+  pub knows : (pass : ℕ) → KnowsRight start run pass
+  pub slots : (passes : ℕ) → IsRun start passes run → ArePlaced start passes (world_after start run) (incarnations_after start run)
+  pub exchanges : (before after : List Event) (event : Event) → run ≡ before ++ event ∷ after → IsRightAfter start before event
+  pub births_over : (before after : List Event) (event : Event) → run ≡ before ++ event ∷ after → BearsAfter start before event.pass event.step

@@ -1,6 +1,6 @@
 -- Where each slot is: in exactly one place, which fits its last incarnation.
 use Rattle.std.specs.Prelude.{◌≡◌, ℕ, ◌<◌, Option, Some, None, ◌⊎◌}
-use Rattle.vbr_words.specs.Dimensions.{Dimensions}
+use Rattle.vbr_machine.specs.Start.{Start}
 use Rattle.vbr_words.specs.Buckets.{bucket_of}
 use Rattle.vbr_machine.specs.Machine.{World}
 use Rattle.vbr_machine.specs.Incarnations.{Incarnations}
@@ -23,9 +23,9 @@ LiesInHand a pass None = ⊥
 LiesInHand a pass (Some c) = a.state c ≡ state.InHand pass
 
 -- it is linked or marked, and has a key of the bucket
-abbrev pub IsOfList : Dimensions → Incarnations → ℕ → Option ℕ → Type 0
-IsOfList shape a bucket None = ⊥
-IsOfList shape a bucket (Some c) = IsListed (a.state c) × (bucket_of shape (a.key c) ≡ bucket)
+abbrev pub IsOfList : Start → Incarnations → ℕ → Option ℕ → Type 0
+IsOfList start a bucket None = ⊥
+IsOfList start a bucket (Some c) = IsListed (a.state c) × (bucket_of start.shape (a.key c) ≡ bucket)
 
 -- ---- places
 
@@ -35,13 +35,13 @@ pub data IsReachedFrom (w : World) (bucket : ℕ) : ℕ → Type 0 where
   onward : (s : ℕ) → (t : ℕ) → IsReachedFrom w bucket s → (w.link s).slot ≡ Some t → IsReachedFrom w bucket t
 
 -- what a place asks of a slot. In the shared pool: nothing was born in it, or its last incarnation is stamped. Own, of one of so many passes: the same, or that pass unlinked its last incarnation. In hand, of one of them: so is its last incarnation. Listed, in one of the buckets: its last incarnation is linked or marked there, and the slot is reached from that bucket's head
-abbrev pub FitsPlace : Dimensions → ℕ → World → Incarnations → ℕ → SlotPlace → Type 0
-FitsPlace shape passes w a s Shared = IsRetired a (a.last s)
-FitsPlace shape passes w a s (Own pass) = (pass < passes) × (IsRetired a (a.last s) ⊎ WasUnlinkedBy a pass (a.last s))
-FitsPlace shape passes w a s (Hand pass) = (pass < passes) × LiesInHand a pass (a.last s)
-FitsPlace shape passes w a s (Listed bucket) = (bucket < shape.buckets) × IsOfList shape a bucket (a.last s) × IsReachedFrom w bucket s
+abbrev pub FitsPlace : Start → ℕ → World → Incarnations → ℕ → SlotPlace → Type 0
+FitsPlace start passes w a s Shared = IsRetired a (a.last s)
+FitsPlace start passes w a s (Own pass) = (pass < passes) × (IsRetired a (a.last s) ⊎ WasUnlinkedBy a pass (a.last s))
+FitsPlace start passes w a s (Hand pass) = (pass < passes) × LiesInHand a pass (a.last s)
+FitsPlace start passes w a s (Listed bucket) = (bucket < start.shape.buckets) × IsOfList start a bucket (a.last s) × IsReachedFrom w bucket s
 
 -- each slot is in just one place, the one where the world has it; and what is reached from a bucket's head is listed in that bucket
-pub record ArePlaced (shape : Dimensions) (passes : ℕ) (w : World) (a : Incarnations) : Type 0 where
-  pub each : (s : ℕ) → FitsPlace shape passes w a s (w.place s)
+pub record ArePlaced (start : Start) (passes : ℕ) (w : World) (a : Incarnations) : Type 0 where
+  pub each : (s : ℕ) → FitsPlace start passes w a s (w.place s)
   pub reached : (bucket s : ℕ) → IsReachedFrom w bucket s → w.place s ≡ Listed bucket

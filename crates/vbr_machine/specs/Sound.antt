@@ -1,6 +1,6 @@
 -- What holds of the incarnations after every lawful chronicle.
 use Rattle.std.specs.Prelude.{◌≡◌, ℕ, ◌<◌, ◌≤◌, true, Option, Some, None, ◌⊎◌}
-use Rattle.vbr_words.specs.Dimensions.{Dimensions}
+use Rattle.vbr_machine.specs.Start.{Start}
 use Rattle.vbr_words.specs.declared.link.Link.{Link}
 use Rattle.vbr_words.specs.Buckets.{bucket_of}
 use Rattle.vbr_machine.specs.Opened.{opening_keys, opening_payloads}
@@ -60,15 +60,15 @@ LinkFits GivenUp link stamp = (link.mark ≡ true) ⊎ (stamp < link.version)
 LinkFits _ link stamp = Unit {0}
 
 -- the place of a slot fits its last incarnation, which is in this state and has this key
-abbrev pub PlaceFits : Dimensions → SlotPlace → State → ℕ → Type 0
-PlaceFits shape Shared (Stamped at stamp) key = Unit {0}
-PlaceFits shape (Own pass) (Stamped at stamp) key = Unit {0}
-PlaceFits shape (Own pass) (Unlinked by at) key = by ≡ pass
-PlaceFits shape (Hand pass) (InHand by) key = by ≡ pass
-PlaceFits shape (Hand pass) GivenUp key = Unit {0}
-PlaceFits shape (Listed b) Linked key = bucket_of shape key ≡ b
-PlaceFits shape (Listed b) Marked key = bucket_of shape key ≡ b
-PlaceFits shape _ _ key = ⊥
+abbrev pub PlaceFits : Start → SlotPlace → State → ℕ → Type 0
+PlaceFits start Shared (Stamped at stamp) key = Unit {0}
+PlaceFits start (Own pass) (Stamped at stamp) key = Unit {0}
+PlaceFits start (Own pass) (Unlinked by at) key = by ≡ pass
+PlaceFits start (Hand pass) (InHand by) key = by ≡ pass
+PlaceFits start (Hand pass) GivenUp key = Unit {0}
+PlaceFits start (Listed b) Linked key = bucket_of start.shape key ≡ b
+PlaceFits start (Listed b) Marked key = bucket_of start.shape key ≡ b
+PlaceFits start _ _ key = ⊥
 
 -- a slot that nothing was born in yet is in the shared pool or a pass's own
 abbrev pub IsUnused : SlotPlace → Type 0
@@ -79,7 +79,7 @@ IsUnused _ = ⊥
 -- ---- the invariant
 
 -- the slots and their incarnations after a lawful chronicle
-pub record SlotsSound (shape : Dimensions) (a : Incarnations) : Type 0 where
+pub record SlotsSound (start : Start) (a : Incarnations) : Type 0 where
   pub last_born : (s c : ℕ) → a.last s ≡ Some c → (c < a.count) × (a.slot c ≡ s)  -- the last incarnation of a slot was born in it
   pub has_last : (c : ℕ) → c < a.count → (l : ℕ) × (a.last (a.slot c) ≡ Some l) × (c ≤ l)  -- and none in it was born later
   pub unborn : (c : ℕ) → a.count ≤ c → a.state c ≡ Unborn
@@ -89,7 +89,7 @@ pub record SlotsSound (shape : Dimensions) (a : Incarnations) : Type 0 where
   pub stamps : (c : ℕ) → StampFits (a.state c) (a.birth c) (a.stamp (a.slot c))
   pub links : (c s : ℕ) → a.last s ≡ Some c → LinkFits (a.state c) (a.link c) (a.stamp s)
   pub unused : (s : ℕ) → a.last s ≡ None → IsUnused (a.place s)
-  pub placed : (c s : ℕ) → a.last s ≡ Some c → PlaceFits shape (a.place s) (a.state c) (a.key c)
+  pub placed : (c s : ℕ) → a.last s ≡ Some c → PlaceFits start (a.place s) (a.state c) (a.key c)
 
 -- there is a successor, and its key is no greater than this key
 abbrev pub IsFrom : (ℕ → ℕ) → Option ℕ → ℕ → Type 0
@@ -100,28 +100,28 @@ abbrev pub IsApart : (ℕ → ℕ) → ℕ → Option ℕ → ℕ → Type 0
 IsApart keys c next d = (d ≡ c) ⊎ ((keys d < keys c) ⊎ IsFrom keys next (keys d))
 
 -- the lists of the buckets after a lawful chronicle: each begins with the first of its bucket, and its keys are strictly ascending
-pub record ListsSound (shape : Dimensions) (a : Incarnations) : Type 0 where
+pub record ListsSound (start : Start) (a : Incarnations) : Type 0 where
   pub handed : (c n e : ℕ) → a.next c ≡ Some n → IsLate (a.state c) e → IsLate (a.state n) e  -- what is late for an epoch has a successor that is late for it
   pub inserted : (c n : ℕ) → a.next c ≡ Some n → IsInserted (a.state c) × IsInserted (a.state n)
-  pub ordered : (c n : ℕ) → a.next c ≡ Some n → (bucket_of shape (a.key c) ≡ bucket_of shape (a.key n)) × (a.key c < a.key n)
-  pub first_in : (b n : ℕ) → a.first b ≡ Some n → IsListed (a.state n) × (bucket_of shape (a.key n) ≡ b)
-  pub apart : (c d : ℕ) → IsListed (a.state c) → IsListed (a.state d) → bucket_of shape (a.key c) ≡ bucket_of shape (a.key d) → IsApart a.key c (a.next c) d
-  pub behind_head : (d : ℕ) → IsListed (a.state d) → IsFrom a.key (a.first (bucket_of shape (a.key d))) (a.key d)
+  pub ordered : (c n : ℕ) → a.next c ≡ Some n → (bucket_of start.shape (a.key c) ≡ bucket_of start.shape (a.key n)) × (a.key c < a.key n)
+  pub first_in : (b n : ℕ) → a.first b ≡ Some n → IsListed (a.state n) × (bucket_of start.shape (a.key n) ≡ b)
+  pub apart : (c d : ℕ) → IsListed (a.state c) → IsListed (a.state d) → bucket_of start.shape (a.key c) ≡ bucket_of start.shape (a.key d) → IsApart a.key c (a.next c) d
+  pub behind_head : (d : ℕ) → IsListed (a.state d) → IsFrom a.key (a.first (bucket_of start.shape (a.key d))) (a.key d)
 
 -- the invariant of the incarnations after a lawful chronicle
-pub record Sound (shape : Dimensions) (a : Incarnations) : Type 0 where
-  pub slots : SlotsSound shape a
-  pub lists : ListsSound shape a
+pub record Sound (start : Start) (a : Incarnations) : Type 0 where
+  pub slots : SlotsSound start a
+  pub lists : ListsSound start a
 
 -- ---- the calls
 
 -- the calls are legal from the opening keys, and the set after them has just the keys of the linked incarnations; the calls give the values that were stored, and the values after them are those of the linked incarnations
-pub record Tells (shape : Dimensions) (a : Incarnations) : Type 0 where
-  pub legal : IsLegal (opening_keys shape) a.calls
-  pub there : (c : ℕ) → a.state c ≡ Linked → set_after (opening_keys shape) a.calls (a.key c) ≡ true
-  pub only : (key : ℕ) → set_after (opening_keys shape) a.calls key ≡ true → (c : ℕ) × (a.state c ≡ Linked) × (a.key c ≡ key)
-  pub values : GiveStored (opening_payloads shape) a.calls
-  pub stored : (c : ℕ) → a.state c ≡ Linked → values_after (opening_payloads shape) a.calls (a.key c) ≡ payload_of shape a c
+pub record Tells (start : Start) (a : Incarnations) : Type 0 where
+  pub legal : IsLegal (opening_keys start) a.calls
+  pub there : (c : ℕ) → a.state c ≡ Linked → set_after (opening_keys start) a.calls (a.key c) ≡ true
+  pub only : (key : ℕ) → set_after (opening_keys start) a.calls key ≡ true → (c : ℕ) × (a.state c ≡ Linked) × (a.key c ≡ key)
+  pub values : GiveStored (opening_payloads start) a.calls
+  pub stored : (c : ℕ) → a.state c ≡ Linked → values_after (opening_payloads start) a.calls (a.key c) ≡ payload_of start a c
 
 -- ---- what stays
 

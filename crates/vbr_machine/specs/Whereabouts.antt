@@ -1,6 +1,6 @@
 -- Where each slot is after a run, told by what is in it, and how many slots are where.
 use Rattle.std.specs.Prelude.{◌≡◌, ℕ, zero, suc, ◌+◌, ◌<◌, Bool, true, false, List, ◌∷◌, ◌++◌, Option, Some}
-use Rattle.vbr_words.specs.Dimensions.{Dimensions}
+use Rattle.vbr_machine.specs.Start.{Start}
 use Rattle.vbr_words.specs.declared.place.At.{At}
 use Rattle.vbr_machine.specs.Accounts.{incarnations_after}
 use Rattle.vbr_machine.specs.Machine.{is_shared}
@@ -33,12 +33,12 @@ is_unstamped (Some (Unlinked reread)) = true
 is_unstamped _ = false
 
 -- whether a slot is there after a run: in the shared pool by its flag; with a pass, or unstamped, by what the pass knows; in the set, or marked, by its last incarnation
-abbrev pub is_at : Dimensions → List Event → Whereabouts → ℕ → Bool
-is_at shape run InSharedPool s = is_shared ((world_after shape run).place s)
-is_at shape run (WithPass pass) s = may_bear ((know_after shape run pass).own s)
-is_at shape run InSet s = is_linked (state_in (incarnations_after shape run) s)
-is_at shape run MarkedInList s = is_marked (state_in (incarnations_after shape run) s)
-is_at shape run (Unstamped pass) s = is_unstamped ((know_after shape run pass).own s)
+abbrev pub is_at : Start → List Event → Whereabouts → ℕ → Bool
+is_at start run InSharedPool s = is_shared ((world_after start run).place s)
+is_at start run (WithPass pass) s = may_bear ((know_after start run pass).own s)
+is_at start run InSet s = is_linked (state_in (incarnations_after start run) s)
+is_at start run MarkedInList s = is_marked (state_in (incarnations_after start run) s)
+is_at start run (Unstamped pass) s = is_unstamped ((know_after start run pass).own s)
 
 -- the pass that has the slot, if one has, is one of so many
 abbrev pub IsOfPasses : ℕ → Whereabouts → Type 0
@@ -47,17 +47,17 @@ IsOfPasses passes (Unstamped pass) = pass < passes
 IsOfPasses passes _ = Unit {0}
 
 -- a slot is somewhere, and nowhere else
-pub record IsSomewhere (shape : Dimensions) (passes : ℕ) (run : List Event) (s : ℕ) : Type 0 where
+pub record IsSomewhere (start : Start) (passes : ℕ) (run : List Event) (s : ℕ) : Type 0 where
   pub whereabouts : Whereabouts
   pub low : IsOfPasses passes whereabouts
-  pub there : is_at shape run whereabouts s ≡ true
-  pub only : (other : Whereabouts) → is_at shape run other s ≡ true → other ≡ whereabouts
+  pub there : is_at start run whereabouts s ≡ true
+  pub only : (other : Whereabouts) → is_at start run other s ≡ true → other ≡ whereabouts
 
 -- ---- all slots
 
 -- how many slots are there after a run
-abbrev pub number_at : Dimensions → List Event → Whereabouts → ℕ
-number_at shape run whereabouts = count_below (is_at shape run whereabouts) shape.slots
+abbrev pub number_at : Start → List Event → Whereabouts → ℕ
+number_at start run whereabouts = count_below (is_at start run whereabouts) start.shape.slots
 
 -- a number of each of so many passes, added up
 abbrev pub sum_of : ℕ → (ℕ → ℕ) → ℕ
@@ -65,13 +65,13 @@ sum_of zero number = 0
 sum_of (suc pass) number = sum_of pass number + number pass
 
 -- how many slots a pass has: in its own pool, in its hand, and unstamped
-abbrev pub number_had : Dimensions → List Event → ℕ → ℕ
-number_had shape run pass = number_at shape run (WithPass pass) + number_at shape run (Unstamped pass)
+abbrev pub number_had : Start → List Event → ℕ → ℕ
+number_had start run pass = number_at start run (WithPass pass) + number_at start run (Unstamped pass)
 
 -- ---- one at a time
 
 -- whenever the pass unlinked a slot in the run, or tried to, it had stamped each that it had unlinked before
-abbrev pub UnlinksInTurn : Dimensions → List Event → ℕ → Type 0
-UnlinksInTurn shape run pass =
+abbrev pub UnlinksInTurn : Start → List Event → ℕ → Type 0
+UnlinksInTurn start run pass =
     (before after : List Event) (pred : At) (expected s : ℕ) →
-    run ≡ before ++ record { pass = pass; step = Unlink pred expected s } ∷ after → number_at shape before (Unstamped pass) ≡ 0
+    run ≡ before ++ record { pass = pass; step = Unlink pred expected s } ∷ after → number_at start before (Unstamped pass) ≡ 0

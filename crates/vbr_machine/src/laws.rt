@@ -2,7 +2,8 @@
 //! its contract, and does nothing.
 ghost use Rattle.std.specs.Prelude.{ℕ, ◌≡◌, ◌≢◌, ◌+◌, ◌≤◌, ◌↔◌, true, false, List, [], ◌∷◌, ◌++◌, Option, Some};
 ghost use Rattle.std.specs.List.Sorted.{IsStrictlyIncreasing};
-ghost use Rattle.vbr_words.specs.Dimensions.{Dimensions, IsShape};
+ghost use Rattle.vbr_words.specs.Dimensions.{Dimensions};
+ghost use Rattle.vbr_machine.specs.Start.{Start, IsStart};
 ghost use Rattle.vbr_words.specs.Words.{link_of};
 ghost use Rattle.vbr_words.specs.declared.link.Link.{Link};
 ghost use Rattle.vbr_words.specs.declared.place.At.{At};
@@ -13,7 +14,7 @@ ghost use Rattle.vbr_machine.specs.Opened.{opening_keys};
 ghost use Rattle.vbr_machine.specs.History.{IsLegal, set_after};
 ghost use Rattle.vbr_machine.specs.Knowledge.{Know};
 ghost use Rattle.vbr_words.specs.Buckets.{bucket_of};
-ghost use Rattle.vbr_machine.specs.Maps.{Entries, entries_in, keys_in, keys_listed, values_listed, IsMapLegal, opening_entries, TellsNoValue, StoresNoValue, HaveValues};
+ghost use Rattle.vbr_machine.specs.Maps.{Entries, entries_in, keys_in, map_start, IsMapLegal, opening_entries, TellsNoValue, StoresNoValue, HaveValues};
 ghost use Rattle.vbr_machine.specs.Acceptance.{Accepts, IsAtIn, IsOpIn, IsBetween};
 ghost use Rattle.vbr_machine.specs.Loads.{IsLoad};
 ghost use Rattle.vbr_machine.specs.Machine.{World, after, found, word_at};
@@ -43,86 +44,82 @@ ghost use Rattle.vbr_machine.specs.declared.knowledge.Read.TheVariants.{LinkAt, 
 
 /// A law: a lawful chronicle is sound, where the opening keys ascend.
 pub fn lawful_is_sound()
-    ensures { (shape : Dimensions) (entries : List Entry) →
-        IsStrictlyIncreasing shape.keys →
-        IsLawful shape (opening_keys shape) (at_opening shape) entries →
-        Sound shape (incarnations_from shape (at_opening shape) entries) }
+    ensures { (start : Start) (entries : List Entry) →
+        IsStrictlyIncreasing start.keys →
+        IsLawful start (opening_keys start) (at_opening start) entries →
+        Sound start (incarnations_from start (at_opening start) entries) }
 {}
 
 /// A law: the calls of a lawful chronicle are legal from the opening keys, where these ascend, and
 /// the set after them has just the keys of the linked incarnations.
 pub fn lawful_is_legal()
-    ensures { (shape : Dimensions) (entries : List Entry) →
-        IsStrictlyIncreasing shape.keys →
-        IsLawful shape (opening_keys shape) (at_opening shape) entries →
-        Tells shape (incarnations_from shape (at_opening shape) entries) }
+    ensures { (start : Start) (entries : List Entry) →
+        IsStrictlyIncreasing start.keys →
+        IsLawful start (opening_keys start) (at_opening start) entries →
+        Tells start (incarnations_from start (at_opening start) entries) }
 {}
 
 /// A law: as a lawful chronicle goes on, what was there stays.
 pub fn the_past_stays()
-    ensures { (shape : Dimensions) (keys : Keys) (a : Incarnations) (entries : List Entry) →
-        Sound shape a → IsLawful shape keys a entries →
-        Grows a (incarnations_from shape a entries) }
+    ensures { (start : Start) (keys : Keys) (a : Incarnations) (entries : List Entry) →
+        Sound start a → IsLawful start keys a entries →
+        Grows a (incarnations_from start a entries) }
 {}
 
 /// A law: two incarnations of a slot that were born by an epoch and are late for it are one.
 pub fn one_late_incarnation()
-    ensures { (shape : Dimensions) (a : Incarnations) (c d e : ℕ) →
-        Sound shape a → a.slot c ≡ a.slot d → a.birth c ≤ e → a.birth d ≤ e →
+    ensures { (start : Start) (a : Incarnations) (c d e : ℕ) →
+        Sound start a → a.slot c ≡ a.slot d → a.birth c ≤ e → a.birth d ≤ e →
         IsLate (a.state c) e → IsLate (a.state d) e → c ≡ d }
 {}
 
 /// A law: an incarnation that is late for the epoch as it stands is the last of its slot.
 pub fn unmoved_is_last()
-    ensures { (shape : Dimensions) (a : Incarnations) (c : ℕ) →
-        Sound shape a → IsLate (a.state c) a.epoch → a.last (a.slot c) ≡ Some c }
+    ensures { (start : Start) (a : Incarnations) (c : ℕ) →
+        Sound start a → IsLate (a.state c) a.epoch → a.last (a.slot c) ≡ Some c }
 {}
 
 /// A law: the successor of an incarnation that is late for an epoch is late for it too.
 pub fn late_is_handed_on()
-    ensures { (shape : Dimensions) (a : Incarnations) (c n e : ℕ) →
-        Sound shape a → a.next c ≡ Some n → IsLate (a.state c) e → IsLate (a.state n) e }
+    ensures { (start : Start) (a : Incarnations) (c n e : ℕ) →
+        Sound start a → a.next c ≡ Some n → IsLate (a.state c) e → IsLate (a.state n) e }
 {}
 
 /// A law: a checked unmarked link that stands at its place again stands for the two incarnations
 /// that it was checked with: each is still the last of its slot, the first is linked, and the
 /// second is its successor.
 pub fn same_link_same_pair()
-    ensures { (shape : Dimensions) (a : Incarnations) (epoch : ℕ) (at : At) (link : Link)
+    ensures { (start : Start) (a : Incarnations) (epoch : ℕ) (at : At) (link : Link)
         (of names : Option ℕ) →
-        Sound shape a → IsGoodLink a epoch at link of names → link.mark ≡ false →
+        Sound start a → IsGoodLink a epoch at link of names → link.mark ≡ false →
         link_shown_at a at ≡ link → IsPair a at of names × IsLastOf a names }
 {}
 
 /// A law: every run is safe.
 pub fn every_run_is_safe()
-    ensures { (shape : Dimensions) (passes : ℕ) (run : List Event) →
-        IsShape shape → IsRun shape passes run → IsSafe shape run }
+    ensures { (start : Start) (passes : ℕ) (run : List Event) →
+        IsStart start → IsRun start passes run → IsSafe start run }
 {}
 
-/// A law: the calls of a run are a legal history of a map that opens with the keys of the shape and
+/// A law: the calls of a run are a legal history of a map that opens with the keys of its start and
 /// their values.
 pub fn a_run_is_a_map()
-    ensures { (shape : Dimensions) (passes : ℕ) (run : List Event) →
-        IsShape shape → IsRun shape passes run →
-        IsMapLegal (opening_entries shape) (world_after shape run).calls }
+    ensures { (start : Start) (passes : ℕ) (run : List Event) →
+        IsStart start → IsRun start passes run →
+        IsMapLegal (opening_entries start) (world_after start run).calls }
 {}
 
 /// A law: what opens with entries, keys with their values, opens with the map of these entries.
 pub fn entries_open_as_their_map()
     ensures { (shape : Dimensions) (entries : List (ℕ × ℕ)) (key : ℕ) →
-        opening_entries (record shape {
-          values = true;
-          keys = keys_listed entries;
-          payloads = values_listed entries;
-        }) key ≡ entries_in entries key }
+        opening_entries (map_start shape entries) key ≡ entries_in entries key }
 {}
 
 /// A law: where nodes have values, the calls of a run that store or give one have it, and where
 /// they have none, no call has.
 pub fn calls_have_values()
-    ensures { (shape : Dimensions) (passes : ℕ) (run : List Event) →
-        IsRun shape passes run → HaveValues shape.values (world_after shape run).calls }
+    ensures { (start : Start) (passes : ℕ) (run : List Event) →
+        IsRun start passes run → HaveValues start.shape.values (world_after start run).calls }
 {}
 
 /// A law: where no value is stored or told, a legal history of a map is one of the set of its keys,
@@ -135,215 +132,215 @@ pub fn a_map_without_values_is_a_set()
 
 /// A law: a beginning of a run is a run.
 pub fn a_beginning_is_a_run()
-    ensures { (shape : Dimensions) (passes : ℕ) (moment run : List Event) →
-        IsRun shape passes run → Begins moment run → IsRun shape passes moment }
+    ensures { (start : Start) (passes : ℕ) (moment run : List Event) →
+        IsRun start passes run → Begins moment run → IsRun start passes moment }
 {}
 
 /// A law: a run is safe at each of its moments. So every checked read that there ever was, was
 /// right, and the words were the image of the chronicle all along.
 pub fn every_moment_is_safe()
-    ensures { (shape : Dimensions) (passes : ℕ) (moment run : List Event) →
-        IsShape shape → IsRun shape passes run → Begins moment run → IsSafe shape moment }
+    ensures { (start : Start) (passes : ℕ) (moment run : List Event) →
+        IsStart start → IsRun start passes run → Begins moment run → IsSafe start moment }
 {}
 
 /// A law: what is late at a moment of a run, for an epoch that has come by then, is late for it at
 /// the end, and so is the successor that it has there.
 pub fn late_is_handed_on_in_runs()
-    ensures { (shape : Dimensions) (passes : ℕ) (moment run : List Event) (c e : ℕ) →
-        IsShape shape → IsRun shape passes run → Begins moment run →
-        e ≤ (incarnations_after shape moment).epoch →
-        IsLate ((incarnations_after shape moment).state c) e →
-        IsLate ((incarnations_after shape run).state c) e
-        × ((n : ℕ) → (incarnations_after shape run).next c ≡ Some n →
-        IsLate ((incarnations_after shape run).state n) e) }
+    ensures { (start : Start) (passes : ℕ) (moment run : List Event) (c e : ℕ) →
+        IsStart start → IsRun start passes run → Begins moment run →
+        e ≤ (incarnations_after start moment).epoch →
+        IsLate ((incarnations_after start moment).state c) e →
+        IsLate ((incarnations_after start run).state c) e
+        × ((n : ℕ) → (incarnations_after start run).next c ≡ Some n →
+        IsLate ((incarnations_after start run).state n) e) }
 {}
 
 /// A law: while the epoch is the one that a pass read last, each incarnation that it holds is the
 /// last of its slot.
 pub fn unmoved_is_last_in_runs()
-    ensures { (shape : Dimensions) (passes : ℕ) (run : List Event) (pass s c : ℕ) →
-        IsShape shape → IsRun shape passes run → IsHeldBy (notes_after shape run pass).checked s c →
-        (know_after shape run pass).epoch ≡ (world_after shape run).epoch →
-        (incarnations_after shape run).last s ≡ Some c }
+    ensures { (start : Start) (passes : ℕ) (run : List Event) (pass s c : ℕ) →
+        IsStart start → IsRun start passes run → IsHeldBy (notes_after start run pass).checked s c →
+        (know_after start run pass).epoch ≡ (world_after start run).epoch →
+        (incarnations_after start run).last s ≡ Some c }
 {}
 
 /// A law: let a pass have checked an unmarked link at a moment of a run, and let this link stand at
 /// its place at the end. Then it stands for the same two incarnations: each is the last of its
 /// slot, the first is linked, and the second is its successor.
 pub fn same_link_same_pair_in_runs()
-    ensures { (shape : Dimensions) (passes : ℕ) (moment run : List Event) (pass : ℕ) (note : Note)
+    ensures { (start : Start) (passes : ℕ) (moment run : List Event) (pass : ℕ) (note : Note)
         (at : At) (link : Link) →
-        IsShape shape → IsRun shape passes run → Begins moment run →
-        IsAmong note (notes_after shape moment pass).checked → note.read ≡ LinkAt at link →
-        link.mark ≡ false → machine.link_at (world_after shape run) at ≡ link →
-        IsPair (incarnations_after shape run) at note.of note.names
-        × IsLastOf (incarnations_after shape run) note.names }
+        IsStart start → IsRun start passes run → Begins moment run →
+        IsAmong note (notes_after start moment pass).checked → note.read ≡ LinkAt at link →
+        link.mark ≡ false → machine.link_at (world_after start run) at ≡ link →
+        IsPair (incarnations_after start run) at note.of note.names
+        × IsLastOf (incarnations_after start run) note.names }
 {}
 
 /// A law: the events of others leave what a pass knows as it was, so a step that the pass may make
 /// stays accepted.
 pub fn others_leave_it_accepted()
-    ensures { (shape : Dimensions) (passes : ℕ) (seen rest : List Event) (pass : ℕ)
+    ensures { (start : Start) (passes : ℕ) (seen rest : List Event) (pass : ℕ)
         (step : Step) → NoneOf pass rest →
-        (know_after shape (seen ++ rest) pass ≡ know_after shape seen pass)
-        × (IsAccepted shape passes (world_after shape seen)
+        (know_after start (seen ++ rest) pass ≡ know_after start seen pass)
+        × (IsAccepted start passes (world_after start seen)
         (record { pass = pass; step = step }) →
-        IsAccepted shape passes (world_after shape (seen ++ rest))
+        IsAccepted start passes (world_after start (seen ++ rest))
         (record { pass = pass; step = step })) }
 {}
 
 /// A law: after a run, acceptance may be told by any reads that a pass knows, and not only by those
 /// that a search finds first.
 pub fn known_reads_agree()
-    ensures { (shape : Dimensions) (passes : ℕ) (run : List Event) (pass : ℕ) (step : Step) →
-        IsShape shape → IsRun shape passes run →
-        AcceptsKnown shape (know_after shape run pass) step
-        ↔ Accepts shape (know_after shape run pass) step }
+    ensures { (start : Start) (passes : ℕ) (run : List Event) (pass : ℕ) (step : Step) →
+        IsStart start → IsRun start passes run →
+        AcceptsKnown start (know_after start run pass) step
+        ↔ Accepts start (know_after start run pass) step }
 {}
 
 /// A law: a key that a pass knows of a slot that it holds in a bucket is one of the bucket.
 pub fn held_in_bucket()
-    ensures { (shape : Dimensions) (passes : ℕ) (run : List Event) (pass s bucket key : ℕ) →
-        IsShape shape → IsRun shape passes run →
-        HeldIn (know_after shape run pass) (Slot s) bucket →
-        Knows (know_after shape run pass) (KeyOf s key) → bucket_of shape key ≡ bucket }
+    ensures { (start : Start) (passes : ℕ) (run : List Event) (pass s bucket key : ℕ) →
+        IsStart start → IsRun start passes run →
+        HeldIn (know_after start run pass) (Slot s) bucket →
+        Knows (know_after start run pass) (KeyOf s key) → bucket_of start.shape key ≡ bucket }
 {}
 
 /// A law: let an unmarked link that a pass knows have been shown at its place at an earlier moment,
 /// when the pass held the place, in the epoch that it still has. Then a key that it knows of the
 /// place was in the set at that moment.
 pub fn present_at_load()
-    ensures { (shape : Dimensions) (passes : ℕ) (moment run : List Event) (pass : ℕ) (at : At)
+    ensures { (start : Start) (passes : ℕ) (moment run : List Event) (pass : ℕ) (at : At)
         (link : Link) (key : ℕ) →
-        IsShape shape → IsRun shape passes run → WasShown shape moment run pass at link →
-        KeyAt (know_after shape run pass) at key →
-        set_after (opening_keys shape) (world_after shape moment).calls key ≡ true }
+        IsStart start → IsRun start passes run → WasShown start moment run pass at link →
+        KeyAt (know_after start run pass) at key →
+        set_after (opening_keys start) (world_after start moment).calls key ≡ true }
 {}
 
 /// A law: in the same case, a key that stands behind the place, and before what the link names,
 /// wasn't in the set at that moment.
 pub fn absent_at_load()
-    ensures { (shape : Dimensions) (passes : ℕ) (moment run : List Event) (pass : ℕ) (at : At)
+    ensures { (start : Start) (passes : ℕ) (moment run : List Event) (pass : ℕ) (at : At)
         (link : Link) (key : ℕ) →
-        IsShape shape → IsRun shape passes run → WasShown shape moment run pass at link →
-        StandsBehind shape (know_after shape run pass) at key →
-        StandsBefore (know_after shape run pass) key link.slot →
-        set_after (opening_keys shape) (world_after shape moment).calls key ≡ false }
+        IsStart start → IsRun start passes run → WasShown start moment run pass at link →
+        StandsBehind start (know_after start run pass) at key →
+        StandsBefore (know_after start run pass) key link.slot →
+        set_after (opening_keys start) (world_after start moment).calls key ≡ false }
 {}
 
 /// A law: in the same cases no marked incarnation of the key was in a list at that moment. Nor was
 /// one of the key of a slot that stands behind the place, and whose known marked link names what the
 /// link names: it is unlinked.
 pub fn none_marked_at_load()
-    ensures here { (shape : Dimensions) (passes : ℕ) (moment run : List Event)
-        (pass : ℕ) (at : At) (link : Link) (key : ℕ) → IsShape shape → IsRun shape passes run →
-        WasShown shape moment run pass at link →
-        KeyAt (know_after shape run pass) at key →
-        NoneMarked (incarnations_after shape moment) key }
-    ensures between { (shape : Dimensions) (passes : ℕ) (moment run : List Event)
-        (pass : ℕ) (at : At) (link : Link) (key : ℕ) → IsShape shape → IsRun shape passes run →
-        WasShown shape moment run pass at link →
-        StandsBehind shape (know_after shape run pass) at key →
-        StandsBefore (know_after shape run pass) key link.slot →
-        NoneMarked (incarnations_after shape moment) key }
-    ensures skipped { (shape : Dimensions) (passes : ℕ) (moment run : List Event)
+    ensures here { (start : Start) (passes : ℕ) (moment run : List Event)
+        (pass : ℕ) (at : At) (link : Link) (key : ℕ) → IsStart start → IsRun start passes run →
+        WasShown start moment run pass at link →
+        KeyAt (know_after start run pass) at key →
+        NoneMarked (incarnations_after start moment) key }
+    ensures between { (start : Start) (passes : ℕ) (moment run : List Event)
+        (pass : ℕ) (at : At) (link : Link) (key : ℕ) → IsStart start → IsRun start passes run →
+        WasShown start moment run pass at link →
+        StandsBehind start (know_after start run pass) at key →
+        StandsBefore (know_after start run pass) key link.slot →
+        NoneMarked (incarnations_after start moment) key }
+    ensures skipped { (start : Start) (passes : ℕ) (moment run : List Event)
         (pass : ℕ) (at : At) (link frozen : Link) (s key : ℕ) →
-        IsShape shape → IsRun shape passes run →
-        WasShown shape moment run pass at link →
-        StandsBehind shape (know_after shape run pass) at key →
-        Knows (know_after shape run pass) (LinkAt (Slot s) frozen) → frozen.mark ≡ true →
-        frozen.slot ≡ link.slot → Knows (know_after shape run pass) (KeyOf s key) →
-        NoneMarked (incarnations_after shape moment) key }
+        IsStart start → IsRun start passes run →
+        WasShown start moment run pass at link →
+        StandsBehind start (know_after start run pass) at key →
+        Knows (know_after start run pass) (LinkAt (Slot s) frozen) → frozen.mark ≡ true →
+        frozen.slot ≡ link.slot → Knows (know_after start run pass) (KeyOf s key) →
+        NoneMarked (incarnations_after start moment) key }
 {}
 
 /// A law: let a remove of a pass be answered yes between two moments of a run, and let no marked
 /// incarnation of its key be in a list at a later moment. Then the incarnation that it marked has
 /// left all lists at the end.
 pub fn removed_has_left()
-    ensures { (shape : Dimensions) (passes : ℕ) (before answered moment run : List Event) (pass : ℕ)
-        (call : Call) → IsShape shape → IsRun shape passes run → Begins before answered →
+    ensures { (start : Start) (passes : ℕ) (before answered moment run : List Event) (pass : ℕ)
+        (call : Call) → IsStart start → IsRun start passes run → Begins before answered →
         Begins answered moment → Begins moment run → call.op ≡ Remove → call.reply ≡ true →
-        own_calls shape answered pass ≡ own_calls shape before pass ++ call ∷ [] →
-        NoneMarked (incarnations_after shape moment) call.key →
-        MarkedLeft shape before run pass call.key }
+        own_calls start answered pass ≡ own_calls start before pass ++ call ∷ [] →
+        NoneMarked (incarnations_after start moment) call.key →
+        MarkedLeft start before run pass call.key }
 {}
 
 /// A law: where a confirming load finds the word that it expects, the set at that moment has each
 /// key that its pass knows of the slot, or hasn't the key that was asked for.
 pub fn confirmed_at_load()
-    ensures { (shape : Dimensions) (passes : ℕ) (run : List Event) (pass : ℕ) (op : Op)
-        (s key : ℕ) (at : At) (expected : ℕ) → IsShape shape → IsRun shape passes run →
-        (Accepts shape (know_after shape run pass) (ConfirmPresent op s expected) →
-        found shape (world_after shape run) (ConfirmPresent op s expected) ≡ expected →
-        Knows (know_after shape run pass) (KeyOf s key) →
-        set_after (opening_keys shape) (world_after shape run).calls key ≡ true)
-        × (Accepts shape (know_after shape run pass) (ConfirmAbsent op key at expected) →
-        found shape (world_after shape run) (ConfirmAbsent op key at expected) ≡ expected →
-        set_after (opening_keys shape) (world_after shape run).calls key ≡ false) }
+    ensures { (start : Start) (passes : ℕ) (run : List Event) (pass : ℕ) (op : Op)
+        (s key : ℕ) (at : At) (expected : ℕ) → IsStart start → IsRun start passes run →
+        (Accepts start (know_after start run pass) (ConfirmPresent op s expected) →
+        found start (world_after start run) (ConfirmPresent op s expected) ≡ expected →
+        Knows (know_after start run pass) (KeyOf s key) →
+        set_after (opening_keys start) (world_after start run).calls key ≡ true)
+        × (Accepts start (know_after start run pass) (ConfirmAbsent op key at expected) →
+        found start (world_after start run) (ConfirmAbsent op key at expected) ≡ expected →
+        set_after (opening_keys start) (world_after start run).calls key ≡ false) }
 {}
 
 /// A law: let an unmarked link that a pass knows stand at its place, and known marked links lead on
 /// from it. Then a key that stands behind the place, and before what the last of them names, isn't
 /// in the set: the nodes between are still marked.
 pub fn absent_behind_marked()
-    ensures { (shape : Dimensions) (passes : ℕ) (run : List Event) (pass : ℕ) (at : At)
+    ensures { (start : Start) (passes : ℕ) (run : List Event) (pass : ℕ) (at : At)
         (link last : Link) (key : ℕ) →
-        IsShape shape → IsRun shape passes run →
-        Knows (know_after shape run pass) (LinkAt at link) → link.mark ≡ false →
-        machine.link_at (world_after shape run) at ≡ link →
-        LeadsTo (know_after shape run pass) link last →
-        StandsBehind shape (know_after shape run pass) at key →
-        StandsBefore (know_after shape run pass) key last.slot →
-        set_after (opening_keys shape) (world_after shape run).calls key ≡ false }
+        IsStart start → IsRun start passes run →
+        Knows (know_after start run pass) (LinkAt at link) → link.mark ≡ false →
+        machine.link_at (world_after start run) at ≡ link →
+        LeadsTo (know_after start run pass) link last →
+        StandsBehind start (know_after start run pass) at key →
+        StandsBefore (know_after start run pass) key last.slot →
+        set_after (opening_keys start) (world_after start run).calls key ≡ false }
 {}
 
 /// A law: where a key stands between a place and the very node that its link names, if it names
 /// one, a confirming load for the key is accepted there, by an operation of the shape. No marked
 /// node need be passed.
 pub fn between_is_accepted()
-    ensures { (shape : Dimensions) (know : Know) (op : Op) (key : ℕ) (at : At) (expected : ℕ) →
-        IsAtIn shape at → IsOpIn shape op → op ≢ Insert →
-        IsBetween shape know.checked key at (link_of expected) →
-        Accepts shape know (ConfirmAbsent op key at expected) }
+    ensures { (start : Start) (know : Know) (op : Op) (key : ℕ) (at : At) (expected : ℕ) →
+        IsAtIn start at → IsOpIn start op → op ≢ Insert →
+        IsBetween start know.checked key at (link_of expected) →
+        Accepts start know (ConfirmAbsent op key at expected) }
 {}
 
 /// A law: a step that is a load leaves each word as it was.
 pub fn loads_leave_the_words()
-    ensures { (shape : Dimensions) (w : World) (pass : ℕ) (step : Step) (place : Place) →
-        IsLoad step → word_at shape (after shape w pass step) place ≡ word_at shape w place }
+    ensures { (start : Start) (w : World) (pass : ℕ) (step : Step) (place : Place) →
+        IsLoad step → word_at start (after start w pass step) place ≡ word_at start w place }
 {}
 
 /// A law: after a run each slot is somewhere, and nowhere else: in the shared pool; with one of the
 /// passes, in its own pool or its hand; in the set, as the node of a key; marked, and still in a list;
 /// or unlinked and unstamped, with one of the passes.
 pub fn each_slot_is_somewhere()
-    ensures { (shape : Dimensions) (passes : ℕ) (run : List Event) (s : ℕ) →
-        IsShape shape → IsRun shape passes run → IsSomewhere shape passes run s }
+    ensures { (start : Start) (passes : ℕ) (run : List Event) (s : ℕ) →
+        IsStart start → IsRun start passes run → IsSomewhere start passes run s }
 {}
 
 /// A law: the slots that are somewhere after a run are all slots of the shape: those in the shared
 /// pool, those that each pass has, in its own pool, in its hand or unstamped, one for each key of the
 /// set, and the marked ones.
 pub fn slots_add_up()
-    ensures { (shape : Dimensions) (passes : ℕ) (run : List Event) →
-        IsShape shape → IsRun shape passes run →
-        shape.slots ≡ number_at shape run InSharedPool + sum_of passes (number_had shape run)
-        + number_at shape run InSet + number_at shape run MarkedInList }
+    ensures { (start : Start) (passes : ℕ) (run : List Event) →
+        IsStart start → IsRun start passes run →
+        start.shape.slots ≡ number_at start run InSharedPool + sum_of passes (number_had start run)
+        + number_at start run InSet + number_at start run MarkedInList }
 {}
 
 /// A law: a slot is unstamped with just the pass that unlinked the incarnation born there last, until
 /// this pass has stamped it.
 pub fn unstamped_with_its_unlinker()
-    ensures { (shape : Dimensions) (passes : ℕ) (run : List Event) (pass s : ℕ) →
-        IsShape shape → IsRun shape passes run →
-        (is_at shape run (Unstamped pass) s ≡ true)
-        ↔ ((at : ℕ) × (state_in (incarnations_after shape run) s ≡ Unlinked pass at)) }
+    ensures { (start : Start) (passes : ℕ) (run : List Event) (pass s : ℕ) →
+        IsStart start → IsRun start passes run →
+        (is_at start run (Unstamped pass) s ≡ true)
+        ↔ ((at : ℕ) × (state_in (incarnations_after start run) s ≡ Unlinked pass at)) }
 {}
 
 /// A law: a pass that unlinks, in a run, only once it has stamped each slot that it unlinked before has
 /// at each moment of the run at most one that is unstamped. The machine alone allows it more.
 pub fn one_unstamped_at_a_time()
-    ensures { (shape : Dimensions) (moment run : List Event) (pass : ℕ) →
-        Begins moment run → UnlinksInTurn shape run pass →
-        number_at shape moment (Unstamped pass) ≤ 1 }
+    ensures { (start : Start) (moment run : List Event) (pass : ℕ) →
+        Begins moment run → UnlinksInTurn start run pass →
+        number_at start moment (Unstamped pass) ≤ 1 }
 {}

@@ -1,7 +1,8 @@
 -- How a set and a map end, in the words for either kind.
 use Rattle.std.proofs.Common.{◌≡◌, ℕ, true, List, ◌∙◌}
 use Rattle.vbr_words.specs.Dimensions.{Dimensions}
-use Rattle.vbr_machine.specs.Maps.{entries_in, keys_listed, opening_entries, values_listed}
+use Rattle.vbr_machine.specs.Start.{start_with}
+use Rattle.vbr_machine.specs.Maps.{entries_in, keys_listed, map_start, opening_entries, values_listed}
 use Rattle.vbr_machine.specs.Runs.{world_after}
 use Rattle.vbr_slots.specs.Views.{PassView, TableView}
 use Rattle.vbr_set.specs.Closing.{Closes}
@@ -34,8 +35,8 @@ set_renews set passes next renews = record {
   listed = renews.report.keys.items;
   epoch = renews.report.epoch;
   closes = set_closes set passes renews.report renews.closes;
-  shape = renews.shape;
-  opens = set_opens set.shape renews.report.keys.items _ renews.closes.reports.keys;
+  start = renews.start;
+  opens = set_opens set.start renews.report.keys.items _ renews.closes.reports.keys;
   count = renews.count;
 }
 
@@ -54,22 +55,22 @@ map_closes map passes report closes = record {
 
 -- what opens with entries has each key with its value
 abbrev OpensAsListed : Type 0
-OpensAsListed = (shape : Dimensions) (entries : List (ℕ × ℕ)) (key : ℕ) → opening_entries (record shape { values = true; keys = keys_listed entries; payloads = values_listed entries }) key ≡ entries_in entries key
+OpensAsListed = (shape : Dimensions) (entries : List (ℕ × ℕ)) (key : ℕ) → opening_entries (map_start shape entries) key ≡ entries_in entries key
 
-pub map_renews : (map : TableView) (passes : List PassView) (next : TableView) → OpensAsListed → map.shape.values ≡ true → MapRenews map passes next → RenewsAs Map map passes next
+pub map_renews : (map : TableView) (passes : List PassView) (next : TableView) → OpensAsListed → map.start.shape.values ≡ true → MapRenews map passes next → RenewsAs Map map passes next
 unfolding map_closes
 map_renews map passes next opens_as values renews =
-    let shape = map.shape in
+    let start = map.start in
     let listed = renews.report.entries.items in
-    let valued : opening_contents Map (opened_with Map shape listed) ≡ opening_entries (record shape { values = true; keys = keys_listed listed; payloads = values_listed listed }) =
-    λ i. opening_entries (record shape { values = values i; keys = keys_listed listed; payloads = values_listed listed }) in
-    let left = contents_after Map (opening_contents Map shape) (world_after shape renews.closes.run).calls in
-    let each : (key : ℕ) → opening_contents Map (opened_with Map shape listed) key ≡ left key = λ key. (λ i. valued i key) ∙ opens_as shape listed key ∙ renews.closes.reports.entries.same key in
+    let valued : opening_contents Map (opened_with Map start listed) ≡ opening_entries (map_start start.shape listed) =
+    λ i. opening_entries (start_with (record start.shape { values = values i }) (keys_listed listed) (values_listed listed)) in
+    let left = contents_after Map (opening_contents Map start) (world_after start renews.closes.run).calls in
+    let each : (key : ℕ) → opening_contents Map (opened_with Map start listed) key ≡ left key = λ key. (λ i. valued i key) ∙ opens_as start.shape listed key ∙ renews.closes.reports.entries.same key in
     record {
       listed = listed;
       epoch = renews.report.epoch;
       closes = map_closes map passes renews.report renews.closes;
-      shape = renews.shape;
+      start = renews.start;
       opens = λ i key. each key i;
       count = renews.count;
     }

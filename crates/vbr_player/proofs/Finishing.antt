@@ -46,7 +46,7 @@ closed {N} {kind} set budget lines from phases passes replies listed epoch phase
     record {
       one_each = merged.one_each;
       run = closes.run;
-      of_set = set_run_of_workers kind (ArePlayed kind set.passes budget) set.shape set.passes phases (phases - from) lines (replies_of whole.workers) replies closes.run (are_played set budget lines from phases whole.workers replies closes.run phased whole.stand seen merged) phased merged closes.is_run closes.safe closes.legal (have_played set budget lines set.passes from phases whole.workers closes.run some whole.stand seen closes.safe);
+      of_set = set_run_of_workers kind (ArePlayed kind set.passes budget) set.start set.passes phases (phases - from) lines (replies_of whole.workers) replies closes.run (are_played set budget lines from phases whole.workers replies closes.run phased whole.stand seen merged) phased merged closes.is_run closes.safe closes.legal (have_played set budget lines set.passes from phases whole.workers closes.run some whole.stand seen closes.safe);
       contents = closes.contents;
       last = closes.last;
     }
@@ -58,7 +58,7 @@ followed {N} {kind} set budget lines from phases passes replies next phased some
   listed = renews.listed;
   epoch = renews.epoch;
   played = closed set budget lines from phases passes replies renews.listed renews.epoch phased some played renews.closes;
-  shape = renews.shape;
+  start = renews.start;
   opens = renews.opens;
   passes = renews.count;
 }

@@ -38,7 +38,7 @@ new_played kind set budget most script who worker new =
     let room = new.room in
     record {
       set_is = ap (λ (m : MemberView). m.set) new.caller_is;
-      of = (ap (λ (p : PassView). p.trace.table) is, ap (λ (p : PassView). p.trace.shape) is, ap (λ (p : PassView). p.trace.passes) is);
+      of = (ap (λ (p : PassView). p.trace.table) is, ap (λ (p : PassView). p.trace.start) is, ap (λ (p : PassView). p.trace.passes) is);
       one_each = ap length new.none;
       calls = ap (λ (p : PassView). made_by p.trace) is;
       tells = All-nil (λ (outcome : Outcome). TellsReply kind worker.caller.pass.trace outcome.0.op outcome.1);

@@ -5,7 +5,7 @@ use Rattle.std.proofs.lemmas.List.{length-map}
 use Rattle.std.proofs.lemmas.List.Elements.{All-head}
 use Rattle.std.proofs.Math.ListN.{get_or-eq_default}
 use Rattle.std.specs.Prelude.{zip, All}
-use Rattle.vbr_words.specs.Dimensions.{Dimensions}
+use Rattle.vbr_machine.specs.Start.{Start}
 use Rattle.vbr_machine.specs.Calls.{own_calls}
 use Rattle.vbr_machine.specs.Runs.{Begins, BeginsFor, world_after}
 use Rattle.vbr_machine.specs.Safety.{IsSafe}
@@ -60,31 +60,31 @@ is_at {N} {kind} set budget most script run n (worker ∷ workers) numbered play
     (is_at set budget most script run (suc n) workers numbered.1 (λ k d below. played (suc k) d (omega arith)) seen.1 i (omega arith))
 
 -- its calls in the run are its answered lines
-called_at : {N : Type 0} {kind : Kind} → (set : TableView) (budget most : ℕ) (script : List Line) (run : List Event) (who : ℕ) (own : List Reply) → IsAt kind N set budget most script run who own → own_calls set.shape run who ≡ answered_calls kind (zip (lines_by who script) own)
+called_at : {N : Type 0} {kind : Kind} → (set : TableView) (budget most : ℕ) (script : List Line) (run : List Event) (who : ℕ) (own : List Reply) → IsAt kind N set budget most script run who own → own_calls set.start run who ≡ answered_calls kind (zip (lines_by who script) own)
 called_at {N} {kind} set budget most script run who own at =
     let trace = at.worker.caller.pass.trace in
     let rest = at.seen in
-    let calls : own_calls set.shape run trace.who ≡ own_calls set.shape trace.seen trace.who = ap (λ (events : List Event). own_calls set.shape events trace.who) rest.1 ∙ others_leave_calls set.shape trace.seen rest.0 trace.who rest.2 in
-    let made : own_calls set.shape trace.seen trace.who ≡ answered_calls kind (zip (lines_by trace.who script) at.worker.replies.items) = (λ i. own_calls (sym at.played.of.1 i) trace.seen trace.who) ∙ at.played.calls in
-    subst (λ (k : ℕ × List Reply). own_calls set.shape run k.0 ≡ answered_calls kind (zip (lines_by k.0 script) k.1)) (λ i. (at.number i, at.replies i)) (calls ∙ made)
+    let calls : own_calls set.start run trace.who ≡ own_calls set.start trace.seen trace.who = ap (λ (events : List Event). own_calls set.start events trace.who) rest.1 ∙ others_leave_calls set.start trace.seen rest.0 trace.who rest.2 in
+    let made : own_calls set.start trace.seen trace.who ≡ answered_calls kind (zip (lines_by trace.who script) at.worker.replies.items) = (λ i. own_calls (sym at.played.of.1 i) trace.seen trace.who) ∙ at.played.calls in
+    subst (λ (k : ℕ × List Reply). own_calls set.start run k.0 ≡ answered_calls kind (zip (lines_by k.0 script) k.1)) (λ i. (at.number i, at.replies i)) (calls ∙ made)
 
 -- what a reply tells of its pass at a moment allows the reply at the end
-may_be_answered : (kind : Kind) (p : Trace) (run : List Event) (op : Op) (reply : Reply) → Begins p.seen run → IsSafe p.shape run → TellsReply kind p op reply → MayBeAnswered kind p.shape.last_epoch (world_after p.shape run).epoch op reply
+may_be_answered : (kind : Kind) (p : Trace) (run : List Event) (op : Op) (reply : Reply) → Begins p.seen run → IsSafe p.start run → TellsReply kind p op reply → MayBeAnswered kind p.start.shape.last_epoch (world_after p.start run).epoch op reply
 may_be_answered kind p run op Yes begins safe tells = tells
 may_be_answered kind p run op (Value value) begins safe tells = tells
 may_be_answered kind p run op No begins safe tells = tt
 may_be_answered kind p run op Full begins safe tells = tells
-may_be_answered kind p run op Spent begins safe tells = (tells.0, omega (arith, tells.1, epoch_begins p.shape p.seen run begins, safe.epoch))
+may_be_answered kind p run op Spent begins safe tells = (tells.0, omega (arith, tells.1, epoch_begins p.start p.seen run begins, safe.epoch))
 may_be_answered kind p run op Tired begins safe tells = tt
 
-answers_at : {N : Type 0} {kind : Kind} → (set : TableView) (budget most : ℕ) (script : List Line) (run : List Event) (who : ℕ) (own : List Reply) → IsSafe set.shape run → IsAt kind N set budget most script run who own → All (λ outcome. MayBeAnswered kind set.shape.last_epoch (world_after set.shape run).epoch outcome.0.op outcome.1) (zip (lines_by who script) own)
+answers_at : {N : Type 0} {kind : Kind} → (set : TableView) (budget most : ℕ) (script : List Line) (run : List Event) (who : ℕ) (own : List Reply) → IsSafe set.start run → IsAt kind N set budget most script run who own → All (λ outcome. MayBeAnswered kind set.start.shape.last_epoch (world_after set.start run).epoch outcome.0.op outcome.1) (zip (lines_by who script) own)
 answers_at {N} {kind} set budget most script run who own safe at =
     let trace = at.worker.caller.pass.trace in
     let begins = begins_for_begins trace.who trace.seen run at.seen in
-    let may : (shape : Dimensions) → Outcome → Type 0 = λ shape outcome. MayBeAnswered kind shape.last_epoch (world_after shape run).epoch outcome.0.op outcome.1 in
-    let safe_too : IsSafe trace.shape run = subst (λ (shape : Dimensions). IsSafe shape run) (sym at.played.of.1) safe in
-    let own_may : All (may trace.shape) (zip (lines_by trace.who script) at.worker.replies.items) = λ k d inside. may_be_answered kind trace run _ _ begins safe_too (at.played.tells k d inside) in
-    subst (λ (k : Dimensions × ℕ × List Reply). All (may k.0) (zip (lines_by k.1 script) k.2)) (λ i. (at.played.of.1 i, at.number i, at.replies i)) own_may
+    let may : (start : Start) → Outcome → Type 0 = λ start outcome. MayBeAnswered kind start.shape.last_epoch (world_after start run).epoch outcome.0.op outcome.1 in
+    let safe_too : IsSafe trace.start run = subst (λ (start : Start). IsSafe start run) (sym at.played.of.1) safe in
+    let own_may : All (may trace.start) (zip (lines_by trace.who script) at.worker.replies.items) = λ k d inside. may_be_answered kind trace run _ _ begins safe_too (at.played.tells k d inside) in
+    subst (λ (k : Start × ℕ × List Reply). All (may k.0) (zip (lines_by k.1 script) k.2)) (λ i. (at.played.of.1 i, at.number i, at.replies i)) own_may
 
 -- ---- all workers
 
@@ -104,7 +104,7 @@ have_replies {N} {kind} set budget script count from phases workers phased stand
 }
 
 -- a phase that has ended for them ends within the run
-ends_within : {N : Type 0} {kind : Kind} → (set : TableView) (script : List Line) (phase : ℕ) (workers : List (Worker N)) (run : List Event) → 0 < length workers → HasEnded kind set script phase workers → EachSeen run (passes_of workers) → EndsWithin kind set.shape (length workers) script (replies_of workers) run phase
+ends_within : {N : Type 0} {kind : Kind} → (set : TableView) (script : List Line) (phase : ℕ) (workers : List (Worker N)) (run : List Event) → 0 < length workers → HasEnded kind set script phase workers → EachSeen run (passes_of workers) → EndsWithin kind set.start (length workers) script (replies_of workers) run phase
 ends_within {N} {kind} set script phase [] run some ended seen = absurd (omega arith)
 ends_within {N} {kind} set script phase (worker ∷ workers) run some ended seen = record {
   seen = ended.seen;
@@ -120,13 +120,13 @@ worker_at {N} {kind} set budget script count from phases workers run stand seen 
     subst (λ (k : ℕ). IsAt kind N set budget most script run k (replies_by who (replies_of workers))) same (is_at set budget most script run 0 workers stand.numbered stand.played seen who (omega (arith, stand.count_is)))
 
 -- they have played the script by the run
-pub have_played : {N : Type 0} {kind : Kind} → (set : TableView) (budget : ℕ) (script : List Line) (count from phases : ℕ) (workers : List (Worker N)) (run : List Event) → 0 < count → Stand kind set budget script script count from phases workers → EachSeen run (passes_of workers) → IsSafe set.shape run → HavePlayed kind set.shape count phases script (replies_of workers) run
+pub have_played : {N : Type 0} {kind : Kind} → (set : TableView) (budget : ℕ) (script : List Line) (count from phases : ℕ) (workers : List (Worker N)) (run : List Event) → 0 < count → Stand kind set budget script script count from phases workers → EachSeen run (passes_of workers) → IsSafe set.start run → HavePlayed kind set.start count phases script (replies_of workers) run
 have_played {N} {kind} set budget script count from phases workers run some stand seen safe =
     let most = (count - 1) * (phases - from) in
     let at = worker_at set budget script count from phases workers run stand seen in
     record {
       called = λ who below. called_at set budget most script run who (replies_by who (replies_of workers)) (at who below);
-      ends = λ phase below. subst (λ (n : ℕ). EndsWithin kind set.shape n script (replies_of workers) run phase) stand.count_is (ends_within set script phase workers run (omega (arith, some, stand.count_is)) (stand.ended phase below) seen);
+      ends = λ phase below. subst (λ (n : ℕ). EndsWithin kind set.start n script (replies_of workers) run phase) stand.count_is (ends_within set script phase workers run (omega (arith, some, stand.count_is)) (stand.ended phase below) seen);
       answers = λ who below. answers_at set budget most script run who (replies_by who (replies_of workers)) safe (at who below);
     }
 
@@ -150,7 +150,7 @@ own_at {N} {kind} set budget most script run who own at =
     subst P (λ i. (at.number i, at.replies i)) (record { last = at.worker.caller; calls = at.played.in_turn; seen = at.seen }, steps)
 
 -- so they have, and a lone one with an ample budget was never tired
-pub are_played : {N : Type 0} {kind : Kind} → (set : TableView) (budget : ℕ) (script : List Line) (from phases : ℕ) (workers : List (Worker N)) (replies : List Reply) (run : List Event) → ArePhased kind set.passes phases script → Stand kind set budget script script set.passes from phases workers → EachSeen run (passes_of workers) → IsMerged script (replies_of workers) replies → ArePlayed kind set.passes budget set.shape (phases - from) (zip script replies) run
+pub are_played : {N : Type 0} {kind : Kind} → (set : TableView) (budget : ℕ) (script : List Line) (from phases : ℕ) (workers : List (Worker N)) (replies : List Reply) (run : List Event) → ArePhased kind set.passes phases script → Stand kind set budget script script set.passes from phases workers → EachSeen run (passes_of workers) → IsMerged script (replies_of workers) replies → ArePlayed kind set.passes budget set.start (phases - from) (zip script replies) run
 are_played {N} {kind} set budget script from phases workers replies run phased stand seen merged = record {
   set = set;
   shaped = refl;
@@ -166,8 +166,8 @@ are_played {N} {kind} set budget script from phases workers replies run phased s
         subst (λ (outcomes : List Outcome). PlaysOwn kind set budget outcomes run who × (steps_in who run ≤ budget * length outcomes + (set.passes - 1) * (phases - from))) (sym are)
         (own_at set budget ((set.passes - 1) * (phases - from)) script run who (replies_by who (replies_of workers)) (worker_at set budget script set.passes from phases workers run stand seen who below))
 
-    untired : set.passes ≡ 1 → ample set.shape ≤ budget → (who : ℕ) → who < set.passes → All (λ outcome. outcome.1 ≢ Tired) (outcomes_by who (zip script replies))
+    untired : set.passes ≡ 1 → ample set.start ≤ budget → (who : ℕ) → who < set.passes → All (λ outcome. outcome.1 ≢ Tired) (outcomes_by who (zip script replies))
     untired one enough who below =
         let first : 0 ≡ who = omega arith in
         let mine = (own who below).0 in
-        lone_untired kind set budget (outcomes_by who (zip script replies)) (as_member set (new_pass set who)) mine.last one enough (record { table = refl; shape = refl; passes = refl; who = sym first }) mine.calls
+        lone_untired kind set budget (outcomes_by who (zip script replies)) (as_member set (new_pass set who)) mine.last one enough (record { table = refl; start = refl; passes = refl; who = sym first }) mine.calls

@@ -38,7 +38,7 @@ use Rattle.vbr_player.proofs.Calling.{one_turn}
 -- ---- what a refusal tells
 
 -- that of an insert
-insert_tells : (kind : Kind) (p q : PassView) (key budget : ℕ) (refusal : Refusal) → IsSafe q.trace.shape q.trace.seen → IsRefusedInsert p q key budget refusal → TellsReply kind q.trace Insert (reply_refused refusal)
+insert_tells : (kind : Kind) (p q : PassView) (key budget : ℕ) (refusal : Refusal) → IsSafe q.trace.start q.trace.seen → IsRefusedInsert p q key budget refusal → TellsReply kind q.trace Insert (reply_refused refusal)
 insert_tells kind p q key budget (OutOfSteps used) safe refused = tt
 insert_tells kind p q key budget NoSlot safe refused = refl
 insert_tells kind p q key budget (EpochSpent epoch) safe refused =
@@ -52,7 +52,7 @@ tired_tells kind op p q budget (OutOfSteps used) tired = tt
 tired_tells kind op p q budget NoSlot tired = absurd tired
 tired_tells kind op p q budget (EpochSpent epoch) tired = absurd tired
 
-tells : (kind : Kind) (op : Op) (p q : PassView) (key budget : ℕ) (refusal : Refusal) → IsSafe q.trace.shape q.trace.seen → Spares op p q key budget (Err refusal) → TellsReply kind q.trace op (reply_refused refusal)
+tells : (kind : Kind) (op : Op) (p q : PassView) (key budget : ℕ) (refusal : Refusal) → IsSafe q.trace.start q.trace.seen → Spares op p q key budget (Err refusal) → TellsReply kind q.trace op (reply_refused refusal)
 tells kind Insert p q key budget refusal safe spares = insert_tells kind p q key budget refusal safe spares.refused
 tells kind Remove p q key budget refusal safe spares = tired_tells kind Remove p q budget refusal spares.refused
 tells kind Has p q key budget refusal safe spares = tired_tells kind Has p q budget refusal spares.refused

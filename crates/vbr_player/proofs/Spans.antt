@@ -5,7 +5,7 @@ use Rattle.std.specs.List.{prefix_len}
 use Rattle.std.proofs.lemmas.List.{drop_all, drop-drop, length-take, take-append-drop}
 use Rattle.std.proofs.Math.Seq.{drop-cons}
 use Rattle.std.proofs.lemmas.List.Elements.{All-drop, All-take}
-use Rattle.vbr_words.specs.Dimensions.{Dimensions}
+use Rattle.vbr_machine.specs.Start.{Start}
 use Rattle.vbr_slots.specs.Views.{TableView}
 use Rattle.vbr_script.specs.Scripts.{ArePhased, AreRenewalsFrom, AscendFrom, MayAsk}
 use Rattle.vbr_script.specs.declared.script.Kind.{Kind}
@@ -81,25 +81,25 @@ is_last_span {kind} workers phases script first from phased up order =
 
 -- ---- set after set
 
--- the first lines of a script were played on sets, the first of them of this shape with so many workers, of which this is the one that is played next: whatever it and those behind it are asked completes what all are asked
-pub record HavePlayedSets (kind : Kind) (workers : ℕ) (shape : Dimensions) (budget : ℕ) (script : List Line) (renewals : List ℕ) (phases : ℕ) (set : TableView) (first phase i : ℕ) (replies : List Reply) : Type 0 where
+-- the first lines of a script were played on sets, the first of which starts so and has so many workers, of which this is the one that is played next: whatever it and those behind it are asked completes what all are asked
+pub record HavePlayedSets (kind : Kind) (workers : ℕ) (start : Start) (budget : ℕ) (script : List Line) (renewals : List ℕ) (phases : ℕ) (set : TableView) (first phase i : ℕ) (replies : List Reply) : Type 0 where
   pub inside : first ≤ length script
   pub long : length replies ≡ first
   pub counted : set.passes ≡ workers
   pub later : AscendFrom phase (drop first script)
   pub order : phase ≤ phases
   pub renewed : AreRenewalsFrom phase phases (drop i renewals)
-  pub goes : (rest : List Reply) (listed : List (Item kind)) (epoch : ℕ) → AreExplained kind (ArePlayed kind set.passes budget) set.shape set.passes phase phases (drop i renewals) (zip (drop first script) rest) listed epoch → AreExplained kind (ArePlayed kind workers budget) shape workers 0 phases renewals (zip script (replies ++ rest)) listed epoch
+  pub goes : (rest : List Reply) (listed : List (Item kind)) (epoch : ℕ) → AreExplained kind (ArePlayed kind set.passes budget) set.start set.passes phase phases (drop i renewals) (zip (drop first script) rest) listed epoch → AreExplained kind (ArePlayed kind workers budget) start workers 0 phases renewals (zip script (replies ++ rest)) listed epoch
 
-pub none_played : {kind : Kind} (workers : ℕ) (shape : Dimensions) (budget : ℕ) (script : List Line) (renewals : List ℕ) (phases : ℕ) (set : TableView) → set.shape ≡ shape → set.passes ≡ workers → ArePhased kind workers phases script → AreRenewalsFrom 0 phases renewals → HavePlayedSets kind workers shape budget script renewals phases set 0 0 0 []
-none_played {kind} workers shape budget script renewals phases set shaped counted phased renewed = record {
+pub none_played : {kind : Kind} (workers : ℕ) (start : Start) (budget : ℕ) (script : List Line) (renewals : List ℕ) (phases : ℕ) (set : TableView) → set.start ≡ start → set.passes ≡ workers → ArePhased kind workers phases script → AreRenewalsFrom 0 phases renewals → HavePlayedSets kind workers start budget script renewals phases set 0 0 0 []
+none_played {kind} workers start budget script renewals phases set shaped counted phased renewed = record {
   inside = omega arith;
   long = refl;
   counted = counted;
   later = phased.ascend;
   order = omega arith;
   renewed = renewed;
-  goes = λ rest listed epoch explained. subst (λ (k : ℕ × Dimensions). AreExplained kind (ArePlayed kind k.0 budget) k.1 k.0 0 phases renewals (zip script rest) listed epoch) (λ i. (counted i, shaped i)) explained;
+  goes = λ rest listed epoch explained. subst (λ (k : ℕ × Start). AreExplained kind (ArePlayed kind k.0 budget) k.1 k.0 0 phases renewals (zip script rest) listed epoch) (λ i. (counted i, shaped i)) explained;
 }
 
 -- the next renewal
@@ -114,32 +114,32 @@ pub no_renewal : (renewals lent : List ℕ) (i : ℕ) → lent ≡ renewals → 
 no_renewal renewals lent i same past = drop_all i renewals (subst (λ (some : List ℕ). length some ≤ i) same past)
 
 -- it is behind the phases so far, and not the last phase
-pub renewal_in : {kind : Kind} (workers : ℕ) (shape : Dimensions) (budget : ℕ) (script : List Line) (renewals : List ℕ) (phases : ℕ) (set : TableView) (first phase i renewal : ℕ) (replies : List Reply) → drop i renewals ≡ renewal ∷ drop (i + 1) renewals → HavePlayedSets kind workers shape budget script renewals phases set first phase i replies → (phase ≤ renewal) × (renewal + 1 < phases)
-renewal_in {kind} workers shape budget script renewals phases set first phase i renewal replies here so_far =
+pub renewal_in : {kind : Kind} (workers : ℕ) (start : Start) (budget : ℕ) (script : List Line) (renewals : List ℕ) (phases : ℕ) (set : TableView) (first phase i renewal : ℕ) (replies : List Reply) → drop i renewals ≡ renewal ∷ drop (i + 1) renewals → HavePlayedSets kind workers start budget script renewals phases set first phase i replies → (phase ≤ renewal) × (renewal + 1 < phases)
+renewal_in {kind} workers start budget script renewals phases set first phase i renewal replies here so_far =
     let renewed : AreRenewalsFrom phase phases (renewal ∷ drop (i + 1) renewals) = subst (AreRenewalsFrom phase phases) here so_far.renewed in
     (renewed.0, renewed.1)
 
 -- the phases and the workers are those of the set
-pub phased_here : {kind : Kind} (workers : ℕ) (shape : Dimensions) (budget : ℕ) (script : List Line) (renewals : List ℕ) (phases : ℕ) (set : TableView) (first phase i : ℕ) (replies : List Reply) → ArePhased kind workers phases script → HavePlayedSets kind workers shape budget script renewals phases set first phase i replies → ArePhased kind set.passes phases script
-phased_here {kind} workers shape budget script renewals phases set first phase i replies phased so_far = subst (λ (passes : ℕ). ArePhased kind passes phases script) (sym so_far.counted) phased
+pub phased_here : {kind : Kind} (workers : ℕ) (start : Start) (budget : ℕ) (script : List Line) (renewals : List ℕ) (phases : ℕ) (set : TableView) (first phase i : ℕ) (replies : List Reply) → ArePhased kind workers phases script → HavePlayedSets kind workers start budget script renewals phases set first phase i replies → ArePhased kind set.passes phases script
+phased_here {kind} workers start budget script renewals phases set first phase i replies phased so_far = subst (λ (passes : ℕ). ArePhased kind passes phases script) (sym so_far.counted) phased
 
 -- what a set was asked goes on with what the next ones are
-goes_on : {kind : Kind} (set next : TableView) (budget from phases renewal : ℕ) (renewals : List ℕ) (script : List Line) (first n : ℕ) (more rest : List Reply) (listed : List (Item kind)) (epoch : ℕ) → CutsSpan script first n renewal → IsFollowed kind set budget (take n (drop first script)) (renewal + 1 - from) more next → AreExplained kind (ArePlayed kind next.passes budget) next.shape next.passes (renewal + 1) phases renewals (zip (drop (first + n) script) rest) listed epoch → AreExplained kind (ArePlayed kind set.passes budget) set.shape set.passes from phases (renewal ∷ renewals) (zip (drop first script) (more ++ rest)) listed epoch
+goes_on : {kind : Kind} (set next : TableView) (budget from phases renewal : ℕ) (renewals : List ℕ) (script : List Line) (first n : ℕ) (more rest : List Reply) (listed : List (Item kind)) (epoch : ℕ) → CutsSpan script first n renewal → IsFollowed kind set budget (take n (drop first script)) (renewal + 1 - from) more next → AreExplained kind (ArePlayed kind next.passes budget) next.start next.passes (renewal + 1) phases renewals (zip (drop (first + n) script) rest) listed epoch → AreExplained kind (ArePlayed kind set.passes budget) set.start set.passes from phases (renewal ∷ renewals) (zip (drop first script) (more ++ rest)) listed epoch
 goes_on {kind} set next budget from phases renewal renewals script first n more rest listed epoch cut followed explained =
     let slice = take n (drop first script) in
     let back = drop (first + n) script in
     let played = followed.played in
-    let opened = opened_with kind set.shape followed.listed in
-    let follows : (next.shape, next.passes) ≡ (opened, set.passes) = λ i. (followed.shape i, followed.passes i) in
-    let then : AreExplained kind (ArePlayed kind set.passes budget) opened set.passes (renewal + 1) phases renewals (zip back rest) listed epoch = subst (λ (k : Dimensions × ℕ). AreExplained kind (ArePlayed kind k.1 budget) k.0 k.1 (renewal + 1) phases renewals (zip back rest) listed epoch) follows explained in
+    let opened = opened_with kind set.start followed.listed in
+    let follows : (next.start, next.passes) ≡ (opened, set.passes) = λ i. (followed.start i, followed.passes i) in
+    let then : AreExplained kind (ArePlayed kind set.passes budget) opened set.passes (renewal + 1) phases renewals (zip back rest) listed epoch = subst (λ (k : Start × ℕ). AreExplained kind (ArePlayed kind k.1 budget) k.0 k.1 (renewal + 1) phases renewals (zip back rest) listed epoch) follows explained in
     let late : All (λ line. renewal < line.phase) back = λ k d inside. let high = all_from (renewal + 1) (renewal + 1) back (omega arith) cut.late k d inside in omega arith in
     let outcomes : zip (drop first script) (more ++ rest) ≡ zip slice more ++ zip back rest = ap (λ (lines : List Line). zip lines (more ++ rest)) cut.rest ∙ zip-append slice back more rest played.one_each in
-    subst (λ (some : List Outcome). AreExplained kind (ArePlayed kind set.passes budget) set.shape set.passes from phases (renewal ∷ renewals) some listed epoch) (sym outcomes)
-    (one_more_set kind (ArePlayed kind set.passes budget) set.shape set.passes from phases renewal renewals (zip slice more) (zip back rest) played.run followed.listed listed epoch (all_lines (λ (line : Line). line.phase ≤ renewal) slice more cut.early) (all_lines (λ (line : Line). renewal < line.phase) back rest late) played.of_set played.contents followed.opens then)
+    subst (λ (some : List Outcome). AreExplained kind (ArePlayed kind set.passes budget) set.start set.passes from phases (renewal ∷ renewals) some listed epoch) (sym outcomes)
+    (one_more_set kind (ArePlayed kind set.passes budget) set.start set.passes from phases renewal renewals (zip slice more) (zip back rest) played.run followed.listed listed epoch (all_lines (λ (line : Line). line.phase ≤ renewal) slice more cut.early) (all_lines (λ (line : Line). renewal < line.phase) back rest late) played.of_set played.contents followed.opens then)
 
 -- one more set was played
-pub one_more_played : {kind : Kind} (workers : ℕ) (shape : Dimensions) (budget : ℕ) (script : List Line) (renewals : List ℕ) (phases : ℕ) (set next : TableView) (first phase i n renewal : ℕ) (replies more : List Reply) → drop i renewals ≡ renewal ∷ drop (i + 1) renewals → first + n ≤ length script → CutsSpan script first n renewal → HavePlayedSets kind workers shape budget script renewals phases set first phase i replies → IsFollowed kind set budget (take (first + n - first) (drop first script)) (renewal + 1 - phase) more next → HavePlayedSets kind workers shape budget script renewals phases next (first + n) (renewal + 1) (i + 1) (replies ++ more)
-one_more_played {kind} workers shape budget script renewals phases set next first phase i n renewal replies more here inside cut so_far told =
+pub one_more_played : {kind : Kind} (workers : ℕ) (start : Start) (budget : ℕ) (script : List Line) (renewals : List ℕ) (phases : ℕ) (set next : TableView) (first phase i n renewal : ℕ) (replies more : List Reply) → drop i renewals ≡ renewal ∷ drop (i + 1) renewals → first + n ≤ length script → CutsSpan script first n renewal → HavePlayedSets kind workers start budget script renewals phases set first phase i replies → IsFollowed kind set budget (take (first + n - first) (drop first script)) (renewal + 1 - phase) more next → HavePlayedSets kind workers start budget script renewals phases next (first + n) (renewal + 1) (i + 1) (replies ++ more)
+one_more_played {kind} workers start budget script renewals phases set next first phase i n renewal replies more here inside cut so_far told =
     let followed : IsFollowed kind set budget (take n (drop first script)) (renewal + 1 - phase) more next = subst (λ (lines : List Line). IsFollowed kind set budget lines (renewal + 1 - phase) more next) (slice_of script first n) told in
     let slice : length (take n (drop first script)) ≡ n = length-take_inside script first n inside in
     let renewed : AreRenewalsFrom phase phases (renewal ∷ drop (i + 1) renewals) = subst (AreRenewalsFrom phase phases) here so_far.renewed in
@@ -152,20 +152,20 @@ one_more_played {kind} workers shape budget script renewals phases set next firs
       renewed = renewed.2;
       goes = λ rest listed epoch explained.
           let whole = goes_on set next budget phase phases renewal (drop (i + 1) renewals) script first n more rest listed epoch cut followed explained in
-          let here_too = subst (λ (some : List ℕ). AreExplained kind (ArePlayed kind set.passes budget) set.shape set.passes phase phases some (zip (drop first script) (more ++ rest)) listed epoch) (sym here) whole in
-          subst (λ (some : List Reply). AreExplained kind (ArePlayed kind workers budget) shape workers 0 phases renewals (zip script some) listed epoch) (sym (append_assoc replies more rest)) (so_far.goes (more ++ rest) listed epoch here_too);
+          let here_too = subst (λ (some : List ℕ). AreExplained kind (ArePlayed kind set.passes budget) set.start set.passes phase phases some (zip (drop first script) (more ++ rest)) listed epoch) (sym here) whole in
+          subst (λ (some : List Reply). AreExplained kind (ArePlayed kind workers budget) start workers 0 phases renewals (zip script some) listed epoch) (sym (append_assoc replies more rest)) (so_far.goes (more ++ rest) listed epoch here_too);
     }
   where
     length-take_inside : (lines : List Line) (first n : ℕ) → first + n ≤ length lines → length (take n (drop first lines)) ≡ n
     length-take_inside lines first n inside = omega (arith, length-take n (drop first lines), length-drop first lines)
 
 -- the last set was played
-pub all_sets : {kind : Kind} (workers : ℕ) (shape : Dimensions) (budget : ℕ) (script : List Line) (renewals : List ℕ) (phases : ℕ) (set : TableView) (first phase i : ℕ) (replies more : List Reply) (listed : List (Item kind)) (epoch : ℕ) → drop i renewals ≡ [] → HavePlayedSets kind workers shape budget script renewals phases set first phase i replies → HasPlayedSpan kind set budget (take (length script - first) (drop first script)) (phases - phase) more listed epoch → (length (replies ++ more) ≡ length script) × AreExplained kind (ArePlayed kind workers budget) shape workers 0 phases renewals (zip script (replies ++ more)) listed epoch
-all_sets {kind} workers shape budget script renewals phases set first phase i replies more listed epoch none so_far told =
+pub all_sets : {kind : Kind} (workers : ℕ) (start : Start) (budget : ℕ) (script : List Line) (renewals : List ℕ) (phases : ℕ) (set : TableView) (first phase i : ℕ) (replies more : List Reply) (listed : List (Item kind)) (epoch : ℕ) → drop i renewals ≡ [] → HavePlayedSets kind workers start budget script renewals phases set first phase i replies → HasPlayedSpan kind set budget (take (length script - first) (drop first script)) (phases - phase) more listed epoch → (length (replies ++ more) ≡ length script) × AreExplained kind (ArePlayed kind workers budget) start workers 0 phases renewals (zip script (replies ++ more)) listed epoch
+all_sets {kind} workers start budget script renewals phases set first phase i replies more listed epoch none so_far told =
     let played : HasPlayedSpan kind set budget (drop first script) (phases - phase) more listed epoch = subst (λ (lines : List Line). HasPlayedSpan kind set budget lines (phases - phase) more listed epoch) (rest_of script first) told in
-    let last = last_set kind (ArePlayed kind set.passes budget) set.shape set.passes phase phases (zip (drop first script) more) played.run listed epoch played.of_set played.contents played.last in (
+    let last = last_set kind (ArePlayed kind set.passes budget) set.start set.passes phase phases (zip (drop first script) more) played.run listed epoch played.of_set played.contents played.last in (
       (let inside = so_far.inside in omega (arith, length-append replies more, so_far.long, played.one_each, length-drop first script)),
-      so_far.goes more listed epoch (subst (λ (some : List ℕ). AreExplained kind (ArePlayed kind set.passes budget) set.shape set.passes phase phases some (zip (drop first script) more) listed epoch) (sym none) last),
+      so_far.goes more listed epoch (subst (λ (some : List ℕ). AreExplained kind (ArePlayed kind set.passes budget) set.start set.passes phase phases some (zip (drop first script) more) listed epoch) (sym none) last),
     )
 
 -- ---- a span's kind, budget and lines by other names

@@ -7,7 +7,7 @@ use Rattle.std.specs.Vec.{vec_capacity}
 use Rattle.std.proofs.Math.Nat.{mul-suc}
 use Rattle.std.proofs.lemmas.Bool.{cases_lt}
 use Rattle.std.proofs.lemmas.List.Elements.{All-nil, All-cons, All-head, All-tail, All-append}
-use Rattle.vbr_words.specs.Dimensions.{Dimensions}
+use Rattle.vbr_machine.specs.Start.{Start}
 use Rattle.vbr_machine.specs.Calls.{own_calls}
 use Rattle.vbr_machine.specs.History.{calls_by}
 use Rattle.vbr_machine.specs.Runs.{Begins, world_after}
@@ -68,7 +68,7 @@ played_more {N} {kind} set budget most script front slice w v has played =
     let had = has.room in let grows = played.room in
     record {
       set_is = played.set ∙ has.set_is;
-      of = (played.same.table ∙ has.of.0, played.same.shape ∙ has.of.1, played.same.passes ∙ has.of.2);
+      of = (played.same.table ∙ has.of.0, played.same.start ∙ has.of.1, played.same.passes ∙ has.of.2);
       one_each = now.0;
       calls = now.1;
       tells = now.2;
@@ -91,7 +91,7 @@ played_looks {N} {kind} set budget most more script lines v u has looks =
     let now = subst P are (has.one_each, quiet.calls ∙ has.calls, tells, has.room, in_turn, steps) in
     record {
       set_is = looks.looked.set ∙ has.set_is;
-      of = (quiet.same.table ∙ has.of.0, quiet.same.shape ∙ has.of.1, quiet.same.passes ∙ has.of.2);
+      of = (quiet.same.table ∙ has.of.0, quiet.same.start ∙ has.of.1, quiet.same.passes ∙ has.of.2);
       one_each = now.0;
       calls = now.1;
       tells = now.2;
@@ -178,27 +178,27 @@ none_between xs (call ∷ more) others ys front back =
     absurd (omega arith)
 
 -- the calls of a pass at a moment between two at which it has made the same calls
-calls_between : (shape : Dimensions) (who : ℕ) (before moment after : List Event) → Begins before moment → Begins moment after → own_calls shape after who ≡ own_calls shape before who → own_calls shape moment who ≡ own_calls shape before who
-calls_between shape who before moment after from to same =
-    let first = calls_begin shape before moment from in
-    let then = calls_begin shape moment after to in
-    let front : own_calls shape moment who ≡ own_calls shape before who ++ calls_by who first.0 = ap (calls_by who) first.1 ∙ calls_by-append who (world_after shape before).calls first.0 in
-    let back : own_calls shape after who ≡ own_calls shape moment who ++ calls_by who then.0 = ap (calls_by who) then.1 ∙ calls_by-append who (world_after shape moment).calls then.0 in
-    none_between (own_calls shape before who) (calls_by who first.0) (calls_by who then.0) (own_calls shape moment who) front (sym same ∙ back)
+calls_between : (start : Start) (who : ℕ) (before moment after : List Event) → Begins before moment → Begins moment after → own_calls start after who ≡ own_calls start before who → own_calls start moment who ≡ own_calls start before who
+calls_between start who before moment after from to same =
+    let first = calls_begin start before moment from in
+    let then = calls_begin start moment after to in
+    let front : own_calls start moment who ≡ own_calls start before who ++ calls_by who first.0 = ap (calls_by who) first.1 ∙ calls_by-append who (world_after start before).calls first.0 in
+    let back : own_calls start after who ≡ own_calls start moment who ++ calls_by who then.0 = ap (calls_by who) then.1 ∙ calls_by-append who (world_after start moment).calls then.0 in
+    none_between (own_calls start before who) (calls_by who first.0) (calls_by who then.0) (own_calls start moment who) front (sym same ∙ back)
 
 -- a worker that has met has called its lines at the moment of the meeting
-one_called : {N : Type 0} {kind : Kind} → (set : TableView) (budget most more : ℕ) (script lines : List Line) (moment : List Event) (v u : Worker N) (who : ℕ) → u.caller.pass.trace.who ≡ who → HasPlayed kind set budget most script lines u → HasSeenMore more v u → Begins v.caller.pass.trace.seen moment → Begins moment u.caller.pass.trace.seen → own_calls set.shape moment who ≡ answered_calls kind (zip (lines_by who lines) u.replies.items)
+one_called : {N : Type 0} {kind : Kind} → (set : TableView) (budget most more : ℕ) (script lines : List Line) (moment : List Event) (v u : Worker N) (who : ℕ) → u.caller.pass.trace.who ≡ who → HasPlayed kind set budget most script lines u → HasSeenMore more v u → Begins v.caller.pass.trace.seen moment → Begins moment u.caller.pass.trace.seen → own_calls set.start moment who ≡ answered_calls kind (zip (lines_by who lines) u.replies.items)
 one_called {N} {kind} set budget most more script lines moment v u who number has looks from to =
     let quiet = looks.looked.quiet in
-    let shape : u.caller.pass.trace.shape ≡ set.shape = has.of.1 in
-    let at_last : own_calls u.caller.pass.trace.shape u.caller.pass.trace.seen u.caller.pass.trace.who ≡ own_calls set.shape u.caller.pass.trace.seen who = ap₂ (λ (d : Dimensions) (k : ℕ). own_calls d u.caller.pass.trace.seen k) shape number in
-    let at_first : own_calls v.caller.pass.trace.shape v.caller.pass.trace.seen v.caller.pass.trace.who ≡ own_calls set.shape v.caller.pass.trace.seen who = ap₂ (λ (d : Dimensions) (k : ℕ). own_calls d v.caller.pass.trace.seen k) (sym quiet.same.shape ∙ shape) (sym quiet.same.who ∙ number) in
-    let same : own_calls set.shape u.caller.pass.trace.seen who ≡ own_calls set.shape v.caller.pass.trace.seen who = sym at_last ∙ quiet.calls ∙ at_first in
-    let then : own_calls set.shape u.caller.pass.trace.seen who ≡ answered_calls kind (zip (lines_by who lines) u.replies.items) = sym at_last ∙ has.calls ∙ ap (λ (k : ℕ). answered_calls kind (zip (lines_by k lines) u.replies.items)) number in
-    calls_between set.shape who v.caller.pass.trace.seen moment u.caller.pass.trace.seen from to same ∙ sym same ∙ then
+    let start : u.caller.pass.trace.start ≡ set.start = has.of.1 in
+    let at_last : own_calls u.caller.pass.trace.start u.caller.pass.trace.seen u.caller.pass.trace.who ≡ own_calls set.start u.caller.pass.trace.seen who = ap₂ (λ (d : Start) (k : ℕ). own_calls d u.caller.pass.trace.seen k) start number in
+    let at_first : own_calls v.caller.pass.trace.start v.caller.pass.trace.seen v.caller.pass.trace.who ≡ own_calls set.start v.caller.pass.trace.seen who = ap₂ (λ (d : Start) (k : ℕ). own_calls d v.caller.pass.trace.seen k) (sym quiet.same.start ∙ start) (sym quiet.same.who ∙ number) in
+    let same : own_calls set.start u.caller.pass.trace.seen who ≡ own_calls set.start v.caller.pass.trace.seen who = sym at_last ∙ quiet.calls ∙ at_first in
+    let then : own_calls set.start u.caller.pass.trace.seen who ≡ answered_calls kind (zip (lines_by who lines) u.replies.items) = sym at_last ∙ has.calls ∙ ap (λ (k : ℕ). answered_calls kind (zip (lines_by k lines) u.replies.items)) number in
+    calls_between set.start who v.caller.pass.trace.seen moment u.caller.pass.trace.seen from to same ∙ sym same ∙ then
 
 -- and so have all
-all_called : {N : Type 0} {kind : Kind} → (set : TableView) (budget most more : ℕ) (script lines : List Line) (moment : List Event) (n : ℕ) (vs us : List (Worker N)) → AreNumberedFrom n us → All (HasPlayed kind set budget most script lines) us → AllZip (HasSeenMore more) vs us → All (λ v. Begins v.caller.pass.trace.seen moment) vs → All (λ u. Begins moment u.caller.pass.trace.seen) us → (i : ℕ) → i < length us → own_calls set.shape moment (n + i) ≡ answered_calls kind (zip (lines_by (n + i) lines) (replies_by i (replies_of us)))
+all_called : {N : Type 0} {kind : Kind} → (set : TableView) (budget most more : ℕ) (script lines : List Line) (moment : List Event) (n : ℕ) (vs us : List (Worker N)) → AreNumberedFrom n us → All (HasPlayed kind set budget most script lines) us → AllZip (HasSeenMore more) vs us → All (λ v. Begins v.caller.pass.trace.seen moment) vs → All (λ u. Begins moment u.caller.pass.trace.seen) us → (i : ℕ) → i < length us → own_calls set.start moment (n + i) ≡ answered_calls kind (zip (lines_by (n + i) lines) (replies_by i (replies_of us)))
 all_called {N} {kind} set budget most more script lines moment n vs [] numbered played looks from to i inside = absurd (omega arith)
 all_called {N} {kind} set budget most more script lines moment n [] (u ∷ us) numbered played looks from to i inside = absurd looks
 all_called {N} {kind} set budget most more script lines moment n (v ∷ vs) (u ∷ us) numbered played looks from to zero inside =
@@ -206,7 +206,7 @@ all_called {N} {kind} set budget most more script lines moment n (v ∷ vs) (u �
     one_called set budget most more script lines moment v u (n + 0) number (All-head (HasPlayed kind set budget most script lines) u us played) looks.0 (All-head (λ (w : Worker N). Begins w.caller.pass.trace.seen moment) v vs from) (All-head (λ (w : Worker N). Begins moment w.caller.pass.trace.seen) u us to)
 all_called {N} {kind} set budget most more script lines moment n (v ∷ vs) (u ∷ us) numbered played looks from to (suc i) inside =
     let same : suc n + i ≡ n + suc i = omega arith in
-    subst (λ (k : ℕ). own_calls set.shape moment k ≡ answered_calls kind (zip (lines_by k lines) (replies_by i (replies_of us)))) same
+    subst (λ (k : ℕ). own_calls set.start moment k ≡ answered_calls kind (zip (lines_by k lines) (replies_by i (replies_of us)))) same
     (all_called set budget most more script lines moment (suc n) vs us numbered.1 (All-tail (HasPlayed kind set budget most script lines) u us played) looks.1 (All-tail (λ (w : Worker N). Begins w.caller.pass.trace.seen moment) v vs from) (All-tail (λ (w : Worker N). Begins moment w.caller.pass.trace.seen) u us to) i (omega arith))
 
 -- a worker has as many replies as lines
@@ -232,7 +232,7 @@ has_ended {N} {kind} set budget most script lines phase vs us are numbered playe
           omega arith;
       called = λ who inside.
           let zero_who : 0 + who ≡ who = omega arith in
-          subst (λ (k : ℕ × List Line). own_calls set.shape meets.moment k.0 ≡ answered_calls kind (zip (lines_by k.0 k.1) (replies_by who (replies_of us)))) (λ i. (zero_who i, sym are i)) (all_called set budget most (length vs - 1) script lines meets.moment 0 vs us numbered played meets.looks meets.from meets.to who inside);
+          subst (λ (k : ℕ × List Line). own_calls set.start meets.moment k.0 ≡ answered_calls kind (zip (lines_by k.0 k.1) (replies_by who (replies_of us)))) (λ i. (zero_who i, sym are i)) (all_called set budget most (length vs - 1) script lines meets.moment 0 vs us numbered played meets.looks meets.from meets.to who inside);
     }
 
 -- ---- the next phase

@@ -29,9 +29,9 @@ tells_on kind op (Value value) same seen told = told
 tells_on kind op No same seen told = tt
 tells_on kind op Full same seen told = told
 tells_on {q} {r} kind op Spent same seen told =
-    let grows = epoch_begins q.shape q.seen r.seen seen in
+    let grows = epoch_begins q.start q.seen r.seen seen in
     let come = told.1 in
-    (told.0, rw same.shape (omega arith))
+    (told.0, rw same.start (omega arith))
 tells_on kind op Tired same seen told = tt
 
 -- all that replies told stays so

@@ -1,6 +1,6 @@
 -- How the lines of a script are called on a set or a map, what that costs, and what each reply means.
 use Rattle.std.specs.Prelude.{◌≡◌, ◌≢◌, ℕ, zero, suc, ◌+◌, ◌-◌, ◌*◌, ◌<◌, ◌≤◌, Bool, true, false, List, [], ◌∷◌, length, All, Option, Some, None, Result, Ok, Err}
-use Rattle.vbr_words.specs.Dimensions.{Dimensions}
+use Rattle.vbr_machine.specs.Start.{Start}
 use Rattle.vbr_machine.specs.Runs.{BeginsFor}
 use Rattle.vbr_machine.specs.declared.event.Event.{Event}
 use Rattle.vbr_machine.specs.declared.history.Op.{Op}
@@ -65,14 +65,14 @@ pub record PlaysOwn (kind : Kind) (set : TableView) (budget : ℕ) (outcomes : L
   pub seen : BeginsFor who last.pass.trace.seen run
 
 -- a budget that suffices each call of a lone worker, even where each slot has a node of the key's bucket
-abbrev pub ample : Dimensions → ℕ
-ample shape = enough_past shape.slots (most_to_take shape [])
+abbrev pub ample : Start → ℕ
+ample start = enough_past start.shape.slots (most_to_take start [])
 
 -- workers played outcomes on a set or a map, in so many phases: each played its own, and made no more steps than the budget for each of them, and one for each phase and other worker; and none was refused to a lone worker for want of steps, where the budget is ample
-pub record ArePlayed (kind : Kind) (workers budget : ℕ) (shape : Dimensions) (phases : ℕ) (outcomes : List Outcome) (run : List Event) : Type 0 where
+pub record ArePlayed (kind : Kind) (workers budget : ℕ) (start : Start) (phases : ℕ) (outcomes : List Outcome) (run : List Event) : Type 0 where
   pub set : TableView
-  pub shaped : set.shape ≡ shape
+  pub shaped : set.start ≡ start
   pub counted : set.passes ≡ workers
   pub own : (who : ℕ) → who < workers → PlaysOwn kind set budget (outcomes_by who outcomes) run who
   pub steps : (who : ℕ) → who < workers → steps_in who run ≤ budget * length (outcomes_by who outcomes) + (workers - 1) * phases
-  pub untired : workers ≡ 1 → ample shape ≤ budget → All (λ outcome. outcome.1 ≢ Tired) outcomes
+  pub untired : workers ≡ 1 → ample start ≤ budget → All (λ outcome. outcome.1 ≢ Tired) outcomes

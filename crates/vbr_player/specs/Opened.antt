@@ -29,7 +29,7 @@ passes_in (opened.Map map passes) = passes.items
 pub record IsFresh (opened : Opened) : Type 0 where
   pub passes : passes_in opened ≡ new_passes (table_of opened) 0 (table_of opened).passes
   pub some : 0 < (table_of opened).passes
-  pub values : (table_of opened).shape.values ≡ is_map (kind_of opened)
+  pub values : (table_of opened).start.shape.values ≡ is_map (kind_of opened)
 
 -- the kind of what was closed
 abbrev pub ended_kind : Ended → Kind

@@ -1,7 +1,9 @@
 -- What the player does with a reader and a writer.
-use Rattle.std.specs.Prelude.{◌≡◌, ℕ, true, List, Option, Some, None, Result, Ok, Err}
+use Rattle.std.specs.Prelude.{◌≡◌, ℕ, List, [], Option, Some, None, Result, Ok, Err}
 use Rattle.std.specs.Io.KnownBytes.{Keeps, Appends}
 use Rattle.vbr_words.specs.Dimensions.{Dimensions}
+use Rattle.vbr_machine.specs.Start.{Start, set_start}
+use Rattle.vbr_machine.specs.Maps.{map_start}
 use Rattle.vbr_script.specs.Scripts.{first_fault, phases_of, renewals_of, script_of}
 use Rattle.vbr_script.specs.declared.script.Kind.{Kind}
 use Rattle.vbr_script.specs.declared.script.Kind.TheVariants.{Set, Map}
@@ -16,16 +18,16 @@ use Rattle.vbr_transcript.specs.declared.error.RunError.{RunError}
 use Rattle.vbr_transcript.specs.declared.error.RunError.TheVariants as error
 use Rattle.vbr_settings.specs.Settings.{Settings}
 
--- the shape of the set that a script is played on, or of the map, whose nodes have values
-abbrev pub shape_of : Kind → Dimensions → Dimensions
-shape_of Set shape = shape
-shape_of Map shape = record shape { values = true }
+-- what a set, or a map, starts with that a script is played on: it is empty
+abbrev pub start_of : Kind → Dimensions → Start
+start_of Set shape = set_start shape []
+start_of Map shape = map_start shape []
 
 -- the text is a script of this kind for the workers, and the output is the layout of a run of it with these totals, which they played with the budget
 abbrev pub Prints : (kind : Kind) → Settings → List ℕ → TotalsOf kind → List ℕ → Type 0
 Prints kind settings text totals output =
     (replies : List Reply) × (first_fault kind settings.workers text ≡ None)
-    × IsScriptRun kind (ArePlayed kind settings.workers settings.budget) (shape_of kind settings.shape) settings.workers (phases_of kind settings.workers text) (renewals_of kind settings.workers text) (script_of kind settings.workers text) replies totals
+    × IsScriptRun kind (ArePlayed kind settings.workers settings.budget) (start_of kind settings.shape) settings.workers (phases_of kind settings.workers text) (renewals_of kind settings.workers text) (script_of kind settings.workers text) replies totals
     × (output ≡ layout_of kind settings.epoch replies totals)
 
 -- want of memory, or of a thread for a worker

@@ -29,15 +29,15 @@ pub record PlayedSpan (kind : Kind) (N : Type 0) (set : TableView) (budget : ℕ
 pub record HasPlayedSpan (kind : Kind) (set : TableView) (budget : ℕ) (lines : List Line) (phases : ℕ) (replies : List Reply) (listed : List (Item kind)) (epoch : ℕ) : Type 0 where
   pub one_each : length replies ≡ length lines
   pub run : List Event
-  pub of_set : IsSetRun kind (ArePlayed kind set.passes budget) set.shape set.passes phases (zip lines replies) run
-  pub contents : AreContents kind listed (contents_after kind (opening_contents kind set.shape) (world_after set.shape run).calls)
-  pub last : epoch ≡ (world_after set.shape run).epoch
+  pub of_set : IsSetRun kind (ArePlayed kind set.passes budget) set.start set.passes phases (zip lines replies) run
+  pub contents : AreContents kind listed (contents_after kind (opening_contents kind set.start) (world_after set.start run).calls)
+  pub last : epoch ≡ (world_after set.start run).epoch
 
 -- a set or a map has played lines, in so many phases, with these replies, and another follows it, which has as many passes, opened with what is listed, and so has what was left
 pub record IsFollowed (kind : Kind) (set : TableView) (budget : ℕ) (lines : List Line) (phases : ℕ) (replies : List Reply) (next : TableView) : Type 0 where
   pub listed : List (Item kind)
   pub epoch : ℕ
   pub played : HasPlayedSpan kind set budget lines phases replies listed epoch
-  pub shape : next.shape ≡ opened_with kind set.shape listed
-  pub opens : opening_contents kind (opened_with kind set.shape listed) ≡ contents_after kind (opening_contents kind set.shape) (world_after set.shape played.run).calls
+  pub start : next.start ≡ opened_with kind set.start listed
+  pub opens : opening_contents kind (opened_with kind set.start listed) ≡ contents_after kind (opening_contents kind set.start) (world_after set.start played.run).calls
   pub passes : next.passes ≡ set.passes

@@ -41,7 +41,7 @@ pub record HasEnded {N : Type 0} (kind : Kind) (set : TableView) (script : List 
   pub seen : List Event
   pub begins : All (λ worker. Begins seen worker.caller.pass.trace.seen) workers
   pub replied : (who : ℕ) → who < length workers → length (lines_by who (lines_up_to phase script)) ≤ length (replies_by who (replies_of workers))
-  pub called : HaveCalled kind set.shape (length workers) (lines_up_to phase script) (replies_of workers) seen
+  pub called : HaveCalled kind set.start (length workers) (lines_up_to phase script) (replies_of workers) seen
 
 -- so many workers have played the first lines of a script, which are those of its first phases, one phase after the other, from one on, and in each made a step for each other worker at most, beside their calls
 pub record Stand {N : Type 0} (kind : Kind) (set : TableView) (budget : ℕ) (script lines : List Line) (count from phases : ℕ) (workers : List (Worker N)) : Type 0 where

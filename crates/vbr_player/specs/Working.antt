@@ -26,7 +26,7 @@ abbrev pub TellsReply : Kind → Trace → Op → Reply → Type 0
 TellsReply kind q op Yes = gives_value kind op ≡ false
 TellsReply kind q op (Value value) = gives_value kind op ≡ true
 TellsReply kind q op Full = op ≡ Insert
-TellsReply kind q op Spent = (op ≡ Insert) × (q.shape.last_epoch ≤ (world_after q.shape q.seen).epoch)
+TellsReply kind q op Spent = (op ≡ Insert) × (q.start.shape.last_epoch ≤ (world_after q.start q.seen).epoch)
 TellsReply kind q op _ = Unit {0}
 
 -- a worker has room for a reply to each of its own lines among these

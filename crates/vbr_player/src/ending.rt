@@ -55,7 +55,7 @@ pub fn renew_map(
 ) -> Result<(VbrMap, Vec<Pass>), RunError>
     requires all { AllOf map passes.items }
     requires count { length passes.items ≡ map.passes }
-    requires values { map.shape.values ≡ true }
+    requires values { map.start.shape.values ≡ true }
     ensures renewed { IfOk result (λ next. RenewsAs Map map passes.items next.0) }
     ensures passes { IfOk result (λ next. next.1.items ≡ new_passes next.0 0 next.0.passes) }
     ensures memory { IfErr result (λ error. error ≡ RunError.Memory) }

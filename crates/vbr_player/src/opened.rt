@@ -1,7 +1,9 @@
 // What a script is played on, a set or a map: how it is opened.
-ghost use Rattle.std.specs.Prelude.{◌≡◌, true, IfOk, IfErr};
+ghost use Rattle.std.specs.Prelude.{◌≡◌, [], IfOk, IfErr};
+ghost use Rattle.vbr_machine.specs.Start.{set_start};
+ghost use Rattle.vbr_machine.specs.Maps.{map_start};
 ghost use Rattle.vbr_player.specs.Opened.{IsFresh, kind_of, table_of};
-ghost use Rattle.vbr_player.specs.Playing.{shape_of};
+ghost use Rattle.vbr_player.specs.Playing.{start_of};
 
 use std::alloc::Global;
 use vbr_script::Kind;
@@ -30,8 +32,8 @@ pub enum Ended {
 // Opens an empty set or map, with a pass for each worker.
 pub fn open(alloc: Global, kind: Kind, config: &Config) -> Result<Opened, RunError>
     ensures kind { IfOk result (λ opened. kind_of opened ≡ kind) }
-    ensures shape { IfOk result (λ opened.
-        (table_of opened).shape ≡ shape_of kind config.now.shape) }
+    ensures start { IfOk result (λ opened.
+        (table_of opened).start ≡ start_of kind config.now.shape) }
     ensures count { IfOk result (λ opened. (table_of opened).passes ≡ config.now.workers) }
     ensures fresh { IfOk result IsFresh }
     ensures memory { IfErr result (λ error. error ≡ RunError.Memory) }
@@ -45,7 +47,8 @@ pub fn open(alloc: Global, kind: Kind, config: &Config) -> Result<Opened, RunErr
 // Opens an empty set.
 fn open_set(alloc: Global, config: &Config) -> Result<Opened, RunError>
     ensures kind { IfOk result (λ opened. kind_of opened ≡ Kind.Set) }
-    ensures shape { IfOk result (λ opened. (table_of opened).shape ≡ config.now.shape) }
+    ensures start { IfOk result (λ opened.
+        (table_of opened).start ≡ set_start config.now.shape []) }
     ensures count { IfOk result (λ opened. (table_of opened).passes ≡ config.now.workers) }
     ensures fresh { IfOk result IsFresh }
     ensures memory { IfErr result (λ error. error ≡ RunError.Memory) }
@@ -60,8 +63,8 @@ fn open_set(alloc: Global, config: &Config) -> Result<Opened, RunError>
 // Opens an empty map.
 fn open_map(alloc: Global, config: &Config) -> Result<Opened, RunError>
     ensures kind { IfOk result (λ opened. kind_of opened ≡ Kind.Map) }
-    ensures shape { IfOk result (λ opened.
-        (table_of opened).shape ≡ record config.now.shape { values = true }) }
+    ensures start { IfOk result (λ opened.
+        (table_of opened).start ≡ map_start config.now.shape []) }
     ensures count { IfOk result (λ opened. (table_of opened).passes ≡ config.now.workers) }
     ensures fresh { IfOk result IsFresh }
     ensures memory { IfErr result (λ error. error ≡ RunError.Memory) }

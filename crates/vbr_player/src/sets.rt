@@ -6,7 +6,7 @@ ghost use Rattle.vbr_transcript.specs.Runs.{AreExplained};
 ghost use Rattle.vbr_player.specs.Calling.{ArePlayed};
 ghost use Rattle.vbr_player.specs.Opened.{IsFresh, kind_of, table_of};
 ghost use Rattle.vbr_player.specs.Opened.{ended_kind, epoch_of, listed_as};
-ghost use Rattle.vbr_player.specs.Playing.{IsWant, shape_of};
+ghost use Rattle.vbr_player.specs.Playing.{IsWant, start_of};
 ghost use Rattle.vbr_player.specs.Spans.{HasPlayedSpan, IsFollowed, IsSpan};
 
 use crate::ending::{close_map, close_set, renew_map, renew_set};
@@ -38,7 +38,7 @@ pub fn play_sets<R: Threads + Wait, G: Gate + Sync>(
         (λ ended. length ended.0.items ≡ length script.now.lines.items) }
     ensures kind { IfOk result (λ ended. ended_kind ended.1 ≡ kind) }
     ensures explained { IfOk result (λ ended. AreExplained kind
-        (ArePlayed kind config.now.workers config.now.budget) (shape_of kind config.now.shape)
+        (ArePlayed kind config.now.workers config.now.budget) (start_of kind config.now.shape)
         config.now.workers 0 script.now.phases script.now.renewals.items
         (zip script.now.lines.items ended.0.items) (listed_as kind ended.1) (epoch_of ended.1)) }
     ensures fault { IfErr result IsWant }

@@ -4,7 +4,7 @@ use Rattle.std.specs.Prelude.{◌⊎◌, Contains, count_by}
 use Rattle.std.proofs.lemmas.Bool.{cases_eq, ne_eqb}
 use Rattle.std.proofs.lemmas.List.Elements.{Contains-append_left, Contains-append_right}
 use Rattle.std.proofs.lemmas.List.Sums.{sum_by-append}
-use Rattle.vbr_words.specs.Dimensions.{Dimensions}
+use Rattle.vbr_machine.specs.Start.{Start}
 use Rattle.vbr_words.specs.Flags.{has_flag}
 use Rattle.vbr_words.specs.declared.link.Link.{Link}
 use Rattle.vbr_machine.specs.Put.{put}
@@ -372,19 +372,19 @@ module _ {step : Step} {p q r : PassView} {slot n : ℕ} (d : Did step p.trace q
 -- steps before the one that would advance the epoch
 pub once_after : {p q r : PassView} → Quiet p.trace q.trace → TakesNoSlot p q → AdvancesOnce q r → AdvancesOnce p r
 once_after {p} {q} {r} a none b =
-    let all = subst (λ (x : Dimensions × ℕ). (s : ℕ) → CouldTake q (know_after x.0 b.moment x.1) s → b.epoch ≤ stamp_in ((know_after x.0 b.moment x.1).own s)) (λ i. (a.same.shape i, a.same.who i)) b.stamps in
+    let all = subst (λ (x : Start × ℕ). (s : ℕ) → CouldTake q (know_after x.0 b.moment x.1) s → b.epoch ≤ stamp_in ((know_after x.0 b.moment x.1).own s)) (λ i. (a.same.start i, a.same.who i)) b.stamps in
     record {
       count = b.count ∙ ap (λ (n : ℕ). n + 1) none.count;
       moment = b.moment;
       is = moment_after a.seen b.is;
       epoch = b.epoch;
-      last_read = (λ i. (know_after (sym a.same.shape i) b.moment (sym a.same.who i)).epoch) ∙ b.last_read;
+      last_read = (λ i. (know_after (sym a.same.start i) b.moment (sym a.same.who i)).epoch) ∙ b.last_read;
       advance = subst (λ (who : ℕ). Begins (b.moment ++ event_of who (Advance b.epoch) ∷ []) r.trace.seen) a.same.who b.advance;
       stamps = λ s h. all s (h.0, λ m. none.kept.free s (m, h.1));
     }
 
 -- and after it
-pub once_before : {p q r : PassView} → AdvancesOnce p q → Begins q.trace.seen r.trace.seen → (IsRun q.trace.shape q.trace.passes q.trace.seen → IsRun r.trace.shape r.trace.passes r.trace.seen) → advances r.trace ≡ advances q.trace → AdvancesOnce p r
+pub once_before : {p q r : PassView} → AdvancesOnce p q → Begins q.trace.seen r.trace.seen → (IsRun q.trace.start q.trace.passes q.trace.seen → IsRun r.trace.start r.trace.passes r.trace.seen) → advances r.trace ≡ advances q.trace → AdvancesOnce p r
 once_before {p} {q} {r} a seen run same = record {
   count = same ∙ a.count;
   moment = a.moment;
@@ -398,7 +398,7 @@ once_before {p} {q} {r} a seen run same = record {
 -- the one step itself
 pub once : {p q : PassView} {from r : ℕ} → Did (Advance from) p.trace q.trace r → (knows p.trace).epoch ≡ from → ((s : ℕ) → HasSlot p s → from ≤ stamp_in ((knows p.trace).own s)) → AdvancesOnce p q
 once {p} {q} {from} d last stamps =
-    let left = others_leave_know p.trace.shape p.trace.seen d.rest p.trace.who d.none in
+    let left = others_leave_know p.trace.start p.trace.seen d.rest p.trace.who d.none in
     record {
       count = did_advances d;
       moment = p.trace.seen ++ d.rest;
@@ -414,6 +414,6 @@ pub needed_after : {p q r : PassView} → Quiet p.trace q.trace → TakesNoSlot 
 needed_after a none (inl still) = inl (still ∙ none.count)
 needed_after {p} {q} {r} a none (inr o) = inr (once_after {p = p} {q = q} {r = r} a none o)
 
-pub needed_before : {p q r : PassView} → AdvancesWhereNeeded p q → Begins q.trace.seen r.trace.seen → (IsRun q.trace.shape q.trace.passes q.trace.seen → IsRun r.trace.shape r.trace.passes r.trace.seen) → advances r.trace ≡ advances q.trace → AdvancesWhereNeeded p r
+pub needed_before : {p q r : PassView} → AdvancesWhereNeeded p q → Begins q.trace.seen r.trace.seen → (IsRun q.trace.start q.trace.passes q.trace.seen → IsRun r.trace.start r.trace.passes r.trace.seen) → advances r.trace ≡ advances q.trace → AdvancesWhereNeeded p r
 needed_before (inl none) seen run same = inl (same ∙ none)
 needed_before {p} {q} {r} (inr o) seen run same = inr (once_before {p = p} {q = q} {r = r} o seen run same)

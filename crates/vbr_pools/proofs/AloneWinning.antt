@@ -1,6 +1,6 @@
 -- The shared pool, probed by a pass that is alone: it finds each flag word as it stood, and wins the first flag that it has seen set.
 use Rattle.std.proofs.Common.{◌≡◌, ℕ, ◌+◌, ◌*◌, ◌≤◌, Bool, true, false, cond, List, ◌++◌, sym, ap, ◌∙◌, subst, ◌⊎◌, inl, inr, ⊎_elim, arith}
-use Rattle.vbr_words.specs.Dimensions.{Dimensions}
+use Rattle.vbr_machine.specs.Start.{Start}
 use Rattle.vbr_words.specs.Flags.{word_of_flag, has_flag, IsNextFlag}
 use Rattle.vbr_words.specs.declared.place.Place.TheVariants as place
 use Rattle.vbr_machine.specs.Machine.{World, word_at, found}
@@ -15,7 +15,7 @@ use Rattle.vbr_pools.proofs.Moments.{flag_shown}
 
 -- the flag word of a slot, in what the pass has seen
 abbrev pub flags_seen : Trace → ℕ → ℕ
-flags_seen q s = found q.shape (world_after q.shape q.seen) (TakeFlag s)
+flags_seen q s = found q.start (world_after q.start q.seen) (TakeFlag s)
 
 -- so many probes were made since the word `from`, with so many words before slot 0 of this turn: no more than one for each word before that of the next slot, and one more where its flag was seen set in that word
 abbrev pub Probed : Trace → ℕ → ℕ → ℕ → ℕ → Type 0
@@ -24,7 +24,7 @@ Probed q from turn used next = (from + used ≤ turn + word_of_flag next) ⊎ ((
 module _ {q r : Trace} {slot n : ℕ} (d : Did (TakeFlag slot) q r n) (alone : IsAlone q r) (lost : has_flag n slot ≡ false) where
   -- the word that was found is the one that the pass had seen
   word_seen : n ≡ flags_seen q slot
-  word_seen = word_told slot n (found q.shape (world_after q.shape (q.seen ++ d.rest)) (TakeFlag slot)) (flag_shown d) lost ∙ ap (λ (l : List Event). found q.shape (world_after q.shape l) (TakeFlag slot)) (before_it d alone)
+  word_seen = word_told slot n (found q.start (world_after q.start (q.seen ++ d.rest)) (TakeFlag slot)) (flag_shown d) lost ∙ ap (λ (l : List Event). found q.start (world_after q.start l) (TakeFlag slot)) (before_it d alone)
 
   unset : has_flag (flags_seen q slot) slot ≡ false
   unset = subst (λ (w : ℕ). has_flag w slot ≡ false) word_seen lost
@@ -33,18 +33,18 @@ module _ {q r : Trace} {slot n : ℕ} (d : Did (TakeFlag slot) q r n) (alone : I
   else_kept t a b e = ap (λ (u : Bool). cond u a b) e
 
   -- a flag that is lost leaves the world as it was
-  world_kept : world_after r.shape r.seen ≡ world_after q.shape q.seen
+  world_kept : world_after r.start r.seen ≡ world_after q.start q.seen
   world_kept =
-      ap (λ (shape : Dimensions). world_after shape r.seen) d.same.1
-      ∙ ap (world_after q.shape) (seen_next d alone)
-      ∙ world_after-snoc q.shape q.seen (event_of q.who (TakeFlag slot))
-      ∙ else_kept (has_flag (flags_seen q slot) slot) _ (world_after q.shape q.seen) unset
+      ap (λ (start : Start). world_after start r.seen) d.same.1
+      ∙ ap (world_after q.start) (seen_next d alone)
+      ∙ world_after-snoc q.start q.seen (event_of q.who (TakeFlag slot))
+      ∙ else_kept (has_flag (flags_seen q slot) slot) _ (world_after q.start q.seen) unset
 
   flags_kept : (s : ℕ) → flags_seen r s ≡ flags_seen q s
-  flags_kept s = ap (λ (shape : Dimensions). found shape (world_after r.shape r.seen) (TakeFlag s)) d.same.1 ∙ ap (λ (w : World). found q.shape w (TakeFlag s)) world_kept
+  flags_kept s = ap (λ (start : Start). found start (world_after r.start r.seen) (TakeFlag s)) d.same.1 ∙ ap (λ (w : World). found q.start w (TakeFlag s)) world_kept
 
   same_word : (s : ℕ) → word_of_flag s ≡ word_of_flag slot → flags_seen q s ≡ flags_seen q slot
-  same_word s e = ap (λ (number : ℕ). word_at q.shape (world_after q.shape q.seen) (place.Flags number)) e
+  same_word s e = ap (λ (number : ℕ). word_at q.start (world_after q.start q.seen) (place.Flags number)) e
 
   -- a flag that is lost is the first that was tried in its word
   pub probed_lost : (from turn used : ℕ) → Probed q from turn used slot → from + used ≤ turn + word_of_flag slot

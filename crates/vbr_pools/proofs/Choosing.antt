@@ -2,7 +2,7 @@
 use Rattle.std.proofs.Common.{◌≡◌, ◌≢◌, ℕ, ◌+◌, ◌<◌, ◌≤◌, List, [], ◌∷◌, length, get_or, Option, Some, None, refl, sym, ap, ◌∙◌, subst, inl, inr, arith}
 use Rattle.std.specs.Prelude.{Contains}
 use Rattle.std.proofs.lemmas.List.Elements.{All-contains, Contains-get_or}
-use Rattle.vbr_words.specs.Dimensions.{IsShape}
+use Rattle.vbr_machine.specs.Start.{IsStart}
 use Rattle.vbr_machine.specs.Acceptance.{MayBear, stamp_in}
 use Rattle.vbr_machine.specs.Knowledge.{Know}
 use Rattle.vbr_machine.specs.declared.event.Step.TheVariants.{ReadEpoch, Advance}
@@ -98,14 +98,14 @@ module _ (p q r : PassView) (e budget used : ℕ) (read : Did ReadEpoch p.trace 
 
     module _ (none : found ≡ None) (law : PassLaw r) where
       may : (slot : ℕ) → Contains r.pool slot → MayBear ((knows r.trace).own slot)
-      may slot has = (All-contains (IsPooled r.trace.shape (knows r.trace)) r.pool slot law.own.pooled has).1
+      may slot has = (All-contains (IsPooled r.trace.start (knows r.trace)) r.pool slot law.own.pooled has).1
 
       high : (slot : ℕ) → Contains r.pool slot → e ≤ stamp_in ((knows r.trace).own slot)
       high slot has = All-contains (λ (s : ℕ). e ≤ stamp_in ((knows r.trace).own s)) r.pool slot (subst (IsStampedBelow r e) none scanned.below) has
 
       low : (slot : ℕ) → Contains r.pool slot → stamp_in ((knows r.trace).own slot) ≤ e
       low slot has =
-          subst (λ (k : Know). MayBear (k.own slot) → stamp_in (k.own slot) ≤ e) (sym scans.known) (stamps_low read (subst IsShape scans.quiet.same.shape law.shape) slot) (may slot has)
+          subst (λ (k : Know). MayBear (k.own slot) → stamp_in (k.own slot) ≤ e) (sym scans.known) (stamps_low read (subst IsStart scans.quiet.same.start law.start) slot) (may slot has)
 
       stamped : AllStamped r e
       stamped k d less = let has = Contains-get_or r.pool k d less in let h = high (get_or r.pool k d) has in let l = low (get_or r.pool k d) has in omega arith
@@ -113,13 +113,13 @@ module _ (p q r : PassView) (e budget used : ℕ) (read : Did ReadEpoch p.trace 
       some_then : p.pool ≢ [] → r.pool ≢ []
       some_then some none = some (sym keeps_then.0 ∙ none)
 
-      pub spent_then : p.pool ≢ [] → e ≡ r.trace.shape.last_epoch → since + PIECE ≤ budget → ChoosesNone p r budget used (EpochSpent e, since)
+      pub spent_then : p.pool ≢ [] → e ≡ r.trace.start.shape.last_epoch → since + PIECE ≤ budget → ChoosesNone p r budget used (EpochSpent e, since)
       spent_then some last left = record { uses = uses; why = (record { last = last; last_read = last_read; some = some_then some; stamped = stamped }, left) }
 
       -- and the epoch was advanced, and read again
       module _ (s t : PassView) (n f : ℕ) (advance : Did (Advance e) r.trace s.trace n) (again : Did ReadEpoch s.trace t.trace f) (keeps : KeepsPool r s) (still : KeepsPool s t) (empty : p.hand ≡ None) where
         rises : e < f
-        rises = read_above law.shape advance again last_read
+        rises = read_above law.start advance again last_read
 
         stamps_since : (slot : ℕ) → stamp_in ((knows t.trace).own slot) ≡ stamp_in ((knows s.trace).own slot)
         stamps_since slot = stamps_reread again slot

@@ -1,7 +1,7 @@
 -- Epochs and stamps along a run: the epoch only rises, no stamp is above it, and each epoch that a pass has read is at least 1 and no greater than the last.
 use Rattle.std.proofs.Common.{◌≡◌, ◌≢◌, ℕ, ◌≤◌, ◌==◌, true, false, List, [], ◌∷◌, ◌++◌, refl, sym, ap, ◌∙◌, subst, ⊎_elim, arith}
 use Rattle.std.proofs.lemmas.Bool.{cases_Bool, cases_eq}
-use Rattle.vbr_words.specs.Dimensions.{Dimensions, IsShape}
+use Rattle.vbr_machine.specs.Start.{Start, IsStart}
 use Rattle.vbr_words.specs.Words.{word_of}
 use Rattle.vbr_words.specs.declared.place.At.TheVariants.{Head, Slot}
 use Rattle.vbr_words.specs.Flags.{has_flag}
@@ -41,111 +41,111 @@ same_epoch_and_stamps : (w v : World) → epoch_and_stamps v ≡ epoch_and_stamp
 same_epoch_and_stamps w v e t = subst (λ (x : ℕ × (ℕ → ℕ)). (w.epoch ≤ x.0) × ((s : ℕ) → x.1 s ≤ x.0)) (sym e) (omega arith, t.stamps)
 
 -- one step advances the epoch by 1 or leaves it, and stamps with no greater one
-later : (shape : Dimensions) (w : World) (p : ℕ) (step : Step) → IsTimely w → (w.know p).epoch ≤ w.epoch → Accepts shape (w.know p) step → Later w (after shape w p step)
-later shape w p ReadEpoch t low ok = same_epoch_and_stamps w (after shape w p ReadEpoch) refl t
-later shape w p (Advance from) t low ok =
+later : (start : Start) (w : World) (p : ℕ) (step : Step) → IsTimely w → (w.know p).epoch ≤ w.epoch → Accepts start (w.know p) step → Later w (after start w p step)
+later start w p ReadEpoch t low ok = same_epoch_and_stamps w (after start w p ReadEpoch) refl t
+later start w p (Advance from) t low ok =
     ⊎_elim (λ (x : (w.epoch == from) ≡ true). rw x (omega arith, λ s. let y = t.stamps s in omega arith)) (λ (x : (w.epoch == from) ≡ false). rw x (omega arith, t.stamps)) (cases_Bool (w.epoch == from))
-later shape w p (LoadStamp s) t low ok = same_epoch_and_stamps w w refl t
-later shape w p (StoreStamp s stamp) t low ok = (
+later start w p (LoadStamp s) t low ok = same_epoch_and_stamps w w refl t
+later start w p (StoreStamp s stamp) t low ok = (
   omega arith,
   λ v. ⊎_elim (λ (x : v ≡ s). subst (λ (n : ℕ). n ≤ w.epoch) (sym (ap (put w.stamp s stamp) x ∙ put_here w.stamp s stamp)) (let e = ok.in_range.1 in omega arith)) (λ (x : v ≢ s). subst (λ (n : ℕ). n ≤ w.epoch) (sym (put_other w.stamp s stamp v x)) (t.stamps v)) (cases_eq v s),
 )
-later shape w p (Raise s) t low ok = same_epoch_and_stamps w (after shape w p (Raise s)) refl t
-later shape w p (TakeFlag s) t low ok = same_epoch_and_stamps w (after shape w p (TakeFlag s)) (by_both (has_flag (found shape w (TakeFlag s)) s) epoch_and_stamps _ w (epoch_and_stamps w) refl refl) t
-later shape w p (StoreBirth s birth) t low ok = same_epoch_and_stamps w (after shape w p (StoreBirth s birth)) refl t
-later shape w p (StoreKey s key) t low ok = same_epoch_and_stamps w (after shape w p (StoreKey s key)) refl t
-later shape w p (StoreValue s value) t low ok = same_epoch_and_stamps w (after shape w p (StoreValue s value)) refl t
-later shape w p (StoreLink s next) t low ok = same_epoch_and_stamps w (after shape w p (StoreLink s next)) refl t
-later shape w p (LoadLink at) t low ok = same_epoch_and_stamps w (after shape w p (LoadLink at)) refl t
-later shape w p (LoadBirth s) t low ok = same_epoch_and_stamps w (after shape w p (LoadBirth s)) refl t
-later shape w p (LoadKey s) t low ok = same_epoch_and_stamps w (after shape w p (LoadKey s)) refl t
-later shape w p (LoadValue s) t low ok = same_epoch_and_stamps w (after shape w p (LoadValue s)) refl t
-later shape w p (Publish (Head b) expected s) t low ok = same_epoch_and_stamps w (after shape w p (Publish (Head b) expected s)) (by_both (word_of (w.head b) == expected) epoch_and_stamps _ w (epoch_and_stamps w) refl refl) t
-later shape w p (Publish (Slot v) expected s) t low ok = same_epoch_and_stamps w (after shape w p (Publish (Slot v) expected s)) (by_both (word_of (w.link v) == expected) epoch_and_stamps _ w (epoch_and_stamps w) refl refl) t
-later shape w p (Mark s expected) t low ok = same_epoch_and_stamps w (after shape w p (Mark s expected)) (by_both (word_of (w.link s) == expected) epoch_and_stamps _ w (epoch_and_stamps w) refl refl) t
-later shape w p (Unlink (Head b) expected s) t low ok = same_epoch_and_stamps w (after shape w p (Unlink (Head b) expected s)) (by_both (word_of (w.head b) == expected) epoch_and_stamps _ w (epoch_and_stamps w) refl refl) t
-later shape w p (Unlink (Slot v) expected s) t low ok = same_epoch_and_stamps w (after shape w p (Unlink (Slot v) expected s)) (by_both (word_of (w.link v) == expected) epoch_and_stamps _ w (epoch_and_stamps w) refl refl) t
-later shape w p (ConfirmPresent op s expected) t low ok = same_epoch_and_stamps w (after shape w p (ConfirmPresent op s expected)) (by_both (word_of (w.link s) == expected) epoch_and_stamps _ w (epoch_and_stamps w) refl refl) t
-later shape w p (ConfirmAbsent op key at expected) t low ok = same_epoch_and_stamps w (after shape w p (ConfirmAbsent op key at expected)) (by_both (found shape w (ConfirmAbsent op key at expected) == expected) epoch_and_stamps _ w (epoch_and_stamps w) refl refl) t
+later start w p (Raise s) t low ok = same_epoch_and_stamps w (after start w p (Raise s)) refl t
+later start w p (TakeFlag s) t low ok = same_epoch_and_stamps w (after start w p (TakeFlag s)) (by_both (has_flag (found start w (TakeFlag s)) s) epoch_and_stamps _ w (epoch_and_stamps w) refl refl) t
+later start w p (StoreBirth s birth) t low ok = same_epoch_and_stamps w (after start w p (StoreBirth s birth)) refl t
+later start w p (StoreKey s key) t low ok = same_epoch_and_stamps w (after start w p (StoreKey s key)) refl t
+later start w p (StoreValue s value) t low ok = same_epoch_and_stamps w (after start w p (StoreValue s value)) refl t
+later start w p (StoreLink s next) t low ok = same_epoch_and_stamps w (after start w p (StoreLink s next)) refl t
+later start w p (LoadLink at) t low ok = same_epoch_and_stamps w (after start w p (LoadLink at)) refl t
+later start w p (LoadBirth s) t low ok = same_epoch_and_stamps w (after start w p (LoadBirth s)) refl t
+later start w p (LoadKey s) t low ok = same_epoch_and_stamps w (after start w p (LoadKey s)) refl t
+later start w p (LoadValue s) t low ok = same_epoch_and_stamps w (after start w p (LoadValue s)) refl t
+later start w p (Publish (Head b) expected s) t low ok = same_epoch_and_stamps w (after start w p (Publish (Head b) expected s)) (by_both (word_of (w.head b) == expected) epoch_and_stamps _ w (epoch_and_stamps w) refl refl) t
+later start w p (Publish (Slot v) expected s) t low ok = same_epoch_and_stamps w (after start w p (Publish (Slot v) expected s)) (by_both (word_of (w.link v) == expected) epoch_and_stamps _ w (epoch_and_stamps w) refl refl) t
+later start w p (Mark s expected) t low ok = same_epoch_and_stamps w (after start w p (Mark s expected)) (by_both (word_of (w.link s) == expected) epoch_and_stamps _ w (epoch_and_stamps w) refl refl) t
+later start w p (Unlink (Head b) expected s) t low ok = same_epoch_and_stamps w (after start w p (Unlink (Head b) expected s)) (by_both (word_of (w.head b) == expected) epoch_and_stamps _ w (epoch_and_stamps w) refl refl) t
+later start w p (Unlink (Slot v) expected s) t low ok = same_epoch_and_stamps w (after start w p (Unlink (Slot v) expected s)) (by_both (word_of (w.link v) == expected) epoch_and_stamps _ w (epoch_and_stamps w) refl refl) t
+later start w p (ConfirmPresent op s expected) t low ok = same_epoch_and_stamps w (after start w p (ConfirmPresent op s expected)) (by_both (word_of (w.link s) == expected) epoch_and_stamps _ w (epoch_and_stamps w) refl refl) t
+later start w p (ConfirmAbsent op key at expected) t low ok = same_epoch_and_stamps w (after start w p (ConfirmAbsent op key at expected)) (by_both (found start w (ConfirmAbsent op key at expected) == expected) epoch_and_stamps _ w (epoch_and_stamps w) refl refl) t
 
 -- the epoch that is read in a timely world is at least 1
-some_read : (shape : Dimensions) (w : World) (step : Step) (e : ℕ) → IsTimely w → 1 ≤ e → 1 ≤ epoch_after step (found shape w step) e
-some_read shape w ReadEpoch e t some = t.some
-some_read shape w (Advance from) e t some = some
-some_read shape w (LoadStamp s) e t some = some
-some_read shape w (StoreStamp s stamp) e t some = some
-some_read shape w (Raise s) e t some = some
-some_read shape w (TakeFlag s) e t some = some
-some_read shape w (StoreBirth s birth) e t some = some
-some_read shape w (StoreKey s key) e t some = some
-some_read shape w (StoreValue s value) e t some = some
-some_read shape w (StoreLink s next) e t some = some
-some_read shape w (LoadLink at) e t some = some
-some_read shape w (LoadBirth s) e t some = some
-some_read shape w (LoadKey s) e t some = some
-some_read shape w (LoadValue s) e t some = some
-some_read shape w (Publish pred expected s) e t some = some
-some_read shape w (Mark s expected) e t some = some
-some_read shape w (Unlink pred expected s) e t some = some
-some_read shape w (ConfirmPresent op s expected) e t some = some
-some_read shape w (ConfirmAbsent op key at expected) e t some = some
+some_read : (start : Start) (w : World) (step : Step) (e : ℕ) → IsTimely w → 1 ≤ e → 1 ≤ epoch_after step (found start w step) e
+some_read start w ReadEpoch e t some = t.some
+some_read start w (Advance from) e t some = some
+some_read start w (LoadStamp s) e t some = some
+some_read start w (StoreStamp s stamp) e t some = some
+some_read start w (Raise s) e t some = some
+some_read start w (TakeFlag s) e t some = some
+some_read start w (StoreBirth s birth) e t some = some
+some_read start w (StoreKey s key) e t some = some
+some_read start w (StoreValue s value) e t some = some
+some_read start w (StoreLink s next) e t some = some
+some_read start w (LoadLink at) e t some = some
+some_read start w (LoadBirth s) e t some = some
+some_read start w (LoadKey s) e t some = some
+some_read start w (LoadValue s) e t some = some
+some_read start w (Publish pred expected s) e t some = some
+some_read start w (Mark s expected) e t some = some
+some_read start w (Unlink pred expected s) e t some = some
+some_read start w (ConfirmPresent op s expected) e t some = some
+some_read start w (ConfirmAbsent op key at expected) e t some = some
 
-read_after : (shape : Dimensions) (w : World) (p : ℕ) (step : Step) → IsTimely w → (q : ℕ) → 1 ≤ ((after shape w p step).know q).epoch
-read_after shape w p step t q =
+read_after : (start : Start) (w : World) (p : ℕ) (step : Step) → IsTimely w → (q : ℕ) → 1 ≤ ((after start w p step).know q).epoch
+read_after start w p step t q =
     ⊎_elim
-    (λ (x : q ≡ p). subst (λ (e : ℕ). 1 ≤ e) (sym (ap (λ (i : ℕ). ((after shape w p step).know i).epoch) x ∙ ap (λ (k : Know). k.epoch) (know_own shape w p step) ∙ epoch_learned step (found shape w step) (stamp_shown w step) (w.know p))) (some_read shape w step (w.know p).epoch t (t.read p)))
-    (λ (x : q ≢ p). subst (λ (k : Know). 1 ≤ k.epoch) (sym (know_other shape w q p step x)) (t.read q)) (cases_eq q p)
+    (λ (x : q ≡ p). subst (λ (e : ℕ). 1 ≤ e) (sym (ap (λ (i : ℕ). ((after start w p step).know i).epoch) x ∙ ap (λ (k : Know). k.epoch) (know_own start w p step) ∙ epoch_learned step (found start w step) (stamp_shown w step) (w.know p))) (some_read start w step (w.know p).epoch t (t.read p)))
+    (λ (x : q ≢ p). subst (λ (k : Know). 1 ≤ k.epoch) (sym (know_other start w q p step x)) (t.read q)) (cases_eq q p)
 
-timely_after : (shape : Dimensions) (w : World) (p : ℕ) (step : Step) → IsTimely w → (w.know p).epoch ≤ w.epoch → Accepts shape (w.know p) step → IsTimely (after shape w p step)
-timely_after shape w p step t low ok = let l = later shape w p step t low ok in record { stamps = l.1; some = let s = t.some in let g = l.0 in omega arith; read = read_after shape w p step t }
+timely_after : (start : Start) (w : World) (p : ℕ) (step : Step) → IsTimely w → (w.know p).epoch ≤ w.epoch → Accepts start (w.know p) step → IsTimely (after start w p step)
+timely_after start w p step t low ok = let l = later start w p step t low ok in record { stamps = l.1; some = let s = t.some in let g = l.0 in omega arith; read = read_after start w p step t }
 
 -- ---- runs
 
-epoch_known : (shape : Dimensions) (w : World) (a : Incarnations) (notes : ℕ → Notes) → Agrees shape w a notes → (p : ℕ) → (w.know p).epoch ≤ w.epoch
-epoch_known shape w a notes g p = let e = (g.knows p).epoch in let i = g.image.epoch in omega arith
+epoch_known : (start : Start) (w : World) (a : Incarnations) (notes : ℕ → Notes) → Agrees start w a notes → (p : ℕ) → (w.know p).epoch ≤ w.epoch
+epoch_known start w a notes g p = let e = (g.knows p).epoch in let i = g.image.epoch in omega arith
 
 -- events from a timely world leave it timely, and its epoch rises or stays
-timely_from : (shape : Dimensions) (passes : ℕ) (w : World) (a : Incarnations) (notes : ℕ → Notes) (events : List Event) → Agrees shape w a notes → AreAccepted shape passes w events → IsTimely w →
-    IsTimely (world_from shape w events) × (w.epoch ≤ (world_from shape w events).epoch)
-timely_from shape passes w a notes [] g ok t = (t, omega arith)
-timely_from shape passes w a notes (event ∷ events) g ok t =
+timely_from : (start : Start) (passes : ℕ) (w : World) (a : Incarnations) (notes : ℕ → Notes) (events : List Event) → Agrees start w a notes → AreAccepted start passes w events → IsTimely w →
+    IsTimely (world_from start w events) × (w.epoch ≤ (world_from start w events).epoch)
+timely_from start passes w a notes [] g ok t = (t, omega arith)
+timely_from start passes w a notes (event ∷ events) g ok t =
     let p = event.pass in
-    let v = after shape w p event.step in
-    let b = incarnations_with shape w a event in
-    let new = put notes p (notes_with shape w b p event.step (notes p)) in
-    let low = epoch_known shape w a notes g p in
-    let one = step_agrees shape w a notes p event.step g ok.0.1 in
-    let rest = timely_from shape passes v b new events one.1 ok.1 (timely_after shape w p event.step t low ok.0.1) in
-    let here : w.epoch ≤ v.epoch = (later shape w p event.step t low ok.0.1).0 in
+    let v = after start w p event.step in
+    let b = incarnations_with start w a event in
+    let new = put notes p (notes_with start w b p event.step (notes p)) in
+    let low = epoch_known start w a notes g p in
+    let one = step_agrees start w a notes p event.step g ok.0.1 in
+    let rest = timely_from start passes v b new events one.1 ok.1 (timely_after start w p event.step t low ok.0.1) in
+    let here : w.epoch ≤ v.epoch = (later start w p event.step t low ok.0.1).0 in
     let there = rest.1 in
     (rest.0, omega arith)
 
-timely_first : (shape : Dimensions) → IsTimely (opening shape)
-timely_first shape = record { stamps = λ s. omega arith; some = omega arith; read = λ p. omega arith }
+timely_first : (start : Start) → IsTimely (opening start)
+timely_first start = record { stamps = λ s. omega arith; some = omega arith; read = λ p. omega arith }
 
-timely : (shape : Dimensions) (passes : ℕ) (run : List Event) → IsShape shape → IsRun shape passes run → IsTimely (world_after shape run)
-timely shape passes run is ok = (timely_from shape passes (opening shape) (at_opening shape) (λ p. no_notes) run (run_agrees shape passes [] is (is_run_first shape passes)) ok (timely_first shape)).0
+timely : (start : Start) (passes : ℕ) (run : List Event) → IsStart start → IsRun start passes run → IsTimely (world_after start run)
+timely start passes run is ok = (timely_from start passes (opening start) (at_opening start) (λ p. no_notes) run (run_agrees start passes [] is (is_run_first start passes)) ok (timely_first start)).0
 
 -- the epoch only rises
-pub epoch_rises : (shape : Dimensions) (passes : ℕ) (xs ys : List Event) → IsShape shape → IsRun shape passes (xs ++ ys) → (world_after shape xs).epoch ≤ (world_after shape (xs ++ ys)).epoch
-epoch_rises shape passes xs ys is ok =
-    let before = is_run_before shape passes xs ys ok in
-    let more = timely_from shape passes (world_after shape xs) (incarnations_after shape xs) (notes_after shape xs) ys (run_agrees shape passes xs is before) (is_run_after shape passes xs ys ok) (timely shape passes xs is before) in
-    subst (λ (w : World). (world_after shape xs).epoch ≤ w.epoch) (sym (world_after-append shape xs ys)) more.1
+pub epoch_rises : (start : Start) (passes : ℕ) (xs ys : List Event) → IsStart start → IsRun start passes (xs ++ ys) → (world_after start xs).epoch ≤ (world_after start (xs ++ ys)).epoch
+epoch_rises start passes xs ys is ok =
+    let before = is_run_before start passes xs ys ok in
+    let more = timely_from start passes (world_after start xs) (incarnations_after start xs) (notes_after start xs) ys (run_agrees start passes xs is before) (is_run_after start passes xs ys ok) (timely start passes xs is before) in
+    subst (λ (w : World). (world_after start xs).epoch ≤ w.epoch) (sym (world_after-append start xs ys)) more.1
 
 -- what a pass knows after a run, against the epoch: the one that it has read is at least 1, and not above the one that stands
-pub read_some : (shape : Dimensions) (passes : ℕ) (run : List Event) (who : ℕ) → IsShape shape → IsRun shape passes run → 1 ≤ (know_after shape run who).epoch
-read_some shape passes run who is ok = (timely shape passes run is ok).read who
+pub read_some : (start : Start) (passes : ℕ) (run : List Event) (who : ℕ) → IsStart start → IsRun start passes run → 1 ≤ (know_after start run who).epoch
+read_some start passes run who is ok = (timely start passes run is ok).read who
 
-pub read_before : (shape : Dimensions) (passes : ℕ) (run : List Event) (who : ℕ) → IsShape shape → IsRun shape passes run → (know_after shape run who).epoch ≤ (world_after shape run).epoch
-read_before shape passes run who is ok = epoch_known shape (world_after shape run) (incarnations_after shape run) (notes_after shape run) (run_agrees shape passes run is ok) who
+pub read_before : (start : Start) (passes : ℕ) (run : List Event) (who : ℕ) → IsStart start → IsRun start passes run → (know_after start run who).epoch ≤ (world_after start run).epoch
+read_before start passes run who is ok = epoch_known start (world_after start run) (incarnations_after start run) (notes_after start run) (run_agrees start passes run is ok) who
 
-pub read_in_shape : (shape : Dimensions) (passes : ℕ) (run : List Event) (who : ℕ) → IsShape shape → IsRun shape passes run → (know_after shape run who).epoch ≤ shape.last_epoch
-read_in_shape shape passes run who is ok = let g = run_agrees shape passes run is ok in let e = (g.knows who).epoch in let f = g.fits.epoch in omega arith
+pub read_in_shape : (start : Start) (passes : ℕ) (run : List Event) (who : ℕ) → IsStart start → IsRun start passes run → (know_after start run who).epoch ≤ start.shape.last_epoch
+read_in_shape start passes run who is ok = let g = run_agrees start passes run is ok in let e = (g.knows who).epoch in let f = g.fits.epoch in omega arith
 
 -- and no stamp that it knows is above that
-pub stamp_before : (shape : Dimensions) (passes : ℕ) (run : List Event) (who s : ℕ) → IsShape shape → IsRun shape passes run → MayBear ((know_after shape run who).own s) → stamp_in ((know_after shape run who).own s) ≤ (world_after shape run).epoch
-stamp_before shape passes run who s is ok may =
-    let t = (timely shape passes run is ok).stamps s in
-    let e = stamp_known shape (world_after shape run) (incarnations_after shape run) (notes_after shape run) who s (run_agrees shape passes run is ok) may in
+pub stamp_before : (start : Start) (passes : ℕ) (run : List Event) (who s : ℕ) → IsStart start → IsRun start passes run → MayBear ((know_after start run who).own s) → stamp_in ((know_after start run who).own s) ≤ (world_after start run).epoch
+stamp_before start passes run who s is ok may =
+    let t = (timely start passes run is ok).stamps s in
+    let e = stamp_known start (world_after start run) (incarnations_after start run) (notes_after start run) who s (run_agrees start passes run is ok) may in
     omega arith

@@ -2,7 +2,7 @@
 use Rattle.std.proofs.Common.{◌≡◌, ℕ, ◌-◌, ◌<◌, ◌≤◌, ◌==◌, Bool, true, false, cond, Option, Some, None, List, [], ◌∷◌, ◌++◌, length, arith, refl, sym, ap, ◌∙◌, append_assoc, append-nil, subst, inr, ⊎_elim, ◌≢◌}
 use Rattle.std.proofs.lemmas.Bool.{cases_eq, ne_eqb}
 use Rattle.std.proofs.lemmas.Bool.Decides.{nat_tests}
-use Rattle.vbr_words.specs.Dimensions.{Dimensions, IsShape}
+use Rattle.vbr_machine.specs.Start.{Start, IsStart}
 use Rattle.vbr_machine.specs.Accounts.{incarnations_after}
 use Rattle.vbr_machine.specs.Agreement.{OwnFits}
 use Rattle.vbr_machine.specs.Incarnations.{Incarnations}
@@ -116,8 +116,8 @@ module _ {p q r : Trace} {slot e n : ℕ} (read : Did ReadEpoch p q e) (stamp : 
 -- ---- pools
 
 -- an unlinked slot isn't in hand
-unlinked_not_in_hand : {shape : Dimensions} {know : Know} {slot : ℕ} {pool : List ℕ} {hand : Option ℕ} → OwnPool shape know pool hand → IsUnlinked (know.own slot) → hand ≢ Some slot
-unlinked_not_in_hand {shape} {know} {slot} {pool} {hand} o unlinked is = neither (know.own slot) unlinked (subst (HandFits shape know pool) is o.in_hand).1
+unlinked_not_in_hand : {start : Start} {know : Know} {slot : ℕ} {pool : List ℕ} {hand : Option ℕ} → OwnPool start know pool hand → IsUnlinked (know.own slot) → hand ≢ Some slot
+unlinked_not_in_hand {start} {know} {slot} {pool} {hand} o unlinked is = neither (know.own slot) unlinked (subst (HandFits start know pool) is o.in_hand).1
   where
     neither : (holding : Option Holding) → IsUnlinked holding → IsInHand holding → ⊥
     neither None a b = a
@@ -126,22 +126,22 @@ unlinked_not_in_hand {shape} {know} {slot} {pool} {hand} o unlinked is = neither
     neither (Some (InHand known)) a b = a
 
 -- and it is one of the shape
-pub unlinked_in_shape : (shape : Dimensions) (passes : ℕ) (run : List Event) (who slot : ℕ) → IsShape shape → IsRun shape passes run → IsUnlinked ((know_after shape run who).own slot) → slot < shape.slots
-unlinked_in_shape shape passes run who slot is ok unlinked =
-    let g = run_agrees shape passes run is ok in
-    go (incarnations_after shape run) ((know_after shape run who).own slot) unlinked g.sound.slots (g.owns who slot) g.fits.slot
+pub unlinked_in_shape : (start : Start) (passes : ℕ) (run : List Event) (who slot : ℕ) → IsStart start → IsRun start passes run → IsUnlinked ((know_after start run who).own slot) → slot < start.shape.slots
+unlinked_in_shape start passes run who slot is ok unlinked =
+    let g = run_agrees start passes run is ok in
+    go (incarnations_after start run) ((know_after start run who).own slot) unlinked g.sound.slots (g.owns who slot) g.fits.slot
   where
-    go : (a : Incarnations) (holding : Option Holding) → IsUnlinked holding → SlotsSound shape a → OwnFits a who (know_after shape run who).epoch holding (a.place slot) (a.last slot) (a.stamp slot) → ((c : ℕ) → c < a.count → a.slot c < shape.slots) → slot < shape.slots
+    go : (a : Incarnations) (holding : Option Holding) → IsUnlinked holding → SlotsSound start a → OwnFits a who (know_after start run who).epoch holding (a.place slot) (a.last slot) (a.stamp slot) → ((c : ℕ) → c < a.count → a.slot c < start.shape.slots) → slot < start.shape.slots
     go a None u sound fits low = absurd u
     go a (Some (Free stamp)) u sound fits low = absurd u
     go a (Some (InHand known)) u sound fits low = absurd u
-    go a (Some (Unlinked reread)) u sound fits low = let by = fits.1 in let born = sound.last_born slot by.node by.last_is in subst (λ (s : ℕ). s < shape.slots) born.1 (low by.node born.0)
+    go a (Some (Unlinked reread)) u sound fits low = let by = fits.1 in let born = sound.last_born slot by.node by.last_is in subst (λ (s : ℕ). s < start.shape.slots) born.1 (low by.node born.0)
 
 -- so it is a slot of the table
-pub unlinked_in_table : {p : PassView} {t : TableView} {slot same : ℕ} → PassLaw p → IsOf p.trace t → IsUnlinked ((knows p.trace).own slot) → same ≡ slot → same < t.shape.slots
+pub unlinked_in_table : {p : PassView} {t : TableView} {slot same : ℕ} → PassLaw p → IsOf p.trace t → IsUnlinked ((knows p.trace).own slot) → same ≡ slot → same < t.start.shape.slots
 unlinked_in_table {p} {t} {slot} law of unlinked e =
-    subst (λ (s : ℕ). s < t.shape.slots) (sym e)
-    (subst (λ (shape : Dimensions). slot < shape.slots) of.1 (unlinked_in_shape p.trace.shape p.trace.passes p.trace.seen p.trace.who slot law.shape law.is_run unlinked))
+    subst (λ (s : ℕ). s < t.start.shape.slots) (sym e)
+    (subst (λ (start : Start). slot < start.shape.slots) of.1 (unlinked_in_shape p.trace.start p.trace.passes p.trace.seen p.trace.who slot law.start law.is_run unlinked))
 
 -- whether it is kept
 kept_tells : (pool : List ℕ) → length pool < POOL - 1 → is_kept pool ≡ true
@@ -152,7 +152,7 @@ full_tells pool full = grind (arith, nat_tests)
 
 -- ---- what the call tells
 
-module _ {p q r : PassView} {slot gone e n : ℕ} (is : IsShape p.trace.shape) (read : Did ReadEpoch p.trace q.trace e) (stamp : Did (StoreStamp slot (knows q.trace).epoch) q.trace r.trace n) (stays : KeepsPool p q) (still : KeepsPool q r) (same : slot ≡ gone) (own : OwnPool p.trace.shape (knows p.trace) p.pool p.hand) (unlinked : IsUnlinked ((knows p.trace).own gone)) where
+module _ {p q r : PassView} {slot gone e n : ℕ} (is : IsStart p.trace.start) (read : Did ReadEpoch p.trace q.trace e) (stamp : Did (StoreStamp slot (knows q.trace).epoch) q.trace r.trace n) (stays : KeepsPool p q) (still : KeepsPool q r) (same : slot ≡ gone) (own : OwnPool p.trace.start (knows p.trace) p.pool p.hand) (unlinked : IsUnlinked ((knows p.trace).own gone)) where
   took : Took p.trace r.trace 2
   took = took_on 1 1 (did_took read) (did_took stamp)
 

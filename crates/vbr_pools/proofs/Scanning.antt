@@ -41,7 +41,7 @@ module _ {p q : PassView} {epoch budget before looked used : ℕ} (at : Scanned 
     short = short;
   }
 
-module _ {p q r : PassView} {epoch budget before looked used n : ℕ} (at : Scanned p q epoch budget before looked used) (pool : List ℕ) (shown : pool ≡ q.pool) (own : OwnPool q.trace.shape (knows q.trace) q.pool q.hand) (low : looked < length pool)
+module _ {p q r : PassView} {epoch budget before looked used n : ℕ} (at : Scanned p q epoch budget before looked used) (pool : List ℕ) (shown : pool ≡ q.pool) (own : OwnPool q.trace.start (knows q.trace) q.pool q.hand) (low : looked < length pool)
     (room : used + PIECE ≤ budget) (d : Did (LoadStamp (get_or pool looked 0)) q.trace r.trace n) (known : MayBear ((knows q.trace).own (get_or pool looked 0)) → n ≡ stamp_in ((knows q.trace).own (get_or pool looked 0))) (stays : KeepsPool q r) where
   abbrev slot : ℕ
   slot = get_or pool looked 0
@@ -51,7 +51,7 @@ module _ {p q r : PassView} {epoch budget before looked used n : ℕ} (at : Scan
 
   -- the stamp that was loaded is the one that the pass knew at the beginning
   loaded : n ≡ stamp_in ((knows p.trace).own slot)
-  loaded = known (All-contains (IsPooled q.trace.shape (knows q.trace)) q.pool slot own.pooled there).1 ∙ ap (λ (k : Know). stamp_in (k.own slot)) at.known
+  loaded = known (All-contains (IsPooled q.trace.start (knows q.trace)) q.pool slot own.pooled there).1 ∙ ap (λ (k : Know). stamp_in (k.own slot)) at.known
 
   pub scans_found : Scans p r
   scans_found = record {

@@ -24,9 +24,9 @@ use Rattle.vbr_pools.proofs.Moments.{came_before}
 -- ---- no slot is won
 
 -- the steps to win a slot are fewer than those of a call that takes one
-win_enough : (p : PassView) (budget : ℕ) (refusal : TakeRefusal) → p.pool ≡ [] → NeedsMore (steps_to_win p.trace.shape) budget refusal → NeedsMore (steps_to_take p.trace.shape p.pool) budget refusal
+win_enough : (p : PassView) (budget : ℕ) (refusal : TakeRefusal) → p.pool ≡ [] → NeedsMore (steps_to_win p.trace.start) budget refusal → NeedsMore (steps_to_take p.trace.start p.pool) budget refusal
 win_enough p budget (OutOfSteps used) empty short =
-    let P : List ℕ → Type 0 = λ pool. budget < steps_to_take p.trace.shape pool + 7 in
+    let P : List ℕ → Type 0 = λ pool. budget < steps_to_take p.trace.start pool + 7 in
     subst P (sym empty) (omega (arith, short))
 win_enough p budget NoSlot empty short = tt
 win_enough p budget (EpochSpent epoch) empty short = tt
@@ -100,18 +100,18 @@ module _ (p q r : PassView) (budget used : ℕ) (first : Probes p q) (begun : Ha
       ⊎_elim (λ (x : (q.pool ≡ p.pool) × (p.pool ≢ []) × (used ≡ 0)). (let none = x.2 in let room = begun.room in omega (arith, none, room)))
       (λ (x : (p.pool ≡ []) × (slot : ℕ) × (q.pool ≡ slot ∷ []) × CameByFlag p.trace q.trace slot). absurd (some x.0)) begun.won
 
-  won_few : IsAlone p.trace q.trace → used + (length q.pool + 4) ≤ steps_to_take p.trace.shape p.pool
+  won_few : IsAlone p.trace q.trace → used + (length q.pool + 4) ≤ steps_to_take p.trace.start p.pool
   won_few alone =
       ⊎_elim (λ (x : (q.pool ≡ p.pool) × (p.pool ≢ []) × (used ≡ 0)). at_most p.pool x.1 (few_own x.1))
       (λ (x : (p.pool ≡ []) × (slot : ℕ) × (q.pool ≡ slot ∷ []) × CameByFlag p.trace q.trace slot). shared x.0 (ap length x.2) (begun.few x.0 alone)) begun.won
     where
-      at_most : (pool : List ℕ) → pool ≢ [] → used + length q.pool ≤ POOL → used + (length q.pool + 4) ≤ steps_to_take p.trace.shape pool
+      at_most : (pool : List ℕ) → pool ≢ [] → used + length q.pool ≤ POOL → used + (length q.pool + 4) ≤ steps_to_take p.trace.start pool
       at_most [] some few = absurd (some refl)
       at_most (slot ∷ pool) some few = omega (arith, few)
 
-      shared : p.pool ≡ [] → length q.pool ≡ 1 → used ≤ steps_to_win p.trace.shape → used + (length q.pool + 4) ≤ steps_to_take p.trace.shape p.pool
+      shared : p.pool ≡ [] → length q.pool ≡ 1 → used ≤ steps_to_win p.trace.start → used + (length q.pool + 4) ≤ steps_to_take p.trace.start p.pool
       shared empty one few =
-          let P : List ℕ → Type 0 = λ pool. used + (length q.pool + 4) ≤ steps_to_take p.trace.shape pool in
+          let P : List ℕ → Type 0 = λ pool. used + (length q.pool + 4) ≤ steps_to_take p.trace.start pool in
           subst P (sym empty) (omega (arith, one, few))
 
   alone_before : IsAlone p.trace r.trace → IsAlone p.trace q.trace
@@ -136,7 +136,7 @@ module _ (p q r : PassView) (budget used : ℕ) (first : Probes p q) (begun : Ha
     ready_none NoSlot why some ample = absurd why
     ready_none (EpochSpent e) why some ample = tt
 
-    enough_none : (refusal : TakeRefusal) → IsShortOrSpent r budget told.1 refusal → IsAlone p.trace r.trace → NeedsMore (steps_to_take p.trace.shape p.pool) budget refusal
+    enough_none : (refusal : TakeRefusal) → IsShortOrSpent r budget told.1 refusal → IsAlone p.trace r.trace → NeedsMore (steps_to_take p.trace.start p.pool) budget refusal
     enough_none (OutOfSteps n) why alone =
         let most = won_few (alone_before alone) in
         let made = none.uses.at_most in
@@ -177,7 +177,7 @@ module _ (p q r : PassView) (budget used : ℕ) (first : Probes p q) (begun : Ha
         is ∙ ap (without slot) (then.pool.0 ∙ x.2) ∙ gone x.1 (one x.1 (subst (λ (l : List ℕ). Contains l slot) (then.pool.0 ∙ x.2) chosen.below.0)) ∙ sym (ap (without slot) x.0)) begun.won
 
     -- what was used before the birth, by a pass that was alone
-    chosen_few : Quiet r.trace t.trace → IsAlone p.trace t.trace → since + 1 ≤ steps_to_take p.trace.shape p.pool
+    chosen_few : Quiet r.trace t.trace → IsAlone p.trace t.trace → since + 1 ≤ steps_to_take p.trace.start p.pool
     chosen_few last alone =
         let most = won_few (alone_before (alone_first {p = p.trace} {q = r.trace} {r = t.trace} quiet_all.seen last.seen alone)) in
         let made = chosen.uses.at_most in

@@ -1,7 +1,7 @@
 -- The shared pool, probed word by word.
 use Rattle.std.proofs.Common.{◌≡◌, ℕ, ◌+◌, ◌*◌, ◌/◌, ◌<◌, ◌≤◌, ◌==◌, Bool, true, false, cond, List, [], ◌∷◌, ◌++◌, length, None, refl, sym, ap, ◌∙◌, subst, ◌⊎◌, inl, inr, ⊎_elim, arith}
 use Rattle.std.proofs.lemmas.Bool.{cases_lt, eqb-true}
-use Rattle.vbr_words.specs.Dimensions.{Dimensions}
+use Rattle.vbr_machine.specs.Start.{Start}
 use Rattle.vbr_words.specs.Flags.{word_of_flag, flag_words, has_flag, IsNextFlag}
 use Rattle.vbr_machine.specs.Acceptance.{MayBear}
 use Rattle.vbr_machine.specs.Knowledge.{Know}
@@ -34,11 +34,11 @@ pub record Winning (p q : PassView) (budget used start next end : ℕ) : Type 0 
   pub counts : CountsSteps p.trace q.trace 0 used
   pub within : used ≤ budget
   pub begins : start ≡ 64 * word_of_flag (last_tried p.trace)
-  pub low : start < p.trace.shape.slots
-  pub turn : ((end ≡ p.trace.shape.slots) × (start ≤ next) × (next < p.trace.shape.slots)) ⊎ (end ≡ start)
-  pub ahead : (slot : ℕ) → slot < p.trace.shape.slots → start ≤ slot → slot < next → WasOutside p.trace q.trace slot
-  pub round : end ≡ start → (slot : ℕ) → slot < p.trace.shape.slots → (start ≤ slot) ⊎ (slot < next) → WasOutside p.trace q.trace slot
-  pub alone : IsAlone p.trace q.trace → (end ≡ p.trace.shape.slots → Probed q.trace (word_of_flag start) 0 used next) × (end ≡ start → Probed q.trace (word_of_flag start) (flag_words p.trace.shape.slots) used next)
+  pub low : start < p.trace.start.shape.slots
+  pub turn : ((end ≡ p.trace.start.shape.slots) × (start ≤ next) × (next < p.trace.start.shape.slots)) ⊎ (end ≡ start)
+  pub ahead : (slot : ℕ) → slot < p.trace.start.shape.slots → start ≤ slot → slot < next → WasOutside p.trace q.trace slot
+  pub round : end ≡ start → (slot : ℕ) → slot < p.trace.start.shape.slots → (start ≤ slot) ⊎ (slot < next) → WasOutside p.trace q.trace slot
+  pub alone : IsAlone p.trace q.trace → (end ≡ p.trace.start.shape.slots → Probed q.trace (word_of_flag start) 0 used next) × (end ≡ start → Probed q.trace (word_of_flag start) (flag_words p.trace.start.shape.slots) used next)
 
 -- what comes next is no further than the next word
 next_low : (word slot next : ℕ) → IsNextFlag word slot next → next ≤ 64 * (slot / 64 + 1)
@@ -59,16 +59,16 @@ module _ {p q r : PassView} {budget used start slot end next n : ℕ} (at : Winn
   still w = missed_before w more
 
   -- those of its word, and before the next one
-  told : (s : ℕ) → s < p.trace.shape.slots → slot ≤ s → s < next → WasOutside p.trace r.trace s
+  told : (s : ℕ) → s < p.trace.start.shape.slots → slot ≤ s → s < next → WasOutside p.trace r.trace s
   told s in_shape from less =
       let past = next_low n slot next then in
       let same : s / 64 ≡ slot / 64 = omega (arith, past, from, less) in
-      missed_after at.quiet (missed d lost s (subst (λ (shape : Dimensions). s < shape.slots) (sym at.quiet.same.shape) in_shape) same (then.before s same less))
+      missed_after at.quiet (missed d lost s (subst (λ (start : Start). s < start.shape.slots) (sym at.quiet.same.start) in_shape) same (then.before s same less))
 
-  ahead_next : (s : ℕ) → s < p.trace.shape.slots → start ≤ s → s < next → WasOutside p.trace r.trace s
+  ahead_next : (s : ℕ) → s < p.trace.start.shape.slots → start ≤ s → s < next → WasOutside p.trace r.trace s
   ahead_next s in_shape from less = ⊎_elim (λ (earlier : s < slot). still (at.ahead s in_shape from earlier)) (λ (later : slot ≤ s). told s in_shape later less) (cases_lt s slot)
 
-  round_next : end ≡ start → (s : ℕ) → s < p.trace.shape.slots → (start ≤ s) ⊎ (s < next) → WasOutside p.trace r.trace s
+  round_next : end ≡ start → (s : ℕ) → s < p.trace.start.shape.slots → (start ≤ s) ⊎ (s < next) → WasOutside p.trace r.trace s
   round_next over s in_shape (inl from) = still (at.round over s in_shape (inl from))
   round_next over s in_shape (inr less) = ⊎_elim (λ (earlier : s < slot). still (at.round over s in_shape (inr earlier))) (λ (later : slot ≤ s). told s in_shape later less) (cases_lt s slot)
 
@@ -79,7 +79,7 @@ module _ {p q r : PassView} {budget used start slot end next n : ℕ} (at : Winn
   alone_here alone = alone_then at.quiet.same.who at.quiet.seen (did_seen d) alone
 
   -- the search goes on there, if that is a slot
-  pub win_next : next < p.trace.shape.slots → Winning p r budget (used + 1) start next end
+  pub win_next : next < p.trace.start.shape.slots → Winning p r budget (used + 1) start next end
   win_next in_shape = record {
     quiet = quiet_on at.quiet more;
     pool = (stays.0 ∙ at.pool.0, stays.1 ∙ at.pool.1);
@@ -88,14 +88,14 @@ module _ {p q r : PassView} {budget used start slot end next n : ℕ} (at : Winn
     within = omega arith;
     begins = at.begins;
     low = at.low;
-    turn = ⊎_elim (λ (first : (end ≡ p.trace.shape.slots) × (start ≤ slot) × (slot < p.trace.shape.slots)). inl (first.0, ⊎_elim (λ (here : (word_of_flag next ≡ word_of_flag slot) × (has_flag n next ≡ true)). (let same = here.0 in let b = at.begins in let f = first.1 in omega (arith, same, b, f))) (λ (past : (n ≡ 0) × (next ≡ 64 * (slot / 64 + 1))). (let e = past.1 in let f = first.1 in omega (arith, e, f))) then.place, in_shape)) (λ (over : end ≡ start). inr over) at.turn;
+    turn = ⊎_elim (λ (first : (end ≡ p.trace.start.shape.slots) × (start ≤ slot) × (slot < p.trace.start.shape.slots)). inl (first.0, ⊎_elim (λ (here : (word_of_flag next ≡ word_of_flag slot) × (has_flag n next ≡ true)). (let same = here.0 in let b = at.begins in let f = first.1 in omega (arith, same, b, f))) (λ (past : (n ≡ 0) × (next ≡ 64 * (slot / 64 + 1))). (let e = past.1 in let f = first.1 in omega (arith, e, f))) then.place, in_shape)) (λ (over : end ≡ start). inr over) at.turn;
     ahead = ahead_next;
     round = round_next;
-    alone = λ alone. ((λ is. probed_next d (alone_here alone) lost (word_of_flag start) 0 used next ((at.alone (alone_before alone)).0 is) then), (λ over. probed_next d (alone_here alone) lost (word_of_flag start) (flag_words p.trace.shape.slots) used next ((at.alone (alone_before alone)).1 over) then));
+    alone = λ alone. ((λ is. probed_next d (alone_here alone) lost (word_of_flag start) 0 used next ((at.alone (alone_before alone)).0 is) then), (λ over. probed_next d (alone_here alone) lost (word_of_flag start) (flag_words p.trace.start.shape.slots) used next ((at.alone (alone_before alone)).1 over) then));
   }
 
   -- or with slot 0, if there is none behind the last one
-  pub win_round : p.trace.shape.slots ≤ next → Winning p r budget (used + 1) start 0 start
+  pub win_round : p.trace.start.shape.slots ≤ next → Winning p r budget (used + 1) start 0 start
   win_round past = record {
     quiet = quiet_on at.quiet more;
     pool = (stays.0 ∙ at.pool.0, stays.1 ∙ at.pool.1);
@@ -111,19 +111,19 @@ module _ {p q r : PassView} {budget used start slot end next n : ℕ} (at : Winn
   }
     where
       -- this was no second turn, since that ends before the first slot of a word
-      first : (end ≡ p.trace.shape.slots) × (start ≤ slot) × (slot < p.trace.shape.slots)
-      first = ⊎_elim (λ (first : (end ≡ p.trace.shape.slots) × (start ≤ slot) × (slot < p.trace.shape.slots)). first) (λ (over : end ≡ start). (let low = next_low n slot next then in let b = at.begins in let l = at.low in absurd (omega (arith, low, b, l, over, below, past)))) at.turn
+      first : (end ≡ p.trace.start.shape.slots) × (start ≤ slot) × (slot < p.trace.start.shape.slots)
+      first = ⊎_elim (λ (first : (end ≡ p.trace.start.shape.slots) × (start ≤ slot) × (slot < p.trace.start.shape.slots)). first) (λ (over : end ≡ start). (let low = next_low n slot next then in let b = at.begins in let l = at.low in absurd (omega (arith, low, b, l, over, below, past)))) at.turn
 
-      few : IsAlone p.trace r.trace → word_of_flag start + (used + 1) ≤ flag_words p.trace.shape.slots + word_of_flag 0
+      few : IsAlone p.trace r.trace → word_of_flag start + (used + 1) ≤ flag_words p.trace.start.shape.slots + word_of_flag 0
       few alone = let lost_first = probed_lost d (alone_here alone) lost (word_of_flag start) 0 used ((at.alone (alone_before alone)).0 first.0) in let low = first.2 in omega (arith, lost_first, low)
 
 -- a pass that was alone made no more probes than there are flag words, and one more that won
-few : {p q : PassView} {budget used start slot end : ℕ} → Winning p q budget used start slot end → slot < end → IsAlone p.trace q.trace → used ≤ flag_words p.trace.shape.slots
+few : {p q : PassView} {budget used start slot end : ℕ} → Winning p q budget used start slot end → slot < end → IsAlone p.trace q.trace → used ≤ flag_words p.trace.start.shape.slots
 few {p} {q} {used = used} {start = start} {slot = slot} {end = end} at below alone = ⊎_elim
-    (λ (first : (end ≡ p.trace.shape.slots) × (start ≤ slot) × (slot < p.trace.shape.slots)). (let most = probed_few q.trace (word_of_flag start) 0 used slot ((at.alone alone).0 first.0) in let low = first.2 in omega (arith, most, low)))
-    (λ (over : end ≡ start). (let most = probed_few q.trace (word_of_flag start) (flag_words p.trace.shape.slots) used slot ((at.alone alone).1 over) in let b = at.begins in omega (arith, most, b, over, below))) at.turn
+    (λ (first : (end ≡ p.trace.start.shape.slots) × (start ≤ slot) × (slot < p.trace.start.shape.slots)). (let most = probed_few q.trace (word_of_flag start) 0 used slot ((at.alone alone).0 first.0) in let low = first.2 in omega (arith, most, low)))
+    (λ (over : end ≡ start). (let most = probed_few q.trace (word_of_flag start) (flag_words p.trace.start.shape.slots) used slot ((at.alone alone).1 over) in let b = at.begins in omega (arith, most, b, over, below))) at.turn
 
-win_few : {p q : PassView} {t : Trace} {budget used start slot end n : ℕ} → Winning p q budget used start slot end → slot < end → Did (TakeFlag slot) q.trace t n → IsAlone p.trace t → used + 1 ≤ flag_words p.trace.shape.slots + 1
+win_few : {p q : PassView} {t : Trace} {budget used start slot end n : ℕ} → Winning p q budget used start slot end → slot < end → Did (TakeFlag slot) q.trace t n → IsAlone p.trace t → used + 1 ≤ flag_words p.trace.start.shape.slots + 1
 win_few at below d alone = let most = few at below (alone_first at.quiet.seen (did_seen d) alone) in omega (arith, most)
 
 -- a flag was won
@@ -143,10 +143,10 @@ win_done {p} {q} {r} {t} {budget} {used} {start} {slot} {end} at below empty no_
     not_empty : (s : ℕ) → s ∷ [] ≡ [] → ⊥
     not_empty s e = absurd (cc)
 
-    first : (s : ℕ) → s < p.trace.shape.slots → ComesBefore (word_of_flag (last_tried p.trace)) s slot → WasOutside p.trace q.trace s
+    first : (s : ℕ) → s < p.trace.start.shape.slots → ComesBefore (word_of_flag (last_tried p.trace)) s slot → WasOutside p.trace q.trace s
     first s in_shape (inl here) = let b = at.begins in let from = here.0 in at.ahead s in_shape (omega (arith, b, from)) here.1
     first s in_shape (inr past) = ⊎_elim
-        (λ (first : (end ≡ p.trace.shape.slots) × (start ≤ slot) × (slot < p.trace.shape.slots)). (let b = at.begins in let f = first.1 in let early = past.0 in absurd (omega (arith, b, f, early))))
+        (λ (first : (end ≡ p.trace.start.shape.slots) × (start ≤ slot) × (slot < p.trace.start.shape.slots)). (let b = at.begins in let f = first.1 in let early = past.0 in absurd (omega (arith, b, f, early))))
         (λ (over : end ≡ start). at.round over s in_shape (⊎_elim (λ (from : 64 * word_of_flag (last_tried p.trace) ≤ s). (let b = at.begins in inl (omega (arith, b, from)))) (λ (less : s < slot). inr less) past.1)) at.turn
 
 -- the slot is all that the pass could take
@@ -177,7 +177,7 @@ win_short at below empty short = record {
 
 pub win_no_slot : {p q : PassView} {budget used start slot end : ℕ} → Winning p q budget used start slot end → end ≤ slot → p.pool ≡ [] → WinsNone p q budget (NoSlot, used)
 win_no_slot {p} {q} {start = start} {slot = slot} {end = end} at behind empty =
-    let over : end ≡ start = ⊎_elim (λ (first : (end ≡ p.trace.shape.slots) × (start ≤ slot) × (slot < p.trace.shape.slots)). (let e = first.0 in let low = first.2 in absurd (omega (arith, e, low, behind)))) (λ (over : end ≡ start). over) at.turn in
+    let over : end ≡ start = ⊎_elim (λ (first : (end ≡ p.trace.start.shape.slots) × (start ≤ slot) × (slot < p.trace.start.shape.slots)). (let e = first.0 in let low = first.2 in absurd (omega (arith, e, low, behind)))) (λ (over : end ≡ start). over) at.turn in
     record {
       uses = record { counts = at.counts; within = at.within; at_most = (let w = at.within in omega (arith, w)) };
       empty = empty;

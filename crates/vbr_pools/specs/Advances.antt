@@ -15,9 +15,9 @@ pub record AdvancesOnce (p q : PassView) : Type 0 where
   pub moment : List Event
   pub is : Moment p.trace q.trace moment
   pub epoch : ℕ
-  pub last_read : (know_after p.trace.shape moment p.trace.who).epoch ≡ epoch
+  pub last_read : (know_after p.trace.start moment p.trace.who).epoch ≡ epoch
   pub advance : Begins (moment ++ event_of p.trace.who (Advance epoch) ∷ []) q.trace.seen
-  pub stamps : (slot : ℕ) → CouldTake p (know_after p.trace.shape moment p.trace.who) slot → epoch ≤ stamp_in ((know_after p.trace.shape moment p.trace.who).own slot)
+  pub stamps : (slot : ℕ) → CouldTake p (know_after p.trace.start moment p.trace.who) slot → epoch ≤ stamp_in ((know_after p.trace.start moment p.trace.who).own slot)
 
 -- the pass made no such step, or made one where it had to
 abbrev pub AdvancesWhereNeeded : PassView → PassView → Type 0

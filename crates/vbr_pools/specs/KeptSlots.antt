@@ -42,7 +42,7 @@ HasStampedAll p = (slot : ℕ) → ¬ (IsUnlinked ((knows p).own slot))
 
 -- whenever the pass unlinked a slot in what it has seen, or tried to, it had stamped each that it had unlinked before
 abbrev pub UnlinkedInTurn : Trace → Type 0
-UnlinkedInTurn p = UnlinksInTurn p.shape p.seen p.who
+UnlinkedInTurn p = UnlinksInTurn p.start p.seen p.who
 
 -- a pass that had unlinked in turn has done so since
 abbrev pub StaysInTurn : Trace → Trace → Type 0

@@ -56,7 +56,7 @@ pub record HasSlots (p q : PassView) (budget used : ℕ) : Type 0 where
   pub won : IsWon p q used
   pub some : q.pool ≢ []
   pub room : length q.pool ≤ POOL
-  pub few : p.pool ≡ [] → IsAlone p.trace q.trace → used ≤ steps_to_win p.trace.shape
+  pub few : p.pool ≡ [] → IsAlone p.trace q.trace → used ≤ steps_to_win p.trace.start
 
 -- the own pool was empty, and no slot was won, for what the refusal says
 pub record WinsNone (p q : PassView) (budget : ℕ) (told : TakeRefusal × ℕ) : Type 0 where
@@ -64,7 +64,7 @@ pub record WinsNone (p q : PassView) (budget : ℕ) (told : TakeRefusal × ℕ) 
   pub empty : p.pool ≡ []
   pub pool : KeepsPool p q
   pub why : TakeIsRefused p q budget told.0
-  pub enough : IsAlone p.trace q.trace → NeedsMore (steps_to_win p.trace.shape) budget told.0
+  pub enough : IsAlone p.trace q.trace → NeedsMore (steps_to_win p.trace.start) budget told.0
 
 -- ---- the oldest slot of the own pool
 

@@ -14,7 +14,7 @@ use Rattle.vbr_pools.specs.declared.refusal.TakeRefusal.TheVariants.{OutOfSteps,
 pub record HasNoSlot (p q : PassView) : Type 0 where
   pub empty : p.pool ≡ []
   pub still : q.pool ≡ []
-  pub outside : (slot : ℕ) → slot < p.trace.shape.slots → WasOutside p.trace q.trace slot
+  pub outside : (slot : ℕ) → slot < p.trace.start.shape.slots → WasOutside p.trace q.trace slot
 
 -- each slot of the own pool has this epoch as its stamp
 abbrev pub AllStamped : PassView → ℕ → Type 0
@@ -22,7 +22,7 @@ AllStamped q epoch = All (λ slot. stamp_in ((knows q.trace).own slot) ≡ epoch
 
 -- the epoch that the pass read last is the last one, and the own pool isn't empty, but each slot of it is stamped with that
 pub record IsSpent (q : PassView) (epoch : ℕ) : Type 0 where
-  pub last : epoch ≡ q.trace.shape.last_epoch
+  pub last : epoch ≡ q.trace.start.shape.last_epoch
   pub last_read : (knows q.trace).epoch ≡ epoch
   pub some : q.pool ≢ []
   pub stamped : AllStamped q epoch
@@ -61,4 +61,4 @@ pub record RefusesTake (p q : PassView) (budget : ℕ) (refusal : TakeRefusal) :
   pub pool : LeavesPool p q
   pub hand : q.hand ≡ None
   pub ready : p.pool ≢ [] → 80 ≤ budget → TellsSpent refusal
-  pub enough : IsAlone p.trace q.trace → NeedsMore (steps_to_take p.trace.shape p.pool) budget refusal
+  pub enough : IsAlone p.trace q.trace → NeedsMore (steps_to_take p.trace.start p.pool) budget refusal

@@ -16,7 +16,7 @@ use Rattle.vbr_pools.specs.KeptSlots.{StaysInTurn, TakesNoSlot}
 pub record StampsFreshly (p q : Trace) (slot epoch : ℕ) : Type 0 where
   pub reading : List Event
   pub is : Moment p q reading
-  pub was_epoch : (world_after p.shape reading).epoch ≡ epoch
+  pub was_epoch : (world_after p.start reading).epoch ≡ epoch
   pub stamping : List Event
   pub later : Begins reading stamping
   pub stamped : Begins (stamping ++ event_of p.who (StoreStamp slot epoch) ∷ []) q.seen

@@ -14,7 +14,7 @@ use Rattle.vbr_slots.specs.Views.{Trace, event_of}
 pub record WasOutside (p q : Trace) (slot : ℕ) : Type 0 where
   pub moment : List Event
   pub is : Moment p q moment
-  pub outside : (world_after p.shape moment).place slot ≢ Shared
+  pub outside : (world_after p.start moment).place slot ≢ Shared
 
 -- on a way once round the slots, which begins with those of this flag word and goes on from slot 0 behind the last one, the one slot comes before the other
 abbrev pub ComesBefore : ℕ → ℕ → ℕ → Type 0
@@ -25,6 +25,6 @@ ComesBefore word slot other =
 pub record CameByFlag (p q : Trace) (slot : ℕ) : Type 0 where
   pub moment : List Event
   pub is : Moment p q moment
-  pub shared : (world_after p.shape moment).place slot ≡ Shared
+  pub shared : (world_after p.start moment).place slot ≡ Shared
   pub taken : Begins (moment ++ event_of p.who (TakeFlag slot) ∷ []) q.seen
-  pub first : (other : ℕ) → other < p.shape.slots → ComesBefore (word_of_flag (last_tried p)) other slot → WasOutside p q other
+  pub first : (other : ℕ) → other < p.start.shape.slots → ComesBefore (word_of_flag (last_tried p)) other slot → WasOutside p q other

@@ -43,4 +43,4 @@ pub record IsTaken (p q : PassView) (hand : HandView) : Type 0 where
   pub from : IsOldest (knows q.trace) p.pool hand.slot hand.birth
       ⊎ ((p.pool ≡ []) × CameByFlag p.trace q.trace hand.slot)
   pub births : Births p q hand
-  pub few : IsAlone p.trace q.trace → TookWithin p.trace q.trace (steps_to_take p.trace.shape p.pool)
+  pub few : IsAlone p.trace q.trace → TookWithin p.trace q.trace (steps_to_take p.trace.start p.pool)

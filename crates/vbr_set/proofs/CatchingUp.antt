@@ -1,7 +1,7 @@
 -- What a pass has that caught up with a token: the calls that the token tells stand in front.
 use Rattle.std.proofs.Common.{◌≡◌, ◌⊎◌, ℕ, ◌==◌, Bool, true, false, cond, List, [], ◌∷◌, ◌++◌, length, refl, sym, ap, ◌∙◌, inl, inr, append_assoc, append-nil, arith}
 use Rattle.std.proofs.lemmas.List.{append_cancel_left}
-use Rattle.vbr_words.specs.Dimensions.{Dimensions, IsShape}
+use Rattle.vbr_machine.specs.Start.{Start, IsStart}
 use Rattle.vbr_machine.specs.Calls.{calls_added, own_calls}
 use Rattle.vbr_machine.specs.History.{calls_by}
 use Rattle.vbr_machine.specs.Machine.{World, after}
@@ -15,20 +15,20 @@ use Rattle.vbr_slots.specs.Views.{IsOf, KeepsPool, PassView, TableView, Trace}
 use Rattle.vbr_set.specs.Answers.{Answers}
 use Rattle.vbr_set.specs.Histories.{calls_of}
 use Rattle.vbr_set.specs.Tokens.{BeginsWith, CatchesUp, Follows, IsChain, IsTokenOf, Precedes, end_of}
-use Rattle.vbr_set.proofs.Histories.{reads_right, shape_of}
+use Rattle.vbr_set.proofs.Histories.{reads_right, start_of}
 
-grow : (shape : Dimensions) (w : World) (events : List Event) → BeginsWith w.calls (world_from shape w events).calls
-grow shape w [] = ([], sym (append-nil w.calls))
-grow shape w (e ∷ es) =
-    let more = grow shape (after shape w e.pass e.step) es in
-    let added = calls_added shape w e.pass e.step in
-    (added ++ more.0, more.1 ∙ ap (λ l. l ++ more.0) (calls_after shape w e.pass e.step) ∙ append_assoc w.calls added more.0)
+grow : (start : Start) (w : World) (events : List Event) → BeginsWith w.calls (world_from start w events).calls
+grow start w [] = ([], sym (append-nil w.calls))
+grow start w (e ∷ es) =
+    let more = grow start (after start w e.pass e.step) es in
+    let added = calls_added start w e.pass e.step in
+    (added ++ more.0, more.1 ∙ ap (λ l. l ++ more.0) (calls_after start w e.pass e.step) ∙ append_assoc w.calls added more.0)
 
 -- a run that goes on adds its calls at the end
-pub calls_begin : (shape : Dimensions) (seen run : List Event) → Begins seen run → BeginsWith (calls_of shape seen) (calls_of shape run)
-calls_begin shape seen run b =
-    let more = grow shape (world_after shape seen) b.0 in
-    (more.0, ap (calls_of shape) b.1 ∙ ap (λ (w : World). w.calls) (world_after-append shape seen b.0) ∙ more.1)
+pub calls_begin : (start : Start) (seen run : List Event) → Begins seen run → BeginsWith (calls_of start seen) (calls_of start run)
+calls_begin start seen run b =
+    let more = grow start (world_after start seen) b.0 in
+    (more.0, ap (calls_of start) b.1 ∙ ap (λ (w : World). w.calls) (world_after-append start seen b.0) ∙ more.1)
 
 abbrev first_or : Call → List Call → Call
 first_or call [] = call
@@ -48,43 +48,43 @@ stands_among who call (c ∷ cs) e = go (picked (c.who == who) c call (calls_by 
     go (inr rest) later = let more = later rest in (c ∷ more.0, more.1, ap (λ l. c ∷ l) more.2)
 
 -- a call that is answered later stands behind all that was told
-pub stands_behind : (told : List Event) (q : Trace) (call : Call) (r s : Trace) → Begins told q.seen → IsSame q r → Begins q.seen r.seen → Answers call r s → Follows (calls_of q.shape told) call (calls_of s.shape s.seen)
+pub stands_behind : (told : List Event) (q : Trace) (call : Call) (r s : Trace) → Begins told q.seen → IsSame q r → Begins q.seen r.seen → Answers call r s → Follows (calls_of q.start told) call (calls_of s.start s.seen)
 stands_behind told q call r s first same on answered =
-    let shape : s.shape ≡ q.shape = answered.same.shape ∙ same.shape in
-    let told_calls = calls_of q.shape told in
-    let front = calls_begin q.shape told r.seen (begins_trans told q.seen r.seen first on) in
-    let more = calls_begin q.shape r.seen s.seen answered.begins in
-    let split : calls_by r.who (calls_of q.shape s.seen) ≡ calls_by r.who (calls_of q.shape r.seen) ++ calls_by r.who more.0 = ap (calls_by r.who) more.1 ∙ calls_by-append r.who (calls_of q.shape r.seen) more.0 in
-    let once : calls_by r.who (calls_of q.shape s.seen) ≡ calls_by r.who (calls_of q.shape r.seen) ++ call ∷ [] =
-    (λ i. calls_by (sym answered.same.who i) (calls_of (sym shape i) s.seen)) ∙ answered.once ∙ (λ i. calls_by r.who (calls_of (same.shape i) r.seen) ++ call ∷ []) in
-    let one = stands_among r.who call more.0 (append_cancel_left (calls_by r.who (calls_of q.shape r.seen)) (calls_by r.who more.0) (call ∷ []) (sym split ∙ once)) in
+    let start : s.start ≡ q.start = answered.same.start ∙ same.start in
+    let told_calls = calls_of q.start told in
+    let front = calls_begin q.start told r.seen (begins_trans told q.seen r.seen first on) in
+    let more = calls_begin q.start r.seen s.seen answered.begins in
+    let split : calls_by r.who (calls_of q.start s.seen) ≡ calls_by r.who (calls_of q.start r.seen) ++ calls_by r.who more.0 = ap (calls_by r.who) more.1 ∙ calls_by-append r.who (calls_of q.start r.seen) more.0 in
+    let once : calls_by r.who (calls_of q.start s.seen) ≡ calls_by r.who (calls_of q.start r.seen) ++ call ∷ [] =
+    (λ i. calls_by (sym answered.same.who i) (calls_of (sym start i) s.seen)) ∙ answered.once ∙ (λ i. calls_by r.who (calls_of (same.start i) r.seen) ++ call ∷ []) in
+    let one = stands_among r.who call more.0 (append_cancel_left (calls_by r.who (calls_of q.start r.seen)) (calls_by r.who more.0) (call ∷ []) (sym split ∙ once)) in
     record {
       between = front.0 ++ one.0;
       more = one.1;
-      stands = ap (λ (d : Dimensions). calls_of d s.seen) shape
+      stands = ap (λ (d : Start). calls_of d s.seen) start
           ∙ more.1
           ∙ (λ i. front.1 i ++ one.2 i)
           ∙ sym (append_assoc (told_calls ++ front.0) one.0 (call ∷ one.1))
           ∙ ap (λ l. l ++ call ∷ one.1) (append_assoc told_calls front.0 one.0);
     }
 
-since_run : {p q : Trace} → Since p q → IsRun q.shape q.passes q.seen
+since_run : {p q : Trace} → Since p q → IsRun q.start q.passes q.seen
 since_run {p} {q} s = rw (s.same.1, s.same.2) s.is_run
 
 since_quiet : {p q : Trace} → Since p q → Quiet p q
 since_quiet {p} {q} s = record {
-  same = record { table = s.same.0; shape = s.same.1; passes = s.same.2; who = s.same.3 };
+  same = record { table = s.same.0; start = s.same.1; passes = s.same.2; who = s.same.3 };
   seen = (s.rest, s.seen);
   is_run = λ _. since_run s;
-  calls = (λ i. own_calls (s.same.1 i) (s.seen i) (s.same.3 i)) ∙ others_leave_calls p.shape p.seen s.rest p.who s.none;
+  calls = (λ i. own_calls (s.same.1 i) (s.seen i) (s.same.3 i)) ∙ others_leave_calls p.start p.seen s.rest p.who s.none;
 }
 
 -- a pass that caught up, and has then seen what the token tells
-pub catches_up : {set : TableView} {p q : PassView} {token : SeenView} → IsOf p.trace set → IsShape p.trace.shape → Since p.trace q.trace → KeepsPool p q → Begins token.seen q.trace.seen → CatchesUp set p token q
+pub catches_up : {set : TableView} {p q : PassView} {token : SeenView} → IsOf p.trace set → IsStart p.trace.start → Since p.trace q.trace → KeepsPool p q → Begins token.seen q.trace.seen → CatchesUp set p token q
 catches_up {set} {p} {q} {token} own is since pool begins =
     let run = since_run since in
-    let shape = shape_of p.trace.shape q.trace.shape since.same.1 is in
-    let safe = every_run q.trace.shape q.trace.passes q.trace.seen shape run in
+    let start = start_of p.trace.start q.trace.start since.same.1 is in
+    let safe = every_run q.trace.start q.trace.passes q.trace.seen start run in
     record {
       pass = (since.same.0 ∙ own.0, since.same.1 ∙ own.1, since.same.2 ∙ own.2);
       since = since;
@@ -92,10 +92,10 @@ catches_up {set} {p} {q} {token} own is since pool begins =
       pool = pool;
       begins = begins;
       legal = safe.legal;
-      told = calls_begin q.trace.shape token.seen q.trace.seen begins;
+      told = calls_begin q.trace.start token.seen q.trace.seen begins;
       later = λ call r s same on answered. stands_behind token.seen q.trace call r s begins same on answered;
       exchanges = safe.exchanges;
-      reads = reads_right q.trace.shape q.trace.passes q.trace.seen shape run;
+      reads = reads_right q.trace.start q.trace.passes q.trace.seen start run;
       safe = record { is_run = run; safe = safe };
     }
 
@@ -118,7 +118,7 @@ handed_on set first tokens p q chain caught =
       pool = caught.pool;
       begins = begins;
       legal = caught.legal;
-      told = calls_begin q.trace.shape first.seen q.trace.seen begins;
+      told = calls_begin q.trace.start first.seen q.trace.seen begins;
       later = λ call r s same on answered. stands_behind first.seen q.trace call r s begins same on answered;
       exchanges = caught.exchanges;
       reads = caught.reads;
@@ -132,14 +132,14 @@ regrouped front one a b c other more =
     ∙ append_assoc front (one ∷ ((a ++ b) ++ c)) (other ∷ more)
 
 pub in_order : (set : TableView) (one other : Call) (g h k : Trace) (first : SeenView) (tokens : List SeenView) (p q : PassView) (r s : Trace) → Answers one g h → IsSame h k → Begins h.seen k.seen → IsTokenOf set k first → IsChain first tokens
-    → CatchesUp set p (end_of first tokens) q → IsSame q.trace r → Begins q.trace.seen r.seen → Answers other r s → Precedes one other (calls_of s.shape s.seen)
+    → CatchesUp set p (end_of first tokens) q → IsSame q.trace r → Begins q.trace.seen r.seen → Answers other r s → Precedes one other (calls_of s.start s.seen)
 in_order set one other g h k first tokens p q r s answered same on token chain caught same_then on_then answered_then =
-    let own = stands_behind g.seen g one g h (begins_itself g.seen) (record { table = refl; shape = refl; passes = refl; who = refl }) (begins_itself g.seen) answered in
-    let more = calls_begin h.shape h.seen k.seen on in
-    let shape : q.trace.shape ≡ h.shape = caught.pass.1 ∙ sym token.pass.1 ∙ same.shape in
-    let told : calls_of q.trace.shape first.seen ≡ calls_of h.shape k.seen = λ i. calls_of (shape i) (token.seen i) in
+    let own = stands_behind g.seen g one g h (begins_itself g.seen) (record { table = refl; start = refl; passes = refl; who = refl }) (begins_itself g.seen) answered in
+    let more = calls_begin h.start h.seen k.seen on in
+    let start : q.trace.start ≡ h.start = caught.pass.1 ∙ sym token.pass.1 ∙ same.start in
+    let told : calls_of q.trace.start first.seen ≡ calls_of h.start k.seen = λ i. calls_of (start i) (token.seen i) in
     let then = (handed_on set first tokens p q chain caught).later other r s same_then on_then answered_then in
-    let front : List Call = calls_of g.shape g.seen ++ own.between in
+    let front : List Call = calls_of g.start g.seen ++ own.between in
     record {
       first = front;
       between = ((own.more ++ more.0) ++ then.between);

@@ -8,7 +8,7 @@ use Rattle.std.proofs.lemmas.Cmp.{nat_eq_equiv}
 use Rattle.std.proofs.lemmas.List.Kept.{AllPairs-from_increasing}
 use Rattle.std.proofs.lemmas.Map.Keys.{IsDistinct-from_apart}
 use Rattle.std.proofs.lemmas.Map.Made.{length-from_same_keys}
-use Rattle.vbr_words.specs.Dimensions.{Dimensions}
+use Rattle.vbr_machine.specs.Start.{Start}
 use Rattle.vbr_machine.specs.Agreement.{Fits}
 use Rattle.vbr_machine.specs.History.{set_after}
 use Rattle.vbr_machine.specs.Incarnations.{Incarnations}
@@ -30,7 +30,7 @@ length_linked a (suc n) = go (is_linked (state_in a n)) (length_linked a n)
 ascending_distinct : (keys : List ℕ) → IsStrictlyIncreasing keys → IsDistinct nat_eq keys
 ascending_distinct keys up = IsDistinct-from_apart nat_eq keys (λ i j d l low. ne_eqb (get_or keys i d) (get_or keys j d) (λ e. (let less = AllPairs-from_increasing keys up i j d l low in omega arith)))
 
-pub counted_keys : {shape : Dimensions} {a : Incarnations} → Sound shape a → Fits shape a → Tells shape a → (keys : List ℕ) → AreKeysOf keys (set_after (opening_keys shape) a.calls) → length keys ≡ count_below (λ s. is_linked (state_in a s)) shape.slots
-counted_keys {shape} {a} sound fits tells keys are =
-    length-from_same_keys nat_eq_equiv keys (linked_keys a shape.slots) (ascending_distinct keys are.ascending) (distinct sound shape.slots) (λ key. are.same key ∙ sym (set_is sound fits tells key))
-    ∙ length_linked a shape.slots
+pub counted_keys : {start : Start} {a : Incarnations} → Sound start a → Fits start a → Tells start a → (keys : List ℕ) → AreKeysOf keys (set_after (opening_keys start) a.calls) → length keys ≡ count_below (λ s. is_linked (state_in a s)) start.shape.slots
+counted_keys {start} {a} sound fits tells keys are =
+    length-from_same_keys nat_eq_equiv keys (linked_keys a start.shape.slots) (ascending_distinct keys are.ascending) (distinct sound start.shape.slots) (λ key. are.same key ∙ sym (set_is sound fits tells key))
+    ∙ length_linked a start.shape.slots

@@ -2,7 +2,7 @@
 use Rattle.std.proofs.Common.{◌≡◌, ℕ, suc, ◌+◌, ◌<◌, Bool, true, false, cond, List, [], ◌∷◌, ◌++◌, refl, sym, ap, ◌∙◌, add-one}
 use Rattle.std.specs.Prelude.{not, slice_index}
 use Rattle.std.proofs.lemmas.Bool.{false≢true, true≢false}
-use Rattle.vbr_words.specs.Dimensions.{Dimensions}
+use Rattle.vbr_machine.specs.Start.{Start}
 use Rattle.vbr_words.specs.Places.{index_of}
 use Rattle.vbr_words.specs.Words.{link_of}
 use Rattle.vbr_words.specs.declared.link.Link.{Link}
@@ -60,8 +60,8 @@ either (Unlinked p at) e = absurd (false≢true e)
 either (Stamped at stamp) e = absurd (false≢true e)
 
 -- the slot has no node in a list
-pub gathered_skip : {T : Type 0} {tell : ℕ → T} {a : Incarnations} {s live marked : ℕ} {listed : List T} (shape : Dimensions) (notes : List Bool) → NotesLists shape a notes → s < shape.slots → is_noted notes s ≡ false → Gathered tell a s listed live marked → Gathered tell a (s + 1) listed live marked
-gathered_skip {T} {tell} {a} {s} shape notes lists low absent g =
+pub gathered_skip : {T : Type 0} {tell : ℕ → T} {a : Incarnations} {s live marked : ℕ} {listed : List T} (start : Start) (notes : List Bool) → NotesLists start a notes → s < start.shape.slots → is_noted notes s ≡ false → Gathered tell a s listed live marked → Gathered tell a (s + 1) listed live marked
+gathered_skip {T} {tell} {a} {s} start notes lists low absent g =
     let none = unlisted (state_in a s) (sym (lists s low) ∙ absent) in
     record {
       listed_is = g.listed_is ∙ sym (listed_no tell a s none.0);
@@ -70,14 +70,14 @@ gathered_skip {T} {tell} {a} {s} shape notes lists low absent g =
     }
 
 -- whether the node in a list is marked is what its link says
-mark_read : {shape : Dimensions} {words : List ℕ} {run : List Event} → AreAfter shape words run → (s : ℕ) → s < shape.slots → is_listed (state_in (incarnations_after shape run) s) ≡ true → (link_of (slice_index words (index_of shape (place.LinkOf s)))).mark ≡ is_marked (state_in (incarnations_after shape run) s)
-mark_read {shape} {words} {run} x s low listed = ap (λ (l : Link). l.mark) (link_read x (Slot s) low) ∙ mark_of_node (stands_in (incarnations_after shape run) s listed).1
+mark_read : {start : Start} {words : List ℕ} {run : List Event} → AreAfter start words run → (s : ℕ) → s < start.shape.slots → is_listed (state_in (incarnations_after start run) s) ≡ true → (link_of (slice_index words (index_of start.shape (place.LinkOf s)))).mark ≡ is_marked (state_in (incarnations_after start run) s)
+mark_read {start} {words} {run} x s low listed = ap (λ (l : Link). l.mark) (link_read x (Slot s) low) ∙ mark_of_node (stands_in (incarnations_after start run) s listed).1
 
 -- it has a marked one
-pub gathered_marked : {T : Type 0} {tell : ℕ → T} {shape : Dimensions} {words : List ℕ} {run : List Event} {s live marked : ℕ} {listed : List T} (notes : List Bool) → AreAfter shape words run → NotesLists shape (incarnations_after shape run) notes → s < shape.slots → is_noted notes s ≡ true
-    → (link_of (slice_index words (index_of shape (place.LinkOf s)))).mark ≡ true → Gathered tell (incarnations_after shape run) s listed live marked → Gathered tell (incarnations_after shape run) (s + 1) listed live (marked + 1)
-gathered_marked {T} {tell} {shape} {words} {run} {s} notes x lists low there mark g =
-    let a = incarnations_after shape run in
+pub gathered_marked : {T : Type 0} {tell : ℕ → T} {start : Start} {words : List ℕ} {run : List Event} {s live marked : ℕ} {listed : List T} (notes : List Bool) → AreAfter start words run → NotesLists start (incarnations_after start run) notes → s < start.shape.slots → is_noted notes s ≡ true
+    → (link_of (slice_index words (index_of start.shape (place.LinkOf s)))).mark ≡ true → Gathered tell (incarnations_after start run) s listed live marked → Gathered tell (incarnations_after start run) (s + 1) listed live (marked + 1)
+gathered_marked {T} {tell} {start} {words} {run} {s} notes x lists low there mark g =
+    let a = incarnations_after start run in
     let listed = sym (lists s low) ∙ there in
     let is = sym (mark_read x s low listed) ∙ mark in
     let linked = either (state_in a s) listed ∙ ap not is in
@@ -88,10 +88,10 @@ gathered_marked {T} {tell} {shape} {words} {run} {s} notes x lists low there mar
     }
 
 -- it has a linked one
-pub gathered_linked : {T : Type 0} {tell : ℕ → T} {shape : Dimensions} {words : List ℕ} {run : List Event} {s live marked : ℕ} {listed : List T} (told : T) (notes : List Bool) → AreAfter shape words run → NotesLists shape (incarnations_after shape run) notes → s < shape.slots → is_noted notes s ≡ true
-    → (link_of (slice_index words (index_of shape (place.LinkOf s)))).mark ≡ false → told ≡ tell s → Gathered tell (incarnations_after shape run) s listed live marked → Gathered tell (incarnations_after shape run) (s + 1) (listed ++ told ∷ []) (live + 1) marked
-gathered_linked {T} {tell} {shape} {words} {run} {s} told notes x lists low there mark is_told g =
-    let a = incarnations_after shape run in
+pub gathered_linked : {T : Type 0} {tell : ℕ → T} {start : Start} {words : List ℕ} {run : List Event} {s live marked : ℕ} {listed : List T} (told : T) (notes : List Bool) → AreAfter start words run → NotesLists start (incarnations_after start run) notes → s < start.shape.slots → is_noted notes s ≡ true
+    → (link_of (slice_index words (index_of start.shape (place.LinkOf s)))).mark ≡ false → told ≡ tell s → Gathered tell (incarnations_after start run) s listed live marked → Gathered tell (incarnations_after start run) (s + 1) (listed ++ told ∷ []) (live + 1) marked
+gathered_linked {T} {tell} {start} {words} {run} {s} told notes x lists low there mark is_told g =
+    let a = incarnations_after start run in
     let there_is = sym (lists s low) ∙ there in
     let is = sym (mark_read x s low there_is) ∙ mark in
     let linked = either (state_in a s) there_is ∙ ap not is in

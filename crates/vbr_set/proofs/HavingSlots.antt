@@ -1,6 +1,6 @@
 -- A pass has all its slots, and has unlinked in turn, from call to call.
 use Rattle.std.proofs.Common.{ℕ, Bool, Result, List, [], ◌∷◌, subst, sym, refl}
-use Rattle.vbr_words.specs.Dimensions.{Dimensions}
+use Rattle.vbr_machine.specs.Start.{Start}
 use Rattle.vbr_machine.specs.Acceptance.{IsUnlinked, MayBear}
 use Rattle.vbr_machine.specs.Knowledge.{Know}
 use Rattle.vbr_machine.specs.Whereabouts.{UnlinksInTurn}
@@ -56,7 +56,7 @@ turn_met p q epoch turn did = did_stay_turn did refl turn
 
 pub turn_caught : (set : TableView) (p q : PassView) (token : SeenView) → UnlinkedInTurn p.trace → CatchesUp set p token q → UnlinkedInTurn q.trace
 turn_caught set p q token turn c =
-    subst P (λ i. (sym c.since.same.1 i, sym c.since.seen i, sym c.since.same.3 i)) (turn_others p.trace.shape p.trace.seen c.since.rest p.trace.who c.since.none turn)
+    subst P (λ i. (sym c.since.same.1 i, sym c.since.seen i, sym c.since.same.3 i)) (turn_others p.trace.start p.trace.seen c.since.rest p.trace.who c.since.none turn)
   where
-    P : Dimensions × List Event × ℕ → Type 0
+    P : Start × List Event × ℕ → Type 0
     P x = UnlinksInTurn x.0 x.1 x.2

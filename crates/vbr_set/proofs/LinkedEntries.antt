@@ -7,7 +7,7 @@ use Rattle.std.proofs.lemmas.Bool.{eqb-true}
 use Rattle.std.proofs.lemmas.List.{get_or-map, length-map, map-append}
 use Rattle.std.proofs.lemmas.List.Elements.{All-head, All-nil, All-push, All-tail}
 use Rattle.std.proofs.lemmas.List.Sorted.{All-permutation, IsPermutation-map}
-use Rattle.vbr_words.specs.Dimensions.{Dimensions}
+use Rattle.vbr_machine.specs.Start.{Start}
 use Rattle.vbr_machine.specs.Accounts.{incarnations_after}
 use Rattle.vbr_machine.specs.History.{Payloads, keys_after, payloads_after, set_after, values_after}
 use Rattle.vbr_machine.specs.Images.{value_shown}
@@ -55,12 +55,12 @@ map_at : (entries : Entries) (keys : Keys) (payloads : Payloads) (calls : List C
 map_at entries keys payloads [] q e = e
 map_at entries keys payloads (c ∷ cs) q e = map_at (entries_after entries c.op c.key c.reply c.value) (keys_after keys c.op c.key c.reply) (payloads_after payloads c.op c.key c.reply c.value) cs q (call_at entries keys payloads c.op c.key c.reply c.value q e)
 
-module _ (shape : Dimensions) (calls : List Call) where
+module _ (start : Start) (calls : List Call) where
   abbrev map_left : Entries
-  map_left = map_after (opening_entries shape) calls
+  map_left = map_after (opening_entries start) calls
 
-  map_is : (q : ℕ) → map_left q ≡ entry_of (set_after (opening_keys shape) calls q) (values_after (opening_payloads shape) calls q)
-  map_is q = map_at (opening_entries shape) (opening_keys shape) (opening_payloads shape) calls q refl
+  map_is : (q : ℕ) → map_left q ≡ entry_of (set_after (opening_keys start) calls q) (values_after (opening_payloads start) calls q)
+  map_is q = map_at (opening_entries start) (opening_keys start) (opening_payloads start) calls q refl
 
 -- ---- the entries of linked nodes
 
@@ -76,17 +76,17 @@ keys_linked a (suc n) = go (is_linked (state_in a n)) (keys_linked a n)
     go true e = map-append (λ (entry : ℕ × ℕ). entry.0) (linked_of (entry_in_slot a) a n) (entry_in_slot a n ∷ []) ∙ ap (λ (keys : List ℕ). keys ++ key_in_slot a n ∷ []) e
     go false e = e
 
-all_stored : {shape : Dimensions} {a : Incarnations} → Tells shape a → shape.values ≡ true → (n : ℕ) → All (IsStored (map_left shape a.calls)) (linked_of (entry_in_slot a) a n)
-all_stored {shape} {a} tells valued zero = All-nil (IsStored (map_left shape a.calls))
-all_stored {shape} {a} tells valued (suc n) = go (all_stored tells valued n) (is_linked (state_in a n)) refl
+all_stored : {start : Start} {a : Incarnations} → Tells start a → start.shape.values ≡ true → (n : ℕ) → All (IsStored (map_left start a.calls)) (linked_of (entry_in_slot a) a n)
+all_stored {start} {a} tells valued zero = All-nil (IsStored (map_left start a.calls))
+all_stored {start} {a} tells valued (suc n) = go (all_stored tells valued n) (is_linked (state_in a n)) refl
   where
-    go : All (IsStored (map_left shape a.calls)) (linked_of (entry_in_slot a) a n) → (b : Bool) → is_linked (state_in a n) ≡ b → All (IsStored (map_left shape a.calls)) (cond b (linked_of (entry_in_slot a) a n ++ entry_in_slot a n ∷ []) (linked_of (entry_in_slot a) a n))
+    go : All (IsStored (map_left start a.calls)) (linked_of (entry_in_slot a) a n) → (b : Bool) → is_linked (state_in a n) ≡ b → All (IsStored (map_left start a.calls)) (cond b (linked_of (entry_in_slot a) a n ++ entry_in_slot a n ∷ []) (linked_of (entry_in_slot a) a n))
     go earlier false is = earlier
     go earlier true is =
         let c = linked_in a n is in
-        All-push (IsStored (map_left shape a.calls)) (linked_of (entry_in_slot a) a n) (entry_in_slot a n) earlier
-        (ap (map_left shape a.calls) (stands_key c.1.stands)
-        ∙ map_is shape a.calls (a.key c.0)
+        All-push (IsStored (map_left start a.calls)) (linked_of (entry_in_slot a) a n) (entry_in_slot a n) earlier
+        (ap (map_left start a.calls) (stands_key c.1.stands)
+        ∙ map_is start a.calls (a.key c.0)
         ∙ (λ i. entry_of (tells.there c.0 c.1.linked i) (tells.stored c.0 c.1.linked i))
         ∙ ap (λ (values : Bool). Some (if values then Some (a.value c.0) else None)) valued
         ∙ ap (λ (last : Option ℕ). Some (Some (value_shown a last))) (sym c.1.stands.last))
@@ -115,18 +115,18 @@ rises sorted up i j d le low =
     subst (λ (x : ℕ × ℕ). x.0 ≤ x.1) (λ k. (sym (get_or-map (λ (entry : ℕ × ℕ). entry.0) sorted i (0, 0) d first) k, sym (get_or-map (λ (entry : ℕ × ℕ). entry.0) sorted j (0, 0) d last) k)) (up i j (0, 0) le last)
 
 -- sorted by key, they are the list of the map
-pub lists_entries : {shape : Dimensions} {words : List ℕ} {run : List Event} → AreAfter shape words run → shape.values ≡ true → (entries sorted : List (ℕ × ℕ)) → entries ≡ linked_of (entry_in_slot (incarnations_after shape run)) (incarnations_after shape run) shape.slots → IsPermutation entries sorted → IsNonDecreasingBy (λ (entry : ℕ × ℕ). entry.0) sorted
-    → AreEntriesOf sorted (map_after (opening_entries shape) (calls_of shape run))
-lists_entries {shape} {words} {run} x valued entries sorted are moved up =
-    let a = incarnations_after shape run in
+pub lists_entries : {start : Start} {words : List ℕ} {run : List Event} → AreAfter start words run → start.shape.values ≡ true → (entries sorted : List (ℕ × ℕ)) → entries ≡ linked_of (entry_in_slot (incarnations_after start run)) (incarnations_after start run) start.shape.slots → IsPermutation entries sorted → IsNonDecreasingBy (λ (entry : ℕ × ℕ). entry.0) sorted
+    → AreEntriesOf sorted (map_after (opening_entries start) (calls_of start run))
+lists_entries {start} {words} {run} x valued entries sorted are moved up =
+    let a = incarnations_after start run in
     let g = agrees x in
-    let keys = lists_keys x (keys_listed entries) (keys_listed sorted) (ap keys_listed are ∙ keys_linked a shape.slots) (IsPermutation-map (λ (entry : ℕ × ℕ). entry.0) entries sorted moved) (rises sorted up) in
-    let stored = All-permutation (IsStored (map_left shape a.calls)) entries sorted moved (subst (λ (l : List (ℕ × ℕ)). All (IsStored (map_left shape a.calls)) l) (sym are) (all_stored g.tells valued shape.slots)) in
+    let keys = lists_keys x (keys_listed entries) (keys_listed sorted) (ap keys_listed are ∙ keys_linked a start.shape.slots) (IsPermutation-map (λ (entry : ℕ × ℕ). entry.0) entries sorted moved) (rises sorted up) in
+    let stored = All-permutation (IsStored (map_left start a.calls)) entries sorted moved (subst (λ (l : List (ℕ × ℕ)). All (IsStored (map_left start a.calls)) l) (sym are) (all_stored g.tells valued start.shape.slots)) in
     record {
       ascending = keys.ascending;
       same = λ key.
-          entries_are (map_left shape a.calls) sorted stored key
-          ∙ ap (λ (calls : List Call). if list_any (nat_eq key) (keys_listed sorted) then map_left shape calls key else None) (sym g.calls)
-          ∙ ap (λ (there : Bool). if there then map_left shape (calls_of shape run) key else None) (keys.same key)
-          ∙ nothing_else (set_after (opening_keys shape) (calls_of shape run) key) (map_left shape (calls_of shape run) key) (values_after (opening_payloads shape) (calls_of shape run) key) (map_is shape (calls_of shape run) key);
+          entries_are (map_left start a.calls) sorted stored key
+          ∙ ap (λ (calls : List Call). if list_any (nat_eq key) (keys_listed sorted) then map_left start calls key else None) (sym g.calls)
+          ∙ ap (λ (there : Bool). if there then map_left start (calls_of start run) key else None) (keys.same key)
+          ∙ nothing_else (set_after (opening_keys start) (calls_of start run) key) (map_left start (calls_of start run) key) (values_after (opening_payloads start) (calls_of start run) key) (map_is start (calls_of start run) key);
     }

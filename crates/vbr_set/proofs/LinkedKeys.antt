@@ -8,7 +8,7 @@ use Rattle.std.proofs.lemmas.Cmp.{nat_eq_equiv}
 use Rattle.std.proofs.lemmas.List.Folds.{list_any-append}
 use Rattle.std.proofs.lemmas.List.Sorted.{list_any-IsPermutation}
 use Rattle.std.proofs.lemmas.Map.Keys.{IsDistinct-IsPermutation, IsDistinct-push, IsStrictlyIncreasing-from_distinct}
-use Rattle.vbr_words.specs.Dimensions.{Dimensions}
+use Rattle.vbr_machine.specs.Start.{Start}
 use Rattle.vbr_machine.specs.Accounts.{incarnations_after}
 use Rattle.vbr_machine.specs.Agreement.{Fits}
 use Rattle.vbr_machine.specs.History.{set_after}
@@ -96,17 +96,17 @@ has_is a (suc n) key h = go (λ low. has_is a n key (record { slot = h.slot; low
 -- ---- distinct
 
 -- linked nodes in two slots have different keys
-apart : {shape : Dimensions} {a : Incarnations} → Sound shape a → (s t : ℕ) → is_linked (state_in a s) ≡ true → is_linked (state_in a t) ≡ true → key_in_slot a s ≡ key_in_slot a t → s ≡ t
-apart {shape} {a} sound s t ls lt e =
+apart : {start : Start} {a : Incarnations} → Sound start a → (s t : ℕ) → is_linked (state_in a s) ≡ true → is_linked (state_in a t) ≡ true → key_in_slot a s ≡ key_in_slot a t → s ≡ t
+apart {start} {a} sound s t ls lt e =
     let c = linked_in a s ls in
     let d = linked_in a t lt in
     let same = keys_differ sound c.0 d.0 c.1.stands.listed d.1.stands.listed (sym (stands_key c.1.stands) ∙ e ∙ stands_key d.1.stands) in
     sym ((sound.slots.last_born s c.0 c.1.stands.last).1) ∙ ap a.slot same ∙ (sound.slots.last_born t d.0 d.1.stands.last).1
 
-pub distinct : {shape : Dimensions} {a : Incarnations} → Sound shape a → (n : ℕ) → IsDistinct nat_eq (linked_keys a n)
+pub distinct : {start : Start} {a : Incarnations} → Sound start a → (n : ℕ) → IsDistinct nat_eq (linked_keys a n)
 unfolding IsDistinct
 distinct sound zero = tt
-distinct {shape} {a} sound (suc n) = go (distinct sound n) (is_linked (state_in a n)) refl
+distinct {start} {a} sound (suc n) = go (distinct sound n) (is_linked (state_in a n)) refl
   where
     go : IsDistinct nat_eq (linked_keys a n) → (b : Bool) → is_linked (state_in a n) ≡ b → IsDistinct nat_eq (cond b (linked_keys a n ++ key_in_slot a n ∷ []) (linked_keys a n))
     go earlier false is = earlier
@@ -122,32 +122,32 @@ same_tests false true f g = g refl
 same_tests false false f g = refl
 
 -- the linked nodes of the slots of the shape have just the keys of the set
-pub set_is : {shape : Dimensions} {a : Incarnations} → Sound shape a → Fits shape a → Tells shape a → (key : ℕ) → list_any (nat_eq key) (linked_keys a shape.slots) ≡ set_after (opening_keys shape) a.calls key
-set_is {shape} {a} sound fits tells key = same_tests _ _ there only
+pub set_is : {start : Start} {a : Incarnations} → Sound start a → Fits start a → Tells start a → (key : ℕ) → list_any (nat_eq key) (linked_keys a start.shape.slots) ≡ set_after (opening_keys start) a.calls key
+set_is {start} {a} sound fits tells key = same_tests _ _ there only
   where
-    there : list_any (nat_eq key) (linked_keys a shape.slots) ≡ true → set_after (opening_keys shape) a.calls key ≡ true
+    there : list_any (nat_eq key) (linked_keys a start.shape.slots) ≡ true → set_after (opening_keys start) a.calls key ≡ true
     there e =
-        let h = has_from a shape.slots key e in
+        let h = has_from a start.shape.slots key e in
         let c = linked_in a h.slot h.linked in
-        ap (set_after (opening_keys shape) a.calls) (sym h.is ∙ stands_key c.1.stands) ∙ tells.there c.0 c.1.linked
+        ap (set_after (opening_keys start) a.calls) (sym h.is ∙ stands_key c.1.stands) ∙ tells.there c.0 c.1.linked
 
-    only : set_after (opening_keys shape) a.calls key ≡ true → list_any (nat_eq key) (linked_keys a shape.slots) ≡ true
+    only : set_after (opening_keys start) a.calls key ≡ true → list_any (nat_eq key) (linked_keys a start.shape.slots) ≡ true
     only e =
         let c = tells.only key e in
         let at = stands_there sound fits c.0 (subst IsListed (sym c.1) tt) in
-        has_is a shape.slots key (record { slot = a.slot c.0; low = at.0; linked = ap is_linked (stands_state at.1 ∙ c.1); is = stands_key at.1 ∙ c.2 })
+        has_is a start.shape.slots key (record { slot = a.slot c.0; low = at.0; linked = ap is_linked (stands_state at.1 ∙ c.1); is = stands_key at.1 ∙ c.2 })
 
 -- sorted, they are the list of the set
-pub lists_keys : {shape : Dimensions} {words : List ℕ} {run : List Event} → AreAfter shape words run → (keys sorted : List ℕ) → keys ≡ linked_keys (incarnations_after shape run) shape.slots → IsPermutation keys sorted → IsNonDecreasing sorted → AreKeysOf sorted (set_after (opening_keys shape) (calls_of shape run))
-lists_keys {shape} {words} {run} x keys sorted are moved up =
-    let a = incarnations_after shape run in
+pub lists_keys : {start : Start} {words : List ℕ} {run : List Event} → AreAfter start words run → (keys sorted : List ℕ) → keys ≡ linked_keys (incarnations_after start run) start.shape.slots → IsPermutation keys sorted → IsNonDecreasing sorted → AreKeysOf sorted (set_after (opening_keys start) (calls_of start run))
+lists_keys {start} {words} {run} x keys sorted are moved up =
+    let a = incarnations_after start run in
     let g = agrees x in
-    let apart_keys = subst (λ (l : List ℕ). IsDistinct nat_eq l) (sym are) (distinct g.sound shape.slots) in
+    let apart_keys = subst (λ (l : List ℕ). IsDistinct nat_eq l) (sym are) (distinct g.sound start.shape.slots) in
     record {
       ascending = IsStrictlyIncreasing-from_distinct sorted up (IsDistinct-IsPermutation nat_eq (λ m n. nat_eq_equiv.symm m n) keys sorted moved apart_keys);
       same = λ key.
           sym (list_any-IsPermutation (nat_eq key) keys sorted moved)
           ∙ ap (list_any (nat_eq key)) are
           ∙ set_is g.sound g.fits g.tells key
-          ∙ ap (λ (calls : List Call). set_after (opening_keys shape) calls key) (sym g.calls);
+          ∙ ap (λ (calls : List Call). set_after (opening_keys start) calls key) (sym g.calls);
     }

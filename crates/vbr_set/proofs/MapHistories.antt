@@ -1,7 +1,7 @@
 -- What a pass of a map has seen is a safe run, so its calls are one legal history of a map.
 use Rattle.std.proofs.Common.{ℕ, List, Result, Ok, Err}
 use Rattle.std.specs.Prelude.{IfOk}
-use Rattle.vbr_words.specs.Dimensions.{Dimensions, IsShape}
+use Rattle.vbr_machine.specs.Start.{Start, IsStart}
 use Rattle.vbr_machine.specs.Maps.{IsMapLegal, opening_entries}
 use Rattle.vbr_machine.specs.Runs.{IsRun, world_after}
 use Rattle.vbr_machine.specs.declared.event.Event.{Event}
@@ -9,13 +9,13 @@ use Rattle.vbr_machine.specs.declared.history.Call.{Call}
 use Rattle.vbr_slots.specs.Calls.{Made}
 use Rattle.vbr_slots.specs.Views.{Trace}
 use Rattle.vbr_set.specs.MapCalls.{MapAnswers}
-use Rattle.vbr_set.proofs.Histories.{answers, shape_of}
+use Rattle.vbr_set.proofs.Histories.{answers, start_of}
 
 -- the calls of each run are a legal history of a map
 abbrev RunsAreMaps : Type 0
-RunsAreMaps = (shape : Dimensions) (passes : ℕ) (run : List Event) → IsShape shape → IsRun shape passes run → IsMapLegal (opening_entries shape) (world_after shape run).calls
+RunsAreMaps = (start : Start) (passes : ℕ) (run : List Event) → IsStart start → IsRun start passes run → IsMapLegal (opening_entries start) (world_after start run).calls
 
 -- an answer, if there is one
-pub each_map_answers : RunsAreMaps → {A E : Type 0} (told : A → Call) (p q : Trace) (answer : Result A E) → IsShape p.shape → IfOk answer (λ reply. Made (told reply) p q) → IfOk answer (λ reply. MapAnswers (told reply) p q)
-each_map_answers maps told p q (Ok reply) is made = record { answers = answers is made; legal = maps q.shape q.passes q.seen (shape_of p.shape q.shape made.same.shape is) made.is_run }
+pub each_map_answers : RunsAreMaps → {A E : Type 0} (told : A → Call) (p q : Trace) (answer : Result A E) → IsStart p.start → IfOk answer (λ reply. Made (told reply) p q) → IfOk answer (λ reply. MapAnswers (told reply) p q)
+each_map_answers maps told p q (Ok reply) is made = record { answers = answers is made; legal = maps q.start q.passes q.seen (start_of p.start q.start made.same.start is) made.is_run }
 each_map_answers maps told p q (Err refusal) is made = tt

@@ -58,11 +58,11 @@ module _ {p q : Trace} (alone : IsAlone p q) (who : q.who ≡ p.who) (same : fla
       none = let was = all in let sum = ap (raised_in p.who) alone.seen ∙ both p.who p.seen alone.own in omega arith
 
   -- what was outside the shared pool at a moment is outside at the end
-  outside_now : (slot : ℕ) → WasOutside p q slot → (world_after p.shape q.seen).place slot ≢ Shared
-  outside_now slot was = subst P (sym was.is.to.1) (stays_outside p.shape was.moment was.is.to.0 slot behind was.outside)
+  outside_now : (slot : ℕ) → WasOutside p q slot → (world_after p.start q.seen).place slot ≢ Shared
+  outside_now slot was = subst P (sym was.is.to.1) (stays_outside p.start was.moment was.is.to.0 slot behind was.outside)
     where
       P : List Event → Type 0
-      P run = (world_after p.shape run).place slot ≢ Shared
+      P run = (world_after p.start run).place slot ≢ Shared
 
       own : alone.own ≡ was.is.from.0 ++ was.is.to.0
       own = append_cancel_left p.seen alone.own (was.is.from.0 ++ was.is.to.0) (sym alone.seen ∙ was.is.to.1 ∙ ap (λ (l : List Event). l ++ was.is.to.0) was.is.from.1 ∙ append_assoc p.seen was.is.from.0 was.is.to.0)
@@ -70,8 +70,8 @@ module _ {p q : Trace} (alone : IsAlone p q) (who : q.who ≡ p.who) (same : fla
       behind : NoneRaises was.is.to.0
       behind = none_behind was.is.from.0 was.is.to.0 (subst NoneRaises own own_raised)
 
-  pub none_in_shared_pool : ((slot : ℕ) → slot < p.shape.slots → WasOutside p q slot) → number_at p.shape q.seen InSharedPool ≡ 0
-  none_in_shared_pool was = none_shared p.shape q.seen (λ slot low. outside_now slot (was slot low))
+  pub none_in_shared_pool : ((slot : ℕ) → slot < p.start.shape.slots → WasOutside p q slot) → number_at p.start q.seen InSharedPool ≡ 0
+  none_in_shared_pool was = none_shared p.start q.seen (λ slot low. outside_now slot (was slot low))
 
 -- ---- what a pass has
 
@@ -92,13 +92,13 @@ not_true true n = absurd (n refl)
 not_true false n = refl
 
 -- a pass that has all its slots has none unstamped
-pub none_unstamped : (p : PassView) → HasAllSlots p → number_at p.trace.shape p.trace.seen (Unstamped p.trace.who) ≡ 0
-none_unstamped p all = count_none _ p.trace.shape.slots (λ s low. not_true _ (λ e. all.stamped s (is_unlinked ((knows p.trace).own s) e)))
+pub none_unstamped : (p : PassView) → HasAllSlots p → number_at p.trace.start p.trace.seen (Unstamped p.trace.who) ≡ 0
+none_unstamped p all = count_none _ p.trace.start.shape.slots (λ s low. not_true _ (λ e. all.stamped s (is_unlinked ((knows p.trace).own s) e)))
 
 -- and with an empty pool and an empty hand it has none at all
-pub none_had : (p : PassView) → HasAllSlots p → p.pool ≡ [] → p.hand ≡ None → number_had p.trace.shape p.trace.seen p.trace.who ≡ 0
+pub none_had : (p : PassView) → HasAllSlots p → p.pool ≡ [] → p.hand ≡ None → number_had p.trace.start p.trace.seen p.trace.who ≡ 0
 none_had p all empty no_hand =
-    let a = count_none (is_at p.trace.shape p.trace.seen (WithPass p.trace.who)) p.trace.shape.slots (λ s low. not_true _ (λ e. no_slot s (all.free s (bears ((knows p.trace).own s) e)))) in
+    let a = count_none (is_at p.trace.start p.trace.seen (WithPass p.trace.who)) p.trace.start.shape.slots (λ s low. not_true _ (λ e. no_slot s (all.free s (bears ((knows p.trace).own s) e)))) in
     let b = none_unstamped p all in
     omega arith
   where

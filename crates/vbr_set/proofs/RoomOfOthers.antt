@@ -3,7 +3,7 @@ use Rattle.std.proofs.Common.{◌≡◌, ◌≢◌, ℕ, zero, suc, ◌+◌, ◌
 use Rattle.std.specs.Prelude.{◌⊎◌, Contains, if◌then◌else◌, not}
 use Rattle.std.proofs.lemmas.Bool.{and_parts, cases_Bool, cases_eq, cases_order, ne_eqb}
 use Rattle.std.proofs.Math.Nat.{mul-suc}
-use Rattle.vbr_words.specs.Dimensions.{Dimensions}
+use Rattle.vbr_machine.specs.Start.{Start}
 use Rattle.vbr_machine.specs.Nodes.{count_below}
 use Rattle.vbr_machine.specs.Runs.{know_after}
 use Rattle.vbr_machine.specs.Knowledge.{Know}
@@ -152,9 +152,9 @@ count_in_list (x ∷ xs) test n h =
 -- ---- between calls
 
 -- a pass that has all its slots, none of them in its hand, has as many as its pool
-pub had_in_pool : (p : PassView) → HasAllSlots p → p.hand ≡ None → number_had p.trace.shape p.trace.seen p.trace.who ≤ length p.pool
+pub had_in_pool : (p : PassView) → HasAllSlots p → p.hand ≡ None → number_had p.trace.start p.trace.seen p.trace.who ≤ length p.pool
 had_in_pool p all no_hand =
-    let a = count_in_list p.pool (is_at p.trace.shape p.trace.seen (WithPass p.trace.who)) p.trace.shape.slots (λ s e. in_pool s (all.free s (bears ((knows p.trace).own s) e))) in
+    let a = count_in_list p.pool (is_at p.trace.start p.trace.seen (WithPass p.trace.who)) p.trace.start.shape.slots (λ s e. in_pool s (all.free s (bears ((knows p.trace).own s) e))) in
     let b = none_unstamped p all in
     omega arith
   where
@@ -163,15 +163,15 @@ had_in_pool p all no_hand =
     in_pool s (inr there) = absurd (let x : None ≡ Some s = sym no_hand ∙ there in cc)
 
 -- and so has it after what another pass has seen
-pub had_between : (p : PassView) (q : Trace) → IsBetweenCalls p q → number_had q.shape q.seen p.trace.who ≤ POOL
+pub had_between : (p : PassView) (q : Trace) → IsBetweenCalls p q → number_had q.start q.seen p.trace.who ≤ POOL
 had_between p q b =
     let room = b.law.room in
     let own = had_in_pool p b.has_all b.empty_hand in
-    let same : number_had q.shape q.seen p.trace.who ≡ number_had p.trace.shape p.trace.seen p.trace.who = (λ i. number_had_by (sym b.shape i) (known i)) in
+    let same : number_had q.start q.seen p.trace.who ≡ number_had p.trace.start p.trace.seen p.trace.who = (λ i. number_had_by (sym b.start i) (known i)) in
     omega arith
   where
-    number_had_by : Dimensions → Know → ℕ
-    number_had_by shape know = count_below (λ s. may_bear (know.own s)) shape.slots + count_below (λ s. is_unstamped (know.own s)) shape.slots
+    number_had_by : Start → Know → ℕ
+    number_had_by start know = count_below (λ s. may_bear (know.own s)) start.shape.slots + count_below (λ s. is_unstamped (know.own s)) start.shape.slots
 
-    known : know_after q.shape q.seen p.trace.who ≡ know_after p.trace.shape p.trace.seen p.trace.who
-    known = ap (λ (d : Dimensions). know_after d q.seen p.trace.who) (sym b.shape) ∙ begins_for_know p.trace.shape p.trace.who p.trace.seen q.seen b.seen
+    known : know_after q.start q.seen p.trace.who ≡ know_after p.trace.start p.trace.seen p.trace.who
+    known = ap (λ (d : Start). know_after d q.seen p.trace.who) (sym b.start) ∙ begins_for_know p.trace.start p.trace.who p.trace.seen q.seen b.seen

@@ -1,7 +1,7 @@
 -- The nodes that the words of a closed table show: of each slot the link, the key and the value of its last incarnation, and what stands in the lists.
 use Rattle.std.proofs.Common.{◌≡◌, ℕ, ◌<◌, List, Option, refl, sym, ap, ◌∙◌}
 use Rattle.std.specs.Prelude.{slice_index}
-use Rattle.vbr_words.specs.Dimensions.{Dimensions}
+use Rattle.vbr_machine.specs.Start.{Start}
 use Rattle.vbr_words.specs.Places.{IsIn, index_of, place_of}
 use Rattle.vbr_words.specs.Words.{link_of}
 use Rattle.vbr_words.specs.declared.place.At.{At}
@@ -22,21 +22,21 @@ use Rattle.vbr_set.specs.Walking.{AreAfter}
 
 -- ---- words
 
-pub agrees : {shape : Dimensions} {words : List ℕ} {run : List Event} → AreAfter shape words run → Agrees shape (world_after shape run) (incarnations_after shape run) (notes_after shape run)
-agrees {shape} {words} {run} x = run_agrees shape x.passes run x.is_shape x.is_run
+pub agrees : {start : Start} {words : List ℕ} {run : List Event} → AreAfter start words run → Agrees start (world_after start run) (incarnations_after start run) (notes_after start run)
+agrees {start} {words} {run} x = run_agrees start x.passes run x.is_start x.is_run
 
-pub safe : {shape : Dimensions} {words : List ℕ} {run : List Event} → AreAfter shape words run → IsSafe shape run
-safe {shape} {words} {run} x = every_run shape x.passes run x.is_shape x.is_run
+pub safe : {start : Start} {words : List ℕ} {run : List Event} → AreAfter start words run → IsSafe start run
+safe {start} {words} {run} x = every_run start x.passes run x.is_start x.is_run
 
 -- the link of a word is the one that the incarnations show there
-pub link_read : {shape : Dimensions} {words : List ℕ} {run : List Event} → AreAfter shape words run → (at : At) → IsIn shape (place_of at) → link_of (slice_index words (index_of shape (place_of at))) ≡ link_shown_at (incarnations_after shape run) at
-link_read {shape} {words} {run} x (Head b) is = ap link_of (x.are.each (place.Head b) is) ∙ link_of-word_of ((world_after shape run).head b) ((safe x).links (Head b)) ∙ (agrees x).image.head b
-link_read {shape} {words} {run} x (Slot s) is = ap link_of (x.are.each (place.LinkOf s) is) ∙ link_of-word_of ((world_after shape run).link s) ((safe x).links (Slot s)) ∙ (agrees x).image.link s
+pub link_read : {start : Start} {words : List ℕ} {run : List Event} → AreAfter start words run → (at : At) → IsIn start.shape (place_of at) → link_of (slice_index words (index_of start.shape (place_of at))) ≡ link_shown_at (incarnations_after start run) at
+link_read {start} {words} {run} x (Head b) is = ap link_of (x.are.each (place.Head b) is) ∙ link_of-word_of ((world_after start run).head b) ((safe x).links (Head b)) ∙ (agrees x).image.head b
+link_read {start} {words} {run} x (Slot s) is = ap link_of (x.are.each (place.LinkOf s) is) ∙ link_of-word_of ((world_after start run).link s) ((safe x).links (Slot s)) ∙ (agrees x).image.link s
 
-pub key_read : {shape : Dimensions} {words : List ℕ} {run : List Event} → AreAfter shape words run → (s : ℕ) → s < shape.slots → slice_index words (index_of shape (place.Key s)) ≡ key_in_slot (incarnations_after shape run) s
+pub key_read : {start : Start} {words : List ℕ} {run : List Event} → AreAfter start words run → (s : ℕ) → s < start.shape.slots → slice_index words (index_of start.shape (place.Key s)) ≡ key_in_slot (incarnations_after start run) s
 key_read x s is = x.are.each (place.Key s) is ∙ (agrees x).image.key s
 
-pub value_read : {shape : Dimensions} {words : List ℕ} {run : List Event} → AreAfter shape words run → (s : ℕ) → IsIn shape (place.Value s) → slice_index words (index_of shape (place.Value s)) ≡ value_shown (incarnations_after shape run) ((incarnations_after shape run).last s)
+pub value_read : {start : Start} {words : List ℕ} {run : List Event} → AreAfter start words run → (s : ℕ) → IsIn start.shape (place.Value s) → slice_index words (index_of start.shape (place.Value s)) ≡ value_shown (incarnations_after start run) ((incarnations_after start run).last s)
 value_read x s is = x.are.each (place.Value s) is ∙ (agrees x).image.value s
 
 -- ---- nodes in lists

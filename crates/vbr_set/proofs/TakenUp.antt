@@ -1,6 +1,6 @@
 -- Where a lone insert finds no slot, all slots are taken up.
 use Rattle.std.proofs.Common.{◌≡◌, ◌≢◌, ℕ, ◌+◌, ◌-◌, ◌*◌, ◌<◌, ◌≤◌, List, [], length, Err, arith, subst, ap, ◌∙◌, inl, inr}
-use Rattle.vbr_words.specs.Dimensions.{Dimensions}
+use Rattle.vbr_machine.specs.Start.{Start}
 use Rattle.vbr_machine.specs.History.{set_after}
 use Rattle.vbr_machine.specs.Keys.{AreKeysOf}
 use Rattle.vbr_machine.specs.Nodes.{marked_after}
@@ -40,32 +40,32 @@ module _ (m n : MemberView) (key budget : ℕ) (law : PassLaw n.pass) (all : Has
   found : FoundNoSlot p q key
   found = c.spares.refused
 
-  none_shared : number_at q.trace.shape q.trace.seen InSharedPool ≡ 0
-  none_shared = ap (λ (shape : Dimensions). number_at shape q.trace.seen InSharedPool) c.same.shape ∙ none_in_shared_pool alone c.same.who (none_raised p q found.still c.spares.shared) found.outside
+  none_shared : number_at q.trace.start q.trace.seen InSharedPool ≡ 0
+  none_shared = ap (λ (start : Start). number_at start q.trace.seen InSharedPool) c.same.start ∙ none_in_shared_pool alone c.same.who (none_raised p q found.still c.spares.shared) found.outside
 
-  none_own : number_had q.trace.shape q.trace.seen q.trace.who ≡ 0
+  none_own : number_had q.trace.start q.trace.seen q.trace.who ≡ 0
   none_own = none_had q (all_called Insert m n key budget (Err NoSlot) all c) found.still c.hand
 
-  in_set : (keys : List ℕ) → AreKeysOf keys (set_after (opening_keys q.trace.shape) (calls_of q.trace.shape q.trace.seen)) → length keys ≡ number_at q.trace.shape q.trace.seen InSet
+  in_set : (keys : List ℕ) → AreKeysOf keys (set_after (opening_keys q.trace.start) (calls_of q.trace.start q.trace.seen)) → length keys ≡ number_at q.trace.start q.trace.seen InSet
   in_set keys are =
-      let g = run_agrees q.trace.shape q.trace.passes q.trace.seen law.shape law.is_run in
-      counted_keys g.sound g.fits g.tells keys (subst (λ (calls : List Call). AreKeysOf keys (set_after (opening_keys q.trace.shape) calls)) g.calls are)
+      let g = run_agrees q.trace.start q.trace.passes q.trace.seen law.start law.is_run in
+      counted_keys g.sound g.fits g.tells keys (subst (λ (calls : List Call). AreKeysOf keys (set_after (opening_keys q.trace.start) calls)) g.calls are)
 
   pub taken_up : AreTakenUp q.trace
   taken_up keys are =
-      let sum = add_up q.trace.shape q.trace.passes q.trace.seen (somewhere q.trace.shape q.trace.passes q.trace.seen law.safe law.is_run) in
-      let others = sum_but_none q.trace.passes q.trace.who (number_had q.trace.shape q.trace.seen) none_own in
+      let sum = add_up q.trace.start q.trace.passes q.trace.seen (somewhere q.trace.start q.trace.passes q.trace.seen law.safe law.is_run) in
+      let others = sum_but_none q.trace.passes q.trace.who (number_had q.trace.start q.trace.seen) none_own in
       let a = none_shared in
       let b = in_set keys are in
       omega arith
 
-  pub suffices : OthersAreBetweenCalls q.trace → (keys : List ℕ) → AreKeysOf keys (set_after (opening_keys q.trace.shape) (calls_of q.trace.shape q.trace.seen)) → q.trace.shape.slots ≤ length keys + marked_after q.trace.shape q.trace.seen + POOL * (q.trace.passes - 1)
+  pub suffices : OthersAreBetweenCalls q.trace → (keys : List ℕ) → AreKeysOf keys (set_after (opening_keys q.trace.start) (calls_of q.trace.start q.trace.seen)) → q.trace.start.shape.slots ≤ length keys + marked_after q.trace.start q.trace.seen + POOL * (q.trace.passes - 1)
   suffices between keys are =
       let up = taken_up keys are in
-      let few = sum_but_at_most q.trace.passes q.trace.who POOL (number_had q.trace.shape q.trace.seen) law.low each in
+      let few = sum_but_at_most q.trace.passes q.trace.who POOL (number_had q.trace.start q.trace.seen) law.low each in
       omega arith
     where
-      each : (i : ℕ) → i < q.trace.passes → i ≢ q.trace.who → number_had q.trace.shape q.trace.seen i ≤ POOL
+      each : (i : ℕ) → i < q.trace.passes → i ≢ q.trace.who → number_had q.trace.start q.trace.seen i ≤ POOL
       each i low ne =
           let o = between i low ne in
-          subst (λ (who : ℕ). number_had q.trace.shape q.trace.seen who ≤ POOL) o.1 (had_between o.0 q.trace o.2)
+          subst (λ (who : ℕ). number_had q.trace.start q.trace.seen who ≤ POOL) o.1 (had_between o.0 q.trace o.2)

@@ -1,6 +1,6 @@
 -- What the words of a table tell, whether its nodes have values or not. Only contracts of private functions cite this.
 use Rattle.std.specs.Prelude.{◌≡◌, ℕ, ◌+◌, List, length}
-use Rattle.vbr_words.specs.Dimensions.{Dimensions}
+use Rattle.vbr_machine.specs.Start.{Start}
 use Rattle.vbr_machine.specs.Accounts.{incarnations_after}
 use Rattle.vbr_machine.specs.Images.{value_shown}
 use Rattle.vbr_machine.specs.Incarnations.{Incarnations}
@@ -18,17 +18,17 @@ entry_in_slot a s = (key_in_slot a s, value_shown a (a.last s))
 
 module _ {T : Type 0} (shown : Incarnations → ℕ → T) where
   -- what is listed is what is shown of the linked nodes after a run, slot by slot; the rest is as a report tells it
-  pub record Holds (shape : Dimensions) (run : List Event) (told : Contents T) : Type 0 where
-    pub listed : told.listed.items ≡ linked_of (shown (incarnations_after shape run)) (incarnations_after shape run) shape.slots
-    pub epoch : told.epoch ≡ (world_after shape run).epoch
-    pub live : told.live ≡ linked_after shape run
+  pub record Holds (start : Start) (run : List Event) (told : Contents T) : Type 0 where
+    pub listed : told.listed.items ≡ linked_of (shown (incarnations_after start run)) (incarnations_after start run) start.shape.slots
+    pub epoch : told.epoch ≡ (world_after start run).epoch
+    pub live : told.live ≡ linked_after start run
     pub one_each : length told.listed.items ≡ told.live
-    pub marked : told.marked ≡ marked_after shape run
-    pub free : told.live + told.marked + told.free ≡ shape.slots
+    pub marked : told.marked ≡ marked_after start run
+    pub free : told.live + told.marked + told.free ≡ start.shape.slots
 
   -- this is told of the run that a table ends with, of which the passes have seen beginnings
   pub record TellsEnd (t : TableView) (passes : List PassView) (told : Contents T) : Type 0 where
     pub words : List ℕ
     pub ends : Ends t passes words
-    pub after : AreAfter t.shape words ends.run
-    pub holds : Holds t.shape ends.run told
+    pub after : AreAfter t.start words ends.run
+    pub holds : Holds t.start ends.run told

@@ -40,7 +40,7 @@ CallsStayInOrder =
     (set : TableView) (one other : Call) (g h k : Trace) (first : SeenView) (tokens : List SeenView) (p q : PassView) (r s : Trace)
     → Answers one g h → IsSame h k → Begins h.seen k.seen → IsTokenOf set k first → IsChain first tokens
     → CatchesUp set p (end_of first tokens) q → IsSame q.trace r → Begins q.trace.seen r.seen → Answers other r s
-    → Precedes one other (calls_of s.shape s.seen)
+    → Precedes one other (calls_of s.start s.seen)
 
 -- ---- room
 
@@ -60,7 +60,7 @@ pub record PassesUnlinkInTurn : Type 0 where
 
 -- a pass that has unlinked in turn had at most one slot unlinked and not yet stamped at each moment of what it has seen
 abbrev pub OneUnstampedAtEachMoment : Type 0
-OneUnstampedAtEachMoment = (p : Trace) (moment : List Event) → UnlinkedInTurn p → Begins moment p.seen → number_at p.shape moment (Unstamped p.who) ≤ 1
+OneUnstampedAtEachMoment = (p : Trace) (moment : List Event) → UnlinkedInTurn p → Begins moment p.seen → number_at p.start moment (Unstamped p.who) ≤ 1
 
 -- a pass that has all its slots was told that there is no slot for an insert, and no other pass made a step meanwhile
 pub record FoundNoSlot (m n : MemberView) (key budget : ℕ) : Type 0 where
@@ -77,5 +77,5 @@ NoSlotAlone = (m n : MemberView) (key budget : ℕ) → FoundNoSlot m n key budg
 abbrev pub SlotsThatSuffice : Type 0
 SlotsThatSuffice =
     (m n : MemberView) (key budget : ℕ) (keys : List ℕ) → FoundNoSlot m n key budget → OthersAreBetweenCalls n.pass.trace
-    → AreKeysOf keys (set_after (opening_keys n.pass.trace.shape) (calls_of n.pass.trace.shape n.pass.trace.seen))
-    → n.pass.trace.shape.slots ≤ length keys + marked_after n.pass.trace.shape n.pass.trace.seen + POOL * (n.pass.trace.passes - 1)
+    → AreKeysOf keys (set_after (opening_keys n.pass.trace.start) (calls_of n.pass.trace.start n.pass.trace.seen))
+    → n.pass.trace.start.shape.slots ≤ length keys + marked_after n.pass.trace.start n.pass.trace.seen + POOL * (n.pass.trace.passes - 1)

@@ -18,10 +18,10 @@ use Rattle.vbr_set.specs.Answers.{Answers}
 use Rattle.vbr_set.specs.Histories.{calls_of}
 use Rattle.vbr_set.specs.Members.{MemberView}
 
--- what an answered call of a set leaves; and the calls of the run, of all passes, are a legal history of a map that opened with the entries of the shape, each value given being the one stored
+-- what an answered call of a set leaves; and the calls of the run, of all passes, are a legal history of a map that opened with the entries of its start, each value given being the one stored
 pub record MapAnswers (call : Call) (p q : Trace) : Type 0 where
   pub answers : Answers call p q
-  pub legal : IsMapLegal (opening_entries q.shape) (calls_of q.shape q.seen)
+  pub legal : IsMapLegal (opening_entries q.start) (calls_of q.start q.seen)
 
 -- the caller is the same pass of the same map; where the call was answered, the call that the answer tells stands in one legal history of what its pass has then seen, once, behind its calls before; alone it gets the reply and the value of a plain map; where it was refused, it made no call; in each case what its pass has then seen is a safe run; it has no slot in hand; and it made no more steps than its budget
 pub record MapCalled {A : Type 0} (told : A → Call) (SparesSo : Result A Refusal → Type 0) (m n : MemberView) (budget : ℕ) (answer : Result A Refusal) : Type 0 where

@@ -1,7 +1,7 @@
 -- How a map ends, and what the report tells of that: as a set does, and of each key its value.
 use Rattle.std.specs.Prelude.{◌≡◌, ℕ, ◌+◌, List, length}
 use Rattle.std.specs.List.Sorted.{IsStrictlyIncreasing}
-use Rattle.vbr_words.specs.Dimensions.{Dimensions}
+use Rattle.vbr_machine.specs.Start.{Start}
 use Rattle.vbr_machine.specs.Maps.{Entries, IsMapLegal, entries_in, keys_listed, map_after, opening_entries}
 use Rattle.vbr_machine.specs.Nodes.{linked_after, marked_after}
 use Rattle.vbr_machine.specs.Runs.{IsRun, world_after}
@@ -18,21 +18,21 @@ pub record AreEntriesOf (listed : List (ℕ × ℕ)) (entries : Entries) : Type 
   pub ascending : IsStrictlyIncreasing (keys_listed listed)
   pub same : (key : ℕ) → entries_in listed key ≡ entries key
 
--- the report tells the entries that the calls of a run leave in a map that opened with those of the shape, ascending by key; the epoch; how many nodes are linked, one for each key; how many are marked and still in a list; and how many slots have neither
-pub record MapReports (shape : Dimensions) (run : List Event) (report : MapReport) : Type 0 where
-  pub entries : AreEntriesOf report.entries.items (map_after (opening_entries shape) (calls_of shape run))
-  pub epoch : report.epoch ≡ (world_after shape run).epoch
-  pub live : report.live ≡ linked_after shape run
+-- the report tells the entries that the calls of a run leave in a map that opened with those of its start, ascending by key; the epoch; how many nodes are linked, one for each key; how many are marked and still in a list; and how many slots have neither
+pub record MapReports (start : Start) (run : List Event) (report : MapReport) : Type 0 where
+  pub entries : AreEntriesOf report.entries.items (map_after (opening_entries start) (calls_of start run))
+  pub epoch : report.epoch ≡ (world_after start run).epoch
+  pub live : report.live ≡ linked_after start run
   pub one_each : length report.entries.items ≡ report.live
-  pub marked : report.marked ≡ marked_after shape run
-  pub free : report.live + report.marked + report.free ≡ shape.slots
+  pub marked : report.marked ≡ marked_after start run
+  pub free : report.live + report.marked + report.free ≡ start.shape.slots
 
 -- the report tells the end of a run that begins with what each pass has seen, and has no other event of it, so of each pass just the calls that it has made; the calls are legal from the opening entries, perhaps none, each value given being the one stored, and the run is safe
 pub record MapCloses (t : TableView) (passes : List PassView) (report : MapReport) : Type 0 where
   pub run : List Event
-  pub is_run : IsRun t.shape t.passes run
+  pub is_run : IsRun t.start t.passes run
   pub begins : EachSeen run passes
-  pub made : EachMade t.shape run passes
-  pub legal : IsMapLegal (opening_entries t.shape) (calls_of t.shape run)
-  pub safe : IsSafe t.shape run
-  pub reports : MapReports t.shape run report
+  pub made : EachMade t.start run passes
+  pub legal : IsMapLegal (opening_entries t.start) (calls_of t.start run)
+  pub safe : IsSafe t.start run
+  pub reports : MapReports t.start run report

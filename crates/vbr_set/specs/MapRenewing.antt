@@ -11,7 +11,7 @@ use Rattle.vbr_set.specs.declared.renew_error.RenewError.{RenewError}
 pub record MapRenews (map : TableView) (passes : List PassView) (new : TableView) : Type 0 where
   pub report : MapReport
   pub closes : MapCloses map passes report
-  pub shape : new.shape ≡ record map.shape { keys = keys_listed report.entries.items; payloads = values_listed report.entries.items }
+  pub start : new.start ≡ record map.start { keys = keys_listed report.entries.items; payloads = values_listed report.entries.items }
   pub count : new.passes ≡ map.passes
 
 -- where a renewal is refused, the map and the passes come back as they were; or the map is closed, and the report is that of its close

@@ -14,10 +14,10 @@ use Rattle.vbr_set.specs.Histories.{calls_of, ExchangesAreRight, ReadsAreRight}
 pub record Shares (p other q : Trace) : Type 0 where
   pub quiet : Quiet p q
   pub begins : BeginsFor other.who other.seen q.seen
-  pub legal : IsLegal (opening_keys q.shape) (calls_of q.shape q.seen)
-  pub theirs : own_calls q.shape q.seen other.who ≡ made_by other
-  pub exchanges : ExchangesAreRight q.shape q.seen
-  pub reads : ReadsAreRight q.shape q.seen
+  pub legal : IsLegal (opening_keys q.start) (calls_of q.start q.seen)
+  pub theirs : own_calls q.start q.seen other.who ≡ made_by other
+  pub exchanges : ExchangesAreRight q.start q.seen
+  pub reads : ReadsAreRight q.start q.seen
 
 -- a pass has met another: it made one step, a load of the epoch, and no call; its slots are as they were; what it has then seen is a safe run, which begins with what the other has seen and has no other event of it
 pub record HasMet (p other q : PassView) : Type 0 where

@@ -1,6 +1,6 @@
 -- What contracts see of a member of a set, and of its calls.
 use Rattle.std.specs.Prelude.{◌≡◌, ℕ, Bool, Result, IfOk, IfErr, List, map, None}
-use Rattle.vbr_words.specs.Dimensions.{Dimensions}
+use Rattle.vbr_machine.specs.Start.{Start}
 use Rattle.vbr_machine.specs.History.{set_call}
 use Rattle.vbr_machine.specs.declared.history.Op.{Op}
 use Rattle.vbr_slots.specs.Calls.{IsSame, Quiet}
@@ -25,10 +25,10 @@ as_member set pass = record { set = set; pass = pass }
 abbrev pub new_members : TableView → ℕ → List MemberView
 new_members set count = map (λ pass. record { set = set; pass = pass }) (new_passes set 0 count)
 
--- these are the members of a set of the shape that was opened with so many passes
-pub record AreNew (shape : Dimensions) (count : ℕ) (members : List MemberView) : Type 0 where
+-- these are the members of a set that starts so and was opened with so many passes
+pub record AreNew (start : Start) (count : ℕ) (members : List MemberView) : Type 0 where
   pub set : TableView
-  pub shaped : set.shape ≡ shape
+  pub shaped : set.start ≡ start
   pub counted : set.passes ≡ count
   pub are : members ≡ new_members set count
 

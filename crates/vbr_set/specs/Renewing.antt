@@ -10,7 +10,7 @@ use Rattle.vbr_set.specs.declared.report.Report.{Report}
 pub record Renews (set : TableView) (passes : List PassView) (new : TableView) : Type 0 where
   pub report : Report
   pub closes : Closes set passes report
-  pub shape : new.shape ≡ record set.shape { keys = report.keys.items }
+  pub start : new.start ≡ record set.start { keys = report.keys.items }
   pub count : new.passes ≡ set.passes
 
 -- where a renewal is refused, the table and the passes come back as they were; or it is closed, and the report is that of its close

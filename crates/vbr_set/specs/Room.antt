@@ -19,16 +19,16 @@ pub record HasAllSlots (p : PassView) : Type 0 where
 
 -- how many slots the other passes have, in their own pools, in their hands and unstamped, after what the pass has seen
 abbrev pub had_by_others : Trace → ℕ
-had_by_others p = sum_of p.passes (λ pass. if pass == p.who then 0 else number_had p.shape p.seen pass)
+had_by_others p = sum_of p.passes (λ pass. if pass == p.who then 0 else number_had p.start p.seen pass)
 
 -- all slots are taken up, after what the pass has seen: by one for each key of the set, by the marked ones, and by what the other passes have
 abbrev pub AreTakenUp : Trace → Type 0
-AreTakenUp p = (keys : List ℕ) → AreKeysOf keys (set_after (opening_keys p.shape) (calls_of p.shape p.seen)) → p.shape.slots ≡ length keys + marked_after p.shape p.seen + had_by_others p
+AreTakenUp p = (keys : List ℕ) → AreKeysOf keys (set_after (opening_keys p.start) (calls_of p.start p.seen)) → p.start.shape.slots ≡ length keys + marked_after p.start p.seen + had_by_others p
 
 -- a pass stands between two calls, after what another has seen, which is all that it did: it has all its slots, and none in its hand
 pub record IsBetweenCalls (p : PassView) (q : Trace) : Type 0 where
   pub law : PassLaw p
-  pub shape : p.trace.shape ≡ q.shape
+  pub start : p.trace.start ≡ q.start
   pub seen : BeginsFor p.trace.who p.trace.seen q.seen
   pub has_all : HasAllSlots p
   pub empty_hand : p.hand ≡ None

@@ -38,11 +38,11 @@ pub record IsTokenOf (set : TableView) (p : Trace) (token : SeenView) : Type 0 w
   pub pass : IsOf p set
   pub table : token.table ≡ set.table
   pub seen : token.seen ≡ p.seen
-  pub own : own_calls p.shape token.seen p.who ≡ made_by p
+  pub own : own_calls p.start token.seen p.who ≡ made_by p
 
 -- each call that the pass is answered from now on stands behind all of these, in the legal history that it then has
 abbrev pub EachFollows : List Call → Trace → Type 0
-EachFollows first q = (call : Call) (r s : Trace) → IsSame q r → Begins q.seen r.seen → Answers call r s → Follows first call (calls_of s.shape s.seen)
+EachFollows first q = (call : Call) (r s : Trace) → IsSame q r → Begins q.seen r.seen → Answers call r s → Follows first call (calls_of s.start s.seen)
 
 -- the pass, which is of the set, made no step and no call: it has seen what others did since, and knows and keeps what it knew and kept; what it has then seen is a safe run that begins with what the token tells; its calls are legal from the opening keys, and begin with those that the token tells; and each call that the pass is answered from now on stands behind all of these
 pub record CatchesUp (set : TableView) (p : PassView) (token : SeenView) (q : PassView) : Type 0 where
@@ -51,11 +51,11 @@ pub record CatchesUp (set : TableView) (p : PassView) (token : SeenView) (q : Pa
   pub quiet : Quiet p.trace q.trace
   pub pool : KeepsPool p q
   pub begins : Begins token.seen q.trace.seen
-  pub legal : IsLegal (opening_keys q.trace.shape) (calls_of q.trace.shape q.trace.seen)
-  pub told : BeginsWith (calls_of q.trace.shape token.seen) (calls_of q.trace.shape q.trace.seen)
-  pub later : EachFollows (calls_of q.trace.shape token.seen) q.trace
-  pub exchanges : ExchangesAreRight q.trace.shape q.trace.seen
-  pub reads : ReadsAreRight q.trace.shape q.trace.seen
+  pub legal : IsLegal (opening_keys q.trace.start) (calls_of q.trace.start q.trace.seen)
+  pub told : BeginsWith (calls_of q.trace.start token.seen) (calls_of q.trace.start q.trace.seen)
+  pub later : EachFollows (calls_of q.trace.start token.seen) q.trace
+  pub exchanges : ExchangesAreRight q.trace.start q.trace.seen
+  pub reads : ReadsAreRight q.trace.start q.trace.seen
   pub safe : HasSafeRun q.trace
 
 -- ---- chains

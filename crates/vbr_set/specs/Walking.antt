@@ -1,38 +1,30 @@
 -- Walking the lists of a closed table by its words. Only contracts of private functions cite this.
 use Rattle.std.specs.Prelude.{◌≡◌, ℕ, zero, suc, ◌<◌, ◌||◌, Bool, false, List, [], ◌∷◌, ◌++◌, slice_index_or, if◌then◌else◌}
-use Rattle.vbr_words.specs.Dimensions.{Dimensions, IsShape}
+use Rattle.vbr_machine.specs.Start.{Start, IsStart}
 use Rattle.vbr_machine.specs.Incarnations.{Incarnations}
 use Rattle.vbr_machine.specs.Runs.{IsRun, world_after}
 use Rattle.vbr_machine.specs.declared.event.Event.{Event}
 use Rattle.vbr_slots.specs.Words.{AreWordsOf}
 use Rattle.vbr_machine.specs.Nodes.{state_in, is_linked, is_listed, is_in_list, key_in_slot}
 
--- keys that a table opened with, and their values
-abbrev pub Opening : Type 0
-Opening = List ℕ × List ℕ
-
--- a shape with these
-abbrev pub keyed : Dimensions → Opening → Dimensions
-keyed shape opening = record shape { keys = opening.0; payloads = opening.1 }
-
--- the words are those of the world after a run of a shape
-pub record AreAfter (shape : Dimensions) (words : List ℕ) (run : List Event) : Type 0 where
+-- the words are those of the world after a run from a start
+pub record AreAfter (start : Start) (words : List ℕ) (run : List Event) : Type 0 where
   pub passes : ℕ
-  pub is_shape : IsShape shape
-  pub is_run : IsRun shape passes run
-  pub are : AreWordsOf shape (world_after shape run) words
+  pub is_start : IsStart start
+  pub is_run : IsRun start passes run
+  pub are : AreWordsOf start (world_after start run) words
 
 -- whether a slot was noted
 abbrev pub is_noted : List Bool → ℕ → Bool
 is_noted notes s = slice_index_or notes s false
 
 -- the slots whose nodes are in the list of a bucket were noted, and no others
-abbrev pub NotesList : Dimensions → Incarnations → ℕ → List Bool → List Bool → Type 0
-NotesList shape a bucket before now = (s : ℕ) → s < shape.slots → is_noted now s ≡ (is_noted before s || is_in_list shape a bucket s)
+abbrev pub NotesList : Start → Incarnations → ℕ → List Bool → List Bool → Type 0
+NotesList start a bucket before now = (s : ℕ) → s < start.shape.slots → is_noted now s ≡ (is_noted before s || is_in_list start a bucket s)
 
 -- the slots whose nodes are in lists are noted, and no others
-abbrev pub NotesLists : Dimensions → Incarnations → List Bool → Type 0
-NotesLists shape a notes = (s : ℕ) → s < shape.slots → is_noted notes s ≡ is_listed (state_in a s)
+abbrev pub NotesLists : Start → Incarnations → List Bool → Type 0
+NotesLists start a notes = (s : ℕ) → s < start.shape.slots → is_noted notes s ≡ is_listed (state_in a s)
 
 module _ {T : Type 0} where
   -- what is told of the linked nodes in the slots below a number, slot by slot

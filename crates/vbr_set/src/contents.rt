@@ -7,7 +7,9 @@ ghost use Rattle.vbr_machine.specs.Incarnations.{Incarnations};
 ghost use Rattle.vbr_machine.specs.Nodes.{key_in_slot, linked_after, marked_after};
 ghost use Rattle.vbr_machine.specs.declared.event.Event.{Event};
 ghost use Rattle.vbr_set.specs.Contents.{Holds, entry_in_slot};
-ghost use Rattle.vbr_set.specs.Walking.{AreAfter, NotesLists, Opening, is_noted, keyed, linked_of};
+ghost use Rattle.vbr_slots.specs.declared.rule.Opened.{Opened};
+ghost use Rattle.vbr_slots.specs.Rule.{with_opened};
+ghost use Rattle.vbr_set.specs.Walking.{AreAfter, NotesLists, is_noted, linked_of};
 
 use crate::walking::note_lists;
 use vbr_words::{Place, Shape, decode, place_index};
@@ -32,9 +34,9 @@ pub(crate) trait Listed: Drop {
         requires words { length words.now ≡ words_in shape.now }
         requires slot { slot < shape.now.slots }
         requires kind { shape.now.values ≡ VALUES }
-        ensures { (opening : Opening) (run : List Event) →
-            AreAfter (keyed shape.now opening) words.now run →
-            result ≡ shown (incarnations_after (keyed shape.now opening) run) slot };
+        ensures { (opened : Opened) (run : List Event) →
+            let start = with_opened shape.now opened in
+            AreAfter start words.now run → result ≡ shown (incarnations_after start run) slot };
 }
 
 impl Listed for u64 {
@@ -73,15 +75,11 @@ fn gather<T: Listed>(
     requires room { (listed.old.items ≡ []) × (shape.now.slots ≤ vec_capacity listed.old) }
     ensures fit { result.0 + result.1 ≤ shape.now.slots }
     ensures each { length listed.new.items ≡ result.0 }
-    ensures gathered { (opening : Opening) (run : List Event) →
-        AreAfter (keyed shape.now opening) words.now run →
-        NotesLists (keyed shape.now opening) (incarnations_after (keyed shape.now opening) run)
-        notes.now →
-        (listed.new.items
-        ≡ linked_of (T.shown (incarnations_after (keyed shape.now opening) run))
-        (incarnations_after (keyed shape.now opening) run) shape.now.slots)
-        × (result.0 ≡ linked_after (keyed shape.now opening) run)
-        × (result.1 ≡ marked_after (keyed shape.now opening) run) }
+    ensures gathered { (opened : Opened) (run : List Event) →
+        let start = with_opened shape.now opened in let nodes = incarnations_after start run in
+        AreAfter start words.now run → NotesLists start nodes notes.now →
+        (listed.new.items ≡ linked_of (T.shown nodes) nodes shape.now.slots)
+        × (result.0 ≡ linked_after start run) × (result.1 ≡ marked_after start run) }
 {
     let mut live = 0;
     let mut marked = 0;
@@ -109,14 +107,13 @@ pub(crate) fn contents_of<T: Listed>(
     mut listed: Vec<T>,
 ) -> Contents<T>
     requires kind { shape.now.values ≡ T.VALUES }
-    requires run { (opening : Opening) × (run : List Event)
-        × AreAfter (keyed shape.now opening) words.now run }
+    requires run { (opened : Opened) × (run : List Event)
+        × AreAfter (with_opened shape.now opened) words.now run }
     requires notes { (length notes.items ≡ shape.now.slots)
         × ((s : ℕ) → is_noted notes.items s ≡ false) }
     requires room { (listed.items ≡ []) × (shape.now.slots ≤ vec_capacity listed) }
-    ensures { (opening : Opening) (run : List Event) →
-        AreAfter (keyed shape.now opening) words.now run →
-        Holds T.shown (keyed shape.now opening) run result }
+    ensures { (opened : Opened) (run : List Event) → let start = with_opened shape.now opened in
+        AreAfter start words.now run → Holds T.shown start run result }
 {
     note_lists(shape, words, &mut notes);
     let (live, marked) = gather(shape, words, &notes, &mut listed);

@@ -7,7 +7,7 @@ pub mod renewing;
 pub mod reporting;
 pub mod tokens;
 
-ghost use Rattle.std.specs.Prelude.{◌≡◌, []};
+ghost use Rattle.std.specs.Prelude.{◌≡◌};
 
 use std::marker::Model;
 use vbr_slots::Slots;
@@ -30,14 +30,14 @@ impl<N: Nodes> Model for VbrSet<N> {
 
     ghost view = { λ s. s.slots };
 
-    ghost invariant = { λ s. (s.count ≡ s.slots.passes) × (s.slots.shape.values ≡ N.VALUES) };
+    ghost invariant = { λ s. (s.count ≡ s.slots.passes) × (s.slots.start.shape.values ≡ N.VALUES) };
 }
 
 impl<N: Nodes> VbrSet<N> {
-    /// Its shape, without the keys and values that it opened with.
+    /// Its shape.
     #[inline]
     pub fn shape(&self) -> Shape
-        ensures { result ≡ record self.now.shape { keys = []; payloads = [] } }
+        ensures { result ≡ self.now.start.shape }
     {
         self.slots.shape()
     }

@@ -4,7 +4,9 @@ ghost use Rattle.vbr_words.specs.Places.{IsIn, index_of, words_in};
 ghost use Rattle.vbr_words.specs.Words.{link_of};
 ghost use Rattle.vbr_machine.specs.Accounts.{incarnations_after};
 ghost use Rattle.vbr_machine.specs.declared.event.Event.{Event};
-ghost use Rattle.vbr_set.specs.Walking.{AreAfter, NotesList, NotesLists, Opening, is_noted, keyed};
+ghost use Rattle.vbr_slots.specs.declared.rule.Opened.{Opened};
+ghost use Rattle.vbr_slots.specs.Rule.{with_opened};
+ghost use Rattle.vbr_set.specs.Walking.{AreAfter, NotesList, NotesLists, is_noted};
 
 use vbr_words::{Place, Shape, decode, place_index};
 
@@ -20,13 +22,12 @@ fn next_at(shape: &Shape, words: &[u64], place: Place) -> Option<u32>
 // Notes the slots whose nodes are in the list of a bucket.
 fn note_list(shape: &Shape, words: &[u64], bucket: u32, notes: &mut [bool])
     requires bucket { bucket < shape.now.buckets }
-    requires run { (opening : Opening) × (run : List Event)
-        × AreAfter (keyed shape.now opening) words.now run }
+    requires run { (opened : Opened) × (run : List Event)
+        × AreAfter (with_opened shape.now opened) words.now run }
     requires room { length notes.old ≡ shape.now.slots }
-    ensures { (opening : Opening) (run : List Event) →
-        AreAfter (keyed shape.now opening) words.now run →
-        NotesList (keyed shape.now opening) (incarnations_after (keyed shape.now opening) run)
-        bucket notes.old notes.new }
+    ensures { (opened : Opened) (run : List Event) → let start = with_opened shape.now opened in
+        AreAfter start words.now run →
+        NotesList start (incarnations_after start run) bucket notes.old notes.new }
 {
     let mut next = next_at(shape, words, Place::Head(bucket));
     while let Some(slot) = next {
@@ -37,14 +38,12 @@ fn note_list(shape: &Shape, words: &[u64], bucket: u32, notes: &mut [bool])
 
 /// Notes the slots whose nodes are in lists.
 pub(crate) fn note_lists(shape: &Shape, words: &[u64], notes: &mut [bool])
-    requires run { (opening : Opening) × (run : List Event)
-        × AreAfter (keyed shape.now opening) words.now run }
+    requires run { (opened : Opened) × (run : List Event)
+        × AreAfter (with_opened shape.now opened) words.now run }
     requires room { length notes.old ≡ shape.now.slots }
     requires none { (s : ℕ) → is_noted notes.old s ≡ false }
-    ensures { (opening : Opening) (run : List Event) →
-        AreAfter (keyed shape.now opening) words.now run →
-        NotesLists (keyed shape.now opening) (incarnations_after (keyed shape.now opening) run)
-        notes.new }
+    ensures { (opened : Opened) (run : List Event) → let start = with_opened shape.now opened in
+        AreAfter start words.now run → NotesLists start (incarnations_after start run) notes.new }
 {
     for bucket in 0..shape.buckets() {
         note_list(shape, words, bucket, notes);

@@ -1,5 +1,6 @@
 //! The set: rows call by call, closings that hand all back, and small budgets.
-ghost use Rattle.std.specs.Prelude.{◌≡◌, false, IfOk, IfErr, IfSome};
+ghost use Rattle.std.specs.Prelude.{◌≡◌, [], IfOk, IfErr, IfSome};
+ghost use Rattle.vbr_machine.specs.Start.{set_start};
 ghost use Rattle.vbr_slots.specs.Closing.{AllOf, HandsBack};
 ghost use Rattle.vbr_slots.specs.Views.{IsOf, new_pass, new_passes};
 ghost use Rattle.vbr_set.specs.Closing.{Closes};
@@ -13,7 +14,7 @@ use vbr_set::{CloseError, OpenError, Pass, Refusal, Report, Shape, VbrSet, VbrSe
 // Opens a set. What found no memory left nothing, so it is tried again.
 fn open(alloc: Global, shape: Shape, passes: u32) -> Result<(VbrSet, Vec<Pass>), OpenError>
     ensures table { IfOk result (λ r.
-        (r.0.shape ≡ record shape { values = false }) × (r.0.passes ≡ passes)) }
+        (r.0.start ≡ set_start shape []) × (r.0.passes ≡ passes)) }
     ensures passes { IfOk result (λ r. r.1.items ≡ new_passes r.0 0 passes) }
 {
     match VbrSet::open(alloc, shape, passes) {

@@ -92,8 +92,6 @@ settings_among rows = record {
     spread = false;
     last_epoch = number_among (codes "last-epoch") rows;
     values = false;
-    keys = [];
-    payloads = [];
   };
   workers = number_among (codes "workers") rows;
   budget = number_among (codes "budget") rows;
@@ -137,8 +135,6 @@ own_settings = record {
     spread = false;
     last_epoch = MAX_EPOCH;
     values = false;
-    keys = [];
-    payloads = [];
   };
   workers = 1;
   budget = 100000;
@@ -168,8 +164,6 @@ settings_of_each = record {
     spread = false;
     last_epoch = 7;
     values = false;
-    keys = [];
-    payloads = [];
   };
   workers = 4;
   budget = 1000000;

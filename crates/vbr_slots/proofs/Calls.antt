@@ -2,7 +2,7 @@
 use Rattle.std.proofs.Common.{◌≡◌, ℕ, ◌+◌, ◌==◌, Bool, true, false, cond, List, [], ◌∷◌, ◌++◌, Option, None, refl, sym, ap, subst, ◌∙◌, append_assoc, append-nil, arith, eq-eqb, option_to_list}
 use Rattle.std.proofs.lemmas.Bool.{ne_eqb}
 use Rattle.std.proofs.lemmas.List.Sums.{sum_by-append}
-use Rattle.vbr_words.specs.Dimensions.{Dimensions}
+use Rattle.vbr_machine.specs.Start.{Start}
 use Rattle.vbr_machine.specs.Knowledge.{Know}
 use Rattle.vbr_machine.specs.Learning.{call_of, succeeds}
 use Rattle.vbr_machine.specs.Machine.{World, found}
@@ -22,10 +22,10 @@ use Rattle.vbr_slots.specs.Calls.{IsSame, made_by, Quiet, Made, entries_of, Adds
 -- ---- the same pass
 
 pub same_refl : (p : Trace) → IsSame p p
-same_refl p = record { table = refl; shape = refl; passes = refl; who = refl }
+same_refl p = record { table = refl; start = refl; passes = refl; who = refl }
 
 pub same_on : {p q r : Trace} → IsSame p q → IsSame q r → IsSame p r
-same_on a b = record { table = b.table ∙ a.table; shape = b.shape ∙ a.shape; passes = b.passes ∙ a.passes; who = b.who ∙ a.who }
+same_on a b = record { table = b.table ∙ a.table; start = b.start ∙ a.start; passes = b.passes ∙ a.passes; who = b.who ∙ a.who }
 
 -- ---- one after another
 
@@ -82,12 +82,12 @@ steps_left who seen rest none =
 -- ---- one step
 
 pub did_same : {step : Step} {p q : Trace} {r : ℕ} → Did step p q r → IsSame p q
-did_same d = record { table = d.same.0; shape = d.same.1; passes = d.same.2; who = d.same.3 }
+did_same d = record { table = d.same.0; start = d.same.1; passes = d.same.2; who = d.same.3 }
 
 pub did_seen : {step : Step} {p q : Trace} {r : ℕ} → Did step p q r → Begins p.seen q.seen
 did_seen {step} {p} d = (d.rest ++ event_of p.who step ∷ [], d.seen ∙ append_assoc p.seen d.rest (event_of p.who step ∷ []))
 
-pub did_run : {step : Step} {p q : Trace} {r : ℕ} → Did step p q r → IsRun q.shape q.passes q.seen
+pub did_run : {step : Step} {p q : Trace} {r : ℕ} → Did step p q r → IsRun q.start q.passes q.seen
 did_run {step} {p} {q} d = rw (d.same.1, d.same.2) d.is_run
 
 pub did_took : {step : Step} {p q : Trace} {r : ℕ} → Did step p q r → Took p q 1
@@ -102,27 +102,27 @@ pub did_moment : {step : Step} {p q : Trace} {r : ℕ} (d : Did step p q r) → 
 did_moment {step} {p} d = record { from = (d.rest, refl); to = (event_of p.who step ∷ [], d.seen); is_run = did_run d }
 
 -- the calls after one step
-pub did_calls : {step : Step} {p q : Trace} {r : ℕ} (d : Did step p q r) → made_by q ≡ made_by p ++ calls_added p.shape (world_after p.shape (p.seen ++ d.rest)) p.who step
+pub did_calls : {step : Step} {p q : Trace} {r : ℕ} (d : Did step p q r) → made_by q ≡ made_by p ++ calls_added p.start (world_after p.start (p.seen ++ d.rest)) p.who step
 did_calls {step} {p} {q} d =
     (λ i. own_calls (d.same.1 i) (d.seen i) (d.same.3 i))
-    ∙ own_calls-snoc p.shape (p.seen ++ d.rest) (event_of p.who step)
-    ∙ ap (λ l. l ++ calls_added p.shape (world_after p.shape (p.seen ++ d.rest)) p.who step) (others_leave_calls p.shape p.seen d.rest p.who d.none)
+    ∙ own_calls-snoc p.start (p.seen ++ d.rest) (event_of p.who step)
+    ∙ ap (λ l. l ++ calls_added p.start (world_after p.start (p.seen ++ d.rest)) p.who step) (others_leave_calls p.start p.seen d.rest p.who d.none)
 
 either_none : (b : Bool) (made : Option Call) → made ≡ None → option_to_list (cond b made None) ≡ []
 either_none true made e = ap option_to_list e
 either_none false made e = refl
 
 -- a kind of step that makes no call adds none
-pub adds_none : (shape : Dimensions) (w : World) (who : ℕ) (step : Step) → ((know : Know) → call_of shape who know step ≡ None) → calls_added shape w who step ≡ []
-adds_none shape w who step none = either_none (succeeds step (found shape w step)) (call_of shape who (w.know who) step) (none (w.know who))
+pub adds_none : (start : Start) (w : World) (who : ℕ) (step : Step) → ((know : Know) → call_of start who know step ≡ None) → calls_added start w who step ≡ []
+adds_none start w who step none = either_none (succeeds step (found start w step)) (call_of start who (w.know who) step) (none (w.know who))
 
 -- and is quiet
-pub did_quiet : {step : Step} {p q : Trace} {r : ℕ} → Did step p q r → ((know : Know) → call_of p.shape p.who know step ≡ None) → Quiet p q
+pub did_quiet : {step : Step} {p q : Trace} {r : ℕ} → Did step p q r → ((know : Know) → call_of p.start p.who know step ≡ None) → Quiet p q
 did_quiet {step} {p} {q} d none = record {
   same = did_same d;
   seen = did_seen d;
   is_run = λ h. did_run d;
-  calls = did_calls d ∙ ap (λ l. made_by p ++ l) (adds_none p.shape (world_after p.shape (p.seen ++ d.rest)) p.who step none) ∙ append-nil (made_by p);
+  calls = did_calls d ∙ ap (λ l. made_by p ++ l) (adds_none p.start (world_after p.start (p.seen ++ d.rest)) p.who step none) ∙ append-nil (made_by p);
 }
 
 -- ---- the events of the pass
@@ -138,15 +138,15 @@ pub answer_on : {p q r : Trace} (call : ℕ → Call) → IsSame p q → AddsNon
 answer_on call same a b = record { entries = b.entries ∙ (λ i. a.entries i ++ just (same.who i) (Confirms (call (same.who i)))) }
 
 -- the events after one step
-pub did_entries : {step : Step} {p q : Trace} {r : ℕ} (d : Did step p q r) → entries_of q ≡ entries_of p ++ happens p.shape (world_after p.shape (p.seen ++ d.rest)) (incarnations_after p.shape (p.seen ++ d.rest)) p.who step
+pub did_entries : {step : Step} {p q : Trace} {r : ℕ} (d : Did step p q r) → entries_of q ≡ entries_of p ++ happens p.start (world_after p.start (p.seen ++ d.rest)) (incarnations_after p.start (p.seen ++ d.rest)) p.who step
 did_entries {step} {p} {q} d =
     (λ i. own_entries (d.same.1 i) (d.seen i) (d.same.3 i))
-    ∙ own_entries-snoc p.shape (p.seen ++ d.rest) (event_of p.who step)
-    ∙ ap (λ l. l ++ happens p.shape (world_after p.shape (p.seen ++ d.rest)) (incarnations_after p.shape (p.seen ++ d.rest)) p.who step) (others_leave_entries p.shape p.seen d.rest p.who d.none)
+    ∙ own_entries-snoc p.start (p.seen ++ d.rest) (event_of p.who step)
+    ∙ ap (λ l. l ++ happens p.start (world_after p.start (p.seen ++ d.rest)) (incarnations_after p.start (p.seen ++ d.rest)) p.who step) (others_leave_entries p.start p.seen d.rest p.who d.none)
 
 -- a step by which nothing happens adds none
-pub did_adds_none : {step : Step} {p q : Trace} {r : ℕ} (d : Did step p q r) → ((w : World) (a : Incarnations) → happens p.shape w a p.who step ≡ []) → AddsNone p q
-did_adds_none {step} {p} d none = record { entries = did_entries d ∙ ap (λ l. entries_of p ++ l) (none (world_after p.shape (p.seen ++ d.rest)) (incarnations_after p.shape (p.seen ++ d.rest))) ∙ append-nil (entries_of p) }
+pub did_adds_none : {step : Step} {p q : Trace} {r : ℕ} (d : Did step p q r) → ((w : World) (a : Incarnations) → happens p.start w a p.who step ≡ []) → AddsNone p q
+did_adds_none {step} {p} d none = record { entries = did_entries d ∙ ap (λ l. entries_of p ++ l) (none (world_after p.start (p.seen ++ d.rest)) (incarnations_after p.start (p.seen ++ d.rest))) ∙ append-nil (entries_of p) }
 
 -- ---- loads alone
 

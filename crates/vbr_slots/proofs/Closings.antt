@@ -3,11 +3,11 @@ use Rattle.std.proofs.Common.{Bool, ◌≡◌, ℕ, zero, suc, ◌+◌, List, []
 use mathlib.Core.Option.{some, some-ne-none, some-injective}
 use lib.ListN.{get_elem?}
 use Rattle.atomic_table.specs.Table.{Final, Seen}
-use Rattle.vbr_words.specs.Dimensions.{IsShape}
+use Rattle.vbr_machine.specs.Start.{IsStart}
 use Rattle.vbr_machine.specs.Runs.{IsRun, world_after}
 use Rattle.vbr_machine.specs.declared.event.Event.{Event}
 use Rattle.vbr_machine.proofs.Lemmas.{every_run}
-use Rattle.vbr_slots.specs.declared.rule.Opening.{Opening}
+use Rattle.vbr_slots.specs.TableStart.{TableStart}
 use Rattle.vbr_slots.specs.declared.slots.Slots.TheInside.{Inside as SlotsInside}
 use Rattle.vbr_slots.specs.Rule.{Kept, witness, EachBegins, opened_of}
 use Rattle.vbr_slots.specs.Views.{PassView, TableView, IsOf}
@@ -30,9 +30,9 @@ pub one_of : (t : TableView) (ys : List PassView) (p : PassView) (zs : List Pass
 one_of t [] p zs all = all.0
 one_of t (y ∷ ys) p zs all = one_of t ys p zs all.1
 
-pub witnesses_of-snoc : (ys : List PassView) (p : PassView) → witnesses_of (ys ++ p ∷ []) ≡ witnesses_of ys ++ witness (opened_of p.trace.shape) p.trace.who p.trace.seen ∷ []
+pub witnesses_of-snoc : (ys : List PassView) (p : PassView) → witnesses_of (ys ++ p ∷ []) ≡ witnesses_of ys ++ witness (opened_of p.trace.start) p.trace.who p.trace.seen ∷ []
 witnesses_of-snoc [] p = refl
-witnesses_of-snoc (y ∷ ys) p = ap (λ ms. witness (opened_of y.trace.shape) y.trace.who y.trace.seen ∷ ms) (witnesses_of-snoc ys p)
+witnesses_of-snoc (y ∷ ys) p = ap (λ ms. witness (opened_of y.trace.start) y.trace.who y.trace.seen ∷ ms) (witnesses_of-snoc ys p)
 
 pub each_seen : (run : List Event) (ps : List PassView) → EachBegins run (witnesses_of ps) → EachSeen run ps
 each_seen run [] b = tt
@@ -46,13 +46,13 @@ pub ends : {N : Type 0} {values : Bool} (t : SlotsInside N) (table : TableView) 
     → Final (Seen (Kept t.table.shared.key) id me.0) words xs → Ends table ps words
 ends t table built t_is id me ps is words xs last =
     let key : t.table.shared.key ≡ opening_of table = built.key ∙ ap opening_of t_is in
-    let shape : IsShape table.shape = subst (λ (q : TableView). IsShape q.shape) t_is built.shape in
+    let start : IsStart table.start = subst (λ (q : TableView). IsStart q.start) t_is built.start in
     let kept = last.1.0 in
-    let is_run : IsRun table.shape table.passes kept.run = subst (λ (o : Opening). IsRun o.shape o.passes kept.run) key kept.is_run in
+    let is_run : IsRun table.start table.passes kept.run = subst (λ (o : TableStart). IsRun o.start o.passes kept.run) key kept.is_run in
     record {
       run = kept.run;
       is_run = is_run;
-      safe = every_run table.shape table.passes kept.run shape is_run;
-      are = subst (λ (x : Opening × List ℕ). AreWordsOf x.0.shape (world_after x.0.shape kept.run) x.1) (λ i. (key i, last.2 i)) kept.words;
+      safe = every_run table.start table.passes kept.run start is_run;
+      are = subst (λ (x : TableStart × List ℕ). AreWordsOf x.0.start (world_after x.0.start kept.run) x.1) (λ i. (key i, last.2 i)) kept.words;
       begins = each_seen kept.run ps (subst (λ (m : Sat). EachBegins kept.run m.0) is (kept.begins id me.0 last.1.1));
     }

@@ -5,7 +5,7 @@ use native.Mathlib.Decide.{ℕ_discrete}
 use mathlib.Core.Option.{some, some-ne-none, some-injective}
 use lib.ListN.{get_elem?}
 use Rattle.std.specs.Prelude.{Bool}
-use Rattle.vbr_words.specs.Dimensions.{Dimensions}
+use Rattle.vbr_machine.specs.Start.{Start}
 use Rattle.vbr_machine.specs.Machine.{World, after}
 use Rattle.vbr_machine.specs.Runs.{AreAccepted, Begins, BeginsFor, IsRun, NoneOf}
 use Rattle.vbr_machine.specs.declared.event.Event.{Event}
@@ -63,14 +63,14 @@ pub token_not_counted : (who : ℕ) (opened : Opened) (seen : List Event) → wh
 token_not_counted who opened seen other = let none : one_if (nobody == who) ≡ 0 = ap one_if (ne_eqb nobody who (λ is. other (sym is))) in omega arith
 
 -- a number that no pass has has no event
-none_of : (shape : Dimensions) (passes who : ℕ) (w : World) (run : List Event) → passes ≤ who → AreAccepted shape passes w run → NoneOf who run
-none_of shape passes who w [] high ok = tt
-none_of shape passes who w (e ∷ es) high ok = ((λ is. let low : e.pass < passes = ok.0.0 in absurd (omega (arith, low, is, high))), none_of shape passes who (after shape w e.pass e.step) es high ok.1)
+none_of : (start : Start) (passes who : ℕ) (w : World) (run : List Event) → passes ≤ who → AreAccepted start passes w run → NoneOf who run
+none_of start passes who w [] high ok = tt
+none_of start passes who w (e ∷ es) high ok = ((λ is. let low : e.pass < passes = ok.0.0 in absurd (omega (arith, low, is, high))), none_of start passes who (after start w e.pass e.step) es high ok.1)
 
 none_behind : (who : ℕ) (xs ys : List Event) → NoneOf who (xs ++ ys) → NoneOf who ys
 none_behind who [] ys none = none
 none_behind who (x ∷ xs) ys none = none_behind who xs ys none.1
 
 -- so a beginning of a run has all of its events
-pub token_begins : (shape : Dimensions) (passes who : ℕ) (seen run : List Event) → passes ≤ who → IsRun shape passes run → Begins seen run → BeginsFor who seen run
-token_begins shape passes who seen run high is begins = (begins.0, begins.1, none_behind who seen begins.0 (subst (NoneOf who) begins.1 (none_of shape passes who _ run high is)))
+pub token_begins : (start : Start) (passes who : ℕ) (seen run : List Event) → passes ≤ who → IsRun start passes run → Begins seen run → BeginsFor who seen run
+token_begins start passes who seen run high is begins = (begins.0, begins.1, none_behind who seen begins.0 (subst (NoneOf who) begins.1 (none_of start passes who _ run high is)))

@@ -6,6 +6,7 @@ use Rattle.std.proofs.lemmas.Bool.Decides.{nat_tests}
 use mathlib.Core.Logic.{dite}
 use native.Mathlib.Decide.{ℕ_discrete}
 use Rattle.vbr_words.specs.Dimensions.{Dimensions}
+use Rattle.vbr_machine.specs.Start.{Start, empty_start, start_with}
 use Rattle.vbr_words.specs.Words.{IsLink, word_of}
 use Rattle.vbr_words.specs.Flags.{word_of_flag, all_but, flag_words, flag_word}
 use Rattle.vbr_words.specs.Places.{IsIn, index_of, words_in}
@@ -29,7 +30,7 @@ use Rattle.vbr_slots.specs.Words.{AreWordsOf, HeadsFit}
 -- the words once the epoch, the shape, so many links and so many flag words are laid
 abbrev pub laid : Dimensions → ℕ → ℕ → Place → ℕ
 laid shape links flags Epoch = 1
-laid shape links flags ShapeWord = machine.shape_word shape
+laid shape links flags ShapeWord = machine.shape_word (empty_start shape)
 laid shape links flags (LinkOf s) = if nat_lt s links then MARK else 0
 laid shape links flags (Flags number) = if nat_lt number flags then flag_word (λ s. nat_lt s shape.slots) number else 0
 laid shape links flags _ = 0
@@ -87,10 +88,10 @@ and_true false = refl
 
 -- all links and all flag words: no key is linked yet
 pub laid_all : (shape : Dimensions) (words : List ℕ) → AreLaid shape (laid shape shape.slots (flag_words shape.slots)) words → (keys payloads : List ℕ)
-    → AreWordsOf (record shape { keys = keys; payloads = payloads }) (opening_from (record shape { keys = keys; payloads = payloads }) (length keys)) words
-laid_all shape words are keys payloads = subst (λ (w : World). AreWordsOf (record shape { keys = keys; payloads = payloads }) w words) (sym (opening_none (record shape { keys = keys; payloads = payloads }))) (record { count = are.count; each = each })
+    → AreWordsOf (start_with shape keys payloads) (opening_from (start_with shape keys payloads) (length keys)) words
+laid_all shape words are keys payloads = subst (λ (w : World). AreWordsOf (start_with shape keys payloads) w words) (sym (opening_none (start_with shape keys payloads))) (record { count = are.count; each = each })
   where
-    each : (place : Place) → IsIn shape place → get_or words (index_of shape place) 0 ≡ machine.word_at shape bare place
+    each : (place : Place) → IsIn shape place → get_or words (index_of shape place) 0 ≡ machine.word_at (start_with shape keys payloads) bare place
     each Epoch here = are.each Epoch here
     each ShapeWord here = are.each ShapeWord here
     each (Head b) here = are.each (Head b) here ∙ sym blank_head
@@ -102,22 +103,22 @@ laid_all shape words are keys payloads = subst (λ (w : World). AreWordsOf (reco
     each (Flags number) here =
         are.each (Flags number) here
         ∙ below number (flag_words shape.slots) (flag_word (λ s. nat_lt s shape.slots) number) 0 here
-        ∙ flag_word_same (λ s. nat_lt s shape.slots) (machine.is_flagged shape bare) number (λ s _. and_true (nat_lt s shape.slots))
+        ∙ flag_word_same (λ s. nat_lt s shape.slots) (machine.is_flagged (start_with shape keys payloads) bare) number (λ s _. and_true (nat_lt s shape.slots))
 
 -- ---- one more key
 
 -- one more word of a world
-written_at : (shape : Dimensions) (w v : World) (words : List ℕ) (place : Place) (i value : ℕ) → i ≡ index_of shape place → IsIn shape place → machine.word_at shape v place ≡ value → ((q : Place) → q ≢ place → machine.word_at shape v q ≡ machine.word_at shape w q)
-    → AreWordsOf shape w words → AreWordsOf shape v (set words i value)
-written_at shape w v words place i value at here is others are =
-    let laid_on = laid_at shape (machine.word_at shape w) (machine.word_at shape v) words place value here is others (record { count = are.count; each = are.each }) in
-    subst (λ (j : ℕ). AreWordsOf shape v (set words j value)) (sym at) (record { count = laid_on.count; each = laid_on.each })
+written_at : (start : Start) (w v : World) (words : List ℕ) (place : Place) (i value : ℕ) → i ≡ index_of start.shape place → IsIn start.shape place → machine.word_at start v place ≡ value → ((q : Place) → q ≢ place → machine.word_at start v q ≡ machine.word_at start w q)
+    → AreWordsOf start w words → AreWordsOf start v (set words i value)
+written_at start w v words place i value at here is others are =
+    let laid_on = laid_at start.shape (machine.word_at start w) (machine.word_at start v) words place value here is others (record { count = are.count; each = are.each }) in
+    subst (λ (j : ℕ). AreWordsOf start v (set words j value)) (sym at) (record { count = laid_on.count; each = laid_on.each })
 
-module _ (shape : Dimensions) (w : World) (words : List ℕ) (are : AreWordsOf shape w words) where
-  link_laid : (s i value : ℕ) (link : Link) → i ≡ index_of shape (LinkOf s) → s < shape.slots → value ≡ word_of link → AreWordsOf shape (with_link_at w (at.Slot s) link) (set words i value)
-  link_laid s i value link place low is = written_at shape w (with_link_at w (at.Slot s) link) words (LinkOf s) i value place low (ap word_of (put_here w.link s link) ∙ sym is) others are
+module _ (start : Start) (w : World) (words : List ℕ) (are : AreWordsOf start w words) where
+  link_laid : (s i value : ℕ) (link : Link) → i ≡ index_of start.shape (LinkOf s) → s < start.shape.slots → value ≡ word_of link → AreWordsOf start (with_link_at w (at.Slot s) link) (set words i value)
+  link_laid s i value link place low is = written_at start w (with_link_at w (at.Slot s) link) words (LinkOf s) i value place low (ap word_of (put_here w.link s link) ∙ sym is) others are
     where
-      others : (q : Place) → q ≢ LinkOf s → machine.word_at shape (with_link_at w (at.Slot s) link) q ≡ machine.word_at shape w q
+      others : (q : Place) → q ≢ LinkOf s → machine.word_at start (with_link_at w (at.Slot s) link) q ≡ machine.word_at start w q
       others Epoch ne = refl
       others ShapeWord ne = refl
       others (Head b) ne = refl
@@ -128,10 +129,10 @@ module _ (shape : Dimensions) (w : World) (words : List ℕ) (are : AreWordsOf s
       others (Value t) ne = refl
       others (Flags number) ne = refl
 
-  head_laid : (b i value : ℕ) (link : Link) → i ≡ index_of shape (Head b) → b < shape.buckets → value ≡ word_of link → AreWordsOf shape (with_link_at w (at.Head b) link) (set words i value)
-  head_laid b i value link place low is = written_at shape w (with_link_at w (at.Head b) link) words (Head b) i value place low (ap word_of (put_here w.head b link) ∙ sym is) others are
+  head_laid : (b i value : ℕ) (link : Link) → i ≡ index_of start.shape (Head b) → b < start.shape.buckets → value ≡ word_of link → AreWordsOf start (with_link_at w (at.Head b) link) (set words i value)
+  head_laid b i value link place low is = written_at start w (with_link_at w (at.Head b) link) words (Head b) i value place low (ap word_of (put_here w.head b link) ∙ sym is) others are
     where
-      others : (q : Place) → q ≢ Head b → machine.word_at shape (with_link_at w (at.Head b) link) q ≡ machine.word_at shape w q
+      others : (q : Place) → q ≢ Head b → machine.word_at start (with_link_at w (at.Head b) link) q ≡ machine.word_at start w q
       others Epoch ne = refl
       others ShapeWord ne = refl
       others (Head c) ne = ap word_of (put_other w.head b link c (λ e. ne (ap Head e)))
@@ -142,10 +143,10 @@ module _ (shape : Dimensions) (w : World) (words : List ℕ) (are : AreWordsOf s
       others (Value t) ne = refl
       others (Flags number) ne = refl
 
-  birth_laid : (s i : ℕ) → i ≡ index_of shape (Birth s) → s < shape.slots → AreWordsOf shape (record w { birth = put w.birth s 1; births = counted w.births }) (set words i 1)
-  birth_laid s i place low = written_at shape w (record w { birth = put w.birth s 1; births = counted w.births }) words (Birth s) i 1 place low (put_here w.birth s 1) others are
+  birth_laid : (s i : ℕ) → i ≡ index_of start.shape (Birth s) → s < start.shape.slots → AreWordsOf start (record w { birth = put w.birth s 1; births = counted w.births }) (set words i 1)
+  birth_laid s i place low = written_at start w (record w { birth = put w.birth s 1; births = counted w.births }) words (Birth s) i 1 place low (put_here w.birth s 1) others are
     where
-      others : (q : Place) → q ≢ Birth s → machine.word_at shape (record w { birth = put w.birth s 1; births = counted w.births }) q ≡ machine.word_at shape w q
+      others : (q : Place) → q ≢ Birth s → machine.word_at start (record w { birth = put w.birth s 1; births = counted w.births }) q ≡ machine.word_at start w q
       others Epoch ne = refl
       others ShapeWord ne = refl
       others (Head b) ne = refl
@@ -156,10 +157,10 @@ module _ (shape : Dimensions) (w : World) (words : List ℕ) (are : AreWordsOf s
       others (Value t) ne = refl
       others (Flags number) ne = refl
 
-  key_laid : (s i key : ℕ) → i ≡ index_of shape (Key s) → s < shape.slots → AreWordsOf shape (record w { key = put w.key s key }) (set words i key)
-  key_laid s i key place low = written_at shape w (record w { key = put w.key s key }) words (Key s) i key place low (put_here w.key s key) others are
+  key_laid : (s i key : ℕ) → i ≡ index_of start.shape (Key s) → s < start.shape.slots → AreWordsOf start (record w { key = put w.key s key }) (set words i key)
+  key_laid s i key place low = written_at start w (record w { key = put w.key s key }) words (Key s) i key place low (put_here w.key s key) others are
     where
-      others : (q : Place) → q ≢ Key s → machine.word_at shape (record w { key = put w.key s key }) q ≡ machine.word_at shape w q
+      others : (q : Place) → q ≢ Key s → machine.word_at start (record w { key = put w.key s key }) q ≡ machine.word_at start w q
       others Epoch ne = refl
       others ShapeWord ne = refl
       others (Head b) ne = refl
@@ -171,18 +172,18 @@ module _ (shape : Dimensions) (w : World) (words : List ℕ) (are : AreWordsOf s
       others (Flags number) ne = refl
 
   -- a slot comes into a list, and its flag is cleared
-  flag_laid : (s b i f bits : ℕ) → i ≡ index_of shape (Flags f) → f ≡ word_of_flag s → bits ≡ all_but s → s < shape.slots → AreWordsOf shape (record w { place = put w.place s (Listed b) }) (set words i (bit_and (get_or words i 0) bits))
+  flag_laid : (s b i f bits : ℕ) → i ≡ index_of start.shape (Flags f) → f ≡ word_of_flag s → bits ≡ all_but s → s < start.shape.slots → AreWordsOf start (record w { place = put w.place s (Listed b) }) (set words i (bit_and (get_or words i 0) bits))
   flag_laid s b i f bits place number clear low =
-      written_at shape w (record w { place = put w.place s (Listed b) }) words (Flags (word_of_flag s)) i _ here (flag_in shape s low)
-      (taken_word shape w (record w { place = put w.place s (Listed b) }) s (Listed b) refl refl ∙ (λ k. bit_and (sym found k) (sym clear k))) others are
+      written_at start w (record w { place = put w.place s (Listed b) }) words (Flags (word_of_flag s)) i _ here (flag_in start s low)
+      (taken_word start w (record w { place = put w.place s (Listed b) }) s (Listed b) refl refl ∙ (λ k. bit_and (sym found k) (sym clear k))) others are
     where
-      here : i ≡ index_of shape (Flags (word_of_flag s))
-      here = place ∙ ap (λ (n : ℕ). index_of shape (Flags n)) number
+      here : i ≡ index_of start.shape (Flags (word_of_flag s))
+      here = place ∙ ap (λ (n : ℕ). index_of start.shape (Flags n)) number
 
-      found : get_or words i 0 ≡ machine.word_at shape w (Flags (word_of_flag s))
-      found = ap (λ (j : ℕ). get_or words j 0) here ∙ are.each (Flags (word_of_flag s)) (flag_in shape s low)
+      found : get_or words i 0 ≡ machine.word_at start w (Flags (word_of_flag s))
+      found = ap (λ (j : ℕ). get_or words j 0) here ∙ are.each (Flags (word_of_flag s)) (flag_in start s low)
 
-      others : (q : Place) → q ≢ Flags (word_of_flag s) → machine.word_at shape (record w { place = put w.place s (Listed b) }) q ≡ machine.word_at shape w q
+      others : (q : Place) → q ≢ Flags (word_of_flag s) → machine.word_at start (record w { place = put w.place s (Listed b) }) q ≡ machine.word_at start w q
       others Epoch ne = refl
       others ShapeWord ne = refl
       others (Head c) ne = refl
@@ -192,29 +193,29 @@ module _ (shape : Dimensions) (w : World) (words : List ℕ) (are : AreWordsOf s
       others (Key t) ne = refl
       others (Value t) ne = refl
       others (Flags number) ne =
-          same_word shape (record w { place = put w.place s (Listed b) }) w number
+          same_word start (record w { place = put w.place s (Listed b) }) w number
           (λ t is. ap machine.is_shared (put_other w.place s (Listed b) t (λ e. ne (ap Flags (sym is ∙ ap word_of_flag e)))))
 
 -- where the words of the link of a slot, of the head, of the birth, of the key and of the flags stand
-pub record KeyIndices (shape : Dimensions) (number bucket link head birth key flags : ℕ) : Type 0 where
-  pub link_at : link ≡ index_of shape (LinkOf number)
-  pub head_at : head ≡ index_of shape (Head bucket)
-  pub birth_at : birth ≡ index_of shape (Birth number)
-  pub key_at : key ≡ index_of shape (Key number)
-  pub flags_at : flags ≡ index_of shape (Flags (word_of_flag number))
+pub record KeyIndices (start : Start) (number bucket link head birth key flags : ℕ) : Type 0 where
+  pub link_at : link ≡ index_of start.shape (LinkOf number)
+  pub head_at : head ≡ index_of start.shape (Head bucket)
+  pub birth_at : birth ≡ index_of start.shape (Birth number)
+  pub key_at : key ≡ index_of start.shape (Key number)
+  pub flags_at : flags ≡ index_of start.shape (Flags (word_of_flag number))
 
 -- the words once the value of a slot is written: where nodes have none, no word changes
-abbrev pub IsValueWritten : Dimensions → ℕ → ℕ → List ℕ → List ℕ → Type 0
-IsValueWritten shape s value words written =
-    ((shape.values ≡ false) × (written ≡ words))
-    ⊎ ((shape.values ≡ true) × (i : ℕ) × (i ≡ index_of shape (Value s)) × (written ≡ set words i value))
+abbrev pub IsValueWritten : Start → ℕ → ℕ → List ℕ → List ℕ → Type 0
+IsValueWritten start s value words written =
+    ((start.shape.values ≡ false) × (written ≡ words))
+    ⊎ ((start.shape.values ≡ true) × (i : ℕ) × (i ≡ index_of start.shape (Value s)) × (written ≡ set words i value))
 
-module _ (shape : Dimensions) (w : World) (words : List ℕ) (s value : ℕ) (are : AreWordsOf shape w words) where
+module _ (start : Start) (w : World) (words : List ℕ) (s value : ℕ) (are : AreWordsOf start w words) where
   -- without values no word tells one
-  value_bare : shape.values ≡ false → AreWordsOf shape (record w { value = put w.value s value }) words
+  value_bare : start.shape.values ≡ false → AreWordsOf start (record w { value = put w.value s value }) words
   value_bare bare = record { count = are.count; each = each }
     where
-      each : (place : Place) → IsIn shape place → get_or words (index_of shape place) 0 ≡ machine.word_at shape (record w { value = put w.value s value }) place
+      each : (place : Place) → IsIn start.shape place → get_or words (index_of start.shape place) 0 ≡ machine.word_at start (record w { value = put w.value s value }) place
       each Epoch here = are.each Epoch here
       each ShapeWord here = are.each ShapeWord here
       each (Head b) here = are.each (Head b) here
@@ -225,10 +226,10 @@ module _ (shape : Dimensions) (w : World) (words : List ℕ) (s value : ℕ) (ar
       each (Value t) here = absurd (let has = here.1 in cc)
       each (Flags number) here = are.each (Flags number) here
 
-  value_laid : (i : ℕ) → i ≡ index_of shape (Value s) → s < shape.slots → shape.values ≡ true → AreWordsOf shape (record w { value = put w.value s value }) (set words i value)
-  value_laid i place low has = written_at shape w (record w { value = put w.value s value }) words (Value s) i value place (low, has) (put_here w.value s value) others are
+  value_laid : (i : ℕ) → i ≡ index_of start.shape (Value s) → s < start.shape.slots → start.shape.values ≡ true → AreWordsOf start (record w { value = put w.value s value }) (set words i value)
+  value_laid i place low has = written_at start w (record w { value = put w.value s value }) words (Value s) i value place (low, has) (put_here w.value s value) others are
     where
-      others : (q : Place) → q ≢ Value s → machine.word_at shape (record w { value = put w.value s value }) q ≡ machine.word_at shape w q
+      others : (q : Place) → q ≢ Value s → machine.word_at start (record w { value = put w.value s value }) q ≡ machine.word_at start w q
       others Epoch ne = refl
       others ShapeWord ne = refl
       others (Head b) ne = refl
@@ -239,33 +240,33 @@ module _ (shape : Dimensions) (w : World) (words : List ℕ) (s value : ℕ) (ar
       others (Value t) ne = put_other w.value s value t (λ e. ne (ap Value e))
       others (Flags number) ne = refl
 
-  value_written : (written : List ℕ) → s < shape.slots → IsValueWritten shape s value words written → AreWordsOf shape (record w { value = put w.value s value }) written
-  value_written written low (inl none) = subst (AreWordsOf shape (record w { value = put w.value s value })) (sym none.1) (value_bare none.0)
-  value_written written low (inr some) = subst (AreWordsOf shape (record w { value = put w.value s value })) (sym some.3) (value_laid some.1 some.2 low some.0)
+  value_written : (written : List ℕ) → s < start.shape.slots → IsValueWritten start s value words written → AreWordsOf start (record w { value = put w.value s value }) written
+  value_written written low (inl none) = subst (AreWordsOf start (record w { value = put w.value s value })) (sym none.1) (value_bare none.0)
+  value_written written low (inr some) = subst (AreWordsOf start (record w { value = put w.value s value })) (sym some.3) (value_laid some.1 some.2 low some.0)
 
 -- a key is linked with its value ahead of the others of its bucket
-pub key_ahead : (shape : Dimensions) (w : World) (words valued : List ℕ) (number key value link first bits i j k m n : ℕ) → AreWordsOf shape w words → KeyIndices shape number (bucket_of shape key) i j k m n → number < shape.slots → bucket_of shape key < shape.buckets
-    → link ≡ word_of (link_to (w.head (bucket_of shape key)).slot 1 (w.head (bucket_of shape key)).version) → first ≡ word_of (link_to (Some number) 0 1) → bits ≡ all_but number
-    → IsValueWritten shape number value (set (set (set (set words i link) j first) k 1) m key) valued
-    → AreWordsOf shape (with_key_ahead shape number key value w) (set valued n (bit_and (get_or valued n 0) bits))
-key_ahead shape w words valued number key value link first bits i j k m n are at low in_shape link_is first_is clear value_is =
-    let b = bucket_of shape key in
-    let one = link_laid shape w words are number i link _ at.link_at low link_is in
-    let two = head_laid shape _ _ one b j first _ at.head_at in_shape first_is in
-    let three = birth_laid shape _ _ two number k at.birth_at low in
-    let four = key_laid shape _ _ three number m key at.key_at low in
-    let five = value_written shape _ _ number value four valued low value_is in
-    flag_laid shape _ _ five number b n (word_of_flag number) bits at.flags_at refl clear low
+pub key_ahead : (start : Start) (w : World) (words valued : List ℕ) (number key value link first bits i j k m n : ℕ) → AreWordsOf start w words → KeyIndices start number (bucket_of start.shape key) i j k m n → number < start.shape.slots → bucket_of start.shape key < start.shape.buckets
+    → link ≡ word_of (link_to (w.head (bucket_of start.shape key)).slot 1 (w.head (bucket_of start.shape key)).version) → first ≡ word_of (link_to (Some number) 0 1) → bits ≡ all_but number
+    → IsValueWritten start number value (set (set (set (set words i link) j first) k 1) m key) valued
+    → AreWordsOf start (with_key_ahead start number key value w) (set valued n (bit_and (get_or valued n 0) bits))
+key_ahead start w words valued number key value link first bits i j k m n are at low in_shape link_is first_is clear value_is =
+    let b = bucket_of start.shape key in
+    let one = link_laid start w words are number i link _ at.link_at low link_is in
+    let two = head_laid start _ _ one b j first _ at.head_at in_shape first_is in
+    let three = birth_laid start _ _ two number k at.birth_at low in
+    let four = key_laid start _ _ three number m key at.key_at low in
+    let five = value_written start _ _ number value four valued low value_is in
+    flag_laid start _ _ five number b n (word_of_flag number) bits at.flags_at refl clear low
 
 -- ---- heads
 
 -- each head names a slot of the shape or none
-pub heads_fit : (shape : Dimensions) (from : ℕ) → from ≤ key_count shape → key_count shape ≤ MAX_SLOTS → HeadsFit (opening_from shape from)
-heads_fit shape from low few b = at (first_from shape b from) (first_or_none (is_key_of shape b) from (key_count shape - from))
+pub heads_fit : (start : Start) (from : ℕ) → from ≤ key_count start → key_count start ≤ MAX_SLOTS → HeadsFit (opening_from start from)
+heads_fit start from low few b = at (first_from start b from) (first_or_none (is_key_of start b) from (key_count start - from))
   where
-    at : (first : Option ℕ) → FirstOrNone (is_key_of shape b) from (from + (key_count shape - from)) first → IsLink (link_to_key shape 0 first)
+    at : (first : Option ℕ) → FirstOrNone (is_key_of start b) from (from + (key_count start - from)) first → IsLink (link_to_key start 0 first)
     at None none = record { slot = tt; version = omega arith }
     at (Some m) is = record { slot = (let high = is.high in omega (arith, high)); version = version }
       where
-        version : (link_to_key shape 0 (Some m)).version ≤ MAX_VERSION
+        version : (link_to_key start 0 (Some m)).version ≤ MAX_VERSION
         version = grind (arith, nat_tests)

@@ -2,7 +2,7 @@
 use Rattle.std.proofs.Common.{◌≡◌, ℕ, ◌<◌, ◌==◌, Bool, true, false, cond, List, [], ◌∷◌, ◌++◌, Option, Some, None, refl, sym, ap, ◌∙◌, subst, inl, inr, eq-eqb}
 use Rattle.std.specs.Prelude.{Contains, ◌⊎◌}
 use Rattle.std.proofs.lemmas.Bool.{cases_Bool, eqb-true}
-use Rattle.vbr_words.specs.Dimensions.{Dimensions, IsShape}
+use Rattle.vbr_machine.specs.Start.{Start, IsStart}
 use Rattle.vbr_words.specs.Flags.{has_flag}
 use Rattle.vbr_words.specs.declared.place.At.{At}
 use Rattle.vbr_machine.specs.Acceptance.{Accepts, MayBear, IsInHand, IsFree, stamp_in}
@@ -38,52 +38,52 @@ module _ (p q : Trace) (step : Step) (r : ℕ) (d : Did step p q r) where
   before = p.seen ++ d.rest
 
   abbrev world : World
-  world = world_after p.shape before
+  world = world_after p.start before
 
-  is_run : IsRun p.shape p.passes before
-  is_run = is_run_before p.shape p.passes before (event_of p.who step ∷ []) (subst (IsRun p.shape p.passes) d.seen d.is_run)
+  is_run : IsRun p.start p.passes before
+  is_run = is_run_before p.start p.passes before (event_of p.who step ∷ []) (subst (IsRun p.start p.passes) d.seen d.is_run)
 
-  pub agreed : IsShape p.shape → Agrees p.shape world (incarnations_after p.shape before) (notes_after p.shape before)
-  agreed is = run_agrees p.shape p.passes before is is_run
+  pub agreed : IsStart p.start → Agrees p.start world (incarnations_after p.start before) (notes_after p.start before)
+  agreed is = run_agrees p.start p.passes before is is_run
 
   pub knew : world.know p.who ≡ knows p
-  knew = others_leave_know p.shape p.seen d.rest p.who d.none
+  knew = others_leave_know p.start p.seen d.rest p.who d.none
 
   -- the pool and the hand, against what the pass then knows
-  pub pool_after : (pool : List ℕ) (hand : Option ℕ) → OwnPool p.shape (learn step r (stamp_shown world step) (knows p)) pool hand → OwnPool q.shape (knows q) pool hand
-  pool_after pool hand o = subst (λ (x : Dimensions × Know). OwnPool x.0 x.1 pool hand) (λ i. (sym d.same.1 i, sym d.know i)) o
+  pub pool_after : (pool : List ℕ) (hand : Option ℕ) → OwnPool p.start (learn step r (stamp_shown world step) (knows p)) pool hand → OwnPool q.start (knows q) pool hand
+  pool_after pool hand o = subst (λ (x : Start × Know). OwnPool x.0 x.1 pool hand) (λ i. (sym d.same.1 i, sym d.know i)) o
 
 -- the stamp that is loaded is the one that the pass knows
-pub stamp_loaded : (p q : Trace) (s r : ℕ) → IsShape p.shape → (d : Did (LoadStamp s) p q r) → MayBear ((knows p).own s) → r ≡ stamp_in ((knows p).own s)
+pub stamp_loaded : (p q : Trace) (s r : ℕ) → IsStart p.start → (d : Did (LoadStamp s) p q r) → MayBear ((knows p).own s) → r ≡ stamp_in ((knows p).own s)
 stamp_loaded p q s r is d may =
-    let w = world_after p.shape (p.seen ++ d.rest) in
+    let w = world_after p.start (p.seen ++ d.rest) in
     let own : (w.know p.who).own s ≡ (knows p).own s = ap (λ (k : Know). k.own s) (knew p q (LoadStamp s) r d) in
     let shown : r ≡ w.stamp s = cc d.shows.answers in
-    shown ∙ stamp_known p.shape w (incarnations_after p.shape (p.seen ++ d.rest)) (notes_after p.shape (p.seen ++ d.rest)) p.who s (agreed p q (LoadStamp s) r d is) (subst MayBear (sym own) may) ∙ ap stamp_in own
+    shown ∙ stamp_known p.start w (incarnations_after p.start (p.seen ++ d.rest)) (notes_after p.start (p.seen ++ d.rest)) p.who s (agreed p q (LoadStamp s) r d is) (subst MayBear (sym own) may) ∙ ap stamp_in own
 
 -- a slot that is taken was not the pass's own
-pub taken_new : (p q : Trace) (s r : ℕ) → IsShape p.shape → (d : Did (TakeFlag s) p q r) → has_flag r s ≡ true → (knows p).own s ≡ None
+pub taken_new : (p q : Trace) (s r : ℕ) → IsStart p.start → (d : Did (TakeFlag s) p q r) → has_flag r s ≡ true → (knows p).own s ≡ None
 taken_new p q s r is d one =
-    let w = world_after p.shape (p.seen ++ d.rest) in
+    let w = world_after p.start (p.seen ++ d.rest) in
     let own : (w.know p.who).own s ≡ (knows p).own s = ap (λ (k : Know). k.own s) (knew p q (TakeFlag s) r d) in
-    sym own ∙ taken_unowned p.shape w (incarnations_after p.shape (p.seen ++ d.rest)) (notes_after p.shape (p.seen ++ d.rest)) p.who s (agreed p q (TakeFlag s) r d is) (flag_shared p.shape w s (flag_won s r (found p.shape w (TakeFlag s)) d.shows.answers one))
+    sym own ∙ taken_unowned p.start w (incarnations_after p.start (p.seen ++ d.rest)) (notes_after p.start (p.seen ++ d.rest)) p.who s (agreed p q (TakeFlag s) r d is) (flag_shared p.start w s (flag_won s r (found p.start w (TakeFlag s)) d.shows.answers one))
 
 -- nor was one that it unlinked
-pub unlinked_new : (p q : Trace) (pred : At) (expected s r : ℕ) → IsShape p.shape → Accepts p.shape (knows p) (Unlink pred expected s) → (d : Did (Unlink pred expected s) p q r) → r ≡ expected → (knows p).own s ≡ None
+pub unlinked_new : (p q : Trace) (pred : At) (expected s r : ℕ) → IsStart p.start → Accepts p.start (knows p) (Unlink pred expected s) → (d : Did (Unlink pred expected s) p q r) → r ≡ expected → (knows p).own s ≡ None
 unlinked_new p q pred expected s r is ok d same =
-    let w = world_after p.shape (p.seen ++ d.rest) in
+    let w = world_after p.start (p.seen ++ d.rest) in
     let k = knew p q (Unlink pred expected s) r d in
     let own : (w.know p.who).own s ≡ (knows p).own s = ap (λ (k : Know). k.own s) k in
-    sym own ∙ unlinked_unowned p.shape w (incarnations_after p.shape (p.seen ++ d.rest)) (notes_after p.shape (p.seen ++ d.rest)) p.who pred expected s (agreed p q (Unlink pred expected s) r d is) (subst (λ (x : Know). Accepts p.shape x (Unlink pred expected s)) (sym k) ok)
-    (sym (found_at p.shape w pred) ∙ won expected r _ d.shows.answers same)
+    sym own ∙ unlinked_unowned p.start w (incarnations_after p.start (p.seen ++ d.rest)) (notes_after p.start (p.seen ++ d.rest)) p.who pred expected s (agreed p q (Unlink pred expected s) r d is) (subst (λ (x : Know). Accepts p.start x (Unlink pred expected s)) (sym k) ok)
+    (sym (found_at p.start w pred) ∙ won expected r _ d.shows.answers same)
 
 -- ---- the pool and the hand after a step
 
 -- a free slot that is raised, and stands in no pool, changes nothing there
-pub pool_raised : (p q : Trace) (s r : ℕ) (pool : List ℕ) (hand : Option ℕ) → Did (Raise s) p q r → IsFree ((knows p).own s) → ¬ (Contains pool s) → OwnPool p.shape (knows p) pool hand → OwnPool q.shape (knows q) pool hand
+pub pool_raised : (p q : Trace) (s r : ℕ) (pool : List ℕ) (hand : Option ℕ) → Did (Raise s) p q r → IsFree ((knows p).own s) → ¬ (Contains pool s) → OwnPool p.start (knows p) pool hand → OwnPool q.start (knows q) pool hand
 pool_raised p q s r pool hand d free out o =
     pool_after p q (Raise s) r d pool hand
-    (changes p.shape (knows p) _ s None pool hand refl (λ c. absurd (out c)) (λ is. not_both ((knows p).own s) free (held_in_hand p.shape (knows p) s pool hand o is)) o)
+    (changes p.start (knows p) _ s None pool hand refl (λ c. absurd (out c)) (λ is. not_both ((knows p).own s) free (held_in_hand p.start (knows p) s pool hand o is)) o)
   where
     not_both : (holding : Option Holding) → IsFree holding → IsInHand holding → ⊥
     not_both (Some (Free stamp)) a b = b
@@ -91,29 +91,29 @@ pool_raised p q s r pool hand d free out o =
     not_both (Some (InHand known)) a b = a
     not_both None a b = a
 
-pub pool_taken : (p q : Trace) (s r : ℕ) (pool : List ℕ) (hand : Option ℕ) → IsShape p.shape → Did (TakeFlag s) p q r → OwnPool p.shape (knows p) pool hand → OwnPool q.shape (knows q) pool hand
+pub pool_taken : (p q : Trace) (s r : ℕ) (pool : List ℕ) (hand : Option ℕ) → IsStart p.start → Did (TakeFlag s) p q r → OwnPool p.start (knows p) pool hand → OwnPool q.start (knows q) pool hand
 pool_taken p q s r pool hand is d o = pool_after p q (TakeFlag s) r d pool hand (go (has_flag r s) refl)
   where
-    go : (b : Bool) → has_flag r s ≡ b → OwnPool p.shape (cond b (with_own (knows p) s (Some (Free (stamp_shown (world_after p.shape (p.seen ++ d.rest)) (TakeFlag s))))) (knows p)) pool hand
+    go : (b : Bool) → has_flag r s ≡ b → OwnPool p.start (cond b (with_own (knows p) s (Some (Free (stamp_shown (world_after p.start (p.seen ++ d.rest)) (TakeFlag s))))) (knows p)) pool hand
     go true t =
         let new = taken_new p q s r is d t in
-        changes p.shape (knows p) _ s (Some (Free _)) pool hand refl (λ c. tt) (λ h. absurd (subst IsInHand new (held_in_hand p.shape (knows p) s pool hand o h))) o
+        changes p.start (knows p) _ s (Some (Free _)) pool hand refl (λ c. tt) (λ h. absurd (subst IsInHand new (held_in_hand p.start (knows p) s pool hand o h))) o
     go false t = o
 
-pub pool_unlinked : (p q : Trace) (pred : At) (expected s r : ℕ) (pool : List ℕ) (hand : Option ℕ) → IsShape p.shape → Accepts p.shape (knows p) (Unlink pred expected s) → Did (Unlink pred expected s) p q r
-    → OwnPool p.shape (knows p) pool hand → OwnPool q.shape (knows q) pool hand
+pub pool_unlinked : (p q : Trace) (pred : At) (expected s r : ℕ) (pool : List ℕ) (hand : Option ℕ) → IsStart p.start → Accepts p.start (knows p) (Unlink pred expected s) → Did (Unlink pred expected s) p q r
+    → OwnPool p.start (knows p) pool hand → OwnPool q.start (knows q) pool hand
 pool_unlinked p q pred expected s r pool hand is ok d o = pool_after p q (Unlink pred expected s) r d pool hand (go (r == expected) refl)
   where
-    go : (b : Bool) → (r == expected) ≡ b → OwnPool p.shape (cond b (with_own (with_checked (knows p) (reads_won (knows p) (Unlink pred expected s))) s (Some (Unlinked false))) (knows p)) pool hand
+    go : (b : Bool) → (r == expected) ≡ b → OwnPool p.start (cond b (with_own (with_checked (knows p) (reads_won (knows p) (Unlink pred expected s))) s (Some (Unlinked false))) (knows p)) pool hand
     go true t =
         let new = unlinked_new p q pred expected s r is ok d (eqb-true r expected t) in
-        changes p.shape (knows p) _ s (Some (Unlinked false)) pool hand refl (λ c. absurd (subst MayBear new (pooled_may p.shape (knows p) s pool hand o c))) (λ h. absurd (subst IsInHand new (held_in_hand p.shape (knows p) s pool hand o h))) o
+        changes p.start (knows p) _ s (Some (Unlinked false)) pool hand refl (λ c. absurd (subst MayBear new (pooled_may p.start (knows p) s pool hand o c))) (λ h. absurd (subst IsInHand new (held_in_hand p.start (knows p) s pool hand o h))) o
     go false t = o
 
 -- a slot that was born in, and stands in no pool, is in hand
-pub pool_born : (p q : Trace) (s birth r : ℕ) (pool : List ℕ) (hand : Option ℕ) → Did (StoreBirth s birth) p q r → s < p.shape.slots → ¬ (Contains pool s) → OwnPool p.shape (knows p) pool hand → OwnPool q.shape (knows q) pool (Some s)
+pub pool_born : (p q : Trace) (s birth r : ℕ) (pool : List ℕ) (hand : Option ℕ) → Did (StoreBirth s birth) p q r → s < p.start.shape.slots → ¬ (Contains pool s) → OwnPool p.start (knows p) pool hand → OwnPool q.start (knows q) pool (Some s)
 pool_born p q s birth r pool hand d low out o =
     let holding : Option Holding = Some (InHand (newborn (stamp_in ((knows p).own s)) birth)) in
     let know : Know = with_own (knows p) s holding in
     pool_after p q (StoreBirth s birth) r d pool (Some s)
-    (takes_in_hand p.shape know s pool hand low (subst IsInHand (sym (put_here (knows p).own s holding)) tt) out (changes p.shape (knows p) know s holding pool hand refl (λ c. tt) (λ h. tt) o))
+    (takes_in_hand p.start know s pool hand low (subst IsInHand (sym (put_here (knows p).own s holding)) tt) out (changes p.start (knows p) know s holding pool hand refl (λ c. tt) (λ h. tt) o))

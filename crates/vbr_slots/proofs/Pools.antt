@@ -8,7 +8,7 @@ use Rattle.std.proofs.lemmas.List.Kept.{AllPairs-filter}
 use Rattle.std.proofs.lemmas.List.Quantifiers.{all_pairs_push}
 use mathlib.Core.Logic.{dite}
 use native.Mathlib.Decide.{ℕ_discrete}
-use Rattle.vbr_words.specs.Dimensions.{Dimensions}
+use Rattle.vbr_machine.specs.Start.{Start}
 use Rattle.vbr_machine.specs.Acceptance.{MayBear, IsInHand, IsFree}
 use Rattle.vbr_machine.specs.Knowledge.{Know}
 use Rattle.vbr_machine.specs.Put.{put}
@@ -26,23 +26,23 @@ contains_before p pool s c = All-contains (Contains pool) (filter p pool) s (All
 pub outside : (slot : ℕ) (pool : List ℕ) → ¬ (Contains (without slot pool) slot)
 outside slot pool c = let t = All-contains (λ (x : ℕ). not (x == slot) ≡ true) (without slot pool) slot (filter_passes (λ (x : ℕ). not (x == slot)) pool) c in absurd (grind (arith, nat_tests))
 
-hand_left : (shape : Dimensions) (know : Know) (slot : ℕ) (pool : List ℕ) (hand : Option ℕ) → HandFits shape know pool hand → HandFits shape know (without slot pool) hand
-hand_left shape know slot pool None h = tt
-hand_left shape know slot pool (Some s) h = (h.0, h.1, (λ c. h.2 (contains_before (λ (x : ℕ). not (x == slot)) pool s c)))
+hand_left : (start : Start) (know : Know) (slot : ℕ) (pool : List ℕ) (hand : Option ℕ) → HandFits start know pool hand → HandFits start know (without slot pool) hand
+hand_left start know slot pool None h = tt
+hand_left start know slot pool (Some s) h = (h.0, h.1, (λ c. h.2 (contains_before (λ (x : ℕ). not (x == slot)) pool s c)))
 
 -- a slot leaves a pool
-pub leaves : (shape : Dimensions) (know : Know) (slot : ℕ) (pool : List ℕ) (hand : Option ℕ) → OwnPool shape know pool hand → OwnPool shape know (without slot pool) hand
-leaves shape know slot pool hand o = record {
-  pooled = All-filter (λ (x : ℕ). not (x == slot)) (IsPooled shape know) pool o.pooled;
+pub leaves : (start : Start) (know : Know) (slot : ℕ) (pool : List ℕ) (hand : Option ℕ) → OwnPool start know pool hand → OwnPool start know (without slot pool) hand
+leaves start know slot pool hand o = record {
+  pooled = All-filter (λ (x : ℕ). not (x == slot)) (IsPooled start know) pool o.pooled;
   apart = AllPairs-filter ◌≢◌ (λ (x : ℕ). not (x == slot)) pool o.apart;
-  in_hand = hand_left shape know slot pool hand o.in_hand;
+  in_hand = hand_left start know slot pool hand o.in_hand;
 }
 
 -- ---- slots that become others
 
-hand_changed : (shape : Dimensions) (know know' : Know) (slot : ℕ) (holding : Option Holding) (pool : List ℕ) (hand : Option ℕ) → know'.own ≡ put know.own slot holding → (hand ≡ Some slot → IsInHand holding) → HandFits shape know pool hand → HandFits shape know' pool hand
-hand_changed shape know know' slot holding pool None is in_hand h = tt
-hand_changed shape know know' slot holding pool (Some s) is in_hand h = (
+hand_changed : (start : Start) (know know' : Know) (slot : ℕ) (holding : Option Holding) (pool : List ℕ) (hand : Option ℕ) → know'.own ≡ put know.own slot holding → (hand ≡ Some slot → IsInHand holding) → HandFits start know pool hand → HandFits start know' pool hand
+hand_changed start know know' slot holding pool None is in_hand h = tt
+hand_changed start know know' slot holding pool (Some s) is in_hand h = (
   h.0,
   dite (ℕ_discrete s slot)
       (λ same. subst IsInHand (sym (ap (λ (f : ℕ → Option Holding). f s) is ∙ ap (put know.own slot holding) same ∙ put_here know.own slot holding)) (in_hand (ap Some same)))
@@ -51,9 +51,9 @@ hand_changed shape know know' slot holding pool (Some s) is in_hand h = (
 )
 
 -- what the pass knows of one slot changes
-pub changes : (shape : Dimensions) (know know' : Know) (slot : ℕ) (holding : Option Holding) (pool : List ℕ) (hand : Option ℕ) → know'.own ≡ put know.own slot holding → (Contains pool slot → MayBear holding) → (hand ≡ Some slot → IsInHand holding)
-    → OwnPool shape know pool hand → OwnPool shape know' pool hand
-changes shape know know' slot holding pool hand is may in_hand o = record {
+pub changes : (start : Start) (know know' : Know) (slot : ℕ) (holding : Option Holding) (pool : List ℕ) (hand : Option ℕ) → know'.own ≡ put know.own slot holding → (Contains pool slot → MayBear holding) → (hand ≡ Some slot → IsInHand holding)
+    → OwnPool start know pool hand → OwnPool start know' pool hand
+changes start know know' slot holding pool hand is may in_hand o = record {
   pooled = λ k d low.
       let at = o.pooled k d low in
       let s : ℕ = get_or pool k d in (
@@ -64,38 +64,38 @@ changes shape know know' slot holding pool hand is may in_hand o = record {
             (λ other. subst MayBear (sym (ap (λ (f : ℕ → Option Holding). f s) is ∙ put_other know.own slot holding s other)) at.1),
       );
   apart = o.apart;
-  in_hand = hand_changed shape know know' slot holding pool hand is in_hand o.in_hand;
+  in_hand = hand_changed start know know' slot holding pool hand is in_hand o.in_hand;
 }
 
 -- ---- the hand
 
 -- a slot comes into the hand
-pub takes_in_hand : (shape : Dimensions) (know : Know) (slot : ℕ) (pool : List ℕ) (hand : Option ℕ) → slot < shape.slots → IsInHand (know.own slot) → ¬ (Contains pool slot) → OwnPool shape know pool hand → OwnPool shape know pool (Some slot)
-takes_in_hand shape know slot pool hand low in_hand not o = record { pooled = o.pooled; apart = o.apart; in_hand = (low, in_hand, not) }
+pub takes_in_hand : (start : Start) (know : Know) (slot : ℕ) (pool : List ℕ) (hand : Option ℕ) → slot < start.shape.slots → IsInHand (know.own slot) → ¬ (Contains pool slot) → OwnPool start know pool hand → OwnPool start know pool (Some slot)
+takes_in_hand start know slot pool hand low in_hand not o = record { pooled = o.pooled; apart = o.apart; in_hand = (low, in_hand, not) }
 
-hand_joined : (shape : Dimensions) (know : Know) (slot : ℕ) (pool : List ℕ) (hand : Option ℕ) → HandFits shape know pool hand → HandFits shape know (pool ++ slot ∷ []) (hand_without slot hand)
-hand_joined shape know slot pool None h = tt
-hand_joined shape know slot pool (Some t) h = go (t == slot) refl
+hand_joined : (start : Start) (know : Know) (slot : ℕ) (pool : List ℕ) (hand : Option ℕ) → HandFits start know pool hand → HandFits start know (pool ++ slot ∷ []) (hand_without slot hand)
+hand_joined start know slot pool None h = tt
+hand_joined start know slot pool (Some t) h = go (t == slot) refl
   where
-    go : (b : Bool) → (t == slot) ≡ b → HandFits shape know (pool ++ slot ∷ []) (cond b None (Some t))
+    go : (b : Bool) → (t == slot) ≡ b → HandFits start know (pool ++ slot ∷ []) (cond b None (Some t))
     go true e = tt
     go false e = (h.0, h.1, (λ c. ⊎_elim h.2 (λ (same : slot ≡ t). let same' : (t == slot) ≡ true = eq-eqb t slot (sym same) in absurd (cc)) (Contains-push_cases pool slot t c)))
 
 -- a slot that the pass may bear in comes to a pool; if it was in hand, nothing is in hand any more
-pub joins : (shape : Dimensions) (know : Know) (slot : ℕ) (pool : List ℕ) (hand : Option ℕ) → slot < shape.slots → MayBear (know.own slot) → ¬ (Contains pool slot) → OwnPool shape know pool hand → OwnPool shape know (pool ++ slot ∷ []) (hand_without slot hand)
-joins shape know slot pool hand low may not o = record {
-  pooled = All-push (IsPooled shape know) pool slot o.pooled (low, may);
+pub joins : (start : Start) (know : Know) (slot : ℕ) (pool : List ℕ) (hand : Option ℕ) → slot < start.shape.slots → MayBear (know.own slot) → ¬ (Contains pool slot) → OwnPool start know pool hand → OwnPool start know (pool ++ slot ∷ []) (hand_without slot hand)
+joins start know slot pool hand low may not o = record {
+  pooled = All-push (IsPooled start know) pool slot o.pooled (low, may);
   apart = all_pairs_push ◌≢◌ pool slot o.apart (λ k d at same. not (subst (Contains pool) same (Contains-get_or pool k d at)));
-  in_hand = hand_joined shape know slot pool hand o.in_hand;
+  in_hand = hand_joined start know slot pool hand o.in_hand;
 }
 
 -- ---- what a pool says of its slots
 
-pub pooled_may : (shape : Dimensions) (know : Know) (slot : ℕ) (pool : List ℕ) (hand : Option ℕ) → OwnPool shape know pool hand → Contains pool slot → MayBear (know.own slot)
-pooled_may shape know slot pool hand o c = (All-contains (IsPooled shape know) pool slot o.pooled c).1
+pub pooled_may : (start : Start) (know : Know) (slot : ℕ) (pool : List ℕ) (hand : Option ℕ) → OwnPool start know pool hand → Contains pool slot → MayBear (know.own slot)
+pooled_may start know slot pool hand o c = (All-contains (IsPooled start know) pool slot o.pooled c).1
 
-pub held_in_hand : (shape : Dimensions) (know : Know) (slot : ℕ) (pool : List ℕ) (hand : Option ℕ) → OwnPool shape know pool hand → hand ≡ Some slot → IsInHand (know.own slot)
-held_in_hand shape know slot pool hand o is = (subst (HandFits shape know pool) is o.in_hand).1
+pub held_in_hand : (start : Start) (know : Know) (slot : ℕ) (pool : List ℕ) (hand : Option ℕ) → OwnPool start know pool hand → hand ≡ Some slot → IsInHand (know.own slot)
+held_in_hand start know slot pool hand o is = (subst (HandFits start know pool) is o.in_hand).1
 
 -- a free slot may be born in, and so may one in hand
 pub free_may : (holding : Option Holding) → IsFree holding → MayBear holding

@@ -10,7 +10,7 @@ use Rattle.vbr_machine.specs.declared.event.Event.{Event}
 use Rattle.vbr_machine.proofs.Lemmas.{is_run_first}
 use Rattle.vbr_slots.specs.declared.rule.Opened.{Opened}
 use Rattle.vbr_slots.specs.declared.rule.Witness.{Witness}
-use Rattle.vbr_slots.specs.declared.rule.Opening.{Opening}
+use Rattle.vbr_slots.specs.TableStart.{TableStart}
 use Rattle.vbr_slots.specs.Rule.{witness, witnesses, nobody, noted, first_witnesses, head_of, tail_of, first_opened, first_seen, EachBegins, HasSeen, IsSeen, times, times_in, Kept, opened_of}
 use Rattle.vbr_slots.specs.Views.{TableView, new_pass, new_passes}
 use Rattle.vbr_slots.specs.Words.{AreWordsOf}
@@ -27,10 +27,10 @@ begin_all : (opened : Opened) (k n : ℕ) → EachBegins [] (witnesses opened k 
 begin_all opened k zero = tt
 begin_all opened k (suc n) = (([], refl, tt), begin_all opened (suc k) n)
 
-pub opens : (opening : Opening) (words : List ℕ) → AreWordsOf opening.shape (machine.opening opening.shape) words → Kept opening (table_opening words [] (first_witnesses opening))
+pub opens : (opening : TableStart) (words : List ℕ) → AreWordsOf opening.start (machine.opening opening.start) words → Kept opening (table_opening words [] (first_witnesses opening))
 opens opening words are = record {
   run = [];
-  is_run = is_run_first opening.shape opening.passes;
+  is_run = is_run_first opening.start opening.passes;
   words = are;
   begins = each;
   seen = inl refl;
@@ -38,7 +38,7 @@ opens opening words are = record {
 }
   where
     each : (j : ℕ) (v : V) → get_elem? (first_witnesses opening ∷ []) j ≡ some v → EachBegins [] v
-    each zero v at = subst (EachBegins []) (some-injective _ _ at) (begin_all (opened_of opening.shape) 0 opening.passes)
+    each zero v at = subst (EachBegins []) (some-injective _ _ at) (begin_all (opened_of opening.start) 0 opening.passes)
     each (suc j) v at = absurd (some-ne-none v (sym at))
 
 times_in-snoc : (who : ℕ) (vs : List V) (v : V) → times_in who (vs ++ v ∷ []) ≡ times_in who vs + times who v
@@ -53,7 +53,7 @@ begins-append : (run : List Event) (v w : V) → EachBegins run v → EachBegins
 begins-append run [] w a b = b
 begins-append run (m ∷ ms) w a b = (a.0, begins-append run ms w a.1 b)
 
-pub splits : (opening : Opening) (id : ℕ) (v left right : V) → ((who : ℕ) → who ≢ nobody → times who left + times who right ≡ times who v) → ((run : List Event) → IsRun opening.shape opening.passes run → EachBegins run v → EachBegins run left × EachBegins run right)
+pub splits : (opening : TableStart) (id : ℕ) (v left right : V) → ((who : ℕ) → who ≢ nobody → times who left + times who right ≡ times who v) → ((run : List Event) → IsRun opening.start opening.passes run → EachBegins run v → EachBegins run left × EachBegins run right)
     → ((run : List Event) → HasSeen run v → HasSeen run left ⊎ HasSeen run right) → Splits (Kept opening) id v left right
 splits opening id v left right count part sight s h at = record {
   run = h.run;
@@ -73,7 +73,7 @@ splits opening id v left right count part sight s h at = record {
       omega arith;
 }
 
-pub joins : (opening : Opening) (id : ℕ) (v : V) (other : ℕ) (w : V) → Joins (Kept opening) id v other w (v ++ w) []
+pub joins : (opening : TableStart) (id : ℕ) (v : V) (other : ℕ) (w : V) → Joins (Kept opening) id v other w (v ++ w) []
 joins opening id v other w s h at two there =
     let was = ⊎_elim (λ (x : (other ≡ id) × ((v ++ w) ≡ w)). absurd (two x.0)) (λ (x : (other ≢ id) × (get_elem? s.views other ≡ some w)). x.1) (at_set s.views id other (v ++ w) w there) in record {
       run = h.run;
@@ -97,7 +97,7 @@ joins opening id v other w s h at two there =
           omega arith;
     }
 
-pub enters : (opening : Opening) (slots i : ℕ) → Enters (Kept opening) slots i (λ r w. w ≡ [])
+pub enters : (opening : TableStart) (slots i : ℕ) → Enters (Kept opening) slots i (λ r w. w ≡ [])
 enters opening slots i s h _ _ = (
   [],
   record {
@@ -111,7 +111,7 @@ enters opening slots i s h _ _ = (
   refl,
 )
 
-pub splits_first : (opening : Opening) (id : ℕ) (v : V) → Splits (Kept opening) id v (head_of v) (tail_of v)
+pub splits_first : (opening : TableStart) (id : ℕ) (v : V) → Splits (Kept opening) id v (head_of v) (tail_of v)
 splits_first opening id v = splits opening id v (head_of v) (tail_of v) (λ who _. count who v) (λ run _. part run v) (λ run. sight run v)
   where
     count : (who : ℕ) (u : V) → times who (head_of u) + times who (tail_of u) ≡ times who u
@@ -127,19 +127,19 @@ splits_first opening id v = splits opening id v (head_of v) (tail_of v) (λ who 
     sight run (m ∷ ms) (inl e) = inl (inl e)
     sight run (m ∷ ms) (inr h) = inr h
 
-pub splits_whole : (opening : Opening) (id : ℕ) (v : V) → Splits (Kept opening) id v [] v
+pub splits_whole : (opening : TableStart) (id : ℕ) (v : V) → Splits (Kept opening) id v [] v
 splits_whole opening id v = splits opening id v [] v (λ who _. omega arith) (λ run _ b. (tt, b)) (λ run h. inr h)
 
 -- a token beside a seat that stays: it tells what the first witness has seen
-pub splits_noted : (opening : Opening) (id : ℕ) (v : V) → opening.passes ≤ nobody → Splits (Kept opening) id v v (noted v)
+pub splits_noted : (opening : TableStart) (id : ℕ) (v : V) → opening.passes ≤ nobody → Splits (Kept opening) id v v (noted v)
 splits_noted opening id v few = splits opening id v v (noted v) count (λ run is b. (b, part run is v b)) (λ run h. inl h)
   where
     count : (who : ℕ) → who ≢ nobody → times who v + times who (noted v) ≡ times who v
     count who other = let none = token_not_counted who (first_opened v) (first_seen v) other in omega arith
 
-    part : (run : List Event) → IsRun opening.shape opening.passes run → (u : V) → EachBegins run u → EachBegins run (noted u)
-    part run is [] b = (token_begins opening.shape opening.passes nobody [] run few is (run, refl), tt)
-    part run is (m ∷ ms) b = (token_begins opening.shape opening.passes nobody m.seen run few is (b.0.0, b.0.1), tt)
+    part : (run : List Event) → IsRun opening.start opening.passes run → (u : V) → EachBegins run u → EachBegins run (noted u)
+    part run is [] b = (token_begins opening.start opening.passes nobody [] run few is (run, refl), tt)
+    part run is (m ∷ ms) b = (token_begins opening.start opening.passes nobody m.seen run few is (b.0.0, b.0.1), tt)
 
 -- the loop at the opening: the next seat goes to the pass of the number k
 module _ (opened : Opened) (k n : ℕ) (old new next : Me (Unit {0}) V) (low : k < n) (is : old ≡ (witnesses opened k (n - k), [])) (left : new ≡ (head_of old.0, old.1)) (right : next ≡ (tail_of old.0, [])) where

@@ -9,7 +9,7 @@ use Rattle.std.proofs.lemmas.List.{length-append, set-get_or}
 use Rattle.atomic_table.specs.Table.{State as Standing, Me, keeps, Allows}
 use Rattle.atomic_table.proofs.Lists.{set_again}
 use Rattle.atomic_table.specs.Seated.{TableId}
-use Rattle.vbr_words.specs.Dimensions.{IsShape}
+use Rattle.vbr_machine.specs.Start.{IsStart}
 use Rattle.vbr_words.specs.Places.{index_of, words_in}
 use Rattle.vbr_words.proofs.Lemmas.{index_of-lt}
 use Rattle.vbr_machine.specs.Machine.{word_at}
@@ -18,7 +18,7 @@ use Rattle.vbr_machine.specs.Runs.{Begins, world_after}
 use Rattle.vbr_machine.specs.declared.event.Event.{Event}
 use Rattle.vbr_slots.specs.declared.rule.Opened.{Opened}
 use Rattle.vbr_slots.specs.declared.rule.Witness.{Witness}
-use Rattle.vbr_slots.specs.declared.rule.Opening.{Opening}
+use Rattle.vbr_slots.specs.TableStart.{TableStart}
 use Rattle.vbr_slots.specs.declared.slots.Slots.TheInside.{Inside as SlotsInside}
 use Rattle.vbr_slots.specs.Rule.{Kept, head_of, tail_of, witness, witnesses, nobody, one_if, times, EachBegins, HasSeen, IsSeen, opened_of}
 use Rattle.vbr_slots.specs.Closing.{AllOf, Ends}
@@ -92,11 +92,11 @@ has_stood run [] seen = absurd seen
 has_stood run (m ∷ ms) (inl seen) = (m.who, seen.0, let here : one_if (m.who == m.who) ≡ 1 = ap one_if (eq-eqb m.who m.who refl) in omega arith)
 has_stood run (m ∷ ms) (inr seen) = let more = has_stood run ms seen in let there = more.2 in (more.0, more.1, omega arith)
 
-module _ (opening : Opening) (s : Standing (Unit {0}) V) (h : Kept opening s) (id : ℕ) (ms : V) (at : get_elem? s.views id ≡ some ms) (few : opening.passes ≤ nobody) (low : EachLow opening.passes ms) (all : opening.passes ≤ length ms) where
+module _ (opening : TableStart) (s : Standing (Unit {0}) V) (h : Kept opening s) (id : ℕ) (ms : V) (at : get_elem? s.views id ≡ some ms) (few : opening.passes ≤ nobody) (low : EachLow opening.passes ms) (all : opening.passes ≤ length ms) where
   once : AtMostOnce opening.passes ms
   once k lower =
       let one = one_in k s.views id ms at in
-      let most = times-members (opened_of opening.shape) k 0 opening.passes in
+      let most = times-members (opened_of opening.start) k 0 opening.passes in
       let counted = h.counted k (λ is. omega (arith, few, lower, is)) in
       omega arith
 
@@ -110,10 +110,10 @@ module _ (opening : Opening) (s : Standing (Unit {0}) V) (h : Kept opening s) (i
       let there_once = stands.2 in
       let two = two_in who s.views id j ms v apart at there in
       let counted = h.counted who stands.1 in
-      let most = times-members (opened_of opening.shape) who 0 opening.passes in
+      let most = times-members (opened_of opening.start) who 0 opening.passes in
       ⊎_elim
       (λ (lower : who < opening.passes). let here = each who lower in omega arith)
-      (λ (high : opening.passes ≤ who). let none = times-above (opened_of opening.shape) who 0 opening.passes (omega arith) in omega arith)
+      (λ (high : opening.passes ≤ who). let none = times-above (opened_of opening.start) who 0 opening.passes (omega arith) in omega arith)
       (cases_lt who opening.passes)
 
   latest : IsLatest h.run ms
@@ -125,7 +125,7 @@ module _ (opening : Opening) (s : Standing (Unit {0}) V) (h : Kept opening s) (i
           (λ not. absurd (no_other x.0 x.1 not x.2 x.3))
 
 -- a load of any word keeps the rule, and tells the word after what the seat's witnesses have seen
-pub surveys : (opening : Opening) (slots id index : ℕ) (me : Me (Unit {0}) V) → opening.passes ≤ nobody → EachLow opening.passes me.0 → opening.passes ≤ length me.0 → Allows (Kept opening) slots id me index (λ n. n) (Reads opening index me)
+pub surveys : (opening : TableStart) (slots id index : ℕ) (me : Me (Unit {0}) V) → opening.passes ≤ nobody → EachLow opening.passes me.0 → opening.passes ≤ length me.0 → Allows (Kept opening) slots id me index (λ n. n) (Reads opening index me)
 surveys opening slots id index me few low all s h _ at _ =
     let again : record { words = set s.words index (get_or s.words index 0); homes = s.homes; views = set s.views id me.0 } ≡ s =
     λ i. record { words = set-get_or s.words index 0 i; homes = s.homes; views = set_again s.views id me.0 at i } in (
@@ -169,7 +169,7 @@ pub one_run : (run other : List Event) (ms : V) → IsLatest run ms → IsLatest
 one_run run other ms a b = begins_both run other (begins_each run other ms a b) (begins_each other run ms b a)
 
 -- as many words as there are, each read so, are those of the run
-pub are_read : (t : TableView) (ms : V) (words : List ℕ) → length words ≡ words_in t.shape → ((k : ℕ) → k < length words → IsWordAt (opening_of t) ms k (get_or words k 0)) → AreReadBy t ms words
+pub are_read : (t : TableView) (ms : V) (words : List ℕ) → length words ≡ words_in t.start.shape → ((k : ℕ) → k < length words → IsWordAt (opening_of t) ms k (get_or words k 0)) → AreReadBy t ms words
 are_read t ms words count each =
     let some_word : 0 < length words = omega (arith, count) in
     let first = each 0 some_word in record {
@@ -179,10 +179,10 @@ are_read t ms words count each =
       are = record {
         count = count;
         each = λ place inside.
-            let index : ℕ = index_of t.shape place in
-            let low : index < length words = subst (λ (n : ℕ). index < n) (sym count) (index_of-lt t.shape place inside) in
+            let index : ℕ = index_of t.start.shape place in
+            let low : index < length words = subst (λ (n : ℕ). index < n) (sym count) (index_of-lt t.start.shape place inside) in
             let it = each index low in
-            it.found place inside refl ∙ ap (λ (run : List Event). word_at t.shape (world_after t.shape run) place) (one_run it.run first.run ms it.latest first.latest);
+            it.found place inside refl ∙ ap (λ (run : List Event). word_at t.start (world_after t.start run) place) (one_run it.run first.run ms it.latest first.latest);
       };
     }
 
@@ -190,18 +190,18 @@ are_read t ms words count each =
 
 module _ {N : Type 0} {values : Bool} (t : SlotsInside N) (table : TableView) (built : IsBuilt values t) (t_is : table_of t ≡ table) where
   -- how many words it has
-  pub words_are : t.table.shared.table_id.words ≡ words_in table.shape
-  words_are = built.words ∙ ap (λ (q : TableView). words_in q.shape) t_is
+  pub words_are : t.table.shared.table_id.words ≡ words_in table.start.shape
+  words_are = built.words ∙ ap (λ (q : TableView). words_in q.start.shape) t_is
 
   -- what a load asks of the seat
-  pub asks_to_read : (z : TableId) → z ≡ table.table → (id : ℕ) (me : Sat) → EachLow table.passes me.0 → table.passes ≤ length me.0 → (index : ℕ) → index < t.table.shared.table_id.words → (opening : Opening) → opening ≡ opening_of table
+  pub asks_to_read : (z : TableId) → z ≡ table.table → (id : ℕ) (me : Sat) → EachLow table.passes me.0 → table.passes ≤ length me.0 → (index : ℕ) → index < t.table.shared.table_id.words → (opening : TableStart) → opening ≡ opening_of table
       → (z ≡ t.table.shared.table_id) × (index < t.table.shared.table_id.words) × Allows (Kept t.table.shared.key) t.table.shared.table_id.slots id me index (λ n. n) (Reads opening index me)
   asks_to_read z z_is id me low all index inside opening named =
       let key : opening_of table ≡ t.table.shared.key = sym (ap opening_of t_is) ∙ sym built.key in
       let few : table.passes ≤ nobody = subst (λ (n : ℕ). n ≤ nobody) (ap (λ (q : TableView). q.passes) t_is) built.few in (
         z_is ∙ sym (ap (λ (q : TableView). q.table) t_is),
         inside,
-        subst (λ (x : Opening × Opening). Allows (Kept x.0) t.table.shared.table_id.slots id me index (λ n. n) (Reads x.1 index me)) (λ i. (key i, sym named i)) (surveys (opening_of table) t.table.shared.table_id.slots id index me few low all),
+        subst (λ (x : TableStart × TableStart). Allows (Kept x.0) t.table.shared.table_id.slots id me index (λ n. n) (Reads x.1 index me)) (λ i. (key i, sym named i)) (surveys (opening_of table) t.table.shared.table_id.slots id index me few low all),
       )
 
 -- ---- one more pass
@@ -219,10 +219,10 @@ module _ (t : TableView) (passes others : List PassView) (last : PassView) (part
       front_of (p ∷ ps) all = (all.0, front_of ps all.1)
 
   -- its witness goes in front of those that were joined before
-  pub joined : (ms both : V) → both ≡ witness (opened_of last.trace.shape) last.trace.who last.trace.seen ∷ ms → witnesses_of others ++ both ≡ witnesses_of passes ++ ms
+  pub joined : (ms both : V) → both ≡ witness (opened_of last.trace.start) last.trace.who last.trace.seen ∷ ms → witnesses_of others ++ both ≡ witnesses_of passes ++ ms
   joined ms both is =
       ap (λ (vs : V). witnesses_of others ++ vs) is
-      ∙ sym (append_assoc (witnesses_of others) (witness (opened_of last.trace.shape) last.trace.who last.trace.seen ∷ []) ms)
+      ∙ sym (append_assoc (witnesses_of others) (witness (opened_of last.trace.start) last.trace.who last.trace.seen ∷ []) ms)
       ∙ ap (λ (vs : V). vs ++ ms) (sym (witnesses_of-snoc others last) ∙ ap witnesses_of (sym parts))
 
 -- a seat that was joined behind that of one pass
@@ -234,11 +234,11 @@ pub parted : (u : Witness) (seat both left right : Sat) → both ≡ (u ∷ seat
 parted u seat both left right is none from to = (from ∙ ap (λ (m : Sat). (head_of m.0, m.1)) is, to ∙ ap (λ (m : Sat). (tail_of m.0, [])) is ∙ (λ i. (seat.0, sym none i)))
 
 -- the end of a table as its snapshot shows it
-pub ends_so : (t : TableView) (ps : List PassView) (words : List ℕ) → IsShape t.shape → AreReadBy t (witnesses_of ps) words → Ends t ps words
-ends_so t ps words is_shape read = record {
+pub ends_so : (t : TableView) (ps : List PassView) (words : List ℕ) → IsStart t.start → AreReadBy t (witnesses_of ps) words → Ends t ps words
+ends_so t ps words is_start read = record {
   run = read.run;
   is_run = read.is_run;
-  safe = every_run t.shape t.passes read.run is_shape read.is_run;
+  safe = every_run t.start t.passes read.run is_start read.is_run;
   are = read.are;
   begins = each_seen read.run ps read.begins;
 }

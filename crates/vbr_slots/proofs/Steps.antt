@@ -2,7 +2,7 @@
 use Rattle.std.proofs.Common.{Bool, ◌≡◌, ◌≢◌, ℕ, ◌<◌, ◌≤◌, List, [], ◌∷◌, ◌++◌, refl, sym, ap, ◌∙◌, subst, arith}
 use Rattle.atomic_table.specs.Table.{Me, Allows}
 use Rattle.atomic_table.specs.Seated.{TableId}
-use Rattle.vbr_words.specs.Dimensions.{Dimensions, IsShape}
+use Rattle.vbr_machine.specs.Start.{Start, IsStart}
 use Rattle.vbr_words.specs.Places.{index_of, words_in}
 use Rattle.vbr_words.specs.declared.place.Place.{Place}
 use Rattle.vbr_words.proofs.Lemmas.{index_of-lt}
@@ -16,6 +16,7 @@ use Rattle.vbr_machine.specs.declared.event.Step.{Step}
 use Rattle.vbr_machine.specs.declared.event.Step.TheVariants.{ReadEpoch}
 use Rattle.vbr_machine.proofs.Lemmas.{know_after-snoc, others_leave_know, place_in}
 use Rattle.vbr_slots.specs.declared.rule.Witness.{Witness}
+use Rattle.vbr_slots.specs.TableStart.{TableStart}
 use Rattle.vbr_slots.specs.declared.rule.Opening.{Opening}
 use Rattle.vbr_slots.specs.declared.runner.Runner.TheInside.{Inside as RunnerInside}
 use Rattle.vbr_slots.specs.declared.slots.Slots.TheInside.{Inside as SlotsInside}
@@ -23,8 +24,8 @@ use Rattle.vbr_slots.specs.Rule.{with_opened, Kept, Told, Caught, Shows, witness
 use Rattle.vbr_slots.specs.Views.{Trace, TableView, IsOf, Did, knows, event_of, epoch_after, steps_in}
 use Rattle.vbr_slots.specs.Stepping.{Names, opening_of}
 use Rattle.vbr_slots.specs.Tokens.{Since}
-use Rattle.vbr_slots.specs.RunnerView.{shape_of, trace_of, seen_of, IsSoundRunner}
-use Rattle.vbr_slots.specs.SlotsView.{shape_in, table_of, IsBuilt}
+use Rattle.vbr_slots.specs.RunnerView.{start_of, trace_of, seen_of, IsSoundRunner}
+use Rattle.vbr_slots.specs.SlotsView.{start_in, table_of, IsBuilt}
 use Rattle.vbr_slots.proofs.Calls.{steps_next, steps_left}
 use Rattle.vbr_slots.proofs.Keeps.{plays_as, catches_as}
 use Rattle.vbr_slots.proofs.Learning.{epoch_learned}
@@ -34,8 +35,8 @@ abbrev pub Sat : Type 0
 Sat = Me (Unit {0}) (List Witness)
 
 -- the seat of a runner
-pub known : (p : RunnerInside) (w : Trace) → IsSoundRunner p → trace_of p ≡ w → p.seat.me ≡ (witness (opened_of w.shape) w.who w.seen ∷ [], [])
-known p w sound is = sound.alone ∙ ap (λ (v : Trace). (witness (opened_of v.shape) v.who v.seen ∷ [], [])) is
+pub known : (p : RunnerInside) (w : Trace) → IsSoundRunner p → trace_of p ≡ w → p.seat.me ≡ (witness (opened_of w.start) w.who w.seen ∷ [], [])
+known p w sound is = sound.alone ∙ ap (λ (v : Trace). (witness (opened_of v.start) v.who v.seen ∷ [], [])) is
 
 pub low_of : (p : RunnerInside) (w : Trace) → IsSoundRunner p → trace_of p ≡ w → w.who < w.passes
 low_of p w sound is = subst (λ (v : Trace). v.who < v.passes) is sound.low
@@ -45,26 +46,26 @@ seen_in me v others is = ap (λ (m : Sat). first_seen m.0) is
 
 -- what a step on the word asks
 pub asks : {N : Type 0} {values : Bool} (t : SlotsInside N) (table : TableView) → IsBuilt values t → table_of t ≡ table → (w : Trace) → w.who < w.passes → IsOf w table → (z : TableId) → z ≡ w.table → (id : ℕ) (me : Sat) (others : List Witness)
-    → me ≡ (witness (opened_of w.shape) w.who w.seen ∷ others, []) → (step : Step) (e : Event) (opening : Opening) → Names e opening w table step → (place : Place) (word : ℕ) (f g : ℕ → ℕ) → word ≡ index_of t.opening.shape place → place ≡ place_of_step step
-    → ((n : ℕ) → f n ≡ word_made (access_of (knows w) step) n) → ((n : ℕ) → Shows step (g n) n) → Accepts table.shape (knows w) step
+    → me ≡ (witness (opened_of w.start) w.who w.seen ∷ others, []) → (step : Step) (e : Event) (opening : TableStart) → Names e opening w table step → (place : Place) (word : ℕ) (f g : ℕ → ℕ) → word ≡ index_of t.opening.shape place → place ≡ place_of_step step
+    → ((n : ℕ) → f n ≡ word_made (access_of (knows w) step) n) → ((n : ℕ) → Shows step (g n) n) → Accepts table.start (knows w) step
     → (z ≡ t.table.shared.table_id) × (word < t.table.shared.table_id.words) × Allows (Kept t.table.shared.key) t.table.shared.table_id.slots id me word f (λ r. Told opening e me (g r))
 asks t table built t_is w low own z z_is id me others is step e opening named place word f g at_place place_is does same ok =
     let d : Event = event_of w.who step in
-    let o : Opening = record { shape = w.shape; passes = w.passes } in
-    let mine : o ≡ opening_of table = λ i. record { shape = own.1 i; passes = own.2 i } in
+    let o : TableStart = record { start = w.start; passes = w.passes } in
+    let mine : o ≡ opening_of table = λ i. record { start = own.1 i; passes = own.2 i } in
     let here : o ≡ t.table.shared.key = mine ∙ sym (ap opening_of t_is) ∙ sym built.key in
-    let shape : w.shape ≡ shape_in t = own.1 ∙ sym (ap (λ (q : TableView). q.shape) t_is) in
-    let accepted : Accepts w.shape (knows w) step = subst (λ (x : Dimensions). Accepts x (knows w) step) (sym own.1) ok in
-    let at : word ≡ index_of w.shape (place_of_step step) = at_place ∙ (λ i. index_of (sym shape i) (place_is i)) in
-    let size : words_in w.shape ≡ t.table.shared.table_id.words = ap words_in shape ∙ sym built.words in
-    let in_table : index_of w.shape (place_of_step step) < words_in w.shape = index_of-lt w.shape (place_of_step step) (place_in w.shape step accepted.in_shape) in
-    let is_shape : IsShape w.shape = subst IsShape (sym shape) built.shape in
+    let start : w.start ≡ start_in t = own.1 ∙ sym (ap (λ (q : TableView). q.start) t_is) in
+    let accepted : Accepts w.start (knows w) step = subst (λ (x : Start). Accepts x (knows w) step) (sym own.1) ok in
+    let at : word ≡ index_of w.start.shape (place_of_step step) = at_place ∙ (λ i. index_of (sym start i).shape (place_is i)) in
+    let size : words_in w.start.shape ≡ t.table.shared.table_id.words = ap (λ (s : Start). words_in s.shape) start ∙ sym built.words in
+    let in_table : index_of w.start.shape (place_of_step step) < words_in w.start.shape = index_of-lt w.start.shape (place_of_step step) (place_in w.start step accepted.in_shape) in
+    let is_start : IsStart w.start = subst IsStart (sym start) built.start in
     let few : w.passes ≤ nobody = subst (λ (n : ℕ). n ≤ nobody) (ap (λ (q : TableView). q.passes) t_is ∙ sym own.2) built.few in
     let apart : w.who ≢ nobody = λ same_number. absurd (omega (arith, low, few, same_number)) in
-    let plain : Allows (Kept o) t.table.shared.table_id.slots id me word f (λ r. Told o d me (g r)) = plays_as o is_shape t.table.shared.table_id.slots id d w.seen others [] me word f g is low apart at does same accepted in (
+    let plain : Allows (Kept o) t.table.shared.table_id.slots id me word f (λ r. Told o d me (g r)) = plays_as o is_start t.table.shared.table_id.slots id d w.seen others [] me word f g is low apart at does same accepted in (
       z_is ∙ (own.0 ∙ sym (ap (λ (q : TableView). q.table) t_is)),
       omega (arith, at, size, in_table),
-      subst (λ (x : Opening × Event × Opening). Allows (Kept x.0) t.table.shared.table_id.slots id me word f (λ r. Told x.2 x.1 me (g r))) (λ i. (here i, sym named.event_is i, (mine ∙ sym named.opening_is) i)) plain,
+      subst (λ (x : TableStart × Event × TableStart). Allows (Kept x.0) t.table.shared.table_id.slots id me word f (λ r. Told x.2 x.1 me (g r))) (λ i. (here i, sym named.event_is i, (mine ∙ sym named.opening_is) i)) plain,
     )
 
 -- what is known after the step
@@ -73,19 +74,19 @@ pub record Done (w : Trace) (step : Step) (r : ℕ) (others : List Witness) (n :
   pub none : NoneOf w.who rest
   pub run : List Event
   pub run_is : run ≡ (w.seen ++ rest) ++ event_of w.who step ∷ []
-  pub now : n ≡ (witness (opened_of w.shape) w.who run ∷ others, [])
-  pub is_run : IsRun w.shape w.passes run
-  pub shows : Shows step r (found w.shape (world_after w.shape (w.seen ++ rest)) step)
-  pub know : know_after w.shape run w.who ≡ learn step r (stamp_shown (world_after w.shape (w.seen ++ rest)) step) (knows w)
+  pub now : n ≡ (witness (opened_of w.start) w.who run ∷ others, [])
+  pub is_run : IsRun w.start w.passes run
+  pub shows : Shows step r (found w.start (world_after w.start (w.seen ++ rest)) step)
+  pub know : know_after w.start run w.who ≡ learn step r (stamp_shown (world_after w.start (w.seen ++ rest)) step) (knows w)
   pub mates : EachBegins run others
 
-pub done : (w : Trace) (table : TableView) → IsOf w table → (me n : Sat) (others : List Witness) → me ≡ (witness (opened_of w.shape) w.who w.seen ∷ others, []) → (step : Step) (e : Event) (opening : Opening) → Names e opening w table step
+pub done : (w : Trace) (table : TableView) → IsOf w table → (me n : Sat) (others : List Witness) → me ≡ (witness (opened_of w.start) w.who w.seen ∷ others, []) → (step : Step) (e : Event) (opening : TableStart) → Names e opening w table step
     → (r : ℕ) → Told opening e me r n → Done w step r others n
 done w table own me n others is step e opening named r told =
     let d : Event = event_of w.who step in
-    let o : Opening = record { shape = w.shape; passes = w.passes } in
-    let mine : opening_of table ≡ o = λ i. record { shape = sym own.1 i; passes = sym own.2 i } in
-    let here : Told o d (witness (opened_of w.shape) w.who w.seen ∷ others, []) r n = subst (λ (x : Opening × Event × Sat). Told x.0 x.1 x.2 r n) (λ i. ((named.opening_is ∙ mine) i, named.event_is i, is i)) told in record {
+    let o : TableStart = record { start = w.start; passes = w.passes } in
+    let mine : opening_of table ≡ o = λ i. record { start = sym own.1 i; passes = sym own.2 i } in
+    let here : Told o d (witness (opened_of w.start) w.who w.seen ∷ others, []) r n = subst (λ (x : TableStart × Event × Sat). Told x.0 x.1 x.2 r n) (λ i. ((named.opening_is ∙ mine) i, named.event_is i, is i)) told in record {
       rest = here.rest;
       none = here.none;
       run = (w.seen ++ here.rest) ++ d ∷ [];
@@ -93,18 +94,18 @@ done w table own me n others is step e opening named r told =
       now = here.now;
       is_run = here.is_run;
       shows = here.shows;
-      know = know_after-snoc w.shape w.seen here.rest d here.none ∙ sym (here.shows.teaches (stamp_shown (world_after w.shape (w.seen ++ here.rest)) step) (knows w));
+      know = know_after-snoc w.start w.seen here.rest d here.none ∙ sym (here.shows.teaches (stamp_shown (world_after w.start (w.seen ++ here.rest)) step) (knows w));
       mates = here.others;
     }
 
--- a runner that has kept its opening and what its seat says that the table opened with is of the same shape
-same_shape : (p : RunnerInside) (w : Trace) → trace_of p ≡ w → (opening : Opening) → opening ≡ p.opening → (me : Sat) (v : Witness) (others : List Witness) → me ≡ (v ∷ others, []) → v.opened ≡ opened_of w.shape → with_opened opening.shape (first_opened me.0) ≡ w.shape
-same_shape p w p_is opening opening_is me v others is opened =
+-- a runner that has kept its opening and what its seat says that the table opened with has the same start
+same_start : (p : RunnerInside) (w : Trace) → trace_of p ≡ w → (opening : Opening) → opening ≡ p.opening → (me : Sat) (v : Witness) (others : List Witness) → me ≡ (v ∷ others, []) → v.opened ≡ opened_of w.start → with_opened opening.shape (first_opened me.0) ≡ w.start
+same_start p w p_is opening opening_is me v others is opened =
     (λ i. with_opened (opening_is i).shape ((ap (λ (m : Sat). first_opened m.0) is ∙ opened) i))
-    ∙ (λ i. with_opened (ap (λ (v : Trace). v.shape) p_is i) (opened_of w.shape))
+    ∙ (λ i. with_opened (ap (λ (v : Trace). v.start.shape) p_is i) (opened_of w.start))
 
 -- the runner after the step, in a seat of its own
-module _ (p : RunnerInside) (w : Trace) (sound : IsSoundRunner p) (p_is : trace_of p ≡ w) (step : Step) (r : ℕ) (others : List Witness) (n : Sat) (end : Done w step r others n) (q : RunnerInside) (is : q.seat.me ≡ (witness (opened_of w.shape) w.who end.run ∷ [], []))
+module _ (p : RunnerInside) (w : Trace) (sound : IsSoundRunner p) (p_is : trace_of p ≡ w) (step : Step) (r : ℕ) (others : List Witness) (n : Sat) (end : Done w step r others n) (q : RunnerInside) (is : q.seat.me ≡ (witness (opened_of w.start) w.who end.run ∷ [], []))
     (fields : (q.who ≡ p.who) × (q.opening ≡ p.opening) × (q.epoch ≡ epoch_after step r p.epoch)) where
   seen_now : seen_of q ≡ end.run
   seen_now = seen_in q.seat.me _ [] is
@@ -112,24 +113,24 @@ module _ (p : RunnerInside) (w : Trace) (sound : IsSoundRunner p) (p_is : trace_
   who_is : q.who ≡ w.who
   who_is = fields.0 ∙ ap (λ (v : Trace). v.who) p_is
 
-  shape_is : shape_of q ≡ w.shape
-  shape_is = same_shape p w p_is q.opening fields.1 q.seat.me _ [] is refl
+  start_is : start_of q ≡ w.start
+  start_is = same_start p w p_is q.opening fields.1 q.seat.me _ [] is refl
 
   passes_is : q.opening.passes ≡ w.passes
   passes_is = ap (λ (o : Opening). o.passes) fields.1 ∙ ap (λ (v : Trace). v.passes) p_is
 
   abbrev know : Know
-  know = learn step r (stamp_shown (world_after w.shape (w.seen ++ end.rest)) step) (knows w)
+  know = learn step r (stamp_shown (world_after w.start (w.seen ++ end.rest)) step) (knows w)
 
-  know_is : know_after (shape_of q) (seen_of q) q.who ≡ know
-  know_is = (λ i. know_after (shape_is i) (seen_now i) (who_is i)) ∙ end.know
+  know_is : know_after (start_of q) (seen_of q) q.who ≡ know
+  know_is = (λ i. know_after (start_is i) (seen_now i) (who_is i)) ∙ end.know
 
   pub stays_sound : IsSoundRunner q
   stays_sound = record {
-    alone = is ∙ (λ i. (witness (opened_of (sym shape_is i)) (sym who_is i) (sym seen_now i) ∷ [], []));
+    alone = is ∙ (λ i. (witness (opened_of (sym start_is i)) (sym who_is i) (sym seen_now i) ∷ [], []));
     low = subst (λ (x : ℕ × Opening). x.0 < x.1.passes) (λ i. (sym fields.0 i, sym fields.1 i)) sound.low;
-    shape = subst IsShape (ap (λ (v : Trace). v.shape) p_is ∙ sym shape_is) sound.shape;
-    is_run = subst (λ (x : Dimensions × ℕ × List Event). IsRun x.0 x.1 x.2) (λ i. (sym shape_is i, sym passes_is i, sym seen_now i)) end.is_run;
+    start = subst IsStart (ap (λ (v : Trace). v.start) p_is ∙ sym start_is) sound.start;
+    is_run = subst (λ (x : Start × ℕ × List Event). IsRun x.0 x.1 x.2) (λ i. (sym start_is i, sym passes_is i, sym seen_now i)) end.is_run;
     epoch = fields.2 ∙ ap (epoch_after step r) (sound.epoch ∙ ap (λ (v : Trace). (knows v).epoch) p_is) ∙ sym (epoch_learned step r _ (knows w)) ∙ sym (ap (λ (k : Know). k.epoch) know_is);
   }
 
@@ -138,10 +139,10 @@ module _ (p : RunnerInside) (w : Trace) (sound : IsSoundRunner p) (p_is : trace_
     rest = end.rest;
     none = end.none;
     seen = seen_now ∙ end.run_is;
-    is_run = subst (IsRun w.shape w.passes) (sym seen_now) end.is_run;
+    is_run = subst (IsRun w.start w.passes) (sym seen_now) end.is_run;
     shows = end.shows;
     know = know_is;
-    same = (table ∙ ap (λ (v : Trace). v.table) p_is, shape_is, passes_is, who_is);
+    same = (table ∙ ap (λ (v : Trace). v.table) p_is, start_is, passes_is, who_is);
     steps = (λ i. steps_in (who_is i) ((seen_now ∙ end.run_is) i)) ∙ steps_next w.who w.seen end.rest step end.none;
   }
 
@@ -157,23 +158,23 @@ pub right_rest : (m m' : Sat) (v : Witness) (vs : List Witness) → m ≡ (v ∷
 right_rest m m' v vs is right = right ∙ ap (λ (x : Sat). (tail_of x.0, [])) is
 
 -- a runner that has its seat back is what it was
-pub same_again : (p : RunnerInside) (w : Trace) (sound : IsSoundRunner p) (p_is : trace_of p ≡ w) (q : RunnerInside) (is : q.seat.me ≡ (witness (opened_of w.shape) w.who w.seen ∷ [], [])) → (q.who ≡ p.who) × (q.opening ≡ p.opening) × (q.epoch ≡ p.epoch)
+pub same_again : (p : RunnerInside) (w : Trace) (sound : IsSoundRunner p) (p_is : trace_of p ≡ w) (q : RunnerInside) (is : q.seat.me ≡ (witness (opened_of w.start) w.who w.seen ∷ [], [])) → (q.who ≡ p.who) × (q.opening ≡ p.opening) × (q.epoch ≡ p.epoch)
     → q.seat.table_id ≡ w.table → IsSoundRunner q × (trace_of q ≡ w)
 same_again p w sound p_is q is fields table =
     let seen : seen_of q ≡ w.seen = seen_in q.seat.me _ [] is in
     let was : seen_of q ≡ seen_of p = seen ∙ sym (ap (λ (v : Trace). v.seen) p_is) in
     let who : q.who ≡ w.who = fields.0 ∙ ap (λ (v : Trace). v.who) p_is in
-    let shape : shape_of q ≡ w.shape = same_shape p w p_is q.opening fields.1 q.seat.me _ [] is refl in
-    let shape_was : shape_of q ≡ shape_of p = shape ∙ sym (ap (λ (v : Trace). v.shape) p_is) in
+    let start : start_of q ≡ w.start = same_start p w p_is q.opening fields.1 q.seat.me _ [] is refl in
+    let shape_was : start_of q ≡ start_of p = start ∙ sym (ap (λ (v : Trace). v.start) p_is) in
     let passes : q.opening.passes ≡ w.passes = ap (λ (o : Opening). o.passes) fields.1 ∙ ap (λ (v : Trace). v.passes) p_is in (
       record {
-        alone = is ∙ (λ i. (witness (opened_of (sym shape i)) (sym who i) (sym seen i) ∷ [], []));
+        alone = is ∙ (λ i. (witness (opened_of (sym start i)) (sym who i) (sym seen i) ∷ [], []));
         low = subst (λ (x : ℕ × Opening). x.0 < x.1.passes) (λ i. (sym fields.0 i, sym fields.1 i)) sound.low;
-        shape = subst IsShape (sym shape_was) sound.shape;
-        is_run = subst (λ (x : Dimensions × ℕ × List Event). IsRun x.0 x.1 x.2) (λ i. (sym shape_was i, (sym fields.1 i).passes, sym was i)) sound.is_run;
+        start = subst IsStart (sym shape_was) sound.start;
+        is_run = subst (λ (x : Start × ℕ × List Event). IsRun x.0 x.1 x.2) (λ i. (sym shape_was i, (sym fields.1 i).passes, sym was i)) sound.is_run;
         epoch = fields.2 ∙ sound.epoch ∙ sym (λ i. (know_after (shape_was i) (was i) (fields.0 i)).epoch);
       },
-      (λ i. record { table = table i; shape = shape i; passes = passes i; who = who i; seen = seen i }),
+      (λ i. record { table = table i; start = start i; passes = passes i; who = who i; seen = seen i }),
     )
 
 pub wide : {N : Type 0} {values : Bool} (t : SlotsInside N) → IsBuilt values t → 0 < t.table.shared.table_id.words
@@ -183,28 +184,28 @@ wide t built = let w = built.words in omega arith
 
 -- the number of tokens is above those of all passes
 pub none_has_it : {N : Type 0} {values : Bool} (t : SlotsInside N) → IsBuilt values t → t.table.shared.key.passes ≤ nobody
-none_has_it t built = subst (λ (o : Opening). o.passes ≤ nobody) (sym built.key) built.few
+none_has_it t built = subst (λ (o : TableStart). o.passes ≤ nobody) (sym built.key) built.few
 
 -- a seat that a token was joined to
 pub beside : (u : Witness) (vs : List Witness) (pm given pm' : Sat) → pm ≡ (u ∷ [], []) → given ≡ (vs, []) → pm' ≡ (pm.0 ++ given.0, pm.1) → pm' ≡ (u ∷ vs, [])
 beside u vs pm given pm' is_p from into = into ∙ (λ i. ((is_p i).0 ++ (from i).0, (is_p i).1))
 
 -- what catching up asks
-pub asks_to_catch : {N : Type 0} {values : Bool} (t : SlotsInside N) (table : TableView) → IsBuilt values t → table_of t ≡ table → (w : Trace) → w.who < w.passes → IsOf w table → (z : TableId) → z ≡ w.table → (id : ℕ) (me : Sat) (others : List Witness) → me ≡ (witness (opened_of w.shape) w.who w.seen ∷ others, [])
-    → ((number : ℕ) → number ≢ nobody → times number others ≡ 0) → (e : Event) (opening : Opening) → Names e opening w table ReadEpoch
+pub asks_to_catch : {N : Type 0} {values : Bool} (t : SlotsInside N) (table : TableView) → IsBuilt values t → table_of t ≡ table → (w : Trace) → w.who < w.passes → IsOf w table → (z : TableId) → z ≡ w.table → (id : ℕ) (me : Sat) (others : List Witness) → me ≡ (witness (opened_of w.start) w.who w.seen ∷ others, [])
+    → ((number : ℕ) → number ≢ nobody → times number others ≡ 0) → (e : Event) (opening : TableStart) → Names e opening w table ReadEpoch
     → (z ≡ t.table.shared.table_id) × (0 < t.table.shared.table_id.words) × Allows (Kept t.table.shared.key) t.table.shared.table_id.slots id me 0 (λ n. n) (λ _. Caught opening e.pass me)
 asks_to_catch t table built t_is w low own z z_is id me others is spent e opening named =
-    let o : Opening = record { shape = w.shape; passes = w.passes } in
-    let mine : o ≡ opening_of table = λ i. record { shape = own.1 i; passes = own.2 i } in
+    let o : TableStart = record { start = w.start; passes = w.passes } in
+    let mine : o ≡ opening_of table = λ i. record { start = own.1 i; passes = own.2 i } in
     let here : o ≡ t.table.shared.key = mine ∙ sym (ap opening_of t_is) ∙ sym built.key in
-    let shape : w.shape ≡ shape_in t = own.1 ∙ sym (ap (λ (q : TableView). q.shape) t_is) in
-    let is_shape : IsShape w.shape = subst IsShape (sym shape) built.shape in
+    let start : w.start ≡ start_in t = own.1 ∙ sym (ap (λ (q : TableView). q.start) t_is) in
+    let is_start : IsStart w.start = subst IsStart (sym start) built.start in
     let few : w.passes ≤ nobody = subst (λ (n : ℕ). n ≤ nobody) (ap (λ (q : TableView). q.passes) t_is ∙ sym own.2) built.few in
     let apart : w.who ≢ nobody = λ same_number. absurd (omega (arith, low, few, same_number)) in
-    let plain : Allows (Kept o) t.table.shared.table_id.slots id me 0 (λ n. n) (λ _. Caught o w.who me) = catches_as o is_shape t.table.shared.table_id.slots id w.who w.seen others me 0 is apart spent in (
+    let plain : Allows (Kept o) t.table.shared.table_id.slots id me 0 (λ n. n) (λ _. Caught o w.who me) = catches_as o is_start t.table.shared.table_id.slots id w.who w.seen others me 0 is apart spent in (
       z_is ∙ (own.0 ∙ sym (ap (λ (q : TableView). q.table) t_is)),
       wide t built,
-      subst (λ (x : Opening × Event × Opening). Allows (Kept x.0) t.table.shared.table_id.slots id me 0 (λ n. n) (λ _. Caught x.2 x.1.pass me)) (λ i. (here i, sym named.event_is i, (mine ∙ sym named.opening_is) i)) plain,
+      subst (λ (x : TableStart × Event × TableStart). Allows (Kept x.0) t.table.shared.table_id.slots id me 0 (λ n. n) (λ _. Caught x.2 x.1.pass me)) (λ i. (here i, sym named.event_is i, (mine ∙ sym named.opening_is) i)) plain,
     )
 
 -- what is known then
@@ -213,17 +214,17 @@ pub record CaughtUp (w : Trace) (others : List Witness) (n : Sat) : Type 0 where
   pub none : NoneOf w.who rest
   pub run : List Event
   pub run_is : run ≡ w.seen ++ rest
-  pub now : n ≡ (witness (opened_of w.shape) w.who run ∷ [], [])
-  pub is_run : IsRun w.shape w.passes run
+  pub now : n ≡ (witness (opened_of w.start) w.who run ∷ [], [])
+  pub is_run : IsRun w.start w.passes run
   pub mates : EachBegins run others
 
-pub caught_up : (w : Trace) (table : TableView) → IsOf w table → (me n : Sat) (others : List Witness) → me ≡ (witness (opened_of w.shape) w.who w.seen ∷ others, []) → (e : Event) (opening : Opening) → Names e opening w table ReadEpoch
+pub caught_up : (w : Trace) (table : TableView) → IsOf w table → (me n : Sat) (others : List Witness) → me ≡ (witness (opened_of w.start) w.who w.seen ∷ others, []) → (e : Event) (opening : TableStart) → Names e opening w table ReadEpoch
     → Caught opening e.pass me n → CaughtUp w others n
 caught_up w table own me n others is e opening named caught =
     let d : Event = event_of w.who ReadEpoch in
-    let o : Opening = record { shape = w.shape; passes = w.passes } in
-    let mine : opening_of table ≡ o = λ i. record { shape = sym own.1 i; passes = sym own.2 i } in
-    let here : Caught o w.who (witness (opened_of w.shape) w.who w.seen ∷ others, []) n = subst (λ (x : Opening × Event × Sat). Caught x.0 x.1.pass x.2 n) (λ i. ((named.opening_is ∙ mine) i, named.event_is i, is i)) caught in record {
+    let o : TableStart = record { start = w.start; passes = w.passes } in
+    let mine : opening_of table ≡ o = λ i. record { start = sym own.1 i; passes = sym own.2 i } in
+    let here : Caught o w.who (witness (opened_of w.start) w.who w.seen ∷ others, []) n = subst (λ (x : TableStart × Event × Sat). Caught x.0 x.1.pass x.2 n) (λ i. ((named.opening_is ∙ mine) i, named.event_is i, is i)) caught in record {
       rest = here.rest;
       none = here.none;
       run = w.seen ++ here.rest;
@@ -234,7 +235,7 @@ caught_up w table own me n others is e opening named caught =
     }
 
 -- the runner that caught up
-module _ (p : RunnerInside) (w : Trace) (sound : IsSoundRunner p) (p_is : trace_of p ≡ w) (others : List Witness) (n : Sat) (end : CaughtUp w others n) (q : RunnerInside) (is : q.seat.me ≡ (witness (opened_of w.shape) w.who end.run ∷ [], []))
+module _ (p : RunnerInside) (w : Trace) (sound : IsSoundRunner p) (p_is : trace_of p ≡ w) (others : List Witness) (n : Sat) (end : CaughtUp w others n) (q : RunnerInside) (is : q.seat.me ≡ (witness (opened_of w.start) w.who end.run ∷ [], []))
     (fields : (q.who ≡ p.who) × (q.opening ≡ p.opening) × (q.epoch ≡ p.epoch)) where
   seen_then : seen_of q ≡ end.run
   seen_then = seen_in q.seat.me _ [] is
@@ -242,21 +243,21 @@ module _ (p : RunnerInside) (w : Trace) (sound : IsSoundRunner p) (p_is : trace_
   who_then : q.who ≡ w.who
   who_then = fields.0 ∙ ap (λ (v : Trace). v.who) p_is
 
-  shape_then : shape_of q ≡ w.shape
-  shape_then = same_shape p w p_is q.opening fields.1 q.seat.me _ [] is refl
+  start_then : start_of q ≡ w.start
+  start_then = same_start p w p_is q.opening fields.1 q.seat.me _ [] is refl
 
   passes_then : q.opening.passes ≡ w.passes
   passes_then = ap (λ (o : Opening). o.passes) fields.1 ∙ ap (λ (v : Trace). v.passes) p_is
 
-  know_then : know_after (shape_of q) (seen_of q) q.who ≡ knows w
-  know_then = (λ i. know_after (shape_then i) ((seen_then ∙ end.run_is) i) (who_then i)) ∙ others_leave_know w.shape w.seen end.rest w.who end.none
+  know_then : know_after (start_of q) (seen_of q) q.who ≡ knows w
+  know_then = (λ i. know_after (start_then i) ((seen_then ∙ end.run_is) i) (who_then i)) ∙ others_leave_know w.start w.seen end.rest w.who end.none
 
   pub caught_sound : IsSoundRunner q
   caught_sound = record {
-    alone = is ∙ (λ i. (witness (opened_of (sym shape_then i)) (sym who_then i) (sym seen_then i) ∷ [], []));
+    alone = is ∙ (λ i. (witness (opened_of (sym start_then i)) (sym who_then i) (sym seen_then i) ∷ [], []));
     low = subst (λ (x : ℕ × Opening). x.0 < x.1.passes) (λ i. (sym fields.0 i, sym fields.1 i)) sound.low;
-    shape = subst IsShape (ap (λ (v : Trace). v.shape) p_is ∙ sym shape_then) sound.shape;
-    is_run = subst (λ (x : Dimensions × ℕ × List Event). IsRun x.0 x.1 x.2) (λ i. (sym shape_then i, sym passes_then i, sym seen_then i)) end.is_run;
+    start = subst IsStart (ap (λ (v : Trace). v.start) p_is ∙ sym start_then) sound.start;
+    is_run = subst (λ (x : Start × ℕ × List Event). IsRun x.0 x.1 x.2) (λ i. (sym start_then i, sym passes_then i, sym seen_then i)) end.is_run;
     epoch = fields.2 ∙ sound.epoch ∙ ap (λ (v : Trace). (knows v).epoch) p_is ∙ sym (ap (λ (k : Know). k.epoch) know_then);
   }
 
@@ -265,8 +266,8 @@ module _ (p : RunnerInside) (w : Trace) (sound : IsSoundRunner p) (p_is : trace_
     rest = end.rest;
     none = end.none;
     seen = seen_then ∙ end.run_is;
-    is_run = subst (IsRun w.shape w.passes) (sym seen_then) end.is_run;
+    is_run = subst (IsRun w.start w.passes) (sym seen_then) end.is_run;
     know = know_then;
-    same = (table ∙ ap (λ (v : Trace). v.table) p_is, shape_then, passes_then, who_then);
+    same = (table ∙ ap (λ (v : Trace). v.table) p_is, start_then, passes_then, who_then);
     steps = (λ i. steps_in (who_then i) ((seen_then ∙ end.run_is) i)) ∙ steps_left w.who w.seen end.rest end.none;
   }

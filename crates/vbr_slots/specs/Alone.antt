@@ -21,7 +21,7 @@ pub record IsAlone (p q : Trace) : Type 0 where
 
 -- the incarnations after what the pass has seen
 abbrev pub nodes : Trace → Incarnations
-nodes p = incarnations_after p.shape p.seen
+nodes p = incarnations_after p.start p.seen
 
 -- no epoch has passed, in what the pass has seen, since it read one last
 abbrev pub IsFresh : Trace → Type 0
@@ -29,7 +29,7 @@ IsFresh p = (nodes p).epoch ≡ (knows p).epoch
 
 -- how many nodes stand in the list of a bucket behind a place, after what the pass has seen
 abbrev pub ahead : Trace → ℕ → At → ℕ
-ahead p bucket at = behind p.shape (nodes p) bucket at
+ahead p bucket at = behind p.start (nodes p) bucket at
 
 -- the lists are as they were: the epoch, the links that stand, and how many nodes are behind each place
 pub record LeavesLists (p q : Trace) : Type 0 where

@@ -8,8 +8,8 @@ use Rattle.vbr_slots.specs.Views.{TableView, Trace, knows}
 
 -- the reads that the core asks for are checked, and the step's numbers are in range
 pub record IsChecked (t : TableView) (p : Trace) (step : Step) : Type 0 where
-  pub held : HasChecked t.shape (knows p) step
-  pub in_range : IsInRange t.shape (knows p) step
+  pub held : HasChecked t.start (knows p) step
+  pub in_range : IsInRange t.start (knows p) step
 
 -- the word is the link word that the step writes, from what the pass knows
 abbrev pub IsWritten : Trace → Step → ℕ → Type 0

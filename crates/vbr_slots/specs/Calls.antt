@@ -12,31 +12,31 @@ use Rattle.vbr_slots.specs.Views.{Trace, steps_of}
 -- the same pass of the same table
 pub record IsSame (p q : Trace) : Type 0 where
   pub table : q.table ≡ p.table
-  pub shape : q.shape ≡ p.shape
+  pub start : q.start ≡ p.start
   pub passes : q.passes ≡ p.passes
   pub who : q.who ≡ p.who
 
 -- the calls that the pass has made, in their order
 abbrev pub made_by : Trace → List Call
-made_by p = own_calls p.shape p.seen p.who
+made_by p = own_calls p.start p.seen p.who
 
 -- the pass has seen more, and made no call
 pub record Quiet (p q : Trace) : Type 0 where
   pub same : IsSame p q
   pub seen : Begins p.seen q.seen
-  pub is_run : IsRun p.shape p.passes p.seen → IsRun q.shape q.passes q.seen
+  pub is_run : IsRun p.start p.passes p.seen → IsRun q.start q.passes q.seen
   pub calls : made_by q ≡ made_by p
 
 -- the pass has seen more, and made just this call
 pub record Made (call : Call) (p q : Trace) : Type 0 where
   pub same : IsSame p q
   pub seen : Begins p.seen q.seen
-  pub is_run : IsRun q.shape q.passes q.seen
+  pub is_run : IsRun q.start q.passes q.seen
   pub calls : made_by q ≡ made_by p ++ call ∷ []
 
 -- the events of the pass in the chronicle of what it has seen
 abbrev pub entries_of : Trace → List Entry
-entries_of p = own_entries p.shape p.seen p.who
+entries_of p = own_entries p.start p.seen p.who
 
 -- the pass added no event to the chronicle
 pub record AddsNone (p q : Trace) : Type 0 where
@@ -57,7 +57,7 @@ pub record OnlyLoads (p q : Trace) : Type 0 where
 pub record Moment (p q : Trace) (moment : List Event) : Type 0 where
   pub from : Begins p.seen moment
   pub to : Begins moment q.seen
-  pub is_run : IsRun q.shape q.passes q.seen
+  pub is_run : IsRun q.start q.passes q.seen
 
 -- so many steps were made: the pass has so many more events of its own in what it has seen
 pub record Took (p q : Trace) (steps : ℕ) : Type 0 where

@@ -21,9 +21,9 @@ EachSeen run (p ∷ ps) = BeginsFor p.trace.who p.trace.seen run × EachSeen run
 -- the words are those of a run, whose chronicle is lawful and whose image they are; it begins with what each pass has seen, and has no other event of it
 pub record Ends (t : TableView) (passes : List PassView) (words : List ℕ) : Type 0 where
   pub run : List Event
-  pub is_run : IsRun t.shape t.passes run
-  pub safe : IsSafe t.shape run
-  pub are : AreWordsOf t.shape (world_after t.shape run) words
+  pub is_run : IsRun t.start t.passes run
+  pub safe : IsSafe t.start run
+  pub are : AreWordsOf t.start (world_after t.start run) words
   pub begins : EachSeen run passes
 
 module _ {T : Type 0} where

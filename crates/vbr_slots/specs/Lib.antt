@@ -1,3 +1,4 @@
+pub mod TableStart
 pub mod Words
 pub mod Rule
 pub mod Running

@@ -1,8 +1,8 @@
 -- What contracts see of an opening with keys and values.
-use Rattle.vbr_slots.specs.declared.rule.Opening.{Opening}
+use Rattle.vbr_machine.specs.Start.{start_with}
+use Rattle.vbr_slots.specs.TableStart.{TableStart}
 use Rattle.vbr_slots.specs.declared.rule.OpeningWithEntries.TheInside.{Inside}
-use Rattle.vbr_slots.specs.Openings.{shape_with}
 
--- what contracts see: the opening, with them in its shape
-abbrev pub opening_with : Inside → Opening
-opening_with o = record { shape = shape_with o.opening.shape o.keys.items o.values.items; passes = o.opening.passes }
+-- what contracts see: what the table starts with
+abbrev pub opening_with : Inside → TableStart
+opening_with o = record { start = start_with o.opening.shape o.keys.items o.values.items; passes = o.opening.passes }

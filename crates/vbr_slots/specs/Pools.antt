@@ -1,6 +1,6 @@
 -- The own pool of a pass, and the slot in its hand.
 use Rattle.std.specs.Prelude.{◌≡◌, ◌≢◌, ℕ, ◌<◌, ◌==◌, not, List, All, AllPairs, Contains, filter, Option, Some, None, if◌then◌else◌}
-use Rattle.vbr_words.specs.Dimensions.{Dimensions}
+use Rattle.vbr_machine.specs.Start.{Start}
 use Rattle.vbr_machine.specs.Acceptance.{MayBear, IsInHand}
 use Rattle.vbr_machine.specs.Knowledge.{Know}
 
@@ -9,19 +9,19 @@ pub record PoolView : Type 0 where
   pub items : List ℕ
 
 -- the slot is one of the shape, and the pass may give birth in it: it is free, or was given back in hand
-abbrev pub IsPooled : Dimensions → Know → ℕ → Type 0
-IsPooled shape know s = (s < shape.slots) × MayBear (know.own s)
+abbrev pub IsPooled : Start → Know → ℕ → Type 0
+IsPooled start know s = (s < start.shape.slots) × MayBear (know.own s)
 
 -- the slot in hand, if there is one, is one of the shape that was born by the pass and not published, and isn't in the pool
-abbrev pub HandFits : Dimensions → Know → List ℕ → Option ℕ → Type 0
-HandFits shape know pool None = Unit {0}
-HandFits shape know pool (Some s) = (s < shape.slots) × IsInHand (know.own s) × ¬ (Contains pool s)
+abbrev pub HandFits : Start → Know → List ℕ → Option ℕ → Type 0
+HandFits start know pool None = Unit {0}
+HandFits start know pool (Some s) = (s < start.shape.slots) × IsInHand (know.own s) × ¬ (Contains pool s)
 
 -- a pool and a hand against what the pass knows: each slot of the pool may be born in, none stands there twice, and the slot in hand is another
-pub record OwnPool (shape : Dimensions) (know : Know) (pool : List ℕ) (hand : Option ℕ) : Type 0 where
-  pub pooled : All (IsPooled shape know) pool
+pub record OwnPool (start : Start) (know : Know) (pool : List ℕ) (hand : Option ℕ) : Type 0 where
+  pub pooled : All (IsPooled start know) pool
   pub apart : AllPairs ◌≢◌ pool
-  pub in_hand : HandFits shape know pool hand
+  pub in_hand : HandFits start know pool hand
 
 -- a pool without a slot
 abbrev pub without : ℕ → List ℕ → List ℕ

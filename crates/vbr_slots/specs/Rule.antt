@@ -4,6 +4,7 @@ use mathlib.Core.Option.{some}
 use lib.ListN.{get_elem?}
 use Rattle.atomic_table.specs.Table.{State as Standing, Me}
 use Rattle.vbr_words.specs.Dimensions.{Dimensions}
+use Rattle.vbr_machine.specs.Start.{Start, empty_start, start_with}
 use Rattle.vbr_machine.specs.Knowledge.{Know}
 use Rattle.vbr_machine.specs.Learning.{effect_of, learn}
 use Rattle.vbr_machine.specs.Machine.{found}
@@ -13,18 +14,18 @@ use Rattle.vbr_machine.specs.declared.event.Step.{Step}
 use Rattle.vbr_machine.specs.declared.event.Step.TheVariants.{ReadEpoch}
 use Rattle.vbr_slots.specs.declared.rule.Opened.{Opened}
 use Rattle.vbr_slots.specs.declared.rule.Witness.{Witness}
-use Rattle.vbr_slots.specs.declared.rule.Opening.{Opening}
+use Rattle.vbr_slots.specs.TableStart.{TableStart}
 use Rattle.vbr_slots.specs.Words.{AreWordsOf}
 
 -- ---- what a table opened with
 
--- the keys and the values of a shape
-abbrev pub opened_of : Dimensions → Opened
-opened_of shape = record { keys = shape.keys; payloads = shape.payloads }
+-- the keys and the values that a table starts with
+abbrev pub opened_of : Start → Opened
+opened_of start = record { keys = start.keys; payloads = start.payloads }
 
--- the shape with these keys and values
-abbrev pub with_opened : Dimensions → Opened → Dimensions
-with_opened shape opened = record shape { keys = opened.keys; payloads = opened.payloads }
+-- a start of this shape with these keys and values
+abbrev pub with_opened : Dimensions → Opened → Start
+with_opened shape opened = start_with shape opened.keys opened.payloads
 
 -- ---- witnesses of seats
 
@@ -38,8 +39,8 @@ witnesses opened k zero = []
 witnesses opened k (suc n) = witness opened k [] ∷ witnesses opened (suc k) n
 
 -- the witnesses of the first seat: all passes
-abbrev pub first_witnesses : Opening → List Witness
-first_witnesses opening = witnesses (opened_of opening.shape) 0 opening.passes
+abbrev pub first_witnesses : TableStart → List Witness
+first_witnesses opening = witnesses (opened_of opening.start) 0 opening.passes
 
 -- the first witness alone
 abbrev pub head_of : List Witness → List Witness
@@ -101,10 +102,10 @@ times_in who (v ∷ vs) = times who v + times_in who vs
 -- ---- the rule
 
 -- the words are those of the world after a run; what each witness of each seat has seen begins this run and has all its own events; nothing has happened, or some witness that is none of a token has seen all of it; and each number but that of tokens stands as often in all seats as at the opening
-pub record Kept (opening : Opening) (s : Standing (Unit {0}) (List Witness)) : Type 0 where
+pub record Kept (opening : TableStart) (s : Standing (Unit {0}) (List Witness)) : Type 0 where
   pub run : List Event
-  pub is_run : IsRun opening.shape opening.passes run
-  pub words : AreWordsOf opening.shape (world_after opening.shape run) s.words
+  pub is_run : IsRun opening.start opening.passes run
+  pub words : AreWordsOf opening.start (world_after opening.start run) s.words
   pub begins : (j : ℕ) (v : List Witness) → get_elem? s.views j ≡ some v → EachBegins run v
   pub seen : (run ≡ []) ⊎ IsSeen run s.views
   pub counted : (who : ℕ) → who ≢ nobody → times_in who s.views ≡ times who (first_witnesses opening)
@@ -116,8 +117,8 @@ abbrev pub no_event : Event
 no_event = record { pass = 0; step = ReadEpoch }
 
 -- an opening, where none was picked yet
-abbrev pub no_opening : Opening
-no_opening = record { shape = record { slots = 0; buckets = 0; spread = false; last_epoch = 0; values = false; keys = []; payloads = [] }; passes = 0 }
+abbrev pub no_opening : TableStart
+no_opening = record { start = empty_start (record { slots = 0; buckets = 0; spread = false; last_epoch = 0; values = false }); passes = 0 }
 
 -- to its pass, a step that was shown r answers and teaches what one answers and teaches that found n; a store is shown what it stores
 pub record Shows (step : Step) (r n : ℕ) : Type 0 where
@@ -125,18 +126,18 @@ pub record Shows (step : Step) (r n : ℕ) : Type 0 where
   pub teaches : (stamp : ℕ) (know : Know) → learn step r stamp know ≡ learn step n stamp know
 
 -- what a step at the table tells: the first witness of the seat did the event, after what it had seen and what others did since, and is of a table that opened with these keys and values; it was shown r; and the other witnesses of the seat still begin the run
-pub record Told (opening : Opening) (e : Event) (m : Me (Unit {0}) (List Witness)) (r : ℕ) (n : Me (Unit {0}) (List Witness)) : Type 0 where
+pub record Told (opening : TableStart) (e : Event) (m : Me (Unit {0}) (List Witness)) (r : ℕ) (n : Me (Unit {0}) (List Witness)) : Type 0 where
   pub rest : List Event
   pub none : NoneOf e.pass rest
-  pub now : n ≡ (witness (opened_of opening.shape) e.pass ((first_seen m.0 ++ rest) ++ e ∷ []) ∷ tail_of m.0, m.1)
-  pub is_run : IsRun opening.shape opening.passes ((first_seen m.0 ++ rest) ++ e ∷ [])
-  pub shows : Shows e.step r (found opening.shape (world_after opening.shape (first_seen m.0 ++ rest)) e.step)
+  pub now : n ≡ (witness (opened_of opening.start) e.pass ((first_seen m.0 ++ rest) ++ e ∷ []) ∷ tail_of m.0, m.1)
+  pub is_run : IsRun opening.start opening.passes ((first_seen m.0 ++ rest) ++ e ∷ [])
+  pub shows : Shows e.step r (found opening.start (world_after opening.start (first_seen m.0 ++ rest)) e.step)
   pub others : EachBegins ((first_seen m.0 ++ rest) ++ e ∷ []) (tail_of m.0)
 
 -- what catching up tells, which is no event: the pass of the first witness has then seen all of the run, which goes on after what it had seen by events of others; the tokens beside it, which are then spent, begin that run
-pub record Caught (opening : Opening) (who : ℕ) (m n : Me (Unit {0}) (List Witness)) : Type 0 where
+pub record Caught (opening : TableStart) (who : ℕ) (m n : Me (Unit {0}) (List Witness)) : Type 0 where
   pub rest : List Event
   pub none : NoneOf who rest
-  pub now : n ≡ (witness (opened_of opening.shape) who (first_seen m.0 ++ rest) ∷ [], m.1)
-  pub is_run : IsRun opening.shape opening.passes (first_seen m.0 ++ rest)
+  pub now : n ≡ (witness (opened_of opening.start) who (first_seen m.0 ++ rest) ∷ [], m.1)
+  pub is_run : IsRun opening.start opening.passes (first_seen m.0 ++ rest)
   pub others : EachBegins (first_seen m.0 ++ rest) (tail_of m.0)

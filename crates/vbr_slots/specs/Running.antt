@@ -3,27 +3,27 @@ use Rattle.std.specs.Prelude.{◌≡◌, ◌≢◌, ◌⊎◌, ℕ, ◌≤◌, L
 use mathlib.Core.Option.{some}
 use lib.ListN.{get_elem?}
 use Rattle.atomic_table.specs.Table.{State as Standing}
-use Rattle.vbr_words.specs.Dimensions.{Dimensions}
+use Rattle.vbr_machine.specs.Start.{Start}
 use Rattle.vbr_machine.specs.Runs.{IsRun, world_after, know_after}
 use Rattle.vbr_machine.specs.Safety.{IsSafe}
 use Rattle.vbr_machine.specs.declared.event.Event.{Event}
 use Rattle.vbr_slots.specs.declared.rule.Witness.{Witness}
-use Rattle.vbr_slots.specs.declared.rule.Opening.{Opening}
+use Rattle.vbr_slots.specs.TableStart.{TableStart}
 use Rattle.vbr_slots.specs.Rule.{EachBegins, IsSeen, nobody, times_in}
 use Rattle.vbr_slots.specs.Words.{AreWordsOf}
 
 -- what each witness knows from what it has seen is what it knows in the world after the run
-abbrev pub EachKnows : Dimensions → List Event → List Witness → Type 0
-EachKnows shape run [] = Unit {0}
-EachKnows shape run (m ∷ ms) = (know_after shape m.seen m.who ≡ know_after shape run m.who) × EachKnows shape run ms
+abbrev pub EachKnows : Start → List Event → List Witness → Type 0
+EachKnows start run [] = Unit {0}
+EachKnows start run (m ∷ ms) = (know_after start m.seen m.who ≡ know_after start run m.who) × EachKnows start run ms
 
 -- the table is the state of a run of the core: the run is safe, so its chronicle is lawful, what each pass knows and owns agrees with it, and each incarnation that a pass holds is late for the pass's epoch; the words of the table are the words after the run, which are the image of its chronicle; what each pass has seen begins the run and has all its own events, and the pass knows from it what it knows after the run; the run is what some pass has seen, or nothing has happened; and no pass stands in two seats, which may be said of every number but that of tokens
-pub record IsRunning (opening : Opening) (s : Standing (Unit {0}) (List Witness)) : Type 0 where
+pub record IsRunning (opening : TableStart) (s : Standing (Unit {0}) (List Witness)) : Type 0 where
   pub run : List Event
-  pub is_run : IsRun opening.shape opening.passes run
-  pub safe : IsSafe opening.shape run
-  pub words : AreWordsOf opening.shape (world_after opening.shape run) s.words
+  pub is_run : IsRun opening.start opening.passes run
+  pub safe : IsSafe opening.start run
+  pub words : AreWordsOf opening.start (world_after opening.start run) s.words
   pub begins : (j : ℕ) (v : List Witness) → get_elem? s.views j ≡ some v → EachBegins run v
-  pub knows : (j : ℕ) (v : List Witness) → get_elem? s.views j ≡ some v → EachKnows opening.shape run v
+  pub knows : (j : ℕ) (v : List Witness) → get_elem? s.views j ≡ some v → EachKnows opening.start run v
   pub seen : (run ≡ []) ⊎ IsSeen run s.views
   pub once : (who : ℕ) → who ≢ nobody → times_in who s.views ≤ 1

@@ -1,25 +1,25 @@
 -- What contracts see of a table, and its invariant.
 use Rattle.std.specs.Prelude.{◌≡◌, ◌<◌, ◌≤◌, Bool}
-use Rattle.vbr_words.specs.Dimensions.{Dimensions, IsShape}
+use Rattle.vbr_machine.specs.Start.{Start, IsStart}
 use Rattle.vbr_words.specs.Places.{words_in}
 use Rattle.vbr_slots.specs.declared.slots.Slots.TheInside.{Inside}
 use Rattle.vbr_slots.specs.Rule.{opened_of, with_opened}
 use Rattle.vbr_slots.specs.Views.{TableView}
 
--- its shape, with the keys and values that it opened with, which its rule goes by
-abbrev pub shape_in : {N : Type 0} → Inside N → Dimensions
-shape_in t = with_opened t.opening.shape (opened_of t.table.shared.key.shape)
+-- what it started with, which its rule goes by
+abbrev pub start_in : {N : Type 0} → Inside N → Start
+start_in t = with_opened t.opening.shape (opened_of t.table.shared.key.start)
 
 -- what contracts see
 abbrev pub table_of : {N : Type 0} → Inside N → TableView
-table_of t = record { table = t.table.shared.table_id; shape = shape_in t; passes = t.opening.passes }
+table_of t = record { table = t.table.shared.table_id; start = start_in t; passes = t.opening.passes }
 
 -- the table was made with this opening, by at least one pass and at most 64, has all words of the shape and no other slots, and its nodes have values if this is true
 pub record IsBuilt {N : Type 0} (values : Bool) (t : Inside N) : Type 0 where
-  pub shape : IsShape (shape_in t)
+  pub start : IsStart (start_in t)
   pub some : 0 < t.opening.passes
   pub few : t.opening.passes ≤ 64
-  pub key : t.table.shared.key ≡ record { shape = shape_in t; passes = t.opening.passes }
+  pub key : t.table.shared.key ≡ record { start = start_in t; passes = t.opening.passes }
   pub words : t.table.shared.table_id.words ≡ words_in t.opening.shape
   pub slots : t.table.shared.table_id.slots ≡ 0
   pub kind : t.opening.shape.values ≡ values

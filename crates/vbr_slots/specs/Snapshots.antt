@@ -7,7 +7,7 @@ use Rattle.vbr_words.specs.declared.place.Place.{Place}
 use Rattle.vbr_machine.specs.Machine.{word_at}
 use Rattle.vbr_machine.specs.Runs.{IsRun, world_after}
 use Rattle.vbr_machine.specs.declared.event.Event.{Event}
-use Rattle.vbr_slots.specs.declared.rule.Opening.{Opening}
+use Rattle.vbr_slots.specs.TableStart.{TableStart}
 use Rattle.vbr_slots.specs.declared.rule.Witness.{Witness}
 use Rattle.vbr_slots.specs.Rule.{EachBegins, HasSeen, opened_of, witness}
 use Rattle.vbr_slots.specs.Views.{PassView, TableView}
@@ -16,7 +16,7 @@ use Rattle.vbr_slots.specs.Words.{AreWordsOf}
 -- the witnesses of the seats of passes
 abbrev pub witnesses_of : List PassView → List Witness
 witnesses_of [] = []
-witnesses_of (p ∷ ps) = witness (opened_of p.trace.shape) p.trace.who p.trace.seen ∷ witnesses_of ps
+witnesses_of (p ∷ ps) = witness (opened_of p.trace.start) p.trace.who p.trace.seen ∷ witnesses_of ps
 
 -- each witness has the number of a pass
 abbrev pub EachLow : ℕ → List Witness → Type 0
@@ -34,20 +34,20 @@ abbrev pub IsLatest : List Event → List Witness → Type 0
 IsLatest run ms = EachBegins run ms × ((run ≡ []) ⊎ HasSeen run ms)
 
 -- the word with this index is r after a run which one of the witnesses has seen
-pub record IsWordAt (opening : Opening) (ms : List Witness) (index r : ℕ) : Type 0 where
+pub record IsWordAt (opening : TableStart) (ms : List Witness) (index r : ℕ) : Type 0 where
   pub run : List Event
-  pub is_run : IsRun opening.shape opening.passes run
+  pub is_run : IsRun opening.start opening.passes run
   pub latest : IsLatest run ms
-  pub found : (place : Place) → IsIn opening.shape place → index_of opening.shape place ≡ index → r ≡ word_at opening.shape (world_after opening.shape run) place
+  pub found : (place : Place) → IsIn opening.start.shape place → index_of opening.start.shape place ≡ index → r ≡ word_at opening.start (world_after opening.start run) place
 
 -- what a load tells a seat that has the witnesses of all passes: the word after what these have seen, and nothing of the seat changes
-pub record Reads (opening : Opening) (index : ℕ) (m : Me (Unit {0}) (List Witness)) (r : ℕ) (n : Me (Unit {0}) (List Witness)) : Type 0 where
+pub record Reads (opening : TableStart) (index : ℕ) (m : Me (Unit {0}) (List Witness)) (r : ℕ) (n : Me (Unit {0}) (List Witness)) : Type 0 where
   pub same : n ≡ m
   pub word : IsWordAt opening m.0 index r
 
 -- the words are those after a run which one of the witnesses has seen
 pub record AreReadBy (t : TableView) (ms : List Witness) (words : List ℕ) : Type 0 where
   pub run : List Event
-  pub is_run : IsRun t.shape t.passes run
+  pub is_run : IsRun t.start t.passes run
   pub begins : EachBegins run ms
-  pub are : AreWordsOf t.shape (world_after t.shape run) words
+  pub are : AreWordsOf t.start (world_after t.start run) words

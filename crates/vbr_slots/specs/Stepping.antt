@@ -4,15 +4,15 @@ use Rattle.vbr_words.specs.declared.place.At.TheVariants.{Slot}
 use Rattle.vbr_machine.specs.declared.event.Event.{Event}
 use Rattle.vbr_machine.specs.declared.event.Step.{Step}
 use Rattle.vbr_machine.specs.declared.event.Step.TheVariants.{ReadEpoch, LoadBirth, LoadLink}
-use Rattle.vbr_slots.specs.declared.rule.Opening.{Opening}
+use Rattle.vbr_slots.specs.TableStart.{TableStart}
 use Rattle.vbr_slots.specs.Views.{TableView, Trace, Did, event_of}
 
 -- what a table was opened with
-abbrev pub opening_of : TableView → Opening
-opening_of t = record { shape = t.shape; passes = t.passes }
+abbrev pub opening_of : TableView → TableStart
+opening_of t = record { start = t.start; passes = t.passes }
 
 -- the event is this step of the pass, and the opening that of the table
-pub record Names (event : Event) (opening : Opening) (p : Trace) (t : TableView) (step : Step) : Type 0 where
+pub record Names (event : Event) (opening : TableStart) (p : Trace) (t : TableView) (step : Step) : Type 0 where
   pub event_is : event ≡ event_of p.who step
   pub opening_is : opening ≡ opening_of t
 

@@ -15,7 +15,7 @@ pub record Since (p q : Trace) : Type 0 where
   pub rest : List Event
   pub none : NoneOf p.who rest
   pub seen : q.seen ≡ p.seen ++ rest
-  pub is_run : IsRun p.shape p.passes q.seen
+  pub is_run : IsRun p.start p.passes q.seen
   pub know : knows q ≡ knows p
-  pub same : (q.table ≡ p.table) × (q.shape ≡ p.shape) × (q.passes ≡ p.passes) × (q.who ≡ p.who)
+  pub same : (q.table ≡ p.table) × (q.start ≡ p.start) × (q.passes ≡ p.passes) × (q.who ≡ p.who)
   pub steps : steps_of q ≡ steps_of p

@@ -1,7 +1,7 @@
 -- What contracts see of a pass and of a table, and what a step does.
 use Rattle.std.specs.Prelude.{◌≡◌, ℕ, zero, suc, ◌+◌, ◌-◌, ◌^◌, ◌==◌, min, count_by, List, [], ◌∷◌, ◌++◌, Option, None}
 use Rattle.atomic_table.specs.Seated.{TableId}
-use Rattle.vbr_words.specs.Dimensions.{Dimensions}
+use Rattle.vbr_machine.specs.Start.{Start}
 use Rattle.vbr_machine.specs.Knowledge.{Know}
 use Rattle.vbr_machine.specs.Learning.{learn}
 use Rattle.vbr_machine.specs.Machine.{found, stamp_shown}
@@ -14,7 +14,7 @@ use Rattle.vbr_slots.specs.Rule.{Shows}
 -- which pass of which table, and the events of the run that it has seen
 pub record Trace : Type 0 where
   pub table : TableId
-  pub shape : Dimensions
+  pub start : Start
   pub passes : ℕ
   pub who : ℕ
   pub seen : List Event
@@ -25,15 +25,15 @@ pub record PassView : Type 0 where
   pub pool : List ℕ
   pub hand : Option ℕ
 
--- a table: which one it is, its shape, and how many passes it was opened with
+-- a table: which one it is, what it starts with, and how many passes it was opened with
 pub record TableView : Type 0 where
   pub table : TableId
-  pub shape : Dimensions
+  pub start : Start
   pub passes : ℕ
 
 -- the trace of a pass that has seen nothing
 abbrev pub new_trace : TableView → ℕ → Trace
-new_trace t who = record { table = t.table; shape = t.shape; passes = t.passes; who = who; seen = [] }
+new_trace t who = record { table = t.table; start = t.start; passes = t.passes; who = who; seen = [] }
 
 -- a pass that has seen nothing
 abbrev pub new_pass : TableView → ℕ → PassView
@@ -46,11 +46,11 @@ new_passes t who (suc n) = new_pass t who ∷ new_passes t (suc who) n
 
 -- the pass came from the opening of the table
 abbrev pub IsOf : Trace → TableView → Type 0
-IsOf p t = (p.table ≡ t.table) × (p.shape ≡ t.shape) × (p.passes ≡ t.passes)
+IsOf p t = (p.table ≡ t.table) × (p.start ≡ t.start) × (p.passes ≡ t.passes)
 
 -- what the core has the pass know after all that it has seen
 abbrev pub knows : Trace → Know
-knows p = know_after p.shape p.seen p.who
+knows p = know_after p.start p.seen p.who
 
 -- the last epoch read, after a step that found this word
 abbrev pub epoch_after : Step → ℕ → ℕ → ℕ
@@ -82,8 +82,8 @@ pub record Did (step : Step) (p q : Trace) (r : ℕ) : Type 0 where
   pub rest : List Event
   pub none : NoneOf p.who rest
   pub seen : q.seen ≡ (p.seen ++ rest) ++ event_of p.who step ∷ []
-  pub is_run : IsRun p.shape p.passes q.seen
-  pub shows : Shows step r (found p.shape (world_after p.shape (p.seen ++ rest)) step)
-  pub know : knows q ≡ learn step r (stamp_shown (world_after p.shape (p.seen ++ rest)) step) (knows p)
-  pub same : (q.table ≡ p.table) × (q.shape ≡ p.shape) × (q.passes ≡ p.passes) × (q.who ≡ p.who)
+  pub is_run : IsRun p.start p.passes q.seen
+  pub shows : Shows step r (found p.start (world_after p.start (p.seen ++ rest)) step)
+  pub know : knows q ≡ learn step r (stamp_shown (world_after p.start (p.seen ++ rest)) step) (knows p)
+  pub same : (q.table ≡ p.table) × (q.start ≡ p.start) × (q.passes ≡ p.passes) × (q.who ≡ p.who)
   pub steps : steps_of q ≡ steps_of p + 1

@@ -20,7 +20,7 @@ impl<N: Nodes> Slots<N> {
     #[inline]
     pub fn store_birth(&self, pass: &mut Pass, slot: u32)
         requires own { IsOf pass.old.trace self.now }
-        requires slot { slot < self.now.shape.slots }
+        requires slot { slot < self.now.start.shape.slots }
         requires may_bear { MayBear (holding_of pass.old slot) }
         requires above_stamp { stamp_in (holding_of pass.old slot) < epoch_of pass.old }
         requires hand { HasRoomFor pass.old.hand slot }
@@ -44,7 +44,7 @@ impl<N: Nodes> Slots<N> {
     #[inline]
     pub fn store_value(&self, pass: &mut Pass, slot: u32, value: u64)
         requires own { IsOf pass.old.trace self.now }
-        requires values { self.now.shape.values ≡ true }
+        requires values { self.now.start.shape.values ≡ true }
         requires in_hand { pass.old.hand ≡ Some slot }
         ensures step { Did (StoreValue slot value) pass.old.trace pass.new.trace value }
         ensures pool { KeepsPool pass.old pass.new }
@@ -58,7 +58,7 @@ impl<N: Nodes> Slots<N> {
     pub fn store_link(&self, pass: &mut Pass, slot: u32, word: u64)
         requires own { IsOf pass.old.trace self.now }
         requires in_hand { pass.old.hand ≡ Some slot }
-        requires next_in { IsNextIn self.now.shape (link_of word).slot }
+        requires next_in { IsNextIn self.now.start (link_of word).slot }
         requires next_held { IsNextHeld (knows pass.old.trace).checked (link_of word).slot }
         requires word { IsWritten pass.old.trace (StoreLink slot (link_of word).slot) word }
         ensures step { Did (StoreLink slot (link_of word).slot) pass.old.trace pass.new.trace word }

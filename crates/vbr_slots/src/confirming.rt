@@ -26,8 +26,8 @@ impl<N: Nodes> Slots<N> {
         expected: u64,
     ) -> Result<(), u64>
         requires own { IsOf pass.old.trace self.now }
-        requires slot { slot < self.now.shape.slots }
-        requires asked { IsOpIn self.now.shape op }
+        requires slot { slot < self.now.start.shape.slots }
+        requires asked { IsOpIn self.now.start op }
         requires checked { IsChecked self.now pass.old.trace (ConfirmPresent op slot expected) }
         ensures found { OnOk result
             (Finds (ConfirmPresent op slot expected) pass.old pass.new expected) }
@@ -51,8 +51,8 @@ impl<N: Nodes> Slots<N> {
         expected: u64,
     ) -> Result<(), u64>
         requires own { IsOf pass.old.trace self.now }
-        requires at { IsAtIn self.now.shape at }
-        requires asked { IsOpIn self.now.shape op }
+        requires at { IsAtIn self.now.start at }
+        requires asked { IsOpIn self.now.start op }
         requires checked { IsChecked self.now pass.old.trace (ConfirmAbsent op key at expected) }
         ensures found { OnOk result
             (Finds (ConfirmAbsent op key at expected) pass.old pass.new expected) }
@@ -76,7 +76,7 @@ impl<N: Nodes> Slots<N> {
         expected: u64,
     ) -> Result<(), u64>
         requires own { IsOf pass.old.trace self.now }
-        requires accepted { Accepts self.now.shape (knows pass.old.trace)
+        requires accepted { Accepts self.now.start (knows pass.old.trace)
             (look_up present key at expected) }
         ensures found { OnOk result
             (Finds (look_up present key at expected) pass.old pass.new expected) }

@@ -26,7 +26,7 @@ impl<N: Nodes> Slots<N> {
     pub fn advance(&self, pass: &mut Pass, from: u64) -> bool
         requires own { IsOf pass.old.trace self.now }
         requires some { 1 ≤ from }
-        requires below_last { from < self.now.shape.last_epoch }
+        requires below_last { from < self.now.start.shape.last_epoch }
         ensures { MatchBool result
             (Finds (Advance from) pass.old pass.new from)
             ((found : ℕ) × FindsOther (Advance from) pass.old pass.new from found) }

@@ -28,7 +28,7 @@ impl<N: Nodes> Slots<N> {
     ) -> Result<(), u64>
         requires own { IsOf pass.old.trace self.now }
         requires in_hand { pass.old.hand ≡ Some slot }
-        requires pred { IsAtIn self.now.shape pred }
+        requires pred { IsAtIn self.now.start pred }
         requires checked { IsChecked self.now pass.old.trace (Publish pred expected slot) }
         requires new { IsWritten pass.old.trace (Publish pred expected slot) new }
         ensures found { OnOk result (Publishes pred expected slot pass.old pass.new) }
@@ -43,7 +43,7 @@ impl<N: Nodes> Slots<N> {
     #[inline]
     pub fn mark(&self, pass: &mut Pass, slot: u32, expected: u64) -> Result<(), u64>
         requires own { IsOf pass.old.trace self.now }
-        requires slot { slot < self.now.shape.slots }
+        requires slot { slot < self.now.start.shape.slots }
         requires checked { IsChecked self.now pass.old.trace (Mark slot expected) }
         ensures found { OnOk result (Finds (Mark slot expected) pass.old pass.new expected) }
         ensures other { IfErr result (FindsOther (Mark slot expected) pass.old pass.new expected) }
@@ -64,8 +64,8 @@ impl<N: Nodes> Slots<N> {
         new: u64,
     ) -> Result<(), u64>
         requires own { IsOf pass.old.trace self.now }
-        requires pred { IsAtIn self.now.shape pred }
-        requires slot { slot < self.now.shape.slots }
+        requires pred { IsAtIn self.now.start pred }
+        requires slot { slot < self.now.start.shape.slots }
         requires checked { IsChecked self.now pass.old.trace (Unlink pred expected slot) }
         requires new { IsWritten pass.old.trace (Unlink pred expected slot) new }
         ensures found { OnOk result (Finds (Unlink pred expected slot) pass.old pass.new expected) }

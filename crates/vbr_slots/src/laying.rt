@@ -5,7 +5,7 @@ ghost use Rattle.vbr_words.specs.Dimensions.{IsShape};
 ghost use Rattle.vbr_words.specs.Places.{words_in};
 ghost use Rattle.vbr_machine.specs.Making.{opening_from, with_key_ahead};
 ghost use Rattle.vbr_machine.specs.Machine.{World, opening};
-ghost use Rattle.vbr_slots.specs.Openings.{ArePaired, shape_with};
+ghost use Rattle.vbr_machine.specs.Start.{ArePaired, IsStart, start_with};
 ghost use Rattle.vbr_slots.specs.Words.{AreWordsOf, HeadsFit};
 
 use std::alloc::{AllocError, Global};
@@ -24,9 +24,9 @@ pub(crate) fn opening_words(
     requires ascending { IsStrictlyIncreasing keys.now }
     requires few { length keys.now ≤ shape.now.slots }
     requires paired { ArePaired shape.now keys.now values.now }
-    ensures words { IfOk result (λ words. let whole = shape_with shape.now keys.now values.now in
+    ensures words { IfOk result (λ words. let whole = start_with shape.now keys.now values.now in
         AreWordsOf whole (opening whole) words.items) }
-    ensures shape { OnOk result (IsShape (shape_with shape.now keys.now values.now)) }
+    ensures start { OnOk result (IsStart (start_with shape.now keys.now values.now)) }
 {
     let mut words = empty_words(alloc, shape)?;
     let mut number = keys.len();
@@ -54,7 +54,7 @@ fn value_at(values: &[u64], number: usize) -> u64
 // link and is in the shared pool, so its flag is set, and all other words are 0.
 fn empty_words(alloc: Global, shape: &Shape) -> Result<Vec<u64>, AllocError>
     ensures words { IfOk result (λ words. (keys values : List ℕ) →
-        let whole = shape_with shape.now keys values in
+        let whole = start_with shape.now keys values in
         AreWordsOf whole (opening_from whole (length keys)) words.items) }
     ensures shape { OnOk result (IsShape shape.now) }
 {
@@ -77,7 +77,7 @@ fn link_key(shape: &Shape, words: &mut [u64], number: u32, key: u64, value: u64)
     requires number { number < shape.now.slots }
     requires words { length words.old ≡ words_in shape.now }
     ensures { (keys values : List ℕ) (w : World) → HeadsFit w →
-        let whole = shape_with shape.now keys values in AreWordsOf whole w words.old
+        let whole = start_with shape.now keys values in AreWordsOf whole w words.old
         → AreWordsOf whole (with_key_ahead whole number key value w) words.new }
 {
     prove!(shape.slots() <= MAX_SLOTS);

@@ -17,7 +17,7 @@ impl<N: Nodes> Slots<N> {
     #[inline]
     pub fn load_link(&self, pass: &mut Pass, at: At) -> u64
         requires own { IsOf pass.old.trace self.now }
-        requires at { IsAtIn self.now.shape at }
+        requires at { IsAtIn self.now.start at }
         requires held { IsTrue (holds_at (knows pass.old.trace).checked at) }
         ensures step { Did (LoadLink at) pass.old.trace pass.new.trace result }
         ensures pool { KeepsPool pass.old pass.new }
@@ -29,7 +29,7 @@ impl<N: Nodes> Slots<N> {
     #[inline]
     pub fn load_birth(&self, pass: &mut Pass, slot: u32) -> u64
         requires own { IsOf pass.old.trace self.now }
-        requires slot { slot < self.now.shape.slots }
+        requires slot { slot < self.now.start.shape.slots }
         requires held { IsTrue (holds (knows pass.old.trace).checked slot) }
         ensures step { Did (LoadBirth slot) pass.old.trace pass.new.trace result }
         ensures pool { KeepsPool pass.old pass.new }
@@ -41,7 +41,7 @@ impl<N: Nodes> Slots<N> {
     #[inline]
     pub fn load_key(&self, pass: &mut Pass, slot: u32) -> u64
         requires own { IsOf pass.old.trace self.now }
-        requires slot { slot < self.now.shape.slots }
+        requires slot { slot < self.now.start.shape.slots }
         requires held { IsTrue (holds (knows pass.old.trace).checked slot) }
         ensures step { Did (LoadKey slot) pass.old.trace pass.new.trace result }
         ensures pool { KeepsPool pass.old pass.new }
@@ -53,8 +53,8 @@ impl<N: Nodes> Slots<N> {
     #[inline]
     pub fn load_value(&self, pass: &mut Pass, slot: u32) -> u64
         requires own { IsOf pass.old.trace self.now }
-        requires values { self.now.shape.values ≡ true }
-        requires slot { slot < self.now.shape.slots }
+        requires values { self.now.start.shape.values ≡ true }
+        requires slot { slot < self.now.start.shape.slots }
         requires held { IsTrue (holds (knows pass.old.trace).checked slot) }
         ensures step { Did (LoadValue slot) pass.old.trace pass.new.trace result }
         ensures pool { KeepsPool pass.old pass.new }

@@ -1,8 +1,9 @@
 //! Opening a table.
-ghost use Rattle.std.specs.Prelude.{true, false, ◌≡◌, ◌<◌, ◌≤◌, ◌↔◌, ◌⊎◌, length, IfOk, IsErrOf};
+ghost use Rattle.std.specs.Prelude.{true, false, ◌≡◌, ◌<◌, ◌≤◌, ◌↔◌, ◌⊎◌, [], length, IfOk, IsErrOf};
 ghost use Rattle.std.specs.List.Sorted.{IsStrictlyIncreasing};
-ghost use Rattle.vbr_machine.specs.Maps.{keys_listed, values_listed};
-ghost use Rattle.vbr_slots.specs.Openings.{ArePaired, Opens, shape_with};
+ghost use Rattle.vbr_machine.specs.Maps.{keys_listed, map_start};
+ghost use Rattle.vbr_machine.specs.Start.{ArePaired, set_start, start_with};
+ghost use Rattle.vbr_slots.specs.Openings.{Opens};
 
 use crate::laying::opening_words;
 use crate::pass::Pass;
@@ -52,7 +53,7 @@ impl Slots {
     /// The refusals are tested in the order of [`OpenError`], and nothing is kept then.
     pub fn open(alloc: Global, shape: Shape, passes: u32) -> Result<(Slots, Vec<Pass>), OpenError>
         ensures opened { IfOk result (λ r.
-            Opens (record shape { values = false }) passes r.0 r.1.items) }
+            Opens (set_start shape []) passes r.0 r.1.items) }
         ensures refused { IsErrOf result OpenError.Passes ↔ ((passes ≡ 0) ⊎ (64 < passes)) }
     {
         let _slots = shape.slots();
@@ -76,7 +77,7 @@ impl Slots {
         requires ascending { IsStrictlyIncreasing keys.now }
         requires few { length keys.now ≤ shape.slots }
         ensures opened { IfOk result (λ r.
-            Opens (record shape { values = false; keys = keys.now }) passes r.0 r.1.items) }
+            Opens (set_start shape keys.now) passes r.0 r.1.items) }
         ensures refused { IsErrOf result OpenError.Passes ↔ ((passes ≡ 0) ⊎ (64 < passes)) }
     {
         let opening = Opening {
@@ -104,9 +105,8 @@ impl Slots<Entries> {
     ) -> Result<(Slots<Entries>, Vec<Pass>), OpenError>
         requires ascending { IsStrictlyIncreasing (keys_listed entries.now) }
         requires few { length entries.now ≤ shape.slots }
-        ensures opened { IfOk result (λ r. let of_map = record shape { values = true } in
-            Opens (shape_with of_map (keys_listed entries.now) (values_listed entries.now))
-            passes r.0 r.1.items) }
+        ensures opened { IfOk result (λ r.
+            Opens (map_start shape entries.now) passes r.0 r.1.items) }
         ensures refused { IsErrOf result OpenError.Passes ↔ ((passes ≡ 0) ⊎ (64 < passes)) }
     {
         if passes == 0 || passes > 64 {
@@ -136,7 +136,7 @@ impl<N: Nodes> Slots<N> {
         requires kind { opening.shape.values ≡ N.VALUES }
         requires paired { ArePaired opening.shape keys.now values.now }
         ensures opened { IfOk result (λ r.
-            Opens (shape_with opening.shape keys.now values.now) opening.passes r.0 r.1.items) }
+            Opens (start_with opening.shape keys.now values.now) opening.passes r.0 r.1.items) }
         ensures refused { IsErrOf result OpenError.Passes
             ↔ ((opening.passes ≡ 0) ⊎ (64 < opening.passes)) }
     {
@@ -161,7 +161,7 @@ impl<N: Nodes> Slots<N> {
         requires paired { ArePaired opening.shape keys.now values.now }
         requires passes { (0 < opening.passes) × (opening.passes ≤ 64) }
         ensures opened { IfOk result (λ r.
-            Opens (shape_with opening.shape keys.now values.now) opening.passes r.0 r.1.items) }
+            Opens (start_with opening.shape keys.now values.now) opening.passes r.0 r.1.items) }
     {
         prove!(opening.shape.slots() > 0);
         let words = opening_words(alloc, &opening.shape, keys, values)?;

@@ -17,7 +17,7 @@ impl<N: Nodes> Slots<N> {
     #[inline]
     pub fn load_stamp(&self, pass: &mut Pass, slot: u32) -> u64
         requires own { IsOf pass.old.trace self.now }
-        requires slot { slot < self.now.shape.slots }
+        requires slot { slot < self.now.start.shape.slots }
         requires owned { IsSome (holding_of pass.old slot) }
         ensures step { Did (LoadStamp slot) pass.old.trace pass.new.trace result }
         ensures known { IsKnownStamp (holding_of pass.old slot) result }
@@ -31,7 +31,7 @@ impl<N: Nodes> Slots<N> {
     #[inline]
     pub fn store_stamp(&self, pass: &mut Pass, slot: u32)
         requires own { IsOf pass.old.trace self.now }
-        requires slot { slot < self.now.shape.slots }
+        requires slot { slot < self.now.start.shape.slots }
         requires reread { IsReread (holding_of pass.old slot) }
         ensures step { let epoch = epoch_of pass.old in
             Did (StoreStamp slot epoch) pass.old.trace pass.new.trace epoch }
@@ -45,7 +45,7 @@ impl<N: Nodes> Slots<N> {
     #[inline]
     pub fn raise(&self, pass: &mut Pass, slot: u32)
         requires own { IsOf pass.old.trace self.now }
-        requires slot { slot < self.now.shape.slots }
+        requires slot { slot < self.now.start.shape.slots }
         requires free { IsFree (holding_of pass.old slot) }
         ensures step { (found : ℕ) × Did (Raise slot) pass.old.trace pass.new.trace found }
         ensures pool { pass.new.pool ≡ without slot pass.old.pool }
@@ -60,7 +60,7 @@ impl<N: Nodes> Slots<N> {
     #[inline]
     pub fn take_flag(&self, pass: &mut Pass, slot: u32) -> Result<(), u64>
         requires own { IsOf pass.old.trace self.now }
-        requires slot { slot < self.now.shape.slots }
+        requires slot { slot < self.now.start.shape.slots }
         ensures taken { OnOk result (TakesFlag slot pass.old pass.new) }
         ensures missed { IfErr result (MissesFlag slot pass.old pass.new) }
     {

@@ -42,7 +42,7 @@ impl Pass {
     pub fn who(&self) -> u32
         ensures who { result ≡ self.now.trace.who }
         ensures low { result < self.now.trace.passes }
-        ensures is_run { IsRun self.now.trace.shape self.now.trace.passes self.now.trace.seen }
+        ensures is_run { IsRun self.now.trace.start self.now.trace.passes self.now.trace.seen }
     {
         self.stepper.who()
     }
@@ -76,7 +76,7 @@ impl Pass {
     #[inline]
     pub fn pool(&self) -> &[u32]
         ensures pool { result.now ≡ self.now.pool }
-        ensures own { OwnPool self.now.trace.shape (knows self.now.trace)
+        ensures own { OwnPool self.now.trace.start (knows self.now.trace)
             self.now.pool self.now.hand }
         ensures room { length self.now.pool ≤ POOL }
     {
@@ -95,7 +95,7 @@ impl Pass {
     /// hand, which is then given back. It is no step.
     #[inline]
     pub fn keep(&mut self, slot: u32)
-        requires slot { slot < self.old.trace.shape.slots }
+        requires slot { slot < self.old.trace.start.shape.slots }
         requires kept { IsFree ((knows self.old.trace).own slot) ⊎ (self.old.hand ≡ Some slot) }
         requires outside { ¬ (Contains self.old.pool slot) }
         requires room { length self.old.pool < POOL }

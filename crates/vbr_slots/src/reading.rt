@@ -20,7 +20,7 @@ impl<N: Nodes> Slots<N> {
     #[inline]
     pub fn read_link(&self, pass: &mut Pass, at: At) -> (u64, u64)
         requires own { IsOf pass.old.trace self.now }
-        requires at { IsAtIn self.now.shape at }
+        requires at { IsAtIn self.now.start at }
         requires held { IsTrue (holds_at (knows pass.old.trace).checked at) }
         ensures reads { Reads (LoadLink at) pass.old pass.new result.0 result.1 }
         ensures pool { KeepsPool pass.old pass.new }
@@ -33,7 +33,7 @@ impl<N: Nodes> Slots<N> {
     #[inline]
     pub fn read_key(&self, pass: &mut Pass, slot: u32) -> (u64, u64)
         requires own { IsOf pass.old.trace self.now }
-        requires slot { slot < self.now.shape.slots }
+        requires slot { slot < self.now.start.shape.slots }
         requires held { IsTrue (holds (knows pass.old.trace).checked slot) }
         ensures reads { Reads (LoadKey slot) pass.old pass.new result.0 result.1 }
         ensures pool { KeepsPool pass.old pass.new }
@@ -46,8 +46,8 @@ impl<N: Nodes> Slots<N> {
     #[inline]
     pub fn read_value(&self, pass: &mut Pass, slot: u32) -> (u64, u64)
         requires own { IsOf pass.old.trace self.now }
-        requires values { self.now.shape.values ≡ true }
-        requires slot { slot < self.now.shape.slots }
+        requires values { self.now.start.shape.values ≡ true }
+        requires slot { slot < self.now.start.shape.slots }
         requires held { IsTrue (holds (knows pass.old.trace).checked slot) }
         ensures reads { Reads (LoadValue slot) pass.old pass.new result.0 result.1 }
         ensures pool { KeepsPool pass.old pass.new }
@@ -60,7 +60,7 @@ impl<N: Nodes> Slots<N> {
     #[inline]
     pub fn read_node(&self, pass: &mut Pass, slot: u32) -> (u64, u64, u64)
         requires own { IsOf pass.old.trace self.now }
-        requires slot { slot < self.now.shape.slots }
+        requires slot { slot < self.now.start.shape.slots }
         requires held { IsTrue (holds (knows pass.old.trace).checked slot) }
         ensures reads { ReadsNode slot pass.old pass.new result.0 result.1 result.2 }
         ensures pool { KeepsPool pass.old pass.new }

@@ -1,7 +1,7 @@
 //! The rule of the table, and what its steps tell. No value of these types is made but `Opening` and
 //! `OpeningWithEntries`.
 ghost use Rattle.std.specs.Prelude.{◌≡◌, IfOk};
-ghost use Rattle.vbr_slots.specs.Openings.{shape_with};
+ghost use Rattle.vbr_machine.specs.Start.{start_with};
 
 use atomic_table::{Join, Play, Split, TableRule};
 use std::alloc::{AllocError, Global};
@@ -27,9 +27,9 @@ pub struct OpeningWithEntries {
 }
 
 impl Model for OpeningWithEntries {
-    ghost use Rattle.vbr_slots.specs.declared.rule.Opening.{Opening};
+    ghost use Rattle.vbr_slots.specs.TableStart.{TableStart};
 
-    ghost Value = { Opening };
+    ghost Value = { TableStart };
 
     ghost use Rattle.vbr_slots.specs.OpeningView.{opening_with};
 
@@ -45,7 +45,10 @@ impl OpeningWithEntries {
         values: &[u64],
     ) -> Result<OpeningWithEntries, AllocError>
         ensures { IfOk result (λ whole.
-            whole ≡ record opening { shape = shape_with opening.shape keys.now values.now }) }
+            whole ≡ record {
+              start = start_with opening.shape keys.now values.now;
+              passes = opening.passes;
+            }) }
     {
         let mut key_copy = Vec::new(alloc);
         key_copy.extend_from_slice(keys)?;
@@ -87,11 +90,11 @@ impl TableRule<(), LinkedList<Witness>, OpeningWithEntries> for RunRule {
 /// Which event a step is, at which table. Each call picks it.
 pub trait Naming {
     ghost use Rattle.vbr_machine.specs.declared.event.Event.{Event};
-    ghost use Rattle.vbr_slots.specs.declared.rule.Opening.{Opening};
+    ghost use Rattle.vbr_slots.specs.TableStart.{TableStart};
 
     ghost event: { Event };
 
-    ghost opening: { Opening };
+    ghost opening: { TableStart };
 }
 
 impl Naming for Brand {

@@ -1,6 +1,6 @@
 //! The table.
 ghost use Rattle.std.specs.Prelude.{◌≡◌, ◌<◌, ◌≤◌, []};
-ghost use Rattle.vbr_words.specs.Dimensions.{IsShape};
+ghost use Rattle.vbr_machine.specs.Start.{IsStart};
 
 use crate::rule::{Opening, OpeningWithEntries, RunRule, Witness};
 use atomic_table::Table;
@@ -34,16 +34,16 @@ impl<N: Nodes> Slots<N> {
     /// A law: its nodes have values just where its kind has them. It does nothing.
     #[inline]
     pub fn kind(&self)
-        ensures { self.now.shape.values ≡ N.VALUES }
+        ensures { self.now.start.shape.values ≡ N.VALUES }
     {
         let _slots = self.opening.shape.slots();
     }
 
-    /// Its shape, without the keys and values that it opened with.
+    /// Its shape.
     #[inline]
     pub fn shape(&self) -> Shape
-        ensures bare { result ≡ record self.now.shape { keys = []; payloads = [] } }
-        ensures is_shape { IsShape self.now.shape }
+        ensures shape { result ≡ self.now.start.shape }
+        ensures is_start { IsStart self.now.start }
     {
         let _slots = self.opening.shape.slots();
         self.opening.shape

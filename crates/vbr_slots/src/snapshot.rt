@@ -41,7 +41,7 @@ impl<N: Nodes> Slots<N> {
         requires of_table { AllOf self.now passes.old }
         requires all { self.now.passes ≤ length passes.old + length seat.me.0 }
         requires none { words.old.items ≡ [] }
-        requires room { words_in self.now.shape ≤ vec_capacity words.old }
+        requires room { words_in self.now.start.shape ≤ vec_capacity words.old }
         ensures same { passes.new ≡ passes.old }
         ensures seat { (result.table_id ≡ seat.table_id) × (result.me ≡ seat.me) }
         ensures read { AreReadBy self.now (witnesses_of passes.old ++ seat.me.0) words.new.items }
@@ -65,7 +65,7 @@ impl<N: Nodes> Slots<N> {
         requires seat { IsJoined self.now seat.old }
         requires all { self.now.passes ≤ length seat.old.me.0 }
         requires none { words.old.items ≡ [] }
-        requires room { words_in self.now.shape ≤ vec_capacity words.old }
+        requires room { words_in self.now.start.shape ≤ vec_capacity words.old }
         ensures seat { (seat.new.table_id ≡ seat.old.table_id) × (seat.new.me ≡ seat.old.me) }
         ensures read { AreReadBy self.now seat.old.me.0 words.new.items }
     {
@@ -73,11 +73,11 @@ impl<N: Nodes> Slots<N> {
     }
 
     fn read_all_as<E: Naming>(&self, seat: &mut AnySeat, words: &mut Vec<u64>)
-        requires named { E.opening ≡ record { shape = self.now.shape; passes = self.now.passes } }
+        requires named { E.opening ≡ record { start = self.now.start; passes = self.now.passes } }
         requires seat { IsJoined self.now seat.old }
         requires all { self.now.passes ≤ length seat.old.me.0 }
         requires none { words.old.items ≡ [] }
-        requires room { words_in self.now.shape ≤ vec_capacity words.old }
+        requires room { words_in self.now.start.shape ≤ vec_capacity words.old }
         ensures seat { (seat.new.table_id ≡ seat.old.table_id) × (seat.new.me ≡ seat.old.me) }
         ensures read { AreReadBy self.now seat.old.me.0 words.new.items }
     {

@@ -65,7 +65,7 @@ impl<N: Nodes> Slots<N> {
     fn load_at_as<E: Naming>(&self, runner: &mut Runner, step: Step, at: At) -> u64
         requires named { Names E.event E.opening runner.old self.now step }
         requires own { IsOf runner.old self.now }
-        requires accepted { Accepts self.now.shape (knows runner.old) step }
+        requires accepted { Accepts self.now.start (knows runner.old) step }
         requires place { places.place_of at ≡ place_of_step step }
         requires access { access_of (knows runner.old) step ≡ Load }
         ensures { Did step runner.old runner.new result }
@@ -79,7 +79,7 @@ impl<N: Nodes> Slots<N> {
     #[inline]
     pub(crate) fn load_at(&self, runner: &mut Runner, step: Step, at: At) -> u64
         requires own { IsOf runner.old self.now }
-        requires accepted { Accepts self.now.shape (knows runner.old) step }
+        requires accepted { Accepts self.now.start (knows runner.old) step }
         requires place { places.place_of at ≡ place_of_step step }
         requires access { access_of (knows runner.old) step ≡ Load }
         ensures { Did step runner.old runner.new result }
@@ -92,7 +92,7 @@ impl<N: Nodes> Slots<N> {
     fn load_as<E: Naming>(&self, runner: &mut Runner, step: Step, place: Place) -> u64
         requires named { Names E.event E.opening runner.old self.now step }
         requires own { IsOf runner.old self.now }
-        requires accepted { Accepts self.now.shape (knows runner.old) step }
+        requires accepted { Accepts self.now.start (knows runner.old) step }
         requires place { place ≡ place_of_step step }
         requires access { access_of (knows runner.old) step ≡ Load }
         ensures { Did step runner.old runner.new result }
@@ -106,7 +106,7 @@ impl<N: Nodes> Slots<N> {
     #[inline]
     pub(crate) fn load(&self, runner: &mut Runner, step: Step, place: Place) -> u64
         requires own { IsOf runner.old self.now }
-        requires accepted { Accepts self.now.shape (knows runner.old) step }
+        requires accepted { Accepts self.now.start (knows runner.old) step }
         requires place { place ≡ place_of_step step }
         requires access { access_of (knows runner.old) step ≡ Load }
         ensures { Did step runner.old runner.new result }
@@ -120,7 +120,7 @@ impl<N: Nodes> Slots<N> {
     fn read_epoch_as<E: Naming>(&self, runner: &mut Runner, before: u64) -> u64
         requires named { Names E.event E.opening runner.old self.now ReadEpoch }
         requires own { IsOf runner.old self.now }
-        requires accepted { Accepts self.now.shape (knows runner.old) ReadEpoch }
+        requires accepted { Accepts self.now.start (knows runner.old) ReadEpoch }
         requires before { before ≡ (knows runner.old).epoch }
         ensures { Did ReadEpoch runner.old runner.new result }
     {
@@ -134,7 +134,7 @@ impl<N: Nodes> Slots<N> {
     #[inline]
     pub(crate) fn load_and_epoch(&self, runner: &mut Runner, step: Step, place: Place) -> (u64, u64)
         requires own { IsOf runner.old self.now }
-        requires accepted { Accepts self.now.shape (knows runner.old) step }
+        requires accepted { Accepts self.now.start (knows runner.old) step }
         requires place { place ≡ place_of_step step }
         requires access { access_of (knows runner.old) step ≡ Load }
         requires stays { (found epoch : ℕ) → epoch_after step found epoch ≡ epoch }
@@ -150,7 +150,7 @@ impl<N: Nodes> Slots<N> {
     #[inline]
     pub(crate) fn load_node(&self, runner: &mut Runner, slot: u32) -> (u64, u64, u64)
         requires own { IsOf runner.old self.now }
-        requires slot { slot < self.now.shape.slots }
+        requires slot { slot < self.now.start.shape.slots }
         requires held { IsTrue (holds (knows runner.old).checked slot) }
         ensures { LoadsNode slot runner.old runner.new result.0 result.1 result.2 }
     {
@@ -167,7 +167,7 @@ impl<N: Nodes> Slots<N> {
     fn store_as<E: Naming>(&self, runner: &mut Runner, step: Step, place: Place, new: u64)
         requires named { Names E.event E.opening runner.old self.now step }
         requires own { IsOf runner.old self.now }
-        requires accepted { Accepts self.now.shape (knows runner.old) step }
+        requires accepted { Accepts self.now.start (knows runner.old) step }
         requires place { place ≡ place_of_step step }
         requires access { access_of (knows runner.old) step ≡ Store new }
         ensures { Did step runner.old runner.new new }
@@ -182,7 +182,7 @@ impl<N: Nodes> Slots<N> {
     #[inline]
     pub(crate) fn store(&self, runner: &mut Runner, step: Step, place: Place, new: u64)
         requires own { IsOf runner.old self.now }
-        requires accepted { Accepts self.now.shape (knows runner.old) step }
+        requires accepted { Accepts self.now.start (knows runner.old) step }
         requires place { place ≡ place_of_step step }
         requires access { access_of (knows runner.old) step ≡ Store new }
         ensures { Did step runner.old runner.new new }
@@ -202,7 +202,7 @@ impl<N: Nodes> Slots<N> {
     ) -> u64
         requires named { Names E.event E.opening runner.old self.now step }
         requires own { IsOf runner.old self.now }
-        requires accepted { Accepts self.now.shape (knows runner.old) step }
+        requires accepted { Accepts self.now.start (knows runner.old) step }
         requires place { place ≡ place_of_step step }
         requires access { access_of (knows runner.old) step ≡ Exchange expected new }
         ensures { Did step runner.old runner.new result }
@@ -226,7 +226,7 @@ impl<N: Nodes> Slots<N> {
         new: u64,
     ) -> u64
         requires own { IsOf runner.old self.now }
-        requires accepted { Accepts self.now.shape (knows runner.old) step }
+        requires accepted { Accepts self.now.start (knows runner.old) step }
         requires place { place ≡ place_of_step step }
         requires access { access_of (knows runner.old) step ≡ Exchange expected new }
         ensures { Did step runner.old runner.new result }
@@ -245,7 +245,7 @@ impl<N: Nodes> Slots<N> {
     ) -> u64
         requires named { Names E.event E.opening runner.old self.now step }
         requires own { IsOf runner.old self.now }
-        requires accepted { Accepts self.now.shape (knows runner.old) step }
+        requires accepted { Accepts self.now.start (knows runner.old) step }
         requires place { place ≡ place_of_step step }
         requires access { access_of (knows runner.old) step ≡ FetchOr bits }
         ensures { Did step runner.old runner.new result }
@@ -262,7 +262,7 @@ impl<N: Nodes> Slots<N> {
     #[inline]
     pub(crate) fn fetch_or(&self, runner: &mut Runner, step: Step, place: Place, bits: u64) -> u64
         requires own { IsOf runner.old self.now }
-        requires accepted { Accepts self.now.shape (knows runner.old) step }
+        requires accepted { Accepts self.now.start (knows runner.old) step }
         requires place { place ≡ place_of_step step }
         requires access { access_of (knows runner.old) step ≡ FetchOr bits }
         ensures { Did step runner.old runner.new result }
@@ -281,7 +281,7 @@ impl<N: Nodes> Slots<N> {
     ) -> u64
         requires named { Names E.event E.opening runner.old self.now step }
         requires own { IsOf runner.old self.now }
-        requires accepted { Accepts self.now.shape (knows runner.old) step }
+        requires accepted { Accepts self.now.start (knows runner.old) step }
         requires place { place ≡ place_of_step step }
         requires access { access_of (knows runner.old) step ≡ FetchAnd bits }
         ensures { Did step runner.old runner.new result }
@@ -298,7 +298,7 @@ impl<N: Nodes> Slots<N> {
     #[inline]
     pub(crate) fn fetch_and(&self, runner: &mut Runner, step: Step, place: Place, bits: u64) -> u64
         requires own { IsOf runner.old self.now }
-        requires accepted { Accepts self.now.shape (knows runner.old) step }
+        requires accepted { Accepts self.now.start (knows runner.old) step }
         requires place { place ≡ place_of_step step }
         requires access { access_of (knows runner.old) step ≡ FetchAnd bits }
         ensures { Did step runner.old runner.new result }

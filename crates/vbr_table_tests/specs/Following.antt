@@ -19,12 +19,12 @@ pub record BothFollow (t : TableView) (a b : Trace) (rows : List (ℕ × Step ×
   pub world : World
   pub first : Follows t 0 a world
   pub second : Follows t 1 b world
-  pub worked : AreWorked t.shape world rows words
+  pub worked : AreWorked t.start world rows words
 
 -- the pass may make the step at the table, with this word
 pub record May (t : TableView) (p : Trace) (step : Step) (word : ℕ) : Type 0 where
   pub own : IsOf p t
-  pub accepted : Accepts t.shape (knows p) step
+  pub accepted : Accepts t.start (knows p) step
   pub new : IsNamedWord (knows p) step word
 
 -- what a pass learned from a step that had this effect; a slot that it took had the stamp 0
@@ -32,4 +32,4 @@ pub record Learned (step : Step) (p q : Trace) (effect : Effect) : Type 0 where
   pub found : ℕ
   pub answers : effect ≡ effect_of step found
   pub learned : knows q ≡ learn step found 0 (knows p)
-  pub same : (q.table ≡ p.table) × (q.shape ≡ p.shape) × (q.passes ≡ p.passes) × (q.who ≡ p.who)
+  pub same : (q.table ≡ p.table) × (q.start ≡ p.start) × (q.passes ≡ p.passes) × (q.who ≡ p.who)

@@ -14,7 +14,7 @@ use vbr_words::{At, Entries, Shape};
 fn roll_back(rt: &impl Abort, slots: &Slots, pass: &mut Pass, other: &mut Pass)
     requires own { IsOf pass.old.trace slots.now }
     requires other { IsOf other.old.trace slots.now }
-    requires shape { (0 < slots.now.shape.buckets) × (1 < slots.now.shape.last_epoch) }
+    requires shape { (0 < slots.now.start.shape.buckets) × (1 < slots.now.start.shape.last_epoch) }
     ensures own { IsOf pass.new.trace slots.now }
 {
     let point = checkpoint(slots, pass);
@@ -28,7 +28,7 @@ fn roll_back(rt: &impl Abort, slots: &Slots, pass: &mut Pass, other: &mut Pass)
 // a node behind it.
 fn read_head(rt: &impl Abort, slots: &Slots, pass: &mut Pass)
     requires own { IsOf pass.old.trace slots.now }
-    requires bucket { 0 < slots.now.shape.buckets }
+    requires bucket { 0 < slots.now.start.shape.buckets }
     ensures own { IsOf pass.new.trace slots.now }
 {
     let point = checkpoint(slots, pass);
@@ -62,8 +62,8 @@ fn open_with_one_entry(
     shape: Shape,
 ) -> Result<(Slots<Entries>, Vec<Pass>), OpenError>
     requires few { 1 ≤ shape.slots }
-    ensures buckets { IfOk result (λ r. r.0.shape.buckets ≡ shape.buckets) }
-    ensures values { IfOk result (λ r. r.0.shape.values ≡ true) }
+    ensures buckets { IfOk result (λ r. r.0.start.shape.buckets ≡ shape.buckets) }
+    ensures values { IfOk result (λ r. r.0.start.shape.values ≡ true) }
     ensures count { IfOk result (λ r. r.0.passes ≡ 1) }
     ensures passes { IfOk result (λ r. r.1.items ≡ new_passes r.0 0 1) }
 {
@@ -76,8 +76,8 @@ fn open_with_one_entry(
 // Reads the one node, whose key is 7 and whose value is 107, and marks it.
 fn mark_one_entry(rt: &impl Abort, slots: &Slots<Entries>, pass: &mut Pass) -> Marked
     requires own { IsOf pass.old.trace slots.now }
-    requires bucket { 0 < slots.now.shape.buckets }
-    requires values { slots.now.shape.values ≡ true }
+    requires bucket { 0 < slots.now.start.shape.buckets }
+    requires values { slots.now.start.shape.values ≡ true }
     ensures own { IsOf pass.new.trace slots.now }
 {
     let point = checkpoint(slots, pass);

@@ -27,7 +27,7 @@ fn seventy_flags_have_two_words(rt: HostRuntime) -> Result<(), Fail> {
 // Takes the slots from `first` up to `end` out of the shared pool, and says whether all were there.
 fn take_all(slots: &Slots, pass: &mut Pass, first: u32, end: u32) -> bool
     requires own { IsOf pass.old.trace slots.now }
-    requires end { end ≤ slots.now.shape.slots }
+    requires end { end ≤ slots.now.start.shape.slots }
     ensures own { IsOf pass.new.trace slots.now }
     ensures hand { pass.new.hand ≡ pass.old.hand }
 {

@@ -286,7 +286,7 @@ fn a_marked_node_is_helped_away(rt: HostRuntime) -> Result<(), Fail> {
 // Reads the one node, which has key 7, and marks it. The head comes with it, as it was read before.
 fn mark_one(rt: &impl Abort, slots: &Slots, pass: &mut Pass) -> Result<(Held, Marked), Rollback>
     requires own { IsOf pass.old.trace slots.now }
-    requires bucket { 0 < slots.now.shape.buckets }
+    requires bucket { 0 < slots.now.start.shape.buckets }
     ensures own { IsOf pass.new.trace slots.now }
     ensures head { IfOk result (λ r. IsHeld (knows pass.new.trace) r.0) }
     ensures unmarked { IfOk result (λ r. (link_of r.0.word).mark ≡ false) }

@@ -2,6 +2,7 @@
 //! be accepted, so each call may be made; its effect is compared when it was made.
 ghost use Rattle.std.specs.Prelude.{◌≡◌, ◌≢◌, ◌<◌, ◌==◌, MatchResult, true, false};
 ghost use Rattle.vbr_machine.specs.Learning.{present_reply};
+ghost use Rattle.vbr_machine.specs.Start.{empty_start};
 ghost use Rattle.vbr_machine.specs.Machine.{opening};
 ghost use Rattle.vbr_slots.specs.Views.{IsOf};
 ghost use Rattle.vbr_event_lists.specs.Worked.{AreWorked, first_of, names_link, others_of};
@@ -54,7 +55,7 @@ fn present_reply(op: Op) -> bool
 // the stamp is loaded at once. The lists don't have this load; it adds a step and changes no word.
 fn take<N: Nodes>(rt: &impl Abort, slots: &Slots<N>, pass: &mut Pass, slot: u32)
     requires own { IsOf pass.old.trace slots.now }
-    requires slot { slot < slots.now.shape.slots }
+    requires slot { slot < slots.now.start.shape.slots }
     ensures { Learned (Step.TakeFlag slot) pass.old.trace pass.new.trace Effect.Won }
 {
     assert!(rt; slots.take_flag(pass, slot).is_ok());
@@ -212,7 +213,8 @@ fn words_after(
     words: &[u64],
 ) -> Option<Vec<u64>>
     requires bare { shape.values ≡ false }
-    requires worked { AreWorked shape (opening shape) rows.now words.now }
+    requires worked { let start = empty_start shape in
+        AreWorked start (opening start) rows.now words.now }
 {
     let (slots, mut a, mut b) = open_two(alloc, shape)?;
     follow(rt, &slots, &mut a, &mut b, rows, words);
@@ -228,7 +230,8 @@ fn words_with_values_after(
     words: &[u64],
 ) -> Option<Vec<u64>>
     requires values { shape.values ≡ true }
-    requires worked { AreWorked shape (opening shape) rows.now words.now }
+    requires worked { let start = empty_start shape in
+        AreWorked start (opening start) rows.now words.now }
 {
     let (slots, mut a, mut b) = open_two_with_values(alloc, shape)?;
     follow(rt, &slots, &mut a, &mut b, rows, words);

@@ -71,7 +71,7 @@ fn the_only_slot_is_in_another_hand(rt: HostRuntime) {
 fn use_a_slot(rt: &impl Abort, slots: &Slots, pass: &mut Pass)
     requires own { IsOf pass.old.trace slots.now }
     requires empty_hand { pass.old.hand ≡ None }
-    requires bucket { slots.now.shape.buckets ≡ 1 }
+    requires bucket { slots.now.start.shape.buckets ≡ 1 }
     ensures own { IsOf pass.new.trace slots.now }
     ensures empty_hand { pass.new.hand ≡ None }
 {

@@ -17,7 +17,7 @@ use vbr_words::At;
 // The head of bucket 0, which has this word, read after a new checkpoint in epoch 1.
 fn head_of(rt: &impl Abort, slots: &Slots, pass: &mut Pass, word: u64) -> Held
     requires own { IsOf pass.old.trace slots.now }
-    requires bucket { 0 < slots.now.shape.buckets }
+    requires bucket { 0 < slots.now.start.shape.buckets }
     ensures own { IsOf pass.new.trace slots.now }
     ensures keeps { KeepsOwn pass.old pass.new }
     ensures at { result.at ≡ Head 0 }
@@ -33,7 +33,7 @@ fn head_of(rt: &impl Abort, slots: &Slots, pass: &mut Pass, word: u64) -> Held
 // Takes slot 0, and inserts 7 into the one bucket, which is empty.
 pub fn insert_one(rt: &impl Abort, slots: &Slots, pass: &mut Pass)
     requires own { IsOf pass.old.trace slots.now }
-    requires bucket { slots.now.shape.buckets ≡ 1 }
+    requires bucket { slots.now.start.shape.buckets ≡ 1 }
     requires empty_hand { pass.old.hand ≡ None }
     ensures own { IsOf pass.new.trace slots.now }
     ensures empty_hand { pass.new.hand ≡ None }
@@ -53,7 +53,7 @@ pub fn insert_one(rt: &impl Abort, slots: &Slots, pass: &mut Pass)
 // Marks and unlinks the one node, which is in slot 0.
 pub fn remove_one(rt: &impl Abort, slots: &Slots, pass: &mut Pass) -> Unlinked
     requires own { IsOf pass.old.trace slots.now }
-    requires bucket { 0 < slots.now.shape.buckets }
+    requires bucket { 0 < slots.now.start.shape.buckets }
     ensures own { IsOf pass.new.trace slots.now }
     ensures hand { pass.new.hand ≡ pass.old.hand }
     ensures slot { result.slot ≡ 0 }

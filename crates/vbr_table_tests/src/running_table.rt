@@ -1,6 +1,7 @@
 //! The running table: rows call by call, refusals that hand all back, and two threads.
 ghost use Rattle.std.specs.Prelude.{◌≡◌, ◌≢◌, ◌<◌, ◌≤◌, [], ◌∷◌, true, false, None, IfOk, IfErr, IfSome};
 ghost use Rattle.vbr_machine.specs.declared.event.Step.TheVariants.{TakeFlag};
+ghost use Rattle.vbr_machine.specs.Start.{empty_start};
 ghost use Rattle.vbr_slots.specs.Closing.{AllOf, Ends, HandsBack};
 ghost use Rattle.vbr_slots.specs.Views.{IsOf, event_of, new_pass, new_passes};
 ghost use Rattle.vbr_table_tests.specs.Taking.{HasEvent, BothTook};
@@ -15,7 +16,7 @@ use vbr_words::{Entries, Nodes, Shape};
 // Opens a table. What found no memory left nothing, so it is tried again.
 pub fn open(alloc: Global, shape: Shape, passes: u32) -> Result<(Slots, Vec<Pass>), OpenError>
     requires bare { shape.values ≡ false }
-    ensures table { IfOk result (λ r. (r.0.shape ≡ shape) × (r.0.passes ≡ passes)) }
+    ensures table { IfOk result (λ r. (r.0.start ≡ empty_start shape) × (r.0.passes ≡ passes)) }
     ensures passes { IfOk result (λ r. r.1.items ≡ new_passes r.0 0 passes) }
 {
     match Slots::open(alloc, shape, passes) {
@@ -27,7 +28,7 @@ pub fn open(alloc: Global, shape: Shape, passes: u32) -> Result<(Slots, Vec<Pass
 // A table with two passes.
 pub fn open_two(alloc: Global, shape: Shape) -> Option<(Slots, Pass, Pass)>
     requires bare { shape.values ≡ false }
-    ensures table { IfSome result (λ r. (r.0.shape ≡ shape) × (r.0.passes ≡ 2)) }
+    ensures table { IfSome result (λ r. (r.0.start ≡ empty_start shape) × (r.0.passes ≡ 2)) }
     ensures first { IfSome result (λ r. r.1 ≡ new_pass r.0 0) }
     ensures second { IfSome result (λ r. r.2 ≡ new_pass r.0 1) }
 {
@@ -45,7 +46,7 @@ fn open_with_values(
     passes: u32,
 ) -> Result<(Slots<Entries>, Vec<Pass>), OpenError>
     requires values { shape.values ≡ true }
-    ensures table { IfOk result (λ r. (r.0.shape ≡ shape) × (r.0.passes ≡ passes)) }
+    ensures table { IfOk result (λ r. (r.0.start ≡ empty_start shape) × (r.0.passes ≡ passes)) }
     ensures passes { IfOk result (λ r. r.1.items ≡ new_passes r.0 0 passes) }
 {
     match Slots::open_with_entries(alloc, shape, passes, &[]) {
@@ -57,7 +58,7 @@ fn open_with_values(
 // A table with two passes, whose nodes have values, without an entry.
 pub fn open_two_with_values(alloc: Global, shape: Shape) -> Option<(Slots<Entries>, Pass, Pass)>
     requires values { shape.values ≡ true }
-    ensures table { IfSome result (λ r. (r.0.shape ≡ shape) × (r.0.passes ≡ 2)) }
+    ensures table { IfSome result (λ r. (r.0.start ≡ empty_start shape) × (r.0.passes ≡ 2)) }
     ensures first { IfSome result (λ r. r.1 ≡ new_pass r.0 0) }
     ensures second { IfSome result (λ r. r.2 ≡ new_pass r.0 1) }
 {
@@ -74,9 +75,9 @@ pub fn two_passes(
     slots: u32,
     last_epoch: u64,
 ) -> (Slots, Pass, Pass)
-    ensures shape { (result.0.shape.slots ≡ slots) × (result.0.shape.buckets ≡ 1)
-        × (result.0.shape.last_epoch ≡ last_epoch) }
-    ensures bare { result.0.shape.values ≡ false }
+    ensures shape { (result.0.start.shape.slots ≡ slots) × (result.0.start.shape.buckets ≡ 1)
+        × (result.0.start.shape.last_epoch ≡ last_epoch) }
+    ensures bare { result.0.start.shape.values ≡ false }
     ensures passes { result.0.passes ≡ 2 }
     ensures first { result.1 ≡ new_pass result.0 0 }
     ensures second { result.2 ≡ new_pass result.0 1 }
@@ -152,7 +153,7 @@ pub fn expect_words(
 // Reaches for a slot.
 fn take(slots: &Slots, mut pass: Pass, slot: u32) -> Pass
     requires own { IsOf pass.trace slots.now }
-    requires slot { slot < slots.now.shape.slots }
+    requires slot { slot < slots.now.start.shape.slots }
     ensures own { IsOf result.trace slots.now }
     ensures who { result.trace.who ≡ pass.trace.who }
     ensures has { HasEvent result.trace.seen (event_of pass.trace.who (TakeFlag slot)) }
@@ -167,7 +168,7 @@ fn gather(alloc: Global, slots: Slots, first: Pass, second: Pass) -> Option<Vec<
     requires own { IsOf first.trace slots × IsOf second.trace slots }
     requires first { HasEvent first.trace.seen (event_of 0 (TakeFlag 0)) }
     requires second { HasEvent second.trace.seen (event_of 1 (TakeFlag 1)) }
-    ensures { IfSome result (λ words. BothTook slots.shape words.items) }
+    ensures { IfSome result (λ words. BothTook slots.start words.items) }
 {
     let passes = both(alloc, first, second)?;
     match close(slots, alloc, passes) {
@@ -180,19 +181,19 @@ fn gather(alloc: Global, slots: Slots, first: Pass, second: Pass) -> Option<Vec<
 fn take_both<R: Threads + Sync>(rt: &R, alloc: Global, shape: Shape) -> Option<Vec<u64>>
     requires slots { 1 < shape.slots }
     requires bare { shape.values ≡ false }
-    ensures { IfSome result (λ words. BothTook shape words.items) }
+    ensures { IfSome result (λ words. BothTook (empty_start shape) words.items) }
 {
     let (slots, first, second) = open_two(alloc, shape)?;
     let table = &slots;
     let (first, second) = join(
         rt,
         move ||
-            requires { IsOf first.trace table.now × (0 < table.now.shape.slots) }
+            requires { IsOf first.trace table.now × (0 < table.now.start.shape.slots) }
             ensures { IsOf result.trace table.entry.now
                 × HasEvent result.trace.seen (event_of first.trace.who (TakeFlag 0)) }
         { take(table, first, 0) },
         move ||
-            requires { IsOf second.trace table.now × (1 < table.now.shape.slots) }
+            requires { IsOf second.trace table.now × (1 < table.now.start.shape.slots) }
             ensures { IsOf result.trace table.entry.now
                 × HasEvent result.trace.seen (event_of second.trace.who (TakeFlag 1)) }
         { take(table, second, 1) },
@@ -380,7 +381,7 @@ fn opens_with_entries(rt: HostRuntime) -> Result<(), Fail> {
 fn share<N: Nodes>(rt: &impl Abort, slots: &Slots<N>, a: &mut Pass, b: &mut Pass)
     requires first { IsOf a.old.trace slots.now }
     requires second { IsOf b.old.trace slots.now }
-    requires shape { (0 < slots.now.shape.slots) × (1 < slots.now.shape.last_epoch) }
+    requires shape { (0 < slots.now.start.shape.slots) × (1 < slots.now.start.shape.last_epoch) }
     ensures first { IsOf a.new.trace slots.now }
     ensures second { IsOf b.new.trace slots.now }
 {
@@ -571,7 +572,7 @@ fn one_pass_bears_a_slot_with_a_value(rt: HostRuntime) -> Result<(), Fail> {
 // Advances the epoch, takes slot 0 and keeps it.
 fn take_later(rt: &impl Abort, slots: &Slots, pass: &mut Pass)
     requires own { IsOf pass.old.trace slots.now }
-    requires shape { (0 < slots.now.shape.slots) × (1 < slots.now.shape.last_epoch) }
+    requires shape { (0 < slots.now.start.shape.slots) × (1 < slots.now.start.shape.last_epoch) }
     requires pool { pass.old.pool ≡ [] }
     requires hand { pass.old.hand ≡ None }
     ensures own { IsOf pass.new.trace slots.now }

@@ -1,5 +1,6 @@
 //! A pass that stands still, wherever it is in a call, holds up no other.
 ghost use Rattle.std.specs.Prelude.{◌≡◌, ◌<◌, ◌≤◌, true, false, None, IfSome};
+ghost use Rattle.vbr_machine.specs.Start.{empty_start};
 ghost use Rattle.vbr_machine.specs.Machine.{opening};
 ghost use Rattle.vbr_slots.specs.Views.{IsOf};
 ghost use Rattle.vbr_event_lists.specs.Worked.{AreWorked};
@@ -25,8 +26,9 @@ fn table_after(
     words: &[u64],
 ) -> Option<(Slots, Pass, Pass)>
     requires bare { shape.values ≡ false }
-    requires worked { AreWorked shape (opening shape) rows.now words.now }
-    ensures shape { IfSome result (λ r. r.0.shape ≡ shape) }
+    requires worked { let start = empty_start shape in
+        AreWorked start (opening start) rows.now words.now }
+    ensures shape { IfSome result (λ r. r.0.start ≡ empty_start shape) }
     ensures own { IfSome result (λ r. IsOf r.1.trace r.0 × IsOf r.2.trace r.0) }
 {
     let (slots, mut a, mut b) = open_two(alloc, shape)?;
@@ -43,8 +45,9 @@ fn map_after(
     words: &[u64],
 ) -> Option<(Slots<Entries>, Pass, Pass)>
     requires values { shape.values ≡ true }
-    requires worked { AreWorked shape (opening shape) rows.now words.now }
-    ensures shape { IfSome result (λ r. r.0.shape ≡ shape) }
+    requires worked { let start = empty_start shape in
+        AreWorked start (opening start) rows.now words.now }
+    ensures shape { IfSome result (λ r. r.0.start ≡ empty_start shape) }
     ensures own { IfSome result (λ r. IsOf r.1.trace r.0 × IsOf r.2.trace r.0) }
 {
     let (slots, mut a, mut b) = open_two_with_values(alloc, shape)?;
@@ -80,7 +83,7 @@ fn make_rounds_with_values(rt: &impl Abort, slots: &Slots<Entries>, pass: &mut P
 // checkpoint.
 fn expect_moved<N: Nodes>(rt: &impl Abort, slots: &Slots<N>, a: &Pass, b: &mut Pass)
     requires own { IsOf b.old.trace slots.now }
-    requires bucket { 0 < slots.now.shape.buckets }
+    requires bucket { 0 < slots.now.start.shape.buckets }
 {
     assert!(rt; a.epoch() >= 1000);
     let point = Checkpoint { epoch: b.epoch() };

@@ -44,8 +44,8 @@ fn expect_map(
 
 // Compares the words that a shape has without values, in a world without and in one with them.
 fn expect_same(rt: &impl Abort, plain: &World, world: &World, shape: Shape)
-    requires plain { plain.now.shape ≡ shape }
-    requires world { world.now.shape ≡ record shape { values = true } }
+    requires plain { plain.now.start.shape ≡ shape }
+    requires world { world.now.start.shape ≡ record shape { values = true } }
 {
     let valued = shape.with_values();
     for place in [
@@ -81,7 +81,7 @@ fn follow_both(
     values: &[u64],
 ) -> Result<World, Fail>
     requires { shape.values ≡ false }
-    ensures { IfOk result (λ world. world.shape ≡ record shape { values = true }) }
+    ensures { IfOk result (λ world. world.start.shape ≡ record shape { values = true }) }
 {
     let plain = follow(rt, alloc, shape, rows, &[])?;
     let valued_rows = with_values(alloc, rows)?;

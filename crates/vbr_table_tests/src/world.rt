@@ -13,9 +13,9 @@ use vbr_words::{At, Place, Shape};
 
 // The word at a place of the world, which has this shape; none where the shape has no such place.
 pub(crate) fn word_at(world: &World, shape: Shape, place: Place) -> Option<u64>
-    requires slots { world.now.shape.slots ≡ shape.slots }
-    requires buckets { world.now.shape.buckets ≡ shape.buckets }
-    requires values { world.now.shape.values ≡ shape.values }
+    requires slots { world.now.start.shape.slots ≡ shape.slots }
+    requires buckets { world.now.start.shape.buckets ≡ shape.buckets }
+    requires values { world.now.start.shape.values ≡ shape.values }
 {
     let is_in = match place {
         Place::Epoch | Place::ShapeWord => true,
@@ -40,9 +40,9 @@ pub(crate) fn look(
     rows: usize,
     looks: &[Look],
 ) -> usize
-    requires slots { world.now.shape.slots ≡ shape.slots }
-    requires buckets { world.now.shape.buckets ≡ shape.buckets }
-    requires values { world.now.shape.values ≡ shape.values }
+    requires slots { world.now.start.shape.slots ≡ shape.slots }
+    requires buckets { world.now.start.shape.buckets ≡ shape.buckets }
+    requires values { world.now.start.shape.values ≡ shape.values }
 {
     let mut looked = 0usize;
     for (at, place, word) in looks {
@@ -58,7 +58,7 @@ pub(crate) fn look(
 // Makes a step, and compares its effect. A step that found no memory left the world as it was, so it
 // is made again.
 pub(crate) fn make(rt: &impl Abort, world: &mut World, event: Event, effect: Effect)
-    ensures { world.new.shape ≡ world.old.shape }
+    ensures { world.new.start ≡ world.old.start }
 {
     let mut answer = world.step(event);
     if answer == Err(CoreRefusal::NoMemory) {
@@ -76,7 +76,7 @@ pub(crate) fn follow(
     rows: &[Row],
     looks: &[Look],
 ) -> Result<World, WorldRefusal>
-    ensures { IfOk result (λ world. world.shape ≡ shape) }
+    ensures { IfOk result (λ world. world.start.shape ≡ shape) }
 {
     let mut world = World::open(alloc, shape, 2)?;
     let mut made = 0usize;
@@ -103,7 +103,7 @@ pub(crate) fn expect(
     places: &[SlotPlace],
     incarnations: u64,
 )
-    requires { world.now.shape ≡ shape }
+    requires { world.now.start.shape ≡ shape }
 {
     assert_eq!(rt; world.calls(), calls);
     assert_eq!(rt; world.incarnations(), incarnations);

@@ -1,7 +1,7 @@
 -- The calls and the epoch of a run of the core: how they grow, and whose they are.
 use Rattle.std.proofs.Common.{◌≡◌, ℕ, ◌+◌, ◌≤◌, Bool, true, false, cond, ◌==◌, List, [], ◌∷◌, ◌++◌, refl, sym, ap, ◌∙◌, append_assoc, append-nil, arith}
 use Rattle.vbr_words.specs.Flags.{has_flag}
-use Rattle.vbr_words.specs.Dimensions.{Dimensions}
+use Rattle.vbr_machine.specs.Start.{Start}
 use Rattle.vbr_words.specs.Words.{word_of}
 use Rattle.vbr_words.specs.declared.place.At.TheVariants.{Head, Slot}
 use Rattle.vbr_machine.specs.Machine.{World, opening, found, after}
@@ -14,28 +14,28 @@ use Rattle.vbr_machine.specs.declared.history.Call.{Call}
 use Rattle.vbr_machine.proofs.Lemmas.{calls_after, others_leave_calls, world_after-append}
 
 -- events add their calls at the end
-calls_from : (shape : Dimensions) (w : World) (events : List Event) → (more : List Call) × ((world_from shape w events).calls ≡ w.calls ++ more)
-calls_from shape w [] = ([], sym (append-nil w.calls))
-calls_from shape w (event ∷ events) =
-    let next = after shape w event.pass event.step in
-    let rest = calls_from shape next events in
-    let added = calls_added shape w event.pass event.step in
-    (added ++ rest.0, rest.1 ∙ ap (λ calls. calls ++ rest.0) (calls_after shape w event.pass event.step) ∙ append_assoc w.calls added rest.0)
+calls_from : (start : Start) (w : World) (events : List Event) → (more : List Call) × ((world_from start w events).calls ≡ w.calls ++ more)
+calls_from start w [] = ([], sym (append-nil w.calls))
+calls_from start w (event ∷ events) =
+    let next = after start w event.pass event.step in
+    let rest = calls_from start next events in
+    let added = calls_added start w event.pass event.step in
+    (added ++ rest.0, rest.1 ∙ ap (λ calls. calls ++ rest.0) (calls_after start w event.pass event.step) ∙ append_assoc w.calls added rest.0)
 
 -- the calls of what begins a run begin its calls
-pub calls_begin : (shape : Dimensions) (seen run : List Event) → Begins seen run → (more : List Call) × ((world_after shape run).calls ≡ (world_after shape seen).calls ++ more)
-calls_begin shape seen run begins =
-    let more = calls_from shape (world_after shape seen) begins.0 in
-    (more.0, ap (λ (events : List Event). (world_after shape events).calls) begins.1 ∙ ap (λ (w : World). w.calls) (world_after-append shape seen begins.0) ∙ more.1)
+pub calls_begin : (start : Start) (seen run : List Event) → Begins seen run → (more : List Call) × ((world_after start run).calls ≡ (world_after start seen).calls ++ more)
+calls_begin start seen run begins =
+    let more = calls_from start (world_after start seen) begins.0 in
+    (more.0, ap (λ (events : List Event). (world_after start events).calls) begins.1 ∙ ap (λ (w : World). w.calls) (world_after-append start seen begins.0) ∙ more.1)
 
 -- no pass beyond the number of passes has an event
-none_beyond : (shape : Dimensions) (passes who : ℕ) (w : World) (events : List Event) → passes ≤ who → AreAccepted shape passes w events → NoneOf who events
-none_beyond shape passes who w [] beyond accepted = tt
-none_beyond shape passes who w (event ∷ events) beyond accepted = (λ same. omega (arith, accepted.0.0), none_beyond shape passes who (after shape w event.pass event.step) events beyond accepted.1)
+none_beyond : (start : Start) (passes who : ℕ) (w : World) (events : List Event) → passes ≤ who → AreAccepted start passes w events → NoneOf who events
+none_beyond start passes who w [] beyond accepted = tt
+none_beyond start passes who w (event ∷ events) beyond accepted = (λ same. omega (arith, accepted.0.0), none_beyond start passes who (after start w event.pass event.step) events beyond accepted.1)
 
 -- so it has no calls
-pub no_calls_beyond : (shape : Dimensions) (passes who : ℕ) (run : List Event) → passes ≤ who → IsRun shape passes run → own_calls shape run who ≡ []
-no_calls_beyond shape passes who run beyond is_run = others_leave_calls shape [] run who (none_beyond shape passes who (opening shape) run beyond is_run)
+pub no_calls_beyond : (start : Start) (passes who : ℕ) (run : List Event) → passes ≤ who → IsRun start passes run → own_calls start run who ≡ []
+no_calls_beyond start passes who run beyond is_run = others_leave_calls start [] run who (none_beyond start passes who (opening start) run beyond is_run)
 
 -- ---- the epoch
 
@@ -50,36 +50,36 @@ raised true x w more = omega (arith, more)
 raised false x w more = omega arith
 
 -- no step lowers the epoch
-epoch_after : (shape : Dimensions) (w : World) (p : ℕ) (step : Step) → w.epoch ≤ (after shape w p step).epoch
-epoch_after shape w p ReadEpoch = omega arith
-epoch_after shape w p (Advance from) = raised (w.epoch == from) _ w refl
-epoch_after shape w p (LoadStamp s) = omega arith
-epoch_after shape w p (StoreStamp s stamp) = omega arith
-epoch_after shape w p (Raise s) = omega arith
-epoch_after shape w p (TakeFlag s) = kept (has_flag (found shape w (TakeFlag s)) s) _ w refl
-epoch_after shape w p (StoreBirth s birth) = omega arith
-epoch_after shape w p (StoreKey s key) = omega arith
-epoch_after shape w p (StoreValue s value) = omega arith
-epoch_after shape w p (StoreLink s next) = omega arith
-epoch_after shape w p (LoadLink at) = omega arith
-epoch_after shape w p (LoadBirth s) = omega arith
-epoch_after shape w p (LoadKey s) = omega arith
-epoch_after shape w p (LoadValue s) = omega arith
-epoch_after shape w p (Publish (Head b) expected s) = kept (word_of (w.head b) == expected) _ w refl
-epoch_after shape w p (Publish (Slot t) expected s) = kept (word_of (w.link t) == expected) _ w refl
-epoch_after shape w p (Mark s expected) = kept (word_of (w.link s) == expected) _ w refl
-epoch_after shape w p (Unlink (Head b) expected s) = kept (word_of (w.head b) == expected) _ w refl
-epoch_after shape w p (Unlink (Slot t) expected s) = kept (word_of (w.link t) == expected) _ w refl
-epoch_after shape w p (ConfirmPresent op s expected) = kept (word_of (w.link s) == expected) _ w refl
-epoch_after shape w p (ConfirmAbsent op key (Head b) expected) = kept (word_of (w.head b) == expected) _ w refl
-epoch_after shape w p (ConfirmAbsent op key (Slot t) expected) = kept (word_of (w.link t) == expected) _ w refl
+epoch_after : (start : Start) (w : World) (p : ℕ) (step : Step) → w.epoch ≤ (after start w p step).epoch
+epoch_after start w p ReadEpoch = omega arith
+epoch_after start w p (Advance from) = raised (w.epoch == from) _ w refl
+epoch_after start w p (LoadStamp s) = omega arith
+epoch_after start w p (StoreStamp s stamp) = omega arith
+epoch_after start w p (Raise s) = omega arith
+epoch_after start w p (TakeFlag s) = kept (has_flag (found start w (TakeFlag s)) s) _ w refl
+epoch_after start w p (StoreBirth s birth) = omega arith
+epoch_after start w p (StoreKey s key) = omega arith
+epoch_after start w p (StoreValue s value) = omega arith
+epoch_after start w p (StoreLink s next) = omega arith
+epoch_after start w p (LoadLink at) = omega arith
+epoch_after start w p (LoadBirth s) = omega arith
+epoch_after start w p (LoadKey s) = omega arith
+epoch_after start w p (LoadValue s) = omega arith
+epoch_after start w p (Publish (Head b) expected s) = kept (word_of (w.head b) == expected) _ w refl
+epoch_after start w p (Publish (Slot t) expected s) = kept (word_of (w.link t) == expected) _ w refl
+epoch_after start w p (Mark s expected) = kept (word_of (w.link s) == expected) _ w refl
+epoch_after start w p (Unlink (Head b) expected s) = kept (word_of (w.head b) == expected) _ w refl
+epoch_after start w p (Unlink (Slot t) expected s) = kept (word_of (w.link t) == expected) _ w refl
+epoch_after start w p (ConfirmPresent op s expected) = kept (word_of (w.link s) == expected) _ w refl
+epoch_after start w p (ConfirmAbsent op key (Head b) expected) = kept (word_of (w.head b) == expected) _ w refl
+epoch_after start w p (ConfirmAbsent op key (Slot t) expected) = kept (word_of (w.link t) == expected) _ w refl
 
-epoch_from : (shape : Dimensions) (w : World) (events : List Event) → w.epoch ≤ (world_from shape w events).epoch
-epoch_from shape w [] = omega arith
-epoch_from shape w (event ∷ events) = omega (arith, epoch_after shape w event.pass event.step, epoch_from shape (after shape w event.pass event.step) events)
+epoch_from : (start : Start) (w : World) (events : List Event) → w.epoch ≤ (world_from start w events).epoch
+epoch_from start w [] = omega arith
+epoch_from start w (event ∷ events) = omega (arith, epoch_after start w event.pass event.step, epoch_from start (after start w event.pass event.step) events)
 
 -- what begins a run has an epoch no greater than the run's
-pub epoch_begins : (shape : Dimensions) (seen run : List Event) → Begins seen run → (world_after shape seen).epoch ≤ (world_after shape run).epoch
-epoch_begins shape seen run begins =
-    let same : (world_after shape run).epoch ≡ (world_from shape (world_after shape seen) begins.0).epoch = ap (λ (events : List Event). (world_after shape events).epoch) begins.1 ∙ ap (λ (w : World). w.epoch) (world_after-append shape seen begins.0) in
-    omega (arith, epoch_from shape (world_after shape seen) begins.0)
+pub epoch_begins : (start : Start) (seen run : List Event) → Begins seen run → (world_after start seen).epoch ≤ (world_after start run).epoch
+epoch_begins start seen run begins =
+    let same : (world_after start run).epoch ≡ (world_from start (world_after start seen) begins.0).epoch = ap (λ (events : List Event). (world_after start events).epoch) begins.1 ∙ ap (λ (w : World). w.epoch) (world_after-append start seen begins.0) in
+    omega (arith, epoch_from start (world_after start seen) begins.0)

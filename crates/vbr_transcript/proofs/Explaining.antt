@@ -4,7 +4,7 @@ use Rattle.std.proofs.lemmas.Bool.{cases_lt, ne_eqb}
 use Rattle.std.proofs.lemmas.Bool.Decides.{nat_tests}
 use Rattle.std.proofs.lemmas.List.Elements.{All-nil, All-cons, All-head, All-tail, All-filter}
 use Rattle.std.specs.Prelude.{nat_le, zip, All}
-use Rattle.vbr_words.specs.Dimensions.{Dimensions}
+use Rattle.vbr_machine.specs.Start.{Start}
 use Rattle.vbr_machine.specs.History.{calls_by}
 use Rattle.vbr_machine.specs.Runs as machine
 use Rattle.vbr_machine.specs.Runs.{world_after}
@@ -55,49 +55,49 @@ of_worker_up_to kind phases workers who phase lines own replies phased merged =
     ∙ ap (λ (some : List Line). zip some (replies_by who own)) (sym (lines_by-up_to who phase lines))
 
 -- where each worker has called these lines, and there are no others, the calls are those of outcomes that are theirs
-own_order : (kind : Kind) (shape : Dimensions) (workers who : ℕ) (seen : List Event) (lines : List Line) (own : List (List Reply)) (outcomes : List Outcome) → machine.IsRun shape workers seen → HaveCalled kind shape workers lines own seen → All (λ line. line.worker < workers) lines → outcomes_by who outcomes ≡ zip (lines_by who lines) (replies_by who own) → calls_by who (world_after shape seen).calls ≡ calls_by who (answered_calls kind outcomes)
-own_order kind shape workers who seen lines own outcomes is_run called below of_worker = elim (cases_lt who workers) [
+own_order : (kind : Kind) (start : Start) (workers who : ℕ) (seen : List Event) (lines : List Line) (own : List (List Reply)) (outcomes : List Outcome) → machine.IsRun start workers seen → HaveCalled kind start workers lines own seen → All (λ line. line.worker < workers) lines → outcomes_by who outcomes ≡ zip (lines_by who lines) (replies_by who own) → calls_by who (world_after start seen).calls ≡ calls_by who (answered_calls kind outcomes)
+own_order kind start workers who seen lines own outcomes is_run called below of_worker = elim (cases_lt who workers) [
   | inl one ↦ called who one ∙ sym (calls_by-answered kind who outcomes ∙ ap (answered_calls kind) of_worker)
   | inr none ↦
       let no_lines : zip (lines_by who lines) (replies_by who own) ≡ [] = ap (λ (some : List Line). zip some (replies_by who own)) (none_beyond workers who lines none below) in
-      no_calls_beyond shape workers who seen none is_run ∙ sym (calls_by-answered kind who outcomes ∙ ap (answered_calls kind) (of_worker ∙ no_lines))
+      no_calls_beyond start workers who seen none is_run ∙ sym (calls_by-answered kind who outcomes ∙ ap (answered_calls kind) (of_worker ∙ no_lines))
 ]
 
 -- each phase ends in the history
-ends : (kind : Kind) (shape : Dimensions) (workers phases phase : ℕ) (lines : List Line) (own : List (List Reply)) (replies : List Reply) (run : List Event) → ArePhased kind workers phases lines → IsMerged lines own replies → machine.IsRun shape workers run → HavePlayed kind shape workers phases lines own run → ((who : ℕ) → calls_by who (world_after shape run).calls ≡ calls_by who (answered_calls kind (zip lines replies))) → EndsIn kind (world_after shape run).calls (zip lines replies) phase
-ends kind shape workers phases phase lines own replies run phased merged is_run played all = elim (cases_lt phase phases) [
+ends : (kind : Kind) (start : Start) (workers phases phase : ℕ) (lines : List Line) (own : List (List Reply)) (replies : List Reply) (run : List Event) → ArePhased kind workers phases lines → IsMerged lines own replies → machine.IsRun start workers run → HavePlayed kind start workers phases lines own run → ((who : ℕ) → calls_by who (world_after start run).calls ≡ calls_by who (answered_calls kind (zip lines replies))) → EndsIn kind (world_after start run).calls (zip lines replies) phase
+ends kind start workers phases phase lines own replies run phased merged is_run played all = elim (cases_lt phase phases) [
   | inl before ↦
       let end = played.ends phase before in
-      let calls = calls_begin shape end.seen run end.begins in
+      let calls = calls_begin start end.seen run end.begins in
       record {
-        before = (world_after shape end.seen).calls;
+        before = (world_after start end.seen).calls;
         after = calls.0;
         whole = calls.1;
-        own_order = λ who. own_order kind shape workers who end.seen (lines_up_to phase lines) own (outcomes_up_to phase (zip lines replies)) (begins_run shape workers end.seen run end.begins is_run) end.called (All-filter (λ (line : Line). nat_le line.phase phase) (λ (line : Line). line.worker < workers) lines phased.workers_below) (of_worker_up_to kind phases workers who phase lines own replies phased merged);
+        own_order = λ who. own_order kind start workers who end.seen (lines_up_to phase lines) own (outcomes_up_to phase (zip lines replies)) (begins_run start workers end.seen run end.begins is_run) end.called (All-filter (λ (line : Line). nat_le line.phase phase) (λ (line : Line). line.worker < workers) lines phased.workers_below) (of_worker_up_to kind phases workers who phase lines own replies phased merged);
       }
   | inr after ↦
       let whole = all_up_to phases phase (zip lines replies) after (all_lines (λ (line : Line). line.phase < phases) lines replies phased.phases_below) in
       record {
-        before = (world_after shape run).calls;
+        before = (world_after start run).calls;
         after = [];
-        whole = sym (append-nil (world_after shape run).calls);
+        whole = sym (append-nil (world_after start run).calls);
         own_order = λ who. all who ∙ ap (λ (some : List Outcome). calls_by who (answered_calls kind some)) (sym whole);
       }
 ]
 
 -- what the workers have played by a safe run are the outcomes of one set, with the replies that they have merged
-pub set_run_of_workers : (kind : Kind) (manner : Manner) (shape : Dimensions) (workers phases since : ℕ) (lines : List Line) (own : List (List Reply)) (replies : List Reply) (run : List Event) → manner shape since (zip lines replies) run → ArePhased kind workers phases lines → IsMerged lines own replies → machine.IsRun shape workers run → IsSafe shape run → IsLegalFrom kind (opening_contents kind shape) (world_after shape run).calls → HavePlayed kind shape workers phases lines own run → IsSetRun kind manner shape workers since (zip lines replies) run
-set_run_of_workers kind manner shape workers phases since lines own replies run in_manner phased merged is_run safe legal played =
+pub set_run_of_workers : (kind : Kind) (manner : Manner) (start : Start) (workers phases since : ℕ) (lines : List Line) (own : List (List Reply)) (replies : List Reply) (run : List Event) → manner start since (zip lines replies) run → ArePhased kind workers phases lines → IsMerged lines own replies → machine.IsRun start workers run → IsSafe start run → IsLegalFrom kind (opening_contents kind start) (world_after start run).calls → HavePlayed kind start workers phases lines own run → IsSetRun kind manner start workers since (zip lines replies) run
+set_run_of_workers kind manner start workers phases since lines own replies run in_manner phased merged is_run safe legal played =
     let of_worker = λ (who : ℕ). outcomes_by-own who lines replies (replies_by who own) merged.one_each (merged.own_order who) in
-    let all = λ (who : ℕ). own_order kind shape workers who run lines own (zip lines replies) is_run played.called phased.workers_below (of_worker who) in
-    let may = λ (outcome : Outcome). MayBeAnswered kind shape.last_epoch (world_after shape run).epoch outcome.0.op outcome.1 in
+    let all = λ (who : ℕ). own_order kind start workers who run lines own (zip lines replies) is_run played.called phased.workers_below (of_worker who) in
+    let may = λ (outcome : Outcome). MayBeAnswered kind start.shape.last_epoch (world_after start run).epoch outcome.0.op outcome.1 in
     record {
       is_run = is_run;
       safe = safe;
       explains = record {
         legal = legal;
         own_order = all;
-        phases = λ phase. ends kind shape workers phases phase lines own replies run phased merged is_run played all;
+        phases = λ phase. ends kind start workers phases phase lines own replies run phased merged is_run played all;
       };
       refusals = all_outcomes may workers (zip lines replies) (all_lines (λ (line : Line). line.worker < workers) lines replies phased.workers_below) (λ who below. subst (All may) (sym (of_worker who)) (played.answers who below));
       played = in_manner;

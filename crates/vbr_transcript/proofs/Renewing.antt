@@ -5,7 +5,7 @@ use Rattle.std.proofs.lemmas.Bool.Decides.{nat_tests}
 use Rattle.std.proofs.lemmas.List.Concat.{flat_map-append}
 use Rattle.std.proofs.lemmas.List.Elements.{filter-append}
 use Rattle.std.specs.Prelude.{nat_le, nat_lt, All}
-use Rattle.vbr_words.specs.Dimensions.{Dimensions}
+use Rattle.vbr_machine.specs.Start.{Start}
 use Rattle.vbr_machine.specs.Keys.{Keys}
 use Rattle.vbr_machine.specs.Maps.{Entries, IsMapLegal, entries_after, map_after}
 use Rattle.vbr_machine.specs.History.{IsLegal, keys_after, set_after, calls_by}
@@ -48,8 +48,8 @@ legal-append Set opening calls more first then = set_legal-append opening calls 
 legal-append Map opening calls more first then = map_legal-append opening calls more first then
 
 -- a set that opens with the keys that another was left with has just these
-pub set_opens : (shape : Dimensions) (listed : List ℕ) (left : Keys) → AreContents Set listed left → opening_contents Set (opened_with Set shape listed) ≡ left
-set_opens shape listed left are = λ i key. are.same key i
+pub set_opens : (start : Start) (listed : List ℕ) (left : Keys) → AreContents Set listed left → opening_contents Set (opened_with Set start listed) ≡ left
+set_opens start listed left are = λ i key. are.same key i
 
 -- ---- outcomes, cut at a phase
 
@@ -162,51 +162,51 @@ all_own (call ∷ calls) none = elim (cases_eq call.who 0) [
     kept false rest own is = absurd (cc)
 
 -- the calls of a lone worker are its answered operations
-lone_calls : (kind : Kind) (shape : Dimensions) (workers : ℕ) (outcomes : List Outcome) (run : List Event) → IsRun shape workers run → Explains kind (opening_contents kind shape) (world_after shape run).calls outcomes → workers ≡ 1 → (world_after shape run).calls ≡ answered_calls kind outcomes
-lone_calls kind shape workers outcomes run is_run explains one =
-    sym (all_own (world_after shape run).calls none)
+lone_calls : (kind : Kind) (start : Start) (workers : ℕ) (outcomes : List Outcome) (run : List Event) → IsRun start workers run → Explains kind (opening_contents kind start) (world_after start run).calls outcomes → workers ≡ 1 → (world_after start run).calls ≡ answered_calls kind outcomes
+lone_calls kind start workers outcomes run is_run explains one =
+    sym (all_own (world_after start run).calls none)
     ∙ explains.own_order 0
     ∙ all_own (answered_calls kind outcomes) (λ other differs. sym (explains.own_order other) ∙ none other differs)
   where
-    none : (other : ℕ) → other ≢ 0 → calls_by other (world_after shape run).calls ≡ []
-    none other differs = no_calls_beyond shape workers other run (omega arith) is_run
+    none : (other : ℕ) → other ≢ 0 → calls_by other (world_after start run).calls ≡ []
+    none other differs = no_calls_beyond start workers other run (omega arith) is_run
 
 -- ---- sets
 
 -- what the last set was asked, with what it leaves
-pub last_set : (kind : Kind) (manner : Manner) (shape : Dimensions) (workers from phases : ℕ) (outcomes : List Outcome) (run : List Event) (listed : List (Item kind)) (epoch : ℕ) → IsSetRun kind manner shape workers (phases - from) outcomes run → AreContents kind listed (contents_after kind (opening_contents kind shape) (world_after shape run).calls) → epoch ≡ (world_after shape run).epoch → AreExplained kind manner shape workers from phases [] outcomes listed epoch
-last_set kind manner shape workers from phases outcomes run listed epoch of_set are last = record {
-  history = (world_after shape run).calls;
+pub last_set : (kind : Kind) (manner : Manner) (start : Start) (workers from phases : ℕ) (outcomes : List Outcome) (run : List Event) (listed : List (Item kind)) (epoch : ℕ) → IsSetRun kind manner start workers (phases - from) outcomes run → AreContents kind listed (contents_after kind (opening_contents kind start) (world_after start run).calls) → epoch ≡ (world_after start run).epoch → AreExplained kind manner start workers from phases [] outcomes listed epoch
+last_set kind manner start workers from phases outcomes run listed epoch of_set are last = record {
+  history = (world_after start run).calls;
   sets = (run, of_set, refl, last);
   explains = of_set.explains;
   contents = are;
-  plain = lone_calls kind shape workers outcomes run of_set.is_run of_set.explains;
+  plain = lone_calls kind start workers outcomes run of_set.is_run of_set.explains;
 }
 
 -- what a set was asked, and behind the phase of its renewal what the later ones were, of which the first opens with what it left
-pub one_more_set : (kind : Kind) (manner : Manner) (shape : Dimensions) (workers from phases renewal : ℕ) (renewals : List ℕ) (front back : List Outcome) (run : List Event) (left listed : List (Item kind)) (epoch : ℕ)
-    → All (λ outcome. outcome.0.phase ≤ renewal) front → All (λ outcome. renewal < outcome.0.phase) back → IsSetRun kind manner shape workers (renewal + 1 - from) front run → AreContents kind left (contents_after kind (opening_contents kind shape) (world_after shape run).calls)
-    → opening_contents kind (opened_with kind shape left) ≡ contents_after kind (opening_contents kind shape) (world_after shape run).calls
-    → AreExplained kind manner (opened_with kind shape left) workers (renewal + 1) phases renewals back listed epoch → AreExplained kind manner shape workers from phases (renewal ∷ renewals) (front ++ back) listed epoch
-one_more_set kind manner shape workers from phases renewal renewals front back run left listed epoch early late of_set are opens rest =
-    let opening = opening_contents kind shape in
-    let calls = (world_after shape run).calls in
+pub one_more_set : (kind : Kind) (manner : Manner) (start : Start) (workers from phases renewal : ℕ) (renewals : List ℕ) (front back : List Outcome) (run : List Event) (left listed : List (Item kind)) (epoch : ℕ)
+    → All (λ outcome. outcome.0.phase ≤ renewal) front → All (λ outcome. renewal < outcome.0.phase) back → IsSetRun kind manner start workers (renewal + 1 - from) front run → AreContents kind left (contents_after kind (opening_contents kind start) (world_after start run).calls)
+    → opening_contents kind (opened_with kind start left) ≡ contents_after kind (opening_contents kind start) (world_after start run).calls
+    → AreExplained kind manner (opened_with kind start left) workers (renewal + 1) phases renewals back listed epoch → AreExplained kind manner start workers from phases (renewal ∷ renewals) (front ++ back) listed epoch
+one_more_set kind manner start workers from phases renewal renewals front back run left listed epoch early late of_set are opens rest =
+    let opening = opening_contents kind start in
+    let calls = (world_after start run).calls in
     let then : Explains kind (contents_after kind opening calls) rest.history back = subst (λ (some : Contents kind). Explains kind some rest.history back) opens rest.explains in
     let last : AreContents kind listed (contents_after kind (contents_after kind opening calls) rest.history) = subst (λ (some : Contents kind). AreContents kind listed (contents_after kind some rest.history)) opens rest.contents in
     record {
       history = calls ++ rest.history;
       sets = (
         run,
-        subst (λ (some : List Outcome). IsSetRun kind manner shape workers (renewal + 1 - from) some run) (sym (cut_front renewal front back early late)) of_set,
+        subst (λ (some : List Outcome). IsSetRun kind manner start workers (renewal + 1 - from) some run) (sym (cut_front renewal front back early late)) of_set,
         left,
         are,
         rest.history,
-        subst (λ (some : List Outcome). AreOfSets kind manner (opened_with kind shape left) workers (renewal + 1) phases renewals some rest.history epoch) (sym (cut_back renewal front back early late)) rest.sets,
+        subst (λ (some : List Outcome). AreOfSets kind manner (opened_with kind start left) workers (renewal + 1) phases renewals some rest.history epoch) (sym (cut_back renewal front back early late)) rest.sets,
         refl,
       );
       explains = explains-append kind opening calls rest.history front back renewal early late of_set.explains then;
       contents = subst (AreContents kind listed) (sym (after-append kind opening calls rest.history)) last;
       plain = λ one.
-          ap₂ (λ (a b : List Call). a ++ b) (lone_calls kind shape workers front run of_set.is_run of_set.explains one) (rest.plain one)
+          ap₂ (λ (a b : List Call). a ++ b) (lone_calls kind start workers front run of_set.is_run of_set.explains one) (rest.plain one)
           ∙ sym (flat_map-append (λ (outcome : Outcome). answer_of kind outcome.0 outcome.1) front back);
     }

@@ -1,7 +1,7 @@
 -- What a set or a map has, what its calls leave in it, and which histories of it are legal.
 use Rattle.std.specs.Prelude.{◌≡◌, ℕ, List}
 use Rattle.std.specs.List.Sorted.{IsStrictlyIncreasing}
-use Rattle.vbr_words.specs.Dimensions.{Dimensions}
+use Rattle.vbr_machine.specs.Start.{Start}
 use Rattle.vbr_machine.specs.History.{IsLegal, set_after}
 use Rattle.vbr_machine.specs.Keys.{Keys, AreKeysOf}
 use Rattle.vbr_machine.specs.Maps.{Entries, IsMapLegal, entries_in, keys_listed, map_after, opening_entries, values_listed}
@@ -20,10 +20,10 @@ abbrev pub Item : Kind → Type 0
 Item Set = ℕ
 Item Map = ℕ × ℕ
 
--- what a shape opens with
-abbrev pub opening_contents : (kind : Kind) → Dimensions → Contents kind
-opening_contents Set shape = opening_keys shape
-opening_contents Map shape = opening_entries shape
+-- what a start opens with
+abbrev pub opening_contents : (kind : Kind) → Start → Contents kind
+opening_contents Set start = opening_keys start
+opening_contents Map start = opening_entries start
 
 -- what is left after a history
 abbrev pub contents_after : (kind : Kind) → Contents kind → List Call → Contents kind
@@ -40,7 +40,7 @@ abbrev pub AreContents : (kind : Kind) → List (Item kind) → Contents kind �
 AreContents Set listed keys = AreKeysOf listed keys
 AreContents Map listed entries = IsStrictlyIncreasing (keys_listed listed) × ((key : ℕ) → entries_in listed key ≡ entries key)
 
--- a shape that opens with what is listed, and is else the same
-abbrev pub opened_with : (kind : Kind) → Dimensions → List (Item kind) → Dimensions
-opened_with Set shape listed = record shape { keys = listed }
-opened_with Map shape listed = record shape { keys = keys_listed listed; payloads = values_listed listed }
+-- the start that opens with what is listed, and is else the same
+abbrev pub opened_with : (kind : Kind) → Start → List (Item kind) → Start
+opened_with Set start listed = record start { keys = listed }
+opened_with Map start listed = record start { keys = keys_listed listed; payloads = values_listed listed }

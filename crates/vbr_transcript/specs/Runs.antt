@@ -1,6 +1,6 @@
 -- A run of a script: a reply for each of its operations, and totals, that the calls of one run of the core for each of its sets explain.
 use Rattle.std.specs.Prelude.{◌≡◌, ℕ, ◌+◌, ◌-◌, Bool, true, false, ◌&&◌, List, [], ◌∷◌, ◌++◌, length, zip, All, count_by}
-use Rattle.vbr_words.specs.Dimensions.{Dimensions}
+use Rattle.vbr_machine.specs.Start.{Start}
 use Rattle.vbr_machine.specs.History.{calls_by}
 use Rattle.vbr_machine.specs.Runs as machine
 use Rattle.vbr_machine.specs.Runs.{world_after}
@@ -100,40 +100,40 @@ pub record Counts (tally : Tally) (outcomes : List Outcome) : Type 0 where
 
 -- ---- the sets
 
--- what is claimed besides of how the workers of a set play, which their player says: by the set's shape, how many phases are played on it, the outcomes and the run
+-- what is claimed besides of how the workers of a set play, which their player says: by what the set starts with, how many phases are played on it, the outcomes and the run
 abbrev pub Manner : Type 1
-Manner = Dimensions → ℕ → List Outcome → List Event → Type 0
+Manner = Start → ℕ → List Outcome → List Event → Type 0
 
 -- these outcomes are those of one set or map: a safe run of the core, whose passes are the workers, has the calls that explain them, none is a reply that one at the run's epoch doesn't give to its operation, and the workers played in the manner that is claimed
-pub record IsSetRun (kind : Kind) (manner : Manner) (shape : Dimensions) (workers phases : ℕ) (outcomes : List Outcome) (run : List Event) : Type 0 where
-  pub is_run : machine.IsRun shape workers run
-  pub safe : IsSafe shape run
-  pub explains : Explains kind (opening_contents kind shape) (world_after shape run).calls outcomes
-  pub refusals : All (λ outcome. MayBeAnswered kind shape.last_epoch (world_after shape run).epoch outcome.0.op outcome.1) outcomes
-  pub played : manner shape phases outcomes run
+pub record IsSetRun (kind : Kind) (manner : Manner) (start : Start) (workers phases : ℕ) (outcomes : List Outcome) (run : List Event) : Type 0 where
+  pub is_run : machine.IsRun start workers run
+  pub safe : IsSafe start run
+  pub explains : Explains kind (opening_contents kind start) (world_after start run).calls outcomes
+  pub refusals : All (λ outcome. MayBeAnswered kind start.shape.last_epoch (world_after start run).epoch outcome.0.op outcome.1) outcomes
+  pub played : manner start phases outcomes run
 
 -- outcomes are those of sets, one after the other, on which the phases from one on and up to another, which isn't among them, are played: behind the phase of each renewal the set is closed, and the next is opened with what its calls left. The history is the calls of all sets in their order, and the epoch is that of the last
-abbrev pub AreOfSets : Kind → Manner → Dimensions → ℕ → ℕ → ℕ → List ℕ → List Outcome → List Call → ℕ → Type 0
-AreOfSets kind manner shape workers from phases [] outcomes history epoch =
-    (run : List Event) × IsSetRun kind manner shape workers (phases - from) outcomes run × (history ≡ (world_after shape run).calls) × (epoch ≡ (world_after shape run).epoch)
-AreOfSets kind manner shape workers from phases (renewal ∷ renewals) outcomes history epoch =
-    (run : List Event) × IsSetRun kind manner shape workers (renewal + 1 - from) (outcomes_up_to renewal outcomes) run
-    × (listed : List (Item kind)) × AreContents kind listed (contents_after kind (opening_contents kind shape) (world_after shape run).calls)
-    × (later : List Call) × AreOfSets kind manner (opened_with kind shape listed) workers (renewal + 1) phases renewals (outcomes_past renewal outcomes) later epoch
-    × (history ≡ (world_after shape run).calls ++ later)
+abbrev pub AreOfSets : Kind → Manner → Start → ℕ → ℕ → ℕ → List ℕ → List Outcome → List Call → ℕ → Type 0
+AreOfSets kind manner start workers from phases [] outcomes history epoch =
+    (run : List Event) × IsSetRun kind manner start workers (phases - from) outcomes run × (history ≡ (world_after start run).calls) × (epoch ≡ (world_after start run).epoch)
+AreOfSets kind manner start workers from phases (renewal ∷ renewals) outcomes history epoch =
+    (run : List Event) × IsSetRun kind manner start workers (renewal + 1 - from) (outcomes_up_to renewal outcomes) run
+    × (listed : List (Item kind)) × AreContents kind listed (contents_after kind (opening_contents kind start) (world_after start run).calls)
+    × (later : List Call) × AreOfSets kind manner (opened_with kind start listed) workers (renewal + 1) phases renewals (outcomes_past renewal outcomes) later epoch
+    × (history ≡ (world_after start run).calls ++ later)
 
 -- sets give these outcomes: one history of all of them explains the outcomes, from what the first opens with; what it leaves, and the epoch of the last set, are these; and a lone worker has the answers of a plain set or map, since the history is just its answered operations
-pub record AreExplained (kind : Kind) (manner : Manner) (shape : Dimensions) (workers from phases : ℕ) (renewals : List ℕ) (outcomes : List Outcome) (listed : List (Item kind)) (epoch : ℕ) : Type 0 where
+pub record AreExplained (kind : Kind) (manner : Manner) (start : Start) (workers from phases : ℕ) (renewals : List ℕ) (outcomes : List Outcome) (listed : List (Item kind)) (epoch : ℕ) : Type 0 where
   pub history : List Call
-  pub sets : AreOfSets kind manner shape workers from phases renewals outcomes history epoch
-  pub explains : Explains kind (opening_contents kind shape) history outcomes
-  pub contents : AreContents kind listed (contents_after kind (opening_contents kind shape) history)
+  pub sets : AreOfSets kind manner start workers from phases renewals outcomes history epoch
+  pub explains : Explains kind (opening_contents kind start) history outcomes
+  pub contents : AreContents kind listed (contents_after kind (opening_contents kind start) history)
   pub plain : workers ≡ 1 → history ≡ answered_calls kind outcomes
 
 -- ---- the run
 
--- replies and totals of a run of a script, with so many workers, in so many phases, on a set or a map of this shape that is renewed behind these of them: each line has a reply; sets give these outcomes, with what is listed and the epoch of the totals, which count the outcomes
-pub record IsScriptRun (kind : Kind) (manner : Manner) (shape : Dimensions) (workers phases : ℕ) (renewals : List ℕ) (lines : List Line) (replies : List Reply) (totals : TotalsOf kind) : Type 0 where
+-- replies and totals of a run of a script, with so many workers, in so many phases, on a set or a map that starts so and is renewed behind these of them: each line has a reply; sets give these outcomes, with what is listed and the epoch of the totals, which count the outcomes
+pub record IsScriptRun (kind : Kind) (manner : Manner) (start : Start) (workers phases : ℕ) (renewals : List ℕ) (lines : List Line) (replies : List Reply) (totals : TotalsOf kind) : Type 0 where
   pub one_each : length replies ≡ length lines
-  pub explained : AreExplained kind manner shape workers 0 phases renewals (zip lines replies) (listed_in kind totals) (epoch_in kind totals)
+  pub explained : AreExplained kind manner start workers 0 phases renewals (zip lines replies) (listed_in kind totals) (epoch_in kind totals)
   pub counts : Counts (tally_in kind totals) (zip lines replies)

@@ -1,6 +1,6 @@
 //! The shape of a set: how many slots and buckets it has, its last epoch, and whether its nodes
 //! have values.
-ghost use Rattle.std.specs.Prelude.{◌≡◌, ◌<◌, ◌≤◌, ◌^◌, ◌⊎◌, [], true, false, None, Some, MatchResult};
+ghost use Rattle.std.specs.Prelude.{◌≡◌, ◌<◌, ◌≤◌, ◌^◌, ◌⊎◌, true, false, None, Some, MatchResult};
 ghost use Rattle.vbr_words.specs.declared.shape.TheConstants.{MAX_SPREAD_BUCKETS};
 ghost use Rattle.vbr_words.specs.Buckets.{bucket_of, mixed};
 ghost use Rattle.vbr_words.specs.Dimensions.{IsShape};
@@ -35,7 +35,6 @@ pub struct Shape {
 }
 
 impl Model for Shape {
-    ghost use Rattle.std.specs.Prelude.{[]};
     ghost use Rattle.vbr_words.specs.Dimensions.{Dimensions, IsShape};
 
     ghost Value = { Dimensions };
@@ -46,8 +45,6 @@ impl Model for Shape {
       spread = s.spread;
       last_epoch = s.last_epoch;
       values = s.values;
-      keys = [];
-      payloads = [];
     } };
 
     ghost invariant = { λ s. IsShape (record {
@@ -56,8 +53,6 @@ impl Model for Shape {
       spread = s.spread;
       last_epoch = s.last_epoch;
       values = s.values;
-      keys = [];
-      payloads = [];
     }) };
 
     ghost inverse = { λ d. record {
@@ -130,8 +125,6 @@ impl Shape {
               spread = false;
               last_epoch = last_epoch;
               values = false;
-              keys = [];
-              payloads = [];
             }))
             (λ error. shape_error slots buckets last_epoch ≡ Some error) }
     {
@@ -208,8 +201,6 @@ impl Shape {
     pub fn slots(&self) -> u32
         ensures slots { result ≡ self.now.slots }
         ensures shape { IsShape self.now }
-        ensures keys { self.now.keys ≡ [] }
-        ensures payloads { self.now.payloads ≡ [] }
     {
         self.slots
     }

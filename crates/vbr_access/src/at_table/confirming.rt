@@ -57,7 +57,7 @@ pub fn confirm_present_entry<N: Nodes>(
 /// As [`crate::confirm_absent`].
 #[inline]
 pub fn confirm_absent(at: &mut AtTable<'_>, op: Op, key: u64, pred: &Held) -> Result<(), Rollback>
-    requires gap { IsAbsent (trace_of at.old).shape (knows (trace_of at.old)) key pred.now }
+    requires gap { IsAbsent (trace_of at.old).start (knows (trace_of at.old)) key pred.now }
     requires op { IsOther Insert op }
     ensures table { IsSameTable at.old at.new }
     ensures keeps { KeepsByLoad (pass_of at.old) (pass_of at.new) }
@@ -75,8 +75,8 @@ pub fn confirm_absent_entry<N: Nodes>(
     key: u64,
     pred: &Held,
 ) -> Result<(), Rollback>
-    requires gap { IsAbsent (trace_of at.old).shape (knows (trace_of at.old)) key pred.now }
-    requires op { IsOtherIn (trace_of at.old).shape Insert op }
+    requires gap { IsAbsent (trace_of at.old).start (knows (trace_of at.old)) key pred.now }
+    requires op { IsOtherIn (trace_of at.old).start Insert op }
     ensures table { IsSameTable at.old at.new }
     ensures keeps { KeepsByLoad (pass_of at.old) (pass_of at.new) }
     ensures answers { OnOk result (AnswersAbsent (trace_of at.old) (trace_of at.new) op key) }

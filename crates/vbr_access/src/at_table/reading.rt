@@ -33,7 +33,7 @@ pub fn first<N: Nodes>(
     bucket: u32,
 ) -> Result<Held, Rollback>
     requires point { point.now.epoch ≡ (knows (trace_of at.old)).epoch }
-    requires bucket { bucket < at.old.slots.now.shape.buckets }
+    requires bucket { bucket < at.old.slots.now.start.shape.buckets }
     ensures table { IsSameTable at.old at.new }
     ensures reads { ReadsIn (pass_of at.old) (pass_of at.new) 2 }
     ensures head { IfOk result (IsHeadRead (pass_of at.old) (pass_of at.new) bucket) }
@@ -105,7 +105,7 @@ pub fn key_of<N: Nodes>(at: &mut AtTable<'_, N>, node: &Held) -> Result<u64, Rol
 /// As [`crate::value_of`].
 #[inline]
 pub fn value_of<N: Nodes>(at: &mut AtTable<'_, N>, node: &Held) -> Result<u64, Rollback>
-    requires values { at.old.slots.now.shape.values ≡ true }
+    requires values { at.old.slots.now.start.shape.values ≡ true }
     requires held { IsHeld (knows (trace_of at.old)) node.now }
     requires slot { IsSlot node.now.at }
     ensures table { IsSameTable at.old at.new }

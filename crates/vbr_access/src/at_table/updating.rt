@@ -36,7 +36,7 @@ fn put_value<N: Nodes>(at: &mut AtTable<'_, N>, slot: u32, value: u64)
     requires in_hand { (pass_of at.old).hand ≡ Some slot }
     ensures table { IsSameTable at.old at.new }
     ensures stores { StoresIn (pass_of at.old) (pass_of at.new)
-        (steps_to_value (trace_of at.old).shape.values) }
+        (steps_to_value (trace_of at.old).start.shape.values) }
     ensures puts { PutsValue (pass_of at.old) (pass_of at.new) slot value }
 {
     at.law();
@@ -62,7 +62,7 @@ fn fill<N: Nodes>(
     requires birth { BirthNamed (knows (trace_of at.old)) (link_of pred.now.word).slot birth }
     ensures table { IsSameTable at.old at.new }
     ensures stores { StoresIn (pass_of at.old) (pass_of at.new)
-        (1 + steps_to_value (trace_of at.old).shape.values + 1) }
+        (1 + steps_to_value (trace_of at.old).start.shape.values + 1) }
     ensures fills { FillsEntry (pass_of at.old) (pass_of at.new) pred.now hand.now key value birth }
 {
     let slot = hand.slot();
@@ -111,7 +111,7 @@ pub fn update_entry<N: Nodes>(
     requires hand { IsHandOf (pass_of at.old) hand }
     ensures table { IsSameTable at.old at.new }
     ensures stores { StoresIn (pass_of at.old) (pass_of at.new)
-        (steps_to_update (trace_of at.old).shape) }
+        (steps_to_update (trace_of at.old).start) }
     ensures inserted { IfOk result
         (λ _. InsertsEntry (pass_of at.old) (pass_of at.new) key value) }
     ensures lost { IfErr result (GivesBack (pass_of at.old) (pass_of at.new) pred.now hand) }

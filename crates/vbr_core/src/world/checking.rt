@@ -24,20 +24,20 @@ impl Lists {
         if event.pass as usize >= self.passes.len() {
             return Err(CoreRefusal::NoSuchPass);
         }
-        if !is_in_shape(&self.shape, event.step) {
+        if !is_in_shape(&self.start, event.step) {
             return Err(CoreRefusal::OutOfRange);
         }
         let pass = &self.passes[event.pass as usize];
-        if !pass.owns(&self.shape, event.step) {
+        if !pass.owns(&self.start, event.step) {
             return Err(CoreRefusal::NotOwned);
         }
-        if !pass.holds(&self.shape, event.step) {
+        if !pass.holds(&self.start, event.step) {
             return Err(CoreRefusal::NotHeld);
         }
-        if !pass.is_in_range(&self.shape, event.step) {
+        if !pass.is_in_range(&self.start, event.step) {
             return Err(CoreRefusal::OutOfRange);
         }
-        if !is_below_last(&self.shape, event.step) {
+        if !is_below_last(&self.start, event.step) {
             return Err(CoreRefusal::EpochLast);
         }
         Ok(())
@@ -50,17 +50,17 @@ impl Lists {
         ensures link { link_of result
             ≡ link_written ((world_of self.now).know event.pass) event.step }
         ensures room { succeeds event.step (found_in self.now event.step) ≡ true →
-            WordsHaveRoom self.now.shape self.now.epoch event.step }
+            WordsHaveRoom self.now.start self.now.epoch event.step }
     {
         let pass = &self.passes[event.pass as usize];
         prove!(pass.epoch() <= MAX_EPOCH);
-        pass.link_written(&self.shape, event.step)
+        pass.link_written(&self.start, event.step)
     }
 
     // The key of the slot that a step publishes.
     pub(super) fn key_written(&self, event: Event) -> u64
         requires pass { event.pass < length self.now.passes }
-        requires in_shape { IsInShape self.now.shape event.step }
+        requires in_shape { IsInShape self.now.start event.step }
         ensures { result ≡ key_written ((world_of self.now).know event.pass) event.step }
     {
         match event.step {
@@ -75,13 +75,13 @@ impl Lists {
     // The call that a pass makes with a step, if it makes one.
     pub(super) fn call_made(&self, event: Event, found: u64) -> Option<Call>
         requires pass { event.pass < length self.now.passes }
-        requires in_shape { IsInShape self.now.shape event.step }
+        requires in_shape { IsInShape self.now.start event.step }
         requires found { found ≡ found_in self.now event.step }
-        ensures { result ≡ call_made self.now.shape (world_of self.now) event.pass event.step }
+        ensures { result ≡ call_made self.now.start (world_of self.now) event.pass event.step }
     {
         if succeeds(event.step, found) {
             let pass = &self.passes[event.pass as usize];
-            pass.call(event.pass, &self.shape, event.step)
+            pass.call(event.pass, &self.start, event.step)
         } else {
             None
         }
@@ -89,7 +89,7 @@ impl Lists {
 
     // The stamp of the slot that a step takes.
     pub(super) fn stamp_shown(&self, step: Step) -> u64
-        requires { IsInShape self.now.shape step }
+        requires { IsInShape self.now.start step }
         ensures { result ≡ machine.stamp_shown (world_of self.now) step }
     {
         match step {

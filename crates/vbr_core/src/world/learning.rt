@@ -10,7 +10,7 @@ ghost use Rattle.vbr_core.specs.Answering.{with_answer};
 
 use crate::world::lists::Lists;
 use crate::world::passes::PassState;
-use crate::world::shape::OpeningShape;
+use crate::world::start::Start;
 use std::alloc::AllocError;
 use vbr_machine::Event;
 
@@ -21,21 +21,21 @@ impl Lists {
         requires accepted { IsAcceptedIn self.old event }
         requires found { found ≡ found_in self.old event.step }
         ensures learned { OnOk result (world_of self.new
-            ≡ with_answer self.old.shape (world_of self.old) event.pass event.step) }
+            ≡ with_answer self.old.start (world_of self.old) event.pass event.step) }
         ensures refused { OnErr result (self.new ≡ self.old) }
-        ensures grows { OnErr result (NeedsMemory self.old.shape (world_of self.old) event) }
+        ensures grows { OnErr result (NeedsMemory self.old.start (world_of self.old) event) }
         ensures epoch { self.new.epoch ≡ self.old.epoch }
         ensures stays { KeepsShape self.old self.new }
     {
         let stamp = self.stamp_shown(event.step);
         match self.call_made(event, found) {
             None => {
-                learn_at(&mut self.passes, &self.shape, event, found, stamp)?;
+                learn_at(&mut self.passes, &self.start, event, found, stamp)?;
                 Ok(())
             }
             Some(call) => {
                 self.calls.reserve(1)?;
-                learn_at(&mut self.passes, &self.shape, event, found, stamp)?;
+                learn_at(&mut self.passes, &self.start, event, found, stamp)?;
                 self.calls.push_reserved(call);
                 Ok(())
             }
@@ -46,22 +46,22 @@ impl Lists {
 // The pass of an event learns from its step.
 fn learn_at(
     passes: &mut Vec<PassState>,
-    shape: &OpeningShape,
+    start: &Start,
     event: Event,
     found: u64,
     stamp: u64,
 ) -> Result<(), AllocError>
     requires pass { event.pass < length passes.old.items }
-    requires slots { HaveSlots shape.now.slots passes.old.items }
-    requires accepted { Accepts shape.now (known_by passes.old.items event.pass) event.step }
+    requires slots { HaveSlots start.now.shape.slots passes.old.items }
+    requires accepted { Accepts start.now (known_by passes.old.items event.pass) event.step }
     requires room { HasRoom event.step found }
     ensures learned { OnOk result
         (LearnsAt passes.old.items passes.new.items event.pass (learn event.step found stamp)) }
     ensures refused { OnErr result (passes.new.items ≡ passes.old.items) }
     ensures grows { OnErr result (ReadsMore (known_by passes.old.items event.pass)
         (learn event.step found stamp (known_by passes.old.items event.pass))) }
-    ensures slots { HaveSlots shape.now.slots passes.new.items }
+    ensures slots { HaveSlots start.now.shape.slots passes.new.items }
 {
     let pass = &mut passes[event.pass as usize];
-    pass.learn(shape, event.step, found, stamp)
+    pass.learn(start, event.step, found, stamp)
 }

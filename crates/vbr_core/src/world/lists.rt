@@ -7,7 +7,7 @@ ghost use Rattle.vbr_core.specs.WorldInLists.{world_of};
 ghost use Rattle.vbr_core.specs.KeptSteps.{IsMade, RefusesEvent, KeepsShape};
 
 use crate::world::passes::PassState;
-use crate::world::shape::OpeningShape;
+use crate::world::start::Start;
 use crate::world::steps::{effect_of, place_of_step, succeeds};
 use std::marker::Model;
 use vbr_machine::{Call, CoreRefusal, Effect, Event, SlotPlace};
@@ -18,7 +18,7 @@ use vbr_words::link::MARK;
 // The words and places of a set, what each of its passes knows, and the calls that were answered.
 #[derive(Drop)]
 pub struct Lists {
-    pub(super) shape: OpeningShape,
+    pub(super) start: Start,
     pub(super) epoch: u64,
     pub(super) heads: Vec<u64>,
     pub(super) links: Vec<u64>,
@@ -38,7 +38,7 @@ impl Model for Lists {
     ghost Value = { KeptWorld };
 
     ghost view = { λ w. record {
-      shape = w.shape;
+      start = w.start;
       epoch = w.epoch;
       heads = w.heads.items;
       links = w.links.items;
@@ -53,7 +53,7 @@ impl Model for Lists {
     } };
 
     ghost invariant = { λ w. IsWhole (record {
-      shape = w.shape;
+      start = w.start;
       epoch = w.epoch;
       heads = w.heads.items;
       links = w.links.items;
@@ -98,12 +98,12 @@ impl Lists {
 
     // The word at a place of the shape.
     pub(super) fn word(&self, place: Place) -> u64
-        requires { IsIn self.now.shape place }
-        ensures { result ≡ machine.word_at self.now.shape (world_of self.now) place }
+        requires { IsIn self.now.start.shape place }
+        ensures { result ≡ machine.word_at self.now.start (world_of self.now) place }
     {
         match place {
             Place::Epoch => self.epoch,
-            Place::ShapeWord => u64::from(self.shape.slots()) + MARK * self.shape.last_epoch(),
+            Place::ShapeWord => u64::from(self.start.slots()) + MARK * self.start.last_epoch(),
             Place::Head(bucket) => self.heads[bucket as usize],
             Place::LinkOf(slot) => self.links[slot as usize],
             Place::Birth(slot) => self.birth[slot as usize],
@@ -116,11 +116,11 @@ impl Lists {
 
     // The flag word with a number: the flag of each slot of it that is in the shared pool.
     fn flags(&self, number: u32) -> u64
-        requires { number < flag_words self.now.shape.slots }
+        requires { number < flag_words self.now.start.shape.slots }
         ensures { result
-            ≡ flag_word (machine.is_flagged self.now.shape (world_of self.now)) number }
+            ≡ flag_word (machine.is_flagged self.now.start (world_of self.now)) number }
     {
-        let _slots = self.shape.slots();
+        let _slots = self.start.slots();
         let first = FLAGS * number;
         let mut flags = 0;
         for i in 0..FLAGS {
@@ -133,14 +133,14 @@ impl Lists {
 
     // Whether a slot is one of the shape, and in the shared pool.
     fn is_flagged(&self, slot: u32) -> bool
-        ensures { result ≡ machine.is_flagged self.now.shape (world_of self.now) slot }
+        ensures { result ≡ machine.is_flagged self.now.start (world_of self.now) slot }
     {
-        slot < self.shape.slots() && is_shared(self.place_of_slot(slot))
+        slot < self.start.slots() && is_shared(self.place_of_slot(slot))
     }
 
     // Where a slot of the shape is.
     pub(super) fn place_of_slot(&self, slot: u32) -> SlotPlace
-        requires { slot < self.now.shape.slots }
+        requires { slot < self.now.start.shape.slots }
         ensures { result ≡ (world_of self.now).place slot }
     {
         self.places[slot as usize]

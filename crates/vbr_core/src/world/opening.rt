@@ -1,16 +1,17 @@
 // The world at opening.
-ghost use Rattle.std.specs.Prelude.{◌≡◌, ◌<◌, ◌≤◌, length, slice_index_or, IfOk, if◌then◌else◌};
+ghost use Rattle.std.specs.Prelude.{◌≡◌, ◌<◌, ◌≤◌, length, slice_index_or, IfOk};
 ghost use Rattle.std.specs.List.{AllByRecursion};
 ghost use Rattle.std.specs.List.Sorted.{IsStrictlyIncreasing};
 ghost use Rattle.vbr_words.specs.Words.{IsLink};
+ghost use Rattle.vbr_machine.specs.Start.{ArePaired, start_with};
 ghost use Rattle.vbr_machine.specs.Making.{with_key_ahead};
 ghost use Rattle.vbr_core.specs.WorldInLists.{world_of};
-ghost use Rattle.vbr_core.specs.KeptOpenings.{IsBare, IsNew, IsOpening, with_entries};
+ghost use Rattle.vbr_core.specs.KeptOpenings.{IsBare, IsNew, IsOpening};
 ghost use Rattle.vbr_core.specs.KeptWrites.{Writes};
 
 use crate::world::lists::Lists;
 use crate::world::passes::{PassState, link_to};
-use crate::world::shape::OpeningShape;
+use crate::world::start::Start;
 use std::alloc::{AllocError, Global};
 use vbr_machine::SlotPlace;
 use vbr_words::link::{MARK, MAX_SLOTS};
@@ -29,11 +30,11 @@ impl Lists {
     ) -> Result<Lists, AllocError>
         requires ascending { IsStrictlyIncreasing keys.now }
         requires few { length keys.now ≤ shape.slots }
-        requires paired { length values.now ≡ (if shape.values then length keys.now else 0) }
-        ensures { IfOk result (IsOpening (with_entries shape keys.now values.now) passes) }
+        requires paired { ArePaired shape keys.now values.now }
+        ensures { IfOk result (IsOpening (start_with shape keys.now values.now) passes) }
     {
-        let opening = OpeningShape::new(alloc, shape, keys, values)?;
-        let mut lists = Lists::empty(alloc, opening, passes)?;
+        let start = Start::new(alloc, shape, keys, values)?;
+        let mut lists = Lists::empty(alloc, start, passes)?;
         let mut number = keys.len();
         while number > 0 {
             number -= 1;
@@ -43,11 +44,11 @@ impl Lists {
     }
 
     // Every slot in the shared pool, and passes that know nothing: no key is linked yet.
-    fn empty(alloc: Global, shape: OpeningShape, passes: u32) -> Result<Lists, AllocError>
-        ensures { IfOk result (IsBare shape passes) }
+    fn empty(alloc: Global, start: Start, passes: u32) -> Result<Lists, AllocError>
+        ensures { IfOk result (IsBare start passes) }
     {
-        let buckets = shape.buckets() as usize;
-        let slots = shape.slots() as usize;
+        let buckets = start.buckets() as usize;
+        let slots = start.slots() as usize;
         let heads = vec![in alloc; 0; buckets]?;
         let links = vec![in alloc; MARK; slots]?;
         let birth = vec![in alloc; 0; slots]?;
@@ -55,9 +56,9 @@ impl Lists {
         let keys = vec![in alloc; 0; slots]?;
         let values = vec![in alloc; 0; slots]?;
         let places = vec![in alloc; SlotPlace::Shared; slots]?;
-        let passes = new_passes(alloc, shape.slots(), passes)?;
+        let passes = new_passes(alloc, start.slots(), passes)?;
         Ok(Lists {
-            shape,
+            start,
             epoch: 1,
             heads,
             links,
@@ -75,10 +76,10 @@ impl Lists {
     // Links a key that the world opens with, ahead of the others of its bucket. The version of the
     // head is the birth of what it names.
     fn link_key(&mut self, number: u32, key: u64, value: u64)
-        requires { number < self.old.shape.slots }
-        ensures { Writes self.old self.new (with_key_ahead self.old.shape number key value) }
+        requires { number < self.old.start.shape.slots }
+        ensures { Writes self.old self.new (with_key_ahead self.old.start number key value) }
     {
-        prove!(self.shape.slots() <= MAX_SLOTS);
+        prove!(self.start.slots() <= MAX_SLOTS);
         let bucket = self.bucket_of(key);
         let head = self.head(bucket);
         let link = link_to(head.slot, 1, head.version);
@@ -93,7 +94,7 @@ impl Lists {
 
     // The link at the head of a bucket.
     fn head(&self, bucket: u32) -> Link
-        requires { bucket < self.now.shape.buckets }
+        requires { bucket < self.now.start.shape.buckets }
         ensures head { result ≡ (world_of self.now).head bucket }
         ensures fits { IsLink result }
     {

@@ -13,7 +13,7 @@ ghost use Rattle.vbr_core.specs.WorldInLists.{know_of, FitsHolding};
 
 mod learning;
 
-use crate::world::shape::OpeningShape;
+use crate::world::start::Start;
 use crate::world::steps::present_reply;
 use crate::world::{holdings, reads};
 use std::alloc::{AllocError, Global};
@@ -131,9 +131,9 @@ impl PassState {
     }
 
     // Whether the pass owns the slot in the way that the step asks.
-    pub fn owns(&self, shape: &OpeningShape, step: Step) -> bool
-        requires slots { length self.now.own ≡ shape.now.slots }
-        requires in_shape { IsInShape shape.now step }
+    pub fn owns(&self, start: &Start, step: Step) -> bool
+        requires slots { length self.now.own ≡ start.now.shape.slots }
+        requires in_shape { IsInShape start.now step }
         ensures { IsTrue result ↔ IsOwned (know_of self.now) step }
     {
         match step {
@@ -160,10 +160,10 @@ impl PassState {
     }
 
     // Whether the value of a slot is checked, where nodes have values.
-    fn holds_value(&self, shape: &OpeningShape, slot: u32) -> bool
-        ensures { IsTrue result ↔ HasValue shape.now.values (value_in self.now.checked slot) }
+    fn holds_value(&self, start: &Start, slot: u32) -> bool
+        ensures { IsTrue result ↔ HasValue start.now.shape.values (value_in self.now.checked slot) }
     {
-        !shape.has_values() || reads::value_in(&self.checked, slot).is_some()
+        !start.has_values() || reads::value_in(&self.checked, slot).is_some()
     }
 
     // Whether the value of a slot is checked, for an operation that gives it.
@@ -191,16 +191,16 @@ impl PassState {
 
     // Whether the link that a place was read with and the key there are checked, and marked links
     // lead on from it to a checked key, or to none.
-    fn holds_way(&self, shape: &OpeningShape, at: At, expected: u64) -> bool
+    fn holds_way(&self, start: &Start, at: At, expected: u64) -> bool
         ensures { IsTrue result
             ↔ (IsTrue (knows_link self.now.checked at (link_of expected))
             × KnowsKeyAt self.now.checked at
-            × LeadsToKey shape.now.slots self.now.checked (link_of expected).slot) }
+            × LeadsToKey start.now.shape.slots self.now.checked (link_of expected).slot) }
     {
         let link = decode(expected);
         reads::knows_link(&self.checked, at, link)
             && reads::knows_key_at(&self.checked, at)
-            && reads::leads_to_key(&self.checked, shape.slots(), link.slot)
+            && reads::leads_to_key(&self.checked, start.slots(), link.slot)
     }
 
     // Whether the births on both sides of a link are checked.
@@ -223,8 +223,8 @@ impl PassState {
     }
 
     // Whether the reads that the step asks for are checked.
-    pub fn holds(&self, shape: &OpeningShape, step: Step) -> bool
-        ensures { IsTrue result ↔ HasChecked shape.now (know_of self.now) step }
+    pub fn holds(&self, start: &Start, step: Step) -> bool
+        ensures { IsTrue result ↔ HasChecked start.now (know_of self.now) step }
     {
         match step {
             Step::StoreLink { next, .. } => reads::is_next_held(&self.checked, next),
@@ -236,7 +236,7 @@ impl PassState {
                 self.holds_gap(pred, expected) && self.holds_births(pred, decode(expected).slot)
             }
             Step::Mark { slot, expected } => {
-                self.holds_node(slot, expected) && self.holds_value(shape, slot)
+                self.holds_node(slot, expected) && self.holds_value(start, slot)
             }
             Step::Unlink {
                 pred,
@@ -249,17 +249,17 @@ impl PassState {
             Step::ConfirmPresent { op, slot, expected } => {
                 self.holds_node(slot, expected) && self.holds_value_for(op, slot)
             }
-            Step::ConfirmAbsent { at, expected, .. } => self.holds_way(shape, at, expected),
+            Step::ConfirmAbsent { at, expected, .. } => self.holds_way(start, at, expected),
             _ => true,
         }
     }
 
     // Whether a slot is in hand and ready to stand behind a place, before what the link there
     // names.
-    fn is_ready(&self, shape: &OpeningShape, pred: At, expected: Link, slot: u32) -> bool
+    fn is_ready(&self, start: &Start, pred: At, expected: Link, slot: u32) -> bool
         requires { slot < length self.now.own }
         ensures { IsTrue result
-            ↔ MayPublish shape.now self.now.checked pred expected
+            ↔ MayPublish start.now self.now.checked pred expected
             (slice_index_or self.now.own slot None) }
     {
         match self.own[slot as usize] {
@@ -278,38 +278,38 @@ impl PassState {
                 link.slot == expected.slot
                     && !link.mark
                     && link.version == version_of(birth, named_birth)
-                    && self.is_between(shape, pred, key, expected.slot)
-                    && (!shape.has_values() || value.is_some())
+                    && self.is_between(start, pred, key, expected.slot)
+                    && (!start.has_values() || value.is_some())
             }
             _ => false,
         }
     }
 
     // Whether a key stands behind a place and before what a link names.
-    fn is_between(&self, shape: &OpeningShape, at: At, key: u64, next: Option<u32>) -> bool
+    fn is_between(&self, start: &Start, at: At, key: u64, next: Option<u32>) -> bool
         ensures { IsTrue result
-            ↔ (IsBehind shape.now self.now.checked at key × IsBefore self.now.checked key next) }
+            ↔ (IsBehind start.now self.now.checked at key × IsBefore self.now.checked key next) }
     {
-        reads::is_behind(shape, &self.checked, at, key)
+        reads::is_behind(start, &self.checked, at, key)
             && reads::is_before(&self.checked, key, next)
     }
 
     // Whether a key stands behind a place, and before a slot to which marked links lead from what a
     // link names, or before none.
-    fn is_on_way(&self, shape: &OpeningShape, at: At, key: u64, next: Option<u32>) -> bool
+    fn is_on_way(&self, start: &Start, at: At, key: u64, next: Option<u32>) -> bool
         ensures { IsTrue result
-            ↔ (IsBehind shape.now self.now.checked at key
-            × LeadsAbove shape.now.slots self.now.checked key next) }
+            ↔ (IsBehind start.now self.now.checked at key
+            × LeadsAbove start.now.shape.slots self.now.checked key next) }
     {
-        reads::is_behind(shape, &self.checked, at, key)
-            && reads::leads_above(&self.checked, shape.slots(), key, next)
+        reads::is_behind(start, &self.checked, at, key)
+            && reads::leads_above(&self.checked, start.slots(), key, next)
     }
 
     // Whether the step's numbers are in range.
-    pub fn is_in_range(&self, shape: &OpeningShape, step: Step) -> bool
-        requires slots { length self.now.own ≡ shape.now.slots }
-        requires in_shape { IsInShape shape.now step }
-        ensures { IsTrue result ↔ IsInRange shape.now (know_of self.now) step }
+    pub fn is_in_range(&self, start: &Start, step: Step) -> bool
+        requires slots { length self.now.own ≡ start.now.shape.slots }
+        requires in_shape { IsInShape start.now step }
+        ensures { IsTrue result ↔ IsInRange start.now (know_of self.now) step }
     {
         match step {
             Step::Advance { from } => from >= 1,
@@ -325,7 +325,7 @@ impl PassState {
                 slot,
             } => {
                 let link = decode(expected);
-                !link.mark && self.is_ready(shape, pred, link, slot)
+                !link.mark && self.is_ready(start, pred, link, slot)
             }
             Step::Mark { expected, .. } => !decode(expected).mark,
             Step::Unlink { expected, slot, .. } => {
@@ -342,20 +342,20 @@ impl PassState {
                 expected,
             } => {
                 let link = decode(expected);
-                !link.mark && op != Op::Insert && self.is_on_way(shape, at, key, link.slot)
+                !link.mark && op != Op::Insert && self.is_on_way(start, at, key, link.slot)
             }
             _ => true,
         }
     }
 
     // The link that the step writes.
-    fn new_link(&self, shape: &OpeningShape, step: Step) -> Link
-        requires slots { length self.now.own ≡ shape.now.slots }
-        requires accepted { Accepts shape.now (know_of self.now) step }
+    fn new_link(&self, start: &Start, step: Step) -> Link
+        requires slots { length self.now.own ≡ start.now.shape.slots }
+        requires accepted { Accepts start.now (know_of self.now) step }
         ensures link { result ≡ link_written (know_of self.now) step }
         ensures fits { IsLink result }
     {
-        prove!(shape.slots() <= MAX_SLOTS);
+        prove!(start.slots() <= MAX_SLOTS);
         match step {
             Step::StoreLink { slot, next } => {
                 let birth = holdings::birth_in_hand(self.holding(slot));
@@ -375,13 +375,13 @@ impl PassState {
     }
 
     // The word of the link that the step writes.
-    pub fn link_written(&self, shape: &OpeningShape, step: Step) -> u64
-        requires slots { length self.now.own ≡ shape.now.slots }
-        requires accepted { Accepts shape.now (know_of self.now) step }
+    pub fn link_written(&self, start: &Start, step: Step) -> u64
+        requires slots { length self.now.own ≡ start.now.shape.slots }
+        requires accepted { Accepts start.now (know_of self.now) step }
         ensures word { result ≡ word_of (link_written (know_of self.now) step) }
         ensures fits { IsLink (link_written (know_of self.now) step) }
     {
-        encode(self.new_link(shape, step))
+        encode(self.new_link(start, step))
     }
 
     // The key of a slot in hand; 0 where there is none.
@@ -393,11 +393,11 @@ impl PassState {
     }
 
     // The value of a slot in hand that a publication tells: none where nodes have no values.
-    fn value_stored(&self, shape: &OpeningShape, slot: u32) -> Option<u64>
+    fn value_stored(&self, start: &Start, slot: u32) -> Option<u64>
         requires { slot < length self.now.own }
-        ensures { result ≡ payload_kept shape.now (value_in_hand ((know_of self.now).own slot)) }
+        ensures { result ≡ payload_kept start.now (value_in_hand ((know_of self.now).own slot)) }
     {
-        if shape.has_values() {
+        if start.has_values() {
             holdings::value_in_hand(self.holding(slot))
         } else {
             None
@@ -405,10 +405,10 @@ impl PassState {
     }
 
     // The value of a node that a removal tells: none where nodes have no values.
-    fn value_removed(&self, shape: &OpeningShape, slot: u32) -> Option<u64>
-        ensures { result ≡ payload_kept shape.now (value_in self.now.checked slot) }
+    fn value_removed(&self, start: &Start, slot: u32) -> Option<u64>
+        ensures { result ≡ payload_kept start.now (value_in self.now.checked slot) }
     {
-        if shape.has_values() {
+        if start.has_values() {
             reads::value_in(&self.checked, slot)
         } else {
             None
@@ -433,18 +433,18 @@ impl PassState {
     }
 
     // The call of the step, if it makes one where it succeeds.
-    pub fn call(&self, who: u32, shape: &OpeningShape, step: Step) -> Option<Call>
-        requires slots { length self.now.own ≡ shape.now.slots }
-        requires in_shape { IsInShape shape.now step }
-        ensures { result ≡ call_of shape.now who (know_of self.now) step }
+    pub fn call(&self, who: u32, start: &Start, step: Step) -> Option<Call>
+        requires slots { length self.now.own ≡ start.now.shape.slots }
+        requires in_shape { IsInShape start.now step }
+        ensures { result ≡ call_of start.now who (know_of self.now) step }
     {
         let (op, key, reply, value) = match step {
             Step::Publish { slot, .. } => {
-                let value = self.value_stored(shape, slot);
+                let value = self.value_stored(start, slot);
                 (Op::Insert, self.key_in_hand(slot), true, value)
             }
             Step::Mark { slot, .. } => {
-                let value = self.value_removed(shape, slot);
+                let value = self.value_removed(start, slot);
                 (Op::Remove, self.key_in(slot), true, value)
             }
             Step::ConfirmPresent { op, slot, .. } => {

@@ -3,7 +3,7 @@ ghost use Rattle.std.specs.Prelude.{◌≡◌, ◌↔◌, IsTrue};
 ghost use Rattle.vbr_machine.specs.Knowledge.{knows_link, birth_in, key_in, value_in, marked_in, holds, holds_at, birth_at, birth_of};
 ghost use Rattle.vbr_machine.specs.Acceptance.{IsNextHeld, KnowsKeyAt, KnowsKeyOf, past_marked, LeadsToKey, IsBehind, IsBefore, LeadsAbove, next_of_marked};
 
-use crate::world::shape::OpeningShape;
+use crate::world::start::Start;
 use vbr_machine::Read;
 use vbr_words::{At, Link};
 
@@ -163,14 +163,14 @@ pub fn next_of_marked(reads: &[Read], slot: u32) -> Option<u32>
 
 // Whether the key stands behind a place: in its bucket, and above its key if it is a slot.
 #[tactic(auto, unfolding(vbr_words::specs::Buckets::bucket_of))]
-pub fn is_behind(shape: &OpeningShape, reads: &[Read], at: At, key: u64) -> bool
-    ensures { IsTrue result ↔ IsBehind shape.now reads.now at key }
+pub fn is_behind(start: &Start, reads: &[Read], at: At, key: u64) -> bool
+    ensures { IsTrue result ↔ IsBehind start.now reads.now at key }
 {
     match at {
-        At::Head(bucket) => shape.bucket_of(key) == bucket,
+        At::Head(bucket) => start.bucket_of(key) == bucket,
         At::Slot(slot) => {
             let before = key_in(reads, slot).unwrap_or(0);
-            shape.bucket_of(key) == shape.bucket_of(before) && before < key
+            start.bucket_of(key) == start.bucket_of(before) && before < key
         }
     }
 }

@@ -6,74 +6,74 @@ ghost use Rattle.vbr_machine.specs.Learning.{present_reply, effect_of, succeeds}
 ghost use Rattle.vbr_machine.specs.Machine.{place_of_step};
 ghost use Rattle.vbr_machine.specs.Making.{exchanged, taken, confirmed};
 
-use crate::world::shape::OpeningShape;
+use crate::world::start::Start;
 use vbr_machine::{Effect, Op, Step};
 use vbr_words::flags::{has_flag, word_of_flag};
 use vbr_words::{At, Place};
 
 // Whether a place of a link word is one of the shape.
-fn is_at_in(shape: &OpeningShape, at: At) -> bool
-    ensures { IsTrue result ↔ IsAtIn shape.now at }
+fn is_at_in(start: &Start, at: At) -> bool
+    ensures { IsTrue result ↔ IsAtIn start.now at }
 {
     match at {
-        At::Head(bucket) => bucket < shape.buckets(),
-        At::Slot(slot) => slot < shape.slots(),
+        At::Head(bucket) => bucket < start.buckets(),
+        At::Slot(slot) => slot < start.slots(),
     }
 }
 
 // Whether what a link names, if anything, is a slot of the shape.
-fn is_next_in(shape: &OpeningShape, next: Option<u32>) -> bool
-    ensures { IsTrue result ↔ IsNextIn shape.now next }
+fn is_next_in(start: &Start, next: Option<u32>) -> bool
+    ensures { IsTrue result ↔ IsNextIn start.now next }
 {
     match next {
         None => true,
-        Some(slot) => slot < shape.slots(),
+        Some(slot) => slot < start.slots(),
     }
 }
 
 // Whether an operation is one of the shape.
-fn is_op_in(shape: &OpeningShape, op: Op) -> bool
-    ensures { IsTrue result ↔ IsOpIn shape.now op }
+fn is_op_in(start: &Start, op: Op) -> bool
+    ensures { IsTrue result ↔ IsOpIn start.now op }
 {
     match op {
-        Op::Get => shape.has_values(),
+        Op::Get => start.has_values(),
         Op::Insert | Op::Remove | Op::Has => true,
     }
 }
 
 // Whether the slots and places that the step's fields name are those of the shape, and nodes have
 // values where the step asks for one.
-pub fn is_in_shape(shape: &OpeningShape, step: Step) -> bool
-    ensures { IsTrue result ↔ IsInShape shape.now step }
+pub fn is_in_shape(start: &Start, step: Step) -> bool
+    ensures { IsTrue result ↔ IsInShape start.now step }
 {
     match step {
         Step::ReadEpoch | Step::Advance { .. } => true,
-        Step::LoadStamp { slot } => slot < shape.slots(),
-        Step::StoreStamp { slot, .. } => slot < shape.slots(),
-        Step::Raise { slot } => slot < shape.slots(),
-        Step::TakeFlag { slot } => slot < shape.slots(),
-        Step::StoreBirth { slot, .. } => slot < shape.slots(),
-        Step::StoreKey { slot, .. } => slot < shape.slots(),
-        Step::StoreValue { slot, .. } => slot < shape.slots() && shape.has_values(),
-        Step::StoreLink { slot, next } => slot < shape.slots() && is_next_in(shape, next),
-        Step::LoadLink { at } => is_at_in(shape, at),
-        Step::LoadBirth { slot } => slot < shape.slots(),
-        Step::LoadKey { slot } => slot < shape.slots(),
-        Step::LoadValue { slot } => slot < shape.slots() && shape.has_values(),
-        Step::Publish { pred, slot, .. } => is_at_in(shape, pred) && slot < shape.slots(),
-        Step::Mark { slot, .. } => slot < shape.slots(),
-        Step::Unlink { pred, slot, .. } => is_at_in(shape, pred) && slot < shape.slots(),
-        Step::ConfirmPresent { op, slot, .. } => slot < shape.slots() && is_op_in(shape, op),
-        Step::ConfirmAbsent { op, at, .. } => is_at_in(shape, at) && is_op_in(shape, op),
+        Step::LoadStamp { slot } => slot < start.slots(),
+        Step::StoreStamp { slot, .. } => slot < start.slots(),
+        Step::Raise { slot } => slot < start.slots(),
+        Step::TakeFlag { slot } => slot < start.slots(),
+        Step::StoreBirth { slot, .. } => slot < start.slots(),
+        Step::StoreKey { slot, .. } => slot < start.slots(),
+        Step::StoreValue { slot, .. } => slot < start.slots() && start.has_values(),
+        Step::StoreLink { slot, next } => slot < start.slots() && is_next_in(start, next),
+        Step::LoadLink { at } => is_at_in(start, at),
+        Step::LoadBirth { slot } => slot < start.slots(),
+        Step::LoadKey { slot } => slot < start.slots(),
+        Step::LoadValue { slot } => slot < start.slots() && start.has_values(),
+        Step::Publish { pred, slot, .. } => is_at_in(start, pred) && slot < start.slots(),
+        Step::Mark { slot, .. } => slot < start.slots(),
+        Step::Unlink { pred, slot, .. } => is_at_in(start, pred) && slot < start.slots(),
+        Step::ConfirmPresent { op, slot, .. } => slot < start.slots() && is_op_in(start, op),
+        Step::ConfirmAbsent { op, at, .. } => is_at_in(start, at) && is_op_in(start, op),
     }
 }
 
 // Whether the epoch that the step would advance is below the last.
-pub fn is_below_last(shape: &OpeningShape, step: Step) -> bool
-    ensures { IsTrue result ↔ IsBelowLast shape.now step }
+pub fn is_below_last(start: &Start, step: Step) -> bool
+    ensures { IsTrue result ↔ IsBelowLast start.now step }
 {
     match step {
-        Step::Advance { from } => from < shape.last_epoch(),
+        Step::Advance { from } => from < start.last_epoch(),
         _ => true,
     }
 }

@@ -16,7 +16,7 @@ use vbr_words::At;
 impl Lists {
     // Advances the epoch by one.
     fn advance(&mut self)
-        requires { self.old.epoch < self.old.shape.last_epoch }
+        requires { self.old.epoch < self.old.start.shape.last_epoch }
         ensures { Writes self.old self.new with_next_epoch }
     {
         self.epoch += 1;
@@ -24,7 +24,7 @@ impl Lists {
 
     // Writes the word of a link.
     pub(super) fn put_link(&mut self, at: At, link: u64)
-        requires { IsAtIn self.old.shape at }
+        requires { IsAtIn self.old.start at }
         ensures { Writes self.old self.new (with_link_of at (link_of link)) }
     {
         match at {
@@ -35,7 +35,7 @@ impl Lists {
 
     // Stamps a slot.
     fn store_stamp(&mut self, slot: u32, stamp: u64)
-        requires { slot < self.old.shape.slots }
+        requires { slot < self.old.start.shape.slots }
         ensures { Writes self.old self.new (with_stamp_of slot stamp) }
     {
         self.stamps[slot as usize] = stamp;
@@ -43,7 +43,7 @@ impl Lists {
 
     // Stores the key of a slot.
     pub(super) fn store_key(&mut self, slot: u32, key: u64)
-        requires { slot < self.old.shape.slots }
+        requires { slot < self.old.start.shape.slots }
         ensures { Writes self.old self.new (with_key_of slot key) }
     {
         self.keys[slot as usize] = key;
@@ -51,7 +51,7 @@ impl Lists {
 
     // Stores the value of a slot.
     pub(super) fn store_value(&mut self, slot: u32, value: u64)
-        requires { slot < self.old.shape.slots }
+        requires { slot < self.old.start.shape.slots }
         ensures { Writes self.old self.new (with_value_of slot value) }
     {
         self.values[slot as usize] = value;
@@ -59,7 +59,7 @@ impl Lists {
 
     // Puts a slot where it now is.
     pub(super) fn put_slot(&mut self, slot: u32, place: SlotPlace)
-        requires { slot < self.old.shape.slots }
+        requires { slot < self.old.start.shape.slots }
         ensures { Writes self.old self.new (with_place_of slot place) }
     {
         self.places[slot as usize] = place;
@@ -67,7 +67,7 @@ impl Lists {
 
     // Puts a slot into the shared pool.
     fn raise(&mut self, slot: u32)
-        requires { slot < self.old.shape.slots }
+        requires { slot < self.old.start.shape.slots }
         ensures { Writes self.old self.new (with_place_of slot SlotPlace.Shared) }
     {
         self.put_slot(slot, SlotPlace::Shared);
@@ -75,7 +75,7 @@ impl Lists {
 
     // Takes a slot out of the shared pool.
     fn take_flag(&mut self, pass: u32, slot: u32)
-        requires { slot < self.old.shape.slots }
+        requires { slot < self.old.start.shape.slots }
         ensures { Writes self.old self.new (with_place_of slot (SlotPlace.Own pass)) }
     {
         self.put_slot(slot, SlotPlace::Own(pass));
@@ -83,7 +83,7 @@ impl Lists {
 
     // Stores the birth of a slot, and counts it.
     pub(super) fn store_birth(&mut self, slot: u32, birth: u64)
-        requires slot { slot < self.old.shape.slots }
+        requires slot { slot < self.old.start.shape.slots }
         requires birth { birth ≤ MAX_EPOCH }
         ensures { Writes self.old self.new (with_birth_of slot birth) }
     {
@@ -93,7 +93,7 @@ impl Lists {
 
     // Gives birth to an incarnation in a slot, which is then in hand.
     fn bear(&mut self, pass: u32, slot: u32, birth: u64)
-        requires slot { slot < self.old.shape.slots }
+        requires slot { slot < self.old.start.shape.slots }
         requires birth { birth ≤ MAX_EPOCH }
         ensures { Writes self.old self.new
             (λ w. with_place_of slot (SlotPlace.Hand pass) (with_birth_of slot birth w)) }
@@ -104,7 +104,7 @@ impl Lists {
 
     // Stores the link of a slot in hand.
     fn store_link(&mut self, slot: u32, link: u64)
-        requires { slot < self.old.shape.slots }
+        requires { slot < self.old.start.shape.slots }
         ensures { Writes self.old self.new (with_link_of (At.Slot slot) (link_of link)) }
     {
         self.put_link(At::Slot(slot), link);
@@ -112,7 +112,7 @@ impl Lists {
 
     // Marks a node.
     fn mark(&mut self, slot: u32, link: u64)
-        requires { slot < self.old.shape.slots }
+        requires { slot < self.old.start.shape.slots }
         ensures { Writes self.old self.new (with_link_of (At.Slot slot) (link_of link)) }
     {
         self.put_link(At::Slot(slot), link);
@@ -120,18 +120,18 @@ impl Lists {
 
     // The bucket of a key.
     pub(super) fn bucket_of(&self, key: u64) -> u32
-        ensures bucket { result ≡ bucket_of self.now.shape key }
-        ensures in_shape { result < self.now.shape.buckets }
+        ensures bucket { result ≡ bucket_of self.now.start.shape key }
+        ensures in_shape { result < self.now.start.shape.buckets }
     {
-        self.shape.bucket_of(key)
+        self.start.bucket_of(key)
     }
 
     // Links a slot into the list of its key's bucket.
     fn publish(&mut self, pred: At, link: u64, slot: u32, key: u64)
-        requires pred { IsAtIn self.old.shape pred }
-        requires slot { slot < self.old.shape.slots }
+        requires pred { IsAtIn self.old.start pred }
+        requires slot { slot < self.old.start.shape.slots }
         ensures { Writes self.old self.new (with_link_and_place pred (link_of link) slot
-            (SlotPlace.Listed (bucket_of self.old.shape key))) }
+            (SlotPlace.Listed (bucket_of self.old.start.shape key))) }
     {
         let bucket = self.bucket_of(key);
         self.put_link(pred, link);
@@ -140,8 +140,8 @@ impl Lists {
 
     // Links past a slot, which is then the pass's own.
     fn unlink(&mut self, pass: u32, pred: At, link: u64, slot: u32)
-        requires pred { IsAtIn self.old.shape pred }
-        requires slot { slot < self.old.shape.slots }
+        requires pred { IsAtIn self.old.start pred }
+        requires slot { slot < self.old.start.shape.slots }
         ensures { Writes self.old self.new
             (with_link_and_place pred (link_of link) slot (SlotPlace.Own pass)) }
     {
@@ -151,10 +151,10 @@ impl Lists {
 
     // Writes what the step writes, from the word of the link and the key that the pass had for it.
     pub(super) fn write(&mut self, event: Event, link: u64, key: u64)
-        requires in_shape { IsInShape self.old.shape event.step }
-        requires room { WordsHaveRoom self.old.shape self.old.epoch event.step }
+        requires in_shape { IsInShape self.old.start event.step }
+        requires room { WordsHaveRoom self.old.start self.old.epoch event.step }
         ensures { Writes self.old self.new
-            (written self.old.shape event.pass event.step (link_of link) key) }
+            (written self.old.start event.pass event.step (link_of link) key) }
     {
         match event.step {
             Step::Advance { .. } => self.advance(),

@@ -1,8 +1,7 @@
 //! Opening a map.
-ghost use Rattle.std.specs.Prelude.{◌≡◌, ◌<◌, ◌≤◌, ◌↔◌, ◌⊎◌, true, length, IfOk, IsErrOf};
+ghost use Rattle.std.specs.Prelude.{◌≡◌, ◌<◌, ◌≤◌, ◌↔◌, ◌⊎◌, [], length, IfOk, IsErrOf};
 ghost use Rattle.std.specs.List.Sorted.{IsStrictlyIncreasing};
-ghost use Rattle.vbr_machine.specs.Maps.{keys_listed, values_listed};
-ghost use Rattle.vbr_slots.specs.Openings.{shape_with};
+ghost use Rattle.vbr_machine.specs.Maps.{keys_listed, map_start};
 ghost use Rattle.vbr_slots.specs.Views.{new_passes};
 
 use crate::set::VbrSet;
@@ -31,7 +30,7 @@ impl VbrSet<Entries> {
         passes: u32,
     ) -> Result<(VbrSet<Entries>, Vec<Pass>), OpenError>
         ensures table { IfOk result (λ r.
-            (r.0.shape ≡ record shape { values = true }) × (r.0.passes ≡ passes)) }
+            (r.0.start ≡ map_start shape []) × (r.0.passes ≡ passes)) }
         ensures passes { IfOk result (λ r. r.1.items ≡ new_passes r.0 0 passes) }
         ensures refused { IsErrOf result OpenError.Passes ↔ ((passes ≡ 0) ⊎ (64 < passes)) }
     {
@@ -69,9 +68,8 @@ impl VbrSet<Entries> {
     ) -> Result<(VbrSet<Entries>, Vec<Pass>), OpenError>
         requires ascending { IsStrictlyIncreasing (keys_listed entries.now) }
         requires few { length entries.now ≤ shape.slots }
-        ensures table { IfOk result (λ r. let of_map = record shape { values = true } in
-            (r.0.shape ≡ shape_with of_map (keys_listed entries.now) (values_listed entries.now))
-            × (r.0.passes ≡ passes)) }
+        ensures table { IfOk result (λ r.
+            (r.0.start ≡ map_start shape entries.now) × (r.0.passes ≡ passes)) }
         ensures passes { IfOk result (λ r. r.1.items ≡ new_passes r.0 0 passes) }
         ensures refused { IsErrOf result OpenError.Passes ↔ ((passes ≡ 0) ⊎ (64 < passes)) }
     {

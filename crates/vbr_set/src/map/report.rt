@@ -28,7 +28,7 @@ impl MapReport {
     // The report of what the words of a map tell.
     pub(crate) fn of(told: Contents<(u64, u64)>) -> MapReport
         ensures { (map : TableView) (passes : List PassView) → AllOf map passes →
-            map.shape.values ≡ true → TellsEnd entry_in_slot map passes told →
+            map.start.shape.values ≡ true → TellsEnd entry_in_slot map passes told →
             MapCloses map passes result }
     {
         a_run_is_a_map();

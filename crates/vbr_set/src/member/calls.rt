@@ -1,5 +1,5 @@
 //! The calls of a member.
-ghost use Rattle.std.specs.Prelude.{◌≡◌, []};
+ghost use Rattle.std.specs.Prelude.{◌≡◌};
 ghost use Rattle.vbr_machine.specs.declared.history.Op.TheVariants.{Insert, Remove, Has};
 ghost use Rattle.vbr_set.specs.MemberView.{IsMember};
 ghost use Rattle.vbr_set.specs.Sharing.{CanComeBack, set_shared};
@@ -82,10 +82,10 @@ impl<N: Nodes> Member<N> {
         self.share.set().has(&mut self.pass, key, budget)
     }
 
-    /// The shape of its set, without the keys that the set opened with.
+    /// The shape of its set.
     #[inline]
     pub fn shape(&self) -> Shape
-        ensures { result ≡ record self.now.set.shape { keys = []; payloads = [] } }
+        ensures { result ≡ self.now.set.start.shape }
     {
         self.share.set().shape()
     }

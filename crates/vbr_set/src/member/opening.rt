@@ -1,6 +1,7 @@
 //! Opening a set for members.
-ghost use Rattle.std.specs.Prelude.{◌≡◌, ◌<◌, ◌≤◌, ◌↔◌, ◌⊎◌, All, false, length, map, IfOk, IsErrOf};
+ghost use Rattle.std.specs.Prelude.{◌≡◌, ◌<◌, ◌≤◌, ◌↔◌, ◌⊎◌, All, [], length, map, IfOk, IsErrOf};
 ghost use Rattle.std.specs.List.Sorted.{IsStrictlyIncreasing};
+ghost use Rattle.vbr_machine.specs.Start.{set_start};
 ghost use Rattle.vbr_slots.specs.Views.{new_passes};
 ghost use Rattle.vbr_set.specs.MemberView.{IsMember};
 ghost use Rattle.vbr_set.specs.Members.{AreNew, as_member};
@@ -40,7 +41,7 @@ impl Member {
     /// ```
     pub fn open(alloc: Global, shape: Shape, passes: u32) -> Result<Vec<Member>, OpenError>
         ensures members { IfOk result
-            (λ members. AreNew (record shape { values = false }) passes members.items) }
+            (λ members. AreNew (set_start shape []) passes members.items) }
         ensures refused { IsErrOf result OpenError.Passes ↔ ((passes ≡ 0) ⊎ (64 < passes)) }
     {
         let _slots = shape.slots();
@@ -74,7 +75,7 @@ impl Member {
         requires ascending { IsStrictlyIncreasing keys.now }
         requires few { length keys.now ≤ shape.slots }
         ensures members { IfOk result (λ members.
-            AreNew (record shape { values = false; keys = keys.now }) passes members.items) }
+            AreNew (set_start shape keys.now) passes members.items) }
         ensures refused { IsErrOf result OpenError.Passes ↔ ((passes ≡ 0) ⊎ (64 < passes)) }
     {
         let (set, opened) = VbrSet::<Keys>::open_with(alloc, shape, passes, keys)?;

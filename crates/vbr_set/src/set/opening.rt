@@ -1,6 +1,7 @@
 //! Opening a set.
-ghost use Rattle.std.specs.Prelude.{◌≡◌, ◌<◌, ◌≤◌, ◌↔◌, ◌⊎◌, false, length, IfOk, IsErrOf};
+ghost use Rattle.std.specs.Prelude.{◌≡◌, ◌<◌, ◌≤◌, ◌↔◌, ◌⊎◌, [], length, IfOk, IsErrOf};
 ghost use Rattle.std.specs.List.Sorted.{IsStrictlyIncreasing};
+ghost use Rattle.vbr_machine.specs.Start.{set_start};
 ghost use Rattle.vbr_slots.specs.Views.{new_passes};
 
 use crate::VbrSet;
@@ -30,7 +31,7 @@ impl VbrSet {
     /// ```
     pub fn open(alloc: Global, shape: Shape, passes: u32) -> Result<(VbrSet, Vec<Pass>), OpenError>
         ensures table { IfOk result (λ r.
-            (r.0.shape ≡ record shape { values = false }) × (r.0.passes ≡ passes)) }
+            (r.0.start ≡ set_start shape []) × (r.0.passes ≡ passes)) }
         ensures passes { IfOk result (λ r. r.1.items ≡ new_passes r.0 0 passes) }
         ensures refused { IsErrOf result OpenError.Passes ↔ ((passes ≡ 0) ⊎ (64 < passes)) }
     {
@@ -67,8 +68,7 @@ impl VbrSet {
         requires ascending { IsStrictlyIncreasing keys.now }
         requires few { length keys.now ≤ shape.slots }
         ensures table { IfOk result (λ r.
-            (r.0.shape ≡ record shape { values = false; keys = keys.now })
-            × (r.0.passes ≡ passes)) }
+            (r.0.start ≡ set_start shape keys.now) × (r.0.passes ≡ passes)) }
         ensures passes { IfOk result (λ r. r.1.items ≡ new_passes r.0 0 passes) }
         ensures refused { IsErrOf result OpenError.Passes ↔ ((passes ≡ 0) ⊎ (64 < passes)) }
     {

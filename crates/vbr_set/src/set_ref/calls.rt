@@ -1,5 +1,5 @@
 //! The calls of a pass with a reference to its set.
-ghost use Rattle.std.specs.Prelude.{◌≡◌, [], None};
+ghost use Rattle.std.specs.Prelude.{◌≡◌, None};
 ghost use Rattle.vbr_machine.specs.declared.history.Op.TheVariants.{Insert, Remove, Has};
 ghost use Rattle.vbr_slots.specs.Views.{IsOf};
 ghost use Rattle.vbr_set.specs.Meetings.{HasMet};
@@ -149,10 +149,10 @@ impl<'s, N: Nodes> VbrSetRef<'s, N> {
         self.set.catch_up(&mut self.pass, token);
     }
 
-    /// The shape of its set, without the keys that the set opened with.
+    /// The shape of its set.
     #[inline]
     pub fn shape(&self) -> Shape
-        ensures { result ≡ record self.now.set.shape { keys = []; payloads = [] } }
+        ensures { result ≡ self.now.set.start.shape }
     {
         self.set.shape()
     }

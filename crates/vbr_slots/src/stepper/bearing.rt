@@ -18,7 +18,7 @@ impl Stepper {
     #[inline]
     pub fn store_birth<N: Nodes>(&mut self, slots: &Slots<N>, slot: u32)
         requires own { IsOf self.old.trace slots.now }
-        requires slot { slot < slots.now.shape.slots }
+        requires slot { slot < slots.now.start.shape.slots }
         requires may_bear { MayBear (holding_of self.old slot) }
         requires above_stamp { stamp_in (holding_of self.old slot) < epoch_of self.old }
         requires hand { HasRoomFor self.old.hand slot }
@@ -47,7 +47,7 @@ impl Stepper {
     #[inline]
     pub fn store_value<N: Nodes>(&mut self, slots: &Slots<N>, slot: u32, value: u64)
         requires own { IsOf self.old.trace slots.now }
-        requires values { slots.now.shape.values ≡ true }
+        requires values { slots.now.start.shape.values ≡ true }
         requires in_hand { self.old.hand ≡ Some slot }
         ensures step { Did (StoreValue slot value) self.old.trace self.new.trace value }
         ensures pool { KeepsPool self.old self.new }
@@ -61,7 +61,7 @@ impl Stepper {
     pub fn store_link<N: Nodes>(&mut self, slots: &Slots<N>, slot: u32, word: u64)
         requires own { IsOf self.old.trace slots.now }
         requires in_hand { self.old.hand ≡ Some slot }
-        requires next_in { IsNextIn slots.now.shape (link_of word).slot }
+        requires next_in { IsNextIn slots.now.start (link_of word).slot }
         requires next_held { IsNextHeld (knows self.old.trace).checked (link_of word).slot }
         requires word { IsWritten self.old.trace (StoreLink slot (link_of word).slot) word }
         ensures step { Did (StoreLink slot (link_of word).slot) self.old.trace self.new.trace word }

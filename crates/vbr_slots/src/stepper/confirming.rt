@@ -24,8 +24,8 @@ impl Stepper {
         expected: u64,
     ) -> Result<(), u64>
         requires own { IsOf self.old.trace slots.now }
-        requires slot { slot < slots.now.shape.slots }
-        requires asked { IsOpIn slots.now.shape op }
+        requires slot { slot < slots.now.start.shape.slots }
+        requires asked { IsOpIn slots.now.start op }
         requires checked { IsChecked slots.now self.old.trace (ConfirmPresent op slot expected) }
         ensures found { OnOk result
             (Finds (ConfirmPresent op slot expected) self.old self.new expected) }
@@ -50,8 +50,8 @@ impl Stepper {
         expected: u64,
     ) -> Result<(), u64>
         requires own { IsOf self.old.trace slots.now }
-        requires at { IsAtIn slots.now.shape at }
-        requires asked { IsOpIn slots.now.shape op }
+        requires at { IsAtIn slots.now.start at }
+        requires asked { IsOpIn slots.now.start op }
         requires checked { IsChecked slots.now self.old.trace (ConfirmAbsent op key at expected) }
         ensures found { OnOk result
             (Finds (ConfirmAbsent op key at expected) self.old self.new expected) }
@@ -81,7 +81,7 @@ impl Stepper {
         expected: u64,
     ) -> Result<(), u64>
         requires own { IsOf self.old.trace slots.now }
-        requires accepted { Accepts slots.now.shape (knows self.old.trace)
+        requires accepted { Accepts slots.now.start (knows self.old.trace)
             (look_up present key at expected) }
         ensures found { OnOk result
             (Finds (look_up present key at expected) self.old self.new expected) }

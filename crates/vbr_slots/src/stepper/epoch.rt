@@ -25,7 +25,7 @@ impl Stepper {
     pub fn advance<N: Nodes>(&mut self, slots: &Slots<N>, from: u64) -> bool
         requires own { IsOf self.old.trace slots.now }
         requires some { 1 ≤ from }
-        requires below_last { from < slots.now.shape.last_epoch }
+        requires below_last { from < slots.now.start.shape.last_epoch }
         ensures { MatchBool result
             (Finds (Advance from) self.old self.new from)
             ((found : ℕ) × FindsOther (Advance from) self.old self.new from found) }

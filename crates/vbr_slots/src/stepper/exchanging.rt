@@ -26,7 +26,7 @@ impl Stepper {
     ) -> Result<(), u64>
         requires own { IsOf self.old.trace slots.now }
         requires in_hand { self.old.hand ≡ Some slot }
-        requires pred { IsAtIn slots.now.shape pred }
+        requires pred { IsAtIn slots.now.start pred }
         requires checked { IsChecked slots.now self.old.trace (Publish pred expected slot) }
         requires new { IsWritten self.old.trace (Publish pred expected slot) new }
         ensures found { OnOk result (Publishes pred expected slot self.old self.new) }
@@ -51,7 +51,7 @@ impl Stepper {
     #[inline]
     pub fn mark<N: Nodes>(&mut self, slots: &Slots<N>, slot: u32, expected: u64) -> Result<(), u64>
         requires own { IsOf self.old.trace slots.now }
-        requires slot { slot < slots.now.shape.slots }
+        requires slot { slot < slots.now.start.shape.slots }
         requires checked { IsChecked slots.now self.old.trace (Mark slot expected) }
         ensures found { OnOk result (Finds (Mark slot expected) self.old self.new expected) }
         ensures other { IfErr result (FindsOther (Mark slot expected) self.old self.new expected) }
@@ -75,8 +75,8 @@ impl Stepper {
         new: u64,
     ) -> Result<(), u64>
         requires own { IsOf self.old.trace slots.now }
-        requires pred { IsAtIn slots.now.shape pred }
-        requires slot { slot < slots.now.shape.slots }
+        requires pred { IsAtIn slots.now.start pred }
+        requires slot { slot < slots.now.start.shape.slots }
         requires checked { IsChecked slots.now self.old.trace (Unlink pred expected slot) }
         requires new { IsWritten self.old.trace (Unlink pred expected slot) new }
         ensures found { OnOk result (Finds (Unlink pred expected slot) self.old self.new expected) }

@@ -17,7 +17,7 @@ impl Stepper {
     #[inline]
     pub fn load_link<N: Nodes>(&mut self, slots: &Slots<N>, at: At) -> u64
         requires own { IsOf self.old.trace slots.now }
-        requires at { IsAtIn slots.now.shape at }
+        requires at { IsAtIn slots.now.start at }
         requires held { IsTrue (holds_at (knows self.old.trace).checked at) }
         ensures step { Did (LoadLink at) self.old.trace self.new.trace result }
         ensures pool { KeepsPool self.old self.new }
@@ -29,7 +29,7 @@ impl Stepper {
     #[inline]
     pub fn load_birth<N: Nodes>(&mut self, slots: &Slots<N>, slot: u32) -> u64
         requires own { IsOf self.old.trace slots.now }
-        requires slot { slot < slots.now.shape.slots }
+        requires slot { slot < slots.now.start.shape.slots }
         requires held { IsTrue (holds (knows self.old.trace).checked slot) }
         ensures step { Did (LoadBirth slot) self.old.trace self.new.trace result }
         ensures pool { KeepsPool self.old self.new }
@@ -45,7 +45,7 @@ impl Stepper {
     #[inline]
     pub fn load_key<N: Nodes>(&mut self, slots: &Slots<N>, slot: u32) -> u64
         requires own { IsOf self.old.trace slots.now }
-        requires slot { slot < slots.now.shape.slots }
+        requires slot { slot < slots.now.start.shape.slots }
         requires held { IsTrue (holds (knows self.old.trace).checked slot) }
         ensures step { Did (LoadKey slot) self.old.trace self.new.trace result }
         ensures pool { KeepsPool self.old self.new }
@@ -57,8 +57,8 @@ impl Stepper {
     #[inline]
     pub fn load_value<N: Nodes>(&mut self, slots: &Slots<N>, slot: u32) -> u64
         requires own { IsOf self.old.trace slots.now }
-        requires values { slots.now.shape.values ≡ true }
-        requires slot { slot < slots.now.shape.slots }
+        requires values { slots.now.start.shape.values ≡ true }
+        requires slot { slot < slots.now.start.shape.slots }
         requires held { IsTrue (holds (knows self.old.trace).checked slot) }
         ensures step { Did (LoadValue slot) self.old.trace self.new.trace result }
         ensures pool { KeepsPool self.old self.new }

@@ -17,7 +17,7 @@ impl Stepper {
     #[inline]
     pub fn load_stamp<N: Nodes>(&mut self, slots: &Slots<N>, slot: u32) -> u64
         requires own { IsOf self.old.trace slots.now }
-        requires slot { slot < slots.now.shape.slots }
+        requires slot { slot < slots.now.start.shape.slots }
         requires owned { IsSome (holding_of self.old slot) }
         ensures step { Did (LoadStamp slot) self.old.trace self.new.trace result }
         ensures known { IsKnownStamp (holding_of self.old slot) result }
@@ -34,7 +34,7 @@ impl Stepper {
     #[inline]
     pub fn store_stamp<N: Nodes>(&mut self, slots: &Slots<N>, slot: u32)
         requires own { IsOf self.old.trace slots.now }
-        requires slot { slot < slots.now.shape.slots }
+        requires slot { slot < slots.now.start.shape.slots }
         requires reread { IsReread (holding_of self.old slot) }
         ensures step { let epoch = epoch_of self.old in
             Did (StoreStamp slot epoch) self.old.trace self.new.trace epoch }
@@ -49,7 +49,7 @@ impl Stepper {
     #[inline]
     pub fn raise<N: Nodes>(&mut self, slots: &Slots<N>, slot: u32)
         requires own { IsOf self.old.trace slots.now }
-        requires slot { slot < slots.now.shape.slots }
+        requires slot { slot < slots.now.start.shape.slots }
         requires free { IsFree (holding_of self.old slot) }
         ensures step { (found : ℕ) × Did (Raise slot) self.old.trace self.new.trace found }
         ensures pool { self.new.pool ≡ without slot self.old.pool }
@@ -64,7 +64,7 @@ impl Stepper {
     #[inline]
     pub fn raise_outside<N: Nodes>(&mut self, slots: &Slots<N>, slot: u32)
         requires own { IsOf self.old.trace slots.now }
-        requires slot { slot < slots.now.shape.slots }
+        requires slot { slot < slots.now.start.shape.slots }
         requires free { IsFree (holding_of self.old slot) }
         requires outside { ¬ (Contains self.old.pool slot) }
         ensures step { (found : ℕ) × Did (Raise slot) self.old.trace self.new.trace found }
@@ -78,7 +78,7 @@ impl Stepper {
     #[inline]
     pub fn take_flag<N: Nodes>(&mut self, slots: &Slots<N>, slot: u32) -> Result<(), u64>
         requires own { IsOf self.old.trace slots.now }
-        requires slot { slot < slots.now.shape.slots }
+        requires slot { slot < slots.now.start.shape.slots }
         ensures taken { OnOk result (TakesFlag slot self.old self.new) }
         ensures missed { IfErr result (MissesFlag slot self.old self.new) }
     {

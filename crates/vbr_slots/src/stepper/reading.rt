@@ -18,7 +18,7 @@ impl Stepper {
     #[inline]
     pub fn read_link<N: Nodes>(&mut self, slots: &Slots<N>, at: At) -> (u64, u64)
         requires own { IsOf self.old.trace slots.now }
-        requires at { IsAtIn slots.now.shape at }
+        requires at { IsAtIn slots.now.start at }
         requires held { IsTrue (holds_at (knows self.old.trace).checked at) }
         ensures reads { Reads (LoadLink at) self.old self.new result.0 result.1 }
         ensures pool { KeepsPool self.old self.new }
@@ -30,7 +30,7 @@ impl Stepper {
     #[inline]
     pub fn read_key<N: Nodes>(&mut self, slots: &Slots<N>, slot: u32) -> (u64, u64)
         requires own { IsOf self.old.trace slots.now }
-        requires slot { slot < slots.now.shape.slots }
+        requires slot { slot < slots.now.start.shape.slots }
         requires held { IsTrue (holds (knows self.old.trace).checked slot) }
         ensures reads { Reads (LoadKey slot) self.old self.new result.0 result.1 }
         ensures pool { KeepsPool self.old self.new }
@@ -42,8 +42,8 @@ impl Stepper {
     #[inline]
     pub fn read_value<N: Nodes>(&mut self, slots: &Slots<N>, slot: u32) -> (u64, u64)
         requires own { IsOf self.old.trace slots.now }
-        requires values { slots.now.shape.values ≡ true }
-        requires slot { slot < slots.now.shape.slots }
+        requires values { slots.now.start.shape.values ≡ true }
+        requires slot { slot < slots.now.start.shape.slots }
         requires held { IsTrue (holds (knows self.old.trace).checked slot) }
         ensures reads { Reads (LoadValue slot) self.old self.new result.0 result.1 }
         ensures pool { KeepsPool self.old self.new }
@@ -59,7 +59,7 @@ impl Stepper {
     #[inline]
     pub fn read_node<N: Nodes>(&mut self, slots: &Slots<N>, slot: u32) -> (u64, u64, u64)
         requires own { IsOf self.old.trace slots.now }
-        requires slot { slot < slots.now.shape.slots }
+        requires slot { slot < slots.now.start.shape.slots }
         requires held { IsTrue (holds (knows self.old.trace).checked slot) }
         ensures reads { ReadsNode slot self.old self.new result.0 result.1 result.2 }
         ensures pool { KeepsPool self.old self.new }

@@ -26,7 +26,7 @@ pub learned : (step : Step) (p q : Trace) (r : ℕ) (effect : Effect) → ((w : 
 learned step p q r effect none answers d = record {
   found = r;
   answers = answers;
-  learned = d.know ∙ ap (λ s. learn step r s (knows p)) (none (world_after p.shape (p.seen ++ d.rest)));
+  learned = d.know ∙ ap (λ s. learn step r s (knows p)) (none (world_after p.start (p.seen ++ d.rest)));
   same = d.same;
 }
 
@@ -112,26 +112,26 @@ not_zero : (n : ℕ) → suc n ≢ 0
 not_zero n e = omega arith
 
 -- the pass of the row knows what it learned
-follows_own : (t : TableView) (who : ℕ) (p q : Trace) (w : World) (row : ℕ × Step × Effect) (rows : List (ℕ × Step × Effect)) (words : List ℕ) → Follows t who p w → AreWorked t.shape w (row ∷ rows) words → row.0 ≡ who → Learned row.1 p q row.2 → Follows t who q (after t.shape w row.0 row.1)
+follows_own : (t : TableView) (who : ℕ) (p q : Trace) (w : World) (row : ℕ × Step × Effect) (rows : List (ℕ × Step × Effect)) (words : List ℕ) → Follows t who p w → AreWorked t.start w (row ∷ rows) words → row.0 ≡ who → Learned row.1 p q row.2 → Follows t who q (after t.start w row.0 row.1)
 follows_own t who p q w row rows words f worked is l = record {
   own = (l.same.0 ∙ f.own.0, l.same.1 ∙ f.own.1, l.same.2 ∙ f.own.2);
   who_is = l.same.3 ∙ f.who_is;
   knows_it =
       l.learned
       ∙ ap (learn row.1 l.found 0) (f.knows_it ∙ ap w.know (sym is))
-      ∙ same_teaches row.1 l.found (found t.shape w row.1) 0 (w.know row.0) (sym l.answers ∙ sym worked.1)
-      ∙ ap (λ s. learn row.1 (found t.shape w row.1) s (w.know row.0)) (sym worked.2)
-      ∙ sym (know_own t.shape w row.0 row.1)
-      ∙ ap (after t.shape w row.0 row.1).know is;
+      ∙ same_teaches row.1 l.found (found t.start w row.1) 0 (w.know row.0) (sym l.answers ∙ sym worked.1)
+      ∙ ap (λ s. learn row.1 (found t.start w row.1) s (w.know row.0)) (sym worked.2)
+      ∙ sym (know_own t.start w row.0 row.1)
+      ∙ ap (after t.start w row.0 row.1).know is;
 }
 
 -- and the other what it knew
-follows_other : (t : TableView) (who : ℕ) (p : Trace) (w : World) (pass : ℕ) (step : Step) → Follows t who p w → who ≢ pass → Follows t who p (after t.shape w pass step)
-follows_other t who p w pass step f ne = record { own = f.own; who_is = f.who_is; knows_it = f.knows_it ∙ sym (know_other t.shape w who pass step ne) }
+follows_other : (t : TableView) (who : ℕ) (p : Trace) (w : World) (pass : ℕ) (step : Step) → Follows t who p w → who ≢ pass → Follows t who p (after t.start w pass step)
+follows_other t who p w pass step f ne = record { own = f.own; who_is = f.who_is; knows_it = f.knows_it ∙ sym (know_other t.start w who pass step ne) }
 
 stands_first : (t : TableView) (a b c : Trace) (row : ℕ × Step × Effect) (rows : List (ℕ × Step × Effect)) (words : List ℕ) → BothFollow t a b (row ∷ rows) words → row.0 ≡ 0 → Learned row.1 a c row.2 → BothFollow t c b rows (cond (names_link row.1) (others_of words) words)
 stands_first t a b c row rows words s is l = record {
-  world = after t.shape s.world row.0 row.1;
+  world = after t.start s.world row.0 row.1;
   first = follows_own t 0 a c s.world row rows words s.first s.worked is l;
   second = follows_other t 1 b s.world row.0 row.1 s.second (not_1 row.0 is);
   worked = s.worked.4;
@@ -139,7 +139,7 @@ stands_first t a b c row rows words s is l = record {
 
 stands_second : (t : TableView) (a b c : Trace) (row : ℕ × Step × Effect) (rows : List (ℕ × Step × Effect)) (words : List ℕ) → BothFollow t a b (row ∷ rows) words → row.0 ≢ 0 → Learned row.1 b c row.2 → BothFollow t a c rows (cond (names_link row.1) (others_of words) words)
 stands_second t a b c row rows words s ne l = record {
-  world = after t.shape s.world row.0 row.1;
+  world = after t.start s.world row.0 row.1;
   first = follows_other t 0 a s.world row.0 row.1 s.first (λ e. ne (sym e));
   second = follows_own t 1 b c s.world row rows words s.second s.worked (one_of_two row.0 s.worked.0.0 ne) l;
   worked = s.worked.4;

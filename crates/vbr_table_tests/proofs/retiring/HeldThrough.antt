@@ -1,7 +1,7 @@
 -- What is held stays held through the calls of a test that answered, and a key stands behind the head of the one bucket.
 use Rattle.std.proofs.Common.{◌≡◌, ℕ, refl, sym, subst, arith}
 use Rattle.std.specs.Prelude.{false, Result, Ok, IfOk}
-use Rattle.vbr_words.specs.Dimensions.{Dimensions}
+use Rattle.vbr_machine.specs.Start.{Start}
 use Rattle.vbr_words.specs.Words.{link_of}
 use Rattle.vbr_words.specs.declared.place.At.{At}
 use Rattle.vbr_words.specs.declared.place.At.TheVariants.{Head}
@@ -21,11 +21,11 @@ held_through {T} {E} {P} held r x is told keeps h =
     held_kept held (keeps x (subst Q is told)) h
 
 -- where there is one bucket, each key stands behind its head
-in_bucket : (shape : Dimensions) (key : ℕ) → shape.buckets ≡ 1 → bucket_of shape key ≡ 0
-in_bucket shape key one = let low = bucket_of-lt shape key (omega (arith, one)) in omega (arith, low, one)
+in_bucket : (start : Start) (key : ℕ) → start.shape.buckets ≡ 1 → bucket_of start.shape key ≡ 0
+in_bucket start key one = let low = bucket_of-lt start.shape key (omega (arith, one)) in omega (arith, low, one)
 
-pub behind_head : (shape : Dimensions) (know : Know) (at : At) (key : ℕ) → at ≡ Head 0 → shape.buckets ≡ 1 → StandsBehind shape know at key
-behind_head shape know at key head one = let P : At → Type 0 = λ at. StandsBehind shape know at key in subst P (sym head) (in_bucket shape key one)
+pub behind_head : (start : Start) (know : Know) (at : At) (key : ℕ) → at ≡ Head 0 → start.shape.buckets ≡ 1 → StandsBehind start know at key
+behind_head start know at key head one = let P : At → Type 0 = λ at. StandsBehind start know at key in subst P (sym head) (in_bucket start key one)
 
 -- the link word 33554432 isn't marked
 pub is_unmarked : (word : ℕ) → word ≡ 33554432 → (link_of word).mark ≡ false

@@ -1,7 +1,7 @@
 -- What the pass of a table knows that has no other pass: nothing was done but its own steps.
 use Rattle.std.proofs.Common.{◌≡◌, ℕ, ◌<◌, List, [], ◌∷◌, ◌++◌, Result, Ok, Err, cond, refl, ap, ◌∙◌, subst, arith}
 use Rattle.std.specs.Prelude.{Bool, true, is_ok}
-use Rattle.vbr_words.specs.Dimensions.{Dimensions}
+use Rattle.vbr_machine.specs.Start.{Start}
 use Rattle.vbr_words.specs.Flags.{has_flag}
 use Rattle.vbr_machine.specs.Acceptance.{stamp_in}
 use Rattle.vbr_machine.specs.Knowledge.{Know}
@@ -20,10 +20,10 @@ pub below : (m n : ℕ) → m ≡ 0 → n ≡ 1 → m < n
 below m n zero one = omega arith
 
 -- a run of one pass has no events of others
-none_others : (shape : Dimensions) (seen rest last : List Event) → IsRun shape 1 ((seen ++ rest) ++ last) → NoneOf 0 rest → rest ≡ []
-none_others shape seen [] last run none = refl
-none_others shape seen (e ∷ es) last run none =
-    absurd (none.0 (only_0 e.pass (is_run_after shape 1 seen (e ∷ es) (is_run_before shape 1 (seen ++ e ∷ es) last run)).0.0))
+none_others : (start : Start) (seen rest last : List Event) → IsRun start 1 ((seen ++ rest) ++ last) → NoneOf 0 rest → rest ≡ []
+none_others start seen [] last run none = refl
+none_others start seen (e ∷ es) last run none =
+    absurd (none.0 (only_0 e.pass (is_run_after start 1 seen (e ∷ es) (is_run_before start 1 (seen ++ e ∷ es) last run)).0.0))
 
 -- the pass 0 of a table that has no other
 pub record IsOnlyPass (p : Trace) : Type 0 where
@@ -32,8 +32,8 @@ pub record IsOnlyPass (p : Trace) : Type 0 where
 
 none_since : (step : Step) (p q : Trace) (r : ℕ) → IsOnlyPass p → (d : Did step p q r) → d.rest ≡ []
 none_since step p q r a d =
-    none_others p.shape p.seen d.rest (event_of p.who step ∷ [])
-    (subst (λ (x : ℕ × List Event). IsRun p.shape x.0 x.1) (λ i. (a.passes i, d.seen i)) d.is_run)
+    none_others p.start p.seen d.rest (event_of p.who step ∷ [])
+    (subst (λ (x : ℕ × List Event). IsRun p.start x.0 x.1) (λ i. (a.passes i, d.seen i)) d.is_run)
     (subst (λ (who : ℕ). NoneOf who d.rest) a.who d.none)
 
 still_only : (step : Step) (p q : Trace) (r : ℕ) → IsOnlyPass p → Did step p q r → IsOnlyPass q
@@ -47,7 +47,7 @@ read_first p q r new a d = d.seen ∙ ap (λ (x : List Event × List Event × �
 taken_stamp : (p q t : Trace) (r n : ℕ) → p.seen ≡ [] → IsOnlyPass p → Did ReadEpoch p q r → Did (TakeFlag 0) q t n → has_flag n 0 ≡ true → stamp_in ((knows t).own 0) ≡ 0
 taken_stamp p q t r n new a read took set =
     ap stamp_in (ap (λ (k : Know). k.own 0) (took.know ∙ won_flag _ (knows q)) ∙ put_here (knows q).own 0 _)
-    ∙ ap (λ (x : List Event × List Event). (world_after q.shape (x.0 ++ x.1)).stamp 0) (λ i. (read_first p q r new a read i, none_since (TakeFlag 0) q t n (still_only ReadEpoch p q r a read) took i))
+    ∙ ap (λ (x : List Event × List Event). (world_after q.start (x.0 ++ x.1)).stamp 0) (λ i. (read_first p q r new a read i, none_since (TakeFlag 0) q t n (still_only ReadEpoch p q r a read) took i))
   where
     won_flag : (a b : Know) → cond (has_flag n 0) a b ≡ a
     won_flag a b = ap (λ (t : Bool). cond t a b) set

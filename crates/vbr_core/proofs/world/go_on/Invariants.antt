@@ -6,8 +6,8 @@ use Rattle.vbr_core.proofs.world.go_on.Given as goal
 
 abbrev pub invariant-loop-index : goal.invariant-loop-index
 invariant-loop-index l = record {
-  run : IsRun l.fn.world.shape (length l.fn.world.passes) (take l.index l.events);
-  world : world_of l.world ≡ world_after l.fn.world.shape (take l.index l.events);
-  shape : l.world.shape ≡ l.fn.world.shape;
+  run : IsRun l.fn.world.start (length l.fn.world.passes) (take l.index l.events);
+  world : world_of l.world ≡ world_after l.fn.world.start (take l.index l.events);
+  start : l.world.start ≡ l.fn.world.start;
   passes : length l.world.passes ≡ length l.fn.world.passes;
 }

@@ -11,7 +11,7 @@ ghost use Rattle.vbr_core.specs.KeptLearning.{HasRoom, Learns, with_all_checked,
 
 use crate::world::holdings;
 use crate::world::passes::PassState;
-use crate::world::shape::OpeningShape;
+use crate::world::start::Start;
 use std::alloc::AllocError;
 use vbr_machine::{Holding, Read, Step};
 use vbr_words::flags::has_flag;
@@ -196,9 +196,9 @@ impl PassState {
     }
 
     // The link of a slot in hand that is ready to be published.
-    fn link_in_hand(&self, shape: &OpeningShape, pred: At, expected: u64, slot: u32) -> Link
+    fn link_in_hand(&self, start: &Start, pred: At, expected: u64, slot: u32) -> Link
         requires slot { slot < length self.now.own }
-        requires ready { MayPublish shape.now self.now.checked pred (link_of expected)
+        requires ready { MayPublish start.now self.now.checked pred (link_of expected)
             (slice_index_or self.now.own slot None) }
         ensures link { result ≡ link_in_hand (slice_index_or self.now.own slot None) }
         ensures fits { IsLink result }
@@ -209,19 +209,19 @@ impl PassState {
     // The publication of a slot in hand has succeeded.
     fn learn_publish(
         &mut self,
-        shape: &OpeningShape,
+        start: &Start,
         pred: At,
         expected: u64,
         slot: u32,
     ) -> Result<(), AllocError>
-        requires slots { length self.old.own ≡ shape.now.slots }
-        requires accepted { Accepts shape.now (know_of self.old) (Step.Publish pred expected slot) }
+        requires slots { length self.old.own ≡ start.now.shape.slots }
+        requires accepted { Accepts start.now (know_of self.old) (Step.Publish pred expected slot) }
         ensures learned { OnOk result
             (Learns self.old self.new (learn (Step.Publish pred expected slot) expected 0)) }
         ensures refused { OnErr result (self.new ≡ self.old) }
     {
         let link = self.new_link(
-            shape,
+            start,
             Step::Publish {
                 pred,
                 expected,
@@ -229,7 +229,7 @@ impl PassState {
             },
         );
         let holding = self.holding(slot);
-        let link_in_hand = self.link_in_hand(shape, pred, expected, slot);
+        let link_in_hand = self.link_in_hand(start, pred, expected, slot);
         let birth = holdings::birth_in_hand(holding);
         let key = holdings::key_in_hand(holding);
         match holdings::value_in_hand(holding) {
@@ -252,38 +252,33 @@ impl PassState {
     }
 
     // The removal of a node has succeeded.
-    fn learn_mark(
-        &mut self,
-        shape: &OpeningShape,
-        slot: u32,
-        expected: u64,
-    ) -> Result<(), AllocError>
-        requires slots { length self.old.own ≡ shape.now.slots }
-        requires accepted { Accepts shape.now (know_of self.old) (Step.Mark slot expected) }
+    fn learn_mark(&mut self, start: &Start, slot: u32, expected: u64) -> Result<(), AllocError>
+        requires slots { length self.old.own ≡ start.now.shape.slots }
+        requires accepted { Accepts start.now (know_of self.old) (Step.Mark slot expected) }
         ensures learned { OnOk result
             (Learns self.old self.new (learn (Step.Mark slot expected) expected 0)) }
         ensures refused { OnErr result (self.new ≡ self.old) }
     {
-        let link = self.new_link(shape, Step::Mark { slot, expected });
+        let link = self.new_link(start, Step::Mark { slot, expected });
         self.add_checked(&[Read::LinkAt(At::Slot(slot), link)])
     }
 
     // The unlinking of a node has succeeded.
     fn learn_unlink(
         &mut self,
-        shape: &OpeningShape,
+        start: &Start,
         pred: At,
         expected: u64,
         slot: u32,
     ) -> Result<(), AllocError>
-        requires slots { length self.old.own ≡ shape.now.slots }
-        requires accepted { Accepts shape.now (know_of self.old) (Step.Unlink pred expected slot) }
+        requires slots { length self.old.own ≡ start.now.shape.slots }
+        requires accepted { Accepts start.now (know_of self.old) (Step.Unlink pred expected slot) }
         ensures learned { OnOk result
             (Learns self.old self.new (learn (Step.Unlink pred expected slot) expected 0)) }
         ensures refused { OnErr result (self.new ≡ self.old) }
     {
         let link = self.new_link(
-            shape,
+            start,
             Step::Unlink {
                 pred,
                 expected,
@@ -299,13 +294,13 @@ impl PassState {
     // Where memory is refused nothing is learned, and there would have been more reads.
     pub fn learn(
         &mut self,
-        shape: &OpeningShape,
+        start: &Start,
         step: Step,
         found: u64,
         stamp: u64,
     ) -> Result<(), AllocError>
-        requires slots { length self.old.own ≡ shape.now.slots }
-        requires accepted { Accepts shape.now (know_of self.old) step }
+        requires slots { length self.old.own ≡ start.now.shape.slots }
+        requires accepted { Accepts start.now (know_of self.old) step }
         requires room { HasRoom step found }
         ensures learned { OnOk result (Learns self.old self.new (learn step found stamp)) }
         ensures refused { OnErr result (self.new ≡ self.old) }
@@ -325,7 +320,7 @@ impl PassState {
             Step::StoreKey { slot, key } => self.store_key(slot, key),
             Step::StoreValue { slot, value } => self.store_value(slot, value),
             Step::StoreLink { slot, .. } => {
-                let link = self.new_link(shape, step);
+                let link = self.new_link(start, step);
                 self.store_link(slot, link);
             }
             Step::Publish {
@@ -333,17 +328,17 @@ impl PassState {
                 expected,
                 slot,
             } if found == expected => {
-                self.learn_publish(shape, pred, expected, slot)?;
+                self.learn_publish(start, pred, expected, slot)?;
             }
             Step::Mark { slot, expected } if found == expected => {
-                self.learn_mark(shape, slot, expected)?;
+                self.learn_mark(start, slot, expected)?;
             }
             Step::Unlink {
                 pred,
                 expected,
                 slot,
             } if found == expected => {
-                self.learn_unlink(shape, pred, expected, slot)?;
+                self.learn_unlink(start, pred, expected, slot)?;
             }
             _ => {}
         }

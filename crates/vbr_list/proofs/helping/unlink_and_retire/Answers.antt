@@ -1,5 +1,5 @@
 use Rattle.std.proofs.Common.{◌+◌, ℕ, sym, ◌∙◌, subst, arith}
-use Rattle.vbr_words.specs.Dimensions.{Dimensions}
+use Rattle.vbr_machine.specs.Start.{Start}
 use Rattle.vbr_words.specs.Words.{link_of}
 use Rattle.vbr_words.specs.declared.place.At.{At}
 use Rattle.vbr_words.specs.declared.place.At.TheVariants.{Head}
@@ -47,7 +47,7 @@ returns-in-Ok-clause-unlinks g c =
         come = λ key is. helped key c.args.pred.now c.in-Ok.place is won.keeps won.at won.still won.read a b (retired_keeps (knows q.trace) (knows r.trace) c.in-Ok.unlinked.slot (is_kept q.pool) c.retire.ensures.retires.known (sym e ∙ won.read.known.epoch));
         alone = λ key is fresh stands alone.
             let l = c.retire.ensures.retires.alone (then_of a b alone) in
-            helped_alone p.trace q.trace r.trace key c.args.pred.now c.in-Ok.place is.inside won.at a.same.shape b.same.shape (won.alone (first_of a b alone) stands) l.0 l.1;
+            helped_alone p.trace q.trace r.trace key c.args.pred.now c.in-Ok.place is.inside won.at a.same.start b.same.start (won.alone (first_of a b alone) stands) l.0 l.1;
       };
       stays = λ fresh stands alone.
           let u = won.alone (first_of a b alone) stands in
@@ -58,9 +58,9 @@ returns-in-Ok-clause-unlinks g c =
           let l = (c.retire.ensures.retires.alone (then_of a b alone)).0.count bucket (Head h) in
           omega (arith, u, l);
       clear = λ key k behind.
-          let P : At → Type 0 = λ t. StandsBehind q.trace.shape (knows q.trace) t key in
-          let Q : Dimensions → Type 0 = λ s. StandsBehind s (knows q.trace) c.args.pred.now.at key in
-          clear_before (clear_skipped c.in-Ok.place c.law.ensures.shape a.same won.read won.still c.args.marked.slot key (link_of c.args.marked.word)
-          (subst P (sym won.at) (subst Q (sym a.same.shape) (behind_kept p.trace.shape c.args.pred.now.at key won.keeps behind)))
+          let P : At → Type 0 = λ t. StandsBehind q.trace.start (knows q.trace) t key in
+          let Q : Start → Type 0 = λ s. StandsBehind s (knows q.trace) c.args.pred.now.at key in
+          clear_before (clear_skipped c.in-Ok.place c.law.ensures.start a.same won.read won.still c.args.marked.slot key (link_of c.args.marked.word)
+          (subst P (sym won.at) (subst Q (sym a.same.start) (behind_kept p.trace.start c.args.pred.now.at key won.keeps behind)))
           (won.keeps.reads _ c.requires.may.marked.held.link) c.requires.may.marked.mark (sym won.next) (won.keeps.reads (KeyOf c.args.marked.slot key) k)) b;
     }

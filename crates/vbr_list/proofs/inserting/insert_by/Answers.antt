@@ -1,6 +1,7 @@
 use Rattle.std.proofs.Common.{rules, ap, false, ℕ, subst, ◌≡◌, ◌+◌, ◌*◌, ◌<◌, ◌≤◌, [], arith}
 use Rattle.std.specs.Prelude.{IfOk}
 use Rattle.vbr_words.specs.Dimensions.{Dimensions}
+use Rattle.vbr_machine.specs.Start.{Start}
 use Rattle.vbr_machine.specs.declared.history.Op.TheVariants.{Insert}
 use Rattle.vbr_slots.specs.Calls.{Made, Quiet}
 use Rattle.vbr_slots.proofs.Lemmas.{alone_first, alone_then, quiet_on, same_on}
@@ -22,8 +23,8 @@ use Rattle.vbr_list.proofs.inserting.insert_by.Goals as goal
 
 pub invariant_of-call-2 : goal.invariant_of-call-2
 invariant_of-call-2 g c = record {
-  of_key = bucket_is c.args.at.now.pass.now.trace.shape _ c.shape.result c.bucket_of.result c.args.key c.args.at.now.own.1 c.shape.ensures.bare c.bucket_of.ensures.bucket;
-  in_shape = let same = ap (λ (d : Dimensions). d.buckets) c.shape.ensures.bare in let low = c.bucket_of.ensures.in_shape in omega (arith, same, low);
+  of_key = bucket_is c.args.at.now.pass.now.trace.start _ c.shape.result c.bucket_of.result c.args.key c.args.at.now.own.1 c.shape.ensures.shape c.bucket_of.ensures.bucket;
+  in_shape = let same = ap (λ (d : Dimensions). d.buckets) c.shape.ensures.shape in let low = c.bucket_of.ensures.in_shape in omega (arith, same, low);
   within = omega arith;
 }
 
@@ -54,9 +55,9 @@ returns-in-Ok-None-clause-calls g c =
     let same : c.at-in-Ok-None-1.given.0 ≡ c.prepare.new.self.at.pass.now = search rules in
     rw same (record {
       same = search rules;
-      made = told_as (told_bare c.args.at.now.pass.now.trace.shape c.args.at.now.pass.now.trace.who Insert c.args.key false) (rw c.in-Ok-None.field-0-is at c.in-Ok-None.ensures.prepared.is).0;
+      made = told_as (told_bare c.args.at.now.pass.now.trace.start c.args.at.now.pass.now.trace.who Insert c.args.key false) (rw c.in-Ok-None.field-0-is at c.in-Ok-None.ensures.prepared.is).0;
       alone = (let x = rw c.in-Ok-None.field-0-is at c.in-Ok-None.ensures.prepared.is in
-          alone c.law.ensures.shape c.law.ensures.low x.0);
+          alone c.law.ensures.start c.law.ensures.low x.0);
       quiet = tt;
       hand = search rules;
       steps = within_all c.prepare.ensures.prepares.counts;
@@ -92,7 +93,7 @@ returns-in-Ok-Some-clause-calls g c =
     let since = each_since p.trace q.trace r.trace (stored_in q.trace c.args.key c.args.value) (stored_in p.trace c.args.key c.args.value) c.link.result first (stored_same first.same c.args.key c.args.value) made in
     let more = each_seen q.trace r.trace (stored_in q.trace c.args.key c.args.value) c.link.result made quiet in
     let n = listed_for p.trace c.args.key in
-    let most = most_to_take p.trace.shape p.pool in
+    let most = most_to_take p.trace.start p.pool in
     let within = each_error (λ refusal. IsAlone q.trace r.trace → c.args.budget < d.used + enough_to_search q.trace c.args.key) (λ refusal. IsAlone p.trace r.trace → LacksSteps (18 * n + most + 14) c.args.budget refusal) c.link.result
     (λ refusal short alone. (
     let u = short (alone_then first.same.who first.seen more.0 alone) in
@@ -103,7 +104,7 @@ returns-in-Ok-Some-clause-calls g c =
     rw same (record {
       same = same_on first.same (each_same q.trace r.trace (stored_in q.trace c.args.key c.args.value) c.link.result made quiet);
       made = since;
-      alone = each_alone p.trace r.trace (stored_in p.trace c.args.key c.args.value) c.link.result c.law.ensures.shape c.law.ensures.low since;
+      alone = each_alone p.trace r.trace (stored_in p.trace c.args.key c.args.value) c.link.result c.law.ensures.start c.law.ensures.low since;
       quiet = each_error (λ refusal. Quiet q.trace r.trace) (λ refusal. Quiet p.trace r.trace) c.link.result (λ refusal later. quiet_on first later) quiet;
       hand = search rules;
       steps = within_all (within_on c.prepare.ensures.prepares.counts counts.counts counts.within.0 counts.within.1);
@@ -119,10 +120,10 @@ returns-in-Ok-Some-clause-calls g c =
             within;
         costs = ok_as c.link.result (λ reply linked alone.
             let one = alone_first first.seen more.0 alone in
-            let u : e.used ≤ d.used + 3 + 9 * listed_for q.trace c.args.key + steps_to_update q.trace.shape = rw call.key at linked.few (alone_then first.same.who first.seen more.0 alone) in
+            let u : e.used ≤ d.used + 3 + 9 * listed_for q.trace c.args.key + steps_to_update q.trace.start = rw call.key at linked.few (alone_then first.same.who first.seen more.0 alone) in
             let v = c.in-Ok-Some.ensures.prepared.few one in
             let w = no_more_listed p c.law.ensures q.trace c.args.key first one in
-            let shape = ap steps_to_update first.same.shape in
-            within_most (within_on c.prepare.ensures.prepares.counts counts.counts counts.within.0 counts.within.1) (omega (arith, u, v, w, shape))) c.link.ensures.linked;
+            let start = ap steps_to_update first.same.start in
+            within_most (within_on c.prepare.ensures.prepares.counts counts.counts counts.within.0 counts.within.1) (omega (arith, u, v, w, start))) c.link.ensures.linked;
       };
     })

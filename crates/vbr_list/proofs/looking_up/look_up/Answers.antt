@@ -2,6 +2,7 @@ use Rattle.std.proofs.Common.{rules, ◌≡◌, ◌+◌, ◌*◌, ◌<◌, ◌�
 use Rattle.vbr_slots.proofs.Lemmas.{alone_first, answer_on, loads_on, quiet_on, same_on}
 use Rattle.vbr_pools.proofs.Lemmas.{counts_on, none_on, took_all}
 use Rattle.vbr_words.specs.Dimensions.{Dimensions}
+use Rattle.vbr_machine.specs.Start.{Start}
 use Rattle.vbr_list.proofs.Going.{bucket_is, call_on, call_refl, goes_on, within_call, within_of}
 use Rattle.vbr_list.proofs.Observing.{observed, observes_on}
 use Rattle.vbr_list.specs.Budgets.{answer_costs, enough_to_look_up, listed_for}
@@ -16,7 +17,7 @@ use Rattle.vbr_list.proofs.Told.{given_same, told_since}
 use Rattle.vbr_list.proofs.looking_up.look_up.Goals as goal
 
 pub settle_look_up-requires-clause-asked : goal.settle_look_up-requires-clause-asked
-settle_look_up-requires-clause-asked g c = λ gives. ap (λ (d : Dimensions). d.values) (quiet_on c.loop-sight.invariant.3.tries.goes.quiet c.look.ensures.goes.goes.quiet).same.shape ∙ c.requires.asked gives
+settle_look_up-requires-clause-asked g c = λ gives. ap (λ (d : Start). d.shape.values) (quiet_on c.loop-sight.invariant.3.tries.goes.quiet c.look.ensures.goes.goes.quiet).same.start ∙ c.requires.asked gives
 
 pub loop-sight-preserved : goal.loop-sight-preserved
 loop-sight-preserved g c =
@@ -38,8 +39,8 @@ loop-sight-init g c = (call_refl _, refl, refl, peeks_refl c.args.at.now.pass.no
 
 pub invariant_of-call-2 : goal.invariant_of-call-2
 invariant_of-call-2 g c = record {
-  of_key = bucket_is c.args.at.now.pass.now.trace.shape _ c.shape.result c.bucket_of.result c.args.key c.args.at.now.own.1 c.shape.ensures.bare c.bucket_of.ensures.bucket;
-  in_shape = let same = ap (λ (d : Dimensions). d.buckets) c.shape.ensures.bare in let low = c.bucket_of.ensures.in_shape in omega (arith, same, low);
+  of_key = bucket_is c.args.at.now.pass.now.trace.start _ c.shape.result c.bucket_of.result c.args.key c.args.at.now.own.1 c.shape.ensures.shape c.bucket_of.ensures.bucket;
+  in_shape = let same = ap (λ (d : Dimensions). d.buckets) c.shape.ensures.shape in let low = c.bucket_of.ensures.in_shape in omega (arith, same, low);
   within = omega arith;
 }
 
@@ -124,17 +125,17 @@ returns-in-Ok-clause-calls g c =
     let made = told_since first (given_same first.same op c.args.key c.in-Ok.answer) answered in
     let before = observes_on c.loop-sight.invariant.3.observes c.look.ensures.observes in
     let counts = counts_on (goes_on c.loop-sight.invariant.3.tries.goes c.look.ensures.goes.goes).counts c.settle_look_up.ensures.settles.counts in
-    let S : Dimensions → Type 0 = λ shape. AddsAnswer (kept_call shape (given_call q.trace.who op c.args.key c.in-Ok.answer)) q.trace r.trace in
+    let S : Start → Type 0 = λ start. AddsAnswer (kept_call start (given_call q.trace.who op c.args.key c.in-Ok.answer)) q.trace r.trace in
     rw same (record {
       same = same_on first.same answered.same;
       made = made;
-      alone = alone c.law.ensures.shape c.law.ensures.low made;
+      alone = alone c.law.ensures.start c.law.ensures.low made;
       quiet = tt;
       hand = search rules;
       steps = within_of c.settle_look_up.new.self.used c.args.budget (rw c.loop-sight.invariant.2 at (within_call call)) counts;
       spares = record {
         only_loads = loads_on before.only_loads c.settle_look_up.ensures.only_loads;
-        adds = answer_on (λ who. kept_call p.trace.shape (given_call who op c.args.key c.in-Ok.answer)) first.same before.adds_none (subst S first.same.shape (rw key at c.in-Ok.ensures.answers.adds));
+        adds = answer_on (λ who. kept_call p.trace.start (given_call who op c.args.key c.in-Ok.answer)) first.same before.adds_none (subst S first.same.start (rw key at c.in-Ok.ensures.answers.adds));
         adds_none = tt;
         takes_no_slot = none_on (goes_on c.loop-sight.invariant.3.tries.goes c.look.ensures.goes.goes).hand.takes_no_slot c.settle_look_up.ensures.settles.hand.takes_no_slot;
         refused = tt;

@@ -2,6 +2,7 @@ use Rattle.std.proofs.Common.{rules, sym, ◌∙◌, arith, ap}
 use Rattle.vbr_slots.proofs.Lemmas.{alone_first, alone_then, quiet_on, same_on}
 use Rattle.vbr_pools.proofs.Lemmas.{counts_on, none_on, took_all}
 use Rattle.vbr_words.specs.Dimensions.{Dimensions}
+use Rattle.vbr_machine.specs.Start.{Start}
 use Rattle.vbr_list.proofs.Going.{bucket_is, call_on, goes_on, room_left, tries_on, within_call, within_of}
 use Rattle.vbr_list.proofs.Clearing.{leaves_since}
 use Rattle.vbr_list.proofs.LonePasses.{alone}
@@ -33,8 +34,8 @@ loop-found-preserved g c =
 
 pub invariant_of-call-2 : goal.invariant_of-call-2
 invariant_of-call-2 g c = record {
-  of_key = bucket_is c.args.at.now.pass.now.trace.shape _ c.shape.result c.bucket_of.result c.args.key c.args.at.now.own.1 c.shape.ensures.bare c.bucket_of.ensures.bucket;
-  in_shape = let same = ap (λ (d : Dimensions). d.buckets) c.shape.ensures.bare in let low = c.bucket_of.ensures.in_shape in omega (arith, same, low);
+  of_key = bucket_is c.args.at.now.pass.now.trace.start _ c.shape.result c.bucket_of.result c.args.key c.args.at.now.own.1 c.shape.ensures.shape c.bucket_of.ensures.bucket;
+  in_shape = let same = ap (λ (d : Dimensions). d.buckets) c.shape.ensures.shape in let low = c.bucket_of.ensures.in_shape in omega (arith, same, low);
   within = omega arith;
 }
 
@@ -118,14 +119,14 @@ returns-in-Ok-clause-calls g c =
     let answered = rw key at c.in-Ok.ensures.answers.made in
     let made = told_since first (given_same first.same Remove c.args.key c.in-Ok.answer) answered in
     let counts = counts_on (goes_on c.loop-found.invariant.3.goes c.search.ensures.goes.goes).counts c.settle_remove.ensures.settles.counts in
-    let values = ap steps_to_value_of first.same.shape in
+    let values = ap steps_to_value_of first.same.start in
     let searched : IsAlone p.trace q.trace → c.search.new.self.used ≤ 0 + 3 + 9 * listed_for p.trace c.args.key = λ alone. at_first (λ q since. c.search.new.self.used ≤ since + 3 + 9 * listed_for q.trace c.args.key) p c.loop-found.call.at.pass.now q c.loop-found.invariant.4 before went alone
     (λ then. (rw (c.loop-found.invariant.0.key ∙ c.loop-found.invariant.1) at c.in-Some.ensures.found.alone then).paid) in
     let soon : IsAlone p.trace q.trace → IsAlone q.trace r.trace → RemovesSoon c.search.new.self c.settle_remove.new.self c.in-Ok.answer = λ alone then. let stands = (c.in-Some.ensures.found.alone (then_of before went alone)).pred in c.in-Ok.ensures.answers.soon stands.fresh stands.stands then in
     rw same (record {
       same = same_on first.same answered.same;
       made = made;
-      alone = alone c.law.ensures.shape c.law.ensures.low made;
+      alone = alone c.law.ensures.start c.law.ensures.low made;
       quiet = tt;
       hand = search rules;
       steps = within_of c.settle_remove.new.self.used c.args.budget (rw c.loop-found.invariant.2 at (within_call call)) counts;
@@ -134,7 +135,7 @@ returns-in-Ok-clause-calls g c =
         unlists = λ yes left.
             let room = room_left c.settle_remove.new.self.used c.args.budget counts left in
             let most = call.budget ∙ c.loop-found.invariant.2 in
-            leaves_since r.trace c.args.key c.law.ensures.shape first (rw key at c.in-Ok.ensures.answers.unlists yes (omega (arith, room, most)));
+            leaves_since r.trace c.args.key c.law.ensures.start first (rw key at c.in-Ok.ensures.answers.unlists yes (omega (arith, room, most)));
         refused = tt;
         within = tt;
         costs = λ whole.

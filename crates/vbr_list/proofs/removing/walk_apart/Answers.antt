@@ -1,13 +1,14 @@
 use Rattle.std.proofs.Common.{rules, ◌≡◌, ap, arith}
 use Rattle.vbr_words.specs.Dimensions.{Dimensions}
+use Rattle.vbr_machine.specs.Start.{Start}
 use Rattle.vbr_list.proofs.Clearing.{clear_walked}
 use Rattle.vbr_list.proofs.Going.{bucket_is}
 use Rattle.vbr_list.proofs.removing.walk_apart.Goals as goal
 
 pub invariant_of-call-2 : goal.invariant_of-call-2
 invariant_of-call-2 g c = record {
-  of_key = bucket_is c.args.at.now.pass.now.trace.shape _ c.shape.result c.bucket_of.result c.args.key c.args.at.now.own.1 c.shape.ensures.bare c.bucket_of.ensures.bucket;
-  in_shape = let same = ap (λ (d : Dimensions). d.buckets) c.shape.ensures.bare in let low = c.bucket_of.ensures.in_shape in omega (arith, same, low);
+  of_key = bucket_is c.args.at.now.pass.now.trace.start _ c.shape.result c.bucket_of.result c.args.key c.args.at.now.own.1 c.shape.ensures.shape c.bucket_of.ensures.bucket;
+  in_shape = let same = ap (λ (d : Dimensions). d.buckets) c.shape.ensures.shape in let low = c.bucket_of.ensures.in_shape in omega (arith, same, low);
   within = omega arith;
 }
 
@@ -18,5 +19,5 @@ returns g c =
       table = search rules;
       goes = rw same c.search.ensures.goes.goes;
       within = search rules;
-      clear = λ room. rw same (clear_walked _ c.search.new.self c.search.result c.law.ensures.shape c.search.ensures.goes.goes.quiet.same c.search.ensures.found c.search.ensures.tired room);
+      clear = λ room. rw same (clear_walked _ c.search.new.self c.search.result c.law.ensures.start c.search.ensures.goes.goes.quiet.same c.search.ensures.found c.search.ensures.tired room);
     }

@@ -1,5 +1,5 @@
 use Rattle.std.proofs.Common.{◌≡◌, Bool, true, false, sym, ap, ◌∙◌, subst}
-use Rattle.vbr_words.specs.Dimensions.{Dimensions}
+use Rattle.vbr_machine.specs.Start.{Start}
 use Rattle.vbr_slots.specs.Views.{knows}
 use Rattle.vbr_access.specs.Reading.{ReadsIn, RollsBack}
 use Rattle.vbr_list.specs.Budgets.{steps_where}
@@ -14,7 +14,7 @@ value_of-requires-clause-values g c = c.kind.ensures ∙ sym c.VALUES.ensures �
 
 pub returns-then-VALUES-clause-reads : goal.returns-then-VALUES-clause-reads
 returns-then-VALUES-clause-reads g c =
-    let has : c.args.at.now.pass.now.trace.shape.values ≡ true = ap (λ (d : Dimensions). d.values) c.args.at.now.own.1 ∙ c.kind.ensures ∙ sym c.VALUES.ensures ∙ c.if-VALUES.true in
+    let has : c.args.at.now.pass.now.trace.start.shape.values ≡ true = ap (λ (d : Start). d.shape.values) c.args.at.now.own.1 ∙ c.kind.ensures ∙ sym c.VALUES.ensures ∙ c.if-VALUES.true in
     let P : Bool → Type 0 = λ values. ReadsIn c.args.at.now.pass.now c.value_of.new.at.pass.now (steps_where values) in
     subst P (sym has) c.value_of.ensures.reads
 
@@ -23,16 +23,16 @@ returns-then-VALUES-clause-value g c = ok_as c.value_of.result (λ value x. reco
 
 pub returns-then-VALUES-clause-moved : goal.returns-then-VALUES-clause-moved
 returns-then-VALUES-clause-moved g c =
-    let has : c.args.at.now.pass.now.trace.shape.values ≡ true = ap (λ (d : Dimensions). d.values) c.args.at.now.own.1 ∙ c.kind.ensures ∙ sym c.VALUES.ensures ∙ c.if-VALUES.true in
+    let has : c.args.at.now.pass.now.trace.start.shape.values ≡ true = ap (λ (d : Start). d.shape.values) c.args.at.now.own.1 ∙ c.kind.ensures ∙ sym c.VALUES.ensures ∙ c.if-VALUES.true in
     each_error (RollsBack c.args.at.now.pass.now c.value_of.new.at.pass.now) (LosesValue c.args.at.now.pass.now c.value_of.new.at.pass.now) c.value_of.result (λ rollback rolls. record { some = has; rolls = rolls }) c.value_of.ensures.moved
 
 pub returns-else-VALUES-clause-reads : goal.returns-else-VALUES-clause-reads
 returns-else-VALUES-clause-reads g c =
-    let bare : c.args.at.now.pass.now.trace.shape.values ≡ false = ap (λ (d : Dimensions). d.values) c.args.at.now.own.1 ∙ c.kind.ensures ∙ sym c.VALUES.ensures ∙ c.if-VALUES.false in
+    let bare : c.args.at.now.pass.now.trace.start.shape.values ≡ false = ap (λ (d : Start). d.shape.values) c.args.at.now.own.1 ∙ c.kind.ensures ∙ sym c.VALUES.ensures ∙ c.if-VALUES.false in
     let P : Bool → Type 0 = λ values. ReadsIn c.args.at.now.pass.now c.args.at.now.pass.now (steps_where values) in
     subst P (sym bare) (reads_still c.args.at.now.pass.now)
 
 pub returns-else-VALUES-clause-value : goal.returns-else-VALUES-clause-value
 returns-else-VALUES-clause-value g c =
-    let bare : c.args.at.now.pass.now.trace.shape.values ≡ false = ap (λ (d : Dimensions). d.values) c.args.at.now.own.1 ∙ c.kind.ensures ∙ sym c.VALUES.ensures ∙ c.if-VALUES.false in
+    let bare : c.args.at.now.pass.now.trace.start.shape.values ≡ false = ap (λ (d : Start). d.shape.values) c.args.at.now.own.1 ∙ c.kind.ensures ∙ sym c.VALUES.ensures ∙ c.if-VALUES.false in
     record { keeps = keeps_still (knows c.args.at.now.pass.now.trace); value = λ has. (let e : true ≡ false = sym has ∙ bare in absurd (cc)) }

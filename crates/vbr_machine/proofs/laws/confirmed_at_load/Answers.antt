@@ -2,4 +2,4 @@ use Rattle.vbr_machine.proofs.RunForms.{confirmed_present, confirmed_absent}
 use Rattle.vbr_machine.proofs.laws.confirmed_at_load.Goals as goal
 
 pub returns : goal.returns
-returns c = λ shape passes run pass op s key at expected is ok. ((λ accepts q k. confirmed_present shape passes run is ok pass op s expected key accepts q k), (λ accepts q. confirmed_absent shape passes run is ok pass op key at expected accepts q))
+returns c = λ start passes run pass op s key at expected is ok. ((λ accepts q k. confirmed_present start passes run is ok pass op s expected key accepts q k), (λ accepts q. confirmed_absent start passes run is ok pass op key at expected accepts q))

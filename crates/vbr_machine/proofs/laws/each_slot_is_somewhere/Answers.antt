@@ -3,4 +3,4 @@ use Rattle.vbr_machine.proofs.Whereabouts.{somewhere}
 use Rattle.vbr_machine.proofs.laws.each_slot_is_somewhere.Goals as goal
 
 pub returns : goal.returns
-returns c = λ shape passes run s is ok. somewhere shape passes run (every_run shape passes run is ok) ok s
+returns c = λ start passes run s is ok. somewhere start passes run (every_run start passes run is ok) ok s

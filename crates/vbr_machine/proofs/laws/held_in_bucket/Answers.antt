@@ -2,4 +2,4 @@ use Rattle.vbr_machine.proofs.RunForms.{held_in_bucket}
 use Rattle.vbr_machine.proofs.laws.held_in_bucket.Goals as goal
 
 pub returns : goal.returns
-returns c = λ shape passes run pass s bucket key is ok. held_in_bucket shape passes run is ok pass s bucket key
+returns c = λ start passes run pass s bucket key is ok. held_in_bucket start passes run is ok pass s bucket key

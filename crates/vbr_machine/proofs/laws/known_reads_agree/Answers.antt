@@ -2,4 +2,4 @@ use Rattle.vbr_machine.proofs.RunForms.{known_accepts, accepts_known}
 use Rattle.vbr_machine.proofs.laws.known_reads_agree.Goals as goal
 
 pub returns : goal.returns
-returns c = λ shape passes run pass step is ok. (known_accepts shape passes run is ok pass step, accepts_known shape passes run is ok pass step)
+returns c = λ start passes run pass step is ok. (known_accepts start passes run is ok pass step, accepts_known start passes run is ok pass step)

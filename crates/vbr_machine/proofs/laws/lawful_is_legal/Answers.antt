@@ -4,4 +4,4 @@ use Rattle.vbr_machine.proofs.ToldCalls.{tells_at_first, tells_after}
 use Rattle.vbr_machine.proofs.laws.lawful_is_legal.Goals as goal
 
 pub returns : goal.returns
-returns c = λ shape entries up lawful. tells_after shape (at_opening shape) entries (sound_at_first shape up) (tells_at_first shape up) lawful
+returns c = λ start entries up lawful. tells_after start (at_opening start) entries (sound_at_first start up) (tells_at_first start up) lawful

@@ -2,4 +2,4 @@ use Rattle.vbr_machine.proofs.LoadsLeave.{loads_leave}
 use Rattle.vbr_machine.proofs.laws.loads_leave_the_words.Goals as goal
 
 pub returns : goal.returns
-returns c = λ shape w pass step place load. loads_leave shape w pass step load place
+returns c = λ start w pass step place load. loads_leave start w pass step load place

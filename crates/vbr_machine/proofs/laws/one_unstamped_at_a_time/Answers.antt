@@ -2,4 +2,4 @@ use Rattle.vbr_machine.proofs.UnlinkedInTurn.{in_turn_before}
 use Rattle.vbr_machine.proofs.laws.one_unstamped_at_a_time.Goals as goal
 
 pub returns : goal.returns
-returns c = λ shape moment run pass. in_turn_before shape pass moment run
+returns c = λ start moment run pass. in_turn_before start pass moment run

@@ -7,7 +7,7 @@ use Rattle.vbr_transcript.specs.Runs.{AreExplained}
 use Rattle.vbr_transcript.specs.declared.reply.Reply.{Reply}
 use Rattle.vbr_player.specs.Calling.{ArePlayed}
 use Rattle.vbr_player.specs.Opened.{epoch_of, listed_as, table_of}
-use Rattle.vbr_player.specs.Playing.{shape_of}
+use Rattle.vbr_player.specs.Playing.{start_of}
 use Rattle.vbr_player.proofs.Spans.{HavePlayedSets, next_cut, is_span, is_last_span, renewal_here, no_renewal, renewal_in, phased_here, one_more_played, all_sets, none_played, followed_as, played_as, span_as}
 use Rattle.vbr_player.proofs.sets.play_sets.Goals as goal
 
@@ -18,7 +18,7 @@ loop-renewal-init g c =
     let phased = subst (ArePhased kind config.workers script.phases) (sym c.deref.ensures.value) c.requires.phased in
     record {
       inside = omega arith;
-      played = subst (HavePlayedSets kind config.workers (shape_of kind config.shape) _ c.deref.result.now script.renewals.items script.phases set 0 0 0) (sym c.in_ok-replies.ensures.items) (none_played config.workers (shape_of kind config.shape) _ c.deref.result.now script.renewals.items script.phases set opened.shape opened.count phased c.requires.renewed);
+      played = subst (HavePlayedSets kind config.workers (start_of kind config.shape) _ c.deref.result.now script.renewals.items script.phases set 0 0 0) (sym c.in_ok-replies.ensures.items) (none_played config.workers (start_of kind config.shape) _ c.deref.result.now script.renewals.items script.phases set opened.start opened.count phased c.requires.renewed);
       kind = opened.kind;
       fresh = opened.fresh;
     }
@@ -56,11 +56,11 @@ loop-renewal-preserved g c =
     let cut = next_cut lines l.first c.count_up_to.result l.phase _ c.count_up_to.ensures.count l.invariant.played.later in
     let within : l.first + c.count_up_to.result ≤ length lines = omega arith in
     let goes_on = followed_as (table_of l.now) _ _ _ _ _ more (table_of c.in_ok-next.next) l.invariant.kind c.slice.ensures.budget c.slice.ensures.lines c.in_ok-next.ensures.followed in
-    let played = one_more_played config.workers (shape_of kind config.shape) _ lines script.renewals.items script.phases (table_of l.now) (table_of c.in_ok-next.next) l.first l.phase l.renewal-index c.count_up_to.result _ l.replies.items more here within cut l.invariant.played goes_on in
+    let played = one_more_played config.workers (start_of kind config.shape) _ lines script.renewals.items script.phases (table_of l.now) (table_of c.in_ok-next.next) l.first l.phase l.renewal-index c.count_up_to.result _ l.replies.items more here within cut l.invariant.played goes_on in
     let longer : c.extend_from_slice.new.self.items ≡ l.replies.items ++ more = c.in_ok-extend_from_slice.ensures.items ∙ ap (λ (some : List Reply). l.replies.items ++ some) c.deref-in-loop-renewal.ensures.value in
     record {
       inside = within;
-      played = subst (HavePlayedSets kind config.workers (shape_of kind config.shape) _ lines script.renewals.items script.phases (table_of c.in_ok-next.next) (l.first + c.count_up_to.result) _ (l.renewal-index + 1)) (sym longer) played;
+      played = subst (HavePlayedSets kind config.workers (start_of kind config.shape) _ lines script.renewals.items script.phases (table_of c.in_ok-next.next) (l.first + c.count_up_to.result) _ (l.renewal-index + 1)) (sym longer) played;
       kind = c.in_ok-next.ensures.kind ∙ l.invariant.kind;
       fresh = c.in_ok-next.ensures.fresh;
     }
@@ -81,7 +81,7 @@ returns g c =
     let played = played_as (table_of l.now) _ _ _ _ _ more ended l.invariant.kind c.slice-2.ensures.budget c.slice-2.ensures.lines c.in_ok-ended.ensures.played in
     let longer : c.extend_from_slice-2.new.self.items ≡ l.replies.items ++ more = c.in_ok-extend_from_slice-2.ensures.items ∙ ap (λ (some : List Reply). l.replies.items ++ some) c.deref-2.ensures.value in
     let all = all_sets _ _ _ _ _ _ _ _ _ _ _ more (listed_as kind ended) (epoch_of ended) none l.invariant.played played in
-    let P : ℕ × List Line × List Reply → Type 0 = λ k. (length k.2 ≡ length k.1) × AreExplained kind (ArePlayed kind config.workers k.0) (shape_of kind config.shape) config.workers 0 script.phases script.renewals.items (zip k.1 k.2) (listed_as kind ended) (epoch_of ended) in
+    let P : ℕ × List Line × List Reply → Type 0 = λ k. (length k.2 ≡ length k.1) × AreExplained kind (ArePlayed kind config.workers k.0) (start_of kind config.shape) config.workers 0 script.phases script.renewals.items (zip k.1 k.2) (listed_as kind ended) (epoch_of ended) in
     let asked = subst P (λ i. (c.budget.ensures i, c.deref.ensures.value i, sym longer i)) all in
     record {
       one_each = asked.0;

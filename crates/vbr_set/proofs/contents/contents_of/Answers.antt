@@ -3,15 +3,16 @@ use Rattle.std.specs.Prelude.{slice_index}
 use Rattle.vbr_words.specs.declared.place.Place.TheVariants as place
 use Rattle.vbr_machine.specs.Accounts.{incarnations_after}
 use Rattle.vbr_slots.proofs.Lemmas.{whole}
-use Rattle.vbr_set.specs.Walking.{NotesLists, keyed}
+use Rattle.vbr_slots.specs.Rule.{with_opened}
+use Rattle.vbr_set.specs.Walking.{NotesLists}
 use Rattle.vbr_set.proofs.contents.contents_of.Goals as goal
 
 pub returns : goal.returns
-returns g c = λ opening run x.
-    let shape = keyed c.args.shape.now opening in
-    let a = incarnations_after shape run in
+returns g c = λ opened run x.
+    let start = with_opened c.args.shape.now opened in
+    let a = incarnations_after start run in
     let long : c.args.notes.len ≡ length c.note_lists.new.notes = (let l = c.args.notes.ok in let k = c.note_lists.auto.notes in let m = c.deref_mut.ensures.len in omega arith) in
-    let told = c.gather-live.ensures.gathered opening run x (subst (λ (l : List Bool). NotesLists shape a l) (sym (c.deref.ensures.value ∙ whole c.args.notes.len c.note_lists.new.notes _ long)) (c.note_lists.ensures opening run x)) in
+    let told = c.gather-live.ensures.gathered opened run x (subst (λ (l : List Bool). NotesLists start a l) (sym (c.deref.ensures.value ∙ whole c.args.notes.len c.note_lists.new.notes _ long)) (c.note_lists.ensures opened run x)) in
     record {
       listed = told.0;
       epoch = ap (slice_index c.args.words.now) c.place_index.ensures.index ∙ x.are.each place.Epoch tt;

@@ -1,11 +1,11 @@
 use Rattle.std.proofs.Common.{ℕ, ◌<◌, Option, sym, ◌∙◌, subst, arith}
 use Rattle.vbr_machine.specs.Accounts.{incarnations_after}
-use Rattle.vbr_set.specs.Walking.{keyed}
+use Rattle.vbr_slots.specs.Rule.{with_opened}
 use Rattle.vbr_set.proofs.Walks.{left, walk_ends, walk_first, walk_nearer, walk_next, walked_as}
 use Rattle.vbr_set.proofs.walking.note_list.Goals as goal
 
 pub loop-next-init : goal.loop-next-init
-loop-next-init c = λ opening run x. walked_as (sym c.next_at-next.ensures) (walk_first x c.args.bucket c.args.notes.now c.requires.bucket)
+loop-next-init c = λ opened run x. walked_as (sym c.next_at-next.ensures) (walk_first x c.args.bucket c.args.notes.now c.requires.bucket)
 
 pub bounds-notes-slot : goal.bounds-notes-slot
 bounds-notes-slot c =
@@ -25,10 +25,10 @@ loop-next-smaller c =
     (walk_nearer c.requires.run.2 c.args.bucket c.args.notes.now c.loop-next.notes c.in-Some.slot (λ i. let fit = c.type_inv.words i in omega arith) walked)
 
 pub loop-next-preserved : goal.loop-next-preserved
-loop-next-preserved c = λ opening run x.
+loop-next-preserved c = λ opened run x.
     walked_as (sym c.next_at-next-in-Some.ensures)
-    (walk_next x c.args.bucket c.args.notes.now c.loop-next.notes c.in-Some.slot (c.loop-next.auto.notes ∙ c.requires.room) (walked_as c.in-Some.is (c.loop-next.invariant opening run x)))
+    (walk_next x c.args.bucket c.args.notes.now c.loop-next.notes c.in-Some.slot (c.loop-next.auto.notes ∙ c.requires.room) (walked_as c.in-Some.is (c.loop-next.invariant opened run x)))
 
 pub returns : goal.returns
-returns c = λ opening run x.
-    walk_ends (keyed c.args.shape.now opening) (incarnations_after (keyed c.args.shape.now opening) run) c.args.bucket c.args.notes.now c.loop-next.notes (walked_as c.in_default.is (c.loop-next.invariant opening run x))
+returns c = λ opened run x.
+    walk_ends (with_opened c.args.shape.now opened) (incarnations_after (with_opened c.args.shape.now opened) run) c.args.bucket c.args.notes.now c.loop-next.notes (walked_as c.in_default.is (c.loop-next.invariant opened run x))

@@ -1,8 +1,7 @@
 //! Opening a map for members.
-ghost use Rattle.std.specs.Prelude.{◌≡◌, ◌<◌, ◌≤◌, ◌↔◌, ◌⊎◌, true, length, IfOk, IsErrOf};
+ghost use Rattle.std.specs.Prelude.{◌≡◌, ◌<◌, ◌≤◌, ◌↔◌, ◌⊎◌, [], length, IfOk, IsErrOf};
 ghost use Rattle.std.specs.List.Sorted.{IsStrictlyIncreasing};
-ghost use Rattle.vbr_machine.specs.Maps.{keys_listed, values_listed};
-ghost use Rattle.vbr_slots.specs.Openings.{shape_with};
+ghost use Rattle.vbr_machine.specs.Maps.{keys_listed, map_start};
 ghost use Rattle.vbr_set.specs.Members.{AreNew};
 
 use crate::member::Member;
@@ -30,7 +29,7 @@ impl Member<Entries> {
     /// [`VbrMap::open`]: crate::VbrMap::open
     pub fn open(alloc: Global, shape: Shape, passes: u32) -> Result<Vec<Member<Entries>>, OpenError>
         ensures members { IfOk result
-            (λ members. AreNew (record shape { values = true }) passes members.items) }
+            (λ members. AreNew (map_start shape []) passes members.items) }
         ensures refused { IsErrOf result OpenError.Passes ↔ ((passes ≡ 0) ⊎ (64 < passes)) }
     {
         let _slots = shape.slots();
@@ -59,9 +58,8 @@ impl Member<Entries> {
     ) -> Result<Vec<Member<Entries>>, OpenError>
         requires ascending { IsStrictlyIncreasing (keys_listed entries.now) }
         requires few { length entries.now ≤ shape.slots }
-        ensures members { IfOk result (λ members. let of_map = record shape { values = true } in
-            AreNew (shape_with of_map (keys_listed entries.now) (values_listed entries.now))
-            passes members.items) }
+        ensures members { IfOk result (λ members.
+            AreNew (map_start shape entries.now) passes members.items) }
         ensures refused { IsErrOf result OpenError.Passes ↔ ((passes ≡ 0) ⊎ (64 < passes)) }
     {
         let (map, opened) = VbrSet::<Entries>::open_with(alloc, shape, passes, entries)?;

@@ -1,6 +1,6 @@
 -- The list is worked at this shape.
-use Rattle.std.proofs.Common.{◌≡◌, sym, subst, rules}
-use Rattle.vbr_words.specs.Dimensions.{Dimensions}
+use Rattle.std.proofs.Common.{◌≡◌, sym, subst, rules, ap}
+use Rattle.vbr_machine.specs.Start.{Start, empty_start}
 use Rattle.vbr_machine.specs.Machine.{opening}
 use Rattle.vbr_event_lists.specs.Worked.{AreWorked, three_slots}
 use Rattle.vbr_event_lists.specs.declared.lists.TheConstants.{REBORN_SLOT, REBORN_SLOT_WORDS}
@@ -9,5 +9,5 @@ use Rattle.vbr_table_tests.proofs.listed_calls.a_slot_is_reborn.Goals as goal
 
 pub words_after-requires-clause-worked : goal.words_after-requires-clause-worked
 words_after-requires-clause-worked g c =
-    let shape : c.in_ok-shape.shape ≡ three_slots = search rules in
-    subst (λ (d : Dimensions). AreWorked d (opening d) REBORN_SLOT REBORN_SLOT_WORDS) (sym shape) reborn_slot
+    let shape : c.in_ok-shape.shape ≡ three_slots.shape = search rules in
+    subst (λ (d : Start). AreWorked d (opening d) REBORN_SLOT REBORN_SLOT_WORDS) (sym (ap empty_start shape)) reborn_slot

@@ -1,6 +1,6 @@
 -- The list is worked at this shape.
-use Rattle.std.proofs.Common.{◌≡◌, sym, subst, rules}
-use Rattle.vbr_words.specs.Dimensions.{Dimensions}
+use Rattle.std.proofs.Common.{◌≡◌, sym, subst, rules, ap}
+use Rattle.vbr_machine.specs.Start.{Start, empty_start}
 use Rattle.vbr_machine.specs.Machine.{opening}
 use Rattle.vbr_event_lists.specs.Worked.{AreWorked, many_epochs}
 use Rattle.vbr_event_lists.specs.Valued.{valued}
@@ -10,5 +10,5 @@ use Rattle.vbr_table_tests.proofs.listed_calls.a_step_of_each_kind_with_values.G
 
 pub words_with_values_after-requires-clause-worked : goal.words_with_values_after-requires-clause-worked
 words_with_values_after-requires-clause-worked g c =
-    let shape : c.with_values-shape.result ≡ valued many_epochs = search rules in
-    subst (λ (d : Dimensions). AreWorked d (opening d) STANDING_WITH_VALUES STANDING_WORDS) (sym shape) standing_with_values
+    let shape : c.with_values-shape.result ≡ (valued many_epochs).shape = search rules in
+    subst (λ (d : Start). AreWorked d (opening d) STANDING_WITH_VALUES STANDING_WORDS) (sym (ap empty_start shape)) standing_with_values

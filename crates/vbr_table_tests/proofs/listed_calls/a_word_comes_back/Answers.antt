@@ -1,6 +1,6 @@
 -- The list is worked at this shape.
-use Rattle.std.proofs.Common.{◌≡◌, sym, subst, rules}
-use Rattle.vbr_words.specs.Dimensions.{Dimensions}
+use Rattle.std.proofs.Common.{◌≡◌, sym, subst, rules, ap}
+use Rattle.vbr_machine.specs.Start.{Start, empty_start}
 use Rattle.vbr_machine.specs.Machine.{opening}
 use Rattle.vbr_event_lists.specs.Worked.{AreWorked, three_slots}
 use Rattle.vbr_event_lists.specs.declared.lists.TheConstants.{SAME_WORD, SAME_WORD_WORDS}
@@ -9,5 +9,5 @@ use Rattle.vbr_table_tests.proofs.listed_calls.a_word_comes_back.Goals as goal
 
 pub words_after-requires-clause-worked : goal.words_after-requires-clause-worked
 words_after-requires-clause-worked g c =
-    let shape : c.in_ok-shape.shape ≡ three_slots = search rules in
-    subst (λ (d : Dimensions). AreWorked d (opening d) SAME_WORD SAME_WORD_WORDS) (sym shape) same_word
+    let shape : c.in_ok-shape.shape ≡ three_slots.shape = search rules in
+    subst (λ (d : Start). AreWorked d (opening d) SAME_WORD SAME_WORD_WORDS) (sym (ap empty_start shape)) same_word

@@ -1,6 +1,6 @@
 -- The list is worked at this shape.
 use Rattle.std.proofs.Common.{◌≡◌, ℕ, List, sym, subst, rules}
-use Rattle.vbr_words.specs.Dimensions.{Dimensions}
+use Rattle.vbr_machine.specs.Start.{Start, empty_start}
 use Rattle.vbr_machine.specs.Machine.{opening}
 use Rattle.vbr_machine.specs.declared.event.Effect.{Effect}
 use Rattle.vbr_machine.specs.declared.event.Step.{Step}
@@ -12,6 +12,6 @@ use Rattle.vbr_table_tests.proofs.listed_calls.a_word_comes_back_with_values.Goa
 
 pub words_with_values_after-requires-clause-worked : goal.words_with_values_after-requires-clause-worked
 words_with_values_after-requires-clause-worked g c =
-    let shape : c.with_values-shape.result ≡ valued three_slots = search rules in
+    let shape : c.with_values-shape.result ≡ (valued three_slots).shape = search rules in
     let rows : c.deref.result.now ≡ with_values SAME_WORD = search rules in
-    subst (λ (x : Dimensions × List (ℕ × Step × Effect)). AreWorked x.0 (opening x.0) x.1 SAME_WORD_WORDS) (λ i. (sym shape i, sym rows i)) same_word_with_values
+    subst (λ (x : Start × List (ℕ × Step × Effect)). AreWorked x.0 (opening x.0) x.1 SAME_WORD_WORDS) (λ i. (empty_start (sym shape i), sym rows i)) same_word_with_values

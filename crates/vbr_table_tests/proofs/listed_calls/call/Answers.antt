@@ -14,10 +14,10 @@ use Rattle.vbr_table_tests.proofs.listed_calls.Following.{found_either, publishe
 use Rattle.vbr_table_tests.proofs.listed_calls.call.Goals as goal
 
 pub store_link-requires-clause-next_in : goal.store_link-requires-clause-next_in
-store_link-requires-clause-next_in g c = subst (IsNextIn c.args.slots.now.shape) (sym (search rules)) (subst (IsInShape c.args.slots.now.shape) c.in-StoreLink.is c.requires.accepted.in_shape).1
+store_link-requires-clause-next_in g c = subst (IsNextIn c.args.slots.now.start) (sym (search rules)) (subst (IsInShape c.args.slots.now.start) c.in-StoreLink.is c.requires.accepted.in_shape).1
 
 pub store_link-requires-clause-next_held : goal.store_link-requires-clause-next_held
-store_link-requires-clause-next_held g c = subst (IsNextHeld (knows c.args.pass.now.trace).checked) (sym (search rules)) (subst (HasChecked c.args.slots.now.shape (knows c.args.pass.now.trace)) c.in-StoreLink.is c.requires.accepted.held)
+store_link-requires-clause-next_held g c = subst (IsNextHeld (knows c.args.pass.now.trace).checked) (sym (search rules)) (subst (HasChecked c.args.slots.now.start (knows c.args.pass.now.trace)) c.in-StoreLink.is c.requires.accepted.held)
 
 pub store_link-requires-clause-word : goal.store_link-requires-clause-word
 store_link-requires-clause-word g c =

@@ -1,6 +1,6 @@
 -- The list is worked at this shape.
-use Rattle.std.proofs.Common.{◌≡◌, sym, subst, rules}
-use Rattle.vbr_words.specs.Dimensions.{Dimensions}
+use Rattle.std.proofs.Common.{◌≡◌, sym, subst, rules, ap}
+use Rattle.vbr_machine.specs.Start.{Start, empty_start}
 use Rattle.vbr_machine.specs.Machine.{opening}
 use Rattle.vbr_event_lists.specs.Worked.{AreWorked, one_slot}
 use Rattle.vbr_event_lists.specs.declared.lists.TheConstants.{TWO_HELPERS, TWO_HELPERS_WORDS}
@@ -9,5 +9,5 @@ use Rattle.vbr_table_tests.proofs.listed_calls.two_passes_unlink_one_node.Goals 
 
 pub words_after-requires-clause-worked : goal.words_after-requires-clause-worked
 words_after-requires-clause-worked g c =
-    let shape : c.in_ok-shape.shape ≡ one_slot = search rules in
-    subst (λ (d : Dimensions). AreWorked d (opening d) TWO_HELPERS TWO_HELPERS_WORDS) (sym shape) two_helpers
+    let shape : c.in_ok-shape.shape ≡ one_slot.shape = search rules in
+    subst (λ (d : Start). AreWorked d (opening d) TWO_HELPERS TWO_HELPERS_WORDS) (sym (ap empty_start shape)) two_helpers

@@ -6,10 +6,10 @@ use Rattle.vbr_table_tests.proofs.retiring.insert_one.Goals as goal
 
 pub update-requires-clause-gap : goal.update-requires-clause-gap
 update-requires-clause-gap g c =
-    let one : c.next.new.pass.trace.shape.buckets ≡ 1 = search rules in
+    let one : c.next.new.pass.trace.start.shape.buckets ≡ 1 = search rules in
     record {
       held = held_through c.head_of-head.result c.next.result _ c.expect.ensures c.next.ensures.next (λ node read. read.keeps) c.head_of-head.ensures.held;
       unmarked = search rules;
-      behind = behind_head c.next.new.pass.trace.shape (knows c.next.new.pass.trace) c.head_of-head.result.at 7 c.head_of-head.ensures.at one;
+      behind = behind_head c.next.new.pass.trace.start (knows c.next.new.pass.trace) c.head_of-head.result.at 7 c.head_of-head.ensures.at one;
       before = search rules;
     }

@@ -7,7 +7,7 @@ use Rattle.vbr_table_tests.proofs.running_table.Taking.{reached}
 use Rattle.vbr_table_tests.proofs.running_table.a_slot_is_born_in_with_a_value.Goals as goal
 
 pub store_link-requires-clause-next_in : goal.store_link-requires-clause-next_in
-store_link-requires-clause-next_in g c = subst (IsNextIn c.in-Some.slots.shape) (sym names_none) tt
+store_link-requires-clause-next_in g c = subst (IsNextIn c.in-Some.slots.start) (sym names_none) tt
 
 pub store_link-requires-clause-next_held : goal.store_link-requires-clause-next_held
 store_link-requires-clause-next_held g c = subst (IsNextHeld (knows c.store_value.new.pass.trace).checked) (sym names_none) tt

@@ -22,7 +22,7 @@ store_birth-requires-clause-above_stamp g c =
     ∙ one)
 
 pub store_link-requires-clause-next_in : goal.store_link-requires-clause-next_in
-store_link-requires-clause-next_in g c = subst (IsNextIn c.in_ok-slots.slots.shape) (sym names_none) tt
+store_link-requires-clause-next_in g c = subst (IsNextIn c.in_ok-slots.slots.start) (sym names_none) tt
 
 pub store_link-requires-clause-next_held : goal.store_link-requires-clause-next_held
 store_link-requires-clause-next_held g c = subst (IsNextHeld (knows c.store_key.new.pass.trace).checked) (sym names_none) tt

@@ -3,4 +3,4 @@ use Rattle.std.proofs.Common.{◌≡◌}
 use Rattle.vbr_table_tests.proofs.world.follow.Given as goal
 
 abbrev pub invariant-loop-pass : goal.invariant-loop-pass
-invariant-loop-pass g l = l.world.shape ≡ l.shape
+invariant-loop-pass g l = l.world.start.shape ≡ l.shape

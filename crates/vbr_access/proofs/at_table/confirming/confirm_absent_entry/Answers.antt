@@ -1,5 +1,5 @@
 use Rattle.std.proofs.Common.{subst, refl, rules}
-use Rattle.vbr_words.specs.Dimensions.{Dimensions}
+use Rattle.vbr_machine.specs.Start.{Start}
 use Rattle.vbr_machine.specs.Acceptance.{IsAtIn}
 use Rattle.vbr_slots.proofs.Lemmas.{did_loads}
 use Rattle.vbr_pools.proofs.Lemmas.{did_none}
@@ -10,7 +10,7 @@ use Rattle.vbr_access.proofs.at_table.confirming.confirm_absent_entry.Goals as g
 
 pub confirm_absent-requires-clause-at : goal.confirm_absent-requires-clause-at
 confirm_absent-requires-clause-at g c =
-    let P : Dimensions → Type 0 = λ shape. IsAtIn shape c.args.pred.now.at in
+    let P : Start → Type 0 = λ start. IsAtIn start c.args.pred.now.at in
     subst P c.args.at.now.own.1 (place_in c.args.at.now.pass.now c.law.ensures c.args.pred.now c.requires.gap.held)
 
 pub confirm_absent-requires-clause-checked : goal.confirm_absent-requires-clause-checked
@@ -46,5 +46,5 @@ returns-in-Err-clause-lost g c = record {
   quiet = absent_failed c.in-Err.ensures.other.did c.in-Err.ensures.other.unexpected;
   adds_none = absent_adds_none c.in-Err.ensures.other.did c.in-Err.ensures.other.unexpected;
   lost = search rules;
-  wins = λ alone stands. absent_confirmed c.law.ensures.shape alone c.args.op c.args.key c.args.pred.now.at c.args.pred.now.word c.in-Err.ensures.other.did c.in-Err.ensures.other.unexpected stands;
+  wins = λ alone stands. absent_confirmed c.law.ensures.start alone c.args.op c.args.key c.args.pred.now.at c.args.pred.now.word c.in-Err.ensures.other.did c.in-Err.ensures.other.unexpected stands;
 }

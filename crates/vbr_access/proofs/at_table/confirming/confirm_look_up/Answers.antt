@@ -1,5 +1,5 @@
 use Rattle.std.proofs.Common.{subst, rules}
-use Rattle.vbr_words.specs.Dimensions.{Dimensions}
+use Rattle.vbr_machine.specs.Start.{Start}
 use Rattle.vbr_machine.specs.Acceptance.{Accepts}
 use Rattle.vbr_slots.specs.LookUps.{look_up}
 use Rattle.vbr_slots.specs.Views.{knows}
@@ -8,7 +8,7 @@ use Rattle.vbr_access.proofs.at_table.confirming.confirm_look_up.Goals as goal
 
 pub confirm_look_up-requires-clause-accepted : goal.confirm_look_up-requires-clause-accepted
 confirm_look_up-requires-clause-accepted g c =
-    let P : Dimensions → Type 0 = λ shape. Accepts shape (knows c.args.at.now.pass.now.trace) (look_up c.args.present c.args.key c.args.held.now.at c.args.held.now.word) in
+    let P : Start → Type 0 = λ start. Accepts start (knows c.args.at.now.pass.now.trace) (look_up c.args.present c.args.key c.args.held.now.at c.args.held.now.word) in
     subst P c.args.at.now.own.1 (look_up_accepted c.args.at.now.pass.now c.law.ensures c.args.key c.args.held.now c.requires.held.held c.requires.held.unmarked c.args.present c.requires.decides)
 
 pub returns-in-Ok-clause-keeps : goal.returns-in-Ok-clause-keeps

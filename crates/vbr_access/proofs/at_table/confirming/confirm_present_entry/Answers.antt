@@ -1,5 +1,5 @@
 use Rattle.std.proofs.Common.{◌<◌, subst, refl, rules}
-use Rattle.vbr_words.specs.Dimensions.{Dimensions}
+use Rattle.vbr_machine.specs.Start.{Start}
 use Rattle.vbr_words.specs.declared.place.At.{At}
 use Rattle.vbr_machine.specs.Membership.{KeyAt}
 use Rattle.vbr_slots.specs.Views.{knows}
@@ -18,7 +18,7 @@ use Rattle.vbr_access.proofs.at_table.confirming.confirm_present_entry.Goals as 
 
 pub confirm_present-requires-clause-slot : goal.confirm_present-requires-clause-slot
 confirm_present-requires-clause-slot g c =
-    let P : Dimensions → Type 0 = λ shape. c.in-Slot.slot < shape.slots in
+    let P : Start → Type 0 = λ start. c.in-Slot.slot < start.shape.slots in
     subst P c.args.at.now.own.1 (present_accepted c.args.at.now.pass.now c.law.ensures c.args.op c.args.held.now c.in-Slot.slot c.requires.node.held c.in-Slot.is c.requires.node.key c.requires.node.unmarked c.requires.op c.requires.asked).in_shape.0
 
 pub confirm_present-requires-clause-checked : goal.confirm_present-requires-clause-checked
@@ -52,8 +52,8 @@ answered g c = record {
       let P : At → Type 0 = λ at. KeyAt (knows c.args.at.now.pass.now.trace) at key in
       let V : At → Type 0 = λ at. ValueAt (knows c.args.at.now.pass.now.trace) at value in
       record {
-        made = present_made c.law.ensures.shape c.law.ensures.is_run c.in-Ok.ensures.found.did key value (subst P c.in-Slot.is k) (λ get. subst V c.in-Slot.is (v get));
-        adds = present_adds c.law.ensures.shape c.law.ensures.is_run c.in-Ok.ensures.found.did key value (subst P c.in-Slot.is k) (λ get. subst V c.in-Slot.is (v get));
+        made = present_made c.law.ensures.start c.law.ensures.is_run c.in-Ok.ensures.found.did key value (subst P c.in-Slot.is k) (λ get. subst V c.in-Slot.is (v get));
+        adds = present_adds c.law.ensures.start c.law.ensures.is_run c.in-Ok.ensures.found.did key value (subst P c.in-Slot.is k) (λ get. subst V c.in-Slot.is (v get));
       });
 }
 
@@ -67,5 +67,5 @@ returns-in-Err-clause-lost g c = record {
   lost = search rules;
   wins = (λ alone stands.
       let P : At → Type 0 = λ at. link_shown_at (nodes c.args.at.now.pass.now.trace) at ≡ link_of c.args.held.now.word in
-      present_confirmed c.law.ensures.shape alone c.args.op c.in-Slot.slot c.args.held.now.word c.in-Err.ensures.other.did c.in-Err.ensures.other.unexpected (subst P c.in-Slot.is stands));
+      present_confirmed c.law.ensures.start alone c.args.op c.in-Slot.slot c.args.held.now.word c.in-Err.ensures.other.did c.in-Err.ensures.other.unexpected (subst P c.in-Slot.is stands));
 }

@@ -1,5 +1,5 @@
 use Rattle.std.proofs.Common.{◌<◌, subst, refl, rules}
-use Rattle.vbr_words.specs.Dimensions.{Dimensions}
+use Rattle.vbr_machine.specs.Start.{Start}
 use Rattle.vbr_words.specs.declared.place.At.{At}
 use Rattle.vbr_pools.proofs.Lemmas.{did_none}
 use Rattle.std.proofs.Common.{◌≡◌}
@@ -15,7 +15,7 @@ use Rattle.vbr_access.proofs.at_table.marking.mark_entry.Goals as goal
 
 pub mark-requires-clause-slot : goal.mark-requires-clause-slot
 mark-requires-clause-slot g c =
-    let P : Dimensions → Type 0 = λ shape. c.in-Slot.slot < shape.slots in
+    let P : Start → Type 0 = λ start. c.in-Slot.slot < start.shape.slots in
     subst P c.args.at.now.own.1 (mark_accepted c.args.at.now.pass.now c.law.ensures c.args.held.now c.in-Slot.slot c.requires.node.held c.in-Slot.is c.requires.node.key c.requires.node.unmarked c.requires.valued).in_shape
 
 pub mark-requires-clause-checked : goal.mark-requires-clause-checked
@@ -38,7 +38,7 @@ returns-in-Err-clause-keeps g c = record {
 }
 
 pub returns-in-Ok-clause-removed : goal.returns-in-Ok-clause-removed
-returns-in-Ok-clause-removed g c = mark_told c.args.held.now c.law.ensures.shape c.law.ensures.is_run c.requires.node.held c.in-Slot.is c.in-Ok.ensures.found.did c.with_mark.ensures
+returns-in-Ok-clause-removed g c = mark_told c.args.held.now c.law.ensures.start c.law.ensures.is_run c.requires.node.held c.in-Slot.is c.in-Ok.ensures.found.did c.with_mark.ensures
 
 pub returns-in-Err-clause-lost : goal.returns-in-Err-clause-lost
 returns-in-Err-clause-lost g c = record {
@@ -46,5 +46,5 @@ returns-in-Err-clause-lost g c = record {
   lost = search rules;
   wins = (λ alone stands.
       let P : At → Type 0 = λ at. link_shown_at (nodes c.args.at.now.pass.now.trace) at ≡ link_of c.args.held.now.word in
-      mark_wins c.law.ensures.shape alone c.in-Slot.slot c.args.held.now.word c.in-Err.ensures.other.did c.in-Err.ensures.other.unexpected (subst P c.in-Slot.is stands));
+      mark_wins c.law.ensures.start alone c.in-Slot.slot c.args.held.now.word c.in-Err.ensures.other.did c.in-Err.ensures.other.unexpected (subst P c.in-Slot.is stands));
 }

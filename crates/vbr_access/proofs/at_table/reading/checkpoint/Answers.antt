@@ -11,4 +11,4 @@ returns-clause-reads g c = epoch_in_one (fit c.args.at.now.pass.now c.law.ensure
 pub returns-clause-point : goal.returns-clause-point
 returns-clause-point g c =
     let told = epoch_told c.read_epoch.ensures.step in
-    record { known = sym told; read = epoch_read c.read_epoch.ensures.step; fresh = fresh_read c.law.ensures.shape c.read_epoch.ensures.step told }
+    record { known = sym told; read = epoch_read c.read_epoch.ensures.step; fresh = fresh_read c.law.ensures.start c.read_epoch.ensures.step told }

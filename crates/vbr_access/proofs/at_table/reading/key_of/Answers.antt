@@ -1,6 +1,6 @@
 use Rattle.std.proofs.Common.{◌∙◌, subst, ◌<◌}
 use Rattle.vbr_words.specs.declared.place.At.{At}
-use Rattle.vbr_words.specs.Dimensions.{Dimensions}
+use Rattle.vbr_machine.specs.Start.{Start}
 use Rattle.vbr_machine.specs.Acceptance.{IsAtIn}
 use Rattle.vbr_machine.specs.Membership.{IsHeldPlace}
 use Rattle.vbr_slots.specs.Views.{knows}
@@ -10,8 +10,8 @@ use Rattle.vbr_access.proofs.at_table.reading.key_of.Goals as goal
 
 pub read_key-key-requires-clause-slot : goal.read_key-key-requires-clause-slot
 read_key-key-requires-clause-slot g c =
-    let P : Dimensions → Type 0 = λ shape. c.in-Slot.slot < shape.slots in
-    let Q : At → Type 0 = IsAtIn c.args.at.now.pass.now.trace.shape in
+    let P : Start → Type 0 = λ start. c.in-Slot.slot < start.shape.slots in
+    let Q : At → Type 0 = IsAtIn c.args.at.now.pass.now.trace.start in
     subst P c.args.at.now.own.1 (subst Q c.in-Slot.is (place_in c.args.at.now.pass.now c.law.ensures c.args.node.now c.requires.held))
 
 pub read_key-key-requires-clause-held : goal.read_key-key-requires-clause-held

@@ -1,5 +1,5 @@
 use Rattle.std.proofs.Common.{ℕ, Option, ◌<◌, sym, ap, ◌∙◌, subst}
-use Rattle.vbr_words.specs.Dimensions.{Dimensions}
+use Rattle.vbr_machine.specs.Start.{Start}
 use Rattle.vbr_words.specs.declared.link.Link.{Link}
 use Rattle.vbr_access.specs.Reading.{ReadsIn}
 use Rattle.vbr_access.specs.Steps.{next_steps}
@@ -9,7 +9,7 @@ use Rattle.vbr_access.proofs.at_table.reading.next.Goals as goal
 
 pub read_node-birth-requires-clause-slot : goal.read_node-birth-requires-clause-slot
 read_node-birth-requires-clause-slot g c =
-    let P : Dimensions → Type 0 = λ shape. c.in-Some.slot < shape.slots in
+    let P : Start → Type 0 = λ start. c.in-Some.slot < start.shape.slots in
     subst P c.args.at.now.own.1 (slot_in c.args.at.now.pass.now c.law.ensures c.in-Some.slot (named_slot c.args.held.now c.in-Some.slot c.requires.held (ap (λ (l : Link). l.slot) (sym c.decode.ensures.link) ∙ c.in-Some.is)))
 
 pub read_node-birth-requires-clause-held : goal.read_node-birth-requires-clause-held

@@ -1,5 +1,5 @@
 use Rattle.std.proofs.Common.{ℕ, ◌<◌, sym, ap, ◌∙◌, subst, Option, ◌≡◌, rules}
-use Rattle.vbr_words.specs.Dimensions.{Dimensions}
+use Rattle.vbr_machine.specs.Start.{Start}
 use Rattle.vbr_words.specs.declared.link.Link.{Link}
 use Rattle.vbr_machine.specs.Membership.{BirthNamed}
 use Rattle.vbr_slots.specs.Views.{knows}
@@ -14,7 +14,7 @@ use Rattle.vbr_access.proofs.at_table.unlinking.birth_behind.Goals as goal
 
 pub load_birth-birth-requires-clause-slot : goal.load_birth-birth-requires-clause-slot
 load_birth-birth-requires-clause-slot g c =
-    let P : Dimensions → Type 0 = λ shape. c.in-Some.slot < shape.slots in
+    let P : Start → Type 0 = λ start. c.in-Some.slot < start.shape.slots in
     subst P c.args.at.now.own.1 (slot_in c.args.at.now.pass.now c.law.ensures c.in-Some.slot (named_slot (held_of c.args.marked.now) c.in-Some.slot c.requires.marked.held (ap (λ (l : Link). l.slot) (sym c.decode.ensures.link) ∙ c.in-Some.is)))
 
 pub load_birth-birth-requires-clause-held : goal.load_birth-birth-requires-clause-held
@@ -49,5 +49,5 @@ returns-clause-birth g c =
 pub returns-then-now-marked-clause-moved : goal.returns-then-now-marked-clause-moved
 returns-then-now-marked-clause-moved g c = record {
   some = search rules;
-  rolls = record { moved = search rules; still = λ fresh alone. c.if-now-marked.true (birth_still c.load_birth-birth.ensures.step c.read_epoch-now.ensures.step alone c.law.ensures.shape fresh ∙ sym c.requires.marked.held.epoch) };
+  rolls = record { moved = search rules; still = λ fresh alone. c.if-now-marked.true (birth_still c.load_birth-birth.ensures.step c.read_epoch-now.ensures.step alone c.law.ensures.start fresh ∙ sym c.requires.marked.held.epoch) };
 }

@@ -1,5 +1,5 @@
 use Rattle.std.proofs.Common.{◌<◌, sym, ap, ◌∙◌, subst, rules}
-use Rattle.vbr_words.specs.Dimensions.{Dimensions}
+use Rattle.vbr_machine.specs.Start.{Start}
 use Rattle.vbr_words.specs.Words.{word_of}
 use Rattle.vbr_machine.specs.Acceptance.{IsAtIn}
 use Rattle.vbr_access.proofs.Accepted.{accepted_checked}
@@ -17,14 +17,14 @@ link_to-new-requires g c =
 pub unlink-requires-clause-pred : goal.unlink-requires-clause-pred
 unlink-requires-clause-pred g c =
     let b = c.in_ok-next_birth.ensures in
-    let P : Dimensions → Type 0 = λ shape. IsAtIn shape c.args.pred.now.at in
+    let P : Start → Type 0 = λ start. IsAtIn start c.args.pred.now.at in
     subst P c.birth_behind.new.at.own.1
     (accepted c.birth_behind.new.at.pass.now c.law.ensures c.args.pred.now c.args.marked c.decode.result c.in_ok-next_birth.next_birth (held_kept c.args.pred.now b.birth.keeps c.requires.pred.held) (marked_kept c.args.marked b.birth.keeps c.requires.marked) c.decode.ensures.link b.birth.birth c.requires.pred.unmarked c.requires.names).in_shape.0
 
 pub unlink-requires-clause-slot : goal.unlink-requires-clause-slot
 unlink-requires-clause-slot g c =
     let b = c.in_ok-next_birth.ensures in
-    let P : Dimensions → Type 0 = λ shape. c.args.marked.slot < shape.slots in
+    let P : Start → Type 0 = λ start. c.args.marked.slot < start.shape.slots in
     subst P c.birth_behind.new.at.own.1
     (accepted c.birth_behind.new.at.pass.now c.law.ensures c.args.pred.now c.args.marked c.decode.result c.in_ok-next_birth.next_birth (held_kept c.args.pred.now b.birth.keeps c.requires.pred.held) (marked_kept c.args.marked b.birth.keeps c.requires.marked) c.decode.ensures.link b.birth.birth c.requires.pred.unmarked c.requires.names).in_shape.1
 

@@ -20,13 +20,13 @@ confirm_look_up-outcome-requires-clause-held g c =
     let p = c.args.self.now.at.pass.now.trace in
     let P : Held → Type 0 = IsUnmarked (knows p) in
     subst P (sym c.told_by-present.ensures.held)
-    (record { held = sight_held p.shape (knows p) c.args.self.now.key c.args.sight c.requires.sight; unmarked = sight_unmarked p.shape (knows p) c.args.self.now.key c.args.sight c.requires.sight })
+    (record { held = sight_held p.start (knows p) c.args.self.now.key c.args.sight c.requires.sight; unmarked = sight_unmarked p.start (knows p) c.args.self.now.key c.args.sight c.requires.sight })
 
 pub confirm_look_up-outcome-requires-clause-decides : goal.confirm_look_up-outcome-requires-clause-decides
 confirm_look_up-outcome-requires-clause-decides g c =
     let p = c.args.self.now.at.pass.now.trace in
-    let P : Held × Bool → Type 0 = λ x. DecidesKey p.shape (knows p) c.args.self.now.key x.0 x.1 in
-    subst P (λ i. (sym c.told_by-present.ensures.held i, sym c.told_by-present.ensures.present i)) (sight_answers p.shape (knows p) c.args.self.now.key c.args.sight c.requires.sight)
+    let P : Held × Bool → Type 0 = λ x. DecidesKey p.start (knows p) c.args.self.now.key x.0 x.1 in
+    subst P (λ i. (sym c.told_by-present.ensures.held i, sym c.told_by-present.ensures.present i)) (sight_answers p.start (knows p) c.args.self.now.key c.args.sight c.requires.sight)
 
 pub returns-in-Ok-clause-settles : goal.returns-in-Ok-clause-settles
 returns-in-Ok-clause-settles g c =
@@ -44,10 +44,10 @@ returns-in-Ok-clause-answers g c =
     let q = c.confirm_look_up-outcome.new.at.pass.now.trace in
     let key = c.args.self.now.key in
     let answers = c.in-Ok.ensures.answers in
-    let M : Bool → Type 0 = λ reply. Made (kept_call p.shape (set_call p.who Has key reply)) p q in
-    let A : Bool → Type 0 = λ reply. AddsAnswer (kept_call p.shape (set_call p.who Has key reply)) p q in
+    let M : Bool → Type 0 = λ reply. Made (kept_call p.start (set_call p.who Has key reply)) p q in
+    let A : Bool → Type 0 = λ reply. AddsAnswer (kept_call p.start (set_call p.who Has key reply)) p q in
     let present = sym c.without_value.ensures in
-    let same = told_bare p.shape p.who Has key c.told_by-present.result.1 in
+    let same = told_bare p.start p.who Has key c.told_by-present.result.1 in
     record {
       made = subst M present (subst (λ (call : Call). Made call p q) same answers.made);
       adds = subst A present (subst (λ (call : Call). AddsAnswer call p q) same answers.adds);

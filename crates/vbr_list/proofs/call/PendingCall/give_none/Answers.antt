@@ -30,7 +30,7 @@ returns-in-Ok-clause-answers g c =
     let p = c.args.self.now.at.pass.now.trace in
     let q = c.confirm_absent_entry-outcome.new.at.pass.now.trace in
     let answers = c.in-Ok.ensures.answers in
-    let same = told_bare p.shape p.who Get c.args.self.now.key false in
+    let same = told_bare p.start p.who Get c.args.self.now.key false in
     record { made = subst (λ (call : Call). Made call p q) same answers.made; adds = subst (λ (call : Call). AddsAnswer call p q) same answers.adds }
 
 pub returns-in-Err-clause-rolls : goal.returns-in-Err-clause-rolls

@@ -1,5 +1,5 @@
 use Rattle.std.proofs.Common.{◌≡◌, ◌+◌, Some, rules, arith, sym, ap, ◌∙◌, subst}
-use Rattle.vbr_words.specs.Dimensions.{Dimensions}
+use Rattle.vbr_machine.specs.Start.{Start}
 use Rattle.vbr_machine.specs.declared.history.Call.{Call}
 use Rattle.vbr_machine.specs.declared.history.Op.TheVariants.{Get}
 use Rattle.vbr_slots.specs.Calls.{AddsAnswer}
@@ -37,7 +37,7 @@ confirm_present_entry-outcome-requires-clause-op g c = λ e. absurd (cc)
 
 pub confirm_present_entry-outcome-requires-clause-asked : goal.confirm_present_entry-outcome-requires-clause-asked
 confirm_present_entry-outcome-requires-clause-asked g c = λ get.
-    let same = ap (λ (d : Dimensions). d.values) c.value_if_any-read.ensures.reads.quiet.same.shape in
+    let same = ap (λ (d : Start). d.shape.values) c.value_if_any-read.ensures.reads.quiet.same.start in
     (same ∙ c.requires.values, (c.in_ok-value.value, c.in_ok-value.ensures.value.value c.requires.values))
 
 pub returns-in_err-value-clause-settles : goal.returns-in_err-value-clause-settles
@@ -45,8 +45,8 @@ returns-in_err-value-clause-settles g c =
     let p = c.args.self.now.at.pass.now in
     let q = c.value_if_any-read.new.at.pass.now in
     let reads = c.value_if_any-read.ensures.reads in
-    let steps : c.steps_to_value_of.result ≡ steps_to_value_of p.trace.shape = c.steps_to_value_of.ensures ∙ ap steps_to_value_of (sym c.value_if_any-read.new.at.own.1 ∙ reads.quiet.same.shape) in
-    let first : Goes p q c.args.self.now.used (c.args.self.now.used + c.steps_to_value_of.result) = goes_counted c.args.self.now.used c.steps_to_value_of.result (steps_to_value_of p.trace.shape) steps reads in
+    let steps : c.steps_to_value_of.result ≡ steps_to_value_of p.trace.start = c.steps_to_value_of.ensures ∙ ap steps_to_value_of (sym c.value_if_any-read.new.at.own.1 ∙ reads.quiet.same.start) in
+    let first : Goes p q c.args.self.now.used (c.args.self.now.used + c.steps_to_value_of.result) = goes_counted c.args.self.now.used c.steps_to_value_of.result (steps_to_value_of p.trace.start) steps reads in
     let two = steps ∙ ap steps_where c.requires.values in
     record { call = search rules; counts = first.counts; hand = first.hand; more = omega (arith, two) }
 
@@ -55,8 +55,8 @@ returns-in_err-value-clause-few g c =
     let p = c.args.self.now.at.pass.now in
     let q = c.value_if_any-read.new.at.pass.now in
     let reads = c.value_if_any-read.ensures.reads in
-    let steps : c.steps_to_value_of.result ≡ steps_to_value_of p.trace.shape = c.steps_to_value_of.ensures ∙ ap steps_to_value_of (sym c.value_if_any-read.new.at.own.1 ∙ reads.quiet.same.shape) in
-    let first : Goes p q c.args.self.now.used (c.args.self.now.used + c.steps_to_value_of.result) = goes_counted c.args.self.now.used c.steps_to_value_of.result (steps_to_value_of p.trace.shape) steps reads in
+    let steps : c.steps_to_value_of.result ≡ steps_to_value_of p.trace.start = c.steps_to_value_of.ensures ∙ ap steps_to_value_of (sym c.value_if_any-read.new.at.own.1 ∙ reads.quiet.same.start) in
+    let first : Goes p q c.args.self.now.used (c.args.self.now.used + c.steps_to_value_of.result) = goes_counted c.args.self.now.used c.steps_to_value_of.result (steps_to_value_of p.trace.start) steps reads in
     let two = steps ∙ ap steps_where c.requires.values in
     omega (arith, two)
 
@@ -71,8 +71,8 @@ returns-in-Ok-clause-settles g c =
     let p = c.args.self.now.at.pass.now in
     let q = c.value_if_any-read.new.at.pass.now in
     let reads = c.value_if_any-read.ensures.reads in
-    let steps : c.steps_to_value_of.result ≡ steps_to_value_of p.trace.shape = c.steps_to_value_of.ensures ∙ ap steps_to_value_of (sym c.value_if_any-read.new.at.own.1 ∙ reads.quiet.same.shape) in
-    let first : Goes p q c.args.self.now.used (c.args.self.now.used + c.steps_to_value_of.result) = goes_counted c.args.self.now.used c.steps_to_value_of.result (steps_to_value_of p.trace.shape) steps reads in
+    let steps : c.steps_to_value_of.result ≡ steps_to_value_of p.trace.start = c.steps_to_value_of.ensures ∙ ap steps_to_value_of (sym c.value_if_any-read.new.at.own.1 ∙ reads.quiet.same.start) in
+    let first : Goes p q c.args.self.now.used (c.args.self.now.used + c.steps_to_value_of.result) = goes_counted c.args.self.now.used c.steps_to_value_of.result (steps_to_value_of p.trace.start) steps reads in
     let keeps = c.confirm_present_entry-outcome.ensures.keeps.keeps in
     record {
       call = search rules;
@@ -86,8 +86,8 @@ returns-in-Err-clause-settles g c =
     let p = c.args.self.now.at.pass.now in
     let q = c.value_if_any-read.new.at.pass.now in
     let reads = c.value_if_any-read.ensures.reads in
-    let steps : c.steps_to_value_of.result ≡ steps_to_value_of p.trace.shape = c.steps_to_value_of.ensures ∙ ap steps_to_value_of (sym c.value_if_any-read.new.at.own.1 ∙ reads.quiet.same.shape) in
-    let first : Goes p q c.args.self.now.used (c.args.self.now.used + c.steps_to_value_of.result) = goes_counted c.args.self.now.used c.steps_to_value_of.result (steps_to_value_of p.trace.shape) steps reads in
+    let steps : c.steps_to_value_of.result ≡ steps_to_value_of p.trace.start = c.steps_to_value_of.ensures ∙ ap steps_to_value_of (sym c.value_if_any-read.new.at.own.1 ∙ reads.quiet.same.start) in
+    let first : Goes p q c.args.self.now.used (c.args.self.now.used + c.steps_to_value_of.result) = goes_counted c.args.self.now.used c.steps_to_value_of.result (steps_to_value_of p.trace.start) steps reads in
     let keeps = c.confirm_present_entry-outcome.ensures.keeps.keeps in
     record {
       call = search rules;
@@ -101,9 +101,9 @@ returns-in-Ok-clause-few g c =
     let p = c.args.self.now.at.pass.now in
     let q = c.value_if_any-read.new.at.pass.now in
     let reads = c.value_if_any-read.ensures.reads in
-    let steps : c.steps_to_value_of.result ≡ steps_to_value_of p.trace.shape = c.steps_to_value_of.ensures ∙ ap steps_to_value_of (sym c.value_if_any-read.new.at.own.1 ∙ reads.quiet.same.shape) in
-    let first : Goes p q c.args.self.now.used (c.args.self.now.used + c.steps_to_value_of.result) = goes_counted c.args.self.now.used c.steps_to_value_of.result (steps_to_value_of p.trace.shape) steps reads in
-    let few = few_to_value p.trace.shape in
+    let steps : c.steps_to_value_of.result ≡ steps_to_value_of p.trace.start = c.steps_to_value_of.ensures ∙ ap steps_to_value_of (sym c.value_if_any-read.new.at.own.1 ∙ reads.quiet.same.start) in
+    let first : Goes p q c.args.self.now.used (c.args.self.now.used + c.steps_to_value_of.result) = goes_counted c.args.self.now.used c.steps_to_value_of.result (steps_to_value_of p.trace.start) steps reads in
+    let few = few_to_value p.trace.start in
     omega (arith, steps, few)
 
 pub returns-in-Err-clause-few : goal.returns-in-Err-clause-few
@@ -111,9 +111,9 @@ returns-in-Err-clause-few g c =
     let p = c.args.self.now.at.pass.now in
     let q = c.value_if_any-read.new.at.pass.now in
     let reads = c.value_if_any-read.ensures.reads in
-    let steps : c.steps_to_value_of.result ≡ steps_to_value_of p.trace.shape = c.steps_to_value_of.ensures ∙ ap steps_to_value_of (sym c.value_if_any-read.new.at.own.1 ∙ reads.quiet.same.shape) in
-    let first : Goes p q c.args.self.now.used (c.args.self.now.used + c.steps_to_value_of.result) = goes_counted c.args.self.now.used c.steps_to_value_of.result (steps_to_value_of p.trace.shape) steps reads in
-    let few = few_to_value p.trace.shape in
+    let steps : c.steps_to_value_of.result ≡ steps_to_value_of p.trace.start = c.steps_to_value_of.ensures ∙ ap steps_to_value_of (sym c.value_if_any-read.new.at.own.1 ∙ reads.quiet.same.start) in
+    let first : Goes p q c.args.self.now.used (c.args.self.now.used + c.steps_to_value_of.result) = goes_counted c.args.self.now.used c.steps_to_value_of.result (steps_to_value_of p.trace.start) steps reads in
+    let few = few_to_value p.trace.start in
     omega (arith, steps, few)
 
 pub returns-in-Ok-clause-only_loads : goal.returns-in-Ok-clause-only_loads

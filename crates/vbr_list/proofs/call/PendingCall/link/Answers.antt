@@ -127,6 +127,6 @@ returns-in-Ok-clause-linked g c =
           let searched : c.search.new.self.used ≤ c.args.self.now.used + 3 + 9 * listed_for p.trace c.args.self.now.key = at_first (λ q since. c.search.new.self.used ≤ since + 3 + 9 * listed_for q.trace c.args.self.now.key) p c.loop-found.self.at.pass.now c.search.new.self.at.pass.now c.loop-found.invariant.6 c.loop-found.invariant.1 s (alone_first quiet.seen made.seen alone)
           (λ then. (rw c.loop-found.invariant.0.key at c.in-Some.ensures.found.alone then).paid) in
           let few = c.settle_insert.ensures.publishes.few in
-          let shape = ap steps_to_update quiet.same.shape in
-          omega (arith, searched, few, shape);
+          let start = ap steps_to_update quiet.same.start in
+          omega (arith, searched, few, start);
     }

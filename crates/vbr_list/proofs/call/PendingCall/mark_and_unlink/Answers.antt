@@ -1,5 +1,5 @@
 use Rattle.std.proofs.Common.{◌≡◌, ◌+◌, ℕ, true, false, Option, Some, rules, arith, sym, ap, ◌∙◌, subst, inl}
-use Rattle.vbr_words.specs.Dimensions.{Dimensions}
+use Rattle.vbr_machine.specs.Start.{Start}
 use Rattle.vbr_words.specs.declared.place.At.{At}
 use Rattle.vbr_words.specs.declared.place.At.TheVariants.{Head}
 use Rattle.vbr_machine.specs.Membership.{KeyAt}
@@ -44,7 +44,7 @@ mark_entry-outcome-requires-clause-node g c =
     record { held = held_kept c.in-Some.cur keeps y.held; key = (c.args.self.now.key, there); unmarked = y.unmarked }
 
 pub mark_entry-outcome-requires-clause-valued : goal.mark_entry-outcome-requires-clause-valued
-mark_entry-outcome-requires-clause-valued g c = λ has. (c.in_ok-value.value, c.in_ok-value.ensures.value.value (sym (ap (λ (d : Dimensions). d.values) c.value_if_any-read.ensures.reads.quiet.same.shape) ∙ has))
+mark_entry-outcome-requires-clause-valued g c = λ has. (c.in_ok-value.value, c.in_ok-value.ensures.value.value (sym (ap (λ (d : Start). d.shape.values) c.value_if_any-read.ensures.reads.quiet.same.start) ∙ has))
 
 pub unlink_marked-requires-clause-marked : goal.unlink_marked-requires-clause-marked
 unlink_marked-requires-clause-marked g c =
@@ -54,7 +54,7 @@ unlink_marked-requires-clause-marked g c =
     let keeps = c.in_ok-value.ensures.value.keeps in
     let there = key_kept c.in-Some.cur.at c.args.self.now.key keeps key in
     let same = c.value_if_any-read.ensures.reads.quiet.same in
-    let valued = λ (has : c.value_if_any-read.new.at.pass.now.trace.shape.values ≡ true). c.in_ok-value.ensures.value.value (sym (ap (λ (d : Dimensions). d.values) same.shape) ∙ has) in
+    let valued = λ (has : c.value_if_any-read.new.at.pass.now.trace.start.shape.values ≡ true). c.in_ok-value.ensures.value.value (sym (ap (λ (d : Start). d.shape.values) same.start) ∙ has) in
     let made = c.in_ok-marked.ensures.removed.made c.args.self.now.key c.in_ok-value.value there valued in
     let mark = c.mark_entry-outcome.ensures.keeps in
     let removed = c.in_ok-marked.ensures.removed in
@@ -73,8 +73,8 @@ returns-in_err-value-clause-settles g c =
     let p = c.args.self.now.at.pass.now in
     let q = c.value_if_any-read.new.at.pass.now in
     let reads = c.value_if_any-read.ensures.reads in
-    let steps : c.steps_to_value_of.result ≡ steps_to_value_of p.trace.shape = c.steps_to_value_of.ensures ∙ ap steps_to_value_of (sym c.value_if_any-read.new.at.own.1 ∙ reads.quiet.same.shape) in
-    let first : Goes p q c.args.self.now.used (c.args.self.now.used + c.steps_to_value_of.result) = goes_counted c.args.self.now.used c.steps_to_value_of.result (steps_to_value_of p.trace.shape) steps reads in
+    let steps : c.steps_to_value_of.result ≡ steps_to_value_of p.trace.start = c.steps_to_value_of.ensures ∙ ap steps_to_value_of (sym c.value_if_any-read.new.at.own.1 ∙ reads.quiet.same.start) in
+    let first : Goes p q c.args.self.now.used (c.args.self.now.used + c.steps_to_value_of.result) = goes_counted c.args.self.now.used c.steps_to_value_of.result (steps_to_value_of p.trace.start) steps reads in
     let two = steps ∙ ap steps_where c.in_err-value.ensures.moved.some in
     record { call = search rules; counts = first.counts; hand = first.hand; more = omega (arith, two) }
 
@@ -88,8 +88,8 @@ returns-in_err-marked-clause-settles g c =
     let p = c.args.self.now.at.pass.now in
     let q = c.value_if_any-read.new.at.pass.now in
     let reads = c.value_if_any-read.ensures.reads in
-    let steps : c.steps_to_value_of.result ≡ steps_to_value_of p.trace.shape = c.steps_to_value_of.ensures ∙ ap steps_to_value_of (sym c.value_if_any-read.new.at.own.1 ∙ reads.quiet.same.shape) in
-    let first : Goes p q c.args.self.now.used (c.args.self.now.used + c.steps_to_value_of.result) = goes_counted c.args.self.now.used c.steps_to_value_of.result (steps_to_value_of p.trace.shape) steps reads in
+    let steps : c.steps_to_value_of.result ≡ steps_to_value_of p.trace.start = c.steps_to_value_of.ensures ∙ ap steps_to_value_of (sym c.value_if_any-read.new.at.own.1 ∙ reads.quiet.same.start) in
+    let first : Goes p q c.args.self.now.used (c.args.self.now.used + c.steps_to_value_of.result) = goes_counted c.args.self.now.used c.steps_to_value_of.result (steps_to_value_of p.trace.start) steps reads in
     let mark = c.mark_entry-outcome.ensures.keeps in
     record {
       call = search rules;
@@ -115,8 +115,8 @@ returns-then-affords-clause-settles g c =
     let p = c.args.self.now.at.pass.now in
     let q = c.value_if_any-read.new.at.pass.now in
     let reads = c.value_if_any-read.ensures.reads in
-    let steps : c.steps_to_value_of.result ≡ steps_to_value_of p.trace.shape = c.steps_to_value_of.ensures ∙ ap steps_to_value_of (sym c.value_if_any-read.new.at.own.1 ∙ reads.quiet.same.shape) in
-    let first : Goes p q c.args.self.now.used (c.args.self.now.used + c.steps_to_value_of.result) = goes_counted c.args.self.now.used c.steps_to_value_of.result (steps_to_value_of p.trace.shape) steps reads in
+    let steps : c.steps_to_value_of.result ≡ steps_to_value_of p.trace.start = c.steps_to_value_of.ensures ∙ ap steps_to_value_of (sym c.value_if_any-read.new.at.own.1 ∙ reads.quiet.same.start) in
+    let first : Goes p q c.args.self.now.used (c.args.self.now.used + c.steps_to_value_of.result) = goes_counted c.args.self.now.used c.steps_to_value_of.result (steps_to_value_of p.trace.start) steps reads in
     let mark = c.mark_entry-outcome.ensures.keeps in
     let more = c.unlink_marked.ensures.goes in
     record {
@@ -134,7 +134,7 @@ returns-then-affords-clause-answers g c =
     let keeps = c.in_ok-value.ensures.value.keeps in
     let there = key_kept c.in-Some.cur.at c.args.self.now.key keeps key in
     let same = c.value_if_any-read.ensures.reads.quiet.same in
-    let valued = λ (has : c.value_if_any-read.new.at.pass.now.trace.shape.values ≡ true). c.in_ok-value.ensures.value.value (sym (ap (λ (d : Dimensions). d.values) same.shape) ∙ has) in
+    let valued = λ (has : c.value_if_any-read.new.at.pass.now.trace.start.shape.values ≡ true). c.in_ok-value.ensures.value.value (sym (ap (λ (d : Start). d.shape.values) same.start) ∙ has) in
     let made = c.in_ok-marked.ensures.removed.made c.args.self.now.key c.in_ok-value.value there valued in
     let told = told_since c.value_if_any-read.ensures.reads.quiet (given_same same Remove c.args.self.now.key (Some c.in_ok-value.value)) made in
     let then = c.unlink_marked.ensures.goes.goes.quiet in
@@ -142,10 +142,10 @@ returns-then-affords-clause-answers g c =
     let q = c.value_if_any-read.new.at.pass.now in
     let r = c.mark_entry-outcome.new.at.pass.now in
     let reads = c.value_if_any-read.ensures.reads in
-    let steps : c.steps_to_value_of.result ≡ steps_to_value_of p.trace.shape = c.steps_to_value_of.ensures ∙ ap steps_to_value_of (sym c.value_if_any-read.new.at.own.1 ∙ same.shape) in
+    let steps : c.steps_to_value_of.result ≡ steps_to_value_of p.trace.start = c.steps_to_value_of.ensures ∙ ap steps_to_value_of (sym c.value_if_any-read.new.at.own.1 ∙ same.start) in
     record {
       made = made_then told then;
-      unlists = λ yes room. leaves_clear c.law.ensures.shape told then.same (c.unlink_marked.ensures.clear room);
+      unlists = λ yes room. leaves_clear c.law.ensures.start told then.same (c.unlink_marked.ensures.clear room);
       soon = λ fresh stands alone.
           let one = alone_first told.seen then.seen alone in
           let read = alone_first reads.quiet.seen made.seen one in
@@ -156,8 +156,8 @@ returns-then-affords-clause-answers g c =
           let soon = c.unlink_marked.ensures.soon kept there (alone_then told.same.who told.seen then.seen alone) in
           let few = soon.few in
           let listed = soon.fewer in
-          let before = listed_same p.trace q.trace c.args.self.now.key same.shape (λ bucket h. (read_leaves reads read).count bucket (Head h)) in
-          let now = listed_same q.trace r.trace c.args.self.now.key made.same.shape marks.listed in
+          let before = listed_same p.trace q.trace c.args.self.now.key same.start (λ bucket h. (read_leaves reads read).count bucket (Head h)) in
+          let now = listed_same q.trace r.trace c.args.self.now.key made.same.start marks.listed in
           record { few = omega (arith, few, steps); fewer = λ yes room. omega (arith, listed, before, now) };
     }
 
@@ -166,8 +166,8 @@ returns-else-affords-clause-settles g c =
     let p = c.args.self.now.at.pass.now in
     let q = c.value_if_any-read.new.at.pass.now in
     let reads = c.value_if_any-read.ensures.reads in
-    let steps : c.steps_to_value_of.result ≡ steps_to_value_of p.trace.shape = c.steps_to_value_of.ensures ∙ ap steps_to_value_of (sym c.value_if_any-read.new.at.own.1 ∙ reads.quiet.same.shape) in
-    let first : Goes p q c.args.self.now.used (c.args.self.now.used + c.steps_to_value_of.result) = goes_counted c.args.self.now.used c.steps_to_value_of.result (steps_to_value_of p.trace.shape) steps reads in
+    let steps : c.steps_to_value_of.result ≡ steps_to_value_of p.trace.start = c.steps_to_value_of.ensures ∙ ap steps_to_value_of (sym c.value_if_any-read.new.at.own.1 ∙ reads.quiet.same.start) in
+    let first : Goes p q c.args.self.now.used (c.args.self.now.used + c.steps_to_value_of.result) = goes_counted c.args.self.now.used c.steps_to_value_of.result (steps_to_value_of p.trace.start) steps reads in
     let won = c.mark_entry-outcome.ensures.keeps in
     record {
       call = search rules;
@@ -184,14 +184,14 @@ returns-else-affords-clause-answers g c =
     let keeps = c.in_ok-value.ensures.value.keeps in
     let there = key_kept c.in-Some.cur.at c.args.self.now.key keeps key in
     let same = c.value_if_any-read.ensures.reads.quiet.same in
-    let valued = λ (has : c.value_if_any-read.new.at.pass.now.trace.shape.values ≡ true). c.in_ok-value.ensures.value.value (sym (ap (λ (d : Dimensions). d.values) same.shape) ∙ has) in
+    let valued = λ (has : c.value_if_any-read.new.at.pass.now.trace.start.shape.values ≡ true). c.in_ok-value.ensures.value.value (sym (ap (λ (d : Start). d.shape.values) same.start) ∙ has) in
     let made = c.in_ok-marked.ensures.removed.made c.args.self.now.key c.in_ok-value.value there valued in
     let told = told_since c.value_if_any-read.ensures.reads.quiet (given_same same Remove c.args.self.now.key (Some c.in_ok-value.value)) made in
     record {
       made = told;
       unlists = λ yes room. (let f = c.if-affords.false in let z = c.affords.ensures.1 room in let w : false ≡ true = sym f ∙ z in absurd (cc));
       soon = λ fresh stands alone.
-          let steps : c.steps_to_value_of.result ≡ steps_to_value_of c.args.self.now.at.pass.now.trace.shape = c.steps_to_value_of.ensures ∙ ap steps_to_value_of (sym c.value_if_any-read.new.at.own.1 ∙ same.shape) in
+          let steps : c.steps_to_value_of.result ≡ steps_to_value_of c.args.self.now.at.pass.now.trace.start = c.steps_to_value_of.ensures ∙ ap steps_to_value_of (sym c.value_if_any-read.new.at.own.1 ∙ same.start) in
           let short = no_room (c.args.self.now.used + c.steps_to_value_of.result + 1) c.args.self.now.budget c.affords.result c.if-affords.false c.affords.ensures.1 in
           record { few = omega (arith, steps); fewer = λ yes room. omega (arith, steps, short, room) };
     }

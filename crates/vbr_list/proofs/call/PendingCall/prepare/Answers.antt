@@ -77,8 +77,8 @@ returns-in_default-clause-refused g c =
       quiet = begun.quiet;
       hand = begun.hand.hand ∙ c.requires.empty_hand;
       says = record { counts = within_on (within_tries c.loop-found.invariant.1) s.goes.counts s.more (within_call same); short = rw c.loop-found.invariant.0.budget at tired.tired };
-      enough = λ alone. at_first (λ q since. c.args.self.now.budget < since + (9 * listed_for q.trace c.args.self.now.key + most_to_take q.trace.shape q.pool) + 10) c.args.self.now.at.pass.now c.loop-found.self.at.pass.now c.search.new.self.at.pass.now c.loop-found.invariant.2 c.loop-found.invariant.1.goes.quiet s.goes.quiet alone
-          (λ then. let x = rw (c.loop-found.invariant.0.key, c.loop-found.invariant.0.budget) at tired.short then in let y = take_least c.loop-found.self.at.pass.now.trace.shape c.loop-found.self.at.pass.now.pool in omega (arith, x, y));
+      enough = λ alone. at_first (λ q since. c.args.self.now.budget < since + (9 * listed_for q.trace c.args.self.now.key + most_to_take q.trace.start q.pool) + 10) c.args.self.now.at.pass.now c.loop-found.self.at.pass.now c.search.new.self.at.pass.now c.loop-found.invariant.2 c.loop-found.invariant.1.goes.quiet s.goes.quiet alone
+          (λ then. let x = rw (c.loop-found.invariant.0.key, c.loop-found.invariant.0.budget) at tired.short then in let y = take_least c.loop-found.self.at.pass.now.trace.start c.loop-found.self.at.pass.now.pool in omega (arith, x, y));
     }
 
 pub returns-then-not-affords-clause-refused : goal.returns-then-not-affords-clause-refused
@@ -91,8 +91,8 @@ returns-then-not-affords-clause-refused g c =
       quiet = begun.quiet;
       hand = begun.hand.hand ∙ c.requires.empty_hand;
       says = record { counts = within_on (within_tries c.loop-found.invariant.1) s.goes.counts s.more (within_call same); short = short };
-      enough = λ alone. at_first (λ q since. c.args.self.now.budget < since + (9 * listed_for q.trace c.args.self.now.key + most_to_take q.trace.shape q.pool) + 10) c.args.self.now.at.pass.now c.loop-found.self.at.pass.now c.search.new.self.at.pass.now c.loop-found.invariant.2 c.loop-found.invariant.1.goes.quiet s.goes.quiet alone
-          (λ then. let x = (rw c.loop-found.invariant.0.key at c.in-Some.ensures.found.alone then).paid in let y = take_least c.loop-found.self.at.pass.now.trace.shape c.loop-found.self.at.pass.now.pool in omega (arith, x, y, short));
+      enough = λ alone. at_first (λ q since. c.args.self.now.budget < since + (9 * listed_for q.trace c.args.self.now.key + most_to_take q.trace.start q.pool) + 10) c.args.self.now.at.pass.now c.loop-found.self.at.pass.now c.search.new.self.at.pass.now c.loop-found.invariant.2 c.loop-found.invariant.1.goes.quiet s.goes.quiet alone
+          (λ then. let x = (rw c.loop-found.invariant.0.key at c.in-Some.ensures.found.alone then).paid in let y = take_least c.loop-found.self.at.pass.now.trace.start c.loop-found.self.at.pass.now.pool in omega (arith, x, y, short));
     }
 
 pub returns-in_err-hand-clause-refused : goal.returns-in_err-hand-clause-refused
@@ -107,7 +107,7 @@ returns-in_err-hand-clause-refused g c =
     let p = c.args.self.now.at.pass.now in
     let q = c.search.new.self.at.pass.now in
     let counts = within_on (within_tries c.loop-found.invariant.1) s.goes.counts s.more (within_call same) in
-    let so = was_so c.args.self.now.key c.in-Some.found c.law.ensures.shape begun.quiet.same (found_since c.args.self.now.key c.in-Some.found c.loop-found.invariant.1.goes.quiet (rw c.loop-found.invariant.0.key at c.in-Some.ensures.found.found)) in
+    let so = was_so c.args.self.now.key c.in-Some.found c.law.ensures.start begun.quiet.same (found_since c.args.self.now.key c.in-Some.found c.loop-found.invariant.1.goes.quiet (rw c.loop-found.invariant.0.key at c.in-Some.ensures.found.found)) in
     let P : Bool → Type 0 = WasSo p.trace q.trace c.args.self.now.key in
     rw (error.1, error.2) (record {
       quiet = quiet_on begun.quiet d;
@@ -115,7 +115,7 @@ returns-in_err-hand-clause-refused g c =
       says = refuses_after p q c.provide.new.self.at.pass.now begun.quiet (some_grown p q begun.hand.takes_no_slot.grows) counts (subst P c.if-not-found.true so) d refusal (rw same.budget at none.says);
       enough = λ alone.
           let lacks = rw same.budget at none.enough (then_of begun.quiet d alone) in
-          at_first (λ q since. LacksSteps (since + (9 * listed_for q.trace c.args.self.now.key + most_to_take q.trace.shape q.pool) + 10) c.args.self.now.budget refusal) p c.loop-found.self.at.pass.now c.provide.new.self.at.pass.now c.loop-found.invariant.2 c.loop-found.invariant.1.goes.quiet (quiet_on s.goes.quiet d) alone
+          at_first (λ q since. LacksSteps (since + (9 * listed_for q.trace c.args.self.now.key + most_to_take q.trace.start q.pool) + 10) c.args.self.now.budget refusal) p c.loop-found.self.at.pass.now c.provide.new.self.at.pass.now c.loop-found.invariant.2 c.loop-found.invariant.1.goes.quiet (quiet_on s.goes.quiet d) alone
           (λ then.
           let x = (rw c.loop-found.invariant.0.key at c.in-Some.ensures.found.alone (first_of s.goes.quiet d then)).paid in
           let y = take_after c.loop-found.self.at.pass.now q s.goes.quiet (some_grown c.loop-found.self.at.pass.now q s.goes.hand.takes_no_slot.grows) in
@@ -131,8 +131,8 @@ returns-then-is_ok-clause-prepared g c =
     let made = if_ok c.deny.result (sym c.is_ok.ensures.value ∙ c.if-is_ok.true) d.made in
     record {
       is = (made_since begun.quiet (rw same.key at made), d.keeps.own.hand ∙ begun.hand.hand ∙ c.requires.empty_hand);
-      few = λ alone. rw d.used (at_first (λ q since. c.search.new.self.used + 1 ≤ since + (9 * listed_for q.trace c.args.self.now.key + most_to_take q.trace.shape q.pool) + 3) c.args.self.now.at.pass.now c.loop-found.self.at.pass.now c.search.new.self.at.pass.now c.loop-found.invariant.2 c.loop-found.invariant.1.goes.quiet s.goes.quiet (alone_first begun.quiet.seen made.seen alone)
-          (λ then. let x = (rw c.loop-found.invariant.0.key at c.in-Some.ensures.found.alone then).paid in let y = take_least c.loop-found.self.at.pass.now.trace.shape c.loop-found.self.at.pass.now.pool in omega (arith, x, y)));
+      few = λ alone. rw d.used (at_first (λ q since. c.search.new.self.used + 1 ≤ since + (9 * listed_for q.trace c.args.self.now.key + most_to_take q.trace.start q.pool) + 3) c.args.self.now.at.pass.now c.loop-found.self.at.pass.now c.search.new.self.at.pass.now c.loop-found.invariant.2 c.loop-found.invariant.1.goes.quiet s.goes.quiet (alone_first begun.quiet.seen made.seen alone)
+          (λ then. let x = (rw c.loop-found.invariant.0.key at c.in-Some.ensures.found.alone then).paid in let y = take_least c.loop-found.self.at.pass.now.trace.start c.loop-found.self.at.pass.now.pool in omega (arith, x, y)));
     }
 
 pub returns-then-not-found-clause-prepared : goal.returns-then-not-found-clause-prepared
@@ -145,7 +145,7 @@ returns-then-not-found-clause-prepared g c =
       is = (quiet_on begun.quiet d, hand.has);
       few = λ alone.
           let made = hand.few (then_of begun.quiet d alone) in
-          at_first (λ q since. c.provide.new.self.used ≤ since + (9 * listed_for q.trace c.args.self.now.key + most_to_take q.trace.shape q.pool) + 3) c.args.self.now.at.pass.now c.loop-found.self.at.pass.now c.provide.new.self.at.pass.now c.loop-found.invariant.2 c.loop-found.invariant.1.goes.quiet (quiet_on s.goes.quiet d) alone
+          at_first (λ q since. c.provide.new.self.used ≤ since + (9 * listed_for q.trace c.args.self.now.key + most_to_take q.trace.start q.pool) + 3) c.args.self.now.at.pass.now c.loop-found.self.at.pass.now c.provide.new.self.at.pass.now c.loop-found.invariant.2 c.loop-found.invariant.1.goes.quiet (quiet_on s.goes.quiet d) alone
           (λ then.
           let x = (rw c.loop-found.invariant.0.key at c.in-Some.ensures.found.alone (first_of s.goes.quiet d then)).paid in
           let y = take_after c.loop-found.self.at.pass.now c.search.new.self.at.pass.now s.goes.quiet (some_grown c.loop-found.self.at.pass.now c.search.new.self.at.pass.now s.goes.hand.takes_no_slot.grows) in

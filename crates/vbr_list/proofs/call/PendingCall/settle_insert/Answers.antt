@@ -20,7 +20,7 @@ returns-then-found-clause-publishes g c =
       call = search rules;
       counts = subst (λ (q : Trace). CountsSteps c.args.self.now.at.pass.now.trace q used c.deny.new.self.used) (sym back.trace) (rw d.used (counts_step used 1 d.keeps.took));
       used = (omega arith, omega arith);
-      few = (let some = (few_to_update c.args.self.now.at.pass.now.trace.shape).0 in omega (arith, some));
+      few = (let some = (few_to_update c.args.self.now.at.pass.now.trace.start).0 in omega (arith, some));
       takes_no_slot = none_on d.keeps.takes_no_slot (none_back c.deny.new.self.at.pass.now c.give_back.new.at.pass.now c.args.hand.slot back.trace back.pool back.kept);
     }
 
@@ -36,13 +36,13 @@ returns-then-found-clause-had g c =
 
 pub returns-in-Ok-clause-publishes : goal.returns-in-Ok-clause-publishes
 returns-in-Ok-clause-publishes g c =
-    let shape = c.args.self.now.at.pass.now.trace.shape in
-    let steps : c.steps_to_update.result ≡ steps_to_update shape = c.steps_to_update.ensures ∙ ap steps_to_update (sym c.args.self.now.at.own.1) in
-    let some = (few_to_update shape).0 in
-    let few = (few_to_update shape).1 in
+    let start = c.args.self.now.at.pass.now.trace.start in
+    let steps : c.steps_to_update.result ≡ steps_to_update start = c.steps_to_update.ensures ∙ ap steps_to_update (sym c.args.self.now.at.own.1) in
+    let some = (few_to_update start).0 in
+    let few = (few_to_update start).1 in
     record {
       call = search rules;
-      counts = counts_step c.args.self.now.used c.steps_to_update.result (took_same c.steps_to_update.result (steps_to_update shape) steps c.update_entry.ensures.stores.took);
+      counts = counts_step c.args.self.now.used c.steps_to_update.result (took_same c.steps_to_update.result (steps_to_update start) steps c.update_entry.ensures.stores.took);
       used = (omega (arith, steps, some), omega (arith, steps, few));
       few = omega (arith, steps);
       takes_no_slot = c.update_entry.ensures.stores.takes_no_slot;
@@ -50,13 +50,13 @@ returns-in-Ok-clause-publishes g c =
 
 pub returns-in-Err-clause-publishes : goal.returns-in-Err-clause-publishes
 returns-in-Err-clause-publishes g c =
-    let shape = c.args.self.now.at.pass.now.trace.shape in
-    let steps : c.steps_to_update.result ≡ steps_to_update shape = c.steps_to_update.ensures ∙ ap steps_to_update (sym c.args.self.now.at.own.1) in
-    let some = (few_to_update shape).0 in
-    let few = (few_to_update shape).1 in
+    let start = c.args.self.now.at.pass.now.trace.start in
+    let steps : c.steps_to_update.result ≡ steps_to_update start = c.steps_to_update.ensures ∙ ap steps_to_update (sym c.args.self.now.at.own.1) in
+    let some = (few_to_update start).0 in
+    let few = (few_to_update start).1 in
     record {
       call = search rules;
-      counts = counts_step c.args.self.now.used c.steps_to_update.result (took_same c.steps_to_update.result (steps_to_update shape) steps c.update_entry.ensures.stores.took);
+      counts = counts_step c.args.self.now.used c.steps_to_update.result (took_same c.steps_to_update.result (steps_to_update start) steps c.update_entry.ensures.stores.took);
       used = (omega (arith, steps, some), omega (arith, steps, few));
       few = omega (arith, steps);
       takes_no_slot = c.update_entry.ensures.stores.takes_no_slot;
@@ -69,4 +69,4 @@ pub returns-then-found-clause-answers : goal.returns-then-found-clause-answers
 returns-then-found-clause-answers g c =
     let p = c.args.self.now.at.pass.now.trace in
     let made : Made (set_call p.who Insert c.args.self.now.key false) p c.give_back.new.at.pass.now.trace = search rules in
-    record { made = told_as (told_bare p.shape p.who Insert c.args.self.now.key false) made; spent = search rules }
+    record { made = told_as (told_bare p.start p.who Insert c.args.self.now.key false) made; spent = search rules }

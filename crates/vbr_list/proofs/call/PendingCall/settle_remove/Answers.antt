@@ -24,4 +24,4 @@ pub returns-clause-answers : goal.returns-clause-answers
 returns-clause-answers g c =
     let p = c.args.self.now.at.pass.now.trace in
     let made : Made (set_call p.who Remove c.args.self.now.key false) p c.confirm_absent_entry-outcome.new.at.pass.now.trace = search rules in
-    record { made = told_as (told_bare p.shape p.who Remove c.args.self.now.key false) made; unlists = λ yes room. absurd (cc); soon = λ fresh stands alone. record { few = omega arith; fewer = λ yes room. absurd (cc) } }
+    record { made = told_as (told_bare p.start p.who Remove c.args.self.now.key false) made; unlists = λ yes room. absurd (cc); soon = λ fresh stands alone. record { few = omega arith; fewer = λ yes room. absurd (cc) } }

@@ -29,7 +29,7 @@ loop-pred-preserved g c =
           (λ alone.
           let then = then_of i.tries.goes.quiet v.goes.quiet alone in
           let near = i.nears (first_of i.tries.goes.quiet v.goes.quiet alone) in
-          nears_visit p q r c.args.self.now.key c.args.self.now.used c.loop-pred.self.used c.visit.new.self.used c.loop-pred.pred c.in-Ok-Smaller.node near (c.visit.ensures.looks.leaves then) v.goes.quiet.same.shape met.count ((rw c.loop-pred.invariant.0.key at met.alone) near.keeps.fresh (inl i.reached.is.unmarked) near.keeps.stands then)),
+          nears_visit p q r c.args.self.now.key c.args.self.now.used c.loop-pred.self.used c.visit.new.self.used c.loop-pred.pred c.in-Ok-Smaller.node near (c.visit.ensures.looks.leaves then) v.goes.quiet.same.start met.count ((rw c.loop-pred.invariant.0.key at met.alone) near.keeps.fresh (inl i.reached.is.unmarked) near.keeps.stands then)),
     )
 
 pub loop-pred-preserved-in-Ok-help : goal.loop-pred-preserved-in-Ok-help
@@ -56,7 +56,7 @@ loop-pred-preserved-in-Ok-help g c =
           let one = first_of v.goes.quiet h.goes.quiet later in
           let l = c.visit.ensures.looks.leaves one in
           let there = (rw c.loop-pred.invariant.0.key at met.alone) near.keeps.fresh (inl i.reached.is.unmarked) near.keeps.stands one in
-          nears_help c.args.self.now.at.pass.now.trace c.loop-pred.self.at.pass.now.trace c.visit.new.self.at.pass.now.trace c.help.new.self.at.pass.now.trace c.args.self.now.key c.args.self.now.used c.loop-pred.self.used c.visit.new.self.used c.help.new.self.used c.loop-pred.pred c.in-Ok-help.place near l v.goes.quiet.same.shape met.count few
+          nears_help c.args.self.now.at.pass.now.trace c.loop-pred.self.at.pass.now.trace c.visit.new.self.at.pass.now.trace c.help.new.self.at.pass.now.trace c.args.self.now.key c.args.self.now.used c.loop-pred.self.used c.visit.new.self.used c.help.new.self.used c.loop-pred.pred c.in-Ok-help.place near l v.goes.quiet.same.start met.count few
           (helped.alone c.args.self.now.key before there.0.fresh (stands_on c.loop-pred.self.at.pass.now.trace c.visit.new.self.at.pass.now.trace c.loop-pred.pred l near.keeps.stands) (then_of v.goes.quiet h.goes.quiet later))),
     )
 
@@ -100,7 +100,7 @@ returns-in-Ok-Beyond-clause-found g c =
       alone = λ alone.
           let near = i.nears (first_of i.tries.goes.quiet v alone) in
           let then = then_of i.tries.goes.quiet v alone in
-          found_beyond c.args.self.now.at.pass.now.trace c.loop-pred.self.at.pass.now.trace c.visit.new.self.at.pass.now.trace c.args.self.now.key c.args.self.now.used c.loop-pred.self.used c.visit.new.self.used c.loop-pred.pred c.in-Ok-Beyond.node _ near (c.visit.ensures.looks.leaves then) v.same.shape met.count ((rw c.loop-pred.invariant.0.key at met.alone) near.keeps.fresh (inl i.reached.is.unmarked) near.keeps.stands then) refl refl;
+          found_beyond c.args.self.now.at.pass.now.trace c.loop-pred.self.at.pass.now.trace c.visit.new.self.at.pass.now.trace c.args.self.now.key c.args.self.now.used c.loop-pred.self.used c.visit.new.self.used c.loop-pred.pred c.in-Ok-Beyond.node _ near (c.visit.ensures.looks.leaves then) v.same.start met.count ((rw c.loop-pred.invariant.0.key at met.alone) near.keeps.fresh (inl i.reached.is.unmarked) near.keeps.stands then) refl refl;
     }
 
 pub returns-in-Err-clause-stopped : goal.returns-in-Err-clause-stopped

@@ -69,7 +69,7 @@ returns-then-here-self-clause-met g c =
           let first = first_of x.reads.quiet y.reads.quiet alone in
           let both = reads_on x.reads y.reads in (
             node_still_there p.trace q r c.in-Some.node (x.reads.looks first) (y.reads.looks (then_of x.reads.quiet y.reads.quiet alone)) x.next.keeps y.key.keeps fresh (m first),
-            visited p c.law.ensures q r c.args.self.now.key c.args.pred.now c.in-Some.node c.requires.pred there stands n (read_leaves both alone) both.quiet.same.shape,
+            visited p c.law.ensures q r c.args.self.now.key c.args.pred.now c.in-Some.node c.requires.pred there stands n (read_leaves both alone) both.quiet.same.start,
           );
     }
 
@@ -92,7 +92,7 @@ returns-else-here-self-clause-met g c =
           let first = first_of x.reads.quiet y.reads.quiet alone in
           let both = reads_on x.reads y.reads in (
             node_still_there p.trace q r c.in-Some.node (x.reads.looks first) (y.reads.looks (then_of x.reads.quiet y.reads.quiet alone)) x.next.keeps y.key.keeps fresh (m first),
-            visited p c.law.ensures q r c.args.self.now.key c.args.pred.now c.in-Some.node c.requires.pred there stands n (read_leaves both alone) both.quiet.same.shape,
+            visited p c.law.ensures q r c.args.self.now.key c.args.pred.now c.in-Some.node c.requires.pred there stands n (read_leaves both alone) both.quiet.same.start,
           );
     }
 

@@ -24,7 +24,7 @@ loop-here-init g c =
         peeks = record { tries = record { goes = c.start.ensures.goes.goes; within = (omega (arith, used), omega (arith, fits, used)) }; observes = c.start.ensures.looks.observes };
         some = omega (arith, used);
         look = look_at head.come.is;
-        passes = λ alone. passes_start c.args.self.now.at.pass.now.trace c.start.new.self.at.pass.now.trace c.args.self.now.bucket c.args.self.now.key c.args.self.now.used c.start.new.self.used c.in-Ok.pred (c.start.ensures.looks.leaves alone) c.start.ensures.goes.goes.quiet.same.shape c.args.self.now.of_key c.start.ensures.used head.come.is.unmarked (head.stands alone);
+        passes = λ alone. passes_start c.args.self.now.at.pass.now.trace c.start.new.self.at.pass.now.trace c.args.self.now.bucket c.args.self.now.key c.args.self.now.used c.start.new.self.used c.in-Ok.pred (c.start.ensures.looks.leaves alone) c.start.ensures.goes.goes.quiet.same.start c.args.self.now.of_key c.start.ensures.used head.come.is.unmarked (head.stands alone);
       },
     )
 
@@ -101,7 +101,7 @@ returns-in-Ok-Beyond-default-true-clause-sight g c =
     let met = rw (c.in-Ok-Beyond-default-true.field-0-is, c.in-Ok-Beyond-default-true.field-0-1-test) at c.in-Ok-Beyond-default-true.ensures.met in
     let visits = rw c.loop-here.invariant.0.key at met.visits in
     record {
-      sees = present_at c.visit.new.self.at.pass.now.trace.shape c.args.self.now.key c.loop-here.here c.in-Ok-Beyond-default-true.node visits.0;
+      sees = present_at c.visit.new.self.at.pass.now.trace.start c.args.self.now.key c.loop-here.here c.in-Ok-Beyond-default-true.node visits.0;
       alone = λ alone.
           let a = c.loop-here.invariant.1.peeks.tries.goes.quiet in
           let near = c.loop-here.invariant.1.passes (first_of a v alone) in

@@ -1,6 +1,7 @@
 use Rattle.std.proofs.Common.{ℕ, ◌≡◌, Option, Some, None, refl, sym, ap, ◌∙◌, subst, arith}
 use Rattle.std.proofs.lemmas.Result.{err_from_is_err_and}
-use Rattle.vbr_words.specs.Dimensions.{Dimensions, IsShape}
+use Rattle.vbr_words.specs.Dimensions.{Dimensions}
+use Rattle.vbr_machine.specs.Start.{Start, IsStart}
 use Rattle.vbr_slots.proofs.Lemmas.{did_run}
 use Rattle.vbr_pools.proofs.Choosing.{chooses_refl, short_first, chooses_then, short_then, chosen_then, full_then, spent_then, raised_chooses, raised_chosen}
 use Rattle.vbr_pools.proofs.Counting.{no_room}
@@ -48,8 +49,8 @@ returns-then-epoch-last_epoch-clause-chooses g c = chooses_then c.args.at.now.pa
 
 pub returns-then-epoch-last_epoch-clause-none : goal.returns-then-epoch-last_epoch-clause-none
 returns-then-epoch-last_epoch-clause-none g c =
-    let shapes : c.scan.new.at.slots.now.shape ≡ c.scan.new.at.pass.now.trace.shape = sym c.scan.new.at.own.1 in
-    let last = c.if-epoch-last_epoch.true ∙ c.last_epoch.ensures.last_epoch ∙ ap (λ (d : Dimensions). d.last_epoch) c.shape.ensures.bare ∙ ap (λ (d : Dimensions). d.last_epoch) shapes in
+    let shapes : c.scan.new.at.slots.now.start ≡ c.scan.new.at.pass.now.trace.start = sym c.scan.new.at.own.1 in
+    let last = c.if-epoch-last_epoch.true ∙ c.last_epoch.ensures.last_epoch ∙ ap (λ (d : Dimensions). d.last_epoch) c.shape.ensures.shape ∙ ap (λ (d : Start). d.shape.last_epoch) shapes in
     spent_then c.args.at.now.pass.now c.read_epoch-epoch.new.self c.scan.new.at.pass.now c.read_epoch-epoch.result c.args.budget c.args.used c.read_epoch-epoch.ensures.step (c.affords.ensures.0 c.if-not-affords.false) c.read_epoch-epoch.ensures.pool c.scan.ensures.scans c.in_ok-found.found c.in_ok-found.used c.in_ok-found.ensures.scanned (none_left c.in_ok-found.found c.in_default.not-Some) c.law.ensures c.requires.some last (c.affords-2.ensures.0 c.if-not-affords-2.false)
 
 -- ---- the epoch is advanced, and read again
@@ -57,21 +58,21 @@ returns-then-epoch-last_epoch-clause-none g c =
 pub advance-requires-clause-some : goal.advance-requires-clause-some
 advance-requires-clause-some g c =
     let q = c.read_epoch-epoch.new.self.trace in
-    let shapes : c.scan.new.at.slots.now.shape ≡ q.shape = sym c.scan.new.at.own.1 ∙ c.scan.ensures.scans.quiet.same.shape in
-    let is : IsShape q.shape = subst IsShape shapes c.shape.ensures.is_shape in
+    let shapes : c.scan.new.at.slots.now.start ≡ q.start = sym c.scan.new.at.own.1 ∙ c.scan.ensures.scans.quiet.same.start in
+    let is : IsStart q.start = subst IsStart shapes c.shape.ensures.is_start in
     let told = epoch_told c.read_epoch-epoch.ensures.step in
-    let some = read_some q.shape q.passes q.seen q.who is (did_run c.read_epoch-epoch.ensures.step) in
+    let some = read_some q.start q.passes q.seen q.who is (did_run c.read_epoch-epoch.ensures.step) in
     omega arith
 
 pub advance-requires-clause-below_last : goal.advance-requires-clause-below_last
 advance-requires-clause-below_last g c =
     let q = c.read_epoch-epoch.new.self.trace in
-    let shapes : c.scan.new.at.slots.now.shape ≡ q.shape = sym c.scan.new.at.own.1 ∙ c.scan.ensures.scans.quiet.same.shape in
-    let is : IsShape q.shape = subst IsShape shapes c.shape.ensures.is_shape in
+    let shapes : c.scan.new.at.slots.now.start ≡ q.start = sym c.scan.new.at.own.1 ∙ c.scan.ensures.scans.quiet.same.start in
+    let is : IsStart q.start = subst IsStart shapes c.shape.ensures.is_start in
     let told = epoch_told c.read_epoch-epoch.ensures.step in
-    let low = read_in_shape q.shape q.passes q.seen q.who is (did_run c.read_epoch-epoch.ensures.step) in
-    let last : c.last_epoch.result ≡ q.shape.last_epoch = c.last_epoch.ensures.last_epoch ∙ ap (λ (d : Dimensions). d.last_epoch) c.shape.ensures.bare ∙ ap (λ (d : Dimensions). d.last_epoch) shapes in
-    let here : c.shape.result.last_epoch ≡ c.scan.new.at.slots.now.shape.last_epoch = ap (λ (d : Dimensions). d.last_epoch) c.shape.ensures.bare in
+    let low = read_in_shape q.start q.passes q.seen q.who is (did_run c.read_epoch-epoch.ensures.step) in
+    let last : c.last_epoch.result ≡ q.start.shape.last_epoch = c.last_epoch.ensures.last_epoch ∙ ap (λ (d : Dimensions). d.last_epoch) c.shape.ensures.shape ∙ ap (λ (d : Start). d.shape.last_epoch) shapes in
+    let here : c.shape.result.last_epoch ≡ c.scan.new.at.slots.now.start.shape.last_epoch = ap (λ (d : Dimensions). d.last_epoch) c.shape.ensures.shape in
     let other = c.if-epoch-last_epoch.false in
     omega arith
 

@@ -1,6 +1,7 @@
 -- The own pool has a slot, or each slot was outside the shared pool, once round.
 use Rattle.std.proofs.Common.{ℕ, ◌≡◌, ◌<◌, ◌≤◌, sym, ap, ◌∙◌, subst}
 use Rattle.vbr_words.specs.Dimensions.{Dimensions}
+use Rattle.vbr_machine.specs.Start.{Start}
 use Rattle.vbr_pools.proofs.Counting.{no_room}
 use Rattle.vbr_pools.proofs.Winning.{win_next, win_round, win_done, win_probes, unwon_probes, win_short, win_no_slot, none_in}
 use Rattle.vbr_pools.proofs.at_table.taking.win_slot.Goals as goal
@@ -22,13 +23,13 @@ returns-in-Ok-clause-won g c =
 
 pub loop-slot-preserved-then-slot-slots : goal.loop-slot-preserved-then-slot-slots
 loop-slot-preserved-then-slot-slots g c =
-    let slots : c.slots.result ≡ c.args.at.now.pass.now.trace.shape.slots = c.slots.ensures.slots ∙ ap (λ (shape : Dimensions). shape.slots) c.shape-in-Err.ensures.bare ∙ ap (λ (shape : Dimensions). shape.slots) (sym c.loop-slot.at.own.1 ∙ c.loop-slot.invariant.1.quiet.same.shape) in
+    let slots : c.slots.result ≡ c.args.at.now.pass.now.trace.start.shape.slots = c.slots.ensures.slots ∙ ap (λ (start : Dimensions). start.slots) c.shape-in-Err.ensures.shape ∙ ap (λ (start : Start). start.shape.slots) (sym c.loop-slot.at.own.1 ∙ c.loop-slot.invariant.1.quiet.same.start) in
     let past = subst (λ (n : ℕ). n ≤ c.next_flag-slot.result) slots c.if-slot-slots.true in
     (record { pass = c.loop-slot.invariant.0.pass; slots = c.loop-slot.invariant.0.slots }, win_round c.loop-slot.invariant.1 c.loop-slot-test.true (c.affords.ensures.0 c.if-not-affords.false) c.in-Err.ensures.missed.did c.in-Err.ensures.missed.missing c.next_flag-slot.ensures c.in-Err.ensures.missed.keeps past)
 
 pub loop-slot-preserved : goal.loop-slot-preserved
 loop-slot-preserved g c =
-    let slots : c.slots.result ≡ c.args.at.now.pass.now.trace.shape.slots = c.slots.ensures.slots ∙ ap (λ (shape : Dimensions). shape.slots) c.shape-in-Err.ensures.bare ∙ ap (λ (shape : Dimensions). shape.slots) (sym c.loop-slot.at.own.1 ∙ c.loop-slot.invariant.1.quiet.same.shape) in
+    let slots : c.slots.result ≡ c.args.at.now.pass.now.trace.start.shape.slots = c.slots.ensures.slots ∙ ap (λ (start : Dimensions). start.slots) c.shape-in-Err.ensures.shape ∙ ap (λ (start : Start). start.shape.slots) (sym c.loop-slot.at.own.1 ∙ c.loop-slot.invariant.1.quiet.same.start) in
     let low = subst (λ (n : ℕ). c.next_flag-slot.result < n) slots c.if-slot-slots.false in
     (record { pass = c.loop-slot.invariant.0.pass; slots = c.loop-slot.invariant.0.slots }, win_next c.loop-slot.invariant.1 c.loop-slot-test.true (c.affords.ensures.0 c.if-not-affords.false) c.in-Err.ensures.missed.did c.in-Err.ensures.missed.missing c.next_flag-slot.ensures c.in-Err.ensures.missed.keeps low)
 

@@ -6,4 +6,4 @@ pub returns : goal.returns
 returns g c =
     let e = c.has-answer.ensures in
     let law = c.law-2.ensures in
-    record { set = refl; same = e.same; answers = each_answers _ _ _ _ c.has-answer.result c.law.ensures.shape e.made; alone = e.alone; quiet = e.quiet; safe = record { is_run = law.is_run; safe = law.safe }; hand = e.hand; steps = e.steps; spares = e.spares }
+    record { set = refl; same = e.same; answers = each_answers _ _ _ _ c.has-answer.result c.law.ensures.start e.made; alone = e.alone; quiet = e.quiet; safe = record { is_run = law.is_run; safe = law.safe }; hand = e.hand; steps = e.steps; spares = e.spares }

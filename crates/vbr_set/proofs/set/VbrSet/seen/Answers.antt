@@ -10,5 +10,5 @@ returns-clause-tells g c = let w = c.args.pass.now.trace in record {
   pass = c.requires.own;
   table = c.seen.ensures.table ∙ ap (λ (t : TableView). t.table) c.self.view_is;
   seen = c.seen.ensures.seen;
-  own = ap (λ (es : List Event). own_calls w.shape es w.who) c.seen.ensures.seen;
+  own = ap (λ (es : List Event). own_calls w.start es w.who) c.seen.ensures.seen;
 }

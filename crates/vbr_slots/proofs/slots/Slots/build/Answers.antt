@@ -1,10 +1,10 @@
 use Rattle.std.proofs.Common.{◌≡◌, ℕ, List, [], ◌∷◌, ◌++◌, length, ap, ◌∙◌, subst, sym, arith, rules, None}
-use Rattle.vbr_words.specs.Dimensions.{Dimensions, IsShape}
+use Rattle.vbr_machine.specs.Start.{Start, IsStart, start_with}
 use Rattle.vbr_machine.specs.Machine as machine
 use Rattle.vbr_machine.specs.Runs.{IsRun, know_after}
 use Rattle.vbr_machine.specs.declared.event.Event.{Event}
 use Rattle.vbr_machine.proofs.Lemmas.{is_run_first}
-use Rattle.vbr_slots.specs.declared.rule.Opening.{Opening}
+use Rattle.vbr_slots.specs.TableStart.{TableStart}
 use Rattle.vbr_slots.specs.Rule.{with_opened, first_opened}
 use Rattle.vbr_slots.specs.Views.{TableView, counted_steps, steps_in}
 use Rattle.vbr_slots.specs.Tried.{last_tried, tried_in}
@@ -16,7 +16,7 @@ use Rattle.vbr_slots.proofs.slots.Slots.build.Goals as goal
 pub of_words-requires : goal.of_words-requires
 of_words-requires g c =
     let is = c.in_ok-whole.ensures in
-    opens c.in_ok-whole.whole c.as_slice.result.now (subst (λ (x : Opening × List ℕ). AreWordsOf x.0.shape (machine.opening x.0.shape) x.1) (λ k. (sym is k, sym c.as_slice.ensures.value k)) c.in_ok-words.ensures.words)
+    opens c.in_ok-whole.whole c.as_slice.result.now (subst (λ (x : TableStart × List ℕ). AreWordsOf x.0.start (machine.opening x.0.start) x.1) (λ k. (sym is k, sym c.as_slice.ensures.value k)) c.in_ok-words.ensures.words)
 
 pub split_seat-next-requires : goal.split_seat-next-requires
 split_seat-next-requires g c =
@@ -27,40 +27,40 @@ split_seat-next-requires g c =
 
 pub invariant_of-runner : goal.invariant_of-runner
 invariant_of-runner g c =
-    let shape : Dimensions = record c.args.opening.shape { keys = c.args.keys.now; payloads = c.args.values.now } in
+    let start : Start = start_with c.args.opening.shape c.args.keys.now c.args.values.now in
     let s = c.split_seat-next.ensures in
     let who = c.loop-who.who in
     let i = c.loop-who.invariant in
     let is = first_is (record { keys = c.args.keys.now; payloads = c.args.values.now }) who c.args.opening.passes c.loop-who.seat.me c.split_seat-next.new.seat.me c.split_seat-next.result.me c.loop-who-test.true i.1 s.2 s.4 in
     let has = first_has (record { keys = c.args.keys.now; payloads = c.args.values.now }) who c.args.opening.passes c.loop-who.seat.me c.split_seat-next.new.seat.me c.split_seat-next.result.me c.loop-who-test.true i.1 s.2 s.4 in
     let empty = first_empty (record { keys = c.args.keys.now; payloads = c.args.values.now }) who c.args.opening.passes c.loop-who.seat.me c.split_seat-next.new.seat.me c.split_seat-next.result.me c.loop-who-test.true i.1 s.2 s.4 in
-    let same : shape ≡ with_opened c.args.opening.shape (first_opened c.split_seat-next.new.seat.me.0) = ap (with_opened c.args.opening.shape) (sym has) in
+    let same : start ≡ with_opened c.args.opening.shape (first_opened c.split_seat-next.new.seat.me.0) = ap (with_opened c.args.opening.shape) (sym has) in
     record {
       alone = is;
       low = c.loop-who-test.true;
-      shape = subst IsShape same c.in_ok-words.ensures.shape;
-      is_run = subst (λ (x : Dimensions × List Event). IsRun x.0 c.args.opening.passes x.1) (λ k. (same k, sym empty k)) (is_run_first shape c.args.opening.passes);
+      start = subst IsStart same c.in_ok-words.ensures.start;
+      is_run = subst (λ (x : Start × List Event). IsRun x.0 c.args.opening.passes x.1) (λ k. (same k, sym empty k)) (is_run_first start c.args.opening.passes);
       epoch = λ k. (know_after (same k) (sym empty k) who).epoch;
     }
 
 pub invariant_of-stepper : goal.invariant_of-stepper
 unfolding last_tried
 invariant_of-stepper g c =
-    let shape : Dimensions = record c.args.opening.shape { keys = c.args.keys.now; payloads = c.args.values.now } in
+    let start : Start = start_with c.args.opening.shape c.args.keys.now c.args.values.now in
     let s = c.split_seat-next.ensures in
     let i = c.loop-who.invariant in
     let has = first_has (record { keys = c.args.keys.now; payloads = c.args.values.now }) c.loop-who.who c.args.opening.passes c.loop-who.seat.me c.split_seat-next.new.seat.me c.split_seat-next.result.me c.loop-who-test.true i.1 s.2 s.4 in
     let empty = first_empty (record { keys = c.args.keys.now; payloads = c.args.values.now }) c.loop-who.who c.args.opening.passes c.loop-who.seat.me c.split_seat-next.new.seat.me c.split_seat-next.result.me c.loop-who-test.true i.1 s.2 s.4 in
-    let same : shape ≡ with_opened c.args.opening.shape (first_opened c.split_seat-next.new.seat.me.0) = ap (with_opened c.args.opening.shape) (sym has) in
+    let same : start ≡ with_opened c.args.opening.shape (first_opened c.split_seat-next.new.seat.me.0) = ap (with_opened c.args.opening.shape) (sym has) in
     record {
-      shape = subst IsShape same c.in_ok-words.ensures.shape;
+      start = subst IsStart same c.in_ok-words.ensures.start;
       pool = record {
         pooled = search rules;
         apart = search rules;
         in_hand = tt;
       };
       tried = tried_none c.loop-who.who ∙ ap (λ (seen : List Event). tried_in c.loop-who.who seen 0) (sym empty);
-      low = (subst IsShape same c.in_ok-words.ensures.shape).some_slot;
+      low = (subst IsStart same c.in_ok-words.ensures.start).shape.some_slot;
     }
 
 pub invariant_of-push : goal.invariant_of-push
@@ -72,15 +72,15 @@ invariant_of-push g c =
 
 pub loop-who-preserved : goal.loop-who-preserved
 loop-who-preserved g c =
-    let shape : Dimensions = record c.args.opening.shape { keys = c.args.keys.now; payloads = c.args.values.now } in
+    let start : Start = start_with c.args.opening.shape c.args.keys.now c.args.values.now in
     let s = c.split_seat-next.ensures in
     let i = c.loop-who.invariant in
-    let table : TableView = record { table = c.in_ok-table.table.shared.table_id; shape = shape; passes = c.args.opening.passes } in
+    let table : TableView = record { table = c.in_ok-table.table.shared.table_id; start = start; passes = c.args.opening.passes } in
     let has = first_has (record { keys = c.args.keys.now; payloads = c.args.values.now }) c.loop-who.who c.args.opening.passes c.loop-who.seat.me c.split_seat-next.new.seat.me c.split_seat-next.result.me c.loop-who-test.true i.1 s.2 s.4 in
     let seen = first_empty (record { keys = c.args.keys.now; payloads = c.args.values.now }) c.loop-who.who c.args.opening.passes c.loop-who.seat.me c.split_seat-next.new.seat.me c.split_seat-next.result.me c.loop-who-test.true i.1 s.2 s.4 in (
       s.3 ∙ i.0,
       others_next (record { keys = c.args.keys.now; payloads = c.args.values.now }) c.loop-who.who c.args.opening.passes c.loop-who.seat.me c.split_seat-next.new.seat.me _ c.loop-who-test.true i.1 s.2 s.4,
       c.in_ok-push.ensures.items
-          ∙ (λ k. i.2 k ++ record { trace = record { table = (s.0 ∙ i.0) k; shape = with_opened c.args.opening.shape (has k); passes = c.args.opening.passes; who = c.loop-who.who; seen = seen k }; pool = c.new-in-loop-who.ensures k; hand = None } ∷ [])
+          ∙ (λ k. i.2 k ++ record { trace = record { table = (s.0 ∙ i.0) k; start = with_opened c.args.opening.shape (has k); passes = c.args.opening.passes; who = c.loop-who.who; seen = seen k }; pool = c.new-in-loop-who.ensures k; hand = None } ∷ [])
           ∙ sym (new_passes-next table c.loop-who.who),
     )

@@ -29,7 +29,7 @@ load-found-requires g c =
     let o = c.args.other.now in
     let both = together _ _ c.runner.inside.seat.me c.other.inside.seat.me c.split_seat-theirs.result.me c.join_seat.new.seat.me (known c.runner.inside w c.runner.invariant c.runner.view_is) (known c.other.inside o c.other.invariant c.other.view_is) c.split_seat-theirs.ensures.4 c.join_seat.ensures.2 in
     let low = low_of c.runner.inside w c.runner.invariant c.runner.view_is in
-    asks c.self.inside c.args.self.now c.self.invariant c.self.view_is w low c.requires.own _ (c.join_seat.ensures.0 ∙ ap (λ (v : Trace). v.table) c.runner.view_is) _ c.join_seat.new.seat.me (witness (opened_of o.shape) o.who o.seen ∷ [])
+    asks c.self.inside c.args.self.now c.self.invariant c.self.view_is w low c.requires.own _ (c.join_seat.ensures.0 ∙ ap (λ (v : Trace). v.table) c.runner.view_is) _ c.join_seat.new.seat.me (witness (opened_of o.start) o.who o.seen ∷ [])
     both ReadEpoch _ _ c.requires.named Epoch _ (λ n. n) (λ n. n) c.place_index_in-word.ensures.index refl (λ n. refl) (shows_itself ReadEpoch) (record { in_shape = tt; owned = tt; held = tt; in_range = tt; below_last = tt })
 
 pub split_seat-requires : goal.split_seat-requires
@@ -45,7 +45,7 @@ invariant_of-runner g c =
     let w = c.args.runner.now in
     let o = c.args.other.now in
     let both = together _ _ c.runner.inside.seat.me c.other.inside.seat.me c.split_seat-theirs.result.me c.join_seat.new.seat.me (known c.runner.inside w c.runner.invariant c.runner.view_is) (known c.other.inside o c.other.invariant c.other.view_is) c.split_seat-theirs.ensures.4 c.join_seat.ensures.2 in
-    let end = done w c.args.self.now c.requires.own c.join_seat.new.seat.me c.load-found.new.seat.me (witness (opened_of o.shape) o.who o.seen ∷ []) both ReadEpoch _ _ c.requires.named _ c.load-found.ensures.2 in
+    let end = done w c.args.self.now c.requires.own c.join_seat.new.seat.me c.load-found.new.seat.me (witness (opened_of o.start) o.who o.seen ∷ []) both ReadEpoch _ _ c.requires.named _ c.load-found.ensures.2 in
     stays_sound c.runner.inside w c.runner.invariant c.runner.view_is ReadEpoch _ _ _ end (record c.runner.inside { seat = c.split_seat.new.seat; epoch = c.keep_epoch.new.epoch })
     (left_alone c.load-found.new.seat.me _ _ _ end.now c.split_seat.ensures.2) (refl, refl, c.keep_epoch.ensures)
 
@@ -54,7 +54,7 @@ invariant_of-other g c =
     let w = c.args.runner.now in
     let o = c.args.other.now in
     let both = together _ _ c.runner.inside.seat.me c.other.inside.seat.me c.split_seat-theirs.result.me c.join_seat.new.seat.me (known c.runner.inside w c.runner.invariant c.runner.view_is) (known c.other.inside o c.other.invariant c.other.view_is) c.split_seat-theirs.ensures.4 c.join_seat.ensures.2 in
-    let end = done w c.args.self.now c.requires.own c.join_seat.new.seat.me c.load-found.new.seat.me (witness (opened_of o.shape) o.who o.seen ∷ []) both ReadEpoch _ _ c.requires.named _ c.load-found.ensures.2 in
+    let end = done w c.args.self.now c.requires.own c.join_seat.new.seat.me c.load-found.new.seat.me (witness (opened_of o.start) o.who o.seen ∷ []) both ReadEpoch _ _ c.requires.named _ c.load-found.ensures.2 in
     let table = c.split_seat.ensures.3 ∙ c.load-found.ensures.0 ∙ c.join_seat.ensures.0 ∙ ap (λ (v : Trace). v.table) c.runner.view_is ∙ c.requires.own.0 ∙ sym c.requires.other.0 in
     (same_again c.other.inside o c.other.invariant c.other.view_is (record c.other.inside { seat = c.split_seat.result }) (right_rest c.load-found.new.seat.me _ _ _ end.now c.split_seat.ensures.4) (refl, refl, refl) table).0
 
@@ -63,7 +63,7 @@ returns g c =
     let w = c.args.runner.now in
     let o = c.args.other.now in
     let both = together _ _ c.runner.inside.seat.me c.other.inside.seat.me c.split_seat-theirs.result.me c.join_seat.new.seat.me (known c.runner.inside w c.runner.invariant c.runner.view_is) (known c.other.inside o c.other.invariant c.other.view_is) c.split_seat-theirs.ensures.4 c.join_seat.ensures.2 in
-    let end = done w c.args.self.now c.requires.own c.join_seat.new.seat.me c.load-found.new.seat.me (witness (opened_of o.shape) o.who o.seen ∷ []) both ReadEpoch _ _ c.requires.named _ c.load-found.ensures.2 in
+    let end = done w c.args.self.now c.requires.own c.join_seat.new.seat.me c.load-found.new.seat.me (witness (opened_of o.start) o.who o.seen ∷ []) both ReadEpoch _ _ c.requires.named _ c.load-found.ensures.2 in
     let table = c.load-found.ensures.0 ∙ c.join_seat.ensures.0 in
     let back = c.split_seat.ensures.3 ∙ table ∙ ap (λ (v : Trace). v.table) c.runner.view_is ∙ c.requires.own.0 ∙ sym c.requires.other.0 in
     let mine = left_alone c.load-found.new.seat.me c.split_seat.new.seat.me _ _ end.now c.split_seat.ensures.2 in

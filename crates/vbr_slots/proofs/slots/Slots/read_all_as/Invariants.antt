@@ -10,6 +10,6 @@ invariant-loop-index g l = record {
   table : l.seat.table_id ≡ l.fn.seat.table_id;
   me : l.seat.me ≡ l.fn.seat.me;
   count : length l.words.items ≡ l.index;
-  room : words_in l.self.shape ≤ vec_capacity l.words;
-  each : (k : ℕ) → k < length l.words.items → IsWordAt record { shape = l.self.shape; passes = l.self.passes } l.fn.seat.me.0 k (slice_index l.words.items k);
+  room : words_in l.self.start.shape ≤ vec_capacity l.words;
+  each : (k : ℕ) → k < length l.words.items → IsWordAt record { start = l.self.start; passes = l.self.passes } l.fn.seat.me.0 k (slice_index l.words.items k);
 }

@@ -4,7 +4,7 @@ use Rattle.vbr_slots.proofs.stepper.Stepper.catch_up.Goals as goal
 
 pub invariant_of-self : goal.invariant_of-self
 invariant_of-self g c = record {
-  shape = search rules;
+  start = search rules;
   pool = search rules;
   tried = since_tried c.catch_up_runner.ensures.since c.self.invariant.tried;
   low = search rules;

@@ -9,7 +9,7 @@ invariant_of-self g c =
     let before = last_tried c.self.inside.runner in
     let kind = ap (λ (step : Step). tried_by step before) c.step_of_look_up-step.ensures ∙ look_up_tries_none c.args.present c.args.key c.args.at c.args.expected before in
     record {
-      shape = search rules;
+      start = search rules;
       pool = search rules;
       tried = keeps_tried c.load_at-found.ensures kind c.self.invariant.tried;
       low = search rules;

@@ -1,5 +1,5 @@
 use Rattle.std.proofs.Common.{rules, ◌<◌, ◌≤◌, length}
-use Rattle.vbr_words.specs.Dimensions.{IsShape}
+use Rattle.vbr_machine.specs.Start.{IsStart}
 use Rattle.vbr_machine.proofs.Lemmas.{every_run}
 use Rattle.vbr_slots.specs.Pools.{OwnPool}
 use Rattle.vbr_slots.specs.declared.pass.TheConstants.{POOL}
@@ -9,8 +9,8 @@ use Rattle.vbr_slots.proofs.stepper.Stepper.law.Goals as goal
 pub returns : goal.returns
 returns c =
     let p = c.args.self.now in
-    let shape : IsShape p.trace.shape = search rules in
+    let start : IsStart p.trace.start = search rules in
     let low : p.trace.who < p.trace.passes = search rules in
-    let own : OwnPool p.trace.shape (knows p.trace) p.pool p.hand = search rules in
+    let own : OwnPool p.trace.start (knows p.trace) p.pool p.hand = search rules in
     let room : length p.pool ≤ POOL = search rules in
-    record { shape = shape; low = low; room = room; is_run = c.who-who.ensures.is_run; own = own; safe = every_run p.trace.shape p.trace.passes p.trace.seen shape c.who-who.ensures.is_run }
+    record { start = start; low = low; room = room; is_run = c.who-who.ensures.is_run; own = own; safe = every_run p.trace.start p.trace.passes p.trace.seen start c.who-who.ensures.is_run }

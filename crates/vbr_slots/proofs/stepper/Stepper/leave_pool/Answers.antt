@@ -15,8 +15,8 @@ pub invariant_of-self : goal.invariant_of-self
 invariant_of-self c =
     let p = c.self.inside in
     record {
-      shape = c.self.invariant.shape;
-      pool = subst (λ xs. OwnPool p.runner.shape (knows p.runner) xs p.hand) (sym (gone c)) (leaves p.runner.shape (knows p.runner) c.args.slot p.pool.items p.hand c.self.invariant.pool);
+      start = c.self.invariant.start;
+      pool = subst (λ xs. OwnPool p.runner.start (knows p.runner) xs p.hand) (sym (gone c)) (leaves p.runner.start (knows p.runner) c.args.slot p.pool.items p.hand c.self.invariant.pool);
       tried = c.self.invariant.tried;
       low = c.self.invariant.low;
     }

@@ -8,7 +8,7 @@ use Rattle.vbr_slots.proofs.stepper.Stepper.load_stamp.Goals as goal
 pub invariant_of-self : goal.invariant_of-self
 invariant_of-self g c =
     record {
-      shape = search rules;
+      start = search rules;
       pool = search rules;
       tried = keeps_tried c.load.ensures refl c.self.invariant.tried;
       low = search rules;
@@ -17,4 +17,4 @@ invariant_of-self g c =
 pub returns-clause-known : goal.returns-clause-known
 returns-clause-known g c =
     subst (λ (v : PassView). MayBear ((knows v.trace).own c.args.slot) → c.load.result ≡ stamp_in ((knows v.trace).own c.args.slot)) c.self.view_is
-    (stamp_loaded c.self.inside.runner c.load.new.runner c.args.slot c.load.result c.self.invariant.shape c.load.ensures)
+    (stamp_loaded c.self.inside.runner c.load.new.runner c.args.slot c.load.result c.self.invariant.start c.load.ensures)

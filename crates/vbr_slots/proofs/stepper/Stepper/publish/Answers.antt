@@ -5,7 +5,7 @@ use Rattle.vbr_slots.proofs.stepper.Stepper.publish.Goals as goal
 pub invariant_of-self : goal.invariant_of-self
 invariant_of-self g c =
     record {
-      shape = search rules;
+      start = search rules;
       pool = search rules;
       tried = keeps_tried c.exchange-found.ensures refl c.self.invariant.tried;
       low = search rules;
@@ -14,7 +14,7 @@ invariant_of-self g c =
 pub invariant_of-self-2 : goal.invariant_of-self-2
 invariant_of-self-2 g c =
     record {
-      shape = search rules;
+      start = search rules;
       pool = search rules;
       tried = keeps_tried c.exchange-found.ensures refl c.self.invariant.tried;
       low = search rules;

@@ -1,6 +1,6 @@
 use Rattle.std.proofs.Common.{◌<◌, sym, subst, refl}
 use Rattle.std.specs.Prelude.{Contains}
-use Rattle.vbr_words.specs.Dimensions.{Dimensions, IsShape}
+use Rattle.vbr_machine.specs.Start.{Start, IsStart}
 use Rattle.vbr_machine.specs.Acceptance.{IsFree}
 use Rattle.vbr_slots.specs.Views.{PassView, knows}
 use Rattle.vbr_slots.proofs.Passes.{pool_raised}
@@ -12,9 +12,9 @@ invariant_of-self g c =
     let p = c.self.inside in
     let d = c.fetch_or.ensures in
     record {
-      shape = subst IsShape (sym d.same.1) c.self.invariant.shape;
+      start = subst IsStart (sym d.same.1) c.self.invariant.start;
       pool = pool_raised p.runner c.fetch_or.new.runner c.args.slot c.fetch_or.result p.pool.items p.hand d (subst (λ (v : PassView). IsFree ((knows v.trace).own c.args.slot)) (sym c.self.view_is) c.requires.free)
           (subst (λ (v : PassView). ¬ (Contains v.pool c.args.slot)) (sym c.self.view_is) c.requires.outside) c.self.invariant.pool;
       tried = keeps_tried d refl c.self.invariant.tried;
-      low = subst (λ (s : Dimensions). p.tried < s.slots) (sym d.same.1) c.self.invariant.low;
+      low = subst (λ (s : Start). p.tried < s.shape.slots) (sym d.same.1) c.self.invariant.low;
     }

@@ -6,7 +6,7 @@ use Rattle.vbr_slots.proofs.stepper.Stepper.read_node.Goals as goal
 pub invariant_of-self : goal.invariant_of-self
 invariant_of-self g c =
     record {
-      shape = search rules;
+      start = search rules;
       pool = search rules;
       tried = keeps_tried c.load_node.ensures.loads.read refl (keeps_tried c.load_node.ensures.loads.loaded refl (keeps_tried c.load_node.ensures.born refl c.self.invariant.tried));
       low = search rules;

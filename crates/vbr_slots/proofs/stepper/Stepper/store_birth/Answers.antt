@@ -1,6 +1,6 @@
 use Rattle.std.proofs.Common.{ℕ, ◌<◌, sym, ap, ◌∙◌, subst, refl}
 use Rattle.std.specs.Prelude.{List, Contains}
-use Rattle.vbr_words.specs.Dimensions.{Dimensions, IsShape}
+use Rattle.vbr_machine.specs.Start.{Start, IsStart}
 use Rattle.vbr_slots.specs.Views.{Trace, PassView}
 use Rattle.vbr_slots.proofs.Passes.{pool_born}
 use Rattle.vbr_slots.proofs.Pools.{outside}
@@ -13,11 +13,11 @@ invariant_of-self g c =
     let d = c.store.ensures in
     let trace = ap (λ (v : PassView). v.trace) c.self.view_is ∙ c.leave_pool.ensures.trace in
     let left = ap (λ (v : PassView). v.pool) c.self.view_is ∙ c.leave_pool.ensures.pool in
-    let shape = ap (λ (t : Trace). t.shape) trace ∙ c.requires.own.1 in
+    let start = ap (λ (t : Trace). t.start) trace ∙ c.requires.own.1 in
     record {
-      shape = subst IsShape (sym d.same.1) c.self.invariant.shape;
-      pool = pool_born p.runner c.store.new.runner c.args.slot _ _ p.pool.items p.hand d (subst (λ (s : Dimensions). c.args.slot < s.slots) (sym shape) c.requires.slot)
+      start = subst IsStart (sym d.same.1) c.self.invariant.start;
+      pool = pool_born p.runner c.store.new.runner c.args.slot _ _ p.pool.items p.hand d (subst (λ (s : Start). c.args.slot < s.shape.slots) (sym start) c.requires.slot)
           (subst (λ (xs : List ℕ). ¬ (Contains xs c.args.slot)) (sym left) (outside c.args.slot c.args.self.now.pool)) c.self.invariant.pool;
       tried = keeps_tried d refl c.self.invariant.tried;
-      low = subst (λ (s : Dimensions). p.tried < s.slots) (sym d.same.1) c.self.invariant.low;
+      low = subst (λ (s : Start). p.tried < s.shape.slots) (sym d.same.1) c.self.invariant.low;
     }

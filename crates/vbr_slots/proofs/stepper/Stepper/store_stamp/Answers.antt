@@ -5,7 +5,7 @@ use Rattle.vbr_slots.proofs.stepper.Stepper.store_stamp.Goals as goal
 pub invariant_of-self : goal.invariant_of-self
 invariant_of-self g c =
     record {
-      shape = search rules;
+      start = search rules;
       pool = search rules;
       tried = keeps_tried c.store.ensures refl c.self.invariant.tried;
       low = search rules;

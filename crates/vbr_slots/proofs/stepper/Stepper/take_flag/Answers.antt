@@ -1,5 +1,5 @@
 use Rattle.std.proofs.Common.{◌<◌, sym, ap, ◌∙◌, subst, rules}
-use Rattle.vbr_words.specs.Dimensions.{Dimensions, IsShape}
+use Rattle.vbr_machine.specs.Start.{Start, IsStart}
 use Rattle.vbr_machine.specs.Acceptance.{MayBear}
 use Rattle.vbr_slots.specs.Views.{PassView, knows}
 use Rattle.vbr_slots.proofs.Passes.{taken_new, pool_taken}
@@ -12,10 +12,10 @@ invariant_of-self g c =
     let p = c.self.inside in
     let d = c.fetch_and-found.ensures in
     record {
-      shape = subst IsShape (sym d.same.1) c.self.invariant.shape;
-      pool = pool_taken p.runner c.fetch_and-found.new.runner c.args.slot c.fetch_and-found.result p.pool.items p.hand c.self.invariant.shape d c.self.invariant.pool;
+      start = subst IsStart (sym d.same.1) c.self.invariant.start;
+      pool = pool_taken p.runner c.fetch_and-found.new.runner c.args.slot c.fetch_and-found.result p.pool.items p.hand c.self.invariant.start d c.self.invariant.pool;
       tried = sym (did_tried d);
-      low = subst (λ (s : Dimensions). c.args.slot < s.slots) (sym (d.same.1 ∙ ap (λ (v : PassView). v.trace.shape) c.self.view_is ∙ c.requires.own.1)) c.requires.slot;
+      low = subst (λ (s : Start). c.args.slot < s.shape.slots) (sym (d.same.1 ∙ ap (λ (v : PassView). v.trace.start) c.self.view_is ∙ c.requires.own.1)) c.requires.slot;
     }
 
 pub invariant_of-self-2 : goal.invariant_of-self-2
@@ -23,10 +23,10 @@ invariant_of-self-2 g c =
     let p = c.self.inside in
     let d = c.fetch_and-found.ensures in
     record {
-      shape = subst IsShape (sym d.same.1) c.self.invariant.shape;
-      pool = pool_taken p.runner c.fetch_and-found.new.runner c.args.slot c.fetch_and-found.result p.pool.items p.hand c.self.invariant.shape d c.self.invariant.pool;
+      start = subst IsStart (sym d.same.1) c.self.invariant.start;
+      pool = pool_taken p.runner c.fetch_and-found.new.runner c.args.slot c.fetch_and-found.result p.pool.items p.hand c.self.invariant.start d c.self.invariant.pool;
       tried = sym (did_tried d);
-      low = subst (λ (s : Dimensions). c.args.slot < s.slots) (sym (d.same.1 ∙ ap (λ (v : PassView). v.trace.shape) c.self.view_is ∙ c.requires.own.1)) c.requires.slot;
+      low = subst (λ (s : Start). c.args.slot < s.shape.slots) (sym (d.same.1 ∙ ap (λ (v : PassView). v.trace.start) c.self.view_is ∙ c.requires.own.1)) c.requires.slot;
     }
 
 pub returns-then-has_flag-clause-taken : goal.returns-then-has_flag-clause-taken
@@ -35,7 +35,7 @@ returns-then-has_flag-clause-taken g c = record {
   did = search rules;
   there = search rules;
   outside = λ has. (let p = c.self.inside in
-      let new = taken_new p.runner c.fetch_and-found.new.runner c.args.slot c.fetch_and-found.result c.self.invariant.shape c.fetch_and-found.ensures (sym c.has_flag.ensures ∙ c.if-has_flag.true) in
-      subst MayBear new (pooled_may p.runner.shape (knows p.runner) c.args.slot p.pool.items p.hand c.self.invariant.pool has));
+      let new = taken_new p.runner c.fetch_and-found.new.runner c.args.slot c.fetch_and-found.result c.self.invariant.start c.fetch_and-found.ensures (sym c.has_flag.ensures ∙ c.if-has_flag.true) in
+      subst MayBear new (pooled_may p.runner.start (knows p.runner) c.args.slot p.pool.items p.hand c.self.invariant.pool has));
   keeps = search rules;
 }

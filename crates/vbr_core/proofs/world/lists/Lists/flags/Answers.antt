@@ -9,16 +9,16 @@ use Rattle.vbr_core.proofs.world.lists.Lists.flags.Goals as goal
 use Rattle.vbr_core.proofs.world.lists.Lists.flags.Goals.{then-is_flagged, else-is_flagged}
 
 pub loop-i-init : goal.loop-i-init
-loop-i-init c = sym (no_flags (is_flagged c.args.self.now.shape (world_of c.args.self.now)) c.args.number)
+loop-i-init c = sym (no_flags (is_flagged c.args.self.now.start (world_of c.args.self.now)) c.args.number)
 
 pub overflow_add-flags : goal.overflow_add-flags
 overflow_add-flags c =
-    let fit = flags_fit (is_flagged c.args.self.now.shape (world_of c.args.self.now)) c.args.number c.loop-i.i c.loop-i-test.true in
+    let fit = flags_fit (is_flagged c.args.self.now.start (world_of c.args.self.now)) c.args.number c.loop-i.i c.loop-i-test.true in
     Fits-of_lt {w = w64} (subst (λ (n : ℕ). n + 1 * 2 ^ c.loop-i.i % 2 ^ 64 < 2 ^ 64) (sym c.loop-i.invariant) fit)
 
 pub loop-i-preserved : goal.loop-i-preserved
 loop-i-preserved c =
-    let is_set = is_flagged c.args.self.now.shape (world_of c.args.self.now) in
+    let is_set = is_flagged c.args.self.now.start (world_of c.args.self.now) in
     elim c.if-is_flagged.branch [
       | then-is_flagged w ↦
           w.flags-is ∙ ap (λ (n : ℕ). n + 1 * 2 ^ c.loop-i.i % 2 ^ 64) c.loop-i.invariant ∙ sym (flag_set is_set c.args.number c.loop-i.i c.loop-i-test.true (sym c.is_flagged.ensures ∙ w.if-is_flagged.true))
@@ -28,7 +28,7 @@ loop-i-preserved c =
 
 pub returns : goal.returns
 returns c =
-    let is_set = is_flagged c.args.self.now.shape (world_of c.args.self.now) in
+    let is_set = is_flagged c.args.self.now.start (world_of c.args.self.now) in
     let past = c.loop-i-test.false in
     let end = c.loop-i.auto.i-end in
     let last : c.loop-i.i ≡ 64 = omega (arith, past, end) in

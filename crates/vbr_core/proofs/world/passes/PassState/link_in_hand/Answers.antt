@@ -13,4 +13,4 @@ returns-clause-fits c =
     let own = c.self.inside.own.items in
     let ready = rw (← c.self.view_is) at c.requires.ready in
     let is : c.link_in_hand.result ≡ link_in_hand (slice_index_or own c.args.slot None) = grind (arith, common_steps) in
-    rw is (ready-fits c.args.shape.now c.self.inside.checked.items c.args.pred (link_of c.args.expected) (slice_index_or own c.args.slot None) c.self.invariant.checked (all-at FitsHolding own c.args.slot None c.self.invariant.own tt) (IsLink-link_of c.args.expected c.ranges.expected.fits) ready)
+    rw is (ready-fits c.args.start.now c.self.inside.checked.items c.args.pred (link_of c.args.expected) (slice_index_or own c.args.slot None) c.self.invariant.checked (all-at FitsHolding own c.args.slot None c.self.invariant.own tt) (IsLink-link_of c.args.expected c.ranges.expected.fits) ready)

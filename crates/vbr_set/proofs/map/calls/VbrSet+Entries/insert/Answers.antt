@@ -7,4 +7,4 @@ returns c =
     let e = c.insert_entry-answer.ensures.calls in
     let gives = c.insert_entry-answer.ensures.gives in
     let law = c.law-2.ensures in
-    record { set = refl; same = e.same; answers = each_map_answers c.a_run_is_a_map.ensures _ _ _ c.insert_entry-answer.result c.law.ensures.shape e.made; alone = e.alone; gives = gives; quiet = e.quiet; safe = record { is_run = law.is_run; safe = law.safe }; hand = e.hand; steps = e.steps; spares = e.spares }
+    record { set = refl; same = e.same; answers = each_map_answers c.a_run_is_a_map.ensures _ _ _ c.insert_entry-answer.result c.law.ensures.start e.made; alone = e.alone; gives = gives; quiet = e.quiet; safe = record { is_run = law.is_run; safe = law.safe }; hand = e.hand; steps = e.steps; spares = e.spares }

@@ -1,9 +1,8 @@
-// A shape with the keys, and their values, that a world of it opens with.
+// What a world starts with: its shape, and the keys that it opens with, with their values.
 ghost use Rattle.std.specs.Prelude.{◌≡◌, ◌<◌, ◌≤◌, ◌%◌, length, IfOk, if◌then◌else◌};
 ghost use Rattle.std.specs.List.Sorted.{IsStrictlyIncreasing};
 ghost use Rattle.vbr_words.specs.Buckets.{bucket_of};
-ghost use Rattle.vbr_words.specs.Dimensions.{IsShape};
-ghost use Rattle.vbr_core.specs.KeptOpenings.{with_entries};
+ghost use Rattle.vbr_machine.specs.Start.{ArePaired, IsStart, start_with};
 
 use std::alloc::{AllocError, Global};
 use std::marker::Model;
@@ -11,27 +10,26 @@ use vbr_words::Shape;
 
 // A shape, and the keys that a world of it opens with, with their values where nodes have values.
 #[derive(Drop)]
-pub struct OpeningShape {
+pub struct Start {
     shape: Shape,
     keys: Vec<u64>,
     values: Vec<u64>,
 }
 
-impl Model for OpeningShape {
-    ghost use Rattle.vbr_words.specs.Dimensions.{Dimensions, IsShape};
+impl Model for Start {
+    ghost use Rattle.vbr_machine.specs.Start as declared;
 
-    ghost Value = { Dimensions };
+    ghost Value = { declared.Start };
 
-    ghost view = { λ s. record s.shape { keys = s.keys.items; payloads = s.values.items } };
+    ghost use Rattle.vbr_machine.specs.Start.{IsStart, start_with};
 
-    ghost invariant = { λ s. IsShape (record s.shape {
-      keys = s.keys.items;
-      payloads = s.values.items;
-    }) };
+    ghost view = { λ s. start_with s.shape s.keys.items s.values.items };
+
+    ghost invariant = { λ s. IsStart (start_with s.shape s.keys.items s.values.items) };
 }
 
-impl OpeningShape {
-    // The shape with a copy of these keys and values.
+impl Start {
+    // This shape with a copy of these keys and values.
     pub fn new(
         alloc: Global,
         shape: Shape,
@@ -40,15 +38,15 @@ impl OpeningShape {
     ) -> Result<Self, AllocError>
         requires ascending { IsStrictlyIncreasing keys.now }
         requires few { length keys.now ≤ shape.slots }
-        requires paired { length values.now ≡ (if shape.values then length keys.now else 0) }
-        ensures { IfOk result (λ opening. opening ≡ with_entries shape keys.now values.now) }
+        requires paired { ArePaired shape keys.now values.now }
+        ensures { IfOk result (λ start. start ≡ start_with shape keys.now values.now) }
     {
         prove!(shape.slots() > 0);
         let mut key_copy = Vec::new(alloc);
         key_copy.extend_from_slice(keys)?;
         let mut value_copy = Vec::new(alloc);
         value_copy.extend_from_slice(values)?;
-        Ok(OpeningShape {
+        Ok(Start {
             shape,
             keys: key_copy,
             values: value_copy,
@@ -57,39 +55,39 @@ impl OpeningShape {
 
     // The number of slots.
     pub fn slots(&self) -> u32
-        ensures slots { result ≡ self.now.slots }
-        ensures shape { IsShape self.now }
+        ensures slots { result ≡ self.now.shape.slots }
+        ensures start { IsStart self.now }
     {
         self.shape.slots()
     }
 
     // The number of buckets.
     pub fn buckets(&self) -> u32
-        ensures buckets { result ≡ self.now.buckets }
-        ensures shape { IsShape self.now }
+        ensures buckets { result ≡ self.now.shape.buckets }
+        ensures start { IsStart self.now }
     {
         self.shape.buckets()
     }
 
     // The last epoch.
     pub fn last_epoch(&self) -> u64
-        ensures last_epoch { result ≡ self.now.last_epoch }
-        ensures shape { IsShape self.now }
+        ensures last_epoch { result ≡ self.now.shape.last_epoch }
+        ensures start { IsStart self.now }
     {
         self.shape.last_epoch()
     }
 
     // Whether nodes have values.
     pub fn has_values(&self) -> bool
-        ensures { result ≡ self.now.values }
+        ensures { result ≡ self.now.shape.values }
     {
         self.shape.has_values()
     }
 
     // The bucket of a key.
     pub fn bucket_of(&self, key: u64) -> u32
-        ensures bucket { result ≡ bucket_of self.now key }
-        ensures in_shape { result < self.now.buckets }
+        ensures bucket { result ≡ bucket_of self.now.shape key }
+        ensures in_shape { result < self.now.shape.buckets }
     {
         self.shape.bucket_of(key)
     }
