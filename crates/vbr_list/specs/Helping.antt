@@ -31,8 +31,9 @@ pub record MayHelp (p : Trace) (pred : Held) (gone : Marked) : Type 0 where
 abbrev pub GoesIn : PassView → PassView → ℕ → Type 0
 GoesIn p q steps = (used : ℕ) → Goes p q used (used + steps)
 
--- the pass came on to the place with its new link, if it stood before a key; alone, one node fewer is behind it
+-- the place is where it was, and the pass came on to it with its new link, if it stood before a key; alone, one node fewer is behind it
 pub record Helps (p q : PassView) (pred place : Held) : Type 0 where
+  pub at : place.at ≡ pred.at
   pub come : (key : ℕ) → IsPred p.trace.start (knows p.trace) key pred → HasComeTo p.trace q.trace key place
   pub alone : (key : ℕ) → IsPred p.trace.start (knows p.trace) key pred → IsFresh p.trace → StandsNow p.trace pred → IsAlone p.trace q.trace → HelpsAlone p.trace q.trace key pred place
 

@@ -82,7 +82,9 @@ impl<N: Nodes> PendingCall<'_, N> {
     }
 
     // Helps to unlink a marked node behind a place, in one step to six: gives the place with its new link,
-    // if the epoch stayed. Few traversals meet one, so it is done apart from them.
+    // if the epoch stayed. Few traversals meet one, so it is done apart from them. The place's epoch is
+    // taken from the marked node, and where it is from before the help, so that a traversal needs no
+    // register for these.
     #[inline(always)]
     fn help(&mut self, pred: Held, marked: Marked) -> Result<Held, Rollback>
         requires pred { IsPredFor self.old pred }
@@ -94,9 +96,14 @@ impl<N: Nodes> PendingCall<'_, N> {
         ensures helps { IfOk result (Helps (pass_in self.old) (pass_in self.new) pred) }
         ensures lost { IfErr result (HelpsNone (pass_in self.old) (pass_in self.new) pred) }
     {
-        let (outcome, made) = help_by_copy(&mut self.at, pred, marked);
+        let epoch = marked.epoch;
+        let (outcome, made) = help_by_copy(&mut self.at, Held { epoch, ..pred }, marked);
         self.used += made;
-        outcome
+        let place = outcome?;
+        Ok(Held {
+            at: pred.at,
+            ..place
+        })
     }
 
     /// One traversal from the head to the key.

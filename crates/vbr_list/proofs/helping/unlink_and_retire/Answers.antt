@@ -44,6 +44,7 @@ returns-in-Ok-clause-unlinks g c =
     let won = rw c.in-Ok.is at c.unlink-outcome.ensures.unlinked in
     record {
       helps = λ e. record {
+        at = won.at;
         come = λ key is. helped key c.args.pred.now c.in-Ok.place is won.keeps won.at won.still won.read a b (retired_keeps (knows q.trace) (knows r.trace) c.in-Ok.unlinked.slot (is_kept q.pool) c.retire.ensures.retires.known (sym e ∙ won.read.known.epoch));
         alone = λ key is fresh stands alone.
             let l = c.retire.ensures.retires.alone (then_of a b alone) in
