@@ -7,7 +7,7 @@ use Rattle.vbr_machine.specs.History.{IsLegal, GiveStored}
 use Rattle.vbr_machine.specs.Machine.{World, after}
 use Rattle.vbr_machine.specs.Runs.{IsAccepted, IsRun, world_after}
 use Rattle.vbr_core.specs.WorldInLists.{KeptWorld, world_of}
-use Rattle.vbr_core.specs.KeptSteps.{IsMade, RefusesEvent, KeepsShape}
+use Rattle.vbr_core.specs.KeptSteps.{IsMade, RefusesEvent, KeepsStart}
 use Rattle.vbr_core.specs.Reached.{IsReached}
 use Rattle.vbr_machine.specs.declared.event.Event.{Event}
 use Rattle.vbr_machine.specs.declared.event.Effect.{Effect}
@@ -29,7 +29,7 @@ reached_next kept next event r ok is start passes = record {
 }
 
 -- a step that is accepted goes on with the run, and one that is refused leaves it
-pub reached_step : (result : Result Effect CoreRefusal) (kept next : KeptWorld) (event : Event) → IsReached kept → IfOk result (IsMade kept next event) → IfErr result (RefusesEvent kept next event) → KeepsShape kept next → IsReached next
+pub reached_step : (result : Result Effect CoreRefusal) (kept next : KeptWorld) (event : Event) → IsReached kept → IfOk result (IsMade kept next event) → IfErr result (RefusesEvent kept next event) → KeepsStart kept next → IsReached next
 reached_step (Ok effect) kept next event r made refused keeps = reached_next kept next event r made.accepted made.after keeps.start keeps.passes
 reached_step (Err why) kept next event r made refused keeps = rw refused.unchanged r
 

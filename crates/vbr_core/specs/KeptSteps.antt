@@ -24,7 +24,7 @@ abbrev pub IsRefusedIn : KeptWorld → Event → CoreRefusal → Type 0
 IsRefusedIn kept event refusal = Refuses kept.start (length kept.passes) (world_of kept) event refusal
 
 -- the start and the number of passes stay
-pub record KeepsShape (old new : KeptWorld) : Type 0 where
+pub record KeepsStart (old new : KeptWorld) : Type 0 where
   pub start : new.start ≡ old.start
   pub passes : length new.passes ≡ length old.passes
 

@@ -9,7 +9,7 @@ ghost use Rattle.vbr_machine.specs.History.{IsLegal, GiveStored};
 ghost use Rattle.vbr_machine.specs.Machine as machine;
 ghost use Rattle.vbr_core.specs.Replays.{IsReplayed, StopsAt};
 ghost use Rattle.vbr_core.specs.WorldInLists.{world_of};
-ghost use Rattle.vbr_core.specs.KeptSteps.{IsMade, RefusesEvent, KeepsShape};
+ghost use Rattle.vbr_core.specs.KeptSteps.{IsMade, RefusesEvent, KeepsStart};
 ghost use Rattle.vbr_core.specs.KeptOpenings.{IsOpening};
 ghost use Rattle.vbr_machine.specs.declared.event.Event.{Event};
 
@@ -171,7 +171,7 @@ impl World {
     pub fn step(&mut self, event: Event) -> Result<Effect, CoreRefusal>
         ensures made { IfOk result (IsMade self.old self.new event) }
         ensures refused { IfErr result (RefusesEvent self.old self.new event) }
-        ensures stays { KeepsShape self.old self.new }
+        ensures stays { KeepsStart self.old self.new }
     {
         self.lists.step(event)
     }

@@ -1,6 +1,6 @@
 -- What a worker tells another of a page, and what the other then finds.
 use Rattle.std.specs.Prelude.{◌≡◌, ℕ, Bool, true, List}
-use Rattle.vbr_set.specs.Names.{Dimensions}
+use Rattle.vbr_set.specs.Names.{Start}
 use Rattle.vbr_machine.specs.History.{set_after}
 use Rattle.vbr_machine.specs.Opened.{opening_keys}
 use Rattle.vbr_machine.specs.declared.event.Event.{Event}

@@ -1,5 +1,7 @@
 -- What the contracts of the set name of the crates below it, for crates that list `vbr_set` alone.
-pub use Rattle.vbr_machine.specs.Start.{Start, IsStart}
+pub use Rattle.vbr_words.specs.Dimensions.{Dimensions}
+pub use Rattle.vbr_machine.specs.Start.{Start, IsStart, set_start}
+pub use Rattle.vbr_machine.specs.Maps.{map_start}
 pub use Rattle.vbr_machine.specs.Keys.{Keys, AreKeysOf}
 pub use Rattle.vbr_machine.specs.Opened.{opening_keys}
 pub use Rattle.vbr_machine.specs.History.{IsLegal, calls_by, keys_after, reply_of, set_after}

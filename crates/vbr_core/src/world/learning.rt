@@ -4,7 +4,7 @@ ghost use Rattle.vbr_machine.specs.Acceptance.{Accepts};
 ghost use Rattle.vbr_machine.specs.Learning.{learn};
 ghost use Rattle.vbr_core.specs.Growth.{NeedsMemory, ReadsMore};
 ghost use Rattle.vbr_core.specs.WorldInLists.{world_of};
-ghost use Rattle.vbr_core.specs.KeptSteps.{IsAcceptedIn, KeepsShape, found_in};
+ghost use Rattle.vbr_core.specs.KeptSteps.{IsAcceptedIn, KeepsStart, found_in};
 ghost use Rattle.vbr_core.specs.KeptLearning.{HasRoom, HaveSlots, LearnsAt, known_by};
 ghost use Rattle.vbr_core.specs.Answering.{with_answer};
 
@@ -25,7 +25,7 @@ impl Lists {
         ensures refused { OnErr result (self.new ≡ self.old) }
         ensures grows { OnErr result (NeedsMemory self.old.start (world_of self.old) event) }
         ensures epoch { self.new.epoch ≡ self.old.epoch }
-        ensures stays { KeepsShape self.old self.new }
+        ensures stays { KeepsStart self.old self.new }
     {
         let stamp = self.stamp_shown(event.step);
         match self.call_made(event, found) {

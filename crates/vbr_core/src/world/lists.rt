@@ -4,7 +4,7 @@ ghost use Rattle.vbr_words.specs.Flags.{flag_word, flag_words};
 ghost use Rattle.vbr_words.specs.Places.{IsIn};
 ghost use Rattle.vbr_machine.specs.Machine as machine;
 ghost use Rattle.vbr_core.specs.WorldInLists.{world_of};
-ghost use Rattle.vbr_core.specs.KeptSteps.{IsMade, RefusesEvent, KeepsShape};
+ghost use Rattle.vbr_core.specs.KeptSteps.{IsMade, RefusesEvent, KeepsStart};
 
 use crate::world::passes::PassState;
 use crate::world::start::Start;
@@ -74,7 +74,7 @@ impl Lists {
     pub(super) fn step(&mut self, event: Event) -> Result<Effect, CoreRefusal>
         ensures made { IfOk result (IsMade self.old self.new event) }
         ensures refused { IfErr result (RefusesEvent self.old self.new event) }
-        ensures stays { KeepsShape self.old self.new }
+        ensures stays { KeepsStart self.old self.new }
     {
         self.check(event)?;
         let found = self.word(place_of_step(event.step));
