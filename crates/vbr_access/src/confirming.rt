@@ -29,13 +29,13 @@ pub fn confirm_present(slots: &Slots, pass: &mut Pass, op: Op, held: &Held) -> R
     ensures lost { IfErr result (FindsAnother pass.old.trace pass.new.trace held.now) }
 {
     pass.during(
-        |pass|
-            requires own { IsOf pass.old.trace slots.now }
-            requires node { IsPresent (knows pass.old.trace) held.now }
+        |stepper|
+            requires own { IsOf stepper.old.trace slots.now }
+            requires node { IsPresent (knows stepper.old.trace) held.now }
             requires op { IsOther Remove op }
         {
             (
-                at_table::confirm_present(&mut AtTable { slots, pass }, op, held),
+                at_table::confirm_present(&mut AtTable { slots, stepper }, op, held),
                 1,
             )
         },
@@ -60,14 +60,14 @@ pub fn confirm_present_entry<N: Nodes>(
     ensures lost { IfErr result (FindsAnother pass.old.trace pass.new.trace held.now) }
 {
     pass.during(
-        |pass|
-            requires own { IsOf pass.old.trace slots.now }
-            requires node { IsPresent (knows pass.old.trace) held.now }
+        |stepper|
+            requires own { IsOf stepper.old.trace slots.now }
+            requires node { IsPresent (knows stepper.old.trace) held.now }
             requires op { op ≢ Remove }
-            requires asked { IsAsked pass.old.trace op held.now.at }
+            requires asked { IsAsked stepper.old.trace op held.now.at }
         {
             (
-                at_table::confirm_present_entry(&mut AtTable { slots, pass }, op, held),
+                at_table::confirm_present_entry(&mut AtTable { slots, stepper }, op, held),
                 1,
             )
         },
@@ -94,13 +94,13 @@ pub fn confirm_absent(
     ensures lost { IfErr result (FindsAnother pass.old.trace pass.new.trace pred.now) }
 {
     pass.during(
-        |pass|
-            requires own { IsOf pass.old.trace slots.now }
-            requires gap { IsAbsent pass.old.trace.start (knows pass.old.trace) key pred.now }
+        |stepper|
+            requires own { IsOf stepper.old.trace slots.now }
+            requires gap { IsAbsent stepper.old.trace.start (knows stepper.old.trace) key pred.now }
             requires op { IsOther Insert op }
         {
             (
-                at_table::confirm_absent(&mut AtTable { slots, pass }, op, key, pred),
+                at_table::confirm_absent(&mut AtTable { slots, stepper }, op, key, pred),
                 1,
             )
         },
@@ -124,13 +124,13 @@ pub fn confirm_absent_entry<N: Nodes>(
     ensures lost { IfErr result (FindsAnother pass.old.trace pass.new.trace pred.now) }
 {
     pass.during(
-        |pass|
-            requires own { IsOf pass.old.trace slots.now }
-            requires gap { IsAbsent pass.old.trace.start (knows pass.old.trace) key pred.now }
-            requires op { IsOtherIn pass.old.trace.start Insert op }
+        |stepper|
+            requires own { IsOf stepper.old.trace slots.now }
+            requires gap { IsAbsent stepper.old.trace.start (knows stepper.old.trace) key pred.now }
+            requires op { IsOtherIn stepper.old.trace.start Insert op }
         {
             (
-                at_table::confirm_absent_entry(&mut AtTable { slots, pass }, op, key, pred),
+                at_table::confirm_absent_entry(&mut AtTable { slots, stepper }, op, key, pred),
                 1,
             )
         },
@@ -158,13 +158,13 @@ pub fn confirm_look_up<N: Nodes>(
     ensures lost { IfErr result (FindsAnother pass.old.trace pass.new.trace held.now) }
 {
     pass.during(
-        |pass|
-            requires own { IsOf pass.old.trace slots.now }
-            requires held { IsUnmarked (knows pass.old.trace) held.now }
-            requires decides { TellsKey pass.old.trace key held.now present }
+        |stepper|
+            requires own { IsOf stepper.old.trace slots.now }
+            requires held { IsUnmarked (knows stepper.old.trace) held.now }
+            requires decides { TellsKey stepper.old.trace key held.now present }
         {
             (
-                at_table::confirm_look_up(&mut AtTable { slots, pass }, key, held, present),
+                at_table::confirm_look_up(&mut AtTable { slots, stepper }, key, held, present),
                 1,
             )
         },

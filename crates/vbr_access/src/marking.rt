@@ -23,10 +23,10 @@ pub fn mark(slots: &Slots, pass: &mut Pass, held: &Held) -> Result<Marked, Rollb
     ensures lost { IfErr result (LosesExchange pass.old.trace pass.new.trace held.now) }
 {
     pass.during(
-        |pass|
-            requires own { IsOf pass.old.trace slots.now }
-            requires node { IsPresent (knows pass.old.trace) held.now }
-        { (at_table::mark(&mut AtTable { slots, pass }, held), 1) },
+        |stepper|
+            requires own { IsOf stepper.old.trace slots.now }
+            requires node { IsPresent (knows stepper.old.trace) held.now }
+        { (at_table::mark(&mut AtTable { slots, stepper }, held), 1) },
     )
 }
 
@@ -46,10 +46,15 @@ pub fn mark_entry<N: Nodes>(
     ensures lost { IfErr result (LosesExchange pass.old.trace pass.new.trace held.now) }
 {
     pass.during(
-        |pass|
-            requires own { IsOf pass.old.trace slots.now }
-            requires node { IsPresent (knows pass.old.trace) held.now }
-            requires valued { IsValued pass.old.trace held.now.at }
-        { (at_table::mark_entry(&mut AtTable { slots, pass }, held), 1) },
+        |stepper|
+            requires own { IsOf stepper.old.trace slots.now }
+            requires node { IsPresent (knows stepper.old.trace) held.now }
+            requires valued { IsValued stepper.old.trace held.now.at }
+        {
+            (
+                at_table::mark_entry(&mut AtTable { slots, stepper }, held),
+                1,
+            )
+        },
     )
 }

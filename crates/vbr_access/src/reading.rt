@@ -20,9 +20,9 @@ pub fn checkpoint<N: Nodes>(slots: &Slots<N>, pass: &mut Pass) -> Checkpoint
     ensures point { IsCheckpoint pass.old pass.new result.epoch }
 {
     pass.during(
-        |pass|
-            requires own { IsOf pass.old.trace slots.now }
-        { (at_table::checkpoint(&mut AtTable { slots, pass }), 1) },
+        |stepper|
+            requires own { IsOf stepper.old.trace slots.now }
+        { (at_table::checkpoint(&mut AtTable { slots, stepper }), 1) },
     )
 }
 
@@ -45,13 +45,13 @@ pub fn first<N: Nodes>(
     ensures moved { IfErr result (RollsBack pass.old pass.new) }
 {
     pass.during(
-        |pass|
-            requires own { IsOf pass.old.trace slots.now }
-            requires point { point.now.epoch ≡ (knows pass.old.trace).epoch }
+        |stepper|
+            requires own { IsOf stepper.old.trace slots.now }
+            requires point { point.now.epoch ≡ (knows stepper.old.trace).epoch }
             requires bucket { bucket < slots.now.start.shape.buckets }
         {
             (
-                at_table::first(&mut AtTable { slots, pass }, point, bucket),
+                at_table::first(&mut AtTable { slots, stepper }, point, bucket),
                 2,
             )
         },
@@ -75,10 +75,10 @@ pub fn next<N: Nodes>(
 {
     let used = steps_to_read_next(held);
     pass.during(
-        |pass|
-            requires own { IsOf pass.old.trace slots.now }
-            requires held { IsHeld (knows pass.old.trace) held.now }
-        { (at_table::next(&mut AtTable { slots, pass }, held), used) },
+        |stepper|
+            requires own { IsOf stepper.old.trace slots.now }
+            requires held { IsHeld (knows stepper.old.trace) held.now }
+        { (at_table::next(&mut AtTable { slots, stepper }, held), used) },
     )
 }
 
@@ -95,11 +95,11 @@ pub fn key_of<N: Nodes>(slots: &Slots<N>, pass: &mut Pass, node: &Held) -> Resul
     ensures moved { IfErr result (RollsBack pass.old pass.new) }
 {
     pass.during(
-        |pass|
-            requires own { IsOf pass.old.trace slots.now }
-            requires held { IsHeld (knows pass.old.trace) node.now }
+        |stepper|
+            requires own { IsOf stepper.old.trace slots.now }
+            requires held { IsHeld (knows stepper.old.trace) node.now }
             requires slot { IsSlot node.now.at }
-        { (at_table::key_of(&mut AtTable { slots, pass }, node), 2) },
+        { (at_table::key_of(&mut AtTable { slots, stepper }, node), 2) },
     )
 }
 
@@ -117,12 +117,12 @@ pub fn value_of<N: Nodes>(slots: &Slots<N>, pass: &mut Pass, node: &Held) -> Res
     ensures moved { IfErr result (RollsBack pass.old pass.new) }
 {
     pass.during(
-        |pass|
-            requires own { IsOf pass.old.trace slots.now }
+        |stepper|
+            requires own { IsOf stepper.old.trace slots.now }
             requires values { slots.now.start.shape.values ≡ true }
-            requires held { IsHeld (knows pass.old.trace) node.now }
+            requires held { IsHeld (knows stepper.old.trace) node.now }
             requires slot { IsSlot node.now.at }
-        { (at_table::value_of(&mut AtTable { slots, pass }, node), 2) },
+        { (at_table::value_of(&mut AtTable { slots, stepper }, node), 2) },
     )
 }
 

@@ -37,13 +37,13 @@ pub fn unlink<N: Nodes>(
     ensures failed { IfErr result (UnlinksNone pass.old pass.new pred.now) }
 {
     pass.during(
-        |pass|
-            requires own { IsOf pass.old.trace slots.now }
-            requires pred { IsUnmarked (knows pass.old.trace) pred.now }
-            requires marked { HoldsMarked (knows pass.old.trace) marked }
+        |stepper|
+            requires own { IsOf stepper.old.trace slots.now }
+            requires pred { IsUnmarked (knows stepper.old.trace) pred.now }
+            requires marked { HoldsMarked (knows stepper.old.trace) marked }
             requires names { Names pred.now marked.slot }
         {
-            let outcome = at_table::unlink(&mut AtTable { slots, pass }, pred, marked);
+            let outcome = at_table::unlink(&mut AtTable { slots, stepper }, pred, marked);
             let used = at_table::steps_to_unlink(marked.word, &outcome);
             (outcome, used)
         },

@@ -36,14 +36,14 @@ pub fn update(
 {
     pass.during_with(
         (hand, succ),
-        |pass, (hand, succ)|
-            requires own { IsOf pass.old.trace slots.now }
-            requires gap { IsGap pass.old.trace key pred.now }
-            requires succ { IsSucc (knows pass.old.trace) pred.now succ }
-            requires hand { IsHandOf pass.old hand }
+        |stepper, (hand, succ)|
+            requires own { IsOf stepper.old.trace slots.now }
+            requires gap { IsGap stepper.old.trace key pred.now }
+            requires succ { IsSucc (knows stepper.old.trace) pred.now succ }
+            requires hand { IsHandOf stepper.old hand }
         {
             (
-                at_table::update(&mut AtTable { slots, pass }, pred, succ, key, hand),
+                at_table::update(&mut AtTable { slots, stepper }, pred, succ, key, hand),
                 3,
             )
         },

@@ -18,10 +18,10 @@ use Rattle.vbr_list.specs.declared.call.PendingCall.{PendingCall}
 
 -- its pass, and what that has seen
 abbrev pub pass_in : {N : Type 0} {kind : Ghosts N} → PendingCall N kind → PassView
-pass_in c = c.at.pass.now
+pass_in c = c.at.stepper.now
 
 abbrev pub trace_in : {N : Type 0} {kind : Ghosts N} → PendingCall N kind → Trace
-trace_in c = c.at.pass.now.trace
+trace_in c = c.at.stepper.now.trace
 
 -- its budget has room for one more piece
 abbrev pub HasRoom : {N : Type 0} {kind : Ghosts N} → PendingCall N kind → Type 0

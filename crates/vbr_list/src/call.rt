@@ -15,7 +15,7 @@ pub(crate) struct PendingCall<'c, N: Nodes = Keys> {
     pub(crate) bucket: u32,
     pub(crate) budget: u32,
     pub(crate) used: u32,
-    ghost of_key: { bucket ≡ bucket_of at.pass.now.trace.start.shape key },
+    ghost of_key: { bucket ≡ bucket_of at.stepper.now.trace.start.shape key },
     ghost in_shape: { bucket < at.slots.now.start.shape.buckets },
     ghost within: { used ≤ budget },
 }

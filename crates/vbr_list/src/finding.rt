@@ -55,10 +55,10 @@ pub fn find<N: Nodes>(
     ensures tired { IfErr result (GivesUp pass.old pass.new key budget) }
 {
     pass.during(
-        |pass|
-            requires own { IsOf pass.old.trace slots.now }
-            requires empty_hand { pass.old.hand ≡ None }
-        { find_by(&mut AtTable { slots, pass }, key, budget) },
+        |stepper|
+            requires own { IsOf stepper.old.trace slots.now }
+            requires empty_hand { stepper.old.hand ≡ None }
+        { find_by(&mut AtTable { slots, stepper }, key, budget) },
     )
 }
 
@@ -80,7 +80,7 @@ fn find_by<N: Nodes>(
     let mut call = PendingCall {
         at: AtTable {
             slots: at.slots,
-            pass: at.pass,
+            stepper: at.stepper,
         },
         key,
         bucket: at.slots.shape().bucket_of(key),

@@ -99,7 +99,7 @@ pub(crate) fn help_by_copy<N: Nodes>(
     let slots = at.slots;
     let mut copy = AtTable {
         slots,
-        pass: at.pass,
+        stepper: at.stepper,
     };
     help_apart(&mut copy, pred, marked)
 }

@@ -170,10 +170,10 @@ pub fn insert(slots: &Slots, pass: &mut Pass, key: u64, budget: u32) -> Result<b
     ensures { Calls Insert pass.old pass.new key budget result }
 {
     pass.during(
-        |pass|
-            requires own { IsOf pass.old.trace slots.now }
-            requires empty_hand { pass.old.hand ≡ None }
-        { insert_key(&mut AtTable { slots, pass }, key, budget) },
+        |stepper|
+            requires own { IsOf stepper.old.trace slots.now }
+            requires empty_hand { stepper.old.hand ≡ None }
+        { insert_key(&mut AtTable { slots, stepper }, key, budget) },
     )
 }
 
@@ -205,10 +205,10 @@ pub fn insert_entry(
     ensures { CallsInsert pass.old pass.new key value budget result }
 {
     pass.during(
-        |pass|
-            requires own { IsOf pass.old.trace slots.now }
-            requires empty_hand { pass.old.hand ≡ None }
-        { insert_value(&mut AtTable { slots, pass }, key, value, budget) },
+        |stepper|
+            requires own { IsOf stepper.old.trace slots.now }
+            requires empty_hand { stepper.old.hand ≡ None }
+        { insert_value(&mut AtTable { slots, stepper }, key, value, budget) },
     )
 }
 
@@ -247,7 +247,7 @@ fn insert_by<N: Nodes>(
     let mut call = PendingCall {
         at: AtTable {
             slots: at.slots,
-            pass: at.pass,
+            stepper: at.stepper,
         },
         key,
         bucket: at.slots.shape().bucket_of(key),

@@ -151,10 +151,10 @@ pub fn has<N: Nodes>(
     ensures { Calls Has pass.old pass.new key budget result }
 {
     pass.during(
-        |pass|
-            requires own { IsOf pass.old.trace slots.now }
-            requires empty_hand { pass.old.hand ≡ None }
-        { look_up_key(&mut AtTable { slots, pass }, key, budget) },
+        |stepper|
+            requires own { IsOf stepper.old.trace slots.now }
+            requires empty_hand { stepper.old.hand ≡ None }
+        { look_up_key(&mut AtTable { slots, stepper }, key, budget) },
     )
 }
 
@@ -190,10 +190,10 @@ pub fn get(
     ensures { CallsGet pass.old pass.new key budget result }
 {
     pass.during(
-        |pass|
-            requires own { IsOf pass.old.trace slots.now }
-            requires empty_hand { pass.old.hand ≡ None }
-        { look_up_value(&mut AtTable { slots, pass }, key, budget) },
+        |stepper|
+            requires own { IsOf stepper.old.trace slots.now }
+            requires empty_hand { stepper.old.hand ≡ None }
+        { look_up_value(&mut AtTable { slots, stepper }, key, budget) },
     )
 }
 
@@ -234,7 +234,7 @@ fn look_up<N: Nodes>(
     let mut call = PendingCall {
         at: AtTable {
             slots: at.slots,
-            pass: at.pass,
+            stepper: at.stepper,
         },
         key,
         bucket: at.slots.shape().bucket_of(key),

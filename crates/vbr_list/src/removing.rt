@@ -40,7 +40,7 @@ fn walk_apart<N: Nodes>(at: &mut AtTable<'_, N>, key: u64, budget: u32, used: u3
     let mut call = PendingCall {
         at: AtTable {
             slots: at.slots,
-            pass: at.pass,
+            stepper: at.stepper,
         },
         key,
         bucket: at.slots.shape().bucket_of(key),
@@ -64,7 +64,7 @@ fn walk_by_copy<N: Nodes>(at: &mut AtTable<'_, N>, key: u64, budget: u32, used: 
     let slots = at.slots;
     let mut copy = AtTable {
         slots,
-        pass: at.pass,
+        stepper: at.stepper,
     };
     walk_apart(&mut copy, key, budget, used)
 }
@@ -151,10 +151,10 @@ pub fn remove(slots: &Slots, pass: &mut Pass, key: u64, budget: u32) -> Result<b
     ensures { Calls Remove pass.old pass.new key budget result }
 {
     pass.during(
-        |pass|
-            requires own { IsOf pass.old.trace slots.now }
-            requires empty_hand { pass.old.hand ≡ None }
-        { remove_key(&mut AtTable { slots, pass }, key, budget) },
+        |stepper|
+            requires own { IsOf stepper.old.trace slots.now }
+            requires empty_hand { stepper.old.hand ≡ None }
+        { remove_key(&mut AtTable { slots, stepper }, key, budget) },
     )
 }
 
@@ -186,10 +186,10 @@ pub fn remove_entry(
     ensures { CallsRemove pass.old pass.new key budget result }
 {
     pass.during(
-        |pass|
-            requires own { IsOf pass.old.trace slots.now }
-            requires empty_hand { pass.old.hand ≡ None }
-        { remove_value(&mut AtTable { slots, pass }, key, budget) },
+        |stepper|
+            requires own { IsOf stepper.old.trace slots.now }
+            requires empty_hand { stepper.old.hand ≡ None }
+        { remove_value(&mut AtTable { slots, stepper }, key, budget) },
     )
 }
 
@@ -226,7 +226,7 @@ fn remove_by<N: Nodes>(
     let mut call = PendingCall {
         at: AtTable {
             slots: at.slots,
-            pass: at.pass,
+            stepper: at.stepper,
         },
         key,
         bucket: at.slots.shape().bucket_of(key),

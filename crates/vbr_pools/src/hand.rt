@@ -1,8 +1,10 @@
 //! A slot in the hand of a pass.
 ghost use Rattle.std.specs.Prelude.{◌≡◌, ◌≢◌, Some};
+ghost use Rattle.vbr_slots.specs.AtTables.{pass_of};
 
 use std::marker::Model;
-use vbr_slots::{Pass, Stepper};
+use vbr_slots::{AtTable, Pass};
+use vbr_words::Nodes;
 
 /// A slot in the hand of a pass, with the birth of the incarnation that the pass made there. It must
 /// be spent: by a publication and [`Hand::spent`], or by [`crate::give_back`].
@@ -47,12 +49,12 @@ impl Hand {
         let Hand { slot: _, birth: _ } = self;
     }
 
-    /// As [`Hand::spent`], by the stepper of the pass.
+    /// As [`Hand::spent`], of a pass at its table.
     #[inline]
-    pub fn spent_by(self, pass: &Stepper)
-        requires { pass.now.hand ≢ Some self.slot }
+    pub fn spent_by<N: Nodes>(self, at: &AtTable<'_, N>)
+        requires { (pass_of at.now).hand ≢ Some self.slot }
     {
-        let _pass = pass;
+        let _at = at;
         let Hand { slot: _, birth: _ } = self;
     }
 

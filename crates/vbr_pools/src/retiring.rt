@@ -20,11 +20,11 @@ pub fn retire<N: Nodes>(slots: &Slots<N>, pass: &mut Pass, unlinked: Unlinked) -
 {
     pass.during_with(
         unlinked,
-        |pass, unlinked|
-            requires own { IsOf pass.old.trace slots.now }
-            requires unlinked { IsUnlinked ((knows pass.old.trace).own unlinked.slot) }
+        |stepper, unlinked|
+            requires own { IsOf stepper.old.trace slots.now }
+            requires unlinked { IsUnlinked ((knows stepper.old.trace).own unlinked.slot) }
         {
-            let used = at_table::retire(&mut AtTable { slots, pass }, unlinked);
+            let used = at_table::retire(&mut AtTable { slots, stepper }, unlinked);
             (used, used)
         },
     )

@@ -31,9 +31,9 @@ pub fn take<N: Nodes>(slots: &Slots<N>, pass: &mut Pass, budget: u32) -> Result<
     ensures refused { IfErr result (RefusesTake pass.old pass.new budget) }
 {
     pass.during(
-        |pass|
-            requires own { IsOf pass.old.trace slots.now }
-            requires empty_hand { pass.old.hand ≡ None }
-        { at_table::take(&mut AtTable { slots, pass }, budget) },
+        |stepper|
+            requires own { IsOf stepper.old.trace slots.now }
+            requires empty_hand { stepper.old.hand ≡ None }
+        { at_table::take(&mut AtTable { slots, stepper }, budget) },
     )
 }

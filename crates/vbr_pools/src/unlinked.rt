@@ -1,10 +1,12 @@
 //! A slot that its pass unlinked.
 ghost use Rattle.std.specs.Prelude.{◌≡◌};
 ghost use Rattle.vbr_machine.specs.Acceptance.{IsUnlinked};
+ghost use Rattle.vbr_slots.specs.AtTables.{trace_of};
 ghost use Rattle.vbr_slots.specs.Views.{knows};
 
 use std::marker::Model;
-use vbr_slots::{Pass, Stepper};
+use vbr_slots::{AtTable, Pass};
+use vbr_words::Nodes;
 
 /// A slot that a pass unlinked and has not stamped since. It must be spent, by [`crate::retire`].
 pub struct Unlinked {
@@ -32,13 +34,13 @@ impl Unlinked {
         Unlinked { slot }
     }
 
-    /// As [`Unlinked::of`], by the stepper of the pass.
+    /// As [`Unlinked::of`], of a pass at its table.
     #[inline]
-    pub fn by(pass: &Stepper, slot: u32) -> Unlinked
-        requires { IsUnlinked ((knows pass.now.trace).own slot) }
+    pub fn by<N: Nodes>(at: &AtTable<'_, N>, slot: u32) -> Unlinked
+        requires { IsUnlinked ((knows (trace_of at.now)).own slot) }
         ensures { result ≡ record { slot = slot } }
     {
-        let _pass = pass;
+        let _at = at;
         Unlinked { slot }
     }
 

@@ -17,5 +17,6 @@ mod Pools
 mod Passes
 mod Running
 mod Calls
+mod Counting
 mod Alone
 pub mod Lemmas

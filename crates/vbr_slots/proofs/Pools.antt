@@ -1,7 +1,6 @@
 -- The own pool and the hand of a pass, through its steps.
-use Rattle.std.proofs.Common.{◌≡◌, ◌≢◌, ℕ, ◌<◌, ◌==◌, nat_eq, Bool, true, false, not, List, [], ◌∷◌, ◌++◌, get_or, Option, Some, None, cond, refl, sym, ap, ◌∙◌, subst, ⊎_elim, eq-eqb, arith}
-use Rattle.std.specs.Prelude.{Contains, filter}
-use Rattle.std.specs.Option.{option_eq}
+use Rattle.std.proofs.Common.{◌≡◌, ◌≢◌, ℕ, ◌<◌, ◌==◌, Bool, true, false, not, List, [], ◌∷◌, ◌++◌, get_or, Option, Some, None, cond, refl, sym, ap, ◌∙◌, subst, ⊎_elim, eq-eqb, arith}
+use Rattle.std.specs.Prelude.{Contains, filter, ◌⊎◌}
 use Rattle.std.proofs.lemmas.Bool.Decides.{nat_tests}
 use Rattle.std.proofs.lemmas.List.Elements.{All-filter, All-contains, All-contains_itself, Contains-get_or, Contains-push_cases, filter_passes, All-push}
 use Rattle.std.proofs.lemmas.List.Kept.{AllPairs-filter}
@@ -16,6 +15,7 @@ use Rattle.vbr_machine.specs.declared.knowledge.Holding.{Holding}
 use Rattle.vbr_machine.specs.declared.knowledge.Holding.TheVariants.{Free, Unlinked, InHand}
 use Rattle.vbr_machine.proofs.Lemmas.{put_here, put_other}
 use Rattle.vbr_slots.specs.Pools.{IsPooled, HandFits, OwnPool, without, hand_without}
+use Rattle.vbr_slots.specs.Views.{PassView, knows}
 
 -- ---- slots that leave and come
 
@@ -110,7 +110,13 @@ in_hand_may (Some (Free stamp)) is = tt
 in_hand_may (Some (Unlinked reread)) is = is
 in_hand_may (Some (InHand known)) is = tt
 
--- the hand that is left once it was compared with a slot
-pub hand_kept : (slot : ℕ) (hand : Option ℕ) → cond (option_eq nat_eq hand (Some slot)) None hand ≡ hand_without slot hand
-hand_kept slot None = refl
-hand_kept slot (Some t) = refl
+-- a slot that the pass may keep joins its pool, and is in hand no more
+pub pool_kept : {p q : PassView} (slot : ℕ) {pool : List ℕ} {hand : Option ℕ} → p ≡ q → OwnPool p.trace.start (knows p.trace) p.pool p.hand
+    → slot < q.trace.start.shape.slots → IsFree ((knows q.trace).own slot) ⊎ (q.hand ≡ Some slot) → ¬ (Contains q.pool slot)
+    → pool ≡ p.pool ++ slot ∷ [] → hand ≡ hand_without slot p.hand → OwnPool p.trace.start (knows p.trace) pool hand
+pool_kept {p} {q} slot is o low kept apart pooled handed =
+    let P : PassView → Type 0 = λ v. (slot < v.trace.start.shape.slots) × (IsFree ((knows v.trace).own slot) ⊎ (v.hand ≡ Some slot)) × ¬ (Contains v.pool slot) in
+    let so : P p = subst P (sym is) (low, kept, apart) in
+    let holding = (knows p.trace).own slot in
+    let may : MayBear holding = ⊎_elim (free_may holding) (λ held. in_hand_may holding (held_in_hand p.trace.start (knows p.trace) slot p.pool p.hand o held)) so.1 in
+    subst (λ (x : List ℕ × Option ℕ). OwnPool p.trace.start (knows p.trace) x.0 x.1) (λ i. (sym pooled i, sym handed i)) (joins p.trace.start (knows p.trace) slot p.pool p.hand so.0 may so.2 o)

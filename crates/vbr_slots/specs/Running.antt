@@ -3,13 +3,13 @@ use Rattle.std.specs.Prelude.{◌≡◌, ◌≢◌, ◌⊎◌, ℕ, ◌≤◌, L
 use mathlib.Core.Option.{some}
 use lib.ListN.{get_elem?}
 use Rattle.atomic_table.specs.Table.{State as Standing}
-use Rattle.vbr_machine.specs.Start.{Start}
+use Rattle.vbr_machine.specs.Start.{Start, IsStart}
 use Rattle.vbr_machine.specs.Runs.{IsRun, world_after, know_after}
 use Rattle.vbr_machine.specs.Safety.{IsSafe}
 use Rattle.vbr_machine.specs.declared.event.Event.{Event}
 use Rattle.vbr_slots.specs.declared.rule.Witness.{Witness}
 use Rattle.vbr_slots.specs.TableStart.{TableStart}
-use Rattle.vbr_slots.specs.Rule.{EachBegins, IsSeen, nobody, times_in}
+use Rattle.vbr_slots.specs.Rule.{EachBegins, IsSeen, Kept, nobody, times_in}
 use Rattle.vbr_slots.specs.Words.{AreWordsOf}
 
 -- what each witness knows from what it has seen is what it knows in the world after the run
@@ -27,3 +27,7 @@ pub record IsRunning (opening : TableStart) (s : Standing (Unit {0}) (List Witne
   pub knows : (j : ℕ) (v : List Witness) → get_elem? s.views j ≡ some v → EachKnows opening.start run v
   pub seen : (run ≡ []) ⊎ IsSeen run s.views
   pub once : (who : ℕ) → who ≢ nobody → times_in who s.views ≤ 1
+
+-- whatever meets the rule of the table is the state of a safe run of the core
+abbrev pub TheTableIsARun : Type 0
+TheTableIsARun = (opening : TableStart) (s : Standing (Unit {0}) (List Witness)) → IsStart opening.start → Kept opening s → IsRunning opening s

@@ -8,7 +8,7 @@ ghost use Rattle.vbr_slots.specs.OwnSlots.{BearsIn, epoch_of, holding_of};
 ghost use Rattle.vbr_slots.specs.Pools.{HasRoomFor};
 ghost use Rattle.vbr_slots.specs.Views.{IsOf, Did, KeepsPool, knows};
 
-use crate::pass::Pass;
+use crate::pass::{Pass, steps_after};
 use crate::slots::Slots;
 use vbr_machine::Step;
 use vbr_words::{Nodes, Place, decode};
@@ -26,7 +26,8 @@ impl<N: Nodes> Slots<N> {
         requires hand { HasRoomFor pass.old.hand slot }
         ensures { BearsIn slot pass.old pass.new }
     {
-        pass.during(|stepper| (stepper.store_birth(self, slot), 1))
+        pass.steps = steps_after(pass.steps, 1);
+        self.at(&mut pass.stepper).store_birth(slot);
     }
 
     /// Stores the key of the incarnation in hand, in one step.
@@ -37,7 +38,8 @@ impl<N: Nodes> Slots<N> {
         ensures step { Did (StoreKey slot key) pass.old.trace pass.new.trace key }
         ensures pool { KeepsPool pass.old pass.new }
     {
-        pass.during(|stepper| (stepper.store_key(self, slot, key), 1))
+        pass.steps = steps_after(pass.steps, 1);
+        self.at(&mut pass.stepper).store_key(slot, key);
     }
 
     /// Stores the value of the incarnation in hand, in one step, where nodes have values.
@@ -49,7 +51,8 @@ impl<N: Nodes> Slots<N> {
         ensures step { Did (StoreValue slot value) pass.old.trace pass.new.trace value }
         ensures pool { KeepsPool pass.old pass.new }
     {
-        pass.during(|stepper| (stepper.store_value(self, slot, value), 1))
+        pass.steps = steps_after(pass.steps, 1);
+        self.at(&mut pass.stepper).store_value(slot, value);
     }
 
     /// Stores the link word of the incarnation in hand, in one step: unmarked, to none or to a held
@@ -64,6 +67,7 @@ impl<N: Nodes> Slots<N> {
         ensures step { Did (StoreLink slot (link_of word).slot) pass.old.trace pass.new.trace word }
         ensures pool { KeepsPool pass.old pass.new }
     {
-        pass.during(|stepper| (stepper.store_link(self, slot, word), 1))
+        pass.steps = steps_after(pass.steps, 1);
+        self.at(&mut pass.stepper).store_link(slot, word);
     }
 }

@@ -7,7 +7,7 @@ ghost use Rattle.vbr_slots.specs.Expected.{Finds, FindsOther};
 ghost use Rattle.vbr_slots.specs.LookUps.{look_up};
 ghost use Rattle.vbr_slots.specs.Views.{IsOf, knows};
 
-use crate::pass::Pass;
+use crate::pass::{Pass, steps_after};
 use crate::slots::Slots;
 use crate::stepping::place_of_link;
 use vbr_machine::{Op, Step};
@@ -34,7 +34,9 @@ impl<N: Nodes> Slots<N> {
         ensures other { IfErr result
             (FindsOther (ConfirmPresent op slot expected) pass.old pass.new expected) }
     {
-        pass.during(|stepper| (stepper.confirm_present(self, op, slot, expected), 1))
+        pass.steps = steps_after(pass.steps, 1);
+        self.at(&mut pass.stepper)
+            .confirm_present(op, slot, expected)
     }
 
     /// Answers a look-up or a remove, in one step, a load: if the link word at a place is still
@@ -59,7 +61,9 @@ impl<N: Nodes> Slots<N> {
         ensures other { IfErr result
             (FindsOther (ConfirmAbsent op key at expected) pass.old pass.new expected) }
     {
-        pass.during(|stepper| (stepper.confirm_absent(self, op, key, at, expected), 1))
+        pass.steps = steps_after(pass.steps, 1);
+        self.at(&mut pass.stepper)
+            .confirm_absent(op, key, at, expected)
     }
 
     /// Answers a look-up of a key, in one step: it is present, if the link word at its node is
@@ -83,6 +87,8 @@ impl<N: Nodes> Slots<N> {
         ensures other { IfErr result
             (FindsOther (look_up present key at expected) pass.old pass.new expected) }
     {
-        pass.during(|stepper| (stepper.confirm_look_up(self, present, key, at, expected), 1))
+        pass.steps = steps_after(pass.steps, 1);
+        self.at(&mut pass.stepper)
+            .confirm_look_up(present, key, at, expected)
     }
 }

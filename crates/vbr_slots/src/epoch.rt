@@ -4,7 +4,7 @@ ghost use Rattle.vbr_machine.specs.declared.event.Step.TheVariants.{ReadEpoch, A
 ghost use Rattle.vbr_slots.specs.Expected.{Finds, FindsOther};
 ghost use Rattle.vbr_slots.specs.Views.{IsOf, Did, KeepsPool};
 
-use crate::pass::Pass;
+use crate::pass::{Pass, steps_after};
 use crate::slots::Slots;
 use vbr_machine::Step;
 use vbr_words::{Nodes, Place};
@@ -18,7 +18,8 @@ impl<N: Nodes> Slots<N> {
         ensures step { Did ReadEpoch pass.old.trace pass.new.trace result }
         ensures pool { KeepsPool pass.old pass.new }
     {
-        pass.during(|stepper| (stepper.read_epoch(self), 1))
+        pass.steps = steps_after(pass.steps, 1);
+        self.at(&mut pass.stepper).read_epoch()
     }
 
     /// Advances the epoch by 1, if it is `from`, in one step, and says whether it was.
@@ -31,6 +32,7 @@ impl<N: Nodes> Slots<N> {
             (Finds (Advance from) pass.old pass.new from)
             ((found : ℕ) × FindsOther (Advance from) pass.old pass.new from found) }
     {
-        pass.during(|stepper| (stepper.advance(self, from), 1))
+        pass.steps = steps_after(pass.steps, 1);
+        self.at(&mut pass.stepper).advance(from)
     }
 }

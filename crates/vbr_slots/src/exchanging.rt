@@ -7,7 +7,7 @@ ghost use Rattle.vbr_slots.specs.Asked.{IsChecked, IsWritten};
 ghost use Rattle.vbr_slots.specs.Expected.{Finds, FindsOther, Publishes};
 ghost use Rattle.vbr_slots.specs.Views.{IsOf};
 
-use crate::pass::Pass;
+use crate::pass::{Pass, steps_after};
 use crate::slots::Slots;
 use crate::stepping::place_of_link;
 use vbr_machine::Step;
@@ -35,7 +35,9 @@ impl<N: Nodes> Slots<N> {
         ensures other { IfErr result
             (FindsOther (Publish pred expected slot) pass.old pass.new expected) }
     {
-        pass.during(|stepper| (stepper.publish(self, pred, expected, slot, new), 1))
+        pass.steps = steps_after(pass.steps, 1);
+        self.at(&mut pass.stepper)
+            .publish(pred, expected, slot, new)
     }
 
     /// Marks a node, in one step, if its link word is `expected`: the pass has removed its key.
@@ -48,7 +50,8 @@ impl<N: Nodes> Slots<N> {
         ensures found { OnOk result (Finds (Mark slot expected) pass.old pass.new expected) }
         ensures other { IfErr result (FindsOther (Mark slot expected) pass.old pass.new expected) }
     {
-        pass.during(|stepper| (stepper.mark(self, slot, expected), 1))
+        pass.steps = steps_after(pass.steps, 1);
+        self.at(&mut pass.stepper).mark(slot, expected)
     }
 
     /// Unlinks a marked node behind `pred`, in one step, if the word there is `expected`: it
@@ -72,6 +75,7 @@ impl<N: Nodes> Slots<N> {
         ensures other { IfErr result
             (FindsOther (Unlink pred expected slot) pass.old pass.new expected) }
     {
-        pass.during(|stepper| (stepper.unlink(self, pred, expected, slot, new), 1))
+        pass.steps = steps_after(pass.steps, 1);
+        self.at(&mut pass.stepper).unlink(pred, expected, slot, new)
     }
 }

@@ -6,7 +6,7 @@ ghost use Rattle.vbr_machine.specs.Knowledge.{holds, holds_at};
 ghost use Rattle.vbr_machine.specs.declared.event.Step.TheVariants.{LoadLink, LoadBirth, LoadKey, LoadValue};
 ghost use Rattle.vbr_slots.specs.Views.{IsOf, Did, KeepsPool, knows};
 
-use crate::pass::Pass;
+use crate::pass::{Pass, steps_after};
 use crate::slots::Slots;
 use crate::stepping::place_of_link;
 use vbr_machine::Step;
@@ -22,7 +22,8 @@ impl<N: Nodes> Slots<N> {
         ensures step { Did (LoadLink at) pass.old.trace pass.new.trace result }
         ensures pool { KeepsPool pass.old pass.new }
     {
-        pass.during(|stepper| (stepper.load_link(self, at), 1))
+        pass.steps = steps_after(pass.steps, 1);
+        self.at(&mut pass.stepper).load_link(at)
     }
 
     /// Loads the birth of a held slot, an epoch, in one step.
@@ -34,7 +35,8 @@ impl<N: Nodes> Slots<N> {
         ensures step { Did (LoadBirth slot) pass.old.trace pass.new.trace result }
         ensures pool { KeepsPool pass.old pass.new }
     {
-        pass.during(|stepper| (stepper.load_birth(self, slot), 1))
+        pass.steps = steps_after(pass.steps, 1);
+        self.at(&mut pass.stepper).load_birth(slot)
     }
 
     /// Loads the key of a held slot, in one step.
@@ -46,7 +48,8 @@ impl<N: Nodes> Slots<N> {
         ensures step { Did (LoadKey slot) pass.old.trace pass.new.trace result }
         ensures pool { KeepsPool pass.old pass.new }
     {
-        pass.during(|stepper| (stepper.load_key(self, slot), 1))
+        pass.steps = steps_after(pass.steps, 1);
+        self.at(&mut pass.stepper).load_key(slot)
     }
 
     /// Loads the value of a held slot, in one step, where nodes have values.
@@ -59,6 +62,7 @@ impl<N: Nodes> Slots<N> {
         ensures step { Did (LoadValue slot) pass.old.trace pass.new.trace result }
         ensures pool { KeepsPool pass.old pass.new }
     {
-        pass.during(|stepper| (stepper.load_value(self, slot), 1))
+        pass.steps = steps_after(pass.steps, 1);
+        self.at(&mut pass.stepper).load_value(slot)
     }
 }

@@ -21,8 +21,7 @@ impl<N: Nodes> Slots<N> {
         ensures same { other.new ≡ other.old }
         ensures met { BeginsFor other.old.trace.who other.old.trace.seen pass.new.trace.seen }
     {
-        let steps = steps_after(pass.steps, 1);
-        pass.stepper.meet(self, &mut other.stepper);
-        pass.steps = steps;
+        pass.steps = steps_after(pass.steps, 1);
+        self.meet_runner(&mut pass.stepper.runner, &mut other.stepper.runner);
     }
 }

@@ -6,7 +6,7 @@ ghost use Rattle.vbr_slots.specs.OwnSlots.{IsKnownStamp, MissesFlag, TakesFlag, 
 ghost use Rattle.vbr_slots.specs.Pools.{without};
 ghost use Rattle.vbr_slots.specs.Views.{IsOf, Did, KeepsPool};
 
-use crate::pass::Pass;
+use crate::pass::{Pass, steps_after};
 use crate::slots::Slots;
 use vbr_machine::Step;
 use vbr_words::flags::{all_but, flag_of, has_flag, word_of_flag};
@@ -23,7 +23,8 @@ impl<N: Nodes> Slots<N> {
         ensures known { IsKnownStamp (holding_of pass.old slot) result }
         ensures pool { KeepsPool pass.old pass.new }
     {
-        pass.during(|stepper| (stepper.load_stamp(self, slot), 1))
+        pass.steps = steps_after(pass.steps, 1);
+        self.at(&mut pass.stepper).load_stamp(slot)
     }
 
     /// Stamps a slot that the pass unlinked, in one step, with the last epoch that it read, which
@@ -37,7 +38,8 @@ impl<N: Nodes> Slots<N> {
             Did (StoreStamp slot epoch) pass.old.trace pass.new.trace epoch }
         ensures pool { KeepsPool pass.old pass.new }
     {
-        pass.during(|stepper| (stepper.store_stamp(self, slot), 1))
+        pass.steps = steps_after(pass.steps, 1);
+        self.at(&mut pass.stepper).store_stamp(slot);
     }
 
     /// Puts a free slot of the pass into the shared pool, and takes it out of the pass's own pool if
@@ -51,7 +53,8 @@ impl<N: Nodes> Slots<N> {
         ensures pool { pass.new.pool ≡ without slot pass.old.pool }
         ensures hand { pass.new.hand ≡ pass.old.hand }
     {
-        pass.during(|stepper| (stepper.raise(self, slot), 1))
+        pass.steps = steps_after(pass.steps, 1);
+        self.at(&mut pass.stepper).raise(slot);
     }
 
     /// Takes a slot out of the shared pool, if it is there: one `&` clears its flag in the flag word,
@@ -64,6 +67,7 @@ impl<N: Nodes> Slots<N> {
         ensures taken { OnOk result (TakesFlag slot pass.old pass.new) }
         ensures missed { IfErr result (MissesFlag slot pass.old pass.new) }
     {
-        pass.during(|stepper| (stepper.take_flag(self, slot), 1))
+        pass.steps = steps_after(pass.steps, 1);
+        self.at(&mut pass.stepper).take_flag(slot)
     }
 }

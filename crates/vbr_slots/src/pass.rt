@@ -8,7 +8,7 @@ ghost use Rattle.vbr_slots.specs.PassLaw.{PassLaw};
 ghost use Rattle.vbr_slots.specs.Pools.{OwnPool, hand_without};
 ghost use Rattle.vbr_slots.specs.Views.{counted_steps, knows, steps_of};
 
-use crate::stepper::Stepper;
+use crate::stepper::{Stepper, put};
 use std::marker::Model;
 
 /// How many slots the own pool of a pass has room for.
@@ -44,7 +44,7 @@ impl Pass {
         ensures low { result < self.now.trace.passes }
         ensures is_run { IsRun self.now.trace.start self.now.trace.passes self.now.trace.seen }
     {
-        self.stepper.who()
+        self.stepper.runner.who
     }
 
     /// The law of passes: what always holds of one, for the proofs of its callers. It does nothing.
@@ -69,7 +69,7 @@ impl Pass {
     pub fn epoch(&self) -> u64
         ensures { result ≡ (knows self.now.trace).epoch }
     {
-        self.stepper.epoch()
+        self.stepper.runner.epoch()
     }
 
     /// Its own pool, the oldest slot first.
@@ -80,7 +80,7 @@ impl Pass {
             self.now.pool self.now.hand }
         ensures room { length self.now.pool ≤ POOL }
     {
-        self.stepper.pool()
+        self.stepper.pool.as_slice()
     }
 
     /// The slot in its hand: born by it, and neither published nor given back.
@@ -88,7 +88,7 @@ impl Pass {
     pub fn in_hand(&self) -> Option<u32>
         ensures { result ≡ self.now.hand }
     {
-        self.stepper.in_hand()
+        self.stepper.hand
     }
 
     /// Puts a slot at the end of its own pool: one that it owns and that is free, or the one in its
@@ -103,7 +103,7 @@ impl Pass {
         ensures pool { self.new.pool ≡ self.old.pool ++ slot ∷ [] }
         ensures hand { self.new.hand ≡ hand_without slot self.old.hand }
     {
-        self.stepper.keep(slot);
+        put(&mut self.stepper.pool, &mut self.stepper.hand, slot);
     }
 
     /// Lends what makes its steps, and then counts once how many the work tells that it made: its result

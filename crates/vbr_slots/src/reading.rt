@@ -7,7 +7,7 @@ ghost use Rattle.vbr_machine.specs.declared.event.Step.TheVariants.{LoadLink, Lo
 ghost use Rattle.vbr_slots.specs.Reads.{Reads, ReadsNode};
 ghost use Rattle.vbr_slots.specs.Views.{IsOf, KeepsPool, knows};
 
-use crate::pass::Pass;
+use crate::pass::{Pass, steps_after};
 use crate::slots::Slots;
 use crate::stepping::place_of_link;
 use vbr_machine::Step;
@@ -25,7 +25,8 @@ impl<N: Nodes> Slots<N> {
         ensures reads { Reads (LoadLink at) pass.old pass.new result.0 result.1 }
         ensures pool { KeepsPool pass.old pass.new }
     {
-        pass.during(|stepper| (stepper.read_link(self, at), 2))
+        pass.steps = steps_after(pass.steps, 2);
+        self.at(&mut pass.stepper).read_link(at)
     }
 
     /// Loads the key of a held slot, and reads the epoch, in two steps: gives the key and the
@@ -38,7 +39,8 @@ impl<N: Nodes> Slots<N> {
         ensures reads { Reads (LoadKey slot) pass.old pass.new result.0 result.1 }
         ensures pool { KeepsPool pass.old pass.new }
     {
-        pass.during(|stepper| (stepper.read_key(self, slot), 2))
+        pass.steps = steps_after(pass.steps, 2);
+        self.at(&mut pass.stepper).read_key(slot)
     }
 
     /// Loads the value of a held slot, and reads the epoch, in two steps: gives the value and the
@@ -52,7 +54,8 @@ impl<N: Nodes> Slots<N> {
         ensures reads { Reads (LoadValue slot) pass.old pass.new result.0 result.1 }
         ensures pool { KeepsPool pass.old pass.new }
     {
-        pass.during(|stepper| (stepper.read_value(self, slot), 2))
+        pass.steps = steps_after(pass.steps, 2);
+        self.at(&mut pass.stepper).read_value(slot)
     }
 
     /// Loads the birth and the link word of a held slot, and reads the epoch, in three steps: gives the
@@ -65,6 +68,7 @@ impl<N: Nodes> Slots<N> {
         ensures reads { ReadsNode slot pass.old pass.new result.0 result.1 result.2 }
         ensures pool { KeepsPool pass.old pass.new }
     {
-        pass.during(|stepper| (stepper.read_node(self, slot), 3))
+        pass.steps = steps_after(pass.steps, 3);
+        self.at(&mut pass.stepper).read_node(slot)
     }
 }

@@ -41,7 +41,7 @@ impl<N: Nodes> Slots<N> {
         ensures table { result.table ≡ self.now.table }
         ensures seen { result.seen ≡ pass.old.trace.seen }
     {
-        pass.stepper.seen(self)
+        self.note_runner(&mut pass.stepper.runner)
     }
 
     /// Another token that tells the same. It is no step; it costs one load, of which nothing is kept.
@@ -64,6 +64,6 @@ impl<N: Nodes> Slots<N> {
         ensures pool { KeepsPool pass.old pass.new }
         ensures begins { Begins token.seen pass.new.trace.seen }
     {
-        pass.stepper.catch_up(self, token);
+        self.catch_up_runner(&mut pass.stepper.runner, token);
     }
 }

@@ -48,7 +48,7 @@ pub fn confirm_present_entry<N: Nodes>(
     let At::Slot(slot) = held.at else {
         unreachable!()
     };
-    match at.pass.confirm_present(at.slots, op, slot, held.word) {
+    match at.confirm_present(op, slot, held.word) {
         Ok(()) => Ok(()),
         Err(found) => Err(Rollback::LostExchange { found }),
     }
@@ -83,10 +83,7 @@ pub fn confirm_absent_entry<N: Nodes>(
     ensures lost { IfErr result (FindsAnother (trace_of at.old) (trace_of at.new) pred.now) }
 {
     at.law();
-    match at
-        .pass
-        .confirm_absent(at.slots, op, key, pred.at, pred.word)
-    {
+    match at.confirm_absent(op, key, pred.at, pred.word) {
         Ok(()) => Ok(()),
         Err(found) => Err(Rollback::LostExchange { found }),
     }
@@ -108,10 +105,7 @@ pub fn confirm_look_up<N: Nodes>(
     ensures lost { IfErr result (FindsAnother (trace_of at.old) (trace_of at.new) held.now) }
 {
     at.law();
-    match at
-        .pass
-        .confirm_look_up(at.slots, present, key, held.at, held.word)
-    {
+    match at.confirm_look_up(present, key, held.at, held.word) {
         Ok(()) => Ok(()),
         Err(found) => Err(Rollback::LostExchange { found }),
     }

@@ -38,7 +38,7 @@ pub fn mark_entry<N: Nodes>(at: &mut AtTable<'_, N>, held: &Held) -> Result<Mark
     let At::Slot(slot) = held.at else {
         unreachable!()
     };
-    match at.pass.mark(at.slots, slot, held.word) {
+    match at.mark(slot, held.word) {
         Ok(()) => Ok(Marked {
             slot,
             birth: held.birth,

@@ -21,7 +21,7 @@ pub fn checkpoint<N: Nodes>(at: &mut AtTable<'_, N>) -> Checkpoint
 {
     at.law();
     Checkpoint {
-        epoch: at.pass.read_epoch(at.slots),
+        epoch: at.read_epoch(),
     }
 }
 
@@ -42,7 +42,7 @@ pub fn first<N: Nodes>(
     at.law();
     let place = At::Head(bucket);
     let before = at.epoch();
-    let (word, now) = at.pass.read_link(at.slots, place);
+    let (word, now) = at.read_link(place);
     if now != before {
         return Err(Rollback::EpochMoved { now });
     }
@@ -68,7 +68,7 @@ pub fn next<N: Nodes>(at: &mut AtTable<'_, N>, held: &Held) -> Result<Option<Hel
         return Ok(None);
     };
     let before = at.epoch();
-    let (birth, word, now) = at.pass.read_node(at.slots, slot);
+    let (birth, word, now) = at.read_node(slot);
     if now != before {
         return Err(Rollback::EpochMoved { now });
     }
@@ -95,7 +95,7 @@ pub fn key_of<N: Nodes>(at: &mut AtTable<'_, N>, node: &Held) -> Result<u64, Rol
         unreachable!()
     };
     let before = at.epoch();
-    let (key, now) = at.pass.read_key(at.slots, slot);
+    let (key, now) = at.read_key(slot);
     if now != before {
         return Err(Rollback::EpochMoved { now });
     }
@@ -118,7 +118,7 @@ pub fn value_of<N: Nodes>(at: &mut AtTable<'_, N>, node: &Held) -> Result<u64, R
         unreachable!()
     };
     let before = at.epoch();
-    let (value, now) = at.pass.read_value(at.slots, slot);
+    let (value, now) = at.read_value(slot);
     if now != before {
         return Err(Rollback::EpochMoved { now });
     }

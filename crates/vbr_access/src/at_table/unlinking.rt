@@ -27,8 +27,8 @@ fn birth_behind<N: Nodes>(at: &mut AtTable<'_, N>, marked: &Marked) -> Result<u6
     let Some(slot) = decode(marked.word).slot else {
         return Ok(0);
     };
-    let birth = at.pass.load_birth(at.slots, slot);
-    let now = at.pass.read_epoch(at.slots);
+    let birth = at.load_birth(slot);
+    let now = at.read_epoch();
     if now != marked.epoch {
         return Err(Rollback::EpochMoved { now });
     }
@@ -53,13 +53,10 @@ pub fn unlink<N: Nodes>(
     let next_birth = birth_behind(at, &marked)?;
     at.law();
     let new = link_to(decode(marked.word).slot, pred.birth, next_birth);
-    match at
-        .pass
-        .unlink(at.slots, pred.at, pred.word, marked.slot, new)
-    {
+    match at.unlink(pred.at, pred.word, marked.slot, new) {
         Ok(()) => {
             at.law();
-            let node = Unlinked::by(at.pass, marked.slot);
+            let node = Unlinked::by(at, marked.slot);
             Ok((node, Held { word: new, ..*pred }))
         }
         Err(found) => Err(Rollback::LostExchange { found }),

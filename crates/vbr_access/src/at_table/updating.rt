@@ -14,16 +14,16 @@ use crate::held::Held;
 use crate::links::link_to;
 use crate::rollback::Rollback;
 use vbr_pools::Hand;
-use vbr_slots::{AtTable, Stepper};
+use vbr_slots::AtTable;
 use vbr_words::{Nodes, decode};
 
 // The birth of the node that the link of `pred` names; 0 of none.
 #[inline]
-fn birth_named(pass: &Stepper, pred: &Held, succ: Option<&Held>) -> u64
-    requires { IsSucc (knows pass.now.trace) pred.now succ }
-    ensures { BirthNamed (knows pass.now.trace) (link_of pred.now.word).slot result }
+fn birth_named<N: Nodes>(at: &AtTable<'_, N>, pred: &Held, succ: Option<&Held>) -> u64
+    requires { IsSucc (knows (trace_of at.now)) pred.now succ }
+    ensures { BirthNamed (knows (trace_of at.now)) (link_of pred.now.word).slot result }
 {
-    let _pass = pass;
+    let _at = at;
     match succ {
         Some(node) => node.birth,
         None => 0,
@@ -42,7 +42,7 @@ fn put_value<N: Nodes>(at: &mut AtTable<'_, N>, slot: u32, value: u64)
     at.law();
     at.slots.kind();
     if N::VALUES {
-        at.pass.store_value(at.slots, slot, value);
+        at.store_value(slot, value);
     }
 }
 
@@ -67,11 +67,11 @@ fn fill<N: Nodes>(
 {
     let slot = hand.slot();
     at.law();
-    at.pass.store_key(at.slots, slot, key);
+    at.store_key(slot, key);
     put_value(at, slot, value);
     at.law();
     let link = link_to(decode(pred.word).slot, hand.birth(), birth);
-    at.pass.store_link(at.slots, slot, link);
+    at.store_link(slot, link);
 }
 
 /// As [`crate::update`].
@@ -116,14 +116,14 @@ pub fn update_entry<N: Nodes>(
         (λ _. InsertsEntry (pass_of at.old) (pass_of at.new) key value) }
     ensures lost { IfErr result (GivesBack (pass_of at.old) (pass_of at.new) pred.now hand) }
 {
-    let birth = birth_named(at.pass, pred, succ);
+    let birth = birth_named(at, pred, succ);
     fill(at, &hand, key, value, pred, birth);
     at.law();
     let slot = hand.slot();
     let new = link_to(Some(slot), pred.birth, hand.birth());
-    match at.pass.publish(at.slots, pred.at, pred.word, slot, new) {
+    match at.publish(pred.at, pred.word, slot, new) {
         Ok(()) => {
-            hand.spent_by(at.pass);
+            hand.spent_by(at);
             Ok(())
         }
         Err(found) => Err((hand, Rollback::LostExchange { found })),

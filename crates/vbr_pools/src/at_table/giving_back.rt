@@ -18,5 +18,5 @@ pub fn give_back<N: Nodes>(at: &mut AtTable<'_, N>, hand: Hand)
     ensures back { PutsBack (pass_of at.old) (pass_of at.new) hand.slot }
 {
     at.law();
-    at.pass.keep(hand.into_slot());
+    at.keep(hand.into_slot());
 }

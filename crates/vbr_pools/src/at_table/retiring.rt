@@ -19,14 +19,14 @@ pub fn retire<N: Nodes>(at: &mut AtTable<'_, N>, unlinked: Unlinked) -> u32
 {
     at.law();
     let slot = unlinked.into_slot();
-    let kept = at.pass.pool().len() < POOL - 1;
-    at.pass.read_epoch(at.slots);
-    at.pass.store_stamp(at.slots, slot);
+    let kept = at.pool().len() < POOL - 1;
+    at.read_epoch();
+    at.store_stamp(slot);
     if kept {
-        at.pass.keep(slot);
+        at.keep(slot);
         2
     } else {
-        at.pass.raise_outside(at.slots, slot);
+        at.raise_outside(slot);
         3
     }
 }

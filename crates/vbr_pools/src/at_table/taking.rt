@@ -61,11 +61,11 @@ fn win_slot<N: Nodes>(at: &mut AtTable<'_, N>, budget: u32) -> Result<u32, (Take
     ensures won { IfOk result (HasSlots (pass_of at.old) (pass_of at.new) budget) }
     ensures none { IfErr result (WinsNone (pass_of at.old) (pass_of at.new) budget) }
 {
-    if !at.pass.pool().is_empty() {
+    if !at.pool().is_empty() {
         return Ok(0);
     }
     // Each probe is a step, and one that is lost shows the flags of sixty-four slots.
-    let start = at.pass.last_tried() / FLAGS * FLAGS;
+    let start = at.last_tried() / FLAGS * FLAGS;
     let mut probes = 0;
     let mut slot = start;
     let mut end = at.slots.shape().slots();
@@ -74,10 +74,10 @@ fn win_slot<N: Nodes>(at: &mut AtTable<'_, N>, budget: u32) -> Result<u32, (Take
             return Err((TakeRefusal::OutOfSteps { used: probes }, probes));
         }
         probes += 1;
-        match at.pass.take_flag(at.slots, slot) {
+        match at.take_flag(slot) {
             Ok(()) => {
                 at.law();
-                at.pass.keep(slot);
+                at.keep(slot);
                 return Ok(probes);
             }
             Err(found) => {
@@ -111,7 +111,7 @@ fn choose<N: Nodes>(
     if !affords(budget, used) {
         return Err((TakeRefusal::OutOfSteps { used }, used));
     }
-    let epoch = at.pass.read_epoch(at.slots);
+    let epoch = at.read_epoch();
     let (found, used) = scan(at, epoch, budget, used + 1)?;
     at.law();
     if let Some(slot) = found {
@@ -123,9 +123,9 @@ fn choose<N: Nodes>(
     if epoch == at.slots.shape().last_epoch() {
         return Err((TakeRefusal::EpochSpent { epoch }, used));
     }
-    at.pass.advance(at.slots, epoch);
-    at.pass.read_epoch(at.slots);
-    Ok((at.pass.pool()[0], used + 2))
+    at.advance(epoch);
+    at.read_epoch();
+    Ok((at.pool()[0], used + 2))
 }
 
 // The oldest slot of the own pool that is stamped below an epoch, if there is one, and how many steps
@@ -142,12 +142,12 @@ fn scan<N: Nodes>(
     ensures scanned { IfOk result (IsScanned (pass_of at.old) (pass_of at.new) epoch budget used) }
     ensures part { IfErr result (ScansPart (pass_of at.old) (pass_of at.new) budget used) }
 {
-    for i in 0..at.pass.pool().len() {
+    for i in 0..at.pool().len() {
         if !affords(budget, used) {
             return Err((TakeRefusal::OutOfSteps { used }, used));
         }
-        let slot = at.pass.pool()[i];
-        let stamp = at.pass.load_stamp(at.slots, slot);
+        let slot = at.pool()[i];
+        let stamp = at.load_stamp(slot);
         used += 1;
         if stamp < epoch {
             return Ok((Some(slot), used));
@@ -175,7 +175,7 @@ fn bear<N: Nodes>(
         return Err((TakeRefusal::OutOfSteps { used }, used));
     }
     // What is known of the slots of the pool is told with it.
-    let _pool = at.pass.pool();
-    at.pass.store_birth(at.slots, slot);
+    let _pool = at.pool();
+    at.store_birth(slot);
     Ok((Hand::of(slot, at.epoch()), used + 1))
 }

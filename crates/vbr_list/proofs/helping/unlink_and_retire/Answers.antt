@@ -24,10 +24,10 @@ pub returns-in-Ok-clause-goes : goal.returns-in-Ok-clause-goes
 returns-in-Ok-clause-goes g c = λ used.
     let a = c.unlink-outcome.ensures in
     let b = c.retire.ensures.retires in
-    let q = c.unlink-outcome.new.at.pass.now in
+    let q = c.unlink-outcome.new.at.stepper.now in
     let P : ℕ → Type 0 = λ s. IsUnlinked ((knows q.trace).own s) in
-    let Q : ℕ → Type 0 = λ s. KeepsUnlinked s c.args.at.now.pass.now q in
-    subst (λ (n : ℕ). Goes c.args.at.now.pass.now c.retire.new.at.pass.now used n) (omega arith)
+    let Q : ℕ → Type 0 = λ s. KeepsUnlinked s c.args.at.now.stepper.now q in
+    subst (λ (n : ℕ). Goes c.args.at.now.stepper.now c.retire.new.at.stepper.now used n) (omega arith)
     (record {
       quiet = quiet_on a.stays.quiet b.quiet;
       counts = counts_on (counts_step used c.steps_to_unlink-used.result (took_same c.steps_to_unlink-used.result _ c.steps_to_unlink-used.ensures.is a.stays.took)) (counts_step (used + c.steps_to_unlink-used.result) c.retire.result b.took);
@@ -36,9 +36,9 @@ returns-in-Ok-clause-goes g c = λ used.
 
 pub returns-in-Ok-clause-unlinks : goal.returns-in-Ok-clause-unlinks
 returns-in-Ok-clause-unlinks g c =
-    let p = c.args.at.now.pass.now in
-    let q = c.unlink-outcome.new.at.pass.now in
-    let r = c.retire.new.at.pass.now in
+    let p = c.args.at.now.stepper.now in
+    let q = c.unlink-outcome.new.at.stepper.now in
+    let r = c.retire.new.at.stepper.now in
     let a = c.unlink-outcome.ensures.stays.quiet in
     let b = c.retire.ensures.retires.quiet in
     let won = rw c.in-Ok.is at c.unlink-outcome.ensures.unlinked in

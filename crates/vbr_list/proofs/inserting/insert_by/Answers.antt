@@ -23,14 +23,14 @@ use Rattle.vbr_list.proofs.inserting.insert_by.Goals as goal
 
 pub invariant_of-call-2 : goal.invariant_of-call-2
 invariant_of-call-2 g c = record {
-  of_key = bucket_is c.args.at.now.pass.now.trace.start _ c.shape.result c.bucket_of.result c.args.key c.args.at.now.own.1 c.shape.ensures.shape c.bucket_of.ensures.bucket;
+  of_key = bucket_is c.args.at.now.stepper.now.trace.start _ c.shape.result c.bucket_of.result c.args.key c.args.at.now.own.1 c.shape.ensures.shape c.bucket_of.ensures.bucket;
   in_shape = let same = ap (λ (d : Dimensions). d.buckets) c.shape.ensures.shape in let low = c.bucket_of.ensures.in_shape in omega (arith, same, low);
   within = omega arith;
 }
 
 pub returns-in-Err-clause-calls : goal.returns-in-Err-clause-calls
 returns-in-Err-clause-calls g c =
-    let same : c.at-1.given.0 ≡ c.prepare.new.self.at.pass.now = search rules in
+    let same : c.at-1.given.0 ≡ c.prepare.new.self.at.stepper.now = search rules in
     rw same (record {
       same = search rules;
       made = tt;
@@ -43,7 +43,7 @@ returns-in-Err-clause-calls g c =
         kept = search rules;
         had = c.prepare.ensures.prepares.had;
         shared = search rules;
-        refused = refused_first c.args.at.now.pass.now c.prepare.new.self.at.pass.now c.args.key c.args.budget c.in-Err.refusal c.in-Err.ensures.refused.says;
+        refused = refused_first c.args.at.now.stepper.now c.prepare.new.self.at.stepper.now c.args.key c.args.budget c.in-Err.refusal c.in-Err.ensures.refused.says;
         within = search rules;
         ready = search rules;
         costs = tt;
@@ -52,10 +52,10 @@ returns-in-Err-clause-calls g c =
 
 pub returns-in-Ok-None-clause-calls : goal.returns-in-Ok-None-clause-calls
 returns-in-Ok-None-clause-calls g c =
-    let same : c.at-in-Ok-None-1.given.0 ≡ c.prepare.new.self.at.pass.now = search rules in
+    let same : c.at-in-Ok-None-1.given.0 ≡ c.prepare.new.self.at.stepper.now = search rules in
     rw same (record {
       same = search rules;
-      made = told_as (told_bare c.args.at.now.pass.now.trace.start c.args.at.now.pass.now.trace.who Insert c.args.key false) (rw c.in-Ok-None.field-0-is at c.in-Ok-None.ensures.prepared.is).0;
+      made = told_as (told_bare c.args.at.now.stepper.now.trace.start c.args.at.now.stepper.now.trace.who Insert c.args.key false) (rw c.in-Ok-None.field-0-is at c.in-Ok-None.ensures.prepared.is).0;
       alone = (let x = rw c.in-Ok-None.field-0-is at c.in-Ok-None.ensures.prepared.is in
           alone c.law.ensures.start c.law.ensures.low x.0);
       quiet = tt;
@@ -77,10 +77,10 @@ returns-in-Ok-None-clause-calls g c =
 
 pub returns-in-Ok-Some-clause-calls : goal.returns-in-Ok-Some-clause-calls
 returns-in-Ok-Some-clause-calls g c =
-    let same : c.at-in-Ok-Some-1.given.0 ≡ c.link.new.self.at.pass.now = search rules in
-    let p = c.args.at.now.pass.now in
-    let q = c.prepare.new.self.at.pass.now in
-    let r = c.link.new.self.at.pass.now in
+    let same : c.at-in-Ok-Some-1.given.0 ≡ c.link.new.self.at.stepper.now = search rules in
+    let p = c.args.at.now.stepper.now in
+    let q = c.prepare.new.self.at.stepper.now in
+    let r = c.link.new.self.at.stepper.now in
     let first = (rw c.in-Ok-Some.field-0-is at c.in-Ok-Some.ensures.prepared.is).0 in
     let call = c.prepare.ensures.prepares.call in
     let d = c.prepare.new.self in

@@ -30,38 +30,38 @@ loop-sight-preserved g c =
       c.loop-sight.invariant.1,
       c.loop-sight.invariant.2,
       peeks_on before (record { quiet = b; counts = s.counts; hand = s.hand }) (observed c.settle_look_up.ensures.only_loads c.in_default-settle_look_up.ensures.rolls.adds_none) (let low = s.more in omega (arith, low)) (rw c.loop-sight.invariant.2 at (within_call same)),
-      first_lost c.args.at.now.pass.now c.loop-sight.call.at.pass.now c.settle_look_up.new.self.at.pass.now c.loop-sight.invariant.4 c.loop-sight.invariant.3.tries.goes.quiet (quiet_on a b)
+      first_lost c.args.at.now.stepper.now c.loop-sight.call.at.stepper.now c.settle_look_up.new.self.at.stepper.now c.loop-sight.invariant.4 c.loop-sight.invariant.3.tries.goes.quiet (quiet_on a b)
           (λ alone. let sight = c.in-Some.ensures.sight.alone (first_of a b alone) in c.in_default-settle_look_up.ensures.rolls.wins sight.fresh sight.stands (then_of a b alone)),
     )
 
 pub loop-sight-init : goal.loop-sight-init
-loop-sight-init g c = (call_refl _, refl, refl, peeks_refl c.args.at.now.pass.now 0 c.args.budget (omega arith), inr (refl, refl))
+loop-sight-init g c = (call_refl _, refl, refl, peeks_refl c.args.at.now.stepper.now 0 c.args.budget (omega arith), inr (refl, refl))
 
 pub invariant_of-call-2 : goal.invariant_of-call-2
 invariant_of-call-2 g c = record {
-  of_key = bucket_is c.args.at.now.pass.now.trace.start _ c.shape.result c.bucket_of.result c.args.key c.args.at.now.own.1 c.shape.ensures.shape c.bucket_of.ensures.bucket;
+  of_key = bucket_is c.args.at.now.stepper.now.trace.start _ c.shape.result c.bucket_of.result c.args.key c.args.at.now.own.1 c.shape.ensures.shape c.bucket_of.ensures.bucket;
   in_shape = let same = ap (λ (d : Dimensions). d.buckets) c.shape.ensures.shape in let low = c.bucket_of.ensures.in_shape in omega (arith, same, low);
   within = omega arith;
 }
 
 pub returns-in_default-clause-took : goal.returns-in_default-clause-took
 returns-in_default-clause-took g c =
-    let same : c.at-1.given.0 ≡ c.look.new.self.at.pass.now = search rules in
+    let same : c.at-1.given.0 ≡ c.look.new.self.at.stepper.now = search rules in
     rw same (took_all (goes_on c.loop-sight.invariant.3.tries.goes c.look.ensures.goes.goes).counts)
 
 pub returns-then-not-affords-clause-took : goal.returns-then-not-affords-clause-took
 returns-then-not-affords-clause-took g c =
-    let same : c.at-then-not-affords-1.given.0 ≡ c.look.new.self.at.pass.now = search rules in
+    let same : c.at-then-not-affords-1.given.0 ≡ c.look.new.self.at.stepper.now = search rules in
     rw same (took_all (goes_on c.loop-sight.invariant.3.tries.goes c.look.ensures.goes.goes).counts)
 
 pub returns-in-Ok-clause-took : goal.returns-in-Ok-clause-took
 returns-in-Ok-clause-took g c =
-    let same : c.at-in-Ok-1.given.0 ≡ c.settle_look_up.new.self.at.pass.now = search rules in
+    let same : c.at-in-Ok-1.given.0 ≡ c.settle_look_up.new.self.at.stepper.now = search rules in
     rw same (took_all (counts_on (goes_on c.loop-sight.invariant.3.tries.goes c.look.ensures.goes.goes).counts c.settle_look_up.ensures.settles.counts))
 
 pub returns-in_default-clause-calls : goal.returns-in_default-clause-calls
 returns-in_default-clause-calls g c =
-    let same : c.at-1.given.0 ≡ c.look.new.self.at.pass.now = search rules in
+    let same : c.at-1.given.0 ≡ c.look.new.self.at.stepper.now = search rules in
     rw same (record {
       same = (quiet_on c.loop-sight.invariant.3.tries.goes.quiet c.look.ensures.goes.goes.quiet).same;
       made = tt;
@@ -80,7 +80,7 @@ returns-in_default-clause-calls g c =
           short = rw (c.loop-sight.invariant.0.budget ∙ c.loop-sight.invariant.2) at c.in_default.ensures.tired.tired;
         });
         within = (λ alone.
-            let x : c.args.budget < 0 + enough_to_look_up c.args.at.now.pass.now.trace c.args.key = at_first (λ q since. c.args.budget < since + enough_to_look_up q.trace c.args.key) c.args.at.now.pass.now c.loop-sight.call.at.pass.now c.look.new.self.at.pass.now c.loop-sight.invariant.4 c.loop-sight.invariant.3.tries.goes.quiet c.look.ensures.goes.goes.quiet alone (rw ((c.loop-sight.invariant.0.key ∙ c.loop-sight.invariant.1), (c.loop-sight.invariant.0.budget ∙ c.loop-sight.invariant.2)) at c.in_default.ensures.tired.short) in
+            let x : c.args.budget < 0 + enough_to_look_up c.args.at.now.stepper.now.trace c.args.key = at_first (λ q since. c.args.budget < since + enough_to_look_up q.trace c.args.key) c.args.at.now.stepper.now c.loop-sight.call.at.stepper.now c.look.new.self.at.stepper.now c.loop-sight.invariant.4 c.loop-sight.invariant.3.tries.goes.quiet c.look.ensures.goes.goes.quiet alone (rw ((c.loop-sight.invariant.0.key ∙ c.loop-sight.invariant.1), (c.loop-sight.invariant.0.budget ∙ c.loop-sight.invariant.2)) at c.in_default.ensures.tired.short) in
             omega (arith, x));
         costs = tt;
       };
@@ -88,7 +88,7 @@ returns-in_default-clause-calls g c =
 
 pub returns-then-not-affords-clause-calls : goal.returns-then-not-affords-clause-calls
 returns-then-not-affords-clause-calls g c =
-    let same : c.at-then-not-affords-1.given.0 ≡ c.look.new.self.at.pass.now = search rules in
+    let same : c.at-then-not-affords-1.given.0 ≡ c.look.new.self.at.stepper.now = search rules in
     rw same (record {
       same = (quiet_on c.loop-sight.invariant.3.tries.goes.quiet c.look.ensures.goes.goes.quiet).same;
       made = tt;
@@ -104,7 +104,7 @@ returns-then-not-affords-clause-calls g c =
         refused = search rules;
         within = (λ alone.
             let short : ¬ (c.look.new.self.used + PIECE ≤ c.look.new.self.budget) = λ h. (let f = c.if-not-affords.true in let z = c.affords.ensures.1 h in let w : false ≡ true = sym f ∙ z in cc) in
-            let x : c.args.budget < 0 + enough_to_look_up c.args.at.now.pass.now.trace c.args.key = at_first (λ q since. c.args.budget < since + enough_to_look_up q.trace c.args.key) c.args.at.now.pass.now c.loop-sight.call.at.pass.now c.look.new.self.at.pass.now c.loop-sight.invariant.4 c.loop-sight.invariant.3.tries.goes.quiet c.look.ensures.goes.goes.quiet alone
+            let x : c.args.budget < 0 + enough_to_look_up c.args.at.now.stepper.now.trace c.args.key = at_first (λ q since. c.args.budget < since + enough_to_look_up q.trace c.args.key) c.args.at.now.stepper.now c.loop-sight.call.at.stepper.now c.look.new.self.at.stepper.now c.loop-sight.invariant.4 c.loop-sight.invariant.3.tries.goes.quiet c.look.ensures.goes.goes.quiet alone
             (λ then. let f = (rw (c.loop-sight.invariant.0.key ∙ c.loop-sight.invariant.1) at c.in-Some.ensures.sight.alone then).paid in let e = (c.look.ensures.goes.call.budget ∙ c.loop-sight.invariant.0.budget ∙ c.loop-sight.invariant.2) in omega (arith, f, short, e)) in
             omega (arith, x));
         costs = tt;
@@ -113,10 +113,10 @@ returns-then-not-affords-clause-calls g c =
 
 pub returns-in-Ok-clause-calls : goal.returns-in-Ok-clause-calls
 returns-in-Ok-clause-calls g c =
-    let same : c.at-in-Ok-1.given.0 ≡ c.settle_look_up.new.self.at.pass.now = search rules in
-    let p = c.args.at.now.pass.now in
-    let q = c.look.new.self.at.pass.now in
-    let r = c.settle_look_up.new.self.at.pass.now in
+    let same : c.at-in-Ok-1.given.0 ≡ c.settle_look_up.new.self.at.stepper.now = search rules in
+    let p = c.args.at.now.stepper.now in
+    let q = c.look.new.self.at.stepper.now in
+    let r = c.settle_look_up.new.self.at.stepper.now in
     let op = look_up_op c.args.gives in
     let first = quiet_on c.loop-sight.invariant.3.tries.goes.quiet c.look.ensures.goes.goes.quiet in
     let call = call_on (call_on c.loop-sight.invariant.0 c.look.ensures.goes.call) c.settle_look_up.ensures.settles.call in
@@ -142,7 +142,7 @@ returns-in-Ok-clause-calls g c =
         within = tt;
         costs = (λ whole.
             let alone = alone_first first.seen answered.seen whole in
-            let x : c.look.new.self.used ≤ 0 + 3 + 5 * listed_for p.trace c.args.key = at_first (λ q since. c.look.new.self.used ≤ since + 3 + 5 * listed_for q.trace c.args.key) p c.loop-sight.call.at.pass.now q c.loop-sight.invariant.4 c.loop-sight.invariant.3.tries.goes.quiet c.look.ensures.goes.goes.quiet alone
+            let x : c.look.new.self.used ≤ 0 + 3 + 5 * listed_for p.trace c.args.key = at_first (λ q since. c.look.new.self.used ≤ since + 3 + 5 * listed_for q.trace c.args.key) p c.loop-sight.call.at.stepper.now q c.loop-sight.invariant.4 c.loop-sight.invariant.3.tries.goes.quiet c.look.ensures.goes.goes.quiet alone
             (λ then. (rw (c.loop-sight.invariant.0.key ∙ c.loop-sight.invariant.1) at c.in-Some.ensures.sight.alone then).paid) in
             within_of c.settle_look_up.new.self.used (answer_costs c.args.gives p.trace c.args.key) (costs_enough c.args.gives p.trace c.args.key c.look.new.self.used c.settle_look_up.new.self.used (omega (arith, x)) c.settle_look_up.ensures.few) counts);
       };

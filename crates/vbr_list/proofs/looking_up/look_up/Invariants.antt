@@ -4,7 +4,7 @@ use Rattle.vbr_list.proofs.looking_up.look_up.Given as goal
 use Rattle.vbr_list.proofs.Traversals.{IsFirst, Peeks}
 
 abbrev pub invariant-loop-sight : goal.invariant-loop-sight
-invariant-loop-sight g l = IsSameCall l.initial.call l.call × (l.initial.call.key ≡ l.key) × (l.initial.call.budget ≡ l.budget) × Peeks l.fn.at.pass.now l.call.at.pass.now 0 l.call.used l.budget × IsFirst l.fn.at.pass.now l.call.at.pass.now 0 l.call.used
+invariant-loop-sight g l = IsSameCall l.initial.call l.call × (l.initial.call.key ≡ l.key) × (l.initial.call.budget ≡ l.budget) × Peeks l.fn.at.stepper.now l.call.at.stepper.now 0 l.call.used l.budget × IsFirst l.fn.at.stepper.now l.call.at.stepper.now 0 l.call.used
 
 abbrev pub decreases-loop-sight : goal.decreases-loop-sight
 decreases-loop-sight g l = l.call.budget - l.call.used

@@ -10,5 +10,5 @@ look_up-requires-clause-asked c = λ gives. ap (λ (d : Start). d.shape.values) 
 pub returns-clause-calls : goal.returns-clause-calls
 returns-clause-calls c =
     let answer = c.look_up.result.0 in
-    let same = given_kept c.args.at.now.pass.now.trace Get c.args.key (ap (λ (d : Start). d.shape.values) c.args.at.now.own.1 ∙ c.kind.ensures) in
+    let same = given_kept c.args.at.now.stepper.now.trace Get c.args.key (ap (λ (d : Start). d.shape.values) c.args.at.now.own.1 ∙ c.kind.ensures) in
     calls_entry answer c.law.ensures (calls_as answer c.look_up.ensures.calls same (λ spares. look_up_as answer spares same))

@@ -28,35 +28,35 @@ loop-found-preserved g c =
       c.loop-found.invariant.1,
       c.loop-found.invariant.2,
       tries_on found (record { quiet = c.in_default-settle_remove.ensures.rolls.quiet; counts = s.counts; hand = s.hand }) (let low = c.settle_remove.ensures.settles.more in omega (arith, low)) (rw c.loop-found.invariant.2 at (within_call same)),
-      first_lost c.args.at.now.pass.now c.loop-found.call.at.pass.now c.settle_remove.new.self.at.pass.now c.loop-found.invariant.4 c.loop-found.invariant.3.goes.quiet (quiet_on a b)
+      first_lost c.args.at.now.stepper.now c.loop-found.call.at.stepper.now c.settle_remove.new.self.at.stepper.now c.loop-found.invariant.4 c.loop-found.invariant.3.goes.quiet (quiet_on a b)
           (λ alone. let f = c.in-Some.ensures.found.alone (first_of a b alone) in c.in_default-settle_remove.ensures.rolls.wins f.pred.fresh f.pred.stands f.cur (then_of a b alone)),
     )
 
 pub invariant_of-call-2 : goal.invariant_of-call-2
 invariant_of-call-2 g c = record {
-  of_key = bucket_is c.args.at.now.pass.now.trace.start _ c.shape.result c.bucket_of.result c.args.key c.args.at.now.own.1 c.shape.ensures.shape c.bucket_of.ensures.bucket;
+  of_key = bucket_is c.args.at.now.stepper.now.trace.start _ c.shape.result c.bucket_of.result c.args.key c.args.at.now.own.1 c.shape.ensures.shape c.bucket_of.ensures.bucket;
   in_shape = let same = ap (λ (d : Dimensions). d.buckets) c.shape.ensures.shape in let low = c.bucket_of.ensures.in_shape in omega (arith, same, low);
   within = omega arith;
 }
 
 pub returns-in_default-clause-took : goal.returns-in_default-clause-took
 returns-in_default-clause-took g c =
-    let same : c.at-1.given.0 ≡ c.search.new.self.at.pass.now = search rules in
+    let same : c.at-1.given.0 ≡ c.search.new.self.at.stepper.now = search rules in
     rw same (took_all (goes_on c.loop-found.invariant.3.goes c.search.ensures.goes.goes).counts)
 
 pub returns-then-not-affords-clause-took : goal.returns-then-not-affords-clause-took
 returns-then-not-affords-clause-took g c =
-    let same : c.at-then-not-affords-1.given.0 ≡ c.search.new.self.at.pass.now = search rules in
+    let same : c.at-then-not-affords-1.given.0 ≡ c.search.new.self.at.stepper.now = search rules in
     rw same (took_all (goes_on c.loop-found.invariant.3.goes c.search.ensures.goes.goes).counts)
 
 pub returns-in-Ok-clause-took : goal.returns-in-Ok-clause-took
 returns-in-Ok-clause-took g c =
-    let same : c.at-in-Ok-1.given.0 ≡ c.settle_remove.new.self.at.pass.now = search rules in
+    let same : c.at-in-Ok-1.given.0 ≡ c.settle_remove.new.self.at.stepper.now = search rules in
     rw same (took_all (counts_on (goes_on c.loop-found.invariant.3.goes c.search.ensures.goes.goes).counts c.settle_remove.ensures.settles.counts))
 
 pub returns-in_default-clause-calls : goal.returns-in_default-clause-calls
 returns-in_default-clause-calls g c =
-    let same : c.at-1.given.0 ≡ c.search.new.self.at.pass.now = search rules in
+    let same : c.at-1.given.0 ≡ c.search.new.self.at.stepper.now = search rules in
     rw same (record {
       same = (quiet_on c.loop-found.invariant.3.goes.quiet c.search.ensures.goes.goes.quiet).same;
       made = tt;
@@ -73,7 +73,7 @@ returns-in_default-clause-calls g c =
           short = rw (c.loop-found.invariant.0.budget ∙ c.loop-found.invariant.2) at c.in_default.ensures.tired.tired;
         });
         within = (λ alone.
-            let x : c.args.budget < 0 + enough_to_search c.args.at.now.pass.now.trace c.args.key = at_first (λ q since. c.args.budget < since + enough_to_search q.trace c.args.key) c.args.at.now.pass.now c.loop-found.call.at.pass.now c.search.new.self.at.pass.now c.loop-found.invariant.4 c.loop-found.invariant.3.goes.quiet c.search.ensures.goes.goes.quiet alone (rw ((c.loop-found.invariant.0.key ∙ c.loop-found.invariant.1), (c.loop-found.invariant.0.budget ∙ c.loop-found.invariant.2)) at c.in_default.ensures.tired.short) in
+            let x : c.args.budget < 0 + enough_to_search c.args.at.now.stepper.now.trace c.args.key = at_first (λ q since. c.args.budget < since + enough_to_search q.trace c.args.key) c.args.at.now.stepper.now c.loop-found.call.at.stepper.now c.search.new.self.at.stepper.now c.loop-found.invariant.4 c.loop-found.invariant.3.goes.quiet c.search.ensures.goes.goes.quiet alone (rw ((c.loop-found.invariant.0.key ∙ c.loop-found.invariant.1), (c.loop-found.invariant.0.budget ∙ c.loop-found.invariant.2)) at c.in_default.ensures.tired.short) in
             omega (arith, x));
         costs = tt;
         fewer = tt;
@@ -82,7 +82,7 @@ returns-in_default-clause-calls g c =
 
 pub returns-then-not-affords-clause-calls : goal.returns-then-not-affords-clause-calls
 returns-then-not-affords-clause-calls g c =
-    let same : c.at-then-not-affords-1.given.0 ≡ c.search.new.self.at.pass.now = search rules in
+    let same : c.at-then-not-affords-1.given.0 ≡ c.search.new.self.at.stepper.now = search rules in
     rw same (record {
       same = (quiet_on c.loop-found.invariant.3.goes.quiet c.search.ensures.goes.goes.quiet).same;
       made = tt;
@@ -96,7 +96,7 @@ returns-then-not-affords-clause-calls g c =
         refused = search rules;
         within = (λ alone.
             let short : ¬ (c.search.new.self.used + PIECE ≤ c.search.new.self.budget) = λ h. (let f = c.if-not-affords.true in let z = c.affords.ensures.1 h in let w : false ≡ true = sym f ∙ z in cc) in
-            let x : c.args.budget < 0 + enough_to_search c.args.at.now.pass.now.trace c.args.key = at_first (λ q since. c.args.budget < since + enough_to_search q.trace c.args.key) c.args.at.now.pass.now c.loop-found.call.at.pass.now c.search.new.self.at.pass.now c.loop-found.invariant.4 c.loop-found.invariant.3.goes.quiet c.search.ensures.goes.goes.quiet alone
+            let x : c.args.budget < 0 + enough_to_search c.args.at.now.stepper.now.trace c.args.key = at_first (λ q since. c.args.budget < since + enough_to_search q.trace c.args.key) c.args.at.now.stepper.now c.loop-found.call.at.stepper.now c.search.new.self.at.stepper.now c.loop-found.invariant.4 c.loop-found.invariant.3.goes.quiet c.search.ensures.goes.goes.quiet alone
             (λ then. let f = (rw (c.loop-found.invariant.0.key ∙ c.loop-found.invariant.1) at c.in-Some.ensures.found.alone then).paid in let e = (c.search.ensures.goes.call.budget ∙ c.loop-found.invariant.0.budget ∙ c.loop-found.invariant.2) in omega (arith, f, short, e)) in
             omega (arith, x));
         costs = tt;
@@ -106,10 +106,10 @@ returns-then-not-affords-clause-calls g c =
 
 pub returns-in-Ok-clause-calls : goal.returns-in-Ok-clause-calls
 returns-in-Ok-clause-calls g c =
-    let same : c.at-in-Ok-1.given.0 ≡ c.settle_remove.new.self.at.pass.now = search rules in
-    let p = c.args.at.now.pass.now in
-    let q = c.search.new.self.at.pass.now in
-    let r = c.settle_remove.new.self.at.pass.now in
+    let same : c.at-in-Ok-1.given.0 ≡ c.settle_remove.new.self.at.stepper.now = search rules in
+    let p = c.args.at.now.stepper.now in
+    let q = c.search.new.self.at.stepper.now in
+    let r = c.settle_remove.new.self.at.stepper.now in
     let before = c.loop-found.invariant.3.goes.quiet in
     let went = c.search.ensures.goes.goes.quiet in
     let first = quiet_on before went in
@@ -120,7 +120,7 @@ returns-in-Ok-clause-calls g c =
     let made = told_since first (given_same first.same Remove c.args.key c.in-Ok.answer) answered in
     let counts = counts_on (goes_on c.loop-found.invariant.3.goes c.search.ensures.goes.goes).counts c.settle_remove.ensures.settles.counts in
     let values = ap steps_to_value_of first.same.start in
-    let searched : IsAlone p.trace q.trace → c.search.new.self.used ≤ 0 + 3 + 9 * listed_for p.trace c.args.key = λ alone. at_first (λ q since. c.search.new.self.used ≤ since + 3 + 9 * listed_for q.trace c.args.key) p c.loop-found.call.at.pass.now q c.loop-found.invariant.4 before went alone
+    let searched : IsAlone p.trace q.trace → c.search.new.self.used ≤ 0 + 3 + 9 * listed_for p.trace c.args.key = λ alone. at_first (λ q since. c.search.new.self.used ≤ since + 3 + 9 * listed_for q.trace c.args.key) p c.loop-found.call.at.stepper.now q c.loop-found.invariant.4 before went alone
     (λ then. (rw (c.loop-found.invariant.0.key ∙ c.loop-found.invariant.1) at c.in-Some.ensures.found.alone then).paid) in
     let soon : IsAlone p.trace q.trace → IsAlone q.trace r.trace → RemovesSoon c.search.new.self c.settle_remove.new.self c.in-Ok.answer = λ alone then. let stands = (c.in-Some.ensures.found.alone (then_of before went alone)).pred in c.in-Ok.ensures.answers.soon stands.fresh stands.stands then in
     rw same (record {

@@ -11,10 +11,10 @@ use Rattle.vbr_access.proofs.at_table.confirming.confirm_absent_entry.Goals as g
 pub confirm_absent-requires-clause-at : goal.confirm_absent-requires-clause-at
 confirm_absent-requires-clause-at g c =
     let P : Start → Type 0 = λ start. IsAtIn start c.args.pred.now.at in
-    subst P c.args.at.now.own.1 (place_in c.args.at.now.pass.now c.law.ensures c.args.pred.now c.requires.gap.held)
+    subst P c.args.at.now.own.1 (place_in c.args.at.now.stepper.now c.law.ensures c.args.pred.now c.requires.gap.held)
 
 pub confirm_absent-requires-clause-checked : goal.confirm_absent-requires-clause-checked
-confirm_absent-requires-clause-checked g c = accepted_checked c.args.at.now.own (absent_accepted c.args.at.now.pass.now c.law.ensures c.args.op c.args.key c.args.pred.now c.requires.gap.held c.requires.gap.behind c.requires.gap.before c.requires.gap.unmarked c.requires.op.other c.requires.op.asked)
+confirm_absent-requires-clause-checked g c = accepted_checked c.args.at.now.own (absent_accepted c.args.at.now.stepper.now c.law.ensures c.args.op c.args.key c.args.pred.now c.requires.gap.held c.requires.gap.behind c.requires.gap.before c.requires.gap.unmarked c.requires.op.other c.requires.op.asked)
 
 pub returns-in-Ok-clause-keeps : goal.returns-in-Ok-clause-keeps
 returns-in-Ok-clause-keeps g c = record {

@@ -22,4 +22,4 @@ of_entry p q op node other (Ok done) told = answered p q op node other told
 of_entry p q op node other (Err rollback) told = tt
 
 pub returns-clause-answers : goal.returns-clause-answers
-returns-clause-answers c = of_entry c.args.at.now.pass.now.trace c.confirm_present_entry.new.at.pass.now.trace c.args.op c.args.held.now c.requires.op.no_get c.confirm_present_entry.result c.confirm_present_entry.ensures.answers
+returns-clause-answers c = of_entry c.args.at.now.stepper.now.trace c.confirm_present_entry.new.at.stepper.now.trace c.args.op c.args.held.now c.requires.op.no_get c.confirm_present_entry.result c.confirm_present_entry.ensures.answers

@@ -19,10 +19,10 @@ use Rattle.vbr_access.proofs.at_table.confirming.confirm_present_entry.Goals as 
 pub confirm_present-requires-clause-slot : goal.confirm_present-requires-clause-slot
 confirm_present-requires-clause-slot g c =
     let P : Start → Type 0 = λ start. c.in-Slot.slot < start.shape.slots in
-    subst P c.args.at.now.own.1 (present_accepted c.args.at.now.pass.now c.law.ensures c.args.op c.args.held.now c.in-Slot.slot c.requires.node.held c.in-Slot.is c.requires.node.key c.requires.node.unmarked c.requires.op c.requires.asked).in_shape.0
+    subst P c.args.at.now.own.1 (present_accepted c.args.at.now.stepper.now c.law.ensures c.args.op c.args.held.now c.in-Slot.slot c.requires.node.held c.in-Slot.is c.requires.node.key c.requires.node.unmarked c.requires.op c.requires.asked).in_shape.0
 
 pub confirm_present-requires-clause-checked : goal.confirm_present-requires-clause-checked
-confirm_present-requires-clause-checked g c = accepted_checked c.args.at.now.own (present_accepted c.args.at.now.pass.now c.law.ensures c.args.op c.args.held.now c.in-Slot.slot c.requires.node.held c.in-Slot.is c.requires.node.key c.requires.node.unmarked c.requires.op c.requires.asked)
+confirm_present-requires-clause-checked g c = accepted_checked c.args.at.now.own (present_accepted c.args.at.now.stepper.now c.law.ensures c.args.op c.args.held.now c.in-Slot.slot c.requires.node.held c.in-Slot.is c.requires.node.key c.requires.node.unmarked c.requires.op c.requires.asked)
 
 pub returns-in-Ok-clause-keeps : goal.returns-in-Ok-clause-keeps
 returns-in-Ok-clause-keeps g c = record {
@@ -46,11 +46,11 @@ returns-in-Err-clause-keeps g c = record {
   only_loads = did_loads c.in-Err.ensures.other.did (λ know. refl);
 }
 
-answered : (g : given.Over) (c : goal.In-Ok g) → AnswersEntry c.args.at.now.pass.now.trace c.confirm_present.new.self.trace c.args.op c.args.held.now
+answered : (g : given.Over) (c : goal.In-Ok g) → AnswersEntry c.args.at.now.stepper.now.trace c.confirm_present.new.self.stepper.now.trace c.args.op c.args.held.now
 answered g c = record {
   answers = (λ key value k v.
-      let P : At → Type 0 = λ at. KeyAt (knows c.args.at.now.pass.now.trace) at key in
-      let V : At → Type 0 = λ at. ValueAt (knows c.args.at.now.pass.now.trace) at value in
+      let P : At → Type 0 = λ at. KeyAt (knows c.args.at.now.stepper.now.trace) at key in
+      let V : At → Type 0 = λ at. ValueAt (knows c.args.at.now.stepper.now.trace) at value in
       record {
         made = present_made c.law.ensures.start c.law.ensures.is_run c.in-Ok.ensures.found.did key value (subst P c.in-Slot.is k) (λ get. subst V c.in-Slot.is (v get));
         adds = present_adds c.law.ensures.start c.law.ensures.is_run c.in-Ok.ensures.found.did key value (subst P c.in-Slot.is k) (λ get. subst V c.in-Slot.is (v get));
@@ -66,6 +66,6 @@ returns-in-Err-clause-lost g c = record {
   adds_none = present_adds_none c.in-Err.ensures.other.did c.in-Err.ensures.other.unexpected;
   lost = search rules;
   wins = (λ alone stands.
-      let P : At → Type 0 = λ at. link_shown_at (nodes c.args.at.now.pass.now.trace) at ≡ link_of c.args.held.now.word in
+      let P : At → Type 0 = λ at. link_shown_at (nodes c.args.at.now.stepper.now.trace) at ≡ link_of c.args.held.now.word in
       present_confirmed c.law.ensures.start alone c.args.op c.in-Slot.slot c.args.held.now.word c.in-Err.ensures.other.did c.in-Err.ensures.other.unexpected (subst P c.in-Slot.is stands));
 }

@@ -16,10 +16,10 @@ use Rattle.vbr_access.proofs.at_table.marking.mark_entry.Goals as goal
 pub mark-requires-clause-slot : goal.mark-requires-clause-slot
 mark-requires-clause-slot g c =
     let P : Start → Type 0 = λ start. c.in-Slot.slot < start.shape.slots in
-    subst P c.args.at.now.own.1 (mark_accepted c.args.at.now.pass.now c.law.ensures c.args.held.now c.in-Slot.slot c.requires.node.held c.in-Slot.is c.requires.node.key c.requires.node.unmarked c.requires.valued).in_shape
+    subst P c.args.at.now.own.1 (mark_accepted c.args.at.now.stepper.now c.law.ensures c.args.held.now c.in-Slot.slot c.requires.node.held c.in-Slot.is c.requires.node.key c.requires.node.unmarked c.requires.valued).in_shape
 
 pub mark-requires-clause-checked : goal.mark-requires-clause-checked
-mark-requires-clause-checked g c = accepted_checked c.args.at.now.own (mark_accepted c.args.at.now.pass.now c.law.ensures c.args.held.now c.in-Slot.slot c.requires.node.held c.in-Slot.is c.requires.node.key c.requires.node.unmarked c.requires.valued)
+mark-requires-clause-checked g c = accepted_checked c.args.at.now.own (mark_accepted c.args.at.now.stepper.now c.law.ensures c.args.held.now c.in-Slot.slot c.requires.node.held c.in-Slot.is c.requires.node.key c.requires.node.unmarked c.requires.valued)
 
 pub returns-in-Ok-clause-keeps : goal.returns-in-Ok-clause-keeps
 returns-in-Ok-clause-keeps g c = record {
@@ -45,6 +45,6 @@ returns-in-Err-clause-lost g c = record {
   quiet = mark_failed c.in-Err.ensures.other.did c.in-Err.ensures.other.unexpected;
   lost = search rules;
   wins = (λ alone stands.
-      let P : At → Type 0 = λ at. link_shown_at (nodes c.args.at.now.pass.now.trace) at ≡ link_of c.args.held.now.word in
+      let P : At → Type 0 = λ at. link_shown_at (nodes c.args.at.now.stepper.now.trace) at ≡ link_of c.args.held.now.word in
       mark_wins c.law.ensures.start alone c.in-Slot.slot c.args.held.now.word c.in-Err.ensures.other.did c.in-Err.ensures.other.unexpected (subst P c.in-Slot.is stands));
 }

@@ -6,7 +6,7 @@ use Rattle.vbr_access.proofs.ReadCalls.{epoch_in_one, fit}
 use Rattle.vbr_access.proofs.at_table.reading.checkpoint.Goals as goal
 
 pub returns-clause-reads : goal.returns-clause-reads
-returns-clause-reads g c = epoch_in_one (fit c.args.at.now.pass.now c.law.ensures) c.read_epoch.ensures.step c.read_epoch.ensures.pool
+returns-clause-reads g c = epoch_in_one (fit c.args.at.now.stepper.now c.law.ensures) c.read_epoch.ensures.step c.read_epoch.ensures.pool
 
 pub returns-clause-point : goal.returns-clause-point
 returns-clause-point g c =

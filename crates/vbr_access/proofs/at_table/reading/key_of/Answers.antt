@@ -11,13 +11,13 @@ use Rattle.vbr_access.proofs.at_table.reading.key_of.Goals as goal
 pub read_key-key-requires-clause-slot : goal.read_key-key-requires-clause-slot
 read_key-key-requires-clause-slot g c =
     let P : Start → Type 0 = λ start. c.in-Slot.slot < start.shape.slots in
-    let Q : At → Type 0 = IsAtIn c.args.at.now.pass.now.trace.start in
-    subst P c.args.at.now.own.1 (subst Q c.in-Slot.is (place_in c.args.at.now.pass.now c.law.ensures c.args.node.now c.requires.held))
+    let Q : At → Type 0 = IsAtIn c.args.at.now.stepper.now.trace.start in
+    subst P c.args.at.now.own.1 (subst Q c.in-Slot.is (place_in c.args.at.now.stepper.now c.law.ensures c.args.node.now c.requires.held))
 
 pub read_key-key-requires-clause-held : goal.read_key-key-requires-clause-held
 read_key-key-requires-clause-held g c =
-    let Q : At → Type 0 = IsHeldPlace (knows c.args.at.now.pass.now.trace) in
-    slot_found c.args.at.now.pass.now c.law.ensures c.in-Slot.slot (subst Q c.in-Slot.is (place_held c.args.at.now.pass.now c.law.ensures c.args.node.now c.requires.held))
+    let Q : At → Type 0 = IsHeldPlace (knows c.args.at.now.stepper.now.trace) in
+    slot_found c.args.at.now.stepper.now c.law.ensures c.in-Slot.slot (subst Q c.in-Slot.is (place_held c.args.at.now.stepper.now c.law.ensures c.args.node.now c.requires.held))
 
 pub returns-then-now-before-clause-reads : goal.returns-then-now-before-clause-reads
 returns-then-now-before-clause-reads g c = key_in_two c.law.ensures c.read_key-key.ensures.reads

@@ -10,27 +10,27 @@ use Rattle.vbr_access.proofs.at_table.reading.next.Goals as goal
 pub read_node-birth-requires-clause-slot : goal.read_node-birth-requires-clause-slot
 read_node-birth-requires-clause-slot g c =
     let P : Start → Type 0 = λ start. c.in-Some.slot < start.shape.slots in
-    subst P c.args.at.now.own.1 (slot_in c.args.at.now.pass.now c.law.ensures c.in-Some.slot (named_slot c.args.held.now c.in-Some.slot c.requires.held (ap (λ (l : Link). l.slot) (sym c.decode.ensures.link) ∙ c.in-Some.is)))
+    subst P c.args.at.now.own.1 (slot_in c.args.at.now.stepper.now c.law.ensures c.in-Some.slot (named_slot c.args.held.now c.in-Some.slot c.requires.held (ap (λ (l : Link). l.slot) (sym c.decode.ensures.link) ∙ c.in-Some.is)))
 
 pub read_node-birth-requires-clause-held : goal.read_node-birth-requires-clause-held
-read_node-birth-requires-clause-held g c = slot_found c.args.at.now.pass.now c.law.ensures c.in-Some.slot (named_slot c.args.held.now c.in-Some.slot c.requires.held (ap (λ (l : Link). l.slot) (sym c.decode.ensures.link) ∙ c.in-Some.is))
+read_node-birth-requires-clause-held g c = slot_found c.args.at.now.stepper.now c.law.ensures c.in-Some.slot (named_slot c.args.held.now c.in-Some.slot c.requires.held (ap (λ (l : Link). l.slot) (sym c.decode.ensures.link) ∙ c.in-Some.is))
 
 pub returns-in_default-clause-reads : goal.returns-in_default-clause-reads
 returns-in_default-clause-reads g c =
     let names = ap (λ (l : Link). l.slot) (sym c.decode.ensures.link) ∙ c.in_default.is in
-    let P : Option ℕ → Type 0 = λ slot. ReadsIn c.args.at.now.pass.now c.args.at.now.pass.now (next_steps slot) in
-    subst P (sym names) (reads_none c.args.at.now.pass.now c.law.ensures)
+    let P : Option ℕ → Type 0 = λ slot. ReadsIn c.args.at.now.stepper.now c.args.at.now.stepper.now (next_steps slot) in
+    subst P (sym names) (reads_none c.args.at.now.stepper.now c.law.ensures)
 
 pub returns-then-now-before-clause-reads : goal.returns-then-now-before-clause-reads
 returns-then-now-before-clause-reads g c =
     let names = ap (λ (l : Link). l.slot) (sym c.decode.ensures.link) ∙ c.in-Some.is in
-    let P : Option ℕ → Type 0 = λ slot. ReadsIn c.args.at.now.pass.now c.read_node-birth.new.self (next_steps slot) in
+    let P : Option ℕ → Type 0 = λ slot. ReadsIn c.args.at.now.stepper.now c.read_node-birth.new.self.stepper.now (next_steps slot) in
     subst P (sym names) (node_in_three c.law.ensures c.read_node-birth.ensures.reads)
 
 pub returns-clause-reads : goal.returns-clause-reads
 returns-clause-reads g c =
     let names = ap (λ (l : Link). l.slot) (sym c.decode.ensures.link) ∙ c.in-Some.is in
-    let P : Option ℕ → Type 0 = λ slot. ReadsIn c.args.at.now.pass.now c.read_node-birth.new.self (next_steps slot) in
+    let P : Option ℕ → Type 0 = λ slot. ReadsIn c.args.at.now.stepper.now c.read_node-birth.new.self.stepper.now (next_steps slot) in
     subst P (sym names) (node_in_three c.law.ensures c.read_node-birth.ensures.reads)
 
 pub returns-then-now-before-clause-moved : goal.returns-then-now-before-clause-moved

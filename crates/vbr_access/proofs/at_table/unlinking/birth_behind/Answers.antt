@@ -15,32 +15,32 @@ use Rattle.vbr_access.proofs.at_table.unlinking.birth_behind.Goals as goal
 pub load_birth-birth-requires-clause-slot : goal.load_birth-birth-requires-clause-slot
 load_birth-birth-requires-clause-slot g c =
     let P : Start → Type 0 = λ start. c.in-Some.slot < start.shape.slots in
-    subst P c.args.at.now.own.1 (slot_in c.args.at.now.pass.now c.law.ensures c.in-Some.slot (named_slot (held_of c.args.marked.now) c.in-Some.slot c.requires.marked.held (ap (λ (l : Link). l.slot) (sym c.decode.ensures.link) ∙ c.in-Some.is)))
+    subst P c.args.at.now.own.1 (slot_in c.args.at.now.stepper.now c.law.ensures c.in-Some.slot (named_slot (held_of c.args.marked.now) c.in-Some.slot c.requires.marked.held (ap (λ (l : Link). l.slot) (sym c.decode.ensures.link) ∙ c.in-Some.is)))
 
 pub load_birth-birth-requires-clause-held : goal.load_birth-birth-requires-clause-held
-load_birth-birth-requires-clause-held g c = slot_found c.args.at.now.pass.now c.law.ensures c.in-Some.slot (named_slot (held_of c.args.marked.now) c.in-Some.slot c.requires.marked.held (ap (λ (l : Link). l.slot) (sym c.decode.ensures.link) ∙ c.in-Some.is))
+load_birth-birth-requires-clause-held g c = slot_found c.args.at.now.stepper.now c.law.ensures c.in-Some.slot (named_slot (held_of c.args.marked.now) c.in-Some.slot c.requires.marked.held (ap (λ (l : Link). l.slot) (sym c.decode.ensures.link) ∙ c.in-Some.is))
 
 pub returns-then-now-marked-clause-reads : goal.returns-then-now-marked-clause-reads
 returns-then-now-marked-clause-reads g c =
-    let p = c.args.at.now.pass.now in
+    let p = c.args.at.now.stepper.now in
     let two : steps_to_birth c.args.marked.now.word ≡ 2 = ap birth_steps (ap (λ (l : Link). l.slot) (sym c.decode.ensures.link) ∙ c.in-Some.is) in
     let first = birth_in_one (fit p c.law.ensures) c.load_birth-birth.ensures.step c.load_birth-birth.ensures.pool in
     let then = epoch_in_one (fit_on (fit p c.law.ensures) first) c.read_epoch-now.ensures.step c.read_epoch-now.ensures.pool in
-    let P : ℕ → Type 0 = ReadsIn p c.read_epoch-now.new.self in
+    let P : ℕ → Type 0 = ReadsIn p c.read_epoch-now.new.self.stepper.now in
     subst P (sym two) (reads_on first then)
 
 pub returns-clause-reads : goal.returns-clause-reads
 returns-clause-reads g c =
-    let p = c.args.at.now.pass.now in
+    let p = c.args.at.now.stepper.now in
     let two : steps_to_birth c.args.marked.now.word ≡ 2 = ap birth_steps (ap (λ (l : Link). l.slot) (sym c.decode.ensures.link) ∙ c.in-Some.is) in
     let first = birth_in_one (fit p c.law.ensures) c.load_birth-birth.ensures.step c.load_birth-birth.ensures.pool in
     let then = epoch_in_one (fit_on (fit p c.law.ensures) first) c.read_epoch-now.ensures.step c.read_epoch-now.ensures.pool in
-    let P : ℕ → Type 0 = ReadsIn p c.read_epoch-now.new.self in
+    let P : ℕ → Type 0 = ReadsIn p c.read_epoch-now.new.self.stepper.now in
     subst P (sym two) (reads_on first then)
 
 pub returns-clause-birth : goal.returns-clause-birth
 returns-clause-birth g c =
-    let P : Option ℕ → Type 0 = λ o. BirthNamed (knows c.read_epoch-now.new.self.trace) o c.load_birth-birth.result in
+    let P : Option ℕ → Type 0 = λ o. BirthNamed (knows c.read_epoch-now.new.self.stepper.now.trace) o c.load_birth-birth.result in
     record {
       keeps = birth_keeps c.load_birth-birth.ensures.step c.read_epoch-now.ensures.step (c.if-now-marked.false ∙ c.requires.marked.held.epoch);
       birth = subst P (sym (ap (λ (l : Link). l.slot) (sym c.decode.ensures.link) ∙ c.in-Some.is)) (birth_read c.load_birth-birth.ensures.step c.read_epoch-now.ensures.step (c.if-now-marked.false ∙ c.requires.marked.held.epoch));

@@ -19,24 +19,24 @@ use Rattle.vbr_access.proofs.at_table.updating.fill.Goals as goal
 pub link_to-link-requires : goal.link_to-link-requires
 link_to-link-requires g c =
     let key = c.store_key.ensures.step in
-    let at = hand_at c.args.at.now.pass.now c.law.ensures c.args.hand.now c.requires.hand c.slot-slot.result c.slot-slot.ensures in
+    let at = hand_at c.args.at.now.stepper.now c.law.ensures c.args.hand.now c.requires.hand c.slot-slot.result c.slot-slot.ensures in
     let put = c.put_value.ensures.puts in
     let now = valued_hand _ _ _ c.args.value c.args.hand.now.birth put.holding (keyed_hand key at.1 at.2) in
     let known = birth_named_kept (link_of c.args.pred.now.word).slot c.args.birth (keeps_on (key_stored_keeps key) c.put_value.ensures.stores.keeps) c.requires.birth in
-    fits c.put_value.new.at.pass.now c.law-2.ensures c.decode.result.slot c.birth.result c.args.birth c.decode.ensures.fits.slot
-    (birth_in_hand_low c.put_value.new.at.pass.now c.law-2.ensures c.slot-slot.result c.birth.result (now.1 ∙ sym c.birth.ensures))
-    (birth_named_low c.put_value.new.at.pass.now c.law-2.ensures (link_of c.args.pred.now.word).slot c.args.birth known)
+    fits c.put_value.new.at.stepper.now c.law-2.ensures c.decode.result.slot c.birth.result c.args.birth c.decode.ensures.fits.slot
+    (birth_in_hand_low c.put_value.new.at.stepper.now c.law-2.ensures c.slot-slot.result c.birth.result (now.1 ∙ sym c.birth.ensures))
+    (birth_named_low c.put_value.new.at.stepper.now c.law-2.ensures (link_of c.args.pred.now.word).slot c.args.birth known)
 
 pub store_link-requires-clause-next_in : goal.store_link-requires-clause-next_in
 store_link-requires-clause-next_in g c =
     let key = c.store_key.ensures.step in
-    let at = hand_at c.args.at.now.pass.now c.law.ensures c.args.hand.now c.requires.hand c.slot-slot.result c.slot-slot.ensures in
+    let at = hand_at c.args.at.now.stepper.now c.law.ensures c.args.hand.now c.requires.hand c.slot-slot.result c.slot-slot.ensures in
     let put = c.put_value.ensures.puts in
     let now = valued_hand _ _ _ c.args.value c.args.hand.now.birth put.holding (keyed_hand key at.1 at.2) in
     let keeps = keeps_on (key_stored_keeps key) c.put_value.ensures.stores.keeps in
     let known = birth_named_kept (link_of c.args.pred.now.word).slot c.args.birth keeps c.requires.birth in
-    let low : c.slot-slot.result < c.put_value.new.at.pass.now.trace.start.shape.slots = (let P : Start → Type 0 = λ start. c.slot-slot.result < start.shape.slots in subst P (sym (put.quiet.same.start ∙ key.same.1)) at.0) in
-    let ok = link_accepted c.put_value.new.at.pass.now c.law-2.ensures c.args.pred.now c.slot-slot.result c.args.hand.now.birth c.args.birth (held_kept c.args.pred.now keeps c.requires.pred) low now.0 known in
+    let low : c.slot-slot.result < c.put_value.new.at.stepper.now.trace.start.shape.slots = (let P : Start → Type 0 = λ start. c.slot-slot.result < start.shape.slots in subst P (sym (put.quiet.same.start ∙ key.same.1)) at.0) in
+    let ok = link_accepted c.put_value.new.at.stepper.now c.law-2.ensures c.args.pred.now c.slot-slot.result c.args.hand.now.birth c.args.birth (held_kept c.args.pred.now keeps c.requires.pred) low now.0 known in
     let P : Start → Type 0 = λ start. IsNextIn start (link_of c.args.pred.now.word).slot in
     let Q : Option ℕ → Type 0 = IsNextIn c.put_value.new.at.slots.now.start in
     subst Q (sym (ap (λ (l : Link). l.slot) (c.link_to-link.ensures.link) ∙ ap (λ (l : Link). l.slot) c.decode.ensures.link)) (subst P c.put_value.new.at.own.1 ok.in_shape.1)
@@ -44,37 +44,37 @@ store_link-requires-clause-next_in g c =
 pub store_link-requires-clause-next_held : goal.store_link-requires-clause-next_held
 store_link-requires-clause-next_held g c =
     let key = c.store_key.ensures.step in
-    let at = hand_at c.args.at.now.pass.now c.law.ensures c.args.hand.now c.requires.hand c.slot-slot.result c.slot-slot.ensures in
+    let at = hand_at c.args.at.now.stepper.now c.law.ensures c.args.hand.now c.requires.hand c.slot-slot.result c.slot-slot.ensures in
     let put = c.put_value.ensures.puts in
     let now = valued_hand _ _ _ c.args.value c.args.hand.now.birth put.holding (keyed_hand key at.1 at.2) in
     let keeps = keeps_on (key_stored_keeps key) c.put_value.ensures.stores.keeps in
     let known = birth_named_kept (link_of c.args.pred.now.word).slot c.args.birth keeps c.requires.birth in
-    let low : c.slot-slot.result < c.put_value.new.at.pass.now.trace.start.shape.slots = (let P : Start → Type 0 = λ start. c.slot-slot.result < start.shape.slots in subst P (sym (put.quiet.same.start ∙ key.same.1)) at.0) in
-    let ok = link_accepted c.put_value.new.at.pass.now c.law-2.ensures c.args.pred.now c.slot-slot.result c.args.hand.now.birth c.args.birth (held_kept c.args.pred.now keeps c.requires.pred) low now.0 known in
-    let Q : Option ℕ → Type 0 = IsNextHeld (knows c.put_value.new.at.pass.now.trace).checked in
+    let low : c.slot-slot.result < c.put_value.new.at.stepper.now.trace.start.shape.slots = (let P : Start → Type 0 = λ start. c.slot-slot.result < start.shape.slots in subst P (sym (put.quiet.same.start ∙ key.same.1)) at.0) in
+    let ok = link_accepted c.put_value.new.at.stepper.now c.law-2.ensures c.args.pred.now c.slot-slot.result c.args.hand.now.birth c.args.birth (held_kept c.args.pred.now keeps c.requires.pred) low now.0 known in
+    let Q : Option ℕ → Type 0 = IsNextHeld (knows c.put_value.new.at.stepper.now.trace).checked in
     subst Q (sym (ap (λ (l : Link). l.slot) (c.link_to-link.ensures.link) ∙ ap (λ (l : Link). l.slot) c.decode.ensures.link)) ok.held
 
 pub store_link-requires-clause-word : goal.store_link-requires-clause-word
 store_link-requires-clause-word g c =
     let key = c.store_key.ensures.step in
-    let at = hand_at c.args.at.now.pass.now c.law.ensures c.args.hand.now c.requires.hand c.slot-slot.result c.slot-slot.ensures in
+    let at = hand_at c.args.at.now.stepper.now c.law.ensures c.args.hand.now c.requires.hand c.slot-slot.result c.slot-slot.ensures in
     let put = c.put_value.ensures.puts in
     let now = valued_hand _ _ _ c.args.value c.args.hand.now.birth put.holding (keyed_hand key at.1 at.2) in
     let keeps = keeps_on (key_stored_keeps key) c.put_value.ensures.stores.keeps in
     let known = birth_named_kept (link_of c.args.pred.now.word).slot c.args.birth keeps c.requires.birth in
-    let low : c.slot-slot.result < c.put_value.new.at.pass.now.trace.start.shape.slots = (let P : Start → Type 0 = λ start. c.slot-slot.result < start.shape.slots in subst P (sym (put.quiet.same.start ∙ key.same.1)) at.0) in
-    let written = link_now c.put_value.new.at.pass.now c.law-2.ensures c.args.pred.now c.slot-slot.result c.args.hand.now.birth c.args.birth (held_kept c.args.pred.now keeps c.requires.pred) low now.0 known now.1
+    let low : c.slot-slot.result < c.put_value.new.at.stepper.now.trace.start.shape.slots = (let P : Start → Type 0 = λ start. c.slot-slot.result < start.shape.slots in subst P (sym (put.quiet.same.start ∙ key.same.1)) at.0) in
+    let written = link_now c.put_value.new.at.stepper.now c.law-2.ensures c.args.pred.now c.slot-slot.result c.args.hand.now.birth c.args.birth (held_kept c.args.pred.now keeps c.requires.pred) low now.0 known now.1
     (link_of c.link_to-link.result).slot (ap (λ (l : Link). l.slot) (c.link_to-link.ensures.link) ∙ ap (λ (l : Link). l.slot) c.decode.ensures.link) in
     let is : link_to c.decode.result.slot c.birth.result c.args.birth ≡ link_to (link_of c.args.pred.now.word).slot c.args.hand.now.birth c.args.birth = (λ i. link_to (c.decode.ensures.link i).slot (c.birth.ensures i) c.args.birth) in
     c.link_to-link.ensures.word ∙ ap word_of is ∙ ap word_of (sym written)
 
 pub returns-clause-stores : goal.returns-clause-stores
 returns-clause-stores g c =
-    let p = c.args.at.now.pass.now in
+    let p = c.args.at.now.stepper.now in
     let key = c.store_key.ensures.step in
     let put = c.put_value.ensures in
-    let values : c.store_key.new.self.trace.start.shape.values ≡ p.trace.start.shape.values = ap (λ (d : Start). d.shape.values) key.same.1 in
-    let P : Bool → Type 0 = λ b. StoresIn c.store_key.new.self c.put_value.new.at.pass.now (steps_to_value b) in
+    let values : c.store_key.new.self.stepper.now.trace.start.shape.values ≡ p.trace.start.shape.values = ap (λ (d : Start). d.shape.values) key.same.1 in
+    let P : Bool → Type 0 = λ b. StoresIn c.store_key.new.self.stepper.now c.put_value.new.at.stepper.now (steps_to_value b) in
     let stored = subst P values put.stores in
     let link = c.store_link.ensures.step in
     record {
@@ -86,7 +86,7 @@ returns-clause-stores g c =
 
 pub returns-clause-fills : goal.returns-clause-fills
 returns-clause-fills g c =
-    let p = c.args.at.now.pass.now in
+    let p = c.args.at.now.stepper.now in
     let key = c.store_key.ensures.step in
     let link = c.store_link.ensures.step in
     let put = c.put_value.ensures.puts in
@@ -94,13 +94,13 @@ returns-clause-fills g c =
     let now = valued_hand _ _ _ c.args.value c.args.hand.now.birth put.holding (keyed_hand key at.1 at.2) in
     let keeps = keeps_on (key_stored_keeps key) c.put_value.ensures.stores.keeps in
     let known = birth_named_kept (link_of c.args.pred.now.word).slot c.args.birth keeps c.requires.birth in
-    let low : c.slot-slot.result < c.put_value.new.at.pass.now.trace.start.shape.slots = (let P : Start → Type 0 = λ start. c.slot-slot.result < start.shape.slots in subst P (sym (put.quiet.same.start ∙ key.same.1)) at.0) in
-    let written = link_now c.put_value.new.at.pass.now c.law-2.ensures c.args.pred.now c.slot-slot.result c.args.hand.now.birth c.args.birth (held_kept c.args.pred.now keeps c.requires.pred) low now.0 known now.1
+    let low : c.slot-slot.result < c.put_value.new.at.stepper.now.trace.start.shape.slots = (let P : Start → Type 0 = λ start. c.slot-slot.result < start.shape.slots in subst P (sym (put.quiet.same.start ∙ key.same.1)) at.0) in
+    let written = link_now c.put_value.new.at.stepper.now c.law-2.ensures c.args.pred.now c.slot-slot.result c.args.hand.now.birth c.args.birth (held_kept c.args.pred.now keeps c.requires.pred) low now.0 known now.1
     (link_of c.link_to-link.result).slot (ap (λ (l : Link). l.slot) (c.link_to-link.ensures.link) ∙ ap (λ (l : Link). l.slot) c.decode.ensures.link) in
-    let values : c.store_key.new.self.trace.start.shape.values ≡ p.trace.start.shape.values = ap (λ (d : Start). d.shape.values) key.same.1 in
-    let full = filled c.store_key.new.self.trace.start.shape.values c.args.value key put.holding link at.1 at.2 written in
-    let F : ℕ → Type 0 = λ s. IsFilled ((knows c.store_link.new.self.trace).own s) c.args.hand.now.birth c.args.key (link_to (link_of c.args.pred.now.word).slot c.args.hand.now.birth c.args.birth) in
-    let V : ℕ → Type 0 = λ s. value_in_hand ((knows c.store_link.new.self.trace).own s) ≡ Some c.args.value in
+    let values : c.store_key.new.self.stepper.now.trace.start.shape.values ≡ p.trace.start.shape.values = ap (λ (d : Start). d.shape.values) key.same.1 in
+    let full = filled c.store_key.new.self.stepper.now.trace.start.shape.values c.args.value key put.holding link at.1 at.2 written in
+    let F : ℕ → Type 0 = λ s. IsFilled ((knows c.store_link.new.self.stepper.now.trace).own s) c.args.hand.now.birth c.args.key (link_to (link_of c.args.pred.now.word).slot c.args.hand.now.birth c.args.birth) in
+    let V : ℕ → Type 0 = λ s. value_in_hand ((knows c.store_link.new.self.stepper.now.trace).own s) ≡ Some c.args.value in
     record {
       fills = record {
         quiet = quiet_on (quiet_on (key_stored_quiet key) put.quiet) (link_stored_quiet link);

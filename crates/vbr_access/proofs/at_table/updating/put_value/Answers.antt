@@ -10,8 +10,8 @@ use Rattle.vbr_access.proofs.at_table.updating.put_value.Goals as goal
 
 pub returns-then-VALUES-clause-stores : goal.returns-then-VALUES-clause-stores
 returns-then-VALUES-clause-stores g c =
-    let p = c.args.at.now.pass.now in
-    let q = c.store_value.new.self in
+    let p = c.args.at.now.stepper.now in
+    let q = c.store_value.new.self.stepper.now in
     let d = c.store_value.ensures.step in
     let has : p.trace.start.shape.values ≡ true = ap (λ (d : Start). d.shape.values) c.args.at.now.own.1 ∙ c.kind.ensures ∙ sym c.VALUES.ensures ∙ c.if-VALUES.true in
     let P : Bool → Type 0 = λ values. StoresIn p q (steps_to_value values) in
@@ -19,8 +19,8 @@ returns-then-VALUES-clause-stores g c =
 
 pub returns-then-VALUES-clause-puts : goal.returns-then-VALUES-clause-puts
 returns-then-VALUES-clause-puts g c =
-    let p = c.args.at.now.pass.now in
-    let q = c.store_value.new.self in
+    let p = c.args.at.now.stepper.now in
+    let q = c.store_value.new.self.stepper.now in
     let d = c.store_value.ensures.step in
     let has : p.trace.start.shape.values ≡ true = ap (λ (d : Start). d.shape.values) c.args.at.now.own.1 ∙ c.kind.ensures ∙ sym c.VALUES.ensures ∙ c.if-VALUES.true in
     let P : Bool → Type 0 = λ values. (knows q.trace).own c.args.slot ≡ with_kept_value values ((knows p.trace).own c.args.slot) c.args.value in

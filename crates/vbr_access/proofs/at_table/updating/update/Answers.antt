@@ -11,8 +11,8 @@ use Rattle.vbr_access.proofs.at_table.updating.update.Goals as goal
 
 pub returns-clause-stores : goal.returns-clause-stores
 returns-clause-stores c =
-    let bare : c.args.at.now.pass.now.trace.start.shape.values ≡ false = ap (λ (d : Start). d.shape.values) c.args.at.now.own.1 ∙ c.kind.ensures in
-    let P : Bool → Type 0 = λ values. StoresIn c.args.at.now.pass.now c.update_entry.new.at.pass.now (1 + steps_to_value values + 1 + 1) in
+    let bare : c.args.at.now.stepper.now.trace.start.shape.values ≡ false = ap (λ (d : Start). d.shape.values) c.args.at.now.own.1 ∙ c.kind.ensures in
+    let P : Bool → Type 0 = λ values. StoresIn c.args.at.now.stepper.now c.update_entry.new.at.stepper.now (1 + steps_to_value values + 1 + 1) in
     subst P bare c.update_entry.ensures.stores
 
 of_entry : (p q : PassView) (key value : ℕ) (result : Result (Unit {0}) (HandView × Rollback)) → p.trace.start.shape.values ≡ false → IfOk result (λ done. InsertsEntry p q key value) → IfOk result (λ done. InsertsKey p q key)
@@ -20,4 +20,4 @@ of_entry p q key value (Ok done) bare inserted = key_inserted bare inserted
 of_entry p q key value (Err back) bare inserted = tt
 
 pub returns-clause-inserted : goal.returns-clause-inserted
-returns-clause-inserted c = of_entry c.args.at.now.pass.now c.update_entry.new.at.pass.now c.args.key 0 c.update_entry.result (ap (λ (d : Start). d.shape.values) c.args.at.now.own.1 ∙ c.kind.ensures) c.update_entry.ensures.inserted
+returns-clause-inserted c = of_entry c.args.at.now.stepper.now c.update_entry.new.at.stepper.now c.args.key 0 c.update_entry.result (ap (λ (d : Start). d.shape.values) c.args.at.now.own.1 ∙ c.kind.ensures) c.update_entry.ensures.inserted

@@ -17,14 +17,14 @@ use Rattle.vbr_list.proofs.call.PendingCall.answer_has.Goals as goal
 
 pub confirm_look_up-outcome-requires-clause-held : goal.confirm_look_up-outcome-requires-clause-held
 confirm_look_up-outcome-requires-clause-held g c =
-    let p = c.args.self.now.at.pass.now.trace in
+    let p = c.args.self.now.at.stepper.now.trace in
     let P : Held → Type 0 = IsUnmarked (knows p) in
     subst P (sym c.told_by-present.ensures.held)
     (record { held = sight_held p.start (knows p) c.args.self.now.key c.args.sight c.requires.sight; unmarked = sight_unmarked p.start (knows p) c.args.self.now.key c.args.sight c.requires.sight })
 
 pub confirm_look_up-outcome-requires-clause-decides : goal.confirm_look_up-outcome-requires-clause-decides
 confirm_look_up-outcome-requires-clause-decides g c =
-    let p = c.args.self.now.at.pass.now.trace in
+    let p = c.args.self.now.at.stepper.now.trace in
     let P : Held × Bool → Type 0 = λ x. DecidesKey p.start (knows p) c.args.self.now.key x.0 x.1 in
     subst P (λ i. (sym c.told_by-present.ensures.held i, sym c.told_by-present.ensures.present i)) (sight_answers p.start (knows p) c.args.self.now.key c.args.sight c.requires.sight)
 
@@ -40,8 +40,8 @@ returns-in-Err-clause-settles g c =
 
 pub returns-in-Ok-clause-answers : goal.returns-in-Ok-clause-answers
 returns-in-Ok-clause-answers g c =
-    let p = c.args.self.now.at.pass.now.trace in
-    let q = c.confirm_look_up-outcome.new.at.pass.now.trace in
+    let p = c.args.self.now.at.stepper.now.trace in
+    let q = c.confirm_look_up-outcome.new.at.stepper.now.trace in
     let key = c.args.self.now.key in
     let answers = c.in-Ok.ensures.answers in
     let M : Bool → Type 0 = λ reply. Made (kept_call p.start (set_call p.who Has key reply)) p q in
@@ -55,7 +55,7 @@ returns-in-Ok-clause-answers g c =
 
 pub returns-in-Err-clause-rolls : goal.returns-in-Err-clause-rolls
 returns-in-Err-clause-rolls g c =
-    let p = c.args.self.now.at.pass.now.trace in
+    let p = c.args.self.now.at.stepper.now.trace in
     let lost = c.in-Err.ensures.lost in
     record {
       quiet = lost.quiet;

@@ -13,5 +13,5 @@ confirm_present_entry-requires-clause-asked g c = λ get. absurd (cc)
 pub returns-clause-made : goal.returns-clause-made
 returns-clause-made g c =
     let f = c.args.found.now in
-    let key = key_found (knows c.args.self.now.at.pass.now.trace) c.args.self.now.key f.pred c.in-Some.cur f.cur f.present c.requires.locates.end c.in-Some.is c.requires.present in
+    let key = key_found (knows c.args.self.now.at.stepper.now.trace) c.args.self.now.key f.pred c.in-Some.cur f.cur f.present c.requires.locates.end c.in-Some.is c.requires.present in
     on_ok c.confirm_present_entry.result (λ answers. (answers.answers c.args.self.now.key 0 key (λ get. absurd (cc))).made) c.confirm_present_entry.ensures.answers

@@ -27,8 +27,8 @@ returns-in-Err-clause-settles g c =
 
 pub returns-in-Ok-clause-answers : goal.returns-in-Ok-clause-answers
 returns-in-Ok-clause-answers g c =
-    let p = c.args.self.now.at.pass.now.trace in
-    let q = c.confirm_absent_entry-outcome.new.at.pass.now.trace in
+    let p = c.args.self.now.at.stepper.now.trace in
+    let q = c.confirm_absent_entry-outcome.new.at.stepper.now.trace in
     let answers = c.in-Ok.ensures.answers in
     let same = told_bare p.start p.who Get c.args.self.now.key false in
     record { made = subst (λ (call : Call). Made call p q) same answers.made; adds = subst (λ (call : Call). AddsAnswer call p q) same answers.adds }

@@ -24,7 +24,7 @@ pub value_if_any-read-requires-clause-held : goal.value_if_any-read-requires-cla
 value_if_any-read-requires-clause-held g c = c.requires.sight.0
 
 pub value_if_any-read-requires-clause-slot : goal.value_if_any-read-requires-clause-slot
-value_if_any-read-requires-clause-slot g c = keyed_slot (knows c.args.self.now.at.pass.now.trace) c.args.node.now.at c.args.self.now.key c.requires.sight.2
+value_if_any-read-requires-clause-slot g c = keyed_slot (knows c.args.self.now.at.stepper.now.trace) c.args.node.now.at c.args.self.now.key c.requires.sight.2
 
 pub confirm_present_entry-outcome-requires-clause-node : goal.confirm_present_entry-outcome-requires-clause-node
 confirm_present_entry-outcome-requires-clause-node g c =
@@ -42,8 +42,8 @@ confirm_present_entry-outcome-requires-clause-asked g c = λ get.
 
 pub returns-in_err-value-clause-settles : goal.returns-in_err-value-clause-settles
 returns-in_err-value-clause-settles g c =
-    let p = c.args.self.now.at.pass.now in
-    let q = c.value_if_any-read.new.at.pass.now in
+    let p = c.args.self.now.at.stepper.now in
+    let q = c.value_if_any-read.new.at.stepper.now in
     let reads = c.value_if_any-read.ensures.reads in
     let steps : c.steps_to_value_of.result ≡ steps_to_value_of p.trace.start = c.steps_to_value_of.ensures ∙ ap steps_to_value_of (sym c.value_if_any-read.new.at.own.1 ∙ reads.quiet.same.start) in
     let first : Goes p q c.args.self.now.used (c.args.self.now.used + c.steps_to_value_of.result) = goes_counted c.args.self.now.used c.steps_to_value_of.result (steps_to_value_of p.trace.start) steps reads in
@@ -52,8 +52,8 @@ returns-in_err-value-clause-settles g c =
 
 pub returns-in_err-value-clause-few : goal.returns-in_err-value-clause-few
 returns-in_err-value-clause-few g c =
-    let p = c.args.self.now.at.pass.now in
-    let q = c.value_if_any-read.new.at.pass.now in
+    let p = c.args.self.now.at.stepper.now in
+    let q = c.value_if_any-read.new.at.stepper.now in
     let reads = c.value_if_any-read.ensures.reads in
     let steps : c.steps_to_value_of.result ≡ steps_to_value_of p.trace.start = c.steps_to_value_of.ensures ∙ ap steps_to_value_of (sym c.value_if_any-read.new.at.own.1 ∙ reads.quiet.same.start) in
     let first : Goes p q c.args.self.now.used (c.args.self.now.used + c.steps_to_value_of.result) = goes_counted c.args.self.now.used c.steps_to_value_of.result (steps_to_value_of p.trace.start) steps reads in
@@ -68,8 +68,8 @@ returns-in_err-value-clause-rolls g c =
 
 pub returns-in-Ok-clause-settles : goal.returns-in-Ok-clause-settles
 returns-in-Ok-clause-settles g c =
-    let p = c.args.self.now.at.pass.now in
-    let q = c.value_if_any-read.new.at.pass.now in
+    let p = c.args.self.now.at.stepper.now in
+    let q = c.value_if_any-read.new.at.stepper.now in
     let reads = c.value_if_any-read.ensures.reads in
     let steps : c.steps_to_value_of.result ≡ steps_to_value_of p.trace.start = c.steps_to_value_of.ensures ∙ ap steps_to_value_of (sym c.value_if_any-read.new.at.own.1 ∙ reads.quiet.same.start) in
     let first : Goes p q c.args.self.now.used (c.args.self.now.used + c.steps_to_value_of.result) = goes_counted c.args.self.now.used c.steps_to_value_of.result (steps_to_value_of p.trace.start) steps reads in
@@ -83,8 +83,8 @@ returns-in-Ok-clause-settles g c =
 
 pub returns-in-Err-clause-settles : goal.returns-in-Err-clause-settles
 returns-in-Err-clause-settles g c =
-    let p = c.args.self.now.at.pass.now in
-    let q = c.value_if_any-read.new.at.pass.now in
+    let p = c.args.self.now.at.stepper.now in
+    let q = c.value_if_any-read.new.at.stepper.now in
     let reads = c.value_if_any-read.ensures.reads in
     let steps : c.steps_to_value_of.result ≡ steps_to_value_of p.trace.start = c.steps_to_value_of.ensures ∙ ap steps_to_value_of (sym c.value_if_any-read.new.at.own.1 ∙ reads.quiet.same.start) in
     let first : Goes p q c.args.self.now.used (c.args.self.now.used + c.steps_to_value_of.result) = goes_counted c.args.self.now.used c.steps_to_value_of.result (steps_to_value_of p.trace.start) steps reads in
@@ -98,8 +98,8 @@ returns-in-Err-clause-settles g c =
 
 pub returns-in-Ok-clause-few : goal.returns-in-Ok-clause-few
 returns-in-Ok-clause-few g c =
-    let p = c.args.self.now.at.pass.now in
-    let q = c.value_if_any-read.new.at.pass.now in
+    let p = c.args.self.now.at.stepper.now in
+    let q = c.value_if_any-read.new.at.stepper.now in
     let reads = c.value_if_any-read.ensures.reads in
     let steps : c.steps_to_value_of.result ≡ steps_to_value_of p.trace.start = c.steps_to_value_of.ensures ∙ ap steps_to_value_of (sym c.value_if_any-read.new.at.own.1 ∙ reads.quiet.same.start) in
     let first : Goes p q c.args.self.now.used (c.args.self.now.used + c.steps_to_value_of.result) = goes_counted c.args.self.now.used c.steps_to_value_of.result (steps_to_value_of p.trace.start) steps reads in
@@ -108,8 +108,8 @@ returns-in-Ok-clause-few g c =
 
 pub returns-in-Err-clause-few : goal.returns-in-Err-clause-few
 returns-in-Err-clause-few g c =
-    let p = c.args.self.now.at.pass.now in
-    let q = c.value_if_any-read.new.at.pass.now in
+    let p = c.args.self.now.at.stepper.now in
+    let q = c.value_if_any-read.new.at.stepper.now in
     let reads = c.value_if_any-read.ensures.reads in
     let steps : c.steps_to_value_of.result ≡ steps_to_value_of p.trace.start = c.steps_to_value_of.ensures ∙ ap steps_to_value_of (sym c.value_if_any-read.new.at.own.1 ∙ reads.quiet.same.start) in
     let first : Goes p q c.args.self.now.used (c.args.self.now.used + c.steps_to_value_of.result) = goes_counted c.args.self.now.used c.steps_to_value_of.result (steps_to_value_of p.trace.start) steps reads in
@@ -124,9 +124,9 @@ returns-in-Err-clause-only_loads g c = loads_on c.value_if_any-read.ensures.read
 
 pub returns-in-Ok-clause-answers : goal.returns-in-Ok-clause-answers
 returns-in-Ok-clause-answers g c =
-    let p = c.args.self.now.at.pass.now.trace in
-    let q = c.value_if_any-read.new.at.pass.now.trace in
-    let r = c.confirm_present_entry-outcome.new.at.pass.now.trace in
+    let p = c.args.self.now.at.stepper.now.trace in
+    let q = c.value_if_any-read.new.at.stepper.now.trace in
+    let r = c.confirm_present_entry-outcome.new.at.stepper.now.trace in
     let reads = c.value_if_any-read.ensures.reads in
     let key = c.args.self.now.key in
     let value = c.in_ok-value.value in
@@ -147,5 +147,5 @@ returns-in-Err-clause-rolls g c =
       quiet = quiet_on reads.quiet lost.quiet;
       adds_none = adds_on reads.adds_none lost.adds_none;
       wins = λ fresh stands alone.
-          lost.wins (then_of reads.quiet lost.quiet alone) (stands_on c.args.self.now.at.pass.now.trace c.value_if_any-read.new.at.pass.now.trace c.args.node.now (read_leaves reads (first_of reads.quiet lost.quiet alone)) stands);
+          lost.wins (then_of reads.quiet lost.quiet alone) (stands_on c.args.self.now.at.stepper.now.trace c.value_if_any-read.new.at.stepper.now.trace c.args.node.now (read_leaves reads (first_of reads.quiet lost.quiet alone)) stands);
     }

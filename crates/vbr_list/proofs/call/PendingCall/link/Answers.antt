@@ -20,16 +20,16 @@ loop-found-preserved g c =
     let fits = c.if-not-affords.ensures in
     let begun = call_on c.loop-found.invariant.0 s.call in
     let same = call_on begun more.call in
-    let p = c.args.self.now.at.pass.now in
-    let q = c.search.new.self.at.pass.now in
-    let r = c.settle_insert.new.self.at.pass.now in (
+    let p = c.args.self.now.at.stepper.now in
+    let q = c.search.new.self.at.stepper.now in
+    let r = c.settle_insert.new.self.at.stepper.now in (
       same,
       quiet_on c.loop-found.invariant.1 (quiet_on s.goes.quiet back.quiet),
       within_on (within_on c.loop-found.invariant.2 s.goes.counts s.more (within_call begun)) more.counts (omega arith) (within_call same),
       none_on (none_on c.loop-found.invariant.3 s.goes.hand.takes_no_slot) more.takes_no_slot,
       back.hand,
-      had_on p q r (had_on p c.loop-found.self.at.pass.now q c.loop-found.invariant.5 (had_grown c.loop-found.self.at.pass.now q s.goes.hand.takes_no_slot.grows s.goes.hand.hand)) (rw c.in-Err.is at c.settle_insert.ensures.had),
-      first_lost p c.loop-found.self.at.pass.now r c.loop-found.invariant.6 c.loop-found.invariant.1 (quiet_on s.goes.quiet back.quiet)
+      had_on p q r (had_on p c.loop-found.self.at.stepper.now q c.loop-found.invariant.5 (had_grown c.loop-found.self.at.stepper.now q s.goes.hand.takes_no_slot.grows s.goes.hand.hand)) (rw c.in-Err.is at c.settle_insert.ensures.had),
+      first_lost p c.loop-found.self.at.stepper.now r c.loop-found.invariant.6 c.loop-found.invariant.1 (quiet_on s.goes.quiet back.quiet)
           (λ alone. let f = c.in-Some.ensures.found.alone (first_of s.goes.quiet back.quiet alone) in back.wins f.pred.stands f.cur (then_of s.goes.quiet back.quiet alone)),
     )
 
@@ -40,15 +40,15 @@ returns-in_default-clause-links g c =
     record {
       call = search rules;
       counts = within_same c.give_back.ensures.back.trace (within_on c.loop-found.invariant.2 s.goes.counts s.more (within_call begun));
-      takes_no_slot = none_on (none_on c.loop-found.invariant.3 s.goes.hand.takes_no_slot) (none_back c.search.new.self.at.pass.now c.give_back.new.at.pass.now c.loop-found.hand.slot c.give_back.ensures.back.trace c.give_back.ensures.back.pool c.give_back.ensures.back.kept);
+      takes_no_slot = none_on (none_on c.loop-found.invariant.3 s.goes.hand.takes_no_slot) (none_back c.search.new.self.at.stepper.now c.give_back.new.at.stepper.now c.loop-found.hand.slot c.give_back.ensures.back.trace c.give_back.ensures.back.pool c.give_back.ensures.back.kept);
       spent = search rules;
     }
 
 pub returns-in_default-clause-had : goal.returns-in_default-clause-had
 returns-in_default-clause-had g c =
     let s = c.search.ensures.goes.goes.hand in
-    let q = c.search.new.self.at.pass.now in
-    had_on c.args.self.now.at.pass.now q c.give_back.new.at.pass.now (had_on c.args.self.now.at.pass.now c.loop-found.self.at.pass.now q c.loop-found.invariant.5 (had_grown c.loop-found.self.at.pass.now q s.takes_no_slot.grows s.hand)) (had_back q c.give_back.new.at.pass.now c.loop-found.hand.slot (s.hand ∙ c.loop-found.invariant.4.is.slot) c.give_back.ensures.back.pool)
+    let q = c.search.new.self.at.stepper.now in
+    had_on c.args.self.now.at.stepper.now q c.give_back.new.at.stepper.now (had_on c.args.self.now.at.stepper.now c.loop-found.self.at.stepper.now q c.loop-found.invariant.5 (had_grown c.loop-found.self.at.stepper.now q s.takes_no_slot.grows s.hand)) (had_back q c.give_back.new.at.stepper.now c.loop-found.hand.slot (s.hand ∙ c.loop-found.invariant.4.is.slot) c.give_back.ensures.back.pool)
 
 pub returns-then-not-affords-clause-links : goal.returns-then-not-affords-clause-links
 returns-then-not-affords-clause-links g c =
@@ -57,27 +57,27 @@ returns-then-not-affords-clause-links g c =
     record {
       call = search rules;
       counts = within_same c.give_back-then-not-affords.ensures.back.trace (within_on c.loop-found.invariant.2 s.goes.counts s.more (within_call begun));
-      takes_no_slot = none_on (none_on c.loop-found.invariant.3 s.goes.hand.takes_no_slot) (none_back c.search.new.self.at.pass.now c.give_back-then-not-affords.new.at.pass.now c.loop-found.hand.slot c.give_back-then-not-affords.ensures.back.trace c.give_back-then-not-affords.ensures.back.pool c.give_back-then-not-affords.ensures.back.kept);
+      takes_no_slot = none_on (none_on c.loop-found.invariant.3 s.goes.hand.takes_no_slot) (none_back c.search.new.self.at.stepper.now c.give_back-then-not-affords.new.at.stepper.now c.loop-found.hand.slot c.give_back-then-not-affords.ensures.back.trace c.give_back-then-not-affords.ensures.back.pool c.give_back-then-not-affords.ensures.back.kept);
       spent = search rules;
     }
 
 pub returns-then-not-affords-clause-had : goal.returns-then-not-affords-clause-had
 returns-then-not-affords-clause-had g c =
     let s = c.search.ensures.goes.goes.hand in
-    let q = c.search.new.self.at.pass.now in
-    had_on c.args.self.now.at.pass.now q c.give_back-then-not-affords.new.at.pass.now (had_on c.args.self.now.at.pass.now c.loop-found.self.at.pass.now q c.loop-found.invariant.5 (had_grown c.loop-found.self.at.pass.now q s.takes_no_slot.grows s.hand)) (had_back q c.give_back-then-not-affords.new.at.pass.now c.loop-found.hand.slot (s.hand ∙ c.loop-found.invariant.4.is.slot) c.give_back-then-not-affords.ensures.back.pool)
+    let q = c.search.new.self.at.stepper.now in
+    had_on c.args.self.now.at.stepper.now q c.give_back-then-not-affords.new.at.stepper.now (had_on c.args.self.now.at.stepper.now c.loop-found.self.at.stepper.now q c.loop-found.invariant.5 (had_grown c.loop-found.self.at.stepper.now q s.takes_no_slot.grows s.hand)) (had_back q c.give_back-then-not-affords.new.at.stepper.now c.loop-found.hand.slot (s.hand ∙ c.loop-found.invariant.4.is.slot) c.give_back-then-not-affords.ensures.back.pool)
 
 pub returns-in_default-clause-refused : goal.returns-in_default-clause-refused
 returns-in_default-clause-refused g c =
     let s = c.search.ensures.goes in
     let begun = call_on c.loop-found.invariant.0 s.call in
     let tired = c.in_default.ensures.tired in
-    let P : Trace → Type 0 = λ t. IsAlone c.args.self.now.at.pass.now.trace t in
-    let Q : Trace → Type 0 = λ t. Quiet c.args.self.now.at.pass.now.trace t in
+    let P : Trace → Type 0 = λ t. IsAlone c.args.self.now.at.stepper.now.trace t in
+    let Q : Trace → Type 0 = λ t. Quiet c.args.self.now.at.stepper.now.trace t in
     record {
       quiet = subst Q (sym c.give_back.ensures.back.trace) (quiet_on c.loop-found.invariant.1 s.goes.quiet);
       says = record { counts = within_same c.give_back.ensures.back.trace (within_on c.loop-found.invariant.2 s.goes.counts s.more (within_call begun)); short = rw c.loop-found.invariant.0.budget at tired.tired };
-      short = λ alone. at_first (λ q since. c.args.self.now.budget < since + enough_to_search q.trace c.args.self.now.key) c.args.self.now.at.pass.now c.loop-found.self.at.pass.now c.search.new.self.at.pass.now c.loop-found.invariant.6 c.loop-found.invariant.1 s.goes.quiet (subst P c.give_back.ensures.back.trace alone) (rw (c.loop-found.invariant.0.key, c.loop-found.invariant.0.budget) at tired.short);
+      short = λ alone. at_first (λ q since. c.args.self.now.budget < since + enough_to_search q.trace c.args.self.now.key) c.args.self.now.at.stepper.now c.loop-found.self.at.stepper.now c.search.new.self.at.stepper.now c.loop-found.invariant.6 c.loop-found.invariant.1 s.goes.quiet (subst P c.give_back.ensures.back.trace alone) (rw (c.loop-found.invariant.0.key, c.loop-found.invariant.0.budget) at tired.short);
     }
 
 pub returns-then-not-affords-clause-refused : goal.returns-then-not-affords-clause-refused
@@ -85,12 +85,12 @@ returns-then-not-affords-clause-refused g c =
     let s = c.search.ensures.goes in
     let begun = call_on c.loop-found.invariant.0 s.call in
     let short = rw begun.budget at (no_room c.search.new.self.used c.search.new.self.budget c.affords.result c.if-not-affords.true c.affords.ensures.1) in
-    let P : Trace → Type 0 = λ t. IsAlone c.args.self.now.at.pass.now.trace t in
-    let Q : Trace → Type 0 = λ t. Quiet c.args.self.now.at.pass.now.trace t in
+    let P : Trace → Type 0 = λ t. IsAlone c.args.self.now.at.stepper.now.trace t in
+    let Q : Trace → Type 0 = λ t. Quiet c.args.self.now.at.stepper.now.trace t in
     record {
       quiet = subst Q (sym c.give_back-then-not-affords.ensures.back.trace) (quiet_on c.loop-found.invariant.1 s.goes.quiet);
       says = record { counts = within_same c.give_back-then-not-affords.ensures.back.trace (within_on c.loop-found.invariant.2 s.goes.counts s.more (within_call begun)); short = short };
-      short = λ alone. at_first (λ q since. c.args.self.now.budget < since + enough_to_search q.trace c.args.self.now.key) c.args.self.now.at.pass.now c.loop-found.self.at.pass.now c.search.new.self.at.pass.now c.loop-found.invariant.6 c.loop-found.invariant.1 s.goes.quiet (subst P c.give_back-then-not-affords.ensures.back.trace alone)
+      short = λ alone. at_first (λ q since. c.args.self.now.budget < since + enough_to_search q.trace c.args.self.now.key) c.args.self.now.at.stepper.now c.loop-found.self.at.stepper.now c.search.new.self.at.stepper.now c.loop-found.invariant.6 c.loop-found.invariant.1 s.goes.quiet (subst P c.give_back-then-not-affords.ensures.back.trace alone)
           (λ then. let f = (rw c.loop-found.invariant.0.key at c.in-Some.ensures.found.alone then).paid in omega (arith, f, short));
     }
 
@@ -111,8 +111,8 @@ returns-in-Ok-clause-links g c =
 pub returns-in-Ok-clause-had : goal.returns-in-Ok-clause-had
 returns-in-Ok-clause-had g c =
     let s = c.search.ensures.goes.goes.hand in
-    let q = c.search.new.self.at.pass.now in
-    let then = had_then c.args.self.now.at.pass.now q c.settle_insert.new.self.at.pass.now c.settle_insert.result (had_on c.args.self.now.at.pass.now c.loop-found.self.at.pass.now q c.loop-found.invariant.5 (had_grown c.loop-found.self.at.pass.now q s.takes_no_slot.grows s.hand)) c.settle_insert.ensures.had in
+    let q = c.search.new.self.at.stepper.now in
+    let then = had_then c.args.self.now.at.stepper.now q c.settle_insert.new.self.at.stepper.now c.settle_insert.result (had_on c.args.self.now.at.stepper.now c.loop-found.self.at.stepper.now q c.loop-found.invariant.5 (had_grown c.loop-found.self.at.stepper.now q s.takes_no_slot.grows s.hand)) c.settle_insert.ensures.had in
     rw c.in-Ok.is at then
 
 pub returns-in-Ok-clause-linked : goal.returns-in-Ok-clause-linked
@@ -120,11 +120,11 @@ returns-in-Ok-clause-linked g c =
     let s = c.search.ensures.goes.goes.quiet in
     let quiet = quiet_on c.loop-found.invariant.1 s in
     let made = rw (call_on c.loop-found.invariant.0 c.search.ensures.goes.call).key at c.in-Ok.ensures.answers.made in
-    let p = c.args.self.now.at.pass.now in
+    let p = c.args.self.now.at.stepper.now in
     record {
       made = told_since quiet (stored_same quiet.same c.args.self.now.key c.args.value c.in-Ok.reply) made;
       few = λ alone.
-          let searched : c.search.new.self.used ≤ c.args.self.now.used + 3 + 9 * listed_for p.trace c.args.self.now.key = at_first (λ q since. c.search.new.self.used ≤ since + 3 + 9 * listed_for q.trace c.args.self.now.key) p c.loop-found.self.at.pass.now c.search.new.self.at.pass.now c.loop-found.invariant.6 c.loop-found.invariant.1 s (alone_first quiet.seen made.seen alone)
+          let searched : c.search.new.self.used ≤ c.args.self.now.used + 3 + 9 * listed_for p.trace c.args.self.now.key = at_first (λ q since. c.search.new.self.used ≤ since + 3 + 9 * listed_for q.trace c.args.self.now.key) p c.loop-found.self.at.stepper.now c.search.new.self.at.stepper.now c.loop-found.invariant.6 c.loop-found.invariant.1 s (alone_first quiet.seen made.seen alone)
           (λ then. (rw c.loop-found.invariant.0.key at c.in-Some.ensures.found.alone then).paid) in
           let few = c.settle_insert.ensures.publishes.few in
           let start = ap steps_to_update quiet.same.start in

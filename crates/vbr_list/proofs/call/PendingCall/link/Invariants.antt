@@ -7,7 +7,7 @@ use Rattle.vbr_list.proofs.call.PendingCall.link.Given as goal
 use Rattle.vbr_list.proofs.Traversals.{IsFirst}
 
 abbrev pub invariant-loop-found : goal.invariant-loop-found
-invariant-loop-found g l = IsSameCall l.fn.self l.self × Quiet l.fn.self.at.pass.now.trace l.self.at.pass.now.trace × CountsWithin l.fn.self.at.pass.now.trace l.self.at.pass.now.trace l.fn.self.used l.self.used l.fn.self.budget × TakesNoSlot l.fn.self.at.pass.now l.self.at.pass.now × HasHandAndRoom l.self.at.pass.now l.hand × HasStill l.fn.self.at.pass.now l.self.at.pass.now × IsFirst l.fn.self.at.pass.now l.self.at.pass.now l.fn.self.used l.self.used
+invariant-loop-found g l = IsSameCall l.fn.self l.self × Quiet l.fn.self.at.stepper.now.trace l.self.at.stepper.now.trace × CountsWithin l.fn.self.at.stepper.now.trace l.self.at.stepper.now.trace l.fn.self.used l.self.used l.fn.self.budget × TakesNoSlot l.fn.self.at.stepper.now l.self.at.stepper.now × HasHandAndRoom l.self.at.stepper.now l.hand × HasStill l.fn.self.at.stepper.now l.self.at.stepper.now × IsFirst l.fn.self.at.stepper.now l.self.at.stepper.now l.fn.self.used l.self.used
 
 abbrev pub decreases-loop-found : goal.decreases-loop-found
 decreases-loop-found g l = l.self.budget - l.self.used

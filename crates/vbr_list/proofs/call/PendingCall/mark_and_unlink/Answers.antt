@@ -27,18 +27,18 @@ use Rattle.vbr_list.proofs.call.PendingCall.mark_and_unlink.Goals as goal
 pub value_if_any-read-requires-clause-held : goal.value_if_any-read-requires-clause-held
 value_if_any-read-requires-clause-held g c =
     let f = c.args.found.now in
-    (cur_is (knows c.args.self.now.at.pass.now.trace) c.args.self.now.key f.pred c.in-Some.cur f.cur f.present c.requires.locates.end c.in-Some.is).held
+    (cur_is (knows c.args.self.now.at.stepper.now.trace) c.args.self.now.key f.pred c.in-Some.cur f.cur f.present c.requires.locates.end c.in-Some.is).held
 
 pub value_if_any-read-requires-clause-slot : goal.value_if_any-read-requires-clause-slot
 value_if_any-read-requires-clause-slot g c =
     let f = c.args.found.now in
-    slot_at (cur_is (knows c.args.self.now.at.pass.now.trace) c.args.self.now.key f.pred c.in-Some.cur f.cur f.present c.requires.locates.end c.in-Some.is)
+    slot_at (cur_is (knows c.args.self.now.at.stepper.now.trace) c.args.self.now.key f.pred c.in-Some.cur f.cur f.present c.requires.locates.end c.in-Some.is)
 
 pub mark_entry-outcome-requires-clause-node : goal.mark_entry-outcome-requires-clause-node
 mark_entry-outcome-requires-clause-node g c =
     let f = c.args.found.now in
-    let y = cur_is (knows c.args.self.now.at.pass.now.trace) c.args.self.now.key f.pred c.in-Some.cur f.cur f.present c.requires.locates.end c.in-Some.is in
-    let key = key_found (knows c.args.self.now.at.pass.now.trace) c.args.self.now.key f.pred c.in-Some.cur f.cur f.present c.requires.locates.end c.in-Some.is c.requires.present in
+    let y = cur_is (knows c.args.self.now.at.stepper.now.trace) c.args.self.now.key f.pred c.in-Some.cur f.cur f.present c.requires.locates.end c.in-Some.is in
+    let key = key_found (knows c.args.self.now.at.stepper.now.trace) c.args.self.now.key f.pred c.in-Some.cur f.cur f.present c.requires.locates.end c.in-Some.is c.requires.present in
     let keeps = c.in_ok-value.ensures.value.keeps in
     let there = key_kept c.in-Some.cur.at c.args.self.now.key keeps key in
     record { held = held_kept c.in-Some.cur keeps y.held; key = (c.args.self.now.key, there); unmarked = y.unmarked }
@@ -49,17 +49,17 @@ mark_entry-outcome-requires-clause-valued g c = λ has. (c.in_ok-value.value, c.
 pub unlink_marked-requires-clause-marked : goal.unlink_marked-requires-clause-marked
 unlink_marked-requires-clause-marked g c =
     let f = c.args.found.now in
-    let y = cur_is (knows c.args.self.now.at.pass.now.trace) c.args.self.now.key f.pred c.in-Some.cur f.cur f.present c.requires.locates.end c.in-Some.is in
-    let key = key_found (knows c.args.self.now.at.pass.now.trace) c.args.self.now.key f.pred c.in-Some.cur f.cur f.present c.requires.locates.end c.in-Some.is c.requires.present in
+    let y = cur_is (knows c.args.self.now.at.stepper.now.trace) c.args.self.now.key f.pred c.in-Some.cur f.cur f.present c.requires.locates.end c.in-Some.is in
+    let key = key_found (knows c.args.self.now.at.stepper.now.trace) c.args.self.now.key f.pred c.in-Some.cur f.cur f.present c.requires.locates.end c.in-Some.is c.requires.present in
     let keeps = c.in_ok-value.ensures.value.keeps in
     let there = key_kept c.in-Some.cur.at c.args.self.now.key keeps key in
     let same = c.value_if_any-read.ensures.reads.quiet.same in
-    let valued = λ (has : c.value_if_any-read.new.at.pass.now.trace.start.shape.values ≡ true). c.in_ok-value.ensures.value.value (sym (ap (λ (d : Start). d.shape.values) same.start) ∙ has) in
+    let valued = λ (has : c.value_if_any-read.new.at.stepper.now.trace.start.shape.values ≡ true). c.in_ok-value.ensures.value.value (sym (ap (λ (d : Start). d.shape.values) same.start) ∙ has) in
     let made = c.in_ok-marked.ensures.removed.made c.args.self.now.key c.in_ok-value.value there valued in
     let mark = c.mark_entry-outcome.ensures.keeps in
     let removed = c.in_ok-marked.ensures.removed in
     let pred = pred_on c.args.self.now.key f.pred made.same mark.keeps (pred_on c.args.self.now.key f.pred same keeps c.requires.locates.pred) in
-    let P : At → Type 0 = λ at. KeyAt (knows c.mark_entry-outcome.new.at.pass.now.trace) at c.args.self.now.key in
+    let P : At → Type 0 = λ at. KeyAt (knows c.mark_entry-outcome.new.at.stepper.now.trace) at c.args.self.now.key in
     let Q : ℕ → Type 0 = Names f.pred in
     record {
       may = record { held = pred.held; unmarked = pred.unmarked; marked = removed.held; names = subst Q (slot_same c.in_ok-marked.marked.slot y.slot (removed.at ∙ y.at)) y.named };
@@ -70,8 +70,8 @@ unlink_marked-requires-clause-marked g c =
 
 pub returns-in_err-value-clause-settles : goal.returns-in_err-value-clause-settles
 returns-in_err-value-clause-settles g c =
-    let p = c.args.self.now.at.pass.now in
-    let q = c.value_if_any-read.new.at.pass.now in
+    let p = c.args.self.now.at.stepper.now in
+    let q = c.value_if_any-read.new.at.stepper.now in
     let reads = c.value_if_any-read.ensures.reads in
     let steps : c.steps_to_value_of.result ≡ steps_to_value_of p.trace.start = c.steps_to_value_of.ensures ∙ ap steps_to_value_of (sym c.value_if_any-read.new.at.own.1 ∙ reads.quiet.same.start) in
     let first : Goes p q c.args.self.now.used (c.args.self.now.used + c.steps_to_value_of.result) = goes_counted c.args.self.now.used c.steps_to_value_of.result (steps_to_value_of p.trace.start) steps reads in
@@ -85,8 +85,8 @@ returns-in_err-value-clause-rolls g c =
 
 pub returns-in_err-marked-clause-settles : goal.returns-in_err-marked-clause-settles
 returns-in_err-marked-clause-settles g c =
-    let p = c.args.self.now.at.pass.now in
-    let q = c.value_if_any-read.new.at.pass.now in
+    let p = c.args.self.now.at.stepper.now in
+    let q = c.value_if_any-read.new.at.stepper.now in
     let reads = c.value_if_any-read.ensures.reads in
     let steps : c.steps_to_value_of.result ≡ steps_to_value_of p.trace.start = c.steps_to_value_of.ensures ∙ ap steps_to_value_of (sym c.value_if_any-read.new.at.own.1 ∙ reads.quiet.same.start) in
     let first : Goes p q c.args.self.now.used (c.args.self.now.used + c.steps_to_value_of.result) = goes_counted c.args.self.now.used c.steps_to_value_of.result (steps_to_value_of p.trace.start) steps reads in
@@ -102,18 +102,18 @@ pub returns-in_err-marked-clause-rolls : goal.returns-in_err-marked-clause-rolls
 returns-in_err-marked-clause-rolls g c =
     let reads = c.value_if_any-read.ensures.reads in
     let lost = c.in_err-marked.ensures.lost in
-    let p = c.args.self.now.at.pass.now.trace in
+    let p = c.args.self.now.at.stepper.now.trace in
     let P : Option Held → Type 0 = NextStands p in
     any_error c.from_residual-in_err-marked.result (λ rollback. record {
       quiet = quiet_on reads.quiet lost.quiet;
       wins = λ fresh stands next alone.
-          lost.wins (then_of reads.quiet lost.quiet alone) (stands_on p c.value_if_any-read.new.at.pass.now.trace c.in-Some.cur (read_leaves reads (first_of reads.quiet lost.quiet alone)) (subst P c.in-Some.is next));
+          lost.wins (then_of reads.quiet lost.quiet alone) (stands_on p c.value_if_any-read.new.at.stepper.now.trace c.in-Some.cur (read_leaves reads (first_of reads.quiet lost.quiet alone)) (subst P c.in-Some.is next));
     })
 
 pub returns-then-affords-clause-settles : goal.returns-then-affords-clause-settles
 returns-then-affords-clause-settles g c =
-    let p = c.args.self.now.at.pass.now in
-    let q = c.value_if_any-read.new.at.pass.now in
+    let p = c.args.self.now.at.stepper.now in
+    let q = c.value_if_any-read.new.at.stepper.now in
     let reads = c.value_if_any-read.ensures.reads in
     let steps : c.steps_to_value_of.result ≡ steps_to_value_of p.trace.start = c.steps_to_value_of.ensures ∙ ap steps_to_value_of (sym c.value_if_any-read.new.at.own.1 ∙ reads.quiet.same.start) in
     let first : Goes p q c.args.self.now.used (c.args.self.now.used + c.steps_to_value_of.result) = goes_counted c.args.self.now.used c.steps_to_value_of.result (steps_to_value_of p.trace.start) steps reads in
@@ -129,18 +129,18 @@ returns-then-affords-clause-settles g c =
 pub returns-then-affords-clause-answers : goal.returns-then-affords-clause-answers
 returns-then-affords-clause-answers g c =
     let f = c.args.found.now in
-    let y = cur_is (knows c.args.self.now.at.pass.now.trace) c.args.self.now.key f.pred c.in-Some.cur f.cur f.present c.requires.locates.end c.in-Some.is in
-    let key = key_found (knows c.args.self.now.at.pass.now.trace) c.args.self.now.key f.pred c.in-Some.cur f.cur f.present c.requires.locates.end c.in-Some.is c.requires.present in
+    let y = cur_is (knows c.args.self.now.at.stepper.now.trace) c.args.self.now.key f.pred c.in-Some.cur f.cur f.present c.requires.locates.end c.in-Some.is in
+    let key = key_found (knows c.args.self.now.at.stepper.now.trace) c.args.self.now.key f.pred c.in-Some.cur f.cur f.present c.requires.locates.end c.in-Some.is c.requires.present in
     let keeps = c.in_ok-value.ensures.value.keeps in
     let there = key_kept c.in-Some.cur.at c.args.self.now.key keeps key in
     let same = c.value_if_any-read.ensures.reads.quiet.same in
-    let valued = λ (has : c.value_if_any-read.new.at.pass.now.trace.start.shape.values ≡ true). c.in_ok-value.ensures.value.value (sym (ap (λ (d : Start). d.shape.values) same.start) ∙ has) in
+    let valued = λ (has : c.value_if_any-read.new.at.stepper.now.trace.start.shape.values ≡ true). c.in_ok-value.ensures.value.value (sym (ap (λ (d : Start). d.shape.values) same.start) ∙ has) in
     let made = c.in_ok-marked.ensures.removed.made c.args.self.now.key c.in_ok-value.value there valued in
     let told = told_since c.value_if_any-read.ensures.reads.quiet (given_same same Remove c.args.self.now.key (Some c.in_ok-value.value)) made in
     let then = c.unlink_marked.ensures.goes.goes.quiet in
-    let p = c.args.self.now.at.pass.now in
-    let q = c.value_if_any-read.new.at.pass.now in
-    let r = c.mark_entry-outcome.new.at.pass.now in
+    let p = c.args.self.now.at.stepper.now in
+    let q = c.value_if_any-read.new.at.stepper.now in
+    let r = c.mark_entry-outcome.new.at.stepper.now in
     let reads = c.value_if_any-read.ensures.reads in
     let steps : c.steps_to_value_of.result ≡ steps_to_value_of p.trace.start = c.steps_to_value_of.ensures ∙ ap steps_to_value_of (sym c.value_if_any-read.new.at.own.1 ∙ same.start) in
     record {
@@ -163,8 +163,8 @@ returns-then-affords-clause-answers g c =
 
 pub returns-else-affords-clause-settles : goal.returns-else-affords-clause-settles
 returns-else-affords-clause-settles g c =
-    let p = c.args.self.now.at.pass.now in
-    let q = c.value_if_any-read.new.at.pass.now in
+    let p = c.args.self.now.at.stepper.now in
+    let q = c.value_if_any-read.new.at.stepper.now in
     let reads = c.value_if_any-read.ensures.reads in
     let steps : c.steps_to_value_of.result ≡ steps_to_value_of p.trace.start = c.steps_to_value_of.ensures ∙ ap steps_to_value_of (sym c.value_if_any-read.new.at.own.1 ∙ reads.quiet.same.start) in
     let first : Goes p q c.args.self.now.used (c.args.self.now.used + c.steps_to_value_of.result) = goes_counted c.args.self.now.used c.steps_to_value_of.result (steps_to_value_of p.trace.start) steps reads in
@@ -179,19 +179,19 @@ returns-else-affords-clause-settles g c =
 pub returns-else-affords-clause-answers : goal.returns-else-affords-clause-answers
 returns-else-affords-clause-answers g c =
     let f = c.args.found.now in
-    let y = cur_is (knows c.args.self.now.at.pass.now.trace) c.args.self.now.key f.pred c.in-Some.cur f.cur f.present c.requires.locates.end c.in-Some.is in
-    let key = key_found (knows c.args.self.now.at.pass.now.trace) c.args.self.now.key f.pred c.in-Some.cur f.cur f.present c.requires.locates.end c.in-Some.is c.requires.present in
+    let y = cur_is (knows c.args.self.now.at.stepper.now.trace) c.args.self.now.key f.pred c.in-Some.cur f.cur f.present c.requires.locates.end c.in-Some.is in
+    let key = key_found (knows c.args.self.now.at.stepper.now.trace) c.args.self.now.key f.pred c.in-Some.cur f.cur f.present c.requires.locates.end c.in-Some.is c.requires.present in
     let keeps = c.in_ok-value.ensures.value.keeps in
     let there = key_kept c.in-Some.cur.at c.args.self.now.key keeps key in
     let same = c.value_if_any-read.ensures.reads.quiet.same in
-    let valued = λ (has : c.value_if_any-read.new.at.pass.now.trace.start.shape.values ≡ true). c.in_ok-value.ensures.value.value (sym (ap (λ (d : Start). d.shape.values) same.start) ∙ has) in
+    let valued = λ (has : c.value_if_any-read.new.at.stepper.now.trace.start.shape.values ≡ true). c.in_ok-value.ensures.value.value (sym (ap (λ (d : Start). d.shape.values) same.start) ∙ has) in
     let made = c.in_ok-marked.ensures.removed.made c.args.self.now.key c.in_ok-value.value there valued in
     let told = told_since c.value_if_any-read.ensures.reads.quiet (given_same same Remove c.args.self.now.key (Some c.in_ok-value.value)) made in
     record {
       made = told;
       unlists = λ yes room. (let f = c.if-affords.false in let z = c.affords.ensures.1 room in let w : false ≡ true = sym f ∙ z in absurd (cc));
       soon = λ fresh stands alone.
-          let steps : c.steps_to_value_of.result ≡ steps_to_value_of c.args.self.now.at.pass.now.trace.start = c.steps_to_value_of.ensures ∙ ap steps_to_value_of (sym c.value_if_any-read.new.at.own.1 ∙ same.start) in
+          let steps : c.steps_to_value_of.result ≡ steps_to_value_of c.args.self.now.at.stepper.now.trace.start = c.steps_to_value_of.ensures ∙ ap steps_to_value_of (sym c.value_if_any-read.new.at.own.1 ∙ same.start) in
           let short = no_room (c.args.self.now.used + c.steps_to_value_of.result + 1) c.args.self.now.budget c.affords.result c.if-affords.false c.affords.ensures.1 in
           record { few = omega (arith, steps); fewer = λ yes room. omega (arith, steps, short, room) };
     }

@@ -23,7 +23,7 @@ loop-found-preserved g c =
     let rolls = if_err c.deny.result (sym c.is_ok.ensures.value ∙ c.if-is_ok.false) d.rolls in (
       call_on begun d.call,
       rw d.used (tries_on found (goes_step c.search.new.self.used 1 rolls.quiet d.keeps.took d.keeps.own d.keeps.takes_no_slot) (omega arith) (let e = begun.budget in omega (arith, fits, e))),
-      first_lost c.args.self.now.at.pass.now c.loop-found.self.at.pass.now c.deny.new.self.at.pass.now c.loop-found.invariant.2 c.loop-found.invariant.1.goes.quiet (quiet_on s.goes.quiet rolls.quiet)
+      first_lost c.args.self.now.at.stepper.now c.loop-found.self.at.stepper.now c.deny.new.self.at.stepper.now c.loop-found.invariant.2 c.loop-found.invariant.1.goes.quiet (quiet_on s.goes.quiet rolls.quiet)
           (λ alone. rolls.wins (c.in-Some.ensures.found.alone (first_of s.goes.quiet rolls.quiet alone)).cur (then_of s.goes.quiet rolls.quiet alone)),
     )
 
@@ -64,7 +64,7 @@ returns-then-is_ok-clause-prepares g c =
     let fits = c.affords.ensures.0 c.if-not-affords.false in
     let counts = within_on (within_tries c.loop-found.invariant.1) s.goes.counts s.more (within_call same) in
     let budget = same.budget in
-    let P : ℕ → Type 0 = λ used. CountsWithin c.args.self.now.at.pass.now.trace c.deny.new.self.at.pass.now.trace c.args.self.now.used used c.args.self.now.budget in
+    let P : ℕ → Type 0 = λ used. CountsWithin c.args.self.now.at.stepper.now.trace c.deny.new.self.at.stepper.now.trace c.args.self.now.used used c.args.self.now.budget in
     prepares_none c.args.self.now c.deny.new.self (call_on same d.call) (subst P (sym d.used) (within_on counts (counts_step c.search.new.self.used 1 d.keeps.took) (omega arith) (omega (arith, fits, budget)))) (none_on begun.hand.takes_no_slot d.keeps.takes_no_slot) (d.keeps.own.hand ∙ begun.hand.hand)
 
 pub returns-in_default-clause-refused : goal.returns-in_default-clause-refused
@@ -77,8 +77,8 @@ returns-in_default-clause-refused g c =
       quiet = begun.quiet;
       hand = begun.hand.hand ∙ c.requires.empty_hand;
       says = record { counts = within_on (within_tries c.loop-found.invariant.1) s.goes.counts s.more (within_call same); short = rw c.loop-found.invariant.0.budget at tired.tired };
-      enough = λ alone. at_first (λ q since. c.args.self.now.budget < since + (9 * listed_for q.trace c.args.self.now.key + most_to_take q.trace.start q.pool) + 10) c.args.self.now.at.pass.now c.loop-found.self.at.pass.now c.search.new.self.at.pass.now c.loop-found.invariant.2 c.loop-found.invariant.1.goes.quiet s.goes.quiet alone
-          (λ then. let x = rw (c.loop-found.invariant.0.key, c.loop-found.invariant.0.budget) at tired.short then in let y = take_least c.loop-found.self.at.pass.now.trace.start c.loop-found.self.at.pass.now.pool in omega (arith, x, y));
+      enough = λ alone. at_first (λ q since. c.args.self.now.budget < since + (9 * listed_for q.trace c.args.self.now.key + most_to_take q.trace.start q.pool) + 10) c.args.self.now.at.stepper.now c.loop-found.self.at.stepper.now c.search.new.self.at.stepper.now c.loop-found.invariant.2 c.loop-found.invariant.1.goes.quiet s.goes.quiet alone
+          (λ then. let x = rw (c.loop-found.invariant.0.key, c.loop-found.invariant.0.budget) at tired.short then in let y = take_least c.loop-found.self.at.stepper.now.trace.start c.loop-found.self.at.stepper.now.pool in omega (arith, x, y));
     }
 
 pub returns-then-not-affords-clause-refused : goal.returns-then-not-affords-clause-refused
@@ -91,8 +91,8 @@ returns-then-not-affords-clause-refused g c =
       quiet = begun.quiet;
       hand = begun.hand.hand ∙ c.requires.empty_hand;
       says = record { counts = within_on (within_tries c.loop-found.invariant.1) s.goes.counts s.more (within_call same); short = short };
-      enough = λ alone. at_first (λ q since. c.args.self.now.budget < since + (9 * listed_for q.trace c.args.self.now.key + most_to_take q.trace.start q.pool) + 10) c.args.self.now.at.pass.now c.loop-found.self.at.pass.now c.search.new.self.at.pass.now c.loop-found.invariant.2 c.loop-found.invariant.1.goes.quiet s.goes.quiet alone
-          (λ then. let x = (rw c.loop-found.invariant.0.key at c.in-Some.ensures.found.alone then).paid in let y = take_least c.loop-found.self.at.pass.now.trace.start c.loop-found.self.at.pass.now.pool in omega (arith, x, y, short));
+      enough = λ alone. at_first (λ q since. c.args.self.now.budget < since + (9 * listed_for q.trace c.args.self.now.key + most_to_take q.trace.start q.pool) + 10) c.args.self.now.at.stepper.now c.loop-found.self.at.stepper.now c.search.new.self.at.stepper.now c.loop-found.invariant.2 c.loop-found.invariant.1.goes.quiet s.goes.quiet alone
+          (λ then. let x = (rw c.loop-found.invariant.0.key at c.in-Some.ensures.found.alone then).paid in let y = take_least c.loop-found.self.at.stepper.now.trace.start c.loop-found.self.at.stepper.now.pool in omega (arith, x, y, short));
     }
 
 pub returns-in_err-hand-clause-refused : goal.returns-in_err-hand-clause-refused
@@ -104,21 +104,21 @@ returns-in_err-hand-clause-refused g c =
     let refusal = c.in_err-hand.field-0.0 in
     let none = c.in_err-hand.ensures.refused in
     let d = c.provide.ensures.quiet in
-    let p = c.args.self.now.at.pass.now in
-    let q = c.search.new.self.at.pass.now in
+    let p = c.args.self.now.at.stepper.now in
+    let q = c.search.new.self.at.stepper.now in
     let counts = within_on (within_tries c.loop-found.invariant.1) s.goes.counts s.more (within_call same) in
     let so = was_so c.args.self.now.key c.in-Some.found c.law.ensures.start begun.quiet.same (found_since c.args.self.now.key c.in-Some.found c.loop-found.invariant.1.goes.quiet (rw c.loop-found.invariant.0.key at c.in-Some.ensures.found.found)) in
     let P : Bool → Type 0 = WasSo p.trace q.trace c.args.self.now.key in
     rw (error.1, error.2) (record {
       quiet = quiet_on begun.quiet d;
       hand = none.hand;
-      says = refuses_after p q c.provide.new.self.at.pass.now begun.quiet (some_grown p q begun.hand.takes_no_slot.grows) counts (subst P c.if-not-found.true so) d refusal (rw same.budget at none.says);
+      says = refuses_after p q c.provide.new.self.at.stepper.now begun.quiet (some_grown p q begun.hand.takes_no_slot.grows) counts (subst P c.if-not-found.true so) d refusal (rw same.budget at none.says);
       enough = λ alone.
           let lacks = rw same.budget at none.enough (then_of begun.quiet d alone) in
-          at_first (λ q since. LacksSteps (since + (9 * listed_for q.trace c.args.self.now.key + most_to_take q.trace.start q.pool) + 10) c.args.self.now.budget refusal) p c.loop-found.self.at.pass.now c.provide.new.self.at.pass.now c.loop-found.invariant.2 c.loop-found.invariant.1.goes.quiet (quiet_on s.goes.quiet d) alone
+          at_first (λ q since. LacksSteps (since + (9 * listed_for q.trace c.args.self.now.key + most_to_take q.trace.start q.pool) + 10) c.args.self.now.budget refusal) p c.loop-found.self.at.stepper.now c.provide.new.self.at.stepper.now c.loop-found.invariant.2 c.loop-found.invariant.1.goes.quiet (quiet_on s.goes.quiet d) alone
           (λ then.
           let x = (rw c.loop-found.invariant.0.key at c.in-Some.ensures.found.alone (first_of s.goes.quiet d then)).paid in
-          let y = take_after c.loop-found.self.at.pass.now q s.goes.quiet (some_grown c.loop-found.self.at.pass.now q s.goes.hand.takes_no_slot.grows) in
+          let y = take_after c.loop-found.self.at.stepper.now q s.goes.quiet (some_grown c.loop-found.self.at.stepper.now q s.goes.hand.takes_no_slot.grows) in
           lacks_more _ _ c.args.self.now.budget refusal (omega (arith, x, y)) lacks);
     })
 
@@ -131,8 +131,8 @@ returns-then-is_ok-clause-prepared g c =
     let made = if_ok c.deny.result (sym c.is_ok.ensures.value ∙ c.if-is_ok.true) d.made in
     record {
       is = (made_since begun.quiet (rw same.key at made), d.keeps.own.hand ∙ begun.hand.hand ∙ c.requires.empty_hand);
-      few = λ alone. rw d.used (at_first (λ q since. c.search.new.self.used + 1 ≤ since + (9 * listed_for q.trace c.args.self.now.key + most_to_take q.trace.start q.pool) + 3) c.args.self.now.at.pass.now c.loop-found.self.at.pass.now c.search.new.self.at.pass.now c.loop-found.invariant.2 c.loop-found.invariant.1.goes.quiet s.goes.quiet (alone_first begun.quiet.seen made.seen alone)
-          (λ then. let x = (rw c.loop-found.invariant.0.key at c.in-Some.ensures.found.alone then).paid in let y = take_least c.loop-found.self.at.pass.now.trace.start c.loop-found.self.at.pass.now.pool in omega (arith, x, y)));
+      few = λ alone. rw d.used (at_first (λ q since. c.search.new.self.used + 1 ≤ since + (9 * listed_for q.trace c.args.self.now.key + most_to_take q.trace.start q.pool) + 3) c.args.self.now.at.stepper.now c.loop-found.self.at.stepper.now c.search.new.self.at.stepper.now c.loop-found.invariant.2 c.loop-found.invariant.1.goes.quiet s.goes.quiet (alone_first begun.quiet.seen made.seen alone)
+          (λ then. let x = (rw c.loop-found.invariant.0.key at c.in-Some.ensures.found.alone then).paid in let y = take_least c.loop-found.self.at.stepper.now.trace.start c.loop-found.self.at.stepper.now.pool in omega (arith, x, y)));
     }
 
 pub returns-then-not-found-clause-prepared : goal.returns-then-not-found-clause-prepared
@@ -145,9 +145,9 @@ returns-then-not-found-clause-prepared g c =
       is = (quiet_on begun.quiet d, hand.has);
       few = λ alone.
           let made = hand.few (then_of begun.quiet d alone) in
-          at_first (λ q since. c.provide.new.self.used ≤ since + (9 * listed_for q.trace c.args.self.now.key + most_to_take q.trace.start q.pool) + 3) c.args.self.now.at.pass.now c.loop-found.self.at.pass.now c.provide.new.self.at.pass.now c.loop-found.invariant.2 c.loop-found.invariant.1.goes.quiet (quiet_on s.goes.quiet d) alone
+          at_first (λ q since. c.provide.new.self.used ≤ since + (9 * listed_for q.trace c.args.self.now.key + most_to_take q.trace.start q.pool) + 3) c.args.self.now.at.stepper.now c.loop-found.self.at.stepper.now c.provide.new.self.at.stepper.now c.loop-found.invariant.2 c.loop-found.invariant.1.goes.quiet (quiet_on s.goes.quiet d) alone
           (λ then.
           let x = (rw c.loop-found.invariant.0.key at c.in-Some.ensures.found.alone (first_of s.goes.quiet d then)).paid in
-          let y = take_after c.loop-found.self.at.pass.now c.search.new.self.at.pass.now s.goes.quiet (some_grown c.loop-found.self.at.pass.now c.search.new.self.at.pass.now s.goes.hand.takes_no_slot.grows) in
+          let y = take_after c.loop-found.self.at.stepper.now c.search.new.self.at.stepper.now s.goes.quiet (some_grown c.loop-found.self.at.stepper.now c.search.new.self.at.stepper.now s.goes.hand.takes_no_slot.grows) in
           omega (arith, x, y, made));
     }

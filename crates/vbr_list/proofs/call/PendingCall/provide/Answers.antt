@@ -19,8 +19,8 @@ returns-in-Ok-clause-prepares g c = record {
 
 pub returns-in-EpochSpent-clause-refused : goal.returns-in-EpochSpent-clause-refused
 returns-in-EpochSpent-clause-refused g c =
-    let p = c.args.self.now.at.pass.now in
-    let q = c.take-outcome.new.at.pass.now in
+    let p = c.args.self.now.at.stepper.now in
+    let q = c.take-outcome.new.at.stepper.now in
     let left = c.args.self.now.budget - c.args.self.now.used in
     let P : Result HandView TakeRefusal → Type 0 = λ r. IfErr r (RefusesTake p q left) in
     let why = (subst P (c.in-Err.is ∙ ap Err c.in-EpochSpent.is) c.take-outcome.ensures.refused).why in

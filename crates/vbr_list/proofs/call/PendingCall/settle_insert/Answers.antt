@@ -18,25 +18,25 @@ returns-then-found-clause-publishes g c =
     let used = c.args.self.now.used in
     record {
       call = search rules;
-      counts = subst (λ (q : Trace). CountsSteps c.args.self.now.at.pass.now.trace q used c.deny.new.self.used) (sym back.trace) (rw d.used (counts_step used 1 d.keeps.took));
+      counts = subst (λ (q : Trace). CountsSteps c.args.self.now.at.stepper.now.trace q used c.deny.new.self.used) (sym back.trace) (rw d.used (counts_step used 1 d.keeps.took));
       used = (omega arith, omega arith);
-      few = (let some = (few_to_update c.args.self.now.at.pass.now.trace.start).0 in omega (arith, some));
-      takes_no_slot = none_on d.keeps.takes_no_slot (none_back c.deny.new.self.at.pass.now c.give_back.new.at.pass.now c.args.hand.slot back.trace back.pool back.kept);
+      few = (let some = (few_to_update c.args.self.now.at.stepper.now.trace.start).0 in omega (arith, some));
+      takes_no_slot = none_on d.keeps.takes_no_slot (none_back c.deny.new.self.at.stepper.now c.give_back.new.at.stepper.now c.args.hand.slot back.trace back.pool back.kept);
     }
 
 pub returns-in-Ok-clause-had : goal.returns-in-Ok-clause-had
-returns-in-Ok-clause-had g c = had_spent c.args.self.now.at.pass.now c.update_entry.new.at.pass.now c.args.hand.slot c.requires.hand.is.slot c.update_entry.ensures.stores.pool
+returns-in-Ok-clause-had g c = had_spent c.args.self.now.at.stepper.now c.update_entry.new.at.stepper.now c.args.hand.slot c.requires.hand.is.slot c.update_entry.ensures.stores.pool
 
 pub returns-then-found-clause-had : goal.returns-then-found-clause-had
 returns-then-found-clause-had g c =
-    let p = c.args.self.now.at.pass.now in
-    let q = c.deny.new.self.at.pass.now in
+    let p = c.args.self.now.at.stepper.now in
+    let q = c.deny.new.self.at.stepper.now in
     let d = c.deny.ensures.keeps in
-    had_on p q c.give_back.new.at.pass.now (had_grown p q d.takes_no_slot.grows d.own.hand) (had_back q c.give_back.new.at.pass.now c.args.hand.slot (d.own.hand ∙ c.requires.hand.is.slot) c.give_back.ensures.back.pool)
+    had_on p q c.give_back.new.at.stepper.now (had_grown p q d.takes_no_slot.grows d.own.hand) (had_back q c.give_back.new.at.stepper.now c.args.hand.slot (d.own.hand ∙ c.requires.hand.is.slot) c.give_back.ensures.back.pool)
 
 pub returns-in-Ok-clause-publishes : goal.returns-in-Ok-clause-publishes
 returns-in-Ok-clause-publishes g c =
-    let start = c.args.self.now.at.pass.now.trace.start in
+    let start = c.args.self.now.at.stepper.now.trace.start in
     let steps : c.steps_to_update.result ≡ steps_to_update start = c.steps_to_update.ensures ∙ ap steps_to_update (sym c.args.self.now.at.own.1) in
     let some = (few_to_update start).0 in
     let few = (few_to_update start).1 in
@@ -50,7 +50,7 @@ returns-in-Ok-clause-publishes g c =
 
 pub returns-in-Err-clause-publishes : goal.returns-in-Err-clause-publishes
 returns-in-Err-clause-publishes g c =
-    let start = c.args.self.now.at.pass.now.trace.start in
+    let start = c.args.self.now.at.stepper.now.trace.start in
     let steps : c.steps_to_update.result ≡ steps_to_update start = c.steps_to_update.ensures ∙ ap steps_to_update (sym c.args.self.now.at.own.1) in
     let some = (few_to_update start).0 in
     let few = (few_to_update start).1 in
@@ -67,6 +67,6 @@ returns-in-Ok-clause-answers g c = record { made = c.in-Ok.ensures.inserted.made
 
 pub returns-then-found-clause-answers : goal.returns-then-found-clause-answers
 returns-then-found-clause-answers g c =
-    let p = c.args.self.now.at.pass.now.trace in
-    let made : Made (set_call p.who Insert c.args.self.now.key false) p c.give_back.new.at.pass.now.trace = search rules in
+    let p = c.args.self.now.at.stepper.now.trace in
+    let made : Made (set_call p.who Insert c.args.self.now.key false) p c.give_back.new.at.stepper.now.trace = search rules in
     record { made = told_as (told_bare p.start p.who Insert c.args.self.now.key false) made; spent = search rules }

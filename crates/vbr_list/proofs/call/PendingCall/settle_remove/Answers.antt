@@ -13,7 +13,7 @@ confirm_absent_entry-outcome-requires-clause-gap g c =
     record {
       held = search rules;
       behind = search rules;
-      before = before_named (knows c.args.self.now.at.pass.now.trace) c.args.self.now.key f.pred f.cur f.present c.requires.locates.end c.if-found.false;
+      before = before_named (knows c.args.self.now.at.stepper.now.trace) c.args.self.now.key f.pred f.cur f.present c.requires.locates.end c.if-found.false;
       unmarked = search rules;
     }
 
@@ -22,6 +22,6 @@ confirm_absent_entry-outcome-requires-clause-op g c = record { other = λ e. abs
 
 pub returns-clause-answers : goal.returns-clause-answers
 returns-clause-answers g c =
-    let p = c.args.self.now.at.pass.now.trace in
-    let made : Made (set_call p.who Remove c.args.self.now.key false) p c.confirm_absent_entry-outcome.new.at.pass.now.trace = search rules in
+    let p = c.args.self.now.at.stepper.now.trace in
+    let made : Made (set_call p.who Remove c.args.self.now.key false) p c.confirm_absent_entry-outcome.new.at.stepper.now.trace = search rules in
     record { made = told_as (told_bare p.start p.who Remove c.args.self.now.key false) made; unlists = λ yes room. absurd (cc); soon = λ fresh stands alone. record { few = omega arith; fewer = λ yes room. absurd (cc) } }

@@ -19,9 +19,9 @@ loop-pred-preserved g c =
     let met = rw c.in-Ok-Smaller.field-0-is at c.in-Ok-Smaller.ensures.met in
     let x = c.visit.ensures.used in
     let y = c.affords-in-loop-pred.ensures.0 c.if-not-affords-2.false in
-    let p = c.args.self.now.at.pass.now.trace in
-    let q = c.loop-pred.self.at.pass.now.trace in
-    let r = c.visit.new.self.at.pass.now.trace in
+    let p = c.args.self.now.at.stepper.now.trace in
+    let q = c.loop-pred.self.at.stepper.now.trace in
+    let r = c.visit.new.self.at.stepper.now.trace in
     let i = c.loop-pred.invariant.1 in
     let b = c.loop-pred.invariant.0.budget in (
       call_on c.loop-pred.invariant.0 v.call,
@@ -56,8 +56,8 @@ loop-pred-preserved-in-Ok-help g c =
           let one = first_of v.goes.quiet h.goes.quiet later in
           let l = c.visit.ensures.looks.leaves one in
           let there = (rw c.loop-pred.invariant.0.key at met.alone) near.keeps.fresh (inl i.reached.is.unmarked) near.keeps.stands one in
-          nears_help c.args.self.now.at.pass.now.trace c.loop-pred.self.at.pass.now.trace c.visit.new.self.at.pass.now.trace c.help.new.self.at.pass.now.trace c.args.self.now.key c.args.self.now.used c.loop-pred.self.used c.visit.new.self.used c.help.new.self.used c.loop-pred.pred c.in-Ok-help.place near l v.goes.quiet.same.start met.count few
-          (helped.alone c.args.self.now.key before there.0.fresh (stands_on c.loop-pred.self.at.pass.now.trace c.visit.new.self.at.pass.now.trace c.loop-pred.pred l near.keeps.stands) (then_of v.goes.quiet h.goes.quiet later))),
+          nears_help c.args.self.now.at.stepper.now.trace c.loop-pred.self.at.stepper.now.trace c.visit.new.self.at.stepper.now.trace c.help.new.self.at.stepper.now.trace c.args.self.now.key c.args.self.now.used c.loop-pred.self.used c.visit.new.self.used c.help.new.self.used c.loop-pred.pred c.in-Ok-help.place near l v.goes.quiet.same.start met.count few
+          (helped.alone c.args.self.now.key before there.0.fresh (stands_on c.loop-pred.self.at.stepper.now.trace c.visit.new.self.at.stepper.now.trace c.loop-pred.pred l near.keeps.stands) (then_of v.goes.quiet h.goes.quiet later))),
     )
 
 pub returns-in-Err-clause-goes : goal.returns-in-Err-clause-goes
@@ -100,7 +100,7 @@ returns-in-Ok-Beyond-clause-found g c =
       alone = λ alone.
           let near = i.nears (first_of i.tries.goes.quiet v alone) in
           let then = then_of i.tries.goes.quiet v alone in
-          found_beyond c.args.self.now.at.pass.now.trace c.loop-pred.self.at.pass.now.trace c.visit.new.self.at.pass.now.trace c.args.self.now.key c.args.self.now.used c.loop-pred.self.used c.visit.new.self.used c.loop-pred.pred c.in-Ok-Beyond.node _ near (c.visit.ensures.looks.leaves then) v.same.start met.count ((rw c.loop-pred.invariant.0.key at met.alone) near.keeps.fresh (inl i.reached.is.unmarked) near.keeps.stands then) refl refl;
+          found_beyond c.args.self.now.at.stepper.now.trace c.loop-pred.self.at.stepper.now.trace c.visit.new.self.at.stepper.now.trace c.args.self.now.key c.args.self.now.used c.loop-pred.self.used c.visit.new.self.used c.loop-pred.pred c.in-Ok-Beyond.node _ near (c.visit.ensures.looks.leaves then) v.same.start met.count ((rw c.loop-pred.invariant.0.key at met.alone) near.keeps.fresh (inl i.reached.is.unmarked) near.keeps.stands then) refl refl;
     }
 
 pub returns-in-Err-clause-stopped : goal.returns-in-Err-clause-stopped
@@ -140,5 +140,5 @@ returns-in-Err-help-clause-stopped g c =
           let one = first_of v h later in
           let met = rw c.in-Ok-Marked.field-0-is at c.in-Ok-Marked.ensures.met in
           let there = (rw c.loop-pred.invariant.0.key at met.alone) near.keeps.fresh (inl i.reached.is.unmarked) near.keeps.stands one in
-          c.in-Err-help.ensures.lost there.0.fresh (stands_on c.loop-pred.self.at.pass.now.trace c.visit.new.self.at.pass.now.trace c.loop-pred.pred (c.visit.ensures.looks.leaves one) near.keeps.stands) (then_of v h later),
+          c.in-Err-help.ensures.lost there.0.fresh (stands_on c.loop-pred.self.at.stepper.now.trace c.visit.new.self.at.stepper.now.trace c.loop-pred.pred (c.visit.ensures.looks.leaves one) near.keeps.stands) (then_of v h later),
     )

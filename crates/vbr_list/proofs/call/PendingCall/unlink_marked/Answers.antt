@@ -25,6 +25,6 @@ returns-else-is_err-clause-soon g c = λ fresh stands alone.
     let few = tried.ensures.few in
     record {
       few = omega (arith, few);
-      fewer = listed_fewer c.args.self.now.at.pass.now.trace tried.new.at.pass.now.trace c.args.self.now.key (tried.ensures.goes 0).quiet.same.start
+      fewer = listed_fewer c.args.self.now.at.stepper.now.trace tried.new.at.stepper.now.trace c.args.self.now.key (tried.ensures.goes 0).quiet.same.start
           (λ bucket h inside. (if_went tried.result.0 (sym c.is_err.ensures.value ∙ c.if-is_err.false) tried.ensures.unlinks).1.fewer stands alone bucket h inside) c.requires.marked.inside;
     }

@@ -61,9 +61,9 @@ returns-then-here-self-clause-met g c =
       alone = λ fresh there stands alone.
           let x = c.in_ok-node.ensures in
           let y = c.in_ok-here.ensures in
-          let p = c.args.self.now.at.pass.now in
-          let q = c.next-node.new.at.pass.now.trace in
-          let r = c.key_of-read.new.at.pass.now.trace in
+          let p = c.args.self.now.at.stepper.now in
+          let q = c.next-node.new.at.stepper.now.trace in
+          let r = c.key_of-read.new.at.stepper.now.trace in
           let n = rw c.in-Some.is at x.next.read in
           let m = rw c.in-Some.is at x.next.stands in
           let first = first_of x.reads.quiet y.reads.quiet alone in
@@ -84,9 +84,9 @@ returns-else-here-self-clause-met g c =
       alone = λ fresh there stands alone.
           let x = c.in_ok-node.ensures in
           let y = c.in_ok-here.ensures in
-          let p = c.args.self.now.at.pass.now in
-          let q = c.next-node.new.at.pass.now.trace in
-          let r = c.key_of-read.new.at.pass.now.trace in
+          let p = c.args.self.now.at.stepper.now in
+          let q = c.next-node.new.at.stepper.now.trace in
+          let r = c.key_of-read.new.at.stepper.now.trace in
           let n = rw c.in-Some.is at x.next.read in
           let m = rw c.in-Some.is at x.next.stands in
           let first = first_of x.reads.quiet y.reads.quiet alone in
@@ -100,7 +100,7 @@ pub returns-in_err-here-clause-moved : goal.returns-in_err-here-clause-moved
 returns-in_err-here-clause-moved g c =
     let x = c.in_ok-node.ensures in
     let y = c.in_err-here.ensures in
-    either c.from_residual-in_err-here.result (λ fresh alone. y.moved.still (fresh_kept c.args.self.now.at.pass.now.trace c.next-node.new.at.pass.now.trace (x.reads.looks (first_of x.reads.quiet y.reads.quiet alone)) x.next.keeps fresh) (then_of x.reads.quiet y.reads.quiet alone))
+    either c.from_residual-in_err-here.result (λ fresh alone. y.moved.still (fresh_kept c.args.self.now.at.stepper.now.trace c.next-node.new.at.stepper.now.trace (x.reads.looks (first_of x.reads.quiet y.reads.quiet alone)) x.next.keeps fresh) (then_of x.reads.quiet y.reads.quiet alone))
 
 pub returns-in-Some-of-clause-met : goal.returns-in-Some-of-clause-met
 returns-in-Some-of-clause-met g c =
@@ -113,5 +113,5 @@ returns-in-Some-of-clause-met g c =
       visits = search rules;
       count = omega arith;
       alone = λ fresh there stands alone.
-          marked_alone c.args.self.now.at.pass.now c.law.ensures c.next-node.new.at.pass.now.trace c.args.self.now.key c.args.pred.now c.in-Some.node c.in-Some-of.marked x.reads.quiet c.requires.pred there stands n of.0 (x.reads.looks alone) x.next.keeps fresh (m alone);
+          marked_alone c.args.self.now.at.stepper.now c.law.ensures c.next-node.new.at.stepper.now.trace c.args.self.now.key c.args.pred.now c.in-Some.node c.in-Some-of.marked x.reads.quiet c.requires.pred there stands n of.0 (x.reads.looks alone) x.next.keeps fresh (m alone);
     }

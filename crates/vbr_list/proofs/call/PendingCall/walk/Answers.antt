@@ -24,7 +24,7 @@ loop-here-init g c =
         peeks = record { tries = record { goes = c.start.ensures.goes.goes; within = (omega (arith, used), omega (arith, fits, used)) }; observes = c.start.ensures.looks.observes };
         some = omega (arith, used);
         look = look_at head.come.is;
-        passes = λ alone. passes_start c.args.self.now.at.pass.now.trace c.start.new.self.at.pass.now.trace c.args.self.now.bucket c.args.self.now.key c.args.self.now.used c.start.new.self.used c.in-Ok.pred (c.start.ensures.looks.leaves alone) c.start.ensures.goes.goes.quiet.same.start c.args.self.now.of_key c.start.ensures.used head.come.is.unmarked (head.stands alone);
+        passes = λ alone. passes_start c.args.self.now.at.stepper.now.trace c.start.new.self.at.stepper.now.trace c.args.self.now.bucket c.args.self.now.key c.args.self.now.used c.start.new.self.used c.in-Ok.pred (c.start.ensures.looks.leaves alone) c.start.ensures.goes.goes.quiet.same.start c.args.self.now.of_key c.start.ensures.used head.come.is.unmarked (head.stands alone);
       },
     )
 
@@ -37,7 +37,7 @@ loop-here-preserved-in-Ok-Marked g c =
     let look = look_past c.args.self.now.key c.loop-here.pred c.loop-here.here c.in-Ok-Marked.marked v.goes.quiet.same met.keeps c.loop-here.invariant.1.look met.visits.0 met.visits.1 in
     let b = c.loop-here.invariant.0.budget in (
       call_on c.loop-here.invariant.0 v.call,
-      subst (λ (h : Held). Looks c.args.self.now.at.pass.now c.visit.new.self.at.pass.now c.args.self.now.key c.args.self.now.used c.visit.new.self.used c.args.self.now.budget c.loop-here.pred h) (sym c.held_of-here.ensures)
+      subst (λ (h : Held). Looks c.args.self.now.at.stepper.now c.visit.new.self.at.stepper.now c.args.self.now.key c.args.self.now.used c.visit.new.self.used c.args.self.now.budget c.loop-here.pred h) (sym c.held_of-here.ensures)
           (looks_on c.loop-here.invariant.1 v.goes c.visit.ensures.looks.observes (omega (arith, x)) (omega (arith, x, y, b)) look
           (λ alone.
           let i = c.loop-here.invariant.1 in
@@ -45,7 +45,7 @@ loop-here-preserved-in-Ok-Marked g c =
           let near = i.passes (first_of a v.goes.quiet alone) in
           let then = then_of a v.goes.quiet alone in
           let y = (rw c.loop-here.invariant.0.key at met.alone) near.place.fresh near.there near.place.stands then in
-          passes_marked c.args.self.now.at.pass.now.trace c.loop-here.self.at.pass.now.trace c.visit.new.self.at.pass.now.trace c.args.self.now.key c.args.self.now.used c.loop-here.self.used c.visit.new.self.used c.loop-here.pred c.loop-here.here (held_of c.in-Ok-Marked.marked) near (c.visit.ensures.looks.leaves then) y.0.fresh met.count y)),
+          passes_marked c.args.self.now.at.stepper.now.trace c.loop-here.self.at.stepper.now.trace c.visit.new.self.at.stepper.now.trace c.args.self.now.key c.args.self.now.used c.loop-here.self.used c.visit.new.self.used c.loop-here.pred c.loop-here.here (held_of c.in-Ok-Marked.marked) near (c.visit.ensures.looks.leaves then) y.0.fresh met.count y)),
     )
 
 pub loop-here-preserved : goal.loop-here-preserved
@@ -62,7 +62,7 @@ loop-here-preserved g c =
           let i = c.loop-here.invariant.1 in
           let a = i.peeks.tries.goes.quiet in
           let near = i.passes (first_of a v.goes.quiet alone) in
-          passes_smaller c.args.self.now.at.pass.now.trace c.loop-here.self.at.pass.now.trace c.visit.new.self.at.pass.now.trace c.args.self.now.key c.args.self.now.used c.loop-here.self.used c.visit.new.self.used c.loop-here.pred c.loop-here.here c.in-Ok-Smaller.node near met.count come.is.unmarked ((rw c.loop-here.invariant.0.key at met.alone) near.place.fresh near.there near.place.stands (then_of a v.goes.quiet alone))),
+          passes_smaller c.args.self.now.at.stepper.now.trace c.loop-here.self.at.stepper.now.trace c.visit.new.self.at.stepper.now.trace c.args.self.now.key c.args.self.now.used c.loop-here.self.used c.visit.new.self.used c.loop-here.pred c.loop-here.here c.in-Ok-Smaller.node near met.count come.is.unmarked ((rw c.loop-here.invariant.0.key at met.alone) near.place.fresh near.there near.place.stands (then_of a v.goes.quiet alone))),
     )
 
 pub returns-in-Err-clause-goes : goal.returns-in-Err-clause-goes
@@ -101,11 +101,11 @@ returns-in-Ok-Beyond-default-true-clause-sight g c =
     let met = rw (c.in-Ok-Beyond-default-true.field-0-is, c.in-Ok-Beyond-default-true.field-0-1-test) at c.in-Ok-Beyond-default-true.ensures.met in
     let visits = rw c.loop-here.invariant.0.key at met.visits in
     record {
-      sees = present_at c.visit.new.self.at.pass.now.trace.start c.args.self.now.key c.loop-here.here c.in-Ok-Beyond-default-true.node visits.0;
+      sees = present_at c.visit.new.self.at.stepper.now.trace.start c.args.self.now.key c.loop-here.here c.in-Ok-Beyond-default-true.node visits.0;
       alone = λ alone.
           let a = c.loop-here.invariant.1.peeks.tries.goes.quiet in
           let near = c.loop-here.invariant.1.passes (first_of a v alone) in
-          sight_present c.args.self.now.at.pass.now.trace c.loop-here.self.at.pass.now.trace c.visit.new.self.at.pass.now.trace c.args.self.now.key c.args.self.now.used c.loop-here.self.used c.visit.new.self.used c.loop-here.pred c.loop-here.here c.in-Ok-Beyond-default-true.node near met.count ((rw c.loop-here.invariant.0.key at met.alone) near.place.fresh near.there near.place.stands (then_of a v alone));
+          sight_present c.args.self.now.at.stepper.now.trace c.loop-here.self.at.stepper.now.trace c.visit.new.self.at.stepper.now.trace c.args.self.now.key c.args.self.now.used c.loop-here.self.used c.visit.new.self.used c.loop-here.pred c.loop-here.here c.in-Ok-Beyond-default-true.node near met.count ((rw c.loop-here.invariant.0.key at met.alone) near.place.fresh near.there near.place.stands (then_of a v alone));
     }
 
 pub returns-in-Ok-Beyond-default-false-clause-sight : goal.returns-in-Ok-Beyond-default-false-clause-sight
@@ -119,7 +119,7 @@ returns-in-Ok-Beyond-default-false-clause-sight g c =
           let a = c.loop-here.invariant.1.peeks.tries.goes.quiet in
           let near = c.loop-here.invariant.1.passes (first_of a v alone) in
           let then = then_of a v alone in
-          sight_absent c.args.self.now.at.pass.now.trace c.loop-here.self.at.pass.now.trace c.visit.new.self.at.pass.now.trace c.args.self.now.key c.args.self.now.used c.loop-here.self.used c.visit.new.self.used c.loop-here.pred c.loop-here.here c.in-Ok-Beyond-default-false.field-0-0 near (c.visit.ensures.looks.leaves then) met.count ((rw c.loop-here.invariant.0.key at met.alone) near.place.fresh near.there near.place.stands then);
+          sight_absent c.args.self.now.at.stepper.now.trace c.loop-here.self.at.stepper.now.trace c.visit.new.self.at.stepper.now.trace c.args.self.now.key c.args.self.now.used c.loop-here.self.used c.visit.new.self.used c.loop-here.pred c.loop-here.here c.in-Ok-Beyond-default-false.field-0-0 near (c.visit.ensures.looks.leaves then) met.count ((rw c.loop-here.invariant.0.key at met.alone) near.place.fresh near.there near.place.stands then);
     }
 
 pub returns-clause-sight : goal.returns-clause-sight

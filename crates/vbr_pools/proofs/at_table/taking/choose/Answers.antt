@@ -17,47 +17,47 @@ none_left (Some x) f = absurd (f x refl)
 -- ---- the epoch isn't read
 
 pub returns-then-not-affords-clause-chooses : goal.returns-then-not-affords-clause-chooses
-returns-then-not-affords-clause-chooses g c = chooses_refl c.args.at.now.pass.now
+returns-then-not-affords-clause-chooses g c = chooses_refl c.args.at.now.stepper.now
 
 pub returns-then-not-affords-clause-none : goal.returns-then-not-affords-clause-none
-returns-then-not-affords-clause-none g c = short_first c.args.at.now.pass.now c.args.budget c.args.used c.requires.within (no_room _ _ c.affords.result c.if-not-affords.true c.affords.ensures.1)
+returns-then-not-affords-clause-none g c = short_first c.args.at.now.stepper.now c.args.budget c.args.used c.requires.within (no_room _ _ c.affords.result c.if-not-affords.true c.affords.ensures.1)
 
 -- ---- the epoch is read, and the own pool looked through
 
 pub returns-in_err-found-clause-chooses : goal.returns-in_err-found-clause-chooses
-returns-in_err-found-clause-chooses g c = chooses_then c.args.at.now.pass.now c.read_epoch-epoch.new.self c.scan.new.at.pass.now c.read_epoch-epoch.result c.args.budget c.args.used c.read_epoch-epoch.ensures.step (c.affords.ensures.0 c.if-not-affords.false) c.read_epoch-epoch.ensures.pool c.scan.ensures.scans
+returns-in_err-found-clause-chooses g c = chooses_then c.args.at.now.stepper.now c.read_epoch-epoch.new.self.stepper.now c.scan.new.at.stepper.now c.read_epoch-epoch.result c.args.budget c.args.used c.read_epoch-epoch.ensures.step (c.affords.ensures.0 c.if-not-affords.false) c.read_epoch-epoch.ensures.pool c.scan.ensures.scans
 
 pub returns-in_err-found-clause-none : goal.returns-in_err-found-clause-none
 returns-in_err-found-clause-none g c =
     let p = err_from_is_err_and c.from_residual.result c.from_residual.ensures.1 in
-    rw (p.1, p.2) (short_then c.args.at.now.pass.now c.read_epoch-epoch.new.self c.scan.new.at.pass.now c.read_epoch-epoch.result c.args.budget c.args.used c.read_epoch-epoch.ensures.step (c.affords.ensures.0 c.if-not-affords.false) c.read_epoch-epoch.ensures.pool c.scan.ensures.scans _ c.in_err-found.ensures.part)
+    rw (p.1, p.2) (short_then c.args.at.now.stepper.now c.read_epoch-epoch.new.self.stepper.now c.scan.new.at.stepper.now c.read_epoch-epoch.result c.args.budget c.args.used c.read_epoch-epoch.ensures.step (c.affords.ensures.0 c.if-not-affords.false) c.read_epoch-epoch.ensures.pool c.scan.ensures.scans _ c.in_err-found.ensures.part)
 
 pub returns-in-Some-clause-chooses : goal.returns-in-Some-clause-chooses
-returns-in-Some-clause-chooses g c = chooses_then c.args.at.now.pass.now c.read_epoch-epoch.new.self c.scan.new.at.pass.now c.read_epoch-epoch.result c.args.budget c.args.used c.read_epoch-epoch.ensures.step (c.affords.ensures.0 c.if-not-affords.false) c.read_epoch-epoch.ensures.pool c.scan.ensures.scans
+returns-in-Some-clause-chooses g c = chooses_then c.args.at.now.stepper.now c.read_epoch-epoch.new.self.stepper.now c.scan.new.at.stepper.now c.read_epoch-epoch.result c.args.budget c.args.used c.read_epoch-epoch.ensures.step (c.affords.ensures.0 c.if-not-affords.false) c.read_epoch-epoch.ensures.pool c.scan.ensures.scans
 
 pub returns-in-Some-clause-chosen : goal.returns-in-Some-clause-chosen
-returns-in-Some-clause-chosen g c = chosen_then c.args.at.now.pass.now c.read_epoch-epoch.new.self c.scan.new.at.pass.now c.read_epoch-epoch.result c.args.budget c.args.used c.read_epoch-epoch.ensures.step (c.affords.ensures.0 c.if-not-affords.false) c.read_epoch-epoch.ensures.pool c.scan.ensures.scans c.in_ok-found.found c.in_ok-found.used c.in_ok-found.ensures.scanned c.in-Some.slot c.in-Some.is
+returns-in-Some-clause-chosen g c = chosen_then c.args.at.now.stepper.now c.read_epoch-epoch.new.self.stepper.now c.scan.new.at.stepper.now c.read_epoch-epoch.result c.args.budget c.args.used c.read_epoch-epoch.ensures.step (c.affords.ensures.0 c.if-not-affords.false) c.read_epoch-epoch.ensures.pool c.scan.ensures.scans c.in_ok-found.found c.in_ok-found.used c.in_ok-found.ensures.scanned c.in-Some.slot c.in-Some.is
 
 pub returns-then-not-affords-2-clause-chooses : goal.returns-then-not-affords-2-clause-chooses
-returns-then-not-affords-2-clause-chooses g c = chooses_then c.args.at.now.pass.now c.read_epoch-epoch.new.self c.scan.new.at.pass.now c.read_epoch-epoch.result c.args.budget c.args.used c.read_epoch-epoch.ensures.step (c.affords.ensures.0 c.if-not-affords.false) c.read_epoch-epoch.ensures.pool c.scan.ensures.scans
+returns-then-not-affords-2-clause-chooses g c = chooses_then c.args.at.now.stepper.now c.read_epoch-epoch.new.self.stepper.now c.scan.new.at.stepper.now c.read_epoch-epoch.result c.args.budget c.args.used c.read_epoch-epoch.ensures.step (c.affords.ensures.0 c.if-not-affords.false) c.read_epoch-epoch.ensures.pool c.scan.ensures.scans
 
 pub returns-then-not-affords-2-clause-none : goal.returns-then-not-affords-2-clause-none
-returns-then-not-affords-2-clause-none g c = full_then c.args.at.now.pass.now c.read_epoch-epoch.new.self c.scan.new.at.pass.now c.read_epoch-epoch.result c.args.budget c.args.used c.read_epoch-epoch.ensures.step (c.affords.ensures.0 c.if-not-affords.false) c.read_epoch-epoch.ensures.pool c.scan.ensures.scans c.in_ok-found.found c.in_ok-found.used c.in_ok-found.ensures.scanned (no_room _ _ c.affords-2.result c.if-not-affords-2.true c.affords-2.ensures.1)
+returns-then-not-affords-2-clause-none g c = full_then c.args.at.now.stepper.now c.read_epoch-epoch.new.self.stepper.now c.scan.new.at.stepper.now c.read_epoch-epoch.result c.args.budget c.args.used c.read_epoch-epoch.ensures.step (c.affords.ensures.0 c.if-not-affords.false) c.read_epoch-epoch.ensures.pool c.scan.ensures.scans c.in_ok-found.found c.in_ok-found.used c.in_ok-found.ensures.scanned (no_room _ _ c.affords-2.result c.if-not-affords-2.true c.affords-2.ensures.1)
 
 pub returns-then-epoch-last_epoch-clause-chooses : goal.returns-then-epoch-last_epoch-clause-chooses
-returns-then-epoch-last_epoch-clause-chooses g c = chooses_then c.args.at.now.pass.now c.read_epoch-epoch.new.self c.scan.new.at.pass.now c.read_epoch-epoch.result c.args.budget c.args.used c.read_epoch-epoch.ensures.step (c.affords.ensures.0 c.if-not-affords.false) c.read_epoch-epoch.ensures.pool c.scan.ensures.scans
+returns-then-epoch-last_epoch-clause-chooses g c = chooses_then c.args.at.now.stepper.now c.read_epoch-epoch.new.self.stepper.now c.scan.new.at.stepper.now c.read_epoch-epoch.result c.args.budget c.args.used c.read_epoch-epoch.ensures.step (c.affords.ensures.0 c.if-not-affords.false) c.read_epoch-epoch.ensures.pool c.scan.ensures.scans
 
 pub returns-then-epoch-last_epoch-clause-none : goal.returns-then-epoch-last_epoch-clause-none
 returns-then-epoch-last_epoch-clause-none g c =
-    let shapes : c.scan.new.at.slots.now.start ≡ c.scan.new.at.pass.now.trace.start = sym c.scan.new.at.own.1 in
+    let shapes : c.scan.new.at.slots.now.start ≡ c.scan.new.at.stepper.now.trace.start = sym c.scan.new.at.own.1 in
     let last = c.if-epoch-last_epoch.true ∙ c.last_epoch.ensures.last_epoch ∙ ap (λ (d : Dimensions). d.last_epoch) c.shape.ensures.shape ∙ ap (λ (d : Start). d.shape.last_epoch) shapes in
-    spent_then c.args.at.now.pass.now c.read_epoch-epoch.new.self c.scan.new.at.pass.now c.read_epoch-epoch.result c.args.budget c.args.used c.read_epoch-epoch.ensures.step (c.affords.ensures.0 c.if-not-affords.false) c.read_epoch-epoch.ensures.pool c.scan.ensures.scans c.in_ok-found.found c.in_ok-found.used c.in_ok-found.ensures.scanned (none_left c.in_ok-found.found c.in_default.not-Some) c.law.ensures c.requires.some last (c.affords-2.ensures.0 c.if-not-affords-2.false)
+    spent_then c.args.at.now.stepper.now c.read_epoch-epoch.new.self.stepper.now c.scan.new.at.stepper.now c.read_epoch-epoch.result c.args.budget c.args.used c.read_epoch-epoch.ensures.step (c.affords.ensures.0 c.if-not-affords.false) c.read_epoch-epoch.ensures.pool c.scan.ensures.scans c.in_ok-found.found c.in_ok-found.used c.in_ok-found.ensures.scanned (none_left c.in_ok-found.found c.in_default.not-Some) c.law.ensures c.requires.some last (c.affords-2.ensures.0 c.if-not-affords-2.false)
 
 -- ---- the epoch is advanced, and read again
 
 pub advance-requires-clause-some : goal.advance-requires-clause-some
 advance-requires-clause-some g c =
-    let q = c.read_epoch-epoch.new.self.trace in
+    let q = c.read_epoch-epoch.new.self.stepper.now.trace in
     let shapes : c.scan.new.at.slots.now.start ≡ q.start = sym c.scan.new.at.own.1 ∙ c.scan.ensures.scans.quiet.same.start in
     let is : IsStart q.start = subst IsStart shapes c.shape.ensures.is_start in
     let told = epoch_told c.read_epoch-epoch.ensures.step in
@@ -66,7 +66,7 @@ advance-requires-clause-some g c =
 
 pub advance-requires-clause-below_last : goal.advance-requires-clause-below_last
 advance-requires-clause-below_last g c =
-    let q = c.read_epoch-epoch.new.self.trace in
+    let q = c.read_epoch-epoch.new.self.stepper.now.trace in
     let shapes : c.scan.new.at.slots.now.start ≡ q.start = sym c.scan.new.at.own.1 ∙ c.scan.ensures.scans.quiet.same.start in
     let is : IsStart q.start = subst IsStart shapes c.shape.ensures.is_start in
     let told = epoch_told c.read_epoch-epoch.ensures.step in
@@ -78,10 +78,10 @@ advance-requires-clause-below_last g c =
 
 pub returns-clause-chooses : goal.returns-clause-chooses
 returns-clause-chooses g c =
-    let raise = tried c.advance.result c.advance.ensures in
-    raised_chooses c.args.at.now.pass.now c.read_epoch-epoch.new.self c.scan.new.at.pass.now c.read_epoch-epoch.result c.args.budget c.args.used c.read_epoch-epoch.ensures.step (c.affords.ensures.0 c.if-not-affords.false) c.read_epoch-epoch.ensures.pool c.scan.ensures.scans c.in_ok-found.found c.in_ok-found.used c.in_ok-found.ensures.scanned (none_left c.in_ok-found.found c.in_default.not-Some) c.law.ensures c.advance.new.self c.read_epoch.new.self raise.0 c.read_epoch.result raise.1 c.read_epoch.ensures.step raise.2 c.read_epoch.ensures.pool c.requires.empty_hand
+    let raise = tried c.advance.result c.advance.ensures.step in
+    raised_chooses c.args.at.now.stepper.now c.read_epoch-epoch.new.self.stepper.now c.scan.new.at.stepper.now c.read_epoch-epoch.result c.args.budget c.args.used c.read_epoch-epoch.ensures.step (c.affords.ensures.0 c.if-not-affords.false) c.read_epoch-epoch.ensures.pool c.scan.ensures.scans c.in_ok-found.found c.in_ok-found.used c.in_ok-found.ensures.scanned (none_left c.in_ok-found.found c.in_default.not-Some) c.law.ensures c.advance.new.self.stepper.now c.read_epoch.new.self.stepper.now raise.0 c.read_epoch.result raise.1 c.read_epoch.ensures.step raise.2 c.read_epoch.ensures.pool c.requires.empty_hand
 
 pub returns-clause-chosen : goal.returns-clause-chosen
 returns-clause-chosen g c =
-    let raise = tried c.advance.result c.advance.ensures in
-    raised_chosen c.args.at.now.pass.now c.read_epoch-epoch.new.self c.scan.new.at.pass.now c.read_epoch-epoch.result c.args.budget c.args.used c.read_epoch-epoch.ensures.step (c.affords.ensures.0 c.if-not-affords.false) c.read_epoch-epoch.ensures.pool c.scan.ensures.scans c.in_ok-found.found c.in_ok-found.used c.in_ok-found.ensures.scanned (none_left c.in_ok-found.found c.in_default.not-Some) c.law.ensures c.advance.new.self c.read_epoch.new.self raise.0 c.read_epoch.result raise.1 c.read_epoch.ensures.step raise.2 c.read_epoch.ensures.pool c.requires.empty_hand c.pool.result.now c.pool.ensures.pool c.requires.some (c.affords-2.ensures.0 c.if-not-affords-2.false)
+    let raise = tried c.advance.result c.advance.ensures.step in
+    raised_chosen c.args.at.now.stepper.now c.read_epoch-epoch.new.self.stepper.now c.scan.new.at.stepper.now c.read_epoch-epoch.result c.args.budget c.args.used c.read_epoch-epoch.ensures.step (c.affords.ensures.0 c.if-not-affords.false) c.read_epoch-epoch.ensures.pool c.scan.ensures.scans c.in_ok-found.found c.in_ok-found.used c.in_ok-found.ensures.scanned (none_left c.in_ok-found.found c.in_default.not-Some) c.law.ensures c.advance.new.self.stepper.now c.read_epoch.new.self.stepper.now raise.0 c.read_epoch.result raise.1 c.read_epoch.ensures.step raise.2 c.read_epoch.ensures.pool c.requires.empty_hand c.pool.result.now c.pool.ensures.pool c.requires.some (c.affords-2.ensures.0 c.if-not-affords-2.false)

@@ -1,5 +1,21 @@
+use Rattle.std.proofs.Common.{refl, rules, sym, ap, ◌∙◌}
+use Rattle.vbr_slots.specs.declared.pass.Pass.TheInside.{Inside}
+use Rattle.vbr_slots.specs.Views.{counted_steps, steps_of}
 use Rattle.vbr_slots.proofs.Calls.{count_on, did_took}
+use Rattle.vbr_slots.proofs.Tried.{keeps_tried}
 use Rattle.vbr_slots.proofs.slots.Slots.meet.Goals as goal
 
+pub invariant_of-pass-inside : goal.invariant_of-pass-inside
+invariant_of-pass-inside g c =
+    record {
+      start = search rules;
+      pool = search rules;
+      tried = keeps_tried c.meet_runner.ensures.step refl c.pass-inside.invariant.tried;
+      low = search rules;
+    }
+
 pub invariant_of-pass : goal.invariant_of-pass
-invariant_of-pass g c = record { steps = count_on c.pass.inside.steps _ 1 c.pass.invariant.steps c.steps_after-steps.ensures (did_took c.meet.ensures.step.1) }
+invariant_of-pass g c =
+    let shown = c.pass-inside.view_is in
+    let before = ap (λ (p : Inside). p.steps) shown ∙ c.pass.invariant.steps ∙ sym (ap (λ (p : Inside). counted_steps (steps_of p.stepper.trace)) shown) in
+    record { steps = count_on _ _ 1 before c.steps_after-pass-inside-inside.ensures (did_took c.meet_runner.ensures.step) }

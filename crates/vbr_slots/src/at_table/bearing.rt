@@ -1,0 +1,80 @@
+//! The steps that make a new incarnation in a slot of the pass.
+ghost use Rattle.std.specs.Prelude.{◌≡◌, ◌<◌, true, Some};
+ghost use Rattle.vbr_words.specs.Words.{link_of};
+ghost use Rattle.vbr_machine.specs.Acceptance.{MayBear, IsNextIn, IsNextHeld, stamp_in};
+ghost use Rattle.vbr_machine.specs.declared.event.Step.TheVariants.{StoreKey, StoreValue, StoreLink};
+ghost use Rattle.vbr_slots.specs.Asked.{IsWritten};
+ghost use Rattle.vbr_slots.specs.AtTables.{IsSameTable, pass_of, trace_of};
+ghost use Rattle.vbr_slots.specs.OwnSlots.{BearsIn, epoch_of, holding_of};
+ghost use Rattle.vbr_slots.specs.Pools.{HasRoomFor};
+ghost use Rattle.vbr_slots.specs.Views.{Did, KeepsPool, knows};
+
+use crate::at_table::AtTable;
+use vbr_machine::Step;
+use vbr_words::{Nodes, Place, decode};
+
+impl<N: Nodes> AtTable<'_, N> {
+    /// As [`crate::Slots::store_birth`].
+    #[inline]
+    pub fn store_birth(&mut self, slot: u32)
+        requires slot { slot < self.old.slots.now.start.shape.slots }
+        requires may_bear { MayBear (holding_of (pass_of self.old) slot) }
+        requires above_stamp { stamp_in (holding_of (pass_of self.old) slot)
+            < epoch_of (pass_of self.old) }
+        requires hand { HasRoomFor (pass_of self.old).hand slot }
+        ensures table { IsSameTable self.old self.new }
+        ensures step { BearsIn slot (pass_of self.old) (pass_of self.new) }
+    {
+        self.stepper.leave_pool(slot);
+        let birth = self.epoch();
+        let (slots, stepper) = (self.slots, &mut *self.stepper);
+        let step = Step::StoreBirth { slot, birth };
+        slots.store(&mut stepper.runner, step, Place::Birth(slot), birth);
+        stepper.hand = Some(slot);
+    }
+
+    /// As [`crate::Slots::store_key`].
+    #[inline]
+    pub fn store_key(&mut self, slot: u32, key: u64)
+        requires in_hand { (pass_of self.old).hand ≡ Some slot }
+        ensures table { IsSameTable self.old self.new }
+        ensures step { Did (StoreKey slot key) (trace_of self.old) (trace_of self.new) key }
+        ensures pool { KeepsPool (pass_of self.old) (pass_of self.new) }
+    {
+        let (slots, stepper) = (self.slots, &mut *self.stepper);
+        let step = Step::StoreKey { slot, key };
+        slots.store(&mut stepper.runner, step, Place::Key(slot), key);
+    }
+
+    /// As [`crate::Slots::store_value`].
+    #[inline]
+    pub fn store_value(&mut self, slot: u32, value: u64)
+        requires values { self.old.slots.now.start.shape.values ≡ true }
+        requires in_hand { (pass_of self.old).hand ≡ Some slot }
+        ensures table { IsSameTable self.old self.new }
+        ensures step { Did (StoreValue slot value) (trace_of self.old) (trace_of self.new) value }
+        ensures pool { KeepsPool (pass_of self.old) (pass_of self.new) }
+    {
+        let (slots, stepper) = (self.slots, &mut *self.stepper);
+        let step = Step::StoreValue { slot, value };
+        slots.store(&mut stepper.runner, step, Place::Value(slot), value);
+    }
+
+    /// As [`crate::Slots::store_link`].
+    #[inline]
+    pub fn store_link(&mut self, slot: u32, word: u64)
+        requires in_hand { (pass_of self.old).hand ≡ Some slot }
+        requires next_in { IsNextIn self.old.slots.now.start (link_of word).slot }
+        requires next_held { IsNextHeld (knows (trace_of self.old)).checked (link_of word).slot }
+        requires word { IsWritten (trace_of self.old) (StoreLink slot (link_of word).slot) word }
+        ensures table { IsSameTable self.old self.new }
+        ensures step { Did (StoreLink slot (link_of word).slot)
+            (trace_of self.old) (trace_of self.new) word }
+        ensures pool { KeepsPool (pass_of self.old) (pass_of self.new) }
+    {
+        let (slots, stepper) = (self.slots, &mut *self.stepper);
+        let next = decode(word).slot;
+        let step = Step::StoreLink { slot, next };
+        slots.store(&mut stepper.runner, step, Place::LinkOf(slot), word);
+    }
+}

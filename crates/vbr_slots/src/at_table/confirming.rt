@@ -1,0 +1,111 @@
+//! The steps that answer a call by one more load of a link word.
+ghost use Rattle.std.specs.Prelude.{◌≡◌, ◌<◌, OnOk, IfErr};
+ghost use Rattle.vbr_machine.specs.Acceptance.{Accepts, IsAtIn, IsOpIn};
+ghost use Rattle.vbr_machine.specs.declared.event.Step.TheVariants.{ConfirmPresent, ConfirmAbsent};
+ghost use Rattle.vbr_slots.specs.Asked.{IsChecked};
+ghost use Rattle.vbr_slots.specs.AtTables.{IsSameTable, pass_of, trace_of};
+ghost use Rattle.vbr_slots.specs.Expected.{Finds, FindsOther};
+ghost use Rattle.vbr_slots.specs.LookUps.{look_up};
+ghost use Rattle.vbr_slots.specs.Views.{knows};
+
+use crate::at_table::AtTable;
+use crate::stepping::place_of_link;
+use vbr_machine::{Op, Step};
+use vbr_words::{At, Nodes, Place};
+
+impl<N: Nodes> AtTable<'_, N> {
+    /// As [`crate::Slots::confirm_present`].
+    #[inline]
+    pub fn confirm_present(&mut self, op: Op, slot: u32, expected: u64) -> Result<(), u64>
+        requires slot { slot < self.old.slots.now.start.shape.slots }
+        requires asked { IsOpIn self.old.slots.now.start op }
+        requires checked { IsChecked self.old.slots.now (trace_of self.old)
+            (ConfirmPresent op slot expected) }
+        ensures table { IsSameTable self.old self.new }
+        ensures found { OnOk result
+            (Finds (ConfirmPresent op slot expected)
+            (pass_of self.old) (pass_of self.new) expected) }
+        ensures other { IfErr result
+            (FindsOther (ConfirmPresent op slot expected)
+            (pass_of self.old) (pass_of self.new) expected) }
+    {
+        let (slots, stepper) = (self.slots, &mut *self.stepper);
+        let step = Step::ConfirmPresent { op, slot, expected };
+        match slots.load(&mut stepper.runner, step, Place::LinkOf(slot)) {
+            found if found == expected => Ok(()),
+            found => Err(found),
+        }
+    }
+
+    /// As [`crate::Slots::confirm_absent`].
+    #[inline]
+    pub fn confirm_absent(&mut self, op: Op, key: u64, at: At, expected: u64) -> Result<(), u64>
+        requires at { IsAtIn self.old.slots.now.start at }
+        requires asked { IsOpIn self.old.slots.now.start op }
+        requires checked { IsChecked self.old.slots.now (trace_of self.old)
+            (ConfirmAbsent op key at expected) }
+        ensures table { IsSameTable self.old self.new }
+        ensures found { OnOk result
+            (Finds (ConfirmAbsent op key at expected)
+            (pass_of self.old) (pass_of self.new) expected) }
+        ensures other { IfErr result
+            (FindsOther (ConfirmAbsent op key at expected)
+            (pass_of self.old) (pass_of self.new) expected) }
+    {
+        let (slots, stepper) = (self.slots, &mut *self.stepper);
+        let step = Step::ConfirmAbsent {
+            op,
+            key,
+            at,
+            expected,
+        };
+        match slots.load(&mut stepper.runner, step, place_of_link(at)) {
+            found if found == expected => Ok(()),
+            found => Err(found),
+        }
+    }
+
+    /// As [`crate::Slots::confirm_look_up`].
+    #[inline]
+    pub fn confirm_look_up(
+        &mut self,
+        present: bool,
+        key: u64,
+        at: At,
+        expected: u64,
+    ) -> Result<(), u64>
+        requires accepted { Accepts self.old.slots.now.start (knows (trace_of self.old))
+            (look_up present key at expected) }
+        ensures table { IsSameTable self.old self.new }
+        ensures found { OnOk result
+            (Finds (look_up present key at expected)
+            (pass_of self.old) (pass_of self.new) expected) }
+        ensures other { IfErr result
+            (FindsOther (look_up present key at expected)
+            (pass_of self.old) (pass_of self.new) expected) }
+    {
+        let (slots, stepper) = (self.slots, &mut *self.stepper);
+        let step = step_of_look_up(present, key, at, expected);
+        match slots.load_at(&mut stepper.runner, step, at) {
+            found if found == expected => Ok(()),
+            found => Err(found),
+        }
+    }
+}
+
+// The step that answers a look-up.
+#[inline]
+fn step_of_look_up(present: bool, key: u64, at: At, expected: u64) -> Step
+    ensures { result ≡ look_up present key at expected }
+{
+    let op = Op::Has;
+    match at {
+        At::Slot(slot) if present => Step::ConfirmPresent { op, slot, expected },
+        _ => Step::ConfirmAbsent {
+            op,
+            key,
+            at,
+            expected,
+        },
+    }
+}

@@ -1,0 +1,39 @@
+//! The steps on the epoch.
+ghost use Rattle.std.specs.Prelude.{ℕ, ◌<◌, ◌≤◌, MatchBool};
+ghost use Rattle.vbr_machine.specs.declared.event.Step.TheVariants.{ReadEpoch, Advance};
+ghost use Rattle.vbr_slots.specs.AtTables.{IsSameTable, pass_of, trace_of};
+ghost use Rattle.vbr_slots.specs.Expected.{Finds, FindsOther};
+ghost use Rattle.vbr_slots.specs.Views.{Did, KeepsPool};
+
+use crate::at_table::AtTable;
+use vbr_machine::Step;
+use vbr_words::{Nodes, Place};
+
+impl<N: Nodes> AtTable<'_, N> {
+    /// As [`crate::Slots::read_epoch`].
+    #[inline]
+    pub fn read_epoch(&mut self) -> u64
+        ensures table { IsSameTable self.old self.new }
+        ensures step { Did ReadEpoch (trace_of self.old) (trace_of self.new) result }
+        ensures pool { KeepsPool (pass_of self.old) (pass_of self.new) }
+    {
+        let (slots, stepper) = (self.slots, &mut *self.stepper);
+        slots.load(&mut stepper.runner, Step::ReadEpoch, Place::Epoch)
+    }
+
+    /// As [`crate::Slots::advance`].
+    #[inline]
+    pub fn advance(&mut self, from: u64) -> bool
+        requires some { 1 ≤ from }
+        requires below_last { from < self.old.slots.now.start.shape.last_epoch }
+        ensures table { IsSameTable self.old self.new }
+        ensures step { MatchBool result
+            (Finds (Advance from) (pass_of self.old) (pass_of self.new) from)
+            ((found : ℕ)
+            × FindsOther (Advance from) (pass_of self.old) (pass_of self.new) from found) }
+    {
+        let (slots, stepper) = (self.slots, &mut *self.stepper);
+        let step = Step::Advance { from };
+        slots.exchange(&mut stepper.runner, step, Place::Epoch, from, from + 1) == from
+    }
+}

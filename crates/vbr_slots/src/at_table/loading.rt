@@ -1,0 +1,84 @@
+//! The steps that load what a traversal reads, one each. A read is pending until the epoch is read
+//! again.
+ghost use Rattle.std.specs.Prelude.{◌≡◌, ◌<◌, true, IsTrue};
+ghost use Rattle.vbr_machine.specs.Acceptance.{IsAtIn};
+ghost use Rattle.vbr_machine.specs.Knowledge.{holds, holds_at};
+ghost use Rattle.vbr_machine.specs.declared.event.Step.TheVariants.{LoadLink, LoadBirth, LoadKey, LoadValue};
+ghost use Rattle.vbr_slots.specs.AtTables.{IsSameTable, pass_of, trace_of};
+ghost use Rattle.vbr_slots.specs.Views.{Did, KeepsPool, knows};
+
+use crate::at_table::AtTable;
+use crate::stepping::place_of_link;
+use vbr_machine::Step;
+use vbr_words::{At, Nodes, Place};
+
+impl<N: Nodes> AtTable<'_, N> {
+    /// As [`crate::Slots::load_link`].
+    #[inline]
+    pub fn load_link(&mut self, at: At) -> u64
+        requires at { IsAtIn self.old.slots.now.start at }
+        requires held { IsTrue (holds_at (knows (trace_of self.old)).checked at) }
+        ensures table { IsSameTable self.old self.new }
+        ensures step { Did (LoadLink at) (trace_of self.old) (trace_of self.new) result }
+        ensures pool { KeepsPool (pass_of self.old) (pass_of self.new) }
+    {
+        let (slots, stepper) = (self.slots, &mut *self.stepper);
+        slots.load(
+            &mut stepper.runner,
+            Step::LoadLink { at },
+            place_of_link(at),
+        )
+    }
+
+    /// As [`crate::Slots::load_birth`].
+    #[inline]
+    pub fn load_birth(&mut self, slot: u32) -> u64
+        requires slot { slot < self.old.slots.now.start.shape.slots }
+        requires held { IsTrue (holds (knows (trace_of self.old)).checked slot) }
+        ensures table { IsSameTable self.old self.new }
+        ensures step { Did (LoadBirth slot) (trace_of self.old) (trace_of self.new) result }
+        ensures pool { KeepsPool (pass_of self.old) (pass_of self.new) }
+    {
+        let (slots, stepper) = (self.slots, &mut *self.stepper);
+        slots.load(
+            &mut stepper.runner,
+            Step::LoadBirth { slot },
+            Place::Birth(slot),
+        )
+    }
+
+    /// As [`crate::Slots::load_key`].
+    #[inline]
+    pub fn load_key(&mut self, slot: u32) -> u64
+        requires slot { slot < self.old.slots.now.start.shape.slots }
+        requires held { IsTrue (holds (knows (trace_of self.old)).checked slot) }
+        ensures table { IsSameTable self.old self.new }
+        ensures step { Did (LoadKey slot) (trace_of self.old) (trace_of self.new) result }
+        ensures pool { KeepsPool (pass_of self.old) (pass_of self.new) }
+    {
+        let (slots, stepper) = (self.slots, &mut *self.stepper);
+        slots.load(
+            &mut stepper.runner,
+            Step::LoadKey { slot },
+            Place::Key(slot),
+        )
+    }
+
+    /// As [`crate::Slots::load_value`].
+    #[inline]
+    pub fn load_value(&mut self, slot: u32) -> u64
+        requires values { self.old.slots.now.start.shape.values ≡ true }
+        requires slot { slot < self.old.slots.now.start.shape.slots }
+        requires held { IsTrue (holds (knows (trace_of self.old)).checked slot) }
+        ensures table { IsSameTable self.old self.new }
+        ensures step { Did (LoadValue slot) (trace_of self.old) (trace_of self.new) result }
+        ensures pool { KeepsPool (pass_of self.old) (pass_of self.new) }
+    {
+        let (slots, stepper) = (self.slots, &mut *self.stepper);
+        slots.load(
+            &mut stepper.runner,
+            Step::LoadValue { slot },
+            Place::Value(slot),
+        )
+    }
+}

@@ -1,0 +1,105 @@
+//! The steps that take a slot out of the shared pool, put it back, and read and store its stamp.
+ghost use Rattle.std.specs.Prelude.{◌≡◌, ℕ, ◌<◌, Contains, OnOk, IfErr, IsSome};
+ghost use Rattle.vbr_machine.specs.Acceptance.{IsFree, IsReread};
+ghost use Rattle.vbr_machine.specs.declared.event.Step.TheVariants.{LoadStamp, StoreStamp, Raise};
+ghost use Rattle.vbr_slots.specs.AtTables.{IsSameTable, pass_of, trace_of};
+ghost use Rattle.vbr_slots.specs.OwnSlots.{IsKnownStamp, MissesFlag, TakesFlag, epoch_of, holding_of};
+ghost use Rattle.vbr_slots.specs.Pools.{without};
+ghost use Rattle.vbr_slots.specs.Views.{Did, KeepsPool};
+
+use crate::at_table::AtTable;
+use vbr_machine::Step;
+use vbr_words::flags::{all_but, flag_of, has_flag, word_of_flag};
+use vbr_words::{Nodes, Place};
+
+impl<N: Nodes> AtTable<'_, N> {
+    /// As [`crate::Slots::load_stamp`].
+    #[inline]
+    pub fn load_stamp(&mut self, slot: u32) -> u64
+        requires slot { slot < self.old.slots.now.start.shape.slots }
+        requires owned { IsSome (holding_of (pass_of self.old) slot) }
+        ensures table { IsSameTable self.old self.new }
+        ensures step { Did (LoadStamp slot) (trace_of self.old) (trace_of self.new) result }
+        ensures known { IsKnownStamp (holding_of (pass_of self.old) slot) result }
+        ensures pool { KeepsPool (pass_of self.old) (pass_of self.new) }
+    {
+        let (slots, stepper) = (self.slots, &mut *self.stepper);
+        slots.load(
+            &mut stepper.runner,
+            Step::LoadStamp { slot },
+            Place::Stamp(slot),
+        )
+    }
+
+    /// As [`crate::Slots::store_stamp`].
+    #[inline]
+    pub fn store_stamp(&mut self, slot: u32)
+        requires slot { slot < self.old.slots.now.start.shape.slots }
+        requires reread { IsReread (holding_of (pass_of self.old) slot) }
+        ensures table { IsSameTable self.old self.new }
+        ensures step { let epoch = epoch_of (pass_of self.old) in
+            Did (StoreStamp slot epoch) (trace_of self.old) (trace_of self.new) epoch }
+        ensures pool { KeepsPool (pass_of self.old) (pass_of self.new) }
+    {
+        let stamp = self.epoch();
+        let (slots, stepper) = (self.slots, &mut *self.stepper);
+        let step = Step::StoreStamp { slot, stamp };
+        slots.store(&mut stepper.runner, step, Place::Stamp(slot), stamp);
+    }
+
+    /// As [`crate::Slots::raise`].
+    #[inline]
+    pub fn raise(&mut self, slot: u32)
+        requires slot { slot < self.old.slots.now.start.shape.slots }
+        requires free { IsFree (holding_of (pass_of self.old) slot) }
+        ensures table { IsSameTable self.old self.new }
+        ensures step { (found : ℕ)
+            × Did (Raise slot) (trace_of self.old) (trace_of self.new) found }
+        ensures pool { (pass_of self.new).pool ≡ without slot (pass_of self.old).pool }
+        ensures hand { (pass_of self.new).hand ≡ (pass_of self.old).hand }
+    {
+        self.stepper.leave_pool(slot);
+        self.raise_outside(slot);
+    }
+
+    /// As [`crate::Slots::raise`], for a slot outside the own pool, which isn't searched for it: so it
+    /// takes as long however many slots are there.
+    #[inline]
+    pub fn raise_outside(&mut self, slot: u32)
+        requires slot { slot < self.old.slots.now.start.shape.slots }
+        requires free { IsFree (holding_of (pass_of self.old) slot) }
+        requires outside { ¬ (Contains (pass_of self.old).pool slot) }
+        ensures table { IsSameTable self.old self.new }
+        ensures step { (found : ℕ)
+            × Did (Raise slot) (trace_of self.old) (trace_of self.new) found }
+        ensures pool { KeepsPool (pass_of self.old) (pass_of self.new) }
+    {
+        let (slots, stepper) = (self.slots, &mut *self.stepper);
+        let place = Place::Flags(word_of_flag(slot));
+        slots.fetch_or(
+            &mut stepper.runner,
+            Step::Raise { slot },
+            place,
+            flag_of(slot),
+        );
+    }
+
+    /// As [`crate::Slots::take_flag`].
+    #[inline]
+    pub fn take_flag(&mut self, slot: u32) -> Result<(), u64>
+        requires slot { slot < self.old.slots.now.start.shape.slots }
+        ensures table { IsSameTable self.old self.new }
+        ensures taken { OnOk result (TakesFlag slot (pass_of self.old) (pass_of self.new)) }
+        ensures missed { IfErr result (MissesFlag slot (pass_of self.old) (pass_of self.new)) }
+    {
+        let (slots, stepper) = (self.slots, &mut *self.stepper);
+        let place = Place::Flags(word_of_flag(slot));
+        let step = Step::TakeFlag { slot };
+        let found = slots.fetch_and(&mut stepper.runner, step, place, all_but(slot));
+        stepper.tried = slot;
+        if has_flag(found, slot) {
+            return Ok(());
+        }
+        Err(found)
+    }
+}

@@ -1,0 +1,85 @@
+//! Loads in a row that end with a read of the epoch. What they loaded is checked where the epoch is the
+//! one that the pass read before. Their steps are counted together.
+ghost use Rattle.std.specs.Prelude.{◌≡◌, ◌<◌, true, IsTrue};
+ghost use Rattle.vbr_machine.specs.Acceptance.{IsAtIn};
+ghost use Rattle.vbr_machine.specs.Knowledge.{holds, holds_at};
+ghost use Rattle.vbr_machine.specs.declared.event.Step.TheVariants.{LoadLink, LoadKey, LoadValue};
+ghost use Rattle.vbr_slots.specs.AtTables.{IsSameTable, pass_of, trace_of};
+ghost use Rattle.vbr_slots.specs.Reads.{Reads, ReadsNode};
+ghost use Rattle.vbr_slots.specs.Views.{KeepsPool, knows};
+
+use crate::at_table::AtTable;
+use crate::stepping::place_of_link;
+use vbr_machine::Step;
+use vbr_words::{At, Nodes, Place};
+
+impl<N: Nodes> AtTable<'_, N> {
+    /// As [`crate::Slots::read_link`].
+    #[inline]
+    pub fn read_link(&mut self, at: At) -> (u64, u64)
+        requires at { IsAtIn self.old.slots.now.start at }
+        requires held { IsTrue (holds_at (knows (trace_of self.old)).checked at) }
+        ensures table { IsSameTable self.old self.new }
+        ensures reads { Reads (LoadLink at) (pass_of self.old) (pass_of self.new)
+            result.0 result.1 }
+        ensures pool { KeepsPool (pass_of self.old) (pass_of self.new) }
+    {
+        let (slots, stepper) = (self.slots, &mut *self.stepper);
+        slots.load_and_epoch(
+            &mut stepper.runner,
+            Step::LoadLink { at },
+            place_of_link(at),
+        )
+    }
+
+    /// As [`crate::Slots::read_key`].
+    #[inline]
+    pub fn read_key(&mut self, slot: u32) -> (u64, u64)
+        requires slot { slot < self.old.slots.now.start.shape.slots }
+        requires held { IsTrue (holds (knows (trace_of self.old)).checked slot) }
+        ensures table { IsSameTable self.old self.new }
+        ensures reads { Reads (LoadKey slot) (pass_of self.old) (pass_of self.new)
+            result.0 result.1 }
+        ensures pool { KeepsPool (pass_of self.old) (pass_of self.new) }
+    {
+        let (slots, stepper) = (self.slots, &mut *self.stepper);
+        slots.load_and_epoch(
+            &mut stepper.runner,
+            Step::LoadKey { slot },
+            Place::Key(slot),
+        )
+    }
+
+    /// As [`crate::Slots::read_value`].
+    #[inline]
+    pub fn read_value(&mut self, slot: u32) -> (u64, u64)
+        requires values { self.old.slots.now.start.shape.values ≡ true }
+        requires slot { slot < self.old.slots.now.start.shape.slots }
+        requires held { IsTrue (holds (knows (trace_of self.old)).checked slot) }
+        ensures table { IsSameTable self.old self.new }
+        ensures reads { Reads (LoadValue slot) (pass_of self.old) (pass_of self.new)
+            result.0 result.1 }
+        ensures pool { KeepsPool (pass_of self.old) (pass_of self.new) }
+    {
+        let (slots, stepper) = (self.slots, &mut *self.stepper);
+        slots.load_and_epoch(
+            &mut stepper.runner,
+            Step::LoadValue { slot },
+            Place::Value(slot),
+        )
+    }
+
+    /// As [`crate::Slots::read_node`].
+    #[inline]
+    pub fn read_node(&mut self, slot: u32) -> (u64, u64, u64)
+        requires slot { slot < self.old.slots.now.start.shape.slots }
+        requires held { IsTrue (holds (knows (trace_of self.old)).checked slot) }
+        ensures table { IsSameTable self.old self.new }
+        ensures reads { ReadsNode slot (pass_of self.old) (pass_of self.new)
+            result.0 result.1 result.2 }
+        ensures pool { KeepsPool (pass_of self.old) (pass_of self.new) }
+    {
+        let (slots, stepper) = (self.slots, &mut *self.stepper);
+        slots.load_node(&mut stepper.runner, slot)
+    }
+}
