@@ -1,3 +1,4 @@
+-- What others did leaves the slot that the pass tried last.
 use Rattle.std.proofs.Common.{rules}
 use Rattle.vbr_slots.proofs.Tried.{since_tried}
 use Rattle.vbr_slots.proofs.slots.Slots.catch_up.Goals as goal
