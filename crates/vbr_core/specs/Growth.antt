@@ -1,5 +1,5 @@
 -- Which steps a world needs memory for: those that make one of its lists longer.
-use Rattle.std.specs.Prelude.{ℕ, ◌<◌, ◌⊎◌, length}
+use Rattle.std.specs.Prelude.{◌<◌, ◌⊎◌, length}
 use Rattle.vbr_machine.specs.Start.{Start}
 use Rattle.vbr_machine.specs.Knowledge.{Know}
 use Rattle.vbr_machine.specs.Machine.{World, after}

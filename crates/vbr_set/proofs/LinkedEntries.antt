@@ -1,5 +1,5 @@
 -- The entries of the linked nodes, sorted by key, are those of the map that the calls leave.
-use Rattle.std.proofs.Common.{◌≡◌, ℕ, zero, suc, ◌<◌, ◌≤◌, Bool, true, false, cond, List, [], ◌∷◌, ◌++◌, map, Option, Some, None, refl, sym, ap, ◌∙◌, subst, length, arith}
+use Rattle.std.proofs.Common.{◌≡◌, ℕ, zero, suc, ◌<◌, ◌≤◌, Bool, true, false, cond, List, [], ◌∷◌, ◌++◌, Option, Some, None, refl, sym, ap, ◌∙◌, subst, length, arith}
 use Rattle.std.specs.Prelude.{◌||◌, All, nat_eq, if◌then◌else◌}
 use Rattle.std.specs.List.{list_any}
 use Rattle.std.specs.List.Sorted.{IsNonDecreasing, IsNonDecreasingBy, IsPermutation}
@@ -16,7 +16,7 @@ use Rattle.vbr_machine.specs.Keys.{Keys}
 use Rattle.vbr_machine.specs.Maps.{Entries, entries_after, entries_in, keys_listed, map_after, opening_entries}
 use Rattle.vbr_machine.specs.Nodes.{is_linked, key_in_slot, state_in}
 use Rattle.vbr_machine.specs.Opened.{opening_keys, opening_payloads}
-use Rattle.vbr_machine.specs.Sound.{Sound, Tells}
+use Rattle.vbr_machine.specs.Sound.{Tells}
 use Rattle.vbr_machine.specs.declared.event.Event.{Event}
 use Rattle.vbr_machine.specs.declared.history.Call.{Call}
 use Rattle.vbr_machine.specs.declared.history.Op.{Op}

@@ -1,5 +1,5 @@
 -- What the laws of a set say: those of tokens, and those of room.
-use Rattle.std.specs.Prelude.{◌≡◌, ℕ, ◌+◌, ◌-◌, ◌*◌, ◌≤◌, Bool, Err, List, Result, length}
+use Rattle.std.specs.Prelude.{ℕ, ◌+◌, ◌-◌, ◌*◌, ◌≤◌, Bool, Err, List, Result, length}
 use Rattle.vbr_machine.specs.History.{set_after}
 use Rattle.vbr_machine.specs.Keys.{AreKeysOf}
 use Rattle.vbr_machine.specs.Nodes.{marked_after}

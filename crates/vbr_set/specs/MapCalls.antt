@@ -1,15 +1,14 @@
 -- What the calls of a map tell: as those of a set do, and of each value that it is the one stored.
 use Rattle.std.specs.Prelude.{◌≡◌, ℕ, Bool, Option, Result, IfOk, IfErr, is_some, None}
-use Rattle.vbr_machine.specs.History.{set_call}
 use Rattle.vbr_machine.specs.Maps.{IsMapLegal, opening_entries}
 use Rattle.vbr_machine.specs.declared.history.Call.{Call}
-use Rattle.vbr_machine.specs.declared.history.Op.TheVariants.{Remove, Has, Get}
+use Rattle.vbr_machine.specs.declared.history.Op.TheVariants.{Remove, Get}
 use Rattle.vbr_slots.specs.Calls.{IsSame, Quiet}
 use Rattle.vbr_slots.specs.Views.{Trace}
 use Rattle.vbr_pools.specs.Steps.{TookWithin}
 use Rattle.vbr_access.specs.Soundness.{HasSafeRun}
 use Rattle.vbr_list.specs.Alone.{AnswersAlone}
-use Rattle.vbr_list.specs.Sparing.{GivesAlone, SparesHas, SparesInsert, SparesLookUp}
+use Rattle.vbr_list.specs.Sparing.{GivesAlone, SparesInsert, SparesLookUp}
 use Rattle.vbr_list.specs.Budgets.{get_costs}
 use Rattle.vbr_list.specs.Leaving.{SparesRemove}
 use Rattle.vbr_list.specs.Told.{given_call, stored_call}

@@ -1,7 +1,6 @@
 use Rattle.std.proofs.Common.{rules, ap, false, ℕ, subst, ◌≡◌, ◌+◌, ◌*◌, ◌<◌, ◌≤◌, [], arith}
 use Rattle.std.specs.Prelude.{IfOk}
 use Rattle.vbr_words.specs.Dimensions.{Dimensions}
-use Rattle.vbr_machine.specs.Start.{Start}
 use Rattle.vbr_machine.specs.declared.history.Op.TheVariants.{Insert}
 use Rattle.vbr_slots.specs.Calls.{Made, Quiet}
 use Rattle.vbr_slots.proofs.Lemmas.{alone_first, alone_then, quiet_on, same_on}

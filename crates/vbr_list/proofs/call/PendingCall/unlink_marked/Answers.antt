@@ -6,7 +6,7 @@ use Rattle.vbr_list.proofs.Preparing.{if_failed, if_went}
 use Rattle.vbr_list.proofs.call.PendingCall.unlink_marked.Goals as goal
 
 pub returns-then-is_err-clause-goes : goal.returns-then-is_err-clause-goes
-returns-then-is_err-clause-goes g c = record { call = search rules; goes = goes_on (c.unlink_and_retire-outcome.ensures.goes c.args.self.now.used) c.walk_by_copy-self.ensures.goes; more = omega arith }
+returns-then-is_err-clause-goes g c = record { call = search rules; goes = goes_on (c.unlink_and_retire-outcome.ensures.goes c.args.self.now.used) c.walk_by_copy-self.ensures.goes; more = omega (arith, c.walk_by_copy-self.ensures.within.1) }
 
 pub returns-then-is_err-clause-clear : goal.returns-then-is_err-clause-clear
 returns-then-is_err-clause-clear g c = λ room. clear_since (c.unlink_and_retire-outcome.ensures.goes 0).quiet (c.walk_by_copy-self.ensures.clear room)
