@@ -28,24 +28,46 @@ fn both(alloc: Global, one: MapMember, other: MapMember) -> Option<Vec<MapMember
     Some(members)
 }
 
+// A member stores an entry, which is new or not.
+fn expect_insert(rt: &impl Abort, member: &mut MapMember, entry: (u64, u64), is_new: bool)
+    ensures { member.new.set ≡ member.old.set }
+{
+    let (key, value) = entry;
+    assert_eq!(rt; member.insert(key, value, 100), Ok(is_new));
+}
+
+// A member finds this value at a key.
+fn expect_get(rt: &impl Abort, member: &mut MapMember, key: u64, value: Option<u64>)
+    ensures { member.new.set ≡ member.old.set }
+{
+    assert_eq!(rt; member.get(key, 100), Ok(value));
+}
+
+// A member takes out a key, which had this value.
+fn expect_remove(rt: &impl Abort, member: &mut MapMember, key: u64, value: Option<u64>)
+    ensures { member.new.set ≡ member.old.set }
+{
+    assert_eq!(rt; member.remove(key, 100), Ok(value));
+}
+
 // One member stores two entries, and another, which meets it, takes one out and stores it anew.
 fn store_and_take(rt: &impl Abort, one: &mut MapMember, other: &mut MapMember)
     requires { other.old.set ≡ one.old.set }
     ensures one { one.new.set ≡ one.old.set }
     ensures other { other.new.set ≡ other.old.set }
 {
-    assert_eq!(rt; one.insert(9, 71, 100), Ok(true));
-    assert_eq!(rt; one.insert(5, 72, 100), Ok(true));
-    assert_eq!(rt; one.insert(5, 73, 100), Ok(false));
+    expect_insert(rt, one, (9, 71), true);
+    expect_insert(rt, one, (5, 72), true);
+    expect_insert(rt, one, (5, 73), false);
     other.meet(one);
     assert_eq!(rt; other.pass().steps(), 1);
-    assert_eq!(rt; other.get(5, 100), Ok(Some(72)));
-    assert_eq!(rt; other.remove(5, 100), Ok(Some(72)));
-    assert_eq!(rt; other.get(5, 100), Ok(None));
+    expect_get(rt, other, 5, Some(72));
+    expect_remove(rt, other, 5, Some(72));
+    expect_get(rt, other, 5, None);
     assert_eq!(rt; other.has(9, 100), Ok(true));
-    assert_eq!(rt; other.insert(5, 74, 100), Ok(true));
-    assert_eq!(rt; one.get(5, 100), Ok(Some(74)));
-    assert_eq!(rt; one.get(2, 100), Ok(Some(70)));
+    expect_insert(rt, other, (5, 74), true);
+    expect_get(rt, one, 5, Some(74));
+    expect_get(rt, one, 2, Some(70));
 }
 
 // Whether a report is that of these entries.
@@ -134,10 +156,10 @@ fn a_lone_member_of_a_map(rt: HostRuntime) -> Result<(), Fail> {
     let Some(mut member) = members.pop() else {
         panic!(rt; "no member")
     };
-    assert_eq!(rt; member.get(5, 100), Ok(None));
-    assert_eq!(rt; member.remove(5, 100), Ok(None));
-    assert_eq!(rt; member.insert(5, u64::MAX, 100), Ok(true));
-    assert_eq!(rt; member.get(5, 100), Ok(Some(u64::MAX)));
+    expect_get(&rt, &mut member, 5, None);
+    expect_remove(&rt, &mut member, 5, None);
+    expect_insert(&rt, &mut member, (5, u64::MAX), true);
+    expect_get(&rt, &mut member, 5, Some(u64::MAX));
     let Some(report) = member.close(rt.alloc())? else {
         panic!(rt; "not the last member")
     };

@@ -73,6 +73,20 @@ enum Row<'a> {
 // What is in a set that is closed: the keys, the epoch, and how many slots are live, marked and free.
 type Left<'a> = (&'a [u64], u64, (u32, u32, u32));
 
+// Makes a call, and gives what it is answered.
+fn answer_of(caller: &mut VbrSetRef, made: (Op, u64, u32)) -> Result<bool, Refusal>
+    ensures { caller.new.set ≡ caller.old.set }
+{
+    let (op, key, budget) = made;
+    match op {
+        // No row has a get, which is a map's: a set would answer it as a look-up.
+        Op::Get => caller.has(key, budget),
+        Op::Has => caller.has(key, budget),
+        Op::Insert => caller.insert(key, budget),
+        Op::Remove => caller.remove(key, budget),
+    }
+}
+
 // Makes a call, compares what it is answered, and tells how many steps it made.
 fn call(
     rt: &impl Abort,
@@ -82,16 +96,9 @@ fn call(
 ) -> u64
     ensures { caller.new.set ≡ caller.old.set }
 {
-    let (op, key, budget) = made;
+    let (op, key, _) = made;
     let before = caller.pass().steps();
-    let told = match op {
-        // No row has a get, which is a map's: a set would answer it as a look-up.
-        Op::Get => caller.has(key, budget),
-        Op::Has => caller.has(key, budget),
-        Op::Insert => caller.insert(key, budget),
-        Op::Remove => caller.remove(key, budget),
-    };
-    assert_eq!(rt; told, answer, "{op:?} {key}");
+    assert_eq!(rt; answer_of(caller, made), answer, "{op:?} {key}");
     caller.pass().steps().saturating_sub(before)
 }
 
