@@ -19,7 +19,8 @@ fn open(alloc: Global, shape: Shape, passes: u32) -> Result<(VbrSet, Vec<Pass>),
 {
     match VbrSet::open(alloc, shape, passes) {
         Err(OpenError::Memory) => VbrSet::open(alloc, shape, passes),
-        opened => opened,
+        Err(refused) => Err(refused),
+        Ok(opened) => Ok(opened),
     }
 }
 
@@ -51,9 +52,7 @@ pub fn close(set: VbrSet, alloc: Global, passes: Vec<Pass>) -> Result<Report, Cl
 pub fn close_both(alloc: Global, set: VbrSet, first: Pass, second: Pass) -> Option<Report>
     requires own { IsOf first.trace set × IsOf second.trace set }
 {
-    let mut passes = Vec::with_capacity(alloc, 2).ok()?;
-    passes.push(first).ok()?;
-    passes.push(second).ok()?;
+    let passes = Vec::from_array(alloc, [first, second]).ok()?;
     close(set, alloc, passes).ok()
 }
 
@@ -232,6 +231,23 @@ fn a_slot_is_used_again(rt: HostRuntime) -> Result<(), Fail> {
     expect(&rt, rt.alloc(), (1, 1, 10), &rows, (&[2], 2, (1, 0, 0)))
 }
 
+// Closes a set without all its passes, which is refused.
+fn close_early(
+    rt: &impl Abort,
+    alloc: Global,
+    set: VbrSet,
+    passes: Vec<Pass>,
+) -> (VbrSet, Vec<Pass>)
+    requires { AllOf set passes.items }
+    ensures set { result.0 ≡ set }
+    ensures passes { result.1.items ≡ passes.items }
+{
+    match close(set, alloc, passes) {
+        Err(CloseError::Missing(set, passes)) => (set, passes),
+        _ => panic!(rt; "closed without a pass"),
+    }
+}
+
 // Closes a set without its second pass, which is refused, and then with both.
 fn close_late(
     rt: &impl Abort,
@@ -245,14 +261,10 @@ fn close_late(
 {
     let mut passes = Vec::with_capacity(alloc, 2).ok()?;
     passes.push(first).ok()?;
-    match close(set, alloc, passes) {
-        Err(CloseError::Missing(set, mut passes)) => {
-            assert_eq!(rt; passes.len(), 1);
-            passes.push(second).ok()?;
-            close(set, alloc, passes).ok()
-        }
-        _ => panic!(rt; "closed without a pass"),
-    }
+    let (set, mut passes) = close_early(rt, alloc, set, passes);
+    assert_eq!(rt; passes.len(), 1);
+    passes.push(second).ok()?;
+    close(set, alloc, passes).ok()
 }
 
 #[test]
