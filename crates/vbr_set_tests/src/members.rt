@@ -12,9 +12,8 @@ pub(crate) fn open_two(alloc: Global) -> Option<(Member, Member)>
     ensures { IfSome result (λ r. r.1.set ≡ r.0.set) }
 {
     let shape = Shape::new(2, 1, 10).ok()?;
-    let mut members = Member::open(alloc, shape, 2).ok()?;
-    let second = members.pop()?;
-    let first = members.pop()?;
+    let members = Member::open(alloc, shape, 2).ok()?;
+    let [first, second] = <[Member; 2]>::try_from(members).ok()?;
     Some((first, second))
 }
 

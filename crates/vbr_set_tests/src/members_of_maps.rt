@@ -1,19 +1,28 @@
 //! Members of a map: their calls, meetings and tokens, and how a map is closed by them.
-ghost use Rattle.std.specs.Prelude.{◌≡◌, [], ◌∷◌, IfOk, IfSome};
+ghost use Rattle.std.specs.Prelude.{◌≡◌, ◌≤◌, [], ◌∷◌, IfOk, IfSome};
+ghost use Rattle.vbr_machine.specs.Maps.{map_start};
+ghost use Rattle.vbr_set.specs.Members.{AreNew};
 
 use std::alloc::Global;
 use std::process::Abort;
 use std::test::Fail;
 use vbr_set::{CloseAllError, MapMember, MapReport, Shape};
 
-// The two members of a map of four slots, which opens with the entry of key 2, whose value is 70.
+// The two members of a map, which opens with the entry of key 2, whose value is 70.
+fn open_with_one(alloc: Global, shape: Shape) -> Option<Vec<MapMember>>
+    requires { 1 ≤ shape.slots }
+    ensures { IfSome result (λ members. AreNew (map_start shape ((2, 70) ∷ [])) 2 members.items) }
+{
+    MapMember::open_with(alloc, shape, 2, &[(2, 70)]).ok()
+}
+
+// The two members of a map of four slots, which opens with one entry.
 fn open_two(alloc: Global) -> Option<(MapMember, MapMember)>
     ensures { IfSome result (λ r. r.1.set ≡ r.0.set) }
 {
     let shape = Shape::new(4, 2, 10).ok()?;
-    let mut members = MapMember::open_with(alloc, shape, 2, &[(2, 70)]).ok()?;
-    let second = members.pop()?;
-    let first = members.pop()?;
+    let members = open_with_one(alloc, shape)?;
+    let [first, second] = <[MapMember; 2]>::try_from(members).ok()?;
     Some((first, second))
 }
 
@@ -22,10 +31,7 @@ fn both(alloc: Global, one: MapMember, other: MapMember) -> Option<Vec<MapMember
     requires { other.set ≡ one.set }
     ensures { IfSome result (λ members. members.items ≡ other ∷ one ∷ []) }
 {
-    let mut members = Vec::with_capacity(alloc, 2).ok()?;
-    members.push(other).ok()?;
-    members.push(one).ok()?;
-    Some(members)
+    Vec::from_array(alloc, [other, one]).ok()
 }
 
 // A member stores an entry, which is new or not.

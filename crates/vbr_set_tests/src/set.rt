@@ -259,8 +259,7 @@ fn close_late(
     requires passes { set.passes ≡ 2 }
     requires own { IsOf first.trace set × IsOf second.trace set }
 {
-    let mut passes = Vec::with_capacity(alloc, 2).ok()?;
-    passes.push(first).ok()?;
+    let passes = Vec::from_array(alloc, [first]).ok()?;
     let (set, mut passes) = close_early(rt, alloc, set, passes);
     assert_eq!(rt; passes.len(), 1);
     passes.push(second).ok()?;

@@ -45,17 +45,31 @@ fn tell(set: &VbrSet, alloc: Global, passes: &mut [Pass]) -> Option<(Report, boo
     }
 }
 
+// Inserts a key, and says whether it was absent.
+fn insert(set: &VbrSet, pass: &mut Pass, key: u64) -> bool
+    requires own { IsOf pass.old.trace set.now }
+    requires empty_hand { pass.old.hand ≡ None }
+    ensures { IsOf pass.new.trace set.now }
+{
+    set.insert(pass, key, 100) == Ok(true)
+}
+
+// Whether reports are those of one key, and then of two.
+fn have_one_and_two(told: &Report, last: &Report) -> bool {
+    told.keys.as_slice() == [9].as_slice()
+        && (told.epoch, told.live, told.marked, told.free) == (1, 1, 0, 3)
+        && last.keys.as_slice() == [2, 9].as_slice()
+}
+
 // Opens a set, makes a call, tells what is in it, makes another, and closes it.
 fn tells_and_closes(alloc: Global) -> Option<bool> {
     let shape = Shape::new(4, 2, 10).ok()?;
     let (set, mut passes, refused) = open(alloc, shape)?;
-    let is_first = set.insert(&mut passes[1], 9, 100) == Ok(true);
+    let is_first = insert(&set, &mut passes[1], 9);
     let (report, refused_report) = tell(&set, alloc, &mut passes)?;
-    let is_second = set.insert(&mut passes[0], 2, 100) == Ok(true);
+    let is_second = insert(&set, &mut passes[0], 2);
     let (last, refused_close) = close(set, alloc, passes)?;
-    let is_told = report.keys.as_slice() == [9].as_slice()
-        && (report.epoch, report.live, report.marked, report.free) == (1, 1, 0, 3)
-        && last.keys.as_slice() == [2, 9].as_slice();
+    let is_told = have_one_and_two(&report, &last);
     (is_first && is_second && is_told).then_some(refused | refused_report | refused_close)
 }
 
