@@ -145,7 +145,7 @@ fn has_a_greatest_number_of_operations(rt: HostRuntime) -> Result<(), Fail> {
     Ok(())
 }
 
-// Reads texts of as many lines that end a phase as there may be, half of them renewals, and of one more.
+// Reads a text whose phases, the greatest number, end by as many renewals as syncs, and one of one more.
 fn read_sync_and_renewals(rt: &impl Abort, alloc: Global) -> Result<(), Fail> {
     let mut mixed = lines_of(alloc, b"sync\nrenew\n", 5_000)?;
     let script = parsed(alloc, &mixed, 1)?;

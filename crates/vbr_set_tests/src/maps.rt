@@ -66,34 +66,25 @@ fn a_map_waits_for_its_passes(rt: HostRuntime) -> Result<(), Fail> {
     Ok(())
 }
 
-// Stores an entry, which is new or not.
-fn expect_insert(rt: &impl Abort, caller: &mut VbrMapRef, entry: (u64, u64), is_new: bool)
-    ensures { caller.new.set ≡ caller.old.set }
-{
-    let (key, value) = entry;
-    assert_eq!(rt; caller.insert(key, value, 100), Ok(is_new));
-}
-
-// Finds this value at a key.
-fn expect_get(rt: &impl Abort, caller: &mut VbrMapRef, key: u64, value: Option<u64>)
-    ensures { caller.new.set ≡ caller.old.set }
-{
-    assert_eq!(rt; caller.get(key, 100), Ok(value));
-}
-
-// One key comes, stays as it is, is given, taken out, and comes again with another value.
+// One key comes, stays as it is, is given, and taken out.
 fn store_and_take(rt: &impl Abort, caller: &mut VbrMapRef)
     ensures { caller.new.set ≡ caller.old.set }
 {
-    expect_insert(rt, caller, (5, 70), true);
-    expect_insert(rt, caller, (5, 71), false);
-    expect_get(rt, caller, 5, Some(70));
+    assert_eq!(rt; caller.insert(5, 70, 100), Ok(true));
+    assert_eq!(rt; caller.insert(5, 71, 100), Ok(false));
+    assert_eq!(rt; caller.get(5, 100), Ok(Some(70)));
     assert_eq!(rt; caller.remove(5, 100), Ok(Some(70)));
-    expect_get(rt, caller, 5, None);
-    expect_insert(rt, caller, (5, 71), true);
-    expect_get(rt, caller, 5, Some(71));
+    assert_eq!(rt; caller.get(5, 100), Ok(None));
+}
+
+// The key comes again with another value, and then another key.
+fn store_again(rt: &impl Abort, caller: &mut VbrMapRef)
+    ensures { caller.new.set ≡ caller.old.set }
+{
+    assert_eq!(rt; caller.insert(5, 71, 100), Ok(true));
+    assert_eq!(rt; caller.get(5, 100), Ok(Some(71)));
     assert_eq!(rt; caller.has(5, 100), Ok(true));
-    expect_insert(rt, caller, (6, 0), true);
+    assert_eq!(rt; caller.insert(6, 0, 100), Ok(true));
 }
 
 /// A key has the value that was stored with it when it came, until it is removed.
@@ -105,6 +96,7 @@ fn a_key_keeps_its_value(rt: HostRuntime) -> Result<(), Fail> {
     };
     let mut caller = map.with_pass(pass);
     store_and_take(&rt, &mut caller);
+    store_again(&rt, &mut caller);
     passes.push(caller.into_pass())?;
     let report = map.close(rt.alloc(), passes)?;
     assert_eq!(rt; report.entries.as_slice(), [(5, 71), (6, 0)].as_slice());

@@ -56,19 +56,28 @@ fn expect_remove(rt: &impl Abort, member: &mut MapMember, key: u64, value: Optio
     assert_eq!(rt; member.remove(key, 100), Ok(value));
 }
 
+// One member stores two entries, and another, which meets it, takes one out.
+fn meet_and_take(rt: &impl Abort, one: &mut MapMember, other: &mut MapMember)
+    requires { other.old.set ≡ one.old.set }
+    ensures one { one.new.set ≡ one.old.set }
+    ensures other { other.new.set ≡ other.old.set }
+{
+    assert_eq!(rt; one.insert(9, 71, 100), Ok(true));
+    assert_eq!(rt; one.insert(5, 72, 100), Ok(true));
+    assert_eq!(rt; one.insert(5, 73, 100), Ok(false));
+    other.meet(one);
+    assert_eq!(rt; other.pass().steps(), 1);
+    assert_eq!(rt; other.get(5, 100), Ok(Some(72)));
+    assert_eq!(rt; other.remove(5, 100), Ok(Some(72)));
+}
+
 // One member stores two entries, and another, which meets it, takes one out and stores it anew.
 fn store_and_take(rt: &impl Abort, one: &mut MapMember, other: &mut MapMember)
     requires { other.old.set ≡ one.old.set }
     ensures one { one.new.set ≡ one.old.set }
     ensures other { other.new.set ≡ other.old.set }
 {
-    expect_insert(rt, one, (9, 71), true);
-    expect_insert(rt, one, (5, 72), true);
-    expect_insert(rt, one, (5, 73), false);
-    other.meet(one);
-    assert_eq!(rt; other.pass().steps(), 1);
-    expect_get(rt, other, 5, Some(72));
-    expect_remove(rt, other, 5, Some(72));
+    meet_and_take(rt, one, other);
     expect_get(rt, other, 5, None);
     assert_eq!(rt; other.has(9, 100), Ok(true));
     expect_insert(rt, other, (5, 74), true);
