@@ -3,6 +3,7 @@ use crate::player::expect_totals;
 use std::alloc::Global;
 use std::io;
 use std::io::{ErrorKind, Read, Write};
+use std::process::Abort;
 use std::sync::Wait;
 use std::test::Fail;
 use std::thread::Threads;
@@ -142,15 +143,26 @@ fn an_input_that_is_too_long_is_a_read_fault(rt: HostRuntime) {
     assert!(rt; output.is_empty());
 }
 
+// Plays a script with a writer that takes just these bytes, which is a write fault.
+fn expect_write_fault<T: Threads + Wait + Abort>(
+    rt: &T,
+    alloc: Global,
+    at_end: AtEnd,
+    taken: &[u8],
+) {
+    let n = taken.len();
+    let mut reader = SCRIPT;
+    let mut writer = SmallWriter::new(alloc, n, at_end);
+    let played = play_small(rt, alloc, &mut reader, &mut writer);
+    assert_eq!(rt; played.err(), Some(RunError::Write), "after {n} bytes");
+    assert_eq!(rt; writer.taken.as_slice(), taken);
+}
+
 #[test]
 fn a_failing_writer_is_a_write_fault(rt: HostRuntime) {
     for at_end in [AtEnd::Fails, AtEnd::TakesNone] {
         for n in 0..OUTPUT.len() {
-            let mut reader = SCRIPT;
-            let mut writer = SmallWriter::new(rt.alloc(), n, at_end);
-            let played = play_small(&rt, rt.alloc(), &mut reader, &mut writer);
-            assert_eq!(rt; played.err(), Some(RunError::Write), "after {n} bytes");
-            assert_eq!(rt; writer.taken.as_slice(), &OUTPUT[..n]);
+            expect_write_fault(&rt, rt.alloc(), at_end, &OUTPUT[..n]);
         }
     }
 }

@@ -1,5 +1,6 @@
 //! The parser on its own.
 use std::alloc::{AllocError, Global};
+use std::process::Abort;
 use std::test::Fail;
 use vbr_machine::Op;
 use vbr_run::{Line, Script, ScriptError, ScriptFault, parse_map_script, parse_script};
@@ -55,6 +56,11 @@ fn fault_of(alloc: Global, text: &[u8], workers: u32) -> Option<(u64, u8)> {
         Err(ScriptError::Fault { line, kind }) => Some((line, kind.number())),
         _ => None,
     }
+}
+
+// Whether this is wrong with a text, as the line's number and the fault's.
+fn expect_fault(rt: &impl Abort, alloc: Global, text: &[u8], fault: (u64, u8)) {
+    assert_eq!(rt; fault_of(alloc, text, 1), Some(fault));
 }
 
 /// A text of so many lines that are all the same.
@@ -124,7 +130,7 @@ fn tells_the_first_test_that_fails(rt: HostRuntime) {
         (b"0 has 5\r\r\n".as_slice(), 4),
     ];
     for (text, number) in rows {
-        assert_eq!(rt; fault_of(rt.alloc(), text, 1), Some((1, number)));
+        expect_fault(&rt, rt.alloc(), text, (1, number));
     }
 }
 
@@ -135,7 +141,17 @@ fn has_a_greatest_number_of_operations(rt: HostRuntime) -> Result<(), Fail> {
     assert_eq!(rt; script.lines.len(), 1_000_000);
 
     text.extend_from_slice(b"0 has 5\n")?;
-    assert_eq!(rt; fault_of(rt.alloc(), &text, 1), Some((1_000_001, 5)));
+    expect_fault(&rt, rt.alloc(), &text, (1_000_001, 5));
+    Ok(())
+}
+
+// Reads a text whose phases, the greatest number, end by as many renewals as syncs, and one of one more.
+fn read_sync_and_renewals(rt: &impl Abort, alloc: Global) -> Result<(), Fail> {
+    let mut mixed = lines_of(alloc, b"sync\nrenew\n", 5_000)?;
+    let script = parsed(alloc, &mixed, 1)?;
+    assert_eq!(rt; script.renewals.len(), 5_000);
+    mixed.extend_from_slice(b"renew")?;
+    expect_fault(rt, alloc, &mixed, (10_001, 5));
     Ok(())
 }
 
@@ -146,23 +162,17 @@ fn has_a_greatest_number_of_sync_lines(rt: HostRuntime) -> Result<(), Fail> {
     assert_eq!(rt; script.phases, 10_001);
 
     text.extend_from_slice(b"\n0 has 5\nsync")?;
-    assert_eq!(rt; fault_of(rt.alloc(), &text, 1), Some((10_003, 5)));
+    expect_fault(&rt, rt.alloc(), &text, (10_003, 5));
     let more = lines_of(rt.alloc(), b"sync\n", 10_001)?;
-    assert_eq!(rt; fault_of(rt.alloc(), &more, 1), Some((10_001, 5)));
-
-    let mut mixed = lines_of(rt.alloc(), b"sync\nrenew\n", 5_000)?;
-    let script = parsed(rt.alloc(), &mixed, 1)?;
-    assert_eq!(rt; script.renewals.len(), 5_000);
-    mixed.extend_from_slice(b"renew")?;
-    assert_eq!(rt; fault_of(rt.alloc(), &mixed, 1), Some((10_001, 5)));
-    Ok(())
+    expect_fault(&rt, rt.alloc(), &more, (10_001, 5));
+    read_sync_and_renewals(&rt, rt.alloc())
 }
 
 #[test]
 fn tells_tokens_before_too_many(rt: HostRuntime) -> Result<(), Fail> {
     let mut text = lines_of(rt.alloc(), b"sync\n", 10_000)?;
     text.extend_from_slice(b"sync 0")?;
-    assert_eq!(rt; fault_of(rt.alloc(), &text, 1), Some((10_001, 1)));
+    expect_fault(&rt, rt.alloc(), &text, (10_001, 1));
     Ok(())
 }
 
@@ -208,7 +218,7 @@ fn tells_the_first_test_that_fails_in_a_map(rt: HostRuntime) {
         assert_eq!(rt; map_fault_of(rt.alloc(), text), Some((1, *fault)));
     }
     assert_eq!(rt; map_fault_of(rt.alloc(), b"0 insert 5 6"), None);
-    assert_eq!(rt; fault_of(rt.alloc(), b"0 get 5", 1), Some((1, 3)));
+    expect_fault(&rt, rt.alloc(), b"0 get 5", (1, 3));
 }
 
 #[test]

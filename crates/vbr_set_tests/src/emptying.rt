@@ -25,13 +25,16 @@ impl Emptier {
         Ok(())
     }
 
+    fn remove(&mut self, key: u64) {
+        if let Ok(true) = self.member.remove(key, BUDGET) {
+            self.removed = self.removed.saturating_add(1);
+        }
+    }
+
     fn empty(&mut self) {
         let first = u64::from(self.member.pass().who());
         for i in 0..SHARE {
-            let key = first.saturating_add(4 * (SHARE - 1 - i));
-            if let Ok(true) = self.member.remove(key, BUDGET) {
-                self.removed = self.removed.saturating_add(1);
-            }
+            self.remove(first.saturating_add(4 * (SHARE - 1 - i)));
         }
     }
 }

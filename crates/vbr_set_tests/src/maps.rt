@@ -66,7 +66,7 @@ fn a_map_waits_for_its_passes(rt: HostRuntime) -> Result<(), Fail> {
     Ok(())
 }
 
-// One key comes, stays as it is, is given, taken out, and comes again with another value.
+// One key comes, stays as it is, is given, and taken out.
 fn store_and_take(rt: &impl Abort, caller: &mut VbrMapRef)
     ensures { caller.new.set ≡ caller.old.set }
 {
@@ -75,6 +75,12 @@ fn store_and_take(rt: &impl Abort, caller: &mut VbrMapRef)
     assert_eq!(rt; caller.get(5, 100), Ok(Some(70)));
     assert_eq!(rt; caller.remove(5, 100), Ok(Some(70)));
     assert_eq!(rt; caller.get(5, 100), Ok(None));
+}
+
+// The key comes again with another value, and then another key.
+fn store_again(rt: &impl Abort, caller: &mut VbrMapRef)
+    ensures { caller.new.set ≡ caller.old.set }
+{
     assert_eq!(rt; caller.insert(5, 71, 100), Ok(true));
     assert_eq!(rt; caller.get(5, 100), Ok(Some(71)));
     assert_eq!(rt; caller.has(5, 100), Ok(true));
@@ -90,6 +96,7 @@ fn a_key_keeps_its_value(rt: HostRuntime) -> Result<(), Fail> {
     };
     let mut caller = map.with_pass(pass);
     store_and_take(&rt, &mut caller);
+    store_again(&rt, &mut caller);
     passes.push(caller.into_pass())?;
     let report = map.close(rt.alloc(), passes)?;
     assert_eq!(rt; report.entries.as_slice(), [(5, 71), (6, 0)].as_slice());

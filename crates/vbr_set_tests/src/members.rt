@@ -3,6 +3,7 @@ ghost use Rattle.std.specs.Prelude.{◌≡◌, IfSome};
 ghost use Rattle.vbr_set.specs.Meetings.{Shares};
 
 use std::alloc::Global;
+use std::process::Abort;
 use std::test::Fail;
 use vbr_set::{Member, Refusal, Shape};
 
@@ -11,10 +12,23 @@ pub(crate) fn open_two(alloc: Global) -> Option<(Member, Member)>
     ensures { IfSome result (λ r. r.1.set ≡ r.0.set) }
 {
     let shape = Shape::new(2, 1, 10).ok()?;
-    let mut members = Member::open(alloc, shape, 2).ok()?;
-    let second = members.pop()?;
-    let first = members.pop()?;
+    let members = Member::open(alloc, shape, 2).ok()?;
+    let [first, second] = <[Member; 2]>::try_from(members).ok()?;
     Some((first, second))
+}
+
+// A member adds a key, which is new or not.
+pub(crate) fn expect_insert(rt: &impl Abort, member: &mut Member, key: u64, is_new: bool)
+    ensures { member.new.set ≡ member.old.set }
+{
+    assert_eq!(rt; member.insert(key, 100), Ok(is_new));
+}
+
+// A member takes out a key, which was there or not.
+pub(crate) fn expect_remove(rt: &impl Abort, member: &mut Member, key: u64, was_there: bool)
+    ensures { member.new.set ≡ member.old.set }
+{
+    assert_eq!(rt; member.remove(key, 100), Ok(was_there));
 }
 
 // One member adds a key, and then another meets it: so the other has seen the insert.
@@ -35,6 +49,6 @@ fn a_member_sees_what_another_did(rt: HostRuntime) -> Result<(), Fail> {
     };
     assert!(rt; add_and_show(&mut one, &mut other, 7)?);
     assert_eq!(rt; other.pass().steps(), 1);
-    assert_eq!(rt; other.insert(7, 100), Ok(false));
+    expect_insert(&rt, &mut other, 7, false);
     Ok(())
 }

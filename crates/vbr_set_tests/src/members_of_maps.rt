@@ -1,19 +1,28 @@
 //! Members of a map: their calls, meetings and tokens, and how a map is closed by them.
-ghost use Rattle.std.specs.Prelude.{◌≡◌, [], ◌∷◌, IfOk, IfSome};
+ghost use Rattle.std.specs.Prelude.{◌≡◌, ◌≤◌, [], ◌∷◌, IfOk, IfSome};
+ghost use Rattle.vbr_machine.specs.Maps.{map_start};
+ghost use Rattle.vbr_set.specs.Members.{AreNew};
 
 use std::alloc::Global;
 use std::process::Abort;
 use std::test::Fail;
 use vbr_set::{CloseAllError, MapMember, MapReport, Shape};
 
-// The two members of a map of four slots, which opens with the entry of key 2, whose value is 70.
+// The two members of a map, which opens with the entry of key 2, whose value is 70.
+fn open_with_one(alloc: Global, shape: Shape) -> Option<Vec<MapMember>>
+    requires { 1 ≤ shape.slots }
+    ensures { IfSome result (λ members. AreNew (map_start shape ((2, 70) ∷ [])) 2 members.items) }
+{
+    MapMember::open_with(alloc, shape, 2, &[(2, 70)]).ok()
+}
+
+// The two members of a map of four slots, which opens with one entry.
 fn open_two(alloc: Global) -> Option<(MapMember, MapMember)>
     ensures { IfSome result (λ r. r.1.set ≡ r.0.set) }
 {
     let shape = Shape::new(4, 2, 10).ok()?;
-    let mut members = MapMember::open_with(alloc, shape, 2, &[(2, 70)]).ok()?;
-    let second = members.pop()?;
-    let first = members.pop()?;
+    let members = open_with_one(alloc, shape)?;
+    let [first, second] = <[MapMember; 2]>::try_from(members).ok()?;
     Some((first, second))
 }
 
@@ -22,14 +31,33 @@ fn both(alloc: Global, one: MapMember, other: MapMember) -> Option<Vec<MapMember
     requires { other.set ≡ one.set }
     ensures { IfSome result (λ members. members.items ≡ other ∷ one ∷ []) }
 {
-    let mut members = Vec::with_capacity(alloc, 2).ok()?;
-    members.push(other).ok()?;
-    members.push(one).ok()?;
-    Some(members)
+    Vec::from_array(alloc, [other, one]).ok()
 }
 
-// One member stores two entries, and another, which meets it, takes one out and stores it anew.
-fn store_and_take(rt: &impl Abort, one: &mut MapMember, other: &mut MapMember)
+// A member stores an entry, which is new or not.
+fn expect_insert(rt: &impl Abort, member: &mut MapMember, entry: (u64, u64), is_new: bool)
+    ensures { member.new.set ≡ member.old.set }
+{
+    let (key, value) = entry;
+    assert_eq!(rt; member.insert(key, value, 100), Ok(is_new));
+}
+
+// A member finds this value at a key.
+fn expect_get(rt: &impl Abort, member: &mut MapMember, key: u64, value: Option<u64>)
+    ensures { member.new.set ≡ member.old.set }
+{
+    assert_eq!(rt; member.get(key, 100), Ok(value));
+}
+
+// A member takes out a key, which had this value.
+fn expect_remove(rt: &impl Abort, member: &mut MapMember, key: u64, value: Option<u64>)
+    ensures { member.new.set ≡ member.old.set }
+{
+    assert_eq!(rt; member.remove(key, 100), Ok(value));
+}
+
+// One member stores two entries, and another, which meets it, takes one out.
+fn meet_and_take(rt: &impl Abort, one: &mut MapMember, other: &mut MapMember)
     requires { other.old.set ≡ one.old.set }
     ensures one { one.new.set ≡ one.old.set }
     ensures other { other.new.set ≡ other.old.set }
@@ -41,11 +69,20 @@ fn store_and_take(rt: &impl Abort, one: &mut MapMember, other: &mut MapMember)
     assert_eq!(rt; other.pass().steps(), 1);
     assert_eq!(rt; other.get(5, 100), Ok(Some(72)));
     assert_eq!(rt; other.remove(5, 100), Ok(Some(72)));
-    assert_eq!(rt; other.get(5, 100), Ok(None));
+}
+
+// One member stores two entries, and another, which meets it, takes one out and stores it anew.
+fn store_and_take(rt: &impl Abort, one: &mut MapMember, other: &mut MapMember)
+    requires { other.old.set ≡ one.old.set }
+    ensures one { one.new.set ≡ one.old.set }
+    ensures other { other.new.set ≡ other.old.set }
+{
+    meet_and_take(rt, one, other);
+    expect_get(rt, other, 5, None);
     assert_eq!(rt; other.has(9, 100), Ok(true));
-    assert_eq!(rt; other.insert(5, 74, 100), Ok(true));
-    assert_eq!(rt; one.get(5, 100), Ok(Some(74)));
-    assert_eq!(rt; one.get(2, 100), Ok(Some(70)));
+    expect_insert(rt, other, (5, 74), true);
+    expect_get(rt, one, 5, Some(74));
+    expect_get(rt, one, 2, Some(70));
 }
 
 // Whether a report is that of these entries.
@@ -134,10 +171,10 @@ fn a_lone_member_of_a_map(rt: HostRuntime) -> Result<(), Fail> {
     let Some(mut member) = members.pop() else {
         panic!(rt; "no member")
     };
-    assert_eq!(rt; member.get(5, 100), Ok(None));
-    assert_eq!(rt; member.remove(5, 100), Ok(None));
-    assert_eq!(rt; member.insert(5, u64::MAX, 100), Ok(true));
-    assert_eq!(rt; member.get(5, 100), Ok(Some(u64::MAX)));
+    expect_get(&rt, &mut member, 5, None);
+    expect_remove(&rt, &mut member, 5, None);
+    expect_insert(&rt, &mut member, (5, u64::MAX), true);
+    expect_get(&rt, &mut member, 5, Some(u64::MAX));
     let Some(report) = member.close(rt.alloc())? else {
         panic!(rt; "not the last member")
     };

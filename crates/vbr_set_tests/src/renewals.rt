@@ -19,7 +19,8 @@ fn open_with(alloc: Global, shape: Shape, keys: &[u64]) -> Result<(VbrSet, Vec<P
 {
     match VbrSet::open_with(alloc, shape, 2, keys) {
         Err(OpenError::Memory) => VbrSet::open_with(alloc, shape, 2, keys),
-        opened => opened,
+        Err(refused) => Err(refused),
+        Ok(opened) => Ok(opened),
     }
 }
 

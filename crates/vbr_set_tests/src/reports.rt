@@ -1,8 +1,9 @@
 //! Members that are closed all at once, or dropped, and reports of those that go on.
 ghost use Rattle.std.specs.Prelude.{◌≡◌, [], ◌∷◌, IfSome};
 
-use crate::members::open_two;
+use crate::members::{expect_insert, expect_remove, open_two};
 use std::alloc::Global;
+use std::process::Abort;
 use std::test::Fail;
 use vbr_set::{CloseAllError, Member, Report};
 
@@ -11,10 +12,7 @@ fn both(alloc: Global, one: Member, other: Member) -> Option<Vec<Member>>
     requires { other.set ≡ one.set }
     ensures { IfSome result (λ members. members.items ≡ one ∷ other ∷ []) }
 {
-    let mut members = Vec::with_capacity(alloc, 2).ok()?;
-    members.push(one).ok()?;
-    members.push(other).ok()?;
-    Some(members)
+    Vec::from_array(alloc, [one, other]).ok()
 }
 
 // Closes both members of a set at once.
@@ -34,9 +32,9 @@ fn all_members_are_closed(rt: HostRuntime) -> Result<(), Fail> {
     let Some((mut one, mut other)) = open_two(rt.alloc()) else {
         panic!(rt; "no memory")
     };
-    assert_eq!(rt; one.insert(7, 100), Ok(true));
-    assert_eq!(rt; other.insert(5, 100), Ok(true));
-    assert_eq!(rt; other.remove(7, 100), Ok(true));
+    expect_insert(&rt, &mut one, 7, true);
+    expect_insert(&rt, &mut other, 5, true);
+    expect_remove(&rt, &mut other, 7, true);
     let Ok(report) = close_both(rt.alloc(), one, other) else {
         panic!(rt; "not closed")
     };
@@ -54,31 +52,36 @@ fn close_one(alloc: Global, one: Member) -> Option<Vec<Member>> {
     }
 }
 
+// The last member of a set of two keys is told them, takes one out, and is closed.
+fn tell_and_close(rt: &impl Abort, alloc: Global, last: Member) -> Result<(), Fail> {
+    let Some((report, mut last)) = last.report_last(alloc)? else {
+        panic!(rt; "not the last member")
+    };
+    assert_eq!(rt; report.keys.as_slice(), [5, 7].as_slice());
+    expect_remove(rt, &mut last, 5, true);
+    let Some(report) = last.close(alloc)? else {
+        panic!(rt; "not the last member")
+    };
+    assert_eq!(rt; report.keys.as_slice(), [7].as_slice());
+    Ok(())
+}
+
 /// Fewer members than were opened come back, and go on; the set of one that was dropped has its keys.
 #[test]
 fn one_of_two_members(rt: HostRuntime) -> Result<(), Fail> {
     let Some((mut one, mut other)) = open_two(rt.alloc()) else {
         panic!(rt; "no memory")
     };
-    assert_eq!(rt; one.insert(7, 100), Ok(true));
+    expect_insert(&rt, &mut one, 7, true);
     drop(one);
-    assert_eq!(rt; other.insert(5, 100), Ok(true));
+    expect_insert(&rt, &mut other, 5, true);
     let Some(mut back) = close_one(rt.alloc(), other) else {
         panic!(rt; "closed without a member")
     };
     let Some(last) = back.pop() else {
         panic!(rt; "no member came back")
     };
-    let Some((report, mut last)) = last.report_last(rt.alloc())? else {
-        panic!(rt; "not the last member")
-    };
-    assert_eq!(rt; report.keys.as_slice(), [5, 7].as_slice());
-    assert_eq!(rt; last.remove(5, 100), Ok(true));
-    let Some(report) = last.close(rt.alloc())? else {
-        panic!(rt; "not the last member")
-    };
-    assert_eq!(rt; report.keys.as_slice(), [7].as_slice());
-    Ok(())
+    tell_and_close(&rt, rt.alloc(), last)
 }
 
 /// Members of one set are told from those of another.

@@ -19,7 +19,8 @@ fn open(alloc: Global, shape: Shape, passes: u32) -> Result<(VbrSet, Vec<Pass>),
 {
     match VbrSet::open(alloc, shape, passes) {
         Err(OpenError::Memory) => VbrSet::open(alloc, shape, passes),
-        opened => opened,
+        Err(refused) => Err(refused),
+        Ok(opened) => Ok(opened),
     }
 }
 
@@ -51,9 +52,7 @@ pub fn close(set: VbrSet, alloc: Global, passes: Vec<Pass>) -> Result<Report, Cl
 pub fn close_both(alloc: Global, set: VbrSet, first: Pass, second: Pass) -> Option<Report>
     requires own { IsOf first.trace set × IsOf second.trace set }
 {
-    let mut passes = Vec::with_capacity(alloc, 2).ok()?;
-    passes.push(first).ok()?;
-    passes.push(second).ok()?;
+    let passes = Vec::from_array(alloc, [first, second]).ok()?;
     close(set, alloc, passes).ok()
 }
 
@@ -73,6 +72,20 @@ enum Row<'a> {
 // What is in a set that is closed: the keys, the epoch, and how many slots are live, marked and free.
 type Left<'a> = (&'a [u64], u64, (u32, u32, u32));
 
+// Makes a call, and gives what it is answered.
+fn answer_of(caller: &mut VbrSetRef, made: (Op, u64, u32)) -> Result<bool, Refusal>
+    ensures { caller.new.set ≡ caller.old.set }
+{
+    let (op, key, budget) = made;
+    match op {
+        // No row has a get, which is a map's: a set would answer it as a look-up.
+        Op::Get => caller.has(key, budget),
+        Op::Has => caller.has(key, budget),
+        Op::Insert => caller.insert(key, budget),
+        Op::Remove => caller.remove(key, budget),
+    }
+}
+
 // Makes a call, compares what it is answered, and tells how many steps it made.
 fn call(
     rt: &impl Abort,
@@ -82,16 +95,9 @@ fn call(
 ) -> u64
     ensures { caller.new.set ≡ caller.old.set }
 {
-    let (op, key, budget) = made;
+    let (op, key, _) = made;
     let before = caller.pass().steps();
-    let told = match op {
-        // No row has a get, which is a map's: a set would answer it as a look-up.
-        Op::Get => caller.has(key, budget),
-        Op::Has => caller.has(key, budget),
-        Op::Insert => caller.insert(key, budget),
-        Op::Remove => caller.remove(key, budget),
-    };
-    assert_eq!(rt; told, answer, "{op:?} {key}");
+    assert_eq!(rt; answer_of(caller, made), answer, "{op:?} {key}");
     caller.pass().steps().saturating_sub(before)
 }
 
@@ -225,6 +231,23 @@ fn a_slot_is_used_again(rt: HostRuntime) -> Result<(), Fail> {
     expect(&rt, rt.alloc(), (1, 1, 10), &rows, (&[2], 2, (1, 0, 0)))
 }
 
+// Closes a set without all its passes, which is refused.
+fn close_early(
+    rt: &impl Abort,
+    alloc: Global,
+    set: VbrSet,
+    passes: Vec<Pass>,
+) -> (VbrSet, Vec<Pass>)
+    requires { AllOf set passes.items }
+    ensures set { result.0 ≡ set }
+    ensures passes { result.1.items ≡ passes.items }
+{
+    match close(set, alloc, passes) {
+        Err(CloseError::Missing(set, passes)) => (set, passes),
+        _ => panic!(rt; "closed without a pass"),
+    }
+}
+
 // Closes a set without its second pass, which is refused, and then with both.
 fn close_late(
     rt: &impl Abort,
@@ -236,16 +259,11 @@ fn close_late(
     requires passes { set.passes ≡ 2 }
     requires own { IsOf first.trace set × IsOf second.trace set }
 {
-    let mut passes = Vec::with_capacity(alloc, 2).ok()?;
-    passes.push(first).ok()?;
-    match close(set, alloc, passes) {
-        Err(CloseError::Missing(set, mut passes)) => {
-            assert_eq!(rt; passes.len(), 1);
-            passes.push(second).ok()?;
-            close(set, alloc, passes).ok()
-        }
-        _ => panic!(rt; "closed without a pass"),
-    }
+    let passes = Vec::from_array(alloc, [first]).ok()?;
+    let (set, mut passes) = close_early(rt, alloc, set, passes);
+    assert_eq!(rt; passes.len(), 1);
+    passes.push(second).ok()?;
+    close(set, alloc, passes).ok()
 }
 
 #[test]

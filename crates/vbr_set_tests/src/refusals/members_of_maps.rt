@@ -1,34 +1,37 @@
 //! Members of a map.
 ghost use Rattle.std.specs.Prelude.{◌≡◌, [], ◌∷◌, IfSome};
+ghost use Rattle.vbr_machine.specs.Maps.{map_start};
+ghost use Rattle.vbr_set.specs.Members.{AreNew};
 
 use crate::refusals::round::is_right;
 use std::alloc::Global;
 use vbr_set::{CloseAllError, EndError, MapMember, MapReport, OpenError, Shape};
 
-// The two members of an empty map, in the order of their numbers, and whether memory was refused.
+// The members of an empty map, in the order of their numbers, and whether memory was refused.
+fn open(alloc: Global, shape: Shape, passes: u32) -> Option<(Vec<MapMember>, bool)>
+    ensures { IfSome result (λ r. AreNew (map_start shape []) passes r.0.items) }
+{
+    match MapMember::open(alloc, shape, passes) {
+        Ok(members) => Some((members, false)),
+        Err(OpenError::Memory) => Some((MapMember::open(alloc, shape, passes).ok()?, true)),
+        Err(OpenError::Passes) => None,
+    }
+}
+
+// The two members of an empty map, and whether memory was refused.
 fn open_two(alloc: Global) -> Option<(MapMember, MapMember, bool)>
     ensures { IfSome result (λ r. r.1.set ≡ r.0.set) }
 {
-    let shape = Shape::new(4, 2, 10).ok()?;
-    let (mut members, refused) = match MapMember::open(alloc, shape, 2) {
-        Ok(members) => (members, false),
-        Err(OpenError::Memory) => (MapMember::open(alloc, shape, 2).ok()?, true),
-        Err(OpenError::Passes) => return None,
-    };
-    let second = members.pop()?;
-    let first = members.pop()?;
+    let (members, refused) = open(alloc, Shape::new(4, 2, 10).ok()?, 2)?;
+    let [first, second] = <[MapMember; 2]>::try_from(members).ok()?;
     Some((first, second, refused))
 }
 
 // The only member of an empty map, and whether memory was refused.
 fn open_alone(alloc: Global) -> Option<(MapMember, bool)> {
-    let shape = Shape::new(4, 2, 10).ok()?;
-    let (mut members, refused) = match MapMember::open(alloc, shape, 1) {
-        Ok(members) => (members, false),
-        Err(OpenError::Memory) => (MapMember::open(alloc, shape, 1).ok()?, true),
-        Err(OpenError::Passes) => return None,
-    };
-    Some((members.pop()?, refused))
+    let (members, refused) = open(alloc, Shape::new(4, 2, 10).ok()?, 1)?;
+    let [member] = <[MapMember; 1]>::try_from(members).ok()?;
+    Some((member, refused))
 }
 
 // What the last member is told that is closed, and whether memory was refused.

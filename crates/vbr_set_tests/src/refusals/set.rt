@@ -1,7 +1,7 @@
 //! The set.
 ghost use Rattle.std.specs.Prelude.{◌≡◌, ◌≤◌, None, length, IfSome};
 ghost use Rattle.vbr_slots.specs.Closing.{AllOf};
-ghost use Rattle.vbr_slots.specs.Views.{new_passes};
+ghost use Rattle.vbr_slots.specs.Views.{IsOf, new_passes};
 
 use crate::refusals::round::is_right;
 use std::alloc::Global;
@@ -34,10 +34,10 @@ pub fn close(set: VbrSet, alloc: Global, passes: Vec<Pass>) -> Option<(Report, b
 }
 
 // What is in a set that stays open, and whether memory was refused.
-fn tell(set: &VbrSet, alloc: Global, passes: &mut Vec<Pass>) -> Option<(Report, bool)>
-    requires of_set { AllOf set.now passes.old.items }
-    requires all { set.now.passes ≤ length passes.old.items }
-    ensures { passes.new.items ≡ passes.old.items }
+fn tell(set: &VbrSet, alloc: Global, passes: &mut [Pass]) -> Option<(Report, bool)>
+    requires of_set { AllOf set.now passes.old }
+    requires all { set.now.passes ≤ length passes.old }
+    ensures { passes.new ≡ passes.old }
 {
     match set.report(alloc, passes) {
         Ok(report) => Some((report, false)),
@@ -45,17 +45,31 @@ fn tell(set: &VbrSet, alloc: Global, passes: &mut Vec<Pass>) -> Option<(Report, 
     }
 }
 
+// Inserts a key, and says whether it was absent.
+fn insert(set: &VbrSet, pass: &mut Pass, key: u64) -> bool
+    requires own { IsOf pass.old.trace set.now }
+    requires empty_hand { pass.old.hand ≡ None }
+    ensures { IsOf pass.new.trace set.now }
+{
+    set.insert(pass, key, 100) == Ok(true)
+}
+
+// Whether reports are those of one key, and then of two.
+fn have_one_and_two(told: &Report, last: &Report) -> bool {
+    told.keys.as_slice() == [9].as_slice()
+        && (told.epoch, told.live, told.marked, told.free) == (1, 1, 0, 3)
+        && last.keys.as_slice() == [2, 9].as_slice()
+}
+
 // Opens a set, makes a call, tells what is in it, makes another, and closes it.
 fn tells_and_closes(alloc: Global) -> Option<bool> {
     let shape = Shape::new(4, 2, 10).ok()?;
     let (set, mut passes, refused) = open(alloc, shape)?;
-    let is_first = set.insert(&mut passes[1], 9, 100) == Ok(true);
+    let is_first = insert(&set, &mut passes[1], 9);
     let (report, refused_report) = tell(&set, alloc, &mut passes)?;
-    let is_second = set.insert(&mut passes[0], 2, 100) == Ok(true);
+    let is_second = insert(&set, &mut passes[0], 2);
     let (last, refused_close) = close(set, alloc, passes)?;
-    let is_told = report.keys.as_slice() == [9].as_slice()
-        && (report.epoch, report.live, report.marked, report.free) == (1, 1, 0, 3)
-        && last.keys.as_slice() == [2, 9].as_slice();
+    let is_told = have_one_and_two(&report, &last);
     (is_first && is_second && is_told).then_some(refused | refused_report | refused_close)
 }
 
@@ -64,14 +78,22 @@ fn set_tells_and_closes(rt: HostRuntime) {
     is_right(&rt, tells_and_closes(rt.alloc()));
 }
 
+// Inserts a key, removes it, and inserts another, and says whether each was so answered.
+fn insert_and_remove(set: &VbrSet, pass: &mut Pass) -> bool
+    requires own { IsOf pass.old.trace set.now }
+    requires empty_hand { pass.old.hand ≡ None }
+    ensures { IsOf pass.new.trace set.now }
+{
+    set.insert(pass, 1, 100) == Ok(true)
+        && set.remove(pass, 1, 100) == Ok(true)
+        && set.insert(pass, 2, 100) == Ok(true)
+}
+
 // Opens a set, makes three calls, and closes it.
 fn opens_and_closes(alloc: Global) -> Option<bool> {
     let shape = Shape::new(1, 1, 10).ok()?;
     let (set, mut passes, refused) = open(alloc, shape)?;
-    let pass = &mut passes[0];
-    let is_answered = set.insert(pass, 1, 100) == Ok(true)
-        && set.remove(pass, 1, 100) == Ok(true)
-        && set.insert(pass, 2, 100) == Ok(true);
+    let is_answered = insert_and_remove(&set, &mut passes[0]);
     let (report, refused_close) = close(set, alloc, passes)?;
     let is_told = report.keys.as_slice() == [2].as_slice()
         && (report.epoch, report.live, report.marked, report.free) == (2, 1, 0, 0);

@@ -14,19 +14,23 @@ fn open(alloc: Global, shape: Shape) -> Option<(World, bool)> {
     }
 }
 
-// Makes a step that has this effect, and says whether memory was refused.
-fn step(world: &mut World, event: Event, effect: Effect) -> Option<bool> {
+// Makes a step, and says whether memory was refused, which leaves the world as it was.
+fn try_step(world: &mut World, event: Event) -> Option<(Result<Effect, CoreRefusal>, bool)> {
     let calls = world.calls().len();
     let births = world.incarnations();
-    let (answer, refused) = match world.step(event) {
-        Err(CoreRefusal::NoMemory) => {
-            if world.calls().len() != calls || world.incarnations() != births {
-                return None;
-            }
-            (world.step(event), true)
-        }
-        answer => (answer, false),
-    };
+    let answer = world.step(event);
+    if answer != Err(CoreRefusal::NoMemory) {
+        return Some((answer, false));
+    }
+    if world.calls().len() != calls || world.incarnations() != births {
+        return None;
+    }
+    Some((world.step(event), true))
+}
+
+// Makes a step that has this effect, and says whether memory was refused.
+fn step(world: &mut World, event: Event, effect: Effect) -> Option<bool> {
+    let (answer, refused) = try_step(world, event)?;
     (answer == Ok(effect)).then_some(refused)
 }
 
