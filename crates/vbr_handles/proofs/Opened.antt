@@ -1,6 +1,6 @@
 -- There are as many handles as members.
-use Rattle.std.proofs.Common.{◌≡◌, ℕ, zero, suc, List, map, length, sym, refl, ap, ◌∙◌, Option, Some}
-use Rattle.std.proofs.lemmas.List.{length-map}
+use Rattle.std.proofs.Common.{◌≡◌, ℕ, zero, suc, List, [], ◌∷◌, ◌++◌, map, length, append_assoc, sym, refl, ap, ◌∙◌, Option, Some}
+use Rattle.std.proofs.lemmas.List.{length-map, map-append}
 use Rattle.vbr_machine.specs.Start.{Start}
 use Rattle.vbr_slots.specs.Views.{PassView, TableView, new_passes}
 use Rattle.vbr_set.specs.Members.{AreNew, MemberView}
@@ -15,3 +15,15 @@ as_many start count members opened new same =
     let mk : PassView → MemberView = λ p. record { set = new.set; pass = p } in
     sym (length-map opened (λ (h : Owner MemberView). h.member)) ∙ ap (λ (ms : List (Option MemberView)). length ms) same ∙ length-map members Some ∙ ap (λ (ms : List MemberView). length ms) new.are
     ∙ length-map (new_passes new.set 0 count) mk ∙ new_count new.set 0 count
+
+-- one more member has an owner
+pub one_more_owned : (owners owners' : List (Owner MemberView)) (owner : Owner MemberView) (m : MemberView) (left rest : List MemberView) (whole : List (Option MemberView)) → owners' ≡ owners ++ owner ∷ [] → left ≡ m ∷ rest → owner.member ≡ Some m
+    → map (λ o. o.member) owners ++ map Some left ≡ whole → map (λ o. o.member) owners' ++ map Some rest ≡ whole
+one_more_owned owners owners' owner m left rest whole more split is so_far =
+    let f : Owner MemberView → Option MemberView = λ o. o.member in
+    ap (λ (os : List (Owner MemberView)). map f os ++ map Some rest) more
+    ∙ ap (λ (ms : List (Option MemberView)). ms ++ map Some rest) (map-append f owners (owner ∷ []))
+    ∙ append_assoc (map f owners) (f owner ∷ []) (map Some rest)
+    ∙ ap (λ (o : Option MemberView). map f owners ++ o ∷ map Some rest) is
+    ∙ sym (ap (λ (ms : List MemberView). map f owners ++ map Some ms) split)
+    ∙ so_far

@@ -1,4 +1,5 @@
-use Rattle.std.proofs.Common.{rules, arith}
+use Rattle.std.proofs.Common.{ap, length, ◌∙◌, arith}
+use Rattle.std.proofs.lemmas.List.{length-set}
 use Rattle.vbr_handles.proofs.AllHandles.{one_more}
 use Rattle.vbr_handles.proofs.opening.fill.Goals as goal
 
@@ -6,8 +7,12 @@ pub loop-i-preserved : goal.loop-i-preserved
 loop-i-preserved g c =
     let within = c.loop-i-test.true in
     let long = c.loop-i.invariant.long in
+    let left = c.loop-i.invariant.left in
+    let split = c.in-Some.ensures.items in
+    let fewer = ap (λ xs. length xs) split in
+    let kept = length-set c.loop-i.handles c.loop-i.i c.swap.new.self in
     record {
-      long = search rules;
-      left = search rules;
-      so_far = one_more g.H.HandleOf.member c.loop-i.handles c.loop-i.i c.swap.new.self c.in-Some.owner _ _ _ (omega arith) (search rules) c.swap.ensures.taken c.loop-i.invariant.so_far;
+      long = kept ∙ long;
+      left = omega arith;
+      so_far = one_more g.H.HandleOf.member c.loop-i.handles c.loop-i.i c.swap.new.self c.in-Some.owner _ _ _ (omega arith) split c.swap.ensures.taken c.loop-i.invariant.so_far;
     }
