@@ -425,24 +425,6 @@ fn share<N: Nodes>(rt: &impl Abort, slots: &Slots<N>, a: &mut Pass, b: &mut Pass
     assert_eq!(rt; slots.take_flag(b, 0), Ok(()));
 }
 
-// Closes a table without its second pass, which is refused. The table and the first pass come back.
-fn close_early<N: Nodes>(
-    rt: &impl Abort,
-    alloc: Global,
-    slots: Slots<N>,
-    first: Pass,
-) -> Option<(Slots<N>, Vec<Pass>)>
-    requires { IsOf first.trace slots }
-    ensures { IfSome result (λ r. (r.0 ≡ slots) × (r.1.items ≡ first ∷ [])) }
-{
-    let mut passes = room_for_two(alloc).ok()?;
-    passes.push(first).ok()?;
-    match close(slots, alloc, passes) {
-        Err(CloseError::Missing(slots, passes)) => Some((slots, passes)),
-        _ => panic!(rt; "closed without a pass"),
-    }
-}
-
 // Closes a table without its second pass, which is refused, and then with both.
 fn close_late<N: Nodes>(
     rt: &impl Abort,
@@ -451,11 +433,18 @@ fn close_late<N: Nodes>(
     first: Pass,
     second: Pass,
 ) -> Option<Vec<u64>>
-    requires { IsOf first.trace slots × IsOf second.trace slots }
+    requires passes { slots.passes ≡ 2 }
+    requires own { IsOf first.trace slots × IsOf second.trace slots }
 {
-    let (slots, mut passes) = close_early(rt, alloc, slots, first)?;
-    passes.push(second).ok()?;
-    close(slots, alloc, passes).ok()
+    let mut passes = room_for_two(alloc).ok()?;
+    passes.push(first).ok()?;
+    match close(slots, alloc, passes) {
+        Err(CloseError::Missing(slots, mut passes)) => {
+            passes.push(second).ok()?;
+            close(slots, alloc, passes).ok()
+        }
+        _ => panic!(rt; "closed without a pass"),
+    }
 }
 
 // Compares what a pass knows: its number, the epoch, and how many steps it made.
