@@ -452,13 +452,30 @@ pub fn expect_pass(rt: &impl Abort, pass: &Pass, wanted: (u32, u64, u64)) {
     assert_eq!(rt; (pass.who(), pass.epoch(), pass.steps()), wanted);
 }
 
+// Two passes share slot 0. Compares what they know then, and the words of the table that is closed
+// late.
+fn expect_shared<N: Nodes>(
+    rt: &impl Abort,
+    alloc: Global,
+    slots: Slots<N>,
+    mut a: Pass,
+    mut b: Pass,
+    words: &[u64],
+)
+    requires passes { slots.passes ≡ 2 }
+    requires own { IsOf a.trace slots × IsOf b.trace slots }
+    requires shape { (0 < slots.start.shape.slots) × (1 < slots.start.shape.last_epoch) }
+{
+    share(rt, &slots, &mut a, &mut b);
+    expect_pass(rt, &a, (0, 1, 5));
+    expect_pass(rt, &b, (1, 2, 4));
+    let told = close_late(rt, alloc, slots, a, b).expect(rt, "the table is closed");
+    assert_eq!(rt; told.as_slice(), words);
+}
+
 #[test]
 fn two_passes_share_a_slot(rt: HostRuntime) {
-    let (slots, mut a, mut b) = two_passes(&rt, rt.alloc(), 2, 10);
-    share(&rt, &slots, &mut a, &mut b);
-    expect_pass(&rt, &a, (0, 1, 5));
-    expect_pass(&rt, &b, (1, 2, 4));
-    let words = close_late(&rt, rt.alloc(), slots, a, b).expect(&rt, "the table is closed");
+    let (slots, a, b) = two_passes(&rt, rt.alloc(), 2, 10);
     let wanted = [
         2,
         167_772_162,
@@ -473,19 +490,15 @@ fn two_passes_share_a_slot(rt: HostRuntime) {
         0,
         2,
     ];
-    assert_eq!(rt; words.as_slice(), wanted.as_slice());
+    expect_shared(&rt, rt.alloc(), slots, a, b, &wanted);
 }
 
 #[test]
 fn two_passes_share_a_slot_with_a_value(rt: HostRuntime) -> Result<(), Fail> {
     let shape = Shape::new(2, 1, 10)?.with_values();
-    let Some((slots, mut a, mut b)) = open_two_with_values(rt.alloc(), shape) else {
+    let Some((slots, a, b)) = open_two_with_values(rt.alloc(), shape) else {
         panic!(rt; "no memory")
     };
-    share(&rt, &slots, &mut a, &mut b);
-    expect_pass(&rt, &a, (0, 1, 5));
-    expect_pass(&rt, &b, (1, 2, 4));
-    let words = close_late(&rt, rt.alloc(), slots, a, b).expect(&rt, "the table is closed");
     let wanted = [
         2,
         167_772_162,
@@ -502,7 +515,7 @@ fn two_passes_share_a_slot_with_a_value(rt: HostRuntime) -> Result<(), Fail> {
         0,
         2,
     ];
-    assert_eq!(rt; words.as_slice(), wanted.as_slice());
+    expect_shared(&rt, rt.alloc(), slots, a, b, &wanted);
     Ok(())
 }
 
