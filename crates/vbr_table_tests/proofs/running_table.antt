@@ -1,3 +1,3 @@
 mod OnePass
-mod OwnedSlots
-mod Taking
+pub mod OwnedSlots
+pub mod Taking

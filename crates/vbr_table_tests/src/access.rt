@@ -2,11 +2,12 @@
 ghost use Rattle.std.specs.Prelude.{◌≡◌, ◌<◌, ◌≤◌, true, IfOk};
 ghost use Rattle.vbr_slots.specs.Views.{IsOf, new_passes};
 
-use crate::running_table::{close, expect_pass, two_passes};
+use crate::retiring::read_one;
+use crate::running_table::{expect_closed, expect_pass, two_passes};
 use std::alloc::Global;
 use std::process::Abort;
 use std::test::Fail;
-use vbr_access::{Held, Marked, Rollback, checkpoint, first, key_of, mark_entry, next, value_of};
+use vbr_access::{Held, Marked, Rollback, checkpoint, first, mark_entry, next, value_of};
 use vbr_slots::{OpenError, Pass, Slots};
 use vbr_words::{At, Entries, Shape};
 
@@ -80,16 +81,7 @@ fn mark_one_entry(rt: &impl Abort, slots: &Slots<Entries>, pass: &mut Pass) -> M
     requires values { slots.now.start.shape.values ≡ true }
     ensures own { IsOf pass.new.trace slots.now }
 {
-    let point = checkpoint(slots, pass);
-    let head = first(slots, pass, &point, 0).expect(rt, "the epoch has not moved");
-    assert_eq!(rt; (head.at, head.word), (At::Head(0), 33_554_433));
-    let Some(node) = next(slots, pass, &head).expect(rt, "the epoch has not moved") else {
-        panic!(rt; "no node")
-    };
-    assert!(rt; node.word == 33_554_432);
-    assert_eq!(rt; (node.at, node.birth), (At::Slot(0), 1));
-    let key = key_of(slots, pass, &node).expect(rt, "the epoch has not moved");
-    assert_eq!(rt; key, 7);
+    let (_, node) = read_one(rt, slots, pass);
     let value = value_of(slots, pass, &node).expect(rt, "the epoch has not moved");
     assert_eq!(rt; value, 107);
     mark_entry(slots, pass, &node).expect(rt, "the link is unmarked")
@@ -112,12 +104,7 @@ fn an_entry_is_read_and_marked(rt: HostRuntime) -> Result<(), Fail> {
     assert_eq!(rt; marked, wanted);
     expect_pass(&rt, &pass, (0, 1, 11));
     passes.push(pass).ok().ok_or("no room")?;
-    match close(slots, rt.alloc(), passes) {
-        Ok(words) => assert_eq!(rt;
-            words.as_slice(),
-            [1, 167_772_161, 33_554_433, 50_331_648, 1, 0, 7, 107, 0].as_slice()
-        ),
-        Err(_) => panic!(rt; "not closed"),
-    }
+    let wanted = [1, 167_772_161, 33_554_433, 50_331_648, 1, 0, 7, 107, 0];
+    expect_closed(&rt, rt.alloc(), slots, passes, &wanted);
     Ok(())
 }

@@ -32,6 +32,28 @@ enum Row<'a> {
     Pool(u32, &'a [u32]),
 }
 
+// Compares the yes or no that a call for a key is answered.
+fn expect_answer(
+    rt: &impl Abort,
+    told: Result<bool, Refusal>,
+    answer: Result<bool, Refusal>,
+    made: &str,
+    key: u64,
+) {
+    assert_eq!(rt; told, answer, "{made} {key}");
+}
+
+// Compares the value that a call for a key is answered.
+fn expect_value(
+    rt: &impl Abort,
+    told: Result<Option<u64>, Refusal>,
+    answer: Result<Option<u64>, Refusal>,
+    made: &str,
+    key: u64,
+) {
+    assert_eq!(rt; told, answer, "{made} {key}");
+}
+
 // Makes a call, compares what it is answered, and tells how many steps it made.
 fn call(rt: &impl Abort, slots: &Slots<Entries>, pass: &mut Pass, budget: u32, made: Made) -> u64
     requires own { IsOf pass.old.trace slots.now }
@@ -43,19 +65,19 @@ fn call(rt: &impl Abort, slots: &Slots<Entries>, pass: &mut Pass, budget: u32, m
     match made {
         Made::Insert(key, value, answer) => {
             let told = insert_entry(slots, pass, key, value, budget);
-            assert_eq!(rt; told, answer, "insert {key}");
+            expect_answer(rt, told, answer, "insert", key);
         }
         Made::Remove(key, answer) => {
             let told = remove_entry(slots, pass, key, budget);
-            assert_eq!(rt; told, answer, "remove {key}");
+            expect_value(rt, told, answer, "remove", key);
         }
         Made::Get(key, answer) => {
             let told = get(slots, pass, key, budget);
-            assert_eq!(rt; told, answer, "get {key}");
+            expect_value(rt, told, answer, "get", key);
         }
         Made::Has(key, answer) => {
             let told = has(slots, pass, key, budget);
-            assert_eq!(rt; told, answer, "has {key}");
+            expect_answer(rt, told, answer, "has", key);
         }
     }
     pass.steps().saturating_sub(before)

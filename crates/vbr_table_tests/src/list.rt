@@ -4,11 +4,12 @@ ghost use Rattle.vbr_words.specs.Words.{link_of};
 ghost use Rattle.vbr_slots.specs.Views.{IsOf, knows};
 ghost use Rattle.vbr_access.specs.Held.{IsHeld, HoldsMarked, Names};
 
+use crate::retiring::read_one;
 use crate::running_table::{close_two, open_two};
 use std::alloc::Global;
 use std::process::Abort;
 use std::test::Fail;
-use vbr_access::{Held, Marked, Rollback, checkpoint, first, key_of, mark, next, unlink};
+use vbr_access::{Held, Marked, Rollback, mark, unlink};
 use vbr_list::{Refusal, find, has, insert, remove};
 use vbr_machine::Op;
 use vbr_slots::{Pass, Slots};
@@ -31,6 +32,20 @@ enum Row<'a> {
     Pool(u32, &'a [u32]),
 }
 
+// Makes a call.
+fn answer_of(slots: &Slots, pass: &mut Pass, op: Op, key: u64, budget: u32) -> Result<bool, Refusal>
+    requires own { IsOf pass.old.trace slots.now }
+    requires empty_hand { pass.old.hand ≡ None }
+    ensures own { IsOf pass.new.trace slots.now }
+    ensures hand { pass.new.hand ≡ None }
+{
+    match op {
+        Op::Has | Op::Get => has(slots, pass, key, budget),
+        Op::Insert => insert(slots, pass, key, budget),
+        Op::Remove => remove(slots, pass, key, budget),
+    }
+}
+
 // Makes a call, compares what it is answered, and tells how many steps it made.
 fn call(
     rt: &impl Abort,
@@ -46,11 +61,7 @@ fn call(
 {
     let (op, key, budget) = made;
     let before = pass.steps();
-    let told = match op {
-        Op::Has | Op::Get => has(slots, pass, key, budget),
-        Op::Insert => insert(slots, pass, key, budget),
-        Op::Remove => remove(slots, pass, key, budget),
-    };
+    let told = answer_of(slots, pass, op, key, budget);
     assert_eq!(rt; told, answer, "{op:?} {key}");
     pass.steps().saturating_sub(before)
 }
@@ -293,14 +304,7 @@ fn mark_one(rt: &impl Abort, slots: &Slots, pass: &mut Pass) -> Result<(Held, Ma
     ensures marked { IfOk result (λ r. HoldsMarked (knows pass.new.trace) r.1) }
     ensures names { IfOk result (λ r. Names r.0 r.1.slot) }
 {
-    let point = checkpoint(slots, pass);
-    let head = first(slots, pass, &point, 0)?;
-    assert!(rt; head.word == 33_554_433);
-    let Some(node) = next(slots, pass, &head)? else {
-        panic!(rt; "no node")
-    };
-    assert!(rt; node.word == 33_554_432);
-    assert!(rt; key_of(slots, pass, &node)? == 7);
+    let (head, node) = read_one(rt, slots, pass);
     let marked = mark(slots, pass, &node)?;
     Ok((head, marked))
 }

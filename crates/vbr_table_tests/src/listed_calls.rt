@@ -62,6 +62,13 @@ fn take<N: Nodes>(rt: &impl Abort, slots: &Slots<N>, pass: &mut Pass, slot: u32)
     assert!(rt; slots.load_stamp(pass, slot) == 0);
 }
 
+// Compares the slot in a pass's hand.
+fn expect_in_hand(rt: &impl Abort, pass: &Pass, wanted: Option<u32>)
+    ensures { pass.now.hand ≡ wanted }
+{
+    assert_eq!(rt; pass.in_hand(), wanted);
+}
+
 // Makes a step by the call of its kind. In the lists each slot that is reached for is in the shared
 // pool, and each epoch that is advanced is the expected one.
 fn call<N: Nodes>(
@@ -94,22 +101,22 @@ fn call<N: Nodes>(
             Effect::Won
         }
         Step::StoreBirth { slot, .. } => {
-            assert!(rt; pass.in_hand() == None);
+            expect_in_hand(rt, pass, None);
             slots.store_birth(pass, slot);
             Effect::Done
         }
         Step::StoreKey { slot, key } => {
-            assert!(rt; pass.in_hand() == Some(slot));
+            expect_in_hand(rt, pass, Some(slot));
             slots.store_key(pass, slot, key);
             Effect::Done
         }
         Step::StoreValue { slot, value } => {
-            assert!(rt; pass.in_hand() == Some(slot));
+            expect_in_hand(rt, pass, Some(slot));
             slots.store_value(pass, slot, value);
             Effect::Done
         }
         Step::StoreLink { slot, next } => {
-            assert!(rt; pass.in_hand() == Some(slot));
+            expect_in_hand(rt, pass, Some(slot));
             assert!(rt; decode(new).slot == next);
             slots.store_link(pass, slot, new);
             Effect::Done
@@ -123,7 +130,7 @@ fn call<N: Nodes>(
             expected,
             slot,
         } => {
-            assert!(rt; pass.in_hand() == Some(slot));
+            expect_in_hand(rt, pass, Some(slot));
             exchanged(slots.publish(pass, pred, expected, slot, new))
         }
         Step::Mark { slot, expected } => exchanged(slots.mark(pass, slot, expected)),
@@ -145,6 +152,13 @@ fn call<N: Nodes>(
     }
 }
 
+// Compares the effect of a step of a pass.
+fn expect_effect(rt: &impl Abort, told: Effect, effect: Effect, step: Step, who: u32)
+    ensures { told ≡ effect }
+{
+    assert_eq!(rt; told, effect, "{step:?} of pass {who}");
+}
+
 // Makes the step of a row by its pass, and compares the effect.
 fn make<N: Nodes>(rt: &impl Abort, slots: &Slots<N>, a: &mut Pass, b: &mut Pass, row: Row, new: u64)
     requires first { row.0 ≡ 0 → May slots.now a.old.trace row.1 new }
@@ -158,7 +172,7 @@ fn make<N: Nodes>(rt: &impl Abort, slots: &Slots<N>, a: &mut Pass, b: &mut Pass,
     } else {
         call(rt, slots, b, step, new)
     };
-    assert_eq!(rt; told, effect, "{step:?} of pass {who}");
+    expect_effect(rt, told, effect, step, who);
 }
 
 // Whether a step writes a link word that its caller names.

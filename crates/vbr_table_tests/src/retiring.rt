@@ -1,10 +1,12 @@
 //! Retiring: the stamp of a slot is an epoch that was read after the slot was unlinked.
-ghost use Rattle.std.specs.Prelude.{◌≡◌, ◌<◌, false, None};
+ghost use Rattle.std.specs.Prelude.{◌≡◌, ℕ, ◌<◌, false, None};
 ghost use Rattle.vbr_words.specs.Words.{link_of};
-ghost use Rattle.vbr_words.specs.declared.place.At.TheVariants.{Head};
+ghost use Rattle.vbr_words.specs.declared.place.At.TheVariants.{Head, Slot};
 ghost use Rattle.vbr_machine.specs.Acceptance.{IsUnlinked};
 ghost use Rattle.vbr_slots.specs.Views.{IsOf, knows};
-ghost use Rattle.vbr_access.specs.Held.{IsHeld};
+ghost use Rattle.vbr_access.specs.Answering.{IsPresent};
+ghost use Rattle.vbr_access.specs.Exchanges.{IsUnmarked};
+ghost use Rattle.vbr_access.specs.Held.{IsHeld, Names};
 ghost use Rattle.vbr_access.specs.Keeping.{KeepsOwn};
 
 use crate::running_table::{expect_words, two_passes};
@@ -12,10 +14,10 @@ use std::process::Abort;
 use vbr_access::{Held, checkpoint, first, key_of, mark, next, unlink, update};
 use vbr_pools::{Unlinked, retire, take};
 use vbr_slots::{Pass, Slots};
-use vbr_words::At;
+use vbr_words::{At, Nodes};
 
 // The head of bucket 0, which has this word, read after a new checkpoint in epoch 1.
-fn head_of(rt: &impl Abort, slots: &Slots, pass: &mut Pass, word: u64) -> Held
+fn head_of<N: Nodes>(rt: &impl Abort, slots: &Slots<N>, pass: &mut Pass, word: u64) -> Held
     requires own { IsOf pass.old.trace slots.now }
     requires bucket { 0 < slots.now.start.shape.buckets }
     ensures own { IsOf pass.new.trace slots.now }
@@ -28,6 +30,44 @@ fn head_of(rt: &impl Abort, slots: &Slots, pass: &mut Pass, word: u64) -> Held
     let head = first(slots, pass, &point, 0).expect(rt, "the epoch has not moved");
     assert_eq!(rt; (head.word, head.epoch), (word, 1));
     head
+}
+
+// The one node, in slot 0, which was born in epoch 1. The head that names it was held before.
+fn node_behind<N: Nodes>(rt: &impl Abort, slots: &Slots<N>, pass: &mut Pass, head: &Held) -> Held
+    requires own { IsOf pass.old.trace slots.now }
+    requires head { IsHeld (knows pass.old.trace) head.now }
+    ensures own { IsOf pass.new.trace slots.now }
+    ensures keeps { KeepsOwn pass.old pass.new }
+    ensures head { IsHeld (knows pass.new.trace) head.now }
+    ensures node { IsUnmarked (knows pass.new.trace) result }
+    ensures at { result.at ≡ Slot 0 }
+    ensures names { (slot : ℕ) × Names head.now slot × (result.at ≡ Slot slot) }
+{
+    let Some(node) = next(slots, pass, head).expect(rt, "the epoch has not moved") else {
+        panic!(rt; "no node")
+    };
+    assert!(rt; node.word == 33_554_432);
+    assert_eq!(rt; (node.at, node.birth), (At::Slot(0), 1));
+    node
+}
+
+// Reads the one node, which has key 7: the head of bucket 0 and the node, both in epoch 1.
+pub fn read_one<N: Nodes>(rt: &impl Abort, slots: &Slots<N>, pass: &mut Pass) -> (Held, Held)
+    requires own { IsOf pass.old.trace slots.now }
+    requires bucket { 0 < slots.now.start.shape.buckets }
+    ensures own { IsOf pass.new.trace slots.now }
+    ensures hand { pass.new.hand ≡ pass.old.hand }
+    ensures head { IsUnmarked (knows pass.new.trace) result.0 }
+    ensures node { IsPresent (knows pass.new.trace) result.1 }
+    ensures at { result.1.at ≡ Slot 0 }
+    ensures names { (slot : ℕ) × Names result.0 slot × (result.1.at ≡ Slot slot) }
+{
+    let head = head_of(rt, slots, pass, 33_554_433);
+    assert_eq!(rt; head.at, At::Head(0));
+    let node = node_behind(rt, slots, pass, &head);
+    let key = key_of(slots, pass, &node).expect(rt, "the epoch has not moved");
+    assert_eq!(rt; key, 7);
+    (head, node)
 }
 
 // Takes slot 0, and inserts 7 into the one bucket, which is empty.
@@ -59,14 +99,7 @@ pub fn remove_one(rt: &impl Abort, slots: &Slots, pass: &mut Pass) -> Unlinked
     ensures slot { result.slot ≡ 0 }
     ensures unlinked { IsUnlinked ((knows pass.new.trace).own result.slot) }
 {
-    let head = head_of(rt, slots, pass, 33_554_433);
-    let Some(node) = next(slots, pass, &head).expect(rt, "the epoch has not moved") else {
-        panic!(rt; "no node")
-    };
-    assert!(rt; node.word == 33_554_432);
-    assert_eq!(rt; (node.at, node.birth), (At::Slot(0), 1));
-    let key = key_of(slots, pass, &node).expect(rt, "the epoch has not moved");
-    assert_eq!(rt; key, 7);
+    let (head, node) = read_one(rt, slots, pass);
     let marked = mark(slots, pass, &node).expect(rt, "the link is unmarked");
     let (unlinked, head) = unlink(slots, pass, &head, marked).expect(rt, "the node is linked");
     assert_eq!(rt; (head.at, head.word), (At::Head(0), 0));

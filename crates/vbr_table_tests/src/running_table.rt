@@ -1,9 +1,14 @@
 //! The running table: rows call by call, refusals that hand all back, and two threads.
-ghost use Rattle.std.specs.Prelude.{◌≡◌, ◌≢◌, ◌<◌, ◌≤◌, [], ◌∷◌, true, false, None, IfOk, IfErr, IfSome};
+ghost use Rattle.std.specs.Prelude.{◌≡◌, ℕ, ◌<◌, ◌≤◌, [], ◌∷◌, true, false, Some, None};
+ghost use Rattle.std.specs.Prelude.{IfOk, IfErr, IfSome};
+ghost use Rattle.vbr_machine.specs.Acceptance.{stamp_in};
+ghost use Rattle.vbr_machine.specs.Learning.{birth_in_hand};
 ghost use Rattle.vbr_machine.specs.declared.event.Step.TheVariants.{TakeFlag};
+ghost use Rattle.vbr_machine.specs.declared.knowledge.Holding.TheVariants.{Free};
 ghost use Rattle.vbr_machine.specs.Start.{empty_start};
 ghost use Rattle.vbr_slots.specs.Closing.{AllOf, Ends, HandsBack};
-ghost use Rattle.vbr_slots.specs.Views.{IsOf, event_of, new_pass, new_passes};
+ghost use Rattle.vbr_slots.specs.OwnSlots.{epoch_of, holding_of};
+ghost use Rattle.vbr_slots.specs.Views.{IsOf, KeepsPool, event_of, new_pass, new_passes};
 ghost use Rattle.vbr_table_tests.specs.Taking.{HasEvent, BothTook};
 
 use std::alloc::{AllocError, Global};
@@ -25,6 +30,18 @@ pub fn open(alloc: Global, shape: Shape, passes: u32) -> Result<(Slots, Vec<Pass
     }
 }
 
+// The first two passes of a table that was just opened with two.
+fn both_of<N: Nodes>(slots: Slots<N>, mut passes: Vec<Pass>) -> Option<(Slots<N>, Pass, Pass)>
+    requires { passes.items ≡ new_passes slots 0 2 }
+    ensures table { IfSome result (λ r. r.0 ≡ slots) }
+    ensures first { IfSome result (λ r. r.1 ≡ new_pass slots 0) }
+    ensures second { IfSome result (λ r. r.2 ≡ new_pass slots 1) }
+{
+    let second = passes.pop()?;
+    let first = passes.pop()?;
+    Some((slots, first, second))
+}
+
 // A table with two passes.
 pub fn open_two(alloc: Global, shape: Shape) -> Option<(Slots, Pass, Pass)>
     requires bare { shape.values ≡ false }
@@ -32,10 +49,8 @@ pub fn open_two(alloc: Global, shape: Shape) -> Option<(Slots, Pass, Pass)>
     ensures first { IfSome result (λ r. r.1 ≡ new_pass r.0 0) }
     ensures second { IfSome result (λ r. r.2 ≡ new_pass r.0 1) }
 {
-    let (slots, mut passes) = open(alloc, shape, 2).ok()?;
-    let second = passes.pop()?;
-    let first = passes.pop()?;
-    Some((slots, first, second))
+    let (slots, passes) = open(alloc, shape, 2).ok()?;
+    both_of(slots, passes)
 }
 
 // Opens a table whose nodes have values, without an entry. What found no memory left nothing, so it is
@@ -62,10 +77,8 @@ pub fn open_two_with_values(alloc: Global, shape: Shape) -> Option<(Slots<Entrie
     ensures first { IfSome result (λ r. r.1 ≡ new_pass r.0 0) }
     ensures second { IfSome result (λ r. r.2 ≡ new_pass r.0 1) }
 {
-    let (slots, mut passes) = open_with_values(alloc, shape, 2).ok()?;
-    let second = passes.pop()?;
-    let first = passes.pop()?;
-    Some((slots, first, second))
+    let (slots, passes) = open_with_values(alloc, shape, 2).ok()?;
+    both_of(slots, passes)
 }
 
 // A fresh table with two passes, of so many slots and one bucket.
@@ -112,6 +125,22 @@ pub fn close<N: Nodes>(
     }
 }
 
+// Closes a table, and compares its words.
+pub fn expect_closed<N: Nodes>(
+    rt: &impl Abort,
+    alloc: Global,
+    slots: Slots<N>,
+    passes: Vec<Pass>,
+    words: &[u64],
+)
+    requires { AllOf slots passes.items }
+{
+    match close(slots, alloc, passes) {
+        Ok(told) => assert_eq!(rt; told.as_slice(), words),
+        Err(_) => panic!(rt; "not closed"),
+    }
+}
+
 // Two passes as a list.
 fn both(alloc: Global, first: Pass, second: Pass) -> Option<Vec<Pass>>
     ensures { IfSome result (λ passes. passes.items ≡ first ∷ second ∷ []) }
@@ -136,10 +165,10 @@ pub fn close_two<N: Nodes>(
 }
 
 // Closes a table with two passes, and compares its words.
-pub fn expect_words(
+pub fn expect_words<N: Nodes>(
     rt: &impl Abort,
     alloc: Global,
-    slots: Slots,
+    slots: Slots<N>,
     first: Pass,
     second: Pass,
     words: &[u64],
@@ -231,48 +260,27 @@ fn two_threads_take_a_slot_each(rt: HostRuntime) -> Result<(), Fail> {
 #[test]
 fn opens_and_closes(rt: HostRuntime) -> Result<(), Fail> {
     let shape = Shape::new(1, 1, 10)?;
-    assert!(rt; matches!(open(rt.alloc(), shape, 0), Err(OpenError::Passes)));
-    assert!(rt; matches!(open(rt.alloc(), shape, 65), Err(OpenError::Passes)));
+    for passes in [0, 65] {
+        assert!(rt; matches!(open(rt.alloc(), shape, passes), Err(OpenError::Passes)));
+    }
     let (slots, passes) = open(rt.alloc(), shape, 2)?;
     assert!(rt; slots.shape() == shape);
-    match close(slots, rt.alloc(), passes) {
-        Ok(words) => {
-            assert_eq!(rt;
-                words.as_slice(),
-                [1, 167_772_161, 0, 16_777_216, 0, 0, 0, 1].as_slice()
-            )
-        }
-        Err(_) => panic!(rt; "not closed"),
-    }
+    let wanted = [1, 167_772_161, 0, 16_777_216, 0, 0, 0, 1];
+    expect_closed(&rt, rt.alloc(), slots, passes, &wanted);
     Ok(())
 }
 
 #[test]
 fn opens_and_closes_with_values(rt: HostRuntime) -> Result<(), Fail> {
     let shape = Shape::new(1, 1, 10)?.with_values();
-    assert!(rt;
-        matches!(
-            open_with_values(rt.alloc(), shape, 0),
-            Err(OpenError::Passes)
-        )
-    );
-    assert!(rt;
-        matches!(
-            open_with_values(rt.alloc(), shape, 65),
-            Err(OpenError::Passes)
-        )
-    );
+    for passes in [0, 65] {
+        let opened = open_with_values(rt.alloc(), shape, passes);
+        assert!(rt; matches!(opened, Err(OpenError::Passes)));
+    }
     let (slots, passes) = open_with_values(rt.alloc(), shape, 2)?;
     assert!(rt; slots.shape() == shape);
-    match close(slots, rt.alloc(), passes) {
-        Ok(words) => {
-            assert_eq!(rt;
-                words.as_slice(),
-                [1, 167_772_161, 0, 16_777_216, 0, 0, 0, 0, 1].as_slice()
-            )
-        }
-        Err(_) => panic!(rt; "not closed"),
-    }
+    let wanted = [1, 167_772_161, 0, 16_777_216, 0, 0, 0, 0, 1];
+    expect_closed(&rt, rt.alloc(), slots, passes, &wanted);
     Ok(())
 }
 
@@ -315,10 +323,7 @@ fn opens_with_keys(rt: HostRuntime) -> Result<(), Fail> {
         0,
         8,
     ];
-    match close(slots, rt.alloc(), passes) {
-        Ok(words) => assert_eq!(rt; words.as_slice(), wanted.as_slice()),
-        Err(_) => panic!(rt; "not closed"),
-    }
+    expect_closed(&rt, rt.alloc(), slots, passes, &wanted);
     Ok(())
 }
 
@@ -369,11 +374,39 @@ fn opens_with_entries(rt: HostRuntime) -> Result<(), Fail> {
         0,
         8,
     ];
-    match close(slots, rt.alloc(), passes) {
-        Ok(words) => assert_eq!(rt; words.as_slice(), wanted.as_slice()),
-        Err(_) => panic!(rt; "not closed"),
-    }
+    expect_closed(&rt, rt.alloc(), slots, passes, &wanted);
     Ok(())
+}
+
+// Reads the epoch, which is 1, and takes slot 0 out of the shared pool. The stamp is that of the
+// opening where the pass is the only one, and has made no step before.
+fn take_first<N: Nodes>(rt: &impl Abort, slots: &Slots<N>, pass: &mut Pass)
+    requires own { IsOf pass.old.trace slots.now }
+    requires slot { 0 < slots.now.start.shape.slots }
+    ensures own { IsOf pass.new.trace slots.now }
+    ensures pool { KeepsPool pass.old pass.new }
+    ensures epoch { epoch_of pass.new ≡ 1 }
+    ensures free { (stamp : ℕ) × (holding_of pass.new 0 ≡ Some (Free stamp)) }
+    ensures alone { pass.old ≡ new_pass slots.now 0 → slots.now.passes ≡ 1
+        → stamp_in (holding_of pass.new 0) ≡ 0 }
+{
+    assert!(rt; slots.read_epoch(pass) == 1);
+    assert_eq!(rt; slots.take_flag(pass, 0), Ok(()));
+}
+
+// Two passes reach for slot 0 and advance the epoch, and the first of them wins both.
+fn reach<N: Nodes>(rt: &impl Abort, slots: &Slots<N>, a: &mut Pass, b: &mut Pass)
+    requires first { IsOf a.old.trace slots.now }
+    requires second { IsOf b.old.trace slots.now }
+    requires shape { (0 < slots.now.start.shape.slots) × (1 < slots.now.start.shape.last_epoch) }
+    ensures first { IsOf a.new.trace slots.now }
+    ensures free { (stamp : ℕ) × (holding_of a.new 0 ≡ Some (Free stamp)) }
+    ensures second { IsOf b.new.trace slots.now }
+{
+    take_first(rt, slots, a);
+    assert_eq!(rt; slots.take_flag(b, 0), Err(2));
+    assert!(rt; slots.advance(a, 1));
+    assert!(rt; !slots.advance(b, 1));
 }
 
 // Two passes reach for slot 0 and advance the epoch, and the first of them wins both. Once it has put the
@@ -385,11 +418,7 @@ fn share<N: Nodes>(rt: &impl Abort, slots: &Slots<N>, a: &mut Pass, b: &mut Pass
     ensures first { IsOf a.new.trace slots.now }
     ensures second { IsOf b.new.trace slots.now }
 {
-    assert!(rt; slots.read_epoch(a) == 1);
-    assert_eq!(rt; slots.take_flag(a, 0), Ok(()));
-    assert_eq!(rt; slots.take_flag(b, 0), Err(2));
-    assert!(rt; slots.advance(a, 1));
-    assert!(rt; !slots.advance(b, 1));
+    reach(rt, slots, a, b);
     assert!(rt; slots.read_epoch(b) == 2);
     assert!(rt; slots.load_stamp(a, 0) == 0);
     slots.raise(a, 0);
@@ -423,13 +452,30 @@ pub fn expect_pass(rt: &impl Abort, pass: &Pass, wanted: (u32, u64, u64)) {
     assert_eq!(rt; (pass.who(), pass.epoch(), pass.steps()), wanted);
 }
 
+// Two passes share slot 0. Compares what they know then, and the words of the table that is closed
+// late.
+fn expect_shared<N: Nodes>(
+    rt: &impl Abort,
+    alloc: Global,
+    slots: Slots<N>,
+    mut a: Pass,
+    mut b: Pass,
+    words: &[u64],
+)
+    requires passes { slots.passes ≡ 2 }
+    requires own { IsOf a.trace slots × IsOf b.trace slots }
+    requires shape { (0 < slots.start.shape.slots) × (1 < slots.start.shape.last_epoch) }
+{
+    share(rt, &slots, &mut a, &mut b);
+    expect_pass(rt, &a, (0, 1, 5));
+    expect_pass(rt, &b, (1, 2, 4));
+    let told = close_late(rt, alloc, slots, a, b).expect(rt, "the table is closed");
+    assert_eq!(rt; told.as_slice(), words);
+}
+
 #[test]
 fn two_passes_share_a_slot(rt: HostRuntime) {
-    let (slots, mut a, mut b) = two_passes(&rt, rt.alloc(), 2, 10);
-    share(&rt, &slots, &mut a, &mut b);
-    expect_pass(&rt, &a, (0, 1, 5));
-    expect_pass(&rt, &b, (1, 2, 4));
-    let words = close_late(&rt, rt.alloc(), slots, a, b).expect(&rt, "the table is closed");
+    let (slots, a, b) = two_passes(&rt, rt.alloc(), 2, 10);
     let wanted = [
         2,
         167_772_162,
@@ -444,19 +490,15 @@ fn two_passes_share_a_slot(rt: HostRuntime) {
         0,
         2,
     ];
-    assert_eq!(rt; words.as_slice(), wanted.as_slice());
+    expect_shared(&rt, rt.alloc(), slots, a, b, &wanted);
 }
 
 #[test]
 fn two_passes_share_a_slot_with_a_value(rt: HostRuntime) -> Result<(), Fail> {
     let shape = Shape::new(2, 1, 10)?.with_values();
-    let Some((slots, mut a, mut b)) = open_two_with_values(rt.alloc(), shape) else {
+    let Some((slots, a, b)) = open_two_with_values(rt.alloc(), shape) else {
         panic!(rt; "no memory")
     };
-    share(&rt, &slots, &mut a, &mut b);
-    expect_pass(&rt, &a, (0, 1, 5));
-    expect_pass(&rt, &b, (1, 2, 4));
-    let words = close_late(&rt, rt.alloc(), slots, a, b).expect(&rt, "the table is closed");
     let wanted = [
         2,
         167_772_162,
@@ -473,8 +515,59 @@ fn two_passes_share_a_slot_with_a_value(rt: HostRuntime) -> Result<(), Fail> {
         0,
         2,
     ];
-    assert_eq!(rt; words.as_slice(), wanted.as_slice());
+    expect_shared(&rt, rt.alloc(), slots, a, b, &wanted);
     Ok(())
+}
+
+// Takes slot 0, loads its stamp, and bears in it.
+fn bear<N: Nodes>(rt: &impl Abort, slots: &Slots<N>, pass: &mut Pass)
+    requires new { pass.old ≡ new_pass slots.now 0 }
+    requires slot { 0 < slots.now.start.shape.slots }
+    ensures own { IsOf pass.new.trace slots.now }
+    ensures hand { pass.new.hand ≡ Some 0 }
+    ensures birth { birth_in_hand (holding_of pass.new 0) ≡ 1 }
+{
+    take_first(rt, slots, pass);
+    assert!(rt; slots.load_stamp(pass, 0) == 0);
+    slots.store_birth(pass, 0);
+    assert!(rt; pass.in_hand() == Some(0) && pass.pool().is_empty());
+}
+
+// The only pass of a table takes slot 0, and bears in it with no look at its stamp.
+fn bear_alone<N: Nodes>(rt: &impl Abort, slots: &Slots<N>, pass: &mut Pass)
+    requires new { pass.old ≡ new_pass slots.now 0 }
+    requires alone { slots.now.passes ≡ 1 }
+    requires slot { 0 < slots.now.start.shape.slots }
+    ensures own { IsOf pass.new.trace slots.now }
+    ensures hand { pass.new.hand ≡ Some 0 }
+    ensures birth { birth_in_hand (holding_of pass.new 0) ≡ 1 }
+{
+    take_first(rt, slots, pass);
+    slots.store_birth(pass, 0);
+}
+
+// Stores a key and a link to none in slot 0, which was born in epoch 1.
+fn store_node(slots: &Slots, pass: &mut Pass)
+    requires own { IsOf pass.old.trace slots.now }
+    requires hand { pass.old.hand ≡ Some 0 }
+    requires birth { birth_in_hand (holding_of pass.old 0) ≡ 1 }
+    ensures own { IsOf pass.new.trace slots.now }
+{
+    slots.store_key(pass, 0, 7);
+    slots.store_link(pass, 0, 33_554_432);
+}
+
+// Stores a key, a value and a link to none in slot 0, which was born in epoch 1.
+fn store_entry(slots: &Slots<Entries>, pass: &mut Pass)
+    requires own { IsOf pass.old.trace slots.now }
+    requires values { slots.now.start.shape.values ≡ true }
+    requires hand { pass.old.hand ≡ Some 0 }
+    requires birth { birth_in_hand (holding_of pass.old 0) ≡ 1 }
+    ensures own { IsOf pass.new.trace slots.now }
+{
+    slots.store_key(pass, 0, 7);
+    slots.store_value(pass, 0, 107);
+    slots.store_link(pass, 0, 33_554_432);
 }
 
 #[test]
@@ -482,20 +575,10 @@ fn a_slot_is_born_in(rt: HostRuntime) -> Result<(), Fail> {
     let Some((slots, mut a, b)) = open_two(rt.alloc(), Shape::new(1, 1, 10)?) else {
         panic!(rt; "no memory")
     };
-    assert!(rt; slots.read_epoch(&mut a) == 1);
-    assert!(rt; slots.take_flag(&mut a, 0).is_ok());
-    assert!(rt; slots.load_stamp(&mut a, 0) == 0);
-    slots.store_birth(&mut a, 0);
-    assert!(rt; a.in_hand() == Some(0) && a.pool().is_empty());
-    slots.store_key(&mut a, 0, 7);
-    slots.store_link(&mut a, 0, 33_554_432);
-    let Some(words) = close_two(rt.alloc(), slots, a, b) else {
-        panic!(rt; "no words")
-    };
-    assert_eq!(rt;
-        words.as_slice(),
-        [1, 167_772_161, 0, 33_554_432, 1, 0, 7, 0].as_slice()
-    );
+    bear(&rt, &slots, &mut a);
+    store_node(&slots, &mut a);
+    let wanted = [1, 167_772_161, 0, 33_554_432, 1, 0, 7, 0];
+    expect_words(&rt, rt.alloc(), slots, a, b, &wanted);
     Ok(())
 }
 
@@ -505,21 +588,10 @@ fn a_slot_is_born_in_with_a_value(rt: HostRuntime) -> Result<(), Fail> {
     let Some((slots, mut a, b)) = open_two_with_values(rt.alloc(), shape) else {
         panic!(rt; "no memory")
     };
-    assert!(rt; slots.read_epoch(&mut a) == 1);
-    assert!(rt; slots.take_flag(&mut a, 0).is_ok());
-    assert!(rt; slots.load_stamp(&mut a, 0) == 0);
-    slots.store_birth(&mut a, 0);
-    assert!(rt; a.in_hand() == Some(0) && a.pool().is_empty());
-    slots.store_key(&mut a, 0, 7);
-    slots.store_value(&mut a, 0, 107);
-    slots.store_link(&mut a, 0, 33_554_432);
-    let Some(words) = close_two(rt.alloc(), slots, a, b) else {
-        panic!(rt; "no words")
-    };
-    assert_eq!(rt;
-        words.as_slice(),
-        [1, 167_772_161, 0, 33_554_432, 1, 0, 7, 107, 0].as_slice()
-    );
+    bear(&rt, &slots, &mut a);
+    store_entry(&slots, &mut a);
+    let wanted = [1, 167_772_161, 0, 33_554_432, 1, 0, 7, 107, 0];
+    expect_words(&rt, rt.alloc(), slots, a, b, &wanted);
     Ok(())
 }
 
@@ -529,19 +601,11 @@ fn one_pass_bears_a_slot(rt: HostRuntime) -> Result<(), Fail> {
     let Some(mut a) = passes.pop() else {
         panic!(rt; "no pass")
     };
-    assert!(rt; slots.read_epoch(&mut a) == 1);
-    assert!(rt; slots.take_flag(&mut a, 0).is_ok());
-    slots.store_birth(&mut a, 0);
-    slots.store_key(&mut a, 0, 7);
-    slots.store_link(&mut a, 0, 33_554_432);
+    bear_alone(&rt, &slots, &mut a);
+    store_node(&slots, &mut a);
     passes.push(a).ok().ok_or("no room")?;
-    match close(slots, rt.alloc(), passes) {
-        Ok(words) => assert_eq!(rt;
-            words.as_slice(),
-            [1, 167_772_161, 0, 33_554_432, 1, 0, 7, 0].as_slice()
-        ),
-        Err(_) => panic!(rt; "not closed"),
-    }
+    let wanted = [1, 167_772_161, 0, 33_554_432, 1, 0, 7, 0];
+    expect_closed(&rt, rt.alloc(), slots, passes, &wanted);
     Ok(())
 }
 
@@ -552,20 +616,11 @@ fn one_pass_bears_a_slot_with_a_value(rt: HostRuntime) -> Result<(), Fail> {
     let Some(mut a) = passes.pop() else {
         panic!(rt; "no pass")
     };
-    assert!(rt; slots.read_epoch(&mut a) == 1);
-    assert!(rt; slots.take_flag(&mut a, 0).is_ok());
-    slots.store_birth(&mut a, 0);
-    slots.store_key(&mut a, 0, 7);
-    slots.store_value(&mut a, 0, 107);
-    slots.store_link(&mut a, 0, 33_554_432);
+    bear_alone(&rt, &slots, &mut a);
+    store_entry(&slots, &mut a);
     passes.push(a).ok().ok_or("no room")?;
-    match close(slots, rt.alloc(), passes) {
-        Ok(words) => assert_eq!(rt;
-            words.as_slice(),
-            [1, 167_772_161, 0, 33_554_432, 1, 0, 7, 107, 0].as_slice()
-        ),
-        Err(_) => panic!(rt; "not closed"),
-    }
+    let wanted = [1, 167_772_161, 0, 33_554_432, 1, 0, 7, 107, 0];
+    expect_closed(&rt, rt.alloc(), slots, passes, &wanted);
     Ok(())
 }
 

@@ -3,8 +3,8 @@
 ghost use Rattle.std.specs.Prelude.{◌≡◌, true, false, IfOk};
 
 use crate::world::{
-    ABSENT, call, events_of, expect, expect_stamp, expect_whole, follow, look, look_up_behind,
-    make, stop_of, word_at,
+    ABSENT, call, events_of, expect, expect_stamp, expect_stop, expect_whole, follow, look,
+    look_up_behind, make, stop_of, word_at,
 };
 use std::alloc::{AllocError, Global};
 use std::process::Abort;
@@ -42,20 +42,31 @@ fn expect_map(
     Ok(())
 }
 
+// Compares the word at a place, in a world without values and in one with them.
+fn expect_same_at(rt: &impl Abort, plain: &World, world: &World, shape: Shape, place: Place)
+    requires plain { plain.now.start.shape ≡ shape }
+    requires world { world.now.start.shape ≡ record shape { values = true } }
+{
+    let wanted = word_at(plain, shape, place);
+    assert_eq!(rt;
+        word_at(world, shape.with_values(), place),
+        wanted,
+        "{place:?}"
+    );
+}
+
 // Compares the words that a shape has without values, in a world without and in one with them.
 fn expect_same(rt: &impl Abort, plain: &World, world: &World, shape: Shape)
     requires plain { plain.now.start.shape ≡ shape }
     requires world { world.now.start.shape ≡ record shape { values = true } }
 {
-    let valued = shape.with_values();
     for place in [
         Place::Epoch,
         Place::ShapeWord,
         Place::Head(0),
         Place::Flags(0),
     ] {
-        let wanted = word_at(plain, shape, place);
-        assert_eq!(rt; word_at(world, valued, place), wanted, "{place:?}");
+        expect_same_at(rt, plain, world, shape, place);
     }
     for slot in 0..shape.slots() {
         for place in [
@@ -64,8 +75,7 @@ fn expect_same(rt: &impl Abort, plain: &World, world: &World, shape: Shape)
             Place::Stamp(slot),
             Place::Key(slot),
         ] {
-            let wanted = word_at(plain, shape, place);
-            assert_eq!(rt; word_at(world, valued, place), wanted, "{place:?}");
+            expect_same_at(rt, plain, world, shape, place);
         }
         assert_eq!(rt; word_at(plain, shape, Place::Value(slot)), None);
     }
@@ -344,8 +354,8 @@ fn asks_for_a_value_since_the_birth(rt: HostRuntime) -> Result<(), Fail> {
     for step in steps {
         events.push(Event { pass: 0, step })?;
     }
-    let stop = stop_of(rt.alloc(), shape, 2, &events);
-    assert_eq!(rt; stop, Some((10, CoreRefusal::OutOfRange)));
+    let wanted = (10, CoreRefusal::OutOfRange);
+    expect_stop(&rt, rt.alloc(), shape, 2, &events, wanted);
     Ok(())
 }
 
@@ -448,13 +458,22 @@ const GOT_AND_TAKEN: [Row; 9] = [
     ),
 ];
 
+// Makes the steps of rows, and compares their effects.
+fn make_rows(rt: &impl Abort, world: &mut World, rows: &[Row]) {
+    for (pass, step, effect) in rows {
+        let event = Event {
+            pass: *pass,
+            step: *step,
+        };
+        make(rt, world, event, *effect);
+    }
+}
+
 #[test]
 fn gives_the_values_of_its_opening(rt: HostRuntime) -> Result<(), Fail> {
     let shape = Shape::new(4, 2, 10)?.with_values();
     let mut world = World::open_with_entries(rt.alloc(), shape, 2, &ENTRIES)?;
-    for (pass, step, effect) in GOT_AND_TAKEN {
-        make(&rt, &mut world, Event { pass, step }, effect);
-    }
+    make_rows(&rt, &mut world, &GOT_AND_TAKEN);
     let calls = [valued(0, Op::Get, 5, 105), valued(0, Op::Remove, 5, 105)];
     assert_eq!(rt; world.calls(), calls.as_slice());
     Ok(expect_map(&rt, rt.alloc(), &ENTRIES, &calls)?)

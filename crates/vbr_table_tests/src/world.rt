@@ -94,6 +94,16 @@ pub(crate) fn follow(
     Ok(world)
 }
 
+// Compares the places of the slots.
+fn expect_places(rt: &impl Abort, world: &World, shape: Shape, places: &[SlotPlace])
+    requires { world.now.start.shape ≡ shape }
+{
+    for slot in 0..shape.slots() {
+        let told = world.place_of_slot(slot);
+        assert_eq!(rt; places.get(slot as usize), Some(&told), "slot {slot}");
+    }
+}
+
 // Compares the calls that were made, the places of the slots, and the number of incarnations.
 pub(crate) fn expect(
     rt: &impl Abort,
@@ -107,10 +117,7 @@ pub(crate) fn expect(
 {
     assert_eq!(rt; world.calls(), calls);
     assert_eq!(rt; world.incarnations(), incarnations);
-    for slot in 0..shape.slots() {
-        let told = world.place_of_slot(slot);
-        assert_eq!(rt; places.get(slot as usize), Some(&told), "slot {slot}");
-    }
+    expect_places(rt, world, shape, places);
 }
 
 pub(crate) fn call(who: u32, op: Op, key: u64) -> Call {
@@ -269,6 +276,32 @@ pub(crate) fn stop_of(
     replay(alloc, shape, passes, events).err()
 }
 
+// Compares where the replay of events stops, and why.
+pub(crate) fn expect_stop(
+    rt: &impl Abort,
+    alloc: Global,
+    shape: Shape,
+    passes: u32,
+    events: &[Event],
+    wanted: (usize, CoreRefusal),
+) {
+    assert_eq!(rt; stop_of(alloc, shape, passes, events), Some(wanted));
+}
+
+// Compares the word that events leave at a place.
+fn expect_word(
+    rt: &impl Abort,
+    alloc: Global,
+    shape: Shape,
+    events: &[Event],
+    place: Place,
+    word: u64,
+) -> Result<(), (usize, CoreRefusal)> {
+    let world = replay(alloc, shape, 2, events)?;
+    assert_eq!(rt; word_at(&world, shape, place), Some(word));
+    Ok(())
+}
+
 // Replays the first rows of the list of a reborn slot, so many, the last of which stamps slot 1 with
 // epoch 1. A birth there at the stamp is then refused.
 pub(crate) fn expect_stamp(
@@ -279,20 +312,29 @@ pub(crate) fn expect_stamp(
     count: usize,
 ) -> Result<(), Fail> {
     let mut events = events_of(alloc, rows, count)?;
-    let world = replay(alloc, shape, 2, &events)?;
-    assert_eq!(rt; word_at(&world, shape, Place::Stamp(1)), Some(1));
+    expect_word(rt, alloc, shape, &events, Place::Stamp(1), 1)?;
     events.push(Event {
         pass: 0,
         step: Step::StoreBirth { slot: 1, birth: 1 },
     })?;
-    let stop = stop_of(alloc, shape, 2, &events);
-    assert_eq!(rt; stop, Some((count, CoreRefusal::OutOfRange)));
+    let wanted = (count, CoreRefusal::OutOfRange);
+    expect_stop(rt, alloc, shape, 2, &events, wanted);
     Ok(())
 }
 
 #[test]
 fn replays_a_list(rt: HostRuntime) -> Result<(), Fail> {
     expect_stamp(&rt, rt.alloc(), Shape::new(3, 1, 10)?, &REBORN_SLOT, 32)
+}
+
+// Compares the number of calls, that of incarnations, and the epoch.
+fn expect_counts(rt: &impl Abort, world: &World, wanted: (usize, u64, u64)) {
+    let told = (
+        world.calls().len(),
+        world.incarnations(),
+        world.word(Place::Epoch),
+    );
+    assert_eq!(rt; told, wanted);
 }
 
 // Replays a whole list, and compares the number of its calls, that of its incarnations, and the epoch.
@@ -305,10 +347,7 @@ pub(crate) fn expect_whole(
 ) -> Result<(), Fail> {
     let events = events_of(alloc, rows, rows.len())?;
     let world = replay(alloc, shape, 2, &events)?;
-    let (calls, incarnations, epoch) = wanted;
-    assert_eq!(rt; world.calls().len(), calls);
-    assert_eq!(rt; world.incarnations(), incarnations);
-    assert_eq!(rt; world.word(Place::Epoch), epoch);
+    expect_counts(rt, &world, wanted);
     Ok(())
 }
 
@@ -424,14 +463,19 @@ fn opens_with_keys(rt: HostRuntime) -> Result<(), Fail> {
     Ok(())
 }
 
+// No world opens with so many passes, and no event is replayed.
+fn expect_refused(rt: &impl Abort, alloc: Global, shape: Shape, passes: u32) {
+    let opened = World::open(alloc, shape, passes).err();
+    assert_eq!(rt; opened, Some(WorldRefusal::Passes));
+    let wanted = (0, CoreRefusal::NoSuchPass);
+    expect_stop(rt, alloc, shape, passes, &[], wanted);
+}
+
 #[test]
 fn refuses_numbers_of_passes(rt: HostRuntime) -> Result<(), Fail> {
     let shape = Shape::new(1, 1, 10)?;
     for passes in [0, 65] {
-        let opened = World::open(rt.alloc(), shape, passes).err();
-        assert_eq!(rt; opened, Some(WorldRefusal::Passes));
-        let stop = stop_of(rt.alloc(), shape, passes, &[]);
-        assert_eq!(rt; stop, Some((0, CoreRefusal::NoSuchPass)));
+        expect_refused(&rt, rt.alloc(), shape, passes);
     }
     assert!(rt; World::open(rt.alloc(), shape, 64).is_ok());
     assert!(rt; replay(rt.alloc(), shape, 1, &[]).is_ok());

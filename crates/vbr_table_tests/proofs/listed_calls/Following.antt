@@ -1,9 +1,10 @@
 -- A list of events on a running table: each pass knows what it knows in the world that the events lead to, since it was shown words that teach the same.
 use Rattle.std.proofs.Common.{◌≡◌, ◌≢◌, ℕ, zero, suc, ◌<◌, ◌++◌, List, ◌∷◌, Bool, true, false, Some, None, Result, Ok, Err, cond, refl, sym, ap, ◌∙◌, subst, eq-eqb, arith}
-use Rattle.std.specs.Prelude.{MatchResult, OnOk, IfErr, ◌==◌}
+use Rattle.std.specs.Prelude.{MatchResult, OnOk, IfErr, ◌==◌, is_ok}
 use Rattle.std.proofs.lemmas.Bool.{ne_eqb}
 use Rattle.vbr_words.specs.Flags.{has_flag}
 use Rattle.vbr_words.specs.declared.place.At.{At}
+use Rattle.vbr_machine.specs.Acceptance.{stamp_in}
 use Rattle.vbr_machine.specs.Knowledge.{Know}
 use Rattle.vbr_machine.specs.Learning.{effect_of, with_checked, with_own, reads_won, learn}
 use Rattle.vbr_machine.specs.Machine.{World, found, stamp_shown, after}
@@ -14,11 +15,14 @@ use Rattle.vbr_machine.specs.declared.event.Effect.TheVariants.{Value, Won, Lost
 use Rattle.vbr_machine.specs.declared.event.Step.{Step}
 use Rattle.vbr_machine.specs.declared.event.Step.TheVariants.{ReadEpoch, Advance, LoadStamp, StoreStamp, Raise, TakeFlag, StoreBirth, StoreKey, StoreValue, StoreLink, LoadLink, LoadBirth, LoadKey, LoadValue, Publish, Mark, Unlink, ConfirmPresent, ConfirmAbsent}
 use Rattle.vbr_machine.specs.declared.knowledge.Holding.TheVariants.{Free, Unlinked}
-use Rattle.vbr_machine.proofs.Lemmas.{know_other, know_own}
+use Rattle.vbr_machine.proofs.Lemmas.{know_other, know_own, put_here}
 use Rattle.vbr_slots.specs.Expected.{Finds, FindsOther, Publishes}
+use Rattle.vbr_slots.specs.OwnSlots.{IsKnownStamp}
 use Rattle.vbr_slots.specs.Views.{Trace, PassView, TableView, Did, knows}
 use Rattle.vbr_event_lists.specs.Worked.{others_of, names_link, AreWorked}
 use Rattle.vbr_table_tests.specs.Following.{Follows, BothFollow, Learned}
+use Rattle.vbr_table_tests.proofs.running_table.OwnedSlots.{free_may_bear}
+use Rattle.vbr_table_tests.proofs.running_table.Taking.{Reached}
 
 -- ---- what one call teaches
 
@@ -57,6 +61,25 @@ learned_load step p q expected reply (Ok x) effect none is did told =
     learned step p q expected effect none (told ∙ sym (is expected ∙ won expected (Answered reply) (Lost expected))) did
 learned_load step p q expected reply (Err n) effect none is did told =
     learned step p q n effect none (told ∙ sym (is n ∙ lost n expected (Answered reply) (Lost n) did.1)) did.0
+
+-- a slot that was taken had the stamp that was loaded then
+taken_with : (s : ℕ) (p q t : Trace) (n r : ℕ) → Did (TakeFlag s) p q n → has_flag n s ≡ true → Did (LoadStamp s) q t r → IsKnownStamp ((knows q).own s) r → r ≡ 0 → Learned (TakeFlag s) p t Won
+taken_with s p q t n r took set load known is = record {
+  found = n;
+  answers = sym (ap (λ (b : Bool). cond b Won (Lost n)) set);
+  learned = load.know ∙ took.know ∙ ap (λ (x : ℕ). learn (TakeFlag s) n x (knows p)) (sym (known (free_may_bear _ (_, own)) ∙ ap stamp_in own) ∙ is);
+  same = (load.same.0 ∙ took.same.0, load.same.1 ∙ took.same.1, load.same.2 ∙ took.same.2, load.same.3 ∙ took.same.3);
+}
+  where
+    won_flag : (a b : Know) → cond (has_flag n s) a b ≡ a
+    won_flag a b = ap (λ (t : Bool). cond t a b) set
+
+    own : (knows q).own s ≡ Some (Free (stamp_shown (world_after p.start (p.seen ++ took.rest)) (TakeFlag s)))
+    own = ap (λ (k : Know). k.own s) (took.know ∙ won_flag _ (knows p)) ∙ put_here (knows p).own s _
+
+pub learned_taking : {T : Type 0} (s : ℕ) (p q t : Trace) (answer : Result T ℕ) (r : ℕ) → is_ok answer ≡ true → Reached s p q answer → Did (LoadStamp s) q t r → IsKnownStamp ((knows q).own s) r → r ≡ 0 → Learned (TakeFlag s) p t Won
+learned_taking s p q t (Ok x) r ok d load known is = taken_with s p q t d.0 r d.1 d.2 load known is
+learned_taking s p q t (Err n) r ok d load known is = absurd (cc)
 
 -- ---- equal effects teach the same
 

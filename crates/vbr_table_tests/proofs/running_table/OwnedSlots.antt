@@ -1,8 +1,10 @@
 -- What a pass knows of its epoch and of the slot in its hand, through the steps of a test.
-use Rattle.std.proofs.Common.{◌≡◌, ℕ, Option, Some, None, refl, sym, ap, ◌∙◌, subst}
-use Rattle.std.specs.Prelude.{List, Result, Ok, Err, unwrap_or}
+use Rattle.std.proofs.Common.{◌≡◌, ℕ, Option, Some, None, cond, refl, sym, ap, ◌∙◌, subst}
+use Rattle.std.specs.Prelude.{Bool, true, is_ok, IsSome, List, Result, Ok, Err, unwrap_or}
+use Rattle.vbr_words.specs.Flags.{has_flag}
 use Rattle.vbr_words.specs.Words.{link_of, word_of}
 use Rattle.vbr_machine.specs.Links.{link_to}
+use Rattle.vbr_machine.specs.Acceptance.{MayBear}
 use Rattle.vbr_machine.specs.Knowledge.{Know, birth_of}
 use Rattle.vbr_machine.specs.Learning.{birth_in_hand, with_key, with_value}
 use Rattle.vbr_machine.specs.declared.event.Step.TheVariants.{ReadEpoch, LoadStamp, TakeFlag, StoreBirth, StoreKey, StoreValue}
@@ -18,6 +20,9 @@ use Rattle.vbr_table_tests.proofs.running_table.Taking.{Reached}
 pub loaded_epoch : (p q : Trace) (t r : ℕ) → Did (LoadStamp t) p q r → (knows q).epoch ≡ (knows p).epoch
 loaded_epoch p q t r d = ap (λ (k : Know). k.epoch) d.know
 
+pub loaded_own : (p q : Trace) (s t r : ℕ) → Did (LoadStamp t) p q r → (knows q).own s ≡ (knows p).own s
+loaded_own p q s t r d = ap (λ (k : Know). k.own s) d.know
+
 taken_epoch : (p q : Trace) (s r : ℕ) → Did (TakeFlag s) p q r → (knows q).epoch ≡ (knows p).epoch
 taken_epoch p q s r d = ap (λ (k : Know). k.epoch) d.know ∙ epoch_learned (TakeFlag s) r _ (knows p)
 
@@ -27,6 +32,26 @@ reached_epoch p q s (Err n) d = taken_epoch p q s n d.0
 
 pub read_epoch_is : (p q : Trace) (r : ℕ) → Did ReadEpoch p q r → (knows q).epoch ≡ r
 read_epoch_is p q r d = ap (λ (k : Know). k.epoch) d.know ∙ epoch_learned ReadEpoch r 0 (knows p)
+
+-- what a pass knows of a slot that is free
+abbrev pub IsFreeWith : Option Holding → Type 0
+IsFreeWith holding = (stamp : ℕ) × (holding ≡ Some (Free stamp))
+
+pub free_is_some : (holding : Option Holding) → IsFreeWith holding → IsSome holding
+free_is_some holding free = subst (λ (h : Option Holding). IsSome h) (sym free.1) refl
+
+pub free_may_bear : (holding : Option Holding) → IsFreeWith holding → MayBear holding
+free_may_bear holding free = subst MayBear (sym free.1) tt
+
+taken_free : (p q : Trace) (s r : ℕ) → Did (TakeFlag s) p q r → has_flag r s ≡ true → IsFreeWith ((knows q).own s)
+taken_free p q s r d set = (_, ap (λ (k : Know). k.own s) (d.know ∙ won _ (knows p)) ∙ put_here (knows p).own s _)
+  where
+    won : (a b : Know) → cond (has_flag r s) a b ≡ a
+    won a b = ap (λ (t : Bool). cond t a b) set
+
+pub reached_free : {T : Type 0} (p q : Trace) (s : ℕ) (answer : Result T ℕ) → is_ok answer ≡ true → Reached s p q answer → IsFreeWith ((knows q).own s)
+reached_free p q s (Ok x) won d = taken_free p q s d.0 d.1 d.2
+reached_free p q s (Err n) won d = absurd (cc)
 
 -- the birth in hand
 pub born_birth : (p q : Trace) (s birth r : ℕ) → Did (StoreBirth s birth) p q r → birth_in_hand ((knows q).own s) ≡ birth
