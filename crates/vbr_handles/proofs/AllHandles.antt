@@ -34,9 +34,9 @@ module _ {H : Type 0} (member : H → Option Member) where
   }
 
   -- one more handle has its member again
-  pub unended_more : {R I : Type 0} (tells : TableView → List PassView → R → Type 0) (L : Listing R I) (ms ms' back rest : List Member) (m m' : Member) (first first' : H) (others others' handles : List H) (room : ℕ) (refusal : CloseAllRefusal R)
+  pub unended_more : {R I : Type 0} {tells : TableView → List PassView → R → Type 0} {L : Listing R I} {ms ms' back rest : List Member} {m m' : Member} {first first' : H} {others others' handles : List H} {room : ℕ} {refusal : CloseAllRefusal R}
       → ms' ≡ ms ++ m ∷ [] → handles ≡ first ∷ others → member first ≡ Some m → back ≡ rest ++ m' ∷ [] → member first' ≡ Some m' → IsUnended tells L member ms' others others' room refusal back → IsUnended tells L member ms handles (first' ∷ others') room refusal rest
-  unended_more tells L ms ms' back rest m m' first first' others others' handles room refusal more split is popped is' unended =
+  unended_more {R} {I} {tells} {L} {ms} {ms'} {back} {rest} {m} {m'} {first} {first'} {others} {others'} {handles} {room} {refusal} more split is popped is' unended =
       let same = same_from_push rest ms m' m (sym popped ∙ unended.same ∙ more) in
       record {
         same = same.0;

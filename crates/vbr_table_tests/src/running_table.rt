@@ -9,6 +9,7 @@ ghost use Rattle.vbr_machine.specs.Start.{empty_start};
 ghost use Rattle.vbr_slots.specs.Closing.{AllOf, Ends, HandsBack};
 ghost use Rattle.vbr_slots.specs.OwnSlots.{epoch_of, holding_of};
 ghost use Rattle.vbr_slots.specs.Views.{IsOf, KeepsPool, event_of, new_pass, new_passes};
+ghost use Rattle.vbr_table_tests.specs.OnlyPass.{IsOnlyPass};
 ghost use Rattle.vbr_table_tests.specs.Taking.{HasEvent, BothTook};
 
 use std::alloc::{AllocError, Global};
@@ -387,8 +388,7 @@ fn take_first<N: Nodes>(rt: &impl Abort, slots: &Slots<N>, pass: &mut Pass)
     ensures pool { KeepsPool pass.old pass.new }
     ensures epoch { epoch_of pass.new ≡ 1 }
     ensures free { (stamp : ℕ) × (holding_of pass.new 0 ≡ Some (Free stamp)) }
-    ensures alone { pass.old ≡ new_pass slots.now 0 → slots.now.passes ≡ 1
-        → stamp_in (holding_of pass.new 0) ≡ 0 }
+    ensures alone { IsOnlyPass slots.now pass.old → stamp_in (holding_of pass.new 0) ≡ 0 }
 {
     assert!(rt; slots.read_epoch(pass) == 1);
     assert_eq!(rt; slots.take_flag(pass, 0), Ok(()));

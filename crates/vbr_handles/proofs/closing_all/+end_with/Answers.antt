@@ -41,4 +41,4 @@ returns-in-Some-pop-clause-not g t c =
     let out = c.in-Some-take_out.ensures.is in
     let split = c.in-Some.ensures.cases.0 in
     let unended = c.in-Err.ensures.not in
-    unended_more member _ _ _ _ _ _ _ _ _ _ _ _ _ _ _ c.in-Ok.ensures.items split out c.in-Some-pop.ensures.items c.put_back.ensures unended
+    unended_more member c.in-Ok.ensures.items split out c.in-Some-pop.ensures.items c.put_back.ensures unended

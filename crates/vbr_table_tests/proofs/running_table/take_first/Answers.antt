@@ -13,9 +13,9 @@ returns-clause-free g c =
     reached_free c.read_epoch.new.pass.trace c.take_flag.new.pass.trace 0 c.take_flag.result won (reached 0 c.read_epoch.new.pass c.take_flag.new.pass c.take_flag.result c.take_flag.ensures.taken c.take_flag.ensures.missed)
 
 pub returns-clause-alone : goal.returns-clause-alone
-returns-clause-alone g c new one =
+returns-clause-alone g c only =
     let won : is_ok c.take_flag.result ≡ true = search rules in
     stamp_0 c.args.pass.now.trace c.read_epoch.new.pass.trace c.take_flag.new.pass.trace c.read_epoch.result c.take_flag.result
-    (ap (λ (p : PassView). p.trace.seen) new)
-    (record { passes = ap (λ (p : PassView). p.trace.passes) new ∙ one; who = ap (λ (p : PassView). p.trace.who) new })
+    (ap (λ (p : PassView). p.trace.seen) only.0)
+    (record { passes = ap (λ (p : PassView). p.trace.passes) only.0 ∙ only.1; who = ap (λ (p : PassView). p.trace.who) only.0 })
     c.read_epoch.ensures.step won (reached 0 c.read_epoch.new.pass c.take_flag.new.pass c.take_flag.result c.take_flag.ensures.taken c.take_flag.ensures.missed)
