@@ -2,23 +2,19 @@
 ghost use Rattle.std.specs.Prelude.{◌≡◌, ◌≢◌, OnOk, IfErr};
 ghost use Rattle.vbr_machine.specs.declared.history.Op.TheVariants.{Insert, Remove};
 ghost use Rattle.vbr_slots.specs.Views.{IsOf, knows};
-ghost use Rattle.vbr_access.specs.Answering.{AnswersAbsent, AnswersLookUp, AnswersPresent};
-ghost use Rattle.vbr_access.specs.Answering.{FindsAnother, IsAbsent, IsOther, IsPresent};
-ghost use Rattle.vbr_access.specs.Answering.{KeepsByLoad};
-ghost use Rattle.vbr_access.specs.Exchanges.{IsUnmarked};
-ghost use Rattle.vbr_access.specs.LookUps.{TellsKey};
-ghost use Rattle.vbr_access.specs.Values.{AnswersEntry, IsAsked, IsOtherIn};
+ghost use Rattle.vbr_at_table.specs.Answering.{AnswersAbsent, AnswersLookUp, AnswersPresent};
+ghost use Rattle.vbr_at_table.specs.Answering.{FindsAnother, IsAbsent, IsOther, IsPresent};
+ghost use Rattle.vbr_at_table.specs.Answering.{KeepsByLoad};
+ghost use Rattle.vbr_at_table.specs.Exchanges.{IsUnmarked};
+ghost use Rattle.vbr_at_table.specs.LookUps.{TellsKey};
+ghost use Rattle.vbr_at_table.specs.Values.{AnswersEntry, IsAsked, IsOtherIn};
 
-use crate::at_table;
-use crate::held::Held;
-use crate::rollback::Rollback;
+use vbr_at_table::{Held, Rollback};
 use vbr_machine::Op;
 use vbr_slots::{AtTable, Pass, Slots};
-use vbr_words::{At, Nodes};
+use vbr_words::Nodes;
 
-/// Answers, in one step, that the key of a node is present: a look-up with yes, an insert with no.
-/// It does so only where the node's link is still the unmarked one that is held. Else it answers
-/// LostExchange: no call was made, and what the pass knew it knows.
+/// As [`vbr_at_table::confirm_present`], by a pass, whose steps are counted.
 #[inline]
 pub fn confirm_present(slots: &Slots, pass: &mut Pass, op: Op, held: &Held) -> Result<(), Rollback>
     requires own { IsOf pass.old.trace slots.now }
@@ -35,15 +31,14 @@ pub fn confirm_present(slots: &Slots, pass: &mut Pass, op: Op, held: &Held) -> R
             requires op { IsOther Remove op }
         {
             (
-                at_table::confirm_present(&mut AtTable { slots, stepper }, op, held),
+                vbr_at_table::confirm_present(&mut AtTable { slots, stepper }, op, held),
                 1,
             )
         },
     )
 }
 
-/// As [`confirm_present`], at a table of either kind, and for a get too: where nodes have values and
-/// the one of this node was checked, a get gives it.
+/// As [`vbr_at_table::confirm_present_entry`], by a pass, whose steps are counted.
 #[inline]
 pub fn confirm_present_entry<N: Nodes>(
     slots: &Slots<N>,
@@ -67,17 +62,14 @@ pub fn confirm_present_entry<N: Nodes>(
             requires asked { IsAsked stepper.old.trace op held.now.at }
         {
             (
-                at_table::confirm_present_entry(&mut AtTable { slots, stepper }, op, held),
+                vbr_at_table::confirm_present_entry(&mut AtTable { slots, stepper }, op, held),
                 1,
             )
         },
     )
 }
 
-/// Answers, in one step, that a key is absent: a look-up or a remove with no. It would stand behind
-/// `pred` and before what its link names, or what marked nodes lead to from there. It does so only
-/// where that link is still the unmarked one that is held: then all nodes between are still marked.
-/// Else it answers LostExchange: no call was made, and what the pass knew it knows.
+/// As [`vbr_at_table::confirm_absent`], by a pass, whose steps are counted.
 #[inline]
 pub fn confirm_absent(
     slots: &Slots,
@@ -100,14 +92,14 @@ pub fn confirm_absent(
             requires op { IsOther Insert op }
         {
             (
-                at_table::confirm_absent(&mut AtTable { slots, stepper }, op, key, pred),
+                vbr_at_table::confirm_absent(&mut AtTable { slots, stepper }, op, key, pred),
                 1,
             )
         },
     )
 }
 
-/// As [`confirm_absent`], at a table of either kind: where nodes have values, a get is answered too.
+/// As [`vbr_at_table::confirm_absent_entry`], by a pass, whose steps are counted.
 #[inline]
 pub fn confirm_absent_entry<N: Nodes>(
     slots: &Slots<N>,
@@ -130,18 +122,14 @@ pub fn confirm_absent_entry<N: Nodes>(
             requires op { IsOtherIn stepper.old.trace.start Insert op }
         {
             (
-                at_table::confirm_absent_entry(&mut AtTable { slots, stepper }, op, key, pred),
+                vbr_at_table::confirm_absent_entry(&mut AtTable { slots, stepper }, op, key, pred),
                 1,
             )
         },
     )
 }
 
-/// Answers a look-up, in one step, by what is held: the key is present there; or it is absent, and
-/// would stand behind that place and before what its link names, or what marked nodes lead to from
-/// there. It does so only where the link is still the unmarked one that is held; else it answers
-/// LostExchange, and no call was made. Which of the two it is can't be foreseen, so it takes no
-/// branch.
+/// As [`vbr_at_table::confirm_look_up`], by a pass, whose steps are counted.
 #[inline]
 pub fn confirm_look_up<N: Nodes>(
     slots: &Slots<N>,
@@ -164,7 +152,7 @@ pub fn confirm_look_up<N: Nodes>(
             requires decides { TellsKey stepper.old.trace key held.now present }
         {
             (
-                at_table::confirm_look_up(&mut AtTable { slots, stepper }, key, held, present),
+                vbr_at_table::confirm_look_up(&mut AtTable { slots, stepper }, key, held, present),
                 1,
             )
         },

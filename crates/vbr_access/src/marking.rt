@@ -1,19 +1,15 @@
 //! Marking a node: a remove.
 ghost use Rattle.std.specs.Prelude.{IfOk, IfErr};
 ghost use Rattle.vbr_slots.specs.Views.{IsOf, knows};
-ghost use Rattle.vbr_access.specs.Answering.{KeepsIn, IsPresent};
-ghost use Rattle.vbr_access.specs.Exchanges.{RemovesKey, LosesExchange};
-ghost use Rattle.vbr_access.specs.Values.{IsValued, RemovesEntry};
+ghost use Rattle.vbr_at_table.specs.Answering.{KeepsIn, IsPresent};
+ghost use Rattle.vbr_at_table.specs.Exchanges.{RemovesKey, LosesExchange};
+ghost use Rattle.vbr_at_table.specs.Values.{IsValued, RemovesEntry};
 
-use crate::at_table;
-use crate::held::{Held, Marked};
-use crate::rollback::Rollback;
+use vbr_at_table::{Held, Marked, Rollback};
 use vbr_slots::{AtTable, Pass, Slots};
-use vbr_words::{At, Nodes, with_mark};
+use vbr_words::Nodes;
 
-/// Marks a node, in one step: the pass has removed its key. It does so only where the node's link
-/// is still the unmarked one that is held. Else it answers LostExchange: no call was made, and what
-/// the pass knew it knows.
+/// As [`vbr_at_table::mark`], by a pass, whose steps are counted.
 #[inline]
 pub fn mark(slots: &Slots, pass: &mut Pass, held: &Held) -> Result<Marked, Rollback>
     requires own { IsOf pass.old.trace slots.now }
@@ -26,12 +22,11 @@ pub fn mark(slots: &Slots, pass: &mut Pass, held: &Held) -> Result<Marked, Rollb
         |stepper|
             requires own { IsOf stepper.old.trace slots.now }
             requires node { IsPresent (knows stepper.old.trace) held.now }
-        { (at_table::mark(&mut AtTable { slots, stepper }, held), 1) },
+        { (vbr_at_table::mark(&mut AtTable { slots, stepper }, held), 1) },
     )
 }
 
-/// As [`mark`], at a table of either kind: where nodes have values, the one of this node was checked,
-/// and the call gives it.
+/// As [`vbr_at_table::mark_entry`], by a pass, whose steps are counted.
 #[inline]
 pub fn mark_entry<N: Nodes>(
     slots: &Slots<N>,
@@ -52,7 +47,7 @@ pub fn mark_entry<N: Nodes>(
             requires valued { IsValued stepper.old.trace held.now.at }
         {
             (
-                at_table::mark_entry(&mut AtTable { slots, stepper }, held),
+                vbr_at_table::mark_entry(&mut AtTable { slots, stepper }, held),
                 1,
             )
         },

@@ -1,18 +1,16 @@
 //! Checkpoints and checked reads.
 ghost use Rattle.std.specs.Prelude.{◌≡◌, ◌<◌, true, IfOk, IfErr};
 ghost use Rattle.vbr_slots.specs.Views.{IsOf, knows};
-ghost use Rattle.vbr_access.specs.Held.{IsSlot, IsHeld};
-ghost use Rattle.vbr_access.specs.Reading.{IsCheckpoint, IsHeadRead, IsKeyRead, IsNextRead};
-ghost use Rattle.vbr_access.specs.Reading.{ReadsIn, RollsBack, steps_to_next};
-ghost use Rattle.vbr_access.specs.Values.{IsValueRead};
+ghost use Rattle.vbr_at_table.specs.Held.{IsSlot, IsHeld};
+ghost use Rattle.vbr_at_table.specs.Reading.{IsCheckpoint, IsHeadRead, IsKeyRead, IsNextRead};
+ghost use Rattle.vbr_at_table.specs.Reading.{ReadsIn, RollsBack, steps_to_next};
+ghost use Rattle.vbr_at_table.specs.Values.{IsValueRead};
 
-use crate::at_table;
-use crate::held::{Checkpoint, Held};
-use crate::rollback::Rollback;
+use vbr_at_table::{Checkpoint, Held, Rollback};
 use vbr_slots::{AtTable, Pass, Slots};
-use vbr_words::{At, Nodes, decode};
+use vbr_words::{Nodes, decode};
 
-/// Reads the epoch, in one step: a checkpoint to roll back to. It can't fail.
+/// As [`vbr_at_table::checkpoint`], by a pass, whose steps are counted.
 #[inline]
 pub fn checkpoint<N: Nodes>(slots: &Slots<N>, pass: &mut Pass) -> Checkpoint
     requires { IsOf pass.old.trace slots.now }
@@ -22,14 +20,11 @@ pub fn checkpoint<N: Nodes>(slots: &Slots<N>, pass: &mut Pass) -> Checkpoint
     pass.during(
         |stepper|
             requires own { IsOf stepper.old.trace slots.now }
-        { (at_table::checkpoint(&mut AtTable { slots, stepper }), 1) },
+        { (vbr_at_table::checkpoint(&mut AtTable { slots, stepper }), 1) },
     )
 }
 
-/// Reads the head of a bucket, in two steps.
-///
-/// EpochMoved is its one error: the epoch is another one than the checkpoint's, and nothing is held
-/// any more but the heads.
+/// As [`vbr_at_table::first`], by a pass, whose steps are counted.
 #[inline]
 pub fn first<N: Nodes>(
     slots: &Slots<N>,
@@ -51,16 +46,14 @@ pub fn first<N: Nodes>(
             requires bucket { bucket < slots.now.start.shape.buckets }
         {
             (
-                at_table::first(&mut AtTable { slots, stepper }, point, bucket),
+                vbr_at_table::first(&mut AtTable { slots, stepper }, point, bucket),
                 2,
             )
         },
     )
 }
 
-/// Reads the node that a link names, in three steps; a link to none needs no step, and gives none.
-///
-/// EpochMoved is its one error, as of [`first`].
+/// As [`vbr_at_table::next`], by a pass, whose steps are counted.
 #[inline]
 pub fn next<N: Nodes>(
     slots: &Slots<N>,
@@ -78,13 +71,16 @@ pub fn next<N: Nodes>(
         |stepper|
             requires own { IsOf stepper.old.trace slots.now }
             requires held { IsHeld (knows stepper.old.trace) held.now }
-        { (at_table::next(&mut AtTable { slots, stepper }, held), used) },
+        {
+            (
+                vbr_at_table::next(&mut AtTable { slots, stepper }, held),
+                used,
+            )
+        },
     )
 }
 
-/// Reads the key of a node, in two steps.
-///
-/// EpochMoved is its one error, as of [`first`].
+/// As [`vbr_at_table::key_of`], by a pass, whose steps are counted.
 #[inline]
 pub fn key_of<N: Nodes>(slots: &Slots<N>, pass: &mut Pass, node: &Held) -> Result<u64, Rollback>
     requires own { IsOf pass.old.trace slots.now }
@@ -99,13 +95,16 @@ pub fn key_of<N: Nodes>(slots: &Slots<N>, pass: &mut Pass, node: &Held) -> Resul
             requires own { IsOf stepper.old.trace slots.now }
             requires held { IsHeld (knows stepper.old.trace) node.now }
             requires slot { IsSlot node.now.at }
-        { (at_table::key_of(&mut AtTable { slots, stepper }, node), 2) },
+        {
+            (
+                vbr_at_table::key_of(&mut AtTable { slots, stepper }, node),
+                2,
+            )
+        },
     )
 }
 
-/// Reads the value of a node, in two steps, at a table whose nodes have values.
-///
-/// EpochMoved is its one error, as of [`first`].
+/// As [`vbr_at_table::value_of`], by a pass, whose steps are counted.
 #[inline]
 pub fn value_of<N: Nodes>(slots: &Slots<N>, pass: &mut Pass, node: &Held) -> Result<u64, Rollback>
     requires own { IsOf pass.old.trace slots.now }
@@ -122,7 +121,12 @@ pub fn value_of<N: Nodes>(slots: &Slots<N>, pass: &mut Pass, node: &Held) -> Res
             requires values { slots.now.start.shape.values ≡ true }
             requires held { IsHeld (knows stepper.old.trace) node.now }
             requires slot { IsSlot node.now.at }
-        { (at_table::value_of(&mut AtTable { slots, stepper }, node), 2) },
+        {
+            (
+                vbr_at_table::value_of(&mut AtTable { slots, stepper }, node),
+                2,
+            )
+        },
     )
 }
 

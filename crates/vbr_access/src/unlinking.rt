@@ -1,26 +1,15 @@
 //! Unlinking a marked node.
 ghost use Rattle.std.specs.Prelude.{IfOk, IfErr};
 ghost use Rattle.vbr_slots.specs.Views.{IsOf, knows};
-ghost use Rattle.vbr_access.specs.Exchanges.{StaysIn, UnlinksNode, UnlinksNone, IsUnmarked};
-ghost use Rattle.vbr_access.specs.Held.{HoldsMarked, Names};
-ghost use Rattle.vbr_access.specs.Steps.{steps_to_unlink};
+ghost use Rattle.vbr_at_table.specs.Exchanges.{StaysIn, UnlinksNode, UnlinksNone, IsUnmarked};
+ghost use Rattle.vbr_at_table.specs.Held.{HoldsMarked, Names};
+ghost use Rattle.vbr_at_table.specs.CallSteps.{steps_to_unlink};
 
-use crate::at_table;
-use crate::held::{Held, Marked};
-use crate::links::link_to;
-use crate::rollback::Rollback;
-use vbr_pools::Unlinked;
+use vbr_at_table::{Held, Marked, Rollback, Unlinked};
 use vbr_slots::{AtTable, Pass, Slots};
-use vbr_words::{Nodes, decode};
+use vbr_words::Nodes;
 
-/// Unlinks a marked node behind `pred`, whose link names it: the slot is the pass's, to be retired,
-/// and `pred` comes back with its new link, which names what the marked link named. It does so only
-/// where the link of `pred` is still the unmarked one that is held; else no slot is unlinked.
-///
-/// It makes one step, and two before that if the marked link names a node.
-///
-/// LostExchange says that another link stood there, and EpochMoved, that the epoch is another one
-/// than the one under which they are held: then nothing is held any more but the heads.
+/// As [`vbr_at_table::unlink`], by a pass, whose steps are counted.
 #[inline]
 pub fn unlink<N: Nodes>(
     slots: &Slots<N>,
@@ -43,8 +32,8 @@ pub fn unlink<N: Nodes>(
             requires marked { HoldsMarked (knows stepper.old.trace) marked }
             requires names { Names pred.now marked.slot }
         {
-            let outcome = at_table::unlink(&mut AtTable { slots, stepper }, pred, marked);
-            let used = at_table::steps_to_unlink(marked.word, &outcome);
+            let outcome = vbr_at_table::unlink(&mut AtTable { slots, stepper }, pred, marked);
+            let used = vbr_at_table::steps_to_unlink(marked.word, &outcome);
             (outcome, used)
         },
     )

@@ -1,22 +1,14 @@
 //! Linking a new node: an insert.
 ghost use Rattle.std.specs.Prelude.{IfOk, IfErr};
 ghost use Rattle.vbr_slots.specs.Views.{IsOf, knows};
-ghost use Rattle.vbr_pools.specs.Hands.{IsHandOf};
-ghost use Rattle.vbr_access.specs.Exchanges.{StoresIn, IsGap, GivesBack, InsertsKey};
-ghost use Rattle.vbr_access.specs.Held.{IsSucc};
+ghost use Rattle.vbr_at_table.specs.Hands.{IsHandOf};
+ghost use Rattle.vbr_at_table.specs.Exchanges.{StoresIn, IsGap, GivesBack, InsertsKey};
+ghost use Rattle.vbr_at_table.specs.Held.{IsSucc};
 
-use crate::at_table;
-use crate::held::Held;
-use crate::links::link_to;
-use crate::rollback::Rollback;
-use vbr_pools::Hand;
+use vbr_at_table::{Hand, Held, Rollback};
 use vbr_slots::{AtTable, Pass, Slots};
-use vbr_words::decode;
 
-/// Links the slot in hand with this key between `pred` and `succ`, in three steps: the pass has
-/// inserted the key. `succ` is the node that the link of `pred` names, if it names one. It does so
-/// only where the link of `pred` is still the unmarked one that is held. Else the hand comes back
-/// with LostExchange: no call was made, and what the pass knew it knows.
+/// As [`vbr_at_table::update`], by a pass, whose steps are counted.
 #[inline]
 pub fn update(
     slots: &Slots,
@@ -43,7 +35,7 @@ pub fn update(
             requires hand { IsHandOf stepper.old hand }
         {
             (
-                at_table::update(&mut AtTable { slots, stepper }, pred, succ, key, hand),
+                vbr_at_table::update(&mut AtTable { slots, stepper }, pred, succ, key, hand),
                 3,
             )
         },

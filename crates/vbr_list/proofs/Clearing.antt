@@ -22,9 +22,9 @@ use Rattle.vbr_machine.proofs.Lemmas.{left_since, marked_left, none_marked_betwe
 use Rattle.vbr_slots.specs.Calls.{IsSame, Made, Quiet}
 use Rattle.vbr_slots.specs.Views.{Trace, knows}
 use Rattle.vbr_slots.proofs.Lemmas.{moment_after, moment_before}
-use Rattle.vbr_pools.specs.declared.budget.TheConstants.{PIECE}
-use Rattle.vbr_access.specs.Moments.{IsRead}
-use Rattle.vbr_access.specs.declared.held.Held.{Held}
+use Rattle.vbr_at_table.specs.declared.budget.TheConstants.{PIECE}
+use Rattle.vbr_at_table.specs.Moments.{IsRead}
+use Rattle.vbr_at_table.specs.declared.held.Held.{Held}
 use Rattle.vbr_list.specs.Found.{CurStood, IsFound}
 use Rattle.vbr_list.specs.Leaving.{Leaves, WasClear}
 use Rattle.vbr_list.specs.Places.{IsEnd}

@@ -8,14 +8,14 @@ use Rattle.vbr_words.specs.Buckets.{bucket_of}
 use Rattle.vbr_slots.specs.Calls.{IsSame, Quiet, Took}
 use Rattle.vbr_slots.specs.Views.{Trace, TableView, PassView, IsOf}
 use Rattle.vbr_slots.proofs.Lemmas.{quiet_on, quiet_refl}
-use Rattle.vbr_pools.specs.KeptSlots.{TakesNoSlot}
-use Rattle.vbr_pools.specs.Refusals.{LeavesRoom}
-use Rattle.vbr_pools.specs.Steps.{CountsSteps, TookWithin}
-use Rattle.vbr_pools.proofs.Lemmas.{counts_none, counts_on, took_all}
+use Rattle.vbr_at_table.specs.KeptSlots.{TakesNoSlot}
+use Rattle.vbr_at_table.specs.Refusals.{LeavesRoom}
+use Rattle.vbr_at_table.specs.Steps.{CountsSteps, TookWithin}
+use Rattle.vbr_at_table.proofs.Lemmas.{counts_none, counts_on, took_all}
 use Rattle.vbr_machine.specs.Knowledge.{Know}
-use Rattle.vbr_pools.specs.declared.budget.TheConstants.{PIECE}
-use Rattle.vbr_access.specs.Keeping.{Keeps, KeepsOwn}
-use Rattle.vbr_access.specs.Reading.{ReadsIn}
+use Rattle.vbr_at_table.specs.declared.budget.TheConstants.{PIECE}
+use Rattle.vbr_at_table.specs.Keeping.{Keeps, KeepsOwn}
+use Rattle.vbr_at_table.specs.Reading.{ReadsIn}
 use Rattle.vbr_list.specs.Pieces.{Goes, IsSameCall}
 use Rattle.vbr_list.specs.declared.call.PendingCall.{PendingCall}
 use Rattle.vbr_list.proofs.KeptHands.{hand_refl, hand_on, own_kept}

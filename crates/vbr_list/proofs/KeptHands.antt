@@ -13,11 +13,10 @@ use Rattle.vbr_slots.specs.declared.pass.TheConstants.{POOL}
 use Rattle.vbr_slots.specs.Pools.{OwnPool}
 use Rattle.vbr_slots.specs.Pools as pools
 use Rattle.vbr_slots.specs.Views.{PassView, knows}
-use Rattle.vbr_pools.specs.KeptSlots.{StaysInTurn, TakesNoSlot}
-use Rattle.vbr_pools.specs.Retiring.{is_kept, know_retired, pool_retired}
-use Rattle.vbr_pools.proofs.Lemmas.{none_on, none_refl}
-use Rattle.vbr_access.specs.Keeping.{KeepsOwn, KeepsUnlinked}
-use Rattle.vbr_access.proofs.Lemmas.{unlinks_none}
+use Rattle.vbr_at_table.specs.KeptSlots.{StaysInTurn, TakesNoSlot}
+use Rattle.vbr_at_table.specs.Retiring.{is_kept, know_retired, pool_retired}
+use Rattle.vbr_at_table.proofs.Lemmas.{none_on, none_refl, unlinks_none}
+use Rattle.vbr_at_table.specs.Keeping.{KeepsOwn, KeepsUnlinked}
 use Rattle.vbr_list.specs.Pieces.{KeepsHand}
 
 pub hand_refl : (p : PassView) → KeepsHand p p

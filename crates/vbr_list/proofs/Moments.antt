@@ -9,10 +9,10 @@ use Rattle.vbr_machine.specs.Membership.{KeyAt, StandsBefore}
 use Rattle.vbr_slots.specs.Calls.{IsSame, Quiet}
 use Rattle.vbr_slots.specs.Views.{Trace, knows}
 use Rattle.vbr_slots.proofs.Lemmas.{moment_before}
-use Rattle.vbr_access.specs.Keeping.{Keeps}
-use Rattle.vbr_access.specs.Moments.{Stood, WasSo}
-use Rattle.vbr_access.specs.declared.held.Held.{Held}
-use Rattle.vbr_access.proofs.Lemmas.{stood_before, was_absent, was_present}
+use Rattle.vbr_at_table.specs.Keeping.{Keeps}
+use Rattle.vbr_at_table.specs.Moments.{Stood, WasSo}
+use Rattle.vbr_at_table.specs.declared.held.Held.{Held}
+use Rattle.vbr_at_table.proofs.Lemmas.{stood_before, was_absent, was_present}
 use Rattle.vbr_list.specs.Found.{CurStood, IsFound}
 use Rattle.vbr_list.specs.Places.{IsCur, IsEnd}
 use Rattle.vbr_list.specs.Traversing.{HasComeTo}

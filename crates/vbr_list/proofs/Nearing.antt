@@ -14,16 +14,16 @@ use Rattle.vbr_slots.specs.Alone.{IsAlone, IsFresh, LeavesLists, ahead, nodes}
 use Rattle.vbr_slots.specs.Calls.{Quiet}
 use Rattle.vbr_slots.specs.Views.{Trace, PassView, knows}
 use Rattle.vbr_slots.proofs.Lemmas.{alone_first, alone_then, same_leaves}
-use Rattle.vbr_access.specs.Alone.{StandsNow, NextStands, UnlinksAlone}
-use Rattle.vbr_access.specs.Held.{Names, held_of}
-use Rattle.vbr_access.specs.Reading.{IsHeadRead, ReadsIn, RollsBack}
-use Rattle.vbr_access.specs.Keeping.{Keeps}
-use Rattle.vbr_access.specs.Moments.{IsNext}
+use Rattle.vbr_at_table.specs.Alone.{StandsNow, NextStands, UnlinksAlone}
+use Rattle.vbr_at_table.specs.Held.{Names, held_of}
+use Rattle.vbr_at_table.specs.Reading.{IsHeadRead, ReadsIn, RollsBack}
+use Rattle.vbr_at_table.specs.Keeping.{Keeps}
+use Rattle.vbr_at_table.specs.Moments.{IsNext}
 use Rattle.vbr_slots.specs.PassLaw.{PassLaw}
-use Rattle.vbr_access.specs.declared.held.Held.{Held}
-use Rattle.vbr_access.specs.declared.held.Marked.{Marked}
-use Rattle.vbr_access.specs.declared.rollback.Rollback.{Rollback}
-use Rattle.vbr_access.proofs.Lemmas.{fresh_kept}
+use Rattle.vbr_at_table.specs.declared.held.Held.{Held}
+use Rattle.vbr_at_table.specs.declared.held.Marked.{Marked}
+use Rattle.vbr_at_table.specs.declared.rollback.Rollback.{Rollback}
+use Rattle.vbr_at_table.proofs.Lemmas.{fresh_kept}
 use Rattle.vbr_list.specs.Budgets.{listed_for}
 use Rattle.vbr_list.specs.Nearing.{FoundAlone, HelpsAlone, StandsInList, SeenAlone, StillAt, ahead_for}
 use Rattle.vbr_list.specs.Places.{IsInside}

@@ -3,7 +3,7 @@ use Rattle.std.specs.Prelude.{ℕ}
 use Rattle.vbr_slots.specs.Calls.{AddsNone, OnlyLoads}
 use Rattle.vbr_slots.specs.Views.{PassView, Trace}
 use Rattle.vbr_slots.proofs.Lemmas.{adds_on, adds_refl, loads_on, loads_refl}
-use Rattle.vbr_access.specs.Reading.{ReadsIn}
+use Rattle.vbr_at_table.specs.Reading.{ReadsIn}
 use Rattle.vbr_list.specs.Pieces.{Observes, OnlyLooks}
 use Rattle.vbr_list.proofs.Nearing.{read_leaves}
 

@@ -1,7 +1,7 @@
 -- Places for which a walk has paid: so many steps for each node that it has left behind.
 use Rattle.std.specs.Prelude.{ℕ, ◌+◌, ◌*◌, ◌≤◌}
 use Rattle.vbr_slots.specs.Views.{Trace}
-use Rattle.vbr_access.specs.declared.held.Held.{Held}
+use Rattle.vbr_at_table.specs.declared.held.Held.{Held}
 use Rattle.vbr_list.specs.Budgets.{listed_for}
 use Rattle.vbr_list.specs.Nearing.{StandsInList, StillAt, ahead_for}
 

@@ -11,11 +11,11 @@ use Rattle.vbr_machine.specs.declared.knowledge.Read.TheVariants.{LinkAt}
 use Rattle.vbr_slots.specs.Alone.{IsAlone}
 use Rattle.vbr_slots.specs.Calls.{IsSame}
 use Rattle.vbr_slots.specs.Views.{Trace, PassView, knows}
-use Rattle.vbr_access.specs.Held.{HoldsMarked, Names, held_of}
-use Rattle.vbr_access.specs.Keeping.{Keeps}
-use Rattle.vbr_access.specs.declared.held.Held.{Held}
-use Rattle.vbr_access.specs.declared.held.Marked.{Marked}
-use Rattle.vbr_access.proofs.Lemmas.{held_in_kept, held_in_next, held_kept}
+use Rattle.vbr_at_table.specs.Held.{HoldsMarked, Names, held_of}
+use Rattle.vbr_at_table.specs.Keeping.{Keeps}
+use Rattle.vbr_at_table.specs.declared.held.Held.{Held}
+use Rattle.vbr_at_table.specs.declared.held.Marked.{Marked}
+use Rattle.vbr_at_table.proofs.Lemmas.{held_in_kept, held_in_next, held_kept}
 use Rattle.vbr_list.proofs.PaidPlaces.{Passes}
 use Rattle.vbr_list.specs.Pieces.{Goes, Observes}
 use Rattle.vbr_list.specs.Places.{IsCur, IsEnd, IsPred, IsSight}

@@ -11,11 +11,11 @@ use Rattle.vbr_machine.specs.declared.history.Op.{Op}
 use Rattle.vbr_slots.specs.Calls.{IsSame, Quiet, Made}
 use Rattle.vbr_slots.specs.Views.{Trace, PassView}
 use Rattle.vbr_slots.proofs.Lemmas.{made_on}
-use Rattle.vbr_pools.specs.Refusals.{IsSpent, LeavesRoom}
-use Rattle.vbr_pools.specs.Steps.{CountsSteps, TookWithin}
-use Rattle.vbr_pools.specs.KeptSlots.{TakesNoSlot}
-use Rattle.vbr_pools.proofs.Lemmas.{counts_on, had_grown, had_on, keeps_on, missed_after, needed_after, shared_taken, shares_more, took_all}
-use Rattle.vbr_access.specs.Moments.{WasSo}
+use Rattle.vbr_at_table.specs.Refusals.{IsSpent, LeavesRoom}
+use Rattle.vbr_at_table.specs.Steps.{CountsSteps, TookWithin}
+use Rattle.vbr_at_table.specs.KeptSlots.{TakesNoSlot}
+use Rattle.vbr_at_table.proofs.Lemmas.{counts_on, had_grown, had_on, slots_kept_on, missed_after, needed_after, shared_taken, shares_more, took_all}
+use Rattle.vbr_at_table.specs.Moments.{WasSo}
 use Rattle.vbr_list.specs.Inserting.{CountsWithin, InsertIsShort, InsertShowsSpent, Prepares, RefusesInsert, TakesNone}
 use Rattle.vbr_list.specs.Pieces.{IsSameCall, pass_in, trace_in}
 use Rattle.vbr_list.specs.Refusals.{IsRefusedInsert}
@@ -58,7 +58,7 @@ prepares_on c d e same counts quiet none hand one x =
       call = call_on same x.call;
       counts = within_on counts y.counts y.within.0 y.within.1;
       advances = needed_after {p = pass_in c} {q = pass_in d} {r = pass_in e} quiet none x.advances;
-      kept = keeps_on (pass_in c) (pass_in d) (pass_in e) none.kept x.kept;
+      kept = slots_kept_on (pass_in c) (pass_in d) (pass_in e) none.kept x.kept;
       had = had_on (pass_in c) (pass_in d) (pass_in e) (had_grown (pass_in c) (pass_in d) none.grows hand) x.had;
       shared = shared_taken (pass_in c) (pass_in d) (pass_in e) none.shared one x.shared;
     }

@@ -14,14 +14,14 @@ use Rattle.vbr_slots.specs.Alone.{IsAlone}
 use Rattle.vbr_slots.specs.Calls.{IsSame, Quiet}
 use Rattle.vbr_slots.specs.Views.{Trace, TableView, PassView, IsOf, knows}
 use Rattle.vbr_slots.proofs.Lemmas.{quiet_on}
-use Rattle.vbr_pools.specs.Retiring.{know_retired}
-use Rattle.vbr_access.specs.Held.{IsSlot, HoldsMarked}
-use Rattle.vbr_access.specs.Keeping.{Keeps}
-use Rattle.vbr_access.specs.Moments.{Stood, IsRead, IsNext}
+use Rattle.vbr_at_table.specs.Retiring.{know_retired}
+use Rattle.vbr_at_table.specs.Held.{IsSlot, HoldsMarked}
+use Rattle.vbr_at_table.specs.Keeping.{Keeps}
+use Rattle.vbr_at_table.specs.Moments.{Stood, IsRead, IsNext}
 use Rattle.vbr_slots.specs.PassLaw.{PassLaw}
-use Rattle.vbr_access.specs.declared.held.Held.{Held}
-use Rattle.vbr_access.specs.declared.held.Marked.{Marked}
-use Rattle.vbr_access.proofs.Lemmas.{behind_kept, held_in_kept, held_in_next, held_kept, link_in, stood_after, stood_before}
+use Rattle.vbr_at_table.specs.declared.held.Held.{Held}
+use Rattle.vbr_at_table.specs.declared.held.Marked.{Marked}
+use Rattle.vbr_at_table.proofs.Lemmas.{behind_kept, held_in_kept, held_in_next, held_kept, link_in, stood_after, stood_before}
 use Rattle.vbr_list.specs.Pieces.{Goes}
 use Rattle.vbr_list.specs.Places.{IsCur, IsInside, IsPred}
 use Rattle.vbr_list.specs.Traversing.{HasComeTo}

@@ -7,9 +7,9 @@ use Rattle.vbr_words.specs.declared.place.At.TheVariants.{Head, Slot}
 use Rattle.vbr_machine.specs.Knowledge.{Know}
 use Rattle.vbr_machine.specs.Membership.{KeyAt}
 use Rattle.vbr_slots.specs.Views.{Trace}
-use Rattle.vbr_access.specs.Alone.{StandsNow}
-use Rattle.vbr_access.specs.Held.{IsHeld, IsSlot}
-use Rattle.vbr_access.specs.LookUps.{DecidesKey}
+use Rattle.vbr_at_table.specs.Alone.{StandsNow}
+use Rattle.vbr_at_table.specs.Held.{IsHeld, IsSlot}
+use Rattle.vbr_at_table.specs.LookUps.{DecidesKey}
 use Rattle.vbr_list.specs.Budgets.{answer_costs, listed_for}
 use Rattle.vbr_list.specs.LookingUp.{steps_to_answer}
 use Rattle.vbr_list.specs.Nearing.{SightStands}

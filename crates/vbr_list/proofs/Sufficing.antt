@@ -8,7 +8,7 @@ use Rattle.vbr_slots.specs.Alone.{IsAlone, ahead}
 use Rattle.vbr_slots.specs.Calls.{Quiet}
 use Rattle.vbr_slots.specs.Views.{Trace, PassView}
 use Rattle.vbr_slots.proofs.Lemmas.{quiet_adds_none}
-use Rattle.vbr_pools.specs.Budgets.{most_to_take, steps_to_take}
+use Rattle.vbr_at_table.specs.Budgets.{most_to_take, steps_to_take}
 use Rattle.vbr_slots.specs.PassLaw.{PassLaw}
 use Rattle.vbr_list.specs.Budgets.{IsAnsweredOrSpent, LacksSteps, listed_for}
 use Rattle.vbr_list.specs.Inserting.{InsertIsShort}

@@ -4,7 +4,7 @@ use Rattle.vbr_machine.specs.Start.{Start}
 use Rattle.vbr_words.specs.Words.{link_of}
 use Rattle.vbr_machine.specs.Knowledge.{Know}
 use Rattle.vbr_machine.specs.Membership.{LeadsTo}
-use Rattle.vbr_access.specs.declared.held.Held.{Held}
+use Rattle.vbr_at_table.specs.declared.held.Held.{Held}
 use Rattle.vbr_list.specs.Pieces.{Goes, Observes}
 use Rattle.vbr_list.specs.Places.{IsInside, IsPred}
 use Rattle.vbr_list.specs.Traversing.{HasComeTo}

@@ -5,11 +5,11 @@ use Rattle.vbr_words.specs.declared.place.At.{At}
 use Rattle.vbr_machine.specs.Knowledge.{Know}
 use Rattle.vbr_slots.specs.Views.{PassView}
 use Rattle.vbr_slots.proofs.Lemmas.{adds_refl, loads_refl, quiet_refl}
-use Rattle.vbr_pools.proofs.Lemmas.{counts_none, none_refl, took_all}
-use Rattle.vbr_access.specs.Held.{IsSlot}
-use Rattle.vbr_access.specs.Reading.{ReadsIn}
-use Rattle.vbr_access.specs.Values.{steps_to_update, steps_to_value}
-use Rattle.vbr_access.specs.declared.held.Held.{Held}
+use Rattle.vbr_at_table.proofs.Lemmas.{counts_none, none_refl, took_all}
+use Rattle.vbr_at_table.specs.Held.{IsSlot}
+use Rattle.vbr_at_table.specs.Reading.{ReadsIn}
+use Rattle.vbr_at_table.specs.Values.{steps_to_update, steps_to_value}
+use Rattle.vbr_at_table.specs.declared.held.Held.{Held}
 use Rattle.vbr_list.specs.Budgets.{steps_to_value_of, steps_where}
 use Rattle.vbr_list.specs.Places.{IsCur, IsEnd}
 

@@ -5,8 +5,8 @@ use Rattle.vbr_words.specs.declared.place.At.TheVariants.{Head}
 use Rattle.vbr_words.specs.Buckets.{bucket_of}
 use Rattle.vbr_slots.specs.Alone.{ahead}
 use Rattle.vbr_slots.specs.Views.{PassView, Trace}
-use Rattle.vbr_pools.specs.Budgets.{most_to_take}
-use Rattle.vbr_access.specs.Values.{steps_to_value}
+use Rattle.vbr_at_table.specs.Budgets.{most_to_take}
+use Rattle.vbr_at_table.specs.Values.{steps_to_value}
 use Rattle.vbr_list.specs.declared.refusal.Refusal.{Refusal}
 use Rattle.vbr_list.specs.declared.refusal.Refusal.TheVariants.{OutOfSteps, NoSlot, EpochSpent}
 

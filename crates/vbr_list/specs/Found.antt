@@ -3,8 +3,8 @@ use Rattle.std.specs.Prelude.{ℕ, ◌<◌, ◌≤◌, Option, Some, None}
 use Rattle.vbr_slots.specs.Alone.{IsAlone}
 use Rattle.vbr_slots.specs.Calls.{Quiet, Took}
 use Rattle.vbr_slots.specs.Views.{PassView, Trace, knows}
-use Rattle.vbr_access.specs.Moments.{Stood, WasSo}
-use Rattle.vbr_access.specs.declared.held.Held.{Held}
+use Rattle.vbr_at_table.specs.Moments.{Stood, WasSo}
+use Rattle.vbr_at_table.specs.declared.held.Held.{Held}
 use Rattle.vbr_list.specs.Budgets.{enough_to_search, find_costs}
 use Rattle.vbr_list.specs.Leaving.{WasClear}
 use Rattle.vbr_list.specs.Places.{Locates}

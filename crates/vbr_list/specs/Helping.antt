@@ -5,11 +5,11 @@ use Rattle.vbr_words.specs.declared.place.At.TheVariants.{Head, Slot}
 use Rattle.vbr_machine.specs.Membership.{HeldIn, KeyAt, StandsBehind}
 use Rattle.vbr_slots.specs.Alone.{IsAlone, IsFresh, ahead}
 use Rattle.vbr_slots.specs.Views.{PassView, Trace, knows}
-use Rattle.vbr_access.specs.Alone.{StandsNow}
-use Rattle.vbr_access.specs.Held.{IsHeld, HoldsMarked, Names}
-use Rattle.vbr_access.specs.declared.held.Held.{Held}
-use Rattle.vbr_access.specs.declared.held.Marked.{Marked}
-use Rattle.vbr_access.specs.declared.rollback.Rollback.{Rollback}
+use Rattle.vbr_at_table.specs.Alone.{StandsNow}
+use Rattle.vbr_at_table.specs.Held.{IsHeld, HoldsMarked, Names}
+use Rattle.vbr_at_table.specs.declared.held.Held.{Held}
+use Rattle.vbr_at_table.specs.declared.held.Marked.{Marked}
+use Rattle.vbr_at_table.specs.declared.rollback.Rollback.{Rollback}
 use Rattle.vbr_list.specs.Leaving.{WasClear}
 use Rattle.vbr_list.specs.Nearing.{HelpsAlone}
 use Rattle.vbr_list.specs.Pieces.{Goes}

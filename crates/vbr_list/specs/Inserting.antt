@@ -5,16 +5,16 @@ use Rattle.vbr_machine.specs.declared.history.Op.TheVariants.{Insert}
 use Rattle.vbr_slots.specs.declared.pass.TheConstants.{POOL}
 use Rattle.vbr_slots.specs.Calls.{Quiet}
 use Rattle.vbr_slots.specs.Views.{Trace, PassView}
-use Rattle.vbr_pools.specs.Advances.{AdvancesWhereNeeded}
-use Rattle.vbr_pools.specs.Budgets.{most_to_take, steps_to_take}
-use Rattle.vbr_pools.specs.Hands.{HandView, IsHandOf}
-use Rattle.vbr_pools.specs.KeptSlots.{HasStill, KeepsSlots, SharesWhereFull, TakesNoSlot}
-use Rattle.vbr_pools.specs.Refusals.{HasNoSlot, IsSpent}
-use Rattle.vbr_pools.specs.Steps.{CountsSteps}
-use Rattle.vbr_pools.specs.declared.budget.TheConstants.{PIECE}
-use Rattle.vbr_access.specs.Alone.{NextStands, StandsNow}
-use Rattle.vbr_access.specs.Moments.{WasSo}
-use Rattle.vbr_access.specs.Values.{steps_to_update}
+use Rattle.vbr_at_table.specs.Advances.{AdvancesWhereNeeded}
+use Rattle.vbr_at_table.specs.Budgets.{most_to_take, steps_to_take}
+use Rattle.vbr_at_table.specs.Hands.{HandView, IsHandOf}
+use Rattle.vbr_at_table.specs.KeptSlots.{HasStill, KeepsSlots, SharesWhereFull, TakesNoSlot}
+use Rattle.vbr_at_table.specs.Refusals.{HasNoSlot, IsSpent}
+use Rattle.vbr_at_table.specs.Steps.{CountsSteps}
+use Rattle.vbr_at_table.specs.declared.budget.TheConstants.{PIECE}
+use Rattle.vbr_at_table.specs.Alone.{NextStands, StandsNow}
+use Rattle.vbr_at_table.specs.Moments.{WasSo}
+use Rattle.vbr_at_table.specs.Values.{steps_to_update}
 use Rattle.vbr_list.specs.Budgets.{LacksSteps, enough_to_search, listed_for}
 use Rattle.vbr_list.specs.Pieces.{IsPiece, IsSameCall, Replies, Stores, WasAlone, pass_in, trace_in}
 use Rattle.vbr_list.specs.Refusals.{FoundNoSlot}

@@ -6,9 +6,9 @@ use Rattle.vbr_machine.specs.declared.event.Event.{Event}
 use Rattle.vbr_slots.specs.Alone.{IsAlone}
 use Rattle.vbr_slots.specs.Calls.{Moment}
 use Rattle.vbr_slots.specs.Views.{PassView, Trace}
-use Rattle.vbr_pools.specs.KeptSlots.{TakesNoSlot}
-use Rattle.vbr_pools.specs.Refusals.{LeavesRoom}
-use Rattle.vbr_pools.specs.Steps.{TookWithin}
+use Rattle.vbr_at_table.specs.KeptSlots.{TakesNoSlot}
+use Rattle.vbr_at_table.specs.Refusals.{LeavesRoom}
+use Rattle.vbr_at_table.specs.Steps.{TookWithin}
 use Rattle.vbr_list.specs.Budgets.{enough_to_search, enough_to_unlink, listed_for, remove_costs}
 use Rattle.vbr_list.specs.Refusals.{IsTired}
 use Rattle.vbr_list.specs.declared.refusal.Refusal.{Refusal}

@@ -4,7 +4,7 @@ use Rattle.vbr_words.specs.declared.nodes.Nodes.{Ghosts}
 use Rattle.vbr_slots.specs.Alone.{IsFresh}
 use Rattle.vbr_slots.specs.Calls.{AddsAnswer, AddsNone, Quiet}
 use Rattle.vbr_slots.specs.Views.{knows}
-use Rattle.vbr_access.specs.declared.rollback.Rollback.{Rollback}
+use Rattle.vbr_at_table.specs.declared.rollback.Rollback.{Rollback}
 use Rattle.vbr_list.specs.Budgets.{enough_to_look_up}
 use Rattle.vbr_list.specs.Nearing.{SeenAlone, SightStands}
 use Rattle.vbr_list.specs.Pieces.{Gives, WasAlone, trace_in}

@@ -6,9 +6,9 @@ use Rattle.vbr_words.specs.Buckets.{bucket_of}
 use Rattle.vbr_machine.specs.Nodes.{is_there}
 use Rattle.vbr_slots.specs.Alone.{IsFresh, ahead, nodes}
 use Rattle.vbr_slots.specs.Views.{Trace}
-use Rattle.vbr_access.specs.Alone.{StandsNow, NextStands}
-use Rattle.vbr_access.specs.Held.{held_of}
-use Rattle.vbr_access.specs.declared.held.Held.{Held}
+use Rattle.vbr_at_table.specs.Alone.{StandsNow, NextStands}
+use Rattle.vbr_at_table.specs.Held.{held_of}
+use Rattle.vbr_at_table.specs.declared.held.Held.{Held}
 use Rattle.vbr_list.specs.Budgets.{listed_for}
 use Rattle.vbr_list.specs.declared.found.Found.{Found}
 use Rattle.vbr_list.specs.declared.looking.Sight.{Sight}

@@ -8,9 +8,9 @@ use Rattle.vbr_slots.specs.AtTables.{IsSameTable}
 use Rattle.vbr_slots.specs.Calls.{AddsNone, Made, OnlyLoads, Quiet}
 use Rattle.vbr_slots.specs.Views.{PassView, Trace, knows}
 use Rattle.vbr_slots.specs.declared.pass.TheConstants.{POOL}
-use Rattle.vbr_pools.specs.KeptSlots.{TakesNoSlot}
-use Rattle.vbr_pools.specs.Steps.{CountsSteps}
-use Rattle.vbr_pools.specs.declared.budget.TheConstants.{PIECE}
+use Rattle.vbr_at_table.specs.KeptSlots.{TakesNoSlot}
+use Rattle.vbr_at_table.specs.Steps.{CountsSteps}
+use Rattle.vbr_at_table.specs.declared.budget.TheConstants.{PIECE}
 use Rattle.vbr_list.specs.Told.{given_in, stored_in}
 use Rattle.vbr_list.specs.declared.call.PendingCall.{PendingCall}
 

@@ -6,8 +6,8 @@ use Rattle.vbr_words.specs.declared.place.At.TheVariants.{Slot}
 use Rattle.vbr_words.specs.Buckets.{bucket_of}
 use Rattle.vbr_machine.specs.Knowledge.{Know}
 use Rattle.vbr_machine.specs.Membership.{KeyAt, HeldIn, StandsBehind, StandsBeforeOn}
-use Rattle.vbr_access.specs.Held.{IsHeld, Names}
-use Rattle.vbr_access.specs.declared.held.Held.{Held}
+use Rattle.vbr_at_table.specs.Held.{IsHeld, Names}
+use Rattle.vbr_at_table.specs.declared.held.Held.{Held}
 use Rattle.vbr_list.specs.declared.found.Found.{Found}
 use Rattle.vbr_list.specs.declared.looking.Sight.{Sight}
 use Rattle.vbr_list.specs.declared.looking.Sight.TheVariants.{Present, Absent}

@@ -1,9 +1,9 @@
 -- What a refusal says of a call.
 use Rattle.std.specs.Prelude.{◌≡◌, ℕ, ◌<◌, false, []}
 use Rattle.vbr_slots.specs.Views.{PassView}
-use Rattle.vbr_pools.specs.Refusals.{IsOutOfSteps, IsSpent, LeavesRoom}
-use Rattle.vbr_pools.specs.SharedPool.{WasOutside}
-use Rattle.vbr_access.specs.Moments.{WasSo}
+use Rattle.vbr_at_table.specs.Refusals.{IsOutOfSteps, IsSpent, LeavesRoom}
+use Rattle.vbr_at_table.specs.SharedPool.{WasOutside}
+use Rattle.vbr_at_table.specs.Moments.{WasSo}
 use Rattle.vbr_list.specs.declared.refusal.Refusal.{Refusal}
 use Rattle.vbr_list.specs.declared.refusal.Refusal.TheVariants.{OutOfSteps, NoSlot, EpochSpent}
 

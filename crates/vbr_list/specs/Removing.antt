@@ -9,10 +9,10 @@ use Rattle.vbr_machine.specs.declared.history.Op.TheVariants.{Remove}
 use Rattle.vbr_slots.specs.Alone.{IsFresh}
 use Rattle.vbr_slots.specs.Calls.{Quiet}
 use Rattle.vbr_slots.specs.Views.{knows}
-use Rattle.vbr_access.specs.Alone.{NextStands, StandsNow}
-use Rattle.vbr_access.specs.declared.held.Held.{Held}
-use Rattle.vbr_access.specs.declared.held.Marked.{Marked}
-use Rattle.vbr_access.specs.declared.rollback.Rollback.{Rollback}
+use Rattle.vbr_at_table.specs.Alone.{NextStands, StandsNow}
+use Rattle.vbr_at_table.specs.declared.held.Held.{Held}
+use Rattle.vbr_at_table.specs.declared.held.Marked.{Marked}
+use Rattle.vbr_at_table.specs.declared.rollback.Rollback.{Rollback}
 use Rattle.vbr_list.specs.Budgets.{listed_for, steps_to_value_of}
 use Rattle.vbr_list.specs.Helping.{MayHelp}
 use Rattle.vbr_list.specs.Leaving.{Leaves, WasClear}

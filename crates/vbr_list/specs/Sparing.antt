@@ -8,9 +8,9 @@ use Rattle.vbr_machine.specs.declared.history.Op.TheVariants.{Insert, Remove, Ha
 use Rattle.vbr_slots.specs.Alone.{IsAlone}
 use Rattle.vbr_slots.specs.Calls.{AddsAnswer, AddsNone, IsSame, Made, OnlyLoads, Quiet, made_by}
 use Rattle.vbr_slots.specs.Views.{PassView, Trace}
-use Rattle.vbr_pools.specs.Advances.{AdvancesWhereNeeded}
-use Rattle.vbr_pools.specs.KeptSlots.{HasUnpublished, KeepsSlots, SharesWhereFull, TakesNoSlot}
-use Rattle.vbr_pools.specs.Steps.{TookWithin}
+use Rattle.vbr_at_table.specs.Advances.{AdvancesWhereNeeded}
+use Rattle.vbr_at_table.specs.KeptSlots.{HasUnpublished, KeepsSlots, SharesWhereFull, TakesNoSlot}
+use Rattle.vbr_at_table.specs.Steps.{TookWithin}
 use Rattle.vbr_list.specs.Alone.{AnswersAlone}
 use Rattle.vbr_list.specs.Budgets.{IsAnsweredOrSpent, LacksSteps, enough_to_insert, enough_to_look_up, enough_with_a_slot, get_costs, insert_costs, look_up_costs}
 use Rattle.vbr_list.specs.Leaving.{SparesRemove}

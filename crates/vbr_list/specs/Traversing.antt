@@ -4,13 +4,13 @@ use Rattle.vbr_words.specs.declared.nodes.Nodes.{Ghosts}
 use Rattle.vbr_words.specs.declared.place.At.TheVariants.{Head}
 use Rattle.vbr_slots.specs.Alone.{IsFresh}
 use Rattle.vbr_slots.specs.Views.{Trace, knows}
-use Rattle.vbr_pools.specs.declared.budget.TheConstants.{PIECE}
-use Rattle.vbr_access.specs.Alone.{StandsNow}
-use Rattle.vbr_access.specs.Held.{HoldsMarked, Names}
-use Rattle.vbr_access.specs.Keeping.{Keeps}
-use Rattle.vbr_access.specs.Moments.{Stood}
-use Rattle.vbr_access.specs.declared.held.Held.{Held}
-use Rattle.vbr_access.specs.declared.rollback.Rollback.{Rollback}
+use Rattle.vbr_at_table.specs.declared.budget.TheConstants.{PIECE}
+use Rattle.vbr_at_table.specs.Alone.{StandsNow}
+use Rattle.vbr_at_table.specs.Held.{HoldsMarked, Names}
+use Rattle.vbr_at_table.specs.Keeping.{Keeps}
+use Rattle.vbr_at_table.specs.Moments.{Stood}
+use Rattle.vbr_at_table.specs.declared.held.Held.{Held}
+use Rattle.vbr_at_table.specs.declared.rollback.Rollback.{Rollback}
 use Rattle.vbr_list.specs.Budgets.{enough_to_search}
 use Rattle.vbr_list.specs.Found.{IsFound}
 use Rattle.vbr_list.specs.Nearing.{FoundAlone, StandsInList, StillAt, VisitsAlone, steps_visited}

@@ -2,10 +2,10 @@
 use Rattle.std.specs.Prelude.{◌≡◌, ℕ, true}
 use Rattle.vbr_words.specs.declared.place.At.{At}
 use Rattle.vbr_slots.specs.Views.{PassView, knows}
-use Rattle.vbr_access.specs.Keeping.{Keeps}
-use Rattle.vbr_access.specs.Reading.{RollsBack}
-use Rattle.vbr_access.specs.Values.{ValueAt}
-use Rattle.vbr_access.specs.declared.rollback.Rollback.{Rollback}
+use Rattle.vbr_at_table.specs.Keeping.{Keeps}
+use Rattle.vbr_at_table.specs.Reading.{RollsBack}
+use Rattle.vbr_at_table.specs.Values.{ValueAt}
+use Rattle.vbr_at_table.specs.declared.rollback.Rollback.{Rollback}
 
 -- the value of the node at a place is known, where nodes have values, and what the pass knew it knows
 pub record ReadsValue (p q : PassView) (at : At) (found : ℕ) : Type 0 where

@@ -3,7 +3,7 @@ ghost use Rattle.std.specs.Prelude.{◌≡◌, None, IfOk, IfErr, IfSome, IfNone
 ghost use Rattle.vbr_slots.specs.AtTables.{IsSameTable, pass_of, trace_of};
 ghost use Rattle.vbr_slots.specs.Calls.{Took};
 ghost use Rattle.vbr_slots.specs.Views.{IsOf};
-ghost use Rattle.vbr_pools.specs.KeptSlots.{TakesNoSlot};
+ghost use Rattle.vbr_at_table.specs.KeptSlots.{TakesNoSlot};
 ghost use Rattle.vbr_list.specs.Found.{FindsIn, GivesUp};
 ghost use Rattle.vbr_list.specs.Pieces.{GoesOn};
 ghost use Rattle.vbr_list.specs.Traversing.{Finds, SearchTires};

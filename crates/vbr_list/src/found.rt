@@ -1,5 +1,5 @@
 //! What a traversal finds.
-use vbr_access::Held;
+use vbr_at_table::Held;
 
 /// Where a key stands, or would stand, in the list of its bucket.
 #[derive(Clone, Copy, Debug, PartialEq, Eq)]

@@ -3,9 +3,7 @@ ghost use Rattle.std.specs.Prelude.{◌≤◌, IfOk, IfErr};
 ghost use Rattle.vbr_slots.specs.AtTables.{IsSameTable, pass_of, trace_of};
 ghost use Rattle.vbr_list.specs.Helping.{GoesIn, Helps, HelpsNone, MayHelp, Retires};
 
-use vbr_access::at_table::{steps_to_unlink, unlink};
-use vbr_access::{Held, Marked, Rollback};
-use vbr_pools::at_table::retire;
+use vbr_at_table::{Held, Marked, Rollback, retire, steps_to_unlink, unlink};
 use vbr_slots::AtTable;
 use vbr_words::Nodes;
 

@@ -1,11 +1,11 @@
 //! Inserts.
 ghost use Rattle.std.specs.Prelude.{◌≡◌, ◌+◌, ◌≤◌, true, false, length, None, IfOk, IfErr};
 ghost use Rattle.vbr_machine.specs.declared.history.Op.TheVariants.{Insert};
-ghost use Rattle.vbr_pools.specs.KeptSlots.{HasUnpublished};
+ghost use Rattle.vbr_at_table.specs.KeptSlots.{HasUnpublished};
 ghost use Rattle.vbr_slots.specs.AtTables.{IsSameTable, pass_of, trace_of};
 ghost use Rattle.vbr_slots.specs.Calls.{Quiet, Took};
 ghost use Rattle.vbr_slots.specs.Views.{IsOf};
-ghost use Rattle.vbr_access.specs.Answering.{KeepsIn};
+ghost use Rattle.vbr_at_table.specs.Answering.{KeepsIn};
 ghost use Rattle.vbr_list.specs.Sparing.{Calls, CallsAs, CallsInsert, SparesInsert};
 ghost use Rattle.vbr_list.specs.Inserting.{DeniesNone, GivesHandBack, HasHandAndRoom, InsertAnswers, Links, LinksHand, LinksNone, Prepares, PreparesHand, PreparesNone, Provides, ProvidesNone, Publishes};
 ghost use Rattle.vbr_list.specs.Pieces.{HasRoom, IsSameCall, Replies, pass_in, trace_in};
@@ -16,12 +16,11 @@ use crate::call::PendingCall;
 use crate::found::Found;
 use crate::refusal::Refusal;
 use crate::valuing::steps_to_update;
-use vbr_access::Rollback;
-use vbr_access::at_table::{confirm_present_entry, update_entry};
+use vbr_at_table::budget::affords;
+use vbr_at_table::{
+    Hand, Rollback, TakeRefusal, confirm_present_entry, give_back, take, update_entry,
+};
 use vbr_machine::Op;
-use vbr_pools::at_table::{give_back, take};
-use vbr_pools::budget::affords;
-use vbr_pools::{Hand, TakeRefusal};
 use vbr_slots::{AtTable, Pass, Slots};
 use vbr_words::{Entries, Nodes};
 

@@ -2,14 +2,14 @@
 //! that stands they are marked for good, and their links don't change, so where they lead the list
 //! goes on.
 ghost use Rattle.std.specs.Prelude.{◌≡◌, IfOk, IfErr, IfSome, IfNone};
-ghost use Rattle.vbr_access.specs.Held.{held_of};
+ghost use Rattle.vbr_at_table.specs.Held.{held_of};
 ghost use Rattle.vbr_list.specs.LookingUp.{LookStops, LookTires, Sees};
 ghost use Rattle.vbr_list.specs.Pieces.{GoesOn, Observes, trace_in};
 
 use crate::call::PendingCall;
 use crate::traversal::{Stop, Visited};
-use vbr_access::{Held, Marked};
-use vbr_pools::budget::affords;
+use vbr_at_table::budget::affords;
+use vbr_at_table::{Held, Marked};
 use vbr_words::{At, Nodes, decode};
 
 /// What a look-up came to.

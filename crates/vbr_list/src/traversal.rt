@@ -2,7 +2,7 @@
 ghost use Rattle.std.specs.Prelude.{◌≡◌, ◌+◌, ◌≤◌, IsSome, IfOk, IfErr};
 ghost use Rattle.vbr_words.specs.Words.{link_of};
 ghost use Rattle.vbr_slots.specs.Views.{knows};
-ghost use Rattle.vbr_access.specs.Held.{HoldsMarked, Names};
+ghost use Rattle.vbr_at_table.specs.Held.{HoldsMarked, Names};
 ghost use Rattle.vbr_list.specs.Helping.{Helps, HelpsNone};
 ghost use Rattle.vbr_list.specs.Pieces.{GoesOn, HasRoom, IsPiece, OnlyLooks, WasAlone, pass_in, trace_in};
 ghost use Rattle.vbr_list.specs.Traversing.{Finds, IsInsideFor, IsPredFor, Meets, RollsBackFrom, SearchStops, Starts};
@@ -10,9 +10,8 @@ ghost use Rattle.vbr_list.specs.Traversing.{Finds, IsInsideFor, IsPredFor, Meets
 use crate::call::PendingCall;
 use crate::found::Found;
 use crate::helping::help_by_copy;
-use vbr_access::at_table::{checkpoint, first, key_of, next};
-use vbr_access::{Held, Marked, Rollback};
-use vbr_pools::budget::affords;
+use vbr_at_table::budget::affords;
+use vbr_at_table::{Held, Marked, Rollback, checkpoint, first, key_of, next};
 use vbr_words::{Nodes, decode};
 
 /// What a visit comes to behind a place.

@@ -2,16 +2,15 @@
 ghost use Rattle.std.specs.Prelude.{◌≡◌, IfOk, IfErr};
 ghost use Rattle.vbr_slots.specs.AtTables.{IsSameTable, pass_of, trace_of};
 ghost use Rattle.vbr_slots.specs.Views.{knows};
-ghost use Rattle.vbr_access.specs.Held.{IsHeld, IsSlot};
-ghost use Rattle.vbr_access.specs.Reading.{ReadsIn};
-ghost use Rattle.vbr_access.specs.Values.{steps_to_update};
+ghost use Rattle.vbr_at_table.specs.Held.{IsHeld, IsSlot};
+ghost use Rattle.vbr_at_table.specs.Reading.{ReadsIn};
+ghost use Rattle.vbr_at_table.specs.Values.{steps_to_update};
 ghost use Rattle.vbr_list.specs.Budgets.{steps_to_value_of};
 ghost use Rattle.vbr_list.specs.Told.{is_yes};
 ghost use Rattle.vbr_list.specs.Valuing.{LosesValue, ReadsValue};
 
 use crate::refusal::Refusal;
-use vbr_access::at_table::value_of;
-use vbr_access::{Held, Rollback};
+use vbr_at_table::{Held, Rollback, value_of};
 use vbr_slots::{AtTable, Slots};
 use vbr_words::Nodes;
 

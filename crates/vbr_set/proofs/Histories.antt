@@ -13,7 +13,7 @@ use Rattle.vbr_machine.proofs.Lemmas.{every_run, is_run_before, others_leave_cal
 use Rattle.vbr_slots.specs.Calls.{Made}
 use Rattle.vbr_slots.specs.Views.{Trace, Did}
 use Rattle.vbr_slots.proofs.Lemmas.{did_quiet, did_run}
-use Rattle.vbr_access.specs.Soundness.{HasSafeRun}
+use Rattle.vbr_at_table.specs.Soundness.{HasSafeRun}
 use Rattle.vbr_set.specs.Answers.{Answers}
 use Rattle.vbr_set.specs.Histories.{ReadsAreRight}
 use Rattle.vbr_set.specs.Meetings.{Shares}

@@ -11,7 +11,7 @@ use Rattle.vbr_machine.specs.Whereabouts.{WithPass, is_at, is_unstamped, may_bea
 use Rattle.vbr_machine.proofs.Lemmas.{begins_for_know}
 use Rattle.vbr_slots.specs.declared.pass.TheConstants.{POOL}
 use Rattle.vbr_slots.specs.Views.{PassView, Trace, knows}
-use Rattle.vbr_pools.specs.KeptSlots.{HasSlot}
+use Rattle.vbr_at_table.specs.KeptSlots.{HasSlot}
 use Rattle.vbr_set.specs.Room.{HasAllSlots, IsBetweenCalls}
 use Rattle.vbr_set.proofs.RoomLeft.{bears, none_unstamped}
 

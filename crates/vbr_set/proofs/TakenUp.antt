@@ -13,8 +13,8 @@ use Rattle.vbr_slots.specs.Alone.{IsAlone}
 use Rattle.vbr_slots.specs.PassLaw.{PassLaw}
 use Rattle.vbr_slots.specs.Views.{PassView}
 use Rattle.vbr_slots.specs.declared.pass.TheConstants.{POOL}
-use Rattle.vbr_pools.specs.Counts.{flags_raised}
-use Rattle.vbr_pools.specs.KeptSlots.{SharesWhereFull}
+use Rattle.vbr_at_table.specs.Counts.{flags_raised}
+use Rattle.vbr_at_table.specs.KeptSlots.{SharesWhereFull}
 use Rattle.vbr_list.specs.Refusals.{FoundNoSlot}
 use Rattle.vbr_list.specs.declared.refusal.Refusal.TheVariants.{NoSlot}
 use Rattle.vbr_set.specs.Histories.{calls_of}

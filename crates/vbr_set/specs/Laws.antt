@@ -17,7 +17,7 @@ use Rattle.vbr_slots.specs.PassLaw.{PassLaw}
 use Rattle.vbr_slots.specs.Tokens.{SeenView}
 use Rattle.vbr_slots.specs.Views.{Did, KeepsPool, PassView, TableView, Trace, new_pass, new_trace}
 use Rattle.vbr_slots.specs.declared.pass.TheConstants.{POOL}
-use Rattle.vbr_pools.specs.KeptSlots.{UnlinkedInTurn}
+use Rattle.vbr_at_table.specs.KeptSlots.{UnlinkedInTurn}
 use Rattle.vbr_list.specs.declared.refusal.Refusal.{Refusal}
 use Rattle.vbr_list.specs.declared.refusal.Refusal.TheVariants.{NoSlot}
 use Rattle.vbr_set.specs.Answers.{Answers}

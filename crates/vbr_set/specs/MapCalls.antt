@@ -5,8 +5,8 @@ use Rattle.vbr_machine.specs.declared.history.Call.{Call}
 use Rattle.vbr_machine.specs.declared.history.Op.TheVariants.{Remove, Get}
 use Rattle.vbr_slots.specs.Calls.{IsSame, Quiet}
 use Rattle.vbr_slots.specs.Views.{Trace}
-use Rattle.vbr_pools.specs.Steps.{TookWithin}
-use Rattle.vbr_access.specs.Soundness.{HasSafeRun}
+use Rattle.vbr_at_table.specs.Steps.{TookWithin}
+use Rattle.vbr_at_table.specs.Soundness.{HasSafeRun}
 use Rattle.vbr_list.specs.Alone.{AnswersAlone}
 use Rattle.vbr_list.specs.Sparing.{GivesAlone, SparesInsert, SparesLookUp}
 use Rattle.vbr_list.specs.Budgets.{get_costs}

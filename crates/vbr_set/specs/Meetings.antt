@@ -7,7 +7,7 @@ use Rattle.vbr_machine.specs.Calls.{own_calls}
 use Rattle.vbr_slots.specs.Calls.{Quiet, made_by}
 use Rattle.vbr_machine.specs.declared.event.Step.TheVariants.{ReadEpoch}
 use Rattle.vbr_slots.specs.Views.{Did, KeepsPool, PassView, Trace}
-use Rattle.vbr_access.specs.Soundness.{HasSafeRun}
+use Rattle.vbr_at_table.specs.Soundness.{HasSafeRun}
 use Rattle.vbr_set.specs.Histories.{calls_of, ExchangesAreRight, ReadsAreRight}
 
 -- the pass made no call; what it has then seen begins with what the other has seen, and has no other event of it; its calls are legal from the opening keys, and those of the other are just those that it has made

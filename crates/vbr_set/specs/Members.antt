@@ -5,8 +5,8 @@ use Rattle.vbr_machine.specs.History.{set_call}
 use Rattle.vbr_machine.specs.declared.history.Op.{Op}
 use Rattle.vbr_slots.specs.Calls.{IsSame, Quiet}
 use Rattle.vbr_slots.specs.Views.{PassView, TableView, new_passes}
-use Rattle.vbr_pools.specs.Steps.{TookWithin}
-use Rattle.vbr_access.specs.Soundness.{HasSafeRun}
+use Rattle.vbr_at_table.specs.Steps.{TookWithin}
+use Rattle.vbr_at_table.specs.Soundness.{HasSafeRun}
 use Rattle.vbr_list.specs.Alone.{AnswersAlone}
 use Rattle.vbr_list.specs.Sparing.{Spares}
 use Rattle.vbr_list.specs.declared.refusal.Refusal.{Refusal}

@@ -19,12 +19,12 @@ pub use Rattle.vbr_slots.specs.Alone.{IsAlone}
 pub use Rattle.vbr_slots.specs.Calls.{AddsAnswer, AddsNone, IsSame, OnlyLoads, Quiet, made_by}
 pub use Rattle.vbr_slots.specs.Closing.{AllOf, EachSeen, HandsBack, IsMissing}
 pub use Rattle.vbr_slots.specs.Views.{Did, IsOf, KeepsPool, PassView, TableView, Trace, new_pass, new_passes}
-pub use Rattle.vbr_pools.specs.Advances.{AdvancesWhereNeeded}
-pub use Rattle.vbr_pools.specs.KeptSlots.{HasUnpublished, KeepsSlots, TakesNoSlot, SharesWhereFull}
-pub use Rattle.vbr_pools.specs.Budgets.{most_to_take}
-pub use Rattle.vbr_pools.specs.Refusals.{LeavesRoom}
-pub use Rattle.vbr_pools.specs.Steps.{TookWithin}
-pub use Rattle.vbr_access.specs.Soundness.{HasSafeRun}
+pub use Rattle.vbr_at_table.specs.Advances.{AdvancesWhereNeeded}
+pub use Rattle.vbr_at_table.specs.KeptSlots.{HasUnpublished, KeepsSlots, TakesNoSlot, SharesWhereFull}
+pub use Rattle.vbr_at_table.specs.Budgets.{most_to_take}
+pub use Rattle.vbr_at_table.specs.Refusals.{LeavesRoom}
+pub use Rattle.vbr_at_table.specs.Steps.{TookWithin}
+pub use Rattle.vbr_at_table.specs.Soundness.{HasSafeRun}
 pub use Rattle.vbr_list.specs.Alone.{AnswersAlone}
 pub use Rattle.vbr_list.specs.Budgets.{IsAnsweredOrSpent, LacksSteps, enough_past, enough_to_insert, enough_to_look_up, enough_to_search, enough_to_unlink, enough_with_a_slot, find_costs, insert_costs, listed_for, look_up_costs, remove_costs}
 pub use Rattle.vbr_list.specs.Leaving.{Leaves}

@@ -9,7 +9,7 @@ use Rattle.vbr_machine.specs.Runs.{BeginsFor}
 use Rattle.vbr_machine.specs.Whereabouts.{number_had, sum_of}
 use Rattle.vbr_slots.specs.PassLaw.{PassLaw}
 use Rattle.vbr_slots.specs.Views.{PassView, Trace, knows}
-use Rattle.vbr_pools.specs.KeptSlots.{HasSlot}
+use Rattle.vbr_at_table.specs.KeptSlots.{HasSlot}
 use Rattle.vbr_set.specs.Histories.{calls_of}
 
 -- each slot that the pass may give birth in is in its own pool or its hand, and it has stamped each that it unlinked

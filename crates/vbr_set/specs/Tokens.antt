@@ -8,7 +8,7 @@ use Rattle.vbr_machine.specs.declared.history.Call.{Call}
 use Rattle.vbr_slots.specs.Calls.{IsSame, Quiet, made_by}
 use Rattle.vbr_slots.specs.Tokens.{SeenView, Since}
 use Rattle.vbr_slots.specs.Views.{IsOf, KeepsPool, PassView, TableView, Trace}
-use Rattle.vbr_access.specs.Soundness.{HasSafeRun}
+use Rattle.vbr_at_table.specs.Soundness.{HasSafeRun}
 use Rattle.vbr_set.specs.Answers.{Answers}
 use Rattle.vbr_set.specs.Histories.{calls_of, ExchangesAreRight, ReadsAreRight}
 

@@ -2,7 +2,7 @@
 ghost use Rattle.std.specs.Prelude.{◌≡◌, ◌<◌, false, None, IfOk};
 ghost use Rattle.vbr_words.specs.Words.{link_of};
 ghost use Rattle.vbr_slots.specs.Views.{IsOf, knows};
-ghost use Rattle.vbr_access.specs.Held.{IsHeld, HoldsMarked, Names};
+ghost use Rattle.vbr_at_table.specs.Held.{IsHeld, HoldsMarked, Names};
 
 use crate::retiring::read_one;
 use crate::running_table::{close_two, open_two};

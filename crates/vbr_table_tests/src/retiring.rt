@@ -4,10 +4,10 @@ ghost use Rattle.vbr_words.specs.Words.{link_of};
 ghost use Rattle.vbr_words.specs.declared.place.At.TheVariants.{Head, Slot};
 ghost use Rattle.vbr_machine.specs.Acceptance.{IsUnlinked};
 ghost use Rattle.vbr_slots.specs.Views.{IsOf, knows};
-ghost use Rattle.vbr_access.specs.Answering.{IsPresent};
-ghost use Rattle.vbr_access.specs.Exchanges.{IsUnmarked};
-ghost use Rattle.vbr_access.specs.Held.{IsHeld, Names};
-ghost use Rattle.vbr_access.specs.Keeping.{KeepsOwn};
+ghost use Rattle.vbr_at_table.specs.Answering.{IsPresent};
+ghost use Rattle.vbr_at_table.specs.Exchanges.{IsUnmarked};
+ghost use Rattle.vbr_at_table.specs.Held.{IsHeld, Names};
+ghost use Rattle.vbr_at_table.specs.Keeping.{KeepsOwn};
 
 use crate::running_table::{expect_words, two_passes};
 use std::process::Abort;

@@ -9,10 +9,10 @@ use Rattle.vbr_words.specs.Buckets.{bucket_of}
 use Rattle.vbr_words.proofs.Lemmas.{bucket_of-lt}
 use Rattle.vbr_machine.specs.Knowledge.{Know}
 use Rattle.vbr_machine.specs.Membership.{StandsBehind}
-use Rattle.vbr_access.specs.Held.{IsHeld}
-use Rattle.vbr_access.specs.Keeping.{Keeps}
-use Rattle.vbr_access.specs.declared.held.Held.{Held}
-use Rattle.vbr_access.proofs.Lemmas.{held_kept}
+use Rattle.vbr_at_table.specs.Held.{IsHeld}
+use Rattle.vbr_at_table.specs.Keeping.{Keeps}
+use Rattle.vbr_at_table.specs.declared.held.Held.{Held}
+use Rattle.vbr_at_table.proofs.Lemmas.{held_kept}
 
 -- what was held before a call that answered is held after it
 pub held_through : {T E : Type 0} {P : T → Type 0} {know later : Know} (held : Held) (r : Result T E) (x : T) → r ≡ Ok x → IfOk r P → ((y : T) → P y → Keeps know later) → IsHeld know held → IsHeld later held

@@ -8,10 +8,9 @@ use Rattle.vbr_machine.specs.Membership.{StandsBehind}
 use Rattle.vbr_machine.specs.declared.knowledge.Read.TheVariants.{KeyOf}
 use Rattle.vbr_slots.specs.Views.{knows}
 use Rattle.vbr_slots.proofs.Lemmas.{quiet_on}
-use Rattle.vbr_pools.proofs.Lemmas.{counts_on}
-use Rattle.vbr_pools.specs.Retiring.{is_kept}
-use Rattle.vbr_access.specs.Keeping.{KeepsUnlinked}
-use Rattle.vbr_access.proofs.Lemmas.{behind_kept}
+use Rattle.vbr_at_table.proofs.Lemmas.{counts_on, behind_kept}
+use Rattle.vbr_at_table.specs.Retiring.{is_kept}
+use Rattle.vbr_at_table.specs.Keeping.{KeepsUnlinked}
 use Rattle.vbr_list.specs.Pieces.{Goes}
 use Rattle.vbr_list.proofs.Clearing.{clear_before, clear_skipped}
 use Rattle.vbr_list.proofs.Going.{counts_step, took_same}

@@ -4,10 +4,10 @@ use Rattle.vbr_words.specs.Dimensions.{Dimensions}
 use Rattle.vbr_machine.specs.declared.history.Op.TheVariants.{Insert}
 use Rattle.vbr_slots.specs.Calls.{Made, Quiet}
 use Rattle.vbr_slots.proofs.Lemmas.{alone_first, alone_then, quiet_on, same_on}
-use Rattle.vbr_pools.proofs.Lemmas.{had_then, longer, needed_before, shared_on, shares_more}
-use Rattle.vbr_pools.specs.Budgets.{most_to_take}
+use Rattle.vbr_at_table.proofs.Lemmas.{had_then, longer, needed_before, shared_on, shares_more}
+use Rattle.vbr_at_table.specs.Budgets.{most_to_take}
 use Rattle.vbr_slots.specs.Alone.{IsAlone}
-use Rattle.vbr_access.specs.Values.{steps_to_update}
+use Rattle.vbr_at_table.specs.Values.{steps_to_update}
 use Rattle.vbr_list.specs.Budgets.{LacksSteps, enough_to_search, listed_for}
 use Rattle.vbr_list.specs.Inserting.{InsertIsShort, LinksNone}
 use Rattle.vbr_list.specs.Refusals.{IsRefusedInsert}

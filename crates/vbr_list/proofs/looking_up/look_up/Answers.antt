@@ -1,6 +1,6 @@
 use Rattle.std.proofs.Common.{rules, ◌≡◌, ◌+◌, ◌*◌, ◌<◌, ◌≤◌, true, false, refl, sym, ◌∙◌, arith, inr, ap, subst}
 use Rattle.vbr_slots.proofs.Lemmas.{alone_first, answer_on, loads_on, quiet_on, same_on}
-use Rattle.vbr_pools.proofs.Lemmas.{counts_on, none_on, took_all}
+use Rattle.vbr_at_table.proofs.Lemmas.{counts_on, none_on, took_all}
 use Rattle.vbr_words.specs.Dimensions.{Dimensions}
 use Rattle.vbr_machine.specs.Start.{Start}
 use Rattle.vbr_list.proofs.Going.{bucket_is, call_on, call_refl, goes_on, within_call, within_of}
@@ -8,7 +8,7 @@ use Rattle.vbr_list.proofs.Observing.{observed, observes_on}
 use Rattle.vbr_list.specs.Budgets.{answer_costs, enough_to_look_up, listed_for}
 use Rattle.vbr_list.specs.Told.{given_call, kept_call, look_up_op}
 use Rattle.vbr_slots.specs.Calls.{AddsAnswer}
-use Rattle.vbr_pools.specs.declared.budget.TheConstants.{PIECE}
+use Rattle.vbr_at_table.specs.declared.budget.TheConstants.{PIECE}
 use Rattle.vbr_list.proofs.Nearing.{at_first, first_lost, first_of, then_of}
 use Rattle.vbr_list.proofs.Passing.{peeks_on, peeks_refl}
 use Rattle.vbr_list.proofs.LonePasses.{alone}

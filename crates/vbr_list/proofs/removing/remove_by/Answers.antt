@@ -1,6 +1,6 @@
 use Rattle.std.proofs.Common.{rules, sym, ◌∙◌, arith, ap}
 use Rattle.vbr_slots.proofs.Lemmas.{alone_first, alone_then, quiet_on, same_on}
-use Rattle.vbr_pools.proofs.Lemmas.{counts_on, none_on, took_all}
+use Rattle.vbr_at_table.proofs.Lemmas.{counts_on, none_on, took_all}
 use Rattle.vbr_words.specs.Dimensions.{Dimensions}
 use Rattle.vbr_list.proofs.Going.{bucket_is, call_on, goes_on, room_left, tries_on, within_call, within_of}
 use Rattle.vbr_list.proofs.Clearing.{leaves_since}
@@ -12,7 +12,7 @@ use Rattle.vbr_list.specs.Removing.{RemovesSoon}
 use Rattle.vbr_list.proofs.Sufficing.{no_more_listed}
 use Rattle.vbr_list.proofs.Nearing.{at_first, first_lost, first_of, then_of}
 use Rattle.vbr_machine.specs.declared.history.Op.TheVariants.{Remove}
-use Rattle.vbr_pools.specs.declared.budget.TheConstants.{PIECE}
+use Rattle.vbr_at_table.specs.declared.budget.TheConstants.{PIECE}
 use Rattle.vbr_list.proofs.Told.{given_same, told_since}
 use Rattle.vbr_list.proofs.removing.remove_by.Goals as goal
 

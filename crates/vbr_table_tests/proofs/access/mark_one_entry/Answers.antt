@@ -4,9 +4,9 @@ use Rattle.vbr_words.specs.declared.place.At.{At}
 use Rattle.vbr_words.specs.declared.place.At.TheVariants.{Head, Slot}
 use Rattle.vbr_machine.specs.Knowledge.{Know}
 use Rattle.vbr_machine.specs.Membership.{KeyAt}
-use Rattle.vbr_access.specs.Keeping.{Keeps}
-use Rattle.vbr_access.specs.Values.{IsValueRead, RemovesEntry}
-use Rattle.vbr_access.proofs.Lemmas.{held_kept}
+use Rattle.vbr_at_table.specs.Keeping.{Keeps}
+use Rattle.vbr_at_table.specs.Values.{IsValueRead, RemovesEntry}
+use Rattle.vbr_at_table.proofs.Lemmas.{held_kept}
 use Rattle.vbr_list.proofs.Lemmas.{of_on}
 use Rattle.vbr_table_tests.proofs.access.mark_one_entry.Goals as goal
 

@@ -1,5 +1,5 @@
 -- The head stays held through the marking.
-use Rattle.vbr_access.proofs.Lemmas.{held_kept}
+use Rattle.vbr_at_table.proofs.Lemmas.{held_kept}
 use Rattle.vbr_list.proofs.Lemmas.{of_on}
 use Rattle.vbr_table_tests.proofs.list.mark_one.Goals as goal
 

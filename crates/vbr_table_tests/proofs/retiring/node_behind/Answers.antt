@@ -1,7 +1,7 @@
 -- The head stays held, and the node's link isn't marked.
 use Rattle.std.proofs.Common.{◌≡◌, rules}
 use Rattle.vbr_slots.specs.Views.{knows}
-use Rattle.vbr_access.specs.Held.{IsHeld}
+use Rattle.vbr_at_table.specs.Held.{IsHeld}
 use Rattle.vbr_table_tests.proofs.retiring.HeldThrough.{held_through, is_unmarked}
 use Rattle.vbr_table_tests.proofs.retiring.node_behind.Goals as goal
 

@@ -4,10 +4,10 @@ use Rattle.vbr_machine.specs.declared.history.Call.{Call}
 use Rattle.vbr_machine.specs.declared.history.Op.TheVariants.{Has}
 use Rattle.vbr_slots.specs.Calls.{AddsAnswer, Made}
 use Rattle.vbr_slots.specs.Views.{knows}
-use Rattle.vbr_access.specs.Exchanges.{IsUnmarked}
-use Rattle.vbr_access.specs.LookUps.{DecidesKey}
-use Rattle.vbr_access.specs.declared.held.Held.{Held}
-use Rattle.vbr_access.specs.Alone.{StandsNow}
+use Rattle.vbr_at_table.specs.Exchanges.{IsUnmarked}
+use Rattle.vbr_at_table.specs.LookUps.{DecidesKey}
+use Rattle.vbr_at_table.specs.declared.held.Held.{Held}
+use Rattle.vbr_at_table.specs.Alone.{StandsNow}
 use Rattle.vbr_list.specs.Told.{kept_call}
 use Rattle.vbr_list.proofs.Going.{counts_step}
 use Rattle.vbr_list.proofs.KeptHands.{own_kept}

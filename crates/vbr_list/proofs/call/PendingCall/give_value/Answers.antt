@@ -5,8 +5,7 @@ use Rattle.vbr_machine.specs.declared.history.Op.TheVariants.{Get}
 use Rattle.vbr_slots.specs.Calls.{AddsAnswer}
 use Rattle.vbr_slots.specs.Views.{knows}
 use Rattle.vbr_slots.proofs.Lemmas.{adds_on, answer_on, loads_on, quiet_on}
-use Rattle.vbr_pools.proofs.Lemmas.{counts_on}
-use Rattle.vbr_access.proofs.Lemmas.{held_kept}
+use Rattle.vbr_at_table.proofs.Lemmas.{counts_on, held_kept}
 use Rattle.vbr_list.specs.Pieces.{Goes}
 use Rattle.vbr_list.specs.Told.{given_call, given_in}
 use Rattle.vbr_list.specs.Budgets.{steps_to_value_of, steps_where}

@@ -3,8 +3,8 @@ use Rattle.vbr_slots.specs.Alone.{IsAlone}
 use Rattle.vbr_slots.specs.Calls.{Quiet}
 use Rattle.vbr_slots.specs.Views.{Trace}
 use Rattle.vbr_slots.proofs.Lemmas.{alone_first, quiet_on}
-use Rattle.vbr_pools.proofs.Lemmas.{had_back, had_grown, had_on, had_then, no_room, none_back, none_on}
-use Rattle.vbr_access.specs.Values.{steps_to_update}
+use Rattle.vbr_at_table.proofs.Lemmas.{had_back, had_grown, had_on, had_then, no_room, none_back, none_on}
+use Rattle.vbr_at_table.specs.Values.{steps_to_update}
 use Rattle.vbr_list.specs.Budgets.{enough_to_search, listed_for}
 use Rattle.vbr_list.proofs.Going.{call_on, within_call}
 use Rattle.vbr_list.proofs.Nearing.{at_first, first_lost, first_of, then_of}

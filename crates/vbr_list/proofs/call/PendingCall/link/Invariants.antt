@@ -1,6 +1,6 @@
 use Rattle.std.proofs.Common.{◌-◌}
 use Rattle.vbr_slots.specs.Calls.{Quiet}
-use Rattle.vbr_pools.specs.KeptSlots.{HasStill, TakesNoSlot}
+use Rattle.vbr_at_table.specs.KeptSlots.{HasStill, TakesNoSlot}
 use Rattle.vbr_list.specs.Inserting.{CountsWithin, HasHandAndRoom}
 use Rattle.vbr_list.specs.Pieces.{IsSameCall}
 use Rattle.vbr_list.proofs.call.PendingCall.link.Given as goal

@@ -6,11 +6,10 @@ use Rattle.vbr_machine.specs.Membership.{KeyAt}
 use Rattle.vbr_machine.specs.declared.history.Op.TheVariants.{Remove}
 use Rattle.vbr_slots.specs.Views.{knows}
 use Rattle.vbr_slots.proofs.Lemmas.{alone_first, alone_then, made_then, quiet_on}
-use Rattle.vbr_pools.proofs.Lemmas.{counts_on, no_room}
-use Rattle.vbr_access.specs.Alone.{NextStands}
-use Rattle.vbr_access.specs.Held.{Names}
-use Rattle.vbr_access.specs.declared.held.Held.{Held}
-use Rattle.vbr_access.proofs.Lemmas.{fresh_kept, held_kept}
+use Rattle.vbr_at_table.proofs.Lemmas.{counts_on, no_room, fresh_kept, held_kept}
+use Rattle.vbr_at_table.specs.Alone.{NextStands}
+use Rattle.vbr_at_table.specs.Held.{Names}
+use Rattle.vbr_at_table.specs.declared.held.Held.{Held}
 use Rattle.vbr_list.specs.Pieces.{Goes}
 use Rattle.vbr_list.specs.Budgets.{steps_to_value_of, steps_where}
 use Rattle.vbr_list.proofs.Clearing.{leaves_clear}

@@ -1,9 +1,9 @@
 use Rattle.std.proofs.Common.{ℕ, ◌+◌, ◌*◌, ◌<◌, ◌≤◌, Bool, sym, ◌∙◌, subst, arith}
 use Rattle.std.proofs.lemmas.Result.{err_from_is_err_and}
 use Rattle.vbr_slots.proofs.Lemmas.{alone_first, quiet_on}
-use Rattle.vbr_pools.specs.Budgets.{most_to_take}
-use Rattle.vbr_pools.proofs.Lemmas.{no_room, none_on, some_grown}
-use Rattle.vbr_access.specs.Moments.{WasSo}
+use Rattle.vbr_at_table.specs.Budgets.{most_to_take}
+use Rattle.vbr_at_table.proofs.Lemmas.{no_room, none_on, some_grown}
+use Rattle.vbr_at_table.specs.Moments.{WasSo}
 use Rattle.vbr_list.specs.Budgets.{LacksSteps, listed_for}
 use Rattle.vbr_list.specs.Inserting.{CountsWithin}
 use Rattle.vbr_list.proofs.Going.{call_on, counts_step, goes_on, goes_step, tries_on, within_call}

@@ -1,9 +1,9 @@
 use Rattle.std.proofs.Common.{rules, ◌-◌, ◌∙◌, Result, Err, ap, subst}
 use Rattle.std.specs.Prelude.{IfErr}
-use Rattle.vbr_pools.specs.Hands.{HandView}
-use Rattle.vbr_pools.specs.Refusals.{RefusesTake}
-use Rattle.vbr_pools.specs.declared.refusal.TakeRefusal.{TakeRefusal}
-use Rattle.vbr_pools.proofs.Lemmas.{had_taken}
+use Rattle.vbr_at_table.specs.Hands.{HandView}
+use Rattle.vbr_at_table.specs.Refusals.{RefusesTake}
+use Rattle.vbr_at_table.specs.declared.refusal.TakeRefusal.{TakeRefusal}
+use Rattle.vbr_at_table.proofs.Lemmas.{had_taken}
 use Rattle.vbr_list.proofs.Preparing.{spent_rest}
 use Rattle.vbr_list.proofs.call.PendingCall.provide.Goals as goal
 

@@ -2,10 +2,10 @@ use Rattle.std.proofs.Common.{◌≡◌, false, ap, rules, arith, sym, subst, �
 use Rattle.vbr_machine.specs.History.{set_call}
 use Rattle.vbr_machine.specs.declared.history.Op.TheVariants.{Insert}
 use Rattle.vbr_slots.specs.Calls.{Made}
-use Rattle.vbr_access.specs.Values.{steps_to_update}
+use Rattle.vbr_at_table.specs.Values.{steps_to_update}
 use Rattle.vbr_slots.specs.Views.{Trace}
-use Rattle.vbr_pools.specs.Steps.{CountsSteps}
-use Rattle.vbr_pools.proofs.Lemmas.{had_back, had_grown, had_on, had_spent, none_back, none_on}
+use Rattle.vbr_at_table.specs.Steps.{CountsSteps}
+use Rattle.vbr_at_table.proofs.Lemmas.{had_back, had_grown, had_on, had_spent, none_back, none_on}
 use Rattle.vbr_list.proofs.Going.{counts_step, took_same}
 use Rattle.vbr_list.proofs.Told.{told_as, told_bare}
 use Rattle.vbr_list.proofs.ValueReads.{few_to_update}

@@ -3,10 +3,10 @@ use Rattle.std.specs.Prelude.{IfOk, Result}
 use Rattle.vbr_words.specs.declared.nodes.Nodes.{Ghosts}
 use Rattle.vbr_slots.specs.Alone.{IsFresh}
 use Rattle.vbr_slots.specs.Views.{PassView}
-use Rattle.vbr_access.specs.Reading.{IsHeadRead, ReadsIn}
-use Rattle.vbr_access.specs.declared.held.Held.{Held}
-use Rattle.vbr_access.specs.declared.rollback.Rollback.{Rollback}
-use Rattle.vbr_access.proofs.Lemmas.{reads_on}
+use Rattle.vbr_at_table.specs.Reading.{IsHeadRead, ReadsIn}
+use Rattle.vbr_at_table.specs.declared.held.Held.{Held}
+use Rattle.vbr_at_table.specs.declared.rollback.Rollback.{Rollback}
+use Rattle.vbr_at_table.proofs.Lemmas.{reads_on}
 use Rattle.vbr_list.specs.Pieces.{pass_in}
 use Rattle.vbr_list.specs.Traversing.{Starts}
 use Rattle.vbr_list.specs.declared.call.PendingCall.{PendingCall}

@@ -1,6 +1,6 @@
 use Rattle.std.proofs.Common.{◌≡◌, ◌+◌, ◌≤◌, true, false, sym, ◌∙◌, refl, arith, inl}
 use Rattle.vbr_slots.proofs.Lemmas.{quiet_on}
-use Rattle.vbr_pools.specs.declared.budget.TheConstants.{PIECE}
+use Rattle.vbr_at_table.specs.declared.budget.TheConstants.{PIECE}
 use Rattle.vbr_list.proofs.Going.{call_on, goes_on}
 use Rattle.vbr_list.proofs.Moments.{cur_found}
 use Rattle.vbr_list.proofs.Nearing.{first_of, then_of, nears_visit, nears_help, stands_on, found_beyond}

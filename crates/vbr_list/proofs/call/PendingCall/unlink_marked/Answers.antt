@@ -1,6 +1,6 @@
 use Rattle.std.proofs.Common.{rules, arith, sym, ◌∙◌}
 use Rattle.vbr_slots.specs.Alone.{IsAlone, IsFresh}
-use Rattle.vbr_access.specs.Alone.{StandsNow}
+use Rattle.vbr_at_table.specs.Alone.{StandsNow}
 use Rattle.vbr_list.proofs.Clearing.{clear_since}
 use Rattle.vbr_list.proofs.Going.{goes_on}
 use Rattle.vbr_list.proofs.Nearing.{first_of, listed_fewer}

@@ -1,11 +1,11 @@
 use Rattle.std.proofs.Common.{rules, ◌+◌, ◌≤◌, ℕ, Option, Some, None, arith}
 use Rattle.std.specs.Prelude.{IsSome}
 use Rattle.vbr_words.specs.Words.{link_of}
-use Rattle.vbr_access.specs.Steps.{next_steps}
-use Rattle.vbr_access.proofs.Lemmas.{fresh_kept, keeps_on, reads_on}
+use Rattle.vbr_at_table.specs.CallSteps.{next_steps}
+use Rattle.vbr_at_table.proofs.Lemmas.{fresh_kept, keeps_on, reads_on}
 use Rattle.vbr_list.proofs.Going.{goes_on, goes_read}
 use Rattle.vbr_slots.specs.Views.{PassView}
-use Rattle.vbr_access.specs.Reading.{ReadsIn}
+use Rattle.vbr_at_table.specs.Reading.{ReadsIn}
 use Rattle.vbr_list.proofs.Nearing.{either, first_of, then_of, read_leaves, node_still_there, marked_alone, visited}
 use Rattle.vbr_list.proofs.Observing.{looks_read}
 use Rattle.vbr_list.proofs.Reaching.{node_reached, node_found, node_unmarked}

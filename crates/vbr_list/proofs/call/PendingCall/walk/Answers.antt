@@ -1,8 +1,8 @@
 use Rattle.std.proofs.Common.{◌≡◌, refl, sym, ap, ◌∙◌, subst, arith, false, Option, ℕ, Some, None}
 use Rattle.std.specs.Option.{is_some}
 use Rattle.vbr_words.specs.declared.link.Link.{Link}
-use Rattle.vbr_access.specs.Held.{held_of}
-use Rattle.vbr_access.specs.declared.held.Held.{Held}
+use Rattle.vbr_at_table.specs.Held.{held_of}
+use Rattle.vbr_at_table.specs.declared.held.Held.{Held}
 use Rattle.vbr_list.proofs.Going.{call_on, goes_on}
 use Rattle.vbr_list.proofs.Nearing.{first_of, then_of, passes_start, passes_smaller, passes_marked, sight_present, sight_absent}
 use Rattle.vbr_list.proofs.Observing.{observes_on}

@@ -1,0 +1,419 @@
+-- The steps of a pass that would advance the epoch, through its other steps.
+use Rattle.std.proofs.Common.{◌≡◌, ◌≢◌, ℕ, ◌+◌, ◌≤◌, ◌==◌, ◌&&◌, Bool, true, false, cond, Option, Some, None, List, [], ◌∷◌, ◌++◌, length, length-append, refl, sym, ap, ◌∙◌, subst, append_assoc, append-nil, eq-eqb, inl, inr, ⊎_elim, arith}
+use Rattle.std.specs.Prelude.{◌⊎◌, Contains, count_by}
+use Rattle.std.proofs.lemmas.Bool.{cases_eq, ne_eqb}
+use Rattle.std.proofs.lemmas.List.Elements.{Contains-append_left, Contains-append_right}
+use Rattle.std.proofs.lemmas.List.Sums.{sum_by-append}
+use Rattle.vbr_machine.specs.Start.{Start}
+use Rattle.vbr_words.specs.Flags.{has_flag}
+use Rattle.vbr_words.specs.declared.link.Link.{Link}
+use Rattle.vbr_machine.specs.Put.{put}
+use Rattle.vbr_machine.specs.Acceptance.{IsUnlinked, MayBear, stamp_in}
+use Rattle.vbr_machine.specs.Knowledge.{Know}
+use Rattle.vbr_machine.specs.Learning.{learn, reread, with_key, with_value, with_link}
+use Rattle.vbr_machine.specs.Runs.{IsRun, NoneOf, know_after, Begins}
+use Rattle.vbr_machine.specs.declared.event.Event.{Event}
+use Rattle.vbr_machine.specs.declared.event.Step.{Step}
+use Rattle.vbr_machine.specs.declared.event.Step.TheVariants.{ReadEpoch, Advance, LoadStamp, StoreStamp, Raise, TakeFlag, StoreBirth, StoreKey, StoreLink, LoadLink, LoadBirth, LoadKey, Publish, Mark, Unlink, ConfirmPresent, ConfirmAbsent, StoreValue, LoadValue}
+use Rattle.vbr_machine.specs.declared.knowledge.Holding.{Holding}
+use Rattle.vbr_machine.specs.declared.knowledge.Holding.TheVariants.{Free, Unlinked, InHand}
+use Rattle.vbr_machine.proofs.Lemmas.{begins_trans, others_leave_know, put_here, put_other}
+use Rattle.vbr_slots.specs.Calls.{Quiet}
+use Rattle.vbr_slots.specs.Pools.{hand_without}
+use Rattle.vbr_slots.specs.Rule.{one_if}
+use Rattle.vbr_slots.specs.Views.{Trace, PassView, Did, KeepsPool, knows, event_of}
+use Rattle.vbr_slots.proofs.Lemmas.{did_moment, moment_after}
+use Rattle.vbr_at_table.specs.Advances.{AdvancesOnce, AdvancesWhereNeeded}
+use Rattle.vbr_at_table.specs.Counts.{is_advance, is_raise, is_unlink, advances_or_gives, made_of, advances, flags_raised}
+use Rattle.vbr_at_table.specs.KeptSlots.{GoesInTurn, HasSlot, CouldTake, HasFree, StampsUnlinked, KeepsSlots, PoolGrows, SharesWhereFull, TakesNoSlot}
+use Rattle.vbr_at_table.proofs.InTurn.{did_turn}
+
+abbrev made_in : (Step → Bool) → ℕ → List Event → ℕ
+made_in is who events = count_by (λ (e : Event). (e.pass == who) && is e.step) events
+
+-- whether an event is such a step of a pass, as a number
+abbrev one_of : (Step → Bool) → ℕ → Event → ℕ
+one_of is who e = made_in is who (e ∷ [])
+
+plus_none : (n : ℕ) → n + 0 ≡ n
+plus_none n = omega arith
+
+as_number : (b : Bool) → 0 + cond b 1 0 ≡ one_if b
+as_number true = refl
+as_number false = refl
+
+module _ (is : Step → Bool) where
+  other_one : (who : ℕ) (e : Event) → e.pass ≢ who → one_of is who e ≡ 0
+  other_one who e ne = ap (λ (b : Bool). 0 + cond (b && is e.step) 1 0) (ne_eqb e.pass who ne)
+
+  own_one : (who : ℕ) (step : Step) → one_of is who (event_of who step) ≡ one_if (is step)
+  own_one who step = ap (λ (b : Bool). 0 + cond (b && is step) 1 0) (eq-eqb who who refl) ∙ as_number (is step)
+
+  both : (who : ℕ) (xs ys : List Event) → made_in is who (xs ++ ys) ≡ made_in is who xs + made_in is who ys
+  both who xs ys = sum_by-append (λ (e : Event). cond ((e.pass == who) && is e.step) 1 0) xs ys
+
+  none_of_others : (who : ℕ) (events : List Event) → NoneOf who events → made_in is who events ≡ 0
+  none_of_others who [] none = refl
+  none_of_others who (x ∷ xs) none = both who (x ∷ []) xs ∙ (λ i. other_one who x none.0 i + none_of_others who xs none.1 i)
+
+  -- one step more
+  did_made : {step : Step} {p q : Trace} {r : ℕ} → Did step p q r → made_of is q ≡ made_of is p + one_if (is step)
+  did_made {step} {p} {q} d =
+      let who : ℕ = p.who in
+      (λ i. made_in is (d.same.3 i) (d.seen i))
+      ∙ both who (p.seen ++ d.rest) (event_of who step ∷ [])
+      ∙ (λ i. both who p.seen d.rest i + own_one who step i)
+      ∙ (λ i. (made_of is p + none_of_others who d.rest d.none i) + one_if (is step))
+      ∙ ap (λ (n : ℕ). n + one_if (is step)) (plus_none (made_of is p))
+
+  same_made : {step : Step} {p q : Trace} {r : ℕ} → Did step p q r → is step ≡ false → made_of is q ≡ made_of is p
+  same_made {step} {p} d e = did_made d ∙ ap (λ (b : Bool). made_of is p + one_if b) e ∙ plus_none (made_of is p)
+
+pub did_advances : {step : Step} {p q : Trace} {r : ℕ} → Did step p q r → advances q ≡ advances p + one_if (is_advance step)
+did_advances d = did_made is_advance d
+
+pub same_advances : {step : Step} {p q : Trace} {r : ℕ} → Did step p q r → is_advance step ≡ false → advances q ≡ advances p
+same_advances d e = same_made is_advance d e
+
+pub same_flags : {step : Step} {p q : Trace} {r : ℕ} → Did step p q r → is_raise step ≡ false → flags_raised q ≡ flags_raised p
+same_flags d e = same_made is_raise d e
+
+-- ---- parts of a call
+
+-- a hand that is empty has no slot
+pub nobody : {A : Type 0} (hand : Option ℕ) (slot : ℕ) → hand ≡ None → hand ≡ Some slot → A
+nobody hand slot e f = absurd (cc)
+
+pub free_on : (p q r : PassView) → HasFree p q → HasFree q r → HasFree p r
+free_on p q r a b s h = b s (h.0, λ m. a s (m, h.1))
+
+pub keeps_refl : (p : PassView) → KeepsSlots p p
+keeps_refl p = record { free = λ s h. h.1 h.0; stamped = λ s u. u; turn = λ all turn. turn }
+
+pub slots_kept_on : (p q r : PassView) → KeepsSlots p q → KeepsSlots q r → KeepsSlots p r
+slots_kept_on p q r a b = record { free = free_on p q r a.free b.free; stamped = λ s u. a.stamped s (b.stamped s u); turn = λ all turn. b.turn (λ s u. all s (a.stamped s u)) (a.turn all turn) }
+
+-- what doesn't give the pass a slot that it may give birth in leaves it what it could take
+pub free_pool : (p q : PassView) → KeepsPool p q → ((s : ℕ) → MayBear ((knows q.trace).own s) → MayBear ((knows p.trace).own s)) → HasFree p q
+free_pool p q pool may s h = subst (λ (x : List ℕ × Option ℕ). Contains x.0 s ⊎ (x.1 ≡ Some s)) (λ i. (sym pool.0 i, sym pool.1 i)) (h.1 (may s h.0))
+
+-- and so does what teaches nothing of slots
+pub keeps_known : (p q : PassView) → KeepsPool p q → GoesInTurn p.trace q.trace → ((s : ℕ) → (knows q.trace).own s ≡ (knows p.trace).own s) → KeepsSlots p q
+keeps_known p q pool turn same = record { free = free_pool p q pool (λ s m. subst MayBear (same s) m); stamped = λ s u. subst IsUnlinked (same s) u; turn = turn }
+
+-- ---- the own pool, and the shared one
+
+pub grows_same : (p q : PassView) → q.pool ≡ p.pool → PoolGrows p q
+grows_same p q same = ([], same ∙ sym (append-nil p.pool))
+
+pub grows_on : (p q r : PassView) → PoolGrows p q → PoolGrows q r → PoolGrows p r
+grows_on p q r a b = (a.0 ++ b.0, b.1 ∙ ap (λ (l : List ℕ). l ++ b.0) a.1 ∙ append_assoc p.pool a.0 b.0)
+
+-- a pool with slots keeps some
+pub some_grown : (p q : PassView) → PoolGrows p q → p.pool ≢ [] → q.pool ≢ []
+some_grown p q g some none = some (first p.pool g.0 (sym g.1 ∙ none))
+  where
+    first : (xs ys : List ℕ) → xs ++ ys ≡ [] → xs ≡ []
+    first [] ys e = refl
+    first (x ∷ xs) ys e = absurd (cc)
+
+pub longer : (p q : PassView) → PoolGrows p q → length p.pool ≤ length q.pool
+longer p q g = let e : length q.pool ≡ length p.pool + length g.0 = ap length g.1 ∙ length-append p.pool g.0 in omega arith
+
+pub shared_on : (p q r : PassView) (left : ℕ) → SharesWhereFull left p q → length q.pool ≤ length r.pool → SharesWhereFull left q r → SharesWhereFull left p r
+shared_on p q r left (inl a) low (inl b) = inl (b ∙ a)
+shared_on p q r left (inl a) low (inr full) = inr full
+shared_on p q r left (inr full) low b = inr (omega arith)
+
+-- with one more place left
+pub shares_more : (p q : PassView) → SharesWhereFull 1 p q → SharesWhereFull 2 p q
+shares_more p q (inl same) = inl same
+shares_more p q (inr full) = inr (omega arith)
+
+-- where a slot was taken after it
+pub shared_taken : (p q r : PassView) → SharesWhereFull 1 p q → length q.pool ≤ length r.pool + 1 → SharesWhereFull 2 q r → SharesWhereFull 2 p r
+shared_taken p q r (inl a) low (inl b) = inl (b ∙ a)
+shared_taken p q r (inl a) low (inr full) = inr full
+shared_taken p q r (inr full) low b = inr (omega arith)
+
+-- ---- what advances no epoch
+
+pub none_refl : (p : PassView) → TakesNoSlot p p
+none_refl p = record { count = refl; kept = keeps_refl p; grows = grows_same p p refl; shared = inl refl }
+
+pub none_on : {p q r : PassView} → TakesNoSlot p q → TakesNoSlot q r → TakesNoSlot p r
+none_on {p} {q} {r} a b = record {
+  count = b.count ∙ a.count;
+  kept = slots_kept_on p q r a.kept b.kept;
+  grows = grows_on p q r a.grows b.grows;
+  shared = shared_on p q r 1 a.shared (longer q r b.grows) b.shared;
+}
+
+pub none_kept : {p q : PassView} → advances q.trace ≡ advances p.trace → flags_raised q.trace ≡ flags_raised p.trace → KeepsPool p q → KeepsSlots p q → TakesNoSlot p q
+none_kept {p} {q} same flags pool kept = record { count = same; kept = kept; grows = grows_same p q pool.0; shared = inl flags }
+
+pub none_known : {p q : PassView} → advances q.trace ≡ advances p.trace → flags_raised q.trace ≡ flags_raised p.trace → KeepsPool p q → GoesInTurn p.trace q.trace → knows q.trace ≡ knows p.trace → TakesNoSlot p q
+none_known {p} {q} same flags pool turn known = none_kept same flags pool (keeps_known p q pool turn (λ s. ap (λ (k : Know). k.own s) known))
+
+-- a slot that is given back
+pub none_back : (p q : PassView) (slot : ℕ) → q.trace ≡ p.trace → q.pool ≡ p.pool ++ slot ∷ [] → KeepsSlots p q → TakesNoSlot p q
+none_back p q slot same pool kept = record { count = ap (λ (t : Trace). advances t) same; kept = kept; grows = (slot ∷ [], pool); shared = inl (ap (λ (t : Trace). flags_raised t) same) }
+
+no_advance : (step : Step) → advances_or_gives step ≡ false → is_advance step ≡ false
+no_advance ReadEpoch e = refl
+no_advance (Advance from) e = e
+no_advance (LoadStamp s) e = refl
+no_advance (StoreStamp s stamp) e = refl
+no_advance (Raise s) e = refl
+no_advance (TakeFlag s) e = refl
+no_advance (StoreBirth s birth) e = refl
+no_advance (StoreKey s key) e = refl
+no_advance (StoreValue s value) e = refl
+no_advance (StoreLink s next) e = refl
+no_advance (LoadLink at) e = refl
+no_advance (LoadBirth s) e = refl
+no_advance (LoadKey s) e = refl
+no_advance (LoadValue s) e = refl
+no_advance (Publish pred expected s) e = refl
+no_advance (Mark s expected) e = refl
+no_advance (Unlink pred expected s) e = refl
+no_advance (ConfirmPresent op s expected) e = refl
+no_advance (ConfirmAbsent op key at expected) e = refl
+
+no_raise : (step : Step) → advances_or_gives step ≡ false → is_raise step ≡ false
+no_raise ReadEpoch e = refl
+no_raise (Advance from) e = refl
+no_raise (LoadStamp s) e = refl
+no_raise (StoreStamp s stamp) e = refl
+no_raise (Raise s) e = e
+no_raise (TakeFlag s) e = refl
+no_raise (StoreBirth s birth) e = refl
+no_raise (StoreKey s key) e = refl
+no_raise (StoreValue s value) e = refl
+no_raise (StoreLink s next) e = refl
+no_raise (LoadLink at) e = refl
+no_raise (LoadBirth s) e = refl
+no_raise (LoadKey s) e = refl
+no_raise (LoadValue s) e = refl
+no_raise (Publish pred expected s) e = refl
+no_raise (Mark s expected) e = refl
+no_raise (Unlink pred expected s) e = refl
+no_raise (ConfirmPresent op s expected) e = refl
+no_raise (ConfirmAbsent op key at expected) e = refl
+
+may_reread : (holding : Option Holding) → MayBear (reread holding) → MayBear holding
+may_reread None m = m
+may_reread (Some (Free stamp)) m = m
+may_reread (Some (Unlinked seen)) m = m
+may_reread (Some (InHand known)) m = m
+
+may_keyed : (holding : Option Holding) (key : ℕ) → MayBear (with_key holding key) → MayBear holding
+may_keyed None key m = m
+may_keyed (Some (Free stamp)) key m = m
+may_keyed (Some (Unlinked seen)) key m = m
+may_keyed (Some (InHand known)) key m = m
+
+may_valued : (holding : Option Holding) (value : ℕ) → MayBear (with_value holding value) → MayBear holding
+may_valued None value m = m
+may_valued (Some (Free stamp)) value m = m
+may_valued (Some (Unlinked seen)) value m = m
+may_valued (Some (InHand known)) value m = m
+
+may_linked : (holding : Option Holding) (link : Link) → MayBear (with_link holding link) → MayBear holding
+may_linked None link m = m
+may_linked (Some (Free stamp)) link m = m
+may_linked (Some (Unlinked seen)) link m = m
+may_linked (Some (InHand known)) link m = m
+
+-- the slot at which a function was changed, or another one
+may_put : (own : ℕ → Option Holding) (slot : ℕ) (holding : Option Holding) (s : ℕ) → (MayBear holding → MayBear (own slot)) → MayBear (put own slot holding s) → MayBear (own s)
+may_put own slot holding s here m = ⊎_elim (λ (is : s ≡ slot). go is) (λ (other : s ≢ slot). subst MayBear (put_other own slot holding s other) m) (cases_eq s slot)
+  where
+    go : s ≡ slot → MayBear (own s)
+    go is = subst (λ (t : ℕ). MayBear (own t)) (sym is) (here (subst MayBear (ap (put own slot holding) is ∙ put_here own slot holding) m))
+
+either_know : (b : Bool) (x y know : Know) (s : ℕ) → (MayBear (x.own s) → MayBear (know.own s)) → (MayBear (y.own s) → MayBear (know.own s)) → MayBear ((cond b x y).own s) → MayBear (know.own s)
+either_know true x y know s f g m = f m
+either_know false x y know s f g m = g m
+
+may_before : (step : Step) (found stamp : ℕ) (know : Know) (s : ℕ) → advances_or_gives step ≡ false → MayBear ((learn step found stamp know).own s) → MayBear (know.own s)
+may_before ReadEpoch found stamp know s e m = either_know (found == know.epoch) _ _ know s (may_reread (know.own s)) (may_reread (know.own s)) m
+may_before (Advance from) found stamp know s e m = m
+may_before (LoadStamp t) found stamp know s e m = m
+may_before (StoreStamp t new) found stamp know s e m = absurd (cc)
+may_before (Raise t) found stamp know s e m = absurd (cc)
+may_before (TakeFlag t) found stamp know s e m = absurd (cc)
+may_before (StoreBirth t birth) found stamp know s e m = absurd (cc)
+may_before (StoreKey t key) found stamp know s e m = may_put know.own t (with_key (know.own t) key) s (may_keyed (know.own t) key) m
+may_before (StoreValue t value) found stamp know s e m = may_put know.own t (with_value (know.own t) value) s (may_valued (know.own t) value) m
+may_before (StoreLink t next) found stamp know s e m = may_put know.own t _ s (may_linked (know.own t) _) m
+may_before (LoadLink at) found stamp know s e m = m
+may_before (LoadBirth t) found stamp know s e m = m
+may_before (LoadKey t) found stamp know s e m = m
+may_before (LoadValue t) found stamp know s e m = m
+may_before (Publish pred expected t) found stamp know s e m = either_know (found == expected) _ know know s (may_put know.own t None s (λ x. absurd x)) (λ x. x) m
+may_before (Mark t expected) found stamp know s e m = either_know (found == expected) _ know know s (λ x. x) (λ x. x) m
+may_before (Unlink pred expected t) found stamp know s e m = absurd (cc)
+may_before (ConfirmPresent op t expected) found stamp know s e m = m
+may_before (ConfirmAbsent op key at expected) found stamp know s e m = m
+
+-- ---- what was unlinked
+
+unlinked_reread : (holding : Option Holding) → IsUnlinked (reread holding) → IsUnlinked holding
+unlinked_reread None u = u
+unlinked_reread (Some (Free stamp)) u = u
+unlinked_reread (Some (Unlinked seen)) u = tt
+unlinked_reread (Some (InHand known)) u = u
+
+unlinked_keyed : (holding : Option Holding) (key : ℕ) → IsUnlinked (with_key holding key) → IsUnlinked holding
+unlinked_keyed None key u = u
+unlinked_keyed (Some (Free stamp)) key u = u
+unlinked_keyed (Some (Unlinked seen)) key u = u
+unlinked_keyed (Some (InHand known)) key u = u
+
+unlinked_valued : (holding : Option Holding) (value : ℕ) → IsUnlinked (with_value holding value) → IsUnlinked holding
+unlinked_valued None value u = u
+unlinked_valued (Some (Free stamp)) value u = u
+unlinked_valued (Some (Unlinked seen)) value u = u
+unlinked_valued (Some (InHand known)) value u = u
+
+unlinked_linked : (holding : Option Holding) (link : Link) → IsUnlinked (with_link holding link) → IsUnlinked holding
+unlinked_linked None link u = u
+unlinked_linked (Some (Free stamp)) link u = u
+unlinked_linked (Some (Unlinked seen)) link u = u
+unlinked_linked (Some (InHand known)) link u = u
+
+-- the slot at which a function was changed, or another one
+unlinked_put : (own : ℕ → Option Holding) (slot : ℕ) (holding : Option Holding) (s : ℕ) → (IsUnlinked holding → IsUnlinked (own slot)) → IsUnlinked (put own slot holding s) → IsUnlinked (own s)
+unlinked_put own slot holding s here u = ⊎_elim (λ (is : s ≡ slot). go is) (λ (other : s ≢ slot). subst IsUnlinked (put_other own slot holding s other) u) (cases_eq s slot)
+  where
+    go : s ≡ slot → IsUnlinked (own s)
+    go is = subst (λ (t : ℕ). IsUnlinked (own t)) (sym is) (here (subst IsUnlinked (ap (put own slot holding) is ∙ put_here own slot holding) u))
+
+either_unlinked : (b : Bool) (x y know : Know) (s : ℕ) → (IsUnlinked (x.own s) → IsUnlinked (know.own s)) → (IsUnlinked (y.own s) → IsUnlinked (know.own s)) → IsUnlinked ((cond b x y).own s) → IsUnlinked (know.own s)
+either_unlinked true x y know s f g u = f u
+either_unlinked false x y know s f g u = g u
+
+unlinked_before : (step : Step) (found stamp : ℕ) (know : Know) (s : ℕ) → is_unlink step ≡ false → IsUnlinked ((learn step found stamp know).own s) → IsUnlinked (know.own s)
+unlinked_before ReadEpoch found stamp know s e u = either_unlinked (found == know.epoch) _ _ know s (unlinked_reread (know.own s)) (unlinked_reread (know.own s)) u
+unlinked_before (Advance from) found stamp know s e u = u
+unlinked_before (LoadStamp t) found stamp know s e u = u
+unlinked_before (StoreStamp t new) found stamp know s e u = unlinked_put know.own t (Some (Free new)) s (λ x. absurd x) u
+unlinked_before (Raise t) found stamp know s e u = unlinked_put know.own t None s (λ x. absurd x) u
+unlinked_before (TakeFlag t) found stamp know s e u = either_unlinked (has_flag found t) _ know know s (unlinked_put know.own t (Some (Free stamp)) s (λ x. absurd x)) (λ x. x) u
+unlinked_before (StoreBirth t birth) found stamp know s e u = unlinked_put know.own t _ s (λ x. absurd x) u
+unlinked_before (StoreKey t key) found stamp know s e u = unlinked_put know.own t (with_key (know.own t) key) s (unlinked_keyed (know.own t) key) u
+unlinked_before (StoreValue t value) found stamp know s e u = unlinked_put know.own t (with_value (know.own t) value) s (unlinked_valued (know.own t) value) u
+unlinked_before (StoreLink t next) found stamp know s e u = unlinked_put know.own t _ s (unlinked_linked (know.own t) _) u
+unlinked_before (LoadLink at) found stamp know s e u = u
+unlinked_before (LoadBirth t) found stamp know s e u = u
+unlinked_before (LoadKey t) found stamp know s e u = u
+unlinked_before (LoadValue t) found stamp know s e u = u
+unlinked_before (Publish pred expected t) found stamp know s e u = either_unlinked (found == expected) _ know know s (unlinked_put know.own t None s (λ x. absurd x)) (λ x. x) u
+unlinked_before (Mark t expected) found stamp know s e u = either_unlinked (found == expected) _ know know s (λ x. x) (λ x. x) u
+unlinked_before (Unlink pred expected t) found stamp know s e u = absurd (cc)
+unlinked_before (ConfirmPresent op t expected) found stamp know s e u = u
+unlinked_before (ConfirmAbsent op key at expected) found stamp know s e u = u
+
+-- no other step leaves a slot to be stamped
+pub did_stamps : {step : Step} {p q : Trace} {r : ℕ} → Did step p q r → is_unlink step ≡ false → StampsUnlinked p q
+did_stamps {step} {p} {q} {r} d e s u = unlinked_before step r _ (knows p) s e (subst (λ (k : Know). IsUnlinked (k.own s)) d.know u)
+
+no_unlink : (step : Step) → advances_or_gives step ≡ false → is_unlink step ≡ false
+no_unlink ReadEpoch e = refl
+no_unlink (Advance from) e = refl
+no_unlink (LoadStamp s) e = refl
+no_unlink (StoreStamp s stamp) e = refl
+no_unlink (Raise s) e = refl
+no_unlink (TakeFlag s) e = refl
+no_unlink (StoreBirth s birth) e = refl
+no_unlink (StoreKey s key) e = refl
+no_unlink (StoreValue s value) e = refl
+no_unlink (StoreLink s next) e = refl
+no_unlink (LoadLink at) e = refl
+no_unlink (LoadBirth s) e = refl
+no_unlink (LoadKey s) e = refl
+no_unlink (LoadValue s) e = refl
+no_unlink (Publish pred expected s) e = refl
+no_unlink (Mark s expected) e = refl
+no_unlink (Unlink pred expected s) e = e
+no_unlink (ConfirmPresent op s expected) e = refl
+no_unlink (ConfirmAbsent op key at expected) e = refl
+
+-- one such step
+pub did_none : {step : Step} {p q : PassView} {r : ℕ} → Did step p.trace q.trace r → advances_or_gives step ≡ false → KeepsPool p q → TakesNoSlot p q
+did_none {step} {p} {q} {r} d e pool =
+    none_kept (same_advances d (no_advance step e)) (same_flags d (no_raise step e)) pool
+    (record { free = free_pool p q pool (λ s m. may_before step r _ (knows p.trace) s e (subst (λ (k : Know). MayBear (k.own s)) d.know m)); stamped = did_stamps d (no_unlink step e); turn = did_turn d })
+
+-- a step that gives the pass a slot, which is then kept in its pool
+module _ {step : Step} {p q r : PassView} {slot n : ℕ} (d : Did step p.trace q.trace n) (still : is_advance step ≡ false) (dark : is_raise step ≡ false) (left : is_unlink step ≡ false) (others : (s : ℕ) → s ≢ slot → MayBear ((knows q.trace).own s) → MayBear ((knows p.trace).own s)) (stays : KeepsPool p q) (same : r.trace ≡ q.trace) (pool : r.pool ≡ q.pool ++ slot ∷ []) (hand : r.hand ≡ hand_without slot q.hand) where
+  now_pool : r.pool ≡ p.pool ++ slot ∷ []
+  now_pool = pool ∙ ap (λ (l : List ℕ). l ++ slot ∷ []) stays.0
+
+  stays_here : (s : ℕ) → s ≢ slot → HasSlot p s → HasSlot r s
+  stays_here s other (inl c) = inl (subst (λ (l : List ℕ). Contains l s) (sym now_pool) (Contains-append_left p.pool (slot ∷ []) s c))
+  stays_here s other (inr h) = inr (hand ∙ ap (hand_without slot) (stays.1 ∙ h) ∙ ap (λ (b : Bool). cond b None (Some s)) (ne_eqb s slot other))
+
+  pub none_given : TakesNoSlot p r
+  none_given = record {
+    count = ap (λ (t : Trace). advances t) same ∙ same_advances d still;
+    kept = record {
+      free = λ s h.
+          ⊎_elim (λ (is : s ≡ slot). inl (subst (λ (l : List ℕ). Contains l s) (sym now_pool) (Contains-append_right p.pool (slot ∷ []) s (0, omega arith, sym is))))
+          (λ (other : s ≢ slot). stays_here s other (h.1 (others s other (subst (λ (t : Trace). MayBear ((knows t).own s)) same h.0)))) (cases_eq s slot);
+      stamped = λ s u. did_stamps d left s (subst (λ (t : Trace). IsUnlinked ((knows t).own s)) same u);
+      turn = subst (λ (t : Trace). GoesInTurn p.trace t) (sym same) (did_turn d);
+    };
+    grows = (slot ∷ [], now_pool);
+    shared = inl (ap (λ (t : Trace). flags_raised t) same ∙ same_flags d dark);
+  }
+
+-- steps before the one that would advance the epoch
+pub once_after : {p q r : PassView} → Quiet p.trace q.trace → TakesNoSlot p q → AdvancesOnce q r → AdvancesOnce p r
+once_after {p} {q} {r} a none b =
+    let all = subst (λ (x : Start × ℕ). (s : ℕ) → CouldTake q (know_after x.0 b.moment x.1) s → b.epoch ≤ stamp_in ((know_after x.0 b.moment x.1).own s)) (λ i. (a.same.start i, a.same.who i)) b.stamps in
+    record {
+      count = b.count ∙ ap (λ (n : ℕ). n + 1) none.count;
+      moment = b.moment;
+      is = moment_after a.seen b.is;
+      epoch = b.epoch;
+      last_read = (λ i. (know_after (sym a.same.start i) b.moment (sym a.same.who i)).epoch) ∙ b.last_read;
+      advance = subst (λ (who : ℕ). Begins (b.moment ++ event_of who (Advance b.epoch) ∷ []) r.trace.seen) a.same.who b.advance;
+      stamps = λ s h. all s (h.0, λ m. none.kept.free s (m, h.1));
+    }
+
+-- and after it
+pub once_before : {p q r : PassView} → AdvancesOnce p q → Begins q.trace.seen r.trace.seen → (IsRun q.trace.start q.trace.passes q.trace.seen → IsRun r.trace.start r.trace.passes r.trace.seen) → advances r.trace ≡ advances q.trace → AdvancesOnce p r
+once_before {p} {q} {r} a seen run same = record {
+  count = same ∙ a.count;
+  moment = a.moment;
+  is = record { from = a.is.from; to = begins_trans a.moment q.trace.seen r.trace.seen a.is.to seen; is_run = run a.is.is_run };
+  epoch = a.epoch;
+  last_read = a.last_read;
+  advance = begins_trans _ q.trace.seen r.trace.seen a.advance seen;
+  stamps = a.stamps;
+}
+
+-- the one step itself
+pub once : {p q : PassView} {from r : ℕ} → Did (Advance from) p.trace q.trace r → (knows p.trace).epoch ≡ from → ((s : ℕ) → HasSlot p s → from ≤ stamp_in ((knows p.trace).own s)) → AdvancesOnce p q
+once {p} {q} {from} d last stamps =
+    let left = others_leave_know p.trace.start p.trace.seen d.rest p.trace.who d.none in
+    record {
+      count = did_advances d;
+      moment = p.trace.seen ++ d.rest;
+      is = did_moment d;
+      epoch = from;
+      last_read = ap (λ (k : Know). k.epoch) left ∙ last;
+      advance = ([], d.seen ∙ sym (append-nil ((p.trace.seen ++ d.rest) ++ event_of p.trace.who (Advance from) ∷ [])));
+      stamps = subst (λ (k : Know). (s : ℕ) → CouldTake p k s → from ≤ stamp_in (k.own s)) (sym left) (λ s h. stamps s (h.1 h.0));
+    }
+
+-- steps before and after a part that advances the epoch where it has to
+pub needed_after : {p q r : PassView} → Quiet p.trace q.trace → TakesNoSlot p q → AdvancesWhereNeeded q r → AdvancesWhereNeeded p r
+needed_after a none (inl still) = inl (still ∙ none.count)
+needed_after {p} {q} {r} a none (inr o) = inr (once_after {p = p} {q = q} {r = r} a none o)
+
+pub needed_before : {p q r : PassView} → AdvancesWhereNeeded p q → Begins q.trace.seen r.trace.seen → (IsRun q.trace.start q.trace.passes q.trace.seen → IsRun r.trace.start r.trace.passes r.trace.seen) → advances r.trace ≡ advances q.trace → AdvancesWhereNeeded p r
+needed_before (inl none) seen run same = inl (same ∙ none)
+needed_before {p} {q} {r} (inr o) seen run same = inr (once_before {p = p} {q = q} {r = r} o seen run same)

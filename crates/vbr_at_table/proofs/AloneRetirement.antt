@@ -1,0 +1,35 @@
+-- A slot that is retired by a pass that was alone: the lists are as they were, and the epoch that was read still stands.
+use Rattle.std.proofs.Common.{ℕ, refl, sym, ◌∙◌, subst}
+use Rattle.vbr_machine.specs.Start.{Start, IsStart}
+use Rattle.vbr_machine.specs.declared.event.Step.{Step}
+use Rattle.vbr_machine.specs.declared.event.Step.TheVariants.{ReadEpoch, StoreStamp, Raise}
+use Rattle.vbr_slots.specs.Alone.{IsAlone, IsFresh, LeavesLists}
+use Rattle.vbr_slots.specs.Views.{Trace, Did, knows}
+use Rattle.vbr_slots.proofs.Lemmas.{alone_three, alone_two, epoch_now, leaves_on, looks, raise_leaves_lists, same_leaves, stamp_leaves_lists}
+use Rattle.vbr_at_table.proofs.Shown.{epoch_told}
+
+shape_on : {step : Step} {p q : Trace} {r : ℕ} → Did step p q r → IsStart p.start → IsStart q.start
+shape_on d is = let P : Start → Type 0 = IsStart in subst P (sym d.same.1) is
+
+module _ {p q r : Trace} {slot e n : ℕ} (is : IsStart p.start) (read : Did ReadEpoch p q e) (stamp : Did (StoreStamp slot (knows q).epoch) q r n) where
+  pub retired_leaves : IsAlone p r → LeavesLists p r
+  retired_leaves alone =
+      let parts = alone_two read stamp alone in
+      leaves_on (same_leaves p q read.same.1 (looks read parts.0 (λ w a. refl))) (stamp_leaves_lists (shape_on read is) stamp parts.1)
+
+  pub retired_fresh : IsAlone p r → IsFresh r
+  retired_fresh alone =
+      let parts = alone_two read stamp alone in
+      (retired_leaves alone).epoch ∙ sym (epoch_now is read parts.0) ∙ sym (epoch_told read) ∙ sym (epoch_told stamp)
+
+  module _ {t : Trace} {m : ℕ} (raise : Did (Raise slot) r t m) where
+    pub raised_leaves : IsAlone p t → LeavesLists p t
+    raised_leaves alone =
+        let parts = alone_three read stamp raise alone in
+        leaves_on (same_leaves p q read.same.1 (looks read parts.0 (λ w a. refl)))
+        (leaves_on (stamp_leaves_lists (shape_on read is) stamp parts.1) (raise_leaves_lists (shape_on stamp (shape_on read is)) raise parts.2))
+
+    pub raised_fresh : IsAlone p t → IsFresh t
+    raised_fresh alone =
+        let parts = alone_three read stamp raise alone in
+        (raised_leaves alone).epoch ∙ sym (epoch_now is read parts.0) ∙ sym (epoch_told read) ∙ sym (epoch_told stamp) ∙ sym (epoch_told raise)

@@ -1,0 +1,138 @@
+-- A step that exchanges a link word, as what its call tells.
+use Rattle.std.proofs.Common.{◌≡◌, ◌≢◌, ℕ, true, false, refl, sym, ap, ◌∙◌, subst}
+use Rattle.std.specs.Prelude.{Option, Result, Ok, Err, IfErr, None, Some}
+use Rattle.vbr_machine.specs.Start.{Start, IsStart}
+use Rattle.vbr_words.specs.Words.{link_of}
+use Rattle.vbr_words.specs.declared.link.Link.{Link}
+use Rattle.vbr_words.specs.declared.place.At.{At}
+use Rattle.vbr_words.specs.declared.place.At.TheVariants.{Slot}
+use Rattle.vbr_machine.specs.Acceptance.{IsUnlinked}
+use Rattle.vbr_machine.specs.Images.{link_shown_at}
+use Rattle.vbr_machine.specs.Links.{link_to, marked}
+use Rattle.vbr_machine.specs.Membership.{BirthAt, KeyAt, Knows}
+use Rattle.vbr_machine.specs.Runs.{IsRun}
+use Rattle.vbr_machine.specs.declared.event.Step.TheVariants.{Mark, Publish, Unlink}
+use Rattle.vbr_machine.specs.declared.history.Op.TheVariants.{Insert, Remove}
+use Rattle.vbr_machine.specs.declared.knowledge.Read.TheVariants.{LinkAt}
+use Rattle.vbr_slots.specs.Alone.{IsAlone, IsFresh}
+use Rattle.vbr_slots.specs.Calls.{Made, Quiet}
+use Rattle.vbr_slots.specs.PassLaw.{PassLaw}
+use Rattle.vbr_slots.specs.Views.{Did, KeepsPool, PassView, Trace, knows}
+use Rattle.vbr_slots.proofs.Lemmas.{alone_first, alone_then, did_seen, made_on, quiet_on}
+use Rattle.vbr_at_table.specs.Hands.{UnlinkedView}
+use Rattle.vbr_at_table.specs.KeptSlots.{TakesNoSlot}
+use Rattle.vbr_at_table.proofs.Advancing.{none_on}
+use Rattle.vbr_at_table.specs.Alone.{StandsNow}
+use Rattle.vbr_at_table.specs.Values.{InsertsEntry, RemovesEntry, ValueAt, entry_call}
+use Rattle.vbr_at_table.proofs.NoValues.{none_kept, not_valued}
+use Rattle.vbr_at_table.specs.Exchanges.{InsertsKey, IsUnmarked, LosesExchange, RemovesKey, UnlinksNode, UnlinksNone}
+use Rattle.vbr_at_table.specs.Held.{IsHeld, HoldsMarked, Names}
+use Rattle.vbr_at_table.specs.Keeping.{Keeps}
+use Rattle.vbr_at_table.specs.Reading.{IsBirthRead, ReadsIn}
+use Rattle.vbr_at_table.specs.Rollbacks.{IsMovedOrLost}
+use Rattle.vbr_at_table.specs.declared.held.Held.{Held}
+use Rattle.vbr_at_table.specs.declared.held.Marked.{Marked}
+use Rattle.vbr_at_table.specs.declared.rollback.Rollback.{Rollback}
+use Rattle.vbr_at_table.specs.declared.rollback.Rollback.TheVariants.{LostExchange}
+use Rattle.vbr_at_table.proofs.AloneExchanges.{publish_wins, unlink_wins, unlinked_alone, unlinks_after}
+use Rattle.vbr_at_table.proofs.Keeping.{held_kept, keeps_on, marked_kept}
+use Rattle.vbr_at_table.proofs.MadeCalls.{mark_made, publish_failed}
+use Rattle.vbr_at_table.proofs.MarkedLinks.{marked_alone}
+use Rattle.vbr_at_table.proofs.Moments.{found_after, publish_found, unlink_found}
+use Rattle.vbr_at_table.proofs.NoneUnlinked.{lost_none, unlinks_on, won_unlinks}
+use Rattle.vbr_at_table.proofs.Unlinks.{accepted, new_read, read_after, written}
+use Rattle.vbr_at_table.proofs.WonExchanges.{mark_keeps, mark_known, publish_lost_keeps, unlink_keeps, unlink_lost_keeps}
+
+-- ---- a mark
+
+pub mark_told : {p q : Trace} {s word : ℕ} (node : Held) → IsStart p.start → IsRun p.start p.passes p.seen → IsHeld (knows p) node → node.at ≡ Slot s → Did (Mark s node.word) p q node.word → link_of word ≡ marked (link_of node.word)
+    → RemovesEntry p q node (record { slot = s; birth = node.birth; word = word; epoch = node.epoch })
+mark_told {p} {q} {s} {word} node start is_run held at d link =
+    let B : At → Type 0 = λ at. BirthAt (knows q) at node.birth in
+    let L : Link → Type 0 = λ link. Knows (knows q) (LinkAt (Slot s) link) in
+    let h = held_kept node (mark_keeps d) held in
+    record {
+      made = (λ key value k v.
+          let K : At → Type 0 = λ at. KeyAt (knows p) at key in
+          let V : At → Type 0 = λ at. ValueAt (knows p) at value in
+          mark_made start is_run d key value (subst K at k) (λ has. subst V at (v has)));
+      at = sym at;
+      link = link;
+      held = record { held = record { epoch = h.epoch; link = subst L (sym link) (mark_known d); birth = subst B at h.birth }; mark = ap (λ (l : Link). l.mark) link };
+      alone = λ alone. marked_alone node start at d alone;
+    }
+
+-- where nodes have no values, an entry is a key
+pub key_removed : {p q : Trace} {node : Held} {now : Marked} → p.start.shape.values ≡ false → RemovesEntry p q node now → RemovesKey p q node now
+key_removed {p} {q} bare removed = record {
+  made = (λ key k.
+      let P : Option ℕ → Type 0 = λ value. Made (record { who = p.who; op = Remove; key = key; reply = true; value = value }) p q in
+      subst P (none_kept p.start bare (Some 0)) (removed.made key 0 k (λ has. not_valued bare has)));
+  at = removed.at;
+  link = removed.link;
+  held = removed.held;
+  alone = removed.alone;
+}
+
+-- ---- a publication, after what filled the hand
+
+pub entry_told : {key value : ℕ} (p q r : PassView) → Quiet p.trace q.trace → Made (entry_call q.trace.start q.trace.who Insert key true value) q.trace r.trace → r.hand ≡ None → InsertsEntry p r key value
+entry_told {key} {value} p q r fill made spent = record {
+  made = (let P : ℕ → Start → Type 0 = λ who start. Made (entry_call start who Insert key true value) p.trace r.trace in
+      let one : P q.trace.who q.trace.start = made_on fill made in
+      let Q : Start → Type 0 = P q.trace.who in
+      let R : ℕ → Type 0 = λ who. P who p.trace.start in
+      subst R fill.same.who (subst Q fill.same.start one));
+  spent = spent;
+}
+
+-- where nodes have no values, an entry is a key
+pub key_inserted : {key value : ℕ} {p q : PassView} → p.trace.start.shape.values ≡ false → InsertsEntry p q key value → InsertsKey p q key
+key_inserted {key} {value} {p} {q} bare inserted = record {
+  made = (let P : Option ℕ → Type 0 = λ v. Made (record { who = p.trace.who; op = Insert; key = key; reply = true; value = v }) p.trace q.trace in
+      subst P (none_kept p.trace.start bare (Some value)) inserted.made);
+  spent = inserted.spent;
+}
+
+pub publish_lost : {p q r : Trace} {s found : ℕ} (pred : Held) → IsStart q.start → Quiet p q → Keeps (knows p) (knows q) → (IsAlone p q → StandsNow p pred → StandsNow q pred) → Did (Publish pred.at pred.word s) q r found → found ≢ pred.word → LosesExchange p r pred (LostExchange found)
+publish_lost {s = s} pred start fill keeps stands d other = record {
+  quiet = quiet_on fill (publish_failed d other);
+  lost = (other, found_after fill (publish_found d other), keeps_on keeps (publish_lost_keeps d other));
+  wins = λ alone stood. publish_wins start (alone_then fill.same.who fill.seen (did_seen d) alone) pred.at pred.word s d other (stands (alone_first fill.seen (did_seen d) alone) stood);
+}
+
+-- ---- an unlinking, after the birth of what the marked link names
+
+module _ {p q r : PassView} {n : ℕ} (pred : Held) (gone : Marked) (named : Link) (birth : ℕ) (law : PassLaw q) (reads : ReadsIn p q n) (read : IsBirthRead p q gone.word birth) (unmarked : IsUnmarked (knows p.trace) pred) (is_marked : HoldsMarked (knows p.trace) gone) (names : Names pred gone.slot) (is_named : named ≡ link_of gone.word) where
+  pub unlink_told : (node : UnlinkedView) (new : ℕ) → node.slot ≡ gone.slot → link_of new ≡ link_to named.slot pred.birth birth → Did (Unlink pred.at pred.word gone.slot) q.trace r.trace pred.word → KeepsPool q r → IsUnlinked ((knows r.trace).own gone.slot) → UnlinksNode p r pred gone (node, record pred { word = new })
+  unlink_told node new same link d pool owned =
+      let held = held_kept pred read.keeps unmarked.held in
+      let still_marked = marked_kept gone read.keeps is_marked in
+      record {
+        unlinks = unlinks_on p q r reads.takes_no_slot (won_unlinks d pool);
+        keeps = keeps_on read.keeps (unlink_keeps d);
+        slot = same;
+        owned = owned;
+        at = refl;
+        read = read_after reads.quiet (new_read q law pred gone named birth held still_marked is_named read.birth new link d);
+        still = ap (λ (l : Link). l.mark) link;
+        next = ap (λ (l : Link). l.slot) link ∙ ap (λ (l : Link). l.slot) is_named;
+        alone = λ alone stands. unlinks_after p.trace q.trace r.trace pred _ reads.quiet.same.start (reads.looks (alone_first reads.quiet.seen (did_seen d) alone)) read.keeps
+            (unlinked_alone pred new law.start d (alone_then reads.quiet.same.who reads.quiet.seen (did_seen d) alone)
+            (accepted q law pred gone named birth held still_marked is_named read.birth unmarked.unmarked names)
+            held.link unmarked.unmarked (ap (λ a. link_shown_at a pred.at) (reads.looks (alone_first reads.quiet.seen (did_seen d) alone)) ∙ stands)
+            (written q law pred gone named birth held still_marked is_named read.birth ∙ sym link));
+      }
+
+  pub unlink_lost : {found : ℕ} → Did (Unlink pred.at pred.word gone.slot) q.trace r.trace found → found ≢ pred.word → KeepsPool q r → UnlinksNone p r pred (LostExchange found)
+  unlink_lost d other pool = record {
+    takes_no_slot = none_on reads.takes_no_slot (lost_none d other pool);
+    rolled = (other, found_after reads.quiet (unlink_found d other), keeps_on read.keeps (unlink_lost_keeps d other));
+    wins = λ fresh alone stands. unlink_wins law.start (alone_then reads.quiet.same.who reads.quiet.seen (did_seen d) alone) pred.at pred.word gone.slot d other
+        (ap (λ a. link_shown_at a pred.at) (reads.looks (alone_first reads.quiet.seen (did_seen d) alone)) ∙ stands);
+  }
+
+-- the birth wasn't read: nothing was unlinked
+pub none_unlinked : {A : Type 0} {p q : PassView} (pred : Held) (answer : Result A Rollback) → TakesNoSlot p q → IfErr answer (IsMovedOrLost p.trace q.trace pred) → (IsFresh p.trace → IsAlone p.trace q.trace → ⊥) → IfErr answer (UnlinksNone p q pred)
+none_unlinked pred (Ok told) none rolled still = tt
+none_unlinked pred (Err r) none rolled still = record { takes_no_slot = none; rolled = rolled; wins = λ fresh alone stands. still fresh alone }

@@ -1,0 +1,29 @@
+-- The slots of a pass stay its own while the one in hand is filled and published.
+use Rattle.std.proofs.Common.{◌≡◌, ◌≢◌, ℕ, List, Some, None, refl, sym, ap, ◌∙◌, subst, inl, inr, ⊎_elim}
+use Rattle.std.specs.Prelude.{Contains}
+use Rattle.std.proofs.lemmas.Bool.{cases_eq}
+use Rattle.vbr_words.specs.declared.place.At.{At}
+use Rattle.vbr_machine.specs.Acceptance.{MayBear}
+use Rattle.vbr_machine.specs.Knowledge.{Know}
+use Rattle.vbr_machine.specs.Put.{put}
+use Rattle.vbr_machine.specs.declared.event.Step.TheVariants.{Publish}
+use Rattle.vbr_machine.proofs.Lemmas.{put_here, put_other}
+use Rattle.vbr_slots.specs.Views.{PassView, Did, knows}
+use Rattle.vbr_at_table.specs.KeptSlots.{HasSlot, HasFree, TakesNoSlot}
+use Rattle.vbr_at_table.proofs.Advancing.{did_stamps, grows_same, same_advances, same_flags}
+use Rattle.vbr_at_table.proofs.InTurn.{did_turn}
+use Rattle.vbr_at_table.proofs.WonExchanges.{publish_learned}
+
+-- the slot that is published goes out of the hand, and the others stay
+free_kept : (p q : PassView) {pred : At} {expected slot : ℕ} → Did (Publish pred expected slot) p.trace q.trace expected → p.hand ≡ Some slot → q.pool ≡ p.pool → HasFree p q
+free_kept p q {pred} {expected} {slot} d hand pool s h =
+    let may : MayBear (put (knows p.trace).own slot None s) = subst (λ (k : Know). MayBear (k.own s)) (publish_learned d) h.0 in
+    ⊎_elim (λ (is : s ≡ slot). absurd (subst MayBear (ap (put (knows p.trace).own slot None) is ∙ put_here (knows p.trace).own slot None) may))
+    (λ (other : s ≢ slot). stays other (h.1 (subst MayBear (put_other (knows p.trace).own slot None s other) may))) (cases_eq s slot)
+  where
+    stays : s ≢ slot → HasSlot p s → HasSlot q s
+    stays other (inl c) = inl (subst (λ (l : List ℕ). Contains l s) (sym pool) c)
+    stays other (inr e) = let same : s ≡ slot = cc in absurd (other same)
+
+pub publish_none : (p q : PassView) {pred : At} {expected slot : ℕ} → Did (Publish pred expected slot) p.trace q.trace expected → p.hand ≡ Some slot → q.pool ≡ p.pool → TakesNoSlot p q
+publish_none p q d hand pool = record { count = same_advances d refl; kept = record { free = free_kept p q d hand pool; stamped = did_stamps d refl; turn = did_turn d }; grows = grows_same p q pool; shared = inl (same_flags d refl) }

@@ -1,0 +1,26 @@
+-- The lemmas of vbr_at_table that proofs of other crates cite: they import from here, and from no other module of its proofs.
+
+-- What the steps of a pass show: the epoch that it reads, and the flags that it takes.
+pub use Rattle.vbr_at_table.proofs.Shown.{epoch_stood, epoch_told, missed_after}
+-- The steps of a call, one piece after another.
+pub use Rattle.vbr_at_table.proofs.Counting.{counts_none, counts_on, no_room, took_all}
+-- The steps of a pass that would advance the epoch, through its other steps.
+pub use Rattle.vbr_at_table.proofs.Advancing.{did_none, did_stamps, free_on, free_pool, grows_on, grows_same, slots_kept_on, longer, needed_after}
+pub use Rattle.vbr_at_table.proofs.Advancing.{needed_before, none_back, none_known, none_on, none_refl, same_advances, same_flags, shared_on}
+pub use Rattle.vbr_at_table.proofs.Advancing.{shared_taken, shares_more, some_grown}
+-- A pass unlinks in turn, from step to step.
+pub use Rattle.vbr_at_table.proofs.InTurn.{did_stay_turn, did_turn, turn_others}
+-- The slots that a pass has, from piece to piece of a call.
+pub use Rattle.vbr_at_table.proofs.HadSlots.{had_back, had_grown, had_on, had_spent, had_taken, had_then}
+-- The places and the slots that a pass knows of are those of the shape: loads and exchanges ask for that.
+pub use Rattle.vbr_at_table.proofs.PlacesInShape.{link_in}
+-- What was known stays known.
+pub use Rattle.vbr_at_table.proofs.Keeping.{behind_kept, held_in_kept, held_in_next, held_kept, keeps_on}
+-- What was so at the moment of a step.
+pub use Rattle.vbr_at_table.proofs.Moments.{stood_after, stood_before, was_absent, was_present}
+-- Checked reads by a pass that was alone: the epoch hasn't moved, the lists are as they were, and what was read stands there.
+pub use Rattle.vbr_at_table.proofs.AloneReads.{fresh_kept}
+-- An unlinking: won, it gives the pass the slot to stamp; lost, it leaves all as it was.
+pub use Rattle.vbr_at_table.proofs.NoneUnlinked.{unlinks_none}
+-- What calls that read tell, one after another.
+pub use Rattle.vbr_at_table.proofs.ReadCalls.{reads_on}

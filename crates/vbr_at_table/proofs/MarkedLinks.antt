@@ -1,0 +1,52 @@
+-- A mark leaves the epoch, the link of each other place than its node's, and as many nodes in each list.
+use Rattle.std.proofs.Common.{◌≡◌, ◌≢◌, ℕ, refl, sym, ap, ◌∙◌}
+use Rattle.std.specs.Prelude.{◌==◌}
+use Rattle.vbr_machine.specs.Start.{Start, IsStart}
+use Rattle.vbr_words.specs.Words.{link_of}
+use Rattle.vbr_words.specs.declared.place.At.{At}
+use Rattle.vbr_words.specs.declared.place.At.TheVariants.{Head, Slot}
+use Rattle.vbr_machine.specs.Agreement.{Agrees}
+use Rattle.vbr_machine.specs.Images.{link_shown_at}
+use Rattle.vbr_machine.specs.Incarnations.{Incarnations}
+use Rattle.vbr_machine.specs.Links.{marked}
+use Rattle.vbr_machine.specs.Machine.{World, after, found, link_at}
+use Rattle.vbr_machine.specs.Nodes.{behind}
+use Rattle.vbr_machine.specs.Notes.{Notes}
+use Rattle.vbr_machine.specs.Runs.{world_after}
+use Rattle.vbr_machine.specs.declared.event.Step.TheVariants.{Mark}
+use Rattle.vbr_machine.proofs.Lemmas.{by_both, mark_leaves, put_other, run_agrees, world_after-snoc}
+use Rattle.vbr_slots.specs.Alone.{IsAlone}
+use Rattle.vbr_slots.specs.Views.{Trace, Did, event_of}
+use Rattle.vbr_slots.proofs.Lemmas.{accepted_now, did_run, nodes_next, run_was, seen_next}
+use Rattle.vbr_at_table.specs.Alone.{MarksAlone}
+use Rattle.vbr_at_table.specs.declared.held.Held.{Held}
+use Rattle.vbr_at_table.proofs.AloneReads.{shape_on}
+
+-- ---- in the world
+
+module _ (start : Start) (w : World) (p s expected : ℕ) where
+  epoch_left : (after start w p (Mark s expected)).epoch ≡ w.epoch
+  epoch_left = by_both (found start w (Mark s expected) == expected) (λ v. v.epoch) _ w w.epoch refl refl
+
+  link_left : (at : At) → at ≢ Slot s → link_at (after start w p (Mark s expected)) at ≡ link_at w at
+  link_left (Head b) other = by_both (found start w (Mark s expected) == expected) (λ v. v.head b) _ w (w.head b) refl refl
+  link_left (Slot t) other = by_both (found start w (Mark s expected) == expected) (λ v. v.link t) _ w (w.link t) (put_other w.link s (marked (link_of expected)) t (λ e. other (ap Slot e))) refl
+
+-- ---- in what a pass that was alone has seen
+
+link_is : {start : Start} {w : World} {a : Incarnations} {notes : ℕ → Notes} → Agrees start w a notes → (at : At) → link_shown_at a at ≡ link_at w at
+link_is g (Head b) = sym (g.image.head b)
+link_is g (Slot t) = sym (g.image.link t)
+
+pub marked_alone : {p q : Trace} {s r : ℕ} (node : Held) → IsStart p.start → node.at ≡ Slot s → Did (Mark s node.word) p q r → IsAlone p q → MarksAlone p q node
+marked_alone {p} {q} {s} node is at d alone =
+    let before = run_agrees p.start p.passes p.seen is (run_was d alone) in
+    let now = run_agrees q.start q.passes q.seen (shape_on d is) (did_run d) in
+    let w = world_after p.start p.seen in
+    let next : world_after q.start q.seen ≡ after p.start w p.who (Mark s node.word) = (λ i. world_after (d.same.1 i) (seen_next d alone i)) ∙ world_after-snoc p.start p.seen (event_of p.who (Mark s node.word)) in
+    record {
+      epoch = sym now.image.epoch ∙ ap (λ (v : World). v.epoch) next ∙ epoch_left p.start w p.who s node.word ∙ before.image.epoch;
+      others = λ place other.
+          link_is now place ∙ ap (λ (v : World). link_at v place) next ∙ link_left p.start w p.who s node.word place (λ e. other (e ∙ sym at)) ∙ sym (link_is before place);
+      listed = λ bucket h. (λ i. behind (d.same.1 i) (nodes_next d alone i) bucket (Head h)) ∙ mark_leaves p.start p.passes p.seen is (run_was d alone) p.who bucket h s node.word (accepted_now d alone);
+    }

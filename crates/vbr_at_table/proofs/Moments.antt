@@ -1,0 +1,172 @@
+-- What was so at the moment of a step.
+use Rattle.std.proofs.Common.{◌≡◌, ◌≢◌, ℕ, Bool, true, false, List, [], ◌∷◌, ◌++◌, refl, sym, ap, ◌∙◌, subst, append-nil, inl, inr, cond, eqb-true}
+use Rattle.std.specs.Prelude.{◌⊎◌, ◌==◌}
+use Rattle.std.proofs.lemmas.Bool.{cases_Bool, ne_eqb, eq-eqb}
+use Rattle.vbr_machine.specs.Start.{Start, IsStart}
+use Rattle.vbr_words.specs.Words.{link_of}
+use Rattle.vbr_words.specs.declared.place.At.{At}
+use Rattle.vbr_machine.specs.Opened.{opening_keys}
+use Rattle.vbr_machine.specs.History.{set_after}
+use Rattle.vbr_machine.specs.Knowledge.{Know}
+use Rattle.vbr_machine.specs.Machine.{link_at, found}
+use Rattle.vbr_machine.specs.Making.{exchanged, confirmed}
+use Rattle.vbr_machine.specs.Membership.{IsHeldPlace, KeyAt, StandsBehind, StandsBefore}
+use Rattle.vbr_machine.specs.Moments.{WasShown}
+use Rattle.vbr_machine.specs.Runs.{IsRun, Begins, world_after, know_after}
+use Rattle.vbr_machine.specs.declared.event.Event.{Event}
+use Rattle.vbr_machine.specs.declared.event.Effect.TheVariants.{Value, Won, Lost, Answered}
+use Rattle.vbr_machine.specs.declared.event.Step.{Step}
+use Rattle.vbr_machine.specs.declared.event.Step.TheVariants.{ReadEpoch, LoadLink, Publish, Unlink}
+use Rattle.vbr_machine.proofs.Lemmas.{absent_at_load, is_run_before, link_loaded, others_leave_know, present_at_load}
+use Rattle.vbr_slots.specs.Calls.{IsSame, Quiet}
+use Rattle.vbr_slots.specs.Views.{Trace, Did, knows, event_of}
+use Rattle.vbr_slots.proofs.Lemmas.{did_moment, moment_after, moment_before}
+use Rattle.vbr_at_table.proofs.Shown.{epoch_stood}
+use Rattle.vbr_at_table.specs.Moments.{IsEpochRead, Stood, IsRead, WasFound, WasSo}
+use Rattle.vbr_at_table.specs.declared.held.Held.{Held}
+
+-- ---- what a step found
+
+value_is : (r n : ℕ) → Value r ≡ Value n → n ≡ r
+value_is r n e = cc
+
+-- an exchange that is won found what it expected
+pub won : (expected n : ℕ) → exchanged expected expected ≡ exchanged expected n → n ≡ expected
+won expected n e = go (cases_Bool (n == expected))
+  where
+    left : exchanged expected expected ≡ Won
+    left = ap (λ (b : Bool). cond b Won (Lost expected)) (eq-eqb expected expected refl)
+
+    go : ((n == expected) ≡ true) ⊎ ((n == expected) ≡ false) → n ≡ expected
+    go (inl t) = eqb-true n expected t
+    go (inr f) = let z : Won ≡ Lost n = sym left ∙ e ∙ ap (λ (b : Bool). cond b Won (Lost n)) f in absurd (cc)
+
+-- one that is lost found what it answers
+pub lost : (expected r n : ℕ) → r ≢ expected → exchanged expected r ≡ exchanged expected n → n ≡ r
+lost expected r n other e = go (cases_Bool (n == expected))
+  where
+    left : exchanged expected r ≡ Lost r
+    left = ap (λ (b : Bool). cond b Won (Lost r)) (ne_eqb r expected other)
+
+    go : ((n == expected) ≡ true) ⊎ ((n == expected) ≡ false) → n ≡ r
+    go (inl t) = let z : Lost r ≡ Won = sym left ∙ e ∙ ap (λ (b : Bool). cond b Won (Lost n)) t in absurd (cc)
+    go (inr f) = let z : Lost r ≡ Lost n = sym left ∙ e ∙ ap (λ (b : Bool). cond b Won (Lost n)) f in cc
+
+pub answers_same : (reply : Bool) (expected n : ℕ) → confirmed reply expected expected ≡ confirmed reply expected n → n ≡ expected
+answers_same reply expected n e = go (cases_Bool (n == expected))
+  where
+    left : confirmed reply expected expected ≡ Answered reply
+    left = ap (λ (b : Bool). cond b (Answered reply) (Lost expected)) (eq-eqb expected expected refl)
+
+    go : ((n == expected) ≡ true) ⊎ ((n == expected) ≡ false) → n ≡ expected
+    go (inl t) = eqb-true n expected t
+    go (inr f) = let z : Answered reply ≡ Lost n = sym left ∙ e ∙ ap (λ (b : Bool). cond b (Answered reply) (Lost n)) f in absurd (cc)
+
+pub unanswered : (reply : Bool) (expected r n : ℕ) → r ≢ expected → confirmed reply expected r ≡ confirmed reply expected n → n ≡ r
+unanswered reply expected r n other e = go (cases_Bool (n == expected))
+  where
+    left : confirmed reply expected r ≡ Lost r
+    left = ap (λ (b : Bool). cond b (Answered reply) (Lost r)) (ne_eqb r expected other)
+
+    go : ((n == expected) ≡ true) ⊎ ((n == expected) ≡ false) → n ≡ r
+    go (inl t) = let z : Lost r ≡ Answered reply = sym left ∙ e ∙ ap (λ (b : Bool). cond b (Answered reply) (Lost n)) t in absurd (cc)
+    go (inr f) = let z : Lost r ≡ Lost n = sym left ∙ e ∙ ap (λ (b : Bool). cond b (Answered reply) (Lost n)) f in cc
+
+-- ---- when the epoch was read
+
+pub epoch_read : {p q : Trace} {epoch : ℕ} → Did ReadEpoch p q epoch → IsEpochRead p q epoch
+epoch_read {p} {q} d = record {
+  moment = p.seen ++ d.rest;
+  within = did_moment d;
+  was = epoch_stood d;
+  read = ([], d.seen ∙ sym (append-nil ((p.seen ++ d.rest) ++ event_of p.who ReadEpoch ∷ [])));
+}
+
+-- ---- where a link stood
+
+-- the run just before a step
+pub run_before : {step : Step} {p q : Trace} {r : ℕ} (d : Did step p q r) → IsRun p.start p.passes (p.seen ++ d.rest)
+run_before {step} {p} {q} d = is_run_before p.start p.passes (p.seen ++ d.rest) (event_of p.who step ∷ []) (let P : List Event → Type 0 = IsRun p.start p.passes in subst P d.seen d.is_run)
+
+-- the link that a load read stood there at the load
+stood_here : {p q : Trace} (at : At) (birth word epoch : ℕ) → IsStart p.start → IsHeldPlace (knows p) at → (knows p).epoch ≡ epoch → Did (LoadLink at) p q word → Stood p q (record { at = at; birth = birth; word = word; epoch = epoch })
+stood_here {p} {q} at birth word epoch start held same d =
+    let know = others_leave_know p.start p.seen d.rest p.who d.none in
+    record {
+      moment = p.seen ++ d.rest;
+      within = did_moment d;
+      epoch = ap (λ (k : Know). k.epoch) know ∙ same;
+      place = let P : Know → Type 0 = λ k. IsHeldPlace k at in subst P (sym know) held;
+      shown = link_loaded p.start p.passes (p.seen ++ d.rest) start (run_before d) p.who at ∙ ap link_of (value_is word _ d.shows.answers);
+    }
+
+-- what stood in a part of what the pass did stood in the whole
+pub stood_before : {p q r : Trace} {held : Held} → Stood p q held → Quiet q r → Stood p r held
+stood_before x b = record { moment = x.moment; within = moment_before x.within b; epoch = x.epoch; place = x.place; shown = x.shown }
+
+module _ {p q : Trace} (same : IsSame p q) where
+  know_same : (moment : List Event) → know_after q.start moment q.who ≡ know_after p.start moment p.who
+  know_same moment = λ i. know_after (same.start i) moment (same.who i)
+
+  pub stood_after : {r : Trace} {held : Held} → Begins p.seen q.seen → Stood q r held → Stood p r held
+  stood_after {r} {held} begins x = record {
+    moment = x.moment;
+    within = moment_after begins x.within;
+    epoch = ap (λ (k : Know). k.epoch) (sym (know_same x.moment)) ∙ x.epoch;
+    place = let P : Know → Type 0 = λ k. IsHeldPlace k held.at in subst P (know_same x.moment) x.place;
+    shown = ap (λ (s : Start). link_at (world_after s x.moment) held.at) (sym same.start) ∙ x.shown;
+  }
+
+pub stood_at_load : {p q r s : Trace} (at : At) (birth word epoch : ℕ) → IsStart p.start → Quiet p q → IsHeldPlace (knows q) at → (knows q).epoch ≡ epoch → Did (LoadLink at) q r word → Quiet r s → Stood p s (record { at = at; birth = birth; word = word; epoch = epoch })
+stood_at_load {p} {q} {r} {s} at birth word epoch start a held same d b =
+    stood_before (stood_after a.same a.seen (stood_here at birth word epoch (let P : Start → Type 0 = IsStart in subst P (sym a.same.start) start) held same d)) b
+
+-- ---- where a word was found
+
+-- a lost publication answers the word that stood there
+pub publish_found : {pred : At} {expected s word : ℕ} {p q : Trace} → Did (Publish pred expected s) p q word → word ≢ expected → WasFound p q pred word
+publish_found {pred} {expected} {s} {word} {p} d other = record { moment = p.seen ++ d.rest; within = did_moment d; found = lost expected word _ other d.shows.answers }
+
+-- and so does a lost unlinking
+pub unlink_found : {pred : At} {expected s word : ℕ} {p q : Trace} → Did (Unlink pred expected s) p q word → word ≢ expected → WasFound p q pred word
+unlink_found {pred} {expected} {s} {word} {p} d other = record { moment = p.seen ++ d.rest; within = did_moment d; found = lost expected word _ other d.shows.answers }
+
+-- what was found in a part of what the pass did was found in the whole
+pub found_after : {p q r : Trace} {at : At} {word : ℕ} → Quiet p q → WasFound q r at word → WasFound p r at word
+found_after {p} {q} {r} {at} {word} a x = record {
+  moment = x.moment;
+  within = moment_after a.seen x.within;
+  found = ap (λ (s : Start). found s (world_after s x.moment) (LoadLink at)) (sym a.same.start) ∙ x.found;
+}
+
+-- ---- what was in the set
+
+module _ {p q : Trace} (held : Held) (start : IsStart p.start) (same : IsSame p q) (read : IsRead p q held) (unmarked : (link_of held.word).mark ≡ false) where
+  was_shown : WasShown q.start read.stood.moment q.seen q.who held.at (link_of held.word)
+  was_shown = record {
+    begins = read.stood.within.to;
+    epoch = ap (λ (k : Know). k.epoch) (know_same same read.stood.moment) ∙ read.stood.epoch ∙ read.known.epoch;
+    held = let P : Know → Type 0 = λ k. IsHeldPlace k held.at in subst P (sym (know_same same read.stood.moment)) read.stood.place;
+    shown = ap (λ (s : Start). link_at (world_after s read.stood.moment) held.at) same.start ∙ read.stood.shown;
+    known = read.known.link;
+    unmarked = unmarked;
+  }
+
+  shape_now : IsStart q.start
+  shape_now = let P : Start → Type 0 = IsStart in subst P (sym same.start) start
+
+  -- the key of a node whose unmarked link was read was in the set
+  pub was_present : (key : ℕ) → KeyAt (knows q) held.at key → WasSo p q key true
+  was_present key k = record {
+    moment = read.stood.moment;
+    within = read.stood.within;
+    was = ap (λ (s : Start). set_after (opening_keys s) (world_after s read.stood.moment).calls key) (sym same.start) ∙ present_at_load q.start q.passes read.stood.moment q.seen shape_now read.stood.within.is_run q.who held.at (link_of held.word) was_shown key k;
+  }
+
+  -- a key that stands behind a place whose unmarked link was read, and before what the link names, wasn't
+  pub was_absent : (key : ℕ) → StandsBehind q.start (knows q) held.at key → StandsBefore (knows q) key (link_of held.word).slot → WasSo p q key false
+  was_absent key i j = record {
+    moment = read.stood.moment;
+    within = read.stood.within;
+    was = ap (λ (s : Start). set_after (opening_keys s) (world_after s read.stood.moment).calls key) (sym same.start) ∙ absent_at_load q.start q.passes read.stood.moment q.seen shape_now read.stood.within.is_run q.who held.at (link_of held.word) was_shown key i j;
+  }

@@ -1,0 +1,215 @@
+-- Steps that read, one after another, as what a call tells that reads.
+use Rattle.std.proofs.Common.{◌≡◌, ◌≢◌, ℕ, ◌+◌, ◌++◌, Bool, true, false, [], Option, Some, None, refl, sym, ap, ◌∙◌, subst, cond}
+use Rattle.std.specs.Prelude.{◌==◌}
+use Rattle.vbr_machine.specs.Start.{Start, IsStart}
+use Rattle.vbr_words.specs.declared.place.At.{At}
+use Rattle.vbr_words.specs.declared.place.At.TheVariants.{Head, Slot}
+use Rattle.vbr_machine.specs.Acceptance.{IsInHand}
+use Rattle.vbr_machine.specs.Accounts.{happens}
+use Rattle.vbr_machine.specs.Incarnations.{Incarnations}
+use Rattle.vbr_machine.specs.Knowledge.{Know}
+use Rattle.vbr_machine.specs.Learning.{call_of, read_epoch, reread}
+use Rattle.vbr_machine.specs.Loads.{IsLoad}
+use Rattle.vbr_machine.specs.Machine.{World}
+use Rattle.vbr_machine.specs.declared.event.Step.{Step}
+use Rattle.vbr_machine.specs.declared.event.Step.TheVariants.{ReadEpoch, LoadLink, LoadBirth, LoadKey, LoadValue}
+use Rattle.vbr_machine.specs.declared.knowledge.Holding.{Holding}
+use Rattle.vbr_machine.specs.declared.knowledge.Holding.TheVariants.{Free, InHand, Unlinked}
+use Rattle.vbr_slots.specs.PassLaw.{PassLaw}
+use Rattle.vbr_slots.specs.Pools.{HandFits}
+use Rattle.vbr_slots.specs.Reads.{Reads, ReadsNode}
+use Rattle.vbr_slots.specs.Views.{Trace, PassView, Did, KeepsPool, knows}
+use Rattle.vbr_slots.proofs.Lemmas.{adds_on, adds_refl, alone_first, alone_then, did_adds_none, did_loads, did_quiet}
+use Rattle.vbr_slots.proofs.Lemmas.{did_took, loads_on, loads_refl, looks, quiet_on, quiet_refl, took_none, took_on}
+use Rattle.vbr_at_table.specs.Counts.{advances_or_gives}
+use Rattle.vbr_at_table.proofs.Advancing.{did_none, none_on, none_refl}
+use Rattle.vbr_at_table.specs.Held.{IsHeld, Names}
+use Rattle.vbr_at_table.specs.Keeping.{Keeps}
+use Rattle.vbr_at_table.specs.Reading.{IsHeadRead, IsKeyRead, IsNextRead, ReadsIn, RollsBack}
+use Rattle.vbr_at_table.specs.Rollbacks.{IsMoved}
+use Rattle.vbr_at_table.specs.Values.{IsValueRead}
+use Rattle.vbr_at_table.specs.declared.held.Held.{Held}
+use Rattle.vbr_at_table.specs.declared.rollback.Rollback.TheVariants.{EpochMoved}
+use Rattle.vbr_at_table.proofs.Accepted.{named_slot}
+use Rattle.vbr_at_table.proofs.AloneReads.{head_stands, head_still, key_still, node_stands, node_still, value_still}
+use Rattle.vbr_at_table.proofs.CheckedReads.{head_is_unmarked, head_keeps, head_read, key_keeps, key_of_bucket, key_read, node_keeps, node_read, value_keeps, value_read}
+use Rattle.vbr_at_table.proofs.Keeping.{keeps_on}
+use Rattle.vbr_at_table.proofs.ReadSteps.{birth_loaded_keeps, key_loaded_keeps, link_loaded_keeps, moved, value_loaded_keeps}
+
+-- ---- what a read needs of its pass, which a read keeps
+
+pub record IsFit (p : PassView) : Type 0 where
+  pub start : IsStart p.trace.start
+  pub hand : (s : ℕ) → p.hand ≡ Some s → IsInHand ((knows p.trace).own s)
+
+in_hand : (p : PassView) (hand : Option ℕ) → HandFits p.trace.start (knows p.trace) p.pool hand → (s : ℕ) → hand ≡ Some s → IsInHand ((knows p.trace).own s)
+in_hand p hand fits s is = let P : Option ℕ → Type 0 = HandFits p.trace.start (knows p.trace) p.pool in let f : HandFits p.trace.start (knows p.trace) p.pool (Some s) = subst P is fits in f.1
+
+pub fit : (p : PassView) → PassLaw p → IsFit p
+fit p law = record { start = law.start; hand = in_hand p p.hand law.own.in_hand }
+
+pub fit_on : {p q : PassView} {n : ℕ} → IsFit p → ReadsIn p q n → IsFit q
+fit_on {p} {q} f x =
+    let P : Start → Type 0 = IsStart in
+    let Q : Option Holding → Type 0 = IsInHand in
+    record {
+      start = subst P (sym x.quiet.same.start) f.start;
+      hand = λ s is. let had : p.hand ≡ Some s = sym x.own.hand ∙ is in subst Q (sym (x.own.in_hand s had)) (f.hand s had);
+    }
+
+-- ---- one after another
+
+pub reads_none : (p : PassView) → PassLaw p → ReadsIn p p 0
+reads_none p law = record {
+  took = took_none p.trace;
+  quiet = quiet_refl p.trace;
+  own = record { pool = refl; hand = refl; in_hand = λ s is. refl };
+  takes_no_slot = none_refl p;
+  adds_none = adds_refl p.trace;
+  only_loads = loads_refl p.trace;
+  looks = λ alone. refl;
+}
+
+pub reads_on : {p q r : PassView} {m n : ℕ} → ReadsIn p q m → ReadsIn q r n → ReadsIn p r (m + n)
+reads_on {p} {q} {r} {m} {n} x y = record {
+  took = took_on m n x.took y.took;
+  quiet = quiet_on x.quiet y.quiet;
+  own = record { pool = y.own.pool ∙ x.own.pool; hand = y.own.hand ∙ x.own.hand; in_hand = λ s is. y.own.in_hand s (x.own.hand ∙ is) ∙ x.own.in_hand s is };
+  takes_no_slot = none_on x.takes_no_slot y.takes_no_slot;
+  adds_none = adds_on x.adds_none y.adds_none;
+  only_loads = loads_on x.only_loads y.only_loads;
+  looks = λ alone. y.looks (alone_then x.quiet.same.who x.quiet.seen y.quiet.seen alone) ∙ x.looks (alone_first x.quiet.seen y.quiet.seen alone);
+}
+
+-- ---- one step
+
+module _ {step : Step} {p q : PassView} {r : ℕ} (f : IsFit p) (d : Did step p.trace q.trace r) (pool : KeepsPool p q) where
+  one : IsLoad step → ((know : Know) → call_of p.trace.start p.trace.who know step ≡ None) → ((w : World) (a : Incarnations) → happens p.trace.start w a p.trace.who step ≡ []) → advances_or_gives step ≡ false → ((s : ℕ) → p.hand ≡ Some s → (knows q.trace).own s ≡ (knows p.trace).own s) → ReadsIn p q 1
+  one load no_call nothing no_gift kept =
+      let P : Start → Type 0 = IsStart in
+      record {
+        took = did_took d;
+        quiet = did_quiet d no_call;
+        own = record { pool = pool.0; hand = pool.1; in_hand = kept };
+        takes_no_slot = did_none d no_gift pool;
+        adds_none = did_adds_none d nothing;
+        only_loads = did_loads d load;
+        looks = λ alone. looks d alone nothing;
+      }
+
+reread_own : (b : Bool) (x y : Know) (s : ℕ) (h : Option Holding) → x.own s ≡ h → y.own s ≡ h → (let k : Know = cond b x y in k.own s) ≡ h
+reread_own true x y s h a b = a
+reread_own false x y s h a b = b
+
+-- a read of the epoch, whether it moved or not
+read_own : (know : Know) (epoch s : ℕ) → (let k : Know = read_epoch know epoch in k.own s) ≡ reread (know.own s)
+read_own know epoch s =
+    reread_own (epoch == know.epoch)
+    (record { epoch = know.epoch; pending = []; checked = know.checked ++ know.pending; own = λ s. reread (know.own s) })
+    (record { epoch = epoch; pending = []; checked = []; own = λ s. reread (know.own s) })
+    s (reread (know.own s)) refl refl
+
+still_in_hand : (holding : Option Holding) → IsInHand holding → reread holding ≡ holding
+still_in_hand None is = refl
+still_in_hand (Some (Free stamp)) is = refl
+still_in_hand (Some (Unlinked seen)) is = absurd is
+still_in_hand (Some (InHand known)) is = refl
+
+module _ {p q : PassView} {r : ℕ} where
+  pub epoch_in_one : IsFit p → Did ReadEpoch p.trace q.trace r → KeepsPool p q → ReadsIn p q 1
+  epoch_in_one f d pool = one f d pool (λ know. refl) (λ know. refl) (λ w a. refl) refl
+      (λ s is. ap (λ (k : Know). k.own s) d.know ∙ read_own (knows p.trace) r s ∙ still_in_hand ((knows p.trace).own s) (f.hand s is))
+
+  pub link_in_one : {at : At} → IsFit p → Did (LoadLink at) p.trace q.trace r → KeepsPool p q → ReadsIn p q 1
+  link_in_one f d pool = one f d pool (λ know. refl) (λ know. refl) (λ w a. refl) refl (λ s is. ap (λ (k : Know). k.own s) d.know)
+
+  pub birth_in_one : {s : ℕ} → IsFit p → Did (LoadBirth s) p.trace q.trace r → KeepsPool p q → ReadsIn p q 1
+  birth_in_one f d pool = one f d pool (λ know. refl) (λ know. refl) (λ w a. refl) refl (λ s is. ap (λ (k : Know). k.own s) d.know)
+
+  pub value_in_one : {s : ℕ} → IsFit p → Did (LoadValue s) p.trace q.trace r → KeepsPool p q → ReadsIn p q 1
+  value_in_one f d pool = one f d pool (λ know. refl) (λ know. refl) (λ w a. refl) refl (λ s is. ap (λ (k : Know). k.own s) d.know)
+
+  pub key_in_one : {s : ℕ} → IsFit p → Did (LoadKey s) p.trace q.trace r → KeepsPool p q → ReadsIn p q 1
+  key_in_one f d pool = one f d pool (λ know. refl) (λ know. refl) (λ w a. refl) refl (λ s is. ap (λ (k : Know). k.own s) d.know)
+
+-- ---- loads and a read of the epoch
+
+module _ {p q : PassView} {word epoch : ℕ} (law : PassLaw p) where
+  pub link_in_two : {at : At} → Reads (LoadLink at) p q word epoch → ReadsIn p q 2
+  link_in_two x = let first = link_in_one (fit p law) x.loaded x.pool_loaded in reads_on first (epoch_in_one (fit_on (fit p law) first) x.read x.pool_read)
+
+  pub key_in_two : {s : ℕ} → Reads (LoadKey s) p q word epoch → ReadsIn p q 2
+  key_in_two x = let first = key_in_one (fit p law) x.loaded x.pool_loaded in reads_on first (epoch_in_one (fit_on (fit p law) first) x.read x.pool_read)
+
+  pub value_in_two : {s : ℕ} → Reads (LoadValue s) p q word epoch → ReadsIn p q 2
+  value_in_two x = let first = value_in_one (fit p law) x.loaded x.pool_loaded in reads_on first (epoch_in_one (fit_on (fit p law) first) x.read x.pool_read)
+
+  pub node_in_three : {s birth : ℕ} → ReadsNode s p q birth word epoch → ReadsIn p q 3
+  node_in_three x =
+      let first = birth_in_one (fit p law) x.born x.pool_born in
+      let fits = fit_on (fit p law) first in
+      let second = link_in_one fits x.reads.loaded x.reads.pool_loaded in
+      reads_on first (reads_on second (epoch_in_one (fit_on fits second) x.reads.read x.reads.pool_read))
+
+-- ---- an epoch that hasn't moved confirms what was loaded
+
+pub head_told : {p q : PassView} {bucket word epoch : ℕ} → PassLaw p → Reads (LoadLink (Head bucket)) p q word epoch → epoch ≡ (knows p.trace).epoch → IsHeadRead p q bucket (record { at = Head bucket; birth = 0; word = word; epoch = epoch })
+head_told law x same = record {
+  keeps = head_keeps x.loaded x.read same;
+  at = refl;
+  read = head_read x.loaded x.read same law.start;
+  unmarked = head_is_unmarked x.loaded x.read same law.start;
+  stands = λ alone. head_stands x.loaded x.read alone law.start;
+}
+
+pub node_told : {p q : PassView} {s birth word epoch : ℕ} (held : Held) → PassLaw p → IsHeld (knows p.trace) held → Names held s → ReadsNode s p q birth word epoch → epoch ≡ (knows p.trace).epoch → IsNextRead p q held (Some (record { at = Slot s; birth = birth; word = word; epoch = epoch }))
+node_told {s = s} held law is names x same = record {
+  keeps = node_keeps x.born x.reads.loaded x.reads.read same;
+  read = (s, names, refl, node_read x.born x.reads.loaded x.reads.read same law.start (named_slot held s is names));
+  stands = λ alone. node_stands x.born x.reads.loaded x.reads.read alone law.start;
+}
+
+pub key_told : {p q : PassView} {s key epoch : ℕ} (at : At) → PassLaw p → at ≡ Slot s → Reads (LoadKey s) p q key epoch → epoch ≡ (knows p.trace).epoch → IsKeyRead p q at key
+key_told {p} {q} {s} {key} at law is x same =
+    let P : At → Type 0 = λ at. IsKeyRead p q at key in
+    subst P (sym is) (record { keeps = key_keeps x.loaded x.read same; key = key_read x.loaded x.read same; bucket = λ b h. key_of_bucket x.loaded x.read same law.start b h })
+
+pub value_told : {p q : PassView} {s value epoch : ℕ} (at : At) → at ≡ Slot s → Reads (LoadValue s) p q value epoch → epoch ≡ (knows p.trace).epoch → IsValueRead p q at value
+value_told {p} {q} {s} {value} at is x same =
+    let P : At → Type 0 = λ at. IsValueRead p q at value in
+    subst P (sym is) (record { keeps = value_keeps x.loaded x.read same; value = value_read x.loaded x.read same })
+
+-- ---- the epoch has moved
+
+pub apart : {a b e : ℕ} → a ≢ b → b ≡ e → a ≢ e
+apart ne is = λ x. ne (x ∙ sym is)
+
+has_moved : (p : Trace) {q r : Trace} {epoch : ℕ} → Keeps (knows p) (knows q) → Did ReadEpoch q r epoch → epoch ≢ (knows p).epoch → IsMoved p r (EpochMoved epoch)
+has_moved p {q} {r} {epoch} keeps d other =
+    let m = d.know ∙ moved (knows q) epoch (λ e. other (e ∙ keeps.epoch)) in
+    (other, ap (λ (k : Know). k.epoch) m, ap (λ (k : Know). k.pending) m, ap (λ (k : Know). k.checked) m)
+
+module _ {p q : PassView} {word epoch : ℕ} (law : PassLaw p) where
+  pub link_rolls : {at : At} → Reads (LoadLink at) p q word epoch → epoch ≢ (knows p.trace).epoch → RollsBack p q (EpochMoved epoch)
+  link_rolls x other = record {
+    moved = has_moved p.trace (link_loaded_keeps x.loaded) x.read other;
+    still = λ fresh alone. other (head_still x.loaded x.read alone law.start fresh);
+  }
+
+  pub key_rolls : {s : ℕ} → Reads (LoadKey s) p q word epoch → epoch ≢ (knows p.trace).epoch → RollsBack p q (EpochMoved epoch)
+  key_rolls x other = record {
+    moved = has_moved p.trace (key_loaded_keeps x.loaded) x.read other;
+    still = λ fresh alone. other (key_still x.loaded x.read alone law.start fresh);
+  }
+
+  pub value_rolls : {s : ℕ} → Reads (LoadValue s) p q word epoch → epoch ≢ (knows p.trace).epoch → RollsBack p q (EpochMoved epoch)
+  value_rolls x other = record {
+    moved = has_moved p.trace (value_loaded_keeps x.loaded) x.read other;
+    still = λ fresh alone. other (value_still x.loaded x.read alone law.start fresh);
+  }
+
+  pub node_rolls : {s birth : ℕ} → ReadsNode s p q birth word epoch → epoch ≢ (knows p.trace).epoch → RollsBack p q (EpochMoved epoch)
+  node_rolls x other = record {
+    moved = has_moved p.trace (keeps_on (birth_loaded_keeps x.born) (link_loaded_keeps x.reads.loaded)) x.reads.read other;
+    still = λ fresh alone. other (node_still x.born x.reads.loaded x.reads.read alone law.start fresh);
+  }

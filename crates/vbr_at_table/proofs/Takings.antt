@@ -1,0 +1,269 @@
+-- A call that takes a slot, from its pieces: a flag is won, or the own pool has slots; a slot is chosen; and an incarnation is born there.
+use Rattle.std.proofs.Common.{◌≡◌, ◌≢◌, ℕ, zero, suc, ◌+◌, ◌<◌, ◌≤◌, Bool, not, cond, List, [], ◌∷◌, length, Result, Ok, Err, refl, sym, ap, ◌∙◌, subst, inl, inr, ⊎_elim, eq-eqb, arith}
+use Rattle.std.specs.Prelude.{◌⊎◌, Contains, IfOk, IfErr, None}
+use Rattle.vbr_slots.specs.declared.pass.TheConstants.{POOL}
+use Rattle.vbr_slots.specs.Alone.{IsAlone}
+use Rattle.vbr_slots.specs.Calls.{Quiet, Took}
+use Rattle.vbr_slots.specs.Pools.{without}
+use Rattle.vbr_slots.specs.Views.{PassView, knows}
+use Rattle.vbr_slots.proofs.Lemmas.{alone_first, quiet_on}
+use Rattle.vbr_at_table.specs.Advances.{AdvancesWhereNeeded}
+use Rattle.vbr_at_table.specs.Budgets.{NeedsMore, steps_to_win, steps_to_take}
+use Rattle.vbr_at_table.specs.Hands.{HandView}
+use Rattle.vbr_at_table.specs.KeptSlots.{KeepsSlots, SharesWhereFull}
+use Rattle.vbr_at_table.specs.Pieces.{BearsNone, Chooses, ChoosesNone, HasSlots, IsBorn, IsChosen, IsShortOrSpent, Probes, Uses, WinsNone, told_steps}
+use Rattle.vbr_at_table.specs.Refusals.{LeavesPool, RefusesTake, TakeIsRefused, TellsSpent}
+use Rattle.vbr_at_table.specs.SharedPool.{CameByFlag}
+use Rattle.vbr_at_table.specs.Taking.{IsOldest, IsTaken, Takes}
+use Rattle.vbr_at_table.specs.declared.refusal.TakeRefusal.{TakeRefusal}
+use Rattle.vbr_at_table.specs.declared.refusal.TakeRefusal.TheVariants.{OutOfSteps, NoSlot, EpochSpent}
+use Rattle.vbr_at_table.proofs.Advancing.{slots_kept_on, longer, needed_after, needed_before, shared_on, shares_more}
+use Rattle.vbr_at_table.proofs.Counting.{uses_on, took_all}
+use Rattle.vbr_at_table.proofs.Shown.{came_before}
+
+-- ---- no slot is won
+
+-- the steps to win a slot are fewer than those of a call that takes one
+win_enough : (p : PassView) (budget : ℕ) (refusal : TakeRefusal) → p.pool ≡ [] → NeedsMore (steps_to_win p.trace.start) budget refusal → NeedsMore (steps_to_take p.trace.start p.pool) budget refusal
+win_enough p budget (OutOfSteps used) empty short =
+    let P : List ℕ → Type 0 = λ pool. budget < steps_to_take p.trace.start pool + 7 in
+    subst P (sym empty) (omega (arith, short))
+win_enough p budget NoSlot empty short = tt
+win_enough p budget (EpochSpent epoch) empty short = tt
+
+module _ (p q : PassView) (budget : ℕ) (told : TakeRefusal × ℕ) (first : Probes p q) (none : WinsNone p q budget told) where
+  pub unwon_takes : Takes p q budget
+  unwon_takes = record {
+    steps = record { steps = told.1; within = none.uses.within; took = took_all none.uses.counts };
+    quiet = first.quiet;
+    kept = first.takes_no_slot.kept;
+    one = (let low = longer p q first.takes_no_slot.grows in omega (arith, low));
+    shared = shares_more p q first.takes_no_slot.shared;
+    advances = inl first.takes_no_slot.count;
+  }
+
+  pub unwon_took : Took p.trace q.trace told.1
+  unwon_took = took_all none.uses.counts
+
+  pub unwon_refused : p.hand ≡ None → RefusesTake p q budget told.0
+  unwon_refused empty = record {
+    why = none.why;
+    pool = inl none.pool.0;
+    hand = none.pool.1 ∙ empty;
+    ready = λ some. absurd (some none.empty);
+    enough = λ alone. win_enough p budget told.0 none.empty (none.enough alone);
+  }
+
+-- ---- the own pool has slots
+
+module _ (p q r : PassView) (budget used : ℕ) (first : Probes p q) (begun : HasSlots p q budget used) (then : Chooses q r) where
+  quiet_all : Quiet p.trace r.trace
+  quiet_all = quiet_on first.quiet then.quiet
+
+  same_length : length r.pool ≡ length q.pool
+  same_length = ap length then.pool.0
+
+  -- what is left where it ends here
+  leaves : LeavesPool p r
+  leaves =
+      ⊎_elim (λ (x : (q.pool ≡ p.pool) × (p.pool ≢ []) × (used ≡ 0)). inl (then.pool.0 ∙ x.0))
+      (λ (x : (p.pool ≡ []) × (slot : ℕ) × (q.pool ≡ slot ∷ []) × CameByFlag p.trace q.trace slot). inr (x.0, x.1, then.pool.0 ∙ x.2, came_before x.3 then.quiet)) begun.won
+
+  advances_all : AdvancesWhereNeeded p r
+  advances_all = needed_after {p = p} {q = q} {r = r} first.quiet first.takes_no_slot then.advances
+
+  kept_all : KeepsSlots p r
+  kept_all = slots_kept_on p q r first.takes_no_slot.kept then.kept
+
+  shared_all : SharesWhereFull 1 p r
+  shared_all = shared_on p q r 1 first.takes_no_slot.shared (let e = same_length in omega arith) then.shared
+
+  grown : length p.pool ≤ length r.pool
+  grown = let low = longer p q first.takes_no_slot.grows in let e = same_length in omega (arith, low, e)
+
+  all_uses : {since most : ℕ} → Uses q r budget used since most → Uses p r budget 0 since (budget + most)
+  all_uses uses = uses_on begun.uses uses
+
+  pub stops_takes : {since most : ℕ} → Uses q r budget used since most → Takes p r budget
+  stops_takes {since} uses = record {
+    steps = record { steps = since; within = uses.within; took = took_all (all_uses uses).counts };
+    quiet = quiet_all;
+    kept = kept_all;
+    one = (let low = grown in omega (arith, low));
+    shared = shares_more p r shared_all;
+    advances = advances_all;
+  }
+
+  -- the steps to win a slot, and those that are made at most for a slot of the own pool, are at most those of a call that takes a slot
+  few_own : p.pool ≢ [] → used + length q.pool ≤ POOL
+  few_own some =
+      ⊎_elim (λ (x : (q.pool ≡ p.pool) × (p.pool ≢ []) × (used ≡ 0)). (let none = x.2 in let room = begun.room in omega (arith, none, room)))
+      (λ (x : (p.pool ≡ []) × (slot : ℕ) × (q.pool ≡ slot ∷ []) × CameByFlag p.trace q.trace slot). absurd (some x.0)) begun.won
+
+  won_few : IsAlone p.trace q.trace → used + (length q.pool + 4) ≤ steps_to_take p.trace.start p.pool
+  won_few alone =
+      ⊎_elim (λ (x : (q.pool ≡ p.pool) × (p.pool ≢ []) × (used ≡ 0)). at_most p.pool x.1 (few_own x.1))
+      (λ (x : (p.pool ≡ []) × (slot : ℕ) × (q.pool ≡ slot ∷ []) × CameByFlag p.trace q.trace slot). shared x.0 (ap length x.2) (begun.few x.0 alone)) begun.won
+    where
+      at_most : (pool : List ℕ) → pool ≢ [] → used + length q.pool ≤ POOL → used + (length q.pool + 4) ≤ steps_to_take p.trace.start pool
+      at_most [] some few = absurd (some refl)
+      at_most (slot ∷ pool) some few = omega (arith, few)
+
+      shared : p.pool ≡ [] → length q.pool ≡ 1 → used ≤ steps_to_win p.trace.start → used + (length q.pool + 4) ≤ steps_to_take p.trace.start p.pool
+      shared empty one few =
+          let P : List ℕ → Type 0 = λ pool. used + (length q.pool + 4) ≤ steps_to_take p.trace.start pool in
+          subst P (sym empty) (omega (arith, one, few))
+
+  alone_before : IsAlone p.trace r.trace → IsAlone p.trace q.trace
+  alone_before alone = alone_first {p = p.trace} {q = q.trace} {r = r.trace} first.quiet.seen then.quiet.seen alone
+
+  -- no slot was chosen
+  module _ (told : TakeRefusal × ℕ) (none : ChoosesNone q r budget used told) where
+    pub unchosen_took : Took p.trace r.trace told.1
+    unchosen_took = took_all (all_uses none.uses).counts
+
+    why_none : (refusal : TakeRefusal) → IsShortOrSpent r budget told.1 refusal → TakeIsRefused p r budget refusal
+    why_none (OutOfSteps n) why = subst (λ (n : ℕ). TakeIsRefused p r budget (OutOfSteps n)) (sym why.0) (record { took = unchosen_took; within = none.uses.within; short = why.1 })
+    why_none NoSlot why = absurd why
+    why_none (EpochSpent e) why = (why.0, record { steps = told.1; room = why.1; took = unchosen_took })
+
+    ready_none : (refusal : TakeRefusal) → IsShortOrSpent r budget told.1 refusal → p.pool ≢ [] → 80 ≤ budget → TellsSpent refusal
+    ready_none (OutOfSteps n) why some ample =
+        let few = few_own some in
+        let made = none.uses.at_most in
+        let short = why.1 in
+        absurd (omega (arith, few, made, short, ample))
+    ready_none NoSlot why some ample = absurd why
+    ready_none (EpochSpent e) why some ample = tt
+
+    enough_none : (refusal : TakeRefusal) → IsShortOrSpent r budget told.1 refusal → IsAlone p.trace r.trace → NeedsMore (steps_to_take p.trace.start p.pool) budget refusal
+    enough_none (OutOfSteps n) why alone =
+        let most = won_few (alone_before alone) in
+        let made = none.uses.at_most in
+        let short = why.1 in
+        omega (arith, most, short, made)
+    enough_none NoSlot why alone = tt
+    enough_none (EpochSpent e) why alone = tt
+
+    pub unchosen_refused : RefusesTake p r budget told.0
+    unchosen_refused = record {
+      why = why_none told.0 none.why;
+      pool = leaves;
+      hand = then.pool.1 ∙ begun.hand;
+      ready = ready_none told.0 none.why;
+      enough = enough_none told.0 none.why;
+    }
+
+  -- a slot was chosen, and then an incarnation was to be born there
+  module _ (t : PassView) (slot since : ℕ) (chosen : IsChosen q r budget used (slot, since)) where
+    one : (s : ℕ) → Contains (s ∷ []) slot → s ≡ slot
+    one s (zero, low, is) = is
+    one s (suc k, low, is) = absurd (omega arith)
+
+    gone : (s : ℕ) → s ≡ slot → without slot (s ∷ []) ≡ []
+    gone s is = ap (λ (b : Bool). cond (not b) (s ∷ []) []) (eq-eqb s slot is)
+
+    -- the slot that was chosen was in the pool, or came
+    from : (birth : ℕ) → Quiet r.trace t.trace → IsOldest (knows t.trace) r.pool slot birth → IsOldest (knows t.trace) p.pool slot birth ⊎ ((p.pool ≡ []) × CameByFlag p.trace t.trace slot)
+    from birth more oldest =
+        ⊎_elim (λ (x : (q.pool ≡ p.pool) × (p.pool ≢ []) × (used ≡ 0)). inl (subst (λ (l : List ℕ). IsOldest (knows t.trace) l slot birth) (then.pool.0 ∙ x.0) oldest))
+        (λ (x : (p.pool ≡ []) × (s : ℕ) × (q.pool ≡ s ∷ []) × CameByFlag p.trace q.trace s).
+        inr (x.0, subst (CameByFlag p.trace t.trace) (one x.1 (subst (λ (l : List ℕ). Contains l slot) (then.pool.0 ∙ x.2) chosen.below.0)) (came_before x.3 (quiet_on then.quiet more)))) begun.won
+
+    rest : t.pool ≡ without slot r.pool → t.pool ≡ without slot p.pool
+    rest is =
+        ⊎_elim (λ (x : (q.pool ≡ p.pool) × (p.pool ≢ []) × (used ≡ 0)). is ∙ ap (without slot) (then.pool.0 ∙ x.0))
+        (λ (x : (p.pool ≡ []) × (s : ℕ) × (q.pool ≡ s ∷ []) × CameByFlag p.trace q.trace s).
+        is ∙ ap (without slot) (then.pool.0 ∙ x.2) ∙ gone x.1 (one x.1 (subst (λ (l : List ℕ). Contains l slot) (then.pool.0 ∙ x.2) chosen.below.0)) ∙ sym (ap (without slot) x.0)) begun.won
+
+    -- what was used before the birth, by a pass that was alone
+    chosen_few : Quiet r.trace t.trace → IsAlone p.trace t.trace → since + 1 ≤ steps_to_take p.trace.start p.pool
+    chosen_few last alone =
+        let most = won_few (alone_before (alone_first {p = p.trace} {q = r.trace} {r = t.trace} quiet_all.seen last.seen alone)) in
+        let made = chosen.uses.at_most in
+        omega (arith, most, made)
+
+    -- it was born there
+    module _ (told : HandView × ℕ) (born : IsBorn r t slot budget since told) where
+      pub born_took : Took p.trace t.trace told.1
+      born_took = took_all (uses_on (all_uses chosen.uses) born.uses).counts
+
+      pub born_takes : Takes p t budget
+      born_takes = record {
+        steps = record { steps = told.1; within = born.uses.within; took = born_took };
+        quiet = quiet_on quiet_all born.leaves.quiet;
+        kept = slots_kept_on p r t kept_all born.leaves.kept;
+        one = (let low = grown in let one = born.leaves.one in omega (arith, low, one));
+        shared = shared_then shared_all;
+        advances = needed_before {p = p} {q = r} {r = t} advances_all born.leaves.quiet.seen born.leaves.quiet.is_run born.leaves.advances;
+      }
+        where
+          shared_then : SharesWhereFull 1 p r → SharesWhereFull 2 p t
+          shared_then (inl same) = inl (born.leaves.flags ∙ same)
+          shared_then (inr full) = inr (let one = born.leaves.one in omega (arith, full, one))
+
+      pub born_taken : IsTaken p t told.0
+      born_taken = record {
+        from = subst (λ (s : ℕ). IsOldest (knows t.trace) p.pool s told.0.birth ⊎ ((p.pool ≡ []) × CameByFlag p.trace t.trace s)) (sym born.slot) (from told.0.birth born.leaves.quiet born.oldest);
+        births = record {
+          in_hand = born.births.in_hand;
+          birth = born.births.birth;
+          above = born.births.above;
+          rest = subst (λ (s : ℕ). t.pool ≡ without s p.pool) (sym born.slot) (rest (subst (λ (s : ℕ). t.pool ≡ without s r.pool) born.slot born.births.rest));
+          room = born.births.room;
+        };
+        few = λ alone. record { steps = told.1; within = (let few = chosen_few born.leaves.quiet alone in let is = born.sum in omega (arith, few, is)); took = born_took };
+      }
+
+    -- or it wasn't
+    module _ (told : TakeRefusal × ℕ) (none : BearsNone r t budget since told) where
+      at_end : (P : PassView → Type 0) → P r → P t
+      at_end P x = subst P (sym none.same) x
+
+      pub unborn_took : Took p.trace t.trace told.1
+      unborn_took = took_all (uses_on (all_uses chosen.uses) none.short.uses).counts
+
+      pub unborn_takes : Takes p t budget
+      unborn_takes = at_end (λ (x : PassView). Takes p x budget) (stops_takes chosen.uses)
+
+      pub unborn_refused : RefusesTake p t budget told.0
+      unborn_refused = subst (RefusesTake p t budget) (sym none.short.why) (record {
+        why = record { took = unborn_took; within = none.short.uses.within; short = none.short.short };
+        pool = at_end (LeavesPool p) leaves;
+        hand = at_end (λ (x : PassView). x.hand ≡ None) (then.pool.1 ∙ begun.hand);
+        ready = λ some ample. (let few = few_own some in let made = chosen.uses.at_most in let used = none.short.uses.at_most in let short = none.short.short in absurd (omega (arith, few, made, used, short, ample)));
+        enough = λ alone. (let most = won_few (alone_before (at_end_alone alone)) in let made = chosen.uses.at_most in let used = none.short.uses.at_most in let short = none.short.short in omega (arith, most, made, used, short));
+      })
+        where
+          at_end_alone : IsAlone p.trace t.trace → IsAlone p.trace r.trace
+          at_end_alone alone = subst (λ (x : PassView). IsAlone p.trace x.trace) none.same alone
+
+    -- whatever came of it
+    module _ (result : Result (HandView × ℕ) (TakeRefusal × ℕ)) (ok : IfOk result (IsBorn r t slot budget since)) (none : IfErr result (BearsNone r t budget since)) where
+      pub ends_took : Took p.trace t.trace (told_steps result)
+      ends_took = go result ok none
+        where
+          go : (x : Result (HandView × ℕ) (TakeRefusal × ℕ)) → IfOk x (IsBorn r t slot budget since) → IfErr x (BearsNone r t budget since) → Took p.trace t.trace (told_steps x)
+          go (Ok told) born none = born_took told born
+          go (Err told) born none = unborn_took told none
+
+      pub ends_takes : Takes p t budget
+      ends_takes = go result ok none
+        where
+          go : (x : Result (HandView × ℕ) (TakeRefusal × ℕ)) → IfOk x (IsBorn r t slot budget since) → IfErr x (BearsNone r t budget since) → Takes p t budget
+          go (Ok told) born none = born_takes told born
+          go (Err told) born none = unborn_takes told none
+
+      pub ends_taken : IfOk result (λ told. IsTaken p t told.0)
+      ends_taken = go result ok
+        where
+          go : (x : Result (HandView × ℕ) (TakeRefusal × ℕ)) → IfOk x (IsBorn r t slot budget since) → IfOk x (λ told. IsTaken p t told.0)
+          go (Ok told) born = born_taken told born
+          go (Err told) born = tt
+
+      pub ends_refused : IfErr result (λ told. RefusesTake p t budget told.0)
+      ends_refused = go result none
+        where
+          go : (x : Result (HandView × ℕ) (TakeRefusal × ℕ)) → IfErr x (BearsNone r t budget since) → IfErr x (λ told. RefusesTake p t budget told.0)
+          go (Ok told) none = tt
+          go (Err told) none = unborn_refused told none

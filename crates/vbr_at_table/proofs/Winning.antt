@@ -1,0 +1,199 @@
+-- The shared pool, probed word by word.
+use Rattle.std.proofs.Common.{◌≡◌, ℕ, ◌+◌, ◌*◌, ◌/◌, ◌<◌, ◌≤◌, ◌==◌, Bool, true, false, cond, List, [], ◌∷◌, ◌++◌, length, None, refl, sym, ap, ◌∙◌, subst, ◌⊎◌, inl, inr, ⊎_elim, arith}
+use Rattle.std.proofs.lemmas.Bool.{cases_lt, eqb-true}
+use Rattle.vbr_machine.specs.Start.{Start}
+use Rattle.vbr_words.specs.Flags.{word_of_flag, flag_words, has_flag, IsNextFlag}
+use Rattle.vbr_machine.specs.Acceptance.{MayBear}
+use Rattle.vbr_machine.specs.Knowledge.{Know}
+use Rattle.vbr_machine.specs.declared.event.Step.TheVariants.{TakeFlag}
+use Rattle.vbr_machine.proofs.Lemmas.{put_other}
+use Rattle.vbr_slots.specs.Alone.{IsAlone}
+use Rattle.vbr_slots.specs.Calls.{Quiet}
+use Rattle.vbr_slots.specs.Pools.{hand_without}
+use Rattle.vbr_slots.specs.Tried.{last_tried}
+use Rattle.vbr_slots.specs.Views.{Trace, PassView, KeepsPool, Did, knows}
+use Rattle.vbr_slots.proofs.Lemmas.{alone_first, alone_then, did_quiet, did_seen, quiet_on}
+use Rattle.vbr_at_table.specs.KeptSlots.{TakesNoSlot}
+use Rattle.vbr_at_table.specs.Pieces.{HasSlots, Probes, WinsNone}
+use Rattle.vbr_at_table.specs.SharedPool.{WasOutside, ComesBefore, CameByFlag}
+use Rattle.vbr_at_table.specs.Steps.{CountsSteps}
+use Rattle.vbr_at_table.specs.declared.budget.TheConstants.{PIECE}
+use Rattle.vbr_at_table.specs.declared.refusal.TakeRefusal.TheVariants.{OutOfSteps, NoSlot}
+use Rattle.vbr_at_table.proofs.AloneWinning.{Probed, probed_lost, probed_next, probed_few}
+use Rattle.vbr_at_table.proofs.InTurn.{did_turn}
+use Rattle.vbr_at_table.proofs.Advancing.{same_advances, same_flags, none_given, none_known, none_on}
+use Rattle.vbr_at_table.proofs.Counting.{counts_one, counts_on, took_all}
+use Rattle.vbr_at_table.proofs.Shown.{came, missed, missed_before, missed_after}
+
+-- so many probes were made on a way once round the slots: from the first slot of the word of the flag that was tried last up to the last one, and then, up to that first one, from slot 0 on;
+-- and each slot before the next one to be probed was outside the shared pool
+pub record Winning (p q : PassView) (budget used start next end : ℕ) : Type 0 where
+  pub quiet : Quiet p.trace q.trace
+  pub pool : KeepsPool p q
+  pub none : TakesNoSlot p q
+  pub counts : CountsSteps p.trace q.trace 0 used
+  pub within : used ≤ budget
+  pub begins : start ≡ 64 * word_of_flag (last_tried p.trace)
+  pub low : start < p.trace.start.shape.slots
+  pub turn : ((end ≡ p.trace.start.shape.slots) × (start ≤ next) × (next < p.trace.start.shape.slots)) ⊎ (end ≡ start)
+  pub ahead : (slot : ℕ) → slot < p.trace.start.shape.slots → start ≤ slot → slot < next → WasOutside p.trace q.trace slot
+  pub round : end ≡ start → (slot : ℕ) → slot < p.trace.start.shape.slots → (start ≤ slot) ⊎ (slot < next) → WasOutside p.trace q.trace slot
+  pub alone : IsAlone p.trace q.trace → (end ≡ p.trace.start.shape.slots → Probed q.trace (word_of_flag start) 0 used next) × (end ≡ start → Probed q.trace (word_of_flag start) (flag_words p.trace.start.shape.slots) used next)
+
+-- what comes next is no further than the next word
+next_low : (word slot next : ℕ) → IsNextFlag word slot next → next ≤ 64 * (slot / 64 + 1)
+next_low word slot next is = ⊎_elim (λ (here : (word_of_flag next ≡ word_of_flag slot) × (has_flag word next ≡ true)). (let same = here.0 in omega arith)) (λ (past : (word ≡ 0) × (next ≡ 64 * (slot / 64 + 1))). (let e = past.1 in omega arith)) is.place
+
+-- one more flag was lost, which told of all slots of its word
+module _ {p q r : PassView} {budget used start slot end next n : ℕ} (at : Winning p q budget used start slot end) (below : slot < end) (room : used + PIECE ≤ budget) (d : Did (TakeFlag slot) q.trace r.trace n) (lost : has_flag n slot ≡ false) (then : IsNextFlag n slot next) (stays : KeepsPool q r) where
+  lost_flag : (a b : Know) → cond (has_flag n slot) a b ≡ b
+  lost_flag a b = ap (λ (t : Bool). cond t a b) lost
+
+  more : Quiet q.trace r.trace
+  more = did_quiet d (λ know. refl)
+
+  none_lost : TakesNoSlot p r
+  none_lost = none_on at.none (none_known (same_advances d refl) (same_flags d refl) stays (did_turn d) (d.know ∙ lost_flag _ (knows q.trace)))
+
+  still : {s : ℕ} → WasOutside p.trace q.trace s → WasOutside p.trace r.trace s
+  still w = missed_before w more
+
+  -- those of its word, and before the next one
+  told : (s : ℕ) → s < p.trace.start.shape.slots → slot ≤ s → s < next → WasOutside p.trace r.trace s
+  told s in_shape from less =
+      let past = next_low n slot next then in
+      let same : s / 64 ≡ slot / 64 = omega (arith, past, from, less) in
+      missed_after at.quiet (missed d lost s (subst (λ (start : Start). s < start.shape.slots) (sym at.quiet.same.start) in_shape) same (then.before s same less))
+
+  ahead_next : (s : ℕ) → s < p.trace.start.shape.slots → start ≤ s → s < next → WasOutside p.trace r.trace s
+  ahead_next s in_shape from less = ⊎_elim (λ (earlier : s < slot). still (at.ahead s in_shape from earlier)) (λ (later : slot ≤ s). told s in_shape later less) (cases_lt s slot)
+
+  round_next : end ≡ start → (s : ℕ) → s < p.trace.start.shape.slots → (start ≤ s) ⊎ (s < next) → WasOutside p.trace r.trace s
+  round_next over s in_shape (inl from) = still (at.round over s in_shape (inl from))
+  round_next over s in_shape (inr less) = ⊎_elim (λ (earlier : s < slot). still (at.round over s in_shape (inr earlier))) (λ (later : slot ≤ s). told s in_shape later less) (cases_lt s slot)
+
+  alone_before : IsAlone p.trace r.trace → IsAlone p.trace q.trace
+  alone_before alone = alone_first at.quiet.seen (did_seen d) alone
+
+  alone_here : IsAlone p.trace r.trace → IsAlone q.trace r.trace
+  alone_here alone = alone_then at.quiet.same.who at.quiet.seen (did_seen d) alone
+
+  -- the search goes on there, if that is a slot
+  pub win_next : next < p.trace.start.shape.slots → Winning p r budget (used + 1) start next end
+  win_next in_shape = record {
+    quiet = quiet_on at.quiet more;
+    pool = (stays.0 ∙ at.pool.0, stays.1 ∙ at.pool.1);
+    none = none_lost;
+    counts = counts_on at.counts (counts_one used d);
+    within = omega arith;
+    begins = at.begins;
+    low = at.low;
+    turn = ⊎_elim (λ (first : (end ≡ p.trace.start.shape.slots) × (start ≤ slot) × (slot < p.trace.start.shape.slots)). inl (first.0, ⊎_elim (λ (here : (word_of_flag next ≡ word_of_flag slot) × (has_flag n next ≡ true)). (let same = here.0 in let b = at.begins in let f = first.1 in omega (arith, same, b, f))) (λ (past : (n ≡ 0) × (next ≡ 64 * (slot / 64 + 1))). (let e = past.1 in let f = first.1 in omega (arith, e, f))) then.place, in_shape)) (λ (over : end ≡ start). inr over) at.turn;
+    ahead = ahead_next;
+    round = round_next;
+    alone = λ alone. ((λ is. probed_next d (alone_here alone) lost (word_of_flag start) 0 used next ((at.alone (alone_before alone)).0 is) then), (λ over. probed_next d (alone_here alone) lost (word_of_flag start) (flag_words p.trace.start.shape.slots) used next ((at.alone (alone_before alone)).1 over) then));
+  }
+
+  -- or with slot 0, if there is none behind the last one
+  pub win_round : p.trace.start.shape.slots ≤ next → Winning p r budget (used + 1) start 0 start
+  win_round past = record {
+    quiet = quiet_on at.quiet more;
+    pool = (stays.0 ∙ at.pool.0, stays.1 ∙ at.pool.1);
+    none = none_lost;
+    counts = counts_on at.counts (counts_one used d);
+    within = omega arith;
+    begins = at.begins;
+    low = at.low;
+    turn = inr refl;
+    ahead = λ s in_shape from less. absurd (omega (arith, less));
+    round = λ over s in_shape which. ⊎_elim (λ (from : start ≤ s). ahead_next s in_shape from (omega (arith, in_shape, past))) (λ (less : s < 0). absurd (omega (arith, less))) which;
+    alone = λ alone. ((λ is. absurd (omega (arith, is, at.low))), (λ over. inl (few alone)));
+  }
+    where
+      -- this was no second turn, since that ends before the first slot of a word
+      first : (end ≡ p.trace.start.shape.slots) × (start ≤ slot) × (slot < p.trace.start.shape.slots)
+      first = ⊎_elim (λ (first : (end ≡ p.trace.start.shape.slots) × (start ≤ slot) × (slot < p.trace.start.shape.slots)). first) (λ (over : end ≡ start). (let low = next_low n slot next then in let b = at.begins in let l = at.low in absurd (omega (arith, low, b, l, over, below, past)))) at.turn
+
+      few : IsAlone p.trace r.trace → word_of_flag start + (used + 1) ≤ flag_words p.trace.start.shape.slots + word_of_flag 0
+      few alone = let lost_first = probed_lost d (alone_here alone) lost (word_of_flag start) 0 used ((at.alone (alone_before alone)).0 first.0) in let low = first.2 in omega (arith, lost_first, low)
+
+-- a pass that was alone made no more probes than there are flag words, and one more that won
+few : {p q : PassView} {budget used start slot end : ℕ} → Winning p q budget used start slot end → slot < end → IsAlone p.trace q.trace → used ≤ flag_words p.trace.start.shape.slots
+few {p} {q} {used = used} {start = start} {slot = slot} {end = end} at below alone = ⊎_elim
+    (λ (first : (end ≡ p.trace.start.shape.slots) × (start ≤ slot) × (slot < p.trace.start.shape.slots)). (let most = probed_few q.trace (word_of_flag start) 0 used slot ((at.alone alone).0 first.0) in let low = first.2 in omega (arith, most, low)))
+    (λ (over : end ≡ start). (let most = probed_few q.trace (word_of_flag start) (flag_words p.trace.start.shape.slots) used slot ((at.alone alone).1 over) in let b = at.begins in omega (arith, most, b, over, below))) at.turn
+
+win_few : {p q : PassView} {t : Trace} {budget used start slot end n : ℕ} → Winning p q budget used start slot end → slot < end → Did (TakeFlag slot) q.trace t n → IsAlone p.trace t → used + 1 ≤ flag_words p.trace.start.shape.slots + 1
+win_few at below d alone = let most = few at below (alone_first at.quiet.seen (did_seen d) alone) in omega (arith, most)
+
+-- a flag was won
+pub win_done : {p q r t : PassView} {budget used start slot end n : ℕ} → Winning p q budget used start slot end → slot < end → p.pool ≡ [] → p.hand ≡ None → used + PIECE ≤ budget → Did (TakeFlag slot) q.trace r.trace n → has_flag n slot ≡ true → KeepsPool q r → t.trace ≡ r.trace → t.pool ≡ r.pool ++ slot ∷ [] → t.hand ≡ hand_without slot r.hand →
+    HasSlots p t budget (used + 1)
+win_done {p} {q} {r} {t} {budget} {used} {start} {slot} {end} at below empty no_hand room d set stays same pool hand =
+    let one : t.pool ≡ slot ∷ [] = pool ∙ ap (λ (l : List ℕ). l ++ slot ∷ []) (stays.0 ∙ at.pool.0 ∙ empty) in
+    record {
+      uses = record { counts = subst (λ (x : Trace). CountsSteps p.trace x 0 (used + 1)) (sym same) (counts_on at.counts (counts_one used d)); within = omega arith; at_most = omega arith };
+      hand = hand ∙ ap (hand_without slot) (stays.1 ∙ at.pool.1 ∙ no_hand);
+      won = inr (empty, slot, one, subst (λ (x : Trace). CameByFlag p.trace x slot) (sym same) (came at.quiet d set (λ s in_shape before. missed_before (first s in_shape before) (did_quiet d (λ know. refl)))));
+      some = λ none. not_empty slot (sym one ∙ none);
+      room = (let e = ap length one in omega (arith, e));
+      few = λ empty alone. win_few at below d (subst (IsAlone p.trace) same alone);
+    }
+  where
+    not_empty : (s : ℕ) → s ∷ [] ≡ [] → ⊥
+    not_empty s e = absurd (cc)
+
+    first : (s : ℕ) → s < p.trace.start.shape.slots → ComesBefore (word_of_flag (last_tried p.trace)) s slot → WasOutside p.trace q.trace s
+    first s in_shape (inl here) = let b = at.begins in let from = here.0 in at.ahead s in_shape (omega (arith, b, from)) here.1
+    first s in_shape (inr past) = ⊎_elim
+        (λ (first : (end ≡ p.trace.start.shape.slots) × (start ≤ slot) × (slot < p.trace.start.shape.slots)). (let b = at.begins in let f = first.1 in let early = past.0 in absurd (omega (arith, b, f, early))))
+        (λ (over : end ≡ start). at.round over s in_shape (⊎_elim (λ (from : 64 * word_of_flag (last_tried p.trace) ≤ s). (let b = at.begins in inl (omega (arith, b, from)))) (λ (less : s < slot). inr less) past.1)) at.turn
+
+-- the slot is all that the pass could take
+win_none : {p q r t : PassView} {budget used start slot end n : ℕ} → Winning p q budget used start slot end → Did (TakeFlag slot) q.trace r.trace n → has_flag n slot ≡ true → KeepsPool q r → t.trace ≡ r.trace → t.pool ≡ r.pool ++ slot ∷ [] → t.hand ≡ hand_without slot r.hand → TakesNoSlot p t
+win_none {q = q} {slot = slot} {n = n} at d set stays same pool hand = none_on at.none (none_given d refl refl refl (λ s other m. subst MayBear (ap (λ (k : Know). k.own s) (d.know ∙ won_flag _ (knows q.trace)) ∙ put_other (knows q.trace).own _ _ s other) m) stays same pool hand)
+  where
+    won_flag : (a b : Know) → cond (has_flag n slot) a b ≡ a
+    won_flag a b = ap (λ (t : Bool). cond t a b) set
+
+pub win_probes : {p q r t : PassView} {budget used start slot end n : ℕ} → Winning p q budget used start slot end → Did (TakeFlag slot) q.trace r.trace n → has_flag n slot ≡ true → KeepsPool q r → t.trace ≡ r.trace → t.pool ≡ r.pool ++ slot ∷ [] → t.hand ≡ hand_without slot r.hand → Probes p t
+win_probes {p} at d set stays same pool hand = record {
+  quiet = subst (Quiet p.trace) (sym same) (quiet_on at.quiet (did_quiet d (λ know. refl)));
+  takes_no_slot = win_none at d set stays same pool hand;
+}
+
+-- or none was won: for want of steps, or once round
+pub unwon_probes : {p q : PassView} {budget used start slot end : ℕ} → Winning p q budget used start slot end → Probes p q
+unwon_probes at = record { quiet = at.quiet; takes_no_slot = at.none }
+
+pub win_short : {p q : PassView} {budget used start slot end : ℕ} → Winning p q budget used start slot end → slot < end → p.pool ≡ [] → budget < used + PIECE → WinsNone p q budget (OutOfSteps used, used)
+win_short at below empty short = record {
+  uses = record { counts = at.counts; within = at.within; at_most = (let w = at.within in omega (arith, w)) };
+  empty = empty;
+  pool = at.pool;
+  why = record { took = took_all at.counts; within = at.within; short = short };
+  enough = λ alone. (let most = few at below alone in omega (arith, most, short));
+}
+
+pub win_no_slot : {p q : PassView} {budget used start slot end : ℕ} → Winning p q budget used start slot end → end ≤ slot → p.pool ≡ [] → WinsNone p q budget (NoSlot, used)
+win_no_slot {p} {q} {start = start} {slot = slot} {end = end} at behind empty =
+    let over : end ≡ start = ⊎_elim (λ (first : (end ≡ p.trace.start.shape.slots) × (start ≤ slot) × (slot < p.trace.start.shape.slots)). (let e = first.0 in let low = first.2 in absurd (omega (arith, e, low, behind)))) (λ (over : end ≡ start). over) at.turn in
+    record {
+      uses = record { counts = at.counts; within = at.within; at_most = (let w = at.within in omega (arith, w)) };
+      empty = empty;
+      pool = at.pool;
+      why = record {
+        empty = empty;
+        still = at.pool.0 ∙ empty;
+        outside = λ s in_shape. at.round over s in_shape (⊎_elim (λ (earlier : s < start). inr (omega (arith, earlier, behind, over))) (λ (later : start ≤ s). inl later) (cases_lt s start));
+      };
+      enough = λ alone. tt;
+    }
+
+-- a list that has no length is empty
+pub none_in : (pool : List ℕ) → (length pool == 0) ≡ true → pool ≡ []
+none_in pool e = let z = eqb-true (length pool) 0 e in go pool z
+  where
+    go : (l : List ℕ) → length l ≡ 0 → l ≡ []
+    go [] z = refl
+    go (x ∷ xs) z = absurd (omega arith)

@@ -1,0 +1,50 @@
+use Rattle.std.proofs.Common.{◌<◌, subst, refl, rules}
+use Rattle.vbr_machine.specs.Start.{Start}
+use Rattle.vbr_words.specs.declared.place.At.{At}
+use Rattle.vbr_at_table.proofs.Advancing.{did_none}
+use Rattle.std.proofs.Common.{◌≡◌}
+use Rattle.vbr_words.specs.Words.{link_of}
+use Rattle.vbr_machine.specs.Images.{link_shown_at}
+use Rattle.vbr_slots.specs.Alone.{nodes}
+use Rattle.vbr_at_table.proofs.AloneExchanges.{mark_wins}
+use Rattle.vbr_at_table.proofs.Accepted.{accepted_checked, mark_accepted}
+use Rattle.vbr_at_table.proofs.WonExchanges.{mark_keeps}
+use Rattle.vbr_at_table.proofs.MadeCalls.{mark_failed}
+use Rattle.vbr_at_table.proofs.ExchangeCalls.{mark_told}
+use Rattle.vbr_at_table.proofs.marking.mark_entry.Goals as goal
+
+pub mark-requires-clause-slot : goal.mark-requires-clause-slot
+mark-requires-clause-slot g c =
+    let P : Start → Type 0 = λ start. c.in-Slot.slot < start.shape.slots in
+    subst P c.args.at.now.own.1 (mark_accepted c.args.at.now.stepper.now c.law.ensures c.args.held.now c.in-Slot.slot c.requires.node.held c.in-Slot.is c.requires.node.key c.requires.node.unmarked c.requires.valued).in_shape
+
+pub mark-requires-clause-checked : goal.mark-requires-clause-checked
+mark-requires-clause-checked g c = accepted_checked c.args.at.now.own (mark_accepted c.args.at.now.stepper.now c.law.ensures c.args.held.now c.in-Slot.slot c.requires.node.held c.in-Slot.is c.requires.node.key c.requires.node.unmarked c.requires.valued)
+
+pub returns-in-Ok-clause-keeps : goal.returns-in-Ok-clause-keeps
+returns-in-Ok-clause-keeps g c = record {
+  took = search rules;
+  own = search rules;
+  takes_no_slot = did_none c.in-Ok.ensures.found.did refl c.in-Ok.ensures.found.keeps;
+  keeps = mark_keeps c.in-Ok.ensures.found.did;
+}
+
+pub returns-in-Err-clause-keeps : goal.returns-in-Err-clause-keeps
+returns-in-Err-clause-keeps g c = record {
+  took = search rules;
+  own = search rules;
+  takes_no_slot = did_none c.in-Err.ensures.other.did refl c.in-Err.ensures.other.keeps;
+  keeps = search rules;
+}
+
+pub returns-in-Ok-clause-removed : goal.returns-in-Ok-clause-removed
+returns-in-Ok-clause-removed g c = mark_told c.args.held.now c.law.ensures.start c.law.ensures.is_run c.requires.node.held c.in-Slot.is c.in-Ok.ensures.found.did c.with_mark.ensures
+
+pub returns-in-Err-clause-lost : goal.returns-in-Err-clause-lost
+returns-in-Err-clause-lost g c = record {
+  quiet = mark_failed c.in-Err.ensures.other.did c.in-Err.ensures.other.unexpected;
+  lost = search rules;
+  wins = (λ alone stands.
+      let P : At → Type 0 = λ at. link_shown_at (nodes c.args.at.now.stepper.now.trace) at ≡ link_of c.args.held.now.word in
+      mark_wins c.law.ensures.start alone c.in-Slot.slot c.args.held.now.word c.in-Err.ensures.other.did c.in-Err.ensures.other.unexpected (subst P c.in-Slot.is stands));
+}

@@ -1,0 +1,50 @@
+-- The own pool has a slot, or each slot was outside the shared pool, once round.
+use Rattle.std.proofs.Common.{ℕ, ◌≡◌, ◌<◌, ◌≤◌, sym, ap, ◌∙◌, subst}
+use Rattle.vbr_words.specs.Dimensions.{Dimensions}
+use Rattle.vbr_machine.specs.Start.{Start}
+use Rattle.vbr_at_table.proofs.Counting.{no_room}
+use Rattle.vbr_at_table.proofs.Winning.{win_next, win_round, win_done, win_probes, unwon_probes, win_short, win_no_slot, none_in}
+use Rattle.vbr_at_table.proofs.taking.win_slot.Goals as goal
+
+-- ---- a flag was won
+
+pub returns-in-Ok-clause-probes : goal.returns-in-Ok-clause-probes
+returns-in-Ok-clause-probes g c =
+    win_probes c.loop-slot.invariant.1 c.in-Ok.ensures.taken.did c.in-Ok.ensures.taken.there c.in-Ok.ensures.taken.keeps c.keep.ensures.trace c.keep.ensures.pool c.keep.ensures.hand
+
+pub returns-in-Ok-clause-won : goal.returns-in-Ok-clause-won
+returns-in-Ok-clause-won g c =
+    win_done c.loop-slot.invariant.1 c.loop-slot-test.true (sym c.pool.ensures.pool ∙ none_in c.pool.result.now (sym c.is_empty.ensures ∙ c.if-not-is_empty.false)) c.requires.empty_hand (c.affords.ensures.0 c.if-not-affords.false) c.in-Ok.ensures.taken.did c.in-Ok.ensures.taken.there c.in-Ok.ensures.taken.keeps c.keep.ensures.trace c.keep.ensures.pool c.keep.ensures.hand
+
+-- ---- a probe found no flag
+
+-- the next one is slot 0 where none follows behind the last of its word;
+-- and one step more is used
+
+pub loop-slot-preserved-then-slot-slots : goal.loop-slot-preserved-then-slot-slots
+loop-slot-preserved-then-slot-slots g c =
+    let slots : c.slots.result ≡ c.args.at.now.stepper.now.trace.start.shape.slots = c.slots.ensures.slots ∙ ap (λ (start : Dimensions). start.slots) c.shape-in-Err.ensures.shape ∙ ap (λ (start : Start). start.shape.slots) (sym c.take_flag.new.self.own.1 ∙ c.in-Err.ensures.missed.did.same.1 ∙ c.loop-slot.invariant.1.quiet.same.start) in
+    let past = subst (λ (n : ℕ). n ≤ c.next_flag-slot.result) slots c.if-slot-slots.true in
+    (record { pass = c.take_flag.ensures.table.pass ∙ c.loop-slot.invariant.0.pass; slots = c.take_flag.ensures.table.slots ∙ c.loop-slot.invariant.0.slots }, win_round c.loop-slot.invariant.1 c.loop-slot-test.true (c.affords.ensures.0 c.if-not-affords.false) c.in-Err.ensures.missed.did c.in-Err.ensures.missed.missing c.next_flag-slot.ensures c.in-Err.ensures.missed.keeps past)
+
+pub loop-slot-preserved : goal.loop-slot-preserved
+loop-slot-preserved g c =
+    let slots : c.slots.result ≡ c.args.at.now.stepper.now.trace.start.shape.slots = c.slots.ensures.slots ∙ ap (λ (start : Dimensions). start.slots) c.shape-in-Err.ensures.shape ∙ ap (λ (start : Start). start.shape.slots) (sym c.take_flag.new.self.own.1 ∙ c.in-Err.ensures.missed.did.same.1 ∙ c.loop-slot.invariant.1.quiet.same.start) in
+    let low = subst (λ (n : ℕ). c.next_flag-slot.result < n) slots c.if-slot-slots.false in
+    (record { pass = c.take_flag.ensures.table.pass ∙ c.loop-slot.invariant.0.pass; slots = c.take_flag.ensures.table.slots ∙ c.loop-slot.invariant.0.slots }, win_next c.loop-slot.invariant.1 c.loop-slot-test.true (c.affords.ensures.0 c.if-not-affords.false) c.in-Err.ensures.missed.did c.in-Err.ensures.missed.missing c.next_flag-slot.ensures c.in-Err.ensures.missed.keeps low)
+
+-- ---- the budget had no room for one more, or each slot was outside, once round
+
+pub returns-then-not-affords-clause-probes : goal.returns-then-not-affords-clause-probes
+returns-then-not-affords-clause-probes g c = unwon_probes c.loop-slot.invariant.1
+
+pub returns-then-not-affords-clause-none : goal.returns-then-not-affords-clause-none
+returns-then-not-affords-clause-none g c =
+    win_short c.loop-slot.invariant.1 c.loop-slot-test.true (sym c.pool.ensures.pool ∙ none_in c.pool.result.now (sym c.is_empty.ensures ∙ c.if-not-is_empty.false)) (no_room _ _ c.affords.result c.if-not-affords.true c.affords.ensures.1)
+
+pub returns-clause-probes : goal.returns-clause-probes
+returns-clause-probes g c = unwon_probes c.loop-slot.invariant.1
+
+pub returns-clause-none : goal.returns-clause-none
+returns-clause-none g c =
+    win_no_slot c.loop-slot.invariant.1 c.loop-slot-test.false (sym c.pool.ensures.pool ∙ none_in c.pool.result.now (sym c.is_empty.ensures ∙ c.if-not-is_empty.false))

@@ -1,0 +1,32 @@
+use Rattle.std.proofs.Common.{◌≡◌, Bool, true, refl, sym, ap, ◌∙◌, subst}
+use Rattle.vbr_machine.specs.Start.{Start}
+use Rattle.vbr_slots.specs.Views.{knows}
+use Rattle.vbr_slots.proofs.Lemmas.{did_took, value_stored_leaves}
+use Rattle.vbr_at_table.proofs.Advancing.{did_none}
+use Rattle.vbr_at_table.specs.Exchanges.{StoresIn}
+use Rattle.vbr_at_table.specs.Values.{steps_to_value, with_kept_value}
+use Rattle.vbr_at_table.proofs.Filled.{value_stored, value_stored_keeps, value_stored_quiet}
+use Rattle.vbr_at_table.proofs.updating.put_value.Goals as goal
+
+pub returns-then-VALUES-clause-stores : goal.returns-then-VALUES-clause-stores
+returns-then-VALUES-clause-stores g c =
+    let p = c.args.at.now.stepper.now in
+    let q = c.store_value.new.self.stepper.now in
+    let d = c.store_value.ensures.step in
+    let has : p.trace.start.shape.values ≡ true = ap (λ (d : Start). d.shape.values) c.args.at.now.own.1 ∙ c.kind.ensures ∙ sym c.VALUES.ensures ∙ c.if-VALUES.true in
+    let P : Bool → Type 0 = λ values. StoresIn p q (steps_to_value values) in
+    subst P (sym has) (record { took = did_took d; keeps = value_stored_keeps d; pool = c.store_value.ensures.pool.0; takes_no_slot = did_none d refl c.store_value.ensures.pool })
+
+pub returns-then-VALUES-clause-puts : goal.returns-then-VALUES-clause-puts
+returns-then-VALUES-clause-puts g c =
+    let p = c.args.at.now.stepper.now in
+    let q = c.store_value.new.self.stepper.now in
+    let d = c.store_value.ensures.step in
+    let has : p.trace.start.shape.values ≡ true = ap (λ (d : Start). d.shape.values) c.args.at.now.own.1 ∙ c.kind.ensures ∙ sym c.VALUES.ensures ∙ c.if-VALUES.true in
+    let P : Bool → Type 0 = λ values. (knows q.trace).own c.args.slot ≡ with_kept_value values ((knows p.trace).own c.args.slot) c.args.value in
+    record {
+      quiet = value_stored_quiet d;
+      hand = c.store_value.ensures.pool.1;
+      holding = subst P (sym has) (value_stored d);
+      links = λ alone at. value_stored_leaves at c.law.ensures.start d alone;
+    }

@@ -1,0 +1,101 @@
+-- What the calls that exchange a link word tell: marking, linking a new node, unlinking.
+use Rattle.std.specs.Prelude.{◌≡◌, ℕ, false, true, None}
+use Rattle.vbr_words.specs.Words.{link_of}
+use Rattle.vbr_machine.specs.Acceptance.{IsUnlinked}
+use Rattle.vbr_machine.specs.History.{set_call}
+use Rattle.vbr_machine.specs.Knowledge.{Know}
+use Rattle.vbr_machine.specs.Links.{link_to, marked}
+use Rattle.vbr_machine.specs.Membership.{KeyAt, StandsBefore, StandsBehind}
+use Rattle.vbr_machine.specs.declared.history.Op.TheVariants.{Insert, Remove}
+use Rattle.vbr_slots.specs.Alone.{IsAlone, IsFresh}
+use Rattle.vbr_slots.specs.Calls.{Made, Quiet, Took}
+use Rattle.vbr_slots.specs.Views.{PassView, Trace, knows}
+use Rattle.vbr_at_table.specs.Hands.{HandView, IsHandOf, UnlinkedView}
+use Rattle.vbr_at_table.specs.KeptSlots.{TakesNoSlot}
+use Rattle.vbr_at_table.specs.Alone.{MarksAlone, StandsNow, UnlinksAlone}
+use Rattle.vbr_at_table.specs.Held.{IsFilled, IsHeld, HoldsMarked, held_of}
+use Rattle.vbr_at_table.specs.Keeping.{Keeps, KeepsOwn, KeepsUnlinked}
+use Rattle.vbr_at_table.specs.Moments.{IsRead}
+use Rattle.vbr_at_table.specs.Rollbacks.{IsLost, IsMovedOrLost}
+use Rattle.vbr_at_table.specs.declared.held.Held.{Held}
+use Rattle.vbr_at_table.specs.declared.held.Marked.{Marked}
+use Rattle.vbr_at_table.specs.declared.rollback.Rollback.{Rollback}
+
+-- ---- what they ask
+
+-- a place is held by its unmarked link
+pub record IsUnmarked (know : Know) (place : Held) : Type 0 where
+  pub held : IsHeld know place
+  pub unmarked : (link_of place.word).mark ≡ false
+
+-- a place is held by its unmarked link, and the key belongs behind it and before what the link names
+pub record IsGap (p : Trace) (key : ℕ) (pred : Held) : Type 0 where
+  pub held : IsHeld (knows p) pred
+  pub unmarked : (link_of pred.word).mark ≡ false
+  pub behind : StandsBehind p.start (knows p) pred.at key
+  pub before : StandsBefore (knows p) key (link_of pred.word).slot
+
+-- ---- what they tell
+
+-- the pass removed the key of the node that was held, whose link is marked now; a pass that was alone leaves all other links
+pub record RemovesKey (p q : Trace) (node : Held) (now : Marked) : Type 0 where
+  pub made : (key : ℕ) → KeyAt (knows p) node.at key → Made (set_call p.who Remove key true) p q
+  pub at : (held_of now).at ≡ node.at
+  pub link : link_of now.word ≡ marked (link_of node.word)
+  pub held : HoldsMarked (knows q) now
+  pub alone : IsAlone p q → MarksAlone p q node
+
+-- another link stood where one was held: no call was made; for a pass that was alone, what is held hadn't stood
+pub record LosesExchange (p q : Trace) (held : Held) (rollback : Rollback) : Type 0 where
+  pub quiet : Quiet p q
+  pub lost : IsLost p q held rollback
+  pub wins : IsAlone p q → StandsNow p held → ⊥
+
+-- in so many steps, the pass kept its own pool and what it knew, and took no slot
+pub record StoresIn (p q : PassView) (steps : ℕ) : Type 0 where
+  pub took : Took p.trace q.trace steps
+  pub keeps : Keeps (knows p.trace) (knows q.trace)
+  pub pool : q.pool ≡ p.pool
+  pub takes_no_slot : TakesNoSlot p q
+
+-- the incarnation in hand has this key, and this birth in its link; no call was made, and for a pass that was alone what is held stands if it stood
+pub record FillsHand (p q : PassView) (pred : Held) (given : HandView) (key birth : ℕ) : Type 0 where
+  pub quiet : Quiet p.trace q.trace
+  pub hand : q.hand ≡ p.hand
+  pub filled : IsFilled ((knows q.trace).own given.slot) given.birth key (link_to (link_of pred.word).slot given.birth birth)
+  pub stands : IsAlone p.trace q.trace → (link_of pred.word).mark ≡ false → StandsNow p.trace pred → StandsNow q.trace pred
+
+-- the pass inserted the key, and its hand is empty
+pub record InsertsKey (p q : PassView) (key : ℕ) : Type 0 where
+  pub made : Made (set_call p.trace.who Insert key true) p.trace q.trace
+  pub spent : q.hand ≡ None
+
+-- the exchange was lost, and what was in hand is given back
+pub record GivesBack (p q : PassView) (pred : Held) (given : HandView) (back : HandView × Rollback) : Type 0 where
+  pub same : back.0 ≡ given
+  pub hand : IsHandOf q back.0
+  pub exchange : LosesExchange p.trace q.trace pred back.1
+
+-- in so many steps, the pass made no call, and kept its own pool and its hand
+pub record StaysIn (p q : PassView) (steps : ℕ) : Type 0 where
+  pub took : Took p.trace q.trace steps
+  pub quiet : Quiet p.trace q.trace
+  pub own : KeepsOwn p q
+
+-- the slot is unlinked and has to be stamped; what is held behind it is read, unmarked, and names what the marked link named; a pass that was alone leaves one node fewer
+pub record UnlinksNode (p q : PassView) (pred : Held) (gone : Marked) (told : UnlinkedView × Held) : Type 0 where
+  pub unlinks : KeepsUnlinked gone.slot p q
+  pub keeps : Keeps (knows p.trace) (knows q.trace)
+  pub slot : told.0.slot ≡ gone.slot
+  pub owned : IsUnlinked ((knows q.trace).own gone.slot)
+  pub at : told.1.at ≡ pred.at
+  pub read : IsRead p.trace q.trace told.1
+  pub still : (link_of told.1.word).mark ≡ false
+  pub next : (link_of told.1.word).slot ≡ (link_of gone.word).slot
+  pub alone : IsAlone p.trace q.trace → StandsNow p.trace pred → UnlinksAlone p.trace q.trace pred told.1
+
+-- the node wasn't unlinked: the epoch has moved, or another link stood; for a pass that was alone since it had read the epoch, what is held hadn't stood
+pub record UnlinksNone (p q : PassView) (pred : Held) (rollback : Rollback) : Type 0 where
+  pub takes_no_slot : TakesNoSlot p q
+  pub rolled : IsMovedOrLost p.trace q.trace pred rollback
+  pub wins : IsFresh p.trace → IsAlone p.trace q.trace → StandsNow p.trace pred → ⊥

@@ -1,0 +1,46 @@
+-- What a call that takes a slot tells.
+use Rattle.std.specs.Prelude.{◌≡◌, ℕ, ◌+◌, ◌<◌, ◌≤◌, List, [], length, get_or, ◌⊎◌}
+use Rattle.vbr_machine.specs.Acceptance.{stamp_in}
+use Rattle.vbr_machine.specs.Knowledge.{Know}
+use Rattle.vbr_slots.specs.declared.pass.TheConstants.{POOL}
+use Rattle.vbr_slots.specs.Alone.{IsAlone}
+use Rattle.vbr_slots.specs.Calls.{Quiet}
+use Rattle.vbr_slots.specs.Pools.{without}
+use Rattle.vbr_slots.specs.Views.{PassView, knows}
+use Rattle.vbr_at_table.specs.Advances.{AdvancesWhereNeeded}
+use Rattle.vbr_at_table.specs.Budgets.{steps_to_take}
+use Rattle.vbr_at_table.specs.Hands.{HandView, IsHandOf}
+use Rattle.vbr_at_table.specs.KeptSlots.{KeepsSlots, SharesWhereFull}
+use Rattle.vbr_at_table.specs.SharedPool.{CameByFlag}
+use Rattle.vbr_at_table.specs.Steps.{TookWithin}
+
+-- whatever is answered, no call of the set was made, and no more steps than the budget; no slot is lost, at most one has left the own pool, and none went into the shared pool unless the own one has no more than two places left; and the epoch was advanced only where it had to be
+pub record Takes (p q : PassView) (budget : ℕ) : Type 0 where
+  pub steps : TookWithin p.trace q.trace budget
+  pub quiet : Quiet p.trace q.trace
+  pub kept : KeepsSlots p q
+  pub one : length p.pool ≤ length q.pool + 1
+  pub shared : SharesWhereFull 2 p q
+  pub advances : AdvancesWhereNeeded p q
+
+-- the slot stands in the pool, and each slot before it there has a stamp of at least this epoch
+pub record IsOldest (know : Know) (pool : List ℕ) (slot epoch : ℕ) : Type 0 where
+  pub place : ℕ
+  pub low : place < length pool
+  pub is : get_or pool place 0 ≡ slot
+  pub before : (k : ℕ) → k < place → epoch ≤ stamp_in (know.own (get_or pool k 0))
+
+-- the slot of the hand is in hand, born in at the epoch that the pass read last, above its stamp; and the rest of the pool stays
+pub record Births (p q : PassView) (hand : HandView) : Type 0 where
+  pub in_hand : IsHandOf q hand
+  pub birth : hand.birth ≡ (knows q.trace).epoch
+  pub above : stamp_in ((knows q.trace).own hand.slot) < hand.birth
+  pub rest : q.pool ≡ without hand.slot p.pool
+  pub room : length q.pool < POOL
+
+-- the slot of the hand was in the own pool, where no slot before it could be born in at that epoch, or came by a flag where that was empty; it was born in; and a pass that was alone made no more steps than that takes
+pub record IsTaken (p q : PassView) (hand : HandView) : Type 0 where
+  pub from : IsOldest (knows q.trace) p.pool hand.slot hand.birth
+      ⊎ ((p.pool ≡ []) × CameByFlag p.trace q.trace hand.slot)
+  pub births : Births p q hand
+  pub few : IsAlone p.trace q.trace → TookWithin p.trace q.trace (steps_to_take p.trace.start p.pool)

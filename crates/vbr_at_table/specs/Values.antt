@@ -1,0 +1,110 @@
+-- What is known of the values of nodes, and what an entry's call tells: its value, where nodes have values.
+use Rattle.std.specs.Prelude.{◌≡◌, ◌≢◌, ℕ, ◌+◌, Bool, true, false, Option, Some, None}
+use Rattle.vbr_machine.specs.Start.{Start}
+use Rattle.vbr_words.specs.Words.{link_of}
+use Rattle.vbr_words.specs.declared.place.At.{At}
+use Rattle.vbr_words.specs.declared.place.At.TheVariants.{Head, Slot}
+use Rattle.vbr_machine.specs.Knowledge.{Know}
+use Rattle.vbr_machine.specs.Images.{link_shown_at}
+use Rattle.vbr_machine.specs.Learning.{present_reply, present_value, value_in_hand, with_value}
+use Rattle.vbr_machine.specs.Links.{marked}
+use Rattle.vbr_machine.specs.Membership.{KeyAt, Knows}
+use Rattle.vbr_machine.specs.Opened.{payload_kept}
+use Rattle.vbr_machine.specs.declared.history.Call.{Call}
+use Rattle.vbr_machine.specs.declared.history.Op.{Op}
+use Rattle.vbr_machine.specs.declared.history.Op.TheVariants.{Get, Insert, Remove}
+use Rattle.vbr_machine.specs.declared.knowledge.Read.TheVariants.{ValueOf}
+use Rattle.vbr_machine.specs.declared.knowledge.Holding.{Holding}
+use Rattle.vbr_slots.specs.Alone.{IsAlone, nodes}
+use Rattle.vbr_slots.specs.Calls.{Made, Quiet}
+use Rattle.vbr_slots.specs.Views.{PassView, Trace, knows}
+use Rattle.vbr_at_table.specs.Alone.{MarksAlone}
+use Rattle.vbr_at_table.specs.Answering.{IsAnswered}
+use Rattle.vbr_at_table.specs.Hands.{HandView}
+use Rattle.vbr_at_table.specs.Exchanges.{FillsHand}
+use Rattle.vbr_at_table.specs.Held.{HoldsMarked, held_of}
+use Rattle.vbr_at_table.specs.Keeping.{Keeps}
+use Rattle.vbr_at_table.specs.declared.held.Held.{Held}
+use Rattle.vbr_at_table.specs.declared.held.Marked.{Marked}
+
+-- ---- what is known
+
+-- this value is known at a place: none is at a head
+abbrev pub ValueAt : Know → At → ℕ → Type 0
+ValueAt know (Head b) value = ⊥
+ValueAt know (Slot s) value = Knows know (ValueOf s value)
+
+-- a value is known at a place, where nodes have values
+abbrev pub IsValued : Trace → At → Type 0
+IsValued p at = p.start.shape.values ≡ true → (value : ℕ) × ValueAt (knows p) at value
+
+-- what a get asks: nodes have values, and one is known at the place
+abbrev pub IsAsked : Trace → Op → At → Type 0
+IsAsked p op at = op ≡ Get → (p.start.shape.values ≡ true) × ((value : ℕ) × ValueAt (knows p) at value)
+
+-- the operation is another one than this, and a get only where nodes have values
+pub record IsOtherIn (start : Start) (refused op : Op) : Type 0 where
+  pub other : op ≢ refused
+  pub asked : op ≡ Get → start.shape.values ≡ true
+
+-- ---- calls
+
+-- the call of an entry: it has the value, where nodes have values
+abbrev pub entry_call : Start → ℕ → Op → ℕ → Bool → ℕ → Call
+entry_call start who op key reply value = record { who = who; op = op; key = key; reply = reply; value = payload_kept start (Some value) }
+
+-- the call that finds an entry present: a get gives its value
+abbrev pub found_call : ℕ → Op → ℕ → ℕ → Call
+found_call who op key value = record { who = who; op = op; key = key; reply = present_reply op; value = present_value op (Some value) }
+
+-- ---- what calls tell
+
+-- this is the value of the node at a place, read in the epoch that the pass had
+pub record IsValueRead (p q : PassView) (at : At) (found : ℕ) : Type 0 where
+  pub keeps : Keeps (knows p.trace) (knows q.trace)
+  pub value : ValueAt (knows q.trace) at found
+
+-- the pass removed the entry of the node that was held, whose link is marked now; a pass that was alone leaves all other links
+pub record RemovesEntry (p q : Trace) (node : Held) (now : Marked) : Type 0 where
+  pub made : (key value : ℕ) → KeyAt (knows p) node.at key → (p.start.shape.values ≡ true → ValueAt (knows p) node.at value) → Made (entry_call p.start p.who Remove key true value) p q
+  pub at : (held_of now).at ≡ node.at
+  pub link : link_of now.word ≡ marked (link_of node.word)
+  pub held : HoldsMarked (knows q) now
+  pub alone : IsAlone p q → MarksAlone p q node
+
+-- it answered by the presence of the entry of a node
+pub record AnswersEntry (p q : Trace) (op : Op) (node : Held) : Type 0 where
+  pub answers : (key value : ℕ) → KeyAt (knows p) node.at key → (op ≡ Get → ValueAt (knows p) node.at value) → IsAnswered p q (found_call p.who op key value)
+
+-- ---- an entry in hand
+
+-- the steps of storing a value: one where nodes have values
+abbrev pub steps_to_value : Bool → ℕ
+steps_to_value true = 1
+steps_to_value false = 0
+
+-- the steps of linking a new node: its key, its value where nodes have values, its link, and the exchange
+abbrev pub steps_to_update : Start → ℕ
+steps_to_update start = 1 + steps_to_value start.shape.values + 1 + 1
+
+-- a slot in hand once its value is stored, where nodes have values
+abbrev pub with_kept_value : Bool → Option Holding → ℕ → Option Holding
+with_kept_value true holding value = with_value holding value
+with_kept_value false holding value = holding
+
+-- the slot in hand has the value, where nodes have values; no call was made, and for a pass that was alone each link is as it was
+pub record PutsValue (p q : PassView) (slot value : ℕ) : Type 0 where
+  pub quiet : Quiet p.trace q.trace
+  pub hand : q.hand ≡ p.hand
+  pub holding : (knows q.trace).own slot ≡ with_kept_value p.trace.start.shape.values ((knows p.trace).own slot) value
+  pub links : IsAlone p.trace q.trace → (at : At) → link_shown_at (nodes q.trace) at ≡ link_shown_at (nodes p.trace) at
+
+-- the incarnation in hand has this key and this birth in its link, and this value where nodes have values; no call was made, and for a pass that was alone what is held stands if it stood
+pub record FillsEntry (p q : PassView) (pred : Held) (given : HandView) (key value birth : ℕ) : Type 0 where
+  pub fills : FillsHand p q pred given key birth
+  pub valued : p.trace.start.shape.values ≡ true → value_in_hand ((knows q.trace).own given.slot) ≡ Some value
+
+-- the pass inserted the entry, and its hand is empty
+pub record InsertsEntry (p q : PassView) (key value : ℕ) : Type 0 where
+  pub made : Made (entry_call p.trace.start p.trace.who Insert key true value) p.trace q.trace
+  pub spent : q.hand ≡ None

@@ -1,0 +1,60 @@
+//! What a caller holds between calls.
+ghost use Rattle.std.specs.Prelude.{◌≡◌, true, MatchOption};
+ghost use Rattle.vbr_words.specs.Words.{link_of};
+ghost use Rattle.vbr_at_table.specs.Held.{IsUnmarkedOrHead, held_of};
+
+use vbr_words::{At, decode};
+
+/// A checkpoint: the epoch that a pass read, to which it rolls back.
+#[derive(Clone, Copy, Debug, PartialEq, Eq)]
+pub struct Checkpoint {
+    /// The epoch.
+    pub epoch: u64,
+}
+
+/// A head, or an incarnation in a slot, with its checked link word and the epoch of its checkpoint.
+#[derive(Clone, Copy, Debug, PartialEq, Eq)]
+pub struct Held {
+    /// The place of the link word.
+    pub at: At,
+    /// The birth of the incarnation, an epoch; 0 for a head.
+    pub birth: u64,
+    /// The link word.
+    pub word: u64,
+    /// The epoch of the checkpoint.
+    pub epoch: u64,
+}
+
+/// A marked node: an incarnation in a slot, with its checked marked link word and the epoch of its
+/// checkpoint.
+#[derive(Clone, Copy, Debug, PartialEq, Eq)]
+pub struct Marked {
+    /// The slot.
+    pub slot: u32,
+    /// The birth of the incarnation, an epoch.
+    pub birth: u64,
+    /// The marked link word.
+    pub word: u64,
+    /// The epoch of the checkpoint.
+    pub epoch: u64,
+}
+
+impl Marked {
+    /// What is held, if it is a marked node.
+    #[inline]
+    pub fn of(held: &Held) -> Option<Marked>
+        ensures { MatchOption result
+            (IsUnmarkedOrHead held.now)
+            (λ marked. (held_of marked ≡ held.now) × ((link_of marked.word).mark ≡ true)) }
+    {
+        match held.at {
+            At::Slot(slot) if decode(held.word).mark => Some(Marked {
+                slot,
+                birth: held.birth,
+                word: held.word,
+                epoch: held.epoch,
+            }),
+            _ => None,
+        }
+    }
+}

@@ -1,0 +1,135 @@
+//! Checkpoints and checked reads.
+ghost use Rattle.std.specs.Prelude.{◌≡◌, ◌<◌, true, IfOk, IfErr};
+ghost use Rattle.vbr_slots.specs.AtTables.{IsSameTable, pass_of, trace_of};
+ghost use Rattle.vbr_slots.specs.Views.{knows};
+ghost use Rattle.vbr_at_table.specs.Held.{IsSlot, IsHeld};
+ghost use Rattle.vbr_at_table.specs.Reading.{IsCheckpoint, IsHeadRead, IsKeyRead, IsNextRead};
+ghost use Rattle.vbr_at_table.specs.Reading.{ReadsIn, RollsBack, steps_to_next};
+ghost use Rattle.vbr_at_table.specs.Values.{IsValueRead};
+
+use crate::held::{Checkpoint, Held};
+use crate::rollback::Rollback;
+use vbr_slots::AtTable;
+use vbr_words::{At, Nodes, decode};
+
+/// Reads the epoch, in one step: a checkpoint to roll back to. It can't fail.
+#[inline]
+pub fn checkpoint<N: Nodes>(at: &mut AtTable<'_, N>) -> Checkpoint
+    ensures table { IsSameTable at.old at.new }
+    ensures reads { ReadsIn (pass_of at.old) (pass_of at.new) 1 }
+    ensures point { IsCheckpoint (pass_of at.old) (pass_of at.new) result.epoch }
+{
+    at.law();
+    Checkpoint {
+        epoch: at.read_epoch(),
+    }
+}
+
+/// Reads the head of a bucket, in two steps.
+///
+/// EpochMoved is its one error: the epoch is another one than the checkpoint's, and nothing is held
+/// any more but the heads.
+#[inline]
+pub fn first<N: Nodes>(
+    at: &mut AtTable<'_, N>,
+    point: &Checkpoint,
+    bucket: u32,
+) -> Result<Held, Rollback>
+    requires point { point.now.epoch ≡ (knows (trace_of at.old)).epoch }
+    requires bucket { bucket < at.old.slots.now.start.shape.buckets }
+    ensures table { IsSameTable at.old at.new }
+    ensures reads { ReadsIn (pass_of at.old) (pass_of at.new) 2 }
+    ensures head { IfOk result (IsHeadRead (pass_of at.old) (pass_of at.new) bucket) }
+    ensures moved { IfErr result (RollsBack (pass_of at.old) (pass_of at.new)) }
+{
+    at.law();
+    let place = At::Head(bucket);
+    let before = at.epoch();
+    let (word, now) = at.read_link(place);
+    if now != before {
+        return Err(Rollback::EpochMoved { now });
+    }
+    Ok(Held {
+        at: place,
+        birth: 0,
+        word,
+        epoch: now,
+    })
+}
+
+/// Reads the node that a link names, in three steps; a link to none needs no step, and gives none.
+///
+/// EpochMoved is its one error, as of [`first`].
+#[inline]
+pub fn next<N: Nodes>(at: &mut AtTable<'_, N>, held: &Held) -> Result<Option<Held>, Rollback>
+    requires held { IsHeld (knows (trace_of at.old)) held.now }
+    ensures table { IsSameTable at.old at.new }
+    ensures reads { ReadsIn (pass_of at.old) (pass_of at.new) (steps_to_next held.now) }
+    ensures next { IfOk result (IsNextRead (pass_of at.old) (pass_of at.new) held.now) }
+    ensures moved { IfErr result (RollsBack (pass_of at.old) (pass_of at.new)) }
+{
+    at.law();
+    let Some(slot) = decode(held.word).slot else {
+        return Ok(None);
+    };
+    let before = at.epoch();
+    let (birth, word, now) = at.read_node(slot);
+    if now != before {
+        return Err(Rollback::EpochMoved { now });
+    }
+    Ok(Some(Held {
+        at: At::Slot(slot),
+        birth,
+        word,
+        epoch: now,
+    }))
+}
+
+/// Reads the key of a node, in two steps.
+///
+/// EpochMoved is its one error, as of [`first`].
+#[inline]
+pub fn key_of<N: Nodes>(at: &mut AtTable<'_, N>, node: &Held) -> Result<u64, Rollback>
+    requires held { IsHeld (knows (trace_of at.old)) node.now }
+    requires slot { IsSlot node.now.at }
+    ensures table { IsSameTable at.old at.new }
+    ensures reads { ReadsIn (pass_of at.old) (pass_of at.new) 2 }
+    ensures key { IfOk result (IsKeyRead (pass_of at.old) (pass_of at.new) node.now.at) }
+    ensures moved { IfErr result (RollsBack (pass_of at.old) (pass_of at.new)) }
+{
+    at.law();
+    let At::Slot(slot) = node.at else {
+        unreachable!()
+    };
+    let before = at.epoch();
+    let (key, now) = at.read_key(slot);
+    if now != before {
+        return Err(Rollback::EpochMoved { now });
+    }
+    Ok(key)
+}
+
+/// Reads the value of a node, in two steps, at a table whose nodes have values.
+///
+/// EpochMoved is its one error, as of [`first`].
+#[inline]
+pub fn value_of<N: Nodes>(at: &mut AtTable<'_, N>, node: &Held) -> Result<u64, Rollback>
+    requires values { at.old.slots.now.start.shape.values ≡ true }
+    requires held { IsHeld (knows (trace_of at.old)) node.now }
+    requires slot { IsSlot node.now.at }
+    ensures table { IsSameTable at.old at.new }
+    ensures reads { ReadsIn (pass_of at.old) (pass_of at.new) 2 }
+    ensures value { IfOk result (IsValueRead (pass_of at.old) (pass_of at.new) node.now.at) }
+    ensures moved { IfErr result (RollsBack (pass_of at.old) (pass_of at.new)) }
+{
+    at.law();
+    let At::Slot(slot) = node.at else {
+        unreachable!()
+    };
+    let before = at.epoch();
+    let (value, now) = at.read_value(slot);
+    if now != before {
+        return Err(Rollback::EpochMoved { now });
+    }
+    Ok(value)
+}

@@ -1,0 +1,84 @@
+//! Unlinking a marked node.
+ghost use Rattle.std.specs.Prelude.{◌≡◌, ◌≤◌, IfOk, IfErr};
+ghost use Rattle.vbr_slots.specs.AtTables.{IsSameTable, trace_of, pass_of};
+ghost use Rattle.vbr_slots.specs.Views.{knows};
+ghost use Rattle.vbr_at_table.specs.Exchanges.{StaysIn, UnlinksNode, UnlinksNone, IsUnmarked};
+ghost use Rattle.vbr_at_table.specs.Held.{HoldsMarked, Names};
+ghost use Rattle.vbr_at_table.specs.Reading.{IsBirthRead, ReadsIn, BirthMoved};
+ghost use Rattle.vbr_at_table.specs.CallSteps.{steps_to_birth, steps_to_unlink};
+
+use crate::held::{Held, Marked};
+use crate::links::link_to;
+use crate::rollback::Rollback;
+use crate::unlinked::Unlinked;
+use vbr_slots::AtTable;
+use vbr_words::{Nodes, decode};
+
+// The birth of what a marked link names, in two steps; 0 of none, without a step.
+#[inline]
+fn birth_behind<N: Nodes>(at: &mut AtTable<'_, N>, marked: &Marked) -> Result<u64, Rollback>
+    requires marked { HoldsMarked (knows (trace_of at.old)) marked.now }
+    ensures table { IsSameTable at.old at.new }
+    ensures reads { ReadsIn (pass_of at.old) (pass_of at.new) (steps_to_birth marked.now.word) }
+    ensures birth { IfOk result (IsBirthRead (pass_of at.old) (pass_of at.new) marked.now.word) }
+    ensures moved { IfErr result (BirthMoved (pass_of at.old) (pass_of at.new) marked.now.word) }
+{
+    at.law();
+    let Some(slot) = decode(marked.word).slot else {
+        return Ok(0);
+    };
+    let birth = at.load_birth(slot);
+    let now = at.read_epoch();
+    if now != marked.epoch {
+        return Err(Rollback::EpochMoved { now });
+    }
+    Ok(birth)
+}
+
+/// Unlinks a marked node behind `pred`, whose link names it: the slot is the pass's, to be retired,
+/// and `pred` comes back with its new link, which names what the marked link named. It does so only
+/// where the link of `pred` is still the unmarked one that is held; else no slot is unlinked.
+///
+/// It makes one step, and two before that if the marked link names a node.
+///
+/// LostExchange says that another link stood there, and EpochMoved, that the epoch is another one
+/// than the one under which they are held: then nothing is held any more but the heads.
+#[inline]
+pub fn unlink<N: Nodes>(
+    at: &mut AtTable<'_, N>,
+    pred: &Held,
+    marked: Marked,
+) -> Result<(Unlinked, Held), Rollback>
+    requires pred { IsUnmarked (knows (trace_of at.old)) pred.now }
+    requires marked { HoldsMarked (knows (trace_of at.old)) marked }
+    requires names { Names pred.now marked.slot }
+    ensures table { IsSameTable at.old at.new }
+    ensures stays { StaysIn (pass_of at.old) (pass_of at.new) (steps_to_unlink marked.word result) }
+    ensures unlinked { IfOk result (UnlinksNode (pass_of at.old) (pass_of at.new) pred.now marked) }
+    ensures failed { IfErr result (UnlinksNone (pass_of at.old) (pass_of at.new) pred.now) }
+{
+    let next_birth = birth_behind(at, &marked)?;
+    at.law();
+    let new = link_to(decode(marked.word).slot, pred.birth, next_birth);
+    match at.unlink(pred.at, pred.word, marked.slot, new) {
+        Ok(()) => {
+            at.law();
+            let node = Unlinked::by(at, marked.slot);
+            Ok((node, Held { word: new, ..*pred }))
+        }
+        Err(found) => Err(Rollback::LostExchange { found }),
+    }
+}
+
+/// How many steps an unlinking made, where the word of the marked link was this.
+#[inline]
+pub fn steps_to_unlink(word: u64, outcome: &Result<(Unlinked, Held), Rollback>) -> u32
+    ensures is { result ≡ steps_to_unlink word outcome.now }
+    ensures few { result ≤ 3 }
+{
+    let loads = if decode(word).slot.is_some() { 2 } else { 0 };
+    match outcome {
+        Err(Rollback::EpochMoved { now: _ }) => loads,
+        _ => loads + 1,
+    }
+}
