@@ -1,28 +1,31 @@
 -- What was so at the moment of a step.
-use Rattle.std.proofs.Common.{◌≡◌, ◌≢◌, ℕ, Bool, true, false, List, [], ◌∷◌, ◌++◌, refl, sym, ap, ◌∙◌, subst, append-nil, inl, inr, cond, eqb-true}
+use Rattle.std.proofs.Common.{◌≡◌, ◌≢◌, ℕ, Bool, true, false, List, [], ◌∷◌, ◌++◌, Some, refl, sym, ap, ◌∙◌, subst, append-nil, inl, inr, cond, eqb-true}
 use Rattle.std.specs.Prelude.{◌⊎◌, ◌==◌}
 use Rattle.std.proofs.lemmas.Bool.{cases_Bool, ne_eqb, eq-eqb}
 use Rattle.vbr_machine.specs.Start.{Start, IsStart}
 use Rattle.vbr_words.specs.Words.{link_of}
+use Rattle.vbr_words.specs.declared.link.Link.{Link}
 use Rattle.vbr_words.specs.declared.place.At.{At}
-use Rattle.vbr_machine.specs.Opened.{opening_keys}
-use Rattle.vbr_machine.specs.History.{set_after}
+use Rattle.vbr_words.specs.declared.place.At.TheVariants.{Slot}
+use Rattle.vbr_machine.specs.Opened.{opening_keys, opening_payloads, payload_kept}
+use Rattle.vbr_machine.specs.History.{set_after, values_after}
 use Rattle.vbr_machine.specs.Knowledge.{Know}
 use Rattle.vbr_machine.specs.Machine.{link_at, found}
 use Rattle.vbr_machine.specs.Making.{exchanged, confirmed}
-use Rattle.vbr_machine.specs.Membership.{IsHeldPlace, KeyAt, StandsBehind, StandsBefore}
+use Rattle.vbr_machine.specs.Membership.{IsHeldPlace, KeyAt, Knows, LeadsTo, StandsBehind, StandsBefore}
 use Rattle.vbr_machine.specs.Moments.{WasShown}
 use Rattle.vbr_machine.specs.Runs.{IsRun, Begins, world_after, know_after}
 use Rattle.vbr_machine.specs.declared.event.Event.{Event}
 use Rattle.vbr_machine.specs.declared.event.Effect.TheVariants.{Value, Won, Lost, Answered}
 use Rattle.vbr_machine.specs.declared.event.Step.{Step}
+use Rattle.vbr_machine.specs.declared.knowledge.Read.TheVariants.{KeyOf, ValueOf}
 use Rattle.vbr_machine.specs.declared.event.Step.TheVariants.{ReadEpoch, LoadLink, Publish, Unlink}
-use Rattle.vbr_machine.proofs.Lemmas.{absent_at_load, is_run_before, link_loaded, others_leave_know, present_at_load}
+use Rattle.vbr_machine.proofs.Lemmas.{absent_at_load, absent_at_moments, begins_trans, is_run_before, link_loaded, others_leave_know, present_at_load, value_at_load}
 use Rattle.vbr_slots.specs.Calls.{IsSame, Quiet}
 use Rattle.vbr_slots.specs.Views.{Trace, Did, knows, event_of}
 use Rattle.vbr_slots.proofs.Lemmas.{did_moment, moment_after, moment_before}
 use Rattle.vbr_at_table.proofs.Shown.{epoch_stood}
-use Rattle.vbr_at_table.specs.Moments.{IsEpochRead, Stood, IsRead, WasFound, WasSo}
+use Rattle.vbr_at_table.specs.Moments.{IsEpochRead, Stood, IsRead, WasEntry, WasFound, WasSo}
 use Rattle.vbr_at_table.specs.declared.held.Held.{Held}
 
 -- ---- what a step found
@@ -170,3 +173,30 @@ module _ {p q : Trace} (held : Held) (start : IsStart p.start) (same : IsSame p 
     within = read.stood.within;
     was = ap (λ (s : Start). set_after (opening_keys s) (world_after s read.stood.moment).calls key) (sym same.start) ∙ absent_at_load q.start q.passes read.stood.moment q.seen shape_now read.stood.within.is_run q.who held.at (link_of held.word) was_shown key i j;
   }
+
+  -- and its value was the one that was read
+  pub was_entry : (s key value : ℕ) → held.at ≡ Slot s → Knows (knows q) (KeyOf s key) → Knows (knows q) (ValueOf s value) → p.start.shape.values ≡ true → WasEntry p q key value
+  unfolding was_present
+  was_entry s key value at k m values =
+      let P : At → Type 0 = λ place. KeyAt (knows q) place key in
+      let there = was_present key (subst P (sym at) k) in
+      record {
+        moment = there.moment;
+        within = there.within;
+        was = there.was;
+        stored =
+            ap (λ (t : Start). values_after (opening_payloads t) (world_after t read.stood.moment).calls key) (sym same.start)
+            ∙ value_at_load q.start q.passes read.stood.moment q.seen shape_now read.stood.within.is_run q.who held.at (link_of held.word) was_shown s key value at k m
+            ∙ ap (λ (t : Start). payload_kept t (Some value)) same.start
+            ∙ (rw values refl);
+      }
+
+  -- nor was one at some moment, where known marked links lead on from that link, and it stands before what the last of them names
+  pub was_absent_on : (key : ℕ) (last : Link) → LeadsTo (knows q) (link_of held.word) last → StandsBehind q.start (knows q) held.at key → StandsBefore (knows q) key last.slot → WasSo p q key false
+  was_absent_on key last leads i j =
+      let x = absent_at_moments q.start q.passes read.stood.moment q.seen shape_now read.stood.within.is_run q.who held.at (link_of held.word) was_shown key i last leads j in
+      record {
+        moment = x.between;
+        within = record { from = begins_trans p.seen read.stood.moment x.between read.stood.within.from x.from; to = x.to; is_run = read.stood.within.is_run };
+        was = ap (λ (s : Start). set_after (opening_keys s) (world_after s x.between).calls key) (sym same.start) ∙ x.absent;
+      }

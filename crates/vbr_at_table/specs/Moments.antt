@@ -1,10 +1,10 @@
 -- What was so at a moment of a call.
-use Rattle.std.specs.Prelude.{◌≡◌, ℕ, Bool, List, [], ◌∷◌, ◌++◌, Option, Some, None}
+use Rattle.std.specs.Prelude.{◌≡◌, ℕ, Bool, true, List, [], ◌∷◌, ◌++◌, Option, Some, None}
 use Rattle.vbr_words.specs.Words.{link_of}
 use Rattle.vbr_words.specs.declared.place.At.{At}
 use Rattle.vbr_words.specs.declared.place.At.TheVariants.{Slot}
-use Rattle.vbr_machine.specs.Opened.{opening_keys}
-use Rattle.vbr_machine.specs.History.{set_after}
+use Rattle.vbr_machine.specs.Opened.{opening_keys, opening_payloads}
+use Rattle.vbr_machine.specs.History.{set_after, values_after}
 use Rattle.vbr_machine.specs.Machine.{link_at, found}
 use Rattle.vbr_machine.specs.Membership.{IsHeldPlace}
 use Rattle.vbr_machine.specs.Runs.{Begins, world_after, know_after}
@@ -51,3 +51,10 @@ pub record WasSo (p q : Trace) (key : ℕ) (present : Bool) : Type 0 where
   pub moment : List Event
   pub within : Moment p q moment
   pub was : set_after (opening_keys p.start) (world_after p.start moment).calls key ≡ present
+
+-- at a moment of what the pass did, the key was in the map, with this value
+pub record WasEntry (p q : Trace) (key value : ℕ) : Type 0 where
+  pub moment : List Event
+  pub within : Moment p q moment
+  pub was : set_after (opening_keys p.start) (world_after p.start moment).calls key ≡ true
+  pub stored : values_after (opening_payloads p.start) (world_after p.start moment).calls key ≡ Some value

@@ -2,6 +2,7 @@
 ghost use Rattle.std.specs.Prelude.{◌≡◌, None};
 ghost use Rattle.vbr_machine.specs.declared.history.Op.TheVariants.{Insert, Remove, Has};
 ghost use Rattle.vbr_handles.specs.Calls.{TellsCall};
+ghost use Rattle.vbr_handles.specs.Iterating.{TellsNext};
 ghost use Rattle.vbr_handles.specs.Opening.{spread_start};
 ghost use Rattle.vbr_handles.specs.OpeningCodes.{TellsOpening, TellsOpeningWith};
 ghost use Rattle.vbr_handles.specs.AllHandles.{members_in};
@@ -10,7 +11,9 @@ ghost use Rattle.vbr_set.specs.AllMembers.{AreOfOneSet};
 ghost use Rattle.vbr_handles.specs.Shown.{buckets_of, epoch_of, last_epoch_of, slots_of};
 
 use std::alloc::Global;
+use vbr_handles::numbers::iterating;
 use vbr_handles::{Handle, ReportNumbers, ShapeNumbers, numbers, shown};
+use vbr_set::Cursor;
 use vbr_words::Keys;
 
 /// Opens an empty set, with a pass for each of the handles, which are empty: 0. No pass has made a step
@@ -222,4 +225,26 @@ pub extern "C" fn vbr_drop(alloc: Global, handle: &mut Handle)
     ensures { handle.new.member ≡ None }
 {
     vbr_handles::abandon(alloc, handle.owner_mut());
+}
+
+/// Tells the next key at a cursor, bucket by bucket and ascending in each: 1, and the key is written, and the
+/// cursor is behind it; 0 at the end, and nothing is written. A cursor begins as zeros. Each key that is
+/// there from the first call of an iteration to its last is given once, whatever other handles do
+/// meanwhile, and none that wasn't there at a moment of its call. It makes at most `budget` steps, all of
+/// them loads. While the other handles stand still, 5n + 11 are enough to give a key or to come to the next
+/// bucket, with n nodes in the cursor's.
+///
+/// Refusals, after which no call was made and the handle can go on: -1, the steps leave no room in the
+/// budget, and the cursor keeps how far it has come; -4, the handle is empty.
+#[unsafe(no_mangle)]
+pub extern "C" fn vbr_next(
+    handle: &mut Handle,
+    cursor: &mut Cursor,
+    budget: u32,
+    key: &mut u64,
+) -> i32
+    ensures { TellsNext handle.old.member handle.new.member cursor.old cursor.new budget
+        key.old key.new result }
+{
+    iterating::next_key(handle.owner_mut(), cursor, budget, key)
 }

@@ -11,5 +11,6 @@ pub mod Unended
 pub mod OpeningCodes
 pub mod Calls
 pub mod ValueCalls
+pub mod Iterating
 pub mod Shown
 pub mod Reports

@@ -11,6 +11,7 @@ ghost use Rattle.vbr_handles.specs.OpeningCodes.{TellsOpeningBy};
 ghost use Rattle.vbr_handles.specs.Reports.{TellsCloseAllBy, TellsCloseBy};
 
 pub mod entries;
+pub mod iterating;
 
 use crate::closing::CloseRefusal;
 use crate::closing_all::CloseAllRefusal;

@@ -2,3 +2,5 @@
 
 -- Pieces one after another: they make no call, their steps add up, and the slot in hand stays.
 pub use Rattle.vbr_list.proofs.Going.{of_on}
+-- An iteration: what it has given before its first call, with one more call, and at the end.
+pub use Rattle.vbr_list.proofs.Cursors.{given_all, given_none, given_on, sees_on}

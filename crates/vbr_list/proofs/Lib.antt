@@ -9,6 +9,9 @@ mod Clearing
 mod Observing
 mod Passing
 mod Sights
+mod Following
+mod Cursors
+mod ComingBy
 mod Preparing
 mod Sufficing
 mod LonePasses

@@ -27,7 +27,7 @@ use Rattle.vbr_list.proofs.Reaching.{pred_inside, pred_on}
 use Rattle.vbr_list.proofs.Traversals.{IsLook, Looks, Peeks}
 
 -- where known marked links lead, they lead while they are known
-leads_kept : {know later : Know} (link last : Link) → Keeps know later → LeadsTo know link last → LeadsTo later link last
+pub leads_kept : {know later : Know} (link last : Link) → Keeps know later → LeadsTo know link last → LeadsTo later link last
 leads_kept link _ keeps itself = itself
 leads_kept link _ keeps (onward last s next leads names known mark) = onward last s next (leads_kept link last keeps leads) names (keeps.reads (LinkAt (Slot s) next) known) mark
 

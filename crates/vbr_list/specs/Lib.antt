@@ -12,6 +12,9 @@ pub mod Traversing
 pub mod Helping
 pub mod Valuing
 pub mod LookingUp
+pub mod Next
+pub mod Cursors
+pub mod Seeking
 pub mod Inserting
 pub mod Removing
 pub mod Messages

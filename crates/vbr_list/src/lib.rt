@@ -9,20 +9,29 @@
 #![tactic(auto)]
 
 mod call;
+pub mod cursor;
 pub mod finding;
 pub mod found;
 mod helping;
 pub mod inserting;
+pub mod iterating;
+pub mod laws;
 mod looking;
 pub mod looking_up;
+pub mod next;
 pub mod refusal;
 pub mod removing;
+mod seek;
+mod seeking;
 mod traversal;
 mod valuing;
 
+pub use cursor::Cursor;
 pub use finding::find;
 pub use found::Found;
 pub use inserting::{insert, insert_entry};
+pub use iterating::{next_entry_at, next_key_at};
 pub use looking_up::{get, has};
+pub use next::{next_entry, next_key};
 pub use refusal::Refusal;
 pub use removing::{remove, remove_entry};

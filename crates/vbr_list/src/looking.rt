@@ -23,7 +23,7 @@ pub(crate) enum Sight {
 
 // A marked node as a place to go on from.
 #[inline]
-fn held_of(marked: Marked) -> Held
+pub(crate) fn held_of(marked: Marked) -> Held
     ensures { result ≡ held_of marked }
 {
     Held {

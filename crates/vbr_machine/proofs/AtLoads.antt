@@ -1,5 +1,5 @@
 -- Which keys were in the set when a held place showed an unmarked link that its pass has checked since, in the same epoch: the key of the place was, and a key between the place and what the link names wasn't.
-use Rattle.std.proofs.Common.{◌≡◌, ℕ, ◌≤◌, true, false, max, [], Option, Some, None, refl, arith, sym, ap, ◌∙◌, inl, inr}
+use Rattle.std.proofs.Common.{◌≡◌, ℕ, ◌≤◌, true, false, max, [], Option, Some, None, refl, arith, sym, ap, subst, ◌∙◌, inl, inr}
 use Rattle.std.specs.Prelude.{◌⊎◌}
 use Rattle.std.proofs.lemmas.Bool.{cases_Bool}
 use Rattle.vbr_machine.specs.Start.{Start}
@@ -8,8 +8,8 @@ use Rattle.vbr_words.specs.Words.{word_of, link_of}
 use Rattle.vbr_words.specs.declared.link.Link.{Link}
 use Rattle.vbr_words.specs.declared.place.At.{At}
 use Rattle.vbr_words.specs.declared.place.At.TheVariants.{Head, Slot}
-use Rattle.vbr_machine.specs.Opened.{opening_keys}
-use Rattle.vbr_machine.specs.History.{set_after}
+use Rattle.vbr_machine.specs.Opened.{opening_keys, opening_payloads, payload_kept}
+use Rattle.vbr_machine.specs.History.{set_after, values_after}
 use Rattle.vbr_machine.specs.Links.{marked}
 use Rattle.vbr_machine.specs.Knowledge.{Know}
 use Rattle.vbr_machine.specs.Machine.{World, word_at, found}
@@ -26,14 +26,14 @@ use Rattle.vbr_machine.specs.Sound.{IsInserted, IsListed, Sound, Tells, Grows}
 use Rattle.vbr_machine.specs.Notes.{Notes}
 use Rattle.vbr_machine.specs.Removals.{NoneMarked}
 use Rattle.vbr_machine.specs.Agreement.{IsHeldIncarnation, IsHeldAt, IsHeldNext, IsGoodLink, IsPair, FitsNotes, Agrees}
-use Rattle.vbr_machine.specs.declared.knowledge.Read.TheVariants.{LinkAt, KeyOf}
+use Rattle.vbr_machine.specs.declared.knowledge.Read.TheVariants.{LinkAt, KeyOf, ValueOf}
 use Rattle.vbr_machine.proofs.Slots.{late_inserted, listed_late}
 use Rattle.vbr_machine.proofs.Lists.{keys_differ, next_listed, no_key_between}
 use Rattle.vbr_machine.proofs.HeldReads.{still_last, stays_held, stays_next}
 use Rattle.vbr_machine.proofs.FoundReads.{link_among}
 use Rattle.vbr_machine.proofs.Growth.{grows_after}
 use Rattle.vbr_machine.proofs.LoadSteps.{link_read}
-use Rattle.vbr_machine.proofs.KnownReads.{good_link, one_held, slot_held, known_key}
+use Rattle.vbr_machine.proofs.KnownReads.{good_link, one_held, slot_held, known_key, value_held}
 use Rattle.vbr_machine.proofs.Shown.{stands}
 
 -- ---- a held place that shows an unmarked link
@@ -104,6 +104,13 @@ module _ {start : Start} {a b : Incarnations} {know : Know} {notes : Notes} (the
   key_then : (s c key : ℕ) → IsHeldIncarnation a know.epoch s c → Knows know (KeyOf s key) → a.key c ≡ key
   key_then s c key h m = sym (grown.key c (late_inserted (a.state c) know.epoch h.late)) ∙ known_key now noted s c key (stays_held then grown know.epoch s c low h) m
 
+  -- and a value
+  value_then : (s c value : ℕ) → IsHeldIncarnation a know.epoch s c → Knows know (ValueOf s value) → a.value c ≡ value
+  value_then s c value h m =
+      let held = stays_held then grown know.epoch s c low h in
+      let x = value_held noted s value m in
+      sym (grown.value c (late_inserted (a.state c) know.epoch h.late)) ∙ ap b.value (one_held now know.epoch s c x.0 held x.1) ∙ x.2
+
   -- a key that stands behind a place
   pub behind_then : (at : At) (of : Option ℕ) (key : ℕ) → IsHeldAt a know.epoch at of → StandsBehind start know at key → BelongsBehind start a (before_of at of) key
   behind_then (Head b) of key h s = s
@@ -129,6 +136,21 @@ module _ {start : Start} {a b : Incarnations} {know : Know} {notes : Notes} (the
         go (Head b) of h p k = absurd k
         go (Slot s) None h p k = absurd h
         go (Slot s) (Some c) h p k = let q = key_then s c key h k in rw (← q) (tells.there c (pair_open a (Slot s) (Some c) opened.0 p).0)
+
+    -- and its value was the one that is known there
+    pub value_was_there : (s key value : ℕ) → at ≡ Slot s → Knows know (KeyOf s key) → Knows know (ValueOf s value) → values_after (opening_payloads start) a.calls key ≡ payload_kept start (Some value)
+    value_was_there s key value e k m = go at of e held opened.1
+      where
+        go : (at : At) (of : Option ℕ) → at ≡ Slot s → IsHeldAt a know.epoch at of → IsPair a at of opened.0 → values_after (opening_payloads start) a.calls key ≡ payload_kept start (Some value)
+        go (Head b) of e h p = absurd (cc)
+        go (Slot t) None e h p = absurd h
+        go (Slot t) (Some c) e h p =
+            let same : t ≡ s = cc in
+            let P : ℕ → Type 0 = λ t. IsHeldIncarnation a know.epoch t c in
+            let g = subst P same h in
+            let q = key_then s c key g k in
+            let v = value_then s c value g m in
+            ap (values_after (opening_payloads start) a.calls) (sym q) ∙ tells.stored c (pair_open a (Slot t) (Some c) opened.0 p).0 ∙ ap (λ x. payload_kept start (Some x)) v
 
     -- no node of a key between the place and what the link names was in a list
     none_was_listed : (key : ℕ) → StandsBehind start know at key → BelongsBefore a key opened.0 → (d : ℕ) → IsListed (a.state d) → a.key d ≡ key → ⊥
@@ -194,6 +216,10 @@ module _ {start : Start} {v w : World} {a b : Incarnations} {early late : ℕ �
   -- a key that is known at the place now was in the set then
   pub present_at_load : (key : ℕ) → KeyAt (w.know p) at key → set_after (opening_keys start) v.calls key ≡ true
   present_at_load key k = rw then.calls (key_was_there then.sound grown now.sound (now.knows p) low then.tells at there.0 link there.1 shows unmarked known key k)
+
+  -- and a value that is known there was its value
+  pub value_at_load : (s key value : ℕ) → at ≡ Slot s → Knows (w.know p) (KeyOf s key) → Knows (w.know p) (ValueOf s value) → values_after (opening_payloads start) v.calls key ≡ payload_kept start (Some value)
+  value_at_load s key value e k m = rw then.calls (value_was_there then.sound grown now.sound (now.knows p) low then.tells at there.0 link there.1 shows unmarked known s key value e k m)
 
   -- a key that stands behind the place and before what the link names, by what is known now, wasn't in the set then
   pub absent_at_load : (key : ℕ) → StandsBehind start (w.know p) at key → StandsBefore (w.know p) key link.slot → set_after (opening_keys start) v.calls key ≡ false

@@ -32,7 +32,9 @@ pub use Rattle.vbr_machine.proofs.OwnEntries.{others_leave_entries, own_entries-
 pub use Rattle.vbr_machine.proofs.KnownReads.{birth_held, slot_held}
 -- What runs say to the layers above: of what a pass knows by membership, of the keys that were in the set when a link was loaded, and of chains of marked links.
 pub use Rattle.vbr_machine.proofs.RunForms.{absent_at_load, confirmed_call_is, head_unmarked, held_in_bucket, known_accepts, link_held, link_loaded}
-pub use Rattle.vbr_machine.proofs.RunForms.{marked_call_is, none_marked_between, none_marked_here, none_marked_skipped, present_at_load, written_is}
+pub use Rattle.vbr_machine.proofs.RunForms.{marked_call_is, none_marked_between, none_marked_here, none_marked_skipped, present_at_load, value_at_load, written_is}
+-- A key that was passed by behind an unmarked link, along marked ones, was absent at a moment since.
+pub use Rattle.vbr_machine.proofs.MarkedMoments.{absent_at_moments}
 -- Removed incarnations: the one that a remove marked has left its list, once no marked one of its key is in a list.
 pub use Rattle.vbr_machine.proofs.Removals.{left_since, marked_left}
 -- What runs say of how many nodes stand behind a place that a pass holds, whose link is still the one that it has checked.

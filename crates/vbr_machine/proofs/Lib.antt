@@ -63,6 +63,7 @@ mod HeldBuckets
 mod AtLoads
 mod MarkedChains
 mod RunForms
+mod MarkedMoments
 mod Removals
 mod ListedRuns
 mod ListedGrowth

@@ -8,8 +8,8 @@ use Rattle.vbr_words.specs.declared.link.Link.{Link}
 use Rattle.vbr_words.specs.declared.place.At.{At}
 use Rattle.vbr_words.specs.declared.place.At.TheVariants.{Head, Slot}
 use Rattle.vbr_machine.specs.Put.{put}
-use Rattle.vbr_machine.specs.Opened.{opening_keys, payload_kept}
-use Rattle.vbr_machine.specs.History.{set_after}
+use Rattle.vbr_machine.specs.Opened.{opening_keys, opening_payloads, payload_kept}
+use Rattle.vbr_machine.specs.History.{set_after, values_after}
 use Rattle.vbr_machine.specs.Knowledge.{key_in, birth_in}
 use Rattle.vbr_words.specs.Buckets.{bucket_of}
 use Rattle.vbr_machine.specs.Acceptance.{Accepts}
@@ -169,6 +169,10 @@ module _ (start : Start) (passes : ℕ) (moment run : List Event) (is : IsStart 
   -- a key that is known at the place at the end was in the set at that moment
   pub present_at_load : (key : ℕ) → KeyAt (know_after start run p) at key → set_after (opening_keys start) (world_after start moment).calls key ≡ true
   present_at_load key k = loads.present_at_load then (run_agrees start passes run is ok) grown p at link was.epoch was.held was.shown was.known was.unmarked key k
+
+  -- and a value that is known there at the end was its value
+  pub value_at_load : (s key value : ℕ) → at ≡ Slot s → Knows (know_after start run p) (KeyOf s key) → Knows (know_after start run p) (ValueOf s value) → values_after (opening_payloads start) (world_after start moment).calls key ≡ payload_kept start (Some value)
+  value_at_load s key value e k m = loads.value_at_load then (run_agrees start passes run is ok) grown p at link was.epoch was.held was.shown was.known was.unmarked s key value e k m
 
   -- a key that stands behind the place and before what the link names, by what is known at the end, wasn't in the set at that moment
   pub absent_at_load : (key : ℕ) → StandsBehind start (know_after start run p) at key → StandsBefore (know_after start run p) key link.slot → set_after (opening_keys start) (world_after start moment).calls key ≡ false

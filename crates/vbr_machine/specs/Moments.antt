@@ -3,7 +3,9 @@ use Rattle.std.specs.Prelude.{◌≡◌, ℕ, false, List}
 use Rattle.vbr_machine.specs.Start.{Start}
 use Rattle.vbr_words.specs.declared.link.Link.{Link}
 use Rattle.vbr_words.specs.declared.place.At.{At}
+use Rattle.vbr_machine.specs.History.{set_after}
 use Rattle.vbr_machine.specs.Membership.{Knows, IsHeldPlace}
+use Rattle.vbr_machine.specs.Opened.{opening_keys}
 use Rattle.vbr_machine.specs.Machine.{link_at}
 use Rattle.vbr_machine.specs.Runs.{world_after, know_after, Begins}
 use Rattle.vbr_machine.specs.declared.event.Event.{Event}
@@ -17,3 +19,10 @@ pub record WasShown (start : Start) (moment run : List Event) (pass : ℕ) (at :
   pub shown : link_at (world_after start moment) at ≡ link
   pub known : Knows (know_after start run pass) (LinkAt at link)
   pub unmarked : link.mark ≡ false
+
+-- between a moment of a run and its end there was one at which a key wasn't in the set
+pub record WasAbsent (start : Start) (moment run : List Event) (key : ℕ) : Type 0 where
+  pub between : List Event
+  pub from : Begins moment between
+  pub to : Begins between run
+  pub absent : set_after (opening_keys start) (world_after start between).calls key ≡ false

@@ -10,8 +10,8 @@ ghost use Rattle.vbr_words.specs.declared.place.At.{At};
 ghost use Rattle.vbr_words.specs.declared.place.At.TheVariants.{Slot};
 ghost use Rattle.vbr_words.specs.declared.place.Place.{Place};
 ghost use Rattle.vbr_machine.specs.Keys.{Keys};
-ghost use Rattle.vbr_machine.specs.Opened.{opening_keys};
-ghost use Rattle.vbr_machine.specs.History.{IsLegal, set_after};
+ghost use Rattle.vbr_machine.specs.Opened.{opening_keys, opening_payloads, payload_kept};
+ghost use Rattle.vbr_machine.specs.History.{IsLegal, set_after, values_after};
 ghost use Rattle.vbr_machine.specs.Knowledge.{Know};
 ghost use Rattle.vbr_words.specs.Buckets.{bucket_of};
 ghost use Rattle.vbr_machine.specs.Maps.{Entries, entries_in, keys_in, map_start, IsMapLegal, opening_entries, TellsNoValue, StoresNoValue, HaveValues};
@@ -20,7 +20,7 @@ ghost use Rattle.vbr_machine.specs.Loads.{IsLoad};
 ghost use Rattle.vbr_machine.specs.Machine.{World, after, found, word_at};
 ghost use Rattle.vbr_machine.specs.Machine as machine;
 ghost use Rattle.vbr_machine.specs.Membership.{Knows, HeldIn, LeadsTo, KeyAt, StandsBehind, StandsBefore, AcceptsKnown};
-ghost use Rattle.vbr_machine.specs.Moments.{WasShown};
+ghost use Rattle.vbr_machine.specs.Moments.{WasAbsent, WasShown};
 ghost use Rattle.vbr_machine.specs.Incarnations.{Incarnations, IsLate, Unlinked, at_opening};
 ghost use Rattle.vbr_machine.specs.Chronicles.{Entry, IsLawful, incarnations_from};
 ghost use Rattle.vbr_machine.specs.Sound.{Grows, Sound, Tells};
@@ -40,7 +40,7 @@ ghost use Rattle.vbr_machine.specs.declared.event.Step.{Step};
 ghost use Rattle.vbr_machine.specs.declared.event.Step.TheVariants.{ConfirmPresent, ConfirmAbsent};
 ghost use Rattle.vbr_machine.specs.declared.history.Op.{Op};
 ghost use Rattle.vbr_machine.specs.declared.history.Op.TheVariants.{Insert, Remove};
-ghost use Rattle.vbr_machine.specs.declared.knowledge.Read.TheVariants.{LinkAt, KeyOf};
+ghost use Rattle.vbr_machine.specs.declared.knowledge.Read.TheVariants.{LinkAt, KeyOf, ValueOf};
 
 /// A law: a lawful chronicle is sound, where the opening keys ascend.
 pub fn lawful_is_sound()
@@ -217,6 +217,18 @@ pub fn present_at_load()
         set_after (opening_keys start) (world_after start moment).calls key ≡ true }
 {}
 
+/// A law: in the same case, a value that it knows of the place was the value of the key.
+pub fn value_at_load()
+    ensures { (start : Start) (passes : ℕ) (moment run : List Event) (pass s : ℕ)
+        (link : Link) (key value : ℕ) →
+        IsStart start → IsRun start passes run →
+        WasShown start moment run pass (Slot s) link →
+        Knows (know_after start run pass) (KeyOf s key) →
+        Knows (know_after start run pass) (ValueOf s value) →
+        values_after (opening_payloads start) (world_after start moment).calls key
+        ≡ payload_kept start (Some value) }
+{}
+
 /// A law: in the same case, a key that stands behind the place, and before what the link names,
 /// wasn't in the set at that moment.
 pub fn absent_at_load()
@@ -292,6 +304,20 @@ pub fn absent_behind_marked()
         StandsBehind start (know_after start run pass) at key →
         StandsBefore (know_after start run pass) key last.slot →
         set_after (opening_keys start) (world_after start run).calls key ≡ false }
+{}
+
+/// A law: let an unmarked link that a pass knows have been shown at its place at an earlier moment, as
+/// above, and known marked links lead on from it. Then a key that stands behind the place, and before
+/// what the last of them names, wasn't in the set at some moment since: each of the nodes between was
+/// marked, and still in its list, at one.
+pub fn absent_at_a_moment()
+    ensures { (start : Start) (passes : ℕ) (moment run : List Event) (pass : ℕ) (at : At)
+        (link last : Link) (key : ℕ) →
+        IsStart start → IsRun start passes run → WasShown start moment run pass at link →
+        LeadsTo (know_after start run pass) link last →
+        StandsBehind start (know_after start run pass) at key →
+        StandsBefore (know_after start run pass) key last.slot →
+        WasAbsent start moment run key }
 {}
 
 /// A law: where a key stands between a place and the very node that its link names, if it names

@@ -17,3 +17,4 @@ mod CountedKeys
 mod RoomLeft
 mod RoomOfOthers
 mod TakenUp
+mod Listing

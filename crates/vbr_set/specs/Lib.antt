@@ -12,6 +12,7 @@ pub mod Walking
 pub mod Contents
 pub mod Mailboxes
 pub mod Members
+pub mod Iterating
 pub mod Sharing
 pub mod MemberView
 pub mod SetRefView

@@ -39,6 +39,7 @@
 pub mod close_all_error;
 mod contents;
 pub mod end_error;
+pub mod keys_error;
 pub mod laws;
 pub mod map;
 pub mod member;
@@ -51,12 +52,13 @@ mod walking;
 
 pub use close_all_error::CloseAllError;
 pub use end_error::EndError;
+pub use keys_error::KeysError;
 pub use map::report::MapReport;
 pub use member::telling::ReportOf;
 pub use renew_error::RenewError;
 pub use report::Report;
 pub use set_ref::VbrSetRef;
-pub use vbr_list::Refusal;
+pub use vbr_list::{Cursor, Refusal};
 pub use vbr_machine::{Call, Op};
 pub use vbr_slots::{CloseError, OpenError, Pass, Seen};
 pub use vbr_words::link::MAX_SLOTS;

@@ -3,6 +3,7 @@ pub mod calls;
 pub mod closing;
 pub mod closing_all;
 mod common;
+pub mod iterating;
 mod mailbox;
 pub mod meeting;
 pub mod opening;

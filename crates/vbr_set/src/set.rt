@@ -1,6 +1,7 @@
 //! The set, and the map.
 pub mod calls;
 pub mod closing;
+pub mod iterating;
 pub mod meeting;
 pub mod opening;
 pub mod renewing;

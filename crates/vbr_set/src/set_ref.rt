@@ -1,5 +1,6 @@
 //! A pass with a reference to its set.
 pub mod calls;
+pub mod iterating;
 pub mod map_calls;
 
 ghost use Rattle.std.specs.Prelude.{◌≡◌};

@@ -4,6 +4,10 @@
 #[cfg(test)]
 mod emptying;
 #[cfg(test)]
+mod iterating;
+#[cfg(test)]
+mod listing_threads;
+#[cfg(test)]
 mod maps;
 #[cfg(test)]
 mod members;

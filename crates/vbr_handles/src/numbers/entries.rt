@@ -43,7 +43,7 @@ pub fn get(owner: &mut Owner<MapMember>, key: u64, budget: u32, value: &mut u64)
 }
 
 // Writes the value of an answer, where it gives one, and tells the number of the answer.
-fn give(answer: Result<Option<u64>, Refusal>, value: &mut u64) -> i32
+pub(crate) fn give(answer: Result<Option<u64>, Refusal>, value: &mut u64) -> i32
     ensures code { result ≡ call_code (is_yes answer) }
     ensures writes { WritesValue answer value.old value.new }
 {

@@ -1,0 +1,266 @@
+-- From cursor to cursor, and what an iteration has given.
+use Rattle.std.proofs.Common.{◌≡◌, ℕ, ◌^◌, ◌<◌, ◌≤◌, Bool, true, false, List, [], ◌∷◌, ◌++◌, Option, Some, None, sym, ap, ◌∙◌, subst, arith, inl, inr, append-nil, option_to_list}
+use Rattle.std.specs.Prelude.{◌⊎◌, Contains, IfSome}
+use Rattle.std.specs.List.{AllByRecursion}
+use Rattle.std.proofs.lemmas.Bool.{cases_lt, cases_order}
+use Rattle.std.proofs.lemmas.List.Elements.{Contains-append_left, Contains-append_right, Contains-push, Contains-push_cases}
+use Rattle.vbr_machine.specs.Start.{Start}
+use Rattle.vbr_machine.specs.Opened.{opening_keys, opening_payloads}
+use Rattle.vbr_machine.specs.History.{set_after, values_after}
+use Rattle.vbr_machine.specs.Runs.{world_after}
+use Rattle.vbr_words.specs.Buckets.{bucket_of}
+use Rattle.vbr_machine.proofs.Lemmas.{begins_trans}
+use Rattle.vbr_slots.specs.Views.{Trace}
+use Rattle.vbr_slots.proofs.Lemmas.{same_on}
+use Rattle.vbr_at_table.specs.Moments.{WasEntry, WasSo}
+use Rattle.vbr_list.specs.Cursors.{AreInOrder, ComesFirst, HasGiven, HasGivenAll, IsAhead, IsAtEnd, IsBehindKey, IsPassed, PassesBy, SeesMore, first_cursor, next_bucket}
+use Rattle.vbr_list.specs.Next.{HasNoNext, IsNextKey}
+use Rattle.vbr_list.specs.declared.cursor.Cursor.{Cursor}
+
+-- ---- a pass that has seen more
+
+pub sees_on : {p q r : Trace} → SeesMore p q → SeesMore q r → SeesMore p r
+sees_on {p} {q} {r} x y = record { same = same_on x.same y.same; begins = begins_trans p.seen q.seen r.seen x.begins y.begins; is_run = y.is_run }
+
+-- what was so at a moment of what the pass did was so at a moment of more
+pub so_more : {p q r : Trace} {key : ℕ} {present : Bool} → WasSo p q key present → SeesMore q r → WasSo p r key present
+so_more {p} {q} {r} x y = record { moment = x.moment; within = record { from = x.within.from; to = begins_trans x.moment q.seen r.seen x.within.to y.begins; is_run = y.is_run }; was = x.was }
+
+pub so_since : {p q r : Trace} {key : ℕ} {present : Bool} → SeesMore p q → WasSo q r key present → WasSo p r key present
+so_since {p} {q} {r} {key} {present} x y = record {
+  moment = y.moment;
+  within = record { from = begins_trans p.seen q.seen y.moment x.begins y.within.from; to = y.within.to; is_run = y.within.is_run };
+  was = ap (λ (s : Start). set_after (opening_keys s) (world_after s y.moment).calls key) (sym x.same.start) ∙ y.was;
+}
+
+pub entry_since : {p q r : Trace} {key value : ℕ} → SeesMore p q → WasEntry q r key value → WasEntry p r key value
+entry_since {p} {q} {r} {key} {value} x y = record {
+  moment = y.moment;
+  within = record { from = begins_trans p.seen q.seen y.moment x.begins y.within.from; to = y.within.to; is_run = y.within.is_run };
+  was = ap (λ (s : Start). set_after (opening_keys s) (world_after s y.moment).calls key) (sym x.same.start) ∙ y.was;
+  stored = ap (λ (s : Start). values_after (opening_payloads s) (world_after s y.moment).calls key) (sym x.same.start) ∙ y.stored;
+}
+
+-- ---- cursors
+
+-- a key is passed, or is ahead
+pub passed_or_ahead : (start : Start) (c : Cursor) (key : ℕ) → IsPassed start c key ⊎ IsAhead start c key
+passed_or_ahead start c key = go (cases_order (bucket_of start.shape key) c.bucket)
+  where
+    in_it : bucket_of start.shape key ≡ c.bucket → (key < c.from) ⊎ (c.from ≤ key) → IsPassed start c key ⊎ IsAhead start c key
+    in_it e (inl low) = inl (inr (e, low))
+    in_it e (inr high) = inr (inr (e, high))
+
+    go : (bucket_of start.shape key ≡ c.bucket) ⊎ ((bucket_of start.shape key < c.bucket) ⊎ (c.bucket < bucket_of start.shape key)) → IsPassed start c key ⊎ IsAhead start c key
+    go (inl e) = in_it e (cases_lt key c.from)
+    go (inr (inl early)) = inl (inl early)
+    go (inr (inr late)) = inr (inl late)
+
+-- not both
+pub not_both : (start : Start) (c : Cursor) (key : ℕ) → IsPassed start c key → IsAhead start c key → ⊥
+not_both start c key (inl x) (inl y) = omega (arith, x, y)
+not_both start c key (inl x) (inr y) = let e = y.0 in omega (arith, x, e)
+not_both start c key (inr x) (inl y) = let e = x.0 in omega (arith, y, e)
+not_both start c key (inr x) (inr y) = let u = x.1 in let v = y.1 in omega (arith, u, v)
+
+-- a key that is passed comes before one that is ahead
+pub passed_first : (start : Start) (c : Cursor) (key other : ℕ) → IsPassed start c key → IsAhead start c other → ComesFirst start key other
+passed_first start c key other (inl x) (inl y) = inl (omega (arith, x, y))
+passed_first start c key other (inl x) (inr y) = inl (let e = y.0 in omega (arith, x, e))
+passed_first start c key other (inr x) (inl y) = inl (let e = x.0 in omega (arith, y, e))
+passed_first start c key other (inr x) (inr y) = inr (x.0 ∙ sym y.0, (let u = x.1 in let v = y.1 in omega (arith, u, v)))
+
+-- ---- one call
+
+-- from where it stands to where it stands
+pub passes_still : (p q : Trace) (c : Cursor) → PassesBy p q c c None
+passes_still p q c = record { onward = λ key passed. passed; was = tt; others = λ key small ahead passed. absurd (not_both p.start c key passed ahead) }
+
+-- over what is left of a bucket
+pub passes_bucket : {p q : Trace} (c : Cursor) → HasNoNext p q c.bucket c.from → PassesBy p q c (next_bucket c) None
+passes_bucket {p} {q} c none = record {
+  onward = λ key passed. onward key passed;
+  was = tt;
+  others = λ key small ahead passed. inr (others key ahead passed);
+}
+  where
+    onward : (key : ℕ) → IsPassed p.start c key → IsPassed p.start (next_bucket c) key
+    onward key (inl x) = inl (omega (arith, x))
+    onward key (inr x) = inl (let e = x.0 in omega (arith, e))
+
+    others : (key : ℕ) → IsAhead p.start c key → IsPassed p.start (next_bucket c) key → WasSo p q key false
+    others key (inl x) (inl y) = absurd (omega (arith, x, y))
+    others key (inl x) (inr y) = absurd (let u = y.1 in omega (arith, u))
+    others key (inr x) y = none.behind key x.0 x.1
+
+-- to a key, and right behind it
+pub passes_key : {p q : Trace} (c d : Cursor) (key : ℕ) → IsNextKey p q c.bucket c.from key → IsBehindKey c.bucket key d → PassesBy p q c d (Some key)
+passes_key {p} {q} c d key next behind = record {
+  onward = λ other passed. onward other behind passed;
+  was = (inr (next.of_bucket, next.high), here behind, next.was);
+  others = λ other small ahead passed. others other small behind ahead passed;
+}
+  where
+    onward : (other : ℕ) → IsBehindKey c.bucket key d → IsPassed p.start c other → IsPassed p.start d other
+    onward other (inl b) (inl x) = inl (let e = b.0 in omega (arith, e, x))
+    onward other (inl b) (inr x) = inr (x.0 ∙ sym b.0, (let u = x.1 in let v = next.high in let e = b.1 in omega (arith, u, v, e)))
+    onward other (inr b) (inl x) = inl (let e = b.0 in omega (arith, e, x))
+    onward other (inr b) (inr x) = inl (let e = b.0 in let f = x.0 in omega (arith, e, f))
+
+    here : IsBehindKey c.bucket key d → IsPassed p.start d key
+    here (inl b) = inr (next.of_bucket ∙ sym b.0, (let e = b.1 in omega (arith, e)))
+    here (inr b) = inl (let e = b.0 in let f = next.of_bucket in omega (arith, e, f))
+
+    same_or_less : (other : ℕ) → bucket_of p.start.shape other ≡ c.bucket → c.from ≤ other → other ≤ key → (other ≡ key) ⊎ ((other < key) ⊎ (key < other)) → (Some key ≡ Some other) ⊎ WasSo p q other false
+    same_or_less other b from le (inl e) = inl (ap Some (sym e))
+    same_or_less other b from le (inr (inl low)) = inr (next.between other b from low)
+    same_or_less other b from le (inr (inr high)) = absurd (omega (arith, le, high))
+
+    others : (other : ℕ) → other < 2 ^ 64 → IsBehindKey c.bucket key d → IsAhead p.start c other → IsPassed p.start d other → (Some key ≡ Some other) ⊎ WasSo p q other false
+    others other small (inl b) (inl x) (inl y) = absurd (let e = b.0 in omega (arith, e, x, y))
+    others other small (inl b) (inl x) (inr y) = absurd (let e = b.0 in let f = y.0 in omega (arith, e, f, x))
+    others other small (inl b) (inr x) (inl y) = absurd (let e = b.0 in let f = x.0 in omega (arith, e, f, y))
+    others other small (inl b) (inr x) (inr y) = same_or_less other x.0 x.1 (let e = b.1 in let u = y.1 in omega (arith, e, u)) (cases_order other key)
+    others other small (inr b) (inl x) (inl y) = absurd (let e = b.0 in omega (arith, e, x, y))
+    others other small (inr b) (inl x) (inr y) = absurd (let e = b.1 in let u = y.1 in omega (arith, e, u))
+    others other small (inr b) (inr x) y = same_or_less other x.0 x.1 (let u = b.2 in omega (arith, u, small)) (cases_order other key)
+
+-- first to one cursor, where nothing is given, and then on to another
+pub passes_on : {p q r : Trace} {c d e : Cursor} {given : Option ℕ} → SeesMore p q → SeesMore q r → PassesBy p q c d None → PassesBy q r d e given → PassesBy p r c e given
+passes_on {p} {q} {r} {c} {d} {e} {given} a b x y = record {
+  onward = λ key passed. to_end key (x.onward key passed);
+  was = was given y.was;
+  others = λ key small ahead passed. others key small ahead passed (passed_or_ahead p.start d key);
+}
+  where
+    to_end : (key : ℕ) → IsPassed p.start d key → IsPassed p.start e key
+    to_end key passed = let P : Start → Type 0 = λ s. IsPassed s d key → IsPassed s e key in subst P a.same.start (y.onward key) passed
+
+    behind : (key : ℕ) → IsAhead p.start d key → IsAhead p.start c key
+    behind key ahead = go (passed_or_ahead p.start c key)
+      where
+        go : IsPassed p.start c key ⊎ IsAhead p.start c key → IsAhead p.start c key
+        go (inl passed) = absurd (not_both p.start d key (x.onward key passed) ahead)
+        go (inr ahead) = ahead
+
+    was : (given : Option ℕ) → IfSome given (λ key. IsAhead q.start d key × IsPassed q.start e key × WasSo q r key true) → IfSome given (λ key. IsAhead p.start c key × IsPassed p.start e key × WasSo p r key true)
+    was None g = tt
+    was (Some key) g =
+        let P : Start → Type 0 = λ s. IsAhead s d key in
+        let Q : Start → Type 0 = λ s. IsPassed s e key in
+        (behind key (subst P a.same.start g.0), subst Q a.same.start g.1, so_since a g.2)
+
+    first : (key : ℕ) → (None ≡ Some key) ⊎ WasSo p q key false → (given ≡ Some key) ⊎ WasSo p r key false
+    first key (inl never) = absurd (cc)
+    first key (inr so) = inr (so_more so b)
+
+    second : (key : ℕ) → (given ≡ Some key) ⊎ WasSo q r key false → (given ≡ Some key) ⊎ WasSo p r key false
+    second key (inl given_there) = inl given_there
+    second key (inr so) = inr (so_since a so)
+
+    others : (key : ℕ) → key < 2 ^ 64 → IsAhead p.start c key → IsPassed p.start e key → IsPassed p.start d key ⊎ IsAhead p.start d key → (given ≡ Some key) ⊎ WasSo p r key false
+    others key small ahead passed (inl before) = first key (x.others key small ahead before)
+    others key small ahead passed (inr after) =
+        let P : Start → Type 0 = λ s. IsAhead s d key → IsPassed s e key → (given ≡ Some key) ⊎ WasSo q r key false in
+        second key ((subst P a.same.start (y.others key small)) after passed)
+
+-- ---- an iteration
+
+-- before its first call
+pub given_none : (p : Trace) → HasGiven p p first_cursor []
+given_none p = record { in_order = tt; were = λ key among. absurd (none key among); others = λ key small passed. absurd (no key passed) }
+  where
+    no : (key : ℕ) → IsPassed p.start first_cursor key → ⊥
+    no key (inl x) = omega (arith, x)
+    no key (inr x) = let u = x.1 in omega (arith, u)
+
+    none : (key : ℕ) → Contains [] key → ⊥
+    none key among = grind (arith, among)
+
+-- while nothing is given and the cursor stays
+pub given_more : {p q r : Trace} {c : Cursor} {keys : List ℕ} → HasGiven p q c keys → SeesMore q r → HasGiven p r c keys
+given_more {p} {q} {r} {c} {keys} x b = record { in_order = x.in_order; were = λ key among. let w = x.were key among in (w.0, so_more w.1 b); others = λ key small passed. others key (x.others key small passed) }
+  where
+    others : (key : ℕ) → Contains keys key ⊎ WasSo p q key false → Contains keys key ⊎ WasSo p r key false
+    others key (inl among) = inl among
+    others key (inr so) = inr (so_more so b)
+
+-- one more key at the end
+all_and : (P : ℕ → Type 0) (keys : List ℕ) (key : ℕ) → AllByRecursion P keys → P key → AllByRecursion P (keys ++ key ∷ [])
+all_and P [] key all one = (one, tt)
+all_and P (k ∷ keys) key all one = (all.0, all_and P keys key all.1 one)
+
+order_and : (start : Start) (keys : List ℕ) (key : ℕ) → AreInOrder start keys → ((other : ℕ) → Contains keys other → ComesFirst start other key) → AreInOrder start (keys ++ key ∷ [])
+order_and start [] key order first = (tt, tt)
+order_and start (k ∷ keys) key order first = (
+  all_and (ComesFirst start k) keys key order.0 (first k (Contains-append_left (k ∷ []) keys k (Contains-push [] k))),
+  order_and start keys key order.1 (λ other among. first other (Contains-append_right (k ∷ []) keys other among)),
+)
+
+-- a call goes on with it
+pub given_on : {p q r : Trace} {c d : Cursor} {keys : List ℕ} {given : Option ℕ} → SeesMore p q → SeesMore q r → HasGiven p q c keys → PassesBy q r c d given → HasGiven p r d (keys ++ option_to_list given)
+given_on {p} {q} {r} {c} {d} {keys} {given} a b x y = go given y.was (λ key small ahead passed. others_now key small ahead passed)
+  where
+    onward : (key : ℕ) → IsPassed p.start c key → IsPassed p.start d key
+    onward key passed = let P : Start → Type 0 = λ s. IsPassed s c key → IsPassed s d key in subst P a.same.start (y.onward key) passed
+
+    others_now : (key : ℕ) → key < 2 ^ 64 → IsAhead p.start c key → IsPassed p.start d key → (given ≡ Some key) ⊎ WasSo q r key false
+    others_now key small ahead passed =
+        let P : Start → Type 0 = λ s. IsAhead s c key → IsPassed s d key → (given ≡ Some key) ⊎ WasSo q r key false in
+        (subst P a.same.start (y.others key small)) ahead passed
+
+    before : (key : ℕ) → Contains keys key ⊎ WasSo p q key false → Contains keys key ⊎ WasSo p r key false
+    before key (inl among) = inl among
+    before key (inr so) = inr (so_more so b)
+
+    left : (key more : ℕ) → Contains keys key ⊎ WasSo p r key false → Contains (keys ++ more ∷ []) key ⊎ WasSo p r key false
+    left key more (inl among) = inl (Contains-append_left keys (more ∷ []) key among)
+    left key more (inr so) = inr so
+
+    go : (given : Option ℕ) → IfSome given (λ key. IsAhead q.start c key × IsPassed q.start d key × WasSo q r key true) → ((key : ℕ) → key < 2 ^ 64 → IsAhead p.start c key → IsPassed p.start d key → (given ≡ Some key) ⊎ WasSo q r key false) → HasGiven p r d (keys ++ option_to_list given)
+    go None was others =
+        let P : List ℕ → Type 0 = HasGiven p r d in
+        subst P (sym (append-nil keys)) (record {
+          in_order = x.in_order;
+          were = λ key among. let w = x.were key among in (onward key w.0, so_more w.1 b);
+          others = λ key small passed. by key small passed (passed_or_ahead p.start c key);
+        })
+      where
+        last : (key : ℕ) → (None ≡ Some key) ⊎ WasSo q r key false → Contains keys key ⊎ WasSo p r key false
+        last key (inl never) = absurd (cc)
+        last key (inr so) = inr (so_since a so)
+
+        by : (key : ℕ) → key < 2 ^ 64 → IsPassed p.start d key → IsPassed p.start c key ⊎ IsAhead p.start c key → Contains keys key ⊎ WasSo p r key false
+        by key small passed (inl early) = before key (x.others key small early)
+        by key small passed (inr late) = last key (others key small late passed)
+    go (Some more) was others = record {
+      in_order = order_and p.start keys more x.in_order (λ other among. passed_first p.start c other more (x.were other among).0 ahead);
+      were = λ key among. were key (Contains-push_cases keys more key among);
+      others = λ key small passed. by key small passed (passed_or_ahead p.start c key);
+    }
+      where
+        ahead : IsAhead p.start c more
+        ahead = let P : Start → Type 0 = λ s. IsAhead s c more in subst P a.same.start was.0
+
+        were : (key : ℕ) → Contains keys key ⊎ (more ≡ key) → IsPassed p.start d key × WasSo p r key true
+        were key (inl among) = let w = x.were key among in (onward key w.0, so_more w.1 b)
+        were key (inr e) =
+            let P : Start → Type 0 = λ s. IsPassed s d more in
+            let Q : ℕ → Type 0 = λ k. IsPassed p.start d k × WasSo p r k true in
+            subst Q e (subst P a.same.start was.1, so_since a was.2)
+
+        last : (key : ℕ) → (Some more ≡ Some key) ⊎ WasSo q r key false → Contains (keys ++ more ∷ []) key ⊎ WasSo p r key false
+        last key (inl same) = inl (let e : more ≡ key = cc in let P : ℕ → Type 0 = Contains (keys ++ more ∷ []) in subst P e (Contains-push keys more))
+        last key (inr so) = inr (so_since a so)
+
+        by : (key : ℕ) → key < 2 ^ 64 → IsPassed p.start d key → IsPassed p.start c key ⊎ IsAhead p.start c key → Contains (keys ++ more ∷ []) key ⊎ WasSo p r key false
+        by key small passed (inl early) = left key more (before key (x.others key small early))
+        by key small passed (inr late) = last key (others key small late passed)
+
+-- at the end
+pub given_all : {p q : Trace} {c : Cursor} {keys : List ℕ} → ((key : ℕ) → bucket_of p.start.shape key < p.start.shape.buckets) → HasGiven p q c keys → IsAtEnd p.start c → HasGivenAll p q keys
+given_all {p} {q} {c} {keys} in_shape x end = record {
+  in_order = x.in_order;
+  were = λ key among. (x.were key among).1;
+  others = λ key small. x.others key small (inl (let u = in_shape key in omega (arith, u, end)));
+}

@@ -1,0 +1,114 @@
+-- Going over all keys from cursor to cursor: what one call tells, and what an iteration has given.
+use Rattle.std.specs.Prelude.{◌≡◌, ℕ, ◌+◌, ◌^◌, ◌<◌, ◌≤◌, ◌⊎◌, true, false, List, [], ◌∷◌, Option, Some, None, Result, IfOk, IfErr, IfSome, Contains}
+use Rattle.std.specs.List.{AllByRecursion}
+use Rattle.vbr_machine.specs.Start.{Start}
+use Rattle.vbr_machine.specs.Runs.{Begins, IsRun}
+use Rattle.vbr_words.specs.Buckets.{bucket_of}
+use Rattle.vbr_slots.specs.Alone.{IsAlone}
+use Rattle.vbr_slots.specs.Calls.{AddsNone, IsSame, OnlyLoads, Quiet}
+use Rattle.vbr_slots.specs.Views.{PassView, Trace}
+use Rattle.vbr_at_table.specs.KeptSlots.{TakesNoSlot}
+use Rattle.vbr_at_table.specs.Moments.{WasEntry, WasSo}
+use Rattle.vbr_at_table.specs.Steps.{TookWithin}
+use Rattle.vbr_list.specs.Next.{enough_to_seek}
+use Rattle.vbr_list.specs.Refusals.{IsTired}
+use Rattle.vbr_list.specs.declared.cursor.Cursor.{Cursor}
+use Rattle.vbr_list.specs.declared.refusal.Refusal.{Refusal}
+
+-- ---- cursors
+
+-- before the first key
+abbrev pub first_cursor : Cursor
+first_cursor = record { bucket = 0; from = 0 }
+
+-- before the first key of the next bucket
+abbrev pub next_bucket : Cursor → Cursor
+next_bucket c = record { bucket = c.bucket + 1; from = 0 }
+
+-- right behind a key of a bucket: in this bucket and from the next number on, or, where no number is greater, before the next bucket
+abbrev pub IsBehindKey : ℕ → ℕ → Cursor → Type 0
+IsBehindKey bucket key c = ((c.bucket ≡ bucket) × (c.from ≡ key + 1)) ⊎ ((c.bucket ≡ bucket + 1) × (c.from ≡ 0) × (2 ^ 64 ≤ key + 1))
+
+-- a key stands before a cursor: it is of an earlier bucket, or of its bucket and below its number
+abbrev pub IsPassed : Start → Cursor → ℕ → Type 0
+IsPassed start c key = (bucket_of start.shape key < c.bucket) ⊎ ((bucket_of start.shape key ≡ c.bucket) × (key < c.from))
+
+-- a key doesn't: it is of a later bucket, or of its bucket and no less than its number
+abbrev pub IsAhead : Start → Cursor → ℕ → Type 0
+IsAhead start c key = (c.bucket < bucket_of start.shape key) ⊎ ((bucket_of start.shape key ≡ c.bucket) × (c.from ≤ key))
+
+-- one key comes before another: its bucket is earlier, or they are of one bucket and it is less
+abbrev pub ComesFirst : Start → ℕ → ℕ → Type 0
+ComesFirst start key other = (bucket_of start.shape key < bucket_of start.shape other) ⊎ ((bucket_of start.shape key ≡ bucket_of start.shape other) × (key < other))
+
+-- ---- one call
+
+-- from one cursor on to another: the key that was given stands between them and was there at a moment of what the pass did, and each other key between them was absent at a moment of it
+pub record PassesBy (p q : Trace) (c d : Cursor) (given : Option ℕ) : Type 0 where
+  pub onward : (key : ℕ) → IsPassed p.start c key → IsPassed p.start d key
+  pub was : IfSome given (λ key. IsAhead p.start c key × IsPassed p.start d key × WasSo p q key true)
+  pub others : (key : ℕ) → key < 2 ^ 64 → IsAhead p.start c key → IsPassed p.start d key → (given ≡ Some key) ⊎ WasSo p q key false
+
+-- a cursor stands behind the last bucket, so all keys stand before it
+abbrev pub IsAtEnd : Start → Cursor → Type 0
+IsAtEnd start c = start.shape.buckets ≤ c.bucket
+
+-- what a call gives: a key, or none, and then it has come to the end
+abbrev pub GivesKey : Trace → Trace → Cursor → Cursor → Option ℕ → Type 0
+GivesKey p q c d None = PassesBy p q c d None × IsAtEnd p.start d
+GivesKey p q c d (Some key) = PassesBy p q c d (Some key)
+
+-- where nodes have values, an entry: a key with its value at a moment at which it was there
+abbrev pub GivesEntry : Trace → Trace → Cursor → Cursor → Option (ℕ × ℕ) → Type 0
+GivesEntry p q c d None = PassesBy p q c d None × IsAtEnd p.start d
+GivesEntry p q c d (Some entry) = PassesBy p q c d (Some entry.0) × WasEntry p q entry.0 entry.1
+
+-- the pass gave what it was to give; or it was refused for want of steps alone, and gave none, and the cursor has come so far; it made no call, and loads alone, added nothing to the chronicle, and has what slots it had; it made no more steps than its budget; and alone a refusal has come a bucket further, or its budget was below what is enough in its bucket
+pub record Iterates {A : Type 0} (Gives : A → Type 0) (p q : PassView) (c d : Cursor) (budget : ℕ) (answer : Result A Refusal) : Type 0 where
+  pub gives : IfOk answer Gives
+  pub passed : IfErr answer (λ refusal. PassesBy p.trace q.trace c d None)
+  pub quiet : Quiet p.trace q.trace
+  pub only_loads : OnlyLoads p.trace q.trace
+  pub adds_none : AddsNone p.trace q.trace
+  pub takes_no_slot : TakesNoSlot p q
+  pub hand : q.hand ≡ p.hand
+  pub steps : TookWithin p.trace q.trace budget
+  pub refused : IfErr answer (IsTired p q budget)
+  pub moves : IfErr answer (λ refusal. IsAlone p.trace q.trace → (c.bucket < d.bucket) ⊎ (budget < enough_to_seek p.trace c.bucket))
+
+-- so it is of keys, and of entries
+abbrev pub IteratesKeys : PassView → PassView → Cursor → Cursor → ℕ → Result (Option ℕ) Refusal → Type 0
+IteratesKeys p q c d budget answer = Iterates (GivesKey p.trace q.trace c d) p q c d budget answer
+
+abbrev pub IteratesEntries : PassView → PassView → Cursor → Cursor → ℕ → Result (Option (ℕ × ℕ)) Refusal → Type 0
+IteratesEntries p q c d budget answer = Iterates (GivesEntry p.trace q.trace c d) p q c d budget answer
+
+-- an entry with its value where nodes have values
+abbrev pub GivesWhere : Trace → Trace → Cursor → Cursor → Option (ℕ × ℕ) → Type 0
+GivesWhere p q c d None = PassesBy p q c d None × IsAtEnd p.start d
+GivesWhere p q c d (Some entry) = PassesBy p q c d (Some entry.0) × (p.start.shape.values ≡ true → WasEntry p q entry.0 entry.1)
+
+-- ---- many calls
+
+-- the pass has seen more, in a run that goes on
+pub record SeesMore (p q : Trace) : Type 0 where
+  pub same : IsSame p q
+  pub begins : Begins p.seen q.seen
+  pub is_run : IsRun q.start q.passes q.seen
+
+-- each of these keys comes before those behind it, so none is given twice, and those of a bucket ascend
+abbrev pub AreInOrder : Start → List ℕ → Type 0
+AreInOrder start [] = Unit {0}
+AreInOrder start (key ∷ keys) = AllByRecursion (ComesFirst start key) keys × AreInOrder start keys
+
+-- what an iteration has given by the time that it has come to a cursor: keys in order that stand before it, each of which was there at a moment since it began; and each other key before the cursor was absent at a moment since
+pub record HasGiven (p q : Trace) (c : Cursor) (keys : List ℕ) : Type 0 where
+  pub in_order : AreInOrder p.start keys
+  pub were : (key : ℕ) → Contains keys key → IsPassed p.start c key × WasSo p q key true
+  pub others : (key : ℕ) → key < 2 ^ 64 → IsPassed p.start c key → Contains keys key ⊎ WasSo p q key false
+
+-- what a whole iteration has given: keys in order, each of which was there at a moment of it; and each other key was absent at a moment of it. So a key that was there all the while was given, once
+pub record HasGivenAll (p q : Trace) (keys : List ℕ) : Type 0 where
+  pub in_order : AreInOrder p.start keys
+  pub were : (key : ℕ) → Contains keys key → WasSo p q key true
+  pub others : (key : ℕ) → key < 2 ^ 64 → Contains keys key ⊎ WasSo p q key false

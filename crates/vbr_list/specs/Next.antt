@@ -1,0 +1,75 @@
+-- The next key of a bucket, from a number on: what is told of it.
+use Rattle.std.specs.Prelude.{◌≡◌, ℕ, ◌+◌, ◌*◌, ◌<◌, ◌≤◌, true, false, Option, Some, None, Result, IfOk, IfErr}
+use Rattle.vbr_words.specs.Buckets.{bucket_of}
+use Rattle.vbr_words.specs.declared.place.At.TheVariants.{Head}
+use Rattle.vbr_slots.specs.Alone.{IsAlone, ahead}
+use Rattle.vbr_slots.specs.Calls.{AddsNone, OnlyLoads, Quiet}
+use Rattle.vbr_slots.specs.Views.{PassView, Trace}
+use Rattle.vbr_at_table.specs.KeptSlots.{TakesNoSlot}
+use Rattle.vbr_at_table.specs.Moments.{WasEntry, WasSo}
+use Rattle.vbr_at_table.specs.Steps.{TookWithin}
+use Rattle.vbr_list.specs.Budgets.{steps_to_value_of}
+use Rattle.vbr_list.specs.Refusals.{IsTired}
+use Rattle.vbr_list.specs.declared.refusal.Refusal.{Refusal}
+
+-- ---- what is told
+
+-- a key of the bucket that is no less than the number, which was there at a moment of what the pass did; and each key of the bucket between the two was absent at a moment of it
+pub record IsNextKey (p q : Trace) (bucket from key : ℕ) : Type 0 where
+  pub high : from ≤ key
+  pub of_bucket : bucket_of p.start.shape key ≡ bucket
+  pub was : WasSo p q key true
+  pub between : (other : ℕ) → bucket_of p.start.shape other ≡ bucket → from ≤ other → other < key → WasSo p q other false
+
+-- each key of the bucket from the number on was absent at a moment of what the pass did
+pub record HasNoNext (p q : Trace) (bucket from : ℕ) : Type 0 where
+  pub behind : (other : ℕ) → bucket_of p.start.shape other ≡ bucket → from ≤ other → WasSo p q other false
+
+-- the next key, if there is one
+abbrev pub TellsNext : Trace → Trace → ℕ → ℕ → Option ℕ → Type 0
+TellsNext p q bucket from None = HasNoNext p q bucket from
+TellsNext p q bucket from (Some key) = IsNextKey p q bucket from key
+
+-- the next key with its value at a moment at which it was there
+pub record IsNextEntry (p q : Trace) (bucket from : ℕ) (entry : ℕ × ℕ) : Type 0 where
+  pub next : IsNextKey p q bucket from entry.0
+  pub was : WasEntry p q entry.0 entry.1
+
+-- the next entry, if there is one
+abbrev pub TellsNextEntry : Trace → Trace → ℕ → ℕ → Option (ℕ × ℕ) → Type 0
+TellsNextEntry p q bucket from None = HasNoNext p q bucket from
+TellsNextEntry p q bucket from (Some entry) = IsNextEntry p q bucket from entry
+
+-- ---- what it takes
+
+-- how many nodes, linked or marked, are in the list of a bucket, in what the pass has seen
+abbrev pub listed_in : Trace → ℕ → ℕ
+listed_in p bucket = ahead p bucket (Head bucket)
+
+-- what is enough to find the next key: five steps for each of them, and eleven
+abbrev pub enough_to_seek : Trace → ℕ → ℕ
+enough_to_seek p bucket = 5 * listed_in p bucket + 11
+
+-- the most that it costs a pass that is alone: five for each, and three, and those of reading the value
+abbrev pub seek_costs : Trace → ℕ → ℕ
+seek_costs p bucket = 5 * listed_in p bucket + 3 + steps_to_value_of p.start
+
+-- the pass told what it was to tell, or was refused for want of steps alone; it made no call, and loads alone, added nothing to the chronicle, and has what slots it had; it made no more steps than its budget; alone it has steps enough with a budget that is known before, and what is told costs no more than is known before
+pub record Seeks {A : Type 0} (Tells : A → Type 0) (p q : PassView) (bucket budget : ℕ) (answer : Result A Refusal) : Type 0 where
+  pub told : IfOk answer Tells
+  pub quiet : Quiet p.trace q.trace
+  pub only_loads : OnlyLoads p.trace q.trace
+  pub adds_none : AddsNone p.trace q.trace
+  pub takes_no_slot : TakesNoSlot p q
+  pub hand : q.hand ≡ p.hand
+  pub steps : TookWithin p.trace q.trace budget
+  pub refused : IfErr answer (IsTired p q budget)
+  pub within : IfErr answer (λ refusal. IsAlone p.trace q.trace → budget < enough_to_seek p.trace bucket)
+  pub costs : IfOk answer (λ told. IsAlone p.trace q.trace → TookWithin p.trace q.trace (seek_costs p.trace bucket))
+
+-- so it is of a key, and of an entry
+abbrev pub SeeksKey : PassView → PassView → ℕ → ℕ → ℕ → Result (Option ℕ) Refusal → Type 0
+SeeksKey p q bucket from budget answer = Seeks (TellsNext p.trace q.trace bucket from) p q bucket budget answer
+
+abbrev pub SeeksEntry : PassView → PassView → ℕ → ℕ → ℕ → Result (Option (ℕ × ℕ)) Refusal → Type 0
+SeeksEntry p q bucket from budget answer = Seeks (TellsNextEntry p.trace q.trace bucket from) p q bucket budget answer

@@ -1,0 +1,128 @@
+//! Going over all keys, one after another, while other threads make calls.
+ghost use Rattle.std.specs.Prelude.{◌≡◌};
+ghost use Rattle.vbr_slots.specs.AtTables.{IsSameTable, pass_of, trace_of};
+ghost use Rattle.vbr_slots.specs.Calls.{Took};
+ghost use Rattle.vbr_slots.specs.Views.{IsOf};
+ghost use Rattle.vbr_list.specs.Cursors.{GivesWhere, Iterates, IteratesEntries, IteratesKeys};
+
+use crate::cursor::Cursor;
+use crate::next::seek_in;
+use crate::refusal::Refusal;
+use vbr_slots::{AtTable, Pass, Slots};
+use vbr_words::{Entries, Nodes};
+
+/// The next key at a cursor, in at most `budget` steps; none behind the last one. The cursor is then behind
+/// that key. Buckets come in their order, and the keys of a bucket ascend.
+///
+/// The key was there at a moment of the call, and each other key that the cursor has passed by was absent at
+/// a moment of the call. So call after call, whatever other threads do meanwhile, and whatever other calls
+/// the pass makes in between, each key that is there all the while is given just once, and none twice.
+///
+/// It makes no call, and all its steps are loads, three for each bucket that it enters.
+///
+/// OutOfSteps is its one refusal; the cursor keeps how far it has come. While the other passes stand still, a
+/// budget of 5n + 11, with n nodes in the cursor's bucket, is enough to give a key or to come at least to the
+/// next bucket.
+pub fn next_key_at<N: Nodes>(
+    slots: &Slots<N>,
+    pass: &mut Pass,
+    cursor: &mut Cursor,
+    budget: u32,
+) -> Result<Option<u64>, Refusal>
+    requires own { IsOf pass.old.trace slots.now }
+    ensures { IteratesKeys pass.old pass.new cursor.old cursor.new budget result }
+{
+    let from = *cursor;
+    let (next, now) = pass.during(
+        |stepper|
+            requires own { IsOf stepper.old.trace slots.now }
+        { iterate_keys(&mut AtTable { slots, stepper }, from, budget) },
+    );
+    *cursor = now;
+    next
+}
+
+// As `next_key_at`, where no step is counted; where the cursor is then; and how many steps were made.
+fn iterate_keys<N: Nodes>(
+    at: &mut AtTable<'_, N>,
+    cursor: Cursor,
+    budget: u32,
+) -> ((Result<Option<u64>, Refusal>, Cursor), u32)
+    ensures table { IsSameTable at.old at.new }
+    ensures took { Took (trace_of at.old) (trace_of at.new) result.1 }
+    ensures iterates { IteratesKeys (pass_of at.old) (pass_of at.new)
+        cursor result.0.1 budget result.0.0 }
+{
+    let ((next, now), used) = iterate(at, cursor, budget);
+    match next {
+        Ok(Some((key, _))) => ((Ok(Some(key)), now), used),
+        Ok(None) => ((Ok(None), now), used),
+        Err(refusal) => ((Err(refusal), now), used),
+    }
+}
+
+/// As [`next_key_at`], at a table whose nodes have values: the key with the value that it had at a moment of
+/// the call at which it was there.
+pub fn next_entry_at(
+    slots: &Slots<Entries>,
+    pass: &mut Pass,
+    cursor: &mut Cursor,
+    budget: u32,
+) -> Result<Option<(u64, u64)>, Refusal>
+    requires own { IsOf pass.old.trace slots.now }
+    ensures { IteratesEntries pass.old pass.new cursor.old cursor.new budget result }
+{
+    let from = *cursor;
+    let (next, now) = pass.during(
+        |stepper|
+            requires own { IsOf stepper.old.trace slots.now }
+        { iterate_entries(&mut AtTable { slots, stepper }, from, budget) },
+    );
+    *cursor = now;
+    next
+}
+
+// As `next_entry_at`, where no step is counted; where the cursor is then; and how many steps were made.
+fn iterate_entries(
+    at: &mut AtTable<'_, Entries>,
+    cursor: Cursor,
+    budget: u32,
+) -> ((Result<Option<(u64, u64)>, Refusal>, Cursor), u32)
+    ensures table { IsSameTable at.old at.new }
+    ensures took { Took (trace_of at.old) (trace_of at.new) result.1 }
+    ensures iterates { IteratesEntries (pass_of at.old) (pass_of at.new)
+        cursor result.0.1 budget result.0.0 }
+{
+    at.law();
+    at.slots.kind();
+    iterate(at, cursor, budget)
+}
+
+// Goes from bucket to bucket until it finds a key; where the cursor is then; and how many steps were made.
+fn iterate<N: Nodes>(
+    at: &mut AtTable<'_, N>,
+    cursor: Cursor,
+    budget: u32,
+) -> ((Result<Option<(u64, u64)>, Refusal>, Cursor), u32)
+    ensures table { IsSameTable at.old at.new }
+    ensures took { Took (trace_of at.old) (trace_of at.new) result.1 }
+    ensures iterates { Iterates (GivesWhere (trace_of at.old) (trace_of at.new) cursor result.0.1)
+        (pass_of at.old) (pass_of at.new) cursor result.0.1 budget result.0.0 }
+{
+    at.law();
+    let buckets = at.slots.shape().buckets();
+    let mut now = cursor;
+    let mut used = 0;
+    while now.bucket < buckets {
+        let (found, since) = seek_in(at, now.bucket, now.from, budget, used);
+        used = since;
+        match found {
+            None => return ((Err(Refusal::OutOfSteps { used }), now), used),
+            Some(Some((key, value))) => {
+                return ((Ok(Some((key, value))), now.behind(key)), used);
+            }
+            Some(None) => now = now.next_bucket(),
+        }
+    }
+    ((Ok(None), now), used)
+}

@@ -1,0 +1,151 @@
+//! The next key of a bucket, from a number on.
+ghost use Rattle.std.specs.Prelude.{◌≡◌, ◌+◌, ◌<◌, ◌≤◌, true};
+ghost use Rattle.vbr_slots.specs.AtTables.{IsSameTable, pass_of, trace_of};
+ghost use Rattle.vbr_slots.specs.Calls.{Took};
+ghost use Rattle.vbr_slots.specs.Views.{IsOf};
+ghost use Rattle.vbr_list.specs.Next.{Seeks, SeeksEntry, SeeksKey};
+ghost use Rattle.vbr_list.specs.Seeking.{Sought, TellsWhere};
+
+use crate::refusal::Refusal;
+use crate::seek::PendingSeek;
+use vbr_slots::{AtTable, Pass, Slots};
+use vbr_words::{Entries, Nodes};
+
+/// The least key of a bucket that is no less than a number, in at most `budget` steps. It was there at a
+/// moment of the call, and each key of the bucket between the two was absent at a moment of the call;
+/// where there is none, so was each key of the bucket from the number on. So one call after another,
+/// each from behind the last key, gives each key of the bucket that is there all the while just once.
+///
+/// It makes no call, and all its steps are loads, so it writes nothing that another thread can see. It
+/// makes three steps to start, three for a marked node, which it leaves in its list, five for another,
+/// and two more for the last one where nodes have values. It confirms nothing.
+///
+/// OutOfSteps is its one refusal. While the other passes stand still, a budget of 5n + 11 is enough,
+/// with n nodes in the bucket, and what is told took at most 5n + 3 steps, or 5n + 5 with values.
+pub fn next_key<N: Nodes>(
+    slots: &Slots<N>,
+    pass: &mut Pass,
+    bucket: u32,
+    from: u64,
+    budget: u32,
+) -> Result<Option<u64>, Refusal>
+    requires own { IsOf pass.old.trace slots.now }
+    requires bucket { bucket < slots.now.start.shape.buckets }
+    ensures { SeeksKey pass.old pass.new bucket from budget result }
+{
+    pass.during(
+        |stepper|
+            requires own { IsOf stepper.old.trace slots.now }
+            requires bucket { bucket < slots.now.start.shape.buckets }
+        { seek_key(&mut AtTable { slots, stepper }, bucket, from, budget) },
+    )
+}
+
+// As `next_key`, where no step is counted; and how many steps were made.
+fn seek_key<N: Nodes>(
+    at: &mut AtTable<'_, N>,
+    bucket: u32,
+    from: u64,
+    budget: u32,
+) -> (Result<Option<u64>, Refusal>, u32)
+    requires bucket { bucket < at.old.slots.now.start.shape.buckets }
+    ensures table { IsSameTable at.old at.new }
+    ensures took { Took (trace_of at.old) (trace_of at.new) result.1 }
+    ensures seeks { SeeksKey (pass_of at.old) (pass_of at.new) bucket from budget result.0 }
+{
+    let (next, used) = seek_by(at, bucket, from, budget);
+    match next {
+        Ok(Some((key, _))) => (Ok(Some(key)), used),
+        Ok(None) => (Ok(None), used),
+        Err(refusal) => (Err(refusal), used),
+    }
+}
+
+/// As [`next_key`], at a table whose nodes have values: the key with the value that it had at a moment of
+/// the call at which it was there.
+pub fn next_entry(
+    slots: &Slots<Entries>,
+    pass: &mut Pass,
+    bucket: u32,
+    from: u64,
+    budget: u32,
+) -> Result<Option<(u64, u64)>, Refusal>
+    requires own { IsOf pass.old.trace slots.now }
+    requires bucket { bucket < slots.now.start.shape.buckets }
+    ensures { SeeksEntry pass.old pass.new bucket from budget result }
+{
+    pass.during(
+        |stepper|
+            requires own { IsOf stepper.old.trace slots.now }
+            requires bucket { bucket < slots.now.start.shape.buckets }
+        { seek_entry(&mut AtTable { slots, stepper }, bucket, from, budget) },
+    )
+}
+
+// As `next_entry`, where no step is counted; and how many steps were made.
+fn seek_entry(
+    at: &mut AtTable<'_, Entries>,
+    bucket: u32,
+    from: u64,
+    budget: u32,
+) -> (Result<Option<(u64, u64)>, Refusal>, u32)
+    requires bucket { bucket < at.old.slots.now.start.shape.buckets }
+    ensures table { IsSameTable at.old at.new }
+    ensures took { Took (trace_of at.old) (trace_of at.new) result.1 }
+    ensures seeks { SeeksEntry (pass_of at.old) (pass_of at.new) bucket from budget result.0 }
+{
+    at.law();
+    at.slots.kind();
+    seek_by(at, bucket, from, budget)
+}
+
+// The next key of a bucket, with its value where nodes have values; and how many steps were made.
+#[inline(always)]
+fn seek_by<N: Nodes>(
+    at: &mut AtTable<'_, N>,
+    bucket: u32,
+    from: u64,
+    budget: u32,
+) -> (Result<Option<(u64, u64)>, Refusal>, u32)
+    requires bucket { bucket < at.old.slots.now.start.shape.buckets }
+    ensures table { IsSameTable at.old at.new }
+    ensures took { Took (trace_of at.old) (trace_of at.new) result.1 }
+    ensures seeks { Seeks (TellsWhere (trace_of at.old) (trace_of at.new) bucket from)
+        (pass_of at.old) (pass_of at.new) bucket budget result.0 }
+{
+    let (found, used) = seek_in(at, bucket, from, budget, 0);
+    match found {
+        Some(next) => (Ok(next), used),
+        None => (Err(Refusal::OutOfSteps { used }), used),
+    }
+}
+
+// Seeks in a bucket, where so many steps of the budget are used: what it finds, none where the budget has no
+// room for one more piece; and how many steps are used then.
+#[inline(always)]
+pub(crate) fn seek_in<N: Nodes>(
+    at: &mut AtTable<'_, N>,
+    bucket: u32,
+    from: u64,
+    budget: u32,
+    used: u32,
+) -> (Option<Option<(u64, u64)>>, u32)
+    requires bucket { bucket < at.old.slots.now.start.shape.buckets }
+    requires within { used ≤ budget }
+    ensures table { IsSameTable at.old at.new }
+    ensures sought { Sought (pass_of at.old) (pass_of at.new)
+        bucket from used result.1 budget result.0 }
+{
+    let mut seek = PendingSeek {
+        at: AtTable {
+            slots: at.slots,
+            stepper: at.stepper,
+        },
+        bucket,
+        from,
+        budget,
+        used,
+    };
+    let found = seek.seek();
+    (found, seek.used)
+}
