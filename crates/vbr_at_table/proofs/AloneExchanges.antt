@@ -55,11 +55,8 @@ module _ {p q : Trace} {r : ℕ} (is : IsStart p.start) (alone : IsAlone p q) wh
 
 -- ---- a won unlinking
 
-module _ {p q : Trace} {expected s : ℕ} {pred : At} (is : IsStart p.start) (d : Did (Unlink pred expected s) p q expected) (alone : IsAlone p q) where
-  won_now : found p.start (world_after p.start p.seen) (Unlink pred expected s) ≡ expected
-  won_now = sym (found_now d alone) ∙ won expected _ d.shows.answers
-
-  -- the link that was written stands there
+-- the link that was written stands there, whoever did what before
+module _ {p q : Trace} {expected s : ℕ} {pred : At} (is : IsStart p.start) (d : Did (Unlink pred expected s) p q expected) where
   pub written_stands : (new : ℕ) → link_written (knows p) (Unlink pred expected s) ≡ link_of new → link_shown_at (nodes q) pred ≡ link_of new
   written_stands new is_new =
       image pred (run_agrees q.start q.passes q.seen (shape_on d is) (did_run d))
@@ -68,6 +65,10 @@ module _ {p q : Trace} {expected s : ℕ} {pred : At} (is : IsStart p.start) (d 
       image : (at : At) → Agrees q.start (world_after q.start q.seen) (incarnations_after q.start q.seen) (notes_after q.start q.seen) → link_shown_at (nodes q) at ≡ machine.link_at (world_after q.start q.seen) at
       image (Head b) g = sym (g.image.head b)
       image (Slot t) g = sym (g.image.link t)
+
+module _ {p q : Trace} {expected s : ℕ} {pred : At} (is : IsStart p.start) (d : Did (Unlink pred expected s) p q expected) (alone : IsAlone p q) where
+  won_now : found p.start (world_after p.start p.seen) (Unlink pred expected s) ≡ expected
+  won_now = sym (found_now d alone) ∙ won expected _ d.shows.answers
 
   ahead_is : (bucket : ℕ) (at : At) → ahead q bucket at ≡ behind p.start (incarnations_after p.start (p.seen ++ event_of p.who (Unlink pred expected s) ∷ [])) bucket at
   ahead_is bucket at = (λ i. behind (d.same.1 i) (nodes_next d alone i) bucket at)
@@ -79,7 +80,7 @@ unlinked_alone {p} {q} {s} held new is d alone accepts known unmarked stands is_
     let w = won_now is d alone in
     record {
       epoch = ap (λ (a : Incarnations). a.epoch) (nodes_next d alone ∙ unlink_makes p.start p.passes p.seen is ok p.who held.at held.word s w);
-      stands = written_stands is d alone new is_new;
+      stands = written_stands is d new is_new;
       fewer = λ bucket inside. unlink_takes_one p.start p.passes p.seen is ok p.who bucket held.at held.word s accepts w known unmarked stands inside ∙ ap suc (sym (ahead_is is d alone bucket held.at));
       listed = λ bucket h inside. unlink_takes_listed p.start p.passes p.seen is ok p.who bucket held.at held.word s accepts w known unmarked stands inside h ∙ ap suc (sym (ahead_is is d alone bucket (Head h)));
     }

@@ -11,6 +11,7 @@ use Rattle.vbr_machine.specs.Images.{link_shown_at}
 use Rattle.vbr_machine.specs.Links.{link_to, marked}
 use Rattle.vbr_machine.specs.Membership.{BirthAt, KeyAt, Knows}
 use Rattle.vbr_machine.specs.Runs.{IsRun}
+use Rattle.vbr_machine.specs.declared.event.Step.{Step}
 use Rattle.vbr_machine.specs.declared.event.Step.TheVariants.{Mark, Publish, Unlink}
 use Rattle.vbr_machine.specs.declared.history.Op.TheVariants.{Insert, Remove}
 use Rattle.vbr_machine.specs.declared.knowledge.Read.TheVariants.{LinkAt}
@@ -18,9 +19,8 @@ use Rattle.vbr_slots.specs.Alone.{IsAlone, IsFresh}
 use Rattle.vbr_slots.specs.Calls.{Made, Quiet}
 use Rattle.vbr_slots.specs.PassLaw.{PassLaw}
 use Rattle.vbr_slots.specs.Views.{Did, KeepsPool, PassView, Trace, knows}
-use Rattle.vbr_slots.proofs.Lemmas.{alone_first, alone_then, did_seen, made_on, quiet_on}
+use Rattle.vbr_slots.proofs.Lemmas.{adds_on, alone_first, alone_then, did_run, did_same, did_seen, made_on, quiet_on}
 use Rattle.vbr_at_table.specs.Hands.{UnlinkedView}
-use Rattle.vbr_at_table.specs.KeptSlots.{TakesNoSlot}
 use Rattle.vbr_at_table.proofs.Advancing.{none_on}
 use Rattle.vbr_at_table.specs.Alone.{StandsNow}
 use Rattle.vbr_at_table.specs.Values.{InsertsEntry, RemovesEntry, ValueAt, entry_call}
@@ -29,16 +29,18 @@ use Rattle.vbr_at_table.specs.Exchanges.{InsertsKey, IsUnmarked, LosesExchange, 
 use Rattle.vbr_at_table.specs.Held.{IsHeld, HoldsMarked, Names}
 use Rattle.vbr_at_table.specs.Keeping.{Keeps}
 use Rattle.vbr_at_table.specs.Reading.{IsBirthRead, ReadsIn}
-use Rattle.vbr_at_table.specs.Rollbacks.{IsMovedOrLost}
+use Rattle.vbr_at_table.specs.Rollbacks.{FreshIfMoved, IsMovedOrLost}
 use Rattle.vbr_at_table.specs.declared.held.Held.{Held}
 use Rattle.vbr_at_table.specs.declared.held.Marked.{Marked}
 use Rattle.vbr_at_table.specs.declared.rollback.Rollback.{Rollback}
-use Rattle.vbr_at_table.specs.declared.rollback.Rollback.TheVariants.{LostExchange}
-use Rattle.vbr_at_table.proofs.AloneExchanges.{publish_wins, unlink_wins, unlinked_alone, unlinks_after}
+use Rattle.vbr_at_table.specs.declared.rollback.Rollback.TheVariants.{EpochMoved, LostExchange}
+use Rattle.vbr_at_table.proofs.AloneExchanges.{publish_wins, unlink_wins, unlinked_alone, unlinks_after, written_stands}
 use Rattle.vbr_at_table.proofs.Keeping.{held_kept, keeps_on, marked_kept}
-use Rattle.vbr_at_table.proofs.MadeCalls.{mark_made, publish_failed}
+use Rattle.vbr_at_table.proofs.MadeCalls.{mark_made, publish_adds_none, publish_failed, unlink_adds_none}
 use Rattle.vbr_at_table.proofs.MarkedLinks.{marked_alone}
 use Rattle.vbr_at_table.proofs.Moments.{found_after, publish_found, unlink_found}
+use Rattle.vbr_at_table.specs.Counts.{ChangesNone}
+use Rattle.vbr_at_table.proofs.Unchanged.{unchanged_by_none, unchanged_on}
 use Rattle.vbr_at_table.proofs.NoneUnlinked.{lost_none, unlinks_on, won_unlinks}
 use Rattle.vbr_at_table.proofs.Unlinks.{accepted, new_read, read_after, written}
 use Rattle.vbr_at_table.proofs.WonExchanges.{mark_keeps, mark_known, publish_lost_keeps, unlink_keeps, unlink_lost_keeps}
@@ -94,10 +96,18 @@ key_inserted {key} {value} {p} {q} bare inserted = record {
   spent = inserted.spent;
 }
 
-pub publish_lost : {p q r : Trace} {s found : ℕ} (pred : Held) → IsStart q.start → Quiet p q → Keeps (knows p) (knows q) → (IsAlone p q → StandsNow p pred → StandsNow q pred) → Did (Publish pred.at pred.word s) q r found → found ≢ pred.word → LosesExchange p r pred (LostExchange found)
-publish_lost {s = s} pred start fill keeps stands d other = record {
+pub run_after : {step : Step} {p q : Trace} {r : ℕ} → IsStart p.start → Did step p q r → IsRun p.start p.passes q.seen
+run_after {step} {p} {q} is d =
+    let P : Start → Type 0 = λ start. IsRun start q.passes q.seen in
+    let Q : ℕ → Type 0 = λ passes. IsRun p.start passes q.seen in
+    let s = did_same d in
+    subst Q s.passes (subst P s.start (did_run d))
+
+pub publish_lost : {p q r : Trace} {s found : ℕ} (pred : Held) → IsStart q.start → Quiet p q → ChangesNone p q → Keeps (knows p) (knows q) → (IsAlone p q → StandsNow p pred → StandsNow q pred) → Did (Publish pred.at pred.word s) q r found → found ≢ pred.word → LosesExchange p r pred (LostExchange found)
+publish_lost {s = s} pred start fill same keeps stands d other = record {
   quiet = quiet_on fill (publish_failed d other);
   lost = (other, found_after fill (publish_found d other), keeps_on keeps (publish_lost_keeps d other));
+  unchanged = unchanged_on same (unchanged_by_none start (run_after start d) (did_same d) (did_seen d) (publish_adds_none d other));
   wins = λ alone stood. publish_wins start (alone_then fill.same.who fill.seen (did_seen d) alone) pred.at pred.word s d other (stands (alone_first fill.seen (did_seen d) alone) stood);
 }
 
@@ -117,6 +127,7 @@ module _ {p q r : PassView} {n : ℕ} (pred : Held) (gone : Marked) (named : Lin
         read = read_after reads.quiet (new_read q law pred gone named birth held still_marked is_named read.birth new link d);
         still = ap (λ (l : Link). l.mark) link;
         next = ap (λ (l : Link). l.slot) link ∙ ap (λ (l : Link). l.slot) is_named;
+        stands = written_stands law.start d new (written q law pred gone named birth held still_marked is_named read.birth ∙ sym link);
         alone = λ alone stands. unlinks_after p.trace q.trace r.trace pred _ reads.quiet.same.start (reads.looks (alone_first reads.quiet.seen (did_seen d) alone)) read.keeps
             (unlinked_alone pred new law.start d (alone_then reads.quiet.same.who reads.quiet.seen (did_seen d) alone)
             (accepted q law pred gone named birth held still_marked is_named read.birth unmarked.unmarked names)
@@ -128,11 +139,17 @@ module _ {p q r : PassView} {n : ℕ} (pred : Held) (gone : Marked) (named : Lin
   unlink_lost d other pool = record {
     takes_no_slot = none_on reads.takes_no_slot (lost_none d other pool);
     rolled = (other, found_after reads.quiet (unlink_found d other), keeps_on read.keeps (unlink_lost_keeps d other));
+    fresh = tt;
+    adds_none = adds_on reads.adds_none (unlink_adds_none d other);
     wins = λ fresh alone stands. unlink_wins law.start (alone_then reads.quiet.same.who reads.quiet.seen (did_seen d) alone) pred.at pred.word gone.slot d other
         (ap (λ a. link_shown_at a pred.at) (reads.looks (alone_first reads.quiet.seen (did_seen d) alone)) ∙ stands);
   }
 
+fresh_any : (q : Trace) → IsFresh q → (r : Rollback) → FreshIfMoved q r
+fresh_any q fresh (EpochMoved now) = fresh
+fresh_any q fresh (LostExchange found) = tt
+
 -- the birth wasn't read: nothing was unlinked
-pub none_unlinked : {A : Type 0} {p q : PassView} (pred : Held) (answer : Result A Rollback) → TakesNoSlot p q → IfErr answer (IsMovedOrLost p.trace q.trace pred) → (IsFresh p.trace → IsAlone p.trace q.trace → ⊥) → IfErr answer (UnlinksNone p q pred)
-none_unlinked pred (Ok told) none rolled still = tt
-none_unlinked pred (Err r) none rolled still = record { takes_no_slot = none; rolled = rolled; wins = λ fresh alone stands. still fresh alone }
+pub none_unlinked : {A : Type 0} {p q : PassView} {n : ℕ} (pred : Held) (answer : Result A Rollback) → ReadsIn p q n → IfErr answer (IsMovedOrLost p.trace q.trace pred) → IsFresh q.trace → (IsFresh p.trace → IsAlone p.trace q.trace → ⊥) → IfErr answer (UnlinksNone p q pred)
+none_unlinked pred (Ok told) reads rolled new still = tt
+none_unlinked {q = q} pred (Err r) reads rolled new still = record { takes_no_slot = reads.takes_no_slot; rolled = rolled; fresh = fresh_any q.trace new r; adds_none = reads.adds_none; wins = λ fresh alone stands. still fresh alone }

@@ -24,3 +24,5 @@ pub use Rattle.vbr_at_table.proofs.AloneReads.{fresh_kept}
 pub use Rattle.vbr_at_table.proofs.NoneUnlinked.{unlinks_none}
 -- What calls that read tell, one after another.
 pub use Rattle.vbr_at_table.proofs.ReadCalls.{reads_on}
+-- What adds nothing to the chronicle changes no list.
+pub use Rattle.vbr_at_table.proofs.Unchanged.{unchanged_by_none}

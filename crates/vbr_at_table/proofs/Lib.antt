@@ -2,6 +2,7 @@ mod Epochs
 mod PoolLists
 mod Shown
 mod AloneRetirement
+mod Unchanged
 mod Retirement
 mod Counting
 mod InTurn

@@ -9,10 +9,13 @@ use Rattle.vbr_machine.specs.Knowledge.{Know}
 use Rattle.vbr_machine.specs.Learning.{call_of, present_reply, succeeds}
 use Rattle.vbr_machine.specs.Machine.{found}
 use Rattle.vbr_machine.specs.Accounts as entries
+use Rattle.vbr_machine.specs.Chronicles.{Inserts, Removes, Unlinks}
+use Rattle.vbr_machine.specs.Incarnations.{last_in}
+use Rattle.vbr_machine.specs.Notes.{before_at}
 use Rattle.vbr_machine.specs.Membership.{Knows}
 use Rattle.vbr_machine.specs.Runs.{IsRun, world_after}
 use Rattle.vbr_machine.specs.declared.event.Step.{Step}
-use Rattle.vbr_machine.specs.declared.event.Step.TheVariants.{Mark, ConfirmPresent, ConfirmAbsent, Publish}
+use Rattle.vbr_machine.specs.declared.event.Step.TheVariants.{Mark, ConfirmPresent, ConfirmAbsent, Publish, Unlink}
 use Rattle.vbr_machine.specs.declared.history.Call.{Call}
 use Rattle.vbr_machine.specs.declared.history.Op.{Op}
 use Rattle.vbr_machine.specs.declared.history.Op.TheVariants.{Remove, Get}
@@ -112,6 +115,20 @@ absent_adds_none {op} {key} {at} {expected} {found} {p} d ne =
     let f = other expected found _ ne (unanswered false expected found _ ne d.shows.answers) in
     record { entries = did_entries d ∙ ap (λ (b : Bool). entries_of p ++ cond b (entries.entry_of_call p.who (Some (set_call p.who op key false))) []) f ∙ append-nil (entries_of p) }
 
+-- ---- an exchange that is lost
+
+pub mark_adds_none : {s expected found : ℕ} {p q : Trace} → Did (Mark s expected) p q found → found ≢ expected → AddsNone p q
+mark_adds_none {s} {expected} {found} {p} {q} d ne =
+    let f = other expected found _ ne (lost expected found _ ne d.shows.answers) in
+    let a = entries.incarnations_after p.start (p.seen ++ d.rest) in
+    record { entries = did_entries d ∙ ap (λ (b : Bool). entries_of p ++ cond b (entries.just p.who (Removes (last_in a s))) []) f ∙ append-nil (entries_of p) }
+
+pub unlink_adds_none : {pred : At} {expected s found : ℕ} {p q : Trace} → Did (Unlink pred expected s) p q found → found ≢ expected → AddsNone p q
+unlink_adds_none {pred} {expected} {s} {found} {p} {q} d ne =
+    let f = other expected found _ ne (lost expected found _ ne d.shows.answers) in
+    let a = entries.incarnations_after p.start (p.seen ++ d.rest) in
+    record { entries = did_entries d ∙ ap (λ (b : Bool). entries_of p ++ cond b (entries.just p.who (Unlinks (last_in a s) (before_at a pred))) []) f ∙ append-nil (entries_of p) }
+
 -- ---- a publication
 
 pub published : {pred : At} {expected s : ℕ} {p q : Trace} → Did (Publish pred expected s) p q expected → (call : Call) → call_of p.start p.who (knows p) (Publish pred expected s) ≡ Some call → Made call p q
@@ -119,3 +136,9 @@ published {pred} {expected} {s} d call c = succeeded d call (eq-eqb _ expected (
 
 pub publish_failed : {pred : At} {expected s found : ℕ} {p q : Trace} → Did (Publish pred expected s) p q found → found ≢ expected → Quiet p q
 publish_failed {pred} {expected} {s} {found} d ne = failed d (other expected found _ ne (lost expected found _ ne d.shows.answers))
+
+pub publish_adds_none : {pred : At} {expected s found : ℕ} {p q : Trace} → Did (Publish pred expected s) p q found → found ≢ expected → AddsNone p q
+publish_adds_none {pred} {expected} {s} {found} {p} {q} d ne =
+    let f = other expected found _ ne (lost expected found _ ne d.shows.answers) in
+    let a = entries.incarnations_after p.start (p.seen ++ d.rest) in
+    record { entries = did_entries d ∙ ap (λ (b : Bool). entries_of p ++ cond b (entries.just p.who (Inserts (last_in a s) (before_at a pred))) []) f ∙ append-nil (entries_of p) }

@@ -20,7 +20,7 @@ use Rattle.vbr_slots.specs.Pools.{HandFits}
 use Rattle.vbr_slots.specs.Reads.{Reads, ReadsNode}
 use Rattle.vbr_slots.specs.Views.{Trace, PassView, Did, KeepsPool, knows}
 use Rattle.vbr_slots.proofs.Lemmas.{adds_on, adds_refl, alone_first, alone_then, did_adds_none, did_loads, did_quiet}
-use Rattle.vbr_slots.proofs.Lemmas.{did_took, loads_on, loads_refl, looks, quiet_on, quiet_refl, took_none, took_on}
+use Rattle.vbr_slots.proofs.Lemmas.{did_took, fresh_read, loads_on, loads_refl, looks, quiet_on, quiet_refl, took_none, took_on}
 use Rattle.vbr_at_table.specs.Counts.{advances_or_gives}
 use Rattle.vbr_at_table.proofs.Advancing.{did_none, none_on, none_refl}
 use Rattle.vbr_at_table.specs.Held.{IsHeld, Names}
@@ -31,7 +31,7 @@ use Rattle.vbr_at_table.specs.Values.{IsValueRead}
 use Rattle.vbr_at_table.specs.declared.held.Held.{Held}
 use Rattle.vbr_at_table.specs.declared.rollback.Rollback.TheVariants.{EpochMoved}
 use Rattle.vbr_at_table.proofs.Accepted.{named_slot}
-use Rattle.vbr_at_table.proofs.AloneReads.{head_stands, head_still, key_still, node_stands, node_still, value_still}
+use Rattle.vbr_at_table.proofs.AloneReads.{head_stands, head_still, key_still, node_stands, node_still, shape_on, value_still}
 use Rattle.vbr_at_table.proofs.CheckedReads.{head_is_unmarked, head_keeps, head_read, key_keeps, key_of_bucket, key_read, node_keeps, node_read, value_keeps, value_read}
 use Rattle.vbr_at_table.proofs.Keeping.{keeps_on}
 use Rattle.vbr_at_table.proofs.ReadSteps.{birth_loaded_keeps, key_loaded_keeps, link_loaded_keeps, moved, value_loaded_keeps}
@@ -159,6 +159,7 @@ head_told law x same = record {
   at = refl;
   read = head_read x.loaded x.read same law.start;
   unmarked = head_is_unmarked x.loaded x.read same law.start;
+  fresh = fresh_read (shape_on x.loaded law.start) x.read ((head_keeps x.loaded x.read same).epoch ∙ sym same);
   stands = λ alone. head_stands x.loaded x.read alone law.start;
 }
 
@@ -166,13 +167,14 @@ pub node_told : {p q : PassView} {s birth word epoch : ℕ} (held : Held) → Pa
 node_told {s = s} held law is names x same = record {
   keeps = node_keeps x.born x.reads.loaded x.reads.read same;
   read = (s, names, refl, node_read x.born x.reads.loaded x.reads.read same law.start (named_slot held s is names));
+  fresh = fresh_read (shape_on x.reads.loaded (shape_on x.born law.start)) x.reads.read ((node_keeps x.born x.reads.loaded x.reads.read same).epoch ∙ sym same);
   stands = λ alone. node_stands x.born x.reads.loaded x.reads.read alone law.start;
 }
 
 pub key_told : {p q : PassView} {s key epoch : ℕ} (at : At) → PassLaw p → at ≡ Slot s → Reads (LoadKey s) p q key epoch → epoch ≡ (knows p.trace).epoch → IsKeyRead p q at key
 key_told {p} {q} {s} {key} at law is x same =
     let P : At → Type 0 = λ at. IsKeyRead p q at key in
-    subst P (sym is) (record { keeps = key_keeps x.loaded x.read same; key = key_read x.loaded x.read same; bucket = λ b h. key_of_bucket x.loaded x.read same law.start b h })
+    subst P (sym is) (record { keeps = key_keeps x.loaded x.read same; key = key_read x.loaded x.read same; fresh = fresh_read (shape_on x.loaded law.start) x.read ((key_keeps x.loaded x.read same).epoch ∙ sym same); bucket = λ b h. key_of_bucket x.loaded x.read same law.start b h })
 
 pub value_told : {p q : PassView} {s value epoch : ℕ} (at : At) → at ≡ Slot s → Reads (LoadValue s) p q value epoch → epoch ≡ (knows p.trace).epoch → IsValueRead p q at value
 value_told {p} {q} {s} {value} at is x same =
@@ -184,7 +186,7 @@ value_told {p} {q} {s} {value} at is x same =
 pub apart : {a b e : ℕ} → a ≢ b → b ≡ e → a ≢ e
 apart ne is = λ x. ne (x ∙ sym is)
 
-has_moved : (p : Trace) {q r : Trace} {epoch : ℕ} → Keeps (knows p) (knows q) → Did ReadEpoch q r epoch → epoch ≢ (knows p).epoch → IsMoved p r (EpochMoved epoch)
+pub has_moved : (p : Trace) {q r : Trace} {epoch : ℕ} → Keeps (knows p) (knows q) → Did ReadEpoch q r epoch → epoch ≢ (knows p).epoch → IsMoved p r (EpochMoved epoch)
 has_moved p {q} {r} {epoch} keeps d other =
     let m = d.know ∙ moved (knows q) epoch (λ e. other (e ∙ keeps.epoch)) in
     (other, ap (λ (k : Know). k.epoch) m, ap (λ (k : Know). k.pending) m, ap (λ (k : Know). k.checked) m)
@@ -193,23 +195,27 @@ module _ {p q : PassView} {word epoch : ℕ} (law : PassLaw p) where
   pub link_rolls : {at : At} → Reads (LoadLink at) p q word epoch → epoch ≢ (knows p.trace).epoch → RollsBack p q (EpochMoved epoch)
   link_rolls x other = record {
     moved = has_moved p.trace (link_loaded_keeps x.loaded) x.read other;
+    fresh = fresh_read (shape_on x.loaded law.start) x.read (has_moved p.trace (link_loaded_keeps x.loaded) x.read other).1;
     still = λ fresh alone. other (head_still x.loaded x.read alone law.start fresh);
   }
 
   pub key_rolls : {s : ℕ} → Reads (LoadKey s) p q word epoch → epoch ≢ (knows p.trace).epoch → RollsBack p q (EpochMoved epoch)
   key_rolls x other = record {
     moved = has_moved p.trace (key_loaded_keeps x.loaded) x.read other;
+    fresh = fresh_read (shape_on x.loaded law.start) x.read (has_moved p.trace (key_loaded_keeps x.loaded) x.read other).1;
     still = λ fresh alone. other (key_still x.loaded x.read alone law.start fresh);
   }
 
   pub value_rolls : {s : ℕ} → Reads (LoadValue s) p q word epoch → epoch ≢ (knows p.trace).epoch → RollsBack p q (EpochMoved epoch)
   value_rolls x other = record {
     moved = has_moved p.trace (value_loaded_keeps x.loaded) x.read other;
+    fresh = fresh_read (shape_on x.loaded law.start) x.read (has_moved p.trace (value_loaded_keeps x.loaded) x.read other).1;
     still = λ fresh alone. other (value_still x.loaded x.read alone law.start fresh);
   }
 
   pub node_rolls : {s birth : ℕ} → ReadsNode s p q birth word epoch → epoch ≢ (knows p.trace).epoch → RollsBack p q (EpochMoved epoch)
   node_rolls x other = record {
     moved = has_moved p.trace (keeps_on (birth_loaded_keeps x.born) (link_loaded_keeps x.reads.loaded)) x.reads.read other;
+    fresh = fresh_read (shape_on x.reads.loaded (shape_on x.born law.start)) x.reads.read (has_moved p.trace (keeps_on (birth_loaded_keeps x.born) (link_loaded_keeps x.reads.loaded)) x.reads.read other).1;
     still = λ fresh alone. other (node_still x.born x.reads.loaded x.reads.read alone law.start fresh);
   }

@@ -4,6 +4,8 @@ use Rattle.std.proofs.lemmas.Bool.{cases_eq, ne_eqb}
 use Rattle.std.proofs.lemmas.Bool.Decides.{nat_tests}
 use Rattle.vbr_machine.specs.Start.{Start, IsStart}
 use Rattle.vbr_machine.specs.Accounts.{incarnations_after}
+use Rattle.vbr_at_table.specs.Counts.{ChangesNone}
+use Rattle.vbr_at_table.proofs.Unchanged.{did_unchanged, none_counted, unchanged_on}
 use Rattle.vbr_machine.specs.Agreement.{OwnFits}
 use Rattle.vbr_machine.specs.Incarnations.{Incarnations}
 use Rattle.vbr_machine.specs.Sound.{SlotsSound}
@@ -47,6 +49,13 @@ module _ {p q r : Trace} {slot e n : ℕ} (read : Did ReadEpoch p q e) (stamp : 
         later = (event_of p.who ReadEpoch ∷ stamp.rest, ap (λ (l : List Event). l ++ stamp.rest) read.seen ∙ append_assoc (p.seen ++ read.rest) (event_of p.who ReadEpoch ∷ []) stamp.rest);
         stamped = ([], stamp.seen ∙ (λ i. (q.seen ++ stamp.rest) ++ mark (read.same.3 i) (sym told i) ∷ []) ∙ sym (append-nil ((q.seen ++ stamp.rest) ++ mark p.who (knows r).epoch ∷ [])));
       }
+
+module _ {p q r : Trace} {slot e n : ℕ} (read : Did ReadEpoch p q e) (stamp : Did (StoreStamp slot (knows q).epoch) q r n) where
+  retired_unchanged : ChangesNone p r
+  retired_unchanged = unchanged_on (did_unchanged read (λ w a bucket. refl)) (did_unchanged stamp (λ w a bucket. none_counted (q.who == q.who)))
+
+  raised_unchanged : {t : Trace} {m : ℕ} → Did (Raise slot) r t m → ChangesNone p t
+  raised_unchanged raise = unchanged_on retired_unchanged (did_unchanged raise (λ w a bucket. none_counted (r.who == r.who)))
 
 -- and more steps leave that
 stamped_before : {p q r : Trace} {slot epoch : ℕ} → StampsFreshly p q slot epoch → Quiet q r → StampsFreshly p r slot epoch
@@ -170,6 +179,7 @@ module _ {p q r : PassView} {slot gone e n : ℕ} (is : IsStart p.trace.start) (
         known = known_stamped read stamp ∙ ap (know_retired (knows p.trace) (knows r.trace).epoch slot) (sym kept);
         pool = pool ∙ ap (λ (l : List ℕ). l ++ slot ∷ []) (still.0 ∙ stays.0) ∙ sym (ap (λ (b : Bool). cond b (p.pool ++ slot ∷ []) p.pool) kept);
         hand = hand ∙ ap (hand_without slot) (still.1 ∙ stays.1) ∙ without_it p.hand (unlinked_not_in_hand own (subst (λ (s : ℕ). IsUnlinked ((knows p.trace).own s)) (sym same) unlinked));
+        unchanged = retired_unchanged read stamp;
         alone = λ alone. (retired_leaves is read stamp alone, retired_fresh is read stamp alone);
       })
     where
@@ -192,6 +202,7 @@ module _ {p q r : PassView} {slot gone e n : ℕ} (is : IsStart p.trace.start) (
     known = known_raised read stamp raise ∙ ap (know_retired (knows p.trace) (knows t.trace).epoch slot) (sym left);
     pool = pool_stays ∙ sym (ap (λ (b : Bool). cond b (p.pool ++ slot ∷ []) p.pool) left);
     hand = last.1 ∙ still.1 ∙ stays.1;
+    unchanged = raised_unchanged read stamp raise;
     alone = λ alone. (raised_leaves is read stamp raise alone, raised_fresh is read stamp raise alone);
   })
     where

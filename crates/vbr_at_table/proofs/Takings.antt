@@ -213,6 +213,7 @@ module _ (p q r : PassView) (budget used : ℕ) (first : Probes p q) (begun : Ha
           room = born.births.room;
         };
         few = λ alone. record { steps = told.1; within = (let few = chosen_few born.leaves.quiet alone in let is = born.sum in omega (arith, few, is)); took = born_took };
+        ready = λ some. (let few = few_own some in let made = chosen.uses.at_most in let is = born.sum in let took = born_took.made in omega (arith, few, made, is, took));
       }
 
     -- or it wasn't

@@ -1,5 +1,6 @@
 -- Kinds of steps, and how many of a kind a pass has made: those that would advance the epoch, and those that raise a flag.
-use Rattle.std.specs.Prelude.{ℕ, ◌==◌, ◌&&◌, Bool, true, false, count_by}
+use Rattle.std.specs.Prelude.{◌≡◌, ℕ, ◌==◌, ◌&&◌, Bool, true, false, count_by}
+use Rattle.vbr_machine.specs.Disturbances.{own_changes}
 use Rattle.vbr_machine.specs.declared.event.Event.{Event}
 use Rattle.vbr_machine.specs.declared.event.Step.{Step}
 use Rattle.vbr_machine.specs.declared.event.Step.TheVariants.{Advance, StoreStamp, Raise, TakeFlag, StoreBirth, Unlink}
@@ -41,3 +42,7 @@ advances p = made_of is_advance p
 -- how many flags the pass has raised: how often it put a slot into the shared pool
 abbrev pub flags_raised : Trace → ℕ
 flags_raised p = made_of is_raise p
+
+-- the pass changed no list itself, and moved no epoch
+pub record ChangesNone (p q : Trace) : Type 0 where
+  pub same : (bucket : ℕ) → own_changes q.start q.seen q.who bucket ≡ own_changes p.start p.seen p.who bucket

@@ -8,15 +8,16 @@ use Rattle.vbr_machine.specs.Links.{link_to, marked}
 use Rattle.vbr_machine.specs.Membership.{KeyAt, StandsBefore, StandsBehind}
 use Rattle.vbr_machine.specs.declared.history.Op.TheVariants.{Insert, Remove}
 use Rattle.vbr_slots.specs.Alone.{IsAlone, IsFresh}
-use Rattle.vbr_slots.specs.Calls.{Made, Quiet, Took}
+use Rattle.vbr_slots.specs.Calls.{AddsNone, Made, Quiet, Took}
 use Rattle.vbr_slots.specs.Views.{PassView, Trace, knows}
+use Rattle.vbr_at_table.specs.Counts.{ChangesNone}
 use Rattle.vbr_at_table.specs.Hands.{HandView, IsHandOf, UnlinkedView}
 use Rattle.vbr_at_table.specs.KeptSlots.{TakesNoSlot}
 use Rattle.vbr_at_table.specs.Alone.{MarksAlone, StandsNow, UnlinksAlone}
 use Rattle.vbr_at_table.specs.Held.{IsFilled, IsHeld, HoldsMarked, held_of}
 use Rattle.vbr_at_table.specs.Keeping.{Keeps, KeepsOwn, KeepsUnlinked}
 use Rattle.vbr_at_table.specs.Moments.{IsRead}
-use Rattle.vbr_at_table.specs.Rollbacks.{IsLost, IsMovedOrLost}
+use Rattle.vbr_at_table.specs.Rollbacks.{FreshIfMoved, IsLost, IsMovedOrLost}
 use Rattle.vbr_at_table.specs.declared.held.Held.{Held}
 use Rattle.vbr_at_table.specs.declared.held.Marked.{Marked}
 use Rattle.vbr_at_table.specs.declared.rollback.Rollback.{Rollback}
@@ -45,10 +46,11 @@ pub record RemovesKey (p q : Trace) (node : Held) (now : Marked) : Type 0 where
   pub held : HoldsMarked (knows q) now
   pub alone : IsAlone p q → MarksAlone p q node
 
--- another link stood where one was held: no call was made; for a pass that was alone, what is held hadn't stood
+-- another link stood where one was held: no call was made, and no list changed; for a pass that was alone, what is held hadn't stood
 pub record LosesExchange (p q : Trace) (held : Held) (rollback : Rollback) : Type 0 where
   pub quiet : Quiet p q
   pub lost : IsLost p q held rollback
+  pub unchanged : ChangesNone p q
   pub wins : IsAlone p q → StandsNow p held → ⊥
 
 -- in so many steps, the pass kept its own pool and what it knew, and took no slot
@@ -58,11 +60,12 @@ pub record StoresIn (p q : PassView) (steps : ℕ) : Type 0 where
   pub pool : q.pool ≡ p.pool
   pub takes_no_slot : TakesNoSlot p q
 
--- the incarnation in hand has this key, and this birth in its link; no call was made, and for a pass that was alone what is held stands if it stood
+-- the incarnation in hand has this key, and this birth in its link; no call was made, no list changed, and for a pass that was alone what is held stands if it stood
 pub record FillsHand (p q : PassView) (pred : Held) (given : HandView) (key birth : ℕ) : Type 0 where
   pub quiet : Quiet p.trace q.trace
   pub hand : q.hand ≡ p.hand
   pub filled : IsFilled ((knows q.trace).own given.slot) given.birth key (link_to (link_of pred.word).slot given.birth birth)
+  pub unchanged : ChangesNone p.trace q.trace
   pub stands : IsAlone p.trace q.trace → (link_of pred.word).mark ≡ false → StandsNow p.trace pred → StandsNow q.trace pred
 
 -- the pass inserted the key, and its hand is empty
@@ -82,7 +85,7 @@ pub record StaysIn (p q : PassView) (steps : ℕ) : Type 0 where
   pub quiet : Quiet p.trace q.trace
   pub own : KeepsOwn p q
 
--- the slot is unlinked and has to be stamped; what is held behind it is read, unmarked, and names what the marked link named; a pass that was alone leaves one node fewer
+-- the slot is unlinked and has to be stamped; what is held behind it is read, unmarked, names what the marked link named, and stands; a pass that was alone leaves one node fewer
 pub record UnlinksNode (p q : PassView) (pred : Held) (gone : Marked) (told : UnlinkedView × Held) : Type 0 where
   pub unlinks : KeepsUnlinked gone.slot p q
   pub keeps : Keeps (knows p.trace) (knows q.trace)
@@ -92,10 +95,13 @@ pub record UnlinksNode (p q : PassView) (pred : Held) (gone : Marked) (told : Un
   pub read : IsRead p.trace q.trace told.1
   pub still : (link_of told.1.word).mark ≡ false
   pub next : (link_of told.1.word).slot ≡ (link_of gone.word).slot
+  pub stands : StandsNow q.trace told.1
   pub alone : IsAlone p.trace q.trace → StandsNow p.trace pred → UnlinksAlone p.trace q.trace pred told.1
 
--- the node wasn't unlinked: the epoch has moved, or another link stood; for a pass that was alone since it had read the epoch, what is held hadn't stood
+-- the node wasn't unlinked, and no event added to the chronicle: the epoch has moved, and none has followed, or another link stood; for a pass that was alone since it had read the epoch, what is held hadn't stood
 pub record UnlinksNone (p q : PassView) (pred : Held) (rollback : Rollback) : Type 0 where
   pub takes_no_slot : TakesNoSlot p q
   pub rolled : IsMovedOrLost p.trace q.trace pred rollback
+  pub fresh : FreshIfMoved q.trace rollback
+  pub adds_none : AddsNone p.trace q.trace
   pub wins : IsFresh p.trace → IsAlone p.trace q.trace → StandsNow p.trace pred → ⊥

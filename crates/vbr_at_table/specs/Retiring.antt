@@ -10,6 +10,7 @@ use Rattle.vbr_slots.specs.declared.pass.TheConstants.{POOL}
 use Rattle.vbr_slots.specs.Alone.{IsAlone, IsFresh, LeavesLists}
 use Rattle.vbr_slots.specs.Calls.{Moment, Quiet, Took}
 use Rattle.vbr_slots.specs.Views.{PassView, Trace, event_of, knows}
+use Rattle.vbr_at_table.specs.Counts.{ChangesNone}
 use Rattle.vbr_at_table.specs.KeptSlots.{StaysInTurn, TakesNoSlot}
 
 -- the pass read the epoch during the call, and stamped the slot with it after that
@@ -37,7 +38,7 @@ steps_to_retire pool = if is_kept pool then 2 else 3
 abbrev pub know_retired : Know → ℕ → ℕ → Bool → Know
 know_retired know epoch slot kept = with_own (read_epoch know epoch) slot (if kept then Some (Free epoch) else None)
 
--- the slot was stamped in so many steps, and is in the own pool, or in the shared one where that has no place but the one for a hand; no call was made, no slot was taken, and a pass that had unlinked in turn has done so since; and a pass that was alone left the lists as they were
+-- the slot was stamped in so many steps, and is in the own pool, or in the shared one where that has no place but the one for a hand; no call was made, no slot was taken, and a pass that had unlinked in turn has done so since; no list was changed; and a pass that was alone left the lists as they were
 pub record Retires (p q : PassView) (slot steps : ℕ) : Type 0 where
   pub took : Took p.trace q.trace steps
   pub count : steps ≡ steps_to_retire p.pool
@@ -48,4 +49,5 @@ pub record Retires (p q : PassView) (slot steps : ℕ) : Type 0 where
   pub known : knows q.trace ≡ know_retired (knows p.trace) (knows q.trace).epoch slot (is_kept p.pool)
   pub pool : q.pool ≡ pool_retired p.pool slot
   pub hand : q.hand ≡ p.hand
+  pub unchanged : ChangesNone p.trace q.trace
   pub alone : IsAlone p.trace q.trace → LeavesLists p.trace q.trace × IsFresh q.trace

@@ -1,5 +1,6 @@
 -- When a call rolls back, and what it leaves.
 use Rattle.std.specs.Prelude.{◌≡◌, ◌≢◌, []}
+use Rattle.vbr_slots.specs.Alone.{IsFresh}
 use Rattle.vbr_slots.specs.Views.{Trace, knows}
 use Rattle.vbr_at_table.specs.Keeping.{Keeps}
 use Rattle.vbr_at_table.specs.Moments.{WasFound}
@@ -21,3 +22,8 @@ IsLost p q held (LostExchange found) = (found ≢ held.word) × WasFound p q hel
 abbrev pub IsMovedOrLost : Trace → Trace → Held → Rollback → Type 0
 IsMovedOrLost p q held (EpochMoved now) = IsMoved p q (EpochMoved now)
 IsMovedOrLost p q held (LostExchange found) = IsLost p q held (LostExchange found)
+
+-- where the epoch has moved, none has followed it in what the pass has seen
+abbrev pub FreshIfMoved : Trace → Rollback → Type 0
+FreshIfMoved q (EpochMoved now) = IsFresh q
+FreshIfMoved q (LostExchange found) = Unit {0}

@@ -1,12 +1,12 @@
 -- What a call that takes a slot tells.
-use Rattle.std.specs.Prelude.{◌≡◌, ℕ, ◌+◌, ◌<◌, ◌≤◌, List, [], length, get_or, ◌⊎◌}
+use Rattle.std.specs.Prelude.{◌≡◌, ◌≢◌, ℕ, ◌+◌, ◌<◌, ◌≤◌, List, [], length, get_or, ◌⊎◌}
 use Rattle.vbr_machine.specs.Acceptance.{stamp_in}
 use Rattle.vbr_machine.specs.Knowledge.{Know}
 use Rattle.vbr_slots.specs.declared.pass.TheConstants.{POOL}
 use Rattle.vbr_slots.specs.Alone.{IsAlone}
 use Rattle.vbr_slots.specs.Calls.{Quiet}
 use Rattle.vbr_slots.specs.Pools.{without}
-use Rattle.vbr_slots.specs.Views.{PassView, knows}
+use Rattle.vbr_slots.specs.Views.{PassView, knows, steps_of}
 use Rattle.vbr_at_table.specs.Advances.{AdvancesWhereNeeded}
 use Rattle.vbr_at_table.specs.Budgets.{steps_to_take}
 use Rattle.vbr_at_table.specs.Hands.{HandView, IsHandOf}
@@ -38,9 +38,10 @@ pub record Births (p q : PassView) (hand : HandView) : Type 0 where
   pub rest : q.pool ≡ without hand.slot p.pool
   pub room : length q.pool < POOL
 
--- the slot of the hand was in the own pool, where no slot before it could be born in at that epoch, or came by a flag where that was empty; it was born in; and a pass that was alone made no more steps than that takes
+-- the slot of the hand was in the own pool, where no slot before it could be born in at that epoch, or came by a flag where that was empty; it was born in; and a pass that was alone made no more steps than that takes, nor did one that had slots, whatever others did
 pub record IsTaken (p q : PassView) (hand : HandView) : Type 0 where
   pub from : IsOldest (knows q.trace) p.pool hand.slot hand.birth
       ⊎ ((p.pool ≡ []) × CameByFlag p.trace q.trace hand.slot)
   pub births : Births p q hand
   pub few : IsAlone p.trace q.trace → TookWithin p.trace q.trace (steps_to_take p.trace.start p.pool)
+  pub ready : p.pool ≢ [] → steps_of q.trace ≤ steps_of p.trace + (POOL + 4)

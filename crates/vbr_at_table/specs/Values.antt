@@ -20,6 +20,7 @@ use Rattle.vbr_slots.specs.Calls.{Made, Quiet}
 use Rattle.vbr_slots.specs.Views.{PassView, Trace, knows}
 use Rattle.vbr_at_table.specs.Alone.{MarksAlone}
 use Rattle.vbr_at_table.specs.Answering.{IsAnswered}
+use Rattle.vbr_at_table.specs.Counts.{ChangesNone}
 use Rattle.vbr_at_table.specs.Hands.{HandView}
 use Rattle.vbr_at_table.specs.Exchanges.{FillsHand}
 use Rattle.vbr_at_table.specs.Held.{HoldsMarked, held_of}
@@ -92,11 +93,12 @@ abbrev pub with_kept_value : Bool → Option Holding → ℕ → Option Holding
 with_kept_value true holding value = with_value holding value
 with_kept_value false holding value = holding
 
--- the slot in hand has the value, where nodes have values; no call was made, and for a pass that was alone each link is as it was
+-- the slot in hand has the value, where nodes have values; no call was made, no list changed, and for a pass that was alone each link is as it was
 pub record PutsValue (p q : PassView) (slot value : ℕ) : Type 0 where
   pub quiet : Quiet p.trace q.trace
   pub hand : q.hand ≡ p.hand
   pub holding : (knows q.trace).own slot ≡ with_kept_value p.trace.start.shape.values ((knows p.trace).own slot) value
+  pub unchanged : ChangesNone p.trace q.trace
   pub links : IsAlone p.trace q.trace → (at : At) → link_shown_at (nodes q.trace) at ≡ link_shown_at (nodes p.trace) at
 
 -- the incarnation in hand has this key and this birth in its link, and this value where nodes have values; no call was made, and for a pass that was alone what is held stands if it stood

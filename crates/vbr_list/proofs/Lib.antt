@@ -7,6 +7,8 @@ mod Nearing
 mod Moments
 mod Clearing
 mod Observing
+mod Disturbing
+mod Walking
 mod Passing
 mod Sights
 mod Following

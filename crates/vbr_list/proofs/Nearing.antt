@@ -1,5 +1,5 @@
 -- A pass that was alone comes nearer to the key, node by node.
-use Rattle.std.proofs.Common.{◌≡◌, ◌≢◌, ℕ, suc, ◌+◌, ◌<◌, ◌≤◌, true, false, Option, Some, sym, ap, ◌∙◌, subst, arith, inl, inr}
+use Rattle.std.proofs.Common.{◌≡◌, ◌≢◌, ℕ, suc, ◌+◌, ◌<◌, ◌≤◌, true, Option, Some, sym, ap, ◌∙◌, subst, arith, inl, inr}
 use Rattle.std.specs.Prelude.{Result, Ok, Err, IfOk, IfErr}
 use Rattle.vbr_machine.specs.Start.{Start}
 use Rattle.vbr_words.specs.Words.{link_of}
@@ -25,12 +25,11 @@ use Rattle.vbr_at_table.specs.declared.held.Marked.{Marked}
 use Rattle.vbr_at_table.specs.declared.rollback.Rollback.{Rollback}
 use Rattle.vbr_at_table.proofs.Lemmas.{fresh_kept}
 use Rattle.vbr_list.specs.Budgets.{listed_for}
-use Rattle.vbr_list.specs.Nearing.{FoundAlone, HelpsAlone, StandsInList, SeenAlone, StillAt, ahead_for}
+use Rattle.vbr_list.specs.Nearing.{FoundAlone, HelpsAlone, StandsInList, StillAt, ahead_for}
 use Rattle.vbr_list.specs.Places.{IsInside}
-use Rattle.vbr_list.proofs.PaidPlaces.{Nears, Passes}
+use Rattle.vbr_list.proofs.PaidPlaces.{Nears}
 use Rattle.vbr_list.proofs.Reaching.{slot_same}
 use Rattle.vbr_list.specs.declared.found.Found.{Found}
-use Rattle.vbr_list.specs.declared.looking.Sight.TheVariants.{Present, Absent}
 use Rattle.vbr_list.proofs.Traversals.{IsFirst}
 
 -- ---- two pieces
@@ -164,27 +163,6 @@ marked_alone p sound q key pred node marked quiet x there stands n e same keeps 
     let s : n.0 ≡ marked.slot = slot_same marked.slot n.0 (ap (λ (h : Held). h.at) e ∙ n.2) in
     let Q : ℕ → Type 0 = λ t. is_there (nodes q) (Slot t) ≡ true in
     (both.0, both.1, subst Q s (named_in_list p sound q key pred x there stands n.0 n.1 same))
-
-pub passes_start : (p q : Trace) (bucket key before since : ℕ) (head : Held) → LeavesLists p q → q.start ≡ p.start → bucket ≡ bucket_of p.start.shape key → since ≡ before + 3 → (link_of head.word).mark ≡ false → StillAt q head × (head.at ≡ Head bucket) → Passes p q key before since head head
-passes_start p q bucket key before since head l start is sum unmarked x =
-    let a : ahead_for q key head ≡ listed_for p key = ahead_same p q key head.at l start ∙ ap (ahead p (bucket_of p.start.shape key)) (x.1 ∙ ap Head is) in
-    record { last = x.0; place = x.0; there = inl unmarked; paid = omega (arith, a, sum) }
-
--- past a node with a smaller key
-pub passes_smaller : (p q r : Trace) (key before a b : ℕ) (pred here node : Held) → Passes p q key before a pred here → b ≡ a + 5 → (link_of node.word).mark ≡ false → StillAt r node × (ahead_for q key here ≡ suc (ahead_for r key node)) → Passes p r key before b node node
-passes_smaller p q r key before a b pred here node x sum unmarked y = record { last = y.0; place = y.0; there = inl unmarked; paid = (let u = x.paid in let v = y.1 in omega (arith, u, v, sum)) }
-
--- past a marked node
-pub passes_marked : (p q r : Trace) (key before a b : ℕ) (pred here node : Held) → Passes p q key before a pred here → LeavesLists q r → IsFresh r → b ≡ a + 3 → StillAt r node × (ahead_for q key here ≡ suc (ahead_for r key node)) × (is_there (nodes r) node.at ≡ true) → Passes p r key before b pred node
-passes_marked p q r key before a b pred here node x l fresh sum y = record { last = record { fresh = fresh; stands = stands_on q r pred l x.last.stands }; place = y.0; there = inr y.2; paid = (let u = x.paid in let v = y.1 in omega (arith, u, v, sum)) }
-
--- at the node with the key
-pub sight_present : (p q r : Trace) (key before a b : ℕ) (pred here node : Held) → Passes p q key before a pred here → b ≡ a + 5 → StillAt r node × (ahead_for q key here ≡ suc (ahead_for r key node)) → SeenAlone p r key before b (Present node)
-sight_present p q r key before a b pred here node x sum y = record { fresh = y.0.fresh; stands = y.0.stands; paid = (let u = x.paid in let v = y.1 in omega (arith, u, v, sum)) }
-
--- at a node with a greater key
-pub sight_absent : (p q r : Trace) (key before a b : ℕ) (pred here node : Held) → Passes p q key before a pred here → LeavesLists q r → b ≡ a + 5 → StillAt r node × (ahead_for q key here ≡ suc (ahead_for r key node)) → SeenAlone p r key before b (Absent pred)
-sight_absent p q r key before a b pred here node x l sum y = record { fresh = y.0.fresh; stands = stands_on q r pred l x.last.stands; paid = (let u = x.paid in let v = y.1 in omega (arith, u, v, sum)) }
 
 -- ---- again
 

@@ -3,16 +3,9 @@ use Rattle.std.specs.Prelude.{ℕ, ◌+◌, ◌*◌, ◌≤◌}
 use Rattle.vbr_slots.specs.Views.{Trace}
 use Rattle.vbr_at_table.specs.declared.held.Held.{Held}
 use Rattle.vbr_list.specs.Budgets.{listed_for}
-use Rattle.vbr_list.specs.Nearing.{StandsInList, StillAt, ahead_for}
+use Rattle.vbr_list.specs.Nearing.{StillAt, ahead_for}
 
 -- the pass stands there at a place for which nine steps were made for each node that isn't ahead any more, and three before
 pub record Nears (p q : Trace) (key before since : ℕ) (pred : Held) : Type 0 where
   pub keeps : StillAt q pred
   pub paid : since + 9 * ahead_for q key pred ≤ before + 3 + 9 * listed_for p key
-
--- a look-up stands there: behind a place before the key at another of the list, or at itself, for which five steps were made for each node that isn't ahead any more, and three before
-pub record Passes (p q : Trace) (key before since : ℕ) (pred here : Held) : Type 0 where
-  pub last : StillAt q pred
-  pub place : StillAt q here
-  pub there : StandsInList q here
-  pub paid : since + 5 * ahead_for q key here ≤ before + 3 + 5 * listed_for p key

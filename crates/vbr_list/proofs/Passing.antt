@@ -8,7 +8,7 @@ use Rattle.vbr_words.specs.Buckets.{bucket_of}
 use Rattle.vbr_machine.specs.Knowledge.{Know}
 use Rattle.vbr_machine.specs.Membership.{HeldIn, LeadsTo, itself, onward, StandsBeforeOn}
 use Rattle.vbr_machine.specs.declared.knowledge.Read.TheVariants.{LinkAt}
-use Rattle.vbr_slots.specs.Alone.{IsAlone}
+use Rattle.vbr_slots.specs.Alone.{IsFresh}
 use Rattle.vbr_slots.specs.Calls.{IsSame}
 use Rattle.vbr_slots.specs.Views.{Trace, PassView, knows}
 use Rattle.vbr_at_table.specs.Held.{HoldsMarked, Names, held_of}
@@ -16,9 +16,9 @@ use Rattle.vbr_at_table.specs.Keeping.{Keeps}
 use Rattle.vbr_at_table.specs.declared.held.Held.{Held}
 use Rattle.vbr_at_table.specs.declared.held.Marked.{Marked}
 use Rattle.vbr_at_table.proofs.Lemmas.{held_in_kept, held_in_next, held_kept}
-use Rattle.vbr_list.proofs.PaidPlaces.{Passes}
 use Rattle.vbr_list.specs.Pieces.{Goes, Observes}
 use Rattle.vbr_list.specs.Places.{IsCur, IsEnd, IsPred, IsSight}
+use Rattle.vbr_list.specs.Walking.{Walks}
 use Rattle.vbr_list.specs.declared.looking.Sight.TheVariants.{Present, Absent}
 use Rattle.vbr_list.proofs.Going.{tries_on, tries_refl}
 use Rattle.vbr_list.proofs.Moments.{before_cur, stands_before, key_known}
@@ -75,5 +75,5 @@ peeks_refl p a budget h = record { tries = tries_refl p a budget h; observes = o
 pub peeks_on : {p q r : PassView} {a b c budget : ℕ} → Peeks p q a b budget → Goes q r b c → Observes q.trace r.trace → b ≤ c → c ≤ budget → Peeks p r a c budget
 peeks_on x y more le high = record { tries = tries_on x.tries y le high; observes = observes_on x.observes more }
 
-pub looks_on : {p q r : PassView} {key a b c budget : ℕ} {pred here pred2 here2 : Held} → Looks p q key a b budget pred here → Goes q r b c → Observes q.trace r.trace → b ≤ c → c ≤ budget → IsLook r.trace.start (knows r.trace) key pred2 here2 → (IsAlone p.trace r.trace → Passes p.trace r.trace key a c pred2 here2) → Looks p r key a c budget pred2 here2
-looks_on x y more le high look passes = record { peeks = peeks_on x.peeks y more le high; some = let u = x.some in omega arith; look = look; passes = passes }
+pub looks_on : {p q r : PassView} {key a b c budget : ℕ} {pred here pred2 here2 : Held} → Looks p q key a b budget pred here → Goes q r b c → Observes q.trace r.trace → b ≤ c → c ≤ budget → IsLook r.trace.start (knows r.trace) key pred2 here2 → IsFresh r.trace → Walks 5 p.trace r.trace key a c pred2 here2 → Looks p r key a c budget pred2 here2
+looks_on x y more le high look fresh walks = record { peeks = peeks_on x.peeks y more le high; some = let u = x.some in omega arith; look = look; fresh = fresh; walks = walks }

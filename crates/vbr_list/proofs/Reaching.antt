@@ -10,7 +10,6 @@ use Rattle.vbr_words.specs.Buckets.{bucket_of}
 use Rattle.vbr_machine.specs.Knowledge.{Know}
 use Rattle.vbr_machine.specs.Membership.{HeldIn, at_head, KeyAt, StandsBehind}
 use Rattle.vbr_machine.specs.declared.knowledge.Read.TheVariants.{KeyOf}
-use Rattle.vbr_slots.specs.Alone.{IsAlone}
 use Rattle.vbr_slots.specs.Calls.{IsSame, Quiet}
 use Rattle.vbr_slots.specs.Views.{Trace, TableView, PassView, IsOf, knows}
 use Rattle.vbr_slots.proofs.Lemmas.{quiet_on}
@@ -25,7 +24,7 @@ use Rattle.vbr_at_table.proofs.Lemmas.{behind_kept, held_in_kept, held_in_next, 
 use Rattle.vbr_list.specs.Pieces.{Goes}
 use Rattle.vbr_list.specs.Places.{IsCur, IsInside, IsPred}
 use Rattle.vbr_list.specs.Traversing.{HasComeTo}
-use Rattle.vbr_list.proofs.PaidPlaces.{Nears}
+use Rattle.vbr_list.specs.Walking.{Walks}
 use Rattle.vbr_list.proofs.Going.{tries_on}
 use Rattle.vbr_list.proofs.Traversals.{Traverses}
 
@@ -125,9 +124,9 @@ helped {p} {q} {r} key pred place x keeps at unmarked read a b keeps2 =
 
 -- ---- from place to place
 
-pub traverses_on : {p q r : PassView} {key a b c budget : ℕ} {pred next : Held} → Traverses p q key a b budget pred → Goes q r b c → b ≤ c → c ≤ budget → HasComeTo q.trace r.trace key next → (IsAlone p.trace r.trace → Nears p.trace r.trace key a c next) → Traverses p r key a c budget next
-traverses_on x y le high reached nears = record {
-  nears = nears;
+pub traverses_on : {p q r : PassView} {key a b c budget : ℕ} {pred next : Held} → Traverses p q key a b budget pred → Goes q r b c → b ≤ c → c ≤ budget → HasComeTo q.trace r.trace key next → Walks 9 p.trace r.trace key a c next next → Traverses p r key a c budget next
+traverses_on x y le high reached walks = record {
+  walks = walks;
   tries = tries_on x.tries y le high;
   some = let u = x.some in omega arith;
   reached = record { is = reached.is; stood = stood_since x.tries.goes.quiet reached.stood };

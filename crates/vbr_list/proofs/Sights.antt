@@ -7,12 +7,10 @@ use Rattle.vbr_words.specs.declared.place.At.TheVariants.{Head, Slot}
 use Rattle.vbr_machine.specs.Knowledge.{Know}
 use Rattle.vbr_machine.specs.Membership.{KeyAt}
 use Rattle.vbr_slots.specs.Views.{Trace}
-use Rattle.vbr_at_table.specs.Alone.{StandsNow}
 use Rattle.vbr_at_table.specs.Held.{IsHeld, IsSlot}
 use Rattle.vbr_at_table.specs.LookUps.{DecidesKey}
 use Rattle.vbr_list.specs.Budgets.{answer_costs, listed_for}
 use Rattle.vbr_list.specs.LookingUp.{steps_to_answer}
-use Rattle.vbr_list.specs.Nearing.{SightStands}
 use Rattle.vbr_list.specs.Places.{IsSight, sighted, is_present}
 use Rattle.vbr_list.specs.declared.looking.Sight.{Sight}
 use Rattle.vbr_list.specs.declared.looking.Sight.TheVariants.{Present, Absent}
@@ -34,13 +32,12 @@ module _ (start : Start) (know : Know) (key : ℕ) where
   sight_answers (Present node) s = (keyed_slot know node.at key s.2, s.2)
   sight_answers (Absent pred) s = (s.0.behind, s.1)
 
--- the link that is to confirm it
-pub sight_stands : (q : Trace) (sight : Sight) → SightStands q sight → StandsNow q (sighted sight)
-sight_stands q (Present node) stands = stands
-sight_stands q (Absent pred) stands = stands
-
 -- ---- what its answer costs
 
-pub costs_enough : (gives : Bool) (p : Trace) (key before since : ℕ) → before ≤ 3 + 5 * listed_for p key → since ≤ before + steps_to_answer gives → since ≤ answer_costs gives p key
-costs_enough true p key before since paid few = omega (arith, paid, few)
-costs_enough false p key before since paid few = omega (arith, paid, few)
+pub few_to_answer : (gives : Bool) → steps_to_answer gives ≤ 3
+few_to_answer true = omega arith
+few_to_answer false = omega arith
+
+pub costs_alone : (gives : Bool) (p : Trace) (key since : ℕ) → since ≤ (0 + 1) * (5 * (listed_for p key + 0) + (3 + steps_to_answer gives)) → since ≤ answer_costs gives p key
+costs_alone true p key since paid = omega (arith, paid)
+costs_alone false p key since paid = omega (arith, paid)

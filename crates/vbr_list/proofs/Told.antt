@@ -106,9 +106,11 @@ look_up_as {p = p} {q = q} (Ok reply) x same = record {
   takes_no_slot = x.takes_no_slot;
   refused = tt;
   within = tt;
+  disturbed_within = tt;
   costs = x.costs;
+  disturbed_costs = x.disturbed_costs;
 }
-look_up_as (Err refusal) x same = record { only_loads = x.only_loads; adds = tt; adds_none = x.adds_none; takes_no_slot = x.takes_no_slot; refused = x.refused; within = x.within; costs = tt }
+look_up_as (Err refusal) x same = record { only_loads = x.only_loads; adds = tt; adds_none = x.adds_none; takes_no_slot = x.takes_no_slot; refused = x.refused; within = x.within; disturbed_within = x.disturbed_within; costs = tt; disturbed_costs = tt }
 
 pub look_up_yes : {f : Option ℕ → Call} {g : Bool → Call} {most : ℕ} {p q : PassView} {key budget : ℕ} (answer : Result (Option ℕ) Refusal) → SparesLookUp f most p q key budget answer → ((given : Option ℕ) → f given ≡ g (is_some given)) → SparesLookUp g most p q key budget (is_yes answer)
 look_up_yes {p = p} {q = q} (Ok given) x same = record {
@@ -118,10 +120,12 @@ look_up_yes {p = p} {q = q} (Ok given) x same = record {
   takes_no_slot = x.takes_no_slot;
   refused = tt;
   within = tt;
+  disturbed_within = tt;
   costs = x.costs;
+  disturbed_costs = x.disturbed_costs;
 }
-look_up_yes (Err refusal) x same = record { only_loads = x.only_loads; adds = tt; adds_none = x.adds_none; takes_no_slot = x.takes_no_slot; refused = x.refused; within = x.within; costs = tt }
+look_up_yes (Err refusal) x same = record { only_loads = x.only_loads; adds = tt; adds_none = x.adds_none; takes_no_slot = x.takes_no_slot; refused = x.refused; within = x.within; disturbed_within = x.disturbed_within; costs = tt; disturbed_costs = tt }
 
 pub remove_yes : {p q : PassView} {key budget : ℕ} (answer : Result (Option ℕ) Refusal) → SparesRemove is_some p q key budget answer → SparesRemove (λ removed. removed) p q key budget (is_yes answer)
-remove_yes (Ok given) x = record { takes_no_slot = x.takes_no_slot; unlists = x.unlists; refused = tt; within = tt; costs = x.costs; fewer = x.fewer }
-remove_yes (Err refusal) x = record { takes_no_slot = x.takes_no_slot; unlists = tt; refused = x.refused; within = x.within; costs = tt; fewer = tt }
+remove_yes (Ok given) x = record { takes_no_slot = x.takes_no_slot; unlists = x.unlists; refused = tt; within = tt; disturbed_within = tt; costs = x.costs; fewer = x.fewer }
+remove_yes (Err refusal) x = record { takes_no_slot = x.takes_no_slot; unlists = tt; refused = x.refused; within = x.within; disturbed_within = x.disturbed_within; costs = tt; fewer = tt }

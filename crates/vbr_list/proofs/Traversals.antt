@@ -8,9 +8,9 @@ use Rattle.vbr_at_table.specs.declared.held.Held.{Held}
 use Rattle.vbr_list.specs.Pieces.{Goes, Observes}
 use Rattle.vbr_list.specs.Places.{IsInside, IsPred}
 use Rattle.vbr_list.specs.Traversing.{HasComeTo}
-use Rattle.vbr_slots.specs.Alone.{IsAlone}
+use Rattle.vbr_slots.specs.Alone.{IsAlone, IsFresh}
 use Rattle.vbr_slots.specs.Views.{PassView, knows}
-use Rattle.vbr_list.proofs.PaidPlaces.{Nears, Passes}
+use Rattle.vbr_list.specs.Walking.{Walks}
 
 -- known marked links lead from a place before the key to another place of the list, or to itself
 pub record IsLook (start : Start) (know : Know) (key : ℕ) (pred here : Held) : Type 0 where
@@ -32,7 +32,7 @@ pub record Traverses (p q : PassView) (key before since budget : ℕ) (pred : He
   pub tries : Tries p q before since budget
   pub some : before < since
   pub reached : HasComeTo p.trace q.trace key pred
-  pub nears : IsAlone p.trace q.trace → Nears p.trace q.trace key before since pred
+  pub walks : Walks 9 p.trace q.trace key before since pred pred
 
 -- within the budget, the pass only observed
 pub record Peeks (p q : PassView) (before since budget : ℕ) : Type 0 where
@@ -44,4 +44,5 @@ pub record Looks (p q : PassView) (key before since budget : ℕ) (pred here : H
   pub peeks : Peeks p q before since budget
   pub some : before < since
   pub look : IsLook q.trace.start (knows q.trace) key pred here
-  pub passes : IsAlone p.trace q.trace → Passes p.trace q.trace key before since pred here
+  pub fresh : IsFresh q.trace
+  pub walks : Walks 5 p.trace q.trace key before since pred here

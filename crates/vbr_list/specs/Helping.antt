@@ -1,7 +1,12 @@
 -- Helping to unlink a marked node. Only contracts of private functions cite this.
-use Rattle.std.specs.Prelude.{◌≡◌, ℕ, ◌+◌, ◌<◌, false}
+use Rattle.std.specs.Prelude.{◌≡◌, ◌≢◌, ℕ, ◌+◌, ◌<◌, false, List}
 use Rattle.vbr_words.specs.Words.{link_of}
 use Rattle.vbr_words.specs.declared.place.At.TheVariants.{Head, Slot}
+use Rattle.vbr_machine.specs.Accounts.{incarnations_after}
+use Rattle.vbr_machine.specs.Disturbances.{IsOpenIn, own_changes}
+use Rattle.vbr_machine.specs.Images.{link_shown_at}
+use Rattle.vbr_machine.specs.Runs.{Begins}
+use Rattle.vbr_machine.specs.declared.event.Event.{Event}
 use Rattle.vbr_machine.specs.Membership.{HeldIn, KeyAt, StandsBehind}
 use Rattle.vbr_slots.specs.Alone.{IsAlone, IsFresh, ahead}
 use Rattle.vbr_slots.specs.Views.{PassView, Trace, knows}
@@ -15,6 +20,7 @@ use Rattle.vbr_list.specs.Nearing.{HelpsAlone}
 use Rattle.vbr_list.specs.Pieces.{Goes}
 use Rattle.vbr_list.specs.Places.{IsPred}
 use Rattle.vbr_list.specs.Traversing.{HasComeTo}
+use Rattle.vbr_list.specs.Walking.{LosesPlace, MovesOn}
 
 -- ---- what it asks
 
@@ -31,19 +37,36 @@ pub record MayHelp (p : Trace) (pred : Held) (gone : Marked) : Type 0 where
 abbrev pub GoesIn : PassView → PassView → ℕ → Type 0
 GoesIn p q steps = (used : ℕ) → Goes p q used (used + steps)
 
--- the place is where it was, and the pass came on to it with its new link, if it stood before a key; alone, one node fewer is behind it
-pub record Helps (p q : PassView) (pred place : Held) : Type 0 where
+-- the place stood open with its new link, which names what the marked link named, at a moment after which the pass changed nothing itself
+pub record OpensPlace (p q : Trace) (pred : Held) (gone : Marked) (place : Held) : Type 0 where
+  pub moment : List Event
+  pub from : Begins p.seen moment
+  pub to : Begins moment q.seen
+  pub shown : link_shown_at (incarnations_after p.start moment) place.at ≡ link_of place.word
+  pub is_open : (bucket : ℕ) → HeldIn (knows p) pred.at bucket → IsOpenIn p.start (incarnations_after p.start moment) bucket place.at
+  pub own : (bucket : ℕ) → own_changes p.start q.seen p.who bucket ≡ own_changes p.start moment p.who bucket
+  pub next : (link_of place.word).slot ≡ (link_of gone.word).slot
+
+-- the place is where it was, in the epoch that the pass had, and the pass came on to it with its new link, if it stood before a key; alone, one node fewer is behind it
+pub record Helps (p q : PassView) (pred : Held) (gone : Marked) (place : Held) : Type 0 where
   pub at : place.at ≡ pred.at
+  pub epoch : (knows q.trace).epoch ≡ (knows p.trace).epoch
+  pub opens : OpensPlace p.trace q.trace pred gone place
   pub come : (key : ℕ) → IsPred p.trace.start (knows p.trace) key pred → HasComeTo p.trace q.trace key place
   pub alone : (key : ℕ) → IsPred p.trace.start (knows p.trace) key pred → IsFresh p.trace → StandsNow p.trace pred → IsAlone p.trace q.trace → HelpsAlone p.trace q.trace key pred place
 
--- the pass rolled back, which it doesn't alone, where the place stood as it is held
+-- the pass rolled back, as the place is lost, which it isn't for a pass that is alone, where it stood as it is held
+pub record IsLostPlace (p q : PassView) (pred : Held) : Type 0 where
+  pub loses : LosesPlace p.trace q.trace pred
+  pub still : IsFresh p.trace → StandsNow p.trace pred → IsAlone p.trace q.trace → ⊥
+
 abbrev pub HelpsNone : PassView → PassView → Held → Rollback → Type 0
-HelpsNone p q pred rollback = IsFresh p.trace → StandsNow p.trace pred → IsAlone p.trace q.trace → ⊥
+HelpsNone p q pred rollback = IsLostPlace p q pred
 
 -- the marked node was unlinked and retired, so no marked node of its key was in a list; where the epoch stayed, that helped, and alone it stays; and alone fewer nodes are in each list that the place is held in
 pub record Retires (p q : PassView) (pred : Held) (gone : Marked) (place : Held) : Type 0 where
-  pub helps : place.epoch ≡ (knows q.trace).epoch → Helps p q pred place
+  pub helps : place.epoch ≡ (knows q.trace).epoch → Helps p q pred gone place
+  pub late : place.epoch ≢ (knows q.trace).epoch → MovesOn p.trace q.trace
   pub stays : IsFresh p.trace → StandsNow p.trace pred → IsAlone p.trace q.trace → place.epoch ≡ (knows q.trace).epoch
   pub fewer : StandsNow p.trace pred → IsAlone p.trace q.trace → (bucket h : ℕ) → HeldIn (knows p.trace) pred.at bucket → ahead q.trace bucket (Head h) < ahead p.trace bucket (Head h)
   pub clear : (key : ℕ) → KeyAt (knows p.trace) (Slot gone.slot) key → StandsBehind p.trace.start (knows p.trace) pred.at key → WasClear p.trace q.trace key

@@ -1,5 +1,5 @@
 -- An insert, piece by piece: it takes a slot once it has found the key absent, and then links it. Only contracts of private functions cite this.
-use Rattle.std.specs.Prelude.{◌≡◌, ℕ, ◌+◌, ◌*◌, ◌<◌, ◌≤◌, Bool, false, length, Option, Some, None}
+use Rattle.std.specs.Prelude.{◌≡◌, ◌≢◌, [], ℕ, ◌+◌, ◌*◌, ◌<◌, ◌≤◌, Bool, false, length, Option, Some, None}
 use Rattle.vbr_words.specs.declared.nodes.Nodes.{Ghosts}
 use Rattle.vbr_machine.specs.declared.history.Op.TheVariants.{Insert}
 use Rattle.vbr_slots.specs.declared.pass.TheConstants.{POOL}
@@ -16,6 +16,8 @@ use Rattle.vbr_at_table.specs.Alone.{NextStands, StandsNow}
 use Rattle.vbr_at_table.specs.Moments.{WasSo}
 use Rattle.vbr_at_table.specs.Values.{steps_to_update}
 use Rattle.vbr_list.specs.Budgets.{LacksSteps, enough_to_search, listed_for}
+use Rattle.vbr_list.specs.Disturbed.{disturbed_after}
+use Rattle.vbr_list.specs.Walking.{LosesFound, LosesNext, met_since}
 use Rattle.vbr_list.specs.Pieces.{IsPiece, IsSameCall, Replies, Stores, WasAlone, pass_in, trace_in}
 use Rattle.vbr_list.specs.Refusals.{FoundNoSlot}
 use Rattle.vbr_list.specs.declared.call.PendingCall.{PendingCall}
@@ -67,9 +69,10 @@ InsertIsShort p q before budget (EpochSpent epoch) = ⊥
 
 -- ---- an answer no
 
--- the insert isn't answered, and no call was made, which doesn't happen alone, where the node with the key stands
+-- the insert isn't answered, and no call was made, as the node with the key is lost, which it isn't alone, where that stands
 pub record DeniesNone {N : Type 0} {kind : Ghosts N} (c d : PendingCall N kind) (found : Found) : Type 0 where
   pub quiet : Quiet (trace_in c) (trace_in d)
+  pub loses : LosesNext (trace_in c) (trace_in d) found.cur
   pub wins : NextStands (trace_in c) found.cur → WasAlone c d → ⊥
 
 -- ---- a slot is taken
@@ -83,16 +86,35 @@ pub record Prepares {N : Type 0} {kind : Ghosts N} (c d : PendingCall N kind) : 
   pub had : HasStill (pass_in c) (pass_in d)
   pub shared : SharesWhereFull 2 (pass_in c) (pass_in d)
 
--- a slot is in hand; alone, in so many steps
+-- a slot is in hand; alone, in so many steps, and so where the own pool had slots
 pub record Provides {N : Type 0} {kind : Ghosts N} (c d : PendingCall N kind) (hand : HandView) : Type 0 where
   pub has : HasHandAndRoom (pass_in d) hand
   pub few : WasAlone c d → d.used ≤ c.used + steps_to_take (trace_in c).start (pass_in c).pool
+  pub ready : (pass_in c).pool ≢ [] → d.used ≤ c.used + (POOL + 4)
 
--- none is; alone, a budget with seven steps more has enough
+-- none is; alone, a budget with seven steps more has enough, and where the own pool has slots one with 80
 pub record ProvidesNone {N : Type 0} {kind : Ghosts N} (c d : PendingCall N kind) (refusal : Refusal) : Type 0 where
   pub hand : (pass_in d).hand ≡ None
   pub says : TakesNone (pass_in c) (pass_in d) c.used c.budget refusal
   pub enough : WasAlone c d → LacksSteps (c.used + steps_to_take (trace_in c).start (pass_in c).pool + 7) c.budget refusal
+  pub ready : (pass_in c).pool ≢ [] → LacksSteps (c.used + 80) c.budget refusal
+
+-- searches for a key, each but the last disturbed, and each with so many steps for a node; and so many steps more
+pub record SearchesFor (p q : Trace) (key before since more : ℕ) : Type 0 where
+  pub lost : ℕ
+  pub few : disturbed_after p key p.seen + lost ≤ disturbed_after p key q.seen
+  pub paid : since ≤ before + (lost + 1) * (9 * met_since p q key + 7) + more
+
+-- so it is of one that has a hand then
+abbrev pub SearchesForHand : Trace → Trace → ℕ → ℕ → ℕ → Option HandView → Type 0
+SearchesForHand p q key before since None = Unit {0}
+SearchesForHand p q key before since (Some hand) = SearchesFor p q key before since (POOL + 4)
+
+-- and of one whose budget has no room for one more piece, if it was refused for want of steps
+abbrev pub SearchesInVain : Trace → Trace → ℕ → ℕ → ℕ → ℕ → Refusal → Type 0
+SearchesInVain p q key before budget more (OutOfSteps used) = SearchesFor p q key before (budget + 1) more
+SearchesInVain p q key before budget more NoSlot = Unit {0}
+SearchesInVain p q key before budget more (EpochSpent epoch) = Unit {0}
 
 -- how many steps it takes a pass that is alone to come to the key and then to take a slot, beside three to start and seven that the budget needs more
 abbrev pub steps_to_prepare : {N : Type 0} {kind : Ghosts N} → PendingCall N kind → ℕ
@@ -107,6 +129,7 @@ IsPrepared c d (Some hand) = Quiet (trace_in c) (trace_in d) × HasHandAndRoom (
 pub record PreparesHand {N : Type 0} {kind : Ghosts N} (c d : PendingCall N kind) (hand : Option HandView) : Type 0 where
   pub is : IsPrepared c d hand
   pub few : WasAlone c d → d.used ≤ c.used + steps_to_prepare c + 3
+  pub searches : (pass_in c).pool ≢ [] → SearchesForHand (trace_in c) (trace_in d) c.key c.used d.used hand
 
 -- it isn't; alone, a budget with seven steps more has enough
 pub record PreparesNone {N : Type 0} {kind : Ghosts N} (c d : PendingCall N kind) (refusal : Refusal) : Type 0 where
@@ -114,6 +137,7 @@ pub record PreparesNone {N : Type 0} {kind : Ghosts N} (c d : PendingCall N kind
   pub hand : (pass_in d).hand ≡ None
   pub says : RefusesInsert (pass_in c) (pass_in d) c.key c.used c.budget refusal
   pub enough : WasAlone c d → LacksSteps (c.used + steps_to_prepare c + 10) c.budget refusal
+  pub searches : (pass_in c).pool ≢ [] → SearchesInVain (trace_in c) (trace_in d) c.key c.used c.budget 80 refusal
 
 -- ---- the slot is linked
 
@@ -130,10 +154,11 @@ pub record InsertAnswers {N : Type 0} {kind : Ghosts N} (value : ℕ) (c d : Pen
   pub made : Stores value c d reply
   pub spent : (pass_in d).hand ≡ None
 
--- it isn't answered, and the hand comes back, which doesn't happen alone, where what was found stands
+-- it isn't answered, and the hand comes back, as what was found is lost, which it isn't alone, where that stands
 pub record GivesHandBack {N : Type 0} {kind : Ghosts N} (c d : PendingCall N kind) (found : Found) (back : HandView) : Type 0 where
   pub quiet : Quiet (trace_in c) (trace_in d)
   pub hand : HasHandAndRoom (pass_in d) back
+  pub loses : LosesFound (trace_in c) (trace_in d) found
   pub wins : StandsNow (trace_in c) found.pred → NextStands (trace_in c) found.cur → WasAlone c d → ⊥
 
 -- all its pieces: the steps are within the budget, it takes no slot, and the hand is empty then
@@ -153,3 +178,4 @@ pub record LinksNone {N : Type 0} {kind : Ghosts N} (c d : PendingCall N kind) (
   pub quiet : Quiet (trace_in c) (trace_in d)
   pub says : InsertIsShort (pass_in c) (pass_in d) c.used c.budget refusal
   pub short : WasAlone c d → c.budget < c.used + enough_to_search (trace_in c) c.key
+  pub searches : SearchesFor (trace_in c) (trace_in d) c.key c.used (c.budget + 1) 8

@@ -1,5 +1,6 @@
 pub mod Places
 pub mod Budgets
+pub mod Disturbed
 pub mod Refusals
 pub mod Leaving
 pub mod Found
@@ -8,6 +9,7 @@ pub mod Told
 pub mod Sparing
 pub mod Pieces
 pub mod Nearing
+pub mod Walking
 pub mod Traversing
 pub mod Helping
 pub mod Valuing

@@ -11,8 +11,6 @@ use Rattle.vbr_at_table.specs.Held.{held_of}
 use Rattle.vbr_at_table.specs.declared.held.Held.{Held}
 use Rattle.vbr_list.specs.Budgets.{listed_for}
 use Rattle.vbr_list.specs.declared.found.Found.{Found}
-use Rattle.vbr_list.specs.declared.looking.Sight.{Sight}
-use Rattle.vbr_list.specs.declared.looking.Sight.TheVariants.{Present, Absent}
 use Rattle.vbr_list.specs.declared.traversal.Visited.{Visited}
 use Rattle.vbr_list.specs.declared.traversal.Visited.TheVariants.{Smaller, Beyond, Marked}
 
@@ -51,14 +49,3 @@ pub record FoundAlone (p q : Trace) (key before since : ℕ) (found : Found) : T
   pub pred : StillAt q found.pred
   pub cur : NextStands q found.cur
   pub paid : since ≤ before + 3 + 9 * listed_for p key
-
--- the link that is to confirm what a look-up came to stands
-abbrev pub SightStands : Trace → Sight → Type 0
-SightStands q (Present node) = StandsNow q node
-SightStands q (Absent pred) = StandsNow q pred
-
--- what a look-up leaves that came to the key, or to where it is absent
-pub record SeenAlone (p q : Trace) (key before since : ℕ) (sight : Sight) : Type 0 where
-  pub fresh : IsFresh q
-  pub stands : SightStands q sight
-  pub paid : since ≤ before + 3 + 5 * listed_for p key

@@ -9,7 +9,7 @@ use Rattle.vbr_machine.specs.declared.history.Op.TheVariants.{Remove}
 use Rattle.vbr_slots.specs.Alone.{IsFresh}
 use Rattle.vbr_slots.specs.Calls.{Quiet}
 use Rattle.vbr_slots.specs.Views.{knows}
-use Rattle.vbr_at_table.specs.Alone.{NextStands, StandsNow}
+use Rattle.vbr_at_table.specs.Alone.{StandsNow}
 use Rattle.vbr_at_table.specs.declared.held.Held.{Held}
 use Rattle.vbr_at_table.specs.declared.held.Marked.{Marked}
 use Rattle.vbr_at_table.specs.declared.rollback.Rollback.{Rollback}
@@ -17,6 +17,7 @@ use Rattle.vbr_list.specs.Budgets.{listed_for, steps_to_value_of}
 use Rattle.vbr_list.specs.Helping.{MayHelp}
 use Rattle.vbr_list.specs.Leaving.{Leaves, WasClear}
 use Rattle.vbr_list.specs.Pieces.{Gives, HasRoom, WasAlone, trace_in}
+use Rattle.vbr_list.specs.Walking.{LosesFound}
 use Rattle.vbr_list.specs.declared.call.PendingCall.{PendingCall}
 use Rattle.vbr_list.specs.declared.found.Found.{Found}
 
@@ -55,7 +56,8 @@ pub record RemoveAnswers {N : Type 0} {kind : Ghosts N} (c d : PendingCall N kin
   pub unlists : is_some answer ≡ true → HasRoom d → Leaves (trace_in c) (trace_in d) c.key
   pub soon : IsFresh (trace_in c) → StandsNow (trace_in c) found.pred → WasAlone c d → RemovesSoon c d answer
 
--- it isn't answered, and no call was made, which doesn't happen alone, where what was found stands
+-- it isn't answered in three steps at most, and no call was made, as what was found is lost
 pub record RemoveRollsBack {N : Type 0} {kind : Ghosts N} (c d : PendingCall N kind) (found : Found) (rollback : Rollback) : Type 0 where
   pub quiet : Quiet (trace_in c) (trace_in d)
-  pub wins : IsFresh (trace_in c) → StandsNow (trace_in c) found.pred → NextStands (trace_in c) found.cur → WasAlone c d → ⊥
+  pub few : d.used ≤ c.used + 3
+  pub loses : LosesFound (trace_in c) (trace_in d) found

@@ -23,6 +23,7 @@ impl<N: Nodes> PendingCall<'_, N> {
         ensures found { IfSome result (Finds self.old self.new) }
         ensures tired { IfNone result (SearchTires self.old self.new) }
     {
+        self.at.law();
         loop {
             match self.traverse() {
                 Ok(found) => return Some(found),

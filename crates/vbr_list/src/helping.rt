@@ -46,7 +46,7 @@ pub(crate) fn help<N: Nodes>(
     ensures table { IsSameTable at.old at.new }
     ensures goes { GoesIn (pass_of at.old) (pass_of at.new) result.1 }
     ensures few { result.1 ≤ 6 }
-    ensures helps { IfOk result.0 (Helps (pass_of at.old) (pass_of at.new) pred.now) }
+    ensures helps { IfOk result.0 (Helps (pass_of at.old) (pass_of at.new) pred.now marked) }
     ensures lost { IfErr result.0 (HelpsNone (pass_of at.old) (pass_of at.new) pred.now) }
 {
     let (outcome, used) = unlink_and_retire(at, pred, marked);
@@ -73,7 +73,7 @@ fn help_apart<N: Nodes>(
     ensures table { IsSameTable at.old at.new }
     ensures goes { GoesIn (pass_of at.old) (pass_of at.new) result.1 }
     ensures few { result.1 ≤ 6 }
-    ensures helps { IfOk result.0 (Helps (pass_of at.old) (pass_of at.new) pred) }
+    ensures helps { IfOk result.0 (Helps (pass_of at.old) (pass_of at.new) pred marked) }
     ensures lost { IfErr result.0 (HelpsNone (pass_of at.old) (pass_of at.new) pred) }
 {
     help(at, &pred, marked)
@@ -91,7 +91,7 @@ pub(crate) fn help_by_copy<N: Nodes>(
     ensures table { IsSameTable at.old at.new }
     ensures goes { GoesIn (pass_of at.old) (pass_of at.new) result.1 }
     ensures few { result.1 ≤ 6 }
-    ensures helps { IfOk result.0 (Helps (pass_of at.old) (pass_of at.new) pred) }
+    ensures helps { IfOk result.0 (Helps (pass_of at.old) (pass_of at.new) pred marked) }
     ensures lost { IfErr result.0 (HelpsNone (pass_of at.old) (pass_of at.new) pred) }
 {
     let slots = at.slots;

@@ -40,6 +40,7 @@ impl<N: Nodes> PendingCall<'_, N> {
         let Some(cur) = &found.cur else {
             unreachable!()
         };
+        self.at.law();
         self.used += 1;
         confirm_present_entry(&mut self.at, Op::Insert, cur)
     }
@@ -135,6 +136,7 @@ impl<N: Nodes> PendingCall<'_, N> {
         ensures linked { IfOk result (LinksHand value self.old self.new) }
         ensures refused { IfErr result (LinksNone self.old self.new) }
     {
+        self.at.law();
         loop {
             let Some(found) = self.search() else {
                 give_back(&mut self.at, hand);

@@ -3,7 +3,7 @@
 //! goes on.
 ghost use Rattle.std.specs.Prelude.{◌≡◌, IfOk, IfErr, IfSome, IfNone};
 ghost use Rattle.vbr_at_table.specs.Held.{held_of};
-ghost use Rattle.vbr_list.specs.LookingUp.{LookStops, LookTires, Sees};
+ghost use Rattle.vbr_list.specs.LookingUp.{LookTires, Sees, WalkStops, WalksTo};
 ghost use Rattle.vbr_list.specs.Pieces.{GoesOn, Observes, trace_in};
 
 use crate::call::PendingCall;
@@ -40,9 +40,10 @@ impl<N: Nodes> PendingCall<'_, N> {
     fn walk(&mut self) -> Result<Sight, Stop>
         ensures goes { GoesOn self.old self.new }
         ensures observes { Observes (trace_in self.old) (trace_in self.new) }
-        ensures sight { IfOk result (Sees self.old self.new) }
-        ensures stopped { IfErr result (LookStops self.old self.new) }
+        ensures sight { IfOk result (WalksTo self.old self.new) }
+        ensures stopped { IfErr result (WalkStops self.old self.new) }
     {
+        self.at.law();
         if !affords(self.budget, self.used) {
             return Err(Stop::Tired);
         }
@@ -77,6 +78,7 @@ impl<N: Nodes> PendingCall<'_, N> {
         ensures sight { IfSome result (Sees self.old self.new) }
         ensures tired { IfNone result (LookTires self.old self.new) }
     {
+        self.at.law();
         loop {
             match self.walk() {
                 Ok(sight) => return Some(sight),

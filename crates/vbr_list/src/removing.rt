@@ -123,6 +123,7 @@ impl<N: Nodes> PendingCall<'_, N> {
         ensures answers { IfOk result (RemoveAnswers self.old self.new found.now) }
         ensures rolls { IfErr result (RemoveRollsBack self.old self.new found.now) }
     {
+        self.at.law();
         if found.present {
             return self.mark_and_unlink(found);
         }

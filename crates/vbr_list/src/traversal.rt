@@ -4,8 +4,8 @@ ghost use Rattle.vbr_words.specs.Words.{link_of};
 ghost use Rattle.vbr_slots.specs.Views.{knows};
 ghost use Rattle.vbr_at_table.specs.Held.{HoldsMarked, Names};
 ghost use Rattle.vbr_list.specs.Helping.{Helps, HelpsNone};
-ghost use Rattle.vbr_list.specs.Pieces.{GoesOn, HasRoom, IsPiece, OnlyLooks, WasAlone, pass_in, trace_in};
-ghost use Rattle.vbr_list.specs.Traversing.{Finds, IsInsideFor, IsPredFor, Meets, RollsBackFrom, SearchStops, Starts};
+ghost use Rattle.vbr_list.specs.Pieces.{GoesOn, HasRoom, IsPiece, OnlyLooks, pass_in, trace_in};
+ghost use Rattle.vbr_list.specs.Traversing.{IsInsideFor, IsPredFor, Meets, RollsBackFrom, SearchStops, Starts, StartsNone, WalkFinds};
 
 use crate::call::PendingCall;
 use crate::found::Found;
@@ -43,7 +43,7 @@ impl<N: Nodes> PendingCall<'_, N> {
         ensures looks { OnlyLooks (trace_in self.old) (trace_in self.new) }
         ensures used { self.new.used ≡ self.old.used + 3 }
         ensures head { IfOk result (Starts self.old self.new) }
-        ensures moved { IfErr result (λ r. WasAlone self.old self.new → ⊥) }
+        ensures moved { IfErr result (StartsNone self.old self.new) }
     {
         let point = checkpoint(&mut self.at);
         let head = first(&mut self.at, &point, self.bucket);
@@ -92,7 +92,7 @@ impl<N: Nodes> PendingCall<'_, N> {
         requires room { HasRoom self.old }
         ensures goes { GoesOn self.old self.new }
         ensures few { self.new.used ≤ self.old.used + 6 }
-        ensures helps { IfOk result (Helps (pass_in self.old) (pass_in self.new) pred) }
+        ensures helps { IfOk result (Helps (pass_in self.old) (pass_in self.new) pred marked) }
         ensures lost { IfErr result (HelpsNone (pass_in self.old) (pass_in self.new) pred) }
     {
         let epoch = marked.epoch;
@@ -109,9 +109,10 @@ impl<N: Nodes> PendingCall<'_, N> {
     #[inline(always)]
     pub(crate) fn traverse(&mut self) -> Result<Found, Stop>
         ensures goes { GoesOn self.old self.new }
-        ensures found { IfOk result (Finds self.old self.new) }
+        ensures found { IfOk result (WalkFinds self.old self.new) }
         ensures stopped { IfErr result (SearchStops self.old self.new) }
     {
+        self.at.law();
         if !affords(self.budget, self.used) {
             return Err(Stop::Tired);
         }

@@ -68,6 +68,13 @@ mod Removals
 mod ListedRuns
 mod ListedGrowth
 mod ListedLinks
+mod Calm
+mod Since
+mod MetNodes
+mod Visits
+mod OwnInserts
+mod Progress
+mod MovedEpochs
 mod WorkedLists
 mod WorkedMaps
 mod WorkedChronicles

@@ -21,7 +21,7 @@ use Rattle.vbr_machine.specs.declared.knowledge.Holding.TheVariants.{Free, Unlin
 use Rattle.vbr_machine.proofs.EveryRun.{incarnations_from-append}
 
 -- all events are of a pass
-abbrev AreBy : ℕ → List Entry → Type 0
+abbrev pub AreBy : ℕ → List Entry → Type 0
 AreBy p entries = AllByRecursion (λ (entry : Entry). entry.pass ≡ p) entries
 
 either_by : (p : ℕ) (b : Bool) (xs ys : List Entry) → AreBy p xs → AreBy p ys → AreBy p (cond b xs ys)
@@ -39,7 +39,7 @@ answered_by p None = tt
 answered_by p (Some call) = (refl, tt)
 
 -- what happens by a step is of its pass
-happens_by : (start : Start) (w : World) (a : Incarnations) (p : ℕ) (step : Step) → AreBy p (happens start w a p step)
+pub happens_by : (start : Start) (w : World) (a : Incarnations) (p : ℕ) (step : Step) → AreBy p (happens start w a p step)
 happens_by start w a p ReadEpoch = tt
 happens_by start w a p (Advance from) = either_by p (found start w (Advance from) == from) _ _ (refl, tt) tt
 happens_by start w a p (LoadStamp s) = tt
@@ -83,7 +83,7 @@ chronicle_from-append start w a (x ∷ xs) ys =
     ∙ sym (append_assoc here (chronicle_from start v b xs) _)
     ∙ ap (λ i. (here ++ chronicle_from start v b xs) ++ chronicle_from start (world_from start v xs) i ys) (sym (incarnations_from-append start a here (chronicle_from start v b xs)))
 
-others_add : (start : Start) (w : World) (a : Incarnations) (who : ℕ) (events : List Event) → NoneOf who events → entries_by who (chronicle_from start w a events) ≡ []
+pub others_add : (start : Start) (w : World) (a : Incarnations) (who : ℕ) (events : List Event) → NoneOf who events → entries_by who (chronicle_from start w a events) ≡ []
 others_add start w a who [] none = refl
 others_add start w a who (x ∷ xs) none =
     both who (happens start w a x.pass x.step) (chronicle_from start (after start w x.pass x.step) (incarnations_with start w a x) xs)

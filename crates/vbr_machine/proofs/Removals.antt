@@ -32,7 +32,7 @@ use Rattle.vbr_machine.proofs.RunsGoOn.{begins_run, begins_trans, calls_by-appen
 -- ---- out for good
 
 -- what has left its list stays out
-left_stays : (start : Start) (keys : Keys) (a : Incarnations) (pass : ℕ) (what : Happening) → Sound start a → Allowed start keys a pass what → (c : ℕ) → HasLeft (a.state c) → HasLeft ((becomes start a pass what).state c)
+pub left_stays : (start : Start) (keys : Keys) (a : Incarnations) (pass : ℕ) (what : Happening) → Sound start a → Allowed start keys a pass what → (c : ℕ) → HasLeft (a.state c) → HasLeft ((becomes start a pass what).state c)
 left_stays start keys a pass Advances s h c l = l
 left_stays start keys a pass (Gains v) s h c l = l
 left_stays start keys a pass (Probes v) s h c l = l
@@ -48,7 +48,7 @@ left_stays start keys a pass (Removes d) s h c l = grind (arith, nat_tests)
 left_stays start keys a pass (Unlinks d behind) s h c l = grind (arith, nat_tests)
 left_stays start keys a pass (Stamps d stamp) s h c l = grind (arith, nat_tests)
 
-left_after : (start : Start) (keys : Keys) (a : Incarnations) (entries : List Entry) → Sound start a → IsLawful start keys a entries → (c : ℕ) → HasLeft (a.state c) → HasLeft ((incarnations_from start a entries).state c)
+pub left_after : (start : Start) (keys : Keys) (a : Incarnations) (entries : List Entry) → Sound start a → IsLawful start keys a entries → (c : ℕ) → HasLeft (a.state c) → HasLeft ((incarnations_from start a entries).state c)
 left_after start keys a [] s l c h = h
 left_after start keys a (entry ∷ entries) s l c h =
     left_after start keys (becomes start a entry.pass entry.what) entries (sound_kept start keys a entry.pass entry.what s l.0) l.1 c (left_stays start keys a entry.pass entry.what s l.0 c h)

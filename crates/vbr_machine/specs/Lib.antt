@@ -23,6 +23,7 @@ pub mod Accounts
 pub mod Nodes
 pub mod Removals
 pub mod Agreement
+pub mod Disturbances
 pub mod SlotPlaces
 pub mod Whereabouts
 pub mod Safety

@@ -1,6 +1,6 @@
 //! The laws of chronicles and runs, in the order of the argument. Each function says its law in
 //! its contract, and does nothing.
-ghost use Rattle.std.specs.Prelude.{ℕ, ◌≡◌, ◌≢◌, ◌+◌, ◌≤◌, ◌↔◌, true, false, List, [], ◌∷◌, ◌++◌, Option, Some};
+ghost use Rattle.std.specs.Prelude.{ℕ, ◌≡◌, ◌≢◌, ◌+◌, ◌*◌, ◌≤◌, ◌↔◌, true, false, List, [], ◌∷◌, ◌++◌, Option, Some};
 ghost use Rattle.std.specs.List.Sorted.{IsStrictlyIncreasing};
 ghost use Rattle.vbr_words.specs.Dimensions.{Dimensions};
 ghost use Rattle.vbr_machine.specs.Start.{Start, IsStart};
@@ -26,7 +26,8 @@ ghost use Rattle.vbr_machine.specs.Chronicles.{Entry, IsLawful, incarnations_fro
 ghost use Rattle.vbr_machine.specs.Sound.{Grows, Sound, Tells};
 ghost use Rattle.vbr_machine.specs.Images.{link_shown_at};
 ghost use Rattle.vbr_machine.specs.Notes.{Note, IsHeldBy, IsAmong};
-ghost use Rattle.vbr_machine.specs.Accounts.{incarnations_after, notes_after};
+ghost use Rattle.vbr_machine.specs.Accounts.{chronicle, incarnations_after, notes_after};
+ghost use Rattle.vbr_machine.specs.Disturbances.{disturbances, how_many, is_removal, is_unlinking, marked_nodes, updates};
 ghost use Rattle.vbr_machine.specs.Agreement.{IsGoodLink, IsLastOf, IsPair};
 ghost use Rattle.vbr_machine.specs.Calls.{own_calls};
 ghost use Rattle.vbr_machine.specs.Removals.{MarkedLeft, NoneMarked};
@@ -369,4 +370,27 @@ pub fn one_unstamped_at_a_time()
     ensures { (start : Start) (moment run : List Event) (pass : ℕ) →
         Begins moment run → UnlinksInTurn start run pass →
         number_at start moment (Unstamped pass) ≤ 1 }
+{}
+
+/// A law: of the nodes that were removed in a run each was unlinked, by one unlinking, or is still
+/// marked. So there are no more unlinkings than removals, each of which is a remove answered yes.
+pub fn unlinkings_follow_removals()
+    ensures { (start : Start) (passes : ℕ) (run : List Event) →
+        IsStart start → IsRun start passes run →
+        how_many is_unlinking (chronicle start run) + marked_nodes (incarnations_after start run)
+        ≡ how_many is_removal (chronicle start run) }
+{}
+
+/// A law: between two moments of a run a pass is disturbed at a bucket no more often than the epoch
+/// advances, twice for each insert or remove that is answered yes, and once for each node that was
+/// marked at first; less one for each that is marked at the end.
+pub fn disturbances_are_paid()
+    ensures { (start : Start) (passes : ℕ) (first run : List Event) (who bucket : ℕ) →
+        IsStart start → IsRun start passes run → Begins first run →
+        disturbances start run who bucket + marked_nodes (incarnations_after start run)
+        + (incarnations_after start first).epoch
+        + 2 * updates (incarnations_after start first).calls
+        ≤ disturbances start first who bucket + marked_nodes (incarnations_after start first)
+        + (incarnations_after start run).epoch
+        + 2 * updates (incarnations_after start run).calls }
 {}

@@ -18,3 +18,4 @@ mod RoomLeft
 mod RoomOfOthers
 mod TakenUp
 mod Listing
+mod Progress

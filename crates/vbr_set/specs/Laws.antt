@@ -1,5 +1,5 @@
 -- What the laws of a set say: those of tokens, and those of room.
-use Rattle.std.specs.Prelude.{ℕ, ◌+◌, ◌-◌, ◌*◌, ◌≤◌, Bool, Err, List, Result, length}
+use Rattle.std.specs.Prelude.{◌≢◌, [], ℕ, ◌+◌, ◌-◌, ◌*◌, ◌<◌, ◌≤◌, Bool, Err, List, Result, length}
 use Rattle.vbr_machine.specs.History.{set_after}
 use Rattle.vbr_machine.specs.Keys.{AreKeysOf}
 use Rattle.vbr_machine.specs.Nodes.{marked_after}
@@ -10,7 +10,7 @@ use Rattle.vbr_machine.specs.declared.event.Event.{Event}
 use Rattle.vbr_machine.specs.declared.event.Step.TheVariants.{ReadEpoch}
 use Rattle.vbr_machine.specs.declared.history.Call.{Call}
 use Rattle.vbr_machine.specs.declared.history.Op.{Op}
-use Rattle.vbr_machine.specs.declared.history.Op.TheVariants.{Insert}
+use Rattle.vbr_machine.specs.declared.history.Op.TheVariants.{Has, Insert, Remove}
 use Rattle.vbr_slots.specs.Alone.{IsAlone}
 use Rattle.vbr_slots.specs.Calls.{IsSame}
 use Rattle.vbr_slots.specs.PassLaw.{PassLaw}
@@ -18,6 +18,9 @@ use Rattle.vbr_slots.specs.Tokens.{SeenView}
 use Rattle.vbr_slots.specs.Views.{Did, KeepsPool, PassView, TableView, Trace, new_pass, new_trace}
 use Rattle.vbr_slots.specs.declared.pass.TheConstants.{POOL}
 use Rattle.vbr_at_table.specs.KeptSlots.{UnlinkedInTurn}
+use Rattle.vbr_list.specs.Budgets.{LacksSteps, listed_for}
+use Rattle.vbr_list.specs.Disturbed.{enough_among, enough_to_insert_among, enough_to_search_among, most_disturbed}
+use Rattle.vbr_list.specs.Sparing.{Calls}
 use Rattle.vbr_list.specs.declared.refusal.Refusal.{Refusal}
 use Rattle.vbr_list.specs.declared.refusal.Refusal.TheVariants.{NoSlot}
 use Rattle.vbr_set.specs.Answers.{Answers}
@@ -25,6 +28,20 @@ use Rattle.vbr_set.specs.Histories.{calls_of}
 use Rattle.vbr_set.specs.Members.{Called, MemberView}
 use Rattle.vbr_set.specs.Room.{AreTakenUp, HasAllSlots, OthersAreBetweenCalls}
 use Rattle.vbr_set.specs.Tokens.{CatchesUp, IsChain, IsTokenOf, Precedes, end_of}
+
+-- ---- progress
+
+-- a look-up that is refused had a budget below what is enough for so many updates, answered yes meanwhile, and advances of the epoch
+abbrev pub LookUpsMakeProgress : Type 0
+LookUpsMakeProgress = (p q : PassView) (key budget : ℕ) (refusal : Refusal) → PassLaw p → Calls Has p q key budget (Err refusal) → budget < enough_among (listed_for p.trace key) (most_disturbed p.trace q.trace)
+
+-- so it is of a remove
+abbrev pub RemovesMakeProgress : Type 0
+RemovesMakeProgress = (p q : PassView) (key budget : ℕ) (refusal : Refusal) → PassLaw p → Calls Remove p q key budget (Err refusal) → budget < enough_to_search_among (listed_for p.trace key) (most_disturbed p.trace q.trace)
+
+-- and so of an insert that is refused for want of steps, with a slot in the own pool
+abbrev pub InsertsMakeProgress : Type 0
+InsertsMakeProgress = (p q : PassView) (key budget : ℕ) (refusal : Refusal) → PassLaw p → p.pool ≢ [] → Calls Insert p q key budget (Err refusal) → LacksSteps (enough_to_insert_among (listed_for p.trace key) (most_disturbed p.trace q.trace)) budget refusal
 
 -- ---- tokens
 

@@ -1,5 +1,5 @@
-//! The laws of tokens. Each function says its law in its contract, and does nothing.
-ghost use Rattle.vbr_set.specs.Laws.{CallsStayInOrder, TokensHandOn};
+//! The laws of tokens, and of progress. Each function says its law in its contract, and does nothing.
+ghost use Rattle.vbr_set.specs.Laws.{CallsStayInOrder, InsertsMakeProgress, LookUpsMakeProgress, RemovesMakeProgress, TokensHandOn};
 
 /// A law: who catches up with the last token of a chain catches up with the first, through any number
 /// of callers that each caught up with a token before they made the next.
@@ -12,4 +12,23 @@ pub fn tokens_hand_on()
 /// first call stands before this one, in the legal history that its caller then has.
 pub fn calls_stay_in_order()
     ensures { CallsStayInOrder }
+{}
+
+/// A law: a look-up that runs out of steps was disturbed. With m the advances of the epoch meanwhile,
+/// two for each update of the set that was answered yes meanwhile, and one for each node that was
+/// marked when it began, its budget was below (m + 1) * (5 * (n + m) + 11), with n nodes in the key's
+/// bucket. So with that budget it is answered, unless updates are.
+pub fn look_ups_make_progress()
+    ensures { LookUpsMakeProgress }
+{}
+
+/// A law: so it is of a remove, whose budget was below (m + 1) * (9 * (n + m) + 11).
+pub fn removes_make_progress()
+    ensures { RemovesMakeProgress }
+{}
+
+/// A law: so it is of an insert with a slot in the pass's own pool, that is refused for want of steps:
+/// its budget was below (m + 2) * (9 * (n + m) + 11) + 80.
+pub fn inserts_make_progress()
+    ensures { InsertsMakeProgress }
 {}

@@ -6,10 +6,12 @@ use Rattle.vbr_slots.specs.Views.{knows}
 use Rattle.vbr_at_table.specs.Held.{held_of}
 use Rattle.vbr_at_table.specs.Reading.{ReadsIn}
 use Rattle.vbr_at_table.specs.CallSteps.{birth_steps, steps_to_birth}
-use Rattle.vbr_at_table.proofs.AloneReads.{birth_still}
+use Rattle.vbr_slots.proofs.Lemmas.{fresh_read}
+use Rattle.vbr_at_table.proofs.AloneReads.{birth_still, shape_on}
 use Rattle.vbr_at_table.proofs.Accepted.{named_slot, slot_in, slot_found}
 use Rattle.vbr_at_table.proofs.CheckedReads.{birth_keeps, birth_read}
-use Rattle.vbr_at_table.proofs.ReadCalls.{birth_in_one, epoch_in_one, fit, fit_on, reads_on}
+use Rattle.vbr_at_table.proofs.ReadCalls.{birth_in_one, epoch_in_one, fit, fit_on, has_moved, reads_on}
+use Rattle.vbr_at_table.proofs.ReadSteps.{birth_loaded_keeps}
 use Rattle.vbr_at_table.proofs.unlinking.birth_behind.Goals as goal
 
 pub load_birth-birth-requires-clause-slot : goal.load_birth-birth-requires-clause-slot
@@ -47,7 +49,11 @@ returns-clause-birth g c =
     }
 
 pub returns-then-now-marked-clause-moved : goal.returns-then-now-marked-clause-moved
-returns-then-now-marked-clause-moved g c = record {
-  some = search rules;
-  rolls = record { moved = search rules; still = λ fresh alone. c.if-now-marked.true (birth_still c.load_birth-birth.ensures.step c.read_epoch-now.ensures.step alone c.law.ensures.start fresh ∙ sym c.requires.marked.held.epoch) };
-}
+returns-then-now-marked-clause-moved g c =
+    let load = c.load_birth-birth.ensures.step in
+    let read = c.read_epoch-now.ensures.step in
+    let moved = has_moved c.args.at.now.stepper.now.trace (birth_loaded_keeps load) read (λ e. c.if-now-marked.true (e ∙ sym c.requires.marked.held.epoch)) in
+    record {
+      some = search rules;
+      rolls = record { moved = moved; fresh = fresh_read (shape_on load c.law.ensures.start) read moved.1; still = λ fresh alone. c.if-now-marked.true (birth_still load read alone c.law.ensures.start fresh ∙ sym c.requires.marked.held.epoch) };
+    }

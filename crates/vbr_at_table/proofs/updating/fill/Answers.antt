@@ -1,4 +1,4 @@
-use Rattle.std.proofs.Common.{◌≡◌, ℕ, ◌+◌, ◌<◌, Bool, Option, Some, sym, ap, ◌∙◌, subst, refl}
+use Rattle.std.proofs.Common.{◌≡◌, ℕ, ◌+◌, ◌==◌, ◌<◌, Bool, Option, Some, sym, ap, ◌∙◌, subst, refl}
 use Rattle.vbr_machine.specs.Start.{Start}
 use Rattle.vbr_words.specs.Words.{link_of, word_of}
 use Rattle.vbr_words.specs.declared.link.Link.{Link}
@@ -7,6 +7,7 @@ use Rattle.vbr_machine.specs.Links.{link_to}
 use Rattle.vbr_slots.specs.Views.{knows}
 use Rattle.vbr_slots.proofs.Lemmas.{alone_first, alone_then, did_took, key_stored_leaves, link_stored_leaves, quiet_on, took_on}
 use Rattle.vbr_at_table.proofs.Advancing.{did_none, none_on}
+use Rattle.vbr_at_table.proofs.Unchanged.{did_unchanged, none_counted, unchanged_on}
 use Rattle.vbr_machine.specs.Learning.{value_in_hand}
 use Rattle.vbr_at_table.specs.Exchanges.{StoresIn}
 use Rattle.vbr_at_table.specs.Held.{IsFilled}
@@ -106,6 +107,7 @@ returns-clause-fills g c =
         quiet = quiet_on (quiet_on (key_stored_quiet key) put.quiet) (link_stored_quiet link);
         hand = c.store_link.ensures.pool.1 ∙ put.hand ∙ c.store_key.ensures.pool.1;
         filled = subst F c.slot-slot.ensures full.0;
+        unchanged = unchanged_on (unchanged_on (did_unchanged key (λ w a bucket. none_counted (p.trace.who == p.trace.who))) put.unchanged) (did_unchanged link (λ w a bucket. none_counted (c.put_value.new.at.stepper.now.trace.who == c.put_value.new.at.stepper.now.trace.who)));
         stands = (λ alone unmarked stands.
             let first = key_stored_quiet key in
             let front = alone_first (quiet_on first put.quiet).seen (link_stored_quiet link).seen alone in

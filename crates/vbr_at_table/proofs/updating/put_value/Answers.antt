@@ -1,8 +1,9 @@
-use Rattle.std.proofs.Common.{◌≡◌, Bool, true, refl, sym, ap, ◌∙◌, subst}
+use Rattle.std.proofs.Common.{◌≡◌, ◌==◌, Bool, true, refl, sym, ap, ◌∙◌, subst}
 use Rattle.vbr_machine.specs.Start.{Start}
 use Rattle.vbr_slots.specs.Views.{knows}
 use Rattle.vbr_slots.proofs.Lemmas.{did_took, value_stored_leaves}
 use Rattle.vbr_at_table.proofs.Advancing.{did_none}
+use Rattle.vbr_at_table.proofs.Unchanged.{did_unchanged, none_counted}
 use Rattle.vbr_at_table.specs.Exchanges.{StoresIn}
 use Rattle.vbr_at_table.specs.Values.{steps_to_value, with_kept_value}
 use Rattle.vbr_at_table.proofs.Filled.{value_stored, value_stored_keeps, value_stored_quiet}
@@ -28,5 +29,6 @@ returns-then-VALUES-clause-puts g c =
       quiet = value_stored_quiet d;
       hand = c.store_value.ensures.pool.1;
       holding = subst P (sym has) (value_stored d);
+      unchanged = did_unchanged d (λ w a bucket. none_counted (p.trace.who == p.trace.who));
       links = λ alone at. value_stored_leaves at c.law.ensures.start d alone;
     }

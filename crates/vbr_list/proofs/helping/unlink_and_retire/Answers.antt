@@ -13,6 +13,8 @@ use Rattle.vbr_at_table.specs.Retiring.{is_kept}
 use Rattle.vbr_at_table.specs.Keeping.{KeepsUnlinked}
 use Rattle.vbr_list.specs.Pieces.{Goes}
 use Rattle.vbr_list.proofs.Clearing.{clear_before, clear_skipped}
+use Rattle.vbr_list.proofs.Disturbing.{loses_place, moved_late, opened, run_at}
+use Rattle.vbr_at_table.proofs.Lemmas.{unchanged_by_none}
 use Rattle.vbr_list.proofs.Going.{counts_step, took_same}
 use Rattle.vbr_list.proofs.KeptHands.{helped_hand, retired_hand}
 use Rattle.vbr_list.proofs.Nearing.{first_of, then_of, helped_alone}
@@ -44,11 +46,14 @@ returns-in-Ok-clause-unlinks g c =
     record {
       helps = λ e. record {
         at = won.at;
+        epoch = sym e ∙ won.read.known.epoch ∙ won.keeps.epoch;
+        opens = opened p.trace q.trace r.trace c.args.pred.now c.args.marked c.in-Ok.place a b c.law-in-Ok.ensures.start c.law-in-Ok.ensures.is_run won.keeps won.at won.read.known won.still won.stands won.next c.retire.ensures.retires.unchanged;
         come = λ key is. helped key c.args.pred.now c.in-Ok.place is won.keeps won.at won.still won.read a b (retired_keeps (knows q.trace) (knows r.trace) c.in-Ok.unlinked.slot (is_kept q.pool) c.retire.ensures.retires.known (sym e ∙ won.read.known.epoch));
         alone = λ key is fresh stands alone.
             let l = c.retire.ensures.retires.alone (then_of a b alone) in
             helped_alone p.trace q.trace r.trace key c.args.pred.now c.in-Ok.place is.inside won.at a.same.start b.same.start (won.alone (first_of a b alone) stands) l.0 l.1;
       };
+      late = λ other. moved_late p.trace q.trace r.trace a b c.law.ensures.start (won.read.known.epoch ∙ won.keeps.epoch) c.retire.ensures.retires.stamped other;
       stays = λ fresh stands alone.
           let u = won.alone (first_of a b alone) stands in
           let l = c.retire.ensures.retires.alone (then_of a b alone) in
@@ -63,4 +68,12 @@ returns-in-Ok-clause-unlinks g c =
           clear_before (clear_skipped c.in-Ok.place c.law.ensures.start a.same won.read won.still c.args.marked.slot key (link_of c.args.marked.word)
           (subst P (sym won.at) (subst Q (sym a.same.start) (behind_kept p.trace.start c.args.pred.now.at key won.keeps behind)))
           (won.keeps.reads _ c.requires.may.marked.held.link) c.requires.may.marked.mark (sym won.next) (won.keeps.reads (KeyOf c.args.marked.slot key) k)) b;
+    }
+
+pub returns-in-Err-clause-lost : goal.returns-in-Err-clause-lost
+returns-in-Err-clause-lost g c =
+    let failed = rw c.in-Err.is at c.unlink-outcome.ensures.failed in
+    record {
+      loses = loses_place c.args.at.now.stepper.now.trace c.unlink-outcome.new.at.stepper.now.trace c.args.pred.now c.in-Err.rollback c.unlink-outcome.ensures.stays.quiet.same failed.rolled failed.fresh (unchanged_by_none c.law.ensures.start (run_at c.args.at.now.stepper.now.trace c.unlink-outcome.new.at.stepper.now.trace c.unlink-outcome.ensures.stays.quiet.same (c.unlink-outcome.ensures.stays.quiet.is_run c.law.ensures.is_run)) c.unlink-outcome.ensures.stays.quiet.same c.unlink-outcome.ensures.stays.quiet.seen failed.adds_none) c.unlink-outcome.ensures.stays.quiet.seen;
+      still = λ fresh stands alone. failed.wins fresh alone stands;
     }

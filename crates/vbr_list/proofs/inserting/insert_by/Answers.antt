@@ -4,12 +4,16 @@ use Rattle.vbr_words.specs.Dimensions.{Dimensions}
 use Rattle.vbr_machine.specs.declared.history.Op.TheVariants.{Insert}
 use Rattle.vbr_slots.specs.Calls.{Made, Quiet}
 use Rattle.vbr_slots.proofs.Lemmas.{alone_first, alone_then, quiet_on, same_on}
-use Rattle.vbr_at_table.proofs.Lemmas.{had_then, longer, needed_before, shared_on, shares_more}
+use Rattle.vbr_at_table.proofs.Lemmas.{counts_on, had_then, longer, needed_before, shared_on, shares_more, slots_kept_on, took_all}
 use Rattle.vbr_at_table.specs.Budgets.{most_to_take}
 use Rattle.vbr_slots.specs.Alone.{IsAlone}
 use Rattle.vbr_at_table.specs.Values.{steps_to_update}
 use Rattle.vbr_list.specs.Budgets.{LacksSteps, enough_to_search, listed_for}
-use Rattle.vbr_list.specs.Inserting.{InsertIsShort, LinksNone}
+use Rattle.vbr_slots.specs.declared.pass.TheConstants.{POOL}
+use Rattle.vbr_list.specs.Disturbed.{disturbed, enough_to_insert_among}
+use Rattle.vbr_list.proofs.Disturbing.{run_at}
+use Rattle.vbr_list.proofs.Walking.{insert_lacks, vain_lacks}
+use Rattle.vbr_list.specs.Inserting.{InsertIsShort, LinksNone, SearchesFor}
 use Rattle.vbr_list.specs.Refusals.{IsRefusedInsert}
 use Rattle.vbr_list.specs.declared.refusal.Refusal.TheVariants.{NoSlot}
 use Rattle.vbr_list.proofs.Going.{bucket_is, ok_as}
@@ -43,6 +47,7 @@ returns-in-Err-clause-calls g c =
         had = c.prepare.ensures.prepares.had;
         shared = search rules;
         refused = refused_first c.args.at.now.stepper.now c.prepare.new.self.at.stepper.now c.args.key c.args.budget c.in-Err.refusal c.in-Err.ensures.refused.says;
+        disturbed_within = λ some. vain_lacks c.args.at.now.stepper.now.trace c.prepare.new.self.at.stepper.now.trace c.law.ensures.start (run_at c.args.at.now.stepper.now.trace c.prepare.new.self.at.stepper.now.trace c.in-Err.ensures.refused.quiet.same (c.in-Err.ensures.refused.quiet.is_run c.law.ensures.is_run)) c.args.key c.args.budget c.in-Err.ensures.refused.quiet c.in-Err.refusal (c.in-Err.ensures.refused.searches some);
         within = search rules;
         ready = search rules;
         costs = tt;
@@ -66,6 +71,7 @@ returns-in-Ok-None-clause-calls g c =
         had = c.prepare.ensures.prepares.had;
         shared = search rules;
         refused = tt;
+        disturbed_within = λ some. tt;
         within = tt;
         ready = search rules;
         costs = λ alone.
@@ -109,10 +115,18 @@ returns-in-Ok-Some-clause-calls g c =
       steps = within_all (within_on c.prepare.ensures.prepares.counts counts.counts counts.within.0 counts.within.1);
       spares = record {
         advances = needed_before {p = p} {q = q} {r = r} c.prepare.ensures.prepares.advances more.0 more.1 c.link.ensures.links.takes_no_slot.count;
-        kept = search rules;
+        kept = slots_kept_on p q r c.prepare.ensures.prepares.kept c.link.ensures.links.takes_no_slot.kept;
         had = had_then p q r c.link.result c.prepare.ensures.prepares.had c.link.ensures.had;
         shared = shared_on p q r 2 c.prepare.ensures.prepares.shared (longer q r c.link.ensures.links.takes_no_slot.grows) (shares_more q r c.link.ensures.links.takes_no_slot.shared);
         refused = each_error (λ refusal. InsertIsShort q r c.prepare.new.self.used c.args.budget refusal) (λ refusal. IsRefusedInsert p r c.args.key c.args.budget refusal) c.link.result (refused_second p q r c.args.key c.prepare.ensures.prepares.counts) refused;
+        disturbed_within = λ some. each_error (LinksNone d e) (λ refusal. LacksSteps (enough_to_insert_among n (disturbed p.trace r.trace c.args.key)) c.args.budget refusal) c.link.result
+            (λ refusal none. (
+            let whole = quiet_on first none.quiet in
+            let before : SearchesFor p.trace q.trace c.args.key 0 d.used (POOL + 4) = (rw c.in-Ok-Some.field-0-is at c.in-Ok-Some.ensures.prepared.searches some) in
+            let later : SearchesFor q.trace r.trace d.key d.used (d.budget + 1) 8 = none.searches in
+            let last : SearchesFor q.trace r.trace c.args.key d.used (c.args.budget + 1) 8 = rw (call.key, call.budget) at later in
+            lacks _ c.args.budget refusal (insert_lacks p.trace q.trace r.trace c.law.ensures.start (run_at p.trace r.trace whole.same (whole.is_run c.law.ensures.is_run)) c.args.key c.args.budget d.used first.same first.seen none.quiet.seen whole before last)))
+            c.link.ensures.refused;
         within = within;
         ready = λ some alone enough. answered_or_spent p r c.args.budget n c.link.result some alone enough
             (each_error (λ refusal. InsertIsShort q r c.prepare.new.self.used c.args.budget refusal) (λ refusal. refusal ≡ NoSlot → p.pool ≡ []) c.link.result (never_refused p.pool q r c.prepare.new.self.used c.args.budget) refused)
@@ -126,3 +140,8 @@ returns-in-Ok-Some-clause-calls g c =
             within_most (within_on c.prepare.ensures.prepares.counts counts.counts counts.within.0 counts.within.1) (omega (arith, u, v, w, start))) c.link.ensures.linked;
       };
     })
+
+pub returns-in-Ok-Some-clause-took : goal.returns-in-Ok-Some-clause-took
+returns-in-Ok-Some-clause-took g c =
+    let same : c.at-in-Ok-Some-1.given.0 ≡ c.link.new.self.at.stepper.now = search rules in
+    rw same (took_all (counts_on c.prepare.ensures.prepares.counts.counts c.link.ensures.links.counts.counts))

@@ -1,20 +1,29 @@
-use Rattle.std.proofs.Common.{rules, ◌≡◌, ◌+◌, ◌*◌, ◌<◌, ◌≤◌, true, false, refl, sym, ◌∙◌, arith, inr, ap, subst}
-use Rattle.vbr_slots.proofs.Lemmas.{alone_first, answer_on, loads_on, quiet_on, same_on}
+use Rattle.std.proofs.Common.{rules, ◌≡◌, ℕ, ◌+◌, ◌*◌, ◌<◌, ◌≤◌, true, false, refl, sym, ◌∙◌, arith, ap, subst}
+use Rattle.vbr_machine.proofs.Lemmas.{begins_refl}
+use Rattle.vbr_slots.proofs.Lemmas.{adds_on, alone_first, answer_on, loads_on, quiet_on, same_on, same_refl}
 use Rattle.vbr_at_table.proofs.Lemmas.{counts_on, none_on, took_all}
 use Rattle.vbr_words.specs.Dimensions.{Dimensions}
 use Rattle.vbr_machine.specs.Start.{Start}
 use Rattle.vbr_list.proofs.Going.{bucket_is, call_on, call_refl, goes_on, within_call, within_of}
 use Rattle.vbr_list.proofs.Observing.{observed, observes_on}
-use Rattle.vbr_list.specs.Budgets.{answer_costs, enough_to_look_up, listed_for}
+use Rattle.vbr_list.specs.Budgets.{answer_costs, listed_for}
+use Rattle.vbr_list.specs.Disturbed.{costs_among, disturbed, enough_among}
+use Rattle.vbr_list.specs.LookingUp.{steps_to_answer}
+use Rattle.vbr_list.specs.Places.{sighted}
 use Rattle.vbr_list.specs.Told.{given_call, kept_call, look_up_op}
 use Rattle.vbr_slots.specs.Calls.{AddsAnswer}
 use Rattle.vbr_at_table.specs.declared.budget.TheConstants.{PIECE}
-use Rattle.vbr_list.proofs.Nearing.{at_first, first_lost, first_of, then_of}
+use Rattle.vbr_list.proofs.Disturbing.{alone_undisturbed, own_at, run_at, unchanged_at}
+use Rattle.vbr_list.proofs.Walking.{costs_among_on, lacks_steps, paid_answer, repeated_none, round_on}
 use Rattle.vbr_list.proofs.Passing.{peeks_on, peeks_refl}
 use Rattle.vbr_list.proofs.LonePasses.{alone}
-use Rattle.vbr_list.proofs.Sights.{costs_enough}
+use Rattle.vbr_list.proofs.Sights.{costs_alone, few_to_answer}
 use Rattle.vbr_list.proofs.Told.{given_same, told_since}
 use Rattle.vbr_list.proofs.looking_up.look_up.Goals as goal
+
+-- where nothing disturbed it
+not_alone : (n times : ℕ) {budget : ℕ} → times ≡ 0 → budget < enough_among n times → budget < 5 * n + 11
+not_alone n times {budget} none lacks = let P : ℕ → Type 0 = λ t. budget < enough_among n t in let x = subst P none lacks in omega (arith, x)
 
 pub settle_look_up-requires-clause-asked : goal.settle_look_up-requires-clause-asked
 settle_look_up-requires-clause-asked g c = λ gives. ap (λ (d : Start). d.shape.values) (quiet_on c.loop-sight.invariant.3.tries.goes.quiet c.look.ensures.goes.goes.quiet).same.start ∙ c.requires.asked gives
@@ -30,12 +39,21 @@ loop-sight-preserved g c =
       c.loop-sight.invariant.1,
       c.loop-sight.invariant.2,
       peeks_on before (record { quiet = b; counts = s.counts; hand = s.hand }) (observed c.settle_look_up.ensures.only_loads c.in_default-settle_look_up.ensures.rolls.adds_none) (let low = s.more in omega (arith, low)) (rw c.loop-sight.invariant.2 at (within_call same)),
-      first_lost c.args.at.now.stepper.now c.loop-sight.call.at.stepper.now c.settle_look_up.new.self.at.stepper.now c.loop-sight.invariant.4 c.loop-sight.invariant.3.tries.goes.quiet (quiet_on a b)
-          (λ alone. let sight = c.in-Some.ensures.sight.alone (first_of a b alone) in c.in_default-settle_look_up.ensures.rolls.wins sight.fresh sight.stands (then_of a b alone)),
+      (let p = c.args.at.now.stepper.now.trace in
+          let q = c.loop-sight.call.at.stepper.now.trace in
+          let m = c.look.new.self.at.stepper.now.trace in
+          let r = c.settle_look_up.new.self.at.stepper.now.trace in
+          let first = c.loop-sight.invariant.3.tries.goes.quiet in
+          let two = quiet_on first a in
+          let whole = quiet_on two b in
+          let sight = rw (c.loop-sight.invariant.0.key ∙ c.loop-sight.invariant.1) at c.in-Some.ensures.sight.looks in
+          let adds = adds_on (adds_on c.loop-sight.invariant.3.observes.adds_none c.look.ensures.observes.adds_none) c.in_default-settle_look_up.ensures.rolls.adds_none in
+          let ok = run_at p r whole.same (whole.is_run c.law.ensures.is_run) in
+          round_on p q m r c.law.ensures.start ok c.args.key (steps_to_answer c.args.gives) first.same two.same whole.same first.seen a.seen b.seen (unchanged_at p p r c.args.key c.law.ensures.start ok (same_refl p) whole.same whole.seen adds) (sighted c.in-Some.sight) c.loop-sight.invariant.4 c.in-Some.ensures.sight.fresh sight.stood sight.lost sight.repeats c.settle_look_up.ensures.few c.in_default-settle_look_up.ensures.rolls.loses),
     )
 
 pub loop-sight-init : goal.loop-sight-init
-loop-sight-init g c = (call_refl _, refl, refl, peeks_refl c.args.at.now.stepper.now 0 c.args.budget (omega arith), inr (refl, refl))
+loop-sight-init g c = (call_refl _, refl, refl, peeks_refl c.args.at.now.stepper.now 0 c.args.budget (omega arith), repeated_none 5 c.args.at.now.stepper.now.trace c.args.key (3 + steps_to_answer c.args.gives) 0)
 
 pub invariant_of-call-2 : goal.invariant_of-call-2
 invariant_of-call-2 g c = record {
@@ -62,6 +80,14 @@ returns-in-Ok-clause-took g c =
 pub returns-in_default-clause-calls : goal.returns-in_default-clause-calls
 returns-in_default-clause-calls g c =
     let same : c.at-1.given.0 ≡ c.look.new.self.at.stepper.now = search rules in
+    let p = c.args.at.now.stepper.now in
+    let q = c.loop-sight.call.at.stepper.now in
+    let r = c.look.new.self.at.stepper.now in
+    let first = c.loop-sight.invariant.3.tries.goes.quiet in
+    let whole = quiet_on first c.look.ensures.goes.goes.quiet in
+    let adds = adds_on c.loop-sight.invariant.3.observes.adds_none c.look.ensures.observes.adds_none in
+    let tired = rw (c.loop-sight.invariant.0.key ∙ c.loop-sight.invariant.1) at c.in_default.ensures.tired.looks in
+    let lacks = lacks_steps p.trace q.trace r.trace c.law.ensures.start (run_at p.trace r.trace whole.same (whole.is_run c.law.ensures.is_run)) c.args.key (steps_to_answer c.args.gives) first.same first.seen c.look.ensures.goes.goes.quiet.seen (own_at p.trace p.trace r.trace (same_refl p.trace) whole.same adds) c.loop-sight.invariant.4 tired.lost r.trace.seen (begins_refl r.trace.seen) tired.repeats c.args.budget (few_to_answer c.args.gives) (rw (c.loop-sight.invariant.0.budget ∙ c.loop-sight.invariant.2) at c.in_default.ensures.tired.tired) in
     rw same (record {
       same = (quiet_on c.loop-sight.invariant.3.tries.goes.quiet c.look.ensures.goes.goes.quiet).same;
       made = tt;
@@ -79,16 +105,26 @@ returns-in_default-clause-calls g c =
           within = rw c.loop-sight.invariant.2 at (within_call (call_on c.loop-sight.invariant.0 c.look.ensures.goes.call));
           short = rw (c.loop-sight.invariant.0.budget ∙ c.loop-sight.invariant.2) at c.in_default.ensures.tired.tired;
         });
-        within = (λ alone.
-            let x : c.args.budget < 0 + enough_to_look_up c.args.at.now.stepper.now.trace c.args.key = at_first (λ q since. c.args.budget < since + enough_to_look_up q.trace c.args.key) c.args.at.now.stepper.now c.loop-sight.call.at.stepper.now c.look.new.self.at.stepper.now c.loop-sight.invariant.4 c.loop-sight.invariant.3.tries.goes.quiet c.look.ensures.goes.goes.quiet alone (rw ((c.loop-sight.invariant.0.key ∙ c.loop-sight.invariant.1), (c.loop-sight.invariant.0.budget ∙ c.loop-sight.invariant.2)) at c.in_default.ensures.tired.short) in
-            omega (arith, x));
+        within = (λ alone. not_alone (listed_for p.trace c.args.key) (disturbed p.trace r.trace c.args.key) (alone_undisturbed p.trace r.trace c.args.key alone) lacks);
+        disturbed_within = lacks;
         costs = tt;
+        disturbed_costs = tt;
       };
     })
 
 pub returns-then-not-affords-clause-calls : goal.returns-then-not-affords-clause-calls
 returns-then-not-affords-clause-calls g c =
     let same : c.at-then-not-affords-1.given.0 ≡ c.look.new.self.at.stepper.now = search rules in
+    let p = c.args.at.now.stepper.now in
+    let q = c.loop-sight.call.at.stepper.now in
+    let r = c.look.new.self.at.stepper.now in
+    let first = c.loop-sight.invariant.3.tries.goes.quiet in
+    let whole = quiet_on first c.look.ensures.goes.goes.quiet in
+    let adds = adds_on c.loop-sight.invariant.3.observes.adds_none c.look.ensures.observes.adds_none in
+    let sight = rw (c.loop-sight.invariant.0.key ∙ c.loop-sight.invariant.1) at c.in-Some.ensures.sight.looks in
+    let full : ¬ (c.look.new.self.used + PIECE ≤ c.look.new.self.budget) = λ h. (let f = c.if-not-affords.true in let z = c.affords.ensures.1 h in let w : false ≡ true = sym f ∙ z in cc) in
+    let short : c.args.budget < c.look.new.self.used + 8 = (let e = (c.look.ensures.goes.call.budget ∙ c.loop-sight.invariant.0.budget ∙ c.loop-sight.invariant.2) in omega (arith, full, e)) in
+    let lacks = lacks_steps p.trace q.trace r.trace c.law.ensures.start (run_at p.trace r.trace whole.same (whole.is_run c.law.ensures.is_run)) c.args.key (steps_to_answer c.args.gives) first.same first.seen c.look.ensures.goes.goes.quiet.seen (own_at p.trace p.trace r.trace (same_refl p.trace) whole.same adds) c.loop-sight.invariant.4 sight.lost sight.stood.moment sight.stood.to sight.repeats c.args.budget (few_to_answer c.args.gives) short in
     rw same (record {
       same = (quiet_on c.loop-sight.invariant.3.tries.goes.quiet c.look.ensures.goes.goes.quiet).same;
       made = tt;
@@ -102,12 +138,10 @@ returns-then-not-affords-clause-calls g c =
         adds_none = (observes_on c.loop-sight.invariant.3.observes c.look.ensures.observes).adds_none;
         takes_no_slot = (goes_on c.loop-sight.invariant.3.tries.goes c.look.ensures.goes.goes).hand.takes_no_slot;
         refused = search rules;
-        within = (λ alone.
-            let short : ¬ (c.look.new.self.used + PIECE ≤ c.look.new.self.budget) = λ h. (let f = c.if-not-affords.true in let z = c.affords.ensures.1 h in let w : false ≡ true = sym f ∙ z in cc) in
-            let x : c.args.budget < 0 + enough_to_look_up c.args.at.now.stepper.now.trace c.args.key = at_first (λ q since. c.args.budget < since + enough_to_look_up q.trace c.args.key) c.args.at.now.stepper.now c.loop-sight.call.at.stepper.now c.look.new.self.at.stepper.now c.loop-sight.invariant.4 c.loop-sight.invariant.3.tries.goes.quiet c.look.ensures.goes.goes.quiet alone
-            (λ then. let f = (rw (c.loop-sight.invariant.0.key ∙ c.loop-sight.invariant.1) at c.in-Some.ensures.sight.alone then).paid in let e = (c.look.ensures.goes.call.budget ∙ c.loop-sight.invariant.0.budget ∙ c.loop-sight.invariant.2) in omega (arith, f, short, e)) in
-            omega (arith, x));
+        within = (λ alone. not_alone (listed_for p.trace c.args.key) (disturbed p.trace r.trace c.args.key) (alone_undisturbed p.trace r.trace c.args.key alone) lacks);
+        disturbed_within = lacks;
         costs = tt;
+        disturbed_costs = tt;
       };
     })
 
@@ -125,6 +159,12 @@ returns-in-Ok-clause-calls g c =
     let made = told_since first (given_same first.same op c.args.key c.in-Ok.answer) answered in
     let before = observes_on c.loop-sight.invariant.3.observes c.look.ensures.observes in
     let counts = counts_on (goes_on c.loop-sight.invariant.3.tries.goes c.look.ensures.goes.goes).counts c.settle_look_up.ensures.settles.counts in
+    let loop = c.loop-sight.call.at.stepper.now in
+    let begun = c.loop-sight.invariant.3.tries.goes.quiet in
+    let sight = rw (c.loop-sight.invariant.0.key ∙ c.loop-sight.invariant.1) at c.in-Some.ensures.sight.looks in
+    let ok_r = run_at p.trace r.trace (same_on first.same answered.same) answered.is_run in
+    let adds = adds_on c.loop-sight.invariant.3.observes.adds_none c.look.ensures.observes.adds_none in
+    let paid = paid_answer p.trace loop.trace q.trace r.trace c.law.ensures.start ok_r c.args.key (steps_to_answer c.args.gives) begun.same begun.seen c.look.ensures.goes.goes.quiet.seen answered.seen (own_at p.trace p.trace q.trace (same_refl p.trace) first.same adds) c.loop-sight.invariant.4 sight.lost sight.stood.moment sight.stood.to sight.repeats c.settle_look_up.ensures.few in
     let S : Start → Type 0 = λ start. AddsAnswer (kept_call start (given_call q.trace.who op c.args.key c.in-Ok.answer)) q.trace r.trace in
     rw same (record {
       same = same_on first.same answered.same;
@@ -140,10 +180,11 @@ returns-in-Ok-clause-calls g c =
         takes_no_slot = none_on (goes_on c.loop-sight.invariant.3.tries.goes c.look.ensures.goes.goes).hand.takes_no_slot c.settle_look_up.ensures.settles.hand.takes_no_slot;
         refused = tt;
         within = tt;
+        disturbed_within = tt;
         costs = (λ whole.
-            let alone = alone_first first.seen answered.seen whole in
-            let x : c.look.new.self.used ≤ 0 + 3 + 5 * listed_for p.trace c.args.key = at_first (λ q since. c.look.new.self.used ≤ since + 3 + 5 * listed_for q.trace c.args.key) p c.loop-sight.call.at.stepper.now q c.loop-sight.invariant.4 c.loop-sight.invariant.3.tries.goes.quiet c.look.ensures.goes.goes.quiet alone
-            (λ then. (rw (c.loop-sight.invariant.0.key ∙ c.loop-sight.invariant.1) at c.in-Some.ensures.sight.alone then).paid) in
-            within_of c.settle_look_up.new.self.used (answer_costs c.args.gives p.trace c.args.key) (costs_enough c.args.gives p.trace c.args.key c.look.new.self.used c.settle_look_up.new.self.used (omega (arith, x)) c.settle_look_up.ensures.few) counts);
+            let P : ℕ → Type 0 = λ times. c.settle_look_up.new.self.used ≤ (times + 1) * (5 * (listed_for p.trace c.args.key + times) + (3 + steps_to_answer c.args.gives)) in
+            let x = subst P (alone_undisturbed p.trace q.trace c.args.key (alone_first first.seen answered.seen whole)) paid in
+            within_of c.settle_look_up.new.self.used (answer_costs c.args.gives p.trace c.args.key) (costs_alone c.args.gives p.trace c.args.key c.settle_look_up.new.self.used x) counts);
+        disturbed_costs = within_of c.settle_look_up.new.self.used (costs_among (listed_for p.trace c.args.key) (disturbed p.trace r.trace c.args.key)) (costs_among_on p.trace q.trace r.trace c.law.ensures.start ok_r c.args.key (steps_to_answer c.args.gives) c.settle_look_up.new.self.used (few_to_answer c.args.gives) answered.seen paid) counts;
       };
     })

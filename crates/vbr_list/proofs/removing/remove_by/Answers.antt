@@ -4,13 +4,16 @@ use Rattle.vbr_at_table.proofs.Lemmas.{counts_on, none_on, took_all}
 use Rattle.vbr_words.specs.Dimensions.{Dimensions}
 use Rattle.vbr_list.proofs.Going.{bucket_is, call_on, goes_on, room_left, tries_on, within_call, within_of}
 use Rattle.vbr_list.proofs.Clearing.{leaves_since}
+use Rattle.vbr_list.proofs.Disturbing.{alone_undisturbed, run_at}
+use Rattle.vbr_list.proofs.Walking.{enough_alone, remove_lacks, search_round_on, searches_alone}
 use Rattle.vbr_list.proofs.LonePasses.{alone}
 use Rattle.std.proofs.Common.{◌≡◌, ℕ, ◌+◌, ◌*◌, ◌<◌, ◌≤◌, true, false, subst}
 use Rattle.vbr_slots.specs.Alone.{IsAlone}
-use Rattle.vbr_list.specs.Budgets.{enough_to_search, listed_for, remove_costs, steps_to_value_of}
+use Rattle.vbr_list.specs.Disturbed.{disturbed, enough_to_search_among}
+use Rattle.vbr_list.specs.Budgets.{listed_for, remove_costs, steps_to_value_of}
 use Rattle.vbr_list.specs.Removing.{RemovesSoon}
 use Rattle.vbr_list.proofs.Sufficing.{no_more_listed}
-use Rattle.vbr_list.proofs.Nearing.{at_first, first_lost, first_of, then_of}
+use Rattle.vbr_list.proofs.Nearing.{then_of}
 use Rattle.vbr_machine.specs.declared.history.Op.TheVariants.{Remove}
 use Rattle.vbr_at_table.specs.declared.budget.TheConstants.{PIECE}
 use Rattle.vbr_list.proofs.Told.{given_same, told_since}
@@ -27,8 +30,14 @@ loop-found-preserved g c =
       c.loop-found.invariant.1,
       c.loop-found.invariant.2,
       tries_on found (record { quiet = c.in_default-settle_remove.ensures.rolls.quiet; counts = s.counts; hand = s.hand }) (let low = c.settle_remove.ensures.settles.more in omega (arith, low)) (rw c.loop-found.invariant.2 at (within_call same)),
-      first_lost c.args.at.now.stepper.now c.loop-found.call.at.stepper.now c.settle_remove.new.self.at.stepper.now c.loop-found.invariant.4 c.loop-found.invariant.3.goes.quiet (quiet_on a b)
-          (λ alone. let f = c.in-Some.ensures.found.alone (first_of a b alone) in c.in_default-settle_remove.ensures.rolls.wins f.pred.fresh f.pred.stands f.cur (then_of a b alone)),
+      let p = c.args.at.now.stepper.now.trace in
+          let q = c.loop-found.call.at.stepper.now.trace in
+          let m = c.search.new.self.at.stepper.now.trace in
+          let r = c.settle_remove.new.self.at.stepper.now.trace in
+          let first = c.loop-found.invariant.3.goes.quiet in
+          let whole = quiet_on (quiet_on first a) b in
+          let key = c.loop-found.invariant.0.key ∙ c.loop-found.invariant.1 in
+          search_round_on p q m r c.law.ensures.start (run_at p r whole.same (whole.is_run c.law.ensures.is_run)) c.args.key 3 first.same a.same whole.same first.seen a.seen b.seen s.hand.takes_no_slot.count c.loop-found.invariant.4 c.in-Some.found (rw key at c.in-Some.ensures.found.last) c.in_default-settle_remove.ensures.rolls.few c.in_default-settle_remove.ensures.rolls.loses,
     )
 
 pub invariant_of-call-2 : goal.invariant_of-call-2
@@ -56,6 +65,16 @@ returns-in-Ok-clause-took g c =
 pub returns-in_default-clause-calls : goal.returns-in_default-clause-calls
 returns-in_default-clause-calls g c =
     let same : c.at-1.given.0 ≡ c.search.new.self.at.stepper.now = search rules in
+    let p = c.args.at.now.stepper.now.trace in
+    let q = c.loop-found.call.at.stepper.now.trace in
+    let m = c.search.new.self.at.stepper.now.trace in
+    let first = c.loop-found.invariant.3.goes.quiet in
+    let went = c.search.ensures.goes.goes.quiet in
+    let whole = quiet_on first went in
+    let key = c.loop-found.invariant.0.key ∙ c.loop-found.invariant.1 in
+    let budget = c.loop-found.invariant.0.budget ∙ c.loop-found.invariant.2 in
+    let disturbed_short : c.args.budget < enough_to_search_among (listed_for p c.args.key) (disturbed p m c.args.key) =
+    remove_lacks p q m c.law.ensures.start (run_at p m whole.same (whole.is_run c.law.ensures.is_run)) c.args.key first.same first.seen went.seen whole c.loop-found.invariant.4 (rw key at c.in_default.ensures.tired.walks) c.args.budget (rw budget at c.in_default.ensures.tired.tired) in
     rw same (record {
       same = (quiet_on c.loop-found.invariant.3.goes.quiet c.search.ensures.goes.goes.quiet).same;
       made = tt;
@@ -71,9 +90,8 @@ returns-in_default-clause-calls g c =
           within = rw c.loop-found.invariant.2 at (within_call (call_on c.loop-found.invariant.0 c.search.ensures.goes.call));
           short = rw (c.loop-found.invariant.0.budget ∙ c.loop-found.invariant.2) at c.in_default.ensures.tired.tired;
         });
-        within = (λ alone.
-            let x : c.args.budget < 0 + enough_to_search c.args.at.now.stepper.now.trace c.args.key = at_first (λ q since. c.args.budget < since + enough_to_search q.trace c.args.key) c.args.at.now.stepper.now c.loop-found.call.at.stepper.now c.search.new.self.at.stepper.now c.loop-found.invariant.4 c.loop-found.invariant.3.goes.quiet c.search.ensures.goes.goes.quiet alone (rw ((c.loop-found.invariant.0.key ∙ c.loop-found.invariant.1), (c.loop-found.invariant.0.budget ∙ c.loop-found.invariant.2)) at c.in_default.ensures.tired.short) in
-            omega (arith, x));
+        within = λ alone. enough_alone (listed_for p c.args.key) (disturbed p m c.args.key) (alone_undisturbed p m c.args.key alone) disturbed_short;
+        disturbed_within = disturbed_short;
         costs = tt;
         fewer = tt;
       };
@@ -82,6 +100,17 @@ returns-in_default-clause-calls g c =
 pub returns-then-not-affords-clause-calls : goal.returns-then-not-affords-clause-calls
 returns-then-not-affords-clause-calls g c =
     let same : c.at-then-not-affords-1.given.0 ≡ c.search.new.self.at.stepper.now = search rules in
+    let p = c.args.at.now.stepper.now.trace in
+    let q = c.loop-found.call.at.stepper.now.trace in
+    let m = c.search.new.self.at.stepper.now.trace in
+    let first = c.loop-found.invariant.3.goes.quiet in
+    let went = c.search.ensures.goes.goes.quiet in
+    let whole = quiet_on first went in
+    let key = c.loop-found.invariant.0.key ∙ c.loop-found.invariant.1 in
+    let no_more : ¬ (c.search.new.self.used + PIECE ≤ c.search.new.self.budget) = λ h. (let f = c.if-not-affords.true in let z = c.affords.ensures.1 h in let w : false ≡ true = sym f ∙ z in cc) in
+    let most = c.search.ensures.goes.call.budget ∙ c.loop-found.invariant.0.budget ∙ c.loop-found.invariant.2 in
+    let disturbed_short : c.args.budget < enough_to_search_among (listed_for p c.args.key) (disturbed p m c.args.key) =
+    remove_lacks p q m c.law.ensures.start (run_at p m whole.same (whole.is_run c.law.ensures.is_run)) c.args.key first.same first.seen went.seen whole c.loop-found.invariant.4 (rw key at c.in-Some.ensures.found.walks) c.args.budget (omega (arith, no_more, most)) in
     rw same (record {
       same = (quiet_on c.loop-found.invariant.3.goes.quiet c.search.ensures.goes.goes.quiet).same;
       made = tt;
@@ -93,11 +122,8 @@ returns-then-not-affords-clause-calls g c =
         takes_no_slot = (goes_on c.loop-found.invariant.3.goes c.search.ensures.goes.goes).hand.takes_no_slot;
         unlists = tt;
         refused = search rules;
-        within = (λ alone.
-            let short : ¬ (c.search.new.self.used + PIECE ≤ c.search.new.self.budget) = λ h. (let f = c.if-not-affords.true in let z = c.affords.ensures.1 h in let w : false ≡ true = sym f ∙ z in cc) in
-            let x : c.args.budget < 0 + enough_to_search c.args.at.now.stepper.now.trace c.args.key = at_first (λ q since. c.args.budget < since + enough_to_search q.trace c.args.key) c.args.at.now.stepper.now c.loop-found.call.at.stepper.now c.search.new.self.at.stepper.now c.loop-found.invariant.4 c.loop-found.invariant.3.goes.quiet c.search.ensures.goes.goes.quiet alone
-            (λ then. let f = (rw (c.loop-found.invariant.0.key ∙ c.loop-found.invariant.1) at c.in-Some.ensures.found.alone then).paid in let e = (c.search.ensures.goes.call.budget ∙ c.loop-found.invariant.0.budget ∙ c.loop-found.invariant.2) in omega (arith, f, short, e)) in
-            omega (arith, x));
+        within = λ alone. enough_alone (listed_for p c.args.key) (disturbed p m c.args.key) (alone_undisturbed p m c.args.key alone) disturbed_short;
+        disturbed_within = disturbed_short;
         costs = tt;
         fewer = tt;
       };
@@ -119,8 +145,8 @@ returns-in-Ok-clause-calls g c =
     let made = told_since first (given_same first.same Remove c.args.key c.in-Ok.answer) answered in
     let counts = counts_on (goes_on c.loop-found.invariant.3.goes c.search.ensures.goes.goes).counts c.settle_remove.ensures.settles.counts in
     let values = ap steps_to_value_of first.same.start in
-    let searched : IsAlone p.trace q.trace → c.search.new.self.used ≤ 0 + 3 + 9 * listed_for p.trace c.args.key = λ alone. at_first (λ q since. c.search.new.self.used ≤ since + 3 + 9 * listed_for q.trace c.args.key) p c.loop-found.call.at.stepper.now q c.loop-found.invariant.4 before went alone
-    (λ then. (rw (c.loop-found.invariant.0.key ∙ c.loop-found.invariant.1) at c.in-Some.ensures.found.alone then).paid) in
+    let whole = run_at p.trace q.trace first.same (first.is_run c.law.ensures.is_run) in
+    let searched : IsAlone p.trace q.trace → c.search.new.self.used ≤ 0 + 3 + 9 * listed_for p.trace c.args.key = searches_alone p.trace c.loop-found.call.at.stepper.now.trace q.trace c.law.ensures.start whole c.args.key before.same before.seen went.seen first c.loop-found.invariant.4 (rw (c.loop-found.invariant.0.key ∙ c.loop-found.invariant.1) at c.in-Some.ensures.found.walks) in
     let soon : IsAlone p.trace q.trace → IsAlone q.trace r.trace → RemovesSoon c.search.new.self c.settle_remove.new.self c.in-Ok.answer = λ alone then. let stands = (c.in-Some.ensures.found.alone (then_of before went alone)).pred in c.in-Ok.ensures.answers.soon stands.fresh stands.stands then in
     rw same (record {
       same = same_on first.same answered.same;
@@ -137,6 +163,7 @@ returns-in-Ok-clause-calls g c =
             leaves_since r.trace c.args.key c.law.ensures.start first (rw key at c.in-Ok.ensures.answers.unlists yes (omega (arith, room, most)));
         refused = tt;
         within = tt;
+        disturbed_within = tt;
         costs = λ whole.
             let one = alone_first first.seen answered.seen whole in
             let most = searched one in

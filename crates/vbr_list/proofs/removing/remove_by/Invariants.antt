@@ -1,10 +1,11 @@
 use Rattle.std.proofs.Common.{◌≡◌, ◌-◌}
 use Rattle.vbr_list.specs.Pieces.{IsSameCall}
 use Rattle.vbr_list.proofs.removing.remove_by.Given as goal
-use Rattle.vbr_list.proofs.Traversals.{IsFirst, Tries}
+use Rattle.vbr_list.proofs.Traversals.{Tries}
+use Rattle.vbr_list.proofs.Walking.{HasRepeated}
 
 abbrev pub invariant-loop-found : goal.invariant-loop-found
-invariant-loop-found g l = IsSameCall l.initial.call l.call × (l.initial.call.key ≡ l.key) × (l.initial.call.budget ≡ l.budget) × Tries l.fn.at.stepper.now l.call.at.stepper.now 0 l.call.used l.budget × IsFirst l.fn.at.stepper.now l.call.at.stepper.now 0 l.call.used
+invariant-loop-found g l = IsSameCall l.initial.call l.call × (l.initial.call.key ≡ l.key) × (l.initial.call.budget ≡ l.budget) × Tries l.fn.at.stepper.now l.call.at.stepper.now 0 l.call.used l.budget × HasRepeated 9 l.fn.at.stepper.now.trace l.call.at.stepper.now.trace l.key 6 0 l.call.used
 
 abbrev pub decreases-loop-found : goal.decreases-loop-found
 decreases-loop-found g l = l.call.budget - l.call.used

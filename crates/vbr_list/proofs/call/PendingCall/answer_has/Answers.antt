@@ -7,11 +7,12 @@ use Rattle.vbr_slots.specs.Views.{knows}
 use Rattle.vbr_at_table.specs.Exchanges.{IsUnmarked}
 use Rattle.vbr_at_table.specs.LookUps.{DecidesKey}
 use Rattle.vbr_at_table.specs.declared.held.Held.{Held}
-use Rattle.vbr_at_table.specs.Alone.{StandsNow}
 use Rattle.vbr_list.specs.Told.{kept_call}
+use Rattle.vbr_list.specs.Walking.{LosesHeld}
+use Rattle.vbr_list.proofs.Disturbing.{loses_link}
 use Rattle.vbr_list.proofs.Going.{counts_step}
 use Rattle.vbr_list.proofs.KeptHands.{own_kept}
-use Rattle.vbr_list.proofs.Sights.{sight_answers, sight_held, sight_stands, sight_unmarked}
+use Rattle.vbr_list.proofs.Sights.{sight_answers, sight_held, sight_unmarked}
 use Rattle.vbr_list.proofs.Told.{told_bare}
 use Rattle.vbr_list.proofs.call.PendingCall.answer_has.Goals as goal
 
@@ -56,9 +57,7 @@ returns-in-Ok-clause-answers g c =
 pub returns-in-Err-clause-rolls : goal.returns-in-Err-clause-rolls
 returns-in-Err-clause-rolls g c =
     let p = c.args.self.now.at.stepper.now.trace in
+    let q = c.confirm_look_up-outcome.new.at.stepper.now.trace in
     let lost = c.in-Err.ensures.lost in
-    record {
-      quiet = lost.quiet;
-      adds_none = lost.adds_none;
-      wins = λ fresh stands alone. lost.wins alone (let P : Held → Type 0 = StandsNow p in subst P (sym c.told_by-present.ensures.held) (sight_stands p c.args.sight stands));
-    }
+    let P : Held → Type 0 = LosesHeld p q in
+    record { quiet = lost.quiet; adds_none = lost.adds_none; loses = subst P c.told_by-present.ensures.held (loses_link c.told_by-present.result.0 _ lost.lost) }

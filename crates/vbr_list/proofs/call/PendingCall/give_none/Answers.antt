@@ -2,6 +2,7 @@ use Rattle.std.proofs.Common.{rules, arith, false, subst}
 use Rattle.vbr_machine.specs.declared.history.Call.{Call}
 use Rattle.vbr_machine.specs.declared.history.Op.TheVariants.{Get}
 use Rattle.vbr_slots.specs.Calls.{AddsAnswer, Made}
+use Rattle.vbr_list.proofs.Disturbing.{loses_link}
 use Rattle.vbr_list.proofs.Going.{counts_step}
 use Rattle.vbr_list.proofs.KeptHands.{own_kept}
 use Rattle.vbr_list.proofs.Told.{told_bare}
@@ -36,4 +37,4 @@ returns-in-Ok-clause-answers g c =
 pub returns-in-Err-clause-rolls : goal.returns-in-Err-clause-rolls
 returns-in-Err-clause-rolls g c =
     let lost = c.in-Err.ensures.lost in
-    record { quiet = lost.quiet; adds_none = lost.adds_none; wins = λ fresh stands alone. lost.wins alone stands }
+    record { quiet = lost.quiet; adds_none = lost.adds_none; loses = loses_link c.args.pred.now _ lost.lost }

@@ -11,7 +11,7 @@ use Rattle.vbr_list.specs.Told.{given_call, given_in}
 use Rattle.vbr_list.specs.Budgets.{steps_to_value_of, steps_where}
 use Rattle.vbr_list.proofs.Going.{counts_step, goes_counted}
 use Rattle.vbr_list.proofs.KeptHands.{hand_on, own_kept}
-use Rattle.vbr_list.proofs.Nearing.{first_of, read_leaves, stands_on, then_of}
+use Rattle.vbr_list.proofs.Disturbing.{loses_later, loses_link, loses_value}
 use Rattle.vbr_list.proofs.Reaching.{key_kept}
 use Rattle.vbr_list.proofs.Sights.{keyed_slot}
 use Rattle.vbr_list.proofs.Sufficing.{any_error}
@@ -63,7 +63,7 @@ pub returns-in_err-value-clause-rolls : goal.returns-in_err-value-clause-rolls
 returns-in_err-value-clause-rolls g c =
     let reads = c.value_if_any-read.ensures.reads in
     let lost = c.in_err-value.ensures.moved in
-    any_error c.from_residual.result (λ rollback. record { quiet = reads.quiet; adds_none = reads.adds_none; wins = λ fresh stands alone. lost.rolls.still fresh alone })
+    any_error c.from_residual.result (λ rollback. record { quiet = reads.quiet; adds_none = reads.adds_none; loses = loses_value c.args.node.now _ lost.rolls })
 
 pub returns-in-Ok-clause-settles : goal.returns-in-Ok-clause-settles
 returns-in-Ok-clause-settles g c =
@@ -145,6 +145,5 @@ returns-in-Err-clause-rolls g c =
     record {
       quiet = quiet_on reads.quiet lost.quiet;
       adds_none = adds_on reads.adds_none lost.adds_none;
-      wins = λ fresh stands alone.
-          lost.wins (then_of reads.quiet lost.quiet alone) (stands_on c.args.self.now.at.stepper.now.trace c.value_if_any-read.new.at.stepper.now.trace c.args.node.now (read_leaves reads (first_of reads.quiet lost.quiet alone)) stands);
+      loses = loses_later c.args.node.now reads.quiet c.in_ok-value.ensures.value.keeps (loses_link c.args.node.now _ lost.lost);
     }

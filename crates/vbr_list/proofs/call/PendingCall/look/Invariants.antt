@@ -1,10 +1,11 @@
 use Rattle.std.proofs.Common.{◌-◌}
 use Rattle.vbr_list.specs.Pieces.{IsSameCall}
 use Rattle.vbr_list.proofs.call.PendingCall.look.Given as goal
-use Rattle.vbr_list.proofs.Traversals.{IsFirst, Peeks}
+use Rattle.vbr_list.proofs.Traversals.{Peeks}
+use Rattle.vbr_list.proofs.Walking.{HasRepeated}
 
 abbrev pub invariant-loop-sight : goal.invariant-loop-sight
-invariant-loop-sight g l = IsSameCall l.fn.self l.self × Peeks l.fn.self.at.stepper.now l.self.at.stepper.now l.fn.self.used l.self.used l.fn.self.budget × IsFirst l.fn.self.at.stepper.now l.self.at.stepper.now l.fn.self.used l.self.used
+invariant-loop-sight g l = IsSameCall l.fn.self l.self × Peeks l.fn.self.at.stepper.now l.self.at.stepper.now l.fn.self.used l.self.used l.fn.self.budget × HasRepeated 5 l.fn.self.at.stepper.now.trace l.self.at.stepper.now.trace l.fn.self.key 3 l.fn.self.used l.self.used
 
 abbrev pub decreases-loop-sight : goal.decreases-loop-sight
 decreases-loop-sight g l = l.self.budget - l.self.used

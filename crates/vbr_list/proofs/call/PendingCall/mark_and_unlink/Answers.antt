@@ -1,4 +1,4 @@
-use Rattle.std.proofs.Common.{◌≡◌, ◌+◌, ℕ, true, false, Option, Some, rules, arith, sym, ap, ◌∙◌, subst, inl}
+use Rattle.std.proofs.Common.{◌≡◌, ◌+◌, ℕ, ◌≤◌, Bool, true, false, Option, Some, rules, arith, sym, ap, ◌∙◌, subst, inl, inr}
 use Rattle.vbr_machine.specs.Start.{Start}
 use Rattle.vbr_words.specs.declared.place.At.{At}
 use Rattle.vbr_words.specs.declared.place.At.TheVariants.{Head}
@@ -6,22 +6,28 @@ use Rattle.vbr_machine.specs.Membership.{KeyAt}
 use Rattle.vbr_machine.specs.declared.history.Op.TheVariants.{Remove}
 use Rattle.vbr_slots.specs.Views.{knows}
 use Rattle.vbr_slots.proofs.Lemmas.{alone_first, alone_then, made_then, quiet_on}
-use Rattle.vbr_at_table.proofs.Lemmas.{counts_on, no_room, fresh_kept, held_kept}
-use Rattle.vbr_at_table.specs.Alone.{NextStands}
+use Rattle.vbr_at_table.proofs.Lemmas.{counts_on, no_room, fresh_kept, held_kept, unchanged_by_none}
 use Rattle.vbr_at_table.specs.Held.{Names}
 use Rattle.vbr_at_table.specs.declared.held.Held.{Held}
 use Rattle.vbr_list.specs.Pieces.{Goes}
+use Rattle.vbr_list.specs.Walking.{LosesNext}
 use Rattle.vbr_list.specs.Budgets.{steps_to_value_of, steps_where}
 use Rattle.vbr_list.proofs.Clearing.{leaves_clear}
+use Rattle.vbr_list.proofs.Disturbing.{lost_place_later, moves_epoch, moves_on, run_at}
 use Rattle.vbr_list.proofs.Going.{counts_step, goes_counted}
 use Rattle.vbr_list.proofs.KeptHands.{hand_on, own_kept}
 use Rattle.vbr_list.proofs.Moments.{key_found}
-use Rattle.vbr_list.proofs.Nearing.{first_of, fresh_marked, listed_same, named_elsewhere, read_leaves, stands_on, then_of}
+use Rattle.vbr_list.proofs.Nearing.{fresh_marked, listed_same, named_elsewhere, read_leaves, stands_on}
 use Rattle.vbr_list.proofs.Reaching.{key_kept, pred_inside, pred_on, slot_same}
 use Rattle.vbr_list.proofs.Sufficing.{any_error}
 use Rattle.vbr_list.proofs.Told.{given_same, told_since}
 use Rattle.vbr_list.proofs.ValueReads.{cur_is, slot_at}
 use Rattle.vbr_list.proofs.call.PendingCall.mark_and_unlink.Goals as goal
+
+-- a value is read in two steps at most
+few_steps : (values : Bool) → steps_where values ≤ 2
+few_steps true = omega arith
+few_steps false = omega arith
 
 pub value_if_any-read-requires-clause-held : goal.value_if_any-read-requires-clause-held
 value_if_any-read-requires-clause-held g c =
@@ -80,7 +86,12 @@ returns-in_err-value-clause-settles g c =
 pub returns-in_err-value-clause-rolls : goal.returns-in_err-value-clause-rolls
 returns-in_err-value-clause-rolls g c =
     let lost = c.in_err-value.ensures.moved in
-    any_error c.from_residual.result (λ rollback. record { quiet = c.value_if_any-read.ensures.reads.quiet; wins = λ fresh stands next alone. lost.rolls.still fresh alone })
+    let p = c.args.self.now.at.stepper.now in
+    let q = c.value_if_any-read.new.at.stepper.now in
+    let quiet = c.value_if_any-read.ensures.reads.quiet in
+    let steps : c.steps_to_value_of.result ≡ steps_to_value_of p.trace.start = c.steps_to_value_of.ensures ∙ ap steps_to_value_of (sym c.value_if_any-read.new.at.own.1 ∙ quiet.same.start) in
+    let two = steps ∙ ap steps_where lost.some in
+    any_error c.from_residual.result (λ rollback. record { quiet = quiet; few = omega (arith, two); loses = inl (inl (moves_on p.trace q.trace quiet.same quiet.seen (moves_epoch _ lost.rolls))) })
 
 pub returns-in_err-marked-clause-settles : goal.returns-in_err-marked-clause-settles
 returns-in_err-marked-clause-settles g c =
@@ -102,11 +113,14 @@ returns-in_err-marked-clause-rolls g c =
     let reads = c.value_if_any-read.ensures.reads in
     let lost = c.in_err-marked.ensures.lost in
     let p = c.args.self.now.at.stepper.now.trace in
-    let P : Option Held → Type 0 = NextStands p in
+    let r = c.mark_entry-outcome.new.at.stepper.now.trace in
+    let Q : Option Held → Type 0 = LosesNext p r in
+    let steps : c.steps_to_value_of.result ≡ steps_to_value_of p.start = c.steps_to_value_of.ensures ∙ ap steps_to_value_of (sym c.value_if_any-read.new.at.own.1 ∙ reads.quiet.same.start) in
+    let two = few_steps p.start.shape.values in
     any_error c.from_residual-in_err-marked.result (λ rollback. record {
       quiet = quiet_on reads.quiet lost.quiet;
-      wins = λ fresh stands next alone.
-          lost.wins (then_of reads.quiet lost.quiet alone) (stands_on p c.value_if_any-read.new.at.stepper.now.trace c.in-Some.cur (read_leaves reads (first_of reads.quiet lost.quiet alone)) (subst P c.in-Some.is next));
+      few = omega (arith, steps, two);
+      loses = inr (subst Q (sym c.in-Some.is) (lost_place_later c.in-Some.cur _ reads.quiet c.in_ok-value.ensures.value.keeps (unchanged_by_none c.law.ensures.start (run_at p c.value_if_any-read.new.at.stepper.now.trace reads.quiet.same (reads.quiet.is_run c.law.ensures.is_run)) reads.quiet.same reads.quiet.seen reads.adds_none) lost.lost lost.unchanged));
     })
 
 pub returns-then-affords-clause-settles : goal.returns-then-affords-clause-settles

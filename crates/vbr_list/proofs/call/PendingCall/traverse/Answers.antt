@@ -1,10 +1,20 @@
-use Rattle.std.proofs.Common.{◌≡◌, ◌+◌, ◌≤◌, true, false, sym, ◌∙◌, refl, arith, inl}
-use Rattle.vbr_slots.proofs.Lemmas.{quiet_on}
+use Rattle.std.proofs.Common.{rules, ◌≡◌, ◌+◌, ◌≤◌, true, false, sym, ap, ◌∙◌, refl, subst, arith}
+use Rattle.std.specs.Option.{is_some}
+use Rattle.vbr_words.specs.Buckets.{bucket_of}
+use Rattle.vbr_words.specs.Words.{link_of}
+use Rattle.vbr_words.specs.declared.link.Link.{Link}
+use Rattle.vbr_machine.specs.Start.{Start}
+use Rattle.vbr_machine.specs.Membership.{HeldIn}
+use Rattle.vbr_slots.specs.Views.{knows}
+use Rattle.vbr_slots.proofs.Lemmas.{quiet_on, same_refl}
+use Rattle.vbr_at_table.specs.Held.{held_of}
 use Rattle.vbr_at_table.specs.declared.budget.TheConstants.{PIECE}
+use Rattle.vbr_list.specs.Walking.{Walks}
+use Rattle.vbr_list.proofs.Disturbing.{loses_place_disturb, moves_on, moves_on_disturb, run_at, unchanged_at}
 use Rattle.vbr_list.proofs.Going.{call_on, goes_on}
 use Rattle.vbr_list.proofs.Moments.{cur_found}
-use Rattle.vbr_list.proofs.Nearing.{first_of, then_of, nears_visit, nears_help, stands_on, found_beyond}
 use Rattle.vbr_list.proofs.Reaching.{pred_inside, pred_on, stood_since, traverses_on}
+use Rattle.vbr_list.proofs.Walking.{knows_now, node_open, stands_still_on, start_disturbed, walk_begins, walk_helped, walk_paid, walk_past, walk_to, walk_visited}
 use Rattle.vbr_list.proofs.call.PendingCall.traverse.Goals as goal
 
 pub visit-requires-clause-pred : goal.visit-requires-clause-pred
@@ -13,23 +23,42 @@ visit-requires-clause-pred g c = rw c.loop-pred.invariant.0.key (pred_inside c.l
 pub help-requires-clause-pred : goal.help-requires-clause-pred
 help-requires-clause-pred g c = rw (c.visit.ensures.goes.call.key, c.loop-pred.invariant.0.key) (pred_on c.args.self.now.key c.loop-pred.pred c.visit.ensures.goes.goes.quiet.same c.in-Ok-Marked.ensures.met.keeps c.loop-pred.invariant.1.reached.is)
 
+pub loop-pred-init : goal.loop-pred-init
+loop-pred-init g c =
+    let fits = c.affords.ensures.0 c.if-not-affords.false in
+    let used = c.in-Ok.ensures.used in
+    let head = c.in-Ok.ensures.head in
+    let p = c.args.self.now.at.stepper.now in
+    let r = c.start.new.self.at.stepper.now in
+    let quiet = c.start.ensures.goes.goes.quiet in
+    let ok = run_at p.trace r.trace quiet.same (quiet.is_run c.law.ensures.is_run) in (
+      c.start.ensures.goes.call,
+      record {
+        tries = record { goes = c.start.ensures.goes.goes; within = (omega (arith, used), omega (arith, fits, used)) };
+        some = omega (arith, used);
+        reached = head.come;
+        walks = walk_begins 9 p.trace r.trace c.law.ensures.start ok c.args.self.now.key quiet.same c.args.self.now.bucket c.args.self.now.used c.start.new.self.used c.in-Ok.pred c.args.self.now.of_key used head.at (unchanged_at p.trace p.trace r.trace c.args.self.now.key c.law.ensures.start ok (same_refl p.trace) quiet.same quiet.seen c.start.ensures.looks.observes.adds_none) head.reads;
+      },
+    )
+
 pub loop-pred-preserved : goal.loop-pred-preserved
 loop-pred-preserved g c =
     let v = c.visit.ensures.goes in
     let met = rw c.in-Ok-Smaller.field-0-is at c.in-Ok-Smaller.ensures.met in
+    let come = rw c.loop-pred.invariant.0.key at met.visits in
     let x = c.visit.ensures.used in
     let y = c.affords-in-loop-pred.ensures.0 c.if-not-affords-2.false in
     let p = c.args.self.now.at.stepper.now.trace in
     let q = c.loop-pred.self.at.stepper.now.trace in
     let r = c.visit.new.self.at.stepper.now.trace in
     let i = c.loop-pred.invariant.1 in
+    let first = i.tries.goes.quiet in
+    let whole = quiet_on first v.goes.quiet in
+    let ok = run_at p r whole.same (whole.is_run c.law.ensures.is_run) in
     let b = c.loop-pred.invariant.0.budget in (
       call_on c.loop-pred.invariant.0 v.call,
-      traverses_on i v.goes (omega (arith, x)) (omega (arith, x, y, b)) (rw c.loop-pred.invariant.0.key at met.visits)
-          (λ alone.
-          let then = then_of i.tries.goes.quiet v.goes.quiet alone in
-          let near = i.nears (first_of i.tries.goes.quiet v.goes.quiet alone) in
-          nears_visit p q r c.args.self.now.key c.args.self.now.used c.loop-pred.self.used c.visit.new.self.used c.loop-pred.pred c.in-Ok-Smaller.node near (c.visit.ensures.looks.leaves then) v.goes.quiet.same.start met.count ((rw c.loop-pred.invariant.0.key at met.alone) near.keeps.fresh (inl i.reached.is.unmarked) near.keeps.stands then)),
+      traverses_on i v.goes (omega (arith, x)) (omega (arith, x, y, b)) come
+          (walk_to 9 p r c.law.ensures.start ok c.args.self.now.key whole.same q first.same first.seen v.goes.quiet.seen i.walks met.reads.slot met.reads.named (unchanged_at p q r c.args.self.now.key c.law.ensures.start ok first.same whole.same v.goes.quiet.seen c.visit.ensures.looks.observes.adds_none) c.in-Ok-Smaller.node met.fresh met.keeps.epoch met.reads.at met.reads (let count = met.count in omega (arith, count)) come.is.unmarked),
     )
 
 pub loop-pred-preserved-in-Ok-help : goal.loop-pred-preserved-in-Ok-help
@@ -37,7 +66,7 @@ loop-pred-preserved-in-Ok-help g c =
     let v = c.visit.ensures.goes in
     let h = c.help.ensures.goes in
     let i = c.loop-pred.invariant.1 in
-    let key = v.call.key ∙ c.loop-pred.invariant.0.key in
+    let met = rw c.in-Ok-Marked.field-0-is at c.in-Ok-Marked.ensures.met in
     let helped = c.in-Ok-help.ensures.helps in
     let before = pred_on c.args.self.now.key c.loop-pred.pred v.goes.quiet.same c.in-Ok-Marked.ensures.met.keeps i.reached.is in
     let s = helped.come c.args.self.now.key before in
@@ -46,18 +75,24 @@ loop-pred-preserved-in-Ok-help g c =
     let few = c.help.ensures.few in
     let z = c.affords-in-Ok-Marked.ensures.0 c.if-not-affords-3.false in
     let b = v.call.budget in
-    let d = c.loop-pred.invariant.0.budget in (
+    let d = c.loop-pred.invariant.0.budget in
+    let p = c.args.self.now.at.stepper.now.trace in
+    let q = c.loop-pred.self.at.stepper.now.trace in
+    let r = c.visit.new.self.at.stepper.now.trace in
+    let t = c.help.new.self.at.stepper.now.trace in
+    let first = i.tries.goes.quiet in
+    let whole = quiet_on first v.goes.quiet in
+    let all = quiet_on whole h.goes.quiet in
+    let is = c.law.ensures.start in
+    let ok = run_at p r whole.same (whole.is_run c.law.ensures.is_run) in
+    let ok_t = run_at p t all.same (all.is_run c.law.ensures.is_run) in
+    let key = c.args.self.now.key in
+    let P : Start → Type 0 = λ start. HeldIn (knows r) c.loop-pred.pred.at (bucket_of start.shape key) in
+    let inside : HeldIn (knows r) c.loop-pred.pred.at (bucket_of p.start.shape key) = subst P whole.same.start before.inside in
+    let past : Walks 9 p r key c.args.self.now.used c.help.new.self.used c.loop-pred.pred (held_of c.in-Ok-Marked.marked) = walk_past 9 p r is ok key whole.same q first.same first.seen v.goes.quiet.seen i.walks met.reads.slot met.reads.named (unchanged_at p q r key is ok first.same whole.same v.goes.quiet.seen c.visit.ensures.looks.observes.adds_none) (held_of c.in-Ok-Marked.marked) met.fresh met.keeps.epoch met.reads.at met.reads (let count = met.count in omega (arith, count, few)) in (
       call_on c.loop-pred.invariant.0 (call_on v.call h.call),
       traverses_on i (goes_on v.goes h.goes) (omega (arith, x, y)) (omega (arith, few, z, b, d)) (record { is = s.is; stood = stood_since v.goes.quiet s.stood })
-          (λ alone.
-          let met = rw c.in-Ok-Marked.field-0-is at c.in-Ok-Marked.ensures.met in
-          let near = i.nears (first_of i.tries.goes.quiet (quiet_on v.goes.quiet h.goes.quiet) alone) in
-          let later = then_of i.tries.goes.quiet (quiet_on v.goes.quiet h.goes.quiet) alone in
-          let one = first_of v.goes.quiet h.goes.quiet later in
-          let l = c.visit.ensures.looks.leaves one in
-          let there = (rw c.loop-pred.invariant.0.key at met.alone) near.keeps.fresh (inl i.reached.is.unmarked) near.keeps.stands one in
-          nears_help c.args.self.now.at.stepper.now.trace c.loop-pred.self.at.stepper.now.trace c.visit.new.self.at.stepper.now.trace c.help.new.self.at.stepper.now.trace c.args.self.now.key c.args.self.now.used c.loop-pred.self.used c.visit.new.self.used c.help.new.self.used c.loop-pred.pred c.in-Ok-help.place near l v.goes.quiet.same.start met.count few
-          (helped.alone c.args.self.now.key before there.0.fresh (stands_on c.loop-pred.self.at.stepper.now.trace c.visit.new.self.at.stepper.now.trace c.loop-pred.pred l near.keeps.stands) (then_of v.goes.quiet h.goes.quiet later))),
+          (walk_helped 9 p r t is ok_t key whole.same whole.seen h.goes.quiet.seen past inside helped.epoch helped.opens),
     )
 
 pub returns-in-Err-clause-goes : goal.returns-in-Err-clause-goes
@@ -94,21 +129,77 @@ returns-in-Ok-Beyond-clause-found g c =
     let i = c.loop-pred.invariant.1 in
     let met = rw c.in-Ok-Beyond.field-0-is at c.in-Ok-Beyond.ensures.met in
     let visits = rw c.loop-pred.invariant.0.key at met.visits in
+    let p = c.args.self.now.at.stepper.now.trace in
+    let q = c.loop-pred.self.at.stepper.now.trace in
+    let r = c.visit.new.self.at.stepper.now.trace in
+    let first = i.tries.goes.quiet in
+    let whole = quiet_on first v in
+    let is = c.law.ensures.start in
+    let ok = run_at p r whole.same (whole.is_run c.law.ensures.is_run) in
+    let key = c.args.self.now.key in
+    let none = unchanged_at p q r key is ok first.same whole.same v.seen c.visit.ensures.looks.observes.adds_none in
     record {
       found = cur_found c.args.self.now.key c.visit.new.self.used c.loop-pred.pred c.in-Ok-Beyond.node c.in-Ok-Beyond.present i.reached i.tries.goes.quiet v met.keeps visits.0 visits.1;
       used = refl;
-      alone = λ alone.
-          let near = i.nears (first_of i.tries.goes.quiet v alone) in
-          let then = then_of i.tries.goes.quiet v alone in
-          found_beyond c.args.self.now.at.stepper.now.trace c.loop-pred.self.at.stepper.now.trace c.visit.new.self.at.stepper.now.trace c.args.self.now.key c.args.self.now.used c.loop-pred.self.used c.visit.new.self.used c.loop-pred.pred c.in-Ok-Beyond.node _ near (c.visit.ensures.looks.leaves then) v.same.start met.count ((rw c.loop-pred.invariant.0.key at met.alone) near.keeps.fresh (inl i.reached.is.unmarked) near.keeps.stands then) refl refl;
+      knew = knows_now p r whole.same whole.seen met.fresh;
+      pred = stands_still_on v.seen none i.walks.stands;
+      cur = node_open 9 p r is ok key whole.same q first.same first.seen v.seen i.walks met.reads.slot met.reads.named none c.in-Ok-Beyond.node met.fresh met.keeps.epoch met.reads.at met.reads visits.0.unmarked;
+      paid = walk_visited 9 p r is ok key whole.same q first.same first.seen v.seen i.walks (let count = met.count in omega (arith, count)) (ap is_some met.reads.named);
     }
+
+pub returns-clause-found : goal.returns-clause-found
+returns-clause-found g c =
+    let i = c.loop-pred.invariant.1 in
+    let p = c.args.self.now.at.stepper.now.trace in
+    let q = c.loop-pred.self.at.stepper.now.trace in
+    let first = i.tries.goes.quiet in
+    record {
+      found = search rules;
+      used = refl;
+      knew = i.walks.knew;
+      pred = i.walks.stands;
+      cur = tt;
+      paid = walk_paid 9 p q c.law.ensures.start (run_at p q first.same (first.is_run c.law.ensures.is_run)) c.args.self.now.key i.walks;
+    }
+
+pub returns-in_default-clause-stopped : goal.returns-in_default-clause-stopped
+returns-in_default-clause-stopped g c =
+    let p = c.args.self.now.at.stepper.now.trace in
+    let r = c.start.new.self.at.stepper.now.trace in
+    let quiet = c.start.ensures.goes.goes.quiet in
+    let ok = run_at p r quiet.same (quiet.is_run c.law.ensures.is_run) in
+    let used = c.start.ensures.used in (
+      omega (arith, used),
+      omega (arith, used),
+      start_disturbed 9 p r c.law.ensures.start ok c.args.self.now.key quiet.same (unchanged_at p p r c.args.self.now.key c.law.ensures.start ok (same_refl p) quiet.same quiet.seen c.start.ensures.looks.observes.adds_none) c.in_default.ensures.moved.moves,
+    )
+
+pub returns-then-not-affords-2-clause-stopped : goal.returns-then-not-affords-2-clause-stopped
+returns-then-not-affords-2-clause-stopped g c =
+    let i = c.loop-pred.invariant.1 in
+    let p = c.args.self.now.at.stepper.now.trace in
+    let q = c.loop-pred.self.at.stepper.now.trace in
+    let first = i.tries.goes.quiet in
+    (search rules, walk_paid 9 p q c.law.ensures.start (run_at p q first.same (first.is_run c.law.ensures.is_run)) c.args.self.now.key i.walks)
 
 pub returns-in-Err-clause-stopped : goal.returns-in-Err-clause-stopped
 returns-in-Err-clause-stopped g c =
     let i = c.loop-pred.invariant.1 in
-    let v = c.visit.ensures.goes.goes.quiet in (
+    let v = c.visit.ensures.goes.goes.quiet in
+    let p = c.args.self.now.at.stepper.now.trace in
+    let q = c.loop-pred.self.at.stepper.now.trace in
+    let r = c.visit.new.self.at.stepper.now.trace in
+    let first = i.tries.goes.quiet in
+    let whole = quiet_on first v in
+    let is = c.law.ensures.start in
+    let ok = run_at p r whole.same (whole.is_run c.law.ensures.is_run) in
+    let key = c.args.self.now.key in
+    let few = c.in-Err.ensures.moved.few in
+    let some : is_some (link_of c.loop-pred.pred.word).slot ≡ true = ap (λ (l : Link). is_some l.slot) (sym c.decode.ensures.link) ∙ sym c.is_some.ensures ∙ c.loop-pred-test.true in
+    let steps = c.visit.ensures.goes.goes.hand.takes_no_slot.count ∙ i.tries.goes.hand.takes_no_slot.count in (
       omega arith,
-      λ alone. c.in-Err.ensures.moved (i.nears (first_of i.tries.goes.quiet v alone)).keeps.fresh (then_of i.tries.goes.quiet v alone),
+      walk_visited 9 p r is ok key whole.same q first.same first.seen v.seen i.walks (omega (arith, few)) some,
+      moves_on_disturb p r is ok key whole.same steps q first.same v.seen i.walks.knew (moves_on q r v.same v.seen c.in-Err.ensures.moved.moves),
     )
 
 pub returns-then-not-affords-3-clause-stopped : goal.returns-then-not-affords-3-clause-stopped
@@ -117,28 +208,37 @@ returns-then-not-affords-3-clause-stopped g c =
     let v = c.visit.ensures.goes.goes.quiet in
     let b = c.visit.ensures.goes.call.budget ∙ c.loop-pred.invariant.0.budget in
     let short : ¬ (c.visit.new.self.used + PIECE ≤ c.visit.new.self.budget) = λ h. (let f = c.if-not-affords-3.true in let z = c.affords-in-Ok-Marked.ensures.1 h in let w : false ≡ true = sym f ∙ z in cc) in
-    record {
-      tired = omega (arith, short, b);
-      short = λ alone.
-          let near = i.nears (first_of i.tries.goes.quiet v alone) in
-          let met = rw c.in-Ok-Marked.field-0-is at c.in-Ok-Marked.ensures.met in
-          let n = met.count in
-          let paid = near.paid in
-          let some = ((rw c.loop-pred.invariant.0.key at met.alone) near.keeps.fresh (inl i.reached.is.unmarked) near.keeps.stands (then_of i.tries.goes.quiet v alone)).1 in
-          omega (arith, some, paid, n, short, b);
-    }
+    let met = rw c.in-Ok-Marked.field-0-is at c.in-Ok-Marked.ensures.met in
+    let p = c.args.self.now.at.stepper.now.trace in
+    let q = c.loop-pred.self.at.stepper.now.trace in
+    let r = c.visit.new.self.at.stepper.now.trace in
+    let first = i.tries.goes.quiet in
+    let whole = quiet_on first v in
+    let ok = run_at p r whole.same (whole.is_run c.law.ensures.is_run) in
+    (omega (arith, short, b), walk_visited 9 p r c.law.ensures.start ok c.args.self.now.key whole.same q first.same first.seen v.seen i.walks (let count = met.count in omega (arith, count)) (ap is_some met.reads.named))
 
 pub returns-in-Err-help-clause-stopped : goal.returns-in-Err-help-clause-stopped
 returns-in-Err-help-clause-stopped g c =
     let i = c.loop-pred.invariant.1 in
-    let v = c.visit.ensures.goes.goes.quiet in
-    let h = c.help.ensures.goes.goes.quiet in (
+    let v = c.visit.ensures.goes.goes in
+    let h = c.help.ensures.goes.goes in
+    let met = rw c.in-Ok-Marked.field-0-is at c.in-Ok-Marked.ensures.met in
+    let few = c.help.ensures.few in
+    let p = c.args.self.now.at.stepper.now.trace in
+    let q = c.loop-pred.self.at.stepper.now.trace in
+    let r = c.visit.new.self.at.stepper.now.trace in
+    let t = c.help.new.self.at.stepper.now.trace in
+    let first = i.tries.goes.quiet in
+    let whole = quiet_on first v.quiet in
+    let all = quiet_on whole h.quiet in
+    let later = quiet_on v.quiet h.quiet in
+    let is = c.law.ensures.start in
+    let ok = run_at p r whole.same (whole.is_run c.law.ensures.is_run) in
+    let ok_t = run_at p t all.same (all.is_run c.law.ensures.is_run) in
+    let key = c.args.self.now.key in
+    let steps = h.hand.takes_no_slot.count ∙ v.hand.takes_no_slot.count ∙ i.tries.goes.hand.takes_no_slot.count in
+    let none = unchanged_at p q r key is ok first.same whole.same v.quiet.seen c.visit.ensures.looks.observes.adds_none in (
       omega arith,
-      λ alone.
-          let near = i.nears (first_of i.tries.goes.quiet (quiet_on v h) alone) in
-          let later = then_of i.tries.goes.quiet (quiet_on v h) alone in
-          let one = first_of v h later in
-          let met = rw c.in-Ok-Marked.field-0-is at c.in-Ok-Marked.ensures.met in
-          let there = (rw c.loop-pred.invariant.0.key at met.alone) near.keeps.fresh (inl i.reached.is.unmarked) near.keeps.stands one in
-          c.in-Err-help.ensures.lost there.0.fresh (stands_on c.loop-pred.self.at.stepper.now.trace c.visit.new.self.at.stepper.now.trace c.loop-pred.pred (c.visit.ensures.looks.leaves one) near.keeps.stands) (then_of v h later),
+      walk_visited 9 p t is ok_t key all.same q first.same first.seen later.seen i.walks (let count = met.count in omega (arith, count, few)) (ap is_some met.reads.named),
+      loses_place_disturb p t is ok_t key all.same steps r c.loop-pred.pred whole.same h.quiet.seen (knows_now p r whole.same whole.seen met.fresh) (stands_still_on v.quiet.seen none i.walks.stands) c.in-Err-help.ensures.lost.loses,
     )

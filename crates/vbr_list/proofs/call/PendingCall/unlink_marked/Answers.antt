@@ -1,6 +1,5 @@
 use Rattle.std.proofs.Common.{rules, arith, sym, ◌∙◌}
-use Rattle.vbr_slots.specs.Alone.{IsAlone, IsFresh}
-use Rattle.vbr_at_table.specs.Alone.{StandsNow}
+use Rattle.vbr_list.specs.Helping.{IsLostPlace}
 use Rattle.vbr_list.proofs.Clearing.{clear_since}
 use Rattle.vbr_list.proofs.Going.{goes_on}
 use Rattle.vbr_list.proofs.Nearing.{first_of, listed_fewer}
@@ -19,10 +18,8 @@ returns-else-is_err-clause-goes g c = record { call = search rules; goes = c.unl
 pub returns-then-is_err-clause-soon : goal.returns-then-is_err-clause-soon
 returns-then-is_err-clause-soon g c = λ fresh stands alone.
     let tried = c.unlink_and_retire-outcome in
-    let p = c.args.self.now.at.stepper.now.trace in
-    let q = tried.new.at.stepper.now.trace in
-    let never : IsFresh p → StandsNow p c.args.pred.now → IsAlone p q → ⊥ = if_failed tried.result.0 (sym c.is_err.ensures.value ∙ c.if-is_err.true) tried.ensures.lost in
-    absurd (never fresh stands (first_of (tried.ensures.goes 0).quiet c.walk_by_copy-self.ensures.goes.quiet alone))
+    let never : IsLostPlace c.args.self.now.at.stepper.now tried.new.at.stepper.now c.args.pred.now = if_failed tried.result.0 (sym c.is_err.ensures.value ∙ c.if-is_err.true) tried.ensures.lost in
+    absurd (never.still fresh stands (first_of (tried.ensures.goes 0).quiet c.walk_by_copy-self.ensures.goes.quiet alone))
 
 pub returns-else-is_err-clause-soon : goal.returns-else-is_err-clause-soon
 returns-else-is_err-clause-soon g c = λ fresh stands alone.

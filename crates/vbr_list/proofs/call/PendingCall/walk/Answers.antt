@@ -1,10 +1,13 @@
-use Rattle.std.proofs.Common.{◌≡◌, refl, sym, ap, ◌∙◌, subst, arith, false, Option, ℕ, Some, None}
+use Rattle.std.proofs.Common.{rules, ◌≡◌, refl, sym, ap, ◌∙◌, subst, arith, true, false, Option, ℕ, Some, None}
 use Rattle.std.specs.Option.{is_some}
 use Rattle.vbr_words.specs.declared.link.Link.{Link}
 use Rattle.vbr_at_table.specs.Held.{held_of}
 use Rattle.vbr_at_table.specs.declared.held.Held.{Held}
 use Rattle.vbr_list.proofs.Going.{call_on, goes_on}
-use Rattle.vbr_list.proofs.Nearing.{first_of, then_of, passes_start, passes_smaller, passes_marked, sight_present, sight_absent}
+use Rattle.vbr_slots.proofs.Lemmas.{quiet_on, same_refl}
+use Rattle.vbr_words.specs.Words.{link_of}
+use Rattle.vbr_list.proofs.Disturbing.{grows_disturbed, moves_disturb, run_at, unchanged_at}
+use Rattle.vbr_list.proofs.Walking.{node_open, start_disturbed, stood_on, walk_begins, walk_paid, walk_past, walk_to, walk_visited}
 use Rattle.vbr_list.proofs.Observing.{observes_on}
 use Rattle.vbr_list.proofs.Passing.{look_at, look_past, absent_at_end, absent_before, present_at, looks_on}
 use Rattle.vbr_list.proofs.Traversals.{Looks}
@@ -18,13 +21,17 @@ pub loop-here-init : goal.loop-here-init
 loop-here-init g c =
     let fits = c.affords.ensures.0 c.if-not-affords.false in
     let used = c.in-Ok.ensures.used in
-    let head = c.in-Ok.ensures.head in (
+    let head = c.in-Ok.ensures.head in
+    let p = c.args.self.now.at.stepper.now in
+    let r = c.start.new.self.at.stepper.now in
+    let quiet = c.start.ensures.goes.goes.quiet in (
       c.start.ensures.goes.call,
       record {
         peeks = record { tries = record { goes = c.start.ensures.goes.goes; within = (omega (arith, used), omega (arith, fits, used)) }; observes = c.start.ensures.looks.observes };
         some = omega (arith, used);
         look = look_at head.come.is;
-        passes = λ alone. passes_start c.args.self.now.at.stepper.now.trace c.start.new.self.at.stepper.now.trace c.args.self.now.bucket c.args.self.now.key c.args.self.now.used c.start.new.self.used c.in-Ok.pred (c.start.ensures.looks.leaves alone) c.start.ensures.goes.goes.quiet.same.start c.args.self.now.of_key c.start.ensures.used head.come.is.unmarked (head.stands alone);
+        fresh = head.reads.fresh;
+        walks = walk_begins 5 p.trace r.trace c.law.ensures.start (run_at p.trace r.trace quiet.same (quiet.is_run c.law.ensures.is_run)) c.args.self.now.key quiet.same c.args.self.now.bucket c.args.self.now.used c.start.new.self.used c.in-Ok.pred c.args.self.now.of_key used head.at (unchanged_at p.trace p.trace r.trace c.args.self.now.key c.law.ensures.start (run_at p.trace r.trace quiet.same (quiet.is_run c.law.ensures.is_run)) (same_refl p.trace) quiet.same quiet.seen c.start.ensures.looks.observes.adds_none) head.reads;
       },
     )
 
@@ -34,18 +41,17 @@ loop-here-preserved-in-Ok-Marked g c =
     let met = rw c.in-Ok-Marked.field-0-is at c.in-Ok-Marked.ensures.met in
     let x = c.visit.ensures.used in
     let y = c.affords-in-loop-here.ensures.0 c.if-not-affords-2.false in
+    let p = c.args.self.now.at.stepper.now in
+    let q = c.loop-here.self.at.stepper.now in
+    let r = c.visit.new.self.at.stepper.now in
+    let first = c.loop-here.invariant.1.peeks.tries.goes.quiet in
+    let whole = quiet_on first v.goes.quiet in
     let look = look_past c.args.self.now.key c.loop-here.pred c.loop-here.here c.in-Ok-Marked.marked v.goes.quiet.same met.keeps c.loop-here.invariant.1.look met.visits.0 met.visits.1 in
     let b = c.loop-here.invariant.0.budget in (
       call_on c.loop-here.invariant.0 v.call,
       subst (λ (h : Held). Looks c.args.self.now.at.stepper.now c.visit.new.self.at.stepper.now c.args.self.now.key c.args.self.now.used c.visit.new.self.used c.args.self.now.budget c.loop-here.pred h) (sym c.held_of-here.ensures)
-          (looks_on c.loop-here.invariant.1 v.goes c.visit.ensures.looks.observes (omega (arith, x)) (omega (arith, x, y, b)) look
-          (λ alone.
-          let i = c.loop-here.invariant.1 in
-          let a = i.peeks.tries.goes.quiet in
-          let near = i.passes (first_of a v.goes.quiet alone) in
-          let then = then_of a v.goes.quiet alone in
-          let y = (rw c.loop-here.invariant.0.key at met.alone) near.place.fresh near.there near.place.stands then in
-          passes_marked c.args.self.now.at.stepper.now.trace c.loop-here.self.at.stepper.now.trace c.visit.new.self.at.stepper.now.trace c.args.self.now.key c.args.self.now.used c.loop-here.self.used c.visit.new.self.used c.loop-here.pred c.loop-here.here (held_of c.in-Ok-Marked.marked) near (c.visit.ensures.looks.leaves then) y.0.fresh met.count y)),
+          (looks_on c.loop-here.invariant.1 v.goes c.visit.ensures.looks.observes (omega (arith, x)) (omega (arith, x, y, b)) look met.fresh
+          (walk_past 5 p.trace r.trace c.law.ensures.start (run_at p.trace r.trace whole.same (whole.is_run c.law.ensures.is_run)) c.args.self.now.key whole.same q.trace first.same first.seen v.goes.quiet.seen c.loop-here.invariant.1.walks met.reads.slot met.reads.named (unchanged_at p.trace q.trace r.trace c.args.self.now.key c.law.ensures.start (run_at p.trace r.trace whole.same (whole.is_run c.law.ensures.is_run)) first.same whole.same v.goes.quiet.seen c.visit.ensures.looks.observes.adds_none) (held_of c.in-Ok-Marked.marked) met.fresh met.keeps.epoch met.reads.at met.reads (let count = met.count in omega (arith, count)))),
     )
 
 pub loop-here-preserved : goal.loop-here-preserved
@@ -55,14 +61,15 @@ loop-here-preserved g c =
     let come = rw c.loop-here.invariant.0.key at met.visits in
     let x = c.visit.ensures.used in
     let y = c.affords-in-loop-here.ensures.0 c.if-not-affords-2.false in
+    let p = c.args.self.now.at.stepper.now in
+    let q = c.loop-here.self.at.stepper.now in
+    let r = c.visit.new.self.at.stepper.now in
+    let first = c.loop-here.invariant.1.peeks.tries.goes.quiet in
+    let whole = quiet_on first v.goes.quiet in
     let b = c.loop-here.invariant.0.budget in (
       call_on c.loop-here.invariant.0 v.call,
-      looks_on c.loop-here.invariant.1 v.goes c.visit.ensures.looks.observes (omega (arith, x)) (omega (arith, x, y, b)) (look_at come.is)
-          (λ alone.
-          let i = c.loop-here.invariant.1 in
-          let a = i.peeks.tries.goes.quiet in
-          let near = i.passes (first_of a v.goes.quiet alone) in
-          passes_smaller c.args.self.now.at.stepper.now.trace c.loop-here.self.at.stepper.now.trace c.visit.new.self.at.stepper.now.trace c.args.self.now.key c.args.self.now.used c.loop-here.self.used c.visit.new.self.used c.loop-here.pred c.loop-here.here c.in-Ok-Smaller.node near met.count come.is.unmarked ((rw c.loop-here.invariant.0.key at met.alone) near.place.fresh near.there near.place.stands (then_of a v.goes.quiet alone))),
+      looks_on c.loop-here.invariant.1 v.goes c.visit.ensures.looks.observes (omega (arith, x)) (omega (arith, x, y, b)) (look_at come.is) met.fresh
+          (walk_to 5 p.trace r.trace c.law.ensures.start (run_at p.trace r.trace whole.same (whole.is_run c.law.ensures.is_run)) c.args.self.now.key whole.same q.trace first.same first.seen v.goes.quiet.seen c.loop-here.invariant.1.walks met.reads.slot met.reads.named (unchanged_at p.trace q.trace r.trace c.args.self.now.key c.law.ensures.start (run_at p.trace r.trace whole.same (whole.is_run c.law.ensures.is_run)) first.same whole.same v.goes.quiet.seen c.visit.ensures.looks.observes.adds_none) c.in-Ok-Smaller.node met.fresh met.keeps.epoch met.reads.at met.reads (let count = met.count in omega (arith, count)) come.is.unmarked),
     )
 
 pub returns-in-Err-clause-goes : goal.returns-in-Err-clause-goes
@@ -100,12 +107,18 @@ returns-in-Ok-Beyond-default-true-clause-sight g c =
     let v = c.visit.ensures.goes.goes.quiet in
     let met = rw (c.in-Ok-Beyond-default-true.field-0-is, c.in-Ok-Beyond-default-true.field-0-1-test) at c.in-Ok-Beyond-default-true.ensures.met in
     let visits = rw c.loop-here.invariant.0.key at met.visits in
+    let p = c.args.self.now.at.stepper.now in
+    let q = c.loop-here.self.at.stepper.now in
+    let r = c.visit.new.self.at.stepper.now in
+    let first = c.loop-here.invariant.1.peeks.tries.goes.quiet in
+    let whole = quiet_on first v in
+    let ok = run_at p.trace r.trace whole.same (whole.is_run c.law.ensures.is_run) in
+    let w = c.loop-here.invariant.1.walks in
     record {
-      sees = present_at c.visit.new.self.at.stepper.now.trace.start c.args.self.now.key c.loop-here.here c.in-Ok-Beyond-default-true.node visits.0;
-      alone = λ alone.
-          let a = c.loop-here.invariant.1.peeks.tries.goes.quiet in
-          let near = c.loop-here.invariant.1.passes (first_of a v alone) in
-          sight_present c.args.self.now.at.stepper.now.trace c.loop-here.self.at.stepper.now.trace c.visit.new.self.at.stepper.now.trace c.args.self.now.key c.args.self.now.used c.loop-here.self.used c.visit.new.self.used c.loop-here.pred c.loop-here.here c.in-Ok-Beyond-default-true.node near met.count ((rw c.loop-here.invariant.0.key at met.alone) near.place.fresh near.there near.place.stands (then_of a v alone));
+      sees = present_at r.trace.start c.args.self.now.key c.loop-here.here c.in-Ok-Beyond-default-true.node visits.0;
+      fresh = met.fresh;
+      stood = (node_open 5 p.trace r.trace c.law.ensures.start ok c.args.self.now.key whole.same q.trace first.same first.seen v.seen w met.reads.slot met.reads.named (unchanged_at p.trace q.trace r.trace c.args.self.now.key c.law.ensures.start (run_at p.trace r.trace whole.same (whole.is_run c.law.ensures.is_run)) first.same whole.same v.seen c.visit.ensures.looks.observes.adds_none) c.in-Ok-Beyond-default-true.node met.fresh met.keeps.epoch met.reads.at met.reads visits.0.unmarked).stood;
+      paid = walk_visited 5 p.trace r.trace c.law.ensures.start ok c.args.self.now.key whole.same q.trace first.same first.seen v.seen w (let count = met.count in omega (arith, count)) (ap is_some met.reads.named);
     }
 
 pub returns-in-Ok-Beyond-default-false-clause-sight : goal.returns-in-Ok-Beyond-default-false-clause-sight
@@ -113,27 +126,68 @@ returns-in-Ok-Beyond-default-false-clause-sight g c =
     let v = c.visit.ensures.goes.goes.quiet in
     let met = rw (c.in-Ok-Beyond-default-false.field-0-is, c.in-Ok-Beyond-default-false.field-0-1-test) at c.in-Ok-Beyond-default-false.ensures.met in
     let visits = rw c.loop-here.invariant.0.key at met.visits in
+    let p = c.args.self.now.at.stepper.now in
+    let q = c.loop-here.self.at.stepper.now in
+    let r = c.visit.new.self.at.stepper.now in
+    let first = c.loop-here.invariant.1.peeks.tries.goes.quiet in
+    let whole = quiet_on first v in
+    let ok = run_at p.trace r.trace whole.same (whole.is_run c.law.ensures.is_run) in
+    let w = c.loop-here.invariant.1.walks in
     record {
       sees = absent_before c.args.self.now.key c.loop-here.pred c.loop-here.here c.in-Ok-Beyond-default-false.field-0-0 v.same met.keeps c.loop-here.invariant.1.look visits.0;
-      alone = λ alone.
-          let a = c.loop-here.invariant.1.peeks.tries.goes.quiet in
-          let near = c.loop-here.invariant.1.passes (first_of a v alone) in
-          let then = then_of a v alone in
-          sight_absent c.args.self.now.at.stepper.now.trace c.loop-here.self.at.stepper.now.trace c.visit.new.self.at.stepper.now.trace c.args.self.now.key c.args.self.now.used c.loop-here.self.used c.visit.new.self.used c.loop-here.pred c.loop-here.here c.in-Ok-Beyond-default-false.field-0-0 near (c.visit.ensures.looks.leaves then) met.count ((rw c.loop-here.invariant.0.key at met.alone) near.place.fresh near.there near.place.stands then);
+      fresh = met.fresh;
+      stood = stood_on v.seen w.stands.stood;
+      paid = walk_visited 5 p.trace r.trace c.law.ensures.start ok c.args.self.now.key whole.same q.trace first.same first.seen v.seen w (let count = met.count in omega (arith, count)) (ap is_some met.reads.named);
     }
 
 pub returns-clause-sight : goal.returns-clause-sight
 returns-clause-sight g c =
     let none = no_slot c.decode.result.slot (sym c.is_some.ensures ∙ c.loop-here-test.false) in
+    let p = c.args.self.now.at.stepper.now in
+    let q = c.loop-here.self.at.stepper.now in
+    let first = c.loop-here.invariant.1.peeks.tries.goes.quiet in
+    let w = c.loop-here.invariant.1.walks in
     record {
       sees = absent_at_end c.loop-here.pred c.loop-here.here c.loop-here.invariant.1.look (ap (λ (l : Link). l.slot) (sym c.decode.ensures.link) ∙ none);
-      alone = λ alone. let near = c.loop-here.invariant.1.passes alone in let paid = near.paid in record { fresh = near.last.fresh; stands = near.last.stands; paid = omega (arith, paid) };
+      fresh = c.loop-here.invariant.1.fresh;
+      stood = w.stands.stood;
+      paid = walk_paid 5 p.trace q.trace c.law.ensures.start (run_at p.trace q.trace first.same (first.is_run c.law.ensures.is_run)) c.args.self.now.key w;
     }
 
 pub returns-in-Err-clause-stopped : goal.returns-in-Err-clause-stopped
 returns-in-Err-clause-stopped g c =
-    let a = c.loop-here.invariant.1.peeks.tries.goes.quiet in
-    let v = c.visit.ensures.goes.goes.quiet in (
+    let v = c.visit.ensures.goes.goes.quiet in
+    let p = c.args.self.now.at.stepper.now in
+    let q = c.loop-here.self.at.stepper.now in
+    let r = c.visit.new.self.at.stepper.now in
+    let first = c.loop-here.invariant.1.peeks.tries.goes.quiet in
+    let whole = quiet_on first v in
+    let ok = run_at p.trace r.trace whole.same (whole.is_run c.law.ensures.is_run) in
+    let ok_q = run_at p.trace q.trace first.same (first.is_run c.law.ensures.is_run) in
+    let w = c.loop-here.invariant.1.walks in
+    let used = c.in-Err.ensures.moved.few in
+    let some : is_some (link_of c.loop-here.here.word).slot ≡ true = ap (λ (l : Link). is_some l.slot) (sym c.decode.ensures.link) ∙ sym c.is_some.ensures ∙ c.loop-here-test.true in
+    let less = moves_disturb p.trace r.trace c.law.ensures.start ok c.args.self.now.key q.trace first.same whole.same v.seen (unchanged_at p.trace q.trace r.trace c.args.self.now.key c.law.ensures.start ok first.same whole.same v.seen c.visit.ensures.looks.observes.adds_none) c.loop-here.invariant.1.fresh c.in-Err.ensures.moved.moves in
+    let before = grows_disturbed p.trace q.trace c.law.ensures.start ok_q c.args.self.now.key p.trace.seen first.seen in (
       omega arith,
-      λ alone. c.in-Err.ensures.moved (c.loop-here.invariant.1.passes (first_of a v alone)).place.fresh (then_of a v alone),
+      walk_visited 5 p.trace r.trace c.law.ensures.start ok c.args.self.now.key whole.same q.trace first.same first.seen v.seen w (omega (arith, used)) some,
+      omega (arith, less, before),
     )
+
+pub returns-in_default-clause-stopped : goal.returns-in_default-clause-stopped
+returns-in_default-clause-stopped g c =
+    let p = c.args.self.now.at.stepper.now in
+    let r = c.start.new.self.at.stepper.now in
+    let quiet = c.start.ensures.goes.goes.quiet in
+    let used = c.start.ensures.used in (
+      omega (arith, used),
+      omega (arith, used),
+      start_disturbed 5 p.trace r.trace c.law.ensures.start (run_at p.trace r.trace quiet.same (quiet.is_run c.law.ensures.is_run)) c.args.self.now.key quiet.same (unchanged_at p.trace p.trace r.trace c.args.self.now.key c.law.ensures.start (run_at p.trace r.trace quiet.same (quiet.is_run c.law.ensures.is_run)) (same_refl p.trace) quiet.same quiet.seen c.start.ensures.looks.observes.adds_none) c.in_default.ensures.moved.moves,
+    )
+
+pub returns-then-not-affords-2-clause-stopped : goal.returns-then-not-affords-2-clause-stopped
+returns-then-not-affords-2-clause-stopped g c =
+    let p = c.args.self.now.at.stepper.now in
+    let q = c.loop-here.self.at.stepper.now in
+    let first = c.loop-here.invariant.1.peeks.tries.goes.quiet in
+    (search rules, walk_paid 5 p.trace q.trace c.law.ensures.start (run_at p.trace q.trace first.same (first.is_run c.law.ensures.is_run)) c.args.self.now.key c.loop-here.invariant.1.walks)

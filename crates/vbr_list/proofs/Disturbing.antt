@@ -1,0 +1,410 @@
+-- What shows that another pass disturbed a call: an epoch that has moved, and a link that stands open no more. A pass that was alone was not disturbed.
+use Rattle.std.proofs.Common.{◌≡◌, ◌≢◌, ℕ, ◌+◌, ◌*◌, ◌<◌, ◌≤◌, Bool, true, false, cond, eq-eqb, Option, Some, None, List, [], ◌∷◌, ◌++◌, sym, ap, ◌∙◌, subst, inl, inr, arith, append_assoc, append-nil}
+use Rattle.std.specs.Prelude.{◌==◌, ◌&&◌, count_by}
+use Rattle.std.proofs.lemmas.List.Sums.{sum_by-append}
+use Rattle.std.proofs.lemmas.Nat.{mul-le}
+use Rattle.vbr_words.specs.Words.{link_of, word_of}
+use Rattle.vbr_words.proofs.Lemmas.{word_of-link_of}
+use Rattle.vbr_words.specs.Buckets.{bucket_of}
+use Rattle.vbr_machine.specs.Start.{Start, IsStart}
+use Rattle.vbr_machine.specs.Accounts.{incarnations_after, own_entries}
+use Rattle.vbr_machine.specs.Disturbances.{IsOpenIn, disturbances, met, own_changes}
+use Rattle.vbr_machine.specs.Images.{link_shown_at}
+use Rattle.vbr_machine.specs.Calls.{own_calls}
+use Rattle.vbr_machine.specs.Machine.{found}
+use Rattle.vbr_machine.specs.Membership.{HeldIn}
+use Rattle.vbr_words.specs.declared.place.At.{At}
+use Rattle.vbr_machine.specs.Runs.{Begins, IsRun, world_after}
+use Rattle.vbr_machine.specs.declared.event.Event.{Event}
+use Rattle.vbr_machine.specs.declared.event.Step.{Step}
+use Rattle.vbr_machine.specs.declared.event.Step.TheVariants.{LoadLink}
+use Rattle.vbr_machine.proofs.Lemmas.{AdvancesNone, IsAdvance, begins_refl, begins_run, begins_trans, changed_disturbed, disturbances_grow, disturbances_paid, known_open, link_loaded, met_bound, met_bound_quiet, met_later, met_on, moved_by_others, moved_disturbed, own_between, own_unchanged, run_agrees, shown_there, since, undisturbed_by_itself, undisturbed_shown}
+use Rattle.vbr_slots.specs.Alone.{IsAlone, IsFresh, OnlyEventsOf}
+use Rattle.vbr_slots.specs.Calls.{AddsNone, IsSame, Quiet}
+use Rattle.vbr_slots.specs.Views.{PassView, Trace, knows}
+use Rattle.vbr_slots.proofs.Lemmas.{quiet_on}
+use Rattle.vbr_at_table.specs.Alone.{NextStands, StandsNow}
+use Rattle.vbr_at_table.specs.Counts.{ChangesNone, advances, is_advance}
+use Rattle.vbr_at_table.specs.Held.{IsHeld}
+use Rattle.vbr_at_table.specs.Retiring.{StampsFreshly}
+use Rattle.vbr_at_table.specs.declared.held.Marked.{Marked}
+use Rattle.vbr_list.specs.Helping.{OpensPlace}
+use Rattle.vbr_at_table.specs.Keeping.{Keeps}
+use Rattle.vbr_at_table.proofs.Lemmas.{held_in_kept, keeps_on}
+use Rattle.vbr_at_table.specs.Reading.{RollsBack}
+use Rattle.vbr_at_table.specs.Rollbacks.{FreshIfMoved, IsLost, IsMovedOrLost}
+use Rattle.vbr_at_table.specs.declared.held.Held.{Held}
+use Rattle.vbr_at_table.specs.declared.rollback.Rollback.{Rollback}
+use Rattle.vbr_at_table.specs.declared.rollback.Rollback.TheVariants.{EpochMoved, LostExchange}
+use Rattle.vbr_list.specs.Budgets.{listed_for}
+use Rattle.vbr_list.specs.Disturbed.{changed_after, disturbed_after, disturbed, enough_among, enough_to_insert_among, enough_to_search_among, most_disturbed}
+use Rattle.vbr_list.specs.declared.found.Found.{Found}
+use Rattle.vbr_list.specs.Walking.{KnowsEpoch, LosesFound, LosesHeld, LosesNext, LosesPlace, MovesEpoch, MovesOn, NextStandsStill, StandsStill, StoodOpen, met_since, nodes_after}
+
+-- ---- at the table of a pass
+
+pub fresh_at : (p q : Trace) → IsSame p q → IsFresh q → (nodes_after p q.seen).epoch ≡ (knows q).epoch
+fresh_at p q s fresh = ap (λ (start : Start). (incarnations_after start q.seen).epoch) (sym s.start) ∙ fresh
+
+pub run_at : (p q : Trace) → IsSame p q → IsRun q.start q.passes q.seen → IsRun p.start p.passes q.seen
+run_at p q s ok =
+    let P : Start → Type 0 = λ start. IsRun start q.passes q.seen in
+    let Q : ℕ → Type 0 = λ passes. IsRun p.start passes q.seen in
+    subst Q s.passes (subst P s.start ok)
+
+pub own_at : (p q r : Trace) → IsSame p q → IsSame p r → AddsNone q r → own_entries p.start r.seen p.who ≡ own_entries p.start q.seen p.who
+own_at p q r sq sr x = sym (λ i. own_entries (sr.start i) r.seen (sr.who i)) ∙ x.entries ∙ (λ i. own_entries (sq.start i) q.seen (sq.who i))
+
+-- a pass that added no event to the chronicle changed nothing itself
+pub unchanged_at : (p q r : Trace) (key : ℕ) → IsStart p.start → IsRun p.start p.passes r.seen → IsSame p q → IsSame p r → Begins q.seen r.seen → AddsNone q r → changed_after p key r.seen ≡ changed_after p key q.seen
+unchanged_at p q r key is ok sq sr b x = own_unchanged (since p.start p.passes q.seen r.seen is ok b) p.who (bucket_of p.start.shape key) (own_at p q r sq sr x)
+
+pub changed_at : (p q r : Trace) (key : ℕ) → IsSame p q → IsSame p r → ChangesNone q r → changed_after p key r.seen ≡ changed_after p key q.seen
+changed_at p q r key sq sr x =
+    let bucket = bucket_of p.start.shape key in
+    sym (λ i. own_changes (sr.start i) r.seen (sr.who i) bucket) ∙ x.same bucket ∙ (λ i. own_changes (sq.start i) q.seen (sq.who i) bucket)
+
+-- from the trace of another moment of the pass
+pub disturbed_same : (p q : Trace) (key : ℕ) (run : List Event) → IsSame p q → disturbed_after q key run ≡ disturbed_after p key run
+disturbed_same p q key run s = (λ i. disturbances (s.start i) run (s.who i) (bucket_of (let st : Start = s.start i in st.shape) key))
+
+-- what rolled back has the epoch that stood
+pub moves_epoch : {p q : PassView} (rollback : Rollback) → RollsBack p q rollback → MovesEpoch p.trace q.trace
+moves_epoch (EpochMoved now) x = record { other = λ e. x.moved.0 (sym x.moved.1 ∙ e); fresh = x.fresh }
+moves_epoch (LostExchange found) x = absurd x.moved
+
+-- ---- a disturbance
+
+module _ (p r : Trace) (is : IsStart p.start) (ok : IsRun p.start p.passes r.seen) (key : ℕ) where
+  pub grows_disturbed : (run : List Event) → Begins run r.seen → disturbed_after p key run ≤ disturbed_after p key r.seen
+  grows_disturbed run b = disturbances_grow (since p.start p.passes run r.seen is ok b) p.who (bucket_of p.start.shape key)
+
+  -- where the epoch has moved since it stood
+  pub moves_disturb : (q : Trace) → IsSame p q → IsSame p r → Begins q.seen r.seen → changed_after p key r.seen ≡ changed_after p key q.seen → IsFresh q → MovesEpoch q r → disturbed_after p key q.seen < disturbed_after p key r.seen
+  moves_disturb q sq sr b own fresh m =
+      moved_disturbed (since p.start p.passes q.seen r.seen is ok b) p.who (bucket_of p.start.shape key) own
+      (λ same. m.other (sym (fresh_at p r sr m.fresh) ∙ same ∙ fresh_at p q sq fresh))
+
+  -- where what was held is lost since it stood
+  pub lost_disturbs : (q : Trace) (held : Held) (why : Rollback) → IsSame p q → Begins q.seen r.seen → (x : StoodOpen p q key held) → changed_after p key r.seen ≡ changed_after p key x.moment → IsLost q r held why → disturbed_after p key x.moment < disturbed_after p key r.seen
+  lost_disturbs q held (EpochMoved now) sq b x own l = absurd l
+  lost_disturbs q held (LostExchange word) sq b x own l =
+      let y = l.1.moment in
+      let to : Begins y r.seen = l.1.within.to in
+      let on : Begins x.moment y = begins_trans x.moment q.seen y x.to l.1.within.from in
+      let ok_y = begins_run p.start p.passes y r.seen to ok in
+      let ok_x = begins_run p.start p.passes x.moment y on ok_y in
+      let first = since p.start p.passes x.moment x.moment is ok_x (begins_refl x.moment) in
+      let second = since p.start p.passes x.moment y is ok_y on in
+      let third = since p.start p.passes y r.seen is ok to in
+      let shown : link_shown_at (nodes_after p y) held.at ≡ link_of word =
+      sym (shown_there p.start p.passes y is ok_y held.at)
+      ∙ link_loaded p.start p.passes y is ok_y p.who held.at
+      ∙ ap link_of (sym (ap (λ (start : Start). found start (world_after start y) (LoadLink held.at)) sq.start) ∙ l.1.found) in
+      let less = changed_disturbed second p.who (bucket_of p.start.shape key) (own_between first second third p.who (bucket_of p.start.shape key) own) held.at x.is_open
+      (λ same. l.0 (sym (word_of-link_of word) ∙ ap word_of (sym shown ∙ same ∙ x.shown) ∙ word_of-link_of held.word)) in
+      let more = disturbances_grow third p.who (bucket_of p.start.shape key) in
+      omega (arith, less, more)
+
+  -- the one or the other
+  pub loses_disturb : (q : Trace) (held : Held) → IsSame p q → IsSame p r → Begins p.seen q.seen → Begins q.seen r.seen → changed_after p key r.seen ≡ changed_after p key p.seen → IsFresh q → (x : StoodOpen p q key held) → LosesHeld q r held → disturbed_after p key x.moment < disturbed_after p key r.seen
+  loses_disturb q held sq sr a b own fresh x l = go l.why l.rolled l.fresh
+    where
+      ok_q : IsRun p.start p.passes q.seen
+      ok_q = begins_run p.start p.passes q.seen r.seen b ok
+
+      own_q : changed_after p key r.seen ≡ changed_after p key q.seen
+      own_q = own_between (since p.start p.passes p.seen q.seen is ok_q a) (since p.start p.passes q.seen r.seen is ok b) (since p.start p.passes r.seen r.seen is ok (begins_refl r.seen)) p.who (bucket_of p.start.shape key) own
+
+      own_x : changed_after p key r.seen ≡ changed_after p key x.moment
+      own_x = own_between (since p.start p.passes p.seen x.moment is (begins_run p.start p.passes x.moment q.seen x.to ok_q) x.from) (since p.start p.passes x.moment r.seen is ok (begins_trans x.moment q.seen r.seen x.to b)) (since p.start p.passes r.seen r.seen is ok (begins_refl r.seen)) p.who (bucket_of p.start.shape key) own
+
+      go : (why : Rollback) → IsMovedOrLost q r held why → FreshIfMoved r why → disturbed_after p key x.moment < disturbed_after p key r.seen
+      go (EpochMoved now) m f =
+          let less = moves_disturb q sq sr b own_q fresh (record { other = λ e. m.0 (sym m.1 ∙ e); fresh = f }) in
+          let more = disturbances_grow (since p.start p.passes x.moment q.seen is ok_q x.to) p.who (bucket_of p.start.shape key) in
+          omega (arith, less, more)
+      go (LostExchange word) m f = lost_disturbs q held (LostExchange word) sq b x own_x m
+
+-- ---- the nodes that can be met
+
+module _ (p r : Trace) (is : IsStart p.start) (ok : IsRun p.start p.passes r.seen) (key : ℕ) where
+  -- they are no more than were in the list, and than the pass was disturbed
+  pub met_few : Begins p.seen r.seen → own_entries p.start r.seen p.who ≡ own_entries p.start p.seen p.who → met_since p r key ≤ listed_for p key + disturbed p r key
+  met_few b own =
+      let bucket = bucket_of p.start.shape key in
+      let x = met_bound p.start p.passes p.seen r.seen is ok b p.who bucket bucket own in
+      let y = disturbances_grow (since p.start p.passes p.seen r.seen is ok b) p.who bucket in
+      omega (arith, x, y)
+
+  -- what can be met of it since a later moment
+  pub met_less : (q : Trace) → IsSame p q → Begins p.seen q.seen → Begins q.seen r.seen → met_since q r key ≤ met_since p r key
+  met_less q s a b =
+      let same : met_since q r key ≡ met p.start (nodes_after p q.seen) (nodes_after p r.seen) (bucket_of p.start.shape key) = (λ i. met (s.start i) (incarnations_after (s.start i) q.seen) (incarnations_after (s.start i) r.seen) (bucket_of (let st : Start = s.start i in st.shape) key)) in
+      let x = met_later p.start p.passes q.seen r.seen is ok b p.seen a (bucket_of p.start.shape key) in
+      omega (arith, same, x)
+
+  -- and until an earlier one
+  pub met_before : (q : Trace) → Begins p.seen q.seen → Begins q.seen r.seen → met_since p q key ≤ met_since p r key
+  met_before q a b = met_on p.start p.passes q.seen r.seen is ok b p.seen a (bucket_of p.start.shape key)
+
+-- ---- a pass that was alone
+
+own_disturbs_none : (start : Start) (who bucket : ℕ) (seen own : List Event) → OnlyEventsOf who own → disturbances start (seen ++ own) who bucket ≡ disturbances start seen who bucket
+own_disturbs_none start who bucket seen [] each = ap (λ l. disturbances start l who bucket) (append-nil seen)
+own_disturbs_none start who bucket seen (event ∷ own) each =
+    let one : disturbances start (seen ++ event ∷ []) who bucket ≡ disturbances start seen who bucket = (
+    sym (ap (λ w. disturbances start (seen ++ event ∷ []) w bucket) each.0) ∙ undisturbed_by_itself start seen event bucket ∙ ap (λ w. disturbances start seen w bucket) each.0) in
+    ap (λ l. disturbances start l who bucket) (sym (append_assoc seen (event ∷ []) own)) ∙ own_disturbs_none start who bucket (seen ++ event ∷ []) own each.1 ∙ one
+
+pub alone_undisturbed : (p q : Trace) (key : ℕ) → IsAlone p q → disturbed p q key ≡ 0
+alone_undisturbed p q key alone =
+    let bucket = bucket_of p.start.shape key in
+    let same : disturbances p.start q.seen p.who bucket ≡ disturbances p.start p.seen p.who bucket = ap (λ l. disturbances p.start l p.who bucket) alone.seen ∙ own_disturbs_none p.start p.who bucket p.seen alone.own alone.each in
+    omega (arith, same)
+
+-- ---- what a look-up loses
+
+-- a value that wasn't read
+pub loses_value : {p q : PassView} (held : Held) (rollback : Rollback) → RollsBack p q rollback → LosesHeld p.trace q.trace held
+loses_value held (EpochMoved now) x = record { why = EpochMoved now; rolled = x.moved; fresh = x.fresh }
+loses_value held (LostExchange found) x = absurd x.moved
+
+-- a link that didn't stand
+pub loses_link : {p q : Trace} (held : Held) (rollback : Rollback) → IsLost p q held rollback → LosesHeld p q held
+loses_link held (EpochMoved now) l = absurd l
+loses_link held (LostExchange found) l = record { why = LostExchange found; rolled = l; fresh = tt }
+
+-- after what only read
+pub loses_later : {p q r : Trace} (held : Held) → Quiet p q → Keeps (knows p) (knows q) → LosesHeld q r held → LosesHeld p r held
+loses_later {p} {q} {r} held a keeps l = go l.why l.rolled l.fresh
+  where
+    go : (why : Rollback) → IsMovedOrLost q r held why → FreshIfMoved r why → LosesHeld p r held
+    go (EpochMoved now) m f = record { why = EpochMoved now; rolled = (λ e. m.0 (e ∙ sym keeps.epoch), m.1, m.2, m.3); fresh = f }
+    go (LostExchange word) m f = record {
+      why = LostExchange word;
+      rolled = (
+        m.0,
+        record {
+          moment = m.1.moment;
+          within = record { from = begins_trans p.seen q.seen m.1.moment a.seen m.1.within.from; to = m.1.within.to; is_run = m.1.within.is_run };
+          found = ap (λ (start : Start). found start (world_after start m.1.moment) (LoadLink held.at)) (sym a.same.start) ∙ m.1.found;
+        },
+        keeps_on keeps m.2,
+      );
+      fresh = tt;
+    }
+
+-- ---- a place whose marked node is unlinked
+
+-- the place stood open once the unlinking was won, and what is done to retire the node changes nothing
+pub opened : (p q r : Trace) (pred : Held) (gone : Marked) (place : Held) → Quiet p q → Quiet q r → IsStart q.start → IsRun q.start q.passes q.seen → Keeps (knows p) (knows q) → place.at ≡ pred.at → IsHeld (knows q) place → (link_of place.word).mark ≡ false → StandsNow q place → (link_of place.word).slot ≡ (link_of gone.word).slot → ChangesNone q r → OpensPlace p r pred gone place
+opened p q r pred gone place a b is ok keeps at known unmarked stands next none =
+    let whole = quiet_on a b in
+    record {
+      moment = q.seen;
+      from = a.seen;
+      to = b.seen;
+      shown = ap (λ (start : Start). link_shown_at (incarnations_after start q.seen) place.at) (sym a.same.start) ∙ stands;
+      is_open = λ bucket inside.
+          let H : At → Type 0 = λ t. HeldIn (knows q) t bucket in
+          let there = subst H (sym at) (held_in_kept pred.at bucket keeps inside) in
+          let P : Start → Type 0 = λ start. IsOpenIn start (incarnations_after start q.seen) bucket place.at in
+          subst P a.same.start (known_open q.start q.passes q.seen is ok q.who bucket place.at (link_of place.word) known.link unmarked stands there);
+      own = λ bucket. sym (λ i. own_changes (whole.same.start i) r.seen (whole.same.who i) bucket) ∙ none.same bucket ∙ (λ i. own_changes (a.same.start i) q.seen (a.same.who i) bucket);
+      next = next;
+    }
+
+-- the epoch that was read to retire it is another one
+pub moved_late : (p q r : Trace) → Quiet p q → Quiet q r → IsStart p.start → {epoch slot : ℕ} → epoch ≡ (knows p).epoch → StampsFreshly q r slot (knows r).epoch → epoch ≢ (knows r).epoch → MovesOn p r
+moved_late p q r a b is {epoch} held x other =
+    let whole = quiet_on a b in
+    let ok = begins_run p.start p.passes x.reading r.seen x.is.to (run_at p r whole.same x.is.is_run) in
+    let epoch_there : (nodes_after p x.reading).epoch ≡ (knows r).epoch = sym (run_agrees p.start p.passes x.reading is ok).image.epoch ∙ sym (ap (λ (start : Start). (world_after start x.reading).epoch) a.same.start) ∙ x.was_epoch in
+    record { moment = x.reading; from = begins_trans p.seen q.seen x.reading a.seen x.is.from; to = x.is.to; other = λ e. other (held ∙ sym e ∙ epoch_there) }
+
+-- an unlinking that failed
+pub loses_place : (p q : Trace) (pred : Held) (rollback : Rollback) → IsSame p q → IsMovedOrLost p q pred rollback → FreshIfMoved q rollback → ChangesNone p q → Begins p.seen q.seen → LosesPlace p q pred
+loses_place p q pred (EpochMoved now) same m f adds b = inl (record { moment = q.seen; from = b; to = begins_refl q.seen; other = λ e. m.0 (sym m.1 ∙ sym (fresh_at p q same f) ∙ e) })
+loses_place p q pred (LostExchange found) same m f adds b = inr (found, m, adds)
+
+-- a link that didn't stand
+pub lost_place : {p q : Trace} (held : Held) (rollback : Rollback) → IsLost p q held rollback → ChangesNone p q → LosesPlace p q held
+lost_place held (EpochMoved now) l adds = absurd l
+lost_place held (LostExchange word) l adds = inr (word, l, adds)
+
+-- after what only read
+pub lost_place_later : {p q r : Trace} (held : Held) (rollback : Rollback) → Quiet p q → Keeps (knows p) (knows q) → ChangesNone p q → IsLost q r held rollback → ChangesNone q r → LosesPlace p r held
+lost_place_later held (EpochMoved now) a keeps none l adds = absurd l
+lost_place_later {p} {q} {r} held (LostExchange word) a keeps none m adds = inr (
+  word,
+  (
+    m.0,
+    record {
+      moment = m.1.moment;
+      within = record { from = begins_trans p.seen q.seen m.1.moment a.seen m.1.within.from; to = m.1.within.to; is_run = m.1.within.is_run };
+      found = ap (λ (start : Start). found start (world_after start m.1.moment) (LoadLink held.at)) (sym a.same.start) ∙ m.1.found;
+    },
+    keeps_on keeps m.2,
+  ),
+  record { same = λ bucket. adds.same bucket ∙ none.same bucket },
+)
+
+-- ---- advances of others
+
+is_advance_from : (step : Step) → IsAdvance step → is_advance step ≡ true
+is_advance_from step h = grind arith
+
+advance_steps : ℕ → List Event → ℕ
+advance_steps who events = count_by (λ (e : Event). (e.pass == who) && is_advance e.step) events
+
+steps-append : (who : ℕ) (xs ys : List Event) → advance_steps who (xs ++ ys) ≡ advance_steps who xs + advance_steps who ys
+unfolding advance_steps
+steps-append who xs ys = sum_by-append (λ (e : Event). cond ((e.pass == who) && is_advance e.step) 1 0) xs ys
+
+none_counted : (who : ℕ) (events : List Event) → advance_steps who events ≡ 0 → AdvancesNone who events
+unfolding advance_steps
+none_counted who [] none = tt
+none_counted who (event ∷ events) none =
+    let sum = steps-append who (event ∷ []) events in
+    (λ mine advance. one (event.pass == who) (is_advance event.step) (eq-eqb event.pass who mine) (is_advance_from event.step advance) (omega (arith, none, sum)), none_counted who events (omega (arith, none, sum)))
+  where
+    one : (p q : Bool) → p ≡ true → q ≡ true → 0 + cond (p && q) 1 0 ≡ 0 → ⊥
+    one true true a b z = omega (arith, z)
+    one false q a b z = cc
+    one true false a b z = cc
+
+-- a pass that made no step that would advance the epoch made none since a moment of that
+pub advances_none : (p q : Trace) → IsSame p q → advances q ≡ advances p → (moment : List Event) → Begins p.seen moment → (b : Begins moment q.seen) → AdvancesNone p.who b.0
+unfolding advance_steps
+advances_none p q s same moment a b =
+    let one = steps-append p.who p.seen a.0 in
+    let two = steps-append p.who moment b.0 in
+    let there = ap (advance_steps p.who) a.1 in
+    let last = ap (advance_steps p.who) b.1 in
+    let who : advance_steps q.who q.seen ≡ advance_steps p.who q.seen = ap (λ w. advance_steps w q.seen) s.who in
+    let kept : advance_steps q.who q.seen ≡ advance_steps p.who p.seen = same in
+    none_counted p.who b.0 (omega (arith, one, two, there, last, who, kept))
+
+module _ (p r : Trace) (is : IsStart p.start) (ok : IsRun p.start p.passes r.seen) (key : ℕ) (same_r : IsSame p r) (none : advances r ≡ advances p) where
+  -- between two moments at which other epochs stood the pass was disturbed
+  pub epochs_disturb : (first last : List Event) → Begins p.seen first → Begins first last → Begins last r.seen → (nodes_after p last).epoch ≢ (nodes_after p first).epoch → disturbed_after p key first < disturbed_after p key last
+  epochs_disturb first last a b c other =
+      let ok_last = begins_run p.start p.passes last r.seen c ok in
+      let whole : Begins first r.seen = (b.0 ++ c.0, c.1 ∙ ap (λ l. l ++ c.0) b.1 ∙ append_assoc first b.0 c.0) in
+      let front : AdvancesNone p.who b.0 = front_none p.who b.0 c.0 (advances_none p r same_r none first a whole) in
+      let P : List Event → Type 0 = λ l. (nodes_after p l).epoch + disturbed_after p key first ≤ (nodes_after p first).epoch + disturbed_after p key l in
+      let moved = subst P (sym b.1) (moved_by_others p.start p.who (bucket_of p.start.shape key) first b.0 front) in
+      let grows = (since p.start p.passes first last is ok_last b).grown.epoch in
+      let more = disturbances_grow (since p.start p.passes first last is ok_last b) p.who (bucket_of p.start.shape key) in
+      apart (nodes_after p last).epoch (nodes_after p first).epoch (disturbed_after p key first) (disturbed_after p key last) other grows moved
+    where
+      front_none : (who : ℕ) (xs ys : List Event) → AdvancesNone who (xs ++ ys) → AdvancesNone who xs
+      front_none who [] ys h = tt
+      front_none who (x ∷ xs) ys h = (h.0, front_none who xs ys h.1)
+
+      apart : (m n d e : ℕ) → m ≢ n → n ≤ m → m + d ≤ n + e → d < e
+      apart m n d e other le moved = omega (arith, other, le, moved)
+
+  -- where another epoch stood than the one that it knew
+  pub moves_on_disturb : (q : Trace) → IsSame p q → Begins q.seen r.seen → (k : KnowsEpoch p q) → MovesOn q r → disturbed_after p key p.seen < disturbed_after p key r.seen
+  moves_on_disturb q sq b k m =
+      let there : (nodes_after p m.moment).epoch ≢ (nodes_after p k.moment).epoch = λ e. m.other (ap (λ (start : Start). (incarnations_after start m.moment).epoch) sq.start ∙ e ∙ k.was) in
+      let less = epochs_disturb k.moment m.moment k.from (begins_trans k.moment q.seen m.moment k.to m.from) m.to there in
+      let ok_m = begins_run p.start p.passes m.moment r.seen m.to ok in
+      let ok_k = begins_run p.start p.passes k.moment m.moment (begins_trans k.moment q.seen m.moment k.to m.from) ok_m in
+      let low = disturbances_grow (since p.start p.passes p.seen k.moment is ok_k k.from) p.who (bucket_of p.start.shape key) in
+      let high = disturbances_grow (since p.start p.passes m.moment r.seen is ok m.to) p.who (bucket_of p.start.shape key) in
+      omega (arith, less, low, high)
+
+  -- or the place was lost
+  pub loses_place_disturb : (q : Trace) (pred : Held) → IsSame p q → Begins q.seen r.seen → KnowsEpoch p q → StandsStill p q key pred → LosesPlace q r pred → disturbed_after p key p.seen < disturbed_after p key r.seen
+  loses_place_disturb q pred sq b k x (inl m) = moves_on_disturb q sq b k m
+  loses_place_disturb q pred sq b k x (inr m) =
+      let ok_q = begins_run p.start p.passes q.seen r.seen b ok in
+      let ok_x = begins_run p.start p.passes x.stood.moment q.seen x.stood.to ok_q in
+      let less = lost_disturbs p r is ok key q pred (LostExchange m.0) sq b x.stood (changed_at p q r key sq same_r m.2 ∙ x.own) m.1 in
+      let low = disturbances_grow (since p.start p.passes p.seen x.stood.moment is ok_x x.stood.from) p.who (bucket_of p.start.shape key) in
+      omega (arith, less, low)
+
+  -- or what was found
+  pub loses_found_disturb : (q : Trace) (told : Found) → IsSame p q → Begins q.seen r.seen → KnowsEpoch p q → StandsStill p q key told.pred → NextStandsStill p q key told.cur → LosesFound q r told → disturbed_after p key p.seen < disturbed_after p key r.seen
+  loses_found_disturb q told sq b k pred cur (inl x) = loses_place_disturb q told.pred sq b k pred x
+  loses_found_disturb q told sq b k pred cur (inr x) = next told.cur cur x
+    where
+      next : (at : Option Held) → NextStandsStill p q key at → LosesNext q r at → disturbed_after p key p.seen < disturbed_after p key r.seen
+      next None still y = absurd y
+      next (Some node) still y = loses_place_disturb q node sq b k still y
+
+-- a roll-back
+pub moves_on : (q r : Trace) → IsSame q r → Begins q.seen r.seen → MovesEpoch q r → MovesOn q r
+moves_on q r s b m = record { moment = r.seen; from = b; to = begins_refl r.seen; other = λ e. m.other (sym (fresh_at q r s m.fresh) ∙ e) }
+
+-- ---- a pass that was alone
+
+module _ (p q : Trace) (is : IsStart p.start) (ok : IsRun p.start p.passes q.seen) (key : ℕ) (same : IsSame p q) (b : Begins p.seen q.seen) (alone : IsAlone p q) where
+  level : (moment : List Event) → Begins p.seen moment → Begins moment q.seen → disturbed_after p key q.seen ≡ disturbed_after p key moment
+  level moment a c =
+      let none = alone_undisturbed p q key alone in
+      let low = disturbances_grow (since p.start p.passes p.seen moment is (begins_run p.start p.passes moment q.seen c ok) a) p.who (bucket_of p.start.shape key) in
+      let high = disturbances_grow (since p.start p.passes moment q.seen is ok c) p.who (bucket_of p.start.shape key) in
+      omega (arith, none, low, high)
+
+  -- what stood open stands
+  pub stands_alone : (held : Held) → StandsStill p q key held → StandsNow q held
+  stands_alone held x =
+      let on = since p.start p.passes x.stood.moment q.seen is ok x.stood.to in
+      ap (λ (start : Start). link_shown_at (incarnations_after start q.seen) held.at) same.start
+      ∙ undisturbed_shown on p.who (bucket_of p.start.shape key) x.own (level x.stood.moment x.stood.from x.stood.to) held.at x.stood.is_open
+      ∙ x.stood.shown
+
+  pub next_stands_alone : (next : Option Held) → NextStandsStill p q key next → NextStands q next
+  next_stands_alone None x = tt
+  next_stands_alone (Some node) x = stands_alone node x
+
+  -- and so does the epoch that was known
+  pub fresh_alone : advances q ≡ advances p → KnowsEpoch p q → IsFresh q
+  fresh_alone none k =
+      let moved = moved_by_others p.start p.who (bucket_of p.start.shape key) k.moment k.to.0 (advances_none p q same none k.moment k.from k.to) in
+      let P : List Event → Type 0 = λ l. (nodes_after p l).epoch + disturbed_after p key k.moment ≤ (nodes_after p k.moment).epoch + disturbed_after p key l in
+      let there = subst P (sym k.to.1) moved in
+      let grows = (since p.start p.passes k.moment q.seen is ok k.to).grown.epoch in
+      let even = level k.moment k.from k.to in
+      let was = k.was in
+      ap (λ (start : Start). (incarnations_after start q.seen).epoch) same.start ∙ (let e : (nodes_after p q.seen).epoch ≡ (knows q).epoch = omega (arith, there, grows, even, was) in e)
+
+-- ---- what can be met of a pass that makes no call
+
+pub met_quiet : (p r : Trace) → IsStart p.start → IsRun p.start p.passes r.seen → (key : ℕ) → Quiet p r → met_since p r key ≤ listed_for p key + disturbed p r key
+met_quiet p r is ok key q =
+    let bucket = bucket_of p.start.shape key in
+    let calls : own_calls p.start r.seen p.who ≡ own_calls p.start p.seen p.who = sym (λ i. own_calls (q.same.start i) r.seen (q.same.who i)) ∙ q.calls in
+    let x = met_bound_quiet p.start p.passes p.seen r.seen is ok q.seen p.who bucket bucket calls in
+    let y = disturbances_grow (since p.start p.passes p.seen r.seen is ok q.seen) p.who bucket in
+    omega (arith, x, y)
+
+-- ---- from an earlier beginning
+
+pub knows_from : (p q r : Trace) → IsSame p q → Begins p.seen q.seen → KnowsEpoch q r → KnowsEpoch p r
+knows_from p q r s a x = record { moment = x.moment; from = begins_trans p.seen q.seen x.moment a x.from; to = x.to; was = ap (λ (start : Start). (incarnations_after start x.moment).epoch) (sym s.start) ∙ x.was }
+
+pub changed_same : (p q : Trace) (key : ℕ) (run : List Event) → IsSame p q → changed_after q key run ≡ changed_after p key run
+changed_same p q key run s = (λ i. own_changes (s.start i) run (s.who i) (bucket_of (let st : Start = s.start i in st.shape) key))
+
+-- ---- what disturbances are
+
+-- each is an update of another, its one unlinking, or an advance
+pub disturbed_most : (p q : Trace) → IsStart p.start → IsRun p.start p.passes p.seen → (key : ℕ) → Quiet p q → disturbed p q key ≤ most_disturbed p q
+disturbed_most p q is ok key quiet =
+    let x = disturbances_paid p.start p.passes p.seen q.seen is (run_at p q quiet.same (quiet.is_run ok)) quiet.seen p.who (bucket_of p.start.shape key) in
+    omega (arith, x)
+
+-- with more of them no less is enough
+pub enough_among_more : (nodes times most : ℕ) → times ≤ most → enough_among nodes times ≤ enough_among nodes most
+enough_among_more nodes times most le = mul-le (times + 1) (5 * (nodes + times) + 11) (most + 1) (5 * (nodes + most) + 11) (omega (arith, le)) (omega (arith, le))
+
+pub enough_to_search_more : (nodes times most : ℕ) → times ≤ most → enough_to_search_among nodes times ≤ enough_to_search_among nodes most
+enough_to_search_more nodes times most le = mul-le (times + 1) (9 * (nodes + times) + 11) (most + 1) (9 * (nodes + most) + 11) (omega (arith, le)) (omega (arith, le))
+
+pub enough_to_insert_more : (nodes times most : ℕ) → times ≤ most → enough_to_insert_among nodes times ≤ enough_to_insert_among nodes most
+enough_to_insert_more nodes times most le = let x = mul-le (times + 2) (9 * (nodes + times) + 11) (most + 2) (9 * (nodes + most) + 11) (omega (arith, le)) (omega (arith, le)) in omega (arith, x)

@@ -1,0 +1,45 @@
+-- How often other passes disturb a call, and the budgets that suffice all the same.
+use Rattle.std.specs.Prelude.{ℕ, ◌+◌, ◌-◌, ◌*◌, List}
+use Rattle.vbr_words.specs.Buckets.{bucket_of}
+use Rattle.vbr_machine.specs.Accounts.{incarnations_after}
+use Rattle.vbr_machine.specs.Disturbances.{disturbances, marked_nodes, own_changes, updates}
+use Rattle.vbr_machine.specs.declared.event.Event.{Event}
+use Rattle.vbr_slots.specs.Views.{Trace}
+
+-- how often other passes had disturbed this one at a key's bucket, after these events: they inserted, marked or unlinked a node there, or advanced the epoch
+abbrev pub disturbed_after : Trace → ℕ → List Event → ℕ
+disturbed_after p key run = disturbances p.start run p.who (bucket_of p.start.shape key)
+
+-- and how often they did since, in what the pass has seen
+abbrev pub disturbed : Trace → Trace → ℕ → ℕ
+disturbed p q key = disturbed_after p key q.seen - disturbed_after p key p.seen
+
+-- the most that this can be: one for each advance of the epoch since, two for each update answered yes, and one for each node that was marked
+abbrev pub most_disturbed : Trace → Trace → ℕ
+most_disturbed p q = (incarnations_after p.start q.seen).epoch - (incarnations_after p.start p.seen).epoch
+    + 2 * (updates (incarnations_after p.start q.seen).calls - updates (incarnations_after p.start p.seen).calls)
+    + marked_nodes (incarnations_after p.start p.seen)
+
+-- enough for a look-up among so many nodes that is disturbed so often: it may begin again once for each time, and meet one more node
+abbrev pub enough_among : ℕ → ℕ → ℕ
+enough_among nodes times = (times + 1) * (5 * (nodes + times) + 11)
+
+-- the most that it costs where it is answered
+abbrev pub costs_among : ℕ → ℕ → ℕ
+costs_among nodes times = (times + 1) * (5 * (nodes + times) + 6)
+
+-- how often the pass had changed the list of a key's bucket itself, or moved the epoch
+abbrev pub changed_after : Trace → ℕ → List Event → ℕ
+changed_after p key run = own_changes p.start run p.who (bucket_of p.start.shape key)
+
+-- enough to find where a key stands among so many nodes, for a pass that is disturbed so often
+abbrev pub enough_to_search_among : ℕ → ℕ → ℕ
+enough_to_search_among nodes times = (times + 1) * (9 * (nodes + times) + 11)
+
+-- enough to insert with a slot in the own pool: two searches, a slot, and once more for each time that it is disturbed
+abbrev pub enough_to_insert_among : ℕ → ℕ → ℕ
+enough_to_insert_among nodes times = (times + 2) * (9 * (nodes + times) + 11) + 80
+
+-- the most that it costs where it is found
+abbrev pub find_costs_among : ℕ → ℕ → ℕ
+find_costs_among nodes times = (times + 1) * (9 * (nodes + times) + 3)
