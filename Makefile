@@ -29,7 +29,7 @@ help:
 	@echo '    PREBUILT=1           with either: take the files of prebuilt/, and prove nothing'
 	@echo 'make test                prove what library and program stand on, run all tests, clients, refused memory, kept inputs'
 	@echo 'make check               for daily work: what has changed, the tests, the programs, edits of changed crates'
-	@echo 'make gate                the whole: every proof from nothing, those of tests too, must-fail edits, the second compiler'
+	@echo 'make gate                the whole: every proof from nothing, those of tests too, edits that must be refused, the second compiler'
 	@echo 'make man                 write the man pages: target/man'
 	@echo 'make docs                write the man pages, and the pages of doxygen and rustdoc where these are installed'
 	@echo 'make docs-check          see that the documents are true to the tree, and that contracts have their form'

@@ -36,8 +36,9 @@ class Crate:
         return any(re.search(r"#\[test\]", text_of(it)) for it in self.files() if it.endswith(".rt"))
 
     def edits(self):
-        folder = f"{self.folder}/must-fail"
-        return [it for it in sorted(os.listdir(folder)) if it.endswith(".edit")] if os.path.isdir(folder) else []
+        """Its edits that the prover must refuse, by their paths in it: those that the kit tries, and those that tools/edits does."""
+        folders = [it for it in ("must-fail", "wrong-bodies") if os.path.isdir(f"{self.folder}/{it}")]
+        return [f"{folder}/{it}" for folder in folders for it in sorted(os.listdir(f"{self.folder}/{folder}")) if it.endswith(".edit")]
 
     def stream(self, name):
         """What its program is given or has to print: the files stdin, stdout, args and status beside src/, or nothing."""
