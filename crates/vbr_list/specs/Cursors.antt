@@ -33,9 +33,9 @@ IsBehindKey bucket key c = ((c.bucket ≡ bucket) × (c.from ≡ key + 1)) ⊎ (
 abbrev pub IsPassed : Start → Cursor → ℕ → Type 0
 IsPassed start c key = (bucket_of start.shape key < c.bucket) ⊎ ((bucket_of start.shape key ≡ c.bucket) × (key < c.from))
 
--- a key doesn't: it is of a later bucket, or of its bucket and no less than its number
-abbrev pub IsAhead : Start → Cursor → ℕ → Type 0
-IsAhead start c key = (c.bucket < bucket_of start.shape key) ⊎ ((bucket_of start.shape key ≡ c.bucket) × (c.from ≤ key))
+-- a key is to come at a cursor: it is of a later bucket, or of its bucket and no less than its number
+abbrev pub IsToCome : Start → Cursor → ℕ → Type 0
+IsToCome start c key = (c.bucket < bucket_of start.shape key) ⊎ ((bucket_of start.shape key ≡ c.bucket) × (c.from ≤ key))
 
 -- one key comes before another: its bucket is earlier, or they are of one bucket and it is less
 abbrev pub ComesFirst : Start → ℕ → ℕ → Type 0
@@ -46,8 +46,8 @@ ComesFirst start key other = (bucket_of start.shape key < bucket_of start.shape 
 -- from one cursor on to another: the key that was given stands between them and was there at a moment of what the pass did, and each other key between them was absent at a moment of it
 pub record PassesBy (p q : Trace) (c d : Cursor) (given : Option ℕ) : Type 0 where
   pub onward : (key : ℕ) → IsPassed p.start c key → IsPassed p.start d key
-  pub was : IfSome given (λ key. IsAhead p.start c key × IsPassed p.start d key × WasSo p q key true)
-  pub others : (key : ℕ) → key < 2 ^ 64 → IsAhead p.start c key → IsPassed p.start d key → (given ≡ Some key) ⊎ WasSo p q key false
+  pub was : IfSome given (λ key. IsToCome p.start c key × IsPassed p.start d key × WasSo p q key true)
+  pub others : (key : ℕ) → key < 2 ^ 64 → IsToCome p.start c key → IsPassed p.start d key → (given ≡ Some key) ⊎ WasSo p q key false
 
 -- a cursor stands behind the last bucket, so all keys stand before it
 abbrev pub IsAtEnd : Start → Cursor → Type 0

@@ -9,7 +9,7 @@ use Rattle.vbr_slots.specs.Views.{PassView, TableView}
 use Rattle.vbr_slots.proofs.Lemmas.{adds_on, adds_refl, loads_on, loads_refl, quiet_on, quiet_refl, same_refl}
 use Rattle.vbr_at_table.specs.KeptSlots.{TakesNoSlot}
 use Rattle.vbr_at_table.proofs.Lemmas.{none_on, none_refl}
-use Rattle.vbr_list.specs.Cursors.{HasGiven, HasGivenAll, IsAhead, IsAtEnd, IsPassed, first_cursor}
+use Rattle.vbr_list.specs.Cursors.{HasGiven, HasGivenAll, IsToCome, IsAtEnd, IsPassed, first_cursor}
 use Rattle.vbr_list.specs.declared.cursor.Cursor.{Cursor}
 use Rattle.vbr_list.specs.declared.refusal.Refusal.{Refusal}
 use Rattle.vbr_list.proofs.Lemmas.{given_all, given_none, given_on, sees_on}
@@ -87,7 +87,7 @@ abbrev pub left_of : Cursor → ℕ
 left_of c = 2 ^ 96 - (c.bucket * 2 ^ 64 + c.from)
 
 -- it comes nearer with each key
-pub nearer : (start : Start) (c d : Cursor) (key : ℕ) → c.from < 2 ^ 64 → d.bucket < 2 ^ 32 → d.from < 2 ^ 64 → key < 2 ^ 64 → IsAhead start c key → IsPassed start d key → left_of d < left_of c
+pub nearer : (start : Start) (c d : Cursor) (key : ℕ) → c.from < 2 ^ 64 → d.bucket < 2 ^ 32 → d.from < 2 ^ 64 → key < 2 ^ 64 → IsToCome start c key → IsPassed start d key → left_of d < left_of c
 nearer start c d key a b e k (inl x) (inl y) = omega (arith, a, b, e, k, x, y)
 nearer start c d key a b e k (inl x) (inr y) = let u = y.0 in let v = y.1 in omega (arith, a, b, e, k, x, u, v)
 nearer start c d key a b e k (inr x) (inl y) = let u = x.0 in let v = x.1 in omega (arith, a, b, e, k, y, u, v)
