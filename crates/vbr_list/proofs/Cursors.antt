@@ -33,6 +33,9 @@ so_since {p} {q} {r} {key} {present} x y = record {
   was = ap (λ (s : Start). set_after (opening_keys s) (world_after s y.moment).calls key) (sym x.same.start) ∙ y.was;
 }
 
+pub entry_more : {p q r : Trace} {key value : ℕ} → WasEntry p q key value → SeesMore q r → WasEntry p r key value
+entry_more {p} {q} {r} x y = record { moment = x.moment; within = record { from = x.within.from; to = begins_trans x.moment q.seen r.seen x.within.to y.begins; is_run = y.is_run }; was = x.was; stored = x.stored }
+
 pub entry_since : {p q r : Trace} {key value : ℕ} → SeesMore p q → WasEntry q r key value → WasEntry p r key value
 entry_since {p} {q} {r} {key} {value} x y = record {
   moment = y.moment;
