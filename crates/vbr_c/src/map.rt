@@ -3,6 +3,7 @@
 ghost use Rattle.std.specs.Prelude.{◌≡◌, None};
 ghost use Rattle.vbr_machine.specs.declared.history.Op.TheVariants.{Has};
 ghost use Rattle.vbr_handles.specs.Calls.{TellsCall, TellsInsertEntry};
+ghost use Rattle.vbr_handles.specs.Iterating.{TellsNextEntry};
 ghost use Rattle.vbr_handles.specs.ValueCalls.{TellsGetEntry, TellsRemoveEntry};
 ghost use Rattle.vbr_handles.specs.Opening.{entries_start};
 ghost use Rattle.vbr_handles.specs.OpeningCodes.{TellsMapOpening, TellsMapOpeningWith};
@@ -12,8 +13,9 @@ ghost use Rattle.vbr_set.specs.AllMembers.{AreOfOneSet};
 ghost use Rattle.vbr_handles.specs.Shown.{buckets_of, epoch_of, last_epoch_of, slots_of};
 
 use std::alloc::Global;
-use vbr_handles::numbers::entries;
+use vbr_handles::numbers::{entries, iterating};
 use vbr_handles::{Entry, MapHandle, ReportNumbers, ShapeNumbers, numbers, shown};
+use vbr_set::Cursor;
 use vbr_words::Entries;
 
 /// Opens an empty map, with a pass for each of the handles, which are empty: 0. No pass has made a step
@@ -255,4 +257,27 @@ pub extern "C" fn vbr_map_drop(alloc: Global, handle: &mut MapHandle)
     ensures { handle.new.member ≡ None }
 {
     vbr_handles::abandon(alloc, handle.owner_mut());
+}
+
+/// Tells the next key at a cursor with its value, bucket by bucket and ascending in each: 1, and both are
+/// written, and the cursor is behind the key; 0 at the end, and nothing is written. A cursor begins as zeros.
+/// Each key that is there from the first call of an iteration to its last is given once, whatever other
+/// handles do meanwhile, and none that wasn't there at a moment of its call, with a value that it had at such
+/// a moment. It makes at most `budget` steps, all of them loads. While the other handles stand still, 5n + 11
+/// are enough to give a key or to come to the next bucket, with n nodes in the cursor's.
+///
+/// Refusals, after which the handle can go on and nothing is written: -1, the steps leave no room in the
+/// budget, and the cursor keeps how far it has come; -4, the handle is empty.
+#[unsafe(no_mangle)]
+pub extern "C" fn vbr_map_next(
+    handle: &mut MapHandle,
+    cursor: &mut Cursor,
+    budget: u32,
+    key: &mut u64,
+    value: &mut u64,
+) -> i32
+    ensures { TellsNextEntry handle.old.member handle.new.member cursor.old cursor.new budget
+        (key.old, value.old) (key.new, value.new) result }
+{
+    iterating::next_entry(handle.owner_mut(), cursor, budget, key, value)
 }

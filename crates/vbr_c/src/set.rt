@@ -234,7 +234,7 @@ pub extern "C" fn vbr_drop(alloc: Global, handle: &mut Handle)
 /// them loads. While the other handles stand still, 5n + 11 are enough to give a key or to come to the next
 /// bucket, with n nodes in the cursor's.
 ///
-/// Refusals, after which no call was made and the handle can go on: -1, the steps leave no room in the
+/// Refusals, after which the handle can go on and nothing is written: -1, the steps leave no room in the
 /// budget, and the cursor keeps how far it has come; -4, the handle is empty.
 #[unsafe(no_mangle)]
 pub extern "C" fn vbr_next(

@@ -1,14 +1,19 @@
 -- What a call of an iteration tells through a handle.
-use Rattle.std.specs.Prelude.{◌≡◌, ℕ, ℤ, Option, None, Some}
+use Rattle.std.specs.Prelude.{◌≡◌, ℕ, ℤ, Option, Result, IfNone}
 use Rattle.vbr_list.specs.declared.cursor.Cursor.{Cursor}
-use Rattle.vbr_set.specs.Iterating.{CallsNext}
+use Rattle.vbr_list.specs.declared.refusal.Refusal.{Refusal}
+use Rattle.vbr_set.specs.Iterating.{CallsNext, CallsNextEntry}
 use Rattle.vbr_set.specs.Members.{MemberView as Member}
-use Rattle.vbr_handles.specs.Codes.{empty_code}
-use Rattle.vbr_handles.specs.ValueCalls.{GivesAnswer}
+use Rattle.vbr_handles.specs.ValueCalls.{GivesBy}
 
--- an empty handle stays so, has a code of its own, and nothing is written; of a full one, which stays full, the member made the call, the code is yes where a key was given, and that is written, and no at the end
+-- it tells what a call that gives something does, so what is next is written where there is such; and an empty handle leaves the cursor where it was
+abbrev pub TellsNextBy : {A : Type 0} → (Member → Member → Cursor → Cursor → Result (Option A) Refusal → Type 0) → Option Member → Option Member → Cursor → Cursor → A → A → ℤ → Type 0
+TellsNextBy Calls m n c d old new code = GivesBy (λ m n answer. Calls m n c d answer) m n old new code × IfNone m (d ≡ c)
+
+-- so it is of keys
 abbrev pub TellsNext : Option Member → Option Member → Cursor → Cursor → ℕ → ℕ → ℕ → ℤ → Type 0
-TellsNext None None c d budget old new code = (code ≡ empty_code) × (new ≡ old) × (d ≡ c)
-TellsNext None (Some n) c d budget old new code = ⊥
-TellsNext (Some m) None c d budget old new code = ⊥
-TellsNext (Some m) (Some n) c d budget old new code = GivesAnswer (λ m n answer. CallsNext m n c d budget answer) m n old new code
+TellsNext m n c d budget old new code = TellsNextBy (λ m n c d answer. CallsNext m n c d budget answer) m n c d old new code
+
+-- and of entries, of which key and value are written
+abbrev pub TellsNextEntry : Option Member → Option Member → Cursor → Cursor → ℕ → ℕ × ℕ → ℕ × ℕ → ℤ → Type 0
+TellsNextEntry m n c d budget old new code = TellsNextBy (λ m n c d answer. CallsNextEntry m n c d budget answer) m n c d old new code

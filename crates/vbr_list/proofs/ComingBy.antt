@@ -1,34 +1,75 @@
 -- An iteration goes from bucket to bucket.
-use Rattle.std.proofs.Common.{◌≡◌, ℕ, ◌+◌, ◌<◌, ◌≤◌, Some, None, Ok, Err, refl, ap, ◌∙◌, subst, arith, inl, inr}
-use Rattle.std.specs.Prelude.{◌⊎◌}
+use Rattle.std.proofs.Common.{◌≡◌, ℕ, suc, ◌+◌, ◌-◌, ◌<◌, ◌≤◌, Some, None, Ok, Err, refl, sym, ap, ◌∙◌, subst, arith, inl, inr}
+use Rattle.vbr_words.specs.Buckets.{bucket_of}
 use Rattle.vbr_machine.specs.Start.{Start}
 use Rattle.vbr_machine.specs.Runs.{IsRun}
 use Rattle.vbr_slots.specs.Alone.{IsAlone}
 use Rattle.vbr_slots.specs.Calls.{Quiet}
 use Rattle.vbr_slots.specs.PassLaw.{PassLaw}
 use Rattle.vbr_slots.specs.Views.{PassView, Trace}
+use Rattle.vbr_slots.proofs.Lemmas.{quiet_adds_none}
 use Rattle.vbr_at_table.proofs.Lemmas.{took_all}
-use Rattle.vbr_list.specs.Cursors.{GivesWhere, IsAtEnd, IsBehindKey, Iterates, PassesBy, SeesMore, next_bucket}
-use Rattle.vbr_list.specs.Next.{enough_to_seek}
+use Rattle.vbr_list.specs.Budgets.{steps_to_value_of}
+use Rattle.vbr_list.specs.Cursors.{HasStayedOrMoved, IsAtEnd, IsBehindKey, IteratesWhere, PassesBy, SeesMore, costs_over, next_bucket}
+use Rattle.vbr_list.specs.Next.{enough_to_seek, listed_in, seek_costs}
 use Rattle.vbr_list.specs.Pieces.{Goes, Observes}
 use Rattle.vbr_list.specs.Seeking.{Sought}
 use Rattle.vbr_list.specs.declared.cursor.Cursor.{Cursor}
 use Rattle.vbr_list.specs.declared.refusal.Refusal.TheVariants.{OutOfSteps}
 use Rattle.vbr_list.proofs.Cursors.{entry_since, passes_bucket, passes_key, passes_on, passes_still}
 use Rattle.vbr_list.proofs.Going.{goes_on, goes_refl, within_of}
-use Rattle.vbr_list.proofs.Nearing.{then_of}
+use Rattle.vbr_list.proofs.Nearing.{first_of, then_of}
 use Rattle.vbr_list.proofs.Observing.{observes_on, observes_refl}
 
--- what the loop keeps: it has come from one cursor to another, and found no key; nothing was done yet, or it has come a bucket further
+-- ---- what buckets cost
+
+-- one bucket more
+costs_on : (p : Trace) (from to : ℕ) → from ≤ to → costs_over p from (to + 1 - from) ≡ costs_over p from (to - from) + seek_costs p to
+costs_on p from to le =
+    let next : to + 1 - from ≡ suc (to - from) = omega (arith, le) in
+    let last : from + (to - from) ≡ to = omega (arith, le) in
+    ap (costs_over p from) next ∙ ap (λ b. costs_over p from (to - from) + seek_costs p b) last
+
+costs_grow : (p : Trace) (from to : ℕ) → from ≤ to → costs_over p from (to - from) ≤ costs_over p from (to + 1 - from)
+costs_grow p from to le = let e = costs_on p from to le in omega (arith, e)
+
+module _ {p : PassView} (q : PassView) (law : PassLaw p) (quiet : Quiet p.trace q.trace) (alone : IsAlone p.trace q.trace) (bucket : ℕ) where
+  listed_no_more : listed_in q.trace bucket ≤ listed_in p.trace bucket
+  listed_no_more = quiet_adds_none law.start law.is_run quiet alone bucket bucket
+
+  -- a pass that was alone and made no call seeks at no more cost than before
+  costs_no_more : seek_costs q.trace bucket ≤ seek_costs p.trace bucket
+  costs_no_more =
+      let values : steps_to_value_of q.trace.start ≡ steps_to_value_of p.trace.start = ap steps_to_value_of quiet.same.start in
+      omega (arith, listed_no_more, values)
+
+  enough_no_more : enough_to_seek q.trace bucket ≤ enough_to_seek p.trace bucket
+  enough_no_more = omega (arith, listed_no_more)
+
+-- ---- what the loop keeps
+
+-- it has come from one cursor to another, and found no key
 pub record HasComeBy (p q : PassView) (c d : Cursor) (used budget : ℕ) : Type 0 where
   pub goes : Goes p q 0 used
   pub observes : Observes p.trace q.trace
   pub within : used ≤ budget
   pub passes : PassesBy p.trace q.trace c d None
-  pub first : ((d ≡ c) × (q ≡ p) × (used ≡ 0)) ⊎ (c.bucket < d.bucket)
+  pub moved : HasStayedOrMoved c d
+  pub paid : IsAlone p.trace q.trace → used ≤ costs_over p.trace c.bucket (d.bucket - c.bucket)
 
 pub come_none : (p : PassView) (c : Cursor) (budget : ℕ) → HasComeBy p p c c 0 budget
-come_none p c budget = record { goes = goes_refl p 0; observes = observes_refl p.trace; within = omega arith; passes = passes_still p.trace p.trace c; first = inl (refl, refl, refl) }
+come_none p c budget = record {
+  goes = goes_refl p 0;
+  observes = observes_refl p.trace;
+  within = omega arith;
+  passes = passes_still p.trace p.trace c;
+  moved = inl refl;
+  paid = λ alone. omega arith;
+}
+
+forth : (c d : Cursor) → HasStayedOrMoved c d → c.bucket ≤ d.bucket
+forth c d (inl same) = let e = ap (λ (u : Cursor). u.bucket) same in omega (arith, e)
+forth c d (inr later) = let u = later.0 in omega (arith, u)
 
 -- a quiet pass has seen more
 sees : {p q : Trace} → IsRun p.start p.passes p.seen → Quiet p q → SeesMore p q
@@ -41,6 +82,19 @@ module _ {p q : PassView} (r : PassView) (law : PassLaw p) (c d : Cursor) (used 
   from_here : Quiet q.trace r.trace → SeesMore q.trace r.trace
   from_here quiet = sees (x.goes.quiet.is_run law.is_run) quiet
 
+  on : c.bucket ≤ d.bucket
+  on = forth c d x.moved
+
+  -- what was paid, with what it cost to seek in one bucket more
+  paid_on : Quiet q.trace r.trace → (IsAlone q.trace r.trace → since ≤ used + seek_costs q.trace d.bucket) → IsAlone p.trace r.trace → since ≤ costs_over p.trace c.bucket (d.bucket + 1 - c.bucket)
+  paid_on quiet paid alone =
+      let first = first_of x.goes.quiet quiet alone in
+      let before = x.paid first in
+      let now = paid (then_of x.goes.quiet quiet alone) in
+      let few = costs_no_more q law x.goes.quiet first d.bucket in
+      let sum = costs_on p.trace c.bucket d.bucket on in
+      omega (arith, before, now, few, sum)
+
   -- over the rest of a bucket
   pub come_on : Sought q r d.bucket d.from used since budget (Some None) → HasComeBy p r c (next_bucket d) since budget
   come_on y = record {
@@ -48,72 +102,66 @@ module _ {p q : PassView} (r : PassView) (law : PassLaw p) (c d : Cursor) (used 
     observes = observes_on x.observes y.observes;
     within = y.within.1;
     passes = passes_on to_here (from_here y.goes.quiet) x.passes (passes_bucket d y.tells);
-    first = inr (further x.first);
+    moved = inr (omega (arith, on), refl);
+    paid = λ alone. paid_on y.goes.quiet y.paid alone;
   }
-    where
-      further : ((d ≡ c) × (q ≡ p) × (used ≡ 0)) ⊎ (c.bucket < d.bucket) → c.bucket < d.bucket + 1
-      further (inl same) = let e = ap (λ (u : Cursor). u.bucket) same.0 in omega (arith, e)
-      further (inr lt) = omega (arith, lt)
 
   -- to a key
-  pub come_to : (e : Cursor) (key value : ℕ) → Sought q r d.bucket d.from used since budget (Some (Some (key, value))) → IsBehindKey d.bucket key e → Iterates (GivesWhere p.trace r.trace c e) p r c e budget (Ok (Some (key, value)))
+  pub come_to : (e : Cursor) (key value : ℕ) → Sought q r d.bucket d.from used since budget (Some (Some (key, value))) → IsBehindKey d.bucket key e → IteratesWhere p r c e budget (Ok (Some (key, value)))
   come_to e key value y behind =
       let all = goes_on x.goes y.goes in
       let seen = observes_on x.observes y.observes in
+      let of_bucket : bucket_of p.trace.start.shape key ≡ d.bucket = ap (λ (s : Start). bucket_of s.shape key) (sym x.goes.quiet.same.start) ∙ y.tells.0.of_bucket in
+      let P : ℕ → Type 0 = λ b. IsBehindKey b key e in
       record {
         gives = (
-          passes_on to_here (from_here y.goes.quiet) x.passes (passes_key d e key y.tells.0 behind),
+          (passes_on to_here (from_here y.goes.quiet) x.passes (passes_key d e key y.tells.0 behind), subst P (sym of_bucket) behind),
           λ values. entry_since to_here (y.tells.1 (ap (λ (s : Start). s.shape.values) x.goes.quiet.same.start ∙ values)),
         );
-        passed = tt;
+        refused = tt;
         quiet = all.quiet;
         only_loads = seen.only_loads;
         adds_none = seen.adds_none;
         takes_no_slot = all.hand.takes_no_slot;
         hand = all.hand.hand;
         steps = within_of since budget y.within.1 all.counts;
-        refused = tt;
-        moves = tt;
+        costs = λ alone. within_of since (costs_over p.trace c.bucket (e.bucket + 1 - c.bucket)) (behind_costs behind (paid_on y.goes.quiet y.paid alone)) all.counts;
       }
+    where
+      behind_costs : IsBehindKey d.bucket key e → since ≤ costs_over p.trace c.bucket (d.bucket + 1 - c.bucket) → since ≤ costs_over p.trace c.bucket (e.bucket + 1 - c.bucket)
+      behind_costs (inl b) le = let P : ℕ → Type 0 = λ n. since ≤ costs_over p.trace c.bucket (n + 1 - c.bucket) in subst P (sym b.0) le
+      behind_costs (inr b) le =
+          let more = costs_grow p.trace c.bucket (d.bucket + 1) (omega (arith, on)) in
+          let P : ℕ → Type 0 = λ n. since ≤ costs_over p.trace c.bucket (n + 1 - c.bucket) in
+          subst P (sym b.0) (omega (arith, le, more))
 
   -- no further, for want of steps
-  pub come_short : Sought q r d.bucket d.from used since budget None → Iterates (GivesWhere p.trace r.trace c d) p r c d budget (Err (OutOfSteps since))
-  come_short y =
+  pub come_short : d.bucket < p.trace.start.shape.buckets → Sought q r d.bucket d.from used since budget None → IteratesWhere p r c d budget (Err (OutOfSteps since))
+  come_short here y =
       let all = goes_on x.goes y.goes in
       let seen = observes_on x.observes y.observes in
       record {
         gives = tt;
-        passed = passes_on to_here (from_here y.goes.quiet) x.passes (passes_still q.trace r.trace d);
+        refused = record {
+          tired = record { took = took_all all.counts; within = y.within.1; short = y.tired };
+          passed = passes_on to_here (from_here y.goes.quiet) x.passes (passes_still q.trace r.trace d);
+          moved = x.moved;
+          bucket = here;
+          short = λ alone. short alone;
+        };
         quiet = all.quiet;
         only_loads = seen.only_loads;
         adds_none = seen.adds_none;
         takes_no_slot = all.hand.takes_no_slot;
         hand = all.hand.hand;
         steps = within_of since budget y.within.1 all.counts;
-        refused = record { took = took_all all.counts; within = y.within.1; short = y.tired };
-        moves = λ alone. moved alone x.first;
+        costs = tt;
       }
     where
-      moved : IsAlone p.trace r.trace → ((d ≡ c) × (q ≡ p) × (used ≡ 0)) ⊎ (c.bucket < d.bucket) → (c.bucket < d.bucket) ⊎ (budget < enough_to_seek p.trace c.bucket)
-      moved alone (inr lt) = inl lt
-      moved alone (inl same) = inr (
-          let P : PassView → Type 0 = λ s. budget < used + enough_to_seek s.trace d.bucket in
-          let Q : Cursor → Type 0 = λ u. budget < used + enough_to_seek p.trace u.bucket in
-          let short = subst Q same.0 (subst P same.1 (y.short (then_of x.goes.quiet y.goes.quiet alone))) in
-          let zero = same.2 in
-          omega (arith, short, zero))
-
--- to the end
-pub come_to_end : (p q : PassView) (c d : Cursor) (used budget : ℕ) → HasComeBy p q c d used budget → IsAtEnd p.trace.start d → Iterates (GivesWhere p.trace q.trace c d) p q c d budget (Ok None)
-come_to_end p q c d used budget x end = record {
-  gives = (x.passes, end);
-  passed = tt;
-  quiet = x.goes.quiet;
-  only_loads = x.observes.only_loads;
-  adds_none = x.observes.adds_none;
-  takes_no_slot = x.goes.hand.takes_no_slot;
-  hand = x.goes.hand.hand;
-  steps = within_of used budget x.within x.goes.counts;
-  refused = tt;
-  moves = tt;
-}
+      short : IsAlone p.trace r.trace → budget < costs_over p.trace c.bucket (d.bucket - c.bucket) + enough_to_seek p.trace d.bucket
+      short alone =
+          let first = first_of x.goes.quiet y.goes.quiet alone in
+          let before = x.paid first in
+          let lacks = y.short (then_of x.goes.quiet y.goes.quiet alone) in
+          let few = enough_no_more q law x.goes.quiet first d.bucket in
+          omega (arith, before, lacks, few)

@@ -13,7 +13,7 @@ use Rattle.vbr_machine.proofs.Lemmas.{begins_trans}
 use Rattle.vbr_slots.specs.Views.{Trace}
 use Rattle.vbr_slots.proofs.Lemmas.{same_on}
 use Rattle.vbr_at_table.specs.Moments.{WasEntry, WasSo}
-use Rattle.vbr_list.specs.Cursors.{AreInOrder, ComesFirst, HasGiven, HasGivenAll, IsAhead, IsAtEnd, IsBehindKey, IsPassed, PassesBy, SeesMore, first_cursor, next_bucket}
+use Rattle.vbr_list.specs.Cursors.{AreInOrder, ComesFirst, HasGiven, HasGivenAll, IsToCome, IsAtEnd, IsBehindKey, IsPassed, PassesBy, SeesMore, first_cursor, next_bucket}
 use Rattle.vbr_list.specs.Next.{HasNoNext, IsNextKey}
 use Rattle.vbr_list.specs.declared.cursor.Cursor.{Cursor}
 
@@ -33,6 +33,9 @@ so_since {p} {q} {r} {key} {present} x y = record {
   was = ap (λ (s : Start). set_after (opening_keys s) (world_after s y.moment).calls key) (sym x.same.start) ∙ y.was;
 }
 
+pub entry_more : {p q r : Trace} {key value : ℕ} → WasEntry p q key value → SeesMore q r → WasEntry p r key value
+entry_more {p} {q} {r} x y = record { moment = x.moment; within = record { from = x.within.from; to = begins_trans x.moment q.seen r.seen x.within.to y.begins; is_run = y.is_run }; was = x.was; stored = x.stored }
+
 pub entry_since : {p q r : Trace} {key value : ℕ} → SeesMore p q → WasEntry q r key value → WasEntry p r key value
 entry_since {p} {q} {r} {key} {value} x y = record {
   moment = y.moment;
@@ -44,27 +47,27 @@ entry_since {p} {q} {r} {key} {value} x y = record {
 -- ---- cursors
 
 -- a key is passed, or is ahead
-pub passed_or_ahead : (start : Start) (c : Cursor) (key : ℕ) → IsPassed start c key ⊎ IsAhead start c key
-passed_or_ahead start c key = go (cases_order (bucket_of start.shape key) c.bucket)
+pub passed_or_to_come : (start : Start) (c : Cursor) (key : ℕ) → IsPassed start c key ⊎ IsToCome start c key
+passed_or_to_come start c key = go (cases_order (bucket_of start.shape key) c.bucket)
   where
-    in_it : bucket_of start.shape key ≡ c.bucket → (key < c.from) ⊎ (c.from ≤ key) → IsPassed start c key ⊎ IsAhead start c key
+    in_it : bucket_of start.shape key ≡ c.bucket → (key < c.from) ⊎ (c.from ≤ key) → IsPassed start c key ⊎ IsToCome start c key
     in_it e (inl low) = inl (inr (e, low))
     in_it e (inr high) = inr (inr (e, high))
 
-    go : (bucket_of start.shape key ≡ c.bucket) ⊎ ((bucket_of start.shape key < c.bucket) ⊎ (c.bucket < bucket_of start.shape key)) → IsPassed start c key ⊎ IsAhead start c key
+    go : (bucket_of start.shape key ≡ c.bucket) ⊎ ((bucket_of start.shape key < c.bucket) ⊎ (c.bucket < bucket_of start.shape key)) → IsPassed start c key ⊎ IsToCome start c key
     go (inl e) = in_it e (cases_lt key c.from)
     go (inr (inl early)) = inl (inl early)
     go (inr (inr late)) = inr (inl late)
 
 -- not both
-pub not_both : (start : Start) (c : Cursor) (key : ℕ) → IsPassed start c key → IsAhead start c key → ⊥
+pub not_both : (start : Start) (c : Cursor) (key : ℕ) → IsPassed start c key → IsToCome start c key → ⊥
 not_both start c key (inl x) (inl y) = omega (arith, x, y)
 not_both start c key (inl x) (inr y) = let e = y.0 in omega (arith, x, e)
 not_both start c key (inr x) (inl y) = let e = x.0 in omega (arith, y, e)
 not_both start c key (inr x) (inr y) = let u = x.1 in let v = y.1 in omega (arith, u, v)
 
 -- a key that is passed comes before one that is ahead
-pub passed_first : (start : Start) (c : Cursor) (key other : ℕ) → IsPassed start c key → IsAhead start c other → ComesFirst start key other
+pub passed_first : (start : Start) (c : Cursor) (key other : ℕ) → IsPassed start c key → IsToCome start c other → ComesFirst start key other
 passed_first start c key other (inl x) (inl y) = inl (omega (arith, x, y))
 passed_first start c key other (inl x) (inr y) = inl (let e = y.0 in omega (arith, x, e))
 passed_first start c key other (inr x) (inl y) = inl (let e = x.0 in omega (arith, y, e))
@@ -88,7 +91,7 @@ passes_bucket {p} {q} c none = record {
     onward key (inl x) = inl (omega (arith, x))
     onward key (inr x) = inl (let e = x.0 in omega (arith, e))
 
-    others : (key : ℕ) → IsAhead p.start c key → IsPassed p.start (next_bucket c) key → WasSo p q key false
+    others : (key : ℕ) → IsToCome p.start c key → IsPassed p.start (next_bucket c) key → WasSo p q key false
     others key (inl x) (inl y) = absurd (omega (arith, x, y))
     others key (inl x) (inr y) = absurd (let u = y.1 in omega (arith, u))
     others key (inr x) y = none.behind key x.0 x.1
@@ -116,7 +119,7 @@ passes_key {p} {q} c d key next behind = record {
     same_or_less other b from le (inr (inl low)) = inr (next.between other b from low)
     same_or_less other b from le (inr (inr high)) = absurd (omega (arith, le, high))
 
-    others : (other : ℕ) → other < 2 ^ 64 → IsBehindKey c.bucket key d → IsAhead p.start c other → IsPassed p.start d other → (Some key ≡ Some other) ⊎ WasSo p q other false
+    others : (other : ℕ) → other < 2 ^ 64 → IsBehindKey c.bucket key d → IsToCome p.start c other → IsPassed p.start d other → (Some key ≡ Some other) ⊎ WasSo p q other false
     others other small (inl b) (inl x) (inl y) = absurd (let e = b.0 in omega (arith, e, x, y))
     others other small (inl b) (inl x) (inr y) = absurd (let e = b.0 in let f = y.0 in omega (arith, e, f, x))
     others other small (inl b) (inr x) (inl y) = absurd (let e = b.0 in let f = x.0 in omega (arith, e, f, y))
@@ -130,23 +133,23 @@ pub passes_on : {p q r : Trace} {c d e : Cursor} {given : Option ℕ} → SeesMo
 passes_on {p} {q} {r} {c} {d} {e} {given} a b x y = record {
   onward = λ key passed. to_end key (x.onward key passed);
   was = was given y.was;
-  others = λ key small ahead passed. others key small ahead passed (passed_or_ahead p.start d key);
+  others = λ key small ahead passed. others key small ahead passed (passed_or_to_come p.start d key);
 }
   where
     to_end : (key : ℕ) → IsPassed p.start d key → IsPassed p.start e key
     to_end key passed = let P : Start → Type 0 = λ s. IsPassed s d key → IsPassed s e key in subst P a.same.start (y.onward key) passed
 
-    behind : (key : ℕ) → IsAhead p.start d key → IsAhead p.start c key
-    behind key ahead = go (passed_or_ahead p.start c key)
+    behind : (key : ℕ) → IsToCome p.start d key → IsToCome p.start c key
+    behind key ahead = go (passed_or_to_come p.start c key)
       where
-        go : IsPassed p.start c key ⊎ IsAhead p.start c key → IsAhead p.start c key
+        go : IsPassed p.start c key ⊎ IsToCome p.start c key → IsToCome p.start c key
         go (inl passed) = absurd (not_both p.start d key (x.onward key passed) ahead)
         go (inr ahead) = ahead
 
-    was : (given : Option ℕ) → IfSome given (λ key. IsAhead q.start d key × IsPassed q.start e key × WasSo q r key true) → IfSome given (λ key. IsAhead p.start c key × IsPassed p.start e key × WasSo p r key true)
+    was : (given : Option ℕ) → IfSome given (λ key. IsToCome q.start d key × IsPassed q.start e key × WasSo q r key true) → IfSome given (λ key. IsToCome p.start c key × IsPassed p.start e key × WasSo p r key true)
     was None g = tt
     was (Some key) g =
-        let P : Start → Type 0 = λ s. IsAhead s d key in
+        let P : Start → Type 0 = λ s. IsToCome s d key in
         let Q : Start → Type 0 = λ s. IsPassed s e key in
         (behind key (subst P a.same.start g.0), subst Q a.same.start g.1, so_since a g.2)
 
@@ -158,10 +161,10 @@ passes_on {p} {q} {r} {c} {d} {e} {given} a b x y = record {
     second key (inl given_there) = inl given_there
     second key (inr so) = inr (so_since a so)
 
-    others : (key : ℕ) → key < 2 ^ 64 → IsAhead p.start c key → IsPassed p.start e key → IsPassed p.start d key ⊎ IsAhead p.start d key → (given ≡ Some key) ⊎ WasSo p r key false
+    others : (key : ℕ) → key < 2 ^ 64 → IsToCome p.start c key → IsPassed p.start e key → IsPassed p.start d key ⊎ IsToCome p.start d key → (given ≡ Some key) ⊎ WasSo p r key false
     others key small ahead passed (inl before) = first key (x.others key small ahead before)
     others key small ahead passed (inr after) =
-        let P : Start → Type 0 = λ s. IsAhead s d key → IsPassed s e key → (given ≡ Some key) ⊎ WasSo q r key false in
+        let P : Start → Type 0 = λ s. IsToCome s d key → IsPassed s e key → (given ≡ Some key) ⊎ WasSo q r key false in
         second key ((subst P a.same.start (y.others key small)) after passed)
 
 -- ---- an iteration
@@ -204,9 +207,9 @@ given_on {p} {q} {r} {c} {d} {keys} {given} a b x y = go given y.was (λ key sma
     onward : (key : ℕ) → IsPassed p.start c key → IsPassed p.start d key
     onward key passed = let P : Start → Type 0 = λ s. IsPassed s c key → IsPassed s d key in subst P a.same.start (y.onward key) passed
 
-    others_now : (key : ℕ) → key < 2 ^ 64 → IsAhead p.start c key → IsPassed p.start d key → (given ≡ Some key) ⊎ WasSo q r key false
+    others_now : (key : ℕ) → key < 2 ^ 64 → IsToCome p.start c key → IsPassed p.start d key → (given ≡ Some key) ⊎ WasSo q r key false
     others_now key small ahead passed =
-        let P : Start → Type 0 = λ s. IsAhead s c key → IsPassed s d key → (given ≡ Some key) ⊎ WasSo q r key false in
+        let P : Start → Type 0 = λ s. IsToCome s c key → IsPassed s d key → (given ≡ Some key) ⊎ WasSo q r key false in
         (subst P a.same.start (y.others key small)) ahead passed
 
     before : (key : ℕ) → Contains keys key ⊎ WasSo p q key false → Contains keys key ⊎ WasSo p r key false
@@ -217,30 +220,30 @@ given_on {p} {q} {r} {c} {d} {keys} {given} a b x y = go given y.was (λ key sma
     left key more (inl among) = inl (Contains-append_left keys (more ∷ []) key among)
     left key more (inr so) = inr so
 
-    go : (given : Option ℕ) → IfSome given (λ key. IsAhead q.start c key × IsPassed q.start d key × WasSo q r key true) → ((key : ℕ) → key < 2 ^ 64 → IsAhead p.start c key → IsPassed p.start d key → (given ≡ Some key) ⊎ WasSo q r key false) → HasGiven p r d (keys ++ option_to_list given)
+    go : (given : Option ℕ) → IfSome given (λ key. IsToCome q.start c key × IsPassed q.start d key × WasSo q r key true) → ((key : ℕ) → key < 2 ^ 64 → IsToCome p.start c key → IsPassed p.start d key → (given ≡ Some key) ⊎ WasSo q r key false) → HasGiven p r d (keys ++ option_to_list given)
     go None was others =
         let P : List ℕ → Type 0 = HasGiven p r d in
         subst P (sym (append-nil keys)) (record {
           in_order = x.in_order;
           were = λ key among. let w = x.were key among in (onward key w.0, so_more w.1 b);
-          others = λ key small passed. by key small passed (passed_or_ahead p.start c key);
+          others = λ key small passed. by key small passed (passed_or_to_come p.start c key);
         })
       where
         last : (key : ℕ) → (None ≡ Some key) ⊎ WasSo q r key false → Contains keys key ⊎ WasSo p r key false
         last key (inl never) = absurd (cc)
         last key (inr so) = inr (so_since a so)
 
-        by : (key : ℕ) → key < 2 ^ 64 → IsPassed p.start d key → IsPassed p.start c key ⊎ IsAhead p.start c key → Contains keys key ⊎ WasSo p r key false
+        by : (key : ℕ) → key < 2 ^ 64 → IsPassed p.start d key → IsPassed p.start c key ⊎ IsToCome p.start c key → Contains keys key ⊎ WasSo p r key false
         by key small passed (inl early) = before key (x.others key small early)
         by key small passed (inr late) = last key (others key small late passed)
     go (Some more) was others = record {
       in_order = order_and p.start keys more x.in_order (λ other among. passed_first p.start c other more (x.were other among).0 ahead);
       were = λ key among. were key (Contains-push_cases keys more key among);
-      others = λ key small passed. by key small passed (passed_or_ahead p.start c key);
+      others = λ key small passed. by key small passed (passed_or_to_come p.start c key);
     }
       where
-        ahead : IsAhead p.start c more
-        ahead = let P : Start → Type 0 = λ s. IsAhead s c more in subst P a.same.start was.0
+        ahead : IsToCome p.start c more
+        ahead = let P : Start → Type 0 = λ s. IsToCome s c more in subst P a.same.start was.0
 
         were : (key : ℕ) → Contains keys key ⊎ (more ≡ key) → IsPassed p.start d key × WasSo p r key true
         were key (inl among) = let w = x.were key among in (onward key w.0, so_more w.1 b)
@@ -253,7 +256,7 @@ given_on {p} {q} {r} {c} {d} {keys} {given} a b x y = go given y.was (λ key sma
         last key (inl same) = inl (let e : more ≡ key = cc in let P : ℕ → Type 0 = Contains (keys ++ more ∷ []) in subst P e (Contains-push keys more))
         last key (inr so) = inr (so_since a so)
 
-        by : (key : ℕ) → key < 2 ^ 64 → IsPassed p.start d key → IsPassed p.start c key ⊎ IsAhead p.start c key → Contains (keys ++ more ∷ []) key ⊎ WasSo p r key false
+        by : (key : ℕ) → key < 2 ^ 64 → IsPassed p.start d key → IsPassed p.start c key ⊎ IsToCome p.start c key → Contains (keys ++ more ∷ []) key ⊎ WasSo p r key false
         by key small passed (inl early) = left key more (before key (x.others key small early))
         by key small passed (inr late) = last key (others key small late passed)
 

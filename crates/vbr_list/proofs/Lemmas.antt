@@ -3,7 +3,7 @@
 -- Pieces one after another: they make no call, their steps add up, and the slot in hand stays.
 pub use Rattle.vbr_list.proofs.Going.{of_on}
 -- An iteration: what it has given before its first call, with one more call, and at the end.
-pub use Rattle.vbr_list.proofs.Cursors.{given_all, given_none, given_on, sees_on}
+pub use Rattle.vbr_list.proofs.Cursors.{entry_more, entry_since, given_all, given_none, given_on, sees_on}
 -- What disturbs a pass, and the budgets that suffice all the same.
 pub use Rattle.vbr_list.proofs.Disturbing.{disturbed_most, enough_among_more, enough_to_insert_more, enough_to_search_more}
 pub use Rattle.vbr_list.proofs.Sufficing.{lacks_more}

@@ -1,5 +1,5 @@
 -- Going over all keys from cursor to cursor: what one call tells, and what an iteration has given.
-use Rattle.std.specs.Prelude.{◌≡◌, ℕ, ◌+◌, ◌^◌, ◌<◌, ◌≤◌, ◌⊎◌, true, false, List, [], ◌∷◌, Option, Some, None, Result, IfOk, IfErr, IfSome, Contains}
+use Rattle.std.specs.Prelude.{◌≡◌, ℕ, zero, suc, ◌+◌, ◌-◌, ◌^◌, ◌<◌, ◌≤◌, ◌⊎◌, true, false, List, [], ◌∷◌, Option, Some, None, Result, IfOk, IfErr, IfSome, Contains}
 use Rattle.std.specs.List.{AllByRecursion}
 use Rattle.vbr_machine.specs.Start.{Start}
 use Rattle.vbr_machine.specs.Runs.{Begins, IsRun}
@@ -10,7 +10,7 @@ use Rattle.vbr_slots.specs.Views.{PassView, Trace}
 use Rattle.vbr_at_table.specs.KeptSlots.{TakesNoSlot}
 use Rattle.vbr_at_table.specs.Moments.{WasEntry, WasSo}
 use Rattle.vbr_at_table.specs.Steps.{TookWithin}
-use Rattle.vbr_list.specs.Next.{enough_to_seek}
+use Rattle.vbr_list.specs.Next.{enough_to_seek, seek_costs}
 use Rattle.vbr_list.specs.Refusals.{IsTired}
 use Rattle.vbr_list.specs.declared.cursor.Cursor.{Cursor}
 use Rattle.vbr_list.specs.declared.refusal.Refusal.{Refusal}
@@ -33,9 +33,9 @@ IsBehindKey bucket key c = ((c.bucket ≡ bucket) × (c.from ≡ key + 1)) ⊎ (
 abbrev pub IsPassed : Start → Cursor → ℕ → Type 0
 IsPassed start c key = (bucket_of start.shape key < c.bucket) ⊎ ((bucket_of start.shape key ≡ c.bucket) × (key < c.from))
 
--- a key doesn't: it is of a later bucket, or of its bucket and no less than its number
-abbrev pub IsAhead : Start → Cursor → ℕ → Type 0
-IsAhead start c key = (c.bucket < bucket_of start.shape key) ⊎ ((bucket_of start.shape key ≡ c.bucket) × (c.from ≤ key))
+-- a key is to come at a cursor: it is of a later bucket, or of its bucket and no less than its number
+abbrev pub IsToCome : Start → Cursor → ℕ → Type 0
+IsToCome start c key = (c.bucket < bucket_of start.shape key) ⊎ ((bucket_of start.shape key ≡ c.bucket) × (c.from ≤ key))
 
 -- one key comes before another: its bucket is earlier, or they are of one bucket and it is less
 abbrev pub ComesFirst : Start → ℕ → ℕ → Type 0
@@ -46,47 +46,66 @@ ComesFirst start key other = (bucket_of start.shape key < bucket_of start.shape 
 -- from one cursor on to another: the key that was given stands between them and was there at a moment of what the pass did, and each other key between them was absent at a moment of it
 pub record PassesBy (p q : Trace) (c d : Cursor) (given : Option ℕ) : Type 0 where
   pub onward : (key : ℕ) → IsPassed p.start c key → IsPassed p.start d key
-  pub was : IfSome given (λ key. IsAhead p.start c key × IsPassed p.start d key × WasSo p q key true)
-  pub others : (key : ℕ) → key < 2 ^ 64 → IsAhead p.start c key → IsPassed p.start d key → (given ≡ Some key) ⊎ WasSo p q key false
+  pub was : IfSome given (λ key. IsToCome p.start c key × IsPassed p.start d key × WasSo p q key true)
+  pub others : (key : ℕ) → key < 2 ^ 64 → IsToCome p.start c key → IsPassed p.start d key → (given ≡ Some key) ⊎ WasSo p q key false
 
 -- a cursor stands behind the last bucket, so all keys stand before it
 abbrev pub IsAtEnd : Start → Cursor → Type 0
 IsAtEnd start c = start.shape.buckets ≤ c.bucket
 
--- what a call gives: a key, or none, and then it has come to the end
-abbrev pub GivesKey : Trace → Trace → Cursor → Cursor → Option ℕ → Type 0
-GivesKey p q c d None = PassesBy p q c d None × IsAtEnd p.start d
-GivesKey p q c d (Some key) = PassesBy p q c d (Some key)
+-- what a call gives: a key, and then the cursor is right behind it, or none, and then it has come to the end
+abbrev pub GivesNext : Trace → Trace → Cursor → Cursor → Option ℕ → Type 0
+GivesNext p q c d None = PassesBy p q c d None × IsAtEnd p.start d
+GivesNext p q c d (Some key) = PassesBy p q c d (Some key) × IsBehindKey (bucket_of p.start.shape key) key d
 
 -- where nodes have values, an entry: a key with its value at a moment at which it was there
-abbrev pub GivesEntry : Trace → Trace → Cursor → Cursor → Option (ℕ × ℕ) → Type 0
-GivesEntry p q c d None = PassesBy p q c d None × IsAtEnd p.start d
-GivesEntry p q c d (Some entry) = PassesBy p q c d (Some entry.0) × WasEntry p q entry.0 entry.1
+abbrev pub GivesNextEntry : Trace → Trace → Cursor → Cursor → Option (ℕ × ℕ) → Type 0
+GivesNextEntry p q c d None = GivesNext p q c d None
+GivesNextEntry p q c d (Some entry) = GivesNext p q c d (Some entry.0) × WasEntry p q entry.0 entry.1
 
--- the pass gave what it was to give; or it was refused for want of steps alone, and gave none, and the cursor has come so far; it made no call, and loads alone, added nothing to the chronicle, and has what slots it had; it made no more steps than its budget; and alone a refusal has come a bucket further, or its budget was below what is enough in its bucket
+-- an entry of which the key is right, and the value where nodes have values
+abbrev pub GivesNextWhere : Trace → Trace → Cursor → Cursor → Option (ℕ × ℕ) → Type 0
+GivesNextWhere p q c d None = GivesNext p q c d None
+GivesNextWhere p q c d (Some entry) = GivesNext p q c d (Some entry.0) × (p.start.shape.values ≡ true → WasEntry p q entry.0 entry.1)
+
+-- a cursor stands where it stood, or before the first key of a later bucket
+abbrev pub HasStayedOrMoved : Cursor → Cursor → Type 0
+HasStayedOrMoved c d = (d ≡ c) ⊎ ((c.bucket < d.bucket) × (d.from ≡ 0))
+
+-- the most that it costs a pass that is alone to seek in so many buckets, from one on
+abbrev pub costs_over : Trace → ℕ → ℕ → ℕ
+costs_over p bucket zero = 0
+costs_over p bucket (suc more) = costs_over p bucket more + seek_costs p (bucket + more)
+
+-- a call was refused, for want of steps alone, in a bucket of the table, where the cursor then stands; it gave no key on the way. Alone its budget was below what the buckets cost that it has gone over, and what is enough in the one where it stands
+pub record StopsShort (p q : PassView) (c d : Cursor) (budget : ℕ) (refusal : Refusal) : Type 0 where
+  pub tired : IsTired p q budget refusal
+  pub passed : PassesBy p.trace q.trace c d None
+  pub moved : HasStayedOrMoved c d
+  pub bucket : d.bucket < p.trace.start.shape.buckets
+  pub short : IsAlone p.trace q.trace → budget < costs_over p.trace c.bucket (d.bucket - c.bucket) + enough_to_seek p.trace d.bucket
+
+-- the pass gave what it was to give, or was refused; it made no call, and loads alone, added nothing to the chronicle, and has what slots it had; it made no more steps than its budget; and alone, what it gave cost no more than seeking in each bucket from the first to the one where the cursor stands
 pub record Iterates {A : Type 0} (Gives : A → Type 0) (p q : PassView) (c d : Cursor) (budget : ℕ) (answer : Result A Refusal) : Type 0 where
   pub gives : IfOk answer Gives
-  pub passed : IfErr answer (λ refusal. PassesBy p.trace q.trace c d None)
+  pub refused : IfErr answer (StopsShort p q c d budget)
   pub quiet : Quiet p.trace q.trace
   pub only_loads : OnlyLoads p.trace q.trace
   pub adds_none : AddsNone p.trace q.trace
   pub takes_no_slot : TakesNoSlot p q
   pub hand : q.hand ≡ p.hand
   pub steps : TookWithin p.trace q.trace budget
-  pub refused : IfErr answer (IsTired p q budget)
-  pub moves : IfErr answer (λ refusal. IsAlone p.trace q.trace → (c.bucket < d.bucket) ⊎ (budget < enough_to_seek p.trace c.bucket))
+  pub costs : IfOk answer (λ given. IsAlone p.trace q.trace → TookWithin p.trace q.trace (costs_over p.trace c.bucket (d.bucket + 1 - c.bucket)))
 
--- so it is of keys, and of entries
+-- so it is of keys, of entries, and of entries where nodes have values
 abbrev pub IteratesKeys : PassView → PassView → Cursor → Cursor → ℕ → Result (Option ℕ) Refusal → Type 0
-IteratesKeys p q c d budget answer = Iterates (GivesKey p.trace q.trace c d) p q c d budget answer
+IteratesKeys p q c d budget answer = Iterates (GivesNext p.trace q.trace c d) p q c d budget answer
 
 abbrev pub IteratesEntries : PassView → PassView → Cursor → Cursor → ℕ → Result (Option (ℕ × ℕ)) Refusal → Type 0
-IteratesEntries p q c d budget answer = Iterates (GivesEntry p.trace q.trace c d) p q c d budget answer
+IteratesEntries p q c d budget answer = Iterates (GivesNextEntry p.trace q.trace c d) p q c d budget answer
 
--- an entry with its value where nodes have values
-abbrev pub GivesWhere : Trace → Trace → Cursor → Cursor → Option (ℕ × ℕ) → Type 0
-GivesWhere p q c d None = PassesBy p q c d None × IsAtEnd p.start d
-GivesWhere p q c d (Some entry) = PassesBy p q c d (Some entry.0) × (p.start.shape.values ≡ true → WasEntry p q entry.0 entry.1)
+abbrev pub IteratesWhere : PassView → PassView → Cursor → Cursor → ℕ → Result (Option (ℕ × ℕ)) Refusal → Type 0
+IteratesWhere p q c d budget answer = Iterates (GivesNextWhere p.trace q.trace c d) p q c d budget answer
 
 -- ---- many calls
 

@@ -26,9 +26,9 @@ pub record HasNoNext (p q : Trace) (bucket from : ℕ) : Type 0 where
   pub behind : (other : ℕ) → bucket_of p.start.shape other ≡ bucket → from ≤ other → WasSo p q other false
 
 -- the next key, if there is one
-abbrev pub TellsNext : Trace → Trace → ℕ → ℕ → Option ℕ → Type 0
-TellsNext p q bucket from None = HasNoNext p q bucket from
-TellsNext p q bucket from (Some key) = IsNextKey p q bucket from key
+abbrev pub IsNextKeyIfAny : Trace → Trace → ℕ → ℕ → Option ℕ → Type 0
+IsNextKeyIfAny p q bucket from None = HasNoNext p q bucket from
+IsNextKeyIfAny p q bucket from (Some key) = IsNextKey p q bucket from key
 
 -- the next key with its value at a moment at which it was there
 pub record IsNextEntry (p q : Trace) (bucket from : ℕ) (entry : ℕ × ℕ) : Type 0 where
@@ -36,9 +36,9 @@ pub record IsNextEntry (p q : Trace) (bucket from : ℕ) (entry : ℕ × ℕ) : 
   pub was : WasEntry p q entry.0 entry.1
 
 -- the next entry, if there is one
-abbrev pub TellsNextEntry : Trace → Trace → ℕ → ℕ → Option (ℕ × ℕ) → Type 0
-TellsNextEntry p q bucket from None = HasNoNext p q bucket from
-TellsNextEntry p q bucket from (Some entry) = IsNextEntry p q bucket from entry
+abbrev pub IsNextEntryIfAny : Trace → Trace → ℕ → ℕ → Option (ℕ × ℕ) → Type 0
+IsNextEntryIfAny p q bucket from None = HasNoNext p q bucket from
+IsNextEntryIfAny p q bucket from (Some entry) = IsNextEntry p q bucket from entry
 
 -- ---- what it takes
 
@@ -69,7 +69,7 @@ pub record Seeks {A : Type 0} (Tells : A → Type 0) (p q : PassView) (bucket bu
 
 -- so it is of a key, and of an entry
 abbrev pub SeeksKey : PassView → PassView → ℕ → ℕ → ℕ → Result (Option ℕ) Refusal → Type 0
-SeeksKey p q bucket from budget answer = Seeks (TellsNext p.trace q.trace bucket from) p q bucket budget answer
+SeeksKey p q bucket from budget answer = Seeks (IsNextKeyIfAny p.trace q.trace bucket from) p q bucket budget answer
 
 abbrev pub SeeksEntry : PassView → PassView → ℕ → ℕ → ℕ → Result (Option (ℕ × ℕ)) Refusal → Type 0
-SeeksEntry p q bucket from budget answer = Seeks (TellsNextEntry p.trace q.trace bucket from) p q bucket budget answer
+SeeksEntry p q bucket from budget answer = Seeks (IsNextEntryIfAny p.trace q.trace bucket from) p q bucket budget answer

@@ -37,6 +37,6 @@ look_up_op true = Get
 look_up_op false = Has
 
 -- whether an answer is yes
-abbrev pub is_yes : {E : Type 0} → Result (Option ℕ) E → Result Bool E
+abbrev pub is_yes : {A E : Type 0} → Result (Option A) E → Result Bool E
 is_yes (Ok given) = Ok (is_some given)
 is_yes (Err error) = Err error

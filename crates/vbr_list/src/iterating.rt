@@ -3,7 +3,7 @@ ghost use Rattle.std.specs.Prelude.{◌≡◌};
 ghost use Rattle.vbr_slots.specs.AtTables.{IsSameTable, pass_of, trace_of};
 ghost use Rattle.vbr_slots.specs.Calls.{Took};
 ghost use Rattle.vbr_slots.specs.Views.{IsOf};
-ghost use Rattle.vbr_list.specs.Cursors.{GivesWhere, Iterates, IteratesEntries, IteratesKeys};
+ghost use Rattle.vbr_list.specs.Cursors.{IteratesEntries, IteratesKeys, IteratesWhere};
 
 use crate::cursor::Cursor;
 use crate::next::seek_in;
@@ -11,8 +11,8 @@ use crate::refusal::Refusal;
 use vbr_slots::{AtTable, Pass, Slots};
 use vbr_words::{Entries, Nodes};
 
-/// The next key at a cursor, in at most `budget` steps; none behind the last one. The cursor is then behind
-/// that key. Buckets come in their order, and the keys of a bucket ascend.
+/// The next key at a cursor, in at most `budget` steps; none behind the last one. The cursor is then right
+/// behind that key. Buckets come in their order, and the keys of a bucket ascend.
 ///
 /// The key was there at a moment of the call, and each other key that the cursor has passed by was absent at
 /// a moment of the call. So call after call, whatever other threads do meanwhile, and whatever other calls
@@ -22,7 +22,8 @@ use vbr_words::{Entries, Nodes};
 ///
 /// OutOfSteps is its one refusal; the cursor keeps how far it has come. While the other passes stand still, a
 /// budget of 5n + 11, with n nodes in the cursor's bucket, is enough to give a key or to come at least to the
-/// next bucket.
+/// next bucket, and what is given took at most 5n + 3 steps for each bucket that it went through, or 5n + 5
+/// with values.
 pub fn next_key_at<N: Nodes>(
     slots: &Slots<N>,
     pass: &mut Pass,
@@ -32,32 +33,10 @@ pub fn next_key_at<N: Nodes>(
     requires own { IsOf pass.old.trace slots.now }
     ensures { IteratesKeys pass.old pass.new cursor.old cursor.new budget result }
 {
-    let from = *cursor;
-    let (next, now) = pass.during(
-        |stepper|
-            requires own { IsOf stepper.old.trace slots.now }
-        { iterate_keys(&mut AtTable { slots, stepper }, from, budget) },
-    );
-    *cursor = now;
-    next
-}
-
-// As `next_key_at`, where no step is counted; where the cursor is then; and how many steps were made.
-fn iterate_keys<N: Nodes>(
-    at: &mut AtTable<'_, N>,
-    cursor: Cursor,
-    budget: u32,
-) -> ((Result<Option<u64>, Refusal>, Cursor), u32)
-    ensures table { IsSameTable at.old at.new }
-    ensures took { Took (trace_of at.old) (trace_of at.new) result.1 }
-    ensures iterates { IteratesKeys (pass_of at.old) (pass_of at.new)
-        cursor result.0.1 budget result.0.0 }
-{
-    let ((next, now), used) = iterate(at, cursor, budget);
-    match next {
-        Ok(Some((key, _))) => ((Ok(Some(key)), now), used),
-        Ok(None) => ((Ok(None), now), used),
-        Err(refusal) => ((Err(refusal), now), used),
+    match next_where_at(slots, pass, cursor, budget) {
+        Ok(Some((key, _))) => Ok(Some(key)),
+        Ok(None) => Ok(None),
+        Err(refusal) => Err(refusal),
     }
 }
 
@@ -72,30 +51,29 @@ pub fn next_entry_at(
     requires own { IsOf pass.old.trace slots.now }
     ensures { IteratesEntries pass.old pass.new cursor.old cursor.new budget result }
 {
+    slots.kind();
+    next_where_at(slots, pass, cursor, budget)
+}
+
+/// As [`next_key_at`], for what serves tables of both kinds: the key with its value where nodes have values,
+/// and with 0 where they have none.
+pub fn next_where_at<N: Nodes>(
+    slots: &Slots<N>,
+    pass: &mut Pass,
+    cursor: &mut Cursor,
+    budget: u32,
+) -> Result<Option<(u64, u64)>, Refusal>
+    requires own { IsOf pass.old.trace slots.now }
+    ensures { IteratesWhere pass.old pass.new cursor.old cursor.new budget result }
+{
     let from = *cursor;
     let (next, now) = pass.during(
         |stepper|
             requires own { IsOf stepper.old.trace slots.now }
-        { iterate_entries(&mut AtTable { slots, stepper }, from, budget) },
+        { iterate(&mut AtTable { slots, stepper }, from, budget) },
     );
     *cursor = now;
     next
-}
-
-// As `next_entry_at`, where no step is counted; where the cursor is then; and how many steps were made.
-fn iterate_entries(
-    at: &mut AtTable<'_, Entries>,
-    cursor: Cursor,
-    budget: u32,
-) -> ((Result<Option<(u64, u64)>, Refusal>, Cursor), u32)
-    ensures table { IsSameTable at.old at.new }
-    ensures took { Took (trace_of at.old) (trace_of at.new) result.1 }
-    ensures iterates { IteratesEntries (pass_of at.old) (pass_of at.new)
-        cursor result.0.1 budget result.0.0 }
-{
-    at.law();
-    at.slots.kind();
-    iterate(at, cursor, budget)
 }
 
 // Goes from bucket to bucket until it finds a key; where the cursor is then; and how many steps were made.
@@ -106,8 +84,8 @@ fn iterate<N: Nodes>(
 ) -> ((Result<Option<(u64, u64)>, Refusal>, Cursor), u32)
     ensures table { IsSameTable at.old at.new }
     ensures took { Took (trace_of at.old) (trace_of at.new) result.1 }
-    ensures iterates { Iterates (GivesWhere (trace_of at.old) (trace_of at.new) cursor result.0.1)
-        (pass_of at.old) (pass_of at.new) cursor result.0.1 budget result.0.0 }
+    ensures iterates { IteratesWhere (pass_of at.old) (pass_of at.new)
+        cursor result.0.1 budget result.0.0 }
 {
     at.law();
     let buckets = at.slots.shape().buckets();

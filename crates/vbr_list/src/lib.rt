@@ -30,7 +30,7 @@ pub use cursor::Cursor;
 pub use finding::find;
 pub use found::Found;
 pub use inserting::{insert, insert_entry};
-pub use iterating::{next_entry_at, next_key_at};
+pub use iterating::{next_entry_at, next_key_at, next_where_at};
 pub use looking_up::{get, has};
 pub use next::{next_entry, next_key};
 pub use refusal::Refusal;

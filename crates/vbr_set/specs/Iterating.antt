@@ -1,12 +1,21 @@
--- What calls of an iteration promise at a set or a map, and what a loop over all keys tells.
-use Rattle.std.specs.Prelude.{◌≡◌, ℕ, List, None, Option, Result, IfOk}
+-- What calls of an iteration promise at a set or a map, and what going over all keys at once tells.
+use Rattle.std.specs.Prelude.{◌≡◌, ℕ, ◌+◌, ◌-◌, ◌*◌, ◌^◌, ◌<◌, min, List, None, Option, Result, IfErr, IfOk, length, map, true}
+use Rattle.std.specs.List.{AllByRecursion}
+use Rattle.vbr_slots.specs.Alone.{IsAlone}
 use Rattle.vbr_slots.specs.Calls.{AddsNone, OnlyLoads, Quiet}
 use Rattle.vbr_at_table.specs.KeptSlots.{TakesNoSlot}
+use Rattle.vbr_at_table.specs.Moments.{WasEntry}
 use Rattle.vbr_at_table.specs.Soundness.{HasSafeRun}
-use Rattle.vbr_list.specs.Cursors.{HasGivenAll, IteratesEntries, IteratesKeys, SeesMore}
+use Rattle.vbr_at_table.specs.Steps.{TookWithin}
+use Rattle.vbr_list.specs.Cursors.{HasGiven, HasGivenAll, IteratesEntries, IteratesKeys, IteratesWhere, SeesMore, StopsShort}
+use Rattle.vbr_list.specs.Next.{enough_to_seek}
 use Rattle.vbr_list.specs.declared.cursor.Cursor.{Cursor}
 use Rattle.vbr_list.specs.declared.refusal.Refusal.{Refusal}
 use Rattle.vbr_set.specs.Members.{MemberView}
+use Rattle.vbr_set.specs.declared.list_error.ListError.{ListError}
+use Rattle.vbr_set.specs.declared.list_error.ListError.TheVariants.{Refused, Memory}
+
+-- ---- one call
 
 -- the member is the same pass of the same set, and has no slot in hand; what its pass has then seen is a safe run, which goes on from what it had seen
 pub record GoesOnSafe (m n : MemberView) : Type 0 where
@@ -25,11 +34,77 @@ pub record CallsNextEntry (m n : MemberView) (c d : Cursor) (budget : ℕ) (answ
   pub goes : GoesOnSafe m n
   pub iterates : IteratesEntries m.pass n.pass c d budget answer
 
--- an iteration as a whole: where it came to the end, it has given each key that was there all the while, once, and none that wasn't there at a moment; it made no call, and loads alone, added nothing to the chronicle, and the pass has what slots it had
-pub record ListsAll {A E : Type 0} (items : A → List ℕ) (m n : MemberView) (answer : Result A E) : Type 0 where
+-- of either, the next key with its value where nodes have values
+pub record CallsNextWhere (m n : MemberView) (c d : Cursor) (budget : ℕ) (answer : Result (Option (ℕ × ℕ)) Refusal) : Type 0 where
   pub goes : GoesOnSafe m n
-  pub all : IfOk answer (λ told. HasGivenAll m.pass.trace n.pass.trace (items told))
+  pub iterates : IteratesWhere m.pass n.pass c d budget answer
+
+-- ---- all keys at once
+
+-- these are all keys: each that was there all the while, once, and none that wasn't there at a moment; with at most so many steps for each of them, for each bucket, and for the end
+pub record HasGoneOver (m n : MemberView) (budget : ℕ) (keys : List ℕ) : Type 0 where
+  pub all : HasGivenAll m.pass.trace n.pass.trace keys
+  pub steps : TookWithin m.pass.trace n.pass.trace (budget * (length keys + m.pass.trace.start.shape.buckets + 1))
+
+-- these are all keys, each with its value at a moment at which it was there
+pub record HasGoneOverEntries (m n : MemberView) (budget : ℕ) (entries : List (ℕ × ℕ)) : Type 0 where
+  pub keys : HasGoneOver m n budget (map (λ (entry : ℕ × ℕ). entry.0) entries)
+  pub values : AllByRecursion (λ (entry : ℕ × ℕ). WasEntry m.pass.trace n.pass.trace entry.0 entry.1) entries
+
+-- it is the length of a list of all keys, as far as a count goes
+pub record HasCounted (m n : MemberView) (budget count : ℕ) : Type 0 where
+  pub keys : List ℕ
+  pub over : HasGoneOver m n budget keys
+  pub is : count ≡ min (length keys) (2 ^ 64 - 1)
+
+-- going over all keys stopped: the keys up to a cursor had been given, with at most so many steps for each of them and for each bucket before it, when a whole call with the budget was refused that brought it no further. So alone the budget was below what is enough in its bucket
+pub record StandsShort (m n : MemberView) (budget : ℕ) (refusal : Refusal) : Type 0 where
+  pub before : MemberView
+  pub cursor : Cursor
+  pub keys : List ℕ
+  pub goes : GoesOnSafe m before
+  pub given : HasGiven m.pass.trace before.pass.trace cursor keys
+  pub steps : TookWithin m.pass.trace before.pass.trace (budget * (length keys + cursor.bucket))
+  pub stops : StopsShort before.pass n.pass cursor cursor budget refusal
+  pub short : IsAlone m.pass.trace n.pass.trace → budget < enough_to_seek m.pass.trace cursor.bucket
+
+-- why there is no list: it stopped so, or there was no memory
+abbrev pub ListsNone : MemberView → MemberView → ℕ → ListError → Type 0
+ListsNone m n budget (Refused refusal) = StandsShort m n budget refusal
+ListsNone m n budget Memory = Unit {0}
+
+-- going over all keys, to the end or until it stops: it made no call, and loads alone, added nothing to the chronicle, and the pass has what slots it had
+pub record GoesOver {A E : Type 0} (Tells : A → Type 0) (Stops : E → Type 0) (m n : MemberView) (answer : Result A E) : Type 0 where
+  pub goes : GoesOnSafe m n
+  pub tells : IfOk answer Tells
+  pub stops : IfErr answer Stops
   pub quiet : Quiet m.pass.trace n.pass.trace
   pub only_loads : OnlyLoads m.pass.trace n.pass.trace
   pub adds_none : AddsNone m.pass.trace n.pass.trace
   pub takes_no_slot : TakesNoSlot m.pass n.pass
+
+-- so it is of a list of keys, of a list of entries, and of a count
+abbrev pub ListsKeys : {A : Type 0} → (A → List ℕ) → MemberView → MemberView → ℕ → Result A ListError → Type 0
+ListsKeys items m n budget answer = GoesOver (λ told. HasGoneOver m n budget (items told)) (ListsNone m n budget) m n answer
+
+abbrev pub ListsEntries : {A : Type 0} → (A → List (ℕ × ℕ)) → MemberView → MemberView → ℕ → Result A ListError → Type 0
+ListsEntries items m n budget answer = GoesOver (λ told. HasGoneOverEntries m n budget (items told)) (ListsNone m n budget) m n answer
+
+abbrev pub CountsKeys : MemberView → MemberView → ℕ → Result ℕ Refusal → Type 0
+CountsKeys m n budget answer = GoesOver (HasCounted m n budget) (StandsShort m n budget) m n answer
+
+-- ---- what is listed of a node
+
+-- all entries, of which the values are right where nodes have values
+pub record HasGoneOverWhere (m n : MemberView) (budget : ℕ) (entries : List (ℕ × ℕ)) : Type 0 where
+  pub keys : HasGoneOver m n budget (map (λ (entry : ℕ × ℕ). entry.0) entries)
+  pub values : m.pass.trace.start.shape.values ≡ true → AllByRecursion (λ (entry : ℕ × ℕ). WasEntry m.pass.trace n.pass.trace entry.0 entry.1) entries
+
+-- what is listed of all entries
+pub record HasListed {I : Type 0} (item : ℕ → ℕ → I) (m n : MemberView) (budget : ℕ) (items : List I) : Type 0 where
+  pub entries : List (ℕ × ℕ)
+  pub over : HasGoneOverWhere m n budget entries
+  pub are : items ≡ map (λ (entry : ℕ × ℕ). item entry.0 entry.1) entries
+
+abbrev pub ListsItems : {A I : Type 0} → (ℕ → ℕ → I) → (A → List I) → MemberView → MemberView → ℕ → Result A ListError → Type 0
+ListsItems item items m n budget answer = GoesOver (λ told. HasListed item m n budget (items told)) (ListsNone m n budget) m n answer

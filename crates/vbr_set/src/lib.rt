@@ -39,8 +39,8 @@
 pub mod close_all_error;
 mod contents;
 pub mod end_error;
-pub mod keys_error;
 pub mod laws;
+pub mod list_error;
 pub mod map;
 pub mod member;
 pub mod renew_error;
@@ -52,7 +52,7 @@ mod walking;
 
 pub use close_all_error::CloseAllError;
 pub use end_error::EndError;
-pub use keys_error::KeysError;
+pub use list_error::ListError;
 pub use map::report::MapReport;
 pub use member::telling::ReportOf;
 pub use renew_error::RenewError;

@@ -4,7 +4,7 @@ ghost use Rattle.std.specs.Prelude.{◌≡◌};
 ghost use Rattle.vbr_list.specs.Told.{is_yes};
 ghost use Rattle.vbr_handles.specs.Calls.{TellsInsertEntry};
 ghost use Rattle.vbr_handles.specs.Codes.{call_code};
-ghost use Rattle.vbr_handles.specs.ValueCalls.{TellsGetEntry, TellsRemoveEntry, WritesValue};
+ghost use Rattle.vbr_handles.specs.ValueCalls.{TellsGetEntry, TellsRemoveEntry, WritesGiven};
 
 use crate::numbers::{EMPTY, NO, YES, call_code};
 use crate::owner::Owner;
@@ -45,7 +45,7 @@ pub fn get(owner: &mut Owner<MapMember>, key: u64, budget: u32, value: &mut u64)
 // Writes the value of an answer, where it gives one, and tells the number of the answer.
 pub(crate) fn give(answer: Result<Option<u64>, Refusal>, value: &mut u64) -> i32
     ensures code { result ≡ call_code (is_yes answer) }
-    ensures writes { WritesValue answer value.old value.new }
+    ensures writes { WritesGiven answer value.old value.new }
 {
     match answer {
         Ok(Some(given)) => {

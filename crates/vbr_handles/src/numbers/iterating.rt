@@ -1,12 +1,16 @@
-//! The calls of an iteration with their answers as numbers. A key goes out where there is a next one, and
-//! else none is written.
-ghost use Rattle.vbr_handles.specs.Iterating.{TellsNext};
+//! The calls of an iteration with their answers as numbers. What is next goes out where there is such, and
+//! else nothing is written.
+ghost use Rattle.std.specs.Prelude.{◌≡◌};
+ghost use Rattle.vbr_list.specs.Told.{is_yes};
+ghost use Rattle.vbr_handles.specs.Codes.{call_code};
+ghost use Rattle.vbr_handles.specs.Iterating.{TellsNext, TellsNextEntry};
+ghost use Rattle.vbr_handles.specs.ValueCalls.{WritesGiven};
 
-use crate::numbers::EMPTY;
 use crate::numbers::entries::give;
+use crate::numbers::{EMPTY, NO, YES, call_code};
 use crate::owner::Owner;
-use vbr_set::Cursor;
 use vbr_set::member::Member;
+use vbr_set::{Cursor, MapMember, Refusal};
 use vbr_words::Nodes;
 
 /// Tells the next key at a cursor by the member of a handle, and writes it.
@@ -23,4 +27,41 @@ pub fn next_key<N: Nodes>(
         return EMPTY;
     }
     give(owner.member_mut().next_key(cursor, budget), key)
+}
+
+/// Tells the next entry at a cursor by the member of a handle, and writes its key and its value.
+pub fn next_entry(
+    owner: &mut Owner<MapMember>,
+    cursor: &mut Cursor,
+    budget: u32,
+    key: &mut u64,
+    value: &mut u64,
+) -> i32
+    ensures { TellsNextEntry owner.old.member owner.new.member cursor.old cursor.new budget
+        (key.old, value.old) (key.new, value.new) result }
+{
+    if owner.is_empty() {
+        return EMPTY;
+    }
+    give_entry(owner.member_mut().next_entry(cursor, budget), key, value)
+}
+
+// Writes the key and the value of an answer, where it gives an entry, and tells the number of the answer.
+fn give_entry(
+    answer: Result<Option<(u64, u64)>, Refusal>,
+    key: &mut u64,
+    value: &mut u64,
+) -> i32
+    ensures code { result ≡ call_code (is_yes answer) }
+    ensures writes { WritesGiven answer (key.old, value.old) (key.new, value.new) }
+{
+    match answer {
+        Ok(Some((given, stored))) => {
+            *key = given;
+            *value = stored;
+            YES
+        }
+        Ok(None) => NO,
+        Err(refusal) => call_code(Err(refusal)),
+    }
 }

@@ -1,7 +1,7 @@
 //! Going over the keys of a set, or the entries of a map, by a member.
-ghost use Rattle.vbr_set.specs.Iterating.{CallsNext, CallsNextEntry, ListsAll};
+ghost use Rattle.vbr_set.specs.Iterating.{CallsNext, CallsNextEntry, CountsKeys, ListsEntries, ListsKeys};
 
-use crate::keys_error::KeysError;
+use crate::list_error::ListError;
 use crate::member::Member;
 use std::alloc::Global;
 use vbr_list::{Cursor, Refusal};
@@ -19,13 +19,23 @@ impl<N: Nodes> Member<N> {
         self.share.set().next_key(&mut self.pass, cursor, budget)
     }
 
-    /// All keys, one after another: [`VbrSet::keys_now`] by its pass, which has the errors.
+    /// All keys, by calls of at most `budget` steps each: [`VbrSet::keys_now`] by its pass, which has the
+    /// errors.
     ///
     /// [`VbrSet::keys_now`]: crate::VbrSet::keys_now
-    pub fn keys_now(&mut self, alloc: Global, budget: u32) -> Result<Vec<u64>, KeysError>
-        ensures { ListsAll (λ keys. keys.items) self.old self.new result }
+    pub fn keys_now(&mut self, alloc: Global, budget: u32) -> Result<Vec<u64>, ListError>
+        ensures { ListsKeys (λ keys. keys.items) self.old self.new budget result }
     {
         self.share.set().keys_now(alloc, &mut self.pass, budget)
+    }
+
+    /// How many keys that would list: [`VbrSet::count_now`] by its pass, which has the errors.
+    ///
+    /// [`VbrSet::count_now`]: crate::VbrSet::count_now
+    pub fn count_now(&mut self, budget: u32) -> Result<u64, Refusal>
+        ensures { CountsKeys self.old self.new budget result }
+    {
+        self.share.set().count_now(&mut self.pass, budget)
     }
 }
 
@@ -40,5 +50,13 @@ impl Member<Entries> {
         ensures { CallsNextEntry self.old self.new cursor.old cursor.new budget result }
     {
         self.share.set().next_entry(&mut self.pass, cursor, budget)
+    }
+
+    /// All keys with their values, by calls of at most `budget` steps each: `VbrMap::entries_now` by its
+    /// pass.
+    pub fn entries_now(&mut self, alloc: Global, budget: u32) -> Result<Vec<(u64, u64)>, ListError>
+        ensures { ListsEntries (λ entries. entries.items) self.old self.new budget result }
+    {
+        self.share.set().entries_now(alloc, &mut self.pass, budget)
     }
 }

@@ -1,26 +1,54 @@
 //! Going over the keys of a set, or the entries of a map, while other callers make calls.
-ghost use Rattle.std.specs.Prelude.{◌≡◌, None};
+ghost use Rattle.std.specs.Prelude.{◌≡◌, ℕ, None};
 ghost use Rattle.vbr_slots.specs.Views.{IsOf};
-ghost use Rattle.vbr_set.specs.Iterating.{CallsNext, CallsNextEntry, ListsAll};
+ghost use Rattle.vbr_set.specs.Iterating.{CallsNext, CallsNextEntry, CallsNextWhere, CountsKeys, ListsEntries, ListsItems, ListsKeys};
 ghost use Rattle.vbr_set.specs.Members.{as_member};
 
-use crate::keys_error::KeysError;
+use crate::list_error::ListError;
 use crate::set::VbrSet;
 use std::alloc::Global;
-use vbr_list::{Cursor, Refusal, next_entry_at, next_key_at};
+use vbr_list::{Cursor, Refusal, next_entry_at, next_key_at, next_where_at};
 use vbr_slots::Pass;
 use vbr_words::{Entries, Nodes};
 
+// What is listed of a node: its key, or its entry.
+pub(crate) trait Item: Copy {
+    ghost item: { ℕ → ℕ → Self };
+
+    // That of this key with this value.
+    fn of(key: u64, value: u64) -> Self
+        ensures { result ≡ item key value };
+}
+
+impl Item for u64 {
+    ghost item = { λ key value. key };
+
+    #[inline(always)]
+    fn of(key: u64, _value: u64) -> u64 {
+        key
+    }
+}
+
+impl Item for (u64, u64) {
+    ghost item = { λ key value. (key, value) };
+
+    #[inline(always)]
+    fn of(key: u64, value: u64) -> (u64, u64) {
+        (key, value)
+    }
+}
+
 impl<N: Nodes> VbrSet<N> {
     /// The next key at a cursor, in at most `budget` steps, and none behind the last one. The cursor is then
-    /// behind that key. It begins at [`Cursor::first`].
+    /// right behind that key. It begins at [`Cursor::first`].
     ///
     /// The key was there at a moment of the call, and each other key that the cursor has passed by was
     /// absent at a moment of it. So over the calls from the first cursor to the last, whatever other callers
     /// do meanwhile, each key that is there all the while is given, and none is given twice or without
     /// having been there. Keys come bucket by bucket, and those of a bucket ascend.
     ///
-    /// It makes no call of the set, and only loads words.
+    /// It makes no call of the set, and only loads words. While the other passes stand still it makes at most
+    /// 5n + 3 steps for each bucket that it goes through, with n nodes there, and at most 5n + 5 in a map.
     ///
     /// # Errors
     ///
@@ -45,37 +73,112 @@ impl<N: Nodes> VbrSet<N> {
         next
     }
 
-    /// All keys, one after another, each found in at most `budget` steps: each key that was there all the
-    /// while, once, and none that wasn't there at a moment of it. Keys come bucket by bucket, and those of a
-    /// bucket ascend.
+    // As `next_key`, with the value where nodes have values.
+    #[inline]
+    fn next_where(
+        &self,
+        pass: &mut Pass,
+        cursor: &mut Cursor,
+        budget: u32,
+    ) -> Result<Option<(u64, u64)>, Refusal>
+        requires own { IsOf pass.old.trace self.now }
+        requires empty_hand { pass.old.hand ≡ None }
+        ensures { CallsNextWhere (as_member self.now pass.old) (as_member self.now pass.new)
+            cursor.old cursor.new budget result }
+    {
+        pass.law();
+        let next = next_where_at(&self.slots, pass, cursor, budget);
+        pass.law();
+        next
+    }
+
+    /// All keys, by calls of at most `budget` steps each: each key that was there all the while, once, and
+    /// none that wasn't there at a moment of it. Keys come bucket by bucket, and those of a bucket ascend.
+    ///
+    /// It makes at most one call for each key, one for each bucket, and one for the end.
     ///
     /// # Errors
     ///
-    /// - Refused: one of the calls of [`VbrSet::next_key`] was.
-    /// - Memory: there is no room for the keys.
+    /// - Refused: a whole call was refused for want of steps, and brought the cursor no further. While the
+    ///   other passes stand still, that comes only where `budget` is below 5n + 11, with n nodes in the
+    ///   bucket where it stood.
+    /// - Memory: there is no memory for the keys.
     pub fn keys_now(
         &self,
         alloc: Global,
         pass: &mut Pass,
         budget: u32,
-    ) -> Result<Vec<u64>, KeysError>
+    ) -> Result<Vec<u64>, ListError>
         requires own { IsOf pass.old.trace self.now }
         requires empty_hand { pass.old.hand ≡ None }
-        ensures { ListsAll (λ keys. keys.items)
-            (as_member self.now pass.old) (as_member self.now pass.new) result }
+        ensures { ListsKeys (λ keys. keys.items)
+            (as_member self.now pass.old) (as_member self.now pass.new) budget result }
+    {
+        self.items_now(alloc, pass, budget)
+    }
+
+    /// How many keys [`VbrSet::keys_now`] would have listed in its place. It takes no memory. The count is of
+    /// keys that were there at moments of their own, so it needn't be how many were there at one moment.
+    ///
+    /// # Errors
+    ///
+    /// The refusal of `keys_now`.
+    pub fn count_now(&self, pass: &mut Pass, budget: u32) -> Result<u64, Refusal>
+        requires own { IsOf pass.old.trace self.now }
+        requires empty_hand { pass.old.hand ≡ None }
+        ensures { CountsKeys
+            (as_member self.now pass.old) (as_member self.now pass.new) budget result }
     {
         pass.law();
         let mut cursor = Cursor::first();
-        let mut keys = Vec::new(alloc);
+        let mut count: u64 = 0;
         loop {
-            let next = match self.next_key(pass, &mut cursor, budget) {
-                Ok(next) => next,
-                Err(refusal) => return Err(KeysError::Refused(refusal)),
-            };
+            let before = cursor;
+            let next = self.next_where(pass, &mut cursor, budget);
             cursor.law();
-            let Some(key) = next else { return Ok(keys) };
-            if keys.push(key).is_err() {
-                return Err(KeysError::Memory);
+            match next {
+                Ok(Some(_)) => count = count.saturating_add(1),
+                Ok(None) => return Ok(count),
+                Err(refusal) => {
+                    if cursor == before {
+                        return Err(refusal);
+                    }
+                }
+            }
+        }
+    }
+
+    // What is listed of all keys, call by call, for as long as a call brings the cursor further.
+    fn items_now<I: Item>(
+        &self,
+        alloc: Global,
+        pass: &mut Pass,
+        budget: u32,
+    ) -> Result<Vec<I>, ListError>
+        requires own { IsOf pass.old.trace self.now }
+        requires empty_hand { pass.old.hand ≡ None }
+        ensures { ListsItems I.item (λ items. items.items)
+            (as_member self.now pass.old) (as_member self.now pass.new) budget result }
+    {
+        pass.law();
+        let mut cursor = Cursor::first();
+        let mut items = Vec::new(alloc);
+        loop {
+            let from = cursor;
+            let next = self.next_where(pass, &mut cursor, budget);
+            cursor.law();
+            match next {
+                Ok(Some((key, value))) => {
+                    if items.push(I::of(key, value)).is_err() {
+                        return Err(ListError::Memory);
+                    }
+                }
+                Ok(None) => return Ok(items),
+                Err(refusal) => {
+                    if cursor == from {
+                        return Err(ListError::Refused(refusal));
+                    }
+                }
             }
         }
     }
@@ -83,7 +186,7 @@ impl<N: Nodes> VbrSet<N> {
 
 impl VbrSet<Entries> {
     /// The next key at a cursor with its value, as [`VbrSet::next_key`] gives the key: the two stood in the
-    /// map together at a moment of the call. It reads the value in two steps more.
+    /// map together at a moment of the call.
     #[inline]
     pub fn next_entry(
         &self,
@@ -100,5 +203,22 @@ impl VbrSet<Entries> {
         let next = next_entry_at(&self.slots, pass, cursor, budget);
         pass.law();
         next
+    }
+
+    /// All keys, each with its value at a moment at which it was there, as [`VbrSet::keys_now`] lists the
+    /// keys, which has the errors.
+    pub fn entries_now(
+        &self,
+        alloc: Global,
+        pass: &mut Pass,
+        budget: u32,
+    ) -> Result<Vec<(u64, u64)>, ListError>
+        requires own { IsOf pass.old.trace self.now }
+        requires empty_hand { pass.old.hand ≡ None }
+        ensures { ListsEntries (λ entries. entries.items)
+            (as_member self.now pass.old) (as_member self.now pass.new) budget result }
+    {
+        self.slots.kind();
+        self.items_now(alloc, pass, budget)
     }
 }

@@ -1,7 +1,7 @@
 //! Going over the keys of a set, or the entries of a map, by a pass with a reference to it.
-ghost use Rattle.vbr_set.specs.Iterating.{CallsNext, CallsNextEntry, ListsAll};
+ghost use Rattle.vbr_set.specs.Iterating.{CallsNext, CallsNextEntry, CountsKeys, ListsEntries, ListsKeys};
 
-use crate::keys_error::KeysError;
+use crate::list_error::ListError;
 use crate::set_ref::VbrSetRef;
 use std::alloc::Global;
 use vbr_list::{Cursor, Refusal};
@@ -18,13 +18,22 @@ impl<'s, N: Nodes> VbrSetRef<'s, N> {
         self.set.next_key(&mut self.pass, cursor, budget)
     }
 
-    /// All keys, one after another: [`VbrSet::keys_now`], which has the errors.
+    /// All keys, by calls of at most `budget` steps each: [`VbrSet::keys_now`], which has the errors.
     ///
     /// [`VbrSet::keys_now`]: crate::VbrSet::keys_now
-    pub fn keys_now(&mut self, alloc: Global, budget: u32) -> Result<Vec<u64>, KeysError>
-        ensures { ListsAll (λ keys. keys.items) self.old self.new result }
+    pub fn keys_now(&mut self, alloc: Global, budget: u32) -> Result<Vec<u64>, ListError>
+        ensures { ListsKeys (λ keys. keys.items) self.old self.new budget result }
     {
         self.set.keys_now(alloc, &mut self.pass, budget)
+    }
+
+    /// How many keys that would list: [`VbrSet::count_now`], which has the errors.
+    ///
+    /// [`VbrSet::count_now`]: crate::VbrSet::count_now
+    pub fn count_now(&mut self, budget: u32) -> Result<u64, Refusal>
+        ensures { CountsKeys self.old self.new budget result }
+    {
+        self.set.count_now(&mut self.pass, budget)
     }
 }
 
@@ -39,5 +48,12 @@ impl<'s> VbrSetRef<'s, Entries> {
         ensures { CallsNextEntry self.old self.new cursor.old cursor.new budget result }
     {
         self.set.next_entry(&mut self.pass, cursor, budget)
+    }
+
+    /// All keys with their values, by calls of at most `budget` steps each: `VbrMap::entries_now`.
+    pub fn entries_now(&mut self, alloc: Global, budget: u32) -> Result<Vec<(u64, u64)>, ListError>
+        ensures { ListsEntries (λ entries. entries.items) self.old self.new budget result }
+    {
+        self.set.entries_now(alloc, &mut self.pass, budget)
     }
 }

@@ -1,4 +1,6 @@
-use Rattle.std.proofs.Common.{◌≡◌, ℕ, Option, Some, None, refl, sym, ap, ◌∙◌, subst}
+use Rattle.std.proofs.Common.{◌≡◌, ℕ, ◌<◌, Option, Some, None, refl, sym, ap, ◌∙◌, subst}
+use Rattle.vbr_words.specs.Dimensions.{Dimensions}
+use Rattle.vbr_machine.specs.Start.{Start}
 use Rattle.vbr_list.specs.Seeking.{Sought}
 use Rattle.vbr_list.specs.declared.cursor.Cursor.{Cursor}
 use Rattle.vbr_list.proofs.ComingBy.{HasComeBy, come_none, come_on, come_short, come_to}
@@ -12,7 +14,10 @@ seek_in-found-requires-clause-within g c = c.loop-now.invariant.1.within
 
 pub returns-in-None-clause-iterates : goal.returns-in-None-clause-iterates
 returns-in-None-clause-iterates g c =
-    come_short c.seek_in-found.new.at.stepper.now c.law.ensures c.args.cursor c.loop-now.now c.loop-now.used c.seek_in-found.result.1 c.args.budget c.loop-now.invariant.1 (rw c.in-None.is at c.seek_in-found.ensures.sought)
+    let shape : c.shape.result ≡ c.args.at.now.stepper.now.trace.start.shape = c.shape.ensures.shape ∙ ap (λ (s : Start). s.shape) (sym c.args.at.now.own.1) in
+    let P : ℕ → Type 0 = λ n. c.loop-now.now.bucket < n in
+    let here = subst P (c.buckets-buckets.ensures.buckets ∙ ap (λ (d : Dimensions). d.buckets) shape) c.loop-now-test.true in
+    come_short c.seek_in-found.new.at.stepper.now c.law.ensures c.args.cursor c.loop-now.now c.loop-now.used c.seek_in-found.result.1 c.args.budget c.loop-now.invariant.1 here (rw c.in-None.is at c.seek_in-found.ensures.sought)
 
 pub returns-in-Some-Some-clause-iterates : goal.returns-in-Some-Some-clause-iterates
 returns-in-Some-Some-clause-iterates g c =

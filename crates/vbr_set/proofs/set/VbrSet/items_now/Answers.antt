@@ -1,0 +1,67 @@
+use Rattle.std.proofs.Common.{rules, ◌≡◌, ℕ, ◌^◌, ◌<◌, [], ◌∷◌, ◌++◌, Option, Some, None, Result, Ok, sym, ap, ◌∙◌, subst, arith}
+use Rattle.vbr_list.specs.declared.cursor.Cursor.{Cursor}
+use Rattle.vbr_list.specs.declared.refusal.Refusal.{Refusal}
+use Rattle.vbr_set.specs.Iterating.{CallsNextWhere}
+use Rattle.vbr_set.specs.Members.{as_member}
+use Rattle.vbr_set.proofs.Listing.{ListsAs, gone_over, goes_over, later_bucket, listed_later, listed_on, lists_none, nearer, nearer_later, stands_short, stood, stood_not}
+use Rattle.vbr_set.proofs.set.VbrSet.items_now.Goals as goal
+
+pub loop-key-init : goal.loop-key-init
+loop-key-init g c =
+    let P : Cursor → Type 0 = λ d. ListsAs g.I.Item.item (as_member c.args.self.now c.args.pass.now) (as_member c.args.self.now c.args.pass.now) d c.args.budget c.new-items.result.items × (d.from < 2 ^ 64) in
+    subst P (sym c.first-cursor.ensures) (record { entries = []; lists = lists_none c.args.self.now c.args.pass.now c.args.budget c.law.ensures c.requires.empty_hand; are = c.new-items.ensures.items }, omega arith)
+
+pub next_where-next-requires-clause-own : goal.next_where-next-requires-clause-own
+next_where-next-requires-clause-own g c =
+    let s = c.loop-key.invariant.0.lists.goes.sees.same in
+    (s.table ∙ c.requires.own.0, s.start ∙ c.requires.own.1, s.passes ∙ c.requires.own.2)
+
+pub next_where-next-requires-clause-empty_hand : goal.next_where-next-requires-clause-empty_hand
+next_where-next-requires-clause-empty_hand g c = c.loop-key.invariant.0.lists.goes.hand
+
+pub loop-key-smaller-else-is_err : goal.loop-key-smaller-else-is_err
+loop-key-smaller-else-is_err g c =
+    let whole : c.next_where-next.result ≡ Ok (Some (c.in-Ok-Some.key, c.in-Ok-Some.value)) = c.in-Ok-Some.is ∙ ap Ok (rw c.in-Ok-Some.is at c.in-Ok-Some.field-0-is) in
+    let P : Result (Option (ℕ × ℕ)) Refusal → Type 0 = λ answer. CallsNextWhere (as_member c.args.self.now c.loop-key.pass) (as_member c.args.self.now c.next_where-next.new.pass) c.loop-key.cursor c.next_where-next.new.cursor c.args.budget answer in
+    let gives = (subst P whole c.next_where-next.ensures).iterates.gives.0 in
+    nearer c.loop-key.pass.trace.start c.loop-key.cursor c.next_where-next.new.cursor c.in-Ok-Some.key c.loop-key.invariant.1 (omega arith) (omega arith) gives.0.was.0 gives.1
+
+pub loop-key-preserved-else-is_err : goal.loop-key-preserved-else-is_err
+loop-key-preserved-else-is_err g c =
+    let whole : c.next_where-next.result ≡ Ok (Some (c.in-Ok-Some.key, c.in-Ok-Some.value)) = c.in-Ok-Some.is ∙ ap Ok (rw c.in-Ok-Some.is at c.in-Ok-Some.field-0-is) in
+    let P : Result (Option (ℕ × ℕ)) Refusal → Type 0 = λ answer. CallsNextWhere (as_member c.args.self.now c.loop-key.pass) (as_member c.args.self.now c.next_where-next.new.pass) c.loop-key.cursor c.next_where-next.new.cursor c.args.budget answer in
+    let more : c.push.new.self.items ≡ c.loop-key.items.items ++ g.I.Item.item c.in-Ok-Some.key c.in-Ok-Some.value ∷ [] = search rules in
+    (listed_on _ c.args.budget c.loop-key.invariant.0 c.in-Ok-Some.key c.in-Ok-Some.value c.push.new.self.items (subst P whole c.next_where-next.ensures) more, omega arith)
+
+pub returns-then-is_err : goal.returns-then-is_err
+returns-then-is_err g c = goes_over _ c.args.budget c.loop-key.invariant.0.lists _ c.next_where-next.ensures tt tt
+
+pub returns-in-Ok-None : goal.returns-in-Ok-None
+returns-in-Ok-None g c =
+    let whole : c.next_where-next.result ≡ Ok None = c.in-Ok-None.is ∙ ap Ok (rw c.in-Ok-None.is at c.in-Ok-None.field-0-is) in
+    let P : Result (Option (ℕ × ℕ)) Refusal → Type 0 = λ answer. CallsNextWhere (as_member c.args.self.now c.loop-key.pass) (as_member c.args.self.now c.next_where-next.new.pass) c.loop-key.cursor c.next_where-next.new.cursor c.args.budget answer in
+    let y = subst P whole c.next_where-next.ensures in
+    let x = c.loop-key.invariant.0 in
+    let over = gone_over _ c.args.budget x.lists c.law.ensures.start y in
+    goes_over _ c.args.budget x.lists (Ok c.loop-key.items) y (record { entries = x.entries; over = over; are = x.are }) tt
+
+pub returns-then-eq : goal.returns-then-eq
+returns-then-eq g c =
+    let P : Result (Option (ℕ × ℕ)) Refusal → Type 0 = λ answer. CallsNextWhere (as_member c.args.self.now c.loop-key.pass) (as_member c.args.self.now c.next_where-next.new.pass) c.loop-key.cursor c.next_where-next.new.cursor c.args.budget answer in
+    let y = subst P c.in-Err.is c.next_where-next.ensures in
+    let x = c.loop-key.invariant.0 in
+    goes_over _ c.args.budget x.lists _ y tt (stands_short _ c.args.budget x.lists c.in-Err.refusal c.law.ensures y (stood c.loop-key.cursor c.next_where-next.new.cursor (sym c.eq.ensures ∙ c.if-eq.true)))
+
+pub loop-key-smaller : goal.loop-key-smaller
+loop-key-smaller g c =
+    let P : Result (Option (ℕ × ℕ)) Refusal → Type 0 = λ answer. CallsNextWhere (as_member c.args.self.now c.loop-key.pass) (as_member c.args.self.now c.next_where-next.new.pass) c.loop-key.cursor c.next_where-next.new.cursor c.args.budget answer in
+    let y = subst P c.in-Err.is c.next_where-next.ensures in
+    let later = later_bucket y.iterates.refused.moved (stood_not c.loop-key.cursor c.next_where-next.new.cursor (sym c.eq.ensures ∙ c.if-eq.false)) in
+    nearer_later c.loop-key.cursor c.next_where-next.new.cursor c.loop-key.invariant.1 (omega arith) (omega arith) later
+
+pub loop-key-preserved : goal.loop-key-preserved
+loop-key-preserved g c =
+    let P : Result (Option (ℕ × ℕ)) Refusal → Type 0 = λ answer. CallsNextWhere (as_member c.args.self.now c.loop-key.pass) (as_member c.args.self.now c.next_where-next.new.pass) c.loop-key.cursor c.next_where-next.new.cursor c.args.budget answer in
+    let y = subst P c.in-Err.is c.next_where-next.ensures in
+    let later = later_bucket y.iterates.refused.moved (stood_not c.loop-key.cursor c.next_where-next.new.cursor (sym c.eq.ensures ∙ c.if-eq.false)) in
+    (listed_later _ c.args.budget c.loop-key.invariant.0 c.in-Err.refusal y later, omega arith)
