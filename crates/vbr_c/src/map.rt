@@ -259,15 +259,20 @@ pub extern "C" fn vbr_map_drop(alloc: Global, handle: &mut MapHandle)
     vbr_handles::abandon(alloc, handle.owner_mut());
 }
 
-/// Tells the next key at a cursor with its value, bucket by bucket and ascending in each: 1, and both are
-/// written, and the cursor is behind the key; 0 at the end, and nothing is written. A cursor begins as zeros.
-/// Each key that is there from the first call of an iteration to its last is given once, whatever other
-/// handles do meanwhile, and none that wasn't there at a moment of its call, with a value that it had at such
-/// a moment. It makes at most `budget` steps, all of them loads. While the other handles stand still, 5n + 11
-/// are enough to give a key or to come to the next bucket, with n nodes in the cursor's.
+/// Gives the next key of a walk with its value, as `vbr_next` gives a key: 1, and the two are written, and
+/// were in the map together at a moment of the call; 0 at the end, where no key is left. The value takes two
+/// steps more.
 ///
-/// Refusals, after which the handle can go on and nothing is written: -1, the steps leave no room in the
-/// budget, and the cursor keeps how far it has come; -4, the handle is empty.
+/// Refusals, after which no call was made and the handle can go on: -1, the steps leave no room in the
+/// budget, and the cursor keeps how far it has come; -4, the handle is empty. With any answer but 1 neither is
+/// written.
+///
+/// ```c file=bindings/c/map_calls.c
+/// do {
+///     told = vbr_map_next(&map[0], &cursor, 100000, &key, &value);
+///     if (told == VBR_YES) sum += value; // the key had this value during the call
+/// } while (told == VBR_YES || told == VBR_OUT_OF_STEPS); // at the end it is VBR_NO
+/// ```
 #[unsafe(no_mangle)]
 pub extern "C" fn vbr_map_next(
     handle: &mut MapHandle,

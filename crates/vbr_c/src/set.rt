@@ -227,15 +227,29 @@ pub extern "C" fn vbr_drop(alloc: Global, handle: &mut Handle)
     vbr_handles::abandon(alloc, handle.owner_mut());
 }
 
-/// Tells the next key at a cursor, bucket by bucket and ascending in each: 1, and the key is written, and the
-/// cursor is behind it; 0 at the end, and nothing is written. A cursor begins as zeros. Each key that is
-/// there from the first call of an iteration to its last is given once, whatever other handles do
-/// meanwhile, and none that wasn't there at a moment of its call. It makes at most `budget` steps, all of
-/// them loads. While the other handles stand still, 5n + 11 are enough to give a key or to come to the next
-/// bucket, with n nodes in the cursor's.
+/// Gives the next key of a walk: 1, and the key is written and the cursor is after it; 0 at the end, where no
+/// key is left. A cursor begins as zeros; buckets come in their order, and the keys of a bucket ascend. Each
+/// key that is there from the first call of a walk by one handle to its last is given, once. No key is given
+/// twice, and none that wasn't there at a moment of the call that gives it. A key that is inserted or removed
+/// meanwhile may be given or not, so the keys need not have been there together. Between its calls the handle
+/// may make others. With another handle or shape, or any other bytes in the cursor, the walk from there is
+/// another one and does no harm.
 ///
-/// Refusals, after which the handle can go on and nothing is written: -1, the steps leave no room in the
-/// budget, and the cursor keeps how far it has come; -4, the handle is empty.
+/// It makes at most `budget` steps, all of them loads: it enters the bucket of the cursor at its head, three
+/// steps for each bucket, three for a removed node that is still in its list, five for another. While the
+/// other handles stand still, 5n + 11 are enough to give a key or to come to a later bucket, with n nodes in
+/// the cursor's.
+///
+/// Refusals, after which no call was made and the handle can go on: -1, the steps leave no room in the
+/// budget, and the cursor keeps how far it has come; -4, the handle is empty. With any answer but 1 no key is
+/// written.
+///
+/// ```c file=bindings/c/calls.c
+/// do {
+///     told = vbr_next(&handle[0], &cursor, 100000, &key);
+///     if (told == VBR_YES) sum += key; // the key was there during the call
+/// } while (told == VBR_YES || told == VBR_OUT_OF_STEPS); // at the end it is VBR_NO
+/// ```
 #[unsafe(no_mangle)]
 pub extern "C" fn vbr_next(
     handle: &mut Handle,
