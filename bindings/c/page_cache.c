@@ -36,8 +36,8 @@ enum { SLOTS = FRAMES + 64 * MOST_THREADS, FEW_SLOTS = FRAMES / 2, AMPLE = VBR_A
 
 /* A frame is pinned by those who read it, or taken by the thread that puts another page into it. */
 struct frame {
-    _Atomic uint32_t pins; /* how many, or TAKEN */
-    atomic_bool is_used;   /* since the hand came by */
+    _Atomic uint32_t pins;   /* how many, or TAKEN */
+    atomic_bool is_used;     /* since the hand came by */
     _Atomic uint64_t writes; /* how many were made to its page: more than are on disk, where it is dirty */
     uint64_t page, words[WORDS];
     struct frame *below; /* of a spare frame: the one that was spare before */
@@ -190,7 +190,7 @@ static int serve(struct worker *w, long request) {
     return 1;
 }
 
-/* Writes back all pages that were written to before it began. */
+/* Writes back all pages that were written to before it began. One thread alone makes checkpoints. */
 static void checkpoint(struct worker *w) {
     static uint64_t before[PAGES];
     vbr_cursor cursor = VBR_CURSOR_BEGIN;

@@ -17,13 +17,18 @@
 
 #define CHECK(x) do { if (!(x)) { std::fprintf(stderr, "example.cpp:%d: %s\n", __LINE__, #x); return 1; } } while (0)
 
-// What doesn't compile: a copy of a handle, and an answer or a close as a bool.
+// What doesn't compile: a copy of a handle, an answer or a close as a bool, and a walk whose last answer is told to nobody.
 static_assert(!std::is_copy_constructible_v<vbr::handle> && !std::is_copy_assignable_v<vbr::handle>);
 static_assert(std::is_nothrow_move_constructible_v<vbr::handle> && std::is_nothrow_move_assignable_v<vbr::handle>);
 static_assert(!std::is_constructible_v<bool, vbr::answer> && !std::is_constructible_v<bool, vbr::closed>);
 static_assert(!std::is_constructible_v<bool, vbr::open_answer> && !std::is_constructible_v<bool, vbr::opened>);
 static_assert(!std::is_convertible_v<vbr::answer, int> && !std::is_convertible_v<vbr::loan, bool>);
 static_assert(!std::is_constructible_v<bool, vbr::given<std::uint64_t>> && !std::is_invocable_v<decltype(&vbr::handle::next), vbr::handle &, vbr::cursor, std::uint32_t>);
+template <class Handle, class = void>
+inline constexpr bool walks_without_an_answer = false;
+template <class Handle>
+inline constexpr bool walks_without_an_answer<Handle, std::void_t<decltype(std::declval<Handle &>().keys(1000u))>> = true;
+static_assert(!walks_without_an_answer<vbr::handle>);
 static_assert(vbr::shape::for_keys(1000, 2).slots == 1128 && vbr::shape::for_keys(1000, 2).buckets == 1024);
 static_assert(vbr::shape::for_keys(0, 1).buckets == 1 && vbr::shape::for_keys(~0u, 1).slots == vbr::max_slots + 1);
 

@@ -260,8 +260,8 @@ struct shared {
 
 /* All keys of a set, or all entries of a map, one after another: an input range, which a handle gives. It asks again by itself
    where a call is refused for want of steps and its cursor has come further. It ends where no item is left, or where a call is
-   refused otherwise. What its last call answered is then in the variable that it was given: no at the end, or the refusal. The
-   handle stays where it is meanwhile, and may make other calls in between.
+   refused otherwise. What its last call answered is then in the variable that it was given: no at the end, the refusal, or yes
+   where the loop was left before. The handle stays where it is meanwhile, and may make other calls in between.
 
        vbr::answer told{};
        for (std::uint64_t key : mine.keys(budget, told)) sum += key;

@@ -474,7 +474,8 @@ private:
         const Model &m = *models[cell];
         std::vector<uint64_t> wanted, given;
         for (auto &[bucket, list] : m.lists()) wanted.insert(wanted.end(), list.begin(), list.end());
-        vbr_cursor &at = cursors[cell] = VBR_CURSOR_BEGIN, before = at;
+        vbr_cursor &at = cursors[cell], before = VBR_CURSOR_BEGIN;
+        at = before;
         uint64_t key = 0, value = 0;
         for (int answer; (answer = Of::next(&cells[cell], &at, budget, &key, &value)) != VBR_NO; before = at) {
             if (answer == VBR_YES) given.push_back(key);
