@@ -1,6 +1,7 @@
 // The comparison of sets or of maps: compare [OPTIONS], of which docs/BENCHMARKS.md tells. Checks each peer, and then prints a
 // table in CSV.
 #include "single.hpp"
+#include "walk.hpp"
 
 #include <iterator>
 #include <sys/wait.h>
@@ -16,6 +17,7 @@ struct Options {
     uint64_t operations = 0; // of each thread; 0: as many as fill the milliseconds
     const char *log = nullptr;
     uint64_t fill = 1000000; // keys; 0: no fill
+    uint64_t walk = 1000000; // keys; 0: no walks
     std::vector<uint64_t> ranges{100, 10000, 100000, 1000000};
 };
 
@@ -27,16 +29,21 @@ struct Cell {
     uint64_t again = 0; // how often a disturbed run was made once more
     double spent = 0;   // seconds that all runs took, with all that goes before and after the measured calls
     const Single *single = nullptr; // of calls of one kind
+    const Walk *walk = nullptr;     // over all keys
 
     bool is_slow() const { return spent > 20; }
     std::string workload_name() const {
         const Workload &w = workload;
+        if (walk) return "walk=" + std::to_string(w.range) + walk->by;
         if (w.is_fill()) return "fill=" + std::to_string(w.range);
         if (single) return "range=" + std::to_string(w.range) + " calls=" + single->calls;
         return "range=" + std::to_string(w.range) + " mix=" + std::to_string(w.has) + "/" + std::to_string(w.insert) + "/" +
                std::to_string(w.remove);
     }
-    uint64_t possible(uint64_t operations) const { return single ? single->possible(operations, workload.range) : operations; }
+    uint64_t possible(uint64_t operations) const {
+        if (walk) return Walk::possible(operations, workload.range);
+        return single ? single->possible(operations, workload.range) : operations;
+    }
     std::string name() const { return peer->name + ", " + workload_name() + ", threads=" + std::to_string(workload.threads); }
 
     // The fastest that wasn't disturbed, if there is one.
@@ -102,6 +109,15 @@ void check_singles() {
         if (it.peer.wrong_keys) check({it.peer.name + " by " + it.calls, nullptr, it.peer.wrong_keys});
 }
 
+// Each walk is to give the keys that were put in, each once; a run sees to that as it begins.
+void check_walks(const Options &options) {
+    for (const Walk &it : options.maps ? map_walks() : walks()) {
+        Workload workload{1000, 0, 0, 0, 1, 1000, 0};
+        in_a_process<Run>(it.peer.name, [&] { return it.peer.measure(workload); });
+    }
+    std::fputs("compare: each walk gives the keys that were put in\n", stderr);
+}
+
 Run measured(Cell &cell, const Workload &workload) {
     auto start = std::chrono::steady_clock::now();
     Run run = in_a_process<Run>(cell.name(), [&] { return cell.peer->measure(workload); });
@@ -129,6 +145,14 @@ void add_singles(std::vector<Cell> &cells, const Options &options) {
             cells.push_back({&it.peer, {range, it.has, it.insert, it.remove, 1, it.possible(options.operations, range), 0}, {}, 0, 0, &it});
 }
 
+// Walks, and the library's look-ups beside them.
+void add_walks(std::vector<Cell> &cells, const Options &options) {
+    if (options.walk == 0) return;
+    uint64_t keys = Walk::possible(options.operations, options.walk);
+    for (const Walk &it : options.maps ? map_walks() : walks())
+        cells.push_back({&it.peer, {options.walk, 0, 0, 0, 1, keys, 0}, {}, 0, 0, nullptr, &it});
+}
+
 std::vector<Peer> &peers_of(const Options &options) { return options.maps ? map_peers() : peers(); }
 
 std::vector<Cell> cells(const Options &options) {
@@ -140,6 +164,7 @@ std::vector<Cell> cells(const Options &options) {
                 for (const Peer &peer : peers_of(options))
                     cells.push_back({&peer, {range, mix[0], mix[1], mix[2], threads, options.operations * threads, 0}, {}});
     if (options.maps) add_singles(cells, options);
+    add_walks(cells, options);
     if (options.operations == 0) std::fputs("compare: finding how many calls a run shall have\n", stderr);
     for (Cell &cell : cells)
         if (options.operations == 0) cell.workload.operations = fitting_operations(cell, options.milliseconds);
@@ -233,8 +258,8 @@ void warn(const std::vector<Cell> &cells) {
 }
 
 [[noreturn]] void usage() {
-    std::fputs("usage: compare [--sets | --maps] [--short] [--ranges N,N] [--fill N] [--repeats N] [--again N] [--milliseconds N]\n"
-               "               [--operations N] [--log FILE] [--check]\n", stderr);
+    std::fputs("usage: compare [--sets | --maps] [--short] [--ranges N,N] [--fill N] [--walk N] [--repeats N] [--again N]\n"
+               "               [--milliseconds N] [--operations N] [--log FILE] [--check]\n", stderr);
     std::exit(2);
 }
 
@@ -265,9 +290,10 @@ Options read(int count, char **words) {
             kind = word;
             options.maps = word == "--maps";
         } else if (word == "--check") options.only_checks = true;
-        else if (word == "--short") options.ranges = {100, 10000}, options.fill = 0, options.repeats = 3;
+        else if (word == "--short") options.ranges = {100, 10000}, options.fill = 0, options.walk = 10000, options.repeats = 3;
         else if (word == "--ranges") options.ranges = numbers(value());
         else if (word == "--fill") options.fill = number(value(), 0);
+        else if (word == "--walk") options.walk = number(value(), 0);
         else if (word == "--repeats") options.repeats = number(value(), 1);
         else if (word == "--again") options.again = number(value(), 0);
         else if (word == "--milliseconds") options.milliseconds = number(value(), 1);
@@ -286,6 +312,7 @@ int main(int count, char **words) {
     std::sort(all.begin(), all.end(), [](const Peer &a, const Peer &b) { return a.name < b.name; });
     for (const Peer &peer : all) check(peer);
     if (options.maps) check_singles();
+    check_walks(options);
     if (options.only_checks) return 0;
     Log log(options.log);
     std::vector<Cell> table = cells(options);

@@ -1,6 +1,7 @@
 // Kitherma, through its C library: the set, and the map.
 #include "single.hpp"
 #include "vbr.h"
+#include "walk.hpp"
 
 namespace {
 
@@ -37,6 +38,11 @@ struct Kitherma {
     bool insert(Handle &h, uint64_t key) { return answer(vbr_insert(h.of, key, BUDGET)); }
     bool remove(Handle &h, uint64_t key) { return answer(vbr_remove(h.of, key, BUDGET)); }
     bool has(Handle &h, uint64_t key) { return answer(vbr_has(h.of, key, BUDGET)); }
+
+    template <class F> void walk(Handle &h, F each) {
+        vbr_cursor cursor = VBR_CURSOR_BEGIN;
+        for (uint64_t key; answer(vbr_next(h.of, &cursor, BUDGET, &key));) each(key);
+    }
 };
 
 struct KithermaMap {
@@ -58,11 +64,20 @@ struct KithermaMap {
     bool remove(Handle &h, uint64_t key, uint64_t &value) { return answer(vbr_map_remove(h.of, key, BUDGET, &value)); }
     bool get(Handle &h, uint64_t key, uint64_t &value) { return answer(vbr_map_get(h.of, key, BUDGET, &value)); }
     bool has(Handle &h, uint64_t key) { return answer(vbr_map_has(h.of, key, BUDGET)); }
+
+    template <class F> void walk(Handle &h, F each) {
+        vbr_cursor cursor = VBR_CURSOR_BEGIN;
+        for (uint64_t key, value; answer(vbr_map_next(h.of, &cursor, BUDGET, &key, &value));) each(key, value);
+    }
 };
 
 PEER("kitherma", Kitherma);
 MAP_PEER("kitherma", KithermaMap);
 const bool singles_of_map = add_singles_of_map<KithermaMap>("kitherma");
 const bool singles_of_set = add_singles_of_set<Kitherma>("kitherma set");
+WALK_PEER("kitherma", Kitherma);
+MAP_WALK_PEER("kitherma", KithermaMap);
+const bool look_ups_of_set = (walks().push_back(look_ups<Kitherma>("kitherma", " by=has")), true);
+const bool look_ups_of_map = (map_walks().push_back(look_ups<Walks<KithermaMap>>("kitherma", " by=get")), true);
 
 }  // namespace

@@ -1,5 +1,5 @@
 // liburcu: its lock-free hash table, with a fixed number of buckets, whose nodes are reclaimed by RCU; as a set, and as a map.
-#include "map.hpp"
+#include "walk.hpp"
 
 #define _LGPL_SOURCE // its read lock is inlined
 #include <urcu.h>
@@ -41,10 +41,9 @@ template <class Node> struct Liburcu {
     ~Liburcu() {
         {
             Registered registered;
-            Reading reading;
-            cds_lfht_iter at;
-            for (cds_lfht_first(table, &at); cds_lfht_node *link = cds_lfht_iter_get_node(&at); cds_lfht_next(table, &at))
+            walk_nodes([&](cds_lfht_node *link) {
                 if (cds_lfht_del(table, link) == 0) call_rcu(&node_of(link)->head, free_node<Node>);
+            });
         }
         rcu_barrier();
         cds_lfht_destroy(table, nullptr);
@@ -67,6 +66,12 @@ template <class Node> struct Liburcu {
         bool added = cds_lfht_add_unique(table, key, matches, &key, &node->link) == &node->link;
         if (!added) delete node;
         return added;
+    }
+    // In one read section.
+    template <class F> void walk_nodes(F each) {
+        Reading reading;
+        cds_lfht_iter at;
+        for (cds_lfht_first(table, &at); cds_lfht_node *link = cds_lfht_iter_get_node(&at); cds_lfht_next(table, &at)) each(link);
     }
     bool take_out(cds_lfht_node *link) {
         if (!link || cds_lfht_del(table, link) != 0) return false;
@@ -92,6 +97,9 @@ struct LiburcuSet : Liburcu<KeyNode> {
         Reading reading;
         return take_out(found(key));
     }
+    template <class F> void walk(Handle &, F each) {
+        walk_nodes([&](cds_lfht_node *link) { each(node_of(link)->key); });
+    }
 };
 
 struct LiburcuMap : Liburcu<EntryNode> {
@@ -116,6 +124,9 @@ struct LiburcuMap : Liburcu<EntryNode> {
         if (link) value = value_of(link);
         return take_out(link);
     }
+    template <class F> void walk(Handle &, F each) {
+        walk_nodes([&](cds_lfht_node *link) { each(node_of(link)->key, value_of(link)); });
+    }
 
 private:
     static uint64_t value_of(cds_lfht_node *link) { return static_cast<EntryNode *>(node_of(link))->value; }
@@ -123,5 +134,7 @@ private:
 
 PEER("liburcu", LiburcuSet);
 MAP_PEER("liburcu", LiburcuMap);
+WALK_PEER("liburcu", LiburcuSet);
+MAP_WALK_PEER("liburcu", LiburcuMap);
 
 }  // namespace

@@ -1,5 +1,5 @@
 // The peers in Rust: Michael's hash set and hash map over crossbeam-epoch, and dashmap, of the crate in rust/.
-#include "map.hpp"
+#include "walk.hpp"
 
 struct RustTable;
 
@@ -18,6 +18,10 @@ struct RustTable;
     }
 DECLARED(epoch)
 DECLARED(dash)
+extern "C" {
+void dash_set_walk(RustTable *, void (*each)(void *with, uint64_t key), void *with);
+void dash_map_walk(RustTable *, void (*each)(void *with, uint64_t key, uint64_t value), void *with);
+}
 
 namespace {
 
@@ -52,12 +56,28 @@ template <auto OPEN, auto CLOSE, auto INSERT, auto REMOVE, auto GET> struct Rust
 
 using Crossbeam = RustSet<epoch_set_open, epoch_set_close, epoch_set_insert, epoch_set_remove, epoch_set_has>;
 using CrossbeamMap = RustMap<epoch_map_open, epoch_map_close, epoch_map_insert, epoch_map_remove, epoch_map_get>;
-using Dashmap = RustSet<dash_set_open, dash_set_close, dash_set_insert, dash_set_remove, dash_set_has>;
-using DashmapMap = RustMap<dash_map_open, dash_map_close, dash_map_insert, dash_map_remove, dash_map_get>;
+
+struct Dashmap : RustSet<dash_set_open, dash_set_close, dash_set_insert, dash_set_remove, dash_set_has> {
+    using RustSet::RustSet;
+
+    template <class F> void walk(Handle &, F each) {
+        dash_set_walk(table, [](void *with, uint64_t key) { (*static_cast<F *>(with))(key); }, &each);
+    }
+};
+
+struct DashmapMap : RustMap<dash_map_open, dash_map_close, dash_map_insert, dash_map_remove, dash_map_get> {
+    using RustMap::RustMap;
+
+    template <class F> void walk(Handle &, F each) {
+        dash_map_walk(table, [](void *with, uint64_t key, uint64_t value) { (*static_cast<F *>(with))(key, value); }, &each);
+    }
+};
 
 PEER("crossbeam-epoch", Crossbeam);
 PEER("dashmap", Dashmap);
 MAP_PEER("crossbeam-epoch", CrossbeamMap);
 MAP_PEER("dashmap", DashmapMap);
+WALK_PEER("dashmap", Dashmap);
+MAP_WALK_PEER("dashmap", DashmapMap);
 
 }  // namespace

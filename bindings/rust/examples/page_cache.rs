@@ -4,16 +4,22 @@
 //!
 //! A page is looked up in a map from pages to frames. Where it is there, that is a hit, and the frame counts as used. Where it
 //! isn't, CLOCK finds a frame: a hand goes round the frames, and takes the first that wasn't used since it came by. The page
-//! there leaves the index, the new one is read into the frame, and goes into the index. Each frame has a latch, which is
-//! shared by those who read its page, and held alone by who brings another one in; the index has none.
+//! there is written back, if it was changed, and leaves the index; the new one goes into the index, and is read into the frame.
+//! Each frame has a latch, which is shared by those who read its page, and held alone by who changes it, writes it back or
+//! brings another one in; the index has none.
+//!
+//! Now and then a thread makes a checkpoint: it goes over the index, while the others work on, and writes back each page that
+//! was changed. What was changed before it began is on the disk when it ends. For a page that is in the index all the while is
+//! met there; and one that left it meanwhile was written back before.
 //!
 //! The program plays one stream of requests, by one thread, by one with an index that is too small, and by four, and beside
-//! each a plain CLOCK over a `HashMap`, on one thread. One thread has to have the very same hits, and four about as many.
+//! each a plain CLOCK over a `HashMap`, on one thread. One thread has to have the very same hits, and four about as many. Each
+//! checkpoint is compared with how often each page was changed before it began, and the disk at the end with the requests.
 use std::collections::HashMap;
 use std::error::Error;
-use std::sync::atomic::Ordering::Relaxed;
+use std::sync::atomic::Ordering::{Acquire, Relaxed, Release};
 use std::sync::atomic::{AtomicBool, AtomicU64, AtomicUsize};
-use std::sync::{RwLock, RwLockWriteGuard};
+use std::sync::{Mutex, RwLock, RwLockWriteGuard};
 use std::thread;
 use vbr::{ample_budget, Entry, Map, MapHandle, Refusal, Shape};
 
@@ -21,21 +27,29 @@ const FRAMES: usize = 512;
 const PAGES: u64 = 4_096;
 const REQUESTS: u64 = 400_000;
 
+/// After so many requests comes a checkpoint.
+const BETWEEN_CHECKPOINTS: u64 = 20_000;
+
 /// So small that it is spent some times. A program takes `vbr::MAX_EPOCH`.
 const LAST_EPOCH: u64 = 20_000;
 
 /// So small that some calls need more. A program takes an ample one.
 const FIRST_BUDGET: u32 = 48;
 
-/// Removes have it: with a small one a page could leave the index, and its slot stay in a list.
+/// Checkpoints have it, and removes: with a small one a page could leave the index, and its slot stay in a list.
 const AMPLE: u32 = ample_budget(2 * FRAMES as u32);
 
 /// How far the share of hits of several threads may be from that of the plain CLOCK.
 const BOUND: f64 = 0.01;
 
+/// What is in a page. The first word tells how often it was changed, and the others follow from that.
+type Contents = [u64; 4];
+
 struct Frame {
     page: Option<u64>,
-    contents: [u64; 4],
+    contents: Contents,
+    /// Whether the page was changed since it was read from the disk or written there.
+    is_dirty: bool,
 }
 
 struct Cache {
@@ -43,6 +57,9 @@ struct Cache {
     /// Which frames were used since the hand came by.
     used: Vec<AtomicBool>,
     hand: AtomicUsize,
+    disk: Vec<Mutex<Contents>>,
+    /// How often each page was changed: what the program knows of it apart from its contents.
+    changes: Vec<AtomicU64>,
     /// How many requests were begun.
     begun: AtomicU64,
     /// Whether the index is to be renewed: then all threads end.
@@ -52,24 +69,93 @@ struct Cache {
 impl Cache {
     fn new() -> Cache {
         Cache {
-            frames: (0..FRAMES).map(|_| RwLock::new(Frame { page: None, contents: [0; 4] })).collect(),
+            frames: (0..FRAMES).map(|_| RwLock::new(Frame { page: None, contents: [0; 4], is_dirty: false })).collect(),
             used: (0..FRAMES).map(|_| AtomicBool::new(false)).collect(),
             hand: AtomicUsize::new(0),
+            disk: (0..PAGES).map(|page| Mutex::new(contents_of(page, 0))).collect(),
+            changes: (0..PAGES).map(|_| AtomicU64::new(0)).collect(),
             begun: AtomicU64::new(0),
             is_spent: AtomicBool::new(false),
         }
     }
 
-    /// Reads a page in a frame, unless the frame has another one by now.
+    /// Reads or changes a page in a frame, unless the frame is held or has another page by now.
+    fn serve_in(&self, number: usize, request: Request) -> bool {
+        let is_served = if request.is_change { self.change(number, request.page) } else { self.read(number, request.page) };
+        if is_served {
+            self.used[number].store(true, Relaxed);
+        }
+        is_served
+    }
+
     fn read(&self, number: usize, page: u64) -> bool {
         match self.frames[number].try_read() {
             Ok(frame) if frame.page == Some(page) => {
-                assert_eq!(frame.contents, contents_of(page));
-                self.used[number].store(true, Relaxed);
+                assert_eq!(frame.contents, contents_of(page, frame.contents[0]));
                 true
             }
             _ => false,
         }
+    }
+
+    fn change(&self, number: usize, page: u64) -> bool {
+        match self.frames[number].try_write() {
+            Ok(mut frame) if frame.page == Some(page) => {
+                self.change_in(&mut frame, page);
+                true
+            }
+            _ => false,
+        }
+    }
+
+    fn change_in(&self, frame: &mut Frame, page: u64) {
+        let count = frame.contents[0] + 1;
+        frame.contents = contents_of(page, count);
+        frame.is_dirty = true;
+        self.changes[page as usize].store(count, Release);
+    }
+
+    /// Writes the page of a frame to the disk, and says whether that was due.
+    fn write_back(&self, frame: &mut Frame) -> bool {
+        match frame.page {
+            Some(page) if frame.is_dirty => {
+                *self.disk[page as usize].lock().expect("a disk") = frame.contents;
+                frame.is_dirty = false;
+                true
+            }
+            _ => false,
+        }
+    }
+
+    /// Writes back each page that was changed before, while others work on, and says how many pages it wrote.
+    fn checkpoint(&self, index: &MapHandle) -> Result<u64, Refusal> {
+        let due = self.changes_made();
+        let mut written = 0;
+        for entry in index.iter(AMPLE) {
+            let (page, number) = entry?;
+            let mut frame = self.frames[number as usize].write().expect("a frame");
+            // Where it has another page by now, this one was written back when it left.
+            if frame.page == Some(page) {
+                written += u64::from(self.write_back(&mut frame));
+            }
+        }
+        assert!(self.changes_on_disk().iter().zip(due).all(|(there, due)| *there >= due), "a change isn't on the disk");
+        Ok(written)
+    }
+
+    /// How often each page was changed by now.
+    fn changes_made(&self) -> Vec<u64> {
+        self.changes.iter().map(|count| count.load(Acquire)).collect()
+    }
+
+    /// How many changes of each page are on the disk.
+    fn changes_on_disk(&self) -> Vec<u64> {
+        let count = |(page, disk): (u64, &Mutex<Contents>)| {
+            let contents = *disk.lock().expect("a disk");
+            assert_eq!(contents, contents_of(page, contents[0]));
+            contents[0]
+        };
+        (0..).zip(&self.disk).map(count).collect()
     }
 }
 
@@ -78,9 +164,11 @@ struct Worker<'c> {
     cache: &'c Cache,
     /// Frames that have no page, to be filled first, from the last one on.
     spare: Vec<usize>,
-    /// A page that couldn't be brought in, since the epoch was spent.
-    awaited: Option<u64>,
+    /// A request that couldn't be served, since the epoch was spent.
+    awaited: Option<Request>,
     hits: u64,
+    /// How many pages its checkpoints wrote.
+    written: u64,
     /// How many calls had too small a budget, and how many found no slot.
     tired: u64,
     full: u64,
@@ -88,20 +176,20 @@ struct Worker<'c> {
 
 impl<'c> Worker<'c> {
     fn new(cache: &'c Cache) -> Worker<'c> {
-        Worker { cache, spare: Vec::new(), awaited: None, hits: 0, tired: 0, full: 0 }
+        Worker { cache, spare: Vec::new(), awaited: None, hits: 0, written: 0, tired: 0, full: 0 }
     }
 
     /// Serves requests until there are none, or the index is to be renewed.
     fn run(&mut self, index: &mut MapHandle) {
         while !self.cache.is_spent.load(Relaxed) {
             let is_again = self.awaited.is_some();
-            let Some(page) = self.awaited.take().or_else(|| page_of(self.cache.begun.fetch_add(1, Relaxed))) else {
+            let Some(request) = self.awaited.take().or_else(|| request_of(self.cache.begun.fetch_add(1, Relaxed))) else {
                 return;
             };
-            match self.serve(index, page) {
+            match self.serve(index, request) {
                 Ok(is_hit) => self.hits += u64::from(is_hit && !is_again),
                 Err(Refusal::EpochSpent) => {
-                    self.awaited = Some(page);
+                    self.awaited = Some(request);
                     self.cache.is_spent.store(true, Relaxed);
                 }
                 Err(refusal) => panic!("{refusal}"),
@@ -109,28 +197,38 @@ impl<'c> Worker<'c> {
         }
     }
 
-    /// Reads a page, which is brought in first where it is in no frame, and says whether it was in one.
-    fn serve(&mut self, index: &mut MapHandle, page: u64) -> Result<bool, Refusal> {
-        while let Some(number) = with_steps(&mut self.tired, FIRST_BUDGET, |budget| index.get(page, budget))? {
-            if self.cache.read(number as usize, page) {
-                return Ok(true);
-            }
-            thread::yield_now();
+    /// Reads or changes a page, which is brought in first where it is in no frame, and says whether it was in one. Some
+    /// requests wait for a checkpoint.
+    fn serve(&mut self, index: &mut MapHandle, request: Request) -> Result<bool, Refusal> {
+        if request.number % BETWEEN_CHECKPOINTS == 0 {
+            self.written += self.cache.checkpoint(index)?;
         }
-        self.bring_in(index, page)?;
-        Ok(false)
+        let mut is_hit = true;
+        loop {
+            match with_steps(&mut self.tired, FIRST_BUDGET, |budget| index.get(request.page, budget))? {
+                Some(number) if self.cache.serve_in(number as usize, request) => return Ok(is_hit),
+                Some(_) => thread::yield_now(),
+                None if self.bring_in(index, request)? => return Ok(false),
+                None => is_hit = false,
+            }
+        }
     }
 
-    fn bring_in(&mut self, index: &mut MapHandle, page: u64) -> Result<(), Refusal> {
+    /// Brings a page into a frame and reads or changes it there, unless another thread has brought it in meanwhile.
+    fn bring_in(&mut self, index: &mut MapHandle, request: Request) -> Result<bool, Refusal> {
         let (number, mut frame) = self.free_frame(index)?;
-        *frame = Frame { page: Some(page), contents: contents_of(page) };
-        let inserted = self.insert(index, page, number);
-        if inserted != Ok(true) {
-            // Another thread has brought it in meanwhile, or the epoch is spent.
-            frame.page = None;
+        let inserted = self.insert(index, request.page, number);
+        if inserted == Ok(true) {
+            // It is read only now: until then others could bring it in, change it and write it back.
+            let contents = *self.cache.disk[request.page as usize].lock().expect("a disk");
+            *frame = Frame { page: Some(request.page), contents, is_dirty: false };
+            if request.is_change {
+                self.cache.change_in(&mut frame, request.page);
+            }
+        } else {
             self.spare.push(number);
         }
-        inserted.map(|_| ())
+        inserted
     }
 
     /// Puts a page and its frame into the index, and says whether the page wasn't there.
@@ -170,6 +268,8 @@ impl<'c> Worker<'c> {
                 None => return Ok((number, frame)),
                 Some(_) if self.cache.used[number].swap(false, Relaxed) => continue,
                 Some(page) => {
+                    // Before it leaves the index: a checkpoint that doesn't meet it there takes it for written.
+                    self.cache.write_back(&mut frame);
                     let there = with_steps(&mut self.tired, AMPLE, |budget| index.remove(page, budget))?;
                     assert_eq!(there, Some(number as u64));
                     frame.page = None;
@@ -206,15 +306,17 @@ fn renew(shape: Shape, handles: Vec<MapHandle>) -> Result<Vec<MapHandle>, Box<dy
     Ok(Map::open_with(shape, count, &close(handles)?)?)
 }
 
-/// What came of all requests: the hits, and what was refused on the way.
+/// What came of all requests: the hits, how many pages checkpoints wrote, and what was refused on the way.
 struct Played {
     hits: u64,
+    written: u64,
     renewals: u64,
     tired: u64,
     full: u64,
 }
 
-/// Plays all requests by so many threads, and sees that the index has just the pages of the frames at the end.
+/// Plays all requests by so many threads, and sees that at the end the index has just the pages of the frames, and the disk, after
+/// one more checkpoint, all changes that were asked for, and no others.
 fn play(threads: usize, slots: u32) -> Result<Played, Box<dyn Error>> {
     let shape = Shape { slots, last_epoch: LAST_EPOCH, ..Shape::for_keys(FRAMES as u32, threads) };
     let cache = Cache::new();
@@ -234,9 +336,12 @@ fn play(threads: usize, slots: u32) -> Result<Played, Box<dyn Error>> {
         renewals += 1;
     }
     let total = |count: fn(&Worker) -> u64| workers.iter().map(count).sum();
-    let played = Played { hits: total(|it| it.hits), renewals, tired: total(|it| it.tired), full: total(|it| it.full) };
+    let [hits, written, tired, full] =
+        [total(|it| it.hits), total(|it| it.written), total(|it| it.tired), total(|it| it.full)];
+    cache.checkpoint(&handles[0])?;
+    assert_eq!(cache.changes_on_disk(), requested_changes());
     check_index(cache, close(handles)?)?;
-    Ok(played)
+    Ok(Played { hits, written, renewals, tired, full })
 }
 
 /// Each entry tells the frame of its page, and each page of a frame has one.
@@ -265,7 +370,7 @@ impl Plain {
     fn hits(room: usize) -> u64 {
         let mut plain =
             Plain { index: HashMap::new(), room, pages: [None; FRAMES], used: [false; FRAMES], hand: 0, spare: None };
-        (0..).map_while(page_of).map(|page| u64::from(plain.serve(page))).sum()
+        (0..).map_while(request_of).map(|request| u64::from(plain.serve(request.page))).sum()
     }
 
     fn serve(&mut self, page: u64) -> bool {
@@ -302,24 +407,44 @@ impl Plain {
     }
 }
 
-/// The page of a request, or none behind the last one: some pages are asked for far more often than others, and at times
-/// somebody reads a range of them in order.
-fn page_of(number: u64) -> Option<u64> {
-    if number >= REQUESTS {
-        return None;
-    }
+/// That a page be read, or changed.
+#[derive(Clone, Copy)]
+struct Request {
+    number: u64,
+    page: u64,
+    is_change: bool,
+}
+
+/// A request, or none behind the last one: a quarter of them are changes.
+fn request_of(number: u64) -> Option<Request> {
+    (number < REQUESTS).then(|| Request { number, page: page_of(number), is_change: mixed(number) % 4 == 0 })
+}
+
+/// The page of a request: some pages are asked for far more often than others, and at times somebody reads a range of them in
+/// order.
+fn page_of(number: u64) -> u64 {
     if number / 256 % 16 == 15 {
-        return Some(number % PAGES);
+        return number % PAGES;
     }
     let times = |a: u64, b: u64| (a * b) >> 20; // of fractions, which are counted in 2^-20
     let x = mixed(number) >> 44;
     let cubed = times(x, times(x, x));
-    Some(times(times(cubed, cubed), PAGES))
+    times(times(cubed, cubed), PAGES)
 }
 
-/// What is on the disk, as it were.
-fn contents_of(page: u64) -> [u64; 4] {
-    [0, 1, 2, 3].map(|word| mixed(4 * page + word))
+/// How often each page is changed by all requests.
+fn requested_changes() -> Vec<u64> {
+    let mut counts = vec![0; PAGES as usize];
+    for request in (0..).map_while(request_of).filter(|request| request.is_change) {
+        counts[request.page as usize] += 1;
+    }
+    counts
+}
+
+/// What is in a page that was changed so often.
+fn contents_of(page: u64, changes: u64) -> Contents {
+    let word = |word| mixed(PAGES * changes + page).wrapping_mul(word);
+    [changes, word(3), word(5), word(7)]
 }
 
 fn mixed(number: u64) -> u64 {
@@ -331,14 +456,15 @@ fn main() -> Result<(), Box<dyn Error>> {
     let frames = FRAMES as u32;
     let (one, plain) = (play(1, frames + 64)?, Plain::hits(FRAMES));
     assert_eq!(one.hits, plain);
-    assert!(one.renewals > 0 && one.tired > 0 && one.full == 0);
+    assert!(one.renewals > 0 && one.tired > 0 && one.full == 0 && one.written > 0);
     let crowded = play(1, frames - 100)?;
     assert_eq!(crowded.hits, Plain::hits(FRAMES - 100));
     assert!(crowded.full > 0);
     let four = play(4, frames + 4 * 64)?;
     let [of_four, of_plain] = [four.hits, plain].map(|hits| hits as f64 / REQUESTS as f64);
     assert!((of_four - of_plain).abs() < BOUND, "{of_four:.4} of the requests are hits, and {of_plain:.4} by a plain CLOCK");
-    assert!(four.renewals > 0 && four.full == 0);
+    assert!(four.renewals > 0 && four.full == 0 && four.written > 0);
     println!("page cache in Rust: passed, {of_plain:.4} of the requests are hits, as by a plain CLOCK; of four threads {of_four:.4}");
+    println!("page cache in Rust: its checkpoints wrote {} pages; while four threads worked, {}", one.written, four.written);
     Ok(())
 }

@@ -55,6 +55,32 @@
 //!
 //! `examples/page_cache.rs` is a program to begin from: the index of a page cache.
 //!
+//! # Going over all keys
+//!
+//! [`Handle::iter`] goes over all keys, and [`MapHandle::iter`] over all entries, while other threads make calls. Each key that
+//! is there all the while is given, once, and none that wasn't there at a moment of its call. What isn't said is that they were
+//! there together at one moment.
+//!
+//! ```
+//! use vbr::{ample_budget, Set, Shape};
+//!
+//! let shape = Shape::for_keys(1_024, 2);
+//! let budget = ample_budget(shape.slots);
+//! let mut handles = Set::open_with(shape, 2, &[2, 5, 9])?;
+//! let mut second = handles.pop().expect("two handles");
+//! let first = handles.pop().expect("two handles");
+//! let other = std::thread::spawn(move || second.insert(7, budget));
+//! let mut keys = first.iter(budget).collect::<Result<Vec<_>, _>>()?;
+//! keys.sort();
+//! assert!(keys == [2, 5, 9] || keys == [2, 5, 7, 9]);
+//! assert!(other.join().expect("a thread that ends")?);
+//! assert_eq!(first.iter(budget).count(), 4);
+//! # Ok::<(), Box<dyn std::error::Error>>(())
+//! ```
+//!
+//! Between the calls of [`Handle::next`] and [`MapHandle::next`], which have a [`Cursor`] in place of an iterator, the handle
+//! itself makes other calls too.
+//!
 //! # Threads
 //!
 //! A handle is no thread's: it may be moved to another one at any time, by whatever Rust has for that, and the library
@@ -67,8 +93,8 @@
 //! so cancel none that has a handle. A call in which a signal comes goes on afterwards. The handler may insert, remove and
 //! look up with a handle that nothing else uses; it opens, closes and drops none, since these take memory or free it.
 //!
-//! How many keys are in the set isn't told while threads run. Count the inserts and removes that are answered yes, or
-//! read the report of the last close.
+//! How many keys are in the set at one moment isn't told while threads run. Count the inserts and removes that are answered
+//! yes, count the keys that a walk gives, or read the report of the last close.
 //!
 //! The exports of the library ask nothing of their caller but what the types here say: a handle is moved
 //! and never copied, and one call at a time has it, since it is not `Sync`.
@@ -78,6 +104,7 @@
 extern crate alloc;
 
 mod errors;
+mod iterating;
 mod lending;
 mod library;
 mod map;
@@ -86,6 +113,7 @@ mod set;
 mod shape;
 
 pub use errors::{CloseError, OpenError, Refusal, Unclosed};
+pub use iterating::{Cursor, Iter};
 pub use lending::Lent;
 pub use map::{Entry, Map, MapHandle, MapReport};
 pub use set::{Handle, Report, Set};

@@ -1,6 +1,6 @@
 //! The calls of the library, and which of them are those of a set and which those of a map.
 use crate::map::Entry;
-use crate::Refusal;
+use crate::{Cursor, Refusal};
 use core::ffi::c_void;
 
 /// As C sees a handle: one pointer, null where it is empty.
@@ -32,6 +32,7 @@ extern "C" {
     pub(crate) fn vbr_insert(handle: *mut Raw, key: u64, budget: u32) -> i32;
     pub(crate) fn vbr_remove(handle: *mut Raw, key: u64, budget: u32) -> i32;
     pub(crate) fn vbr_has(handle: *mut Raw, key: u64, budget: u32) -> i32;
+    pub(crate) fn vbr_next(handle: *mut Raw, cursor: *mut Cursor, budget: u32, key: *mut u64) -> i32;
     fn vbr_epoch(handle: *mut Raw) -> u64;
     fn vbr_last_epoch(handle: *mut Raw) -> u64;
     fn vbr_slots(handle: *mut Raw) -> u32;
@@ -53,6 +54,7 @@ extern "C" {
     pub(crate) fn vbr_map_remove(handle: *mut Raw, key: u64, budget: u32, value: *mut u64) -> i32;
     pub(crate) fn vbr_map_get(handle: *mut Raw, key: u64, budget: u32, value: *mut u64) -> i32;
     pub(crate) fn vbr_map_has(handle: *mut Raw, key: u64, budget: u32) -> i32;
+    pub(crate) fn vbr_map_next(handle: *mut Raw, cursor: *mut Cursor, budget: u32, key: *mut u64, value: *mut u64) -> i32;
     fn vbr_map_epoch(handle: *mut Raw) -> u64;
     fn vbr_map_last_epoch(handle: *mut Raw) -> u64;
     fn vbr_map_slots(handle: *mut Raw) -> u32;
@@ -120,10 +122,10 @@ pub(crate) fn answer(code: i32) -> Result<bool, Refusal> {
     }
 }
 
-/// The answer of a call that writes a value where it answers yes.
+/// The answer of a call that writes what it gives where it answers yes: a value, or the next key or entry.
 #[inline]
-pub(crate) fn answer_with(call: impl FnOnce(*mut u64) -> i32) -> Result<Option<u64>, Refusal> {
-    let mut value = 0;
-    let there = answer(call(&mut value))?;
-    Ok(there.then_some(value))
+pub(crate) fn answer_with<T: Default>(call: impl FnOnce(&mut T) -> i32) -> Result<Option<T>, Refusal> {
+    let mut given = T::default();
+    let there = answer(call(&mut given))?;
+    Ok(there.then_some(given))
 }

@@ -1,8 +1,8 @@
 //! Maps.
 use crate::lending::{Lender, Lent};
-use crate::library::{answer, answer_with, vbr_map_get, vbr_map_has, vbr_map_insert, vbr_map_remove, Entries};
+use crate::library::{answer, answer_with, vbr_map_get, vbr_map_has, vbr_map_insert, vbr_map_next, vbr_map_remove, Entries};
 use crate::owned::{Contents, Owned};
-use crate::{CloseError, OpenError, Refusal, Shape};
+use crate::{CloseError, Cursor, Iter, OpenError, Refusal, Shape};
 use alloc::vec::Vec;
 use core::fmt;
 
@@ -271,6 +271,60 @@ impl MapHandle {
     pub fn has(&self, key: u64, budget: u32) -> Result<bool, Refusal> {
         // SAFETY: as for `get`.
         answer(unsafe { vbr_map_has(self.0.raw(), key, budget) })
+    }
+
+    /// Goes over all entries while other threads make calls, each a key and its value: a walk, as [`Handle::iter`] is one over the
+    /// keys of a set, with the same cost, order and errors. The two of an entry were in the map together at a moment of the call
+    /// that gives them.
+    ///
+    /// ```
+    /// # use vbr::{Entry, Map, Shape};
+    /// let handle = Map::open_with(Shape::for_keys(8, 1), 1, &[(5, 70), (7, 71)].map(Entry::from))?.remove(0);
+    /// let mut entries = handle.iter(100_000).collect::<Result<Vec<_>, _>>()?;
+    /// entries.sort();
+    /// assert_eq!(entries, [(5, 70), (7, 71)]);
+    /// for entry in handle.iter(100_000) {
+    ///     let (key, value) = entry?;
+    ///     assert_eq!(handle.get(key, 100_000)?, Some(value)); // as nobody else makes calls
+    /// }
+    /// # Ok::<(), Box<dyn std::error::Error>>(())
+    /// ```
+    ///
+    /// # Errors
+    ///
+    /// Those of [`Handle::iter`].
+    ///
+    /// [`Handle::iter`]: crate::Handle::iter
+    #[inline]
+    pub fn iter(&self, budget: u32) -> Iter<'_, MapHandle> {
+        Iter::new(self, budget)
+    }
+
+    /// The next key of a walk with its value, as [`Handle::next`](crate::Handle::next) gives that of a set. It makes two steps
+    /// more, to read the value.
+    ///
+    /// Between two of these calls the handle makes any others.
+    ///
+    /// ```
+    /// # use vbr::{Cursor, Entry, Map, Shape};
+    /// let mut handle = Map::open_with(Shape::for_keys(8, 1), 1, &[(5, 70), (7, 71)].map(Entry::from))?.remove(0);
+    /// let mut cursor = Cursor::first();
+    /// while let Some((key, value)) = handle.next(&mut cursor, 100_000)? {
+    ///     if value > 70 {
+    ///         handle.remove(key, 100_000)?;
+    ///     }
+    /// }
+    /// assert_eq!(handle.close()?.expect("the only handle").entries, [Entry { key: 5, value: 70 }]);
+    /// # Ok::<(), Box<dyn std::error::Error>>(())
+    /// ```
+    ///
+    /// # Errors
+    ///
+    /// [`Refusal::OutOfSteps`] alone. The cursor keeps how far it has come, as that of a set does.
+    #[inline]
+    pub fn next(&self, cursor: &mut Cursor, budget: u32) -> Result<Option<(u64, u64)>, Refusal> {
+        // SAFETY: as for `get`; nothing else has the cursor, the key and the value.
+        answer_with(|(key, value)| unsafe { vbr_map_next(self.0.raw(), cursor, budget, key, value) })
     }
 
     /// The last epoch that the handle read in a call; 1 before its first. It makes no step, so others may have advanced the

@@ -1,8 +1,8 @@
 //! Sets.
 use crate::lending::{Lender, Lent};
-use crate::library::{answer, vbr_has, vbr_insert, vbr_remove, Keys};
+use crate::library::{answer, answer_with, vbr_has, vbr_insert, vbr_next, vbr_remove, Keys};
 use crate::owned::{Contents, Owned};
-use crate::{CloseError, OpenError, Refusal, Shape};
+use crate::{CloseError, Cursor, Iter, OpenError, Refusal, Shape};
 use alloc::vec::Vec;
 use core::fmt;
 
@@ -255,6 +255,72 @@ impl Handle {
     pub fn has(&self, key: u64, budget: u32) -> Result<bool, Refusal> {
         // SAFETY: one thread at a time has the handle, which is not `Sync`, and the call lends it to nobody.
         answer(unsafe { vbr_has(self.0.raw(), key, budget) })
+    }
+
+    /// Goes over all keys while other threads make calls: a walk, which makes each of its calls in at most `budget` steps, all of
+    /// them loads. [`ample_budget`](crate::ample_budget) is enough in short buckets.
+    ///
+    /// Each key that is in the set from the first call of the walk to the last is given, once. No key is given twice, and none
+    /// that wasn't in the set at a moment of the call that gives it. Keys come bucket by bucket, and those of a bucket ascend.
+    /// What isn't said is that they were there together at one moment, as those of a report were: a key that is inserted or
+    /// removed meanwhile is given or not.
+    ///
+    /// The walk borrows the handle, which can look keys up meanwhile. Other handles make any calls; with [`Handle::next`] this
+    /// one does too.
+    ///
+    /// ```
+    /// # use vbr::{Refusal, Set, Shape};
+    /// fn count_even(handle: &vbr::Handle) -> Result<u64, Refusal> {
+    ///     let mut count = 0;
+    ///     for key in handle.iter(100_000) {
+    ///         count += u64::from(key? % 2 == 0);
+    ///     }
+    ///     Ok(count)
+    /// }
+    ///
+    /// let handle = Set::open_with(Shape::for_keys(8, 1), 1, &[2, 5, 9])?.remove(0);
+    /// assert_eq!(count_even(&handle)?, 1);
+    /// let mut keys = handle.iter(100_000).collect::<Result<Vec<_>, _>>()?;
+    /// keys.sort();
+    /// assert_eq!(keys, [2, 5, 9]);
+    /// # Ok::<(), Box<dyn std::error::Error>>(())
+    /// ```
+    ///
+    /// # Errors
+    ///
+    /// Of an item [`Refusal::OutOfSteps`] alone, where a whole call didn't come to a later bucket, as [`Iter`] says. While the
+    /// other handles stand still that is so only if the budget is below 5n + 11, with n nodes in the bucket.
+    #[inline]
+    pub fn iter(&self, budget: u32) -> Iter<'_> {
+        Iter::new(self, budget)
+    }
+
+    /// The next key of a walk, in at most `budget` steps, all of them loads; `None` at its end. The cursor is right behind the
+    /// key then. A walk begins at [`Cursor::first`], and what [`Handle::iter`] says of one is so of these calls of one handle.
+    ///
+    /// Between two of them the handle makes any other calls.
+    ///
+    /// ```
+    /// # use vbr::{Cursor, Set, Shape};
+    /// let mut handle = Set::open_with(Shape::for_keys(8, 1), 1, &[2, 5, 9])?.remove(0);
+    /// let mut cursor = Cursor::first();
+    /// while let Some(key) = handle.next(&mut cursor, 100_000)? {
+    ///     if key % 2 == 1 {
+    ///         handle.remove(key, 100_000)?;
+    ///     }
+    /// }
+    /// assert_eq!(handle.close()?.expect("the only handle").keys, [2]);
+    /// # Ok::<(), Box<dyn std::error::Error>>(())
+    /// ```
+    ///
+    /// # Errors
+    ///
+    /// [`Refusal::OutOfSteps`] alone. The cursor keeps how far it has come, so make the call again. While the other handles
+    /// stand still, it has come to a later bucket, or the budget was below 5n + 11, with n nodes in the cursor's bucket.
+    #[inline]
+    pub fn next(&self, cursor: &mut Cursor, budget: u32) -> Result<Option<u64>, Refusal> {
+        // SAFETY: as for `has`; nothing else has the cursor and the key.
+        answer_with(|key| unsafe { vbr_next(self.0.raw(), cursor, budget, key) })
     }
 
     /// The last epoch that the handle read in a call; 1 before its first. It makes no step, so others may

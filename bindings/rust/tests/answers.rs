@@ -1,5 +1,7 @@
 //! Each answer of the crate once.
-use vbr::{ample_budget, CloseError, Handle, OpenError, Refusal, Set, Shape, ShapeError, Unclosed, MAX_BUCKETS, MAX_EPOCH, MAX_SLOTS};
+use vbr::{
+    ample_budget, CloseError, Handle, OpenError, Refusal, Set, Shape, ShapeError, Unclosed, MAX_BUCKETS, MAX_EPOCH, MAX_SLOTS,
+};
 
 const BUDGET: u32 = 100_000;
 

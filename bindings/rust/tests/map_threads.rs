@@ -85,7 +85,8 @@ fn play(workers: &mut [Worker], shape: Shape) -> (Vec<Entry>, u32) {
                 scope.spawn(|| worker.work(handle, &is_spent));
             }
         });
-        let report = handles.into_iter().map(|handle| handle.close().expect("memory")).last().flatten().expect("the last handle");
+        let report =
+            handles.into_iter().map(|handle| handle.close().expect("memory")).last().flatten().expect("the last handle");
         assert!(report.epoch <= shape.last_epoch);
         if !is_spent.swap(false, Ordering::Relaxed) {
             return (report.entries, renewals);
@@ -140,7 +141,8 @@ fn the_values_of_many_borrowers_balance() {
                         thread::yield_now();
                         continue;
                     };
-                    worker.random = worker.random.wrapping_mul(6_364_136_223_846_793_005).wrapping_add(1_442_695_040_888_963_407);
+                    worker.random =
+                        worker.random.wrapping_mul(6_364_136_223_846_793_005).wrapping_add(1_442_695_040_888_963_407);
                     worker.call(&mut handle, (worker.random >> 40) % KEYS, worker.random >> 33 & 3, never);
                     worker.round += 1;
                 }

@@ -80,7 +80,12 @@ fn answers_keep_the_order_of_the_program() {
             .zip(to)
             .enumerate()
             .map(|(id, ((handle, from), to))| (id, handle, from, to))
-            .map(|(id, handle, from, to)| scope.spawn({ let board = &board; move || work(handle, id, from, to, board) }))
+            .map(|(id, handle, from, to)| {
+                scope.spawn({
+                    let board = &board;
+                    move || work(handle, id, from, to, board)
+                })
+            })
             .collect();
         threads.into_iter().map(|thread| thread.join().expect("a thread that ends")).collect()
     });
@@ -91,6 +96,7 @@ fn answers_keep_the_order_of_the_program() {
     for (handle, _) in &mut ends {
         known.check(handle);
     }
-    let report = ends.into_iter().map(|(handle, _)| handle.close().expect("memory")).last().flatten().expect("the last handle");
+    let report =
+        ends.into_iter().map(|(handle, _)| handle.close().expect("memory")).last().flatten().expect("the last handle");
     assert_eq!(report.keys.len() as u64, THREADS as u64 * (ROUNDS / 2 + BEHIND / 2));
 }

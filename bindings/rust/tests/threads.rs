@@ -28,7 +28,8 @@ fn work(mut handle: Handle, seed: u64) -> (Handle, BTreeMap<u64, i32>) {
 #[test]
 fn the_answers_balance() {
     let handles = Set::open(Shape::new(512, 16, MAX_EPOCH), 4).expect("a set");
-    let threads: Vec<_> = handles.into_iter().zip(0..).map(|(handle, seed)| thread::spawn(move || work(handle, seed))).collect();
+    let threads: Vec<_> =
+        handles.into_iter().zip(0..).map(|(handle, seed)| thread::spawn(move || work(handle, seed))).collect();
     let mut sum = BTreeMap::new();
     let mut reports = Vec::new();
     for thread in threads {

@@ -1,9 +1,10 @@
-//! The peers in Rust, for the comparison: sets and maps, each behind five functions for C.
+//! The peers in Rust, for the comparison: sets and maps, each behind five functions for C, and dashmap's behind a sixth.
 mod dash;
 mod epoch;
 
 use dash::{DashEntries, DashKeys};
 use epoch::{EpochMap, EpochSet};
+use std::ffi::c_void;
 
 pub trait Set {
     fn open(buckets: usize, keys: usize) -> Self;
@@ -86,3 +87,15 @@ export_set!(EpochSet, epoch_set_open, epoch_set_close, epoch_set_has, epoch_set_
 export_set!(DashKeys, dash_set_open, dash_set_close, dash_set_has, dash_set_insert, dash_set_remove);
 export_map!(EpochMap, epoch_map_open, epoch_map_close, epoch_map_get, epoch_map_insert, epoch_map_remove);
 export_map!(DashEntries, dash_map_open, dash_map_close, dash_map_get, dash_map_insert, dash_map_remove);
+
+/// Calls a function with each key, and with what it is to have besides.
+#[no_mangle]
+pub extern "C" fn dash_set_walk(set: &DashKeys, each: extern "C" fn(*mut c_void, u64), with: *mut c_void) {
+    set.iter().for_each(|key| each(with, *key));
+}
+
+/// The same with each entry.
+#[no_mangle]
+pub extern "C" fn dash_map_walk(map: &DashEntries, each: extern "C" fn(*mut c_void, u64, u64), with: *mut c_void) {
+    map.iter().for_each(|entry| each(with, *entry.key(), *entry.value()));
+}

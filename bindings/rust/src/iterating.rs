@@ -1,0 +1,116 @@
+//! Going over all keys while other threads make calls.
+use crate::{Handle, MapHandle, Refusal};
+use core::fmt;
+use core::iter::FusedIterator;
+
+/// Where a walk over all keys stands: before the first key, right behind one, or at the end. [`Handle::next`] and
+/// [`MapHandle::next`] take it on, and no thread that makes calls holds it up.
+///
+/// It is plain: it can be copied and kept, and the walk goes on from a copy as well. With another handle of the set it is
+/// another walk, from there on. With a set of another shape it does no harm, and has no meaning.
+///
+/// ```
+/// # use vbr::{Cursor, Set, Shape};
+/// let handles = Set::open_with(Shape::new(8, 1, 100), 2, &[2, 5, 9])?;
+/// let mut cursor = Cursor::first();
+/// assert_eq!(handles[0].next(&mut cursor, 1_000)?, Some(2));
+/// let mut copy = cursor;
+/// assert_eq!(handles[1].next(&mut cursor, 1_000)?, Some(5));
+/// assert_eq!(handles[1].next(&mut copy, 1_000)?, Some(5));
+/// # Ok::<(), Box<dyn std::error::Error>>(())
+/// ```
+#[repr(C)]
+#[derive(Clone, Copy, Debug, Default, PartialEq, Eq, Hash)]
+pub struct Cursor {
+    bucket: u32,
+    from: u64,
+}
+
+impl Cursor {
+    /// Before the first key, as [`Cursor::default`] is too.
+    ///
+    /// ```
+    /// # use vbr::{Cursor, Set, Shape};
+    /// let handle = Set::open_with(Shape::for_keys(8, 1), 1, &[5])?.remove(0);
+    /// let mut cursor = Cursor::first();
+    /// assert_eq!(handle.next(&mut cursor, 1_000)?, Some(5));
+    /// assert_eq!(handle.next(&mut cursor, 1_000)?, None);
+    /// assert_eq!(Cursor::default(), Cursor::first());
+    /// # Ok::<(), Box<dyn std::error::Error>>(())
+    /// ```
+    pub const fn first() -> Cursor {
+        Cursor { bucket: 0, from: 0 }
+    }
+}
+
+/// A walk over all keys of a set, as [`Handle::iter`] begins it, or over all entries of a map, each a key and its value, as
+/// [`MapHandle::iter`] does: of a map's as `Iter<'_, MapHandle>`.
+///
+/// Each call of the library has the same budget of steps. One that is refused and has come further is made again, as often as
+/// need be. Where a whole call didn't come to a later bucket, the item is `Err(`[`Refusal::OutOfSteps`]`)`. The walk isn't over
+/// by that: the next item is of a call from the same place, or again such an error, for as long as the budget is too small for
+/// the bucket. So leave it by `?`, or collect into a [`Result`]; what skips errors, as [`Iterator::flatten`] does, may go on for
+/// ever. Behind the last key it gives `None` for good.
+///
+/// ```
+/// # use vbr::{Iter, MapHandle, Refusal};
+/// fn sum_of_values(mut entries: Iter<'_, MapHandle>) -> Result<u64, Refusal> {
+///     entries.try_fold(0, |sum, entry| Ok(sum + entry?.1))
+/// }
+/// # let entries = [(5, 70), (7, 71)].map(vbr::Entry::from);
+/// # let handle = vbr::Map::open_with(vbr::Shape::for_keys(8, 1), 1, &entries)?.remove(0);
+/// # assert_eq!(sum_of_values(handle.iter(1_000))?, 141);
+/// # Ok::<(), Box<dyn std::error::Error>>(())
+/// ```
+#[must_use = "a walk makes no call before it is asked for a key"]
+pub struct Iter<'h, H = Handle> {
+    handle: &'h H,
+    cursor: Cursor,
+    budget: u32,
+}
+
+impl<'h, H> Iter<'h, H> {
+    pub(crate) fn new(handle: &'h H, budget: u32) -> Iter<'h, H> {
+        Iter { handle, cursor: Cursor::first(), budget }
+    }
+
+    /// What the next call gives that isn't refused on its way.
+    #[inline]
+    fn step<T>(&mut self, next: impl Fn(&H, &mut Cursor, u32) -> Result<Option<T>, Refusal>) -> Option<Result<T, Refusal>> {
+        loop {
+            let before = self.cursor;
+            let told = next(self.handle, &mut self.cursor, self.budget);
+            if told.is_ok() || self.cursor == before {
+                return told.transpose();
+            }
+        }
+    }
+}
+
+impl Iterator for Iter<'_, Handle> {
+    type Item = Result<u64, Refusal>;
+
+    #[inline]
+    fn next(&mut self) -> Option<Result<u64, Refusal>> {
+        self.step(Handle::next)
+    }
+}
+
+impl Iterator for Iter<'_, MapHandle> {
+    type Item = Result<(u64, u64), Refusal>;
+
+    #[inline]
+    fn next(&mut self) -> Option<Result<(u64, u64), Refusal>> {
+        self.step(MapHandle::next)
+    }
+}
+
+impl FusedIterator for Iter<'_, Handle> {}
+
+impl FusedIterator for Iter<'_, MapHandle> {}
+
+impl<H> fmt::Debug for Iter<'_, H> {
+    fn fmt(&self, f: &mut fmt::Formatter<'_>) -> fmt::Result {
+        f.debug_struct("Iter").field("cursor", &self.cursor).field("budget", &self.budget).finish_non_exhaustive()
+    }
+}
